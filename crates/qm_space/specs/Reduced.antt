@@ -1,0 +1,26 @@
+use Rattle.std.specs.Prelude.{◌≡◌, ℕ, zero, suc, ◌≤◌, ◌^◌, ℤ, pos, negsuc, Bool, true, false, unsigned_abs}
+use Rattle.std.specs.Int.{◌∣◌}
+use Rattle.qm_space.specs.Plane.{Plane}
+
+-- a first number that is not 0 decides by its sign
+abbrev pub sign_decides : ℤ → Bool → Bool
+sign_decides (pos zero) rest = rest
+sign_decides (pos (suc n)) rest = true
+sign_decides (negsuc n) rest = false
+
+-- whether the first component of the normal that is not 0 is positive
+abbrev pub leads_positive : Plane → Bool
+leads_positive h = sign_decides h.nx (sign_decides h.ny (sign_decides h.nz false))
+
+-- the normal has a component that is not 0
+abbrev pub HasNormal : Plane → Type 0
+HasNormal h = (h.nx ≡ pos 0 → h.ny ≡ pos 0 → h.nz ≡ pos 0 → ⊥)
+
+-- a plane in lowest terms, within the bounds for which every side is decided in 128 bits
+pub record IsReduced (h : Plane) : Type 0 where
+  pub normal : HasNormal h
+  pub lowest : (k : ℕ) → k ∣ unsigned_abs h.nx → k ∣ unsigned_abs h.ny → k ∣ unsigned_abs h.nz → k ∣ unsigned_abs h.d → k ≡ 1
+  pub nx_small : unsigned_abs h.nx ≤ 2 ^ 26
+  pub ny_small : unsigned_abs h.ny ≤ 2 ^ 26
+  pub nz_small : unsigned_abs h.nz ≤ 2 ^ 26
+  pub d_small : unsigned_abs h.d ≤ 2 ^ 44

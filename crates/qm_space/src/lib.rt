@@ -1,0 +1,3 @@
+//! The space of a map: points, planes and the world's cube in whole numbers, and the laws on which
+//! all geometry stands. This crate has definitions and laws alone, and no function.
+#![tactic(auto)]
