@@ -1,0 +1,5 @@
+pub mod Entering
+pub mod Factors
+pub mod Wrapped
+pub mod Flipped
+pub mod Numbers

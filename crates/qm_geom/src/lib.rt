@@ -1,0 +1,16 @@
+//! Planes and points of a map, in code: the plane through three points, the side of a plane on
+//! which a point lies, and the book that numbers the planes.
+#![tactic(auto)]
+
+mod factor;
+mod plane;
+mod plane_book;
+mod point;
+#[cfg(test)]
+mod tests;
+mod unreduced;
+mod vector;
+
+pub use plane::{NoNormal, Plane};
+pub use plane_book::PlaneBook;
+pub use point::Point;

@@ -1,0 +1,119 @@
+ghost use Rattle.std.specs.Prelude.{◌≡◌, ◌≤◌, ◌+◌, ◌*◌, ◌^◌, pos, ◌*ℤ◌, ◌+ℤ◌, ◌-ℤ◌, unsigned_abs, ◌↔◌, IfOk, IsErr};
+ghost use Rattle.std.specs.Ordering.{int_cmp};
+ghost use Rattle.qm_space.specs.Plane.{flipped, value};
+ghost use Rattle.qm_space.specs.Point.{whole_point, AreCoordinates};
+ghost use Rattle.qm_space.specs.ThreePoints.{plane_through, IsPlaneThrough, AreOnOneLine};
+
+use crate::point::Point;
+use crate::unreduced::UnreducedPlane;
+use std::cmp::Ordering;
+use std::marker::Model;
+
+/// A plane in lowest terms: the points with `n · p = d`. Its front is the side to which the normal
+/// points.
+#[derive(Clone, Copy, Debug, PartialEq, Eq, PartialOrd, Ord)]
+pub struct Plane {
+    pub nx: i32,
+    pub ny: i32,
+    pub nz: i32,
+    pub d: i64,
+}
+
+impl Model for Plane {
+    ghost use Rattle.qm_space.specs.Plane.{Plane};
+    ghost use Rattle.qm_space.specs.Reduced.{IsReduced};
+
+    ghost Value = { Plane };
+
+    ghost view = { λ h. record { nx = h.nx; ny = h.ny; nz = h.nz; d = h.d } };
+
+    ghost invariant = { λ h. IsReduced (record { nx = h.nx; ny = h.ny; nz = h.nz; d = h.d }) };
+
+    ghost inverse = { λ h. record { nx = h.nx; ny = h.ny; nz = h.nz; d = h.d } };
+}
+
+/// The points lie on one line, so that no plane is the plane through them.
+#[derive(Clone, Copy, Debug, PartialEq, Eq)]
+pub struct NoNormal;
+
+impl Plane {
+    /// The plane through three whole points, and whether the normal `(p0 - p1) × (p2 - p1)` points to
+    /// its front. It fails exactly where the points lie on one line.
+    pub fn through(p0: [i32; 3], p1: [i32; 3], p2: [i32; 3]) -> Result<(Plane, bool), NoNormal>
+        requires p0_in_cube { AreCoordinates p0 }
+        requires p1_in_cube { AreCoordinates p1 }
+        requires p2_in_cube { AreCoordinates p2 }
+        ensures value { IfOk result (λ r. r ≡ plane_through (whole_point p0) (whole_point p1) (whole_point p2)) }
+        ensures through { IfOk result (λ r. IsPlaneThrough (whole_point p0) (whole_point p1) (whole_point p2) r.0 r.1) }
+        ensures no_normal { IsErr result ↔ AreOnOneLine (whole_point p0) (whole_point p1) (whole_point p2) }
+    {
+        let outward = UnreducedPlane::outward(p0, p1, p2);
+        if !outward.has_normal() {
+            return Err(NoNormal);
+        }
+        Ok((outward.leading().reduced(), outward.leads_positive()))
+    }
+
+    /// The same points, with front and back exchanged.
+    pub fn flipped(&self) -> Plane
+        ensures { result ≡ flipped self.now }
+    {
+        Plane {
+            nx: -self.nx,
+            ny: -self.ny,
+            nz: -self.nz,
+            d: -self.d,
+        }
+    }
+
+    /// The side of the plane on which the point lies: `Less` behind it, `Equal` on it, `Greater` in
+    /// front of it.
+    pub fn side(&self, at: &Point) -> Ordering
+        ensures { result ≡ int_cmp (value self.now at.now) (pos 0) }
+    {
+        self.value(at).cmp(&0)
+    }
+
+    fn value(&self, at: &Point) -> i128
+        ensures { result ≡ value self.now at.now }
+    {
+        let along = sum_of_three(
+            component_times(self.nx, at.x),
+            component_times(self.ny, at.y),
+            component_times(self.nz, at.z),
+        );
+        less(along, distance_times(self.d, at.w))
+    }
+}
+
+fn component_times(component: i32, coordinate: i64) -> i128
+    ensures exact { result ≡ component *ℤ coordinate }
+    ensures size { unsigned_abs result ≤ 2 ^ 94 }
+{
+    i128::from(component) * i128::from(coordinate)
+}
+
+fn distance_times(distance: i64, weight: i64) -> i128
+    ensures exact { result ≡ distance *ℤ weight }
+    ensures size { unsigned_abs result ≤ 2 ^ 126 }
+{
+    i128::from(distance) * i128::from(weight)
+}
+
+fn sum_of_three(first: i128, second: i128, third: i128) -> i128
+    requires first_small { unsigned_abs first ≤ 2 ^ 94 }
+    requires second_small { unsigned_abs second ≤ 2 ^ 94 }
+    requires third_small { unsigned_abs third ≤ 2 ^ 94 }
+    ensures exact { result ≡ (first +ℤ second) +ℤ third }
+    ensures size { unsigned_abs result ≤ 2 ^ 96 }
+{
+    first + second + third
+}
+
+fn less(along: i128, distance: i128) -> i128
+    requires along_small { unsigned_abs along ≤ 2 ^ 96 }
+    requires distance_small { unsigned_abs distance ≤ 2 ^ 126 }
+    ensures { result ≡ along -ℤ distance }
+{
+    along - distance
+}
