@@ -1,0 +1,9 @@
+use Rattle.std.proofs.Common.{arith}
+use Rattle.std.proofs.lemmas.Map.Text.{text_keys}
+use Rattle.qm_shelf.proofs.file_map.append.Goals as goal
+
+pub returns-clause-others_stay : goal.returns-clause-others_stay
+returns-clause-others_stay c = λ other apart. grind (arith, text_keys)
+
+pub returns-clause-err : goal.returns-clause-err
+returns-clause-err c = grind (arith, text_keys)

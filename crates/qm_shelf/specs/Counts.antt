@@ -1,0 +1,41 @@
+use Rattle.std.specs.Prelude.{ℕ, ◌≡◌, ◌≢◌, ◌<◌, ◌≤◌, ◌-◌, ◌^◌, ◌⊎◌, List, Result, Ok, Err}
+use Rattle.qm_shelf.specs.declared.shelf.ShelfFault.{ShelfFault}
+use Rattle.qm_shelf.specs.declared.shelf.ShelfFault.TheVariants as shelf_fault
+use Rattle.qm_shelf.specs.declared.sink.SinkFault.{SinkFault}
+use Rattle.qm_shelf.specs.declared.sink.SinkFault.TheVariants as sink_fault
+
+-- a count is greater after a call than before it, or stands at its type's end
+abbrev pub Rose : ℕ → ℕ → Type 0
+Rose before after = (before < after) ⊎ (2 ^ 64 - 1 ≤ after)
+
+-- what is known of each name is the same before and after
+abbrev pub Stays : {A : Type 0} → (List ℕ → A) → (List ℕ → A) → Type 0
+Stays before after = (name : List ℕ) → after name ≡ before name
+
+-- what is known of each name but this one is the same before and after
+abbrev pub StaysElsewhere : {A : Type 0} → List ℕ → (List ℕ → A) → (List ℕ → A) → Type 0
+StaysElsewhere here before after = (name : List ℕ) → name ≢ here → after name ≡ before name
+
+-- no name's count is lower after than before
+abbrev pub NeverFall : (List ℕ → ℕ) → (List ℕ → ℕ) → Type 0
+NeverFall before after = (name : List ℕ) → before name ≤ after name
+
+-- a call that met this fault: where it failed it raised the count of its name, and else it left the counts of all names
+abbrev pub ShelfFaultCounted : ShelfFault → List ℕ → (List ℕ → ℕ) → (List ℕ → ℕ) → Type 0
+ShelfFaultCounted shelf_fault.Failed name before after = Rose (before name) (after name)
+ShelfFaultCounted shelf_fault.Memory name before after = Stays before after
+
+-- a call that failed raised the count of its name, and any other call left the counts of all names
+abbrev pub ShelfCounted : {T : Type 0} → Result T ShelfFault → List ℕ → (List ℕ → ℕ) → (List ℕ → ℕ) → Type 0
+ShelfCounted (Ok _) name before after = Stays before after
+ShelfCounted (Err fault) name before after = ShelfFaultCounted fault name before after
+
+-- a call that met this fault: where it failed it raised the count, and else it left it
+abbrev pub SinkFaultCounted : SinkFault → ℕ → ℕ → Type 0
+SinkFaultCounted sink_fault.Failed before after = Rose before after
+SinkFaultCounted sink_fault.Memory before after = after ≡ before
+
+-- a call that failed raised the count, and any other call left it
+abbrev pub SinkCounted : {T : Type 0} → Result T SinkFault → ℕ → ℕ → Type 0
+SinkCounted (Ok _) before after = after ≡ before
+SinkCounted (Err fault) before after = SinkFaultCounted fault before after

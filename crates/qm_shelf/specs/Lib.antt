@@ -1,0 +1,7 @@
+pub mod CallNumbers
+pub mod Counts
+pub mod MemoryShelf
+pub mod MemorySink
+pub mod NamedFiles
+pub mod Reads
+pub mod Writes

@@ -1,0 +1,16 @@
+use Rattle.std.specs.Prelude.{ℕ, ◌≡◌, ◌<◌, ◌≤◌, List, [], ◌++◌, length, take, drop, Option, unwrap_or}
+
+-- the bytes of a file: a name that is not held has none
+abbrev pub bytes_of : Option (List ℕ) → List ℕ
+bytes_of file = unwrap_or file []
+
+-- a read copied this many bytes of the file, from a place on, to the front of a buffer
+pub record IsRead (file : Option (List ℕ)) (place : ℕ) (before after : List ℕ) (count : ℕ) : Type 0 where
+  -- the front is bytes of the file, and the rest of the buffer stays
+  pub copied : after ≡ take count (drop place (bytes_of file)) ++ drop count before
+  -- so many bytes are there
+  pub in_file : count ≤ length (drop place (bytes_of file))
+  -- and they fit
+  pub in_buffer : count ≤ length before
+  -- it copies none only at the file's end or into an empty buffer
+  pub progress : place < length (bytes_of file) → 0 < length before → 0 < count

@@ -1,0 +1,89 @@
+//! The shelf over the real folder in which the program runs.
+
+ghost use Rattle.std.specs.Prelude.{ℕ, ◌≡◌, ◌≤◌, List, length, None, false, IfOk};
+
+use crate::calls::one_more;
+use crate::shelf::{Shelf, ShelfFault};
+use std::fs::File;
+use std::io::{Read, Seek, SeekFrom, Write};
+use std::rt::Files;
+use std::{fs, io};
+
+/// The files of the real folder. It tells nothing of what they hold. It has one count of faults for
+/// each kind, over all names, which rises by one at each error and stays at 2^64 - 1 once it is there.
+/// To read a name that is not there is an error, and so is to append to it.
+#[derive(Drop)]
+pub struct FolderShelf<'a, R> {
+    rt: &'a R,
+    read_faults: u64,
+    write_faults: u64,
+}
+
+impl<'a, R: Files> FolderShelf<'a, R> {
+    /// The folder, before any fault. It takes no memory.
+    pub fn over(rt: &'a R) -> FolderShelf<'a, R>
+        ensures read_faults { (name : List ℕ) → ⟦<FolderShelf<'a, R> as Shelf>⟧.read_faults result name ≡ 0 }
+        ensures write_faults { (name : List ℕ) → ⟦<FolderShelf<'a, R> as Shelf>⟧.write_faults result name ≡ 0 }
+    {
+        FolderShelf {
+            rt,
+            read_faults: 0,
+            write_faults: 0,
+        }
+    }
+}
+
+impl<'a, R: Files> Shelf for FolderShelf<'a, R> {
+    ghost tells = { false };
+
+    ghost held = { λ shelf name. None };
+
+    ghost read_faults = { λ shelf name. shelf.read_faults };
+
+    ghost write_faults = { λ shelf name. shelf.write_faults };
+
+    fn read(&mut self, name: &str, at: u64, into: &mut [u8]) -> Result<usize, ShelfFault> {
+        match read_file(self.rt, name, at, into) {
+            Ok(count) => Ok(count),
+            Err(_) => {
+                self.read_faults = one_more(self.read_faults);
+                Err(ShelfFault::Failed)
+            }
+        }
+    }
+
+    fn create(&mut self, name: &str) -> Result<(), ShelfFault> {
+        match fs::create(self.rt, name) {
+            Ok(_) => Ok(()),
+            Err(_) => {
+                self.write_faults = one_more(self.write_faults);
+                Err(ShelfFault::Failed)
+            }
+        }
+    }
+
+    fn append(&mut self, name: &str, bytes: &[u8]) -> Result<(), ShelfFault> {
+        match append_to_file(self.rt, name, bytes) {
+            Ok(()) => Ok(()),
+            Err(_) => {
+                self.write_faults = one_more(self.write_faults);
+                Err(ShelfFault::Failed)
+            }
+        }
+    }
+}
+
+/// Reads once from a file, from place `at` on, and answers how many bytes came.
+fn read_file<R: Files>(rt: &R, name: &str, at: u64, into: &mut [u8]) -> io::Result<usize>
+    ensures { IfOk result (λ count. count ≤ length into.new) }
+{
+    let mut file = fs::open(rt, name)?;
+    file.seek(SeekFrom::Start(at))?;
+    file.read(into)
+}
+
+/// Adds bytes at the end of a file that is there.
+fn append_to_file<R: Files>(rt: &R, name: &str, bytes: &[u8]) -> io::Result<()> {
+    let mut file = File::options().append(true).open(rt, name)?;
+    file.write_all(bytes)
+}

@@ -1,0 +1,22 @@
+//! The outside of the compiler: a store of named files and a sink for printed text, as traits whose
+//! faults are counted, with forms in memory for tests and adapters over the real folder and the
+//! standard output.
+#![tactic(auto)]
+
+mod calls;
+mod file_map;
+pub mod folder_shelf;
+pub mod mem_shelf;
+pub mod mem_sink;
+pub mod shelf;
+pub mod sink;
+pub mod term_sink;
+#[cfg(test)]
+mod tests;
+
+pub use folder_shelf::FolderShelf;
+pub use mem_shelf::MemShelf;
+pub use mem_sink::MemSink;
+pub use shelf::{FARTHEST_PLACE, Shelf, ShelfFault};
+pub use sink::{Sink, SinkFault};
+pub use term_sink::TermSink;
