@@ -1,0 +1,4 @@
+pub mod ByteSteps
+pub mod PieceRuns
+pub mod Cutting
+pub mod Standing
