@@ -1,0 +1,6 @@
+pub mod Face
+pub mod OneBrush
+pub use Rattle.qm_space.specs.Point
+pub use Rattle.qm_space.specs.Plane
+pub use Rattle.qm_space.specs.Reduced
+pub use Rattle.qm_space.specs.ThreePoints

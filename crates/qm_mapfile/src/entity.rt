@@ -1,0 +1,28 @@
+use crate::face::Face;
+use crate::items::{Items, Text};
+
+/// A convex solid: what lies behind all its faces.
+#[derive(Drop)]
+pub struct Brush {
+    pub faces: Items<Face>,
+}
+
+/// A key of an entity with its value.
+#[derive(Drop)]
+pub struct Pair {
+    pub key: Text,
+    pub value: Text,
+}
+
+/// A thing of the map, described by pairs, with the brushes that belong to it.
+#[derive(Drop)]
+pub struct Entity {
+    pub pairs: Items<Pair>,
+    pub brushes: Items<Brush>,
+}
+
+/// A whole map. Its first entity is the world.
+#[derive(Drop)]
+pub struct MapFile {
+    pub entities: Items<Entity>,
+}
