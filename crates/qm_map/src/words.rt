@@ -1,0 +1,66 @@
+ghost use Rattle.std.specs.Prelude.{◌≡◌, ◌≤◌, [], ◌∷◌, length, not, if◌then◌else◌, MatchOption};
+ghost use Rattle.std.specs.List.{prefix_len};
+ghost use Rattle.qm_map.specs.Words.{words_of, parts_words, starts_with_word, without_word};
+
+use std::marker::Model;
+
+/// The words that are left of a text. Contracts see it as the list of those words.
+#[derive(Drop)]
+pub(crate) struct Words<'a> {
+    rest: &'a [u8],
+}
+
+impl<'a> Model for Words<'a> {
+    ghost use Rattle.std.specs.Prelude.{List};
+    ghost use Rattle.qm_map.specs.Words.{Word, words_of};
+
+    ghost Value = { List Word };
+
+    ghost view = { λ words. words_of words.rest.now };
+}
+
+impl<'a> Words<'a> {
+    /// All the words of a text.
+    pub(crate) fn new(text: &'a [u8]) -> Words<'a>
+        ensures { result ≡ words_of text.now }
+    {
+        Words { rest: text }
+    }
+
+    /// The next word, if there is one.
+    pub(crate) fn next(&mut self) -> Option<&'a [u8]>
+        ensures { MatchOption result (self.old ≡ []) (λ word. self.old ≡ word.now ∷ self.new) }
+    {
+        let (_, text) = self.rest.split_at(blanks_len(self.rest));
+        let (word, rest) = text.split_at(word_len(text));
+        self.rest = rest;
+        if word.is_empty() { None } else { Some(word) }
+    }
+
+    /// Whether the next word is this one, which is then taken.
+    pub(crate) fn take(&mut self, word: &[u8]) -> bool
+        ensures found { result ≡ starts_with_word word.now self.old }
+        ensures rest { self.new ≡ (if result then without_word self.old else self.old) }
+    {
+        let before = self.rest;
+        let found = self.next() == Some(word);
+        if !found {
+            self.rest = before;
+        }
+        found
+    }
+}
+
+fn blanks_len(bytes: &[u8]) -> usize
+    ensures value { result ≡ prefix_len parts_words bytes.now }
+    ensures within { result ≤ length bytes.now }
+{
+    bytes.iter().take_while(|byte| **byte <= 32).count()
+}
+
+fn word_len(bytes: &[u8]) -> usize
+    ensures value { result ≡ prefix_len (λ byte. not (parts_words byte)) bytes.now }
+    ensures within { result ≤ length bytes.now }
+{
+    bytes.iter().take_while(|byte| **byte > 32).count()
+}
