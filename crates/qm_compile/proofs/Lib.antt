@@ -1,0 +1,12 @@
+pub mod BrushGives
+pub mod ChainContents
+pub mod ChainNumbering
+pub mod ChainSizes
+pub mod CommandWords
+pub mod Counted
+pub mod FaceBook
+pub mod FewFaces
+pub mod Outcomes
+pub mod Pieces
+pub mod Reported
+pub mod TreeGives

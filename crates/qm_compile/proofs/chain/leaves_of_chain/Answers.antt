@@ -1,0 +1,6 @@
+use Rattle.std.proofs.Common.{arith}
+use Rattle.qm_compile.proofs.ChainNumbering.{leaves_of-chain}
+use Rattle.qm_compile.proofs.chain.leaves_of_chain.Goals as goal
+
+pub returns : goal.returns
+returns c = grind (arith, leaves_of-chain 0 c.args.flags.now)

@@ -1,0 +1,12 @@
+use Rattle.std.proofs.Common.{refl}
+use Rattle.std.proofs.lemmas.Result.{IfOk-weaker}
+use Rattle.qm_compile.specs.Run.{usage, command}
+use Rattle.qm_compile.proofs.program.carry_out.Goals as goal
+
+pub returns-in-None-clause-due : goal.returns-in-None-clause-due
+returns-in-None-clause-due g c =
+    usage c.in-None.ensures.none (λ name. refl) (record { reads = λ name. refl; writes = λ name. refl })
+
+pub returns-in-Some-clause-due : goal.returns-in-Some-clause-due
+returns-in-Some-clause-due g c =
+    IfOk-weaker c.compile_file.result _ _ (λ outcome comes. command c.in-Some.ensures.files comes) c.compile_file.ensures.due

@@ -1,0 +1,7 @@
+use Rattle.std.proofs.lemmas.List.{append_assoc}
+use Rattle.qm_compile.specs.TreeFile.{file_bytes}
+use Rattle.qm_compile.proofs.tree_file.encode.Goals as goal
+
+pub returns : goal.returns
+unfolding file_bytes
+returns c = rw (c.in_ok-put_leaves.ensures, c.in_ok-put_nodes.ensures, c.in_ok-put_planes.ensures, c.in_ok-put_header.ensures, c.in_ok-bytes.ensures.items) (simp append_assoc)

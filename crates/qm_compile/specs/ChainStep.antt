@@ -1,0 +1,14 @@
+use Rattle.std.specs.Prelude.{ℕ, ◌+◌, Bool, true, false, ◌==◌, if◌then◌else◌}
+use Rattle.qm_compile.specs.declared.tree.Node.{Node as NodeRecord}
+use Rattle.qm_compile.specs.declared.tree.Child.{Child}
+use Rattle.qm_compile.specs.declared.tree.Child.TheVariants.{Node, Leaf}
+
+-- the child that goes on with so many faces of a chain: a leaf where there is none
+abbrev pub inner_child : ℕ → ℕ → ℕ → Child
+inner_child faces n k = if faces == 0 then Leaf k else Node n
+
+-- one node of a chain: its plane's number, which is the node's own, its flag, how many faces are inside it, and how
+-- many leaves come before its own
+abbrev pub chain_node : ℕ → Bool → ℕ → ℕ → NodeRecord
+chain_node n true faces k = record { plane = n; front = Leaf k; back = inner_child faces (n + 1) (k + 1) }
+chain_node n false faces k = record { plane = n; front = inner_child faces (n + 1) k; back = Leaf (k + faces + 1) }

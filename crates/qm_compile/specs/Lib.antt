@@ -1,0 +1,14 @@
+pub mod Chain
+pub mod ChainStep
+pub mod Command
+pub mod CompiledText
+pub mod Contents
+pub mod ContentsCode
+pub mod Numbering
+pub mod OneBrush
+pub mod Outcome
+pub mod Run
+pub mod StatusNumber
+pub mod Texts
+pub mod Tree
+pub mod TreeFile

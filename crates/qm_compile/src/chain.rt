@@ -1,0 +1,79 @@
+//! The tree of one brush: a chain of nodes, one for each face.
+
+ghost use Rattle.std.specs.Prelude.{◌≡◌, ◌+◌, ◌-◌, ◌≤◌, ◌<◌, ◌^◌, IfOk, length, count_by};
+ghost use Rattle.qm_compile.specs.Chain.{chain};
+ghost use Rattle.qm_compile.specs.ChainStep.{chain_node};
+ghost use Rattle.qm_compile.specs.Numbering.{nodes_of, leaves_of};
+
+use crate::contents::Contents;
+use crate::tree::{Child, Leaf, Node};
+use std::alloc::{AllocError, Global};
+
+/// The node of the face `plane` of a chain with `inner_faces` faces inside it, where `before` leaves
+/// come before those of this node.
+fn node_of_face(plane: u32, out_is_front: bool, inner_faces: u64, before: u64) -> Node
+    requires plane_in { plane < 2 ^ 32 - 1 }
+    requires few { inner_faces + before < 2 ^ 62 }
+    ensures { result ≡ chain_node plane out_is_front inner_faces before }
+{
+    let first_inner = if out_is_front { before + 1 } else { before };
+    let inner = if inner_faces == 0 {
+        Child::Leaf(first_inner)
+    } else {
+        Child::Node(u64::from(plane) + 1)
+    };
+    if out_is_front {
+        Node {
+            plane,
+            front: Child::Leaf(before),
+            back: inner,
+        }
+    } else {
+        Node {
+            plane,
+            front: inner,
+            back: Child::Leaf(before + inner_faces + 1),
+        }
+    }
+}
+
+/// The nodes of the chain, in order of their numbers. A flag for each face says whether outward is
+/// its plane's front; the planes are numbered as the faces are.
+pub fn nodes_of_chain(alloc: Global, flags: &[bool]) -> Result<Vec<Node>, AllocError>
+    requires { length flags.now < 2 ^ 32 }
+    ensures { IfOk result (λ nodes. nodes.items ≡ nodes_of (chain 0 flags.now) 0 0) }
+{
+    let mut nodes = Vec::with_capacity(alloc, flags.len())?;
+    let mut before = 0;
+    for (plane, out_is_front) in flags.iter().enumerate() {
+        let inner_faces = (flags.len() - plane - 1) as u64;
+        nodes.push(node_of_face(plane as u32, *out_is_front, inner_faces, before))?;
+        before += u64::from(*out_is_front);
+    }
+    Ok(nodes)
+}
+
+/// How many flags are true.
+fn count_true(flags: &[bool]) -> usize
+    ensures count { result ≡ count_by (λ flag. flag) flags.now }
+    ensures bound { result ≤ length flags.now }
+{
+    flags.iter().filter(|flag| **flag).count()
+}
+
+/// The leaves of the chain, in order of their numbers: all are empty but the one within all faces.
+pub fn leaves_of_chain(alloc: Global, flags: &[bool]) -> Result<Vec<Leaf>, AllocError>
+    requires { length flags.now < 2 ^ 32 }
+    ensures { IfOk result (λ leaves. leaves.items ≡ leaves_of (chain 0 flags.now)) }
+{
+    let empty = Leaf {
+        contents: Contents::Empty,
+        filled: false,
+    };
+    let mut leaves = vec![in alloc; empty; flags.len() + 1]?;
+    leaves[count_true(flags)] = Leaf {
+        contents: Contents::Solid,
+        filled: false,
+    };
+    Ok(leaves)
+}

@@ -1,0 +1,46 @@
+ghost use Rattle.std.specs.Prelude.{◌≡◌};
+
+use crate::status::Status;
+
+/// What came of a command, before it is printed.
+#[derive(Drop)]
+pub enum Outcome {
+    /// The tree file is written; the text is its summary.
+    Done(String),
+    Usage,
+    ReadFault,
+    WriteFault,
+    NotBuilt,
+}
+
+impl Outcome {
+    ghost use Rattle.qm_compile.specs.Outcome.{status_of, text_of};
+
+    /// The status that is due.
+    pub fn status(&self) -> Status
+        ensures { result ≡ status_of self.now }
+    {
+        match self {
+            Outcome::Done(_) => Status::Done,
+            Outcome::Usage => Status::Usage,
+            Outcome::ReadFault => Status::ReadFault,
+            Outcome::WriteFault => Status::WriteFault,
+            Outcome::NotBuilt => Status::NotBuilt,
+        }
+    }
+
+    /// The text that is due with the status.
+    #[tactic(auto, unfolding(crate::specs::Texts::usage_text, crate::specs::Texts::read_fault_text, crate::specs::Texts::write_fault_text, crate::specs::Texts::not_built_text))]
+    pub fn text(&self) -> &[u8]
+        ensures { result.now ≡ text_of self.now }
+    {
+        match self {
+            Outcome::Done(summary) => summary.as_bytes(),
+            Outcome::Usage =>
+                b"usage: qmapc compile MAP OUT [--prt FILE] [--threads N] [--fast] | inspect TREE QUERY.. | format MAP OUT | demo N NUMBER\n",
+            Outcome::ReadFault => b"read fault\n",
+            Outcome::WriteFault => b"write fault\n",
+            Outcome::NotBuilt => b"not built\n",
+        }
+    }
+}

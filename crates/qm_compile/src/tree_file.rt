@@ -1,0 +1,161 @@
+//! The bytes of a tree file. All numbers are little-endian.
+
+ghost use Rattle.std.specs.Prelude.{◌≡◌, ◌+◌, ◌<◌, ◌^◌, ◌++◌, IfOk, OnOk, length, flat_map, count_by};
+ghost use Rattle.qm_compile.specs.TreeFile.{count_bytes, component_bytes, distance_bytes, plane_bytes, child_bytes, node_bytes, leaf_bytes, header_bytes, file_bytes, is_open};
+
+use crate::contents::Contents;
+use crate::tree::{Child, Leaf, Node};
+use qm_geom::Plane;
+use std::alloc::{AllocError, Global};
+
+/// The bytes before the planes, of each plane, of each node and of each leaf.
+const HEADER_LENGTH: usize = 41;
+
+const PLANE_LENGTH: usize = 20;
+
+const NODE_LENGTH: usize = 20;
+
+const LEAF_LENGTH: usize = 5;
+
+/// The tree file of these planes, nodes and leaves, without rows.
+pub fn encode(
+    alloc: Global,
+    planes: &[Plane],
+    nodes: &[Node],
+    leaves: &[Leaf],
+) -> Result<Vec<u8>, AllocError>
+    requires { length planes.now + length nodes.now + length leaves.now < 2 ^ 56 }
+    ensures { IfOk result (λ bytes. bytes.items ≡ file_bytes planes.now nodes.now leaves.now) }
+{
+    let room = HEADER_LENGTH
+        + PLANE_LENGTH * planes.len()
+        + NODE_LENGTH * nodes.len()
+        + LEAF_LENGTH * leaves.len();
+    let mut bytes = Vec::with_capacity(alloc, room)?;
+    put_header(&mut bytes, planes.len(), nodes.len(), leaves)?;
+    put_planes(&mut bytes, planes)?;
+    put_nodes(&mut bytes, nodes)?;
+    put_leaves(&mut bytes, leaves)?;
+    Ok(bytes)
+}
+
+#[tactic(auto, unfolding(crate::specs::TreeFile::header_bytes))]
+fn put_header(
+    bytes: &mut Vec<u8>,
+    planes: usize,
+    nodes: usize,
+    leaves: &[Leaf],
+) -> Result<(), AllocError>
+    ensures { OnOk result (bytes.new.items ≡ bytes.old.items ++ header_bytes planes nodes (length leaves.now) (count_by is_open leaves.now)) }
+{
+    bytes.extend_from_slice(b"QMTREE01")?;
+    put_count(bytes, planes)?;
+    put_count(bytes, nodes)?;
+    put_count(bytes, leaves.len())?;
+    put_count(bytes, count_open(leaves))?;
+    bytes.push(0)?;
+    Ok(())
+}
+
+fn put_planes(bytes: &mut Vec<u8>, planes: &[Plane]) -> Result<(), AllocError>
+    ensures { OnOk result (bytes.new.items ≡ bytes.old.items ++ flat_map plane_bytes planes.now) }
+{
+    for plane in planes {
+        put_plane(bytes, plane)?;
+    }
+    Ok(())
+}
+
+fn put_nodes(bytes: &mut Vec<u8>, nodes: &[Node]) -> Result<(), AllocError>
+    ensures { OnOk result (bytes.new.items ≡ bytes.old.items ++ flat_map node_bytes nodes.now) }
+{
+    for node in nodes {
+        put_node(bytes, node)?;
+    }
+    Ok(())
+}
+
+fn put_leaves(bytes: &mut Vec<u8>, leaves: &[Leaf]) -> Result<(), AllocError>
+    ensures { OnOk result (bytes.new.items ≡ bytes.old.items ++ flat_map leaf_bytes leaves.now) }
+{
+    for leaf in leaves {
+        put_leaf(bytes, leaf)?;
+    }
+    Ok(())
+}
+
+/// How many leaves are not solid.
+fn count_open(leaves: &[Leaf]) -> usize
+    ensures { result ≡ count_by is_open leaves.now }
+{
+    leaves
+        .iter()
+        .filter(|leaf| leaf.contents != Contents::Solid)
+        .count()
+}
+
+#[tactic(auto, unfolding(crate::specs::TreeFile::count_bytes))]
+fn put_count(bytes: &mut Vec<u8>, count: usize) -> Result<(), AllocError>
+    ensures { OnOk result (bytes.new.items ≡ bytes.old.items ++ count_bytes count) }
+{
+    bytes.extend_from_slice(&(count as u64).to_le_bytes())
+}
+
+/// The normal as three numbers of 32 bits, and the distance in 64.
+#[tactic(auto, unfolding(crate::specs::TreeFile::plane_bytes))]
+fn put_plane(bytes: &mut Vec<u8>, plane: &Plane) -> Result<(), AllocError>
+    ensures { OnOk result (bytes.new.items ≡ bytes.old.items ++ plane_bytes plane.now) }
+{
+    put_component(bytes, plane.nx)?;
+    put_component(bytes, plane.ny)?;
+    put_component(bytes, plane.nz)?;
+    put_distance(bytes, plane.d)?;
+    Ok(())
+}
+
+#[tactic(auto, unfolding(crate::specs::TreeFile::component_bytes))]
+fn put_component(bytes: &mut Vec<u8>, component: i32) -> Result<(), AllocError>
+    ensures { OnOk result (bytes.new.items ≡ bytes.old.items ++ component_bytes component) }
+{
+    bytes.extend_from_slice(&component.to_le_bytes())
+}
+
+#[tactic(auto, unfolding(crate::specs::TreeFile::distance_bytes))]
+fn put_distance(bytes: &mut Vec<u8>, distance: i64) -> Result<(), AllocError>
+    ensures { OnOk result (bytes.new.items ≡ bytes.old.items ++ distance_bytes distance) }
+{
+    bytes.extend_from_slice(&distance.to_le_bytes())
+}
+
+/// The plane's number in 32 bits, and both children.
+#[tactic(auto, unfolding(crate::specs::TreeFile::node_bytes))]
+fn put_node(bytes: &mut Vec<u8>, node: &Node) -> Result<(), AllocError>
+    ensures { OnOk result (bytes.new.items ≡ bytes.old.items ++ node_bytes node.now) }
+{
+    bytes.extend_from_slice(&node.plane.to_le_bytes())?;
+    put_child(bytes, node.front)?;
+    put_child(bytes, node.back)
+}
+
+/// A node's number, or -(1 + number) of a leaf, in 64 bits. In two's complement the latter is the
+/// complement of the leaf's number.
+#[tactic(auto, unfolding(crate::specs::TreeFile::child_bytes))]
+fn put_child(bytes: &mut Vec<u8>, child: Child) -> Result<(), AllocError>
+    ensures { OnOk result (bytes.new.items ≡ bytes.old.items ++ child_bytes child) }
+{
+    let number = match child {
+        Child::Node(node) => node,
+        Child::Leaf(leaf) => !leaf,
+    };
+    bytes.extend_from_slice(&number.to_le_bytes())
+}
+
+/// The code of the contents in 32 bits, and a byte that is 1 where the leaf is filled.
+#[tactic(auto, unfolding(crate::specs::TreeFile::leaf_bytes))]
+fn put_leaf(bytes: &mut Vec<u8>, leaf: &Leaf) -> Result<(), AllocError>
+    ensures { OnOk result (bytes.new.items ≡ bytes.old.items ++ leaf_bytes leaf.now) }
+{
+    bytes.extend_from_slice(&leaf.contents.code().to_le_bytes())?;
+    bytes.push(u8::from(leaf.filled))?;
+    Ok(())
+}
