@@ -1,0 +1,49 @@
+//! The program `qmapc`: it hands its words, the folder that it runs in and the standard output to
+//! `run`, and ends with the status that this answers.
+#![tactic(auto)]
+
+use qm_compile::{Status, run};
+use qm_shelf::{FolderShelf, TermSink};
+use std::alloc::AllocError;
+use std::process::ExitCode;
+use std::rt::{Env, Files};
+use std::thread::Threads;
+use std::{env, io};
+
+fn main(rt: HostRuntime) -> ExitCode {
+    let status = match run_on_words(&rt) {
+        Ok(status) => status,
+        Err(AllocError) => Status::Memory,
+    };
+    ExitCode::from(status.number())
+}
+
+/// Runs the program on the words that it was given after its name.
+fn run_on_words<R>(rt: &R) -> Result<Status, AllocError>
+where
+    R: AllocGlobal + Env + Files + Print + Threads + Sync,
+{
+    let owned = words(rt)?;
+    let mut words = Vec::with_capacity(rt.alloc(), owned.len())?;
+    for word in &owned {
+        words.push(word.as_str())?;
+    }
+    let mut folder = FolderShelf::over(rt);
+    let mut terminal = TermSink::over(rt);
+    Ok(run(rt, rt.alloc(), &words, &mut folder, &mut terminal))
+}
+
+/// The words of the command. Words that are not UTF-8 are no command, so they are read as none.
+fn words<R: AllocGlobal + Env>(rt: &R) -> Result<Vec<String>, AllocError> {
+    let mut words = Vec::new(rt.alloc());
+    match env::args(rt) {
+        Ok(args) => {
+            for word in args.skip(1) {
+                words.push(word)?;
+            }
+        }
+        Err(error) if error.kind() == io::ErrorKind::OutOfMemory => return Err(AllocError),
+        Err(_) => {}
+    }
+    Ok(words)
+}
