@@ -10,6 +10,8 @@ mod outcome;
 mod program;
 mod reading;
 mod status;
+#[cfg(test)]
+mod tests;
 mod tree;
 mod tree_file;
 mod writing;
