@@ -1,0 +1,8 @@
+use Rattle.std.proofs.Common.{◌≡◌, ◌+◌, take, min}
+use Rattle.std.specs.Str.Parse.{digits_value, AllDigits}
+use Rattle.qm_decimal.specs.Answer.{limit}
+use Rattle.qm_decimal.proofs.whole.whole_part.Given as goal
+
+abbrev pub invariant-loop-count : goal.invariant-loop-count
+invariant-loop-count l =
+    AllDigits 10 (take l.count l.text) × (l.value ≡ min (limit + 1) (digits_value 10 (take l.count l.text)))

@@ -1,0 +1,4 @@
+pub mod Number
+pub mod Answer
+pub mod Parts
+pub mod Printed

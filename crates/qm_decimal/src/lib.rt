@@ -1,0 +1,16 @@
+//! Decimal numbers, read and printed exactly.
+#![tactic(auto)]
+
+mod backward;
+mod decimals;
+mod fraction;
+mod print;
+mod reader;
+mod whole;
+
+pub use fraction::{Fraction, NumberFault};
+pub use print::print6;
+pub use reader::read;
+
+#[cfg(test)]
+mod tests;
