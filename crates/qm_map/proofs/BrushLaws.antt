@@ -1,5 +1,5 @@
 -- The faces that words spell are read one after another, in one way.
-use Rattle.std.proofs.Common.{◌≡◌, List, [], ◌∷◌, ◌++◌, Some, None, refl, sym, ap, subst, ◌∙◌, append_assoc}
+use Rattle.std.proofs.Common.{◌≡◌, ℤ, List, [], ◌∷◌, ◌++◌, Some, None, refl, sym, ap, subst, ◌∙◌, append_assoc}
 use Rattle.std.specs.Prelude.{All}
 use Rattle.std.proofs.lemmas.List.{append-nil}
 use Rattle.std.proofs.lemmas.List.Elements.{All-nil, All-cons}
@@ -15,7 +15,7 @@ use Rattle.qm_map.proofs.FaceLaws.{read_face-spelled}
 
 -- ---- coordinates
 
-point_coordinates : {words : List Word} {at : List _} → SpellsPoint words at → AreCoordinates at
+point_coordinates : {words : List Word} {at : List ℤ} → SpellsPoint words at → AreCoordinates at
 point_coordinates (point {a} {b} {c} {x} {y} {z} first second third) =
     All-cons IsCoordinate x (y ∷ z ∷ []) first.in_range (All-cons IsCoordinate y (z ∷ []) second.in_range (All-cons IsCoordinate z [] third.in_range (All-nil IsCoordinate)))
 

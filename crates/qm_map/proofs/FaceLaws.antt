@@ -1,5 +1,5 @@
 -- A face is read exactly where words spell one.
-use Rattle.std.proofs.Common.{◌≡◌, ℤ, zero, suc, Bool, false, List, [], ◌∷◌, ◌++◌, length, Option, Some, None, refl, sym, ap, subst, ◌∙◌, append_assoc, arith, lit<}
+use Rattle.std.proofs.Common.{◌≡◌, ℤ, Bool, true, false, List, [], ◌∷◌, ◌++◌, Option, Some, refl, sym, ap, subst, ◌∙◌, append_assoc}
 use Rattle.std.specs.Prelude.{All}
 use Rattle.std.proofs.lemmas.List.Elements.{All-from_recursion, recursion_from_All}
 use Rattle.std.proofs.lemmas.Option.{none-some, some_pair_parts}
@@ -19,7 +19,7 @@ IsName word = IsMark word → ⊥
 
 name_by_test : (word : Word) (words : List Word) (name : Word) (rest : List Word) (mark : Bool) → is_mark word ≡ mark → read_name (word ∷ words) ≡ Some (name, rest) → (word ∷ words ≡ name ∷ rest) × IsName name
 unfolding read_name
-name_by_test word words name rest Rattle.std.proofs.Common.true m e = absurd (none-some (name, rest) (rw m at e))
+name_by_test word words name rest true m e = absurd (none-some (name, rest) (rw m at e))
 name_by_test word words name rest false m e =
     let parts = some_pair_parts word name words rest (rw m at e) in
     let heads : word ≡ name = parts.0 in

@@ -7,11 +7,11 @@ use Rattle.std.proofs.lemmas.List.Elements.{All-nil, All-push}
 use Rattle.std.proofs.lemmas.List.Quantifiers.{all_pairs_push}
 use Rattle.std.proofs.lemmas.Slice.Eq.{bytes_eq-Decides}
 use Rattle.qm_mapfile.specs.declared.face.Face.{Face}
-use Rattle.qm_map.specs.Words.{Word, starts_with_word}
+use Rattle.qm_map.specs.Words.{Word}
 use Rattle.qm_map.specs.Marks.{close_brace}
 use Rattle.qm_map.specs.Spelling.{SpellsFace, SpellsFaces, none}
 use Rattle.qm_map.specs.OneBrushText.{HasPlane}
-use Rattle.qm_map.specs.Reading.{read_face}
+use Rattle.qm_map.specs.Reading.{starts_with_word, read_face}
 use Rattle.qm_map.specs.Brush.{plane_of, AreApart, AddsFace, IsBrush}
 use Rattle.qm_map.proofs.FaceLaws.{read_face-reads}
 use Rattle.qm_map.proofs.BrushLaws.{face_at_brace, SpellsFaces-push, IsRest, IsRest-after, IsRest-none, IsRest-some}

@@ -1,14 +1,14 @@
 -- What the tests of words say.
 use Rattle.std.proofs.Common.{◌≡◌, ℕ, zero, suc, ◌<◌, Bool, true, false, eqb, List, [], ◌∷◌, map, Some, refl, ap, subst, arith}
-use Rattle.std.specs.Prelude.{Contains}
+use Rattle.std.specs.Prelude.{Contains, slice_index_or}
 use Rattle.std.specs.List.{list_any}
 use Rattle.std.specs.Str.{bytes_eq}
 use Rattle.std.proofs.lemmas.Bool.{false≢true, both_ways, eqb-true, false_from_ne_true}
 use Rattle.std.proofs.lemmas.Option.{none-some, cond_some}
 use Rattle.std.proofs.lemmas.Slice.Eq.{bytes_eq-Decides}
-use Rattle.qm_map.specs.Words.{Word, starts_with_word, without_word}
+use Rattle.qm_map.specs.Words.{Word}
 use Rattle.qm_map.specs.Marks.{IsMark}
-use Rattle.qm_map.specs.Reading.{after, is_mark}
+use Rattle.qm_map.specs.Reading.{starts_with_word, without_word, after, is_mark}
 
 abbrev alone : ℕ → Word
 alone byte = byte ∷ []
@@ -28,7 +28,7 @@ IsMark-from_test [] e = absurd (false≢true e)
 IsMark-from_test (byte ∷ []) e = found (123 ∷ 125 ∷ 40 ∷ 41 ∷ 91 ∷ 93 ∷ []) byte e
 IsMark-from_test (byte ∷ next ∷ bytes) e = absurd (false≢true e)
 
-at_mark : (word : Word) (k : ℕ) → k < 6 → Rattle.std.specs.Prelude.slice_index_or (map alone (123 ∷ 125 ∷ 40 ∷ 41 ∷ 91 ∷ 93 ∷ [])) k word ≡ word → is_mark word ≡ true
+at_mark : (word : Word) (k : ℕ) → k < 6 → slice_index_or (map alone (123 ∷ 125 ∷ 40 ∷ 41 ∷ 91 ∷ 93 ∷ [])) k word ≡ word → is_mark word ≡ true
 at_mark word zero lt e = subst (λ w. is_mark w ≡ true) e refl
 at_mark word (suc zero) lt e = subst (λ w. is_mark w ≡ true) e refl
 at_mark word (suc (suc zero)) lt e = subst (λ w. is_mark w ≡ true) e refl

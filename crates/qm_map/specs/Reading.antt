@@ -1,13 +1,15 @@
 -- Reading words from left to right: what stands at their front, if it is spelled, and the words after it.
+-- What is read so is what is spelled so.
 use Rattle.std.specs.Prelude.{◌≡◌, ℕ, ◌+◌, ◌-◌, ◌*◌, ℤ, pos, neg_ℤ, List, [], ◌∷◌, length, Bool, false, ◌&&◌, ◌||◌, nat_le, ◌==◌, if◌then◌else◌, Option, Some, None, option_and_then, Result, Ok, Err}
 use Rattle.std.specs.Char.{is_ascii_digit}
 use Rattle.std.specs.List.{list_any}
+use Rattle.std.specs.Str.{bytes_eq}
 use Rattle.qm_mapfile.specs.declared.face.Face.{Face}
 use Rattle.qm_mapfile.specs.declared.face.Mapping.{Mapping}
 use Rattle.qm_mapfile.specs.declared.face.Mapping.TheVariants.{Standard}
 use Rattle.qm_map.specs.declared.fault.MapFault.{MapFault}
 use Rattle.qm_map.specs.declared.fault.MapFault.TheVariants.{NotBuilt, Memory}
-use Rattle.qm_map.specs.Words.{Word, starts_with_word, without_word}
+use Rattle.qm_map.specs.Words.{Word}
 use Rattle.qm_map.specs.Marks.{open_parenthesis, close_parenthesis}
 use Rattle.qm_map.specs.Spelling.{stone}
 
@@ -49,6 +51,16 @@ abbrev pub is_mark : Word → Bool
 is_mark [] = false
 is_mark (byte ∷ []) = list_any (λ mark. mark == byte) (123 ∷ 125 ∷ 40 ∷ 41 ∷ 91 ∷ 93 ∷ [])
 is_mark (byte ∷ next ∷ bytes) = false
+
+-- whether the first of some words is this one
+abbrev pub starts_with_word : Word → List Word → Bool
+starts_with_word word [] = false
+starts_with_word word (first ∷ others) = bytes_eq first word
+
+-- the words after the first
+abbrev pub without_word : List Word → List Word
+without_word [] = []
+without_word (word ∷ words) = words
 
 -- the words after this one, if it stands first
 abbrev pub after : Word → List Word → Option (List Word)

@@ -1,5 +1,4 @@
-use Rattle.std.specs.Prelude.{ℕ, List, [], ◌∷◌, Bool, true, false, if◌then◌else◌, nat_le}
-use Rattle.std.specs.Str.{bytes_eq}
+use Rattle.std.specs.Prelude.{ℕ, List, [], ◌∷◌, Bool, true, if◌then◌else◌, nat_le}
 
 -- bytes of any kind but blanks, in a row
 abbrev pub Word : Type 0
@@ -25,13 +24,3 @@ words_of [] = []
 words_of (byte ∷ bytes) =
     if parts_words byte then words_of bytes
     else (if is_at_gap bytes then (byte ∷ []) ∷ words_of bytes else lengthened byte (words_of bytes))
-
--- whether the first of some words is this one
-abbrev pub starts_with_word : Word → List Word → Bool
-starts_with_word word [] = false
-starts_with_word word (first ∷ others) = bytes_eq first word
-
--- the words after the first
-abbrev pub without_word : List Word → List Word
-without_word [] = []
-without_word (word ∷ words) = words

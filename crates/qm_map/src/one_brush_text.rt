@@ -13,6 +13,11 @@ use std::alloc::{AllocError, Global};
 
 /// The map that a text of one brush means: a world without pairs, with one brush of faces.
 ///
+/// Such a text has at most 65,536 bytes, no quote and no `//`. Its words, which bytes up to the space
+/// part, are `{ {`, one or more faces, and `} }`. A face is three points, each `( x y z )` in whole map
+/// units from -4096 to 4096, then `stone`, and five words that are not brackets. The points of a face are
+/// not on one line, and no two faces lie on one plane.
+///
 /// It is `NotBuilt` exactly where the text means no map, unless memory runs out first.
 pub fn parse(alloc: Global, text: &[u8]) -> Result<MapFile, MapFault>
     // The text means the map.

@@ -1,6 +1,7 @@
 ghost use Rattle.std.specs.Prelude.{◌≡◌, ◌≤◌, [], ◌∷◌, length, not, if◌then◌else◌, MatchOption};
 ghost use Rattle.std.specs.List.{prefix_len};
-ghost use Rattle.qm_map.specs.Words.{words_of, parts_words, starts_with_word, without_word};
+ghost use Rattle.qm_map.specs.Words.{words_of, parts_words};
+ghost use Rattle.qm_map.specs.Reading.{starts_with_word, without_word};
 
 use std::marker::Model;
 
@@ -51,16 +52,18 @@ impl<'a> Words<'a> {
     }
 }
 
+/// How many blanks stand in front.
 fn blanks_len(bytes: &[u8]) -> usize
     ensures value { result ≡ prefix_len parts_words bytes.now }
     ensures within { result ≤ length bytes.now }
 {
-    bytes.iter().take_while(|byte| **byte <= 32).count()
+    bytes.iter().take_while(|byte| **byte <= b' ').count()
 }
 
+/// How many bytes stand before the first blank.
 fn word_len(bytes: &[u8]) -> usize
     ensures value { result ≡ prefix_len (λ byte. not (parts_words byte)) bytes.now }
     ensures within { result ≤ length bytes.now }
 {
-    bytes.iter().take_while(|byte| **byte > 32).count()
+    bytes.iter().take_while(|byte| **byte > b' ').count()
 }
