@@ -1,10 +1,15 @@
 use Rattle.std.specs.Prelude.{ℕ, ℤ, ◌≤◌, ◌*ℤ◌, ◌+ℤ◌, ◌-ℤ◌, unsigned_abs}
 use Rattle.qm_space.specs.Point.{Point}
+use Rattle.qm_space.specs.Plane.{Plane}
 use Rattle.qm_geom.specs.declared.vector.Vector.{Vector}
 
 -- the step from one whole point to another
 unfoldable pub step_between : Point → Point → Vector
 step_between from to = record { x = to.x -ℤ from.x; y = to.y -ℤ from.y; z = to.z -ℤ from.z }
+
+-- the normal of a plane
+abbrev pub normal_of : Plane → Vector
+normal_of h = record { x = h.nx; y = h.ny; z = h.nz }
 
 -- the cross product
 unfoldable pub cross : Vector → Vector → Vector

@@ -2,7 +2,9 @@
 //! which a point lies, and the book that numbers the planes.
 #![tactic(auto)]
 
+mod corner;
 mod factor;
+mod meeting;
 mod plane;
 mod plane_book;
 mod point;
@@ -11,6 +13,7 @@ mod tests;
 mod unreduced;
 mod vector;
 
+pub use corner::Corner;
 pub use plane::{NoNormal, Plane};
 pub use plane_book::PlaneBook;
 pub use point::Point;

@@ -1,0 +1,51 @@
+-- What the code's numbers of 128 bits hold: the number itself, since it fits.
+use Rattle.std.proofs.Common.{◌≡◌, ◌≤◌, ◌^◌, ℕ, ℤ, pos, negsuc, neg_ℤ, ◌-ℤ◌, ◌*ℤ◌, ◌<ℤ◌, to_z, of_z, w64, sym, subst, unsigned_abs, arith, lit≤, refl}
+use mir.Syntax.{w128}
+use Rattle.std.proofs.lemmas.Int.{ints}
+use Rattle.qm_space.specs.Point.{Point, point_times}
+use Rattle.qm_space.specs.Meet.{HasMeetSizes}
+use Rattle.qm_space.proofs.Planes.{same_point}
+use Rattle.qm_geom.specs.Corners.{IsCorner}
+
+pub kept_128 : (z : ℤ) (n : ℕ) → unsigned_abs z ≤ n → n ≤ 2 ^ 126 → to_z w128 (of_z w128 z) ≡ z
+kept_128 z n h small = omega (arith, ints)
+
+-- what the code's `-z` gives
+turned_128 : (z : ℤ) (n : ℕ) → unsigned_abs z ≤ n → n ≤ 2 ^ 126 → to_z w128 (of_z w128 (pos 0 -ℤ to_z w128 (of_z w128 z))) ≡ negsuc 0 *ℤ z
+turned_128 z n h small = let e : negsuc 0 *ℤ z ≡ neg_ℤ z = omega (arith, ints) in omega (arith, ints)
+
+pub difference_kept_64 : (a b : ℤ) → unsigned_abs a ≤ 2 ^ 52 → unsigned_abs b ≤ 2 ^ 52 → to_z w64 (of_z w64 (to_z w64 (of_z w64 a) -ℤ to_z w64 (of_z w64 b))) ≡ a -ℤ b
+difference_kept_64 a b h k = omega (arith, ints)
+
+-- a point as its fields hold it, and as they hold it turned
+
+abbrev pub held : Point → Point
+held p =
+    record { x = to_z w128 (of_z w128 p.x); y = to_z w128 (of_z w128 p.y); z = to_z w128 (of_z w128 p.z); w = to_z w128 (of_z w128 p.w) }
+
+abbrev pub held_turned : Point → Point
+held_turned p = record {
+  x = to_z w128 (of_z w128 (pos 0 -ℤ to_z w128 (of_z w128 p.x)));
+  y = to_z w128 (of_z w128 (pos 0 -ℤ to_z w128 (of_z w128 p.y)));
+  z = to_z w128 (of_z w128 (pos 0 -ℤ to_z w128 (of_z w128 p.z)));
+  w = to_z w128 (of_z w128 (pos 0 -ℤ to_z w128 (of_z w128 p.w)));
+}
+
+pub held_is : (p : Point) → HasMeetSizes p → held p ≡ p
+held_is p s =
+    same_point (held p) p (kept_128 p.x _ s.x_small (lit≤ tt)) (kept_128 p.y _ s.y_small (lit≤ tt)) (kept_128 p.z _ s.z_small (lit≤ tt)) (kept_128 p.w _ s.w_small (lit≤ tt))
+
+pub held_turned_is : (p : Point) → HasMeetSizes p → held_turned p ≡ point_times (negsuc 0) p
+held_turned_is p s =
+    same_point (held_turned p) (point_times (negsuc 0) p) (turned_128 p.x _ s.x_small (lit≤ tt)) (turned_128 p.y _ s.y_small (lit≤ tt)) (turned_128 p.z _ s.z_small (lit≤ tt)) (turned_128 p.w _ s.w_small (lit≤ tt))
+
+pub held_is_corner : (p : Point) → pos 0 <ℤ p.w → HasMeetSizes p → IsCorner (held p)
+held_is_corner p w s = subst IsCorner (sym (held_is p s)) (record { weight = w; sizes = s })
+
+-- the code's test `z == 0`
+
+pub zero_from_bits : (z : ℤ) (n : ℕ) → unsigned_abs z ≤ n → n ≤ 2 ^ 126 → of_z w128 z ≡ 0 → z ≡ pos 0
+zero_from_bits z n h small e = let k = kept_128 z n h small in omega (arith, ints)
+
+pub bits_of_zero : (z : ℤ) → z ≡ pos 0 → of_z w128 z ≡ 0
+bits_of_zero z e = rw e refl

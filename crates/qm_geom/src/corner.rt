@@ -1,0 +1,108 @@
+ghost use Rattle.std.specs.Prelude.{◌≡◌, ◌≤◌, ◌*◌, ◌^◌, ℕ, pos, ◌*ℤ◌, ◌+ℤ◌, ◌-ℤ◌, unsigned_abs, IfSome, IfNone};
+ghost use Rattle.std.specs.Ordering.{int_cmp};
+ghost use Rattle.qm_space.specs.Point.{Point};
+ghost use Rattle.qm_space.specs.Plane.{value};
+ghost use Rattle.qm_space.specs.Meet.{meet};
+ghost use Rattle.qm_geom.specs.Corners.{with_positive_weight, MeetOnlyIn};
+
+use crate::meeting::Meeting;
+use crate::plane::Plane;
+use std::cmp::Ordering;
+use std::marker::Model;
+
+/// The one point in which three planes meet: three numerators over one positive denominator.
+#[derive(Clone, Copy, Debug)]
+pub struct Corner {
+    x: i128,
+    y: i128,
+    z: i128,
+    w: i128,
+}
+
+impl Model for Corner {
+    ghost use Rattle.qm_space.specs.Point.{Point};
+    ghost use Rattle.qm_geom.specs.Corners.{IsCorner};
+
+    ghost Value = { Point };
+
+    ghost view = { λ p. record { x = p.x; y = p.y; z = p.z; w = p.w } };
+
+    ghost invariant = { λ p. IsCorner (record { x = p.x; y = p.y; z = p.z; w = p.w }) };
+
+    ghost inverse = { λ p. record { x = p.x; y = p.y; z = p.z; w = p.w } };
+}
+
+impl Corner {
+    /// The corner of three planes; `None` exactly where they do not meet in exactly one point.
+    pub fn of(a: &Plane, b: &Plane, c: &Plane) -> Option<Corner>
+        ensures value { IfSome result (λ p. p ≡ with_positive_weight (meet a.now b.now c.now)) }
+        ensures only { IfSome result (λ p. MeetOnlyIn a.now b.now c.now p) }
+        ensures none { IfNone result ((p : Point) → MeetOnlyIn a.now b.now c.now p → ⊥) }
+    {
+        let meeting = Meeting::of(a, b, c).with_positive_weight();
+        if meeting.w == 0 {
+            return None;
+        }
+        Some(Corner {
+            x: meeting.x,
+            y: meeting.y,
+            z: meeting.z,
+            w: meeting.w,
+        })
+    }
+
+    /// The side of the plane on which the corner lies: `Less` behind it, `Equal` on it, `Greater` in
+    /// front of it.
+    pub fn side(&self, plane: &Plane) -> Ordering
+        ensures { result ≡ int_cmp (value plane.now self.now) (pos 0) }
+    {
+        self.value(plane).cmp(&0)
+    }
+
+    fn value(&self, plane: &Plane) -> i128
+        ensures { result ≡ value plane.now self.now }
+    {
+        let along = sum_of_three(
+            component_times(plane.nx, self.x),
+            component_times(plane.ny, self.y),
+            component_times(plane.nz, self.z),
+        );
+        less(along, distance_times(plane.d, self.w))
+    }
+}
+
+fn component_times(component: i32, numerator: i128) -> i128
+    requires component_small { unsigned_abs component ≤ 2 ^ 26 }
+    requires numerator_small { unsigned_abs numerator ≤ 3 * 2 ^ 97 }
+    ensures exact { result ≡ component *ℤ numerator }
+    ensures size { unsigned_abs result ≤ 3 * 2 ^ 123 }
+{
+    i128::from(component) * numerator
+}
+
+fn distance_times(distance: i64, denominator: i128) -> i128
+    requires distance_small { unsigned_abs distance ≤ 2 ^ 44 }
+    requires denominator_small { unsigned_abs denominator ≤ 3 * 2 ^ 79 }
+    ensures exact { result ≡ distance *ℤ denominator }
+    ensures size { unsigned_abs result ≤ 3 * 2 ^ 123 }
+{
+    i128::from(distance) * denominator
+}
+
+fn sum_of_three(first: i128, second: i128, third: i128) -> i128
+    requires first_small { unsigned_abs first ≤ 3 * 2 ^ 123 }
+    requires second_small { unsigned_abs second ≤ 3 * 2 ^ 123 }
+    requires third_small { unsigned_abs third ≤ 3 * 2 ^ 123 }
+    ensures exact { result ≡ (first +ℤ second) +ℤ third }
+    ensures size { unsigned_abs result ≤ 9 * 2 ^ 123 }
+{
+    first + second + third
+}
+
+fn less(along: i128, distance: i128) -> i128
+    requires along_small { unsigned_abs along ≤ 9 * 2 ^ 123 }
+    requires distance_small { unsigned_abs distance ≤ 3 * 2 ^ 123 }
+    ensures { result ≡ along -ℤ distance }
+{
+    along - distance
+}
