@@ -1,4 +1,4 @@
-use crate::{NoNormal, Plane, PlaneBook, Point};
+use crate::{Corner, NoNormal, Plane, PlaneBook, Point};
 use std::cmp::Ordering;
 use std::test::Fail;
 
@@ -44,6 +44,26 @@ fn sides(rt: HostRuntime) -> Result<(), Fail> {
         };
         assert_eq!(rt; wall.side(&at), side, "at {x}");
     }
+    Ok(())
+}
+
+#[test]
+fn corners_of_three_planes(rt: HostRuntime) -> Result<(), Fail> {
+    let (wall, _) = Plane::through([1, 0, 0], [1, 1, 0], [1, 0, 1])?;
+    let (other_wall, _) = Plane::through([2, 0, 0], [2, 1, 0], [2, 0, 1])?;
+    let (slope, _) = Plane::through([0, 0, 0], [1, 2, 0], [0, 0, 1])?;
+    let (floor, _) = Plane::through([1, 0, -3], [0, 0, -3], [0, 1, -3])?;
+    let Some(corner) = Corner::of(&floor, &slope.flipped(), &wall) else {
+        return Err(Fail::new("no corner"));
+    };
+    let (above, _) = Plane::through([1, 0, -2], [0, 0, -2], [0, 1, -2])?;
+    let (through, _) = Plane::through([1, 2, -3], [5, 0, 0], [0, 5, 0])?;
+    assert_eq!(rt; corner.side(&wall), Ordering::Equal);
+    assert_eq!(rt; corner.side(&through), Ordering::Equal);
+    assert_eq!(rt; corner.side(&above), Ordering::Less);
+    assert_eq!(rt; corner.side(&above.flipped()), Ordering::Greater);
+    assert_eq!(rt; corner.side(&other_wall), Ordering::Less);
+    assert!(rt; Corner::of(&wall, &other_wall, &floor).is_none());
     Ok(())
 }
 

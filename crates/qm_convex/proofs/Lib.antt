@@ -1,0 +1,13 @@
+pub mod Places
+pub mod Corners
+pub mod Regions
+pub mod Hull
+pub mod Turning
+pub mod Central
+pub mod NewCorners
+pub mod CutAtFirst
+pub mod Cutting
+pub mod Squares
+pub mod Vertices
+pub mod Rows
+pub mod Runs

@@ -1,0 +1,307 @@
+-- The square that a plane has between two pairs of planes, and the part of a plane inside the world's cube.
+use Rattle.std.proofs.Common.{◌≡◌, ℕ, zero, suc, ◌<◌, pos, neg_ℤ, ◌+ℤ◌, ◌*ℤ◌, ◌<ℤ◌, ◌≤ℤ◌, [], ◌∷◌, length, ◌↔◌, refl, sym, ◌∙◌, arith, subst}
+use Rattle.std.specs.List.{All}
+use Rattle.std.specs.Int.{◌∣◌}
+use Rattle.std.proofs.lemmas.Nat.Gcd.{dvd_antisymm, dvd_of_mod-eq-zero}
+use Rattle.std.proofs.lemmas.List.Elements.{All-from_recursion}
+use Rattle.std.proofs.lemmas.Int.{ints}
+use Rattle.qm_space.specs.Point.{Point, IsWithinExtent, IsInCube, extent}
+use Rattle.qm_space.specs.Plane.{Plane, value, IsOn, IsInFront}
+use Rattle.qm_space.specs.Determinant.{determinant}
+use Rattle.qm_space.specs.Meet.{meet}
+use Rattle.qm_space.specs.Reduced.{IsReduced}
+use Rattle.qm_space.proofs.IntegerProducts.{linear}
+use Rattle.qm_space.proofs.Signs.{product_positive, abs_neg}
+use Rattle.qm_space.proofs.Ring.{Expression, number, variable, negated, ◌⊕◌, ◌⊗◌, solved}
+use Rattle.qm_space.proofs.PlaneSymbols.{PlaneSymbols, PointSymbols, plane_from, point_from, numbers_of_plane, numbers_of_point, symbol_value, symbol_meet}
+use Rattle.qm_convex.specs.Winding.{Winding, next_place, edge_at, corner_at, corners, IsConvex, IsInRegion}
+use Rattle.qm_convex.specs.Cut.{IsPartInFront}
+use Rattle.qm_convex.specs.Sides.{HasNoneInFront}
+use Rattle.qm_convex.specs.Square.{opposite, IsBetween, square, wall_x, wall_y, wall_z, AreWalls, MissesCube, IsWorldPart, IsInClosedCube}
+use Rattle.qm_convex.proofs.Corners.{corner_on_edge, corner_on_next}
+use Rattle.qm_convex.proofs.Central.{wholly_in_front}
+
+-- ---- opposite planes
+
+abbrev symbol_opposite : PlaneSymbols → PlaneSymbols
+symbol_opposite a = record { nx = negated a.nx; ny = negated a.ny; nz = negated a.nz; d = a.d }
+
+-- the values of a plane and its opposite add up to the width between them
+opposite_sum : (a : Plane) (p : Point) → value a p +ℤ value (opposite a) p ≡ (neg_ℤ a.d *ℤ p.w) +ℤ (neg_ℤ a.d *ℤ p.w)
+unfolding value
+opposite_sum a p =
+    let e = plane_from 0 in let q = point_from 4 in
+    solved (numbers_of_plane a (numbers_of_point p [])) (symbol_value e q ⊕ symbol_value (symbol_opposite e) q) (negated e.d ⊗ q.w ⊕ negated e.d ⊗ q.w) tt
+
+-- a point on the one is in front of the other
+front_of_opposite : (a : Plane) (p : Point) → a.d <ℤ pos 0 → pos 0 <ℤ p.w → value a p ≡ pos 0 → IsInFront (opposite a) p
+front_of_opposite a p h k e = let s = opposite_sum a p in let m = product_positive (neg_ℤ a.d) p.w (omega (arith, linear)) k in omega (arith, linear)
+
+front_from_opposite : (a : Plane) (p : Point) → a.d <ℤ pos 0 → pos 0 <ℤ p.w → value (opposite a) p ≡ pos 0 → IsInFront a p
+front_from_opposite a p h k e = let s = opposite_sum a p in let m = product_positive (neg_ℤ a.d) p.w (omega (arith, linear)) k in omega (arith, linear)
+
+-- ---- the square's corners
+
+module _ (h a b : Plane) where
+  second_weight : (meet h b (opposite a)).w ≡ (meet h a b).w
+  unfolding meet determinant
+  second_weight =
+      let p = plane_from 0 in let q = plane_from 4 in let r = plane_from 8 in
+      solved (numbers_of_plane h (numbers_of_plane a (numbers_of_plane b []))) (symbol_meet p r (symbol_opposite q)).w (symbol_meet p q r).w tt
+
+  third_weight : (meet h (opposite a) (opposite b)).w ≡ (meet h a b).w
+  unfolding meet determinant
+  third_weight =
+      let p = plane_from 0 in let q = plane_from 4 in let r = plane_from 8 in
+      solved (numbers_of_plane h (numbers_of_plane a (numbers_of_plane b []))) (symbol_meet p (symbol_opposite q) (symbol_opposite r)).w (symbol_meet p q r).w tt
+
+  fourth_weight : (meet h (opposite b) a).w ≡ (meet h a b).w
+  unfolding meet determinant
+  fourth_weight =
+      let p = plane_from 0 in let q = plane_from 4 in let r = plane_from 8 in
+      solved (numbers_of_plane h (numbers_of_plane a (numbers_of_plane b []))) (symbol_meet p (symbol_opposite r) q).w (symbol_meet p q r).w tt
+
+  first_corner : corner_at (square h a b) 0 ≡ meet h a b
+  unfolding corner_at next_place
+  first_corner = refl
+
+  second_corner : corner_at (square h a b) 1 ≡ meet h b (opposite a)
+  unfolding corner_at next_place
+  second_corner = refl
+
+  third_corner : corner_at (square h a b) 2 ≡ meet h (opposite a) (opposite b)
+  unfolding corner_at next_place
+  third_corner = refl
+
+  fourth_corner : corner_at (square h a b) 3 ≡ meet h (opposite b) a
+  unfolding corner_at next_place
+  fourth_corner = refl
+
+  next_row : (next_place 4 0 ≡ 1) × (next_place 4 1 ≡ 2) × (next_place 4 2 ≡ 3) × (next_place 4 3 ≡ 0)
+  unfolding next_place
+  next_row = (refl, refl, refl, refl)
+
+  module _ (turn : pos 0 <ℤ (meet h a b).w) (a_apart : a.d <ℤ pos 0) (b_apart : b.d <ℤ pos 0) where
+    square_weight : (i : ℕ) → i < 4 → pos 0 <ℤ (corner_at (square h a b) i).w
+    square_weight zero l = subst (λ p. pos 0 <ℤ p.w) (sym first_corner) turn
+    square_weight (suc zero) l = subst (λ p. pos 0 <ℤ p.w) (sym second_corner) (let e = second_weight in omega (arith, linear, turn))
+    square_weight (suc (suc zero)) l = subst (λ p. pos 0 <ℤ p.w) (sym third_corner) (let e = third_weight in omega (arith, linear, turn))
+    square_weight (suc (suc (suc zero))) l = subst (λ p. pos 0 <ℤ p.w) (sym fourth_corner) (let e = fourth_weight in omega (arith, linear, turn))
+    square_weight (suc (suc (suc (suc i)))) l = absurd (omega arith)
+
+    on_next : (i j : ℕ) → next_place 4 i ≡ j → value (edge_at (square h a b) j) (corner_at (square h a b) i) ≡ pos 0
+    on_next i j e = subst (λ k. value (edge_at (square h a b) k) (corner_at (square h a b) i) ≡ pos 0) e (corner_on_next (square h a b) i)
+
+    square_inside : (i k : ℕ) → i < 4 → k < 4 → (k ≡ i → ⊥) → (k ≡ next_place 4 i → ⊥) → IsInFront (edge_at (square h a b) k) (corner_at (square h a b) i)
+    square_inside zero zero l m f s = absurd (f refl)
+    square_inside zero (suc zero) l m f s = absurd (s (sym next_row.0))
+    square_inside zero (suc (suc zero)) l m f s = front_of_opposite a (corner_at (square h a b) 0) a_apart (square_weight 0 l) (corner_on_edge (square h a b) 0)
+    square_inside zero (suc (suc (suc zero))) l m f s = front_of_opposite b (corner_at (square h a b) 0) b_apart (square_weight 0 l) (on_next 0 1 next_row.0)
+    square_inside (suc zero) zero l m f s = front_from_opposite a (corner_at (square h a b) 1) a_apart (square_weight 1 l) (on_next 1 2 next_row.1)
+    square_inside (suc zero) (suc zero) l m f s = absurd (f refl)
+    square_inside (suc zero) (suc (suc zero)) l m f s = absurd (s (sym next_row.1))
+    square_inside (suc zero) (suc (suc (suc zero))) l m f s = front_of_opposite b (corner_at (square h a b) 1) b_apart (square_weight 1 l) (corner_on_edge (square h a b) 1)
+    square_inside (suc (suc zero)) zero l m f s = front_from_opposite a (corner_at (square h a b) 2) a_apart (square_weight 2 l) (corner_on_edge (square h a b) 2)
+    square_inside (suc (suc zero)) (suc zero) l m f s = front_from_opposite b (corner_at (square h a b) 2) b_apart (square_weight 2 l) (on_next 2 3 next_row.2)
+    square_inside (suc (suc zero)) (suc (suc zero)) l m f s = absurd (f refl)
+    square_inside (suc (suc zero)) (suc (suc (suc zero))) l m f s = absurd (s (sym next_row.2))
+    square_inside (suc (suc (suc zero))) zero l m f s = absurd (s (sym next_row.3))
+    square_inside (suc (suc (suc zero))) (suc zero) l m f s = front_from_opposite b (corner_at (square h a b) 3) b_apart (square_weight 3 l) (corner_on_edge (square h a b) 3)
+    square_inside (suc (suc (suc zero))) (suc (suc zero)) l m f s = front_of_opposite a (corner_at (square h a b) 3) a_apart (square_weight 3 l) (on_next 3 0 next_row.3)
+    square_inside (suc (suc (suc zero))) (suc (suc (suc zero))) l m f s = absurd (f refl)
+    square_inside (suc (suc (suc (suc i)))) k l m f s = absurd (omega arith)
+    square_inside i (suc (suc (suc (suc k)))) l m f s = absurd (omega arith)
+
+    -- the square is convex where the planes' normals turn the right way
+    pub square_convex : IsConvex (square h a b)
+    square_convex = record { enough = omega arith; weight = square_weight; inside = square_inside }
+
+  -- its points are those of the plane between either pair
+  pub square_region : (p : Point) → IsInRegion (square h a b) p ↔ ((pos 0 <ℤ p.w) × IsOn h p × IsBetween a p × IsBetween b p)
+  square_region p = (
+    (λ r. (r.weight, r.on, record { near = r.inside 0 h (omega arith); far = r.inside 2 h (omega arith) }, record { near = r.inside 1 h (omega arith); far = r.inside 3 h (omega arith) })),
+    (λ s. record { weight = s.0; on = s.1; inside = All-from_recursion (λ e. IsInFront e p) (square h a b).edges (s.2.near, (s.3.near, (s.2.far, (s.3.far, tt)))) }),
+  )
+
+-- its corners
+pub square_corners : (h a b : Plane) → corners (square h a b) ≡ meet h a b ∷ meet h b (opposite a) ∷ meet h (opposite a) (opposite b) ∷ meet h (opposite b) a ∷ []
+unfolding corner_at next_place
+square_corners h a b = refl
+
+-- what holds of the planes and their opposites holds of its edges
+pub square_all : (P : Plane → Type 0) (h a b : Plane) → P a → P b → P (opposite a) → P (opposite b) → All P (square h a b).edges
+square_all P h a b pa pb oa ob = All-from_recursion P (square h a b).edges (pa, (pb, (oa, (ob, tt))))
+
+-- ---- the world's cube
+
+-- how the normals of a plane and two walls turn, by one number of the plane's normal
+
+symbol_wall_x : PlaneSymbols
+symbol_wall_x = record { nx = number (pos 1); ny = number (pos 0); nz = number (pos 0); d = number (neg_ℤ extent) }
+
+symbol_wall_y : PlaneSymbols
+symbol_wall_y = record { nx = number (pos 0); ny = number (pos 1); nz = number (pos 0); d = number (neg_ℤ extent) }
+
+symbol_wall_z : PlaneSymbols
+symbol_wall_z = record { nx = number (pos 0); ny = number (pos 0); nz = number (pos 1); d = number (neg_ℤ extent) }
+
+pub turn_x_y : (h : Plane) → (meet h wall_x wall_y).w ≡ h.nz
+unfolding meet determinant symbol_wall_x symbol_wall_y
+turn_x_y h = solved (numbers_of_plane h []) (symbol_meet (plane_from 0) symbol_wall_x symbol_wall_y).w (variable 2) tt
+
+pub turn_z_x : (h : Plane) → (meet h wall_z wall_x).w ≡ h.ny
+unfolding meet determinant symbol_wall_z symbol_wall_x
+turn_z_x h = solved (numbers_of_plane h []) (symbol_meet (plane_from 0) symbol_wall_z symbol_wall_x).w (variable 1) tt
+
+pub turn_y_z : (h : Plane) → (meet h wall_y wall_z).w ≡ h.nx
+unfolding meet determinant symbol_wall_y symbol_wall_z
+turn_y_z h = solved (numbers_of_plane h []) (symbol_meet (plane_from 0) symbol_wall_y symbol_wall_z).w (variable 0) tt
+
+-- in the other order they turn the other way
+pub turn_exchanged : (h a b : Plane) → (meet h b a).w ≡ neg_ℤ (meet h a b).w
+unfolding meet determinant
+turn_exchanged h a b =
+    let p = plane_from 0 in let q = plane_from 4 in let r = plane_from 8 in
+    solved (numbers_of_plane h (numbers_of_plane a (numbers_of_plane b []))) (symbol_meet p r q).w (negated (symbol_meet p q r).w) tt
+
+-- between a wall and its opposite is within the cube's extent
+module _ (p : Point) where
+  abbrev q : PointSymbols
+  q = point_from 0
+
+  abbrev low : Expression → Expression
+  low x = x ⊕ number extent ⊗ variable 3
+
+  abbrev high : Expression → Expression
+  high x = negated x ⊕ number extent ⊗ variable 3
+
+  -- a wall's value, and its opposite's
+  x_low : value wall_x p ≡ p.x +ℤ (extent *ℤ p.w)
+  unfolding value symbol_wall_x
+  x_low = solved (numbers_of_point p []) (symbol_value symbol_wall_x q) (low q.x) tt
+
+  x_high : value (opposite wall_x) p ≡ neg_ℤ p.x +ℤ (extent *ℤ p.w)
+  unfolding value symbol_wall_x
+  x_high = solved (numbers_of_point p []) (symbol_value (symbol_opposite symbol_wall_x) q) (high q.x) tt
+
+  y_low : value wall_y p ≡ p.y +ℤ (extent *ℤ p.w)
+  unfolding value symbol_wall_y
+  y_low = solved (numbers_of_point p []) (symbol_value symbol_wall_y q) (low q.y) tt
+
+  y_high : value (opposite wall_y) p ≡ neg_ℤ p.y +ℤ (extent *ℤ p.w)
+  unfolding value symbol_wall_y
+  y_high = solved (numbers_of_point p []) (symbol_value (symbol_opposite symbol_wall_y) q) (high q.y) tt
+
+  z_low : value wall_z p ≡ p.z +ℤ (extent *ℤ p.w)
+  unfolding value symbol_wall_z
+  z_low = solved (numbers_of_point p []) (symbol_value symbol_wall_z q) (low q.z) tt
+
+  z_high : value (opposite wall_z) p ≡ neg_ℤ p.z +ℤ (extent *ℤ p.w)
+  unfolding value symbol_wall_z
+  z_high = solved (numbers_of_point p []) (symbol_value (symbol_opposite symbol_wall_z) q) (high q.z) tt
+
+  pub between_x : IsBetween wall_x p ↔ IsWithinExtent p.x p.w
+  between_x = let e = x_low in let f = x_high in (
+    (λ s. let near = s.near in let far = s.far in record { above = omega (arith, linear); below = omega (arith, linear) }),
+    (λ s. let above = s.above in let below = s.below in record { near = omega (arith, linear); far = omega (arith, linear) }),
+  )
+
+  pub between_y : IsBetween wall_y p ↔ IsWithinExtent p.y p.w
+  between_y = let e = y_low in let f = y_high in (
+    (λ s. let near = s.near in let far = s.far in record { above = omega (arith, linear); below = omega (arith, linear) }),
+    (λ s. let above = s.above in let below = s.below in record { near = omega (arith, linear); far = omega (arith, linear) }),
+  )
+
+  pub between_z : IsBetween wall_z p ↔ IsWithinExtent p.z p.w
+  between_z = let e = z_low in let f = z_high in (
+    (λ s. let near = s.near in let far = s.far in record { above = omega (arith, linear); below = omega (arith, linear) }),
+    (λ s. let above = s.above in let below = s.below in record { near = omega (arith, linear); far = omega (arith, linear) }),
+  )
+
+pub walls_x_y_z : AreWalls wall_x wall_y wall_z
+walls_x_y_z p = (
+  (λ s. (s.weight, (between_x p).1 s.x, (between_y p).1 s.y, (between_z p).1 s.z)),
+  (λ s. record { weight = s.0; x = (between_x p).0 s.1; y = (between_y p).0 s.2; z = (between_z p).0 s.3 }),
+)
+
+-- the walls in another order are the same walls
+pub walls_exchanged : (a b c : Plane) → AreWalls a b c → AreWalls b a c
+walls_exchanged a b c w p = ((λ s. let t = (w p).0 s in (t.0, t.2, t.1, t.3)), (λ s. (w p).1 (s.0, s.2, s.1, s.3)))
+
+pub walls_turned : (a b c : Plane) → AreWalls a b c → AreWalls b c a
+walls_turned a b c w p = ((λ s. let t = (w p).0 s in (t.0, t.2, t.3, t.1)), (λ s. (w p).1 (s.0, s.3, s.1, s.2)))
+
+-- the walls and their opposites are in lowest terms
+
+only_one : (k : ℕ) → k ∣ 1 → k ≡ 1
+only_one k h = dvd_antisymm h (dvd_of_mod-eq-zero 1 (omega arith))
+
+pub wall_x_reduced : IsReduced wall_x
+wall_x_reduced = record { normal = λ e f g. absurd (omega (arith, ints)); lowest = λ k d e f g. only_one k d; nx_small = omega arith; ny_small = omega arith; nz_small = omega arith; d_small = omega arith }
+
+pub wall_y_reduced : IsReduced wall_y
+wall_y_reduced = record { normal = λ e f g. absurd (omega (arith, ints)); lowest = λ k d e f g. only_one k e; nx_small = omega arith; ny_small = omega arith; nz_small = omega arith; d_small = omega arith }
+
+pub wall_z_reduced : IsReduced wall_z
+wall_z_reduced = record { normal = λ e f g. absurd (omega (arith, ints)); lowest = λ k d e f g. only_one k f; nx_small = omega arith; ny_small = omega arith; nz_small = omega arith; d_small = omega arith }
+
+pub opposite_reduced : (a : Plane) → IsReduced a → IsReduced (opposite a)
+opposite_reduced a r = record {
+  normal = λ e f g. r.normal (omega (arith, ints)) (omega (arith, ints)) (omega (arith, ints));
+  lowest = λ k d e f g. r.lowest k (subst (λ m. k ∣ m) (abs_neg a.nx) d) (subst (λ m. k ∣ m) (abs_neg a.ny) e) (subst (λ m. k ∣ m) (abs_neg a.nz) f) g;
+  nx_small = let s = r.nx_small in let e = abs_neg a.nx in omega arith;
+  ny_small = let s = r.ny_small in let e = abs_neg a.ny in omega arith;
+  nz_small = let s = r.nz_small in let e = abs_neg a.nz in omega arith;
+  d_small = r.d_small;
+}
+
+-- ---- the part of a plane inside the cube: its square between two pairs of walls, cut by the third pair
+
+module _ (h a b c : Plane) (walls : AreWalls a b c) where
+  -- the plane misses the cube where nothing of the square is in front of the third wall
+  pub misses_near : HasNoneInFront (square h a b) c → MissesCube h
+  misses_near n p i on =
+      let s = (walls p).0 i in
+      let m = n p ((square_region h a b p).1 (s.0, on, s.1, s.2)) in
+      let f = s.3.near in
+      omega (arith, linear)
+
+  -- or where nothing of the rest is in front of its opposite
+  pub misses_far : (v : Winding) → IsPartInFront v (square h a b) c → HasNoneInFront v (opposite c) → MissesCube h
+  misses_far v x n p i on =
+      let s = (walls p).0 i in
+      let m = n p ((x.points p).1 ((square_region h a b p).1 (s.0, on, s.1, s.2), s.3.near)) in
+      let f = s.3.far in
+      omega (arith, linear)
+
+  -- else what both leave is the plane's part inside the cube
+  pub world_part : (v w : Winding) → IsPartInFront v (square h a b) c → IsPartInFront w v (opposite c) → IsWorldPart w h
+  world_part v w x y = record { convex = y.convex; plane = y.plane ∙ x.plane; points = λ p. (to_cube p, from_cube p) }
+    where
+      to_cube : (p : Point) → IsInRegion w p → IsOn h p × IsInCube p
+      to_cube p r =
+          let s = (y.points p).0 r in
+          let t = (x.points p).0 s.0 in
+          let u = (square_region h a b p).0 t.0 in
+          (u.1, (walls p).1 (u.0, u.2, u.3, record { near = t.1; far = s.1 }))
+
+      from_cube : (p : Point) → IsOn h p × IsInCube p → IsInRegion w p
+      from_cube p (on, i) =
+          let s = (walls p).0 i in
+          (y.points p).1 ((x.points p).1 ((square_region h a b p).1 (s.0, on, s.1, s.2), s.3.near), s.3.far)
+
+-- ---- the corners of a winding inside the cube lie in the cube or on its border
+
+pub corner_in_closed_cube : (v : Winding) → IsConvex v → ((p : Point) → IsInRegion v p → IsInCube p) → (i : ℕ) → i < length v.edges → IsInClosedCube (corner_at v i)
+corner_in_closed_cube v c inside i h = record {
+  weight = c.weight i h;
+  x = let a = at wall_x (λ p s. s.1.near) in let b = at (opposite wall_x) (λ p s. s.1.far) in let e = x_low q in let f = x_high q in record { above = omega (arith, linear); below = omega (arith, linear) };
+  y = let a = at wall_y (λ p s. s.2.near) in let b = at (opposite wall_y) (λ p s. s.2.far) in let e = y_low q in let f = y_high q in record { above = omega (arith, linear); below = omega (arith, linear) };
+  z = let a = at wall_z (λ p s. s.3.near) in let b = at (opposite wall_z) (λ p s. s.3.far) in let e = z_low q in let f = z_high q in record { above = omega (arith, linear); below = omega (arith, linear) };
+}
+  where
+    q : Point
+    q = corner_at v i
+
+    at : (g : Plane) → ((p : Point) → (pos 0 <ℤ p.w) × IsBetween wall_x p × IsBetween wall_y p × IsBetween wall_z p → IsInFront g p) → pos 0 ≤ℤ value g (corner_at v i)
+    at g f = ((wholly_in_front v g c).0 (λ p r. f p ((walls_x_y_z p).0 (inside p r)))).0 i h
