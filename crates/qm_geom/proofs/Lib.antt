@@ -1,8 +1,10 @@
+pub mod ByCrosses
 pub mod Entering
 pub mod Factors
-pub mod Wrapped
 pub mod Flipped
+pub mod LeastDistances
 pub mod Numbers
-pub mod Wide
-pub mod ByCrosses
 pub mod OnlyMeetings
+pub mod Roundings
+pub mod Wide
+pub mod Wrapped

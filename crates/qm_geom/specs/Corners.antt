@@ -1,4 +1,4 @@
-use Rattle.std.specs.Prelude.{◌≡◌, ℤ, pos, negsuc, Bool, true, false, if◌then◌else◌, ◌*ℤ◌, ◌<ℤ◌}
+use Rattle.std.specs.Prelude.{◌≡◌, ℕ, [], ◌∷◌, slice_index_or, ℤ, pos, negsuc, Bool, true, false, if◌then◌else◌, ◌*ℤ◌, ◌<ℤ◌}
 use Rattle.qm_space.specs.Point.{Point, point_times}
 use Rattle.qm_space.specs.Plane.{Plane, IsOn}
 use Rattle.qm_space.specs.Meet.{HasMeetSizes}
@@ -22,6 +22,11 @@ pub record MeetOnlyIn (a b c : Plane) (p : Point) : Type 0 where
   pub third : IsOn c p
   pub only : (q : Point) → pos 0 <ℤ q.w → IsOn a q → IsOn b q → IsOn c q → AreOnePlace p q
 
+-- the numerator of x, y or z, by the axis
+abbrev pub numerator : Point → ℕ → ℤ
+numerator p axis = slice_index_or (p.x ∷ p.y ∷ p.z ∷ []) axis (pos 0)
+
+-- whether a number is below 0
 abbrev pub is_negative : ℤ → Bool
 is_negative (pos n) = false
 is_negative (negsuc n) = true

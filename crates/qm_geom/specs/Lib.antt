@@ -1,3 +1,5 @@
 pub mod Corners
+pub mod LeastDistance
 pub mod Planes
+pub mod Rounding
 pub mod Vectors

@@ -1,12 +1,16 @@
-ghost use Rattle.std.specs.Prelude.{◌≡◌, ◌≤◌, ◌*◌, ◌^◌, ℕ, pos, ◌*ℤ◌, ◌+ℤ◌, ◌-ℤ◌, unsigned_abs, IfSome, IfNone};
+ghost use Rattle.std.specs.Prelude.{◌≡◌, ◌<◌, ◌≤◌, ◌*◌, ◌^◌, ℕ, pos, ◌*ℤ◌, ◌+ℤ◌, ◌-ℤ◌, ◌<ℤ◌, unsigned_abs, IfSome, IfNone};
+ghost use Rattle.std.specs.List.{All};
 ghost use Rattle.std.specs.Ordering.{int_cmp};
 ghost use Rattle.qm_space.specs.Point.{Point};
 ghost use Rattle.qm_space.specs.Plane.{value};
 ghost use Rattle.qm_space.specs.Meet.{meet};
-ghost use Rattle.qm_geom.specs.Corners.{with_positive_weight, MeetOnlyIn};
+ghost use Rattle.qm_geom.specs.Corners.{numerator, with_positive_weight, MeetOnlyIn};
+ghost use Rattle.qm_geom.specs.LeastDistance.{plane_at, IsComponent, IsLeastDistanceOf};
+ghost use Rattle.qm_geom.specs.Rounding.{AreCoordinatesBy, HasSmallCoordinates, IsNearest, IsRoundedDown, IsRoundedUp};
 
 use crate::meeting::Meeting;
 use crate::plane::Plane;
+use crate::rounding::{coordinate_above, coordinate_below, nearest_coordinate, rounded_up};
 use std::cmp::Ordering;
 use std::marker::Model;
 
@@ -57,6 +61,88 @@ impl Corner {
         ensures { result ≡ int_cmp (value plane.now self.now) (pos 0) }
     {
         self.value(plane).cmp(&0)
+    }
+
+    /// The nearest whole numbers to the three coordinates; of two that are equally near, the one
+    /// farther from 0.
+    pub fn rounded(&self) -> [i32; 3]
+        requires { HasSmallCoordinates self.now }
+        ensures { AreCoordinatesBy IsNearest self.now result }
+    {
+        [
+            nearest_coordinate(self.x, self.w),
+            nearest_coordinate(self.y, self.w),
+            nearest_coordinate(self.z, self.w),
+        ]
+    }
+
+    /// The three coordinates rounded down, and the three rounded up.
+    pub fn around(&self) -> ([i32; 3], [i32; 3])
+        requires { HasSmallCoordinates self.now }
+        ensures below { AreCoordinatesBy IsRoundedDown self.now result.0 }
+        ensures above { AreCoordinatesBy IsRoundedUp self.now result.1 }
+    {
+        (self.below(), self.above())
+    }
+
+    fn below(&self) -> [i32; 3]
+        requires { HasSmallCoordinates self.now }
+        ensures { AreCoordinatesBy IsRoundedDown self.now result }
+    {
+        [
+            coordinate_below(self.x, self.w),
+            coordinate_below(self.y, self.w),
+            coordinate_below(self.z, self.w),
+        ]
+    }
+
+    fn above(&self) -> [i32; 3]
+        requires { HasSmallCoordinates self.now }
+        ensures { AreCoordinatesBy IsRoundedUp self.now result }
+    {
+        [
+            coordinate_above(self.x, self.w),
+            coordinate_above(self.y, self.w),
+            coordinate_above(self.z, self.w),
+        ]
+    }
+
+    /// The numerator and the positive denominator of one coordinate: of x, y and z for the axes 0, 1
+    /// and 2.
+    pub fn fraction(&self, axis: usize) -> (i128, i128)
+        requires { axis < 3 }
+        ensures numerator { result.0 ≡ numerator self.now axis }
+        ensures denominator { result.1 ≡ self.now.w }
+        ensures positive { pos 0 <ℤ result.1 }
+    {
+        let numerator = match axis {
+            0 => self.x,
+            1 => self.y,
+            _ => self.z,
+        };
+        (numerator, self.w)
+    }
+
+    /// The least whole distance at which the corner is not in front of the plane with this normal.
+    pub(crate) fn least_distance(&self, normal: [i32; 3]) -> i64
+        requires normal_small { All IsComponent normal }
+        requires corner_small { HasSmallCoordinates self.now }
+        ensures { IsLeastDistanceOf normal self.now result }
+    {
+        rounded_up(self.along(normal), self.w)
+    }
+
+    /// The dot product of a normal with the three numerators.
+    fn along(&self, normal: [i32; 3]) -> i128
+        requires { All IsComponent normal }
+        ensures exact { result ≡ value (plane_at normal (pos 0)) self.now }
+        ensures size { unsigned_abs result ≤ 9 * 2 ^ 123 }
+    {
+        sum_of_three(
+            component_times(normal[0], self.x),
+            component_times(normal[1], self.y),
+            component_times(normal[2], self.z),
+        )
     }
 
     fn value(&self, plane: &Plane) -> i128

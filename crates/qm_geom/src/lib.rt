@@ -1,19 +1,22 @@
-//! Planes and points of a map, in code: the plane through three points, the side of a plane on
+//! Planes, points and corners of a map, in code: the plane through three points, the side of a plane on
 //! which a point lies, and the book that numbers the planes.
 #![tactic(auto)]
 
 mod corner;
+mod distance;
 mod factor;
 mod meeting;
 mod plane;
 mod plane_book;
 mod point;
+mod rounding;
 #[cfg(test)]
 mod tests;
 mod unreduced;
 mod vector;
 
 pub use corner::Corner;
+pub use distance::least_distance;
 pub use plane::{NoNormal, Plane};
 pub use plane_book::PlaneBook;
 pub use point::Point;
