@@ -3,7 +3,7 @@ use Rattle.std.proofs.Common.{◌≡◌, ℤ, pos, negsuc, true, false, ◌+ℤ�
 use Rattle.std.proofs.lemmas.Int.{ints}
 use Rattle.std.proofs.Math.IntN.{*ℤ_comm}
 use Rattle.qm_space.specs.Point.{Point, point_sum, point_times}
-use Rattle.qm_space.specs.Plane.{Plane}
+use Rattle.qm_space.specs.Plane.{Plane, IsOn}
 use Rattle.qm_space.specs.Meet.{meet, HasMeetSizes}
 use Rattle.qm_space.specs.Reduced.{IsReduced}
 use Rattle.qm_space.proofs.IntegerProducts.{linear, +ℤ-*ℤ}
@@ -11,7 +11,7 @@ use Rattle.qm_space.proofs.Signs.{by_sign, zero_beside_positive}
 use Rattle.qm_space.proofs.Planes.{first_holds_meet, second_holds_meet, third_holds_meet, meet_only, meet_exchanged}
 use Rattle.qm_space.proofs.Directions.{common_direction, another_point}
 use Rattle.qm_space.proofs.Sizes.{meet_sizes}
-use Rattle.qm_geom.specs.Corners.{is_negative, with_positive_weight, MeetOnlyIn}
+use Rattle.qm_geom.specs.Corners.{is_negative, with_positive_weight, MeetBeside, MeetOnlyIn}
 
 -- where w is above 0, the meeting point is the only one
 meet_is_only : (a b c : Plane) → pos 0 <ℤ (meet a b c).w → MeetOnlyIn a b c (meet a b c)
@@ -33,15 +33,20 @@ meet_is_only a b c h = record {
     place : (m w k v : ℤ) → w *ℤ k ≡ v *ℤ m → m *ℤ v ≡ k *ℤ w
     place m w k v e = *ℤ_comm m v ∙ sym e ∙ *ℤ_comm w k
 
--- where w is 0, there is none
-no_only : (a b c : Plane) → (meet a b c).w ≡ pos 0 → (p : Point) → MeetOnlyIn a b c p → ⊥
-no_only a b c e p m =
+-- where w is 0, the planes have another place in common beside each that they have
+meet_beside : (a b c : Plane) → (meet a b c).w ≡ pos 0 → (p : Point) → pos 0 <ℤ p.w → IsOn a p → IsOn b p → IsOn c p → MeetBeside a b c p
+meet_beside a b c e p h x y z =
     let d = common_direction a b c e in
     let v = d.0 in let l = d.1 in
-    let o = another_point a b c p v l m.first m.second m.third in
-    let w : pos 0 <ℤ (point_sum p v).w = subst (λ (k : ℤ). pos 0 <ℤ k) (sym o.3) m.weight in
-    let same = m.only (point_sum p v) w o.0 o.1 o.2 in
-    l.some (still p.x v.x p.w v.w l.weight m.weight same.x) (still p.y v.y p.w v.w l.weight m.weight same.y) (still p.z v.z p.w v.w l.weight m.weight same.z)
+    let o = another_point a b c p v l x y z in
+    record {
+      other = point_sum p v;
+      weight = subst (λ (k : ℤ). pos 0 <ℤ k) (sym o.3) h;
+      first = o.0;
+      second = o.1;
+      third = o.2;
+      apart = λ same. l.some (still p.x v.x p.w v.w l.weight h same.x) (still p.y v.y p.w v.w l.weight h same.y) (still p.z v.z p.w v.w l.weight h same.z);
+    }
   where
     still : (k s w t : ℤ) → t ≡ pos 0 → pos 0 <ℤ w → k *ℤ (w +ℤ t) ≡ (k +ℤ s) *ℤ w → s ≡ pos 0
     still k s w t z h e =
@@ -49,6 +54,14 @@ no_only a b c e p m =
         let g = +ℤ-*ℤ k s w in
         let i = *ℤ_comm w s in
         zero_beside_positive w s h (omega (arith, linear))
+
+beside_exchanged : (a b c : Plane) (p : Point) → MeetBeside b a c p → MeetBeside a b c p
+beside_exchanged a b c p m =
+    record { other = m.other; weight = m.weight; first = m.second; second = m.first; third = m.third; apart = m.apart }
+
+-- so it is not the only one
+beside_not_only : (a b c : Plane) (p : Point) → MeetBeside a b c p → MeetOnlyIn a b c p → ⊥
+beside_not_only a b c p m o = m.apart (o.only m.other m.weight m.first m.second m.third)
 
 -- the order in which the planes are named does not matter
 only_exchanged : (a b c : Plane) (p : Point) → MeetOnlyIn b a c p → MeetOnlyIn a b c p
@@ -106,6 +119,9 @@ pub turned_is_only : (a b c : Plane) → pos 0 <ℤ (with_positive_weight (meet 
 turned_is_only a b c =
     by_turned (λ p. pos 0 <ℤ p.w → MeetOnlyIn a b c p) a b c (λ h. only_exchanged a b c (meet b a c) (meet_is_only b a c h)) (meet_is_only a b c)
 
+pub turned_beside : (a b c : Plane) → (with_positive_weight (meet a b c)).w ≡ pos 0 → (p : Point) → pos 0 <ℤ p.w → IsOn a p → IsOn b p → IsOn c p → MeetBeside a b c p
+turned_beside a b c =
+    by_turned (λ q. q.w ≡ pos 0 → (p : Point) → pos 0 <ℤ p.w → IsOn a p → IsOn b p → IsOn c p → MeetBeside a b c p) a b c (λ e p h x y z. beside_exchanged a b c p (meet_beside b a c e p h y x z)) (meet_beside a b c)
+
 pub turned_no_only : (a b c : Plane) → (with_positive_weight (meet a b c)).w ≡ pos 0 → (p : Point) → MeetOnlyIn a b c p → ⊥
-turned_no_only a b c =
-    by_turned (λ q. q.w ≡ pos 0 → (p : Point) → MeetOnlyIn a b c p → ⊥) a b c (λ e p m. no_only b a c e p (only_exchanged b a c p m)) (no_only a b c)
+turned_no_only a b c e p m = beside_not_only a b c p (turned_beside a b c e p m.weight m.first m.second m.third) m

@@ -22,6 +22,15 @@ pub record MeetOnlyIn (a b c : Plane) (p : Point) : Type 0 where
   pub third : IsOn c p
   pub only : (q : Point) → pos 0 <ℤ q.w → IsOn a q → IsOn b q → IsOn c q → AreOnePlace p q
 
+-- beside this place, which the three planes have in common, they have another one in common
+pub record MeetBeside (a b c : Plane) (p : Point) : Type 0 where
+  pub other : Point
+  pub weight : pos 0 <ℤ other.w
+  pub first : IsOn a other
+  pub second : IsOn b other
+  pub third : IsOn c other
+  pub apart : AreOnePlace p other → ⊥
+
 -- the numerator of x, y or z, by the axis
 abbrev pub numerator : Point → ℕ → ℤ
 numerator p axis = slice_index_or (p.x ∷ p.y ∷ p.z ∷ []) axis (pos 0)

@@ -2,9 +2,9 @@ ghost use Rattle.std.specs.Prelude.{◌≡◌, ◌<◌, ◌≤◌, ◌*◌, ◌^
 ghost use Rattle.std.specs.List.{All};
 ghost use Rattle.std.specs.Ordering.{int_cmp};
 ghost use Rattle.qm_space.specs.Point.{Point};
-ghost use Rattle.qm_space.specs.Plane.{value};
-ghost use Rattle.qm_space.specs.Meet.{meet};
-ghost use Rattle.qm_geom.specs.Corners.{numerator, with_positive_weight, MeetOnlyIn};
+ghost use Rattle.qm_space.specs.Plane.{value, IsOn};
+ghost use Rattle.qm_space.specs.Meet.{meet, HasMeetSizes};
+ghost use Rattle.qm_geom.specs.Corners.{numerator, with_positive_weight, MeetBeside, MeetOnlyIn};
 ghost use Rattle.qm_geom.specs.LeastDistance.{plane_at, IsComponent, IsLeastDistanceOf};
 ghost use Rattle.qm_geom.specs.Rounding.{AreCoordinatesBy, HasSmallCoordinates, IsNearest, IsRoundedDown, IsRoundedUp};
 
@@ -42,6 +42,7 @@ impl Corner {
         ensures value { IfSome result (λ p. p ≡ with_positive_weight (meet a.now b.now c.now)) }
         ensures only { IfSome result (λ p. MeetOnlyIn a.now b.now c.now p) }
         ensures none { IfNone result ((p : Point) → MeetOnlyIn a.now b.now c.now p → ⊥) }
+        ensures beside { IfNone result ((p : Point) → pos 0 <ℤ p.w → IsOn a.now p → IsOn b.now p → IsOn c.now p → MeetBeside a.now b.now c.now p) }
     {
         let meeting = Meeting::of(a, b, c).with_positive_weight();
         if meeting.w == 0 {
@@ -114,6 +115,7 @@ impl Corner {
         ensures numerator { result.0 ≡ numerator self.now axis }
         ensures denominator { result.1 ≡ self.now.w }
         ensures positive { pos 0 <ℤ result.1 }
+        ensures sizes { HasMeetSizes self.now }
     {
         let numerator = match axis {
             0 => self.x,

@@ -1,7 +1,7 @@
 use Rattle.std.proofs.Common.{◌<ℤ◌, pos, ap, sym, subst, ◌∙◌, lit≤}
 use Rattle.qm_space.specs.Meet.{meet}
 use Rattle.qm_geom.specs.Corners.{with_positive_weight, MeetOnlyIn}
-use Rattle.qm_geom.proofs.OnlyMeetings.{turned_positive, turned_is_only, turned_no_only}
+use Rattle.qm_geom.proofs.OnlyMeetings.{turned_positive, turned_beside, turned_is_only, turned_no_only}
 use Rattle.qm_geom.proofs.Wide.{held_is, held_is_corner, zero_from_bits, bits_of_zero}
 use Rattle.qm_geom.proofs.corner.Corner.of.Goals as goal
 
@@ -9,6 +9,11 @@ pub returns-then-meeting-eq0-clause-none : goal.returns-then-meeting-eq0-clause-
 returns-then-meeting-eq0-clause-none c =
     let e = c.meeting.view_is ∙ c.with_positive_weight-meeting.ensures ∙ ap with_positive_weight c.of.ensures in
     turned_no_only c.args.a.now c.args.b.now c.args.c.now (sym (ap (λ p. p.w) e) ∙ zero_from_bits _ _ c.meeting.invariant.w_small (lit≤ tt) c.if-meeting-eq0.true)
+
+pub returns-then-meeting-eq0-clause-beside : goal.returns-then-meeting-eq0-clause-beside
+returns-then-meeting-eq0-clause-beside c =
+    let e = c.meeting.view_is ∙ c.with_positive_weight-meeting.ensures ∙ ap with_positive_weight c.of.ensures in
+    turned_beside c.args.a.now c.args.b.now c.args.c.now (sym (ap (λ p. p.w) e) ∙ zero_from_bits _ _ c.meeting.invariant.w_small (lit≤ tt) c.if-meeting-eq0.true)
 
 pub invariant_of-result : goal.invariant_of-result
 invariant_of-result c =
