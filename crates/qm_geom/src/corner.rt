@@ -36,7 +36,32 @@ impl Model for Corner {
     ghost inverse = { λ p. record { x = p.x; y = p.y; z = p.z; w = p.w } };
 }
 
+impl Default for Corner {
+    fn default() -> Corner {
+        Corner {
+            x: 0,
+            y: 0,
+            z: 0,
+            w: 1,
+        }
+    }
+}
+
 impl Corner {
+    /// The corner of three planes whose normals, in this order, turn to the front.
+    pub fn turning(a: &Plane, b: &Plane, c: &Plane) -> Corner
+        requires { pos 0 <ℤ (meet a.now b.now c.now).w }
+        ensures { result ≡ meet a.now b.now c.now }
+    {
+        let meeting = Meeting::of(a, b, c);
+        Corner {
+            x: meeting.x,
+            y: meeting.y,
+            z: meeting.z,
+            w: meeting.w,
+        }
+    }
+
     /// The corner of three planes; `None` exactly where they do not meet in exactly one point.
     pub fn of(a: &Plane, b: &Plane, c: &Plane) -> Option<Corner>
         ensures value { IfSome result (λ p. p ≡ with_positive_weight (meet a.now b.now c.now)) }

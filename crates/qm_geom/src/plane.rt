@@ -32,6 +32,17 @@ impl Model for Plane {
     ghost inverse = { λ h. record { nx = h.nx; ny = h.ny; nz = h.nz; d = h.d } };
 }
 
+impl Default for Plane {
+    fn default() -> Plane {
+        Plane {
+            nx: 1,
+            ny: 0,
+            nz: 0,
+            d: 0,
+        }
+    }
+}
+
 /// The points lie on one line, so that no plane is the plane through them.
 #[derive(Clone, Copy, Debug, PartialEq, Eq)]
 pub struct NoNormal;

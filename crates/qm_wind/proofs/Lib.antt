@@ -1,0 +1,5 @@
+pub mod KeptCorners
+pub mod Arcs
+pub mod Surveys
+pub mod Clips
+pub mod WallsAcross

@@ -1,0 +1,19 @@
+use Rattle.qm_space.specs.Plane.{Plane, flipped}
+use Rattle.qm_convex.specs.Winding.{Winding}
+use Rattle.qm_convex.specs.Sides.{HasNoneInFront, HasSomeInFront, IsWhollyInFront}
+use Rattle.qm_convex.specs.Cut.{IsPartInFront}
+use Rattle.qm_wind.specs.declared.winding.Side.{Side}
+use Rattle.qm_wind.specs.declared.winding.Side.TheVariants.{Front, Back}
+use Rattle.qm_wind.specs.declared.winding.Clip.{Clip}
+use Rattle.qm_wind.specs.declared.winding.Clip.TheVariants.{Whole, Gone, Cut}
+
+-- the plane, turned so that the side is its front
+abbrev pub facing : Side → Plane → Plane
+facing Front h = h
+facing Back h = flipped h
+
+-- what is left of a winding in front of a plane
+abbrev pub IsClip : Clip → Winding → Plane → Type 0
+IsClip Whole v g = IsWhollyInFront v g
+IsClip Gone v g = HasNoneInFront v g
+IsClip (Cut w) v g = IsPartInFront w v g × HasSomeInFront v (flipped g)

@@ -1,0 +1,4 @@
+pub mod Kept
+pub mod Survey
+pub mod Clipped
+pub mod Across
