@@ -29,3 +29,14 @@ fn the_floor_is_cut(rt: HostRuntime) -> Result<(), Fail> {
     assert_eq!(rt; kind(&square.clip(&floor, Side::Back)?), (0, 0));
     Ok(())
 }
+
+#[test]
+fn a_copy_has_as_many_corners(rt: HostRuntime) -> Result<(), Fail> {
+    let (floor, _) = Plane::through([0, 0, 0], [1, 0, 0], [0, 1, 0])?;
+    let copied = match Winding::on(rt.alloc(), &floor)? {
+        Some(square) => square.copy()?.len(),
+        None => 0,
+    };
+    assert_eq!(rt; copied, 4);
+    Ok(())
+}
