@@ -1,7 +1,7 @@
 use Rattle.std.proofs.Common.{◌≡◌, List, ℕ, length, take, map, sym, ◌∙◌, ap, arith}
 use Rattle.std.specs.Char.{to_ascii_lowercase}
 use Rattle.std.specs.Prelude.{slice_range}
-use Rattle.std.specs.Str.{bytes_eq, str_to_ascii_lowercase}
+use Rattle.std.specs.Str.{str_to_ascii_lowercase}
 use Rattle.std.proofs.lemmas.List.{take-map}
 use Rattle.std.proofs.lemmas.Slice.Eq.{bytes_eq-Decides}
 use Rattle.std.proofs.lemmas.Bool.Decides.{same_from_decides}
