@@ -1,4 +1,4 @@
-use Rattle.std.proofs.Common.{◌≡◌, ◌≢◌, ℕ, zero, suc, ◌<◌, get_or, List, [], ◌∷◌, All, Some, length, refl, sym, ap, ◌∙◌, subst, arith, codes}
+use Rattle.std.proofs.Common.{◌≡◌, ◌≢◌, ℕ, zero, suc, ◌<◌, get_or, List, [], ◌∷◌, All, Some, refl, sym, ap, ◌∙◌, subst, arith}
 use Rattle.qm_mapfile.specs.declared.face.Face.{Face}
 use Rattle.qm_mapfile.specs.declared.entity.Brush.{Brush}
 use Rattle.qm_mapfile.specs.declared.entity.MapFile.{MapFile}
@@ -8,7 +8,7 @@ use Rattle.qm_map.specs.Spelling.{SpellsFace, SpellsFaces, face, none, more, sto
 use Rattle.qm_map.specs.OneBrushText.{IsOneBrushText}
 use Rattle.qm_contents.specs.Texture.{contents_of_texture}
 use Rattle.qm_contents.specs.declared.contents.Contents.TheVariants.{Solid}
-use Rattle.qm_compile.specs.Brushes.{first_texture, contents_of_brush, drawn_brushes, IsOneBrushMap, AreValidFaces, HasCoordinates, HasValidBrushes}
+use Rattle.qm_compile.specs.Brushes.{first_texture, contents_of_brush, IsOneBrushMap, AreValidFaces, HasCoordinates, HasValidBrushes}
 use Rattle.qm_compile.proofs.FewFaces.{form-few}
 
 -- A text of one brush means a map of one brush that is not clip, with valid faces.

@@ -1,8 +1,7 @@
-use Rattle.std.proofs.Common.{◌∙◌, ◌≡◌, ap, sym, subst, List, Some, None, true, Option}
-use Rattle.std.specs.Prelude.{is_some, IsSome}
+use Rattle.std.proofs.Common.{◌∙◌, ap, sym, subst, List}
+use Rattle.std.specs.Prelude.{is_some}
 use Rattle.qm_mapfile.specs.declared.face.Face.{Face}
-use Rattle.qm_contents.specs.declared.contents.Contents.{Contents}
-use Rattle.qm_compile.specs.Brushes.{AreValidFaces, contents_of_brush}
+use Rattle.qm_compile.specs.Brushes.{AreValidFaces}
 use Rattle.qm_compile.specs.Chain.{tree_of_walk}
 use Rattle.qm_compile.specs.Texts.{tree_summary}
 use Rattle.qm_compile.specs.TreeFile.{file_of}
