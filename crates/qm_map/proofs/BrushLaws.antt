@@ -6,7 +6,7 @@ use Rattle.std.proofs.lemmas.List.Elements.{All-nil, All-cons}
 use Rattle.std.proofs.lemmas.Option.{none-some, some_pair_parts}
 use Rattle.qm_space.specs.Point.{IsCoordinate, AreCoordinates}
 use Rattle.qm_mapfile.specs.declared.face.Face.{Face}
-use Rattle.qm_map.specs.Words.{Word}
+use Rattle.qm_mapfile.specs.Words.{Word}
 use Rattle.qm_map.specs.Marks.{close_brace}
 use Rattle.qm_map.specs.Spelling.{SpellsPoint, point, SpellsFace, face, SpellsFaces, none, more}
 use Rattle.qm_map.specs.OneBrushText.{HasCoordinates}

@@ -4,7 +4,7 @@ use Rattle.std.specs.Prelude.{MatchOption, is_some}
 use Rattle.std.proofs.lemmas.Bool.{false≢true}
 use Rattle.qm_map.specs.declared.fault.MapFault.{MapFault}
 use Rattle.qm_map.specs.declared.fault.MapFault.TheVariants.{NotBuilt}
-use Rattle.qm_map.specs.Words.{Word}
+use Rattle.qm_mapfile.specs.Words.{Word}
 use Rattle.qm_map.specs.Reading.{Passes}
 
 pub not_built_at_exit : {T U : Type 0} (answer : Result T MapFault) (passed fault : MapFault) → answer ≡ Err passed → passed ≡ fault → answer ≡ Err NotBuilt → ◌≡◌ {A = Result U MapFault} (Err fault) (Err NotBuilt)

@@ -6,7 +6,7 @@ use Rattle.std.proofs.lemmas.Option.{none-some, some_pair_parts}
 use Rattle.qm_mapfile.specs.declared.face.Face.{Face}
 use Rattle.qm_mapfile.specs.declared.face.Mapping.{Mapping}
 use Rattle.qm_mapfile.specs.declared.face.Mapping.TheVariants.{Standard}
-use Rattle.qm_map.specs.Words.{Word}
+use Rattle.qm_mapfile.specs.Words.{Word}
 use Rattle.qm_map.specs.Marks.{IsMark}
 use Rattle.qm_map.specs.Spelling.{SpellsFace, face, stone}
 use Rattle.qm_map.specs.Reading.{◌>>=◌, is_mark, after, read_name, read_mapping, read_point, read_face}

@@ -7,7 +7,7 @@ use Rattle.std.proofs.lemmas.List.Elements.{All-nil, All-push}
 use Rattle.std.proofs.lemmas.List.Quantifiers.{all_pairs_push}
 use Rattle.std.proofs.lemmas.Slice.Eq.{bytes_eq-Decides}
 use Rattle.qm_mapfile.specs.declared.face.Face.{Face}
-use Rattle.qm_map.specs.Words.{Word}
+use Rattle.qm_mapfile.specs.Words.{Word}
 use Rattle.qm_map.specs.Marks.{close_brace}
 use Rattle.qm_map.specs.Spelling.{SpellsFace, SpellsFaces, none}
 use Rattle.qm_map.specs.OneBrushText.{HasPlane}

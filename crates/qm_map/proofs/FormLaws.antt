@@ -4,7 +4,7 @@ use Rattle.std.specs.Prelude.{All}
 use Rattle.qm_mapfile.specs.declared.face.Face.{Face}
 use Rattle.qm_mapfile.specs.declared.entity.MapFile.{MapFile}
 use Rattle.qm_mapfile.specs.OneBrush.{one_brush}
-use Rattle.qm_map.specs.Words.{Word, words_of}
+use Rattle.qm_mapfile.specs.Words.{Word, words_of}
 use Rattle.qm_map.specs.Marks.{open_brace, close_brace}
 use Rattle.qm_map.specs.OneBrushText.{HasCoordinates, IsPlain, IsOneBrushText}
 use Rattle.qm_map.specs.Reading.{after}

@@ -6,7 +6,7 @@ use Rattle.std.specs.Str.{bytes_eq}
 use Rattle.std.proofs.lemmas.Bool.{false≢true, both_ways, eqb-true, false_from_ne_true}
 use Rattle.std.proofs.lemmas.Option.{none-some, cond_some}
 use Rattle.std.proofs.lemmas.Slice.Eq.{bytes_eq-Decides}
-use Rattle.qm_map.specs.Words.{Word}
+use Rattle.qm_mapfile.specs.Words.{Word}
 use Rattle.qm_map.specs.Marks.{IsMark}
 use Rattle.qm_map.specs.Reading.{starts_with_word, without_word, after, is_mark}
 

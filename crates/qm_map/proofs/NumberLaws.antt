@@ -9,7 +9,7 @@ use Rattle.std.proofs.lemmas.Option.{same_Some, none-some, option_and_then_some}
 use Rattle.std.proofs.lemmas.Str.{digit_value_digit}
 use Rattle.std.proofs.lemmas.Str.Parse.{digit_from_value}
 use Rattle.qm_space.specs.Point.{IsCoordinate}
-use Rattle.qm_map.specs.Words.{Word}
+use Rattle.qm_mapfile.specs.Words.{Word}
 use Rattle.qm_map.specs.Number.{Spells, plain, minus, SpellsCoordinate}
 use Rattle.qm_map.specs.Reading.{magnitude_after, magnitude_of, coordinate_of}
 

@@ -1,7 +1,7 @@
 -- A point is read exactly where words spell one.
 use Rattle.std.proofs.Common.{◌≡◌, ℤ, List, [], ◌∷◌, ◌++◌, Option, Some, None, refl, ap, subst}
 use Rattle.std.proofs.lemmas.Option.{none-some, some_pair_parts}
-use Rattle.qm_map.specs.Words.{Word}
+use Rattle.qm_mapfile.specs.Words.{Word}
 use Rattle.qm_map.specs.Marks.{open_parenthesis, close_parenthesis}
 use Rattle.qm_map.specs.Number.{SpellsCoordinate}
 use Rattle.qm_map.specs.Spelling.{SpellsPoint, point}

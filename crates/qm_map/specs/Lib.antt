@@ -4,4 +4,3 @@ pub mod Marks
 pub mod Number
 pub mod Reading
 pub mod Spelling
-pub mod Words

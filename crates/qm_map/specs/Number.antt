@@ -1,7 +1,7 @@
 use Rattle.std.specs.Prelude.{ℕ, ℤ, pos, neg_ℤ, ◌∷◌}
 use Rattle.std.specs.Str.Parse.{digits_value, AllDigits}
 use Rattle.qm_space.specs.Point.{IsCoordinate}
-use Rattle.qm_map.specs.Words.{Word}
+use Rattle.qm_mapfile.specs.Words.{Word}
 
 -- how a word spells a whole number: one or more decimal digits, and perhaps a minus sign before them
 pub data Spells : Word → ℤ → Type 0 where

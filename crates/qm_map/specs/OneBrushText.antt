@@ -5,7 +5,7 @@ use Rattle.qm_mapfile.specs.declared.face.Face.{Face}
 use Rattle.qm_mapfile.specs.declared.entity.MapFile.{MapFile}
 use Rattle.qm_mapfile.specs.Face.{face_point, face_plane}
 use Rattle.qm_mapfile.specs.OneBrush.{one_brush}
-use Rattle.qm_map.specs.Words.{words_of}
+use Rattle.qm_mapfile.specs.Words.{words_of}
 use Rattle.qm_map.specs.Marks.{open_brace, close_brace}
 use Rattle.qm_map.specs.Spelling.{SpellsFaces}
 

@@ -9,7 +9,7 @@ use Rattle.qm_mapfile.specs.declared.face.Mapping.{Mapping}
 use Rattle.qm_mapfile.specs.declared.face.Mapping.TheVariants.{Standard}
 use Rattle.qm_map.specs.declared.fault.MapFault.{MapFault}
 use Rattle.qm_map.specs.declared.fault.MapFault.TheVariants.{NotBuilt, Memory}
-use Rattle.qm_map.specs.Words.{Word}
+use Rattle.qm_mapfile.specs.Words.{Word}
 use Rattle.qm_map.specs.Marks.{open_parenthesis, close_parenthesis}
 use Rattle.qm_map.specs.Spelling.{stone}
 

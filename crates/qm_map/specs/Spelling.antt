@@ -1,7 +1,7 @@
 use Rattle.std.specs.Prelude.{ℤ, List, [], ◌∷◌, ◌++◌, All}
 use Rattle.qm_mapfile.specs.declared.face.Face.{Face}
 use Rattle.qm_mapfile.specs.declared.face.Mapping.TheVariants.{Standard}
-use Rattle.qm_map.specs.Words.{Word}
+use Rattle.qm_mapfile.specs.Words.{Word}
 use Rattle.qm_map.specs.Marks.{open_parenthesis, close_parenthesis, IsMark}
 use Rattle.qm_map.specs.Number.{SpellsCoordinate}
 

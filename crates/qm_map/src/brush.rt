@@ -1,7 +1,7 @@
 ghost use Rattle.std.specs.Prelude.{◌≡◌, ◌≢◌, ◌≤◌, ◌<◌, ◌+◌, ◌-◌, ◌^◌, [], ◌∷◌, ◌++◌, List, length, map, All, IfOk, OnOk, Err};
 ghost use Rattle.qm_space.specs.Point.{AreCoordinates};
 ghost use Rattle.qm_mapfile.specs.declared.face.Face.{Face};
-ghost use Rattle.qm_map.specs.Words.{Word};
+ghost use Rattle.qm_mapfile.specs.Words.{Word};
 ghost use Rattle.qm_map.specs.OneBrushText.{HasPlane};
 ghost use Rattle.qm_map.specs.Reading.{read_face};
 ghost use Rattle.qm_map.specs.Brush.{plane_of, AreApart, IsNew, AddsFace, IsBrush};

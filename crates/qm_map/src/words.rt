@@ -1,6 +1,6 @@
 ghost use Rattle.std.specs.Prelude.{◌≡◌, ◌≤◌, [], ◌∷◌, length, not, if◌then◌else◌, MatchOption};
 ghost use Rattle.std.specs.List.{prefix_len};
-ghost use Rattle.qm_map.specs.Words.{words_of, parts_words};
+ghost use Rattle.qm_mapfile.specs.Words.{words_of, parts_words};
 ghost use Rattle.qm_map.specs.Reading.{starts_with_word, without_word};
 
 use std::marker::Model;
@@ -13,7 +13,7 @@ pub(crate) struct Words<'a> {
 
 impl<'a> Model for Words<'a> {
     ghost use Rattle.std.specs.Prelude.{List};
-    ghost use Rattle.qm_map.specs.Words.{Word, words_of};
+    ghost use Rattle.qm_mapfile.specs.Words.{Word, words_of};
 
     ghost Value = { List Word };
 

@@ -2,7 +2,7 @@ use Rattle.std.proofs.Common.{◌≡◌, List, ◌∷◌, length, map, Some, sym
 use Rattle.std.proofs.lemmas.Bool.{eqb-true, eqb-false}
 use Rattle.std.proofs.lemmas.List.{nil_from_length}
 use Rattle.std.proofs.lemmas.Result.{err_from_is_err_and}
-use Rattle.qm_map.specs.Words.{Word}
+use Rattle.qm_mapfile.specs.Words.{Word}
 use Rattle.qm_map.specs.Marks.{close_brace}
 use Rattle.qm_map.specs.Reading.{read_face}
 use Rattle.qm_map.specs.Brush.{plane_of, AddsFace}

@@ -1,7 +1,7 @@
 use Rattle.std.proofs.Common.{◌≡◌, List, [], ◌∷◌, sym, ap, subst, ◌∙◌}
 use Rattle.std.proofs.lemmas.Option.{none-some, same_Some}
 use Rattle.std.proofs.lemmas.Result.{err_from_is_err_and}
-use Rattle.qm_map.specs.Words.{Word}
+use Rattle.qm_mapfile.specs.Words.{Word}
 use Rattle.qm_map.specs.Marks.{open_brace, close_brace}
 use Rattle.qm_map.specs.OneBrushText.{IsPlain}
 use Rattle.qm_map.specs.Reading.{after}
