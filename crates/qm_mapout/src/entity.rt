@@ -1,6 +1,7 @@
 //! The lines of an entity.
 
-ghost use Rattle.std.specs.Prelude.{◌≡◌, ◌++◌, flat_map, map, OnOk};
+ghost use Rattle.std.specs.Prelude.{◌≡◌, ◌++◌, flat_map, map, All, OnOk};
+ghost use Rattle.qm_grammar.specs.Valid.{IsValidFace, IsValidBrush, IsValidEntity};
 ghost use Rattle.qm_mapout.specs.Lines.{line_text, text_of};
 ghost use Rattle.qm_mapout.specs.Printed.{pair_line, face_line, brush_lines, entity_lines};
 
@@ -10,6 +11,7 @@ use qm_mapfile::{Brush, Entity, Face, Pair};
 use std::alloc::AllocError;
 
 /// A key and a value.
+#[tactic(auto, unfolding(crate::specs::Printed::pair_line, crate::specs::Lines::line_text))]
 fn put_pair(out: &mut Vec<u8>, pair: &Pair) -> Result<(), AllocError>
     ensures { OnOk result (out.new.items ≡ out.old.items ++ line_text (pair_line pair.now)) }
 {
@@ -27,6 +29,7 @@ fn put_pairs(out: &mut Vec<u8>, pairs: &[Pair]) -> Result<(), AllocError>
 }
 
 fn put_faces(out: &mut Vec<u8>, faces: &[Face]) -> Result<(), AllocError>
+    requires { All IsValidFace faces.now }
     ensures { OnOk result (out.new.items ≡ out.old.items ++ text_of (map face_line faces.now)) }
 {
     for face in faces {
@@ -35,7 +38,9 @@ fn put_faces(out: &mut Vec<u8>, faces: &[Face]) -> Result<(), AllocError>
     Ok(())
 }
 
+#[tactic(auto, unfolding(crate::specs::Printed::brush_lines))]
 fn put_brush(out: &mut Vec<u8>, brush: &Brush) -> Result<(), AllocError>
+    requires { IsValidBrush brush.now }
     ensures { OnOk result (out.new.items ≡ out.old.items ++ text_of (brush_lines brush.now)) }
 {
     put_open_brace(out)?;
@@ -44,6 +49,7 @@ fn put_brush(out: &mut Vec<u8>, brush: &Brush) -> Result<(), AllocError>
 }
 
 fn put_brushes(out: &mut Vec<u8>, brushes: &[Brush]) -> Result<(), AllocError>
+    requires { All IsValidBrush brushes.now }
     ensures { OnOk result (out.new.items ≡ out.old.items ++ text_of (flat_map brush_lines brushes.now)) }
 {
     for brush in brushes {
@@ -53,7 +59,9 @@ fn put_brushes(out: &mut Vec<u8>, brushes: &[Brush]) -> Result<(), AllocError>
 }
 
 /// The pairs and then the brushes, between braces.
+#[tactic(auto, unfolding(crate::specs::Printed::entity_lines))]
 pub(crate) fn put_entity(out: &mut Vec<u8>, entity: &Entity) -> Result<(), AllocError>
+    requires { IsValidEntity entity.now }
     ensures { OnOk result (out.new.items ≡ out.old.items ++ text_of (entity_lines entity.now)) }
 {
     put_open_brace(out)?;

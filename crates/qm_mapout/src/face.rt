@@ -3,13 +3,15 @@
 ghost use Rattle.std.specs.Prelude.{◌≡◌, ◌++◌, ◌∷◌, [], flat_map, map, is_some, OnOk};
 ghost use Rattle.qm_mapout.specs.Lines.{spaced, spelling, line_text};
 ghost use Rattle.qm_grammar.specs.Symbol.{mark_of};
-ghost use Rattle.qm_mapout.specs.Printed.{word, point_symbols, needs_quotes, texture_symbol, axis_symbols, mapping_front, mapping_last, face_line};
+ghost use Rattle.qm_grammar.specs.Valid.{HasWords, IsValidFace};
+ghost use Rattle.qm_mapout.specs.Printed.{word, point_symbols, begins_comment, needs_quotes, texture_symbol, axis_symbols, mapping_front, mapping_last, face_line};
 
 use crate::line::{put_last_word, put_number, put_quoted, put_word};
 use qm_mapfile::{Face, Mapping, Text};
 use std::alloc::AllocError;
 
 /// `( x y z )`
+#[tactic(auto, unfolding(crate::specs::Printed::point_symbols))]
 fn put_point(out: &mut Vec<u8>, point: &[i32; 3]) -> Result<(), AllocError>
     ensures { OnOk result (out.new.items ≡ out.old.items ++ flat_map spaced (point_symbols point.now)) }
 {
@@ -22,13 +24,25 @@ fn put_point(out: &mut Vec<u8>, point: &[i32; 3]) -> Result<(), AllocError>
 }
 
 /// Whether a texture would not be read as one word.
+#[tactic(auto, unfolding(crate::specs::Printed::needs_quotes))]
 fn needs_quotes(name: &[u8]) -> bool
     ensures { result ≡ needs_quotes name.now }
 {
-    name.is_empty() || name.iter().any(|byte| *byte <= b' ') || name.starts_with(b"//") || is_mark(name)
+    name.is_empty() || name.iter().any(|byte| *byte <= b' ') || begins_comment(name) || is_mark(name)
+}
+
+/// Whether a text begins with two slashes.
+fn begins_comment(name: &[u8]) -> bool
+    ensures { result ≡ begins_comment name.now }
+{
+    match name {
+        [first, second, ..] => *first == b'/' && *second == b'/',
+        _ => false,
+    }
 }
 
 /// Whether a word is one of `{ } ( ) [ ]`.
+#[tactic(auto, unfolding(qm_grammar::specs::Symbol::mark_of_byte))]
 fn is_mark(name: &[u8]) -> bool
     ensures { result ≡ is_some (mark_of name.now) }
 {
@@ -38,6 +52,7 @@ fn is_mark(name: &[u8]) -> bool
     }
 }
 
+#[tactic(auto, unfolding(crate::specs::Printed::texture_symbol))]
 fn put_texture(out: &mut Vec<u8>, name: &[u8]) -> Result<(), AllocError>
     ensures { OnOk result (out.new.items ≡ out.old.items ++ spaced (texture_symbol name.now)) }
 {
@@ -68,15 +83,19 @@ fn put_axis(out: &mut Vec<u8>, words: &[Text]) -> Result<(), AllocError>
 }
 
 /// The mapping, which ends the line.
+#[tactic(auto, unfolding(crate::specs::Printed::mapping_front, crate::specs::Printed::mapping_last))]
 fn put_mapping(out: &mut Vec<u8>, mapping: &Mapping) -> Result<(), AllocError>
+    requires { HasWords mapping.now }
     ensures { OnOk result (out.new.items ≡ out.old.items ++ (flat_map spaced (mapping_front mapping.now) ++ (spelling (mapping_last mapping.now) ++ 10 ∷ []))) }
 {
     match mapping {
         Mapping::Standard(words) => {
+            let words = words.as_slice();
             put_words(out, &words[..4])?;
             put_last_word(out, words[4].as_slice())
         }
         Mapping::Valve(words) => {
+            let words = words.as_slice();
             put_axis(out, &words[..4])?;
             put_axis(out, &words[4..8])?;
             put_words(out, &words[8..10])?;
@@ -86,7 +105,9 @@ fn put_mapping(out: &mut Vec<u8>, mapping: &Mapping) -> Result<(), AllocError>
 }
 
 /// Three points, the texture and the mapping.
+#[tactic(auto, unfolding(crate::specs::Printed::face_line, crate::specs::Lines::line_text))]
 pub(crate) fn put_face(out: &mut Vec<u8>, face: &Face) -> Result<(), AllocError>
+    requires { IsValidFace face.now }
     ensures { OnOk result (out.new.items ≡ out.old.items ++ line_text (face_line face.now)) }
 {
     let [first, second, third] = &face.points;

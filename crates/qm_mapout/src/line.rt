@@ -62,6 +62,7 @@ pub(crate) fn put_number(out: &mut Vec<u8>, coordinate: i32) -> Result<(), Alloc
 }
 
 /// A line of `{`.
+#[tactic(auto, unfolding(crate::specs::Lines::line_text))]
 pub(crate) fn put_open_brace(out: &mut Vec<u8>) -> Result<(), AllocError>
     ensures { OnOk result (out.new.items ≡ out.old.items ++ line_text (brace_line open_brace)) }
 {
@@ -69,6 +70,7 @@ pub(crate) fn put_open_brace(out: &mut Vec<u8>) -> Result<(), AllocError>
 }
 
 /// A line of `}`.
+#[tactic(auto, unfolding(crate::specs::Lines::line_text))]
 pub(crate) fn put_close_brace(out: &mut Vec<u8>) -> Result<(), AllocError>
     ensures { OnOk result (out.new.items ≡ out.old.items ++ line_text (brace_line close_brace)) }
 {

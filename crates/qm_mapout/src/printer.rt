@@ -1,7 +1,7 @@
-ghost use Rattle.std.specs.Prelude.{◌≡◌, ◌≤◌, ◌++◌, length, flat_map, OnOk, OnErr};
+ghost use Rattle.std.specs.Prelude.{◌≡◌, ◌≤◌, ◌++◌, length, flat_map, All, OnOk, OnErr};
 ghost use Rattle.qm_grammar.specs.Faults.{text_limit};
 ghost use Rattle.qm_grammar.specs.Meaning.{IsMapText};
-ghost use Rattle.qm_grammar.specs.Valid.{IsValid};
+ghost use Rattle.qm_grammar.specs.Valid.{IsValid, IsValidEntity};
 ghost use Rattle.qm_mapout.specs.Lines.{text_of};
 ghost use Rattle.qm_mapout.specs.Printed.{entity_lines, printed};
 
@@ -30,6 +30,7 @@ pub fn print(alloc: Global, map: &MapFile, out: &mut Vec<u8>) -> Result<(), Allo
 }
 
 fn put_entities(out: &mut Vec<u8>, entities: &[Entity]) -> Result<(), AllocError>
+    requires { All IsValidEntity entities.now }
     ensures { OnOk result (out.new.items ≡ out.old.items ++ text_of (flat_map entity_lines entities.now)) }
 {
     for entity in entities {
