@@ -1,6 +1,7 @@
 //! The line of a face.
 
-ghost use Rattle.std.specs.Prelude.{◌≡◌, ◌++◌, ◌∷◌, [], flat_map, map, is_some, OnOk};
+ghost use Rattle.std.specs.Prelude.{◌≡◌, ◌++◌, ◌∷◌, [], flat_map, map, is_some, nat_le, OnOk};
+ghost use Rattle.std.specs.List.{list_any};
 ghost use Rattle.qm_mapout.specs.Lines.{spaced, spelling, line_text};
 ghost use Rattle.qm_grammar.specs.Symbol.{mark_of};
 ghost use Rattle.qm_grammar.specs.Valid.{HasWords, IsValidFace};
@@ -28,7 +29,14 @@ fn put_point(out: &mut Vec<u8>, point: &[i32; 3]) -> Result<(), AllocError>
 fn needs_quotes(name: &[u8]) -> bool
     ensures { result ≡ needs_quotes name.now }
 {
-    name.is_empty() || name.iter().any(|byte| *byte <= b' ') || begins_comment(name) || is_mark(name)
+    name.is_empty() || has_blank(name) || begins_comment(name) || is_mark(name)
+}
+
+/// Whether a text has a byte that parts words.
+fn has_blank(name: &[u8]) -> bool
+    ensures { result ≡ list_any (λ byte. nat_le byte 32) name.now }
+{
+    name.iter().any(|byte| *byte <= b' ')
 }
 
 /// Whether a text begins with two slashes.

@@ -1,4 +1,4 @@
-ghost use Rattle.std.specs.Prelude.{◌≡◌, ◌≤◌, ◌++◌, length, flat_map, All, OnOk, OnErr};
+ghost use Rattle.std.specs.Prelude.{◌≡◌, ◌≤◌, ◌++◌, length, flat_map, All, IfOk, OnOk, OnErr};
 ghost use Rattle.qm_grammar.specs.Faults.{text_limit};
 ghost use Rattle.qm_grammar.specs.Meaning.{IsMapText};
 ghost use Rattle.qm_grammar.specs.Valid.{IsValid, IsValidEntity};
@@ -20,13 +20,23 @@ pub fn print(alloc: Global, map: &MapFile, out: &mut Vec<u8>) -> Result<(), Allo
     // Where the text is within the limit, it means the same map.
     ensures read_again { length (printed map.now) ≤ text_limit → IsMapText (printed map.now) map.now }
 {
-    let mut text = Vec::new(alloc);
-    put_entities(&mut text, map.entities.as_slice())?;
+    let text = canonical_text(alloc, map)?;
     if out.is_empty() {
         *out = text;
         return Ok(());
     }
     out.extend_from_slice(&text)
+}
+
+/// The canonical text of a map.
+#[tactic(auto, unfolding(crate::specs::Printed::printed, qm_grammar::specs::Valid::IsValid))]
+fn canonical_text(alloc: Global, map: &MapFile) -> Result<Vec<u8>, AllocError>
+    requires { IsValid map.now }
+    ensures { IfOk result (λ text. text.items ≡ printed map.now) }
+{
+    let mut text = Vec::new(alloc);
+    put_entities(&mut text, map.entities.as_slice())?;
+    Ok(text)
 }
 
 fn put_entities(out: &mut Vec<u8>, entities: &[Entity]) -> Result<(), AllocError>
