@@ -1,1 +1,4 @@
+pub mod Lexed
+pub mod LinesLexed
+pub mod Numbers
 pub mod ReadAgain
