@@ -1,27 +1,36 @@
 -- What reading a text answers, computed from left to right.
-use Rattle.std.specs.Prelude.{ℕ, ◌+◌, ◌-◌, ◌*◌, ◌^◌, ℤ, pos, neg_ℤ, Bool, true, false, ◌&&◌, ◌||◌, not, ◌==◌, nat_lt, if◌then◌else◌, List, [], ◌∷◌, ◌++◌, length, take, drop, Option, Some, None, Result, Ok, Err}
+use Rattle.std.specs.Prelude.{ℕ, ◌+◌, ◌*◌, ◌^◌, pos, neg_ℤ, Bool, true, false, ◌==◌, nat_lt, if◌then◌else◌, List, [], ◌∷◌, length, take, drop, Result, Ok, Err}
 use Rattle.std.specs.Char.{is_ascii_digit}
-use Rattle.std.specs.List.{list_all, list_any, prefix_len}
+use Rattle.std.specs.List.{list_all, prefix_len}
 use Rattle.std.specs.Str.Parse.{digits_value}
 use Rattle.qm_decimal.specs.declared.fraction.Fraction.{Fraction}
 use Rattle.qm_decimal.specs.declared.fraction.NumberFault.{NumberFault}
 use Rattle.qm_decimal.specs.declared.fraction.NumberFault.TheVariants.{Form, TooFine, TooLarge}
-use Rattle.qm_decimal.specs.Number.{all_digits}
 use Rattle.qm_decimal.specs.Answer.{limit}
+use Rattle.qm_decimal.specs.Parts.{in_units}
 
--- the numerator of digits before and behind a point, over ten to that many places
-abbrev pub numerator_of : Bool → ℕ → List ℕ → List ℕ → ℤ
-numerator_of negative places whole decimals =
-    let magnitude = digits_value 10 (whole ++ take places decimals) * 10 ^ (places - length decimals) in
-    if negative then neg_ℤ (pos magnitude) else pos magnitude
+-- the fraction of a magnitude in units of ten to the minus places
+abbrev pub fraction_of : Bool → ℕ → ℕ → Fraction
+fraction_of negative places magnitude =
+    record { numerator = if negative then neg_ℤ (pos magnitude) else pos magnitude; places = places }
+
+-- the answer for that magnitude
+abbrev pub answer_of_magnitude : Bool → ℕ → ℕ → Result Fraction NumberFault
+answer_of_magnitude negative places magnitude =
+    if nat_lt (limit * 10 ^ places) magnitude then Err TooLarge else Ok (fraction_of negative places magnitude)
+
+-- the answer for digits before and behind a point
+abbrev pub answer_of_digits : Bool → ℕ → List ℕ → List ℕ → Result Fraction NumberFault
+answer_of_digits negative places whole decimals =
+    if list_all (λ byte. byte == 48) (drop places decimals) then
+    answer_of_magnitude negative places (digits_value 10 whole * 10 ^ places + in_units decimals places)
+    else Err TooFine
 
 -- the answer for digits before a point and bytes behind it
 unfoldable pub answer_of_parts : Bool → ℕ → List ℕ → List ℕ → Result Fraction NumberFault
 answer_of_parts negative places whole decimals =
-    if length whole + length decimals == 0 || not (list_all is_ascii_digit decimals) then Err Form
-    else (if list_any (λ byte. not (byte == 48)) (drop places decimals) then Err TooFine
-    else (if nat_lt (limit * 10 ^ length decimals) (all_digits whole decimals) then Err TooLarge
-    else Ok (record { numerator = numerator_of negative places whole decimals; places = places })))
+    if length whole + length decimals == 0 then Err Form
+    else (if list_all is_ascii_digit decimals then answer_of_digits negative places whole decimals else Err Form)
 
 -- the same where what stands behind the digits before the point is nothing, or the point and more
 abbrev pub answer_of_tail : Bool → ℕ → List ℕ → List ℕ → Result Fraction NumberFault
