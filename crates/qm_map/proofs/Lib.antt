@@ -1,1 +1,2 @@
+pub mod NinePoints
 pub mod WordLaws
