@@ -1,2 +1,3 @@
 pub mod NinePoints
 pub mod WordLaws
+pub mod Meanings

@@ -1,5 +1,4 @@
-use Rattle.std.specs.Prelude.{◌≡◌, ◌≤◌, ℕ, ◌+◌, ℤ, List, [], ◌∷◌, length, All}
-use Rattle.qm_space.specs.Point.{IsCoordinate}
+use Rattle.std.specs.Prelude.{◌≡◌, ◌≤◌, ℕ, ◌+◌, List, [], ◌∷◌}
 use Rattle.qm_grammar.specs.declared.slot.Slot.{Slot}
 use Rattle.qm_grammar.specs.declared.slot.Slot.TheVariants.{Coordinate, Texture, FirstOfMapping}
 use Rattle.qm_grammar.specs.declared.place.Place.{Place}

@@ -13,7 +13,7 @@ use crate::sort::{is_same_mark, sort_of};
 use crate::stop::Stop;
 use qm_grammar::{Mark, Place, Refusal, Slot, Sort};
 use qm_lex::TokenKind;
-use qm_mapfile::{Brush, Entity, Face, Items, Pair, Text};
+use qm_mapfile::{Brush, Entity, Face, Items, MapFile, Pair, Text};
 use std::alloc::{AllocError, Global};
 use std::marker::Model;
 use std::mem;
@@ -45,15 +45,16 @@ impl Model for Reader {
     ghost Value = { Front };
 
     ghost view = { λ r. record {
-        place = r.place;
-        entities = r.entities.items;
-        pairs = r.pairs.items;
-        brushes = r.brushes.items;
-        key = r.key;
-        faces = r.faces.items;
-        numbers = r.numbers.items;
-        texts = r.texts.items;
-        left = r.left.now } };
+      place = r.place;
+      entities = r.entities.items;
+      pairs = r.pairs.items;
+      brushes = r.brushes.items;
+      key = r.key;
+      faces = r.faces.items;
+      numbers = r.numbers.items;
+      texts = r.texts.items;
+      left = r.left.now;
+    } };
 
     ghost invariant = { λ r.
         All IsCoordinate r.numbers.items
@@ -76,6 +77,23 @@ impl Reader {
             numbers: Vec::new(alloc),
             texts: Vec::new(alloc),
             left: &[],
+        }
+    }
+
+    /// Where in a map it stands.
+    pub(crate) fn place(&self) -> Place
+        ensures { result ≡ self.now.place }
+    {
+        self.place
+    }
+
+    /// The map of the entities that have ended.
+    pub(crate) fn into_map(self) -> MapFile
+        ensures { result ≡ record { entities = self.entities } }
+    {
+        let Reader { entities, .. } = self;
+        MapFile {
+            entities: Items::from_vec(entities),
         }
     }
 
