@@ -209,6 +209,11 @@ steps front [] = Ok front
 steps front (lexeme ∷ lexemes) =
     elim (step front (symbol_of lexeme)) [ Ok next ↦ steps next lexemes | Err reason ↦ Err (reason, lexeme) ]
 
+-- symbols lead from one front to another, or one of them is refused
+abbrev pub runs : Front → List Symbol → Result Front Refusal
+runs front [] = Ok front
+runs front (symbol ∷ symbols) = elim (step front symbol) [ Ok next ↦ runs next symbols | Err reason ↦ Err reason ]
+
 -- what the end of a text makes of what was read
 abbrev pub closed_by_end : List ℕ → Option ℕ → Front → Result MapFile MapFault
 closed_by_end text (Some line) front = Err (fault.UnclosedQuote line)
