@@ -66,12 +66,12 @@ spans_behind before number numbers one slots count well =
 -- ---- the slots of a mapping
 
 -- a mapping has more than one token
-mapping_goes_on : (form : Form) (one : Slot) (left : List Slot) → one ∷ left ≡ mapping_slots form → left ≢ []
+pub mapping_goes_on : (form : Form) (one : Slot) (left : List Slot) → one ∷ left ≡ mapping_slots form → left ≢ []
 mapping_goes_on standard one left is ended = absurd cc
 mapping_goes_on valve one left is ended = absurd cc
 
 -- a mapping has no coordinate and closes no point
-mapping_coordinates : (form : Form) → coordinates (mapping_slots form) ≡ 0
+pub mapping_coordinates : (form : Form) → coordinates (mapping_slots form) ≡ 0
 mapping_coordinates standard = refl
 mapping_coordinates valve = refl
 
@@ -139,11 +139,16 @@ no_first_filled symbol number text fills = elim fills [ ]
 no_open_filled : (symbols : List Symbol) (numbers : List ℤ) (texts : List (List ℕ)) → Fill (slot.FirstOfMapping ∷ []) symbols numbers texts → ⊥
 no_open_filled symbols numbers texts (more {symbol = symbol} {number = number} {text = text} fills rest) = no_first_filled symbol number text fills
 
-head_goes_on : (filled left : List Slot) (symbols : List Symbol) (numbers : List ℤ) (texts : List (List ℕ)) → Fill filled symbols numbers texts → filled ++ left ≡ head_slots ++ slot.FirstOfMapping ∷ [] → left ≢ []
+pub head_goes_on : (filled left : List Slot) (symbols : List Symbol) (numbers : List ℤ) (texts : List (List ℕ)) → Fill filled symbols numbers texts → filled ++ left ≡ head_slots ++ slot.FirstOfMapping ∷ [] → left ≢ []
 head_goes_on filled left symbols numbers texts fill is none_left =
     let whole : filled ≡ head_slots ++ slot.FirstOfMapping ∷ [] = sym (append-nil filled) ∙ ap (λ (l : List Slot). filled ++ l) (sym none_left) ∙ is in
     let cut = fill_cut head_slots (slot.FirstOfMapping ∷ []) symbols numbers texts (subst (λ (l : List Slot). Fill l symbols numbers texts) whole fill) in
     no_open_filled cut.symbols_then cut.numbers_then cut.texts_then cut.rest
+
+-- the points of a face are its coordinates
+pub points_kept : (numbers : List ℤ) (texts : List (List ℕ)) → (face_of numbers texts).points ≡ points_of numbers
+points_kept numbers [] = refl
+points_kept numbers (name ∷ words) = refl
 
 module _ (es : List Entity) (ps : List Pair) (bs : List Brush) (fs : List Face) where
   -- symbols that fill slots are read through
@@ -222,10 +227,6 @@ module _ (es : List Entity) (ps : List Pair) (bs : List Brush) (fs : List Face) 
   whole_face : (form : Form) (symbols : List Symbol) (numbers : List ℤ) (texts : List (List ℕ)) → Fill (face_slots form) symbols numbers texts → SpanPlane (points_of numbers) → runs (in_brush es ps bs fs) symbols ≡ Ok (in_brush es ps bs (fs ++ face_of numbers texts ∷ []))
   whole_face standard symbols numbers texts fill spans = through_mapping standard slot.Word (drop 1 (mapping_slots standard)) [] symbols numbers texts refl fill spans
   whole_face valve symbols numbers texts fill spans = through_mapping valve (slot.Mark OpenBracket) (drop 1 (mapping_slots valve)) [] symbols numbers texts refl fill spans
-
-  points_kept : (numbers : List ℤ) (texts : List (List ℕ)) → (face_of numbers texts).points ≡ points_of numbers
-  points_kept numbers [] = refl
-  points_kept numbers (name ∷ words) = refl
 
   pub face_run : (symbols : List Symbol) (face : Face) → SpellsFace symbols face → runs (in_brush es ps bs fs) symbols ≡ Ok (in_brush es ps bs (fs ++ face ∷ []))
   face_run symbols face spells =
