@@ -1,4 +1,4 @@
-use Rattle.std.proofs.Common.{◌≡◌, ◌≢◌, ℕ, ◌+◌, ◌+◌, ℤ, pos, negsuc, ◌<ℤ◌, ◌≤ℤ◌, Bool, true, false, if◌then◌else◌, List, [], ◌∷◌, ◌++◌, length, map, ◌⊎◌, inl, inr, sym, refl, ap, arith, subst}
+use Rattle.std.proofs.Common.{◌≡◌, ◌≢◌, ℕ, ◌+◌, ℤ, pos, negsuc, ◌<ℤ◌, ◌≤ℤ◌, Bool, true, false, if◌then◌else◌, List, [], ◌∷◌, ◌++◌, length, map, ◌⊎◌, inl, inr, sym, refl, ap, arith, subst}
 use Rattle.std.specs.List.{AllByRecursion}
 use Rattle.std.specs.Prelude.{int_lt}
 use Rattle.std.proofs.lemmas.List.{length-append, append_assoc}
@@ -6,52 +6,43 @@ use Rattle.std.proofs.Math.Seq.{get_or-append_seam}
 use Rattle.std.proofs.lemmas.Int.{ints, by_lt_z}
 use Rattle.qm_space.specs.Point.{Point}
 use Rattle.qm_space.specs.Plane.{Plane, value}
-use Rattle.qm_mapfile.specs.declared.face.Face.{Face}
-use Rattle.qm_mapfile.specs.Face.{face_plane, face_outward}
+use Rattle.qm_contents.specs.declared.contents.Contents.{Contents}
+use Rattle.qm_contents.specs.declared.contents.Contents.TheVariants.{Empty}
 use Rattle.qm_compile.specs.declared.tree.Leaf.{Leaf}
-use Rattle.qm_compile.specs.declared.contents.Contents.TheVariants.{Empty, Solid}
-use Rattle.qm_compile.specs.Contents.{IsBehindAll, IsNotInFrontOfAny}
+use Rattle.qm_compile.specs.Sides.{Side}
 use Rattle.qm_compile.specs.Tree.{Tree, leaf, node, leaf_at, node_value, IsOffNodePlanes}
 use Rattle.qm_compile.specs.Chain.{chain, open_leaf}
+use Rattle.qm_compile.proofs.SideValues.{outer_value, IsWithin, IsNotOutside}
 
--- The chain of a brush's faces leads a point inside if and only if it is behind them all.
+-- The chain of sides leads a point to its last leaf if and only if the point is within them all.
 
--- a point's value at the plane of a face, and its value at the outward plane: on one side where outward is the
--- plane's front, and on opposite sides where it is not
-abbrev pub IsTurned : Bool → ℤ → ℤ → Type 0
-IsTurned true at outward = (at <ℤ pos 0 → outward <ℤ pos 0) × (pos 0 <ℤ at → pos 0 <ℤ outward)
-IsTurned false at outward = (at <ℤ pos 0 → pos 0 <ℤ outward) × (pos 0 <ℤ at → outward <ℤ pos 0)
-
-abbrev pub FaceSides : Point → Face → Type 0
-FaceSides x face = IsTurned (face_plane face).1 (value (face_plane face).0 x) (value (face_outward face) x)
-
--- from number n on the nodes' planes are those of the faces
-abbrev pub StandAt : List Plane → Point → ℕ → List Face → Type 0
+-- from number n on the nodes' planes are those of the sides
+abbrev pub StandAt : List Plane → Point → ℕ → List Side → Type 0
 StandAt planes x n [] = Unit {0}
-StandAt planes x n (face ∷ faces) =
-    (node_value planes n x ≡ value (face_plane face).0 x) × StandAt planes x (n + 1) faces
+StandAt planes x n (side ∷ sides) = (node_value planes n x ≡ value side.0 x) × StandAt planes x (n + 1) sides
 
--- the planes of faces, in order
-abbrev pub planes_of : List Face → List Plane
-planes_of faces = map (λ face. (face_plane face).0) faces
+-- the planes of sides, in order
+abbrev pub planes_of : List Side → List Plane
+planes_of sides = map (λ side. side.0) sides
 
--- whether outward is the front of each face's plane
-abbrev pub flags : List Face → List Bool
-flags faces = map (λ face. (face_plane face).1) faces
+-- whether outward is the front of each side's plane
+abbrev pub flags_of : List Side → List Bool
+flags_of sides = map (λ side. side.1) sides
 
--- a point that is led to the solid leaf is behind all faces, and one that is led to an empty leaf is in front of one
-abbrev pub IsLedRight : Leaf → List Face → Point → Type 0
-IsLedRight found faces x =
-    ((found ≡ open_leaf Solid) × IsBehindAll faces x) ⊎ ((found ≡ open_leaf Empty) × (IsNotInFrontOfAny faces x → ⊥))
+-- a point that is led to the last leaf is within all sides, and one that is led to an empty leaf is outside one
+abbrev pub IsLedRight : Contents → Leaf → List Side → Point → Type 0
+IsLedRight last found sides x =
+    ((found ≡ open_leaf last) × AllByRecursion (IsWithin x) sides)
+    ⊎ ((found ≡ open_leaf Empty) × (AllByRecursion (IsNotOutside x) sides → ⊥))
 
--- one more face around a chain that leads right, with the point behind it
-behind_one_more : (found : Leaf) (face : Face) (faces : List Face) (x : Point) → value (face_outward face) x <ℤ pos 0 → IsLedRight found faces x → IsLedRight found (face ∷ faces) x
-behind_one_more found face faces x behind (inl led) = inl (led.0, (behind, led.1))
-behind_one_more found face faces x behind (inr led) = inr (led.0, λ none. led.1 none.1)
+-- one more side around a chain that leads right, with the point within it
+within_one_more : (last : Contents) (found : Leaf) (side : Side) (sides : List Side) (x : Point) → outer_value side x <ℤ pos 0 → IsLedRight last found sides x → IsLedRight last found (side ∷ sides) x
+within_one_more last found side sides x within (inl led) = inl (led.0, (within, led.1))
+within_one_more last found side sides x within (inr led) = inr (led.0, λ none. led.1 none.1)
 
--- a point in front of a face is led to that face's empty leaf
-in_front_of_one : (face : Face) (faces : List Face) (x : Point) → pos 0 <ℤ value (face_outward face) x → IsLedRight (open_leaf Empty) (face ∷ faces) x
-in_front_of_one face faces x front = inr (refl, λ none. absurd (omega (arith, ints, front, none.0)))
+-- a point outside a side is led to that side's empty leaf
+outside_of_one : (last : Contents) (side : Side) (sides : List Side) (x : Point) → pos 0 <ℤ outer_value side x → IsLedRight last (open_leaf Empty) (side ∷ sides) x
+outside_of_one last side sides x outside = inr (refl, λ none. absurd (omega (arith, ints, outside, none.0)))
 
 -- the walk's test, and what it says
 side_test : (v : ℤ) → ((int_lt v (pos 0) ≡ true) × v <ℤ pos 0) ⊎ ((int_lt v (pos 0) ≡ false) × pos 0 ≤ℤ v)
@@ -62,48 +53,48 @@ side_test (negsuc n) = inl (refl, omega (arith, ints))
 above_zero : (v : ℤ) → pos 0 ≤ℤ v → v ≢ pos 0 → pos 0 <ℤ v
 above_zero v least other = by_lt_z (pos 0) v (λ h. h) (λ h. absurd (other (omega (arith, ints))))
 
--- a node on the plane of a face, with what it encloses at its inner child
+-- a node on the plane of a side, with what it encloses at its inner child
 enclosing : Bool → ℕ → Tree → Tree
 enclosing out_is_front n inner =
     if out_is_front then node n (leaf (open_leaf Empty)) inner else node n inner (leaf (open_leaf Empty))
 
-one_node : (b : Bool) (n : ℕ) (planes : List Plane) (inner : Tree) (face : Face) (faces : List Face) (x : Point) → IsTurned b (node_value planes n x) (value (face_outward face) x) → IsOffNodePlanes planes (enclosing b n inner) x → (IsOffNodePlanes planes inner x → IsLedRight (leaf_at planes inner x) faces x) → IsLedRight (leaf_at planes (enclosing b n inner) x) (face ∷ faces) x
-unfolding enclosing
-one_node true n planes inner face faces x turned off within =
-    elim (side_test (node_value planes n x)) [
-      | inl behind ↦ rw behind.0 (behind_one_more (leaf_at planes inner x) face faces x (turned.0 behind.1) (within off.2))
-      | inr front ↦ rw front.0 (in_front_of_one face faces x (turned.1 (above_zero (node_value planes n x) front.1 off.0)))
-    ]
-one_node false n planes inner face faces x turned off within =
-    elim (side_test (node_value planes n x)) [
-      | inl behind ↦ rw behind.0 (in_front_of_one face faces x (turned.0 behind.1))
-      | inr front ↦ rw front.0 (behind_one_more (leaf_at planes inner x) face faces x (turned.1 (above_zero (node_value planes n x) front.1 off.0)) (within off.1))
-    ]
+module _ (last : Contents) (n : ℕ) (planes : List Plane) (inner : Tree) (plane : Plane) (sides : List Side) (x : Point) where
+  one_node : (b : Bool) → node_value planes n x ≡ value plane x → IsOffNodePlanes planes (enclosing b n inner) x → (IsOffNodePlanes planes inner x → IsLedRight last (leaf_at planes inner x) sides x) → IsLedRight last (leaf_at planes (enclosing b n inner) x) ((plane, b) ∷ sides) x
+  unfolding enclosing
+  one_node true stand off within =
+      elim (side_test (node_value planes n x)) [
+        | inl behind ↦ rw behind.0 (within_one_more last (leaf_at planes inner x) (plane, true) sides x (omega (arith, ints, stand, behind.1)) (within off.2))
+        | inr front ↦
+          let above = above_zero (node_value planes n x) front.1 off.0 in
+          rw front.0 (outside_of_one last (plane, true) sides x (omega (arith, ints, stand, above)))
+      ]
+  one_node false stand off within =
+      elim (side_test (node_value planes n x)) [
+        | inl behind ↦ rw behind.0 (outside_of_one last (plane, false) sides x (omega (arith, ints, stand, behind.1)))
+        | inr front ↦
+          let above = above_zero (node_value planes n x) front.1 off.0 in
+          rw front.0 (within_one_more last (leaf_at planes inner x) (plane, false) sides x (omega (arith, ints, stand, above)) (within off.1))
+      ]
 
--- the chain of a brush's faces leads each point that is on no node plane right
-pub chain_leads_right : (planes : List Plane) (x : Point) (n : ℕ) (faces : List Face) → StandAt planes x n faces → AllByRecursion (FaceSides x) faces → IsOffNodePlanes planes (chain n (flags faces)) x → IsLedRight (leaf_at planes (chain n (flags faces)) x) faces x
+-- the chain of sides leads each point that is on no node plane right
+pub chain_leads_right : (planes : List Plane) (x : Point) (last : Contents) (n : ℕ) (sides : List Side) → StandAt planes x n sides → IsOffNodePlanes planes (chain last n (flags_of sides)) x → IsLedRight last (leaf_at planes (chain last n (flags_of sides)) x) sides x
 unfolding enclosing
-chain_leads_right planes x n [] stand sides off = inl (refl, tt)
-chain_leads_right planes x n (face ∷ faces) stand sides off =
-    let out_is_front = (face_plane face).1 in
-    let inner = chain (n + 1) (flags faces) in
-    let turned : IsTurned out_is_front (node_value planes n x) (value (face_outward face) x) =
-    subst (λ (v : ℤ). IsTurned out_is_front v (value (face_outward face) x)) (sym stand.0) sides.0 in
-    one_node out_is_front n planes inner face faces x turned off
-    (λ within. chain_leads_right planes x (n + 1) faces stand.1 sides.1 within)
+chain_leads_right planes x last n [] stand off = inl (refl, tt)
+chain_leads_right planes x last n (side ∷ sides) stand off =
+    let inner = chain last (n + 1) (flags_of sides) in
+    one_node last n planes inner side.0 sides x side.1 stand.0 off (λ within. chain_leads_right planes x last (n + 1) sides stand.1 within)
 
--- the planes of the faces, after those of others
-stand_after : (done : List Plane) (x : Point) (faces : List Face) → StandAt (done ++ planes_of faces) x (length done) faces
+-- the planes of the sides, after those of others
+stand_after : (done : List Plane) (x : Point) (sides : List Side) → StandAt (done ++ planes_of sides) x (length done) sides
 unfolding node_value
 stand_after done x [] = tt
-stand_after done x (face ∷ faces) =
-    let plane = (face_plane face).0 in
-    let rest = planes_of faces in
-    let longer = done ++ (plane ∷ []) in
-    let joined : longer ++ rest ≡ done ++ (plane ∷ rest) = append_assoc done (plane ∷ []) rest in
-    let one_more : length longer ≡ length done + 1 = length-append done (plane ∷ []) in
-    let there = subst (λ (ps : List Plane). StandAt ps x (length longer) faces) joined (stand_after longer x faces) in
-    (ap (λ (h : Plane). value h x) (get_or-append_seam done plane rest _), subst (λ (n : ℕ). StandAt (done ++ (plane ∷ rest)) x n faces) one_more there)
+stand_after done x (side ∷ sides) =
+    let rest = planes_of sides in
+    let longer = done ++ (side.0 ∷ []) in
+    let joined : longer ++ rest ≡ done ++ (side.0 ∷ rest) = append_assoc done (side.0 ∷ []) rest in
+    let one_more : length longer ≡ length done + 1 = length-append done (side.0 ∷ []) in
+    let there = subst (λ (ps : List Plane). StandAt ps x (length longer) sides) joined (stand_after longer x sides) in
+    (ap (λ (h : Plane). value h x) (get_or-append_seam done side.0 rest _), subst (λ (n : ℕ). StandAt (done ++ (side.0 ∷ rest)) x n sides) one_more there)
 
-pub planes_stand : (x : Point) (faces : List Face) → StandAt (planes_of faces) x 0 faces
-planes_stand x faces = stand_after [] x faces
+pub planes_stand : (x : Point) (sides : List Side) → StandAt (planes_of sides) x 0 sides
+planes_stand x sides = stand_after [] x sides

@@ -1,24 +1,17 @@
-use Rattle.std.specs.Prelude.{pos, ◌≤ℤ◌, List, [], ◌∷◌, Contains}
+use Rattle.std.specs.Prelude.{◌≡◌, ◌⊎◌, pos, ◌≤ℤ◌, List, Contains, Some}
 use Rattle.std.specs.List.{AllByRecursion}
 use Rattle.qm_space.specs.Point.{Point, IsInCube}
 use Rattle.qm_space.specs.Plane.{value, IsBehind}
 use Rattle.qm_mapfile.specs.declared.face.Face.{Face}
 use Rattle.qm_mapfile.specs.declared.entity.Brush.{Brush}
-use Rattle.qm_mapfile.specs.declared.entity.Entity.{Entity}
 use Rattle.qm_mapfile.specs.declared.entity.MapFile.{MapFile}
 use Rattle.qm_mapfile.specs.Face.{face_outward}
-use Rattle.qm_compile.specs.declared.contents.Contents.{Contents}
-use Rattle.qm_compile.specs.declared.contents.Contents.TheVariants.{Empty, Solid}
+use Rattle.qm_contents.specs.declared.contents.Contents.{Contents}
+use Rattle.qm_contents.specs.declared.contents.Contents.TheVariants.{Empty}
+use Rattle.qm_contents.specs.Precedence.{IsAtMost}
+use Rattle.qm_compile.specs.Brushes.{drawn_brushes, contents_of_brush}
 
 -- No tree occurs here: contents are those of the brushes alone.
-
--- the brushes of the first entity, the world
-abbrev pub brushes_of_first : List Entity → List Brush
-brushes_of_first [] = []
-brushes_of_first (world ∷ others) = world.brushes
-
-abbrev pub world_brushes : MapFile → List Brush
-world_brushes meant = brushes_of_first meant.entities
 
 -- strictly behind each face
 abbrev pub IsBehindAll : List Face → Point → Type 0
@@ -39,8 +32,13 @@ pub record Holds (brush : Brush) (x : Point) : Type 0 where
   pub full : IsFull brush
   pub not_in_front : IsNotInFrontOfAny brush.faces x
 
--- what the brushes of the world make of a point; every brush is solid here, whatever its texture: solid where one of
--- them holds the point, else empty
-abbrev pub HasContents : MapFile → Point → Contents → Type 0
-HasContents meant x Solid = (brush : Brush) × Contains (world_brushes meant) brush × Holds brush x
-HasContents meant x Empty = (brush : Brush) → Contains (world_brushes meant) brush → Holds brush x → ⊥
+-- a brush of these contents holds the point, one of the world's that are not clip
+pub record IsHeldBy (meant : MapFile) (x : Point) (brush : Brush) (contents : Contents) : Type 0 where
+  pub drawn : Contains (drawn_brushes meant) brush
+  pub filled : contents_of_brush brush ≡ Some contents
+  pub holds : Holds brush x
+
+-- what the brushes of the world make of a point: the strongest contents of those that hold it, else empty
+pub record HasContents (meant : MapFile) (x : Point) (contents : Contents) : Type 0 where
+  pub given : (contents ≡ Empty) ⊎ ((brush : Brush) × IsHeldBy meant x brush contents)
+  pub strongest : (brush : Brush) (other : Contents) → IsHeldBy meant x brush other → IsAtMost other contents

@@ -1,12 +1,13 @@
-use Rattle.std.specs.Prelude.{ℕ, ℤ, negsuc, Bool, true, false, if◌then◌else◌, List, [], ◌∷◌, ◌++◌, length, flat_map, count_by, codes, pos}
+use Rattle.std.specs.Prelude.{ℕ, ℤ, negsuc, Bool, true, false, not, if◌then◌else◌, List, [], ◌∷◌, ◌++◌, length, flat_map, count_by, codes, pos}
 use Rattle.std.specs.Int.{w32, w64, to_le_bytes, cast_unsigned}
 use Rattle.qm_space.specs.Plane.{Plane}
+use Rattle.qm_contents.specs.declared.contents.Contents.{Contents}
+use Rattle.qm_contents.specs.declared.contents.Contents.TheVariants.{Solid}
+use Rattle.qm_contents.specs.Codes.{code_of}
 use Rattle.qm_compile.specs.declared.tree.Leaf.{Leaf as LeafRecord}
 use Rattle.qm_compile.specs.declared.tree.Node.{Node as NodeRecord}
 use Rattle.qm_compile.specs.declared.tree.Child.{Child}
 use Rattle.qm_compile.specs.declared.tree.Child.TheVariants.{Node, Leaf}
-use Rattle.qm_compile.specs.declared.contents.Contents.TheVariants.{Empty, Solid}
-use Rattle.qm_compile.specs.ContentsCode.{code_of}
 use Rattle.qm_compile.specs.Tree.{TreeWithPlanes}
 use Rattle.qm_compile.specs.Numbering.{nodes_of, leaves_of}
 
@@ -41,9 +42,13 @@ node_bytes n = to_le_bytes w32 n.plane ++ (child_bytes n.front ++ child_bytes n.
 unfoldable pub leaf_bytes : LeafRecord → List ℕ
 leaf_bytes found = to_le_bytes w32 (cast_unsigned w32 (code_of found.contents)) ++ ((if found.filled then 1 else 0) ∷ [])
 
+abbrev pub is_solid : Contents → Bool
+is_solid Solid = true
+is_solid _ = false
+
 -- leaves that are not solid are numbered
 abbrev pub is_open : LeafRecord → Bool
-is_open found = elim found.contents [ Empty ↦ true | Solid ↦ false ]
+is_open found = not (is_solid found.contents)
 
 -- the magic bytes, the four counts, and a byte that says that no rows follow
 unfoldable pub header_bytes : ℕ → ℕ → ℕ → ℕ → List ℕ

@@ -1,15 +1,16 @@
-//! The tree of one brush: a chain of nodes, one for each face.
+//! The tree of one brush: a chain of nodes, one for each side.
 
 ghost use Rattle.std.specs.Prelude.{◌≡◌, ◌+◌, ◌-◌, ◌≤◌, ◌<◌, ◌^◌, IfOk, length, count_by};
+ghost use Rattle.qm_contents.specs.declared.contents.Contents.{Contents};
 ghost use Rattle.qm_compile.specs.Chain.{chain};
 ghost use Rattle.qm_compile.specs.ChainStep.{chain_node};
 ghost use Rattle.qm_compile.specs.Numbering.{nodes_of, leaves_of};
 
-use crate::contents::Contents;
 use crate::tree::{Child, Leaf, Node};
+use qm_contents::Contents;
 use std::alloc::{AllocError, Global};
 
-/// The node of the face `plane` of a chain with `inner_faces` faces inside it, where `before` leaves
+/// The node of the side `plane` of a chain with `inner_faces` sides inside it, where `before` leaves
 /// come before those of this node.
 fn node_of_face(plane: u32, out_is_front: bool, inner_faces: u64, before: u64) -> Node
     requires plane_in { plane < 2 ^ 32 - 1 }
@@ -37,11 +38,11 @@ fn node_of_face(plane: u32, out_is_front: bool, inner_faces: u64, before: u64) -
     }
 }
 
-/// The nodes of the chain, in order of their numbers. A flag for each face says whether outward is
-/// its plane's front; the planes are numbered as the faces are.
+/// The nodes of the chain, in order of their numbers. A flag for each side says whether outward is
+/// its plane's front; the planes are numbered as the sides are.
 pub fn nodes_of_chain(alloc: Global, flags: &[bool]) -> Result<Vec<Node>, AllocError>
     requires { length flags.now < 2 ^ 32 }
-    ensures { IfOk result (λ nodes. nodes.items ≡ nodes_of (chain 0 flags.now) 0 0) }
+    ensures { (last : Contents) → IfOk result (λ nodes. nodes.items ≡ nodes_of (chain last 0 flags.now) 0 0) }
 {
     let mut nodes = Vec::with_capacity(alloc, flags.len())?;
     let mut before = 0;
@@ -61,10 +62,15 @@ fn count_true(flags: &[bool]) -> usize
     flags.iter().filter(|flag| **flag).count()
 }
 
-/// The leaves of the chain, in order of their numbers: all are empty but the one within all faces.
-pub fn leaves_of_chain(alloc: Global, flags: &[bool]) -> Result<Vec<Leaf>, AllocError>
+/// The leaves of the chain, in order of their numbers: all are empty but the one within all sides,
+/// which has the contents `last`.
+pub fn leaves_of_chain(
+    alloc: Global,
+    flags: &[bool],
+    last: Contents,
+) -> Result<Vec<Leaf>, AllocError>
     requires { length flags.now < 2 ^ 32 }
-    ensures { IfOk result (λ leaves. leaves.items ≡ leaves_of (chain 0 flags.now)) }
+    ensures { IfOk result (λ leaves. leaves.items ≡ leaves_of (chain last 0 flags.now)) }
 {
     let empty = Leaf {
         contents: Contents::Empty,
@@ -72,7 +78,7 @@ pub fn leaves_of_chain(alloc: Global, flags: &[bool]) -> Result<Vec<Leaf>, Alloc
     };
     let mut leaves = vec![in alloc; empty; flags.len() + 1]?;
     leaves[count_true(flags)] = Leaf {
-        contents: Contents::Solid,
+        contents: last,
         filled: false,
     };
     Ok(leaves)

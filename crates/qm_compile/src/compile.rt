@@ -1,17 +1,21 @@
 //! From a map to the bytes of its tree file.
 
-ghost use Rattle.std.specs.Prelude.{◌≡◌, ◌+◌, ◌<◌, ◌^◌, ◌++◌, Err, IfOk, OnOk, codes, string_bytes};
+ghost use Rattle.std.specs.Prelude.{◌≡◌, ◌++◌, if◌then◌else◌, Err, IfOk, OnOk, MatchOption, codes, string_bytes};
 ghost use Rattle.qm_map.specs.OneBrushText.{IsOneBrushText};
 ghost use Rattle.qm_mapfile.specs.declared.entity.MapFile.{MapFile};
+ghost use Rattle.qm_compile.specs.Brushes.{AreValidFaces, HasValidBrushes};
+ghost use Rattle.qm_compile.specs.Chain.{tree_of_walk};
+ghost use Rattle.qm_compile.specs.CompiledMap.{IsCompiledMap, HasNoOneBrush};
 ghost use Rattle.qm_compile.specs.CompiledText.{IsCompiledText};
-ghost use Rattle.qm_compile.specs.Chain.{tree_of, world_faces, GivesContents};
-ghost use Rattle.qm_compile.specs.OneBrush.{IsOneBrush};
-ghost use Rattle.qm_compile.specs.Texts.{count_line, summary_of};
+ghost use Rattle.qm_compile.specs.Texts.{count_line, tree_summary};
 ghost use Rattle.qm_compile.specs.TreeFile.{file_of};
+ghost use Rattle.qm_compile.specs.Walk.{walk_of};
 
 use crate::chain::{leaves_of_chain, nodes_of_chain};
-use crate::face_planes::planes_of_faces;
+use crate::one_brush::{contents_of_brush, one_brush};
 use crate::tree_file::encode;
+use crate::walk::{Walk, walk_along};
+use qm_contents::Contents;
 use qm_map::{MapFault, parse};
 use qm_mapfile::{Face, MapFile};
 use std::alloc::{AllocError, Global};
@@ -29,37 +33,56 @@ pub fn compile_text(alloc: Global, text: &[u8]) -> Result<Compiled, MapFault>
     ensures ok { IfOk result (λ compiled. IsCompiledText text.now compiled.file.items (string_bytes compiled.summary)) }
     ensures not_built { result ≡ Err MapFault.NotBuilt → (meant : MapFile) → IsOneBrushText text.now meant → ⊥ }
 {
-    match parse(alloc, text) {
-        Ok(map) => Ok(compile(alloc, &map)?),
-        Err(fault) => Err(fault),
+    let map = match parse(alloc, text) {
+        Ok(map) => map,
+        Err(fault) => return Err(fault),
+    };
+    match compile(alloc, &map)? {
+        Some(compiled) => Ok(compiled),
+        None => Err(MapFault::NotBuilt),
     }
 }
 
-/// Compiles a map of one brush to a tree that gives each point the contents that the brush defines
-/// there.
-fn compile(alloc: Global, map: &MapFile) -> Result<Compiled, AllocError>
-    requires { IsOneBrush map.now }
-    ensures file { IfOk result (λ compiled. compiled.file.items ≡ file_of (tree_of map.now)) }
-    ensures summary { IfOk result (λ compiled. string_bytes compiled.summary ≡ summary_of map.now) }
-    ensures gives { OnOk result (GivesContents (tree_of map.now) map.now) }
+/// Compiles a map to a tree that gives each point the contents that the map's brushes define there. It
+/// is `None` exactly where not exactly one brush of the world is not clip.
+fn compile(alloc: Global, map: &MapFile) -> Result<Option<Compiled>, AllocError>
+    requires { HasValidBrushes map.now }
+    ensures { IfOk result (λ found. MatchOption found (HasNoOneBrush map.now) (λ compiled. IsCompiledMap map.now compiled.file.items (string_bytes compiled.summary))) }
 {
-    let faces = world_faces(map);
-    let found = planes_of_faces(alloc, faces)?;
-    let nodes = nodes_of_chain(alloc, &found.out_is_front)?;
-    let leaves = leaves_of_chain(alloc, &found.out_is_front)?;
-    let file = encode(alloc, found.planes.planes(), &nodes, &leaves)?;
-    let summary = summary(alloc, 1, faces.len(), nodes.len(), leaves.len())?;
+    let Some(brush) = one_brush(map) else {
+        return Ok(None);
+    };
+    let contents = contents_of_brush(brush).unwrap();
+    let compiled = compile_faces(alloc, brush.faces.as_slice(), contents)?;
+    Ok(Some(compiled))
+}
+
+/// Compiles the one brush of a map, which has these faces and contents, to a chain.
+fn compile_faces(alloc: Global, faces: &[Face], contents: Contents) -> Result<Compiled, AllocError>
+    requires { AreValidFaces faces.now }
+    ensures file { IfOk result (λ compiled. compiled.file.items ≡ file_of (tree_of_walk (walk_of faces.now) contents)) }
+    ensures summary { IfOk result (λ compiled. string_bytes compiled.summary ≡ tree_summary 1 (tree_of_walk (walk_of faces.now) contents)) }
+{
+    let walk = walk_along(alloc, faces)?;
+    let last = last_contents(&walk, contents);
+    let planes = walk.planes.planes();
+    let nodes = nodes_of_chain(alloc, &walk.out_is_front)?;
+    let leaves = leaves_of_chain(alloc, &walk.out_is_front, last)?;
+    let file = encode(alloc, planes, &nodes, &leaves)?;
+    let summary = summary(alloc, 1, planes.len(), nodes.len(), leaves.len())?;
     Ok(Compiled { file, summary })
 }
 
-/// The faces of the world's brush.
-fn world_faces(map: &MapFile) -> &[Face]
-    requires { IsOneBrush map.now }
-    ensures { result.now ≡ world_faces map.now }
+/// What the last leaf of a chain has: the contents of the brush, or nothing where one of its faces is
+/// turned against another.
+fn last_contents(walk: &Walk, contents: Contents) -> Contents
+    ensures { result ≡ (if walk.now.is_opposed then Contents.Empty else contents) }
 {
-    let world = &map.entities.as_slice()[0];
-    let brush = &world.brushes.as_slice()[0];
-    brush.faces.as_slice()
+    if walk.is_opposed {
+        Contents::Empty
+    } else {
+        contents
+    }
 }
 
 /// A line for each count.

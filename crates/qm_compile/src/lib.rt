@@ -4,8 +4,7 @@
 mod chain;
 mod command;
 mod compile;
-mod contents;
-mod face_planes;
+mod one_brush;
 mod outcome;
 mod program;
 mod reading;
@@ -14,8 +13,9 @@ mod status;
 mod tests;
 mod tree;
 mod tree_file;
+mod walk;
 mod writing;
 
-pub use contents::Contents;
 pub use program::run;
+pub use qm_contents::Contents;
 pub use status::Status;

@@ -1,4 +1,4 @@
-use crate::contents::Contents;
+use qm_contents::Contents;
 
 /// What stands on one side of a node: another node or a leaf, by its number.
 #[derive(Clone, Copy, Debug, PartialEq, Eq)]

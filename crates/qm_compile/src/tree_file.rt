@@ -3,8 +3,8 @@
 ghost use Rattle.std.specs.Prelude.{◌≡◌, ◌+◌, ◌<◌, ◌^◌, ◌++◌, IfOk, OnOk, length, flat_map, count_by};
 ghost use Rattle.qm_compile.specs.TreeFile.{count_bytes, component_bytes, distance_bytes, plane_bytes, child_bytes, node_bytes, leaf_bytes, header_bytes, file_bytes, is_open};
 
-use crate::contents::Contents;
 use crate::tree::{Child, Leaf, Node};
+use qm_contents::{Contents, code};
 use qm_geom::Plane;
 use std::alloc::{AllocError, Global};
 
@@ -155,7 +155,7 @@ fn put_child(bytes: &mut Vec<u8>, child: Child) -> Result<(), AllocError>
 fn put_leaf(bytes: &mut Vec<u8>, leaf: &Leaf) -> Result<(), AllocError>
     ensures { OnOk result (bytes.new.items ≡ bytes.old.items ++ leaf_bytes leaf.now) }
 {
-    bytes.extend_from_slice(&leaf.contents.code().to_le_bytes())?;
+    bytes.extend_from_slice(&code(leaf.contents).to_le_bytes())?;
     bytes.push(u8::from(leaf.filled))?;
     Ok(())
 }

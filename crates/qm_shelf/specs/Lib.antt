@@ -4,4 +4,5 @@ pub mod MemoryShelf
 pub mod MemorySink
 pub mod NamedFiles
 pub mod Reads
+pub mod SureForms
 pub mod Writes

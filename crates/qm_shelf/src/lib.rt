@@ -10,6 +10,8 @@ pub mod mem_shelf;
 pub mod mem_sink;
 pub mod shelf;
 pub mod sink;
+pub mod sure_shelf;
+pub mod sure_sink;
 pub mod term_sink;
 #[cfg(test)]
 mod tests;
@@ -19,4 +21,6 @@ pub use mem_shelf::MemShelf;
 pub use mem_sink::MemSink;
 pub use shelf::{FARTHEST_PLACE, Shelf, ShelfFault};
 pub use sink::{Sink, SinkFault};
+pub use sure_shelf::SureShelf;
+pub use sure_sink::SureSink;
 pub use term_sink::TermSink;

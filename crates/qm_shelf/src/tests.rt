@@ -91,3 +91,29 @@ fn the_real_folder_reads_creates_and_appends(rt: HostRuntime) -> Result<(), Fail
     assert_eq!(rt; TermSink::over(&rt).write(b"printed\n"), Ok(()));
     Ok(())
 }
+
+#[test]
+fn a_sure_shelf_reads_creates_and_appends(rt: HostRuntime) -> Result<(), Fail> {
+    let mut shelf = SureShelf::new(rt.alloc());
+    shelf.put("old.txt", b"abcdef")?;
+    let mut into = *b"....";
+    assert_eq!(rt; shelf.read("old.txt", 4, &mut into), Ok(2));
+    assert_eq!(rt; into.as_slice(), b"ef..".as_slice());
+    assert_eq!(rt; shelf.read("absent.txt", 0, &mut into), Ok(0));
+    assert_eq!(rt; shelf.get("absent.txt"), None);
+    shelf.create("new.txt")?;
+    shelf.append("new.txt", b"one ")?;
+    shelf.append("new.txt", b"two")?;
+    assert_eq!(rt; shelf.get("new.txt"), Some(b"one two".as_slice()));
+    assert_eq!(rt; shelf.get("old.txt"), Some(b"abcdef".as_slice()));
+    Ok(())
+}
+
+#[test]
+fn a_sure_sink_keeps_what_is_written(rt: HostRuntime) -> Result<(), Fail> {
+    let mut sink = SureSink::new(rt.alloc());
+    sink.write(b"one ")?;
+    sink.write(b"two")?;
+    assert_eq!(rt; sink.bytes(), b"one two".as_slice());
+    Ok(())
+}

@@ -1,0 +1,58 @@
+use Rattle.std.proofs.Common.{◌≡◌, ℕ, ◌+◌, ◌<◌, Bool, true, false, cond, List, [], ◌∷◌, ◌++◌, length, get_or, take, drop, filter, Option, Some, None, All, refl, sym, ap, ◌∙◌, subst, arith}
+use Rattle.std.specs.Prelude.{is_some, IsSome}
+use Rattle.std.specs.Borrow.{Bor}
+use Rattle.std.specs.Option.{option_copied, option_to_list}
+use Rattle.std.proofs.lemmas.List.{take-append-drop, length-append}
+use Rattle.std.proofs.lemmas.List.Elements.{filter-append, filter_passes, All-filter}
+use Rattle.std.proofs.lemmas.List.Filters.{length-filter_more}
+use Rattle.qm_mapfile.specs.declared.face.Face.{Face}
+use Rattle.qm_mapfile.specs.declared.entity.Brush.{Brush}
+use Rattle.qm_mapfile.specs.declared.entity.MapFile.{MapFile}
+use Rattle.qm_contents.specs.declared.contents.Contents.{Contents}
+use Rattle.qm_compile.specs.Brushes.{is_drawn, contents_of_brush, world_brushes, drawn_brushes, IsOneBrushMap, AreValidFaces, HasValidBrushes}
+
+-- The brushes of the world that are drawn, where there is one.
+
+-- the first so many brushes have no more drawn ones than all
+few_in_front : (brushes : List Brush) (n : ℕ) → length (filter is_drawn (take n brushes)) + length (filter is_drawn (drop n brushes)) ≡ length (filter is_drawn brushes)
+few_in_front brushes n =
+    sym (length-append (filter is_drawn (take n brushes)) (filter is_drawn (drop n brushes)))
+        ∙ ap length (sym (filter-append is_drawn (take n brushes) (drop n brushes)) ∙ ap (λ (all : List Brush). filter is_drawn all) (take-append-drop n brushes))
+
+abbrev one_if : Bool → ℕ
+one_if b = cond b 1 0
+
+one_found : (found : Option Brush) → is_some found ≡ true → length (option_to_list found) ≡ 1
+one_found None some = cc
+one_found (Some brush) some = refl
+
+pub copied_is_some : (found : Option (Bor Brush)) → is_some found ≡ true → is_some (option_copied found) ≡ true
+copied_is_some None some = some
+copied_is_some (Some brush) some = refl
+
+-- a second drawn brush, behind one that was found
+pub second_drawn : (brushes : List Brush) (i : ℕ) (found : Option Brush) (next one : Brush) → i < length brushes → option_to_list found ≡ filter is_drawn (take i brushes) → is_some found ≡ true → next ≡ get_or brushes i next → is_drawn next ≡ true → filter is_drawn brushes ≡ one ∷ [] → ⊥
+second_drawn brushes i found next one within so_far some is drawn all =
+    let first = one_found found some in
+    let before = ap length so_far in
+    let passes : is_drawn (get_or brushes i next) ≡ true = subst (λ (b : Brush). is_drawn b ≡ true) is drawn in
+    let counted = ap (λ (b : Bool). one_if b) passes in
+    let both = length-filter_more is_drawn brushes i next within in
+    let whole = few_in_front brushes (i + 1) in
+    let only = ap length all in
+    absurd (omega (arith, first, before, counted, both, whole, only))
+
+module _ (meant : MapFile) (brush : Brush) (one : IsOneBrushMap meant brush) where
+  -- the one brush has contents
+  pub one-drawn : is_drawn brush ≡ true
+  one-drawn =
+      let all = filter_passes is_drawn (world_brushes meant) in
+      let its = subst (λ (brushes : List Brush). All (λ b. is_drawn b ≡ true) brushes) one all in
+      its 0 brush (omega arith)
+
+  -- and valid faces
+  pub one-valid : HasValidBrushes meant → AreValidFaces brush.faces
+  one-valid valid =
+      let all = All-filter is_drawn (λ b. AreValidFaces b.faces) (world_brushes meant) valid in
+      let its = subst (λ (brushes : List Brush). All (λ b. AreValidFaces b.faces) brushes) one all in
+      its 0 brush (omega arith)

@@ -1,0 +1,17 @@
+use Rattle.std.specs.Prelude.{ℤ, negsuc, ◌≤ℤ◌}
+use Rattle.qm_contents.specs.declared.contents.Contents.{Contents}
+use Rattle.qm_contents.specs.declared.contents.Contents.TheVariants.{Empty, Solid, Water, Slime, Lava, Sky}
+
+-- the code of contents in a tree file: -1 to -6
+abbrev pub code_of : Contents → ℤ
+code_of Empty = negsuc 0
+code_of Solid = negsuc 1
+code_of Water = negsuc 2
+code_of Slime = negsuc 3
+code_of Lava = negsuc 4
+code_of Sky = negsuc 5
+
+-- a number from -6 to -1
+pub record IsCode (number : ℤ) : Type 0 where
+  pub low : negsuc 5 ≤ℤ number
+  pub high : number ≤ℤ negsuc 0

@@ -1,0 +1,20 @@
+use Rattle.std.specs.Prelude.{ℕ, ◌≤◌, nat_lt, if◌then◌else◌}
+use Rattle.qm_contents.specs.declared.contents.Contents.{Contents}
+use Rattle.qm_contents.specs.declared.contents.Contents.TheVariants.{Empty, Solid, Water, Slime, Lava, Sky}
+
+-- how strong contents are: of the brushes that hold a point the strongest says what is there
+abbrev pub strength : Contents → ℕ
+strength Empty = 0
+strength Water = 1
+strength Slime = 2
+strength Lava = 3
+strength Sky = 4
+strength Solid = 5
+
+-- no stronger than others
+abbrev pub IsAtMost : Contents → Contents → Type 0
+IsAtMost a b = strength a ≤ strength b
+
+-- the stronger of two
+abbrev pub stronger : Contents → Contents → Contents
+stronger a b = if nat_lt (strength a) (strength b) then b else a
