@@ -2,7 +2,7 @@ use Rattle.std.proofs.Common.{ℕ, suc, ◌≤◌, ◌<◌, Bool, true, false, i
 use Rattle.std.proofs.lemmas.List.{length-append}
 use Rattle.qm_mapfile.specs.declared.face.Face.{Face}
 use Rattle.qm_mapfile.specs.declared.entity.MapFile.{MapFile}
-use Rattle.qm_map.specs.Words.{Word, parts_words, is_at_gap, lengthened, words_of}
+use Rattle.qm_mapfile.specs.Words.{Word, parts_words, is_at_gap, lengthened, words_of}
 use Rattle.qm_map.specs.Marks.{open_brace, close_brace}
 use Rattle.qm_map.specs.Spelling.{SpellsFace, SpellsFaces, face, none, more, stone}
 use Rattle.qm_map.specs.OneBrushText.{IsOneBrushText}

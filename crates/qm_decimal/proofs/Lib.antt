@@ -5,3 +5,4 @@ pub mod ByteTests
 pub mod Reading
 pub mod Uniqueness
 pub mod Printing
+pub mod Computed

@@ -1,5 +1,6 @@
 ghost use Rattle.std.specs.Prelude.{◌≡◌, ◌≤◌, ◌<◌, ◌^◌, ℕ, pos, neg_ℤ, if◌then◌else◌, List, Result, IfSome, IfNone};
 ghost use Rattle.qm_decimal.specs.Answer.{IsAnswer};
+ghost use Rattle.qm_decimal.specs.Computed.{read_at};
 ghost use Rattle.qm_decimal.specs.Number.{Number, Spells, IsTail};
 ghost use Rattle.qm_decimal.specs.Parts.{IsMagnitudeAnswer, IsSignSplit};
 
@@ -69,6 +70,9 @@ fn magnitude(text: &[u8], places: u8) -> Result<u64, NumberFault>
 pub fn read(text: &[u8], places: u8) -> Result<Fraction, NumberFault>
     requires { places ≤ 6 }
     ensures answer { IsAnswer text.now places result }
+
+    // The same answer, computed.
+    ensures value { result ≡ read_at text.now places }
 
     // No other answer is right, so each comes exactly where its definition holds.
     ensures only { (other : Result Fraction NumberFault) → IsAnswer text.now places other → other ≡ result }

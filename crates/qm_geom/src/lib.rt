@@ -6,6 +6,7 @@ mod corner;
 mod distance;
 mod factor;
 mod meeting;
+mod one_line;
 mod plane;
 mod plane_book;
 mod point;
@@ -17,6 +18,7 @@ mod vector;
 
 pub use corner::Corner;
 pub use distance::least_distance;
+pub use one_line::are_on_one_line;
 pub use plane::{NoNormal, Plane};
 pub use plane_book::PlaneBook;
 pub use point::Point;

@@ -1,11 +1,3 @@
-pub mod BookLaws
-pub mod BrushLaws
-pub mod Exits
-pub mod FaceLaws
-pub mod FirstFaces
-pub mod FormLaws
-pub mod MarkLaws
-pub mod NumberLaws
-pub mod PointLaws
-pub mod SlashLaws
+pub mod NinePoints
 pub mod WordLaws
+pub mod Meanings

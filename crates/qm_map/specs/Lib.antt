@@ -1,7 +1,3 @@
-pub mod Brush
-pub mod OneBrushText
-pub mod Marks
-pub mod Number
-pub mod Reading
-pub mod Spelling
-pub mod Words
+pub mod Steady
+pub mod Stepping
+pub mod Taking

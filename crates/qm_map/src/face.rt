@@ -1,92 +1,58 @@
-ghost use Rattle.std.specs.Prelude.{◌≡◌};
-ghost use Rattle.qm_map.specs.Reading.{Gives, Passes, after, is_mark, read_coordinate, read_name, read_point, read_mapping, read_face};
+ghost use Rattle.std.specs.Prelude.{◌≡◌, ◌<◌, not, length, All};
+ghost use Rattle.qm_space.specs.Point.{IsCoordinate};
+ghost use Rattle.qm_grammar.specs.Slots.{points_of, mapping_of, face_of};
+ghost use Rattle.qm_grammar.specs.Machine.{span_plane};
 
-use crate::fault::MapFault;
-use crate::number::coordinate;
-use crate::words::Words;
+use qm_geom::are_on_one_line;
 use qm_mapfile::{Face, Items, Mapping, Text};
-use std::alloc::Global;
 
-/// The texture of every face.
-const STONE: &[u8] = b"stone";
+/// How many words the mapping with axes has.
+const AXES_WORDS: usize = 11;
 
-/// Takes this word away, which has to stand next.
-pub(crate) fn expect(words: &mut Words, word: &[u8]) -> Result<(), MapFault>
-    ensures { Passes result words.new (after word.now words.old) }
+/// Nine coordinates as three points.
+fn points_of(numbers: &[i32]) -> [[i32; 3]; 3]
+    requires { length numbers.now ≡ 9 }
+    ensures { result ≡ points_of numbers.now }
 {
-    if words.take(word) {
-        Ok(())
+    match numbers {
+        [ax, ay, az, bx, by, bz, cx, cy, cz] => {
+            [[*ax, *ay, *az], [*bx, *by, *bz], [*cx, *cy, *cz]]
+        }
+        _ => unreachable!(),
+    }
+}
+
+/// Whether the three points of nine coordinates lie on one line.
+pub(crate) fn are_flat(numbers: &[i32]) -> bool
+    requires nine { length numbers.now ≡ 9 }
+    requires in_cube { All IsCoordinate numbers.now }
+    ensures { result ≡ not (span_plane (points_of numbers.now)) }
+{
+    let [p0, p1, p2] = points_of(numbers);
+    are_on_one_line(p0, p1, p2)
+}
+
+/// The mapping of these words.
+fn mapping_of(words: Vec<Text>) -> Mapping
+    ensures { result ≡ mapping_of words.items }
+{
+    if words.len() == AXES_WORDS {
+        Mapping::Valve(Items::from_vec(words))
     } else {
-        Err(MapFault::NotBuilt)
+        Mapping::Standard(Items::from_vec(words))
     }
 }
 
-/// Reads a face: three points, the texture, and how it lies.
-#[tactic(auto, unfolding(crate::specs::Reading::read_face))]
-pub(crate) fn face(alloc: Global, words: &mut Words) -> Result<Face, MapFault>
-    ensures { Gives result words.new (read_face words.old) }
+/// The face of nine coordinates, and of texts of which the first is the texture.
+pub(crate) fn face_of(numbers: &[i32], mut texts: Vec<Text>) -> Face
+    requires nine { length numbers.now ≡ 9 }
+    requires texture { 0 < length texts.items }
+    ensures { result ≡ face_of numbers.now texts.items }
 {
-    let first = point(words)?;
-    let second = point(words)?;
-    let third = point(words)?;
-    expect(words, STONE)?;
-    let texture = Items::from_vec(Vec::from_slice(alloc, STONE)?);
-    let mapping = mapping(alloc, words)?;
-    Ok(Face {
-        points: [first, second, third],
+    let texture = texts.remove(0);
+    Face {
+        points: points_of(numbers),
         texture,
-        mapping,
-    })
-}
-
-#[tactic(auto, unfolding(crate::specs::Reading::read_point))]
-fn point(words: &mut Words) -> Result<[i32; 3], MapFault>
-    ensures { Gives result words.new (read_point words.old) }
-{
-    expect(words, b"(")?;
-    let x = number(words)?;
-    let y = number(words)?;
-    let z = number(words)?;
-    expect(words, b")")?;
-    Ok([x, y, z])
-}
-
-#[tactic(auto, unfolding(crate::specs::Reading::read_mapping))]
-fn mapping(alloc: Global, words: &mut Words) -> Result<Mapping, MapFault>
-    ensures { Gives result words.new (read_mapping words.old) }
-{
-    let x_offset = name(alloc, words)?;
-    let y_offset = name(alloc, words)?;
-    let rotation = name(alloc, words)?;
-    let x_scale = name(alloc, words)?;
-    let y_scale = name(alloc, words)?;
-    Ok(Mapping::Standard([x_offset, y_offset, rotation, x_scale, y_scale]))
-}
-
-#[tactic(auto, unfolding(crate::specs::Reading::read_coordinate))]
-fn number(words: &mut Words) -> Result<i32, MapFault>
-    ensures { Gives result words.new (read_coordinate words.old) }
-{
-    let word = words.next().ok_or(MapFault::NotBuilt)?;
-    coordinate(word).ok_or(MapFault::NotBuilt)
-}
-
-#[tactic(auto, unfolding(crate::specs::Reading::read_name))]
-fn name(alloc: Global, words: &mut Words) -> Result<Text, MapFault>
-    ensures { Gives result words.new (read_name words.old) }
-{
-    let word = words.next().ok_or(MapFault::NotBuilt)?;
-    if is_mark(word) {
-        return Err(MapFault::NotBuilt);
-    }
-    Ok(Items::from_vec(Vec::from_slice(alloc, word)?))
-}
-
-fn is_mark(word: &[u8]) -> bool
-    ensures { result ≡ is_mark word.now }
-{
-    match word {
-        [mark] => b"{}()[]".contains(mark),
-        _ => false,
+        mapping: mapping_of(texts),
     }
 }

@@ -1,16 +1,16 @@
-//! Reads MAP texts of one brush: a world without pairs, whose one brush has textured faces, with
-//! neither quoted text nor comments.
+//! Reads MAP texts: the map that a text means, or the first fault with its line.
 #![tactic(auto)]
 
-mod brush;
 mod face;
-mod fault;
+mod lines;
 mod number;
-mod one_brush_text;
-mod plain;
-#[cfg(test)]
-mod tests;
+mod origin;
+mod reader;
+mod slots;
+mod sort;
+mod stop;
+mod text;
 mod words;
 
-pub use fault::MapFault;
-pub use one_brush_text::parse;
+pub use qm_grammar::MapFault;
+pub use text::parse;

@@ -1,7 +1,6 @@
-ghost use Rattle.std.specs.Prelude.{◌≡◌, ◌≤◌, [], ◌∷◌, length, not, if◌then◌else◌, MatchOption};
+ghost use Rattle.std.specs.Prelude.{◌≡◌, ◌≤◌, [], ◌∷◌, length, not, MatchOption};
 ghost use Rattle.std.specs.List.{prefix_len};
-ghost use Rattle.qm_map.specs.Words.{words_of, parts_words};
-ghost use Rattle.qm_map.specs.Reading.{starts_with_word, without_word};
+ghost use Rattle.qm_mapfile.specs.Words.{words_of, parts_words};
 
 use std::marker::Model;
 
@@ -13,7 +12,7 @@ pub(crate) struct Words<'a> {
 
 impl<'a> Model for Words<'a> {
     ghost use Rattle.std.specs.Prelude.{List};
-    ghost use Rattle.qm_map.specs.Words.{Word, words_of};
+    ghost use Rattle.qm_mapfile.specs.Words.{Word, words_of};
 
     ghost Value = { List Word };
 
@@ -36,19 +35,6 @@ impl<'a> Words<'a> {
         let (word, rest) = text.split_at(word_len(text));
         self.rest = rest;
         if word.is_empty() { None } else { Some(word) }
-    }
-
-    /// Whether the next word is this one, which is then taken.
-    pub(crate) fn take(&mut self, word: &[u8]) -> bool
-        ensures found { result ≡ starts_with_word word.now self.old }
-        ensures rest { self.new ≡ (if result then without_word self.old else self.old) }
-    {
-        let before = self.rest;
-        let found = self.next() == Some(word);
-        if !found {
-            self.rest = before;
-        }
-        found
     }
 }
 

@@ -1,12 +1,24 @@
-use Rattle.std.specs.Prelude.{ℕ, Bool, [], slice_index_or}
+use Rattle.std.specs.Prelude.{ℕ, ℤ, Bool, List, [], slice_index_or}
 use Rattle.qm_space.specs.Point.{Point, whole_point}
 use Rattle.qm_space.specs.Plane.{Plane}
-use Rattle.qm_space.specs.ThreePoints.{outward_plane, plane_through}
+use Rattle.qm_space.specs.ThreePoints.{outward_plane, plane_through, AreOnOneLine}
 use Rattle.qm_mapfile.specs.declared.face.Face.{Face}
+
+-- one of three points that are given by their coordinates
+abbrev pub point_at : List (List ℤ) → ℕ → Point
+point_at points k = whole_point (slice_index_or points k [])
+
+-- the three points are not on one line
+abbrev pub SpanPlane : List (List ℤ) → Type 0
+SpanPlane points = AreOnOneLine (point_at points 0) (point_at points 1) (point_at points 2) → ⊥
 
 -- one of the three points of a face
 abbrev pub face_point : Face → ℕ → Point
-face_point face k = whole_point (slice_index_or face.points k [])
+face_point face k = point_at face.points k
+
+-- the three points of a face are not on one line
+abbrev pub HasPlane : Face → Type 0
+HasPlane face = SpanPlane face.points
 
 -- the plane of a face as its points give it, turned outward and not in lowest terms
 abbrev pub face_outward : Face → Plane

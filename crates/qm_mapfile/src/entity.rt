@@ -1,5 +1,6 @@
 use crate::face::Face;
-use crate::items::{Items, Text};
+use crate::items::Items;
+use crate::text::Text;
 
 /// A convex solid: what lies behind all its faces.
 #[derive(Drop)]

@@ -1,12 +1,13 @@
-use crate::items::Text;
+use crate::items::Items;
+use crate::text::Text;
 
 /// How a texture lies on a face, as its words stand in the text: not checked, kept to be printed again.
 #[derive(Drop)]
 pub enum Mapping {
-    /// Two offsets, a rotation and two scales.
-    Standard([Text; 5]),
-    /// Two axes of four numbers, without their brackets, then a rotation and two scales.
-    Valve([Text; 11]),
+    /// Five words: two offsets, a rotation and two scales.
+    Standard(Items<Text>),
+    /// Eleven words: two axes of four numbers, without their brackets, then a rotation and two scales.
+    Valve(Items<Text>),
 }
 
 /// A face of a brush: three points on its plane, in map units, and its texture.

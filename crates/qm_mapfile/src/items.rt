@@ -9,9 +9,6 @@ pub struct Items<T> {
     items: Vec<T>,
 }
 
-/// Bytes of a MAP text: a key, a value, a texture's name or a word of a mapping. They need not be UTF-8.
-pub type Text = Items<u8>;
-
 impl<T> Model for Items<T> {
     ghost use Rattle.std.specs.Prelude.{List};
 

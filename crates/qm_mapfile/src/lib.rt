@@ -5,7 +5,9 @@
 mod entity;
 mod face;
 mod items;
+mod text;
 
 pub use entity::{Brush, Entity, MapFile, Pair};
 pub use face::{Face, Mapping};
-pub use items::{Items, Text};
+pub use items::Items;
+pub use text::Text;

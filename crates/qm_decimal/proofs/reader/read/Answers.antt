@@ -1,8 +1,10 @@
-use Rattle.std.proofs.Common.{refl, rules, FitsSigned, w64, ◌∙◌}
+use Rattle.std.proofs.Common.{refl, rules, sym, FitsSigned, w64, ◌∙◌}
 use Rattle.std.proofs.lemmas.Int.{to_z-of_z}
 use Rattle.std.proofs.lemmas.Result.{err_from_is_err_and}
 use Rattle.qm_decimal.proofs.Texts.{same_number}
+use Rattle.qm_decimal.specs.Computed.{read_at}
 use Rattle.qm_decimal.proofs.Uniqueness.{signed_fault, signed_value, same_answer}
+use Rattle.qm_decimal.proofs.Computed.{read_at_answers}
 use Rattle.qm_decimal.proofs.reader.read.Goals as goal
 
 pub returns-in_err-magnitude-clause-answer : goal.returns-in_err-magnitude-clause-answer
@@ -27,3 +29,11 @@ returns-clause-only c = λ other h. same_answer c.args.text.now c.args.places ot
 
 pub returns-clause-one_number : goal.returns-clause-one_number
 returns-clause-one_number c = same_number c.args.text.now
+
+pub returns-in_err-magnitude-clause-value : goal.returns-in_err-magnitude-clause-value
+returns-in_err-magnitude-clause-value c =
+    sym (returns-in_err-magnitude-clause-only c (read_at c.args.text.now c.args.places) (read_at_answers c.args.text.now c.args.places))
+
+pub returns-clause-value : goal.returns-clause-value
+returns-clause-value c =
+    sym (returns-clause-only c (read_at c.args.text.now c.args.places) (read_at_answers c.args.text.now c.args.places))

@@ -1,0 +1,126 @@
+-- What a word in a coordinate's place spells, as it is computed.
+use Rattle.std.proofs.Common.{◌≡◌, ◌<◌, ℕ, ◌*◌, Bool, true, false, ◌&&◌, ℤ, pos, neg_ℤ, unsigned_abs, int_le, nat_lt, List, Option, Some, None, Result, Ok, Err, ap, refl, sym, subst, ◌∙◌, ⊎_elim, if◌then◌else◌, arith}
+use Rattle.std.proofs.lemmas.Bool.{and_parts, and_from, true_from_ne_false, false_from_ne_true, both_ways}
+use Rattle.std.proofs.lemmas.Int.{ints}
+use Rattle.qm_decimal.specs.declared.fraction.Fraction.{Fraction}
+use Rattle.qm_decimal.specs.declared.fraction.NumberFault.{NumberFault}
+use Rattle.qm_decimal.specs.declared.fraction.NumberFault.TheVariants as number
+use Rattle.qm_decimal.specs.Answer.{IsAnswer}
+use Rattle.qm_decimal.specs.Computed.{read_at}
+use Rattle.qm_decimal.proofs.Computed.{read_at_answers}
+use Rattle.qm_decimal.proofs.Uniqueness.{same_answer}
+use Rattle.qm_space.specs.Point.{IsCoordinate, extent}
+use Rattle.qm_grammar.specs.declared.refusal.Refusal.{Refusal}
+use Rattle.qm_grammar.specs.declared.refusal.Refusal.TheVariants as refusal
+use Rattle.qm_grammar.specs.Number.{whole_fraction, SpellsWhole, SpellsCoordinate, IsNoNumberText, IsFractionText, IsHugeText, IsOutsideText}
+use Rattle.qm_grammar.specs.Machine.{coordinate_of, coordinate_of_answer, coordinate_in_range}
+
+-- the answer that a text has is the one that is computed
+pub computed_answer : (text : List ℕ) (places : ℕ) (answer : Result Fraction NumberFault) → IsAnswer text places answer → read_at text places ≡ answer
+computed_answer text places answer is = same_answer text places (read_at text places) answer (read_at_answers text places) is
+
+pub answer_computed : (text : List ℕ) (places : ℕ) (answer : Result Fraction NumberFault) → read_at text places ≡ answer → IsAnswer text places answer
+answer_computed text places answer is = subst (IsAnswer text places) is (read_at_answers text places)
+
+-- ---- coordinates
+
+-- whether a whole number is a coordinate
+within : (n : ℤ) → (int_le (neg_ℤ extent) n && int_le n extent) ≡ true → IsCoordinate n
+within n e =
+    let both = and_parts (int_le (neg_ℤ extent) n) (int_le n extent) e in
+    let low = both.0 in
+    let high = both.1 in
+    record { low = omega (arith, ints); high = omega (arith, ints) }
+
+is_within : (n : ℤ) → IsCoordinate n → (int_le (neg_ℤ extent) n && int_le n extent) ≡ true
+is_within n is =
+    let low = is.low in
+    let high = is.high in
+    and_from (int_le (neg_ℤ extent) n) (int_le n extent)
+    (true_from_ne_false (int_le (neg_ℤ extent) n) (λ e. absurd (omega (arith, ints))))
+    (true_from_ne_false (int_le n extent) (λ e. absurd (omega (arith, ints))))
+
+-- a fraction without decimals
+whole_is : (fraction : Fraction) (n : ℤ) → fraction.places ≡ 0 → fraction.numerator ≡ n → fraction ≡ whole_fraction n
+whole_is fraction n places numerator =
+    let make : ℤ → ℕ → Fraction = λ z k. record { numerator = z; places = k } in
+    ap (λ (k : ℕ). make fraction.numerator k) places ∙ ap (λ (z : ℤ). make z 0) numerator
+
+-- the answer at no places has none
+answer_whole : (text : List ℕ) (fraction : Fraction) (n : ℤ) → IsAnswer text 0 (Ok fraction) → fraction.numerator ≡ n → SpellsWhole text n
+answer_whole text fraction n is numerator = subst (λ (f : Fraction). IsAnswer text 0 (Ok f)) (whole_is fraction n is.places_kept numerator) is
+
+in_range_ok : (fraction : Fraction) → IsCoordinate fraction.numerator → coordinate_in_range fraction ≡ Ok fraction.numerator
+in_range_ok fraction is = rw (is_within fraction.numerator is) refl
+
+-- why a word in a coordinate's place is refused
+pub data IsBadCoordinate (text : List ℕ) : Refusal → Type 0 where
+  no_number : IsNoNumberText text → IsBadCoordinate text refusal.BadNumber
+  fraction : IsFractionText text → IsBadCoordinate text refusal.Fraction
+  huge : IsHugeText text → IsBadCoordinate text refusal.CoordinateRange
+  outside : IsOutsideText text → IsBadCoordinate text refusal.CoordinateRange
+
+-- a word that spells a coordinate is read as it
+pub spelled_coordinate : (text : List ℕ) (c : ℤ) → SpellsCoordinate text c → coordinate_of text ≡ Ok c
+unfolding coordinate_of
+spelled_coordinate text c spells =
+    rw (computed_answer text 0 (Ok (whole_fraction c)) spells.spelled) (in_range_ok (whole_fraction c) spells.in_range)
+
+range_refused : (n : ℤ) → (IsCoordinate n → ⊥) → coordinate_in_range (whole_fraction n) ≡ Err refusal.CoordinateRange
+range_refused n out = rw (false_from_ne_true (int_le (neg_ℤ extent) n && int_le n extent) (λ e. out (within n e))) refl
+
+-- a word that spells none is refused
+pub bad_coordinate : (text : List ℕ) (reason : Refusal) → IsBadCoordinate text reason → coordinate_of text ≡ Err reason
+unfolding coordinate_of
+bad_coordinate text reason (no_number is) = rw (computed_answer text 0 (Err number.Form) is) refl
+bad_coordinate text reason (fraction is) = rw (computed_answer text 0 (Err number.TooFine) is) refl
+bad_coordinate text reason (huge is) = rw (computed_answer text 0 (Err number.TooLarge) is) refl
+bad_coordinate text reason (outside is) =
+    rw (computed_answer text 0 (Ok (whole_fraction is.number)) is.spelled) (range_refused is.number is.out_of_range)
+
+-- what is read is spelled
+read_in_range : (text : List ℕ) (f : Fraction) (c : ℤ) → IsAnswer text 0 (Ok f) → (t : Bool) → (int_le (neg_ℤ extent) f.numerator && int_le f.numerator extent) ≡ t → coordinate_in_range f ≡ Ok c → SpellsCoordinate text c
+read_in_range text f c is true tested read =
+    let same : Ok f.numerator ≡ Ok c = sym (in_range_ok f (within f.numerator tested)) ∙ read in
+    let numerator : f.numerator ≡ c = cc in
+    record { spelled = answer_whole text f c is numerator; in_range = subst IsCoordinate numerator (within f.numerator tested) }
+read_in_range text f c is false tested read =
+    absurd (let never : Err refusal.CoordinateRange ≡ Ok c = rw tested at read in cc)
+
+read_answer : (text : List ℕ) (c : ℤ) (answer : Result Fraction NumberFault) → read_at text 0 ≡ answer → coordinate_of_answer answer ≡ Ok c → SpellsCoordinate text c
+read_answer text c (Ok f) is read =
+    read_in_range text f c (answer_computed text 0 (Ok f) is) (int_le (neg_ℤ extent) f.numerator && int_le f.numerator extent) refl read
+read_answer text c (Err number.Form) is read = absurd cc
+read_answer text c (Err number.TooFine) is read = absurd cc
+read_answer text c (Err number.TooLarge) is read = absurd cc
+
+pub coordinate_spelled : (text : List ℕ) (c : ℤ) → coordinate_of text ≡ Ok c → SpellsCoordinate text c
+unfolding coordinate_of
+coordinate_spelled text c read = read_answer text c (read_at text 0) refl read
+
+-- what is refused spells no coordinate
+refused_in_range : (text : List ℕ) (f : Fraction) (reason : Refusal) → IsAnswer text 0 (Ok f) → (t : Bool) → (int_le (neg_ℤ extent) f.numerator && int_le f.numerator extent) ≡ t → coordinate_in_range f ≡ Err reason → IsBadCoordinate text reason
+refused_in_range text f reason is true tested refused =
+    absurd (let never : Ok f.numerator ≡ Err reason = sym (in_range_ok f (within f.numerator tested)) ∙ refused in cc)
+refused_in_range text f reason is false tested refused =
+    let out : IsCoordinate f.numerator → ⊥ = λ c. both_ways (int_le (neg_ℤ extent) f.numerator && int_le f.numerator extent) tested (is_within f.numerator c) in
+    let same : Err refusal.CoordinateRange ≡ Err reason = rw tested at refused in
+    let reasons : refusal.CoordinateRange ≡ reason = cc in
+    subst (IsBadCoordinate text) reasons (outside (record { number = f.numerator; spelled = answer_whole text f f.numerator is refl; out_of_range = out }))
+
+refused_answer : (text : List ℕ) (reason : Refusal) (answer : Result Fraction NumberFault) → read_at text 0 ≡ answer → coordinate_of_answer answer ≡ Err reason → IsBadCoordinate text reason
+refused_answer text reason (Ok f) is refused =
+    refused_in_range text f reason (answer_computed text 0 (Ok f) is) (int_le (neg_ℤ extent) f.numerator && int_le f.numerator extent) refl refused
+refused_answer text reason (Err number.Form) is refused =
+    let reasons : refusal.BadNumber ≡ reason = cc in
+    subst (IsBadCoordinate text) reasons (no_number (answer_computed text 0 (Err number.Form) is))
+refused_answer text reason (Err number.TooFine) is refused =
+    let reasons : refusal.Fraction ≡ reason = cc in
+    subst (IsBadCoordinate text) reasons (fraction (answer_computed text 0 (Err number.TooFine) is))
+refused_answer text reason (Err number.TooLarge) is refused =
+    let reasons : refusal.CoordinateRange ≡ reason = cc in
+    subst (IsBadCoordinate text) reasons (huge (answer_computed text 0 (Err number.TooLarge) is))
+
+pub coordinate_bad : (text : List ℕ) (reason : Refusal) → coordinate_of text ≡ Err reason → IsBadCoordinate text reason
+unfolding coordinate_of
+coordinate_bad text reason refused = refused_answer text reason (read_at text 0) refl refused

@@ -1,0 +1,11 @@
+pub mod Symbol
+pub mod Number
+pub mod Origin
+pub mod Slots
+pub mod Grammar
+pub mod Front
+pub mod Table
+pub mod Faults
+pub mod Meaning
+pub mod Valid
+pub mod Machine

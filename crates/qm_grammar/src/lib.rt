@@ -1,0 +1,15 @@
+//! The grammar of a MAP text: what its tokens spell, where a token is refused, and which fault of a text comes first.
+//! This crate has a few plain types, definitions and laws, and no function.
+#![tactic(auto)]
+
+mod fault;
+mod mark;
+mod place;
+mod refusal;
+mod slot;
+
+pub use fault::MapFault;
+pub use mark::{Mark, Sort};
+pub use place::Place;
+pub use refusal::Refusal;
+pub use slot::Slot;

@@ -1,0 +1,65 @@
+-- How far the reading of a text has come, and what it then means.
+use Rattle.std.proofs.Common.{◌≡◌, ◌<◌, ℕ, List, [], length, Option, Some, None, Ok, Err, ◌∙◌, ap, arith}
+use Rattle.qm_lex.specs.Lexeme.{Lexeme}
+use Rattle.qm_lex.specs.Lexing.{Lexing, IsLexingOf, nothing, lexeme_then, unclosed_on}
+use Rattle.qm_lex.specs.Modes.{between, read}
+use Rattle.qm_lex.specs.Reading.{Reading}
+use Rattle.qm_lex.proofs.Cutting.{pieces_of}
+use Rattle.qm_lex.proofs.PieceRuns.{read_pieces}
+use Rattle.qm_grammar.specs.declared.refusal.Refusal.{Refusal}
+use Rattle.qm_grammar.specs.Symbol.{symbol_of}
+use Rattle.qm_grammar.specs.Front.{Front, outside}
+use Rattle.qm_grammar.specs.Machine.{step, steps, refused_at, ended, meaning_of}
+use Rattle.qm_grammar.proofs.Runs.{steps_step, steps_refused}
+
+-- the lexing that is read is one
+pub lexing_is : (text : List ℕ) (lexing : Lexing) → ((other : Lexing) → IsLexingOf text other → other ≡ lexing) → read between 0 1 text ≡ lexing
+lexing_is text lexing only =
+    let pieces = pieces_of text in
+    only (read between 0 1 text) (pieces.0, pieces.1, read_pieces text pieces.0 0 1 pieces.1)
+
+-- a reader has come to a front, and this is left of the text
+pub record IsUnderway (text : List ℕ) (front : Front) (reading : Reading) : Type 0 where
+  pub text_is : reading.text ≡ text
+  pub rest : steps (outside []) (read between 0 1 text).lexemes ≡ steps front reading.left.lexemes
+  pub unclosed : (read between 0 1 text).unclosed_line ≡ reading.left.unclosed_line
+
+pub begun : (text : List ℕ) (reading : Reading) → reading.text ≡ text → read between 0 1 text ≡ reading.left → IsUnderway text (outside []) reading
+begun text reading same left = record {
+  text_is = same;
+  rest = ap (λ (l : Lexing). steps (outside []) l.lexemes) left;
+  unclosed = ap (λ (l : Lexing). l.unclosed_line) left;
+}
+
+-- a token further
+pub advanced : (text : List ℕ) (front next : Front) (reading later : Reading) (lexeme : Lexeme) → IsUnderway text front reading → later.text ≡ reading.text → reading.left ≡ lexeme_then lexeme later.left → step front (symbol_of lexeme) ≡ Ok next → IsUnderway text next later
+advanced text front next reading later lexeme u same left led = record {
+  text_is = same ∙ u.text_is;
+  rest = u.rest ∙ ap (λ (l : Lexing). steps front l.lexemes) left ∙ steps_step front next lexeme later.left.lexemes led;
+  unclosed = u.unclosed ∙ ap (λ (l : Lexing). l.unclosed_line) left;
+}
+
+pub refused_is : (text : List ℕ) (front : Front) (reading : Reading) (rest : Lexing) (lexeme : Lexeme) (reason : Refusal) → IsUnderway text front reading → reading.left ≡ lexeme_then lexeme rest → step front (symbol_of lexeme) ≡ Err reason → meaning_of text ≡ Err (refused_at text reason lexeme)
+unfolding meaning_of
+refused_is text front reading rest lexeme reason u left refused =
+    let run = u.rest ∙ ap (λ (l : Lexing). steps front l.lexemes) left ∙ steps_refused front lexeme rest.lexemes reason refused in
+    ap (λ r. ended text (read between 0 1 text).unclosed_line r) run
+
+over_is : (text : List ℕ) (front : Front) (reading : Reading) (unclosed : Option ℕ) → IsUnderway text front reading → reading.left ≡ record { lexemes = []; unclosed_line = unclosed } → meaning_of text ≡ ended text unclosed (Ok front)
+unfolding meaning_of
+over_is text front reading unclosed u left =
+    let run : steps (outside []) (read between 0 1 text).lexemes ≡ Ok front = u.rest ∙ ap (λ (l : Lexing). steps front l.lexemes) left in
+    let quote : (read between 0 1 text).unclosed_line ≡ unclosed = u.unclosed ∙ ap (λ (l : Lexing). l.unclosed_line) left in
+    ap (λ r. ended text (read between 0 1 text).unclosed_line r) run ∙ ap (λ (q : Option ℕ). ended text q (Ok front)) quote
+
+-- nothing is left
+pub ended_is : (text : List ℕ) (front : Front) (reading : Reading) → IsUnderway text front reading → reading.left ≡ nothing → meaning_of text ≡ ended text None (Ok front)
+ended_is text front reading u left = over_is text front reading None u left
+
+-- only a quote is left that is not closed
+pub unclosed_is : (text : List ℕ) (front : Front) (reading : Reading) (line : ℕ) → IsUnderway text front reading → reading.left ≡ unclosed_on line → meaning_of text ≡ ended text (Some line) (Ok front)
+unclosed_is text front reading line u left = over_is text front reading (Some line) u left
+
+-- a token fewer is left
+pub fewer_left : (reading later : Reading) (lexeme : Lexeme) → reading.left ≡ lexeme_then lexeme later.left → length later.left.lexemes < length reading.left.lexemes
+fewer_left reading later lexeme left = let e = ap (λ (l : Lexing). length l.lexemes) left in omega arith

@@ -1,0 +1,371 @@
+ghost use Rattle.std.specs.Prelude.{◌≡◌, ◌+◌, ◌==◌, ◌&&◌, not, [], ◌∷◌, ◌++◌, Ok, OnOk, length};
+ghost use Rattle.qm_grammar.specs.Front.{outside};
+ghost use Rattle.qm_grammar.specs.Slots.{points_of};
+ghost use Rattle.qm_grammar.specs.Machine.{step, step_outside, step_entity, step_value, step_brush, step_face, step_slot, step_mark, with_value, without_brush, with_face, with_left, with_number, with_text, coordinate_of, span_plane, is_bad_origin};
+ghost use Rattle.qm_map.specs.Steady.{HasDueParts};
+ghost use Rattle.qm_map.specs.Stepping.{IsStep};
+
+use crate::face::{are_flat, face_of};
+use crate::number::coordinate;
+use crate::origin::{first_origin, is_origin_key, origin_of};
+use crate::slots::{behind_bracket, behind_first, behind_word};
+use crate::sort::{is_same_mark, sort_of};
+use crate::stop::Stop;
+use qm_grammar::{Mark, Place, Refusal, Slot, Sort};
+use qm_lex::TokenKind;
+use qm_mapfile::{Brush, Entity, Face, Items, MapFile, Pair, Text};
+use std::alloc::{AllocError, Global};
+use std::marker::Model;
+use std::mem;
+
+/// How many texts most faces have.
+const TEXTS: usize = 6;
+
+/// Takes the tokens of a map one by one. Contracts see it as what the tokens so far have spelled.
+#[derive(Drop)]
+pub(crate) struct Reader {
+    alloc: Global,
+    place: Place,
+    entities: Vec<Entity>,
+    pairs: Vec<Pair>,
+    brushes: Vec<Brush>,
+    key: Text,
+    faces: Vec<Face>,
+    numbers: Vec<i32>,
+    texts: Vec<Text>,
+    left: &'static [Slot],
+}
+
+impl Model for Reader {
+    ghost use Rattle.std.specs.Prelude.{length, All};
+    ghost use Rattle.qm_space.specs.Point.{IsCoordinate};
+    ghost use Rattle.qm_grammar.specs.Front.{Front};
+    ghost use Rattle.qm_map.specs.Steady.{HasDueParts};
+
+    ghost Value = { Front };
+
+    ghost view = { λ r. record {
+      place = r.place;
+      entities = r.entities.items;
+      pairs = r.pairs.items;
+      brushes = r.brushes.items;
+      key = r.key;
+      faces = r.faces.items;
+      numbers = r.numbers.items;
+      texts = r.texts.items;
+      left = r.left.now;
+    } };
+
+    ghost invariant = { λ r.
+        All IsCoordinate r.numbers.items
+        × HasDueParts r.place (length r.numbers.items) (length r.texts.items) r.left.now };
+}
+
+impl Reader {
+    /// Before the first token.
+    pub(crate) fn new(alloc: Global) -> Reader
+        ensures { result ≡ outside [] }
+    {
+        Reader {
+            alloc,
+            place: Place::Outside,
+            entities: Vec::new(alloc),
+            pairs: Vec::new(alloc),
+            brushes: Vec::new(alloc),
+            key: Text::new(alloc),
+            faces: Vec::new(alloc),
+            numbers: Vec::new(alloc),
+            texts: Vec::new(alloc),
+            left: &[],
+        }
+    }
+
+    /// Where in a map it stands.
+    pub(crate) fn place(&self) -> Place
+        ensures { result ≡ self.now.place }
+    {
+        self.place
+    }
+
+    /// The map of the entities that have ended.
+    pub(crate) fn into_map(self) -> MapFile
+        ensures { result ≡ record { entities = self.entities } }
+    {
+        let Reader { entities, .. } = self;
+        MapFile {
+            entities: Items::from_vec(entities),
+        }
+    }
+
+    /// Takes the next token, of this kind and with these bytes.
+    #[tactic(auto, unfolding(qm_grammar::specs::Machine::step))]
+    pub(crate) fn accept(&mut self, kind: TokenKind, bytes: &[u8]) -> Result<(), Stop>
+        ensures { IsStep result self.new (step self.old (record { kind = kind; bytes = bytes.now })) }
+    {
+        let sort = sort_of(kind, bytes);
+        match self.place {
+            Place::Outside => self.step_outside(sort),
+            Place::Entity => self.step_entity(sort, bytes),
+            Place::Value => self.step_value(sort, bytes),
+            Place::Brush => self.step_brush(sort),
+            Place::Face => self.step_face(sort, bytes),
+        }
+    }
+
+    #[tactic(auto, unfolding(qm_grammar::specs::Machine::step_outside))]
+    fn step_outside(&mut self, sort: Sort) -> Result<(), Stop>
+        requires { self.old.place ≡ Place.Outside }
+        ensures { IsStep result self.new (step_outside self.old sort) }
+    {
+        match sort {
+            Sort::Mark(Mark::OpenBrace) => {
+                self.place = Place::Entity;
+                Ok(())
+            }
+            _ => Err(Stop::Refused(Refusal::Unexpected)),
+        }
+    }
+
+    #[tactic(auto, unfolding(qm_grammar::specs::Machine::step_entity))]
+    fn step_entity(&mut self, sort: Sort, bytes: &[u8]) -> Result<(), Stop>
+        requires { self.old.place ≡ Place.Entity }
+        ensures { IsStep result self.new (step_entity self.old sort bytes.now) }
+    {
+        match sort {
+            Sort::Quoted => {
+                self.key = Text::from_slice(self.alloc, bytes)?;
+                self.place = Place::Value;
+                Ok(())
+            }
+            Sort::Mark(Mark::OpenBrace) => {
+                self.place = Place::Brush;
+                Ok(())
+            }
+            Sort::Mark(Mark::CloseBrace) => {
+                self.end_entity()?;
+                Ok(())
+            }
+            _ => Err(Stop::Refused(Refusal::Unexpected)),
+        }
+    }
+
+    /// Puts the open entity to the others.
+    fn end_entity(&mut self) -> Result<(), AllocError>
+        ensures { OnOk result (self.new ≡ outside (self.old.entities ++ (record { pairs = self.old.pairs; brushes = self.old.brushes }) ∷ [])) }
+    {
+        let pairs = mem::replace(&mut self.pairs, Vec::new(self.alloc));
+        let brushes = mem::replace(&mut self.brushes, Vec::new(self.alloc));
+        self.place = Place::Outside;
+        self.key = Text::new(self.alloc);
+        self.faces.clear();
+        self.numbers.clear();
+        self.texts.clear();
+        self.left = &[];
+        self.entities.push(Entity {
+            pairs: Items::from_vec(pairs),
+            brushes: Items::from_vec(brushes),
+        })?;
+        Ok(())
+    }
+
+    #[tactic(auto, unfolding(qm_grammar::specs::Machine::step_value))]
+    fn step_value(&mut self, sort: Sort, bytes: &[u8]) -> Result<(), Stop>
+        requires { self.old.place ≡ Place.Value }
+        ensures { IsStep result self.new (step_value self.old sort bytes.now) }
+    {
+        match sort {
+            Sort::Quoted => {
+                if self.is_bad_origin(bytes) {
+                    return Err(Stop::Refused(Refusal::BadOrigin));
+                }
+                self.end_pair(bytes)?;
+                Ok(())
+            }
+            _ => Err(Stop::Refused(Refusal::Unexpected)),
+        }
+    }
+
+    /// Whether a value is the first one under the key `origin` in an entity that is not the first, and gives no point.
+    #[tactic(auto, unfolding(qm_grammar::specs::Machine::is_bad_origin))]
+    fn is_bad_origin(&self, value: &[u8]) -> bool
+        ensures { result ≡ is_bad_origin self.now value.now }
+    {
+        !self.entities.is_empty()
+            && is_origin_key(self.key.as_slice())
+            && first_origin(&self.pairs).is_none()
+            && origin_of(value).is_none()
+    }
+
+    /// Puts the open pair to the others.
+    fn end_pair(&mut self, value: &[u8]) -> Result<(), AllocError>
+        requires { self.old.place ≡ Place.Value }
+        ensures { OnOk result (self.new ≡ with_value self.old value.now) }
+    {
+        let value = Text::from_slice(self.alloc, value)?;
+        let key = mem::replace(&mut self.key, Text::new(self.alloc));
+        self.place = Place::Entity;
+        self.pairs.push(Pair { key, value })?;
+        Ok(())
+    }
+
+    #[tactic(auto, unfolding(qm_grammar::specs::Machine::step_brush))]
+    fn step_brush(&mut self, sort: Sort) -> Result<(), Stop>
+        requires { self.old.place ≡ Place.Brush }
+        ensures { IsStep result self.new (step_brush self.old sort) }
+    {
+        match sort {
+            Sort::Mark(Mark::OpenParenthesis) => {
+                self.place = Place::Face;
+                self.left = behind_first();
+                Ok(())
+            }
+            Sort::Mark(Mark::CloseBrace) => {
+                if self.faces.is_empty() {
+                    return Err(Stop::Refused(Refusal::NoFaces));
+                }
+                self.end_brush()?;
+                Ok(())
+            }
+            _ => Err(Stop::Refused(Refusal::Unexpected)),
+        }
+    }
+
+    /// Puts the open brush to the others.
+    fn end_brush(&mut self) -> Result<(), AllocError>
+        requires { self.old.place ≡ Place.Brush }
+        ensures { OnOk result (self.new ≡ without_brush self.old) }
+    {
+        let faces = mem::replace(&mut self.faces, Vec::new(self.alloc));
+        self.place = Place::Entity;
+        self.brushes.push(Brush {
+            faces: Items::from_vec(faces),
+        })?;
+        Ok(())
+    }
+
+    fn step_face(&mut self, sort: Sort, bytes: &[u8]) -> Result<(), Stop>
+        requires { self.old.place ≡ Place.Face }
+        ensures { IsStep result self.new (step_face self.old self.old.left sort bytes.now) }
+    {
+        match self.left {
+            [slot, others @ ..] => self.step_slot(*slot, others, sort, bytes),
+            [] => Err(Stop::Refused(Refusal::Unexpected)),
+        }
+    }
+
+    #[tactic(auto, unfolding(qm_grammar::specs::Machine::step_slot))]
+    fn step_slot(
+        &mut self,
+        slot: Slot,
+        others: &'static [Slot],
+        sort: Sort,
+        bytes: &[u8],
+    ) -> Result<(), Stop>
+        requires place { self.old.place ≡ Place.Face }
+        requires due { HasDueParts Place.Face (length self.old.numbers) (length self.old.texts) (slot ∷ others.now) }
+        ensures { IsStep result self.new (step_slot self.old slot others.now sort bytes.now) }
+    {
+        match (slot, sort) {
+            (Slot::Mark(due), Sort::Mark(mark)) => {
+                if is_same_mark(due, mark) {
+                    self.step_mark(due, others)
+                } else {
+                    Err(Stop::Refused(Refusal::Unexpected))
+                }
+            }
+            (Slot::Coordinate, Sort::Name) => self.step_number(others, bytes),
+            (Slot::Texture, Sort::Name) => self.step_text(others, bytes),
+            (Slot::Texture, Sort::Quoted) => self.step_text(others, bytes),
+            (Slot::FirstOfMapping, Sort::Name) => self.step_text(behind_word(), bytes),
+            (Slot::FirstOfMapping, Sort::Mark(Mark::OpenBracket)) => {
+                self.step_over(behind_bracket())
+            }
+            (Slot::Word, Sort::Name) => self.step_text(others, bytes),
+            _ => Err(Stop::Refused(Refusal::Unexpected)),
+        }
+    }
+
+    #[tactic(auto, unfolding(qm_grammar::specs::Machine::step_mark))]
+    fn step_mark(&mut self, mark: Mark, others: &'static [Slot]) -> Result<(), Stop>
+        requires place { self.old.place ≡ Place.Face }
+        requires due { HasDueParts Place.Face (length self.old.numbers) (length self.old.texts) others.now }
+        ensures { IsStep result self.new (step_mark self.old mark others.now) }
+    {
+        match mark {
+            Mark::CloseParenthesis => {
+                if self.has_flat_points() {
+                    return Err(Stop::Refused(Refusal::NoNormal));
+                }
+                self.step_over(others)
+            }
+            _ => self.step_over(others),
+        }
+    }
+
+    /// Whether three points are read that lie on one line.
+    fn has_flat_points(&self) -> bool
+        ensures { result ≡ (length self.now.numbers == 9 && not (span_plane (points_of self.now.numbers))) }
+    {
+        let numbers = self.numbers.as_slice();
+        numbers.len() == 9 && are_flat(numbers)
+    }
+
+    /// Takes a token that gives nothing.
+    fn step_over(&mut self, others: &'static [Slot]) -> Result<(), Stop>
+        requires place { self.old.place ≡ Place.Face }
+        requires due { HasDueParts Place.Face (length self.old.numbers) (length self.old.texts) others.now }
+        ensures { IsStep result self.new (Ok (with_left self.old others.now)) }
+    {
+        self.left = others;
+        self.end_slot()?;
+        Ok(())
+    }
+
+    fn step_number(&mut self, others: &'static [Slot], bytes: &[u8]) -> Result<(), Stop>
+        requires place { self.old.place ≡ Place.Face }
+        requires due { HasDueParts Place.Face (length self.old.numbers + 1) (length self.old.texts) others.now }
+        ensures { IsStep result self.new (with_number self.old others.now (coordinate_of bytes.now)) }
+    {
+        let number = coordinate(bytes)?;
+        self.numbers.push(number)?;
+        self.left = others;
+        self.end_slot()?;
+        Ok(())
+    }
+
+    fn step_text(&mut self, others: &'static [Slot], bytes: &[u8]) -> Result<(), Stop>
+        requires place { self.old.place ≡ Place.Face }
+        requires due { HasDueParts Place.Face (length self.old.numbers) (length self.old.texts + 1) others.now }
+        ensures { IsStep result self.new (Ok (with_text self.old others.now bytes.now)) }
+    {
+        self.texts.push(Text::from_slice(self.alloc, bytes)?)?;
+        self.left = others;
+        self.end_slot()?;
+        Ok(())
+    }
+
+    /// Ends the face where no token is due.
+    fn end_slot(&mut self) -> Result<(), AllocError>
+        requires { self.old.place ≡ Place.Face }
+        ensures { OnOk result (self.new ≡ with_left self.old self.old.left) }
+    {
+        if self.left.is_empty() {
+            self.end_face()?;
+        }
+        Ok(())
+    }
+
+    /// Puts the open face to the others.
+    fn end_face(&mut self) -> Result<(), AllocError>
+        requires place { self.old.place ≡ Place.Face }
+        requires whole { self.old.left ≡ [] }
+        ensures { OnOk result (self.new ≡ with_face self.old) }
+    {
+        let texts = mem::replace(&mut self.texts, Vec::with_capacity(self.alloc, TEXTS)?);
+        let face = face_of(&self.numbers, texts);
+        self.place = Place::Brush;
+        self.numbers.clear();
+        self.faces.push(face)?;
+        Ok(())
+    }
+}

@@ -1,0 +1,132 @@
+ghost use Rattle.std.specs.Prelude.{◌≡◌, ◌≢◌, ◌≤◌, ◌+◌, ◌∷◌, [], length, Ok, Err};
+ghost use Rattle.qm_lex.specs.Lexeme.{lexeme_of, quote_length};
+ghost use Rattle.qm_lex.specs.Scan.{fault_line};
+ghost use Rattle.qm_grammar.specs.Faults.{fault_of};
+ghost use Rattle.qm_grammar.specs.Machine.{refused_at, closed_by_end, ended, meaning_of};
+ghost use Rattle.qm_map.specs.Taking.{IsTaken};
+
+use crate::lines::{last_line, line_at};
+use crate::reader::Reader;
+use crate::stop::Stop;
+use qm_grammar::{MapFault, Place, Refusal};
+use qm_lex::{LexFault, Lexer, Token, TokenKind};
+use qm_mapfile::MapFile;
+use std::alloc::Global;
+
+/// The most bytes that a text may have.
+const TEXT_LIMIT: usize = 67_108_864;
+
+/// The fault of a refused token on a line.
+fn fault_of(reason: Refusal, line: u64) -> MapFault
+    ensures { result ≡ fault_of reason line }
+{
+    match reason {
+        Refusal::Unexpected => MapFault::Unexpected { line },
+        Refusal::BadNumber => MapFault::BadNumber { line },
+        Refusal::Fraction => MapFault::Fraction { line },
+        Refusal::CoordinateRange => MapFault::CoordinateRange { line },
+        Refusal::NoNormal => MapFault::NoNormal { line },
+        Refusal::NoFaces => MapFault::NoFaces { line },
+        Refusal::BadOrigin => MapFault::BadOrigin { line },
+    }
+}
+
+/// How many quotes stand behind a token.
+fn quote_length(kind: TokenKind) -> u64
+    ensures { result ≡ quote_length kind }
+{
+    match kind {
+        TokenKind::Word => 0,
+        TokenKind::Quoted => 1,
+    }
+}
+
+/// The fault of a refused token, unless the text is too long before the token ends.
+fn refused_at(text: &[u8], reason: Refusal, token: Token) -> MapFault
+    requires { token.end + quote_length token.kind ≤ length text.now }
+    ensures { result ≡ refused_at text.now reason (lexeme_of text.now token) }
+{
+    let end = token.end + quote_length(token.kind);
+    if end > TEXT_LIMIT as u64 {
+        MapFault::TextTooLong {
+            line: line_at(text, TEXT_LIMIT),
+        }
+    } else {
+        fault_of(reason, token.line)
+    }
+}
+
+/// Takes a token of the text.
+fn take(reader: &mut Reader, text: &[u8], token: Token) -> Result<(), MapFault>
+    requires ordered { token.start ≤ token.end }
+    requires within { token.end + quote_length token.kind ≤ length text.now }
+    ensures { IsTaken text.now reader.old (lexeme_of text.now token) reader.new result }
+{
+    let bytes = &text[token.start as usize..token.end as usize];
+    match reader.accept(token.kind, bytes) {
+        Ok(()) => Ok(()),
+        Err(Stop::Refused(reason)) => Err(refused_at(text, reason, token)),
+        Err(Stop::Memory) => Err(MapFault::Memory),
+    }
+}
+
+/// What the end of the text makes of what was read, where no quote is open.
+fn closed_by_end(text: &[u8], reader: Reader) -> Result<MapFile, MapFault>
+    ensures { result ≡ closed_by_end text.now None reader }
+{
+    if reader.place() != Place::Outside {
+        return Err(MapFault::EndInside {
+            line: last_line(text),
+        });
+    }
+    let map = reader.into_map();
+    if map.entities.is_empty() {
+        return Err(MapFault::NoEntity {
+            line: last_line(text),
+        });
+    }
+    Ok(map)
+}
+
+/// What the end of the text makes of what was read; a quote may be open on a line.
+fn ended(text: &[u8], unclosed: Option<u64>, reader: Reader) -> Result<MapFile, MapFault>
+    ensures { result ≡ ended text.now unclosed (Ok reader) }
+{
+    if text.len() > TEXT_LIMIT {
+        return Err(MapFault::TextTooLong {
+            line: line_at(text, TEXT_LIMIT),
+        });
+    }
+    match unclosed {
+        Some(line) => Err(MapFault::UnclosedQuote { line }),
+        None => closed_by_end(text, reader),
+    }
+}
+
+/// The line of a quote that is not closed.
+fn quote_line(fault: LexFault) -> u64
+    ensures { result ≡ fault_line fault }
+{
+    match fault {
+        LexFault::UnclosedQuote { line } => line,
+    }
+}
+
+/// The map that a text means, or its first fault.
+pub fn parse(alloc: Global, text: &[u8]) -> Result<MapFile, MapFault>
+    ensures computed { result ≢ Err MapFault.Memory → result ≡ meaning_of text.now }
+{
+    let mut lexer = Lexer::new(text);
+    let mut reader = Reader::new(alloc);
+    'tokens: loop {
+        match lexer.next() {
+            Ok(Some(token)) => {
+                if let Err(fault) = take(&mut reader, text, token) {
+                    return Err(fault);
+                }
+            }
+            Ok(None) => return ended(text, None, reader),
+            Err(fault) => return ended(text, Some(quote_line(fault)), reader),
+        }
+    }
+}

@@ -1,0 +1,125 @@
+-- A text of lines whose tokens can stand has exactly these tokens.
+use Rattle.std.proofs.Common.{◌≡◌, ◌≤◌, ℕ, List, [], ◌∷◌, ◌++◌, None, refl, sym, ap, subst, ◌∙◌, append_assoc, append-nil, flat_map, map, lit≤}
+use Rattle.std.specs.List.{AllByRecursion}
+use Rattle.std.proofs.lemmas.List.Concat.{flat_map-cons}
+use Rattle.std.proofs.lemmas.List.{map-append}
+use Rattle.qm_lex.specs.Lexing.{Lexing, IsLexingOf, lexing_from}
+use Rattle.qm_lex.specs.Piece.{ArePiecesOf}
+use Rattle.qm_grammar.specs.Symbol.{Symbol, symbol_of}
+use Rattle.qm_mapout.specs.Lines.{Line, spelling, spaced, line_text, text_of, symbols_of_line, symbols_of}
+use Rattle.qm_mapout.proofs.Lexed.{Gapped, IsGood, IsWritable, gapped_text, gapped_pieces, symbols_at, pieces_stand, lexed}
+
+space_behind : Symbol → Gapped
+space_behind symbol = record { symbol = symbol; gap = 32 }
+
+line_end_behind : Symbol → Gapped
+line_end_behind symbol = record { symbol = symbol; gap = 10 }
+
+gapped_line : Line → List Gapped
+gapped_line line = map space_behind line.front ++ line_end_behind line.last ∷ []
+
+gapped_lines : List Line → List Gapped
+gapped_lines lines = flat_map gapped_line lines
+
+gapped_text-append : (xs ys : List Gapped) → gapped_text (xs ++ ys) ≡ gapped_text xs ++ gapped_text ys
+unfolding gapped_text
+gapped_text-append [] ys = refl
+gapped_text-append (x ∷ xs) ys =
+    ap (λ t. (spelling x.symbol ++ x.gap ∷ []) ++ t) (gapped_text-append xs ys)
+    ∙ sym (append_assoc (spelling x.symbol ++ x.gap ∷ []) (gapped_text xs) (gapped_text ys))
+
+front_text : (front : List Symbol) → gapped_text (map space_behind front) ≡ flat_map spaced front
+unfolding gapped_text space_behind
+front_text [] = refl
+front_text (symbol ∷ symbols) =
+    ap (λ t. spaced symbol ++ t) (front_text symbols) ∙ sym (flat_map-cons spaced symbol symbols)
+
+line_gapped : (line : Line) → gapped_text (gapped_line line) ≡ line_text line
+unfolding gapped_line gapped_text line_end_behind line_text
+line_gapped line =
+    gapped_text-append (map space_behind line.front) (line_end_behind line.last ∷ [])
+    ∙ ap (λ t. t ++ ((spelling line.last ++ 10 ∷ []) ++ [])) (front_text line.front)
+    ∙ ap (λ t. flat_map spaced line.front ++ t) (append-nil (spelling line.last ++ 10 ∷ []))
+
+lines_gapped : (lines : List Line) → gapped_text (gapped_lines lines) ≡ text_of lines
+unfolding gapped_lines gapped_text
+lines_gapped [] = refl
+lines_gapped (line ∷ lines) =
+    ap gapped_text (flat_map-cons gapped_line line lines)
+    ∙ gapped_text-append (gapped_line line) (flat_map gapped_line lines)
+    ∙ ap (λ t. t ++ gapped_text (flat_map gapped_line lines)) (line_gapped line)
+    ∙ ap (λ t. line_text line ++ t) (lines_gapped lines)
+    ∙ sym (flat_map-cons line_text line lines)
+
+front_symbols : (front : List Symbol) → map (λ g. g.symbol) (map space_behind front) ≡ front
+unfolding space_behind
+front_symbols [] = refl
+front_symbols (symbol ∷ symbols) = ap (λ ss. symbol ∷ ss) (front_symbols symbols)
+
+line_symbols : (line : Line) → map (λ g. g.symbol) (gapped_line line) ≡ symbols_of_line line
+unfolding gapped_line line_end_behind
+line_symbols line =
+    map-append (λ g. g.symbol) (map space_behind line.front) (line_end_behind line.last ∷ [])
+    ∙ ap (λ ss. ss ++ line.last ∷ []) (front_symbols line.front)
+
+lines_symbols : (lines : List Line) → map (λ g. g.symbol) (gapped_lines lines) ≡ symbols_of lines
+unfolding gapped_lines
+lines_symbols [] = refl
+lines_symbols (line ∷ lines) =
+    ap (map (λ g. g.symbol)) (flat_map-cons gapped_line line lines)
+    ∙ map-append (λ g. g.symbol) (gapped_line line) (flat_map gapped_line lines)
+    ∙ ap (λ t. t ++ map (λ g. g.symbol) (flat_map gapped_line lines)) (line_symbols line)
+    ∙ ap (λ t. symbols_of_line line ++ t) (lines_symbols lines)
+    ∙ sym (flat_map-cons symbols_of_line line lines)
+
+pub all-append : {X : Type 0} (P : X → Type 0) (xs ys : List X) → AllByRecursion P xs → AllByRecursion P ys → AllByRecursion P (xs ++ ys)
+all-append P [] ys first second = second
+all-append P (x ∷ xs) ys first second = (first.0, all-append P xs ys first.1 second)
+
+pub all-append_parts : {X : Type 0} (P : X → Type 0) (xs ys : List X) → AllByRecursion P (xs ++ ys) → AllByRecursion P xs × AllByRecursion P ys
+all-append_parts P [] ys all = (tt, all)
+all-append_parts P (x ∷ xs) ys all =
+    let rest = all-append_parts P xs ys all.1 in ((all.0, rest.0), rest.1)
+
+front_good : (front : List Symbol) → AllByRecursion IsWritable front → AllByRecursion IsGood (map space_behind front)
+unfolding space_behind
+front_good [] all = tt
+front_good (symbol ∷ symbols) all = (record { writable = all.0; parts = lit≤ tt }, front_good symbols all.1)
+
+line_good : (line : Line) → AllByRecursion IsWritable (symbols_of_line line) → AllByRecursion IsGood (gapped_line line)
+unfolding gapped_line line_end_behind
+line_good line all =
+    let parts = all-append_parts IsWritable line.front (line.last ∷ []) all in
+    all-append IsGood (map space_behind line.front) (line_end_behind line.last ∷ []) (front_good line.front parts.0)
+      (record { writable = parts.1.0; parts = lit≤ tt }, tt)
+
+-- each token of the line can stand
+abbrev pub IsWritableLine : Line → Type 0
+IsWritableLine line = AllByRecursion IsWritable (symbols_of_line line)
+
+lines_good : (lines : List Line) → AllByRecursion IsWritableLine lines → AllByRecursion IsGood (gapped_lines lines)
+unfolding gapped_lines
+lines_good [] all = tt
+lines_good (line ∷ lines) all =
+    let P : List Gapped → Type 0 = AllByRecursion IsGood in
+    subst P (sym (flat_map-cons gapped_line line lines))
+      (all-append IsGood (gapped_line line) (flat_map gapped_line lines) (line_good line all.0) (lines_good lines all.1))
+
+-- what the text of lines gives
+pub record IsLexedAs (text : List ℕ) (symbols : List Symbol) : Type 0 where
+  pub lexing : Lexing
+  pub is_lexing : IsLexingOf text lexing
+  pub closed : lexing.unclosed_line ≡ None
+  pub symbols_are : map symbol_of lexing.lexemes ≡ symbols
+
+pub lines_lexed : (lines : List Line) → AllByRecursion IsWritableLine lines → IsLexedAs (text_of lines) (symbols_of lines)
+unfolding symbols_at
+lines_lexed lines all =
+    let gs = gapped_lines lines in
+    let stand = pieces_stand gs (lines_good lines all) in
+    let found = lexed gs 0 1 in
+    record {
+      lexing = lexing_from 0 1 (gapped_pieces gs);
+      is_lexing = (gapped_pieces gs, subst (λ t. ArePiecesOf t (gapped_pieces gs)) (lines_gapped lines) stand, refl);
+      closed = found.1;
+      symbols_are = found.0 ∙ lines_symbols lines }

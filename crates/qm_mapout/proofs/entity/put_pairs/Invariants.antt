@@ -1,0 +1,7 @@
+use Rattle.std.proofs.Common.{◌≡◌, ◌++◌, flat_map, map, take}
+use Rattle.qm_mapout.specs.Lines.{spaced, text_of}
+use Rattle.qm_mapout.specs.Printed.{word, pair_line, face_line, brush_lines, entity_lines}
+use Rattle.qm_mapout.proofs.entity.put_pairs.Given as goal
+
+abbrev pub invariant-loop-pair : goal.invariant-loop-pair
+invariant-loop-pair l = l.out.items ≡ l.fn.out.items ++ text_of (map pair_line (take l.pair-index l.pairs))
