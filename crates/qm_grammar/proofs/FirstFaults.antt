@@ -1,19 +1,17 @@
 -- Which tokens of a text are refused, and when a fault that stands is the first.
-use Rattle.std.proofs.Common.{◌≡◌, ◌≢◌, ℕ, ◌+◌, ◌<◌, ◌≤◌, ◌⊎◌, List, [], ◌∷◌, ◌++◌, length, map, Option, Some, None, Result, Ok, Err, inl, inr, ⊎_elim, refl, sym, ap, ap₂, subst, ◌∙◌, arith, le_of_eq}
+use Rattle.std.proofs.Common.{◌≡◌, ℕ, ◌+◌, ◌<◌, ◌≤◌, List, [], length, map, Ok, Err, inl, inr, ⊎_elim, refl, ap, ap₂, arith, le_of_eq}
 use Rattle.std.proofs.lemmas.Bool.{cases_lt}
 use Rattle.qm_lex.specs.Lexeme.{Lexeme}
 use Rattle.qm_lex.specs.Lexing.{Lexing, IsLexingOf}
-use Rattle.qm_mapfile.specs.declared.entity.Entity.{Entity}
-use Rattle.qm_grammar.specs.declared.place.Place.TheVariants as place
 use Rattle.qm_grammar.specs.declared.refusal.Refusal.{Refusal}
 use Rattle.qm_grammar.specs.declared.refusal.Refusal.TheVariants as refusal
 use Rattle.qm_grammar.specs.declared.fault.MapFault.{MapFault}
 use Rattle.qm_grammar.specs.declared.fault.MapFault.TheVariants as fault
-use Rattle.qm_grammar.specs.Symbol.{Symbol, symbol_of}
+use Rattle.qm_grammar.specs.Symbol.{symbol_of}
 use Rattle.qm_grammar.specs.Front.{Front, outside, IsFront}
-use Rattle.qm_grammar.specs.Faults.{text_limit, end_of, fault_of, Rank, of_length, of_content, of_sort, of_end, rank_number, rank_of, IsRefused, EndsInside, Stands, too_long, refused, unclosed, end_inside, no_entity, ComesFirst, IsFirstFault}
+use Rattle.qm_grammar.specs.Faults.{text_limit, end_of, fault_of, Rank, of_length, of_end, rank_number, rank_of, IsRefused, EndsInside, Stands, too_long, refused, unclosed, end_inside, no_entity, ComesFirst, IsFirstFault}
 use Rattle.qm_grammar.specs.Machine.{steps, runs}
-use Rattle.qm_grammar.proofs.Runs.{not_both, same_ok, same_err, IsFirstRefused, steps_first, first_steps, runs_steps, steps_runs}
+use Rattle.qm_grammar.proofs.Runs.{not_both, same_ok, same_err, IsFirstRefused, steps_first, first_steps, runs_steps}
 use Rattle.qm_grammar.proofs.FrontRuns.{front_runs}
 use Rattle.qm_grammar.proofs.FrontReads.{runs_front}
 use Rattle.qm_grammar.proofs.Refused.{step_refused}

@@ -1,9 +1,9 @@
 -- A text has one lexing, and its lexemes stand in it.
-use Rattle.std.proofs.Common.{◌≡◌, ℕ, ◌+◌, ◌<◌, ◌≤◌, List, [], ◌∷◌, ◌++◌, length, get_or, refl, sym, ap, subst, ◌∙◌, length-append, arith}
+use Rattle.std.proofs.Common.{◌≡◌, ℕ, ◌<◌, ◌≤◌, List, ◌∷◌, ◌++◌, length, refl, sym, subst, ◌∙◌, length-append, arith}
 use Rattle.std.specs.Prelude.{All}
 use Rattle.std.proofs.lemmas.List.{get_or_at}
 use Rattle.qm_lex.specs.Lexeme.{Lexeme, StandsIn}
-use Rattle.qm_lex.specs.Lexing.{Lexing, IsLexingOf, lexing_from}
+use Rattle.qm_lex.specs.Lexing.{Lexing, IsLexingOf}
 use Rattle.qm_lex.specs.Modes.{between, read}
 use Rattle.qm_lex.proofs.Cutting.{pieces_of}
 use Rattle.qm_lex.proofs.PieceRuns.{read_pieces}

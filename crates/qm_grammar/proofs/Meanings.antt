@@ -1,5 +1,5 @@
 -- What the machine makes of a text is what the text means, and nothing else is.
-use Rattle.std.proofs.Common.{◌≡◌, ◌≢◌, ℕ, ◌+◌, ◌<◌, ◌≤◌, Bool, true, false, ◌==◌, nat_lt, List, [], ◌∷◌, ◌++◌, length, map, Option, Some, None, Result, Ok, Err, refl, sym, ap, subst, ◌∙◌, arith, if◌then◌else◌}
+use Rattle.std.proofs.Common.{◌≡◌, ◌≢◌, ℕ, ◌+◌, ◌<◌, ◌≤◌, Bool, true, false, ◌==◌, nat_lt, List, [], ◌∷◌, length, map, Option, Some, None, Result, Ok, Err, refl, sym, ap, subst, ◌∙◌, arith, if◌then◌else◌}
 use Rattle.std.proofs.lemmas.Bool.{ltb-true, ltb-false, eqb-true, both_ways, eq-eqb}
 use Rattle.std.proofs.lemmas.List.{nil_from_length}
 use Rattle.qm_lex.specs.Lexeme.{Lexeme}
@@ -16,9 +16,8 @@ use Rattle.qm_grammar.specs.Grammar.{SpellsEntities, none, more, SpellsMap}
 use Rattle.qm_grammar.specs.Front.{Front, outside, IsFront, outside_front, entity_front, key_front, brush_front, face_front, IsOutside}
 use Rattle.qm_grammar.specs.Faults.{text_limit, line_at, last_line, end_of, fault_of, Rank, of_length, of_end, rank_of, ComesFirst, IsRefused, Stands, too_long, refused, unclosed, end_inside, no_entity, IsFirstFault}
 use Rattle.qm_grammar.specs.Meaning.{IsMapText, IsFaultText, Means}
-use Rattle.qm_grammar.specs.Machine.{steps, runs, closed_by_end, refused_at, ended, meaning_of}
-use Rattle.qm_grammar.proofs.Runs.{same_ok, steps_runs, runs_steps}
-use Rattle.qm_grammar.proofs.FrontRuns.{front_runs}
+use Rattle.qm_grammar.specs.Machine.{steps, closed_by_end, ended, meaning_of}
+use Rattle.qm_grammar.proofs.Runs.{same_ok, steps_runs}
 use Rattle.qm_grammar.proofs.FrontReads.{runs_front}
 use Rattle.qm_grammar.proofs.Lexings.{read_lexing, one_lexing, ends_within}
 use Rattle.qm_grammar.proofs.FirstFaults.{steps_refused, front_steps, one_refused, none_refused, long_first, token_first, end_first, one_first_fault}
@@ -46,8 +45,8 @@ module _ (text : List ℕ) (lexing : Lexing) (is : IsLexingOf text lexing) where
       let long : text_limit < length text = omega arith in
       fault_text (text_limit + 1) of_length (fault.TextTooLong (line_at text text_limit)) (too_long long)
       (long_first text lexing long (λ other why again.
-          let same = one_refused lexing.lexemes token other reason why refuses again in
-          subst (λ (t : Lexeme). text_limit < end_of t) same.0 past))
+      let same = one_refused lexing.lexemes token other reason why refuses again in
+      subst (λ (t : Lexeme). text_limit < end_of t) same.0 past))
   refused_means token reason refuses false early =
       fault_text (end_of token) (rank_of reason) (fault_of reason token.line) (refused refuses)
       (token_first text lexing is token reason refuses (ltb-false text_limit (end_of token) early))

@@ -1,11 +1,11 @@
 -- A token that is refused stands in the table with its reason.
-use Rattle.std.proofs.Common.{◌≡◌, ◌≢◌, ℕ, Bool, true, false, not, ◌&&◌, ◌==◌, ℤ, List, [], ◌∷◌, length, Option, Some, None, is_none, IsNone, bytes_eq, Result, Ok, Err, refl, sym, ap, subst, ◌∙◌}
+use Rattle.std.proofs.Common.{◌≡◌, ◌≢◌, Bool, true, false, not, ◌&&◌, ◌==◌, ℤ, List, [], ◌∷◌, length, Option, Some, None, is_none, IsNone, bytes_eq, Result, Ok, Err, refl, sym, ap, subst, ◌∙◌}
 use Rattle.std.proofs.lemmas.Bool.{and_parts, not-true, both_ways, eq-eqb, eqb-true}
 use Rattle.std.proofs.lemmas.List.{nil_from_length}
 use Rattle.std.proofs.lemmas.Slice.Eq.{bytes_eq-Decides}
 use Rattle.qm_mapfile.specs.declared.entity.Entity.{Entity}
 use Rattle.qm_grammar.specs.declared.mark.Mark.{Mark}
-use Rattle.qm_grammar.specs.declared.mark.Mark.TheVariants.{OpenBrace, CloseBrace, OpenParenthesis, CloseParenthesis, OpenBracket, CloseBracket}
+use Rattle.qm_grammar.specs.declared.mark.Mark.TheVariants.{OpenBrace, CloseBrace, OpenParenthesis, CloseParenthesis, OpenBracket}
 use Rattle.qm_grammar.specs.declared.mark.Sort.{Sort}
 use Rattle.qm_grammar.specs.declared.mark.Sort.TheVariants as sort
 use Rattle.qm_grammar.specs.declared.slot.Slot.{Slot}

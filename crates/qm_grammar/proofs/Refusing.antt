@@ -1,11 +1,11 @@
 -- A token that stands in the table with a reason is refused for it, and no token stands there with two.
-use Rattle.std.proofs.Common.{◌≡◌, ◌≢◌, ℕ, Bool, true, false, not, ◌&&◌, ◌==◌, ℤ, List, [], ◌∷◌, length, Option, Some, None, is_none, bytes_eq, Result, Ok, Err, refl, sym, ap, subst, ◌∙◌}
+use Rattle.std.proofs.Common.{◌≡◌, ℕ, true, not, ◌&&◌, ◌==◌, ℤ, List, [], ◌∷◌, length, is_none, bytes_eq, Result, Err, refl, ap, subst, ◌∙◌}
 use Rattle.std.proofs.lemmas.Bool.{and_from, not_from_false, eq-eqb, ne_eqb, true_from_ne_false, false_from_ne_true}
 use Rattle.std.proofs.lemmas.List.{nil_from_length}
 use Rattle.std.proofs.lemmas.Slice.Eq.{bytes_eq-Decides}
 use Rattle.qm_mapfile.specs.Face.{SpanPlane}
 use Rattle.qm_grammar.specs.declared.mark.Mark.{Mark}
-use Rattle.qm_grammar.specs.declared.mark.Mark.TheVariants.{OpenBrace, CloseBrace, OpenParenthesis, CloseParenthesis, OpenBracket, CloseBracket}
+use Rattle.qm_grammar.specs.declared.mark.Mark.TheVariants.{OpenBrace, CloseBrace, OpenParenthesis, CloseParenthesis, OpenBracket}
 use Rattle.qm_grammar.specs.declared.mark.Sort.{Sort}
 use Rattle.qm_grammar.specs.declared.mark.Sort.TheVariants as sort
 use Rattle.qm_grammar.specs.declared.slot.Slot.{Slot}
@@ -19,14 +19,14 @@ use Rattle.qm_grammar.specs.Origin.{origin_key, value_of, IsOriginText}
 use Rattle.qm_grammar.specs.Slots.{points_of}
 use Rattle.qm_grammar.specs.Front.{Front}
 use Rattle.qm_grammar.specs.Table.{Allows, entity_opens, key, brush_opens, entity_closes, value, face_begins, brush_closes, mark, coordinate, texture, quoted_texture, word_of_mapping, axis_opens, word, IsAtCoordinate, ClosesThirdPoint, IsOriginValue, ClosesEmptyBrush, Refuses, unexpected, bad_number, fraction, huge, out_of_range, no_normal, no_faces, bad_origin}
-use Rattle.qm_grammar.specs.Machine.{is_same_mark, coordinate_of, origin_of, is_bad_origin, span_plane, step, step_at, step_outside, step_entity, step_value, step_brush, step_face, step_slot, step_mark, with_number}
+use Rattle.qm_grammar.specs.Machine.{is_same_mark, origin_of, is_bad_origin, span_plane, step, step_at, step_outside, step_entity, step_value, step_brush, step_face, step_slot, step_mark, with_number}
 use Rattle.qm_grammar.proofs.Planes.{span_false}
 use Rattle.qm_grammar.proofs.Numbers.{IsBadCoordinate, bad_coordinate}
 use Rattle.qm_grammar.proofs.Numbers.{no_number, fraction, huge, outside}
 use Rattle.qm_grammar.proofs.OriginTexts.{some_origin}
-use Rattle.qm_grammar.proofs.FaceSteps.{same_mark, mark_same, is_flat}
+use Rattle.qm_grammar.proofs.FaceSteps.{mark_same, is_flat}
 use Rattle.qm_grammar.proofs.Runs.{same_err}
-use Rattle.qm_grammar.proofs.Refused.{absent_none, step_placed, allows_at}
+use Rattle.qm_grammar.proofs.Refused.{absent_none, step_placed}
 
 -- ---- tokens of a sort that no place allows
 

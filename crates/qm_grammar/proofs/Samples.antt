@@ -1,16 +1,11 @@
 -- Worked rows: what some short texts mean.
-use Rattle.std.proofs.Common.{◌≡◌, ℕ, ℤ, pos, List, [], ◌∷◌, codes, Result, Ok, Err, refl, subst}
-use Rattle.std.specs.Prelude.{Option}
+use Rattle.std.proofs.Common.{◌≡◌, ℕ, pos, List, [], ◌∷◌, codes, Ok, Err, refl, subst}
 use Rattle.qm_lex.specs.Modes.{read}
 use Rattle.qm_space.specs.ThreePoints.{outward_plane}
 use Rattle.qm_decimal.specs.Computed.{answer_of_parts, unsigned_at, read_at}
 use Rattle.qm_mapfile.specs.declared.face.Face.{Face}
 use Rattle.qm_mapfile.specs.declared.face.Mapping.TheVariants.{Standard}
-use Rattle.qm_mapfile.specs.declared.entity.Brush.{Brush}
-use Rattle.qm_mapfile.specs.declared.entity.Pair.{Pair}
-use Rattle.qm_mapfile.specs.declared.entity.Entity.{Entity}
 use Rattle.qm_mapfile.specs.declared.entity.MapFile.{MapFile}
-use Rattle.qm_grammar.specs.declared.fault.MapFault.{MapFault}
 use Rattle.qm_grammar.specs.declared.fault.MapFault.TheVariants as fault
 use Rattle.qm_grammar.specs.Symbol.{mark_of_byte, sort_of}
 use Rattle.qm_grammar.specs.Origin.{origin_key}

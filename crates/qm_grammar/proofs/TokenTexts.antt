@@ -1,5 +1,5 @@
 -- The bytes of a token are those of a word, or stand between two quotes; a text has at most as many tokens as bytes.
-use Rattle.std.proofs.Common.{◌≡◌, ◌≢◌, ℕ, ◌+◌, ◌<◌, ◌≤◌, suc, List, [], ◌∷◌, ◌++◌, length, map, take, drop, Option, Some, None, refl, sym, ap, subst, ◌∙◌, length-append, arith}
+use Rattle.std.proofs.Common.{◌≡◌, ◌≢◌, ℕ, ◌+◌, ◌<◌, ◌≤◌, List, [], ◌∷◌, ◌++◌, length, map, Option, Some, None, refl, sym, ap, subst, ◌∙◌, length-append, arith}
 use Rattle.std.specs.Prelude.{All, IfSome}
 use Rattle.std.proofs.lemmas.List.{take_at, drop_at, length-map}
 use Rattle.std.proofs.lemmas.List.Elements.{All-nil, All-cons, All-take, All-drop, All-map, All-contains}
@@ -9,7 +9,6 @@ use Rattle.qm_lex.specs.Lexeme.{Lexeme, line_ends}
 use Rattle.qm_lex.specs.Lexing.{Lexing, IsLexingOf, prepend, lexeme_at, lexing_from}
 use Rattle.qm_lex.specs.Piece.{Piece, blank, comment, word, quoted, unclosed, bytes_of, OpensWord, IsPiece, ArePiecesOf}
 use Rattle.qm_grammar.specs.declared.mark.Mark.{Mark}
-use Rattle.qm_grammar.specs.declared.mark.Sort.{Sort}
 use Rattle.qm_grammar.specs.declared.mark.Sort.TheVariants as sort
 use Rattle.qm_grammar.specs.Symbol.{Symbol, symbol_of, mark_of, word_sort, sort_by_kind, sort_of}
 use Rattle.qm_grammar.specs.Valid.{HasNoQuote, IsNameText}

@@ -1,5 +1,5 @@
 -- A face that is spelled is valid.
-use Rattle.std.proofs.Common.{◌≡◌, ◌≢◌, ℕ, ◌+◌, ◌<◌, ◌≤◌, suc, Bool, true, false, ◌&&◌, ◌==◌, ◌⊎◌, inl, inr, ℤ, List, [], ◌∷◌, ◌++◌, length, refl, sym, ap, subst, ◌∙◌, length-append, arith, if◌then◌else◌}
+use Rattle.std.proofs.Common.{◌≡◌, ℕ, ◌≤◌, Bool, true, false, ◌&&◌, ◌==◌, ◌⊎◌, inl, inr, ℤ, List, [], ◌∷◌, ◌++◌, length, refl, sym, subst, ◌∙◌, length-append, arith, if◌then◌else◌}
 use Rattle.std.specs.Prelude.{All}
 use Rattle.std.proofs.lemmas.Bool.{and_parts, eq-eqb, ne_eqb}
 use Rattle.std.proofs.lemmas.List.Elements.{All-nil, All-cons, All-head, All-tail, All-append}
@@ -79,9 +79,10 @@ of_three P a b c is_a is_b is_c = All-cons P a (b ∷ c ∷ []) is_a (All-cons P
 first_three : (a b c : ℤ) (rest : List ℤ) → All IsCoordinate (a ∷ b ∷ c ∷ rest) → AreCoordinates (a ∷ b ∷ c ∷ []) × All IsCoordinate rest
 first_three a b c rest all =
     let second = All-tail IsCoordinate a (b ∷ c ∷ rest) all in
-    let third = All-tail IsCoordinate b (c ∷ rest) second in
-    (of_three IsCoordinate a b c (All-head IsCoordinate a (b ∷ c ∷ rest) all) (All-head IsCoordinate b (c ∷ rest) second) (All-head IsCoordinate c rest third),
-    All-tail IsCoordinate c rest third)
+    let third = All-tail IsCoordinate b (c ∷ rest) second in (
+      of_three IsCoordinate a b c (All-head IsCoordinate a (b ∷ c ∷ rest) all) (All-head IsCoordinate b (c ∷ rest) second) (All-head IsCoordinate c rest third),
+      All-tail IsCoordinate c rest third,
+    )
 
 points_valid : (numbers : List ℤ) → length numbers ≡ 9 → All IsCoordinate numbers → ArePoints (points_of numbers)
 points_valid (a ∷ b ∷ c ∷ d ∷ e ∷ f ∷ g ∷ h ∷ i ∷ []) count all =
