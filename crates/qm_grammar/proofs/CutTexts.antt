@@ -1,5 +1,5 @@
 -- Texts with a common front that is longer than the limit mean the same, so no byte behind the front has to be read.
-use Rattle.std.proofs.Common.{◌≡◌, ◌<◌, ◌≤◌, ◌⊎◌, ℕ, ◌+◌, List, [], ◌∷◌, ◌++◌, Option, Some, None, Result, Ok, Err, length, take, drop, refl, sym, ap, subst, ◌∙◌, inl, inr, ⊎_elim, nat_lt, if◌then◌else◌, length-append, arith}
+use Rattle.std.proofs.Common.{◌≡◌, ◌<◌, ◌≤◌, ◌⊎◌, ℕ, ◌+◌, List, [], ◌∷◌, ◌++◌, Option, Some, None, Result, Ok, Err, length, take, drop, refl, sym, ap, subst, ◌∙◌, inl, inr, nat_lt, if◌then◌else◌, length-append, arith}
 use Rattle.std.specs.Prelude.{All}
 use Rattle.std.proofs.lemmas.Bool.{lt-ltb}
 use Rattle.std.proofs.lemmas.List.{take-append-drop, take-append-le, length-take-le}
@@ -47,15 +47,17 @@ prepended_alike at None front one other rest = rest front
 prepended_alike at (Some lexeme) front one other rest =
     by_result (step front (symbol_of lexeme))
     (λ next is. same_alike at (steps front (lexeme ∷ one.lexemes)) (steps front (lexeme ∷ other.lexemes)) (steps next one.lexemes) (steps next other.lexemes)
-        (steps_step front next lexeme one.lexemes is) (steps_step front next lexeme other.lexemes is) (rest next))
+    (steps_step front next lexeme one.lexemes is) (steps_step front next lexeme other.lexemes is) (rest next))
     (λ reason is. inl (steps_refused front lexeme one.lexemes reason is ∙ sym (steps_refused front lexeme other.lexemes reason is)))
 
 -- bytes with more behind them and without are read alike up to their end
 front_alike : (mode : Mode) (offset line : ℕ) (front : Front) (bytes more : List ℕ) (at : ℕ) → at ≤ offset + length bytes → AreAlike at (steps front (read mode offset line (bytes ++ more)).lexemes) (steps front (read mode offset line bytes).lexemes)
 unfolding read
 front_alike mode offset line front [] more at within =
-    inr (steps_late at front (read mode offset line more).lexemes (read_from mode offset line more at (omega arith)),
-        steps_late at front (read mode offset line []).lexemes (read_from mode offset line [] at (omega arith)))
+    inr (
+      steps_late at front (read mode offset line more).lexemes (read_from mode offset line more at (omega arith)),
+      steps_late at front (read mode offset line []).lexemes (read_from mode offset line [] at (omega arith)),
+    )
 front_alike mode offset line front (byte ∷ bytes) more at within =
     prepended_alike at (ended_by mode offset byte) front
     (read (mode_after mode offset line byte) (offset + 1) (line + line_ends (byte ∷ [])) (bytes ++ more))

@@ -1,10 +1,10 @@
 -- What is read from an offset on ends there or later.
-use Rattle.std.proofs.Common.{ℕ, ◌+◌, ◌≤◌, Bool, true, false, if◌then◌else◌, List, [], ◌∷◌, Option, Some, None, arith}
+use Rattle.std.proofs.Common.{ℕ, ◌+◌, ◌≤◌, Bool, true, false, if◌then◌else◌, List, [], ◌∷◌, Some, None, arith}
 use Rattle.std.specs.Prelude.{All, IfSome}
 use Rattle.std.proofs.lemmas.List.Elements.{All-nil, All-cons}
 use Rattle.qm_lex.specs.Lexeme.{Lexeme, line_ends}
-use Rattle.qm_lex.specs.Lexing.{Lexing, prepend}
 use Rattle.qm_lex.specs.Modes.{Mode, between, slash, in_comment, in_word, in_quote, mode_after, ended_by, at_end, read}
+use Rattle.qm_lex.proofs.Standing.{all_prepended}
 
 -- a lexeme ends at an offset or behind it
 abbrev pub EndsFrom : ℕ → Lexeme → Type 0
@@ -31,15 +31,10 @@ last_from in_comment offset at before = All-nil (EndsFrom at)
 last_from (in_word bytes start line) offset at before = All-cons (EndsFrom at) _ [] before (All-nil (EndsFrom at))
 last_from (in_quote bytes start line) offset at before = All-nil (EndsFrom at)
 
--- a lexeme, if there is one, before others
-prepended : (P : Lexeme → Type 0) (first : Option Lexeme) (rest : Lexing) → IfSome first P → All P rest.lexemes → All P (prepend first rest).lexemes
-prepended P None rest holds others = others
-prepended P (Some lexeme) rest holds others = All-cons P lexeme rest.lexemes holds others
-
 -- all that is read from an offset on ends there or later
 pub read_from : (mode : Mode) (offset line : ℕ) (bytes : List ℕ) (at : ℕ) → at ≤ offset → All (EndsFrom at) (read mode offset line bytes).lexemes
 unfolding read
 read_from mode offset line [] at before = last_from mode offset at before
 read_from mode offset line (byte ∷ bytes) at before =
-    prepended (EndsFrom at) (ended_by mode offset byte) (read (mode_after mode offset line byte) (offset + 1) (line + line_ends (byte ∷ [])) bytes) (ended_from mode offset byte at before)
+    all_prepended (EndsFrom at) (ended_by mode offset byte) (read (mode_after mode offset line byte) (offset + 1) (line + line_ends (byte ∷ [])) bytes) (ended_from mode offset byte at before)
     (read_from (mode_after mode offset line byte) (offset + 1) (line + line_ends (byte ∷ [])) bytes at (omega arith))
