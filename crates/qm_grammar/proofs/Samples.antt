@@ -1,11 +1,12 @@
 -- Worked rows: what some short texts mean.
-use Rattle.std.proofs.Common.{◌≡◌, ℕ, pos, List, [], ◌∷◌, codes, Ok, Err, refl, subst}
+use Rattle.std.proofs.Common.{◌≡◌, ℕ, pos, neg_ℤ, List, [], ◌∷◌, codes, Ok, Err, refl, subst}
 use Rattle.qm_lex.specs.Modes.{read}
 use Rattle.qm_space.specs.ThreePoints.{outward_plane}
 use Rattle.qm_decimal.specs.Computed.{answer_of_parts, unsigned_at, read_at}
 use Rattle.qm_mapfile.specs.declared.face.Face.{Face}
-use Rattle.qm_mapfile.specs.declared.face.Mapping.TheVariants.{Standard}
+use Rattle.qm_mapfile.specs.declared.face.Mapping.TheVariants.{Standard, Valve}
 use Rattle.qm_mapfile.specs.declared.entity.MapFile.{MapFile}
+use Rattle.qm_mapfile.specs.OneBrush.{one_brush}
 use Rattle.qm_grammar.specs.declared.fault.MapFault.TheVariants as fault
 use Rattle.qm_grammar.specs.Symbol.{mark_of_byte, sort_of}
 use Rattle.qm_grammar.specs.Origin.{origin_key}
@@ -39,6 +40,21 @@ sample_read = refl
 -- so texts of maps there are
 pub sample_means : IsMapText sample_text sample_map
 sample_means = subst (Means sample_text) sample_read (means_meaning sample_text)
+
+-- the mapping with two axes, a quoted texture, a comment, and numbers as an editor writes them
+pub axes_text : List ℕ
+axes_text = codes "// a room\n{ { ( 64.000 0 0 ) ( +64 1 0 ) ( 64 0 -1. ) \"a b\" [ 1 0 0 .5 ] [ 0 -1 0 0 ] 30 1 x{ } }"
+
+pub axes_face : Face
+axes_face = record {
+  points = (pos 64 ∷ pos 0 ∷ pos 0 ∷ []) ∷ (pos 64 ∷ pos 1 ∷ pos 0 ∷ []) ∷ (pos 64 ∷ pos 0 ∷ neg_ℤ (pos 1) ∷ []) ∷ [];
+  texture = codes "a b";
+  mapping = Valve (codes "1" ∷ codes "0" ∷ codes "0" ∷ codes ".5" ∷ codes "0" ∷ codes "-1" ∷ codes "0" ∷ codes "0" ∷ codes "30" ∷ codes "1" ∷ codes "x{" ∷ []);
+}
+
+axes_read : meaning_of axes_text ≡ Ok (one_brush (axes_face ∷ []))
+unfolding meaning_of step step_outside step_entity step_value step_brush step_slot step_mark is_bad_origin origin_of millionths_of span_plane outward_plane coordinate_of read_at unsigned_at answer_of_parts sort_of mark_of_byte origin_key read axes_text axes_face
+axes_read = refl
 
 -- ---- faults, each with its line
 

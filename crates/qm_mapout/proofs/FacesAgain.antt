@@ -1,6 +1,6 @@
 -- The line of a face spells the face.
-use Rattle.std.proofs.Common.{◌≡◌, ◌≢◌, ◌<◌, ◌≤◌, ◌⊎◌, ℕ, suc, ℤ, Bool, true, false, ◌||◌, nat_le, ◌==◌, if◌then◌else◌, List, [], ◌∷◌, ◌++◌, Option, Some, None, lit<, refl, sym, ap, subst, ◌∙◌, inl, inr, append_assoc, append-nil, arith, rules, length, flat_map, map, is_some}
-use Rattle.std.specs.Prelude.{All, Contains}
+use Rattle.std.proofs.Common.{◌≡◌, ◌≢◌, ◌<◌, ◌⊎◌, ℕ, suc, ℤ, Bool, true, false, ◌||◌, nat_le, ◌==◌, if◌then◌else◌, List, [], ◌∷◌, ◌++◌, Option, Some, None, lit<, refl, sym, ap, subst, ◌∙◌, inl, inr, append_assoc, append-nil, arith, rules, length, flat_map, is_some}
+use Rattle.std.specs.Prelude.{All}
 use Rattle.std.specs.List.{AllByRecursion, list_any}
 use Rattle.std.specs.Fmt.{signed_decimal}
 use Rattle.std.proofs.lemmas.List.Elements.{All-nil, All-cons, All-head, All-tail}
@@ -8,12 +8,10 @@ use Rattle.std.proofs.lemmas.List.{get_or_default}
 use Rattle.std.proofs.lemmas.Bool.{leb-false}
 use Rattle.std.proofs.lemmas.Bool.Decides.{eqb_tells}
 use Rattle.qm_space.specs.Point.{IsCoordinate, AreCoordinates}
-use Rattle.qm_lex.specs.declared.token.TokenKind.TheVariants as kind
 use Rattle.qm_lex.specs.Piece.{OpensWord}
 use Rattle.qm_mapfile.specs.declared.face.Face.{Face}
 use Rattle.qm_mapfile.specs.declared.face.Mapping.{Mapping}
 use Rattle.qm_mapfile.specs.declared.face.Mapping.TheVariants.{Standard, Valve}
-use Rattle.qm_mapfile.specs.Face.{SpanPlane}
 use Rattle.qm_grammar.specs.declared.mark.Mark.TheVariants.{OpenParenthesis, CloseParenthesis, OpenBracket, CloseBracket}
 use Rattle.qm_grammar.specs.declared.mark.Sort.TheVariants as sort
 use Rattle.qm_grammar.specs.declared.slot.Slot.{Slot}
@@ -23,11 +21,11 @@ use Rattle.qm_grammar.specs.Slots.{points_of, mapping_of, mapping_slots, head_sl
 use Rattle.qm_grammar.specs.Slots as slots
 use Rattle.qm_grammar.specs.Grammar.{SpellsFace}
 use Rattle.qm_grammar.specs.Valid.{IsNameText, HasNoQuote, HasWords, IsValidFace, words_of_mapping}
-use Rattle.qm_mapout.specs.Lines.{Line, symbols_of_line}
+use Rattle.qm_mapout.specs.Lines.{symbols_of_line}
 use Rattle.qm_mapout.specs.Printed.{word, quoted, number, open_parenthesis, close_parenthesis, open_bracket, close_bracket, point_symbols, needs_quotes, begins_comment, texture_symbol, axis_symbols, mapping_front, mapping_last, face_line}
 use Rattle.qm_mapout.proofs.Lexed.{IsWritable}
 use Rattle.qm_mapout.proofs.LinesLexed.{IsWritableLine, all-append}
-use Rattle.qm_mapout.proofs.Numbers.{IsNumberText, number_text}
+use Rattle.qm_mapout.proofs.Numbers.{number_text}
 
 -- symbols that fill slots and can be written
 pub record Stand (slots : List Slot) (symbols : List Symbol) (numbers : List ℤ) (texts : List (List ℕ)) : Type 0 where
@@ -47,7 +45,8 @@ pub join : {s t : List Slot} {xs ys : List Symbol} {ns ms : List ℤ} {ts us : L
     Stand s xs ns ts → Stand t ys ms us → Stand (s ++ t) (xs ++ ys) (ns ++ ms) (ts ++ us)
 join first second = record {
   fill = fill_join first.fill second.fill;
-  writable = all-append IsWritable _ _ first.writable second.writable }
+  writable = all-append IsWritable _ _ first.writable second.writable;
+}
 
 -- one symbol in one slot
 pub stand_one : {s : Slot} {x : Symbol} {n : List ℤ} {t : List (List ℕ)} → Fills s x n t → IsWritable x → Stand (s ∷ []) (x ∷ []) (n ++ []) (t ++ [])
@@ -116,7 +115,7 @@ no_blanks [] e = All-nil (λ byte. 32 < byte)
 no_blanks (byte ∷ bytes) e =
     let low : nat_le byte 32 ≡ false = or_left (nat_le byte 32) (list_any (λ b. nat_le b 32) bytes) e in
     All-cons (λ b. 32 < b) byte bytes (leb-false byte 32 low)
-      (no_blanks bytes (or_right (nat_le byte 32) (list_any (λ b. nat_le b 32) bytes) e))
+    (no_blanks bytes (or_right (nat_le byte 32) (list_any (λ b. nat_le b 32) bytes) e))
 
 visible_byte : (byte : ℕ) → 32 < byte → nat_le byte 32 ≡ false
 visible_byte byte high = search rules
@@ -132,8 +131,10 @@ not_comment (first ∷ []) opens = refl
 not_comment (first ∷ second ∷ others) opens = elim (eqb_tells first 47) [
   | inl same ↦ elim (eqb_tells second 47) [
     | inl both ↦ absurd (opens.1 same.1 both.1)
-    | inr other ↦ rw same.0 other.0 ]
-  | inr other ↦ rw other.0 refl ]
+    | inr other ↦ rw same.0 other.0
+  ]
+  | inr other ↦ rw other.0 refl
+]
 
 some_length : (n : ℕ) → (suc n == 0) ≡ false
 some_length n = search rules
@@ -167,17 +168,20 @@ plain_by_test name e =
       no_mark = none_by_test (mark_of name) (or_right (length name == 0 || blank || begins_comment name) (is_some (mark_of name)) e);
       some = λ h. elim (eqb_tells (length name) 0) [
         | inl same ↦ (let zero_test = same.0 in let no_zero = or_left (length name == 0) blank shorter in cc)
-        | inr other ↦ other.1 h ] }
+        | inr other ↦ other.1 h
+      ];
+    }
 
 opens_without_quote : (name : List ℕ) → IsPlainName name → HasNoQuote name → OpensWord name
 opens_without_quote [] plain no_quote = absurd (plain.some refl)
 opens_without_quote (first ∷ []) plain no_quote = λ e. no_quote (0, lit< tt, e)
-opens_without_quote (first ∷ second ∷ others) plain no_quote =
-    (λ e. no_quote (0, omega arith, e),
-     λ e f. let slashes : begins_comment (47 ∷ 47 ∷ others) ≡ false =
-                subst (λ b. begins_comment (47 ∷ b ∷ others) ≡ false) f
-                  (subst (λ a. begins_comment (a ∷ second ∷ others) ≡ false) e plain.no_comment) in
-            cc)
+opens_without_quote (first ∷ second ∷ others) plain no_quote = (
+  λ e. no_quote (0, omega arith, e),
+  λ e f. let slashes : begins_comment (47 ∷ 47 ∷ others) ≡ false =
+      subst (λ b. begins_comment (47 ∷ b ∷ others) ≡ false) f
+      (subst (λ a. begins_comment (a ∷ second ∷ others) ≡ false) e plain.no_comment) in
+      cc,
+)
 
 texture_opens : (name : List ℕ) → IsPlainName name → IsNameText name ⊎ HasNoQuote name → OpensWord name
 texture_opens name plain (inl valid) = valid.opens
@@ -232,10 +236,11 @@ unfolding point_symbols
 nine_again a b c d e f g h i first second third = record {
   numbers = a ∷ b ∷ c ∷ d ∷ e ∷ f ∷ g ∷ h ∷ i ∷ [];
   stand =
-    join (point_stand a b c (first 0 a (lit< tt)) (first 1 a (lit< tt)) (first 2 a (lit< tt)))
+      join (point_stand a b c (first 0 a (lit< tt)) (first 1 a (lit< tt)) (first 2 a (lit< tt)))
       (join (point_stand d e f (second 0 a (lit< tt)) (second 1 a (lit< tt)) (second 2 a (lit< tt)))
-        (point_stand g h i (third 0 a (lit< tt)) (third 1 a (lit< tt)) (third 2 a (lit< tt))));
-  same = refl }
+      (point_stand g h i (third 0 a (lit< tt)) (third 1 a (lit< tt)) (third 2 a (lit< tt))));
+  same = refl;
+}
 
 rows_again : (p q r : List ℤ) → Three p → Three q → Three r → All IsCoordinate p → All IsCoordinate q → All IsCoordinate r →
     PointsAgain (p ∷ q ∷ r ∷ [])
@@ -244,10 +249,10 @@ rows_again p q r first second third in_p in_q in_r =
     let p3 : List ℤ = first.a ∷ first.b ∷ first.c ∷ [] in
     let q3 : List ℤ = second.a ∷ second.b ∷ second.c ∷ [] in
     let nine = nine_again first.a first.b first.c second.a second.b second.c third.a third.b third.c
-      (subst Coordinates first.list in_p) (subst Coordinates second.list in_q) (subst Coordinates third.list in_r) in
+    (subst Coordinates first.list in_p) (subst Coordinates second.list in_q) (subst Coordinates third.list in_r) in
     subst (λ x. PointsAgain (x ∷ q ∷ r ∷ [])) (sym first.list)
-      (subst (λ y. PointsAgain (p3 ∷ y ∷ r ∷ [])) (sym second.list)
-        (subst (λ z. PointsAgain (p3 ∷ q3 ∷ z ∷ [])) (sym third.list) nine))
+    (subst (λ y. PointsAgain (p3 ∷ y ∷ r ∷ [])) (sym second.list)
+    (subst (λ z. PointsAgain (p3 ∷ q3 ∷ z ∷ [])) (sym third.list) nine))
 
 points_again : (points : List (List ℤ)) → length points ≡ 3 → All (λ p. length p ≡ 3) points → All AreCoordinates points → PointsAgain points
 points_again [] e triples coordinates = absurd (omega (arith, e))
@@ -255,7 +260,7 @@ points_again (p ∷ []) e triples coordinates = absurd (omega (arith, e))
 points_again (p ∷ q ∷ []) e triples coordinates = absurd (omega (arith, e))
 points_again (p ∷ q ∷ r ∷ []) e triples coordinates =
     rows_again p q r (three p (triples 0 p (lit< tt))) (three q (triples 1 p (lit< tt))) (three r (triples 2 p (lit< tt)))
-      (coordinates 0 p (lit< tt)) (coordinates 1 p (lit< tt)) (coordinates 2 p (lit< tt))
+    (coordinates 0 p (lit< tt)) (coordinates 1 p (lit< tt)) (coordinates 2 p (lit< tt))
 points_again (p ∷ q ∷ r ∷ t ∷ others) e triples coordinates = absurd (omega (arith, e))
 
 -- a mapping whose symbols stand
@@ -271,9 +276,10 @@ five_again a b c d e names = record {
   form = standard;
   texts = a ∷ b ∷ c ∷ d ∷ e ∷ [];
   stand =
-    join (word_stand a (names 0 a (lit< tt))) (join (word_stand b (names 1 a (lit< tt))) (join (word_stand c (names 2 a (lit< tt)))
+      join (word_stand a (names 0 a (lit< tt))) (join (word_stand b (names 1 a (lit< tt))) (join (word_stand c (names 2 a (lit< tt)))
       (join (word_stand d (names 3 a (lit< tt))) (word_stand e (names 4 a (lit< tt))))));
-  same = refl }
+  same = refl;
+}
 
 eleven_again : (a b c d e f g h i j k : List ℕ) → All IsNameText (a ∷ b ∷ c ∷ d ∷ e ∷ f ∷ g ∷ h ∷ i ∷ j ∷ k ∷ []) →
     MappingAgain (Valve (a ∷ b ∷ c ∷ d ∷ e ∷ f ∷ g ∷ h ∷ i ∷ j ∷ k ∷ []))
@@ -282,10 +288,11 @@ eleven_again a b c d e f g h i j k names = record {
   form = valve;
   texts = a ∷ b ∷ c ∷ d ∷ e ∷ f ∷ g ∷ h ∷ i ∷ j ∷ k ∷ [];
   stand =
-    join (axis_stand a b c d (names 0 a (lit< tt)) (names 1 a (lit< tt)) (names 2 a (lit< tt)) (names 3 a (lit< tt)))
+      join (axis_stand a b c d (names 0 a (lit< tt)) (names 1 a (lit< tt)) (names 2 a (lit< tt)) (names 3 a (lit< tt)))
       (join (axis_stand e f g h (names 4 a (lit< tt)) (names 5 a (lit< tt)) (names 6 a (lit< tt)) (names 7 a (lit< tt)))
-        (join (word_stand i (names 8 a (lit< tt))) (join (word_stand j (names 9 a (lit< tt))) (word_stand k (names 10 a (lit< tt))))));
-  same = refl }
+      (join (word_stand i (names 8 a (lit< tt))) (join (word_stand j (names 9 a (lit< tt))) (word_stand k (names 10 a (lit< tt))))));
+  same = refl;
+}
 
 standard_again : (words : List (List ℕ)) → length words ≡ 5 → All IsNameText words → MappingAgain (Standard words)
 standard_again [] count names = absurd (omega (arith, count))
@@ -336,12 +343,14 @@ face_again face valid =
         numbers = points.numbers;
         texts = face.texture ∷ mapping.texts;
         filled =
-          (let P : List ℤ → Type 0 = λ ns. Fill (face_slots mapping.form) (front ++ (tail ++ last)) ns (face.texture ∷ mapping.texts) in
-           let Q : List Symbol → Type 0 = λ ss. Fill (face_slots mapping.form) ss points.numbers (face.texture ∷ mapping.texts) in
-           subst Q (sym same) (subst P (append-nil points.numbers) all.fill));
+            (let P : List ℤ → Type 0 = λ ns. Fill (face_slots mapping.form) (front ++ (tail ++ last)) ns (face.texture ∷ mapping.texts) in
+            let Q : List Symbol → Type 0 = λ ss. Fill (face_slots mapping.form) ss points.numbers (face.texture ∷ mapping.texts) in
+            subst Q (sym same) (subst P (append-nil points.numbers) all.fill));
         is_face =
-          (let with_points : List (List ℤ) → Face = λ ps. record { points = ps; texture = face.texture; mapping = face.mapping } in
-           let with_mapping : Mapping → Face = λ m. record { points = points_of points.numbers; texture = face.texture; mapping = m } in
-           ap with_points (sym points.same) ∙ ap with_mapping (sym mapping.same));
-        plane = valid.plane };
-      writable = subst (AllByRecursion IsWritable) (sym same) all.writable }
+            (let with_points : List (List ℤ) → Face = λ ps. record { points = ps; texture = face.texture; mapping = face.mapping } in
+            let with_mapping : Mapping → Face = λ m. record { points = points_of points.numbers; texture = face.texture; mapping = m } in
+            ap with_points (sym points.same) ∙ ap with_mapping (sym mapping.same));
+        plane = valid.plane;
+      };
+      writable = subst (AllByRecursion IsWritable) (sym same) all.writable;
+    }

@@ -1,16 +1,14 @@
 -- The tokens of a text of lines are those of its lines.
-use Rattle.std.proofs.Common.{◌≡◌, ◌≢◌, ◌<◌, ◌≤◌, ℕ, ◌+◌, List, [], ◌∷◌, ◌++◌, Option, None, refl, sym, ap, subst, ◌∙◌, append_assoc, flat_map, map, lit≤, length}
+use Rattle.std.proofs.Common.{◌≡◌, ◌≢◌, ◌<◌, ◌≤◌, ℕ, List, [], ◌∷◌, ◌++◌, None, refl, ap, append_assoc, map}
 use Rattle.std.specs.Prelude.{All}
 use Rattle.std.specs.List.{AllByRecursion}
-use Rattle.std.proofs.lemmas.Grind.{flat_map-append}
 use Rattle.qm_lex.specs.declared.token.TokenKind.{TokenKind}
 use Rattle.qm_lex.specs.declared.token.TokenKind.TheVariants as kind
-use Rattle.qm_lex.specs.Lexeme.{Lexeme, line_ends}
-use Rattle.qm_lex.specs.Lexing.{Lexing, lexing_from, IsLexingOf}
+use Rattle.qm_lex.specs.Lexing.{Lexing, lexing_from}
 use Rattle.qm_lex.specs.Piece.{Piece, blank, quoted, bytes_of, OpensWord, ArePiecesOf}
 use Rattle.qm_lex.specs.Piece as piece
 use Rattle.qm_grammar.specs.Symbol.{Symbol, symbol_of}
-use Rattle.qm_mapout.specs.Lines.{Line, spelled_as, spelling, spaced, line_text, text_of, symbols_of_line, symbols_of}
+use Rattle.qm_mapout.specs.Lines.{spelled_as, spelling}
 
 -- bytes that can stand as a token of this kind
 abbrev pub CanStand : TokenKind → List ℕ → Type 0

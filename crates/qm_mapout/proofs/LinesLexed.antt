@@ -1,5 +1,5 @@
 -- A text of lines whose tokens can stand has exactly these tokens.
-use Rattle.std.proofs.Common.{◌≡◌, ◌≤◌, ℕ, List, [], ◌∷◌, ◌++◌, None, refl, sym, ap, subst, ◌∙◌, append_assoc, append-nil, flat_map, map, lit≤}
+use Rattle.std.proofs.Common.{◌≡◌, ℕ, List, [], ◌∷◌, ◌++◌, None, refl, sym, ap, subst, ◌∙◌, append_assoc, append-nil, flat_map, map, lit≤}
 use Rattle.std.specs.List.{AllByRecursion}
 use Rattle.std.proofs.lemmas.List.Concat.{flat_map-cons}
 use Rattle.std.proofs.lemmas.List.{map-append}
@@ -91,7 +91,7 @@ unfolding gapped_line line_end_behind
 line_good line all =
     let parts = all-append_parts IsWritable line.front (line.last ∷ []) all in
     all-append IsGood (map space_behind line.front) (line_end_behind line.last ∷ []) (front_good line.front parts.0)
-      (record { writable = parts.1.0; parts = lit≤ tt }, tt)
+    (record { writable = parts.1.0; parts = lit≤ tt }, tt)
 
 -- each token of the line can stand
 abbrev pub IsWritableLine : Line → Type 0
@@ -103,7 +103,7 @@ lines_good [] all = tt
 lines_good (line ∷ lines) all =
     let P : List Gapped → Type 0 = AllByRecursion IsGood in
     subst P (sym (flat_map-cons gapped_line line lines))
-      (all-append IsGood (gapped_line line) (flat_map gapped_line lines) (line_good line all.0) (lines_good lines all.1))
+    (all-append IsGood (gapped_line line) (flat_map gapped_line lines) (line_good line all.0) (lines_good lines all.1))
 
 -- what the text of lines gives
 pub record IsLexedAs (text : List ℕ) (symbols : List Symbol) : Type 0 where
@@ -122,4 +122,5 @@ lines_lexed lines all =
       lexing = lexing_from 0 1 (gapped_pieces gs);
       is_lexing = (gapped_pieces gs, subst (λ t. ArePiecesOf t (gapped_pieces gs)) (lines_gapped lines) stand, refl);
       closed = found.1;
-      symbols_are = found.0 ∙ lines_symbols lines }
+      symbols_are = found.0 ∙ lines_symbols lines;
+    }

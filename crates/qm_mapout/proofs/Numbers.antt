@@ -1,16 +1,14 @@
 -- A coordinate in decimal digits is a word that spells this coordinate.
-use Rattle.std.proofs.Common.{◌≡◌, ◌≢◌, ◌<◌, ◌≤◌, ℕ, suc, ◌+◌, ◌*◌, ◌^◌, ℤ, pos, negsuc, neg_ℤ, ◌*ℤ◌, List, [], ◌∷◌, ◌++◌, Option, None, refl, sym, ap, subst, ◌∙◌, inl, inr, append-nil, arith, rules, length, drop, lit≤, Ok, unsigned_abs, decimal}
+use Rattle.std.proofs.Common.{◌≡◌, ◌<◌, ◌≤◌, ℕ, suc, ◌*◌, ℤ, pos, negsuc, neg_ℤ, List, [], ◌∷◌, ◌++◌, None, refl, sym, ap, ◌∙◌, inr, append-nil, arith, rules, length, lit≤, decimal}
 use Rattle.std.specs.Prelude.{All}
 use Rattle.std.specs.Fmt.{signed_decimal}
-use Rattle.std.specs.Char.{digit_value}
 use Rattle.std.specs.Str.Parse.{AllDigits, digits_value, IsNumeral}
 use Rattle.std.proofs.lemmas.Fmt.{decimal_is_IsNumeral}
-use Rattle.std.proofs.lemmas.Str.Parse.{digit_from_value, digit_at}
+use Rattle.std.proofs.lemmas.Str.Parse.{digit_from_value}
 use Rattle.std.proofs.lemmas.List.Elements.{All-nil, All-cons}
-use Rattle.std.proofs.lemmas.Grind.{common_steps}
 use Rattle.qm_space.specs.Point.{IsCoordinate}
 use Rattle.qm_space.proofs.PlanesThroughPoints.{coordinate_small}
-use Rattle.qm_decimal.specs.Number.{Number, Spells, missing, minus}
+use Rattle.qm_decimal.specs.Number.{Number, missing, minus}
 use Rattle.qm_decimal.specs.Answer.{IsValue}
 use Rattle.qm_lex.specs.Piece.{OpensWord}
 use Rattle.qm_grammar.specs.Symbol.{mark_of, mark_of_byte}
@@ -55,11 +53,13 @@ plain_value text n numeral value small =
       spelled = record {
         unsigned = text;
         signed_text = refl;
-        digits = record { tail = []; spelled = sym (append-nil text); whole_digits = numeral.1; ended = inr (refl, refl); decimal_digits = tt; some_digit = omega (arith, numeral.0) } };
+        digits = record { tail = []; spelled = sym (append-nil text); whole_digits = numeral.1; ended = inr (refl, refl); decimal_digits = tt; some_digit = omega (arith, numeral.0) };
+      };
       fine = All-nil (λ byte. byte ≡ 48);
       small = omega (arith, same, small);
       places_kept = refl;
-      value = ap (λ m. pos (m * 1)) (sym same) }
+      value = ap (λ m. pos (m * 1)) (sym same);
+    }
 
 minus_value : (text : List ℕ) (k : ℕ) → IsNumeral 10 text → digits_value 10 text ≡ suc k → suc k ≤ 4096 → IsValue (45 ∷ text) 0 (whole_fraction (negsuc k))
 minus_value text k numeral value small =
@@ -70,11 +70,13 @@ minus_value text k numeral value small =
       spelled = record {
         unsigned = text;
         signed_text = refl;
-        digits = record { tail = []; spelled = sym (append-nil text); whole_digits = numeral.1; ended = inr (refl, refl); decimal_digits = tt; some_digit = omega (arith, numeral.0) } };
+        digits = record { tail = []; spelled = sym (append-nil text); whole_digits = numeral.1; ended = inr (refl, refl); decimal_digits = tt; some_digit = omega (arith, numeral.0) };
+      };
       fine = All-nil (λ byte. byte ≡ 48);
       small = omega (arith, same, small);
       places_kept = refl;
-      value = ap (λ m. neg_ℤ (pos (m * 1))) (sym same) }
+      value = ap (λ m. neg_ℤ (pos (m * 1))) (sym same);
+    }
 
 -- what is true of the decimal digits of a coordinate
 pub record IsNumberText (text : List ℕ) (n : ℤ) : Type 0 where
@@ -90,7 +92,8 @@ plain_number n range small =
       spelled = record { spelled = plain_value (decimal n) n numeral.0 numeral.1 small; in_range = range };
       no_mark = digits_no_mark (decimal n) numeral.0.1;
       opens = digits_open (decimal n) numeral.0.0 numeral.0.1;
-      visible = digits_visible (decimal n) numeral.0.1 }
+      visible = digits_visible (decimal n) numeral.0.1;
+    }
 
 minus_number : (k : ℕ) → IsCoordinate (negsuc k) → suc k ≤ 4096 → IsNumberText (45 ∷ decimal (suc k)) (negsuc k)
 minus_number k range small =
@@ -99,7 +102,8 @@ minus_number k range small =
       spelled = record { spelled = minus_value (decimal (suc k)) k numeral.0 numeral.1 small; in_range = range };
       no_mark = signed_no_mark (decimal (suc k)) numeral.0.0;
       opens = minus_opens (decimal (suc k));
-      visible = All-cons (λ byte. 32 < byte) 45 (decimal (suc k)) (lit≤ tt) (digits_visible (decimal (suc k)) numeral.0.1) }
+      visible = All-cons (λ byte. 32 < byte) 45 (decimal (suc k)) (lit≤ tt) (digits_visible (decimal (suc k)) numeral.0.1);
+    }
 
 pub number_text : (n : ℤ) → IsCoordinate n → IsNumberText (signed_decimal n) n
 number_text (pos n) range = plain_number n range (coordinate_small (pos n) range)

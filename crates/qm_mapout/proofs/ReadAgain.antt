@@ -23,4 +23,6 @@ printed_means meant valid short =
       spelled = subst P (sym found.symbols_are) (record {
         entities = entities_spelled meant.entities valid.1;
         some = valid.0;
-        origins = valid.2 }) }
+        origins = valid.2;
+      });
+    }

@@ -78,7 +78,8 @@ mapping_last (Valve words) = word (slice_index_or words 10 [])
 unfoldable pub face_line : Face → Line
 face_line face = record {
   front = flat_map point_symbols face.points ++ texture_symbol face.texture ∷ mapping_front face.mapping;
-  last = mapping_last face.mapping }
+  last = mapping_last face.mapping;
+}
 
 abbrev pub brace_line : Symbol → Line
 brace_line brace = record { front = []; last = brace }

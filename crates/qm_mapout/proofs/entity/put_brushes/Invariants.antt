@@ -1,6 +1,6 @@
-use Rattle.std.proofs.Common.{◌≡◌, ◌++◌, flat_map, map, take}
-use Rattle.qm_mapout.specs.Lines.{spaced, text_of}
-use Rattle.qm_mapout.specs.Printed.{word, pair_line, face_line, brush_lines, entity_lines}
+use Rattle.std.proofs.Common.{◌≡◌, ◌++◌, flat_map, take}
+use Rattle.qm_mapout.specs.Lines.{text_of}
+use Rattle.qm_mapout.specs.Printed.{brush_lines}
 use Rattle.qm_mapout.proofs.entity.put_brushes.Given as goal
 
 abbrev pub invariant-loop-brush : goal.invariant-loop-brush

@@ -1,6 +1,6 @@
-use Rattle.std.proofs.Common.{◌≡◌, ◌++◌, flat_map, map, take}
-use Rattle.qm_mapout.specs.Lines.{spaced, text_of}
-use Rattle.qm_mapout.specs.Printed.{word, pair_line, face_line, brush_lines, entity_lines}
+use Rattle.std.proofs.Common.{◌≡◌, ◌++◌, map, take}
+use Rattle.qm_mapout.specs.Lines.{text_of}
+use Rattle.qm_mapout.specs.Printed.{pair_line}
 use Rattle.qm_mapout.proofs.entity.put_pairs.Given as goal
 
 abbrev pub invariant-loop-pair : goal.invariant-loop-pair

@@ -1,6 +1,6 @@
 use Rattle.std.proofs.Common.{◌≡◌, ◌++◌, flat_map, map, take}
-use Rattle.qm_mapout.specs.Lines.{spaced, text_of}
-use Rattle.qm_mapout.specs.Printed.{word, pair_line, face_line, brush_lines, entity_lines}
+use Rattle.qm_mapout.specs.Lines.{spaced}
+use Rattle.qm_mapout.specs.Printed.{word}
 use Rattle.qm_mapout.proofs.face.put_words.Given as goal
 
 abbrev pub invariant-loop-word : goal.invariant-loop-word
