@@ -2,3 +2,4 @@ pub mod ByteSteps
 pub mod PieceRuns
 pub mod Cutting
 pub mod Standing
+pub mod LaterTokens

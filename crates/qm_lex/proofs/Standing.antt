@@ -59,15 +59,16 @@ piece_stands text front rest offset line reached (quoted bytes) after joined =
     }
 piece_stands text front rest offset line reached (unclosed bytes) after joined = tt
 
-all_stand : (text : List ℕ) (first : Option Lexeme) (rest : Lexing) → IfSome first (StandsIn text) → All (StandsIn text) rest.lexemes → All (StandsIn text) (prepend first rest).lexemes
-all_stand text None rest stands others = others
-all_stand text (Some lexeme) rest stands others = All-cons (StandsIn text) lexeme rest.lexemes stands others
+-- a lexeme, if there is one, before others
+pub all_prepended : (P : Lexeme → Type 0) (first : Option Lexeme) (rest : Lexing) → IfSome first P → All P rest.lexemes → All P (prepend first rest).lexemes
+all_prepended P None rest holds others = others
+all_prepended P (Some lexeme) rest holds others = All-cons P lexeme rest.lexemes holds others
 
 stand_behind : (text front rest : List ℕ) (offset line : ℕ) → Reached text front rest offset line → (pieces : List Piece) → ArePiecesOf rest pieces → All (StandsIn text) (lexing_from offset line pieces).lexemes
 stand_behind text front rest offset line reached [] are = All-nil (StandsIn text)
 stand_behind text front rest offset line reached (unclosed bytes ∷ pieces) are = All-nil (StandsIn text)
 stand_behind text front rest offset line reached (piece ∷ pieces) (after, joined, is_piece, are) =
-    all_stand text (lexeme_at offset line piece) (lexing_from (offset + length (bytes_of piece)) (line + line_ends (bytes_of piece)) pieces)
+    all_prepended (StandsIn text) (lexeme_at offset line piece) (lexing_from (offset + length (bytes_of piece)) (line + line_ends (bytes_of piece)) pieces)
     (piece_stands text front rest offset line reached piece after joined)
     (stand_behind text (front ++ bytes_of piece) after (offset + length (bytes_of piece)) (line + line_ends (bytes_of piece)) (reached_next text front rest offset line reached (bytes_of piece) after joined) pieces are)
 
