@@ -6,7 +6,6 @@ use Rattle.qm_decimal.specs.Computed.{answer_of_parts, unsigned_at, read_at}
 use Rattle.qm_mapfile.specs.declared.face.Face.{Face}
 use Rattle.qm_mapfile.specs.declared.face.Mapping.TheVariants.{Standard, Valve}
 use Rattle.qm_mapfile.specs.declared.entity.MapFile.{MapFile}
-use Rattle.qm_mapfile.specs.OneBrush.{one_brush}
 use Rattle.qm_grammar.specs.declared.fault.MapFault.TheVariants as fault
 use Rattle.qm_grammar.specs.Symbol.{mark_of_byte, sort_of}
 use Rattle.qm_grammar.specs.Origin.{origin_key}
@@ -52,8 +51,13 @@ axes_face = record {
   mapping = Valve (codes "1" ∷ codes "0" ∷ codes "0" ∷ codes ".5" ∷ codes "0" ∷ codes "-1" ∷ codes "0" ∷ codes "0" ∷ codes "30" ∷ codes "1" ∷ codes "x{" ∷ []);
 }
 
-axes_read : meaning_of axes_text ≡ Ok (one_brush (axes_face ∷ []))
-unfolding meaning_of step step_outside step_entity step_value step_brush step_slot step_mark is_bad_origin origin_of millionths_of span_plane outward_plane coordinate_of read_at unsigned_at answer_of_parts sort_of mark_of_byte origin_key read axes_text axes_face
+pub axes_map : MapFile
+axes_map = record {
+  entities = (record { pairs = []; brushes = (record { faces = axes_face ∷ [] }) ∷ [] }) ∷ [];
+}
+
+axes_read : meaning_of axes_text ≡ Ok axes_map
+unfolding axes_map meaning_of step step_outside step_entity step_value step_brush step_slot step_mark is_bad_origin origin_of millionths_of span_plane outward_plane coordinate_of read_at unsigned_at answer_of_parts sort_of mark_of_byte origin_key read axes_text axes_face
 axes_read = refl
 
 -- ---- faults, each with its line
