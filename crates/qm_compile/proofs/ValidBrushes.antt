@@ -27,7 +27,7 @@ world_few (world ∷ others) k d within =
     omega (arith, of_world, sum_by-cons face_count world others)
 
 world_brush_valid : (entities : List Entity) → All IsValidEntity entities → All IsValidBrush (brushes_of_first entities)
-world_brush_valid [] valid k d within = absurd (omega arith)
+world_brush_valid [] valid = λ k d within. absurd (omega arith)
 world_brush_valid (world ∷ others) valid = (valid 0 world (omega arith)).brushes
 
 -- the brushes of the world have valid faces

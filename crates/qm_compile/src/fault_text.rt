@@ -8,6 +8,7 @@ use std::alloc::{AllocError, Global};
 
 /// The line that is printed of a fault: its number, the line of the text on which it stands, and what it
 /// is.
+#[tactic(auto, unfolding(crate::specs::FaultText::fault_text))]
 pub fn fault_text(alloc: Global, fault: MapFault) -> Result<String, AllocError>
     ensures { IfOk result (λ text. string_bytes text ≡ fault_text fault) }
 {

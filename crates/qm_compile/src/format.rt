@@ -39,9 +39,9 @@ fn brush_count(map: &MapFile) -> usize
     requires { brush_count map.now < 2 ^ 64 }
     ensures { result ≡ brush_count map.now }
 {
-    map.entities
-        .as_slice()
-        .iter()
-        .map(|entity| entity.brushes.len())
-        .sum()
+    let mut count = 0;
+    for entity in map.entities.as_slice() {
+        count += entity.brushes.len();
+    }
+    count
 }

@@ -1,0 +1,11 @@
+use Rattle.std.proofs.Common.{arith, refl, ◌∙◌}
+use Rattle.qm_compile.specs.Product.{IsProduct, file_for, report_of, Takes, IsTrueTo}
+use Rattle.qm_compile.proofs.ValidBrushes.{brush_count-few}
+use Rattle.qm_compile.proofs.format.format.Goals as goal
+
+pub counts-requires : goal.counts-requires
+counts-requires c = brush_count-few c.args.map.now c.requires
+
+pub returns : goal.returns
+unfolding file_for report_of Takes IsTrueTo
+returns c = record { takes = tt; is_file = ?; is_report = ?; is_true = ? }
