@@ -6,6 +6,8 @@ pub mod CompiledOne
 pub mod Counted
 pub mod DrawnBrushes
 pub mod KnownSides
+pub mod MadeTexts
+pub mod Outcomes
 pub mod Pieces
 pub mod ReadMeanings
 pub mod Reported

@@ -1,5 +1,4 @@
-use Rattle.std.proofs.Common.{arith, refl, ◌∙◌}
-use Rattle.qm_compile.specs.Product.{IsProduct, file_for, report_of, Takes, IsTrueTo}
+use Rattle.qm_compile.specs.Product.{file_for, report_of, Takes, IsTrueTo}
 use Rattle.qm_compile.proofs.ValidBrushes.{brush_count-few}
 use Rattle.qm_compile.proofs.format.format.Goals as goal
 
@@ -8,4 +7,9 @@ counts-requires c = brush_count-few c.args.map.now c.requires
 
 pub returns : goal.returns
 unfolding file_for report_of Takes IsTrueTo
-returns c = record { takes = tt; is_file = ?; is_report = ?; is_true = ? }
+returns c = record {
+  takes = tt;
+  is_file = rw c.new-file.ensures.items at c.in_ok-print.ensures.ok;
+  is_report = c.in_ok-report.ensures;
+  is_true = c.in_ok-print.ensures.read_again;
+}
