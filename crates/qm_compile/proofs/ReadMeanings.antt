@@ -33,9 +33,9 @@ pub text_means : (before : ShelfState) (map read : List ℕ) (meaning : Result M
 text_means before map read meaning is_read means =
     by_test before.tells
     (λ tells.
-      let whole = text_under before map in
-      let its : Means whole meaning = read_means whole meaning (subst (λ (text : List ℕ). Means text meaning) (is_read tells) means) in
-      record { text = whole; is_held = λ _. refl; means = its; only = λ other is. one_meaning whole other meaning is its })
+    let whole = text_under before map in
+    let its : Means whole meaning = read_means whole meaning (subst (λ (text : List ℕ). Means text meaning) (is_read tells) means) in
+    record { text = whole; is_held = λ _. refl; means = its; only = λ other is. one_meaning whole other meaning is its })
     (λ silent. record {
       text = read;
       is_held = λ tells. absurd (let e : true ≡ false = sym tells ∙ silent in cc);
