@@ -1,9 +1,9 @@
-use Rattle.std.proofs.Common.{◌≡◌, ◌≢◌, ℕ, List, Result, Ok, Err, sym, ap, subst}
+use Rattle.std.proofs.Common.{◌≡◌, ◌≢◌, ℕ, List, Result, Ok, Err, sym, subst}
 use Rattle.qm_mapfile.specs.declared.entity.MapFile.{MapFile}
 use Rattle.qm_grammar.specs.declared.fault.MapFault.{MapFault}
 use Rattle.qm_grammar.specs.declared.fault.MapFault.TheVariants as fault
 use Rattle.qm_grammar.specs.Machine.{meaning_of}
-use Rattle.qm_grammar.specs.Meaning.{Means, IsMapText, IsFaultText}
+use Rattle.qm_grammar.specs.Meaning.{IsMapText, IsFaultText}
 use Rattle.qm_compile.specs.declared.job.Job.{Job}
 use Rattle.qm_compile.specs.declared.made.Made.{Made}
 use Rattle.qm_compile.specs.declared.made.Made.TheVariants.{Product, Fault, NotBuilt}

@@ -1,12 +1,12 @@
-use Rattle.std.proofs.Common.{◌≡◌, ℕ, zero, suc, ◌+◌, ◌<◌, ◌≤◌, ◌^◌, List, [], ◌∷◌, length, get_or, All, refl, arith}
+use Rattle.std.proofs.Common.{◌≡◌, ℕ, zero, suc, ◌<◌, ◌≤◌, ◌^◌, List, [], ◌∷◌, length, get_or, All, refl, arith}
 use Rattle.std.specs.Prelude.{sum_by}
 use Rattle.std.proofs.lemmas.List.Sums.{sum_by-cons}
 use Rattle.qm_mapfile.specs.declared.face.Face.{Face}
 use Rattle.qm_mapfile.specs.declared.entity.Brush.{Brush}
 use Rattle.qm_mapfile.specs.declared.entity.Entity.{Entity}
 use Rattle.qm_mapfile.specs.declared.entity.MapFile.{MapFile}
-use Rattle.qm_grammar.specs.Valid.{IsValid, IsValidEntity, IsValidBrush, IsValidFace, face_count}
-use Rattle.qm_compile.specs.Brushes.{AreValidFaces, HasValidBrushes, world_brushes, brushes_of_first}
+use Rattle.qm_grammar.specs.Valid.{IsValid, IsValidEntity, IsValidBrush, face_count}
+use Rattle.qm_compile.specs.Brushes.{HasValidBrushes, brushes_of_first}
 use Rattle.qm_compile.specs.Product.{brush_count}
 
 -- What a valid map says of its brushes.

@@ -1,8 +1,4 @@
-use Rattle.std.proofs.Common.{◌≡◌, ◌≢◌, ◌∙◌, List, ℕ, Result, Ok, Err, sym, ap, subst}
 use Rattle.std.proofs.lemmas.Result.{IfOk-weaker}
-use Rattle.qm_mapfile.specs.declared.entity.MapFile.{MapFile}
-use Rattle.qm_grammar.specs.declared.fault.MapFault.{MapFault}
-use Rattle.qm_grammar.specs.Meaning.{Means, IsMapText, IsFaultText}
 use Rattle.qm_grammar.proofs.ValidMaps.{map_valid}
 use Rattle.qm_compile.proofs.MadeTexts.{map_answer, of_map, of_fault}
 use Rattle.qm_compile.proofs.make.make.Goals as goal

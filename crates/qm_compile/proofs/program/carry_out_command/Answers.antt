@@ -1,4 +1,4 @@
-use Rattle.std.proofs.Common.{◌∙◌, sym, ap, subst, List, ℕ, Ok, Err}
+use Rattle.std.proofs.Common.{sym, subst, List, ℕ, Ok, Err}
 use Rattle.qm_shelf.specs.Counts.{ShelfFaultCounted}
 use Rattle.qm_shelf.specs.declared.shelf.ShelfFault.{ShelfFault}
 use Rattle.qm_shelf.specs.declared.shelf.ShelfFault.TheVariants as shelf_fault
