@@ -69,7 +69,7 @@ not_flat numbers spans =
     (λ other. and_left (length numbers == 9) (not (span_plane (points_of numbers))) (ne_eqb (length numbers) 9 other))
     (cases_eq (length numbers) 9)
 
-flat_not : (numbers : List ℤ) → is_flat numbers ≡ false → length numbers ≡ 9 → SpanPlane (points_of numbers)
+pub flat_not : (numbers : List ℤ) → is_flat numbers ≡ false → length numbers ≡ 9 → SpanPlane (points_of numbers)
 flat_not numbers tested nine =
     ⊎_elim
     (λ other. absurd (both_ways (length numbers == 9) other (eq-eqb (length numbers) 9 nine)))
@@ -89,7 +89,7 @@ behind es ps bs fs ns ts [] = in_brush es ps bs (fs ++ face_of ns ts ∷ [])
 behind es ps bs fs ns ts (next ∷ others) = in_face es ps bs fs ns ts (next ∷ others)
 
 module _ (es : List Entity) (ps : List Pair) (bs : List Brush) (fs : List Face) where
-  left_behind : (ns : List ℤ) (ts : List (List ℕ)) (left others : List Slot) → with_left (in_face es ps bs fs ns ts left) others ≡ behind es ps bs fs ns ts others
+  pub left_behind : (ns : List ℤ) (ts : List (List ℕ)) (left others : List Slot) → with_left (in_face es ps bs fs ns ts left) others ≡ behind es ps bs fs ns ts others
   left_behind ns ts left [] = refl
   left_behind ns ts left (next ∷ others) = refl
 
