@@ -1,3 +1,4 @@
 pub mod NinePoints
 pub mod WordLaws
 pub mod Meanings
+pub mod Places
