@@ -1,5 +1,5 @@
 -- What is read in a face that is begun goes on with it, or ends it.
-use Rattle.std.proofs.Common.{◌≡◌, ◌≢◌, ℕ, ◌+◌, ◌<◌, ◌≤◌, zero, suc, Bool, true, false, ◌&&◌, ℤ, List, [], ◌∷◌, ◌++◌, length, get_or, drop, Ok, Err, refl, sym, ap, subst, ◌∙◌, ⊎_elim, append_assoc, append-nil, length-append, arith}
+use Rattle.std.proofs.Common.{◌≡◌, ◌≢◌, ℕ, ◌<◌, ◌≤◌, zero, suc, Bool, true, false, ◌&&◌, ℤ, List, [], ◌∷◌, ◌++◌, length, get_or, drop, Ok, refl, sym, ap, subst, ◌∙◌, ⊎_elim, append_assoc, append-nil, length-append, arith}
 use Rattle.std.proofs.lemmas.Bool.{and_parts, cases_eq}
 use Rattle.std.proofs.lemmas.List.{nil_from_length, get_or_at, get_or_append_left, drop_at, same_from_push}
 use Rattle.qm_mapfile.specs.declared.face.Face.{Face}
@@ -11,7 +11,7 @@ use Rattle.qm_grammar.specs.declared.mark.Mark.TheVariants.{CloseParenthesis}
 use Rattle.qm_grammar.specs.declared.slot.Slot.{Slot}
 use Rattle.qm_grammar.specs.declared.slot.Slot.TheVariants as slot
 use Rattle.qm_grammar.specs.Symbol.{Symbol}
-use Rattle.qm_grammar.specs.Slots.{Form, standard, valve, head_slots, mapping_slots, face_slots, Fill, points_of, face_of}
+use Rattle.qm_grammar.specs.Slots.{Form, standard, valve, head_slots, mapping_slots, face_slots, Fill, points_of}
 use Rattle.qm_grammar.specs.Grammar.{SpellsFace}
 use Rattle.qm_grammar.specs.Front.{Front, in_brush, in_face, IsBegunFace, in_head, in_mapping}
 use Rattle.qm_grammar.specs.Machine.{step}
@@ -74,9 +74,10 @@ closer_due : (filled more : List Slot) (one two : Slot) → filled ++ one ∷ (t
 closer_due filled more one two is count =
     let behind : one ∷ (two ∷ more) ≡ drop 14 (head_slots ++ slot.FirstOfMapping ∷ []) = sym (drop_at filled (one ∷ (two ∷ more)) 14 count) ∙ ap (drop 14) is in
     let none_behind : coordinates (one ∷ (two ∷ more)) ≡ 0 = ap coordinates behind in
-    let nine : coordinates (filled ++ one ∷ (two ∷ more)) ≡ 9 = ap coordinates is in
-    (slot_at filled (two ∷ more) (head_slots ++ slot.FirstOfMapping ∷ []) one 14 is count,
-    omega (arith, coordinates-append filled (one ∷ (two ∷ more))))
+    let nine : coordinates (filled ++ one ∷ (two ∷ more)) ≡ 9 = ap coordinates is in (
+      slot_at filled (two ∷ more) (head_slots ++ slot.FirstOfMapping ∷ []) one 14 is count,
+      omega (arith, coordinates-append filled (one ∷ (two ∷ more))),
+    )
 
 -- behind the fifteenth stands the texture
 texture_due : (filled more : List Slot) (one two : Slot) → filled ++ one ∷ (two ∷ more) ≡ head_slots ++ slot.FirstOfMapping ∷ [] → 15 ≤ length filled → one ≡ slot.Texture
@@ -88,11 +89,11 @@ head_spans : (filled more : List Slot) (one two : Slot) (ns number : List ℤ) �
 head_spans filled more one two ns number is count added here before beyond =
     ⊎_elim
     (λ fourteen.
-        let due = closer_due filled more one two is fourteen in
-        spans_on ns number (added ∙ ap takes due.0) (here due.0 (count ∙ due.1)))
+    let due = closer_due filled more one two is fourteen in
+    spans_on ns number (added ∙ ap takes due.0) (here due.0 (count ∙ due.1)))
     (λ other.
-        let past : 15 ≤ length filled = omega (arith, length-append filled (one ∷ [])) in
-        spans_on ns number (added ∙ ap takes (texture_due filled more one two is past)) (before past))
+    let past : 15 ≤ length filled = omega (arith, length-append filled (one ∷ [])) in
+    spans_on ns number (added ∙ ap takes (texture_due filled more one two is past)) (before past))
     (cases_eq (length filled) 14)
 
 -- ---- one more symbol

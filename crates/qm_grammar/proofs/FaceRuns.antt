@@ -1,8 +1,8 @@
 -- A face that is spelled, or begun, is read through.
-use Rattle.std.proofs.Common.{◌≡◌, ◌≢◌, ℕ, ◌+◌, ◌-◌, ◌<◌, ◌≤◌, suc, Bool, true, false, ◌&&◌, ◌||◌, ◌==◌, ℤ, List, [], ◌∷◌, ◌++◌, length, take, drop, Result, Ok, Err, refl, sym, ap, ap₂, subst, ◌∙◌, ⊎_elim, append_assoc, append-nil, length-append, arith}
+use Rattle.std.proofs.Common.{◌≡◌, ◌≢◌, ℕ, ◌+◌, ◌-◌, ◌≤◌, Bool, true, false, ◌&&◌, ◌||◌, ◌==◌, ℤ, List, [], ◌∷◌, ◌++◌, length, take, drop, Ok, refl, sym, ap, ap₂, subst, ◌∙◌, ⊎_elim, append_assoc, append-nil, length-append, arith}
 use Rattle.std.proofs.lemmas.Bool.{cases_lt, eq-eqb, or_left, or_right, or_parts, or_from, both_ways, and_from}
 use Rattle.std.proofs.Math.Seq.{take-append-add}
-use Rattle.std.proofs.lemmas.List.{nil_from_length, take-append-le, take_at, drop-append-le, drop_at, take-append-drop, drop_all}
+use Rattle.std.proofs.lemmas.List.{nil_from_length, take-append-le, take_at, drop-append-le, drop_at, take-append-drop}
 use Rattle.qm_mapfile.specs.declared.face.Face.{Face}
 use Rattle.qm_mapfile.specs.declared.entity.Brush.{Brush}
 use Rattle.qm_mapfile.specs.declared.entity.Pair.{Pair}
@@ -126,9 +126,9 @@ head_closes_well filled left numbers is count spans =
     let parts = coordinates-append filled left in
     record {
       spans = λ closed. ⊎_elim
-        (λ few. absurd (both_ways (closes 0 filled) (head_open filled left is (omega arith)) closed))
-        (λ beyond. spans beyond)
-        (cases_lt (length filled) 15);
+          (λ few. absurd (both_ways (closes 0 filled) (head_open filled left is (omega arith)) closed))
+          (λ beyond. spans beyond)
+          (cases_lt (length filled) 15);
       few = omega arith;
     }
 
@@ -196,7 +196,7 @@ module _ (es : List Entity) (ps : List Pair) (bs : List Brush) (fs : List Face) 
       runs_step (in_face es ps bs fs ns ts (slot.FirstOfMapping ∷ [])) mid symbol symbols'
       (first_step es ps bs fs form ns ts one (next ∷ (slots ++ left)) symbol number text (sym is) fills)
       ∙ fill_run (ns ++ number) (ts ++ text) left next slots symbols' numbers' texts' rest
-        (mapping_closes_well form ns number numbers' one (next ∷ slots) left few is (number_filled fills) (numbers_filled rest))
+      (mapping_closes_well form ns number numbers' one (next ∷ slots) left few is (number_filled fills) (numbers_filled rest))
       ∙ rw (append_assoc ns number numbers', append_assoc ts text texts') refl
 
   -- ---- the head

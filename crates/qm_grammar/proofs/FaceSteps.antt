@@ -1,5 +1,5 @@
 -- How one symbol of a face is read.
-use Rattle.std.proofs.Common.{◌≡◌, ◌≢◌, ℕ, ◌+◌, ◌≤◌, suc, Bool, true, false, not, ◌&&◌, ◌||◌, ◌==◌, ℤ, List, [], ◌∷◌, ◌++◌, length, Some, Result, Ok, Err, refl, sym, ap, subst, ◌∙◌, ⊎_elim, append-nil, arith, if◌then◌else◌}
+use Rattle.std.proofs.Common.{◌≡◌, ℕ, Bool, true, false, not, ◌&&◌, ◌==◌, ℤ, List, [], ◌∷◌, ◌++◌, length, Some, Ok, refl, sym, ap, ◌∙◌, ⊎_elim, append-nil}
 use Rattle.std.proofs.lemmas.Bool.{cases_eq, eq-eqb, ne_eqb, eqb-true, and_left, and_right, and_parts, and_cases, not_from_true, not-false, not-true, both_ways}
 use Rattle.qm_mapfile.specs.declared.face.Face.{Face}
 use Rattle.qm_mapfile.specs.declared.entity.Brush.{Brush}
@@ -12,15 +12,12 @@ use Rattle.qm_grammar.specs.declared.mark.Sort.{Sort}
 use Rattle.qm_grammar.specs.declared.mark.Sort.TheVariants as sort
 use Rattle.qm_grammar.specs.declared.slot.Slot.{Slot}
 use Rattle.qm_grammar.specs.declared.slot.Slot.TheVariants as slot
-use Rattle.qm_grammar.specs.declared.refusal.Refusal.{Refusal}
-use Rattle.qm_grammar.specs.declared.refusal.Refusal.TheVariants as refusal
 use Rattle.qm_grammar.specs.Symbol.{Symbol, sort_of, mark_of_byte}
 use Rattle.qm_grammar.specs.Slots.{Form, standard, valve, mapping_slots, Fills, mark, coordinate, texture, quoted_texture, word, points_of, face_of}
 use Rattle.qm_grammar.specs.Front.{Front, in_brush, in_face}
-use Rattle.qm_grammar.specs.Machine.{mark_byte, is_same_mark, coordinate_of, span_plane, step, step_at, step_slot, step_mark, with_left, with_number, with_text}
-use Rattle.qm_grammar.proofs.Runs.{by_result}
+use Rattle.qm_grammar.specs.Machine.{mark_byte, is_same_mark, span_plane, step, step_at, step_slot, step_mark, with_left}
 use Rattle.qm_grammar.proofs.Planes.{span_true, true_span, false_span}
-use Rattle.qm_grammar.proofs.Numbers.{spelled_coordinate, coordinate_spelled}
+use Rattle.qm_grammar.proofs.Numbers.{spelled_coordinate}
 
 -- a step goes by the place and the symbol's sort
 pub step_sorted : (front : Front) (symbol : Symbol) (s : Sort) → sort_of symbol ≡ s → step front symbol ≡ step_at front.place front s symbol.bytes

@@ -1,6 +1,6 @@
 -- What is read is a front of the grammar: each symbol leads from one front to the next.
-use Rattle.std.proofs.Common.{◌≡◌, ◌≢◌, ℕ, ◌≤◌, Bool, true, false, not, ◌&&◌, ◌==◌, ℤ, List, [], ◌∷◌, ◌++◌, length, IfSome, Option, Some, None, is_none, bytes_eq, Result, Ok, Err, refl, sym, ap, subst, ◌∙◌, ⊎_elim, append_assoc, append-nil, arith, if◌then◌else◌}
-use Rattle.std.proofs.lemmas.Bool.{cases_Bool, cases_eq, eq-eqb, ne_eqb, eqb-true, both_ways, and_from, and_cases, not-false, not_from_false, true_from_ne_false, false_from_ne_true}
+use Rattle.std.proofs.Common.{◌≡◌, ◌≢◌, ℕ, Bool, true, false, not, ◌&&◌, ◌==◌, ℤ, List, [], ◌∷◌, ◌++◌, length, IfSome, Option, Some, None, is_none, bytes_eq, Result, Ok, Err, refl, sym, ap, subst, ◌∙◌, ⊎_elim, append_assoc, append-nil, arith}
+use Rattle.std.proofs.lemmas.Bool.{cases_Bool, eq-eqb, ne_eqb, both_ways, and_from, and_cases, not_from_false}
 use Rattle.std.proofs.lemmas.List.{nil_from_length}
 use Rattle.qm_mapfile.specs.declared.face.Face.{Face}
 use Rattle.qm_mapfile.specs.declared.entity.Brush.{Brush}
@@ -15,8 +15,8 @@ use Rattle.qm_grammar.specs.declared.refusal.Refusal.{Refusal}
 use Rattle.qm_grammar.specs.declared.refusal.Refusal.TheVariants as refusal
 use Rattle.qm_grammar.specs.Symbol.{Symbol, sort_of}
 use Rattle.qm_grammar.specs.Slots.{mark, none, more}
-use Rattle.qm_grammar.specs.Origin.{origin_key, value_of, IsOriginText, HasGoodOrigin, OriginsAreGood}
-use Rattle.qm_grammar.specs.Grammar.{IsBraced, SpellsBrush, SpellsPair, SpellsParts, SpellsEntity, SpellsEntities}
+use Rattle.qm_grammar.specs.Origin.{origin_key, value_of, IsOriginText}
+use Rattle.qm_grammar.specs.Grammar.{SpellsBrush, SpellsEntity, SpellsEntities}
 use Rattle.qm_grammar.specs.Front.{Front, outside, in_entity, behind_key, in_brush, in_face, IsOutside, IsInEntity, IsInBrush, IsInFace, IsBehindKey, IsFront, outside_front, entity_front, key_front, brush_front, face_front, in_head}
 use Rattle.qm_grammar.specs.Machine.{step, step_at, step_outside, step_entity, step_value, step_brush, is_bad_origin, origin_of, runs, behind_first}
 use Rattle.qm_grammar.proofs.Runs.{by_result, runs_step, runs_refused, not_both}
@@ -52,10 +52,10 @@ unfolding is_bad_origin
 read_is_point es ps bs key value good some same absent =
     some_origin value (⊎_elim
     (λ before. absurd (both_ways (not (length es == 0) && bytes_eq key origin_key && is_none (value_of origin_key ps)) before
-        (and_from (not (length es == 0) && bytes_eq key origin_key) (is_none (value_of origin_key ps))
-        (and_from (not (length es == 0)) (bytes_eq key origin_key)
-        (not_from_false (length es == 0) (ne_eqb (length es) 0 (λ e. some (nil_from_length es e)))) same)
-        (ap is_none absent))))
+    (and_from (not (length es == 0) && bytes_eq key origin_key) (is_none (value_of origin_key ps))
+    (and_from (not (length es == 0)) (bytes_eq key origin_key)
+    (not_from_false (length es == 0) (ne_eqb (length es) 0 (λ e. some (nil_from_length es e)))) same)
+    (ap is_none absent))))
     (λ found. found)
     (and_cases (not (length es == 0) && bytes_eq key origin_key && is_none (value_of origin_key ps)) (is_none (origin_of value)) good))
 
@@ -64,13 +64,13 @@ good_pushed es ps bs key value good before some =
     let one : Pair = record { key = key; value = value } in
     by_option (value_of origin_key ps)
     (λ absent. subst (λ (o : Option (List ℕ)). IfSome o IsOriginText) (sym (value_next origin_key ps (one ∷ []) absent))
-        (⊎_elim
-        (λ same. rw same (read_is_point es ps bs key value good some same absent))
-        (λ other. rw other tt)
-        (cases_Bool (bytes_eq key origin_key))))
+    (⊎_elim
+    (λ same. rw same (read_is_point es ps bs key value good some same absent))
+    (λ other. rw other tt)
+    (cases_Bool (bytes_eq key origin_key))))
     (λ found is.
-        let point : IsOriginText found = subst (λ (o : Option (List ℕ)). IfSome o IsOriginText) is (before some) in
-        subst (λ (o : Option (List ℕ)). IfSome o IsOriginText) (sym (value_kept origin_key ps (one ∷ []) found is)) point)
+    let point : IsOriginText found = subst (λ (o : Option (List ℕ)). IfSome o IsOriginText) is (before some) in
+    subst (λ (o : Option (List ℕ)). IfSome o IsOriginText) (sym (value_kept origin_key ps (one ∷ []) found is)) point)
 
 -- ---- one more symbol at each place
 
@@ -257,7 +257,7 @@ runs_front_from before [] front next is read =
 runs_front_from before (symbol ∷ symbols) front next is read =
     by_result (step front symbol)
     (λ mid one. subst (λ (l : List Symbol). IsFront l next) (append_assoc before (symbol ∷ []) symbols)
-        (runs_front_from (before ++ symbol ∷ []) symbols mid next (front_next before front mid symbol is one) (sym (runs_step front mid symbol symbols one) ∙ read)))
+    (runs_front_from (before ++ symbol ∷ []) symbols mid next (front_next before front mid symbol is one) (sym (runs_step front mid symbol symbols one) ∙ read)))
     (λ reason refused. not_both (runs front (symbol ∷ symbols)) next reason read (runs_refused front symbol symbols reason refused))
 
 -- what is read through is a front

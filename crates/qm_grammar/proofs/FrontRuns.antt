@@ -1,22 +1,21 @@
 -- What is spelled is read through: from the grammar, and from fronts of it, to runs of the machine.
-use Rattle.std.proofs.Common.{◌≡◌, ◌≢◌, ℕ, Bool, true, false, not, ◌&&◌, ◌==◌, ℤ, List, [], ◌∷◌, ◌++◌, length, All, IfSome, Option, Some, None, is_none, bytes_eq, Result, Ok, Err, refl, sym, ap, subst, ◌∙◌, ⊎_elim, append_assoc, append-nil, arith, if◌then◌else◌}
-use Rattle.std.proofs.lemmas.Bool.{cases_Bool, cases_eq, eq-eqb, ne_eqb, both_ways, and_parts, false_from_ne_true, eqb-true, not-true}
+use Rattle.std.proofs.Common.{◌≡◌, ◌≢◌, ℕ, true, false, not, ◌&&◌, ◌==◌, List, [], ◌∷◌, ◌++◌, length, All, IfSome, Option, Some, None, is_none, bytes_eq, Ok, refl, sym, ap, subst, ◌∙◌, ⊎_elim, append_assoc, append-nil}
+use Rattle.std.proofs.lemmas.Bool.{cases_Bool, eq-eqb, ne_eqb, both_ways, and_parts, false_from_ne_true, not-true}
 use Rattle.std.proofs.lemmas.List.{nil_from_length}
 use Rattle.std.proofs.lemmas.List.Elements.{All-append, All-nil, All-cons, All-head, All-tail}
 use Rattle.qm_mapfile.specs.declared.face.Face.{Face}
 use Rattle.qm_mapfile.specs.declared.entity.Brush.{Brush}
 use Rattle.qm_mapfile.specs.declared.entity.Pair.{Pair}
 use Rattle.qm_mapfile.specs.declared.entity.Entity.{Entity}
-use Rattle.qm_mapfile.specs.declared.entity.MapFile.{MapFile}
 use Rattle.qm_grammar.specs.declared.mark.Mark.TheVariants.{OpenBrace, CloseBrace}
 use Rattle.qm_grammar.specs.declared.mark.Sort.TheVariants as sort
 use Rattle.qm_grammar.specs.Symbol.{Symbol, sort_of}
 use Rattle.qm_grammar.specs.Origin.{origin_key, value_of, IsOriginText, HasGoodOrigin, OriginsAreGood}
-use Rattle.qm_grammar.specs.Grammar.{SpellsFaces, none, more, IsBraced, SpellsBrush, SpellsPair, SpellsParts, pair, brush, SpellsEntity, SpellsEntities}
-use Rattle.qm_grammar.specs.Front.{Front, outside, in_entity, behind_key, in_brush, in_face, IsOutside, IsInEntity, IsInBrush, IsInFace, IsBehindKey, IsFront, outside_front, entity_front, key_front, brush_front, face_front}
+use Rattle.qm_grammar.specs.Grammar.{SpellsFaces, none, more, SpellsBrush, SpellsParts, pair, brush, SpellsEntity, SpellsEntities}
+use Rattle.qm_grammar.specs.Front.{Front, outside, in_entity, behind_key, in_brush, in_face, IsOutside, IsInEntity, IsInBrush, IsFront, outside_front, entity_front, key_front, brush_front, face_front}
 use Rattle.qm_grammar.specs.Machine.{step, step_outside, step_entity, step_value, step_brush, is_bad_origin, origin_of, runs}
-use Rattle.qm_grammar.proofs.Runs.{runs_step, runs_then, runs_one, runs_append}
-use Rattle.qm_grammar.proofs.OriginTexts.{by_option, none_no_origin}
+use Rattle.qm_grammar.proofs.Runs.{runs_step, runs_then, runs_one}
+use Rattle.qm_grammar.proofs.OriginTexts.{none_no_origin}
 use Rattle.qm_grammar.proofs.FaceSteps.{step_sorted}
 use Rattle.qm_grammar.proofs.FaceRuns.{face_run, begun_run}
 
@@ -64,9 +63,9 @@ module _ (es : List Entity) (ps : List Pair) (bs : List Brush) where
       ap (runs (in_entity es ps bs)) (spells.braced).spelled
       ∙ runs_step (in_entity es ps bs) (in_brush es ps bs []) (spells.braced).open_brace (spells.inner ++ (spells.braced).close_brace ∷ []) (brush_opens (spells.braced).open_brace (spells.braced).opens)
       ∙ runs_then (in_brush es ps bs []) (in_brush es ps bs one.faces) (in_entity es ps (bs ++ one ∷ [])) spells.inner ((spells.braced).close_brace ∷ [])
-        (faces_run [] spells.inner one.faces spells.faces)
-        (runs_one (in_brush es ps bs one.faces) (in_entity es ps (bs ++ one ∷ [])) (spells.braced).close_brace
-        (brush_closes one.faces (spells.braced).close_brace spells.some (spells.braced).closes))
+      (faces_run [] spells.inner one.faces spells.faces)
+      (runs_one (in_brush es ps bs one.faces) (in_entity es ps (bs ++ one ∷ [])) (spells.braced).close_brace
+      (brush_closes one.faces (spells.braced).close_brace spells.some (spells.braced).closes))
 
 -- ---- origins
 
@@ -135,7 +134,7 @@ parts_run es ps bs symbols pairs brushes (pair {key = key} {value = value} {othe
     let good_there : IsGoodBehind es ((ps ++ made ∷ []) ++ rest) = subst (λ (l : List Pair). IsGoodBehind es l) (sym (append_assoc ps (made ∷ []) rest)) good_here in
     runs_step (in_entity es ps bs) (behind_key es ps bs key.bytes) key (value ∷ others) (key_read es ps bs key spells.key_quoted)
     ∙ runs_step (behind_key es ps bs key.bytes) (in_entity es (ps ++ made ∷ []) bs) value others
-      (value_read es ps bs key.bytes value spells.value_quoted (good_value es ps bs key.bytes value.bytes rest good_here))
+    (value_read es ps bs key.bytes value spells.value_quoted (good_value es ps bs key.bytes value.bytes rest good_here))
     ∙ parts_run es (ps ++ made ∷ []) bs others rest brushes spell_rest good_there
     ∙ ap (λ (l : List Pair). Ok (in_entity es l (bs ++ brushes))) (append_assoc ps (made ∷ []) rest ∙ ap (λ (p : Pair). ps ++ p ∷ rest) (sym spells.is_pair))
 parts_run es ps bs symbols pairs brushes (brush {symbols = first} {others = others} {brush = one} {brushes = rest} spells spell_rest) good =
@@ -151,9 +150,9 @@ entity_run es symbols one spells good =
     ap (runs (outside es)) (spells.braced).spelled
     ∙ runs_step (outside es) (in_entity es [] []) (spells.braced).open_brace (spells.inner ++ (spells.braced).close_brace ∷ []) (entity_opens es (spells.braced).open_brace (spells.braced).opens)
     ∙ runs_then (in_entity es [] []) (in_entity es one.pairs one.brushes) (outside (es ++ one ∷ [])) spells.inner ((spells.braced).close_brace ∷ [])
-      (parts_run es [] [] spells.inner one.pairs one.brushes spells.parts good)
-      (runs_one (in_entity es one.pairs one.brushes) (outside (es ++ one ∷ [])) (spells.braced).close_brace
-      (entity_closes es one.pairs one.brushes (spells.braced).close_brace (spells.braced).closes))
+    (parts_run es [] [] spells.inner one.pairs one.brushes spells.parts good)
+    (runs_one (in_entity es one.pairs one.brushes) (outside (es ++ one ∷ [])) (spells.braced).close_brace
+    (entity_closes es one.pairs one.brushes (spells.braced).close_brace (spells.braced).closes))
 
 good_front : (es others : List Entity) → OriginsAreGood (es ++ others) → OriginsAreGood es
 good_front [] others good = tt
@@ -186,17 +185,17 @@ entity_runs symbols es ps bs is =
     let last : Entity = record { pairs = ps; brushes = bs } in
     ap (runs (outside [])) is.is_front
     ∙ runs_then (outside []) (outside es) (in_entity es ps bs) is.before (is.open_brace ∷ is.inner)
-      (entities_run [] is.before es is.spelled (good_before es last is.origins))
-      (runs_step (outside es) (in_entity es [] []) is.open_brace is.inner (entity_opens es is.open_brace is.opens)
-      ∙ parts_run es [] [] is.inner ps bs is.parts (good_last es last is.origins))
+    (entities_run [] is.before es is.spelled (good_before es last is.origins))
+    (runs_step (outside es) (in_entity es [] []) is.open_brace is.inner (entity_opens es is.open_brace is.opens)
+    ∙ parts_run es [] [] is.inner ps bs is.parts (good_last es last is.origins))
 
 brush_runs : (symbols : List Symbol) (es : List Entity) (ps : List Pair) (bs : List Brush) (fs : List Face) → IsInBrush symbols es ps bs fs → runs (outside []) symbols ≡ Ok (in_brush es ps bs fs)
 brush_runs symbols es ps bs fs is =
     ap (runs (outside [])) is.is_front
     ∙ runs_then (outside []) (in_entity es ps bs) (in_brush es ps bs fs) is.before (is.open_brace ∷ is.inner)
-      (entity_runs is.before es ps bs is.entity)
-      (runs_step (in_entity es ps bs) (in_brush es ps bs []) is.open_brace is.inner (brush_opens es ps bs is.open_brace is.opens)
-      ∙ faces_run es ps bs [] is.inner fs is.spelled)
+    (entity_runs is.before es ps bs is.entity)
+    (runs_step (in_entity es ps bs) (in_brush es ps bs []) is.open_brace is.inner (brush_opens es ps bs is.open_brace is.opens)
+    ∙ faces_run es ps bs [] is.inner fs is.spelled)
 
 -- what is a front is read through, and gives what it has spelled
 pub front_runs : (symbols : List Symbol) (front : Front) → IsFront symbols front → runs (outside []) symbols ≡ Ok front
@@ -205,12 +204,12 @@ front_runs symbols front (entity_front {entities = es} {pairs = ps} {brushes = b
 front_runs symbols front (key_front {entities = es} {pairs = ps} {brushes = bs} {key = key} is) =
     ap (runs (outside [])) is.is_front
     ∙ runs_then (outside []) (in_entity es ps bs) (behind_key es ps bs key) is.before (is.key_symbol ∷ [])
-      (entity_runs is.before es ps bs is.entity)
-      (runs_one (in_entity es ps bs) (behind_key es ps bs key) is.key_symbol
-      (key_read es ps bs is.key_symbol is.quoted ∙ ap (λ (k : List ℕ). Ok (behind_key es ps bs k)) (sym is.is_key)))
+    (entity_runs is.before es ps bs is.entity)
+    (runs_one (in_entity es ps bs) (behind_key es ps bs key) is.key_symbol
+    (key_read es ps bs is.key_symbol is.quoted ∙ ap (λ (k : List ℕ). Ok (behind_key es ps bs k)) (sym is.is_key)))
 front_runs symbols front (brush_front {entities = es} {pairs = ps} {brushes = bs} {faces = fs} is) = brush_runs symbols es ps bs fs is
 front_runs symbols front (face_front {entities = es} {pairs = ps} {brushes = bs} {faces = fs} {numbers = ns} {texts = ts} {left = left} is) =
     ap (runs (outside [])) is.is_front
     ∙ runs_then (outside []) (in_brush es ps bs fs) (in_face es ps bs fs ns ts left) is.before is.begun
-      (brush_runs is.before es ps bs fs is.brush)
-      (begun_run es ps bs fs is.begun ns ts left is.begins)
+    (brush_runs is.before es ps bs fs is.brush)
+    (begun_run es ps bs fs is.begun ns ts left is.begins)

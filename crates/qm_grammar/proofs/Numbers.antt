@@ -1,5 +1,5 @@
 -- What a word in a coordinate's place spells, as it is computed.
-use Rattle.std.proofs.Common.{◌≡◌, ◌<◌, ℕ, ◌*◌, Bool, true, false, ◌&&◌, ℤ, pos, neg_ℤ, unsigned_abs, int_le, nat_lt, List, Option, Some, None, Result, Ok, Err, ap, refl, sym, subst, ◌∙◌, ⊎_elim, if◌then◌else◌, arith}
+use Rattle.std.proofs.Common.{◌≡◌, ℕ, Bool, true, false, ◌&&◌, ℤ, neg_ℤ, int_le, List, Result, Ok, Err, ap, refl, sym, subst, ◌∙◌, arith}
 use Rattle.std.proofs.lemmas.Bool.{and_parts, and_from, true_from_ne_false, false_from_ne_true, both_ways}
 use Rattle.std.proofs.lemmas.Int.{ints}
 use Rattle.qm_decimal.specs.declared.fraction.Fraction.{Fraction}

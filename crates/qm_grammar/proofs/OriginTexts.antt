@@ -1,5 +1,5 @@
 -- Which values of an origin give a point, as it is computed.
-use Rattle.std.proofs.Common.{◌≡◌, ◌<◌, ℕ, ◌*◌, Bool, true, false, ℤ, pos, unsigned_abs, nat_lt, ltb, List, [], ◌∷◌, Option, Some, None, is_none, Result, Ok, Err, option_and_then, ap, refl, sym, subst, ◌∙◌}
+use Rattle.std.proofs.Common.{◌≡◌, ◌<◌, ℕ, ◌*◌, Bool, true, false, ℤ, pos, unsigned_abs, ltb, List, [], ◌∷◌, Option, Some, None, is_none, Result, Ok, Err, ap, refl, sym, subst, ◌∙◌}
 use Rattle.std.proofs.lemmas.Bool.{lt-ltb, ltb-true}
 use Rattle.qm_decimal.specs.declared.fraction.Fraction.{Fraction}
 use Rattle.qm_decimal.specs.declared.fraction.NumberFault.{NumberFault}

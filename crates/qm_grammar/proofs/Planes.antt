@@ -1,9 +1,8 @@
 -- Whether three points span a plane, as it is computed.
-use Rattle.std.proofs.Common.{◌≡◌, Bool, true, false, not, ◌||◌, ℤ, pos, List, ap, ap₂, refl, sym, ◌∙◌, int_eq}
-use Rattle.std.proofs.lemmas.Bool.{true≢false, true_from_ne_false, false_from_ne_true, or_from, or_parts, not-false, not_from_true, cases_Bool}
+use Rattle.std.proofs.Common.{◌≡◌, Bool, true, false, not, ◌||◌, ℤ, pos, List, refl, sym, ◌∙◌, int_eq}
+use Rattle.std.proofs.lemmas.Bool.{true≢false, true_from_ne_false, false_from_ne_true, or_parts, not-false}
 use Rattle.std.proofs.lemmas.Bool.Decides.{Decides-int_eq}
 use Rattle.qm_space.specs.Plane.{Plane}
-use Rattle.qm_space.specs.Reduced.{HasNormal}
 use Rattle.qm_space.specs.ThreePoints.{outward_plane}
 use Rattle.qm_space.proofs.PlanesThroughPoints.{HasNoNormal, one_line_no_normal, no_normal_one_line}
 use Rattle.qm_mapfile.specs.Face.{SpanPlane, point_at}

@@ -1,5 +1,5 @@
 -- How a row of symbols is read, one by one, and how that goes with a row of lexemes.
-use Rattle.std.proofs.Common.{◌≡◌, ℕ, List, [], ◌∷◌, ◌++◌, map, Result, Ok, Err, refl, sym, ap, ◌∙◌}
+use Rattle.std.proofs.Common.{◌≡◌, List, [], ◌∷◌, ◌++◌, map, Result, Ok, Err, refl, sym, ap, ◌∙◌}
 use Rattle.qm_lex.specs.Lexeme.{Lexeme}
 use Rattle.qm_grammar.specs.declared.refusal.Refusal.{Refusal}
 use Rattle.qm_grammar.specs.Symbol.{Symbol, symbol_of}
@@ -35,7 +35,7 @@ runs_append front next [] others read = ap (λ (f : Front). runs f others) cc
 runs_append front next (symbol ∷ symbols) others read =
     by_result (step front symbol)
     (λ mid is. runs_step front mid symbol (symbols ++ others) is
-        ∙ runs_append mid next symbols others (sym (runs_step front mid symbol symbols is) ∙ read))
+    ∙ runs_append mid next symbols others (sym (runs_step front mid symbol symbols is) ∙ read))
     (λ reason is. not_both (runs front (symbol ∷ symbols)) next reason read (runs_refused front symbol symbols reason is))
 
 -- two rows that are read, one after another
@@ -66,7 +66,7 @@ steps_runs front next [] read = cc
 steps_runs front next (lexeme ∷ lexemes) read =
     by_result (step front (symbol_of lexeme))
     (λ mid is. runs_step front mid (symbol_of lexeme) (map symbol_of lexemes) is
-        ∙ steps_runs mid next lexemes (sym (steps_step front mid lexeme lexemes is) ∙ read))
+    ∙ steps_runs mid next lexemes (sym (steps_step front mid lexeme lexemes is) ∙ read))
     (λ reason is. not_both (steps front (lexeme ∷ lexemes)) next (reason, lexeme) read (steps_refused front lexeme lexemes reason is))
 
 pub runs_steps : (front next : Front) (lexemes : List Lexeme) → runs front (map symbol_of lexemes) ≡ Ok next → steps front lexemes ≡ Ok next
@@ -74,7 +74,7 @@ runs_steps front next [] read = cc
 runs_steps front next (lexeme ∷ lexemes) read =
     by_result (step front (symbol_of lexeme))
     (λ mid is. steps_step front mid lexeme lexemes is
-        ∙ runs_steps mid next lexemes (sym (runs_step front mid (symbol_of lexeme) (map symbol_of lexemes) is) ∙ read))
+    ∙ runs_steps mid next lexemes (sym (runs_step front mid (symbol_of lexeme) (map symbol_of lexemes) is) ∙ read))
     (λ reason is. not_both (runs front (map symbol_of (lexeme ∷ lexemes))) next reason read (runs_refused front (symbol_of lexeme) (map symbol_of lexemes) reason is))
 
 -- a lexeme behind others that are read is the first that is refused
@@ -105,12 +105,12 @@ steps_first front [] reason lexeme refused = not_both (steps front []) front (re
 steps_first front (first ∷ lexemes) reason lexeme refused =
     by_result (step front (symbol_of first))
     (λ next is. first_behind front next first lexeme lexemes reason is
-        (steps_first next lexemes reason lexeme (sym (steps_step front next first lexemes is) ∙ refused)))
+    (steps_first next lexemes reason lexeme (sym (steps_step front next first lexemes is) ∙ refused)))
     (λ other is.
-        let both : (other, first) ≡ (reason, lexeme) = same_err (steps front (first ∷ lexemes)) (other, first) (reason, lexeme) (steps_refused front first lexemes other is) refused in
-        let reasons : other ≡ reason = ap (λ (p : Refusal × Lexeme). p.0) both in
-        let lexes : first ≡ lexeme = ap (λ (p : Refusal × Lexeme). p.1) both in
-        rw (← reasons, ← lexes) (first_here front first lexemes other is))
+    let both : (other, first) ≡ (reason, lexeme) = same_err (steps front (first ∷ lexemes)) (other, first) (reason, lexeme) (steps_refused front first lexemes other is) refused in
+    let reasons : other ≡ reason = ap (λ (p : Refusal × Lexeme). p.0) both in
+    let lexes : first ≡ lexeme = ap (λ (p : Refusal × Lexeme). p.1) both in
+    rw (← reasons, ← lexes) (first_here front first lexemes other is))
 
 -- behind lexemes that are read
 steps_append : (front next : Front) (lexemes others : List Lexeme) → runs front (map symbol_of lexemes) ≡ Ok next → steps front (lexemes ++ others) ≡ steps next others
@@ -118,7 +118,7 @@ steps_append front next [] others read = ap (λ (f : Front). steps f others) cc
 steps_append front next (lexeme ∷ lexemes) others read =
     by_result (step front (symbol_of lexeme))
     (λ mid is. steps_step front mid lexeme (lexemes ++ others) is
-        ∙ steps_append mid next lexemes others (sym (runs_step front mid (symbol_of lexeme) (map symbol_of lexemes) is) ∙ read))
+    ∙ steps_append mid next lexemes others (sym (runs_step front mid (symbol_of lexeme) (map symbol_of lexemes) is) ∙ read))
     (λ reason is. not_both (runs front (map symbol_of (lexeme ∷ lexemes))) next reason read (runs_refused front (symbol_of lexeme) (map symbol_of lexemes) reason is))
 
 -- the first that is refused is where the lexemes end

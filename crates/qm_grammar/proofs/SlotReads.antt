@@ -1,5 +1,5 @@
 -- What is read in a slot of a face fills it.
-use Rattle.std.proofs.Common.{◌≡◌, ◌≢◌, ℕ, Bool, true, false, ℤ, List, [], ◌∷◌, ◌++◌, length, Result, Ok, Err, refl, sym, ap, ap₂, subst, ◌∙◌, append-nil}
+use Rattle.std.proofs.Common.{◌≡◌, ◌≢◌, ℕ, Bool, true, false, ℤ, List, [], ◌∷◌, ◌++◌, Result, Ok, Err, refl, sym, ap, ◌∙◌, append-nil}
 use Rattle.qm_mapfile.specs.declared.face.Face.{Face}
 use Rattle.qm_mapfile.specs.declared.entity.Brush.{Brush}
 use Rattle.qm_mapfile.specs.declared.entity.Pair.{Pair}
@@ -16,7 +16,6 @@ use Rattle.qm_grammar.specs.Symbol.{Symbol, sort_of}
 use Rattle.qm_grammar.specs.Slots.{Form, standard, valve, mapping_slots, Fills, mark, coordinate, texture, quoted_texture, word}
 use Rattle.qm_grammar.specs.Front.{Front, in_face}
 use Rattle.qm_grammar.specs.Machine.{is_same_mark, coordinate_of, step, step_slot, step_mark, with_left, behind_word, behind_bracket}
-use Rattle.qm_grammar.proofs.Runs.{by_result}
 use Rattle.qm_grammar.proofs.Numbers.{coordinate_spelled}
 use Rattle.qm_grammar.proofs.FaceSteps.{step_sorted, mark_same, SpansAt, is_flat, flat_not, behind, left_behind}
 

@@ -1,4 +1,4 @@
-use Rattle.std.specs.Prelude.{◌≡◌, ◌≢◌, ◌<◌, ◌≤◌, ◌⊎◌, ℕ, ◌+◌, List, [], ◌∷◌, ◌++◌, Option, Some, None, length, map, take}
+use Rattle.std.specs.Prelude.{◌≡◌, ◌≢◌, ◌<◌, ◌≤◌, ◌⊎◌, ℕ, ◌+◌, List, [], ◌∷◌, ◌++◌, Some, None, length, map, take}
 use Rattle.qm_lex.specs.Lexeme.{Lexeme, quote_length, line_ends}
 use Rattle.qm_lex.specs.Lexing.{Lexing}
 use Rattle.qm_grammar.specs.declared.place.Place.TheVariants as place

@@ -34,8 +34,16 @@ pub record Front : Type 0 where
 -- between entities
 abbrev pub outside : List Entity → Front
 outside entities = record {
-  place = place.Outside; entities = entities; pairs = []; brushes = []; key = []; faces = [];
-  numbers = []; texts = []; left = [] }
+  place = place.Outside;
+  entities = entities;
+  pairs = [];
+  brushes = [];
+  key = [];
+  faces = [];
+  numbers = [];
+  texts = [];
+  left = [];
+}
 
 -- in an entity, between its parts
 abbrev pub in_entity : List Entity → List Pair → List Brush → Front

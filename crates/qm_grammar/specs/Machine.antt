@@ -1,20 +1,16 @@
 -- How the tokens of a map are read one by one. What a reader has read is a front; a token leads from one front to the
 -- next, or is refused.
-use Rattle.std.specs.Prelude.{ℕ, ◌+◌, ◌-◌, ◌*◌, ◌<◌, ℤ, pos, neg_ℤ, unsigned_abs, int_le, nat_lt, nat_le, ◌==◌, Bool, true, false, not, ◌&&◌, ◌||◌, if◌then◌else◌, List, [], ◌∷◌, ◌++◌, length, slice_index_or, Option, Some, None, is_some, is_none, option_and_then, Result, Ok, Err, bytes_eq}
-use Rattle.std.specs.Prelude.{map as mapped}
+use Rattle.std.specs.Prelude.{ℕ, ◌*◌, ℤ, pos, neg_ℤ, unsigned_abs, int_le, nat_lt, ◌==◌, Bool, not, ◌&&◌, ◌||◌, if◌then◌else◌, List, [], ◌∷◌, ◌++◌, length, Option, Some, None, is_none, option_and_then, Result, Ok, Err, bytes_eq}
 use Rattle.std.specs.Ordering.{int_eq}
 use Rattle.qm_decimal.specs.declared.fraction.Fraction.{Fraction}
 use Rattle.qm_decimal.specs.declared.fraction.NumberFault.{NumberFault}
 use Rattle.qm_decimal.specs.declared.fraction.NumberFault.TheVariants as number
 use Rattle.qm_decimal.specs.Computed.{read_at}
 use Rattle.qm_lex.specs.Lexeme.{Lexeme}
-use Rattle.qm_lex.specs.Lexing.{Lexing}
 use Rattle.qm_lex.specs.Modes.{between, read}
 use Rattle.qm_space.specs.Point.{Point, extent}
 use Rattle.qm_space.specs.Plane.{Plane}
 use Rattle.qm_space.specs.ThreePoints.{outward_plane}
-use Rattle.qm_mapfile.specs.declared.face.Face.{Face}
-use Rattle.qm_mapfile.specs.declared.entity.Pair.{Pair}
 use Rattle.qm_mapfile.specs.declared.entity.MapFile.{MapFile}
 use Rattle.qm_mapfile.specs.Face.{point_at}
 use Rattle.qm_mapfile.specs.Words.{words_of}
@@ -33,7 +29,7 @@ use Rattle.qm_grammar.specs.declared.fault.MapFault.TheVariants as fault
 use Rattle.qm_grammar.specs.Symbol.{Symbol, symbol_of, sort_of}
 use Rattle.qm_grammar.specs.Number.{millionths}
 use Rattle.qm_grammar.specs.Origin.{origin_key, value_of}
-use Rattle.qm_grammar.specs.Slots.{head_slots, point_slots, standard_slots, valve_slots, points_of, face_of}
+use Rattle.qm_grammar.specs.Slots.{point_slots, points_of, face_of}
 use Rattle.qm_grammar.specs.Front.{Front, outside}
 use Rattle.qm_grammar.specs.Faults.{text_limit, line_at, last_line, end_of, fault_of}
 
@@ -81,7 +77,7 @@ millionths_of text = millionths_of_answer (read_at text 6)
 abbrev pub point_of_words : List (List ℕ) → Option Point
 point_of_words (first ∷ second ∷ third ∷ []) =
     option_and_then (λ x. option_and_then (λ y. option_and_then (λ z.
-        Some (record { x = x; y = y; z = z; w = pos 1000000 })) (millionths_of third)) (millionths_of second)) (millionths_of first)
+    Some (record { x = x; y = y; z = z; w = pos 1000000 })) (millionths_of third)) (millionths_of second)) (millionths_of first)
 point_of_words _ = None
 
 -- the point that the value of an origin gives
@@ -144,8 +140,12 @@ step_brush front _ = Err refusal.Unexpected
 abbrev pub with_face : Front → Front
 with_face front =
     record front {
-      place = place.Brush; faces = front.faces ++ face_of front.numbers front.texts ∷ [];
-      numbers = []; texts = []; left = [] }
+      place = place.Brush;
+      faces = front.faces ++ face_of front.numbers front.texts ∷ [];
+      numbers = [];
+      texts = [];
+      left = [];
+    }
 
 -- behind a token of a face: the face is ended where no slot is left
 abbrev pub with_left : Front → List Slot → Front
@@ -219,8 +219,9 @@ abbrev pub closed_by_end : List ℕ → Option ℕ → Front → Result MapFile 
 closed_by_end text (Some line) front = Err (fault.UnclosedQuote line)
 closed_by_end text None front =
     elim front.place [
-      place.Outside ↦ if length front.entities == 0 then Err (fault.NoEntity (last_line text)) else Ok (record { entities = front.entities })
-    | _ ↦ Err (fault.EndInside (last_line text)) ]
+      | place.Outside ↦ if length front.entities == 0 then Err (fault.NoEntity (last_line text)) else Ok (record { entities = front.entities })
+      | _ ↦ Err (fault.EndInside (last_line text))
+    ]
 
 -- a refused token, unless the text is too long before the token ends
 abbrev pub refused_at : List ℕ → Refusal → Lexeme → MapFault

@@ -1,4 +1,4 @@
-use Rattle.std.specs.Prelude.{◌≡◌, ◌≤◌, ℕ, List, Option, None, length, Result, Ok, Err} 
+use Rattle.std.specs.Prelude.{◌≡◌, ◌≤◌, ℕ, List, None, length, Result, Ok, Err}
 use Rattle.std.specs.Prelude.{map as mapped}
 use Rattle.qm_lex.specs.Lexing.{Lexing, IsLexingOf}
 use Rattle.qm_mapfile.specs.declared.entity.MapFile.{MapFile}

@@ -1,4 +1,4 @@
-use Rattle.std.specs.Prelude.{◌≡◌, ◌<◌, ℕ, ◌*◌, ◌^◌, ℤ, List, Ok, Err, unsigned_abs}
+use Rattle.std.specs.Prelude.{◌<◌, ℕ, ◌*◌, ℤ, List, Ok, Err, unsigned_abs}
 use Rattle.qm_decimal.specs.declared.fraction.Fraction.{Fraction}
 use Rattle.qm_decimal.specs.declared.fraction.NumberFault.TheVariants.{Form, TooFine, TooLarge}
 use Rattle.qm_decimal.specs.Answer.{IsAnswer}
