@@ -2,3 +2,4 @@ pub mod NinePoints
 pub mod WordLaws
 pub mod Meanings
 pub mod Places
+pub mod Means

@@ -106,7 +106,7 @@ fn numbers_that_are_read(rt: HostRuntime) {
         b"{ { ( +64 64. 64.000 ) ( -0 .0 00064 ) ( 0 0 1 ) a 0 0 0 1 1 } }",
         b"{ { ( 0 0 0 ) ( 0 1 0 ) ( 0 0 1 ) \"{\" b\"c [d e//f 0 1 } }",
         b"{ } // x",
-        b"{\"\"\"\"}",
+        b"{ \"\"\"\" }",
     ] {
         assert!(rt; fault_of(rt.alloc(), text).is_none());
     }

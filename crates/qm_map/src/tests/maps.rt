@@ -1,5 +1,5 @@
 use crate::text::parse;
-use qm_mapfile::Mapping;
+use qm_mapfile::{Entity, Face, Mapping};
 use std::test::Fail;
 
 /// A world with one face, as an editor writes it, and a door.
@@ -25,20 +25,36 @@ lines\"\r
 #[test]
 fn the_world_of_a_room(rt: HostRuntime) -> Result<(), Fail> {
     let map = parse(rt.alloc(), ROOM)?;
-    assert_eq!(rt; map.entities.len(), 2);
-    let world = &map.entities.as_slice()[0];
-    assert_eq!(rt; world.pairs.len(), 2);
-    let message = &world.pairs.as_slice()[1];
+    let [world, _] = map.entities.as_slice() else {
+        panic!(rt; "not two entities");
+    };
+    let [version, message] = world.pairs.as_slice() else {
+        panic!(rt; "not two pairs");
+    };
+    assert_eq!(rt; version.value.as_slice(), b"220".as_slice());
     assert_eq!(rt; message.key.as_slice(), b"message".as_slice());
     assert_eq!(rt; message.value.as_slice(), b"two\r\nlines".as_slice());
+    assert_eq!(rt; world.brushes.len(), 1);
     Ok(())
+}
+
+/// The first brush of an entity.
+fn first_brush(entity: &Entity) -> &[Face] {
+    match entity.brushes.as_slice() {
+        [brush, ..] => brush.faces.as_slice(),
+        [] => &[],
+    }
 }
 
 #[test]
 fn a_face_with_axes(rt: HostRuntime) -> Result<(), Fail> {
     let map = parse(rt.alloc(), ROOM)?;
-    let brush = &map.entities.as_slice()[0].brushes.as_slice()[0];
-    let face = &brush.faces.as_slice()[0];
+    let [world, _] = map.entities.as_slice() else {
+        panic!(rt; "not two entities");
+    };
+    let [face] = first_brush(world) else {
+        panic!(rt; "not one face");
+    };
     assert_eq!(rt;
         face.points,
         [[-64, -64, -16], [-64, -63, -16], [-64, -64, -15]]
@@ -47,32 +63,35 @@ fn a_face_with_axes(rt: HostRuntime) -> Result<(), Fail> {
     let Mapping::Valve(words) = &face.mapping else {
         panic!(rt; "a mapping without axes");
     };
-    let words = words.as_slice();
+    let [.., fourth, _, _, _, _, _, _, last] = words.as_slice() else {
+        panic!(rt; "too few words");
+    };
     assert_eq!(rt; words.len(), 11);
-    assert_eq!(rt; words[3].as_slice(), b"-32.5".as_slice());
-    assert_eq!(rt; words[10].as_slice(), b"1.25".as_slice());
+    assert_eq!(rt; fourth.as_slice(), b"-32.5".as_slice());
+    assert_eq!(rt; last.as_slice(), b"1.25".as_slice());
     Ok(())
 }
 
 #[test]
 fn the_faces_of_a_door(rt: HostRuntime) -> Result<(), Fail> {
     let map = parse(rt.alloc(), ROOM)?;
-    let door = &map.entities.as_slice()[1];
+    let [_, door] = map.entities.as_slice() else {
+        panic!(rt; "not two entities");
+    };
+    let [first, second] = first_brush(door) else {
+        panic!(rt; "not two faces");
+    };
     assert_eq!(rt;
-        door.pairs.as_slice()[0].value.as_slice(),
-        b"func_door".as_slice()
-    );
-    let faces = door.brushes.as_slice()[0].faces.as_slice();
-    assert_eq!(rt; faces.len(), 2);
-    assert_eq!(rt;
-        faces[0].texture.as_slice(),
+        first.texture.as_slice(),
         b"with a blank, and long".as_slice()
     );
-    assert_eq!(rt; faces[1].texture.as_slice(), b"*water".as_slice());
-    let Mapping::Standard(words) = &faces[0].mapping else {
+    assert_eq!(rt; second.texture.as_slice(), b"*water".as_slice());
+    let Mapping::Standard(words) = &first.mapping else {
         panic!(rt; "a mapping with axes");
     };
-    assert_eq!(rt; words.len(), 5);
-    assert_eq!(rt; words.as_slice()[2].as_slice(), b"90".as_slice());
+    let [_, _, rotation, _, _] = words.as_slice() else {
+        panic!(rt; "not five words");
+    };
+    assert_eq!(rt; rotation.as_slice(), b"90".as_slice());
     Ok(())
 }

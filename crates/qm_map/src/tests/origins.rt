@@ -42,7 +42,9 @@ fn the_point_of_an_entity(rt: HostRuntime) -> Result<(), Fail> {
     let text =
         b"{ } { \"classname\" \"light\" \"origin\" \" 1 -2.5 0.000001\" \"origin\" \"7 7 7\" }";
     let map = parse(rt.alloc(), text)?;
-    let light = &map.entities.as_slice()[1];
+    let [_, light] = map.entities.as_slice() else {
+        panic!(rt; "not two entities");
+    };
     assert_eq!(rt;
         light.origin(),
         Some(Point {
