@@ -1,4 +1,4 @@
-use Rattle.std.proofs.Common.{◌≡◌, ◌≢◌, ℕ, ◌+◌, ℤ, pos, negsuc, ◌<ℤ◌, ◌≤ℤ◌, Bool, true, false, if◌then◌else◌, List, [], ◌∷◌, ◌++◌, length, map, ◌⊎◌, inl, inr, sym, refl, ap, arith, subst}
+use Rattle.std.proofs.Common.{◌≡◌, ◌≢◌, ℕ, ◌+◌, ℤ, pos, negsuc, ◌<ℤ◌, ◌≤ℤ◌, Bool, true, false, if◌then◌else◌, List, [], ◌∷◌, ◌++◌, length, map, ◌⊎◌, inl, inr, refl, ap, arith, subst}
 use Rattle.std.specs.List.{AllByRecursion}
 use Rattle.std.specs.Prelude.{int_lt}
 use Rattle.std.proofs.lemmas.List.{length-append, append_assoc}
@@ -65,15 +65,15 @@ module _ (last : Contents) (n : ℕ) (planes : List Plane) (inner : Tree) (plane
       elim (side_test (node_value planes n x)) [
         | inl behind ↦ rw behind.0 (within_one_more last (leaf_at planes inner x) (plane, true) sides x (omega (arith, ints, stand, behind.1)) (within off.2))
         | inr front ↦
-          let above = above_zero (node_value planes n x) front.1 off.0 in
-          rw front.0 (outside_of_one last (plane, true) sides x (omega (arith, ints, stand, above)))
+            let above = above_zero (node_value planes n x) front.1 off.0 in
+            rw front.0 (outside_of_one last (plane, true) sides x (omega (arith, ints, stand, above)))
       ]
   one_node false stand off within =
       elim (side_test (node_value planes n x)) [
         | inl behind ↦ rw behind.0 (outside_of_one last (plane, false) sides x (omega (arith, ints, stand, behind.1)))
         | inr front ↦
-          let above = above_zero (node_value planes n x) front.1 off.0 in
-          rw front.0 (within_one_more last (leaf_at planes inner x) (plane, false) sides x (omega (arith, ints, stand, above)) (within off.1))
+            let above = above_zero (node_value planes n x) front.1 off.0 in
+            rw front.0 (within_one_more last (leaf_at planes inner x) (plane, false) sides x (omega (arith, ints, stand, above)) (within off.1))
       ]
 
 -- the chain of sides leads each point that is on no node plane right

@@ -1,15 +1,13 @@
-use Rattle.std.proofs.Common.{◌≡◌, ℕ, ◌+◌, ◌<◌, Bool, true, false, cond, List, [], ◌∷◌, ◌++◌, length, get_or, take, drop, filter, Option, Some, None, All, refl, sym, ap, ◌∙◌, subst, arith}
-use Rattle.std.specs.Prelude.{is_some, IsSome}
+use Rattle.std.proofs.Common.{◌≡◌, ℕ, ◌+◌, ◌<◌, Bool, true, cond, List, [], ◌∷◌, length, get_or, take, drop, filter, Option, Some, None, All, refl, sym, ap, ◌∙◌, subst, arith}
+use Rattle.std.specs.Prelude.{is_some}
 use Rattle.std.specs.Borrow.{Bor}
 use Rattle.std.specs.Option.{option_copied, option_to_list}
 use Rattle.std.proofs.lemmas.List.{take-append-drop, length-append}
 use Rattle.std.proofs.lemmas.List.Elements.{filter-append, filter_passes, All-filter}
 use Rattle.std.proofs.lemmas.List.Filters.{length-filter_more}
-use Rattle.qm_mapfile.specs.declared.face.Face.{Face}
 use Rattle.qm_mapfile.specs.declared.entity.Brush.{Brush}
 use Rattle.qm_mapfile.specs.declared.entity.MapFile.{MapFile}
-use Rattle.qm_contents.specs.declared.contents.Contents.{Contents}
-use Rattle.qm_compile.specs.Brushes.{is_drawn, contents_of_brush, world_brushes, drawn_brushes, IsOneBrushMap, AreValidFaces, HasValidBrushes}
+use Rattle.qm_compile.specs.Brushes.{is_drawn, world_brushes, IsOneBrushMap, AreValidFaces, HasValidBrushes}
 
 -- The brushes of the world that are drawn, where there is one.
 
@@ -17,7 +15,7 @@ use Rattle.qm_compile.specs.Brushes.{is_drawn, contents_of_brush, world_brushes,
 few_in_front : (brushes : List Brush) (n : ℕ) → length (filter is_drawn (take n brushes)) + length (filter is_drawn (drop n brushes)) ≡ length (filter is_drawn brushes)
 few_in_front brushes n =
     sym (length-append (filter is_drawn (take n brushes)) (filter is_drawn (drop n brushes)))
-        ∙ ap length (sym (filter-append is_drawn (take n brushes) (drop n brushes)) ∙ ap (λ (all : List Brush). filter is_drawn all) (take-append-drop n brushes))
+    ∙ ap length (sym (filter-append is_drawn (take n brushes) (drop n brushes)) ∙ ap (λ (all : List Brush). filter is_drawn all) (take-append-drop n brushes))
 
 abbrev one_if : Bool → ℕ
 one_if b = cond b 1 0

@@ -1,4 +1,4 @@
-use Rattle.std.proofs.Common.{◌≡◌, ◌≢◌, ℕ, zero, suc, ◌<◌, ◌+◌, Bool, true, false, List, [], ◌∷◌, ◌++◌, length, get_or, map, Option, Some, None, slice_get, refl, sym, ap, ◌∙◌, subst, arith, add-one}
+use Rattle.std.proofs.Common.{◌≡◌, ◌≢◌, ℕ, zero, suc, ◌<◌, Bool, true, false, List, [], ◌∷◌, ◌++◌, length, get_or, map, Some, None, slice_get, refl, sym, ap, ◌∙◌, subst, arith}
 use Rattle.std.specs.List.{AllByRecursion}
 use Rattle.std.specs.Bool.{beq}
 use Rattle.std.specs.Ordering.{is_eq}
@@ -6,7 +6,7 @@ use Rattle.std.proofs.lemmas.List.{map-append}
 use Rattle.qm_space.specs.Plane.{Plane}
 use Rattle.qm_geom.specs.Planes.{plane_cmp, AreDistinct, Enters, was_there, is_gained}
 use Rattle.qm_geom.proofs.Numbers.{plane_cmp-itself, same_from_is_eq}
-use Rattle.qm_compile.specs.Sides.{Side, outside_of, joined, after_side}
+use Rattle.qm_compile.specs.Sides.{Side, outside_of, joined}
 use Rattle.qm_compile.specs.SideLists.{AreSides, KeepsSides, IsJoined}
 
 -- What is known of a plane among the sides, and by the number that a book gives it.
@@ -29,11 +29,11 @@ at_known_side P [] plane out found all = cc
 at_known_side P (side ∷ sides) plane out found all =
     by_test (is_eq (plane_cmp side.0 plane))
     (λ same.
-      let on : side.0 ≡ plane = same_from_is_eq side.0 plane same in
-      let outside : Some side.1 ≡ Some out = sym (outside_here side sides plane same) ∙ found in
-      let is : side.1 ≡ out = cc in
-      let pair : side ≡ (plane, out) = ap (λ (h : Plane). (h, side.1)) on ∙ ap (λ (b : Bool). (plane, b)) is in
-      subst P pair all.0)
+    let on : side.0 ≡ plane = same_from_is_eq side.0 plane same in
+    let outside : Some side.1 ≡ Some out = sym (outside_here side sides plane same) ∙ found in
+    let is : side.1 ≡ out = cc in
+    let pair : side ≡ (plane, out) = ap (λ (h : Plane). (h, side.1)) on ∙ ap (λ (b : Bool). (plane, b)) is in
+    subst P pair all.0)
     (λ other. at_known_side P sides plane out (sym (outside_later side sides plane other) ∙ found) all.1)
 
 -- a plane that no side has is not found
@@ -57,8 +57,8 @@ known_plane (side ∷ sides) zero plane distinct at =
 known_plane (side ∷ sides) (suc n) plane distinct at =
     by_test (is_eq (plane_cmp side.0 plane))
     (λ same.
-      let e : zero ≡ suc n = distinct zero (suc n) plane (ap (λ (h : Plane). Some h) (same_from_is_eq side.0 plane same)) at in
-      absurd (omega arith))
+    let e : zero ≡ suc n = distinct zero (suc n) plane (ap (λ (h : Plane). Some h) (same_from_is_eq side.0 plane same)) at in
+    absurd (omega arith))
     (λ other. outside_later side sides plane other ∙ known_plane sides n plane (distinct_rest side.0 (map (λ s. s.0) sides) distinct) at)
 
 -- an item that is there is within the list

@@ -5,13 +5,14 @@ pub mod CommandWords
 pub mod CompiledOne
 pub mod Counted
 pub mod DrawnBrushes
-pub mod FewFaces
-pub mod FormOneBrush
 pub mod KnownSides
+pub mod MadeTexts
 pub mod Outcomes
 pub mod Pieces
+pub mod ReadMeanings
 pub mod Reported
 pub mod SideValues
 pub mod TreeGives
+pub mod ValidBrushes
 pub mod WalkRight
 pub mod WalkSteps

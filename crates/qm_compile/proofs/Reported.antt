@@ -1,7 +1,7 @@
 use Rattle.std.proofs.Common.{◌≡◌, ℕ, List, sym, subst, inl, inr}
 use Rattle.qm_shelf.specs.Counts.{Rose}
 use Rattle.qm_compile.specs.declared.outcome.Outcome.{Outcome}
-use Rattle.qm_compile.specs.declared.outcome.Outcome.TheVariants.{Done, Usage, ReadFault, WriteFault, NotBuilt}
+use Rattle.qm_compile.specs.declared.outcome.Outcome.TheVariants.{Done, Usage, ReadFault, MapFault, WriteFault, NotBuilt}
 use Rattle.qm_compile.specs.declared.status.Status.{Status}
 use Rattle.qm_compile.specs.declared.status.Status.TheVariants as status
 use Rattle.qm_compile.specs.Outcome.{status_of}
@@ -15,6 +15,7 @@ module _ (words : List (List ℕ)) (before after : ShelfState) (sink_before sink
   answers_due (Done summary) reports = reports
   answers_due Usage reports = reports
   answers_due ReadFault reports = reports
+  answers_due (MapFault text) reports = reports
   answers_due WriteFault reports = inl reports
   answers_due NotBuilt reports = reports
 

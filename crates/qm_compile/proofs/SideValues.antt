@@ -1,4 +1,4 @@
-use Rattle.std.proofs.Common.{◌≡◌, ℕ, ℤ, pos, neg_ℤ, ◌<ℤ◌, ◌≤ℤ◌, Bool, true, false, List, [], ◌∷◌, ◌++◌, length, get_or, inl, inr, sym, ap, ◌∙◌, subst, arith}
+use Rattle.std.proofs.Common.{◌≡◌, ℕ, ℤ, pos, neg_ℤ, ◌<ℤ◌, ◌≤ℤ◌, Bool, true, false, List, [], length, get_or, inl, inr, sym, ◌∙◌, subst, arith}
 use Rattle.std.specs.List.{AllByRecursion}
 use Rattle.std.specs.Ordering.{int_cmp}
 use Rattle.std.proofs.lemmas.Bool.{cases_lt}
@@ -11,8 +11,8 @@ use Rattle.qm_space.specs.ThreePoints.{IsPlaneThrough, outward_plane}
 use Rattle.qm_space.proofs.Signs.{compares_less, compares_greater, less_compares, greater_compares}
 use Rattle.qm_space.proofs.PlanesThroughPoints.{whole_point_is_whole, plane_through_is, normal_off_line, through_front, through_back}
 use Rattle.qm_mapfile.specs.declared.face.Face.{Face}
-use Rattle.qm_mapfile.specs.Face.{face_point, face_plane, face_outward}
-use Rattle.qm_compile.specs.Brushes.{HasPlane, HasCoordinates, AreValidFaces}
+use Rattle.qm_mapfile.specs.Face.{HasPlane, face_point, face_plane, face_outward}
+use Rattle.qm_compile.specs.Brushes.{HasCoordinates, AreValidFaces}
 use Rattle.qm_compile.specs.Sides.{Side}
 
 -- On which side of the outer side of a face's plane a point is, and on which of the outward plane through the

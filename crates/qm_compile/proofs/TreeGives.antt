@@ -1,6 +1,5 @@
-use Rattle.std.proofs.Common.{◌≡◌, Bool, true, false, List, [], ◌∷◌, Contains, Option, Some, inl, inr, sym, refl, ap, ◌∙◌, arith, subst}
+use Rattle.std.proofs.Common.{◌≡◌, List, [], ◌∷◌, Contains, Option, Some, inl, inr, sym, refl, ap, ◌∙◌, arith, subst}
 use Rattle.std.specs.Prelude.{unwrap_or}
-use Rattle.std.specs.List.{AllByRecursion}
 use Rattle.std.proofs.lemmas.List.Elements.{Contains-push_cases}
 use Rattle.std.proofs.lemmas.Int.{ints}
 use Rattle.qm_space.specs.Point.{Point, IsInCube}
@@ -12,7 +11,7 @@ use Rattle.qm_contents.specs.declared.contents.Contents.TheVariants.{Empty}
 use Rattle.qm_contents.specs.Precedence.{IsAtMost}
 use Rattle.qm_compile.specs.declared.tree.Leaf.{Leaf}
 use Rattle.qm_compile.specs.Brushes.{drawn_brushes, contents_of_brush, IsOneBrushMap, AreValidFaces}
-use Rattle.qm_compile.specs.Chain.{chain, last_contents, tree_of_walk, tree_of_brush, tree_of_first, tree_of, GivesContents, open_leaf}
+use Rattle.qm_compile.specs.Chain.{last_contents, tree_of_walk, tree_of_first, tree_of, GivesContents, open_leaf}
 use Rattle.qm_compile.specs.Contents.{Holds, IsFull, IsHeldBy, IsBehindAll, IsNotInFrontOfAny, HasContents}
 use Rattle.qm_compile.specs.Walk.{Walk, walk_of}
 use Rattle.qm_compile.proofs.ChainContents.{IsLedRight, planes_stand, chain_leads_right}
@@ -41,7 +40,7 @@ module _ (meant : MapFile) (brush : Brush) (contents : Contents) (one : IsOneBru
   held_by x other its held =
       let among = subst (λ (brushes : List Brush). Contains brushes other) one held.drawn in
       let same : brush ≡ other = only_one brush other among in
-      let both : Some its ≡ Some contents = sym held.filled ∙ sym (ap contents_of_brush same) ∙ filled in
+      let both : Some its ≡ Some contents = sym held.its_contents ∙ sym (ap contents_of_brush same) ∙ filled in
       (subst (λ (b : Brush). Holds b x) (sym same) held.holds, cc)
 
   -- a point that the brush does not hold is empty
@@ -53,7 +52,7 @@ module _ (meant : MapFile) (brush : Brush) (contents : Contents) (one : IsOneBru
   is_filled x in_cube behind =
       let full : IsFull brush = record { within = x; in_cube = in_cube; behind = behind } in
       let drawn : Contains (drawn_brushes meant) brush = subst (λ (brushes : List Brush). Contains brushes brush) (sym one) (0, omega arith, refl) in
-      let held : IsHeldBy meant x brush contents = record { drawn = drawn; filled = filled; holds = record { full = full; not_in_front = not_in_front brush.faces x behind } } in
+      let held : IsHeldBy meant x brush contents = record { drawn = drawn; its_contents = filled; holds = record { full = full; not_in_front = not_in_front brush.faces x behind } } in
       record {
         given = inr (brush, held);
         strongest = λ other its held. at_most_itself its contents (held_by x other its held).1;
@@ -64,11 +63,11 @@ module _ (meant : MapFile) (brush : Brush) (contents : Contents) (one : IsOneBru
   right_contents walk right x found in_cube (inl led) =
       by_test walk.is_opposed
       (λ opposed.
-        let last : found ≡ open_leaf Empty = led.0 ∙ rw opposed refl in
-        rw last (is_empty x (λ holds. (right holds.full.within).opposed opposed tt holds.full.behind)))
+      let last : found ≡ open_leaf Empty = led.0 ∙ rw opposed refl in
+      rw last (is_empty x (λ holds. (right holds.full.within).opposed opposed tt holds.full.behind)))
       (λ unopposed.
-        let last : found ≡ open_leaf contents = led.0 ∙ rw unopposed refl in
-        rw last (is_filled x in_cube ((right x).inside led.1 unopposed).1))
+      let last : found ≡ open_leaf contents = led.0 ∙ rw unopposed refl in
+      rw last (is_filled x in_cube ((right x).inside led.1 unopposed).1))
   right_contents walk right x found in_cube (inr led) =
       rw led.0 (is_empty x (λ holds. led.1 ((right x).outside holds.not_in_front tt)))
 

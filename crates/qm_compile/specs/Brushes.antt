@@ -1,11 +1,10 @@
 use Rattle.std.specs.Prelude.{◌≡◌, ℕ, ◌^◌, ◌≤◌, List, [], ◌∷◌, length, filter, All, Bool, Option, is_some}
 use Rattle.qm_space.specs.Point.{AreCoordinates}
-use Rattle.qm_space.specs.ThreePoints.{AreOnOneLine}
 use Rattle.qm_mapfile.specs.declared.face.Face.{Face}
 use Rattle.qm_mapfile.specs.declared.entity.Brush.{Brush}
 use Rattle.qm_mapfile.specs.declared.entity.Entity.{Entity}
 use Rattle.qm_mapfile.specs.declared.entity.MapFile.{MapFile}
-use Rattle.qm_mapfile.specs.Face.{face_point}
+use Rattle.qm_mapfile.specs.Face.{HasPlane}
 use Rattle.qm_contents.specs.declared.contents.Contents.{Contents}
 use Rattle.qm_contents.specs.Texture.{contents_of_texture}
 
@@ -37,10 +36,6 @@ drawn_brushes meant = filter is_drawn (world_brushes meant)
 -- exactly one brush of the world is not clip, and it is this one
 abbrev pub IsOneBrushMap : MapFile → Brush → Type 0
 IsOneBrushMap meant brush = drawn_brushes meant ≡ brush ∷ []
-
--- a face whose three points are not on one line
-abbrev pub HasPlane : Face → Type 0
-HasPlane face = AreOnOneLine (face_point face 0) (face_point face 1) (face_point face 2) → ⊥
 
 -- the points of a face have coordinates of the closed cube
 abbrev pub HasCoordinates : Face → Type 0

@@ -3,12 +3,12 @@ use Rattle.qm_compile.specs.declared.tree.Node.{Node as NodeRecord}
 use Rattle.qm_compile.specs.declared.tree.Child.{Child}
 use Rattle.qm_compile.specs.declared.tree.Child.TheVariants.{Node, Leaf}
 
--- the child that goes on with so many faces of a chain: a leaf where there is none
+-- the child that goes on with so many sides of a chain: a leaf where there is none
 abbrev pub inner_child : ℕ → ℕ → ℕ → Child
-inner_child faces n k = if faces == 0 then Leaf k else Node n
+inner_child sides n k = if sides == 0 then Leaf k else Node n
 
--- one node of a chain: its plane's number, which is the node's own, its flag, how many faces are inside it, and how
+-- one node of a chain: its plane's number, which is the node's own, its flag, how many sides are inside it, and how
 -- many leaves come before its own
 abbrev pub chain_node : ℕ → Bool → ℕ → ℕ → NodeRecord
-chain_node n true faces k = record { plane = n; front = Leaf k; back = inner_child faces (n + 1) (k + 1) }
-chain_node n false faces k = record { plane = n; front = inner_child faces (n + 1) k; back = Leaf (k + faces + 1) }
+chain_node n true sides k = record { plane = n; front = Leaf k; back = inner_child sides (n + 1) (k + 1) }
+chain_node n false sides k = record { plane = n; front = inner_child sides (n + 1) k; back = Leaf (k + sides + 1) }

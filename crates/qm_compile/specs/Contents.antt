@@ -35,7 +35,7 @@ pub record Holds (brush : Brush) (x : Point) : Type 0 where
 -- a brush of these contents holds the point, one of the world's that are not clip
 pub record IsHeldBy (meant : MapFile) (x : Point) (brush : Brush) (contents : Contents) : Type 0 where
   pub drawn : Contains (drawn_brushes meant) brush
-  pub filled : contents_of_brush brush ≡ Some contents
+  pub its_contents : contents_of_brush brush ≡ Some contents
   pub holds : Holds brush x
 
 -- what the brushes of the world make of a point: the strongest contents of those that hold it, else empty

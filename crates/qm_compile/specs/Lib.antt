@@ -2,11 +2,13 @@ pub mod Brushes
 pub mod Chain
 pub mod ChainStep
 pub mod Command
-pub mod CompiledMap
-pub mod CompiledText
 pub mod Contents
+pub mod FaultText
+pub mod Made
 pub mod Numbering
 pub mod Outcome
+pub mod Product
+pub mod ReadTexts
 pub mod Run
 pub mod SideLists
 pub mod Sides

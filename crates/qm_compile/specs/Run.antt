@@ -1,15 +1,19 @@
-use Rattle.std.specs.Prelude.{◌≡◌, ℕ, Bool, IsTrue, ◌⊎◌, List, [], ◌++◌, take, Option, Some}
+use Rattle.std.specs.Prelude.{◌≡◌, ℕ, Bool, IsTrue, ◌⊎◌, List, [], ◌++◌, take, Option, Some, Result, Ok, Err}
 use Rattle.qm_shelf.specs.Counts.{Rose, Stays, StaysElsewhere}
 use Rattle.qm_shelf.specs.Reads.{bytes_of}
 use Rattle.qm_shelf.specs.Writes.{ContinuesInto}
 use Rattle.qm_mapfile.specs.declared.entity.MapFile.{MapFile}
-use Rattle.qm_map.specs.OneBrushText.{IsOneBrushText}
+use Rattle.qm_grammar.specs.declared.fault.MapFault.{MapFault}
+use Rattle.qm_grammar.specs.Meaning.{Means}
+use Rattle.qm_compile.specs.declared.job.Job.{Job}
+use Rattle.qm_compile.specs.declared.job.Job.TheVariants.{Compile}
 use Rattle.qm_compile.specs.declared.status.Status.{Status}
+use Rattle.qm_compile.specs.declared.status.Status.TheVariants as status
 use Rattle.qm_compile.specs.declared.status.Status.TheVariants.{Done, Usage, ReadFault, WriteFault, Memory, NotBuilt}
-use Rattle.qm_compile.specs.Command.{IsCompile}
-use Rattle.qm_compile.specs.Chain.{tree_of, GivesContents}
-use Rattle.qm_compile.specs.TreeFile.{file_of}
-use Rattle.qm_compile.specs.Texts.{usage_text, read_fault_text, write_fault_text, not_built_text, summary_of}
+use Rattle.qm_compile.specs.Command.{IsCommand}
+use Rattle.qm_compile.specs.FaultText.{fault_text}
+use Rattle.qm_compile.specs.Product.{file_for, report_of, Takes, IsTrueTo, HasNoOneBrush}
+use Rattle.qm_compile.specs.Texts.{usage_text, read_fault_text, write_fault_text, not_built_text}
 
 -- What a run of the program does to the outside: to a shelf of named files and to a sink for printed text.
 
@@ -56,65 +60,67 @@ pub record FailedToWrite (before after : ShelfState) (name : List ℕ) : Type 0 
   pub rose : Rose (before.write_faults name) (after.write_faults name)
   pub reads : Stays before.read_faults after.read_faults
 
--- a text under MAP means a map; where the shelf tells what it holds, the text is the one that it held
-pub record IsMeant (before : ShelfState) (map : List ℕ) (meant : MapFile) : Type 0 where
+-- what a text under MAP means, a map or a fault, and nothing else; where the shelf tells what it holds, the text is
+-- the one that it held
+pub record TextMeans (before : ShelfState) (map : List ℕ) (meaning : Result MapFile MapFault) : Type 0 where
   pub text : List ℕ
   pub is_held : IsTrue before.tells → text ≡ text_under before map
-  pub means : IsOneBrushText text meant
-  pub only : (other : MapFile) → IsOneBrushText text other → other ≡ meant
+  pub means : Means text meaning
+  pub only : (other : Result MapFile MapFault) → Means text other → other ≡ meaning
 
--- the file OUT is as it was, or has a prefix of the tree file of the map that is meant
-abbrev pub HoldsPart : ShelfState → ShelfState → List ℕ → List ℕ → Type 0
-HoldsPart before after map out =
+-- the file OUT is as it was, or has a prefix of the file that is made of the map that is meant
+abbrev pub HoldsPart : ShelfState → ShelfState → Job → List ℕ → List ℕ → Type 0
+HoldsPart before after job map out =
     (after.held out ≡ before.held out)
-    ⊎ ((meant : MapFile) × (count : ℕ) × IsMeant before map meant × (after.held out ≡ Some (take count (file_of (tree_of meant)))))
+    ⊎ ((meant : MapFile) × (count : ℕ) × TextMeans before map (Ok meant) × (after.held out ≡ Some (take count (file_for job meant))))
 
--- writing the tree file was not begun or not ended: every other file is as it was
-pub record IsUnfinished (before after : ShelfState) (map out : List ℕ) : Type 0 where
+-- writing the file was not begun or not ended: every other file is as it was
+pub record IsUnfinished (before after : ShelfState) (job : Job) (map out : List ℕ) : Type 0 where
   pub others : StaysElsewhere out before.held after.held
-  pub part : IsTrue before.tells → HoldsPart before after map out
+  pub part : IsTrue before.tells → HoldsPart before after job map out
 
--- the file OUT is the tree file of the map that is meant, every other file is as it was, and the tree gives each
--- point the contents that the map's brushes define there
-pub record IsCompiled (before after : ShelfState) (map out : List ℕ) (meant : MapFile) : Type 0 where
+-- the file OUT is the one that is made of the map that is meant, every other file is as it was, the map is one that
+-- the command takes, and the file is true to it
+pub record IsDone (before after : ShelfState) (job : Job) (map out : List ℕ) (meant : MapFile) : Type 0 where
   pub others : StaysElsewhere out before.held after.held
-  pub file : IsTrue before.tells → after.held out ≡ Some (file_of (tree_of meant))
-  pub is_meant : IsMeant before map meant
-  pub gives : GivesContents (tree_of meant) meant
+  pub file : IsTrue before.tells → after.held out ≡ Some (file_for job meant)
+  pub is_meant : TextMeans before map (Ok meant)
+  pub takes : Takes job meant
+  pub is_true : IsTrueTo job meant
 
--- the text under MAP means no map from which a tree is built
-abbrev pub MeansNothing : ShelfState → List ℕ → Type 0
-MeansNothing before map = IsTrue before.tells → (meant : MapFile) → IsOneBrushText (text_under before map) meant → ⊥
-
--- what comes of compiling MAP to OUT: a status, and the text that is due with it
-pub data ComesOf (before after : ShelfState) (map out : List ℕ) : Status → List ℕ → Type 0 where
+-- what comes of a command that reads MAP and writes OUT: a status, and the text that is due with it
+pub data ComesOf (before after : ShelfState) (job : Job) (map out : List ℕ) : Status → List ℕ → Type 0 where
   read_fault :
       FailedToRead before after map → IsKept before after →
-      ComesOf before after map out ReadFault read_fault_text
+      ComesOf before after job map out ReadFault read_fault_text
+  map_fault :
+      {found : MapFault} → TextMeans before map (Err found) → IsKept before after → MetNoFault before after →
+      ComesOf before after job map out status.MapFault (fault_text found)
   not_built :
-      MeansNothing before map → IsKept before after → MetNoFault before after →
-      ComesOf before after map out NotBuilt not_built_text
+      {meant : MapFile} → job ≡ Compile → TextMeans before map (Ok meant) → HasNoOneBrush meant →
+      IsKept before after → MetNoFault before after →
+      ComesOf before after job map out NotBuilt not_built_text
   write_fault :
-      FailedToWrite before after out → IsUnfinished before after map out →
-      ComesOf before after map out WriteFault write_fault_text
+      FailedToWrite before after out → IsUnfinished before after job map out →
+      ComesOf before after job map out WriteFault write_fault_text
   done :
-      {meant : MapFile} → IsCompiled before after map out meant → MetNoFault before after →
-      ComesOf before after map out Done (summary_of meant)
+      {meant : MapFile} → IsDone before after job map out meant → MetNoFault before after →
+      ComesOf before after job map out Done (report_of job meant)
 
 -- what comes of the words: they are no command, and the shelf is as it was; or what comes of the command
 pub data Due (words : List (List ℕ)) (before after : ShelfState) : Status → List ℕ → Type 0 where
   usage :
-      ((map out : List ℕ) → IsCompile words map out → ⊥) → IsKept before after → MetNoFault before after →
+      ((job : Job) (map out : List ℕ) → IsCommand words job map out → ⊥) → IsKept before after → MetNoFault before after →
       Due words before after Usage usage_text
   command :
-      {map out : List ℕ} {status : Status} {text : List ℕ} → IsCompile words map out →
-      ComesOf before after map out status text →
+      {job : Job} {map out : List ℕ} {status : Status} {text : List ℕ} → IsCommand words job map out →
+      ComesOf before after job map out status text →
       Due words before after status text
 
 -- memory ran out on the way: no call of the shelf failed
-pub record IsCutShort (before after : ShelfState) (map out : List ℕ) : Type 0 where
+pub record IsCutShort (before after : ShelfState) (job : Job) (map out : List ℕ) : Type 0 where
   pub no_fault : MetNoFault before after
-  pub unfinished : IsUnfinished before after map out
+  pub unfinished : IsUnfinished before after job map out
 
 -- all of a text was printed, and printing did not fail
 pub record IsPrinted (before after : SinkState) (text : List ℕ) : Type 0 where
@@ -138,13 +144,14 @@ Breaks words before after sink_before sink_after =
 -- memory ran out before a status was due, and nothing was printed
 abbrev pub RunsOut : List (List ℕ) → ShelfState → ShelfState → SinkState → SinkState → Type 0
 RunsOut words before after sink_before sink_after =
-    (map : List ℕ) × (out : List ℕ) × IsCompile words map out × IsCutShort before after map out × IsPrinted sink_before sink_after []
+    (job : Job) × (map : List ℕ) × (out : List ℕ) × IsCommand words job map out × IsCutShort before after job map out × IsPrinted sink_before sink_after []
 
 -- what each answer of a run says of the shelf and the sink before it and after it
 unfoldable pub Answers : List (List ℕ) → ShelfState → ShelfState → SinkState → SinkState → Status → Type 0
 Answers words before after sink_before sink_after Done = Reports words before after sink_before sink_after Done
 Answers words before after sink_before sink_after Usage = Reports words before after sink_before sink_after Usage
 Answers words before after sink_before sink_after ReadFault = Reports words before after sink_before sink_after ReadFault
+Answers words before after sink_before sink_after status.MapFault = Reports words before after sink_before sink_after status.MapFault
 Answers words before after sink_before sink_after NotBuilt = Reports words before after sink_before sink_after NotBuilt
 Answers words before after sink_before sink_after WriteFault =
     Reports words before after sink_before sink_after WriteFault

@@ -10,15 +10,15 @@ use crate::tree::{Child, Leaf, Node};
 use qm_contents::Contents;
 use std::alloc::{AllocError, Global};
 
-/// The node of the side `plane` of a chain with `inner_faces` sides inside it, where `before` leaves
+/// The node of the side `plane` of a chain with `inner_sides` sides inside it, where `before` leaves
 /// come before those of this node.
-fn node_of_face(plane: u32, out_is_front: bool, inner_faces: u64, before: u64) -> Node
+fn node_of_side(plane: u32, out_is_front: bool, inner_sides: u64, before: u64) -> Node
     requires plane_in { plane < 2 ^ 32 - 1 }
-    requires few { inner_faces + before < 2 ^ 62 }
-    ensures { result ≡ chain_node plane out_is_front inner_faces before }
+    requires few { inner_sides + before < 2 ^ 62 }
+    ensures { result ≡ chain_node plane out_is_front inner_sides before }
 {
     let first_inner = if out_is_front { before + 1 } else { before };
-    let inner = if inner_faces == 0 {
+    let inner = if inner_sides == 0 {
         Child::Leaf(first_inner)
     } else {
         Child::Node(u64::from(plane) + 1)
@@ -33,7 +33,7 @@ fn node_of_face(plane: u32, out_is_front: bool, inner_faces: u64, before: u64) -
         Node {
             plane,
             front: inner,
-            back: Child::Leaf(before + inner_faces + 1),
+            back: Child::Leaf(before + inner_sides + 1),
         }
     }
 }
@@ -47,8 +47,8 @@ pub fn nodes_of_chain(alloc: Global, flags: &[bool]) -> Result<Vec<Node>, AllocE
     let mut nodes = Vec::with_capacity(alloc, flags.len())?;
     let mut before = 0;
     for (plane, out_is_front) in flags.iter().enumerate() {
-        let inner_faces = (flags.len() - plane - 1) as u64;
-        nodes.push(node_of_face(plane as u32, *out_is_front, inner_faces, before))?;
+        let inner_sides = (flags.len() - plane - 1) as u64;
+        nodes.push(node_of_side(plane as u32, *out_is_front, inner_sides, before))?;
         before += u64::from(*out_is_front);
     }
     Ok(nodes)

@@ -1,67 +1,44 @@
 //! From a map to the bytes of its tree file.
 
-ghost use Rattle.std.specs.Prelude.{◌≡◌, ◌++◌, if◌then◌else◌, Err, IfOk, OnOk, MatchOption, codes, string_bytes};
-ghost use Rattle.qm_map.specs.OneBrushText.{IsOneBrushText};
-ghost use Rattle.qm_mapfile.specs.declared.entity.MapFile.{MapFile};
-ghost use Rattle.qm_compile.specs.Brushes.{AreValidFaces, HasValidBrushes};
+ghost use Rattle.std.specs.Prelude.{◌≡◌, ◌++◌, if◌then◌else◌, IfOk, MatchOption, codes, string_bytes};
+ghost use Rattle.qm_grammar.specs.Valid.{IsValid};
+ghost use Rattle.qm_compile.specs.declared.job.Job.TheVariants.{Compile};
+ghost use Rattle.qm_compile.specs.Brushes.{AreValidFaces};
 ghost use Rattle.qm_compile.specs.Chain.{tree_of_walk};
-ghost use Rattle.qm_compile.specs.CompiledMap.{IsCompiledMap, HasNoOneBrush};
-ghost use Rattle.qm_compile.specs.CompiledText.{IsCompiledText};
+ghost use Rattle.qm_compile.specs.Product.{IsProduct, HasNoOneBrush};
 ghost use Rattle.qm_compile.specs.Texts.{count_line, tree_summary};
 ghost use Rattle.qm_compile.specs.TreeFile.{file_of};
 ghost use Rattle.qm_compile.specs.Walk.{walk_of};
 
 use crate::chain::{leaves_of_chain, nodes_of_chain};
+use crate::counts::put_count;
+use crate::made::Product;
 use crate::one_brush::{contents_of_brush, one_brush};
 use crate::tree_file::encode;
 use crate::walk::{Walk, walk_along};
 use qm_contents::Contents;
-use qm_map::{MapFault, parse};
 use qm_mapfile::{Face, MapFile};
 use std::alloc::{AllocError, Global};
 
-/// A tree file, and the summary that is printed of it.
-#[derive(Drop)]
-pub struct Compiled {
-    pub file: Vec<u8>,
-    pub summary: String,
-}
-
-/// Compiles the map that a text means. It is `NotBuilt` exactly where the text means no map of one
-/// brush.
-pub fn compile_text(alloc: Global, text: &[u8]) -> Result<Compiled, MapFault>
-    ensures ok { IfOk result (λ compiled. IsCompiledText text.now compiled.file.items (string_bytes compiled.summary)) }
-    ensures not_built { result ≡ Err MapFault.NotBuilt → (meant : MapFile) → IsOneBrushText text.now meant → ⊥ }
-{
-    let map = match parse(alloc, text) {
-        Ok(map) => map,
-        Err(fault) => return Err(fault),
-    };
-    match compile(alloc, &map)? {
-        Some(compiled) => Ok(compiled),
-        None => Err(MapFault::NotBuilt),
-    }
-}
-
-/// Compiles a map to a tree that gives each point the contents that the map's brushes define there. It
-/// is `None` exactly where not exactly one brush of the world is not clip.
-fn compile(alloc: Global, map: &MapFile) -> Result<Option<Compiled>, AllocError>
-    requires { HasValidBrushes map.now }
-    ensures { IfOk result (λ found. MatchOption found (HasNoOneBrush map.now) (λ compiled. IsCompiledMap map.now compiled.file.items (string_bytes compiled.summary))) }
+/// Compiles a map to a tree that gives each point the contents that the map's brushes define there, with
+/// its summary. It is `None` exactly where not exactly one brush of the world is not clip.
+pub fn compile(alloc: Global, map: &MapFile) -> Result<Option<Product>, AllocError>
+    requires { IsValid map.now }
+    ensures { IfOk result (λ found. MatchOption found (HasNoOneBrush map.now) (λ product. IsProduct Compile map.now product.file.items (string_bytes product.report))) }
 {
     let Some(brush) = one_brush(map) else {
         return Ok(None);
     };
     let contents = contents_of_brush(brush).unwrap();
-    let compiled = compile_faces(alloc, brush.faces.as_slice(), contents)?;
-    Ok(Some(compiled))
+    let product = compile_faces(alloc, brush.faces.as_slice(), contents)?;
+    Ok(Some(product))
 }
 
 /// Compiles the one brush of a map, which has these faces and contents, to a chain.
-fn compile_faces(alloc: Global, faces: &[Face], contents: Contents) -> Result<Compiled, AllocError>
+fn compile_faces(alloc: Global, faces: &[Face], contents: Contents) -> Result<Product, AllocError>
     requires { AreValidFaces faces.now }
-    ensures file { IfOk result (λ compiled. compiled.file.items ≡ file_of (tree_of_walk (walk_of faces.now) contents)) }
-    ensures summary { IfOk result (λ compiled. string_bytes compiled.summary ≡ tree_summary 1 (tree_of_walk (walk_of faces.now) contents)) }
+    ensures file { IfOk result (λ product. product.file.items ≡ file_of (tree_of_walk (walk_of faces.now) contents)) }
+    ensures report { IfOk result (λ product. string_bytes product.report ≡ tree_summary 1 (tree_of_walk (walk_of faces.now) contents)) }
 {
     let walk = walk_along(alloc, faces)?;
     let last = last_contents(&walk, contents);
@@ -69,8 +46,8 @@ fn compile_faces(alloc: Global, faces: &[Face], contents: Contents) -> Result<Co
     let nodes = nodes_of_chain(alloc, &walk.out_is_front)?;
     let leaves = leaves_of_chain(alloc, &walk.out_is_front, last)?;
     let file = encode(alloc, planes, &nodes, &leaves)?;
-    let summary = summary(alloc, 1, planes.len(), nodes.len(), leaves.len())?;
-    Ok(Compiled { file, summary })
+    let report = summary(alloc, 1, planes.len(), nodes.len(), leaves.len())?;
+    Ok(Product { file, report })
 }
 
 /// What the last leaf of a chain has: the contents of the brush, or nothing where one of its faces is
@@ -101,10 +78,4 @@ fn summary(
     put_count(&mut text, "nodes", nodes)?;
     put_count(&mut text, "leaves", leaves)?;
     Ok(text)
-}
-
-fn put_count(text: &mut String, name: &str, count: usize) -> Result<(), AllocError>
-    ensures { OnOk result (string_bytes text.new ≡ string_bytes text.old ++ count_line name.now count) }
-{
-    writeln!(text, "{name} {count}")
 }

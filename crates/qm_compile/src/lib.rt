@@ -4,6 +4,12 @@
 mod chain;
 mod command;
 mod compile;
+mod counts;
+mod fault_text;
+mod format;
+mod job;
+mod made;
+mod make;
 mod one_brush;
 mod outcome;
 mod program;

@@ -2,7 +2,7 @@
 
 ghost use Rattle.std.specs.Prelude.{◌≡◌, IfSome, IfNone};
 ghost use Rattle.qm_compile.specs.Brushes.{world_brushes, first_texture, contents_of_brush, IsOneBrushMap};
-ghost use Rattle.qm_compile.specs.CompiledMap.{HasNoOneBrush};
+ghost use Rattle.qm_compile.specs.Product.{HasNoOneBrush};
 
 use qm_contents::{Contents, of_texture};
 use qm_mapfile::{Brush, MapFile};

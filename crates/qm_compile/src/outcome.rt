@@ -5,10 +5,12 @@ use crate::status::Status;
 /// What came of a command, before it is printed.
 #[derive(Drop)]
 pub enum Outcome {
-    /// The tree file is written; the text is its summary.
+    /// The file is written; the text is what is reported of it.
     Done(String),
     Usage,
     ReadFault,
+    /// The text of the map has a fault; the text is the line that says which.
+    MapFault(String),
     WriteFault,
     NotBuilt,
 }
@@ -24,6 +26,7 @@ impl Outcome {
             Outcome::Done(_) => Status::Done,
             Outcome::Usage => Status::Usage,
             Outcome::ReadFault => Status::ReadFault,
+            Outcome::MapFault(_) => Status::MapFault,
             Outcome::WriteFault => Status::WriteFault,
             Outcome::NotBuilt => Status::NotBuilt,
         }
@@ -35,10 +38,11 @@ impl Outcome {
         ensures { result.now ≡ text_of self.now }
     {
         match self {
-            Outcome::Done(summary) => summary.as_bytes(),
+            Outcome::Done(report) => report.as_bytes(),
             Outcome::Usage =>
                 b"usage: qmapc compile MAP OUT [--prt FILE] [--threads N] [--fast] | inspect TREE QUERY.. | format MAP OUT | demo N NUMBER\n",
             Outcome::ReadFault => b"read fault\n",
+            Outcome::MapFault(line) => line.as_bytes(),
             Outcome::WriteFault => b"write fault\n",
             Outcome::NotBuilt => b"not built\n",
         }

@@ -3,6 +3,8 @@
 ghost use Rattle.std.specs.Prelude.{◌≡◌, ◌<◌, ◌≤◌, ◌+◌, ◌-◌, ◌^◌, ◌++◌, IsTrue, IfOk, length, take, drop, Ok, vec_len};
 ghost use Rattle.qm_shelf.specs.Counts.{Stays, ShelfCounted};
 ghost use Rattle.qm_shelf.specs.Reads.{bytes_of};
+ghost use Rattle.qm_grammar.specs.Faults.{text_limit};
+ghost use Rattle.qm_compile.specs.ReadTexts.{read_of};
 
 use qm_shelf::{Shelf, ShelfFault};
 use std::alloc::{AllocError, Global};
@@ -11,11 +13,11 @@ use std::alloc::{AllocError, Global};
 pub const PIECE: usize = 65_536;
 
 /// The most bytes that a text may have.
-pub const TEXT_LIMIT: usize = 65_536;
+pub const TEXT_LIMIT: usize = 67_108_864;
 
 /// Reads the text under a name to its end, or to one byte past the limit of a text.
 pub fn read_text<H: Shelf>(alloc: Global, shelf: &mut H, name: &str) -> Result<Vec<u8>, ShelfFault>
-    ensures text { IfOk result (λ text. IsTrue H.tells → text.items ≡ take 65537 (bytes_of (H.held shelf.old name.now))) }
+    ensures text { IfOk result (λ text. IsTrue H.tells → text.items ≡ read_of (bytes_of (H.held shelf.old name.now))) }
     ensures held_stays { Stays (H.held shelf.old) (H.held shelf.new) }
     ensures write_faults_stay { Stays (H.write_faults shelf.old) (H.write_faults shelf.new) }
     ensures read_faults_counted { ShelfCounted result name.now (H.read_faults shelf.old) (H.read_faults shelf.new) }
@@ -50,11 +52,11 @@ fn read_piece<H: Shelf>(
     piece: &mut [u8],
     text: &mut Vec<u8>,
 ) -> Result<usize, ShelfFault>
-    requires room { vec_len text.old < 65537 }
+    requires room { vec_len text.old ≤ text_limit }
     requires piece { length piece.old ≡ 65536 }
     ensures text { IsTrue H.tells → IfOk result (λ count. text.new.items ≡ text.old.items ++ take count (drop (vec_len text.old) (bytes_of (H.held shelf.old name.now)))) }
     ensures count { IfOk result (λ count. vec_len text.new ≡ vec_len text.old + count) }
-    ensures limit { IfOk result (λ count. vec_len text.new ≤ 65537) }
+    ensures limit { IfOk result (λ count. vec_len text.new ≤ text_limit + 1) }
     ensures progress { IsTrue H.tells → result ≡ Ok 0 → length (bytes_of (H.held shelf.old name.now)) ≤ vec_len text.old }
     ensures held_stays { Stays (H.held shelf.old) (H.held shelf.new) }
     ensures write_faults_stay { Stays (H.write_faults shelf.old) (H.write_faults shelf.new) }

@@ -3,17 +3,19 @@ ghost use Rattle.std.specs.Prelude.{◌≡◌};
 /// How a run of the program ended.
 #[derive(Clone, Copy, Debug, PartialEq, Eq)]
 pub enum Status {
-    /// The tree file is written and its summary is printed.
+    /// The file is written, and what it has is printed.
     Done,
     /// The words are no command of the program.
     Usage,
+    /// The text of the map has a fault, which is printed.
+    MapFault,
     /// Reading the map failed.
     ReadFault,
-    /// Writing the tree file or printing failed.
+    /// Writing the file or printing failed.
     WriteFault,
     /// Memory ran out.
     Memory,
-    /// The map is of a form from which no tree is built.
+    /// No tree is built of the map: its world has not exactly one brush that is not clip.
     NotBuilt,
 }
 
@@ -27,6 +29,7 @@ impl Status {
         match self {
             Status::Done => 0,
             Status::Usage => 2,
+            Status::MapFault => 4,
             Status::ReadFault => 5,
             Status::WriteFault => 6,
             Status::Memory => 7,

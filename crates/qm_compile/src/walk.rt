@@ -2,8 +2,8 @@
 
 ghost use Rattle.std.specs.Prelude.{◌≡◌, ◌<◌, ◌≤◌, ◌+◌, ◌-◌, ◌^◌, List, length, vec_len, IfOk, IsTrue};
 ghost use Rattle.qm_space.specs.Reduced.{leads_positive};
-ghost use Rattle.qm_mapfile.specs.Face.{face_plane};
-ghost use Rattle.qm_compile.specs.Brushes.{HasPlane, HasCoordinates, AreValidFaces};
+ghost use Rattle.qm_mapfile.specs.Face.{HasPlane, face_plane};
+ghost use Rattle.qm_compile.specs.Brushes.{HasCoordinates, AreValidFaces};
 ghost use Rattle.qm_compile.specs.Sides.{Side};
 ghost use Rattle.qm_compile.specs.SideLists.{AreSides, IsJoined, IsWalk};
 ghost use Rattle.qm_compile.specs.Walk.{walk_of};

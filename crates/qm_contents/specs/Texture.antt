@@ -1,4 +1,4 @@
-use Rattle.std.specs.Prelude.{ℕ, Bool, List, Option, Some, None, length, take, codes, if◌then◌else◌}
+use Rattle.std.specs.Prelude.{◌≡◌, ℕ, Bool, List, Option, Some, None, length, take, codes, if◌then◌else◌}
 use Rattle.std.specs.Str.{bytes_eq, str_to_ascii_lowercase}
 use Rattle.qm_contents.specs.declared.contents.Contents.{Contents}
 use Rattle.qm_contents.specs.declared.contents.Contents.TheVariants.{Solid, Water, Slime, Lava, Sky}
@@ -12,6 +12,10 @@ begins name prefix = bytes_eq (take (length prefix) (str_to_ascii_lowercase name
 -- whether a whole name, in small letters, is this one
 abbrev pub is_called : List ℕ → List ℕ → Bool
 is_called name word = bytes_eq (str_to_ascii_lowercase name) word
+
+-- a whole name, in small letters, is this one
+abbrev pub IsCalled : List ℕ → List ℕ → Type 0
+IsCalled name word = str_to_ascii_lowercase name ≡ word
 
 -- the contents that a texture's name gives, by the first rule that fits; none for what is not in the drawn world
 unfoldable pub contents_of_texture : List ℕ → Option Contents

@@ -1,6 +1,6 @@
-ghost use Rattle.std.specs.Prelude.{◌≡◌};
+ghost use Rattle.std.specs.Prelude.{◌≡◌, ◌↔◌, IsNone, codes};
 ghost use Rattle.std.specs.Str.{str_to_ascii_lowercase};
-ghost use Rattle.qm_contents.specs.Texture.{begins, contents_of_texture};
+ghost use Rattle.qm_contents.specs.Texture.{begins, contents_of_texture, IsCalled};
 
 use crate::contents::Contents;
 
@@ -10,7 +10,8 @@ use crate::contents::Contents;
 /// sky; any other is solid.
 #[tactic(auto, unfolding(crate::specs::Texture::contents_of_texture))]
 pub fn of_texture(name: &[u8]) -> Option<Contents>
-    ensures { result ≡ contents_of_texture name.now }
+    ensures value { result ≡ contents_of_texture name.now }
+    ensures clip { IsNone result ↔ IsCalled name.now (codes "clip") }
 {
     if begins(name, b"*lava") {
         Some(Contents::Lava)

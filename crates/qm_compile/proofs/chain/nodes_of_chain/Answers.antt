@@ -10,5 +10,5 @@ loop-plane-preserved c =
     let flag = get_or flags plane false in
     let within : plane < length flags = omega arith in
     let added : c.from-before.result ≡ leaves_before flag = c.from-before.ensures ∙ bool_byte-is flag in
-    let all = λ (last : Contents). nodes_so_far last c.loop-plane.nodes.items c.node_of_face.result flags plane c.loop-plane.before _ within c.node_of_face.ensures (c.loop-plane.invariant.all last) in
+    let all = λ (last : Contents). nodes_so_far last c.loop-plane.nodes.items c.node_of_side.result flags plane c.loop-plane.before _ within c.node_of_side.ensures (c.loop-plane.invariant.all last) in
     record { all = λ last. rw (c.in_ok-push.ensures.items, added) (all last); few = omega (arith, leaves_before-le flag, added) }

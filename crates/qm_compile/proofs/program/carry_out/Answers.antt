@@ -9,4 +9,4 @@ returns-in-None-clause-due g c =
 
 pub returns-in-Some-clause-due : goal.returns-in-Some-clause-due
 returns-in-Some-clause-due g c =
-    IfOk-weaker c.compile_file.result _ _ (λ outcome comes. command c.in-Some.ensures.files comes) c.compile_file.ensures.due
+    IfOk-weaker c.carry_out_command.result _ _ (λ outcome comes. command c.in-Some.ensures.command comes) c.carry_out_command.ensures.due

@@ -11,7 +11,7 @@ use Rattle.qm_compile.proofs.program.run.Goals as goal
 pub returns-in_default : goal.returns-in_default
 returns-in_default g c =
     let short = c.in_default.ensures.memory in
-    answers_run_out _ _ _ _ _ (short.0, short.1, short.2, short.3, record { printed = λ tells. sym (append-nil _); faults = refl })
+    answers_run_out _ _ _ _ _ (short.0, short.1, short.2, short.3, short.4, record { printed = λ tells. sym (append-nil _); faults = refl })
 
 pub returns-in-Ok-write : goal.returns-in-Ok-write
 returns-in-Ok-write g c =

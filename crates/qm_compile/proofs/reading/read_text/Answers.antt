@@ -1,6 +1,8 @@
 use Rattle.std.proofs.Common.{◌≡◌, ◌+◌, ◌++◌, ◌≤◌, ℕ, List, Ok, take, drop, vec_len, length, sym, ap, ◌∙◌, arith, subst}
 use Rattle.std.proofs.lemmas.List.{length-take, length-append, length-drop}
 use Rattle.qm_shelf.specs.Reads.{bytes_of}
+use Rattle.qm_grammar.specs.Faults.{text_limit}
+use Rattle.qm_compile.specs.ReadTexts.{read_of}
 use Rattle.qm_compile.proofs.Counted.{fault_counted_since, stays_twice}
 use Rattle.qm_compile.proofs.Pieces.{read_further, read_all}
 use Rattle.qm_compile.proofs.reading.read_text.Goals as goal
@@ -35,6 +37,7 @@ loop-shelf-preserved g c =
     }
 
 pub returns-then-count-eq0-clause-text : goal.returns-then-count-eq0-clause-text
+unfolding read_of
 returns-then-count-eq0-clause-text g c = λ tells.
     let name = c.args.name.now in
     let bytes = bytes_of (g.H.Shelf.held c.args.shelf.now name) in
@@ -46,12 +49,13 @@ returns-then-count-eq0-clause-text g c = λ tells.
     let stopped = c.in-Ok.ensures.progress tells (ap (λ (n : ℕ). Ok n) none) in
     let end = subst (λ (file : List ℕ). length file ≤ vec_len old) same stopped in
     let so_far = read_further bytes old.items new.items (vec_len old) c.in-Ok.count (c.loop-shelf.invariant.so_far tells) grew in
-    read_all bytes new.items (vec_len old + c.in-Ok.count) 65537 so_far (omega (arith, end, none)) (omega (arith, none, c.loop-shelf.invariant.limit))
+    read_all bytes new.items (vec_len old + c.in-Ok.count) (text_limit + 1) so_far (omega (arith, end, none)) (omega (arith, none, c.loop-shelf.invariant.limit))
 
 pub returns-then-count-eq0-clause-held_stays : goal.returns-then-count-eq0-clause-held_stays
 returns-then-count-eq0-clause-held_stays g c = stays_twice _ _ _ c.loop-shelf.invariant.held c.in-Ok.ensures.held_stays
 
 pub returns-clause-text : goal.returns-clause-text
+unfolding read_of
 returns-clause-text g c = λ tells.
-    let all : vec_len c.loop-shelf.text ≡ 65537 = omega arith in
+    let all : vec_len c.loop-shelf.text ≡ text_limit + 1 = omega arith in
     c.loop-shelf.invariant.so_far tells ∙ ap (λ (n : ℕ). take n (bytes_of (g.H.Shelf.held c.args.shelf.now c.args.name.now))) all

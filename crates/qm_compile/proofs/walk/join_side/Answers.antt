@@ -1,4 +1,4 @@
-use Rattle.std.proofs.Common.{◌≡◌, ◌≢◌, ◌∙◌, sym, ap, subst, ℕ, List, Bool, false, length, get_or, arith}
+use Rattle.std.proofs.Common.{◌≡◌, ◌≢◌, ap, Bool, false, length, arith}
 use Rattle.std.specs.Bool.{beq}
 use Rattle.std.proofs.lemmas.List.{get_or_read}
 use Rattle.qm_compile.proofs.KnownSides.{joined_new, joined_known, known-within}

@@ -1,0 +1,18 @@
+use qm_map::MapFault;
+
+/// A file, and the text that is printed of it.
+#[derive(Drop)]
+pub struct Product {
+    pub file: Vec<u8>,
+    pub report: String,
+}
+
+/// What comes of a text.
+#[derive(Drop)]
+pub enum Made {
+    Product(Product),
+    /// The text has this fault.
+    Fault(MapFault),
+    /// No tree is built of the map: its world has not exactly one brush that is not clip.
+    NotBuilt,
+}
