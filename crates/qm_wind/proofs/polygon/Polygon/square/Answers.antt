@@ -1,6 +1,6 @@
 use Rattle.std.proofs.Common.{◌∙◌}
 use Rattle.qm_wind.proofs.KeptCorners.{kept_square, square_first, square_second, square_third, square_fourth}
-use Rattle.qm_wind.proofs.winding.Winding.square.Goals as goal
+use Rattle.qm_wind.proofs.polygon.Polygon.square.Goals as goal
 
 pub invariant_of-result-2 : goal.invariant_of-result-2
 invariant_of-result-2 c =

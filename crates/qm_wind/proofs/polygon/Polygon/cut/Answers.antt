@@ -5,7 +5,7 @@ use Rattle.qm_convex.specs.Cut.{IsFrontRun}
 use Rattle.qm_convex.specs.Sides.{HasCornerBehind}
 use Rattle.qm_convex.proofs.Places.{after_below}
 use Rattle.qm_wind.proofs.KeptCorners.{leaving_weight, entering_weight, kept_length, view_length, cut_view, kept_cut}
-use Rattle.qm_wind.proofs.winding.Winding.cut.Goals as goal
+use Rattle.qm_wind.proofs.polygon.Polygon.cut.Goals as goal
 
 pub arc-requires-2 : goal.arc-requires-2
 arc-requires-2 c =
