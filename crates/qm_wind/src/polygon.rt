@@ -5,7 +5,7 @@ ghost use Rattle.qm_convex.specs.Cut.{IsFrontRun, IsPartInFront, cut};
 ghost use Rattle.qm_convex.specs.Sides.{HasCornerBehind, HasNoneInFront};
 ghost use Rattle.qm_wind.specs.Survey.{IsSurvey};
 
-use crate::circle::{arc, item, place_after, steps_between};
+use crate::circle::{add_arc, item, place_after, steps_between};
 use crate::sides::Sides;
 use crate::walls::opposite;
 use qm_geom::{Corner, Plane};
@@ -98,8 +98,10 @@ impl Polygon {
     {
         let _ = &plane.nx;
         let alloc = *self.edges.allocator();
-        let mut edges = arc(alloc, self.edges.as_slice(), start, count + 1)?;
-        let mut corners = arc(alloc, self.corners.as_slice(), start, count)?;
+        let mut edges = SmallVec::new(alloc);
+        add_arc(&mut edges, self.edges.as_slice(), start, count + 1)?;
+        let mut corners = SmallVec::new(alloc);
+        add_arc(&mut corners, self.corners.as_slice(), start, count)?;
         let last = item(
             self.edges.as_slice(),
             place_after(self.edges.len(), start, count),

@@ -7,8 +7,8 @@ use Rattle.qm_convex.proofs.Places.{after_below}
 use Rattle.qm_wind.proofs.KeptCorners.{leaving_weight, entering_weight, kept_length, view_length, cut_view, kept_cut}
 use Rattle.qm_wind.proofs.polygon.Polygon.cut.Goals as goal
 
-pub arc-requires-2 : goal.arc-requires-2
-arc-requires-2 c =
+pub add_arc-requires-2 : goal.add_arc-requires-2
+add_arc-requires-2 c =
     let a = ap length c.as_slice-2.ensures in
     let b = kept_length _ _ c.self.invariant in
     let d = view_length _ _ c.self.view_is in
@@ -37,15 +37,15 @@ invariant_of-result c =
     (c.item-last.ensures c.self.inside.plane ∙ ap (λ es. get_or es c.place_after.result c.self.inside.plane) c.as_slice-3.ensures
     ∙ ap (λ i. get_or c.self.inside.edges.items i c.self.inside.plane) (c.place_after.ensures ∙ ap (λ n. place_after n c.args.start c.args.count) c.len.ensures.value))
     (c.item-first.ensures c.self.inside.plane ∙ ap (λ es. get_or es c.args.start c.self.inside.plane) c.as_slice-4.ensures)
-    (cut_view _ _ c.args.plane.now c.args.start c.args.count _ refl (c.in_ok-push.ensures.ok ∙ ap₂ (λ es g. es ++ g ∷ []) (c.in_ok-edges.ensures ∙ ap (λ es. take (c.args.count + 1) (turned_list c.args.start es)) c.as_slice.ensures) c.plane.view_is))
+    (cut_view _ _ c.args.plane.now c.args.start c.args.count _ refl (c.in_ok-push.ensures.ok ∙ ap₂ (λ es g. es ++ g ∷ []) (c.in_ok-add_arc.ensures ∙ ap₂ (λ old es. old ++ take (c.args.count + 1) (turned_list c.args.start es)) c.new-edges.ensures.items c.as_slice.ensures) c.plane.view_is))
     (c.in_ok-push-3.ensures.ok
-    ∙ ap (λ ps. ps ++ c.turning-2.result ∷ []) (c.in_ok-push-2.ensures.ok ∙ ap (λ ps. ps ++ c.turning.result ∷ []) (c.in_ok-corners.ensures ∙ ap (λ ps. take c.args.count (turned_list c.args.start ps)) c.as_slice-2.ensures))
+    ∙ ap (λ ps. ps ++ c.turning-2.result ∷ []) (c.in_ok-push-2.ensures.ok ∙ ap (λ ps. ps ++ c.turning.result ∷ []) (c.in_ok-add_arc-2.ensures ∙ ap₂ (λ old ps. old ++ take c.args.count (turned_list c.args.start ps)) c.new-corners.ensures.items c.as_slice-2.ensures))
     ∙ ap₂ (λ m n. (take c.args.count (turned_list c.args.start c.self.inside.corners.items) ++ m ∷ []) ++ n ∷ []) c.turning.ensures c.turning-2.ensures)
 
 pub returns : goal.returns
 returns c =
     cut_view _ _ c.args.plane.now c.args.start c.args.count _ c.self.view_is
-    (c.in_ok-push.ensures.ok ∙ ap₂ (λ es g. es ++ g ∷ []) (c.in_ok-edges.ensures ∙ ap (λ es. take (c.args.count + 1) (turned_list c.args.start es)) c.as_slice.ensures) c.plane.view_is)
+    (c.in_ok-push.ensures.ok ∙ ap₂ (λ es g. es ++ g ∷ []) (c.in_ok-add_arc.ensures ∙ ap₂ (λ old es. old ++ take (c.args.count + 1) (turned_list c.args.start es)) c.new-edges.ensures.items c.as_slice.ensures) c.plane.view_is)
 
 pub turning-requires : goal.turning-requires
 turning-requires c =
