@@ -61,10 +61,14 @@ impl Polygon {
         ensures { IfOk result (λ w. w ≡ self.now) }
     {
         let alloc = *self.edges.allocator();
+        let mut edges = SmallVec::new(alloc);
+        edges.extend_from_slice(self.edges.as_slice())?;
+        let mut corners = SmallVec::new(alloc);
+        corners.extend_from_slice(self.corners.as_slice())?;
         Ok(Polygon {
             plane: self.plane,
-            edges: SmallVec::from_slice(alloc, self.edges.as_slice())?,
-            corners: SmallVec::from_slice(alloc, self.corners.as_slice())?,
+            edges,
+            corners,
         })
     }
 

@@ -75,30 +75,24 @@ fn chain(start: &Winding, planes: &[Plane], tally: Tally) -> Result<Tally, Alloc
     for plane in planes {
         let clip = winding.clip(plane, Side::Back)?;
         tally = tally.with(&clip);
-        winding = left_or_anew(winding, clip, start)?;
+        match clip {
+            Clip::Whole => {}
+            Clip::Gone => winding = start.copy()?,
+            Clip::Cut(part) => winding = part,
+        }
     }
     Ok(tally)
-}
-
-/// What a clip left, or the first winding where it left nothing.
-fn left_or_anew(winding: Winding, clip: Clip, start: &Winding) -> Result<Winding, AllocError> {
-    match clip {
-        Clip::Whole => Ok(winding),
-        Clip::Gone => start.copy(),
-        Clip::Cut(part) => Ok(part),
-    }
 }
 
 /// What planes leave of a winding behind them.
 fn cut_by(winding: Winding, planes: &[Plane]) -> Result<Option<Winding>, AllocError> {
     let mut winding = winding;
     for plane in planes {
-        let clip = winding.clip(plane, Side::Back)?;
-        winding = match clip {
-            Clip::Whole => winding,
+        match winding.clip(plane, Side::Back)? {
+            Clip::Whole => {}
             Clip::Gone => return Ok(None),
-            Clip::Cut(part) => part,
-        };
+            Clip::Cut(part) => winding = part,
+        }
     }
     Ok(Some(winding))
 }
