@@ -5,7 +5,7 @@ use Rattle.std.proofs.lemmas.Bool.{cases_eq, cases_lt}
 use Rattle.std.proofs.lemmas.List.{ext_get_or, get_or-take, get_or_append_left, get_or-append_right, get_or_at, length-take-le, length-append}
 use Rattle.std.proofs.lemmas.List.Elements.{All-nil, All-push, All-take, All-drop, All-append, All-from_get_or}
 use Rattle.qm_space.specs.Point.{Point}
-use Rattle.qm_space.specs.Plane.{Plane, value, IsOn, IsInFront, IsBehind, flipped}
+use Rattle.qm_space.specs.Plane.{Plane, value, IsInFront, IsBehind, flipped}
 use Rattle.qm_space.specs.Meet.{meet}
 use Rattle.qm_space.proofs.IntegerProducts.{linear}
 use Rattle.qm_space.proofs.Signs.{by_least, by_sign}

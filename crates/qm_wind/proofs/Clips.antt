@@ -1,5 +1,5 @@
 -- What a survey of the corners says of a winding.
-use Rattle.std.proofs.Common.{◌≡◌, ℕ, ◌<◌, true, false, ⊎_elim, Option, None, Some, Result, Ok, Err, length, ap, sym, ◌∙◌, subst, arith}
+use Rattle.std.proofs.Common.{◌≡◌, ℕ, ◌<◌, true, false, ⊎_elim, Option, None, Some, length, ap, sym, ◌∙◌, subst, arith}
 use Rattle.std.proofs.lemmas.Bool.{MatchBool-at_true, MatchBool-at_false}
 use Rattle.qm_space.specs.Plane.{Plane, value, flipped}
 use Rattle.qm_space.proofs.IntegerProducts.{linear}
@@ -12,9 +12,6 @@ use Rattle.qm_convex.proofs.Places.{next_below}
 use Rattle.qm_convex.proofs.Central.{none_in_front, some_in_front, wholly_in_front}
 use Rattle.qm_convex.proofs.Runs.{run_between, enters_somewhere, leaves_somewhere}
 use Rattle.std.specs.Option.{MatchOption}
-use Rattle.std.specs.Result.{IfOk}
-use Rattle.qm_convex.specs.Square.{opposite, square, AreWalls, MissesCube, IsWorldPart}
-use Rattle.qm_convex.proofs.Squares.{misses_far, world_part}
 use Rattle.qm_wind.specs.declared.sides.Sides.{Sides}
 use Rattle.qm_wind.specs.Survey.{IsStart, IsEnd, IsSurvey}
 

@@ -93,10 +93,17 @@ fn the_border_misses_the_cube(rt: HostRuntime) -> Result<(), Fail> {
 fn the_floor_has_four_corners(rt: HostRuntime) -> Result<(), Fail> {
     let square = on(rt.alloc(), &floor())?;
     let places = corners(rt.alloc(), &square)?;
-    assert!(rt; are_the_same(
-        places.as_slice(),
-        &[[-4096, -4096, 0], [4096, -4096, 0], [4096, 4096, 0], [-4096, 4096, 0]]
-    ));
+    assert!(rt;
+        are_the_same(
+            places.as_slice(),
+            &[
+                [-4096, -4096, 0],
+                [4096, -4096, 0],
+                [4096, 4096, 0],
+                [-4096, 4096, 0]
+            ]
+        )
+    );
     Ok(())
 }
 
@@ -104,17 +111,19 @@ fn the_floor_has_four_corners(rt: HostRuntime) -> Result<(), Fail> {
 fn a_slanted_plane_has_six_corners(rt: HostRuntime) -> Result<(), Fail> {
     let hexagon = on(rt.alloc(), &through([0, 0, 0], [1, -1, 0], [0, 1, -1]))?;
     let places = corners(rt.alloc(), &hexagon)?;
-    assert!(rt; are_the_same(
-        places.as_slice(),
-        &[
-            [4096, -4096, 0],
-            [4096, 0, -4096],
-            [0, 4096, -4096],
-            [-4096, 4096, 0],
-            [-4096, 0, 4096],
-            [0, -4096, 4096],
-        ]
-    ));
+    assert!(rt;
+        are_the_same(
+            places.as_slice(),
+            &[
+                [4096, -4096, 0],
+                [4096, 0, -4096],
+                [0, 4096, -4096],
+                [-4096, 4096, 0],
+                [-4096, 0, 4096],
+                [0, -4096, 4096],
+            ]
+        )
+    );
     Ok(())
 }
 
@@ -160,10 +169,17 @@ fn the_steepest_planes(rt: HostRuntime) -> Result<(), Fail> {
     assert_eq!(rt; winding.len(), 4);
     let part = cut(&winding, &other, Side::Front)?;
     let places = corners(rt.alloc(), &part)?;
-    assert!(rt; are_the_same(
-        places.as_slice(),
-        &[[4096, 4096, 1], [-4096, 4096, 1], [-4096, 1, 1], [4096, 0, 0]]
-    ));
+    assert!(rt;
+        are_the_same(
+            places.as_slice(),
+            &[
+                [4096, 4096, 1],
+                [-4096, 4096, 1],
+                [-4096, 1, 1],
+                [4096, 0, 0]
+            ]
+        )
+    );
     Ok(())
 }
 
@@ -172,10 +188,17 @@ fn a_copy_of_a_part(rt: HostRuntime) -> Result<(), Fail> {
     let part = cut(&on(rt.alloc(), &floor())?, &middle(), Side::Front)?;
     let copied = part.copy()?;
     let places = corners(rt.alloc(), &copied)?;
-    assert!(rt; are_the_same(
-        places.as_slice(),
-        &[[0, -4096, 0], [4096, -4096, 0], [4096, 4096, 0], [0, 4096, 0]]
-    ));
+    assert!(rt;
+        are_the_same(
+            places.as_slice(),
+            &[
+                [0, -4096, 0],
+                [4096, -4096, 0],
+                [4096, 4096, 0],
+                [0, 4096, 0]
+            ]
+        )
+    );
     assert_eq!(rt; copied.plane(), floor());
     Ok(())
 }

@@ -23,9 +23,19 @@ fn main(rt: HostRuntime) -> io::Result<()> {
         .and_then(|word| word.as_str().parse::<u32>().ok())
         .unwrap_or(1);
     let wanted = name.as_ref().map_or("", |name| name.as_str());
-    for stream in [Stream::Squares, Stream::Octagons, Stream::Misses, Stream::Chains] {
+    for stream in [
+        Stream::Squares,
+        Stream::Octagons,
+        Stream::Misses,
+        Stream::Chains,
+    ] {
         if wanted.is_empty() || wanted == stream.name() {
-            let Tally { whole, gone, cut, corners } = stream.run(alloc, clips)?;
+            let Tally {
+                whole,
+                gone,
+                cut,
+                corners,
+            } = stream.run(alloc, clips)?;
             let name = stream.name();
             println!(rt; "{name}: whole {whole}, gone {gone}, cut {cut} with {corners} corners")?;
         }

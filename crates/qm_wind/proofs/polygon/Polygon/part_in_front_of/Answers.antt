@@ -55,4 +55,3 @@ returns c =
     IfOk-weaker c.cut.result _ (λ w. IsPartInFront w c.args.self.now c.args.plane.now)
     (λ w is. subst (λ u. IsPartInFront u c.args.self.now c.args.plane.now) (sym is) (cut_is_part c.args.self.now c.args.plane.now c.args.sides.now.start c.steps_between-count.result convex run behind))
     c.cut.ensures
-
