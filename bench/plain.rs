@@ -1,7 +1,6 @@
 //! The program of `crates/wind_bench` once more, by hand in plain Rust and with nothing proved, to compare
-//! speeds: `rustc -O bench/plain.rs`. Windings have up to sixteen corners, in arrays. Build it with
-//! `--cfg anew` to compute corners anew at each test in place of keeping them.
-#![allow(clippy::needless_range_loop)]
+//! speeds: `rustc -O bench/plain.rs`. Build it with `--cfg anew` to compute corners anew at each test in
+//! place of keeping them.
 
 use std::cmp::Ordering;
 
@@ -78,15 +77,44 @@ impl Corner {
     }
 }
 
-const ROOM: usize = 16;
+/// Up to eight items in place, and all of them on the heap where there are more.
+#[derive(Clone)]
+struct List<T> {
+    len: usize,
+    inline: [T; 8],
+    heap: Vec<T>,
+}
 
-#[derive(Clone, Copy)]
+impl<T: Copy + Default> List<T> {
+    fn new() -> List<T> {
+        List { len: 0, inline: [T::default(); 8], heap: Vec::new() }
+    }
+
+    #[inline]
+    fn as_slice(&self) -> &[T] {
+        if self.len <= 8 { &self.inline[..self.len] } else { &self.heap }
+    }
+
+    #[inline]
+    fn push(&mut self, item: T) {
+        if self.len < 8 {
+            self.inline[self.len] = item;
+        } else {
+            if self.len == 8 {
+                self.heap.extend_from_slice(&self.inline);
+            }
+            self.heap.push(item);
+        }
+        self.len += 1;
+    }
+}
+
+#[derive(Clone)]
 struct Winding {
     plane: Plane,
-    len: usize,
-    edges: [Plane; ROOM],
+    edges: List<Plane>,
     #[cfg(not(anew))]
-    corners: [Corner; ROOM],
+    corners: List<Corner>,
 }
 
 enum Clip {
@@ -102,40 +130,35 @@ enum Side {
 }
 
 impl Winding {
-    fn empty(plane: &Plane) -> Winding {
+    fn of(plane: &Plane, edges: &[Plane]) -> Winding {
+        let mut kept = List::new();
+        #[cfg(not(anew))]
+        let mut corners = List::new();
+        for i in 0..edges.len() {
+            kept.push(edges[i]);
+            #[cfg(not(anew))]
+            corners.push(Corner::of(plane, &edges[i], &edges[(i + 1) % edges.len()]));
+        }
         Winding {
             plane: *plane,
-            len: 0,
-            edges: [Plane::default(); ROOM],
+            edges: kept,
             #[cfg(not(anew))]
-            corners: [Corner::default(); ROOM],
+            corners,
         }
     }
 
     #[cfg(not(anew))]
     #[inline]
     fn corner(&self, i: usize) -> Corner {
-        self.corners[i]
+        self.corners.as_slice()[i]
     }
 
     #[cfg(anew)]
     #[inline]
     fn corner(&self, i: usize) -> Corner {
-        let next = if i + 1 == self.len { 0 } else { i + 1 };
-        Corner::of(&self.plane, &self.edges[i], &self.edges[next])
-    }
-
-    fn of(plane: &Plane, edges: &[Plane]) -> Winding {
-        let mut w = Winding::empty(plane);
-        for e in edges {
-            w.edges[w.len] = *e;
-            w.len += 1;
-        }
-        #[cfg(not(anew))]
-        for i in 0..w.len {
-            w.corners[i] = Corner::of(plane, &w.edges[i], &w.edges[(i + 1) % w.len]);
-        }
-        w
+        let edges = self.edges.as_slice();
+        let next = if i + 1 == edges.len() { 0 } else { i + 1 };
+        Corner::of(&self.plane, &edges[i], &edges[next])
     }
 
     fn clip(&self, plane: &Plane, keep: Side) -> Clip {
@@ -146,19 +169,21 @@ impl Winding {
     }
 
     fn in_front_of(&self, g: &Plane) -> Clip {
-        let n = self.len;
+        let edges = self.edges.as_slice();
+        let n = edges.len();
         let (mut some_front, mut some_behind) = (false, false);
         let (mut start, mut end) = (0, 0);
-        let mut before = self.corner(n - 1).side(g);
-        for i in 0..n {
-            let here = self.corner(i).side(g);
+        let first = self.corner(0).side(g);
+        let mut before = first;
+        for i in 1..=n {
+            let (place, here) = if i == n { (0, first) } else { (i, self.corner(i).side(g)) };
             some_front |= here.is_gt();
             some_behind |= here.is_lt();
             if here.is_gt() && !before.is_gt() {
-                start = i;
+                start = place;
             }
             if before.is_gt() && !here.is_gt() {
-                end = i;
+                end = place;
             }
             before = here;
         }
@@ -169,23 +194,29 @@ impl Winding {
             return Clip::Whole;
         }
         let count = if start < end { end - start } else { n - start + end };
-        let mut part = Winding::empty(&self.plane);
+        let place = |k: usize| if start + k < n { start + k } else { start + k - n };
+        let mut kept = List::new();
+        #[cfg(not(anew))]
+        let mut corners = List::new();
         for k in 0..=count {
-            let place = if start + k < n { start + k } else { start + k - n };
-            part.edges[k] = self.edges[place];
+            kept.push(edges[place(k)]);
             #[cfg(not(anew))]
             if k < count {
-                part.corners[k] = self.corners[place];
+                corners.push(self.corner(place(k)));
             }
         }
-        part.edges[count + 1] = *g;
-        part.len = count + 2;
+        kept.push(*g);
         #[cfg(not(anew))]
         {
-            part.corners[count] = Corner::of(&self.plane, &part.edges[count], g);
-            part.corners[count + 1] = Corner::of(&self.plane, g, &part.edges[0]);
+            corners.push(Corner::of(&self.plane, &edges[place(count)], g));
+            corners.push(Corner::of(&self.plane, g, &edges[start]));
         }
-        Clip::Cut(part)
+        Clip::Cut(Winding {
+            plane: self.plane,
+            edges: kept,
+            #[cfg(not(anew))]
+            corners,
+        })
     }
 }
 
@@ -255,7 +286,7 @@ impl Tally {
             Clip::Gone => self.gone += 1,
             Clip::Cut(part) => {
                 self.cut += 1;
-                self.corners += part.len as u64;
+                self.corners += part.edges.as_slice().len() as u64;
             }
         }
     }
@@ -272,7 +303,7 @@ fn main() {
         let mut tally = Tally::default();
         let start = start(name);
         for _ in 0..rounds {
-            let mut winding = start;
+            let mut winding = start.clone();
             for plane in &planes {
                 if name != "chains" {
                     tally.note(&start.clip(plane, Side::Front));
@@ -283,7 +314,7 @@ fn main() {
                 tally.note(&clip);
                 match clip {
                     Clip::Whole => {}
-                    Clip::Gone => winding = start,
+                    Clip::Gone => winding = start.clone(),
                     Clip::Cut(part) => winding = part,
                 }
             }

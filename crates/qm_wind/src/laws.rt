@@ -5,7 +5,8 @@ ghost use Rattle.std.specs.Prelude.{ℕ, ◌<◌, length, ◌↔◌};
 ghost use Rattle.qm_space.specs.Point.{Point};
 ghost use Rattle.qm_space.specs.Plane.{Plane, flipped};
 ghost use Rattle.qm_convex.specs.Winding.{Winding, corner_at, IsConvex, IsInRegion};
-ghost use Rattle.qm_convex.specs.Sides.{HasNoneInFront, HasSomeInFront, IsWhollyInFront, LiesIn, HasNoCornerInFront, HasNoCornerBehind, HasCornerInFront, HasCornersOn};
+ghost use Rattle.qm_convex.specs.Sides.{HasNoneInFront, HasSomeInFront, IsWhollyInFront, LiesIn};
+ghost use Rattle.qm_convex.specs.Sides.{HasNoCornerInFront, HasNoCornerBehind, HasCornerInFront, HasCornersOn};
 ghost use Rattle.qm_convex.specs.Cut.{IsPartInFront, IsParted};
 ghost use Rattle.qm_convex.specs.Turning.{IsSameTurned};
 ghost use Rattle.qm_convex.specs.Vertex.{HasVerticesAsCorners};
@@ -25,7 +26,8 @@ pub fn some_in_front()
 /// The strict form of the central law: each point is in front of a plane exactly where no corner is
 /// behind it and some corner is in front of it.
 pub fn wholly_in_front()
-    ensures { (v : Winding) (g : Plane) → IsConvex v → IsWhollyInFront v g ↔ (HasNoCornerBehind v g × HasCornerInFront v g) }
+    ensures { (v : Winding) (g : Plane) → IsConvex v →
+        IsWhollyInFront v g ↔ (HasNoCornerBehind v g × HasCornerInFront v g) }
 {}
 
 /// A winding lies in a plane exactly where its corners are on it.

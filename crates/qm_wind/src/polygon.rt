@@ -123,7 +123,8 @@ impl Polygon {
 
     /// The part in front of a plane, if there is one.
     pub(crate) fn kept_in_front_of(self, plane: &Plane) -> Result<Option<Polygon>, AllocError>
-        ensures { IfOk result (λ part. MatchOption part (HasNoneInFront self plane.now) (λ w. IsPartInFront w self plane.now)) }
+        ensures { IfOk result (λ part.
+            MatchOption part (HasNoneInFront self plane.now) (λ w. IsPartInFront w self plane.now)) }
     {
         let _ = &self.plane;
         let sides = self.sides(plane);

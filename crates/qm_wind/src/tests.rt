@@ -183,6 +183,75 @@ fn the_steepest_planes(rt: HostRuntime) -> Result<(), Fail> {
     Ok(())
 }
 
+/// The floor's square without its corners, by so many cuts that its edges no longer stand inline.
+fn twelve_corners(alloc: Global) -> Result<Winding, Fail> {
+    let mut winding = on(alloc, &floor())?;
+    for (plane, keep) in [
+        (
+            through([3000, 3000, 0], [3000, 3000, 1], [2000, 4000, 0]),
+            Side::Back,
+        ),
+        (
+            through([3000, -3000, 0], [3000, -3000, 1], [2000, -4000, 0]),
+            Side::Back,
+        ),
+        (
+            through([-3000, -3000, 0], [-3000, -3000, 1], [-2000, -4000, 0]),
+            Side::Front,
+        ),
+        (
+            through([-3000, 3000, 0], [-3000, 3000, 1], [-2000, 4000, 0]),
+            Side::Front,
+        ),
+        (
+            through([4000, 1500, 0], [4000, 1500, 1], [3900, 1700, 0]),
+            Side::Back,
+        ),
+        (
+            through([4000, -1500, 0], [4000, -1500, 1], [3900, -1700, 0]),
+            Side::Back,
+        ),
+        (
+            through([-4000, -1500, 0], [-4000, -1500, 1], [-3900, -1700, 0]),
+            Side::Front,
+        ),
+        (
+            through([-4000, 1500, 0], [-4000, 1500, 1], [-3900, 1700, 0]),
+            Side::Front,
+        ),
+    ] {
+        winding = cut(&winding, &plane, keep)?;
+    }
+    Ok(winding)
+}
+
+#[test]
+fn more_corners_than_stand_inline(rt: HostRuntime) -> Result<(), Fail> {
+    let winding = twelve_corners(rt.alloc())?;
+    assert_eq!(rt; sides(&winding, &middle())?, (Left::Cut(8), Left::Cut(8)));
+    let places = corners(rt.alloc(), &winding.copy()?)?;
+    assert!(rt;
+        are_the_same(
+            places.as_slice(),
+            &[
+                [4096, -1308, 0],
+                [4096, 1308, 0],
+                [3500, 2500, 0],
+                [1904, 4096, 0],
+                [-1904, 4096, 0],
+                [-3500, 2500, 0],
+                [-4096, 1308, 0],
+                [-4096, -1308, 0],
+                [-3500, -2500, 0],
+                [-1904, -4096, 0],
+                [1904, -4096, 0],
+                [3500, -2500, 0],
+            ]
+        )
+    );
+    Ok(())
+}
+
 #[test]
 fn a_copy_of_a_part(rt: HostRuntime) -> Result<(), Fail> {
     let part = cut(&on(rt.alloc(), &floor())?, &middle(), Side::Front)?;
