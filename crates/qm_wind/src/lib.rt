@@ -1,4 +1,5 @@
-//! Windings: convex polygons on planes, cut exactly.
+//! Windings: convex polygons on planes inside the world's cube, cut exactly; panes; and the laws of
+//! windings, for the layers above.
 #![tactic(auto)]
 
 mod circle;
