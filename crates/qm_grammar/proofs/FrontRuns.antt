@@ -1,8 +1,8 @@
 -- What is spelled is read through: from the grammar, and from fronts of it, to runs of the machine.
-use Rattle.std.proofs.Common.{◌≡◌, ◌≢◌, ℕ, true, false, not, ◌&&◌, ◌==◌, List, [], ◌∷◌, ◌++◌, length, All, IfSome, Option, Some, None, is_none, bytes_eq, Ok, refl, sym, ap, subst, ◌∙◌, ⊎_elim, append_assoc, append-nil}
+use Rattle.std.proofs.Common.{◌≡◌, ◌≢◌, ℕ, true, false, not, ◌&&◌, ◌==◌, List, [], ◌∷◌, ◌++◌, length, IfSome, Option, Some, None, is_none, bytes_eq, Ok, refl, sym, ap, subst, ◌∙◌, ⊎_elim, append_assoc, append-nil}
 use Rattle.std.proofs.lemmas.Bool.{cases_Bool, eq-eqb, ne_eqb, both_ways, and_parts, false_from_ne_true, not-true}
 use Rattle.std.proofs.lemmas.List.{nil_from_length}
-use Rattle.std.proofs.lemmas.List.Elements.{All-append, All-nil, All-cons, All-head, All-tail}
+use Rattle.std.proofs.lemmas.List.Elements.{All-append, All-nil, All-cons, All-head}
 use Rattle.qm_mapfile.specs.declared.face.Face.{Face}
 use Rattle.qm_mapfile.specs.declared.entity.Brush.{Brush}
 use Rattle.qm_mapfile.specs.declared.entity.Pair.{Pair}
@@ -14,6 +14,7 @@ use Rattle.qm_grammar.specs.Origin.{origin_key, value_of, IsOriginText, HasGoodO
 use Rattle.qm_grammar.specs.Grammar.{SpellsFaces, none, more, SpellsBrush, SpellsParts, pair, brush, SpellsEntity, SpellsEntities}
 use Rattle.qm_grammar.specs.Front.{Front, outside, in_entity, behind_key, in_brush, in_face, IsOutside, IsInEntity, IsInBrush, IsFront, outside_front, entity_front, key_front, brush_front, face_front}
 use Rattle.qm_grammar.specs.Machine.{step, step_outside, step_entity, step_value, step_brush, is_bad_origin, origin_of, runs}
+use Rattle.qm_grammar.proofs.Parts.{all_front, all_back}
 use Rattle.qm_grammar.proofs.Runs.{runs_step, runs_then, runs_one}
 use Rattle.qm_grammar.proofs.OriginTexts.{none_no_origin}
 use Rattle.qm_grammar.proofs.FaceSteps.{step_sorted}
@@ -75,22 +76,16 @@ IsGoodBehind es pairs = es ≢ [] → HasGoodOrigin pairs
 
 pub good_last : (es : List Entity) (last : Entity) → OriginsAreGood (es ++ last ∷ []) → IsGoodBehind es last.pairs
 good_last [] last good some = absurd (some refl)
-good_last (world ∷ others) last good some = last_of others last good
-  where
-    last_of : (others : List Entity) (last : Entity) → All (λ entity. HasGoodOrigin entity.pairs) (others ++ last ∷ []) → HasGoodOrigin last.pairs
-    last_of [] last all = All-head (λ (entity : Entity). HasGoodOrigin entity.pairs) last [] all
-    last_of (one ∷ others) last all = last_of others last (All-tail (λ (entity : Entity). HasGoodOrigin entity.pairs) one (others ++ last ∷ []) all)
+good_last (world ∷ others) last good some =
+    let P : Entity → Type 0 = λ entity. HasGoodOrigin entity.pairs in
+    All-head P last [] (all_back P others (last ∷ []) good)
+
+good_front : (es others : List Entity) → OriginsAreGood (es ++ others) → OriginsAreGood es
+good_front [] others good = tt
+good_front (world ∷ es) others good = all_front (λ (entity : Entity). HasGoodOrigin entity.pairs) es others good
 
 pub good_before : (es : List Entity) (last : Entity) → OriginsAreGood (es ++ last ∷ []) → OriginsAreGood es
-good_before [] last good = tt
-good_before (world ∷ others) last good = fronts others last good
-  where
-    fronts : (others : List Entity) (last : Entity) → All (λ entity. HasGoodOrigin entity.pairs) (others ++ last ∷ []) → All (λ entity. HasGoodOrigin entity.pairs) others
-    fronts [] last all = All-nil (λ (entity : Entity). HasGoodOrigin entity.pairs)
-    fronts (one ∷ others) last all =
-        All-cons (λ (entity : Entity). HasGoodOrigin entity.pairs) one others
-        (All-head (λ (entity : Entity). HasGoodOrigin entity.pairs) one (others ++ last ∷ []) all)
-        (fronts others last (All-tail (λ (entity : Entity). HasGoodOrigin entity.pairs) one (others ++ last ∷ []) all))
+good_before es last good = good_front es (last ∷ []) good
 
 pub good_more : (es : List Entity) (last : Entity) → OriginsAreGood es → IsGoodBehind es last.pairs → OriginsAreGood (es ++ last ∷ [])
 good_more [] last good behind = All-nil (λ (entity : Entity). HasGoodOrigin entity.pairs)
@@ -153,17 +148,6 @@ entity_run es symbols one spells good =
     (parts_run es [] [] spells.inner one.pairs one.brushes spells.parts good)
     (runs_one (in_entity es one.pairs one.brushes) (outside (es ++ one ∷ [])) (spells.braced).close_brace
     (entity_closes es one.pairs one.brushes (spells.braced).close_brace (spells.braced).closes))
-
-good_front : (es others : List Entity) → OriginsAreGood (es ++ others) → OriginsAreGood es
-good_front [] others good = tt
-good_front (world ∷ es) others good = fronts es others good
-  where
-    fronts : (es others : List Entity) → All (λ entity. HasGoodOrigin entity.pairs) (es ++ others) → All (λ entity. HasGoodOrigin entity.pairs) es
-    fronts [] others all = All-nil (λ (entity : Entity). HasGoodOrigin entity.pairs)
-    fronts (one ∷ es) others all =
-        All-cons (λ (entity : Entity). HasGoodOrigin entity.pairs) one es
-        (All-head (λ (entity : Entity). HasGoodOrigin entity.pairs) one (es ++ others) all)
-        (fronts es others (All-tail (λ (entity : Entity). HasGoodOrigin entity.pairs) one (es ++ others) all))
 
 entities_run : (es : List Entity) (symbols : List Symbol) (entities : List Entity) → SpellsEntities symbols entities → OriginsAreGood (es ++ entities) → runs (outside es) symbols ≡ Ok (outside (es ++ entities))
 entities_run es symbols entities none good = ap (λ (l : List Entity). Ok (outside l)) (sym (append-nil es))

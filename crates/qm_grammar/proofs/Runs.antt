@@ -46,12 +46,6 @@ runs_then front mid next symbols others first second = runs_append front mid sym
 pub runs_one : (front next : Front) (symbol : Symbol) → step front symbol ≡ Ok next → runs front (symbol ∷ []) ≡ Ok next
 runs_one front next symbol read = runs_step front next symbol [] read
 
-pub one_runs : (front next : Front) (symbol : Symbol) → runs front (symbol ∷ []) ≡ Ok next → step front symbol ≡ Ok next
-one_runs front next symbol read =
-    by_result (step front symbol)
-    (λ mid is. is ∙ sym (runs_step front mid symbol [] is) ∙ read)
-    (λ reason is. not_both (runs front (symbol ∷ [])) next reason read (runs_refused front symbol [] reason is))
-
 -- a first lexeme that is read
 pub steps_step : (front next : Front) (lexeme : Lexeme) (lexemes : List Lexeme) → step front (symbol_of lexeme) ≡ Ok next → steps front (lexeme ∷ lexemes) ≡ steps next lexemes
 steps_step front next lexeme lexemes read = rw (read, steps) refl

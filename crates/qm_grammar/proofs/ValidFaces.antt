@@ -14,7 +14,8 @@ use Rattle.qm_grammar.specs.Slots.{Form, standard, valve, head_slots, mapping_sl
 use Rattle.qm_grammar.specs.Grammar.{SpellsFace}
 use Rattle.qm_grammar.specs.Valid.{HasNoQuote, IsNameText, words_of_mapping, HasWords, IsValidFace}
 use Rattle.qm_grammar.proofs.Filling.{coordinates, texts_in, numbers_filled, texts_filled, symbols_filled, FillParts, fill_cut}
-use Rattle.qm_grammar.proofs.TokenTexts.{IsTokenText, name_text, quoted_text, all_front, all_back}
+use Rattle.qm_grammar.proofs.Parts.{all_front, all_back}
+use Rattle.qm_grammar.proofs.TokenTexts.{IsTokenText, name_text, quoted_text}
 
 -- ---- what the slots of a row give
 

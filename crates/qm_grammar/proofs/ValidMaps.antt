@@ -12,7 +12,8 @@ use Rattle.qm_grammar.specs.Symbol.{Symbol, symbol_of}
 use Rattle.qm_grammar.specs.Grammar.{SpellsFaces, none, more, IsBraced, SpellsBrush, SpellsPair, SpellsParts, pair, brush, SpellsEntity, SpellsEntities, SpellsMap}
 use Rattle.qm_grammar.specs.Meaning.{IsMapText}
 use Rattle.qm_grammar.specs.Valid.{IsValidFace, IsValidBrush, IsValidPair, IsValidEntity, face_count, IsValid}
-use Rattle.qm_grammar.proofs.TokenTexts.{IsTokenText, quoted_text, all_front, all_back, lexing_texts, lexing_counted}
+use Rattle.qm_grammar.proofs.Parts.{all_front, all_back}
+use Rattle.qm_grammar.proofs.TokenTexts.{IsTokenText, quoted_text, lexing_texts, lexing_counted}
 use Rattle.qm_grammar.proofs.ValidFaces.{face_valid, face_counted}
 
 -- ---- faces and brushes

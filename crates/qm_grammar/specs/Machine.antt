@@ -33,7 +33,7 @@ use Rattle.qm_grammar.specs.Slots.{point_slots, points_of, face_of}
 use Rattle.qm_grammar.specs.Front.{Front, outside}
 use Rattle.qm_grammar.specs.Faults.{text_limit, line_at, last_line, end_of, fault_of}
 
--- whether two marks are the same
+-- the byte of a mark
 abbrev pub mark_byte : Mark → ℕ
 mark_byte OpenBrace = 123
 mark_byte CloseBrace = 125
@@ -42,6 +42,7 @@ mark_byte CloseParenthesis = 41
 mark_byte OpenBracket = 91
 mark_byte CloseBracket = 93
 
+-- whether two marks are the same
 abbrev pub is_same_mark : Mark → Mark → Bool
 is_same_mark one other = mark_byte one == mark_byte other
 
