@@ -1,10 +1,9 @@
-use Rattle.std.proofs.Common.{◌≡◌, ◌≢◌, ℕ, ◌+◌, true, false, List, length, Result, Err, refl, sym, ap, ◌∙◌, subst, inl, inr, arith}
+use Rattle.std.proofs.Common.{◌≡◌, ℕ, ◌+◌, true, false, List, length, Result, refl, sym, ap, ◌∙◌, subst, inl, inr, arith}
 use Rattle.std.specs.Prelude.{IsTrue}
 use Rattle.std.proofs.lemmas.Bool.{cases_lt}
 use Rattle.std.proofs.lemmas.List.{take_all}
 use Rattle.qm_mapfile.specs.declared.entity.MapFile.{MapFile}
 use Rattle.qm_grammar.specs.declared.fault.MapFault.{MapFault}
-use Rattle.qm_grammar.specs.declared.fault.MapFault.TheVariants.{Memory}
 use Rattle.qm_grammar.specs.Faults.{text_limit}
 use Rattle.qm_grammar.specs.Machine.{meaning_of}
 use Rattle.qm_grammar.specs.Meaning.{Means}
@@ -42,8 +41,3 @@ text_means before map read meaning is_read means =
       means = means;
       only = λ other is. one_meaning read other meaning is means;
     })
-
--- what a reader answers is what the text means
-pub answer_means : (text : List ℕ) (answer : Result MapFile MapFault) → (answer ≢ Err Memory → answer ≡ meaning_of text) → answer ≢ Err Memory → Means text answer
-answer_means text answer computed other =
-    subst (λ (a : Result MapFile MapFault). Means text a) (sym (computed other)) (means_meaning text)
