@@ -1,7 +1,7 @@
 #!/usr/bin/env python3
 """Compares `PROGRAM format` with a plain slow reader of MAP texts, on texts that are nearly maps.
 
-    bench/compare_faults.py PROGRAM
+    .ci/compare_texts.py PROGRAM
 
 Two maps are cut off at each byte, and each token of them is dropped, doubled, and exchanged with others. For each
 text the program has to print the fault that the slow reader finds, or the numbers of entities and brushes.
