@@ -90,6 +90,9 @@ middle_in_region v c = record { weight = weight; on = on; inside = All-from_get_
         (λ e. let i = c.inside 2 k (omega (arith, enough)) h (λ f. omega arith) (λ f. not_after_two n k enough e one two h f) in omega (arith, linear))
         (λ e f. let i = c.inside 0 k (omega (arith, enough)) h e f in omega (arith, linear))
 
+pub has_a_point : (v : Winding) → IsConvex v → (p : Point) × IsInRegion v p
+has_a_point v c = (middle v, middle_in_region v c)
+
 -- ---- a corner in front of a plane has points of the winding beside it that are in front of it
 
 -- many times the corner at the place i, and the middle

@@ -5,7 +5,7 @@ use Rattle.std.proofs.lemmas.Bool.{cases_eq, cases_lt}
 use Rattle.std.proofs.lemmas.List.{ext_get_or, get_or-take, get_or_append_left, get_or-append_right, get_or_at, length-take-le, length-append}
 use Rattle.std.proofs.lemmas.List.Elements.{All-nil, All-push, All-take, All-drop, All-append, All-from_get_or}
 use Rattle.qm_space.specs.Point.{Point}
-use Rattle.qm_space.specs.Plane.{Plane, value, IsOn, IsInFront, IsBehind, flipped}
+use Rattle.qm_space.specs.Plane.{Plane, value, IsInFront, IsBehind, flipped}
 use Rattle.qm_space.specs.Meet.{meet}
 use Rattle.qm_space.proofs.IntegerProducts.{linear}
 use Rattle.qm_space.proofs.Signs.{by_least, by_sign}
@@ -14,10 +14,10 @@ use Rattle.qm_convex.specs.Winding.{Winding, edge_at, corner_at, corners, IsConv
 use Rattle.qm_convex.proofs.Corners.{corners_by_place, corners_length, corner_in_list}
 use Rattle.qm_convex.specs.Turning.{place_after, turned_list, turned}
 use Rattle.qm_convex.specs.Sides.{HasCornerInFront, HasCornerBehind, IsWhollyInFront, HasSomeInFront}
-use Rattle.qm_convex.specs.Cut.{IsPartInFront, IsPartWithin, IsFrontRun, cut}
+use Rattle.qm_convex.specs.Cut.{IsPartInFront, IsParted, IsPartWithin, IsFrontRun, cut}
 use Rattle.qm_convex.proofs.Places.{after_below, after_none, after_next, next_inner, next_last, next_injective, steps_to}
 use Rattle.qm_convex.proofs.Turning.{turned_list_length, turned_list_at, turned_length, turned_edge, turned_corner, turned_convex, turned_region}
-use Rattle.qm_convex.proofs.Central.{middle, middle_in_region}
+use Rattle.qm_convex.proofs.Central.{middle, middle_in_region, some_in_front}
 use Rattle.qm_convex.proofs.CutAtFirst.{IsRunAtFirst, cut_at_first_convex, cut_at_first_region}
 
 -- read from the first corner in front, the winding has its corners in front first
@@ -268,26 +268,37 @@ whole_is_part v g c a = record { convex = c; plane = refl; points = λ p. ((λ r
 pub part_has_front : (w v : Winding) (g : Plane) → IsPartInFront w v g → HasSomeInFront v g
 part_has_front w v g x = let s = (x.points (middle w)).0 (middle_in_region w x.convex) in (middle w, s.0, s.1)
 
--- A plane with corners on both sides parts a winding in two: each point is in the one part, in the other, or on the plane.
-pub parted : (v : Winding) (g : Plane) → IsConvex v → HasCornerInFront v g → HasCornerBehind v g →
-    (front : Winding) × (back : Winding) × IsPartInFront front v g × IsPartInFront back v (flipped g)
-parted v g c f b =
-    let r = front_run v g f b in
+-- The parts on both sides of a plane make up the winding: each point is in the one, in the other, or on the plane.
+pub parts_make_whole : (v : Winding) (g : Plane) (in_front behind : Winding) → IsPartInFront in_front v g → IsPartInFront behind v (flipped g) → IsParted v g in_front behind
+parts_make_whole v g in_front behind x y = record {
+  part_in_front = x;
+  part_behind = y;
+  whole = λ p r. by_sign (value g p)
+      (λ l. inr (inl ((y.points p).1 (r, let e = value_flipped g p in omega (arith, linear)))))
+      (λ o. inr (inr o))
+      (λ l. inl ((x.points p).1 (r, l)));
+}
+
+-- a plane with points on both sides parts a winding
+pub parted : (v : Winding) (g : Plane) → IsConvex v → HasSomeInFront v g → HasSomeInFront v (flipped g) → (in_front : Winding) × (behind : Winding) × IsParted v g in_front behind
+parted v g c x y =
+    let r = front_run v g front behind in
     let s = front_run v (flipped g) other_front other_behind in
-    (cut v g r.0 r.1, cut v (flipped g) s.0 s.1, cut_is_part v g r.0 r.1 c r.2 b, cut_is_part v (flipped g) s.0 s.1 c s.2 other_behind)
+    let w = cut v g r.0 r.1 in
+    let u = cut v (flipped g) s.0 s.1 in
+    (w, u, parts_make_whole v g w u (cut_is_part v g r.0 r.1 c r.2 behind) (cut_is_part v (flipped g) s.0 s.1 c s.2 other_behind))
   where
+    front : HasCornerInFront v g
+    front = (some_in_front v g c).0 x
+
     other_front : HasCornerInFront v (flipped g)
-    other_front = (b.0, b.1, let e = value_flipped g (corner_at v b.0) in let t = b.2 in omega (arith, linear))
+    other_front = (some_in_front v (flipped g) c).0 y
+
+    behind : HasCornerBehind v g
+    behind = let f = other_front in (f.0, f.1, let e = value_flipped g (corner_at v f.0) in let t = f.2 in omega (arith, linear))
 
     other_behind : HasCornerBehind v (flipped g)
-    other_behind = (f.0, f.1, let e = value_flipped g (corner_at v f.0) in let t = f.2 in omega (arith, linear))
-
-pub by_part : {P : Type 0} (v front back : Winding) (g : Plane) → IsPartInFront front v g → IsPartInFront back v (flipped g) → (p : Point) → IsInRegion v p →
-    (IsInRegion front p → P) → (IsInRegion back p → P) → (IsOn g p → P) → P
-by_part v front back g x y p r f b o = by_sign (value g p)
-    (λ l. b ((y.points p).1 (r, let e = value_flipped g p in omega (arith, linear))))
-    o
-    (λ l. f ((x.points p).1 (r, l)))
+    other_behind = let f = front in (f.0, f.1, let e = value_flipped g (corner_at v f.0) in let t = f.2 in omega (arith, linear))
 
 -- ---- the part in front of several planes, cut one after another
 

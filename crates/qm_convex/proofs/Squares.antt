@@ -17,7 +17,7 @@ use Rattle.qm_space.proofs.PlaneSymbols.{PlaneSymbols, PointSymbols, plane_from,
 use Rattle.qm_convex.specs.Winding.{Winding, next_place, edge_at, corner_at, corners, IsConvex, IsInRegion}
 use Rattle.qm_convex.specs.Cut.{IsPartInFront}
 use Rattle.qm_convex.specs.Sides.{HasNoneInFront}
-use Rattle.qm_convex.specs.Square.{opposite, IsBetween, square, wall_x, wall_y, wall_z, AreWalls, MissesCube, IsWorldPart, IsInClosedCube}
+use Rattle.qm_convex.specs.Square.{opposite, IsBetween, square, wall_x, wall_y, wall_z, AreWalls, MissesCube, IsWorldPart, IsInWorld, IsInClosedCube}
 use Rattle.qm_convex.proofs.Corners.{corner_on_edge, corner_on_next}
 use Rattle.qm_convex.proofs.Central.{wholly_in_front}
 
@@ -290,11 +290,18 @@ module _ (h a b c : Plane) (walls : AreWalls a b c) where
           let s = (walls p).0 i in
           (y.points p).1 ((x.points p).1 ((square_region h a b p).1 (s.0, on, s.1, s.2), s.3.near), s.3.far)
 
--- ---- the corners of a winding inside the cube lie in the cube or on its border
+-- ---- windings inside the cube
 
-pub corner_in_closed_cube : (v : Winding) → IsConvex v → ((p : Point) → IsInRegion v p → IsInCube p) → (i : ℕ) → i < length v.edges → IsInClosedCube (corner_at v i)
-corner_in_closed_cube v c inside i h = record {
-  weight = c.weight i h;
+pub world_part_in_world : (w : Winding) (h : Plane) → IsWorldPart w h → IsInWorld w
+world_part_in_world w h x = record { convex = x.convex; inside = λ p r. ((x.points p).0 r).1 }
+
+pub part_in_world : (w v : Winding) (g : Plane) → IsInWorld v → IsPartInFront w v g → IsInWorld w
+part_in_world w v g i x = record { convex = x.convex; inside = λ p r. i.inside p ((x.points p).0 r).0 }
+
+-- their corners lie in the cube or on its border
+pub corner_in_closed_cube : (v : Winding) → IsInWorld v → (i : ℕ) → i < length v.edges → IsInClosedCube (corner_at v i)
+corner_in_closed_cube v world i h = record {
+  weight = world.convex.weight i h;
   x = let a = at wall_x (λ p s. s.1.near) in let b = at (opposite wall_x) (λ p s. s.1.far) in let e = x_low q in let f = x_high q in record { above = omega (arith, linear); below = omega (arith, linear) };
   y = let a = at wall_y (λ p s. s.2.near) in let b = at (opposite wall_y) (λ p s. s.2.far) in let e = y_low q in let f = y_high q in record { above = omega (arith, linear); below = omega (arith, linear) };
   z = let a = at wall_z (λ p s. s.3.near) in let b = at (opposite wall_z) (λ p s. s.3.far) in let e = z_low q in let f = z_high q in record { above = omega (arith, linear); below = omega (arith, linear) };
@@ -304,4 +311,4 @@ corner_in_closed_cube v c inside i h = record {
     q = corner_at v i
 
     at : (g : Plane) → ((p : Point) → (pos 0 <ℤ p.w) × IsBetween wall_x p × IsBetween wall_y p × IsBetween wall_z p → IsInFront g p) → pos 0 ≤ℤ value g (corner_at v i)
-    at g f = ((wholly_in_front v g c).0 (λ p r. f p ((walls_x_y_z p).0 (inside p r)))).0 i h
+    at g f = ((wholly_in_front v g world.convex).0 (λ p r. f p ((walls_x_y_z p).0 (world.inside p r)))).0 i h

@@ -6,7 +6,7 @@ use Rattle.qm_space.specs.Point.{Point}
 use Rattle.qm_space.specs.Plane.{IsInFront}
 use Rattle.qm_space.specs.Meet.{meet}
 use Rattle.qm_convex.specs.Winding.{Winding, next_place, edge_at, corner_at, IsConvex, IsInRegion}
-use Rattle.qm_convex.specs.Turning.{place_after, turned_list, turned}
+use Rattle.qm_convex.specs.Turning.{place_after, turned_list, turned, IsSameTurned}
 use Rattle.qm_convex.proofs.Places.{next_below, by_after, after_below, after_next, after_injective, steps_to}
 
 pub turned_list_length : {X : Type 0} (i : ℕ) (xs : List X) → i ≤ length xs → length (turned_list i xs) ≡ length xs
@@ -86,3 +86,10 @@ turned_region i v p h = (back, there)
             let s = steps_to (length v.edges) i k h l in
             let m : s.0 < length (turned i v).edges = let e = turned_length i v (omega arith) in let t = s.1 in omega arith in
             subst (λ e. IsInFront e p) (turned_edge i v s.0 (omega arith) s.1 ∙ ap (edge_at v) s.2) (r.inside s.0 v.plane m)
+
+pub turned_same : (v : Winding) (i : ℕ) → IsConvex v → i < length v.edges → IsSameTurned v i
+turned_same v i c h = record {
+  convex = turned_convex i v (omega arith) c;
+  points = λ p. turned_region i v p h;
+  corners = λ k l. turned_corner i v k (omega arith) l;
+}

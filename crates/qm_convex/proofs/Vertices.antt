@@ -4,15 +4,15 @@ use Rattle.std.proofs.Math.IntN.{*ℤ_comm}
 use Rattle.std.proofs.lemmas.Int.{ints}
 use Rattle.std.proofs.lemmas.Bool.{cases_eq}
 use Rattle.std.proofs.lemmas.List.Elements.{All-from_get_or}
-use Rattle.qm_space.specs.Point.{Point, point_sum, point_times}
+use Rattle.qm_space.specs.Point.{Point, point_sum, point_times, IsSamePlace}
 use Rattle.qm_space.specs.Plane.{Plane, value, IsOn, IsInFront}
 use Rattle.qm_space.proofs.IntegerProducts.{linear, *ℤ_zero, zero_*ℤ, one_*ℤ, neg-*ℤ}
 use Rattle.qm_space.proofs.Signs.{by_sign, product_positive, product_not_negative, zero_beside_positive}
 use Rattle.qm_space.proofs.Planes.{same_point, value_sum, value_times, meet_only}
 use Rattle.qm_space.proofs.Exchange.{point_on_line}
 use Rattle.qm_convex.specs.Winding.{Winding, next_place, edge_at, corner_at, IsConvex, IsInRegion}
-use Rattle.qm_convex.specs.Vertex.{IsInClosedRegion, IsSamePlace, IsBetweenPoints, IsVertex, IsSomeCorner}
-use Rattle.qm_convex.proofs.Places.{next_inner, next_below, place_before}
+use Rattle.qm_convex.specs.Vertex.{IsInClosedRegion, IsBetweenPoints, IsVertex, IsSomeCorner, nothing, AreOnLine, HasStraightCorner, HasVerticesAsCorners}
+use Rattle.qm_convex.proofs.Places.{next_inner, next_below, next_other, next_next_other, place_before}
 use Rattle.qm_convex.proofs.Corners.{corner_on_plane, corner_on_edge, corner_on_next, corner_not_behind, far_corner_in_front, value_on_edge}
 use Rattle.qm_convex.proofs.NewCorners.{far_plane, value_far_plane, by_first, by_second}
 use Rattle.qm_convex.proofs.Hull.{through, value_through, IsExit, exit_of, exit_not_behind, first_corner_inside}
@@ -232,3 +232,71 @@ vertex_is_corner v c p x = ⊎_elim
     vertex_on_edge v p c x b.0 b.1 (subst (λ k. IsOn (edge_at v k) p) (sym b.2) s.2))
     (λ a. absurd (vertex_on_some_edge v p c x (record { weight = x.closed.weight; on = x.closed.on; inside = All-from_get_or (λ e. IsInFront e p) v.edges v.plane a })))
     (edge_below v p (length v.edges) (omega arith) x.closed)
+
+-- ---- no three neighbours lie on one line
+
+value_nothing : (g : Plane) → value g nothing ≡ pos 0
+unfolding value
+value_nothing g = let a = *ℤ_zero g.nx in let b = *ℤ_zero g.ny in let d = *ℤ_zero g.nz in let e = *ℤ_zero g.d in omega (arith, linear)
+
+-- the values of a plane add up to nothing too
+value_on_line_sum : (g : Plane) (p q r : Point) (l : AreOnLine p q r) →
+    ((l.times_p *ℤ value g p) +ℤ (l.times_q *ℤ value g q)) +ℤ (l.times_r *ℤ value g r) ≡ pos 0
+value_on_line_sum g p q r l =
+    let s = value_sum g (point_sum (point_times l.times_p p) (point_times l.times_q q)) (point_times l.times_r r) in
+    let t = value_sum g (point_times l.times_p p) (point_times l.times_q q) in
+    let a = value_times g l.times_p p in
+    let b = value_times g l.times_q q in
+    let d = value_times g l.times_r r in
+    let e = ap (value g) l.sum in
+    let z = value_nothing g in
+    omega (arith, linear)
+
+no_multiple : (k z : ℤ) → pos 0 <ℤ z → k *ℤ z ≡ pos 0 → k ≡ pos 0
+no_multiple k z h e = zero_beside_positive z k h (*ℤ_comm z k ∙ e)
+
+-- The third corner is in front of the edge between the first two, the first in front of the edge between the others: so
+-- each multiple is 0.
+no_straight_corner : (v : Winding) → IsConvex v → (i : ℕ) → i < length v.edges → HasStraightCorner v i → ⊥
+no_straight_corner v c i h l = l.some first second third
+  where
+    n : ℕ
+    n = length v.edges
+
+    j : ℕ
+    j = next_place n i
+
+    k : ℕ
+    k = next_place n j
+
+    j_below : j < length v.edges
+    j_below = next_below n i h
+
+    k_below : k < length v.edges
+    k_below = next_below n j j_below
+
+    third : l.times_r ≡ pos 0
+    third =
+        let s = value_on_line_sum (edge_at v j) (corner_at v i) (corner_at v j) (corner_at v k) l in
+        let a = ap (λ x. l.times_p *ℤ x) (corner_on_next v i) ∙ *ℤ_zero l.times_p in
+        let b = ap (λ x. l.times_q *ℤ x) (corner_on_edge v j) ∙ *ℤ_zero l.times_q in
+        no_multiple l.times_r (value (edge_at v j) (corner_at v k)) (far_corner_in_front v c j j_below) (omega (arith, linear))
+
+    first : l.times_p ≡ pos 0
+    first =
+        let s = value_on_line_sum (edge_at v k) (corner_at v i) (corner_at v j) (corner_at v k) l in
+        let a = ap (λ x. l.times_q *ℤ x) (corner_on_next v j) ∙ *ℤ_zero l.times_q in
+        let b = ap (λ x. l.times_r *ℤ x) (corner_on_edge v k) ∙ *ℤ_zero l.times_r in
+        let t = c.enough in
+        no_multiple l.times_p (value (edge_at v k) (corner_at v i))
+        (c.inside i k h k_below (next_next_other n i t h) (next_other n j (omega arith) j_below)) (omega (arith, linear))
+
+    second : l.times_q ≡ pos 0
+    second =
+        let s = value_on_line_sum (edge_at v i) (corner_at v i) (corner_at v j) (corner_at v k) l in
+        let a = ap (λ x. l.times_p *ℤ x) (corner_on_edge v i) ∙ *ℤ_zero l.times_p in
+        let b = ap (λ x. x *ℤ value (edge_at v i) (corner_at v k)) third ∙ zero_*ℤ (value (edge_at v i) (corner_at v k)) in
+        no_multiple l.times_q (value (edge_at v i) (corner_at v j)) (far_corner_in_front v c i h) (omega (arith, linear))
+
+pub vertices_as_corners : (v : Winding) → IsConvex v → HasVerticesAsCorners v
+vertices_as_corners v c = record { enough = c.enough; each = corner_is_vertex v c; all = vertex_is_corner v c; bent = no_straight_corner v c }

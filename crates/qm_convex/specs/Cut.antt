@@ -1,6 +1,6 @@
-use Rattle.std.specs.Prelude.{◌≡◌, ℕ, suc, ◌-◌, ◌<◌, ◌≤◌, pos, ◌≤ℤ◌, [], ◌∷◌, ◌++◌, List, length, take, All, ◌↔◌}
+use Rattle.std.specs.Prelude.{◌≡◌, ℕ, suc, ◌-◌, ◌<◌, ◌≤◌, pos, ◌≤ℤ◌, [], ◌∷◌, ◌++◌, List, length, take, All, ◌↔◌, ◌⊎◌}
 use Rattle.qm_space.specs.Point.{Point}
-use Rattle.qm_space.specs.Plane.{Plane, value, IsInFront}
+use Rattle.qm_space.specs.Plane.{Plane, value, IsOn, IsInFront, flipped}
 use Rattle.qm_convex.specs.Winding.{Winding, next_place, corner_at, IsInRegion, IsConvex}
 use Rattle.qm_convex.specs.Turning.{place_after, turned}
 
@@ -9,6 +9,12 @@ pub record IsPartInFront (w v : Winding) (g : Plane) : Type 0 where
   pub convex : IsConvex w
   pub plane : w.plane ≡ v.plane
   pub points : (p : Point) → IsInRegion w p ↔ (IsInRegion v p × IsInFront g p)
+
+-- the plane parts the winding v: it is made up of a winding in front, one behind, and what is on the plane
+pub record IsParted (v : Winding) (g : Plane) (in_front behind : Winding) : Type 0 where
+  pub part_in_front : IsPartInFront in_front v g
+  pub part_behind : IsPartInFront behind v (flipped g)
+  pub whole : (p : Point) → IsInRegion v p → IsInRegion in_front p ⊎ (IsInRegion behind p ⊎ IsOn g p)
 
 -- the winding w is the part of the winding v in front of each of the planes
 pub record IsPartWithin (w v : Winding) (gs : List Plane) : Type 0 where

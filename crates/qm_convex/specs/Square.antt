@@ -40,6 +40,11 @@ pub record IsWorldPart (w : Winding) (h : Plane) : Type 0 where
   pub plane : w.plane ≡ h
   pub points : (p : Point) → IsInRegion w p ↔ (IsOn h p × IsInCube p)
 
+-- a convex polygon inside the world's cube
+pub record IsInWorld (v : Winding) : Type 0 where
+  pub convex : IsConvex v
+  pub inside : (p : Point) → IsInRegion v p → IsInCube p
+
 -- between the cube's two faces across one axis, or on one of them
 pub record IsUpToExtent (coordinate w : ℤ) : Type 0 where
   pub above : neg_ℤ (extent *ℤ w) ≤ℤ coordinate

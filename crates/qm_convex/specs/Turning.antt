@@ -1,5 +1,6 @@
-use Rattle.std.specs.Prelude.{ℕ, ◌+◌, ◌-◌, nat_lt, List, ◌++◌, take, drop, if◌then◌else◌}
-use Rattle.qm_convex.specs.Winding.{Winding}
+use Rattle.std.specs.Prelude.{◌≡◌, ℕ, ◌+◌, ◌-◌, ◌<◌, nat_lt, List, ◌++◌, length, take, drop, ◌↔◌, if◌then◌else◌}
+use Rattle.qm_space.specs.Point.{Point}
+use Rattle.qm_convex.specs.Winding.{Winding, corner_at, IsInRegion, IsConvex}
 
 -- the place k steps after the place i, of n places in a circle
 unfoldable pub place_after : ℕ → ℕ → ℕ → ℕ
@@ -12,3 +13,9 @@ turned_list i xs = drop i xs ++ take i xs
 -- the same polygon, read from its edge at the place i on
 abbrev pub turned : ℕ → Winding → Winding
 turned i v = record { plane = v.plane; edges = turned_list i v.edges }
+
+-- read from its edge at the place i on, the winding is the same: convex, with the same points and the same corners
+pub record IsSameTurned (v : Winding) (i : ℕ) : Type 0 where
+  pub convex : IsConvex (turned i v)
+  pub points : (p : Point) → IsInRegion (turned i v) p ↔ IsInRegion v p
+  pub corners : (k : ℕ) → k < length v.edges → corner_at (turned i v) k ≡ corner_at v (place_after (length v.edges) i k)

@@ -1,12 +1,11 @@
 -- When three planes meet in one place only, and which.
-use Rattle.std.proofs.Common.{◌≡◌, ℤ, pos, negsuc, true, false, ◌+ℤ◌, ◌*ℤ◌, ◌<ℤ◌, ◌≤ℤ◌, ap, refl, sym, subst, ◌∙◌, arith}
+use Rattle.std.proofs.Common.{◌≡◌, ℤ, pos, negsuc, true, false, ◌+ℤ◌, ◌*ℤ◌, ◌<ℤ◌, ◌≤ℤ◌, ap, refl, sym, subst, arith}
 use Rattle.std.proofs.lemmas.Int.{ints}
-use Rattle.std.proofs.Math.IntN.{*ℤ_comm}
 use Rattle.qm_space.specs.Point.{Point, point_sum, point_times}
 use Rattle.qm_space.specs.Plane.{Plane, IsOn}
 use Rattle.qm_space.specs.Meet.{meet, HasMeetSizes}
 use Rattle.qm_space.specs.Reduced.{IsReduced}
-use Rattle.qm_space.proofs.IntegerProducts.{linear, +ℤ-*ℤ}
+use Rattle.qm_space.proofs.IntegerProducts.{linear, *ℤ-+ℤ}
 use Rattle.qm_space.proofs.Signs.{by_sign, zero_beside_positive}
 use Rattle.qm_space.proofs.Planes.{first_holds_meet, second_holds_meet, third_holds_meet, meet_only, meet_exchanged}
 use Rattle.qm_space.proofs.Directions.{common_direction, another_point}
@@ -20,18 +19,8 @@ meet_is_only a b c h = record {
   first = first_holds_meet a b c;
   second = second_holds_meet a b c;
   third = third_holds_meet a b c;
-  only = λ q w x y z.
-      let e = meet_only a b c q x y z in
-      let m = meet a b c in
-      record {
-        x = place m.x m.w q.x q.w (ap (λ p. p.x) e);
-        y = place m.y m.w q.y q.w (ap (λ p. p.y) e);
-        z = place m.z m.w q.z q.w (ap (λ p. p.z) e);
-      };
+  only = λ q w x y z. meet_only a b c q x y z;
 }
-  where
-    place : (m w k v : ℤ) → w *ℤ k ≡ v *ℤ m → m *ℤ v ≡ k *ℤ w
-    place m w k v e = *ℤ_comm m v ∙ sym e ∙ *ℤ_comm w k
 
 -- where w is 0, the planes have another place in common beside each that they have
 meet_beside : (a b c : Plane) → (meet a b c).w ≡ pos 0 → (p : Point) → pos 0 <ℤ p.w → IsOn a p → IsOn b p → IsOn c p → MeetBeside a b c p
@@ -45,14 +34,13 @@ meet_beside a b c e p h x y z =
       first = o.0;
       second = o.1;
       third = o.2;
-      apart = λ same. l.some (still p.x v.x p.w v.w l.weight h same.x) (still p.y v.y p.w v.w l.weight h same.y) (still p.z v.z p.w v.w l.weight h same.z);
+      apart = λ same. l.some (still p.x v.x p.w v.w l.weight h (ap (λ q. q.x) same)) (still p.y v.y p.w v.w l.weight h (ap (λ q. q.y) same)) (still p.z v.z p.w v.w l.weight h (ap (λ q. q.z) same));
     }
   where
-    still : (k s w t : ℤ) → t ≡ pos 0 → pos 0 <ℤ w → k *ℤ (w +ℤ t) ≡ (k +ℤ s) *ℤ w → s ≡ pos 0
+    still : (k s w t : ℤ) → t ≡ pos 0 → pos 0 <ℤ w → w *ℤ (k +ℤ s) ≡ (w +ℤ t) *ℤ k → s ≡ pos 0
     still k s w t z h e =
-        let f : k *ℤ (w +ℤ t) ≡ k *ℤ w = ap (λ x. k *ℤ x) (omega (arith, linear)) in
-        let g = +ℤ-*ℤ k s w in
-        let i = *ℤ_comm w s in
+        let f : (w +ℤ t) *ℤ k ≡ w *ℤ k = ap (λ x. x *ℤ k) (omega (arith, linear)) in
+        let g = *ℤ-+ℤ w k s in
         zero_beside_positive w s h (omega (arith, linear))
 
 beside_exchanged : (a b c : Plane) (p : Point) → MeetBeside b a c p → MeetBeside a b c p

@@ -1,5 +1,5 @@
-use Rattle.std.specs.Prelude.{◌≡◌, ℕ, [], ◌∷◌, slice_index_or, ℤ, pos, negsuc, Bool, true, false, if◌then◌else◌, ◌*ℤ◌, ◌<ℤ◌}
-use Rattle.qm_space.specs.Point.{Point, point_times}
+use Rattle.std.specs.Prelude.{ℕ, [], ◌∷◌, slice_index_or, ℤ, pos, negsuc, Bool, true, false, if◌then◌else◌, ◌<ℤ◌}
+use Rattle.qm_space.specs.Point.{Point, point_times, IsSamePlace}
 use Rattle.qm_space.specs.Plane.{Plane, IsOn}
 use Rattle.qm_space.specs.Meet.{HasMeetSizes}
 
@@ -8,19 +8,13 @@ pub record IsCorner (p : Point) : Type 0 where
   pub weight : pos 0 <ℤ p.w
   pub sizes : HasMeetSizes p
 
--- two points stand for one place: their coordinates are equal as fractions
-pub record AreOnePlace (p q : Point) : Type 0 where
-  pub x : p.x *ℤ q.w ≡ q.x *ℤ p.w
-  pub y : p.y *ℤ q.w ≡ q.y *ℤ p.w
-  pub z : p.z *ℤ q.w ≡ q.z *ℤ p.w
-
 -- the three planes meet in this place and in no other
 pub record MeetOnlyIn (a b c : Plane) (p : Point) : Type 0 where
   pub weight : pos 0 <ℤ p.w
   pub first : IsOn a p
   pub second : IsOn b p
   pub third : IsOn c p
-  pub only : (q : Point) → pos 0 <ℤ q.w → IsOn a q → IsOn b q → IsOn c q → AreOnePlace p q
+  pub only : (q : Point) → pos 0 <ℤ q.w → IsOn a q → IsOn b q → IsOn c q → IsSamePlace q p
 
 -- beside this place, which the three planes have in common, they have another one in common
 pub record MeetBeside (a b c : Plane) (p : Point) : Type 0 where
@@ -29,7 +23,7 @@ pub record MeetBeside (a b c : Plane) (p : Point) : Type 0 where
   pub first : IsOn a other
   pub second : IsOn b other
   pub third : IsOn c other
-  pub apart : AreOnePlace p other → ⊥
+  pub apart : IsSamePlace other p → ⊥
 
 -- the numerator of x, y or z, by the axis
 abbrev pub numerator : Point → ℕ → ℤ

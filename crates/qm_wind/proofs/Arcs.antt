@@ -1,6 +1,6 @@
 -- Items in a row from a place on, of items in a circle.
 use Rattle.std.proofs.Common.{◌≡◌, ℕ, ◌+◌, ◌-◌, ◌<◌, ◌≤◌, List, ◌++◌, length, take, drop, ap, sym, ◌∙◌, arith}
-use Rattle.std.proofs.lemmas.List.{length-drop, take-append-le, take-take, take_rest}
+use Rattle.std.proofs.lemmas.List.{append_assoc, length-drop, take-append-le, take-take, take_rest}
 use Rattle.std.proofs.Math.Seq.{take-append-add}
 use Rattle.qm_convex.specs.Turning.{turned_list}
 
@@ -16,3 +16,11 @@ arc_over xs start count h l m =
     let e : count ≡ length (drop start xs) + more = omega arith in
     ap (λ k. take k (turned_list start xs)) e ∙ take-append-add (drop start xs) (take start xs) more
     ∙ ap (λ ys. drop start xs ++ ys) (take-take more start xs (omega arith)) ∙ ap (λ ys. ys ++ take more xs) (sym (take_rest xs start))
+
+-- what is added in two pieces
+pub arc_added : {X : Type 0} (old mid new xs : List X) (start count : ℕ) → start ≤ length xs → count ≤ length xs → length xs - start < count →
+    mid ≡ old ++ take (length xs - start) (drop start xs) → new ≡ mid ++ take (count - (length xs - start)) xs → new ≡ old ++ take count (turned_list start xs)
+arc_added old mid new xs start count h l m e f =
+    f ∙ ap (λ ys. ys ++ take (count - (length xs - start)) xs) e
+    ∙ append_assoc old (take (length xs - start) (drop start xs)) (take (count - (length xs - start)) xs)
+    ∙ ap (λ ys. old ++ ys) (sym (arc_over xs start count h l m))

@@ -1,5 +1,5 @@
 -- What a survey of the corners says of a winding.
-use Rattle.std.proofs.Common.{◌≡◌, ℕ, ◌<◌, true, false, ⊎_elim, Option, None, Some, Result, Ok, Err, length, ap, sym, ◌∙◌, subst, arith}
+use Rattle.std.proofs.Common.{◌≡◌, ℕ, ◌<◌, true, false, ⊎_elim, Option, None, Some, length, ap, sym, ◌∙◌, subst, arith}
 use Rattle.std.proofs.lemmas.Bool.{MatchBool-at_true, MatchBool-at_false}
 use Rattle.qm_space.specs.Plane.{Plane, value, flipped}
 use Rattle.qm_space.proofs.IntegerProducts.{linear}
@@ -12,9 +12,6 @@ use Rattle.qm_convex.proofs.Places.{next_below}
 use Rattle.qm_convex.proofs.Central.{none_in_front, some_in_front, wholly_in_front}
 use Rattle.qm_convex.proofs.Runs.{run_between, enters_somewhere, leaves_somewhere}
 use Rattle.std.specs.Option.{MatchOption}
-use Rattle.std.specs.Result.{IfOk}
-use Rattle.qm_convex.specs.Square.{opposite, square, AreWalls, MissesCube, IsWorldPart}
-use Rattle.qm_convex.proofs.Squares.{misses_far, world_part}
 use Rattle.qm_wind.specs.declared.sides.Sides.{Sides}
 use Rattle.qm_wind.specs.Survey.{IsStart, IsEnd, IsSurvey}
 
@@ -62,22 +59,13 @@ module _ (v : Winding) (g : Plane) (s : Sides) (c : IsConvex v) (x : IsSurvey v 
       let b = survey_behind in
       (some_in_front v (flipped g) c).1 (b.0, b.1, let k = value_flipped g (corner_at v b.0) in let l = b.2 in omega (arith, linear))
 
--- what is kept of a winding that is another
-pub none_kept : (u v : Winding) (g : Plane) (part : Option Winding) → u ≡ v → part ≡ None →
-    MatchOption part (HasNoneInFront u g) (λ w. IsPartInFront w u g) → HasNoneInFront v g
-none_kept u v g part e f m = subst (λ w. HasNoneInFront w g) e (subst (λ o. MatchOption o (HasNoneInFront u g) (λ w. IsPartInFront w u g)) f m)
+-- what is kept of a winding in front of a plane, where both are others
+pub none_kept : (u v : Winding) (f g : Plane) (part : Option Winding) → u ≡ v → f ≡ g → part ≡ None →
+    MatchOption part (HasNoneInFront u f) (λ w. IsPartInFront w u f) → HasNoneInFront v g
+none_kept u v f g part e d n m =
+    subst (λ w. HasNoneInFront w g) e (subst (HasNoneInFront u) d (subst (λ o. MatchOption o (HasNoneInFront u f) (λ w. IsPartInFront w u f)) n m))
 
-pub some_kept : (u v : Winding) (g : Plane) (part : Option Winding) (w : Winding) → u ≡ v → part ≡ Some w →
-    MatchOption part (HasNoneInFront u g) (λ w. IsPartInFront w u g) → IsPartInFront w v g
-some_kept u v g part w e f m = subst (λ t. IsPartInFront w t g) e (subst (λ o. MatchOption o (HasNoneInFront u g) (λ w. IsPartInFront w u g)) f m)
-
--- the part inside the cube, from what is kept in front of the last wall
-pub world_kept : (h a b c g : Plane) (v : Winding) → AreWalls a b c → IsPartInFront v (square h a b) c → g ≡ opposite c →
-    (part : Option Winding) → MatchOption part (HasNoneInFront v g) (λ w. IsPartInFront w v g) → MatchOption part (MissesCube h) (λ w. IsWorldPart w h)
-world_kept h a b c g v w x e None n = misses_far h a b c w v x (subst (HasNoneInFront v) e n)
-world_kept h a b c g v w x e (Some u) y = world_part h a b c w v u x (subst (IsPartInFront u v) e y)
-
-pub world_kept_result : {E : Type 0} (h a b c g : Plane) (v : Winding) → AreWalls a b c → IsPartInFront v (square h a b) c → g ≡ opposite c →
-    (r : Result (Option Winding) E) → IfOk r (λ part. MatchOption part (HasNoneInFront v g) (λ w. IsPartInFront w v g)) → IfOk r (λ part. MatchOption part (MissesCube h) (λ w. IsWorldPart w h))
-world_kept_result h a b c g v w x e (Ok part) m = world_kept h a b c g v w x e part m
-world_kept_result h a b c g v w x e (Err f) m = tt
+pub some_kept : (u v : Winding) (f g : Plane) (part : Option Winding) (w : Winding) → u ≡ v → f ≡ g → part ≡ Some w →
+    MatchOption part (HasNoneInFront u f) (λ w. IsPartInFront w u f) → IsPartInFront w v g
+some_kept u v f g part w e d n m =
+    subst (λ t. IsPartInFront w t g) e (subst (IsPartInFront w u) d (subst (λ o. MatchOption o (HasNoneInFront u f) (λ w. IsPartInFront w u f)) n m))

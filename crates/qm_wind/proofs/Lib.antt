@@ -3,3 +3,4 @@ pub mod Arcs
 pub mod Surveys
 pub mod Clips
 pub mod WallsAcross
+pub mod Worlds

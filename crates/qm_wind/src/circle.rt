@@ -1,8 +1,8 @@
-ghost use Rattle.std.specs.Prelude.{◌≡◌, ◌<◌, ◌≤◌, take, length, slice_index_or, IfOk};
+ghost use Rattle.std.specs.Prelude.{◌≡◌, ◌<◌, ◌≤◌, ◌++◌, take, length, slice_index_or, OnOk};
 ghost use Rattle.qm_convex.specs.Turning.{turned_list, place_after};
 
 use smallvec::SmallVec;
-use std::alloc::{AllocError, Global};
+use std::alloc::AllocError;
 
 /// The item at a place.
 pub(crate) fn item<T: Copy>(items: &[T], i: usize) -> T
@@ -12,24 +12,23 @@ pub(crate) fn item<T: Copy>(items: &[T], i: usize) -> T
     items[i]
 }
 
-/// So many items in a row from a place on, of items in a circle.
-pub(crate) fn arc<T: Copy + Default + Drop>(
-    alloc: Global,
+/// Adds so many items in a row from a place on, of items in a circle.
+pub(crate) fn add_arc<T: Copy + Default + Drop>(
+    list: &mut SmallVec<T, 8>,
     items: &[T],
     start: usize,
     count: usize,
-) -> Result<SmallVec<T, 8>, AllocError>
+) -> Result<(), AllocError>
     requires start_in_range { start ≤ length items.now }
     requires count_in_range { count ≤ length items.now }
-    ensures { IfOk result (λ arc. arc.items ≡ take count (turned_list start items.now)) }
+    ensures { OnOk result (list.new.items ≡ list.old.items ++ take count (turned_list start items.now)) }
 {
     let before_end = items.len() - start;
     if count <= before_end {
-        return SmallVec::from_slice(alloc, &items[start..start + count]);
+        return list.extend_from_slice(&items[start..start + count]);
     }
-    let mut arc = SmallVec::from_slice(alloc, &items[start..])?;
-    arc.extend_from_slice(&items[..count - before_end])?;
-    Ok(arc)
+    list.extend_from_slice(&items[start..])?;
+    list.extend_from_slice(&items[..count - before_end])
 }
 
 /// The place so many steps after a place, of places in a circle.

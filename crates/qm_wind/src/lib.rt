@@ -1,11 +1,16 @@
-//! Windings: convex polygons on planes, cut exactly.
+//! Windings: convex polygons on planes inside the world's cube, cut exactly; panes; and the laws of
+//! windings, for the layers above.
 #![tactic(auto)]
 
 mod circle;
+pub mod laws;
+mod pane;
+mod polygon;
 mod sides;
 mod walls;
 mod winding;
 
+pub use pane::Pane;
 pub use winding::{Clip, Side, Winding};
 
 #[cfg(test)]

@@ -1,15 +1,13 @@
-ghost use Rattle.std.specs.Prelude.{◌≡◌, ◌<◌, length, IfOk, MatchOption};
-ghost use Rattle.qm_convex.specs.Winding.{corner_at, IsConvex};
-ghost use Rattle.qm_convex.specs.Square.{square, MissesCube, IsWorldPart};
-ghost use Rattle.qm_convex.specs.Cut.{IsFrontRun, IsPartInFront, cut};
-ghost use Rattle.qm_convex.specs.Sides.{HasCornerBehind, HasNoneInFront};
+ghost use Rattle.std.specs.Prelude.{◌≡◌, ◌<◌, ◌≤◌, length, IfOk, MatchOption};
+ghost use Rattle.qm_geom.specs.Rounding.{HasSmallCoordinates};
+ghost use Rattle.qm_convex.specs.Winding.{corner_at};
+ghost use Rattle.qm_convex.specs.Vertex.{IsVertex, HasVerticesAsCorners};
+ghost use Rattle.qm_convex.specs.Square.{MissesCube, IsWorldPart, IsInWorld, IsInClosedCube};
 ghost use Rattle.qm_wind.specs.Clipped.{IsClip, facing};
 
-use crate::circle::{arc, item, place_after, steps_between};
-use crate::sides::Sides;
+use crate::polygon::Polygon;
 use crate::walls::{Walls, opposite};
 use qm_geom::{Corner, Plane};
-use smallvec::SmallVec;
 use std::alloc::{AllocError, Global};
 use std::marker::Model;
 
@@ -20,23 +18,22 @@ pub enum Side {
     Back,
 }
 
-/// A convex polygon on a plane: one plane for each edge, with the polygon on its front.
+/// A convex polygon on a plane, inside the world's cube: one plane for each edge, with the polygon on
+/// its front.
 #[derive(Drop)]
 pub struct Winding {
-    plane: Plane,
-    edges: SmallVec<Plane, 8>,
-    corners: SmallVec<Corner, 8>,
+    polygon: Polygon,
 }
 
 impl Model for Winding {
     ghost use Rattle.qm_convex.specs.Winding.{Winding};
-    ghost use Rattle.qm_wind.specs.Kept.{IsKept};
+    ghost use Rattle.qm_convex.specs.Square.{IsInWorld};
 
     ghost Value = { Winding };
 
-    ghost view = { λ w. record { plane = w.plane; edges = w.edges.items } };
+    ghost view = { λ w. w.polygon };
 
-    ghost invariant = { λ w. IsKept (record { plane = w.plane; edges = w.edges.items }) w.corners.items };
+    ghost invariant = { λ w. IsInWorld w.polygon };
 }
 
 /// What is left of a winding on one side of a plane.
@@ -48,59 +45,21 @@ pub enum Clip {
 }
 
 impl Winding {
-    /// How many corners it has.
-    pub fn len(&self) -> usize
-        ensures { result ≡ length self.now.edges }
+    /// The part of the plane inside the world's open cube. `None` exactly where no point of the cube is
+    /// on the plane.
+    pub fn on(alloc: Global, plane: &Plane) -> Result<Option<Winding>, AllocError>
+        ensures { IfOk result (λ part. MatchOption part (MissesCube plane.now) (λ w. IsWorldPart w plane.now)) }
     {
-        self.edges.len()
-    }
-
-    /// The corner at a place.
-    pub fn corner(&self, i: usize) -> Corner
-        requires { i < length self.now.edges }
-        ensures { result ≡ corner_at self.now i }
-    {
-        item(self.corners.as_slice(), i)
-    }
-
-    /// The part in front of the plane, by the run of the corners there.
-    fn cut(&self, plane: &Plane, start: usize, count: usize) -> Result<Winding, AllocError>
-        requires run { IsFrontRun self.now plane.now start count }
-        requires behind { HasCornerBehind self.now plane.now }
-        ensures { IfOk result (λ w. w ≡ cut self.now plane.now start count) }
-    {
-        let _ = &plane.nx;
-        let alloc = *self.edges.allocator();
-        let mut edges = arc(alloc, self.edges.as_slice(), start, count + 1)?;
-        let mut corners = arc(alloc, self.corners.as_slice(), start, count)?;
-        let last = item(
-            self.edges.as_slice(),
-            place_after(self.edges.len(), start, count),
-        );
-        let first = item(self.edges.as_slice(), start);
-        edges.push(*plane)?;
-        corners.push(Corner::turning(&self.plane, &last, plane))?;
-        corners.push(Corner::turning(&self.plane, plane, &first))?;
-        Ok(Winding {
-            plane: self.plane,
-            edges,
-            corners,
-        })
-    }
-
-    /// What is left in front of a plane.
-    fn in_front_of(&self, plane: &Plane) -> Result<Clip, AllocError>
-        ensures { IfOk result (λ clip. IsClip clip self.now plane.now) }
-    {
-        let sides = Sides::of(self.corners.as_slice(), plane);
-        if !sides.some_in_front {
-            return Ok(Clip::Gone);
+        let walls = Walls::across(plane);
+        let square = Polygon::square(alloc, plane, &walls.first, &walls.second)?;
+        let near = match square.kept_in_front_of(&walls.third)? {
+            None => return Ok(None),
+            Some(near) => near,
+        };
+        match near.kept_in_front_of(&opposite(&walls.third))? {
+            None => Ok(None),
+            Some(polygon) => Ok(Some(Winding { polygon })),
         }
-        if !sides.some_behind {
-            return Ok(Clip::Whole);
-        }
-        let count = steps_between(self.edges.len(), sides.start, sides.end);
-        Ok(Clip::Cut(self.cut(plane, sides.start, count)?))
     }
 
     /// What is left of the winding on one side of a plane. `Gone` exactly where none of its points is
@@ -114,81 +73,56 @@ impl Winding {
         }
     }
 
-    /// The part of the plane inside the world's open cube. `None` exactly where no point of the cube is
-    /// on the plane.
-    pub fn on(alloc: Global, plane: &Plane) -> Result<Option<Winding>, AllocError>
-        ensures { IfOk result (λ part. MatchOption part (MissesCube plane.now) (λ w. IsWorldPart w plane.now)) }
+    /// What is left in front of a plane.
+    fn in_front_of(&self, plane: &Plane) -> Result<Clip, AllocError>
+        ensures { IfOk result (λ clip. IsClip clip self.now plane.now) }
     {
-        let walls = Walls::across(plane);
-        let square = Winding::square(alloc, plane, &walls.first, &walls.second)?;
-        match square.kept_in_front_of(&walls.third)? {
-            None => Ok(None),
-            Some(near) => near.kept_in_front_of(&opposite(&walls.third)),
+        let sides = self.polygon.sides(plane);
+        if !sides.some_in_front {
+            return Ok(Clip::Gone);
         }
-    }
-
-    /// The part of a plane between two walls and their opposites.
-    fn square(
-        alloc: Global,
-        plane: &Plane,
-        first: &Plane,
-        second: &Plane,
-    ) -> Result<Winding, AllocError>
-        requires { IsConvex (square plane.now first.now second.now) }
-        ensures { IfOk result (λ w. w ≡ square plane.now first.now second.now) }
-    {
-        let _ = &plane.nx;
-        let _ = &first.nx;
-        let _ = &second.nx;
-        let third = opposite(first);
-        let fourth = opposite(second);
-        let _ = &third.nx;
-        let _ = &fourth.nx;
-        let edges = SmallVec::from_array(alloc, [*first, *second, third, fourth])?;
-        let corners = SmallVec::from_array(
-            alloc,
-            [
-                Corner::turning(plane, first, second),
-                Corner::turning(plane, second, &third),
-                Corner::turning(plane, &third, &fourth),
-                Corner::turning(plane, &fourth, first),
-            ],
-        )?;
-        Ok(Winding {
-            plane: *plane,
-            edges,
-            corners,
-        })
-    }
-
-    /// The part in front of a plane, if there is one.
-    fn kept_in_front_of(self, plane: &Plane) -> Result<Option<Winding>, AllocError>
-        ensures { IfOk result (λ part. MatchOption part (HasNoneInFront self plane.now) (λ w. IsPartInFront w self plane.now)) }
-    {
-        let _ = &self.plane;
-        match self.in_front_of(plane)? {
-            Clip::Gone => Ok(None),
-            Clip::Whole => Ok(Some(self)),
-            Clip::Cut(part) => Ok(Some(part)),
+        if !sides.some_behind {
+            return Ok(Clip::Whole);
         }
+        let polygon = self.polygon.part_in_front_of(plane, &sides)?;
+        Ok(Clip::Cut(Winding { polygon }))
     }
 
     /// The same winding once more.
     pub fn copy(&self) -> Result<Winding, AllocError>
         ensures { IfOk result (λ w. w ≡ self.now) }
     {
-        let alloc = *self.edges.allocator();
         Ok(Winding {
-            plane: self.plane,
-            edges: SmallVec::from_slice(alloc, self.edges.as_slice())?,
-            corners: SmallVec::from_slice(alloc, self.corners.as_slice())?,
+            polygon: self.polygon.copy()?,
         })
+    }
+
+    /// How many corners it has, which are exactly its vertices: at least three, and no three neighbours
+    /// on a line.
+    pub fn len(&self) -> usize
+        ensures count { result ≡ length self.now.edges }
+        ensures enough { 3 ≤ result }
+        ensures vertices { HasVerticesAsCorners self.now }
+        ensures in_world { IsInWorld self.now }
+    {
+        self.polygon.len()
+    }
+
+    /// The corner at a place: a vertex, in the world's cube or on its border.
+    pub fn corner(&self, i: usize) -> Corner
+        requires { i < length self.now.edges }
+        ensures exact { result ≡ corner_at self.now i }
+        ensures vertex { IsVertex self.now result }
+        ensures in_closed_cube { IsInClosedCube result }
+        ensures small { HasSmallCoordinates result }
+    {
+        self.polygon.corner(i)
     }
 
     /// The plane on which it lies.
     pub fn plane(&self) -> Plane
         ensures { result ≡ self.now.plane }
     {
-        self.plane
+        self.polygon.plane()
     }
 }

@@ -1,17 +1,16 @@
-use Rattle.std.proofs.Common.{◌∙◌, length, get_or, ap, arith}
+use Rattle.std.proofs.Common.{◌∙◌, ap}
 use Rattle.qm_convex.specs.Winding.{corner_at}
-use Rattle.qm_wind.proofs.KeptCorners.{kept_length, kept_corner, view_length}
+use Rattle.qm_wind.proofs.Worlds.{is_vertex, is_in_closed_cube, is_small}
 use Rattle.qm_wind.proofs.winding.Winding.corner.Goals as goal
 
-pub item-requires : goal.item-requires
-item-requires c =
-    let a = ap length c.as_slice.ensures in
-    let b = kept_length _ _ c.self.invariant in
-    let d = view_length _ _ c.self.view_is in
-    omega arith
+pub returns-clause-vertex : goal.returns-clause-vertex
+returns-clause-vertex c =
+    is_vertex _ c.args.self.now c.args.i _ c.self.view_is c.self.invariant c.requires (c.corner.ensures ∙ ap (λ v. corner_at v c.args.i) c.self.view_is)
 
-pub returns : goal.returns
-returns c =
-    let d = view_length _ _ c.self.view_is in
-    c.item.ensures c.item.result ∙ ap (λ ps. get_or ps c.args.i c.item.result) c.as_slice.ensures
-    ∙ kept_corner _ _ c.args.i c.item.result c.self.invariant (omega arith) ∙ ap (λ v. corner_at v c.args.i) c.self.view_is
+pub returns-clause-in_closed_cube : goal.returns-clause-in_closed_cube
+returns-clause-in_closed_cube c =
+    is_in_closed_cube _ c.args.self.now c.args.i _ c.self.view_is c.self.invariant c.requires (c.corner.ensures ∙ ap (λ v. corner_at v c.args.i) c.self.view_is)
+
+pub returns-clause-small : goal.returns-clause-small
+returns-clause-small c =
+    is_small _ c.args.self.now c.args.i _ c.self.view_is c.self.invariant c.requires (c.corner.ensures ∙ ap (λ v. corner_at v c.args.i) c.self.view_is)

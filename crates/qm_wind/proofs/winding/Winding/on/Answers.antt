@@ -1,5 +1,6 @@
-use Rattle.qm_convex.proofs.Squares.{square_convex, misses_near}
-use Rattle.qm_wind.proofs.Clips.{none_kept, some_kept, world_kept_result}
+use Rattle.std.proofs.Common.{refl}
+use Rattle.qm_convex.proofs.Squares.{square_convex, misses_near, misses_far, world_part, world_part_in_world}
+use Rattle.qm_wind.proofs.Clips.{none_kept, some_kept}
 use Rattle.qm_wind.proofs.winding.Winding.on.Goals as goal
 
 pub square-requires : goal.square-requires
@@ -9,10 +10,23 @@ square-requires c =
 pub returns-in-None : goal.returns-in-None
 returns-in-None c =
     misses_near c.args.plane.now c.across-walls.result.first c.across-walls.result.second c.across-walls.result.third c.across-walls.ensures.walls
-    (none_kept _ _ _ c.in_ok-kept_in_front_of.field-0 c.in_ok-square.ensures c.in-None.is c.in_ok-kept_in_front_of.ensures)
+    (none_kept _ _ _ _ c.in_ok-kept_in_front_of.field-0 c.in_ok-square.ensures refl c.in-None.is c.in_ok-kept_in_front_of.ensures)
 
-pub returns-in-Some : goal.returns-in-Some
-returns-in-Some c =
-    world_kept_result c.args.plane.now c.across-walls.result.first c.across-walls.result.second c.across-walls.result.third c.opposite.result c.in-Some.near c.across-walls.ensures.walls
-    (some_kept _ _ _ c.in_ok-kept_in_front_of.field-0 c.in-Some.near c.in_ok-square.ensures c.in-Some.is c.in_ok-kept_in_front_of.ensures)
-    c.opposite.ensures c.kept_in_front_of-in-Some.result c.kept_in_front_of-in-Some.ensures
+pub returns-in-None-2 : goal.returns-in-None-2
+returns-in-None-2 c =
+    misses_far c.args.plane.now c.across-walls.result.first c.across-walls.result.second c.across-walls.result.third c.across-walls.ensures.walls c.in-Some.near
+    (some_kept _ _ _ _ c.in_ok-kept_in_front_of.field-0 c.in-Some.near c.in_ok-square.ensures refl c.in-Some.is c.in_ok-kept_in_front_of.ensures)
+    (none_kept _ _ _ _ c.in_ok-kept_in_front_of-2.field-0 refl c.opposite.ensures c.in-None-2.is c.in_ok-kept_in_front_of-2.ensures)
+
+pub returns-in-Some-2 : goal.returns-in-Some-2
+returns-in-Some-2 c =
+    world_part c.args.plane.now c.across-walls.result.first c.across-walls.result.second c.across-walls.result.third c.across-walls.ensures.walls c.in-Some.near c.in-Some-2.polygon
+    (some_kept _ _ _ _ c.in_ok-kept_in_front_of.field-0 c.in-Some.near c.in_ok-square.ensures refl c.in-Some.is c.in_ok-kept_in_front_of.ensures)
+    (some_kept _ _ _ _ c.in_ok-kept_in_front_of-2.field-0 c.in-Some-2.polygon refl c.opposite.ensures c.in-Some-2.is c.in_ok-kept_in_front_of-2.ensures)
+
+pub invariant_of-result : goal.invariant_of-result
+invariant_of-result c =
+    world_part_in_world c.in-Some-2.polygon c.args.plane.now
+    (world_part c.args.plane.now c.across-walls.result.first c.across-walls.result.second c.across-walls.result.third c.across-walls.ensures.walls c.in-Some.near c.in-Some-2.polygon
+    (some_kept _ _ _ _ c.in_ok-kept_in_front_of.field-0 c.in-Some.near c.in_ok-square.ensures refl c.in-Some.is c.in_ok-kept_in_front_of.ensures)
+    (some_kept _ _ _ _ c.in_ok-kept_in_front_of-2.field-0 c.in-Some-2.polygon refl c.opposite.ensures c.in-Some-2.is c.in_ok-kept_in_front_of-2.ensures))

@@ -1,0 +1,173 @@
+ghost use Rattle.std.specs.Prelude.{◌≡◌, ◌<◌, true, length, IfOk, MatchOption};
+ghost use Rattle.qm_convex.specs.Winding.{corner_at, IsConvex};
+ghost use Rattle.qm_convex.specs.Square.{square};
+ghost use Rattle.qm_convex.specs.Cut.{IsFrontRun, IsPartInFront, cut};
+ghost use Rattle.qm_convex.specs.Sides.{HasCornerBehind, HasNoneInFront};
+ghost use Rattle.qm_wind.specs.Survey.{IsSurvey};
+
+use crate::circle::{add_arc, item, place_after, steps_between};
+use crate::sides::Sides;
+use crate::walls::opposite;
+use qm_geom::{Corner, Plane};
+use smallvec::SmallVec;
+use std::alloc::{AllocError, Global};
+use std::marker::Model;
+
+/// A convex polygon on a plane, wherever it lies: one plane for each edge, with the polygon on its
+/// front, and the corners beside them.
+#[derive(Drop)]
+pub(crate) struct Polygon {
+    plane: Plane,
+    edges: SmallVec<Plane, 8>,
+    corners: SmallVec<Corner, 8>,
+}
+
+impl Model for Polygon {
+    ghost use Rattle.qm_convex.specs.Winding.{Winding};
+    ghost use Rattle.qm_wind.specs.Kept.{IsKept};
+
+    ghost Value = { Winding };
+
+    ghost view = { λ w. record { plane = w.plane; edges = w.edges.items } };
+
+    ghost invariant = { λ w. IsKept (record { plane = w.plane; edges = w.edges.items }) w.corners.items };
+}
+
+impl Polygon {
+    /// How many corners it has.
+    pub(crate) fn len(&self) -> usize
+        ensures { result ≡ length self.now.edges }
+    {
+        self.edges.len()
+    }
+
+    /// The corner at a place.
+    pub(crate) fn corner(&self, i: usize) -> Corner
+        requires { i < length self.now.edges }
+        ensures { result ≡ corner_at self.now i }
+    {
+        item(self.corners.as_slice(), i)
+    }
+
+    /// The plane on which it lies.
+    pub(crate) fn plane(&self) -> Plane
+        ensures { result ≡ self.now.plane }
+    {
+        self.plane
+    }
+
+    /// The same polygon once more.
+    pub(crate) fn copy(&self) -> Result<Polygon, AllocError>
+        ensures { IfOk result (λ w. w ≡ self.now) }
+    {
+        let alloc = *self.edges.allocator();
+        let mut edges = SmallVec::new(alloc);
+        edges.extend_from_slice(self.edges.as_slice())?;
+        let mut corners = SmallVec::new(alloc);
+        corners.extend_from_slice(self.corners.as_slice())?;
+        Ok(Polygon {
+            plane: self.plane,
+            edges,
+            corners,
+        })
+    }
+
+    /// On which sides of a plane its corners lie.
+    pub(crate) fn sides(&self, plane: &Plane) -> Sides
+        ensures { IsSurvey self.now plane.now result }
+    {
+        Sides::of(self.corners.as_slice(), plane)
+    }
+
+    /// The part in front of a plane, for a polygon with corners on both sides.
+    pub(crate) fn part_in_front_of(
+        &self,
+        plane: &Plane,
+        sides: &Sides,
+    ) -> Result<Polygon, AllocError>
+        requires survey { IsSurvey self.now plane.now sides.now }
+        requires front { sides.now.some_in_front ≡ true }
+        requires behind { sides.now.some_behind ≡ true }
+        ensures { IfOk result (λ w. IsPartInFront w self.now plane.now) }
+    {
+        let count = steps_between(self.edges.len(), sides.start, sides.end);
+        self.cut(plane, sides.start, count)
+    }
+
+    /// The part in front of the plane, by the run of the corners there.
+    fn cut(&self, plane: &Plane, start: usize, count: usize) -> Result<Polygon, AllocError>
+        requires run { IsFrontRun self.now plane.now start count }
+        requires behind { HasCornerBehind self.now plane.now }
+        ensures { IfOk result (λ w. w ≡ cut self.now plane.now start count) }
+    {
+        let _ = &plane.nx;
+        let alloc = *self.edges.allocator();
+        let mut edges = SmallVec::new(alloc);
+        add_arc(&mut edges, self.edges.as_slice(), start, count + 1)?;
+        let mut corners = SmallVec::new(alloc);
+        add_arc(&mut corners, self.corners.as_slice(), start, count)?;
+        let last = item(
+            self.edges.as_slice(),
+            place_after(self.edges.len(), start, count),
+        );
+        let first = item(self.edges.as_slice(), start);
+        edges.push(*plane)?;
+        corners.push(Corner::turning(&self.plane, &last, plane))?;
+        corners.push(Corner::turning(&self.plane, plane, &first))?;
+        Ok(Polygon {
+            plane: self.plane,
+            edges,
+            corners,
+        })
+    }
+
+    /// The part in front of a plane, if there is one.
+    pub(crate) fn kept_in_front_of(self, plane: &Plane) -> Result<Option<Polygon>, AllocError>
+        ensures { IfOk result (λ part.
+            MatchOption part (HasNoneInFront self plane.now) (λ w. IsPartInFront w self plane.now)) }
+    {
+        let _ = &self.plane;
+        let sides = self.sides(plane);
+        if !sides.some_in_front {
+            return Ok(None);
+        }
+        if !sides.some_behind {
+            return Ok(Some(self));
+        }
+        Ok(Some(self.part_in_front_of(plane, &sides)?))
+    }
+
+    /// The part of a plane between two walls and their opposites.
+    pub(crate) fn square(
+        alloc: Global,
+        plane: &Plane,
+        first: &Plane,
+        second: &Plane,
+    ) -> Result<Polygon, AllocError>
+        requires { IsConvex (square plane.now first.now second.now) }
+        ensures { IfOk result (λ w. w ≡ square plane.now first.now second.now) }
+    {
+        let _ = &plane.nx;
+        let _ = &first.nx;
+        let _ = &second.nx;
+        let third = opposite(first);
+        let fourth = opposite(second);
+        let _ = &third.nx;
+        let _ = &fourth.nx;
+        let edges = SmallVec::from_array(alloc, [*first, *second, third, fourth])?;
+        let corners = SmallVec::from_array(
+            alloc,
+            [
+                Corner::turning(plane, first, second),
+                Corner::turning(plane, second, &third),
+                Corner::turning(plane, &third, &fourth),
+                Corner::turning(plane, &fourth, first),
+            ],
+        )?;
+        Ok(Polygon {
+            plane: *plane,
+            edges,
+            corners,
+        })
+    }
+}

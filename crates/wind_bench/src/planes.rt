@@ -1,0 +1,80 @@
+ghost use Rattle.std.specs.Prelude.{◌≤◌};
+ghost use Rattle.qm_space.specs.Point.{IsCoordinate, AreCoordinates};
+
+use qm_geom::Plane;
+#[cfg(test)]
+use qm_wind::Side;
+use std::alloc::{AllocError, Global};
+
+/// A stream of numbers that look random: a linear congruential generator of 64 bits.
+#[derive(Drop)]
+pub(crate) struct Numbers {
+    state: u64,
+}
+
+impl Numbers {
+    pub(crate) fn from_seed(seed: u64) -> Numbers {
+        Numbers { state: seed }
+    }
+
+    /// The next number, of 31 bits.
+    fn next(&mut self) -> u32 {
+        self.state = self
+            .state
+            .wrapping_mul(6364136223846793005)
+            .wrapping_add(1442695040888963407);
+        (self.state >> 33) as u32
+    }
+
+    /// A point of three whole coordinates from -reach to reach.
+    fn point(&mut self, reach: u32) -> [i32; 3]
+        requires { reach ≤ 4096 }
+        ensures { AreCoordinates result }
+    {
+        [
+            coordinate(self.next(), reach),
+            coordinate(self.next(), reach),
+            coordinate(self.next(), reach),
+        ]
+    }
+
+    /// A plane through three such points.
+    pub(crate) fn plane(&mut self, reach: u32) -> Plane
+        requires { reach ≤ 4096 }
+    {
+        match Plane::through(self.point(reach), self.point(reach), self.point(reach)) {
+            Ok((plane, _)) => plane,
+            Err(_) => Plane::default(),
+        }
+    }
+
+    /// One of a plane's two sides.
+    #[cfg(test)]
+    pub(crate) fn side(&mut self) -> Side {
+        if self.next() % 2 == 0 {
+            Side::Front
+        } else {
+            Side::Back
+        }
+    }
+}
+
+/// A coordinate from -reach to reach, by a number.
+fn coordinate(number: u32, reach: u32) -> i32
+    requires { reach ≤ 4096 }
+    ensures { IsCoordinate result }
+{
+    (number % (2 * reach + 1)) as i32 - reach as i32
+}
+
+/// So many planes through points of the world's cube.
+pub(crate) fn planes(alloc: Global, count: usize, reach: u32) -> Result<Vec<Plane>, AllocError>
+    requires { reach ≤ 4096 }
+{
+    let mut numbers = Numbers::from_seed(1);
+    let mut planes = Vec::with_capacity(alloc, count)?;
+    for _ in 0..count {
+        planes.push(numbers.plane(reach))?;
+    }
+    Ok(planes)
+}
