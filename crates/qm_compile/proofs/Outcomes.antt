@@ -23,7 +23,7 @@ module _ (before between after : ShelfState) (job : Job) (map out text file repo
   part_written : (after.held out ≡ between.held out) ⊎ ((count : ℕ) × (after.held out ≡ Some (take count bytes))) → HoldsPart before after job map out
   part_written (inl nothing) = inl (nothing ∙ kept out)
   part_written (inr part) =
-      inr (meant, part.0, its_meaning, part.1 ∙ ap (λ (b : List ℕ). Some (take part.0 b)) (same ∙ made.is_file))
+      inr (meant, part.0, its_meaning, made.takes, part.1 ∙ ap (λ (b : List ℕ). Some (take part.0 b)) (same ∙ made.is_file))
 
   -- writing the file stopped on the way
   pub stopped_writing : (IsTrue before.tells → (after.held out ≡ between.held out) ⊎ ((count : ℕ) × (after.held out ≡ Some (take count bytes)))) → IsUnfinished before after job map out

@@ -68,11 +68,12 @@ pub record TextMeans (before : ShelfState) (map : List ℕ) (meaning : Result Ma
   pub means : Means text meaning
   pub only : (other : Result MapFile MapFault) → Means text other → other ≡ meaning
 
--- the file OUT is as it was, or has a prefix of the file that is made of the map that is meant
+-- the file OUT is as it was, or has a prefix of the file that is made of the map that is meant, which the command takes
 abbrev pub HoldsPart : ShelfState → ShelfState → Job → List ℕ → List ℕ → Type 0
 HoldsPart before after job map out =
     (after.held out ≡ before.held out)
-    ⊎ ((meant : MapFile) × (count : ℕ) × TextMeans before map (Ok meant) × (after.held out ≡ Some (take count (file_for job meant))))
+    ⊎ ((meant : MapFile) × (count : ℕ) × TextMeans before map (Ok meant) × Takes job meant
+    × (after.held out ≡ Some (take count (file_for job meant))))
 
 -- writing the file was not begun or not ended: every other file is as it was
 pub record IsUnfinished (before after : ShelfState) (job : Job) (map out : List ℕ) : Type 0 where
@@ -101,6 +102,7 @@ pub data ComesOf (before after : ShelfState) (job : Job) (map out : List ℕ) : 
       IsKept before after → MetNoFault before after →
       ComesOf before after job map out NotBuilt not_built_text
   write_fault :
+      {meant : MapFile} → TextMeans before map (Ok meant) → Takes job meant →
       FailedToWrite before after out → IsUnfinished before after job map out →
       ComesOf before after job map out WriteFault write_fault_text
   done :
@@ -110,7 +112,8 @@ pub data ComesOf (before after : ShelfState) (job : Job) (map out : List ℕ) : 
 -- what comes of the words: they are no command, and the shelf is as it was; or what comes of the command
 pub data Due (words : List (List ℕ)) (before after : ShelfState) : Status → List ℕ → Type 0 where
   usage :
-      ((job : Job) (map out : List ℕ) → IsCommand words job map out → ⊥) → IsKept before after → MetNoFault before after →
+      ((job : Job) (map out : List ℕ) → IsCommand words job map out → ⊥) →
+      IsKept before after → MetNoFault before after →
       Due words before after Usage usage_text
   command :
       {job : Job} {map out : List ℕ} {status : Status} {text : List ℕ} → IsCommand words job map out →
@@ -144,7 +147,8 @@ Breaks words before after sink_before sink_after =
 -- memory ran out before a status was due, and nothing was printed
 abbrev pub RunsOut : List (List ℕ) → ShelfState → ShelfState → SinkState → SinkState → Type 0
 RunsOut words before after sink_before sink_after =
-    (job : Job) × (map : List ℕ) × (out : List ℕ) × IsCommand words job map out × IsCutShort before after job map out × IsPrinted sink_before sink_after []
+    (job : Job) × (map : List ℕ) × (out : List ℕ) × IsCommand words job map out
+    × IsCutShort before after job map out × IsPrinted sink_before sink_after []
 
 -- what each answer of a run says of the shelf and the sink before it and after it
 unfoldable pub Answers : List (List ℕ) → ShelfState → ShelfState → SinkState → SinkState → Status → Type 0

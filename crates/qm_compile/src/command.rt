@@ -10,8 +10,10 @@ use crate::job::Job;
 /// have to be `compile MAP OUT` or `format MAP OUT`, with two names that are different, not empty, and
 /// do not begin with a hyphen.
 pub fn command_of<'a>(words: &[&'a str]) -> Option<(Job, &'a str, &'a str)>
-    ensures command { IfSome result (λ command. IsCommand (map (λ word. word.now) words.now) command.0 command.1.now command.2.now) }
-    ensures none { IfNone result ((job : Job) (map_name out : List ℕ) → IsCommand (map (λ word. word.now) words.now) job map_name out → ⊥) }
+    ensures command { IfSome result
+        (λ command. IsCommand (map (λ word. word.now) words.now) command.0 command.1.now command.2.now) }
+    ensures none { IfNone result ((job : Job) (map_name out : List ℕ) →
+        IsCommand (map (λ word. word.now) words.now) job map_name out → ⊥) }
 {
     let [verb, map, out] = words else {
         return None;

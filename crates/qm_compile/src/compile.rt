@@ -24,7 +24,8 @@ use std::alloc::{AllocError, Global};
 /// its summary. It is `None` exactly where not exactly one brush of the world is not clip.
 pub fn compile(alloc: Global, map: &MapFile) -> Result<Option<Product>, AllocError>
     requires { IsValid map.now }
-    ensures { IfOk result (λ found. MatchOption found (HasNoOneBrush map.now) (λ product. IsProduct Compile map.now product.file.items (string_bytes product.report))) }
+    ensures { IfOk result (λ found. MatchOption found (HasNoOneBrush map.now)
+        (λ product. IsProduct Compile map.now product.file.items (string_bytes product.report))) }
 {
     let Some(brush) = one_brush(map) else {
         return Ok(None);
@@ -37,8 +38,10 @@ pub fn compile(alloc: Global, map: &MapFile) -> Result<Option<Product>, AllocErr
 /// Compiles the one brush of a map, which has these faces and contents, to a chain.
 fn compile_faces(alloc: Global, faces: &[Face], contents: Contents) -> Result<Product, AllocError>
     requires { AreValidFaces faces.now }
-    ensures file { IfOk result (λ product. product.file.items ≡ file_of (tree_of_walk (walk_of faces.now) contents)) }
-    ensures report { IfOk result (λ product. string_bytes product.report ≡ tree_summary 1 (tree_of_walk (walk_of faces.now) contents)) }
+    ensures file { IfOk result
+        (λ product. product.file.items ≡ file_of (tree_of_walk (walk_of faces.now) contents)) }
+    ensures report { IfOk result
+        (λ product. string_bytes product.report ≡ tree_summary 1 (tree_of_walk (walk_of faces.now) contents)) }
 {
     let walk = walk_along(alloc, faces)?;
     let last = last_contents(&walk, contents);
@@ -70,7 +73,9 @@ fn summary(
     nodes: usize,
     leaves: usize,
 ) -> Result<String, AllocError>
-    ensures { IfOk result (λ text. string_bytes text ≡ count_line (codes "brushes") brushes ++ (count_line (codes "planes") planes ++ (count_line (codes "nodes") nodes ++ count_line (codes "leaves") leaves))) }
+    ensures { IfOk result (λ text. string_bytes text ≡
+        count_line (codes "brushes") brushes ++ (count_line (codes "planes") planes
+        ++ (count_line (codes "nodes") nodes ++ count_line (codes "leaves") leaves))) }
 {
     let mut text = String::new(alloc);
     put_count(&mut text, "brushes", brushes)?;

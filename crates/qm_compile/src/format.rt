@@ -14,7 +14,8 @@ use std::alloc::{AllocError, Global};
 /// The canonical text of a map, with the number of its entities and of their brushes.
 pub fn format(alloc: Global, map: &MapFile) -> Result<Product, AllocError>
     requires { IsValid map.now }
-    ensures { IfOk result (λ product. IsProduct Format map.now product.file.items (string_bytes product.report)) }
+    ensures { IfOk result
+        (λ product. IsProduct Format map.now product.file.items (string_bytes product.report)) }
 {
     let report = counts(alloc, map)?;
     let mut file = Vec::new(alloc);

@@ -52,7 +52,8 @@ fn carry_out<H: Shelf>(alloc: Global, words: &[&str], shelf: &mut H) -> Result<O
         (shelf_state H.tells (H.held shelf.old) (H.read_faults shelf.old) (H.write_faults shelf.old))
         (shelf_state H.tells (H.held shelf.new) (H.read_faults shelf.new) (H.write_faults shelf.new))
         (status_of outcome) (text_of outcome)) }
-    ensures memory { OnErr result ((job : Job) × (map_name : List ℕ) × (out : List ℕ) × IsCommand (map (λ word. word.now) words.now) job map_name out × IsCutShort
+    ensures memory { OnErr result ((job : Job) × (map_name : List ℕ) × (out : List ℕ) ×
+        IsCommand (map (λ word. word.now) words.now) job map_name out × IsCutShort
         (shelf_state H.tells (H.held shelf.old) (H.read_faults shelf.old) (H.write_faults shelf.old))
         (shelf_state H.tells (H.held shelf.new) (H.read_faults shelf.new) (H.write_faults shelf.new))
         job map_name out) }

@@ -25,7 +25,8 @@ pub struct Walk {
 /// against an earlier one on its plane, which leaves nothing inside.
 pub fn walk_along(alloc: Global, faces: &[Face]) -> Result<Walk, AllocError>
     requires { AreValidFaces faces.now }
-    ensures walked { IfOk result (λ walk. IsWalk (walk_of faces.now) walk.planes walk.out_is_front.items walk.is_opposed) }
+    ensures walked { IfOk result
+        (λ walk. IsWalk (walk_of faces.now) walk.planes walk.out_is_front.items walk.is_opposed) }
     ensures few { IfOk result (λ walk. length walk.planes ≤ length faces.now) }
 {
     let mut planes = PlaneBook::new(alloc);
@@ -58,7 +59,8 @@ fn join_side(
     requires leads { IsTrue (leads_positive plane) }
     requires room { length planes.old < 2 ^ 32 - 1 }
     requires paired { length planes.old ≡ vec_len out_is_front.old }
-    ensures joined { (sides : List Side) → AreSides sides planes.old out_is_front.old.items → IfOk result (λ goes_on. IsJoined sides (plane, out) goes_on planes.new out_is_front.new.items) }
+    ensures joined { (sides : List Side) → AreSides sides planes.old out_is_front.old.items →
+        IfOk result (λ goes_on. IsJoined sides (plane, out) goes_on planes.new out_is_front.new.items) }
     ensures length { length planes.new ≤ length planes.old + 1 }
 {
     let number = planes.number(plane)? as usize;

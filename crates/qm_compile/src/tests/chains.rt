@@ -52,8 +52,8 @@ const OPPOSED_FILE: [u8; 91] = [
 /// A face on a plane of the chain with the other side inside leaves nothing, and no face behind it counts.
 #[test]
 fn compiles_opposed_faces(rt: HostRuntime) -> Result<(), Fail> {
-    let first =
-        "{ { ( 0 0 0 ) ( 0 1 0 ) ( 0 0 1 ) stone 0 0 0 1 1\n( 0 0 1 ) ( 0 1 0 ) ( 0 0 0 ) stone 0 0 0 1 1\n";
+    let first = "{ { ( 0 0 0 ) ( 0 1 0 ) ( 0 0 1 ) stone 0 0 0 1 1\n\
+        ( 0 0 1 ) ( 0 1 0 ) ( 0 0 0 ) stone 0 0 0 1 1\n";
     let text = joined(rt.alloc(), [first, OTHERS, END])?;
     let mut outside = Outside::new(rt.alloc(), &text)?;
     assert_eq!(rt; outside.compile(&rt), Status::Done);
@@ -132,8 +132,9 @@ fn builds_nothing_from_other_worlds(rt: HostRuntime) -> Result<(), Fail> {
 /// A brush that is clip does not count, nor does one of another entity; pairs and comments may stand.
 #[test]
 fn compiles_one_brush_among_others(rt: HostRuntime) -> Result<(), Fail> {
-    let first =
-        "// a cube\r\n{ \"classname\" \"worldspawn\"\n{ ( 9 0 0 ) ( 9 1 0 ) ( 9 0 1 ) Clip 0 0 0 1 1 }\n{\n( 0 0 0 ) ( 0 1 0 ) ( 0 0 1 ) stone 0 0 0 1 1\n";
+    let first = "// a cube\r\n{ \"classname\" \"worldspawn\"\n\
+        { ( 9 0 0 ) ( 9 1 0 ) ( 9 0 1 ) Clip 0 0 0 1 1 }\n\
+        {\n( 0 0 0 ) ( 0 1 0 ) ( 0 0 1 ) stone 0 0 0 1 1\n";
     let end =
         "} }\n{ \"classname\" \"func_door\" { ( 9 0 0 ) ( 9 1 0 ) ( 9 0 1 ) stone 0 0 0 1 1 } }";
     let text = joined(rt.alloc(), [first, OTHERS, end])?;

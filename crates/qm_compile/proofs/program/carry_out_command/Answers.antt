@@ -68,7 +68,8 @@ returns-in-Err-Failed-write_file-clause-due g c =
     let unfinished = stopped_writing before between after c.args.job c.args.map.now c.args.out.now c.in-Ok.text.items _ _ c.deref.result.now (λ tells. read.text tells) read.held_stays made.0 made.1 made.2 c.deref.ensures.value wrote.others_stay wrote.err in
     let counted = subst (λ (fault : ShelfFault). ShelfFaultCounted fault c.args.out.now (shelf.write_faults c.read_text.new.shelf) (shelf.write_faults c.write_file.new.shelf)) c.in-Err-Failed-write_file.field-0-is wrote.write_faults_counted in
     let failed = fault_counted_since shelf_fault.Failed c.args.out.now (shelf.write_faults c.args.shelf.now) (shelf.write_faults c.read_text.new.shelf) (shelf.write_faults c.write_file.new.shelf) read.write_faults_stay counted in
-    write_fault (record { rose = failed; reads = stays_twice _ _ _ read.read_faults_counted wrote.read_faults_stay }) unfinished
+    let meaning = text_means before c.args.map.now c.in-Ok.text.items (Ok made.0) (λ tells. read.text tells) made.1 in
+    write_fault meaning made.2.takes (record { rose = failed; reads = stays_twice _ _ _ read.read_faults_counted wrote.read_faults_stay }) unfinished
 
 pub returns-clause-memory : goal.returns-clause-memory
 returns-clause-memory g c =
