@@ -1,3 +1,5 @@
 pub mod NinePoints
 pub mod WordLaws
 pub mod Meanings
+pub mod Places
+pub mod Means

@@ -1,6 +1,7 @@
 //! Reads MAP texts: the map that a text means, or the first fault with its line.
 #![tactic(auto)]
 
+mod entity_origin;
 mod face;
 mod lines;
 mod number;
@@ -9,8 +10,11 @@ mod reader;
 mod slots;
 mod sort;
 mod stop;
+#[cfg(test)]
+mod tests;
 mod text;
 mod words;
 
+pub use entity_origin::EntityOrigin;
 pub use qm_grammar::MapFault;
 pub use text::parse;

@@ -1,8 +1,12 @@
-ghost use Rattle.std.specs.Prelude.{◌≡◌, ◌≢◌, ◌≤◌, ◌+◌, ◌∷◌, [], length, Ok, Err};
+ghost use Rattle.std.specs.Prelude.{◌≡◌, ◌≢◌, ◌≤◌, ◌+◌, length, None, Ok, Err, IfOk, IfErr, Result};
 ghost use Rattle.qm_lex.specs.Lexeme.{lexeme_of, quote_length};
 ghost use Rattle.qm_lex.specs.Scan.{fault_line};
+ghost use Rattle.qm_mapfile.specs.declared.entity.MapFile.{MapFile};
+ghost use Rattle.qm_grammar.specs.declared.fault.MapFault.{MapFault};
 ghost use Rattle.qm_grammar.specs.Faults.{fault_of};
 ghost use Rattle.qm_grammar.specs.Machine.{refused_at, closed_by_end, ended, meaning_of};
+ghost use Rattle.qm_grammar.specs.Meaning.{Means, IsMapText, IsFaultText};
+ghost use Rattle.qm_grammar.specs.Valid.{IsValid};
 ghost use Rattle.qm_map.specs.Taking.{IsTaken};
 
 use crate::lines::{last_line, line_at};
@@ -112,9 +116,9 @@ fn quote_line(fault: LexFault) -> u64
     }
 }
 
-/// The map that a text means, or its first fault.
-pub fn parse(alloc: Global, text: &[u8]) -> Result<MapFile, MapFault>
-    ensures computed { result ≢ Err MapFault.Memory → result ≡ meaning_of text.now }
+/// Takes the tokens of a text one by one, and then its end.
+fn meaning_of(alloc: Global, text: &[u8]) -> Result<MapFile, MapFault>
+    ensures { result ≢ Err MapFault.Memory → result ≡ meaning_of text.now }
 {
     let mut lexer = Lexer::new(text);
     let mut reader = Reader::new(alloc);
@@ -129,4 +133,28 @@ pub fn parse(alloc: Global, text: &[u8]) -> Result<MapFile, MapFault>
             Err(fault) => return ended(text, Some(quote_line(fault)), reader),
         }
     }
+}
+
+/// The map that a text means, or its first fault.
+///
+/// # Errors
+///
+/// The fault with the least place in the text, with its line. `Memory` where memory runs out.
+pub fn parse(alloc: Global, text: &[u8]) -> Result<MapFile, MapFault>
+    // The text means the map.
+    ensures meant { IfOk result (λ map. IsMapText text.now map) }
+
+    // The fault is the first one of the text.
+    ensures fault { IfErr result (λ fault. fault ≢ MapFault.Memory → IsFaultText text.now fault) }
+
+    // The text means nothing else.
+    ensures only { result ≢ Err MapFault.Memory → (other : Result MapFile MapFault) → Means text.now other → other ≡ result }
+
+    // Each text means a map or a fault, and that is what is answered, unless memory runs out.
+    ensures total { Means text.now (meaning_of text.now) }
+    ensures computed { result ≢ Err MapFault.Memory → result ≡ meaning_of text.now }
+
+    ensures valid { IfOk result IsValid }
+{
+    meaning_of(alloc, text)
 }

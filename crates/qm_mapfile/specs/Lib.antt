@@ -1,4 +1,5 @@
 pub mod Face
+pub mod OneBrush
 pub mod Words
 pub use Rattle.qm_space.specs.Point
 pub use Rattle.qm_space.specs.Plane
