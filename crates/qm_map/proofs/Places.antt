@@ -1,9 +1,9 @@
 -- The point that the pairs of an entity give.
-use Rattle.std.proofs.Common.{◌≡◌, ℕ, List, Option, Some, None, MatchOption, IfSome, refl, sym, ap, rules}
+use Rattle.std.proofs.Common.{◌≡◌, ℕ, List, Option, Some, None, MatchOption, sym, ap}
 use Rattle.std.specs.Prelude.{is_none}
 use Rattle.qm_space.specs.Point.{Point}
 use Rattle.qm_mapfile.specs.declared.entity.Pair.{Pair}
-use Rattle.qm_grammar.specs.Origin.{origin_key, value_of, HasGoodOrigin, IsOriginText}
+use Rattle.qm_grammar.specs.Origin.{origin_key, value_of, HasGoodOrigin}
 use Rattle.qm_grammar.specs.Machine.{origin_of}
 use Rattle.qm_grammar.proofs.OriginTexts.{origin_spelled, none_no_origin}
 use Rattle.qm_map.specs.Place.{IsAt}

@@ -1,4 +1,4 @@
-use Rattle.std.proofs.Common.{◌≡◌, ◌<ℤ◌, pos, ap, sym, subst, ◌∙◌}
+use Rattle.std.proofs.Common.{◌<ℤ◌, pos, ap, ◌∙◌}
 use Rattle.qm_geom.proofs.Wide.{held_is, held_is_corner}
 use Rattle.qm_geom.proofs.corner.Corner.turning.Goals as goal
 

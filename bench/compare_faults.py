@@ -1,0 +1,259 @@
+#!/usr/bin/env python3
+"""Compares `PROGRAM format` with a plain slow reader of MAP texts, on texts that are nearly maps.
+
+    bench/compare_faults.py PROGRAM
+
+Two maps are cut off at each byte, and each token of them is dropped, doubled, and exchanged with others. For each
+text the program has to print the fault that the slow reader finds, or the numbers of entities and brushes.
+"""
+
+import os
+import re
+import subprocess
+import sys
+import tempfile
+from fractions import Fraction
+
+LIMIT = 67_108_864
+WORDS = [
+    None, "text too long", "quote not closed", "unexpected", "end inside", "bad number", "fraction",
+    "coordinate out of range", "no normal", "no faces", "bad origin", "no entity",
+]
+MARKS = [b"{", b"}", b"(", b")", b"[", b"]"]
+
+STANDARD = b"""// a room
+{
+"classname" "worldspawn"
+{
+( -64 0 0 ) ( -64 1 0 ) ( -64 0 1 ) stone 0 0 0 1 1
+( 64 +0 0. ) ( 64 0 1 ) ( 64 1 0 ) "two words" 0 8 90 1 -1 // a comment
+}
+}
+{ "origin" "1 -2.5 3" "a"
+"b" }
+"""
+VALVE = b"""{ {
+( 0 0 4096 ) ( 0 1 4096 ) ( 1 0 4096 ) {fence [ 0 -1 0 16 ] [ 0 0 -1 -8.5 ] 0 1 1
+( 0 0 0 ) ( 1 0 0 ) ( 0 1 0 ) sky 0 0 0 1 1
+} { ( 9 0 0 ) ( 9 1 0 ) ( 9 0 1 ) x//y [ 1 0 0 0 ] [ 0 1 0 0 ] 0 1 1 } }
+{ "origin" "0 0 0" "origin" "x" }
+"""
+OTHERS = MARKS + [b"x", b'"q"', b"1.5", b"1e3", b"4097", b"-0", b"99999999999", b'""', b"//", b'"']
+
+
+class Token:
+    def __init__(self, quoted, text, end, line):
+        self.quoted, self.text, self.end, self.line = quoted, text, end, line
+
+    def mark(self):
+        return self.text if not self.quoted and self.text in MARKS else None
+
+
+class Refused(Exception):
+    def __init__(self, token, number):
+        super().__init__()
+        self.token, self.number = token, number
+
+
+class AtEnd(Exception):
+    pass
+
+
+def lex(text):
+    """The tokens, and the line of a quote that is not closed."""
+    found, at = [], 0
+    while True:
+        gap = re.compile(rb"(?:[\x00-\x20]|//[^\n]*)*").match(text, at)
+        at = gap.end()
+        if at == len(text):
+            return found, None
+        line = 1 + text.count(b"\n", 0, at)
+        if text[at:at + 1] == b'"':
+            close = text.find(b'"', at + 1)
+            if close < 0:
+                return found, line
+            found.append(Token(True, text[at + 1:close], close + 1, line))
+            at = close + 1
+        else:
+            word = re.compile(rb"[^\x00-\x20]+").match(text, at)
+            found.append(Token(False, word.group(), word.end(), line))
+            at = word.end()
+
+
+def read_number(word, places):
+    """The value, or the name of its fault."""
+    form = re.fullmatch(rb"([+-]?)([0-9]*)(?:\.([0-9]*))?", word)
+    if not form or not (form.group(2) or form.group(3)):
+        return "form"
+    decimals = form.group(3) or b""
+    if decimals[places:].strip(b"0"):
+        return "fine"
+    value = Fraction(int(form.group(2) + decimals or b"0"), 10 ** len(decimals))
+    if value > 1_000_000_000:
+        return "large"
+    return -value if form.group(1) == b"-" else value
+
+
+class Reader:
+    def __init__(self, tokens):
+        self.tokens, self.at = tokens, 0
+        self.entities, self.brushes = 0, 0
+
+    def next(self):
+        if self.at == len(self.tokens):
+            raise AtEnd
+        self.at += 1
+        return self.tokens[self.at - 1]
+
+    def need(self, good):
+        token = self.next()
+        if not good(token):
+            raise Refused(token, 3)
+        return token
+
+    def mark(self, mark):
+        return self.need(lambda token: token.mark() == mark)
+
+    def word(self):
+        return self.need(lambda token: not token.quoted and not token.mark())
+
+    def coordinate(self):
+        token = self.word()
+        value = read_number(token.text, 0)
+        if value == "form":
+            raise Refused(token, 5)
+        if value == "fine":
+            raise Refused(token, 6)
+        if value == "large" or abs(value) > 4096:
+            raise Refused(token, 7)
+        return value
+
+    def map(self):
+        while self.at < len(self.tokens):
+            self.mark(b"{")
+            self.entity()
+            self.entities += 1
+
+    def entity(self):
+        seen = False
+        while True:
+            token = self.need(lambda token: token.quoted or token.mark() in (b"{", b"}"))
+            if token.quoted:
+                value = self.need(lambda token: token.quoted)
+                if token.text == b"origin" and not seen:
+                    seen = True
+                    if self.entities and not is_origin(value.text):
+                        raise Refused(value, 10)
+            elif token.text == b"{":
+                self.brush()
+            else:
+                return
+
+    def brush(self):
+        faces = 0
+        while True:
+            token = self.need(lambda token: token.mark() in (b"(", b"}"))
+            if token.text == b"}":
+                if not faces:
+                    raise Refused(token, 9)
+                self.brushes += 1
+                return
+            self.face()
+            faces += 1
+
+    def face(self):
+        points = []
+        for count in range(3):
+            if count:
+                self.mark(b"(")
+            points.append([self.coordinate() for _ in range(3)])
+            close = self.mark(b")")
+        a, b, c = points
+        u = [a[k] - b[k] for k in range(3)]
+        v = [c[k] - b[k] for k in range(3)]
+        if all(u[i] * v[j] == u[j] * v[i] for i in range(3) for j in range(3)):
+            raise Refused(close, 8)
+        self.need(lambda token: token.quoted or not token.mark())
+        first = self.need(lambda token: token.mark() == b"[" or not token.quoted and not token.mark())
+        if not first.mark():
+            for _ in range(4):
+                self.word()
+            return
+        for part in range(2):
+            if part:
+                self.mark(b"[")
+            for _ in range(4):
+                self.word()
+            self.mark(b"]")
+        for _ in range(3):
+            self.word()
+
+
+def is_origin(value):
+    words = [word for word in re.split(rb"[\x00-\x20]+", value) if word]
+    numbers = [read_number(word, 6) for word in words]
+    return len(words) == 3 and all(not isinstance(n, str) and abs(n) < 4096 for n in numbers)
+
+
+def meaning(text):
+    """What the program has to print."""
+    tokens, unclosed = lex(text)
+    reader, faults = Reader(tokens), []
+    last = 1 + text.count(b"\n")
+    if len(text) > LIMIT:
+        faults.append((LIMIT + 1, 0, 1, 1 + text.count(b"\n", 0, LIMIT)))
+    if unclosed:
+        faults.append((len(text), 3, 2, unclosed))
+    try:
+        reader.map()
+        if not tokens and not unclosed:
+            faults.append((len(text), 3, 11, last))
+    except Refused as refused:
+        order = 2 if refused.number == 3 else 1
+        faults.append((refused.token.end, order, refused.number, refused.token.line))
+    except AtEnd:
+        if not unclosed:
+            faults.append((len(text), 3, 4, last))
+    if not faults:
+        return f"entities {reader.entities}\nbrushes {reader.brushes}\n"
+    _, _, number, line = min(faults)
+    return f"map fault {number} at line {line}: {WORDS[number]}\n"
+
+
+def pieces(text):
+    """The text cut into tokens and what stands between them."""
+    return [piece for piece in re.findall(rb'"[^"]*"|//[^\n]*|[\x00-\x20]+|[^\x00-\x20]+', text) if piece]
+
+
+def texts():
+    for base in (STANDARD, VALVE):
+        for end in range(len(base) + 1):
+            yield base[:end]
+        parts = pieces(base)
+        for k, part in enumerate(parts):
+            if part.isspace():
+                continue
+            yield b"".join(parts[:k] + parts[k + 1:])
+            yield b"".join(parts[:k] + [part, b" ", part] + parts[k + 1:])
+            for other in OTHERS:
+                yield b"".join(parts[:k] + [other] + parts[k + 1:])
+
+
+def main():
+    program = os.path.abspath(sys.argv[1])
+    count, wrong = 0, 0
+    with tempfile.TemporaryDirectory() as folder:
+        for text in texts():
+            with open(os.path.join(folder, "a.map"), "wb") as file:
+                file.write(text)
+            ran = subprocess.run([program, "format", "a.map", "b.map"], cwd=folder, capture_output=True, check=False)
+            count += 1
+            if ran.stdout.decode() != meaning(text):
+                wrong += 1
+                print(f"{text!r}: printed {ran.stdout!r}, and it means {meaning(text)!r}")
+    print(f"{count} texts, {wrong} wrong")
+    sys.exit(1 if wrong else 0)
+
+
+if __name__ == "__main__":
+    main()
