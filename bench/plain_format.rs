@@ -89,7 +89,7 @@ struct Fault {
 
 impl Display for Fault {
     fn fmt(&self, f: &mut Formatter) -> fmt::Result {
-        write!(f, "fault {} line {}: {}", self.number, self.line, WORDS[self.number - 1])
+        write!(f, "map fault {} at line {}: {}", self.number, self.line, WORDS[self.number - 1])
     }
 }
 

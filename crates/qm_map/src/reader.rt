@@ -6,6 +6,7 @@ ghost use Rattle.qm_map.specs.Steady.{HasDueParts};
 ghost use Rattle.qm_map.specs.Stepping.{IsStep};
 
 use crate::face::{are_flat, face_of};
+use crate::list::take_all;
 use crate::number::coordinate;
 use crate::origin::{first_origin, is_origin_key, origin_of};
 use crate::slots::{behind_bracket, behind_first, behind_word};
@@ -150,8 +151,8 @@ impl Reader {
     fn end_entity(&mut self) -> Result<(), AllocError>
         ensures { OnOk result (self.new ≡ outside (self.old.entities ++ (record { pairs = self.old.pairs; brushes = self.old.brushes }) ∷ [])) }
     {
-        let pairs = self.pairs.split_off(0)?;
-        let brushes = self.brushes.split_off(0)?;
+        let pairs = take_all(self.alloc, &mut self.pairs)?;
+        let brushes = take_all(self.alloc, &mut self.brushes)?;
         self.place = Place::Outside;
         self.key = Text::new(self.alloc);
         self.faces.clear();
@@ -232,7 +233,7 @@ impl Reader {
         requires { self.old.place ≡ Place.Brush }
         ensures { OnOk result (self.new ≡ without_brush self.old) }
     {
-        let faces = self.faces.split_off(0)?;
+        let faces = take_all(self.alloc, &mut self.faces)?;
         self.place = Place::Entity;
         self.brushes.push(Brush {
             faces: Items::from_vec(faces),
