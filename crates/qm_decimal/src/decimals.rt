@@ -66,6 +66,9 @@ pub fn decimal_part(text: &[u8], places: u8) -> Result<u64, NumberFault>
     requires { places ≤ 6 }
     ensures { IsDecimalAnswer text.now places result }
 {
+    if text.is_empty() {
+        return Ok(0);
+    }
     let places = places as usize;
     let kept = text.len().min(places);
     let value = few_digits(&text[..kept]).ok_or(NumberFault::Form)?;

@@ -1,10 +1,11 @@
-ghost use Rattle.std.specs.Prelude.{◌≡◌, ◌<◌, not, length, All};
+ghost use Rattle.std.specs.Prelude.{◌≡◌, ◌<◌, [], not, length, All, IfOk, OnOk, OnErr};
 ghost use Rattle.qm_space.specs.Point.{IsCoordinate};
 ghost use Rattle.qm_grammar.specs.Slots.{points_of, mapping_of, face_of};
 ghost use Rattle.qm_grammar.specs.Machine.{span_plane};
 
 use qm_geom::are_on_one_line;
 use qm_mapfile::{Face, Items, Mapping, Text};
+use std::alloc::AllocError;
 
 /// How many words the mapping with axes has.
 const AXES_WORDS: usize = 11;
@@ -43,16 +44,20 @@ fn mapping_of(words: Vec<Text>) -> Mapping
     }
 }
 
-/// The face of nine coordinates, and of texts of which the first is the texture.
-pub(crate) fn face_of(numbers: &[i32], mut texts: Vec<Text>) -> Face
+/// The face of nine coordinates, and of texts of which the first is the texture. The texts are taken out, and the room
+/// that they had stays for others. After an error they are as they were.
+pub(crate) fn face_of(numbers: &[i32], texts: &mut Vec<Text>) -> Result<Face, AllocError>
     requires nine { length numbers.now ≡ 9 }
-    requires texture { 0 < length texts.items }
-    ensures { result ≡ face_of numbers.now texts.items }
+    requires texture { 0 < length texts.old.items }
+    ensures face { IfOk result (λ face. face ≡ face_of numbers.now texts.old.items) }
+    ensures taken { OnOk result (texts.new.items ≡ []) }
+    ensures err { OnErr result (texts.new.items ≡ texts.old.items) }
 {
-    let texture = texts.remove(0);
-    Face {
+    let words = texts.split_off(1)?;
+    let texture = texts.swap_remove(0);
+    Ok(Face {
         points: points_of(numbers),
         texture,
-        mapping: mapping_of(texts),
-    }
+        mapping: mapping_of(words),
+    })
 }

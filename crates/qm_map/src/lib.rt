@@ -4,6 +4,7 @@
 mod entity_origin;
 mod face;
 mod lines;
+mod list;
 mod number;
 mod origin;
 mod reader;

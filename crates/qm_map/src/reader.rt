@@ -6,6 +6,7 @@ ghost use Rattle.qm_map.specs.Steady.{HasDueParts};
 ghost use Rattle.qm_map.specs.Stepping.{IsStep};
 
 use crate::face::{are_flat, face_of};
+use crate::list::take_all;
 use crate::number::coordinate;
 use crate::origin::{first_origin, is_origin_key, origin_of};
 use crate::slots::{behind_bracket, behind_first, behind_word};
@@ -17,9 +18,6 @@ use qm_mapfile::{Brush, Entity, Face, Items, MapFile, Pair, Text};
 use std::alloc::{AllocError, Global};
 use std::marker::Model;
 use std::mem;
-
-/// How many texts most faces have.
-const TEXTS: usize = 6;
 
 /// Takes the tokens of a map one by one. Contracts see it as what the tokens so far have spelled.
 #[derive(Drop)]
@@ -153,8 +151,8 @@ impl Reader {
     fn end_entity(&mut self) -> Result<(), AllocError>
         ensures { OnOk result (self.new ≡ outside (self.old.entities ++ (record { pairs = self.old.pairs; brushes = self.old.brushes }) ∷ [])) }
     {
-        let pairs = mem::replace(&mut self.pairs, Vec::new(self.alloc));
-        let brushes = mem::replace(&mut self.brushes, Vec::new(self.alloc));
+        let pairs = take_all(self.alloc, &mut self.pairs)?;
+        let brushes = take_all(self.alloc, &mut self.brushes)?;
         self.place = Place::Outside;
         self.key = Text::new(self.alloc);
         self.faces.clear();
@@ -235,7 +233,7 @@ impl Reader {
         requires { self.old.place ≡ Place.Brush }
         ensures { OnOk result (self.new ≡ without_brush self.old) }
     {
-        let faces = mem::replace(&mut self.faces, Vec::new(self.alloc));
+        let faces = take_all(self.alloc, &mut self.faces)?;
         self.place = Place::Entity;
         self.brushes.push(Brush {
             faces: Items::from_vec(faces),
@@ -345,6 +343,7 @@ impl Reader {
     }
 
     /// Ends the face where no token is due.
+    #[inline]
     fn end_slot(&mut self) -> Result<(), AllocError>
         requires { self.old.place ≡ Place.Face }
         ensures { OnOk result (self.new ≡ with_left self.old self.old.left) }
@@ -356,13 +355,13 @@ impl Reader {
     }
 
     /// Puts the open face to the others.
+    #[inline(never)]
     fn end_face(&mut self) -> Result<(), AllocError>
         requires place { self.old.place ≡ Place.Face }
         requires whole { self.old.left ≡ [] }
         ensures { OnOk result (self.new ≡ with_face self.old) }
     {
-        let texts = mem::replace(&mut self.texts, Vec::with_capacity(self.alloc, TEXTS)?);
-        let face = face_of(&self.numbers, texts);
+        let face = face_of(&self.numbers, &mut self.texts)?;
         self.place = Place::Brush;
         self.numbers.clear();
         self.faces.push(face)?;

@@ -13,8 +13,8 @@ pub(crate) struct Numbers {
 }
 
 impl Numbers {
-    pub(crate) fn from_seed(seed: u64) -> Numbers {
-        Numbers { state: seed }
+    pub(crate) fn starting_at(start: u64) -> Numbers {
+        Numbers { state: start }
     }
 
     /// The next number, of 31 bits.
@@ -71,7 +71,7 @@ fn coordinate(number: u32, reach: u32) -> i32
 pub(crate) fn planes(alloc: Global, count: usize, reach: u32) -> Result<Vec<Plane>, AllocError>
     requires { reach ≤ 4096 }
 {
-    let mut numbers = Numbers::from_seed(1);
+    let mut numbers = Numbers::starting_at(1);
     let mut planes = Vec::with_capacity(alloc, count)?;
     for _ in 0..count {
         planes.push(numbers.plane(reach))?;

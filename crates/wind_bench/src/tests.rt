@@ -78,7 +78,7 @@ fn walks(
 ) -> Result<Option<u32>, AllocError>
     requires { reach ≤ 4096 }
 {
-    let mut numbers = Numbers::from_seed(u64::from(reach));
+    let mut numbers = Numbers::starting_at(u64::from(reach));
     let mut cuts = 0_u32;
     for _ in 0..100 {
         match walk(alloc, plane, corners, &mut numbers, reach)? {

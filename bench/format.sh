@@ -1,0 +1,55 @@
+#!/usr/bin/env bash
+# Times `qmapc format`: builds the compiler and, where rustc is on the PATH, the plain Rust program of
+# bench/plain_format.rs, and prints for each form of text, with LF and CR LF lines, how many seconds of processor
+# time each of them takes at the best of five runs, how many megabytes a second qmapc does, and the peak of its
+# memory in bytes for each byte of text. `bench/format.sh MEGABYTES` takes longer or shorter texts than 20 MB.
+set -euo pipefail
+cd "$(dirname "${BASH_SOURCE[0]}")/.."
+megabytes=${1:-20}
+folder=$(mktemp -d)
+trap 'rm -rf "$folder"' EXIT
+
+# `./qmapc` proves and builds what it then runs; that program is timed without the script around it
+bench/make_map.py 1 >"$folder/small.map"
+./qmapc format "$folder/small.map" "$folder/small.out" >/dev/null
+programs=("$PWD/crates/qmapc/out/qmapc format")
+if command -v rustc >/dev/null; then
+    rustc -O --edition 2024 bench/plain_format.rs -o "$folder/plain"
+    programs+=("$folder/plain")
+fi
+
+# the least processor time of five runs of a program with its words, and the most kilobytes that it had
+measure() {
+    python3 - "$@" <<'END'
+import os, sys
+least, peak = float("inf"), 0
+for _ in range(5):
+    child = os.fork()
+    if child == 0:
+        os.dup2(os.open(os.devnull, os.O_WRONLY), 1)
+        os.execv(sys.argv[1], sys.argv[1:])
+    _, status, usage = os.wait4(child, 0)
+    if status != 0:
+        sys.exit(f"{sys.argv[1]} failed")
+    least, peak = min(least, usage.ru_utime + usage.ru_stime), max(peak, usage.ru_maxrss)
+print(f"{least:.3f} {peak}")
+END
+}
+
+printf '%-18s%12s%12s%8s%8s%14s%14s\n' text 'qmapc s' 'plain s' ratio MB/s 'bytes a byte' 'of plain'
+for text in standard valve mixed 'mixed crlf'; do
+    map="$folder/map"
+    # shellcheck disable=SC2086  # two words stand for two words
+    bench/make_map.py "$megabytes" $text >"$map"
+    rows=()
+    for i in "${!programs[@]}"; do
+        # shellcheck disable=SC2086
+        rows+=("$(measure ${programs[i]} "$map" "$folder/out.$i")")
+        cmp "$folder/out.0" "$folder/out.$i"
+    done
+    awk -v text="$text" -v bytes="$(stat -c %s "$map")" -v ours="${rows[0]}" -v plain="${rows[1]:-0 0}" 'BEGIN {
+        split(ours, o); split(plain, p)
+        printf "%-18s%12.3f%12.3f%8.2f%8.1f%14.2f%14.2f\n", text, o[1], p[1], (p[1] > 0 ? o[1] / p[1] : 0),
+            bytes / o[1] / 1000000, o[2] * 1024 / bytes, p[2] * 1024 / bytes
+    }'
+done
