@@ -1,6 +1,6 @@
 //! Files in memory: a map from their names to their bytes.
 
-ghost use Rattle.std.specs.Prelude.{◌≡◌, Some, IsSome, OnOk, OnErr};
+ghost use Rattle.std.specs.Prelude.{◌≡◌, ◌<◌, ◌≤◌, ◌+◌, Some, IsSome, OnOk, OnErr, length};
 ghost use Rattle.std.specs.Option.{option_copied};
 ghost use Rattle.qm_shelf.specs.Counts.{Stays, StaysElsewhere};
 ghost use Rattle.qm_shelf.specs.Reads.{IsRead};
@@ -47,7 +47,8 @@ pub fn append(files: &mut Files, name: &str, bytes: &[u8]) -> Result<(), AllocEr
 /// Copies bytes from a place on to the front of a buffer, as many as there are and as fit, and answers
 /// how many.
 pub fn copy_from(bytes: &[u8], place: usize, into: &mut [u8]) -> usize
-    ensures { IsRead (Some bytes.now) place into.old into.new result }
+    ensures read { IsRead (Some bytes.now) place into.old into.new result }
+    ensures most { result < length into.old → length bytes.now ≤ place + result }
 {
     let rest = &bytes[place.min(bytes.len())..];
     let count = rest.len().min(into.len());

@@ -1,6 +1,10 @@
 //! The shelf over the real folder in which the program runs.
 
-ghost use Rattle.std.specs.Prelude.{ℕ, ◌≡◌, ◌≤◌, List, length, None, false, IfOk};
+ghost use Rattle.std.specs.Prelude.{ℕ, ◌≡◌, ◌≤◌, List, length, None, false, IsTrue, IfOk, IfErr, OnErr, MatchResult};
+ghost use Rattle.qm_shelf.specs.CallNumbers.{one_more};
+ghost use Rattle.qm_shelf.specs.Counts.{ShelfCounted};
+ghost use Rattle.qm_shelf.specs.Reads.{IsRead};
+ghost use Rattle.qm_shelf.specs.Writes.{IsEmptied, IsKeptOrEmptied, IsAdded, IsPrefixAdded};
 
 use crate::calls::one_more;
 use crate::shelf::{Shelf, ShelfFault};
@@ -42,7 +46,15 @@ impl<'a, R: Files> Shelf for FolderShelf<'a, R> {
 
     ghost write_faults = { λ shelf name. shelf.write_faults };
 
-    fn read(&mut self, name: &str, at: u64, into: &mut [u8]) -> Result<usize, ShelfFault> {
+    fn read(&mut self, name: &str, at: u64, into: &mut [u8]) -> Result<usize, ShelfFault>
+        ensures bytes { IsTrue false → MatchResult result (IsRead None at into.old into.new) (λ _. into.new ≡ into.old) }
+        ensures count { IfOk result (λ count. count ≤ length into.new) }
+        ensures read_faults_never_fall { (name : List ℕ) → self.old.read_faults ≤ self.new.read_faults }
+        ensures read_faults_counted { ShelfCounted result name.now (λ _. self.old.read_faults) (λ _. self.new.read_faults) }
+        ensures write_faults_stay { (name : List ℕ) → self.new.write_faults ≡ self.old.write_faults }
+        ensures takes_no_memory { IfErr result (λ fault. fault ≡ ShelfFault.Failed) }
+        ensures by_one { OnErr result (self.new.read_faults ≡ one_more self.old.read_faults) }
+    {
         match read_file(self.rt, name, at, into) {
             Ok(count) => Ok(count),
             Err(_) => {
@@ -52,7 +64,14 @@ impl<'a, R: Files> Shelf for FolderShelf<'a, R> {
         }
     }
 
-    fn create(&mut self, name: &str) -> Result<(), ShelfFault> {
+    fn create(&mut self, name: &str) -> Result<(), ShelfFault>
+        ensures bytes { IsTrue false → MatchResult result (λ _. IsEmptied None) (λ _. IsKeptOrEmptied None None) }
+        ensures read_faults_stay { (name : List ℕ) → self.new.read_faults ≡ self.old.read_faults }
+        ensures write_faults_never_fall { (name : List ℕ) → self.old.write_faults ≤ self.new.write_faults }
+        ensures write_faults_counted { ShelfCounted result name.now (λ _. self.old.write_faults) (λ _. self.new.write_faults) }
+        ensures takes_no_memory { IfErr result (λ fault. fault ≡ ShelfFault.Failed) }
+        ensures by_one { OnErr result (self.new.write_faults ≡ one_more self.old.write_faults) }
+    {
         match fs::create(self.rt, name) {
             Ok(_) => Ok(()),
             Err(_) => {
@@ -62,7 +81,14 @@ impl<'a, R: Files> Shelf for FolderShelf<'a, R> {
         }
     }
 
-    fn append(&mut self, name: &str, bytes: &[u8]) -> Result<(), ShelfFault> {
+    fn append(&mut self, name: &str, bytes: &[u8]) -> Result<(), ShelfFault>
+        ensures bytes { IsTrue false → MatchResult result (λ _. IsAdded None bytes.now None) (λ _. IsPrefixAdded None bytes.now None) }
+        ensures read_faults_stay { (name : List ℕ) → self.new.read_faults ≡ self.old.read_faults }
+        ensures write_faults_never_fall { (name : List ℕ) → self.old.write_faults ≤ self.new.write_faults }
+        ensures write_faults_counted { ShelfCounted result name.now (λ _. self.old.write_faults) (λ _. self.new.write_faults) }
+        ensures takes_no_memory { IfErr result (λ fault. fault ≡ ShelfFault.Failed) }
+        ensures by_one { OnErr result (self.new.write_faults ≡ one_more self.old.write_faults) }
+    {
         match append_to_file(self.rt, name, bytes) {
             Ok(()) => Ok(()),
             Err(_) => {

@@ -1,6 +1,9 @@
 //! The sink over the standard output.
 
-ghost use Rattle.std.specs.Prelude.{◌≡◌, [], false};
+ghost use Rattle.std.specs.Prelude.{◌≡◌, ◌≤◌, ◌++◌, [], false, IsTrue, IfErr, OnErr, MatchResult};
+ghost use Rattle.qm_shelf.specs.CallNumbers.{one_more};
+ghost use Rattle.qm_shelf.specs.Counts.{SinkCounted};
+ghost use Rattle.qm_shelf.specs.Writes.{ContinuesInto};
 
 use crate::calls::one_more;
 use crate::sink::{Sink, SinkFault};
@@ -29,7 +32,13 @@ impl<'a, R: Print> Sink for TermSink<'a, R> {
 
     ghost faults = { λ sink. sink.faults };
 
-    fn write(&mut self, bytes: &[u8]) -> Result<(), SinkFault> {
+    fn write(&mut self, bytes: &[u8]) -> Result<(), SinkFault>
+        ensures bytes { IsTrue false → MatchResult result (λ _. [] ≡ [] ++ bytes.now) (λ _. ContinuesInto [] bytes.now []) }
+        ensures faults_never_fall { self.old.faults ≤ self.new.faults }
+        ensures faults_counted { SinkCounted result self.old.faults self.new.faults }
+        ensures takes_no_memory { IfErr result (λ fault. fault ≡ SinkFault.Failed) }
+        ensures by_one { OnErr result (self.new.faults ≡ one_more self.old.faults) }
+    {
         match self.rt.write_all(bytes) {
             Ok(()) => Ok(()),
             Err(_) => {
