@@ -7,3 +7,6 @@ pub mod Reduced
 pub mod ThreePoints
 pub mod FloorDivision
 pub mod Ratio
+pub mod Turned
+pub mod Cell
+pub mod Cube
