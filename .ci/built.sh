@@ -1,0 +1,26 @@
+# What the launcher and the gate know of the built program, to be sourced with `top` set: from which sources and by
+# which toolchain it was built. The note of it stands beside the program and is never tracked.
+program=$top/crates/qmapc/out/qmapc
+built_from=$top/crates/qmapc/out/built-from
+
+# the sum of what the program is built from: the list of crates, the handles, and each crate's sources, definitions and
+# proofs; and the version of the toolchain
+sources() {
+    (
+        cd "$top"
+        [[ -f crates.txt && -d crates ]] || return
+        {
+            find crates.txt HANDLES crates/*/src crates/*/specs crates/*/proofs -type f -print0 2>/dev/null || true
+        } | LC_ALL=C sort -z | xargs -0 sha256sum | sha256sum &&
+            rt version
+    )
+}
+
+# whether the program is there, as it was built from these sources
+is_built_from() { # is_built_from SOURCES
+    [[ -x $program && -f $built_from ]] && [[ $(<"$built_from") == "$1"$'\n'$(sha256sum <"$program") ]]
+}
+
+note_built_from() { # note_built_from SOURCES
+    printf '%s\n%s\n' "$1" "$(sha256sum <"$program")" >"$built_from"
+}

@@ -1,0 +1,54 @@
+# Sourced by .ci/checks: the texts of the repository. Only files that git tracks are looked at.
+
+allows_one_handle() {
+    [[ $(<HANDLES) == "Handles allowed: Threads." && $(wc -l <HANDLES) == 1 ]]
+}
+
+tracks_no_output() {
+    ! git ls-files | grep -E '(^|/)out/'
+}
+
+keeps_definitions_and_proofs_alone() {
+    ! git ls-files 'crates/*/specs/*' 'crates/*/proofs/*' | grep -v '\.antt$'
+}
+
+# at most seven in a crate, and eight in the crate of `run`
+has_few_edits() {
+    local crate count most few=true
+    for crate in crates/*/; do
+        count=$(git ls-files "$crate/must-fail/*.edit" | wc -l)
+        most=7
+        [[ $crate != crates/qm_compile/ ]] || most=8
+        if ((count > most)); then
+            echo "$crate has $count must-fail edits, and $most are allowed"
+            few=false
+        fi
+    done
+    $few
+}
+
+# words that only some other text can explain: a capital and a number
+has_no_labels() {
+    ! git grep -nIE '\b(R[0-9]{1,2}(\.[a-z])?|T[1-5](\.[0-9]+)?|D[0-9]{1,2}|W[0-9]{1,2})\b' -- \
+        '*.md' '*.rt' '*.antt' '*.edit' '*.txt' ':!crates/*/data' |
+        grep -vE '^[^:]+:[0-9]+:.*(<[A-Z][0-9]|[A-Z][0-9]>|impl<|fn [a-z_]+<)'
+}
+
+# no text names a folder of the machine on which it was written
+has_no_paths_of_a_machine() {
+    ! git grep -nIE '/(work|farm|tmp|root|home|opt)/' -- .
+}
+
+has_a_short_readme() {
+    [[ $(wc -l <README.md) -lt 120 ]]
+}
+
+check "HANDLES is its one line" allows_one_handle
+check "no folder out/ is tracked" tracks_no_output
+check "specs/ and proofs/ hold .antt files alone" keeps_definitions_and_proofs_alone
+check "no crate has too many must-fail edits" has_few_edits
+check "no word looks like a label" has_no_labels
+check "no path of a machine is named" has_no_paths_of_a_machine
+check "README.md is below 120 lines" has_a_short_readme
+check "docs/ARCHITECTURE.md has each crate with what it stands on" python3 .ci/check_crates.py
+check "each file that a page names is there" python3 .ci/check_links.py
