@@ -1,3 +1,4 @@
+# shellcheck shell=bash disable=SC2154
 # What the launcher and the gate know of the built program, to be sourced with `top` set: from which sources and by
 # which toolchain it was built. The note of it stands beside the program and is never tracked.
 program=$top/crates/qmapc/out/qmapc
@@ -7,7 +8,7 @@ built_from=$top/crates/qmapc/out/built-from
 # proofs; and the version of the toolchain
 sources() {
     (
-        cd "$top"
+        cd "$top" || return
         [[ -f crates.txt && -d crates ]] || return
         {
             find crates.txt HANDLES crates/*/src crates/*/specs crates/*/proofs -type f -print0 2>/dev/null || true

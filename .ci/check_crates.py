@@ -1,7 +1,9 @@
 #!/usr/bin/env python3
-"""Holds crates.txt to the table of crates in docs/ARCHITECTURE.md: each crate has one row and each row a crate, the
-row says what the crate stands on, and nothing below the crate is something on which it may not stand. Each crate has
-a page docs/crates/NAME.md, and each page a crate."""
+"""Holds crates.txt to docs/ARCHITECTURE.md: each crate has one row in the table and each row a crate, the row says
+what the crate stands on, and nothing below the crate is something on which it may not stand; in the picture of the
+layers each crate stands once, above or to the right of what it stands on. Each crate has a page docs/crates/NAME.md
+and a row in docs/GATE.md. README.md names as trusted exactly the spec modules of each crate but those below
+specs/inner."""
 
 from pathlib import Path
 import re
@@ -71,12 +73,56 @@ def faults():
         for other in sorted(names(never) - set(known)):
             yield f"{name}: the table names {other}, which is no crate"
     pages = {page.stem for page in Path("docs/crates").glob("*.md")}
-    for name in sorted(set(known) ^ pages):
-        yield f"{name}: a crate has a page docs/crates/NAME.md, and a page a crate"
+    costs = set(re.findall(r"(?m)^\| `(\w+)` \|", Path("docs/GATE.md").read_text()))
+    for what, having in (("a page docs/crates/NAME.md", pages), ("a row in docs/GATE.md", costs)):
+        for name in sorted(set(known) ^ having):
+            yield f"{name}: each crate has {what}, and nothing else has"
+
+
+def places():
+    """Where each crate stands in the picture: its row, counted from the lowest one, and its place there."""
+    _, _, text = Path("docs/ARCHITECTURE.md").read_text().partition("\n## The crates\n")
+    rows = [line for line in text.partition("\n| ")[0].splitlines() if line.startswith("    ") and "|" in line]
+    for row, line in enumerate(reversed(rows)):
+        for at, name in enumerate(re.findall(r"\w+", line.partition("|")[2])):
+            yield name, (row, at)
+
+
+def faults_of_picture():
+    known, found = crates(), list(places())
+    placed = dict(found)
+    for name in sorted(set(known) ^ set(placed)):
+        yield f"{name}: the picture has each crate, and nothing else"
+    if len(found) != len(placed):
+        yield "the picture has a crate twice"
+    for name in known:
+        for below in known[name]:
+            if name in placed and below in placed and placed[below] >= placed[name]:
+                yield f"{name} stands on {below}, which in the picture is neither below it nor to its left"
+
+
+def trusted():
+    """What README.md names as trusted: each crate with its spec modules."""
+    _, _, text = Path("README.md").read_text().partition("\n## What is trusted\n")
+    text = text.partition("\n## ")[0]
+    return {name: set(re.findall(r"\w+", listed)) for name, listed in re.findall(r"`(\w+)`: (\w+(?:, \w+)*)", text)}
+
+
+def outer(name):
+    """The spec modules of a crate that stand outside specs/inner."""
+    lib = Path(f"crates/{name}/specs/Lib.antt")
+    return set(re.findall(r"^pub mod (\w+)", lib.read_text(), re.M)) - {"inner"} if lib.is_file() else set()
+
+
+def faults_of_trust():
+    said = trusted()
+    for name in crates():
+        if said.get(name, set()) != outer(name):
+            yield f"{name}: README.md trusts {sorted(said.get(name, ()))}, and its specs/ have {sorted(outer(name))}"
 
 
 def main():
-    found = list(faults())
+    found = [*faults(), *faults_of_picture(), *faults_of_trust()]
     print("\n".join(found), end="\n" if found else "")
     sys.exit(1 if found else 0)
 

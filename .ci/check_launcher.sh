@@ -1,3 +1,4 @@
+# shellcheck shell=bash disable=SC2154
 # Sourced by .ci/checks: the launcher. The first call builds the program, where the gate has not just done so. How the
 # launcher decides what to do is tried on a small tree with an `rt` that only writes what it is asked.
 

@@ -1,3 +1,4 @@
+# shellcheck shell=bash disable=SC2154
 # Sourced by .ci/checks: the program that the launcher has built, each exit status that it can have, on real files,
 # devices and pipes.
 
@@ -8,6 +9,7 @@ run_program() {
 }
 
 # the program ended so and printed exactly this, and the file `none` was not made
+# shellcheck disable=SC2059  # the text has its line ends as \\n
 ended() { # ended STATUS TEXT
     [[ $status == "$1" && ! -s $folder/said && ! -e $folder/none ]] && printf "$2" | cmp - "$folder/printed"
 }

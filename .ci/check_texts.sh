@@ -1,3 +1,4 @@
+# shellcheck shell=bash disable=SC2154
 # Sourced by .ci/checks: the texts of the repository. Only files that git tracks are looked at.
 
 allows_one_handle() {
