@@ -4,6 +4,17 @@
 program=$top/crates/qmapc/out/qmapc
 built_from=$top/crates/qmapc/out/built-from
 
+# the version of the toolchain; where there is none, the one that was noted, since none newer can build anything
+toolchain() {
+    local noted=()
+    if command -v rt >/dev/null; then
+        rt version
+    else
+        [[ ! -f $built_from ]] || mapfile -t noted <"$built_from"
+        echo "${noted[1]:-no toolchain}"
+    fi
+}
+
 # the sum of what the program is built from: the list of crates, the handles, and each crate's sources, definitions and
 # proofs; and the version of the toolchain
 sources() {
@@ -13,7 +24,7 @@ sources() {
         {
             find crates.txt HANDLES crates/*/src crates/*/specs crates/*/proofs -type f -print0 2>/dev/null || true
         } | LC_ALL=C sort -z | xargs -0 sha256sum | sha256sum &&
-            rt version
+            toolchain
     )
 }
 

@@ -96,6 +96,8 @@ says_why_it_fails() {
     echo 'wrong' >"$small/crates/qmapc/src/main.rt"
     fails_with_words 'was not proved' launch again && grep -q '^what the prover says' "$folder/said" || return 1
     fails_with_words 'not on the PATH' launch_without_rt || return 1
+    echo 'one' >"$small/crates/qmapc/src/main.rt"
+    launch again && launch_without_rt && [[ $(<"$folder/printed") == 'compile a b' ]] || return 1
     fails_with_words 'do not stand beside the launcher' launch_alone
 }
 
