@@ -8,7 +8,7 @@ use Rattle.std.proofs.lemmas.List.Elements.{recursion_from_All, All-nil}
 use Rattle.qm_space.specs.Point.{Point, AreCoordinates, IsCoordinate, IsWholePoint}
 use Rattle.qm_space.specs.Plane.{Plane, value}
 use Rattle.qm_space.specs.ThreePoints.{IsPlaneThrough, outward_plane}
-use Rattle.qm_space.proofs.Signs.{compares_less, compares_greater, less_compares, greater_compares}
+use Rattle.qm_numbers.proofs.Signs.{compares_less, compares_greater, less_compares, greater_compares}
 use Rattle.qm_space.proofs.PlanesThroughPoints.{whole_point_is_whole, plane_through_is, normal_off_line, through_front, through_back}
 use Rattle.qm_mapfile.specs.declared.face.Face.{Face}
 use Rattle.qm_mapfile.specs.Face.{HasPlane, face_point, face_plane, face_outward}

@@ -5,8 +5,8 @@ use Rattle.std.proofs.lemmas.Int.{ints}
 use Rattle.std.proofs.lemmas.List.Elements.{All-from_get_or}
 use Rattle.qm_space.specs.Point.{Point, point_sum, point_times}
 use Rattle.qm_space.specs.Plane.{Plane, value, IsOn, IsInFront, flipped}
-use Rattle.qm_space.proofs.IntegerProducts.{linear, *ℤ_zero, *ℤ_one}
-use Rattle.qm_space.proofs.Signs.{by_least, product_not_negative, times_at_most}
+use Rattle.qm_numbers.proofs.IntegerProducts.{linear, *ℤ_zero, *ℤ_one}
+use Rattle.qm_numbers.proofs.Signs.{by_least, product_not_negative, times_at_most}
 use Rattle.qm_space.proofs.Planes.{value_sum, value_times, value_flipped}
 use Rattle.qm_convex.specs.Winding.{Winding, next_place, edge_at, corner_at, IsConvex, IsInRegion}
 use Rattle.qm_convex.specs.Sides.{HasNoneInFront, HasSomeInFront, IsWhollyInFront, LiesIn, HasNoCornerInFront, HasNoCornerBehind, HasCornerInFront, HasCornersOn}

@@ -7,8 +7,8 @@ use Rattle.std.proofs.lemmas.List.Elements.{All-nil, All-push, All-take, All-dro
 use Rattle.qm_space.specs.Point.{Point}
 use Rattle.qm_space.specs.Plane.{Plane, value, IsInFront, IsBehind, flipped}
 use Rattle.qm_space.specs.Meet.{meet}
-use Rattle.qm_space.proofs.IntegerProducts.{linear}
-use Rattle.qm_space.proofs.Signs.{by_least, by_sign}
+use Rattle.qm_numbers.proofs.IntegerProducts.{linear}
+use Rattle.qm_numbers.proofs.Signs.{by_least, by_sign}
 use Rattle.qm_space.proofs.Planes.{value_flipped}
 use Rattle.qm_convex.specs.Winding.{Winding, edge_at, corner_at, corners, IsConvex, IsInRegion}
 use Rattle.qm_convex.proofs.Corners.{corners_by_place, corners_length, corner_in_list}

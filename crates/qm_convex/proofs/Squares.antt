@@ -10,9 +10,9 @@ use Rattle.qm_space.specs.Plane.{Plane, value, IsOn, IsInFront}
 use Rattle.qm_space.specs.Determinant.{determinant}
 use Rattle.qm_space.specs.Meet.{meet}
 use Rattle.qm_space.specs.Reduced.{IsReduced}
-use Rattle.qm_space.proofs.IntegerProducts.{linear}
-use Rattle.qm_space.proofs.Signs.{product_positive, abs_neg}
-use Rattle.qm_space.proofs.Ring.{Expression, number, variable, negated, ◌⊕◌, ◌⊗◌, solved}
+use Rattle.qm_numbers.proofs.IntegerProducts.{linear}
+use Rattle.qm_numbers.proofs.Signs.{product_positive, abs_neg}
+use Rattle.qm_numbers.proofs.Ring.{Expression, number, variable, negated, ◌⊕◌, ◌⊗◌, solved}
 use Rattle.qm_space.proofs.PlaneSymbols.{PlaneSymbols, PointSymbols, plane_from, point_from, numbers_of_plane, numbers_of_point, symbol_value, symbol_meet}
 use Rattle.qm_convex.specs.Winding.{Winding, next_place, edge_at, corner_at, corners, IsConvex, IsInRegion}
 use Rattle.qm_convex.specs.Cut.{IsPartInFront}

@@ -6,8 +6,8 @@ use Rattle.std.proofs.lemmas.Bool.{cases_eq}
 use Rattle.std.proofs.lemmas.List.Elements.{All-from_get_or}
 use Rattle.qm_space.specs.Point.{Point, point_sum, point_times, IsSamePlace}
 use Rattle.qm_space.specs.Plane.{Plane, value, IsOn, IsInFront}
-use Rattle.qm_space.proofs.IntegerProducts.{linear, *ℤ_zero, zero_*ℤ, one_*ℤ, neg-*ℤ}
-use Rattle.qm_space.proofs.Signs.{by_sign, product_positive, product_not_negative, zero_beside_positive}
+use Rattle.qm_numbers.proofs.IntegerProducts.{linear, *ℤ_zero, zero_*ℤ, one_*ℤ, neg-*ℤ}
+use Rattle.qm_numbers.proofs.Signs.{by_sign, product_positive, product_not_negative, zero_beside_positive}
 use Rattle.qm_space.proofs.Planes.{same_point, value_sum, value_times, meet_only}
 use Rattle.qm_space.proofs.Exchange.{point_on_line}
 use Rattle.qm_convex.specs.Winding.{Winding, next_place, edge_at, corner_at, IsConvex, IsInRegion}

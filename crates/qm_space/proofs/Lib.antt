@@ -1,12 +1,7 @@
-pub mod IntegerProducts
-pub mod Signs
-pub mod Ring
 pub mod PlaneSymbols
-pub mod Divisors
 pub mod Planes
 pub mod ReducedPlanes
 pub mod PlanesThroughPoints
 pub mod Sizes
 pub mod Directions
 pub mod Exchange
-pub mod Ratios

@@ -5,9 +5,9 @@ use Rattle.qm_space.specs.Point.{Point, point_sum, point_times}
 use Rattle.qm_space.specs.Plane.{Plane, value, IsBehind, IsOn, IsInFront, flipped, scaled}
 use Rattle.qm_space.specs.Determinant.{determinant, determinant_of_four}
 use Rattle.qm_space.specs.Meet.{meet}
-use Rattle.qm_space.proofs.IntegerProducts.{linear, zero_*ℤ}
-use Rattle.qm_space.proofs.Signs.{zero_beside, factor_compares}
-use Rattle.qm_space.proofs.Ring.{number, variable, negated, ◌⊕◌, ◌⊗◌, solved}
+use Rattle.qm_numbers.proofs.IntegerProducts.{linear, zero_*ℤ}
+use Rattle.qm_numbers.proofs.Signs.{zero_beside, factor_compares}
+use Rattle.qm_numbers.proofs.Ring.{number, variable, negated, ◌⊕◌, ◌⊗◌, solved}
 use Rattle.qm_space.proofs.PlaneSymbols.{plane_from, point_from, numbers_of_plane, numbers_of_point, symbol_value, symbol_determinant, symbol_determinant_of_four, symbol_meet, symbol_scaled, symbol_flipped, symbol_sum, symbol_times}
 
 -- ---- the value

@@ -3,14 +3,14 @@
 use Rattle.std.proofs.Common.{◌≡◌, ℕ, suc, zero, ◌+◌, ◌*◌, ◌≤◌, ◌^◌, Bool, true, false, not, if◌then◌else◌, ℤ, pos, ◌+ℤ◌, ◌-ℤ◌, ◌*ℤ◌, neg_ℤ, ◌<ℤ◌, List, [], ◌∷◌, slice_index_or, ap, ap₂, sym, subst, refl, ◌∙◌, arith, unsigned_abs, int_cmp}
 use Rattle.std.proofs.lemmas.Int.{ints}
 use Rattle.std.proofs.Math.IntN.{*ℤ_comm}
-use Rattle.qm_space.specs.Gcd.{gcd, gcd_within}
+use Rattle.qm_numbers.specs.Gcd.{gcd, gcd_within}
 use Rattle.qm_space.specs.Point.{Point, whole_point, IsCoordinate, AreCoordinates, IsWholePoint}
 use Rattle.qm_space.specs.Plane.{Plane, value, flipped, scaled}
 use Rattle.qm_space.specs.Reduced.{leads_positive, HasNormal}
 use Rattle.qm_space.specs.ThreePoints.{outward_plane, HasOutwardSizes, AreOnOneLine, common_factor, reduced, plane_through, IsPlaneThrough}
-use Rattle.qm_space.proofs.IntegerProducts.{linear, *ℤ_zero, zero_*ℤ, one_*ℤ, neg-*ℤ, *ℤ-neg}
-use Rattle.qm_space.proofs.Signs.{by_zero, zero_beside, factor_compares, abs_product_bound}
-use Rattle.qm_space.proofs.Ring.{variable, number, ◌⊕◌, ◌⊖◌, ◌⊗◌, solved}
+use Rattle.qm_numbers.proofs.IntegerProducts.{linear, *ℤ_zero, zero_*ℤ, one_*ℤ, neg-*ℤ, *ℤ-neg}
+use Rattle.qm_numbers.proofs.Signs.{by_zero, zero_beside, factor_compares, abs_product_bound}
+use Rattle.qm_numbers.proofs.Ring.{variable, number, ◌⊕◌, ◌⊖◌, ◌⊗◌, solved}
 use Rattle.qm_space.proofs.PlaneSymbols.{point_from, numbers_of_point, symbol_value, symbol_outward}
 use Rattle.qm_space.proofs.Planes.{value_scaled}
 use Rattle.qm_space.proofs.ReducedPlanes.{scaled_neg, scaled_has_normal, flipped_twice, flipped_has_normal, leads_flipped, common_factor_positive, reduced_back, reduced_leads, reduced_is_reduced, multiples_equal}

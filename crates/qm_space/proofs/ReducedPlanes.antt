@@ -5,14 +5,14 @@ use Rattle.std.proofs.lemmas.Int.{ints}
 use Rattle.std.proofs.lemmas.Nat.Gcd.{dvd_trans}
 use Rattle.std.proofs.Math.Nat.{eq-zero_of_zero-dvd, eq-one_of_dvd-one, mul-dvd-mul_left, dvd_of_mul-dvd-mul_left}
 use Rattle.std.proofs.Math.IntN.{*ℤ_comm}
-use Rattle.qm_space.specs.Gcd.{gcd}
+use Rattle.qm_numbers.specs.Gcd.{gcd}
 use Rattle.qm_space.specs.Plane.{Plane, flipped, scaled}
 use Rattle.qm_space.specs.Reduced.{sign_decides, leads_positive, HasNormal, IsReduced}
 use Rattle.qm_space.specs.ThreePoints.{common_factor, reduced}
-use Rattle.qm_space.proofs.IntegerProducts.{linear, *ℤ_assoc, *ℤ_zero, *ℤ_one, one_*ℤ, neg-*ℤ}
-use Rattle.qm_space.proofs.Signs.{by_sign, zero_beside, product_positive, positive_times_negative, negative_times_positive, negative_times_negative, abs_zero, cancel_equal, times_at_most, positive_beside}
-use Rattle.qm_space.proofs.Divisors.{gcd_divides_left, gcd_divides_right, divides_gcd, exact_division, abs_exact_division, abs_division_at_most, lowest_combination}
-use Rattle.qm_space.proofs.Ring.{variable, ◌⊕◌, ◌⊗◌, solved}
+use Rattle.qm_numbers.proofs.IntegerProducts.{linear, *ℤ_assoc, *ℤ_zero, *ℤ_one, one_*ℤ, neg-*ℤ}
+use Rattle.qm_numbers.proofs.Signs.{by_sign, zero_beside, product_positive, positive_times_negative, negative_times_positive, negative_times_negative, abs_zero, cancel_equal, times_at_most, positive_beside}
+use Rattle.qm_numbers.proofs.Divisors.{gcd_divides_left, gcd_divides_right, divides_gcd, exact_division, abs_exact_division, abs_division_at_most, lowest_combination}
+use Rattle.qm_numbers.proofs.Ring.{variable, ◌⊕◌, ◌⊗◌, solved}
 
 -- ---- planes are equal where their four numbers are
 

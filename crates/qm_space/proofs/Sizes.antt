@@ -5,7 +5,7 @@ use Rattle.qm_space.specs.Plane.{Plane, value}
 use Rattle.qm_space.specs.Determinant.{determinant}
 use Rattle.qm_space.specs.Meet.{meet, HasMeetSizes}
 use Rattle.qm_space.specs.Reduced.{IsReduced}
-use Rattle.qm_space.proofs.Signs.{abs_sum, abs_difference, abs_product_bound}
+use Rattle.qm_numbers.proofs.Signs.{abs_sum, abs_difference, abs_product_bound}
 use Rattle.qm_space.proofs.PlanesThroughPoints.{coordinate_small}
 
 -- a determinant whose columns have the bounds l, m and n

@@ -1,12 +1,9 @@
-pub mod Gcd
 pub mod Point
 pub mod Plane
 pub mod Determinant
 pub mod Meet
 pub mod Reduced
 pub mod ThreePoints
-pub mod FloorDivision
-pub mod Ratio
 pub mod Turned
 pub mod Cell
 pub mod Cube

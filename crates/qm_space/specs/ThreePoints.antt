@@ -1,5 +1,5 @@
 use Rattle.std.specs.Prelude.{◌≡◌, ℕ, ◌≤◌, ◌*◌, ◌^◌, ℤ, pos, neg_ℤ, ◌+ℤ◌, ◌-ℤ◌, ◌*ℤ◌, ◌<ℤ◌, Bool, if◌then◌else◌, IsTrue, unsigned_abs, int_div}
-use Rattle.qm_space.specs.Gcd.{gcd}
+use Rattle.qm_numbers.specs.Gcd.{gcd}
 use Rattle.qm_space.specs.Point.{Point}
 use Rattle.qm_space.specs.Plane.{Plane, flipped, scaled}
 use Rattle.qm_space.specs.Reduced.{leads_positive, IsReduced}

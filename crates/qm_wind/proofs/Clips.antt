@@ -2,7 +2,7 @@
 use Rattle.std.proofs.Common.{◌≡◌, ℕ, ◌<◌, true, false, ⊎_elim, Option, None, Some, length, ap, sym, ◌∙◌, subst, arith}
 use Rattle.std.proofs.lemmas.Bool.{MatchBool-at_true, MatchBool-at_false}
 use Rattle.qm_space.specs.Plane.{Plane, value, flipped}
-use Rattle.qm_space.proofs.IntegerProducts.{linear}
+use Rattle.qm_numbers.proofs.IntegerProducts.{linear}
 use Rattle.qm_space.proofs.Planes.{value_flipped}
 use Rattle.qm_convex.specs.Winding.{Winding, corner_at, IsConvex}
 use Rattle.qm_convex.specs.Turning.{place_after}

@@ -5,8 +5,8 @@ use Rattle.std.specs.Ordering.{is_gt, is_lt}
 use Rattle.std.proofs.lemmas.Bool.{cases_eq}
 use Rattle.qm_space.specs.Point.{Point}
 use Rattle.qm_space.specs.Plane.{Plane, value}
-use Rattle.qm_space.proofs.IntegerProducts.{linear}
-use Rattle.qm_space.proofs.Signs.{by_sign, compares_less, compares_equal, compares_greater}
+use Rattle.qm_numbers.proofs.IntegerProducts.{linear}
+use Rattle.qm_numbers.proofs.Signs.{by_sign, compares_less, compares_equal, compares_greater}
 use Rattle.qm_convex.specs.Winding.{Winding, next_place, corner_at, corners}
 use Rattle.qm_convex.specs.Sides.{HasCornerInFront, HasCornerBehind, HasNoCornerInFront, HasNoCornerBehind}
 use Rattle.qm_convex.specs.Cut.{EntersFrontAt, LeavesFrontAt}
