@@ -1,5 +1,6 @@
 use Rattle.std.specs.Prelude.{◌≡◌, ℤ, pos, neg_ℤ, ◌*ℤ◌, ◌<ℤ◌, ◌≤ℤ◌, [], ◌∷◌, ◌↔◌}
-use Rattle.qm_space.specs.Point.{Point, extent, IsInCube}
+use Rattle.qm_space.specs.Point.{Point, IsInCube}
+use Rattle.qm_space.specs.Bounds.{extent}
 use Rattle.qm_space.specs.Plane.{Plane, IsOn, IsInFront}
 use Rattle.qm_convex.specs.Winding.{Winding, IsInRegion, IsConvex}
 

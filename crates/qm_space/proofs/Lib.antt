@@ -1,6 +1,9 @@
 pub mod PlaneSymbols
 pub mod Planes
 pub mod ReducedPlanes
+pub mod TurnedPlanes
+pub mod Cubes
+pub mod Lines
 pub mod PlanesThroughPoints
 pub mod Sizes
 pub mod Directions

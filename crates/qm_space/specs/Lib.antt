@@ -1,8 +1,11 @@
+pub mod Bounds
 pub mod Point
 pub mod Plane
 pub mod Determinant
+pub mod Vector
 pub mod Meet
 pub mod Reduced
+pub mod Line
 pub mod ThreePoints
 pub mod Turned
 pub mod Cell

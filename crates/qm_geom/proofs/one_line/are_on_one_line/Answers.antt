@@ -1,7 +1,8 @@
 use Rattle.std.proofs.Common.{◌≡◌, Bool, true, false, IsTrue, not, refl, sym, subst}
 use Rattle.qm_space.specs.Reduced.{HasNormal}
 use Rattle.qm_space.specs.Point.{Point, whole_point}
-use Rattle.qm_space.specs.ThreePoints.{outward_plane, AreOnOneLine}
+use Rattle.qm_space.specs.ThreePoints.{outward_plane}
+use Rattle.qm_space.specs.Line.{AreOnOneLine}
 use Rattle.qm_space.proofs.PlanesThroughPoints.{one_line_no_normal, no_normal_one_line, by_normal}
 use Rattle.qm_geom.proofs.one_line.are_on_one_line.Goals as goal
 
