@@ -1,24 +1,21 @@
 -- The square that a plane has between two pairs of planes, and the part of a plane inside the world's cube.
-use Rattle.std.proofs.Common.{◌≡◌, ℕ, zero, suc, ◌<◌, pos, neg_ℤ, ◌+ℤ◌, ◌*ℤ◌, ◌<ℤ◌, ◌≤ℤ◌, [], ◌∷◌, length, ◌↔◌, refl, sym, ◌∙◌, arith, subst}
+use Rattle.std.proofs.Common.{◌≡◌, ℕ, zero, suc, ◌<◌, pos, neg_ℤ, ◌<ℤ◌, [], ◌∷◌, length, slice_index_or, ◌↔◌, refl, sym, ◌∙◌, arith, subst}
 use Rattle.std.specs.List.{All}
-use Rattle.std.specs.Int.{◌∣◌}
-use Rattle.std.proofs.lemmas.Nat.Gcd.{dvd_antisymm, dvd_of_mod-eq-zero}
 use Rattle.std.proofs.lemmas.List.Elements.{All-from_recursion}
-use Rattle.std.proofs.lemmas.Int.{ints}
 use Rattle.qm_space.specs.Point.{Point, IsWithinExtent, IsInCube}
-use Rattle.qm_space.specs.Bounds.{extent}
 use Rattle.qm_space.specs.Plane.{Plane, value, IsOn, IsInFront}
 use Rattle.qm_space.specs.Determinant.{determinant}
 use Rattle.qm_space.specs.Meet.{meet}
-use Rattle.qm_space.specs.Reduced.{IsReduced}
 use Rattle.qm_numbers.proofs.IntegerProducts.{linear}
-use Rattle.qm_numbers.proofs.Signs.{product_positive, abs_neg}
-use Rattle.qm_numbers.proofs.Ring.{Expression, number, variable, negated, ◌⊕◌, ◌⊗◌, solved}
-use Rattle.qm_space.proofs.PlaneSymbols.{PlaneSymbols, PointSymbols, plane_from, point_from, numbers_of_plane, numbers_of_point, symbol_value, symbol_meet}
+use Rattle.qm_numbers.proofs.Signs.{product_positive}
+use Rattle.qm_numbers.proofs.Ring.{variable, negated, solved}
+use Rattle.qm_space.proofs.PlaneSymbols.{plane_from, numbers_of_plane, symbol_meet}
 use Rattle.qm_convex.specs.Winding.{Winding, next_place, edge_at, corner_at, corners, IsConvex, IsInRegion}
 use Rattle.qm_convex.specs.Cut.{IsPartInFront}
 use Rattle.qm_convex.specs.Sides.{HasNoneInFront}
-use Rattle.qm_convex.specs.Square.{opposite, IsBetween, square, wall_x, wall_y, wall_z, AreWalls, MissesCube, IsWorldPart, IsInWorld, IsInClosedCube}
+use Rattle.qm_convex.specs.Square.{IsBetween, square, AreWalls, MissesCube, IsWorldPart, IsInWorld}
+use Rattle.qm_space.specs.Cube.{opposite, wall_x, wall_y, wall_z, cube_walls, IsInClosedCube}
+use Rattle.qm_space.proofs.Cubes.{symbol_opposite, symbol_wall_x, symbol_wall_y, symbol_wall_z, opposite_sum, x_low, x_high, y_low, y_high, z_low, z_high, cube_is_cell, closed_from_walls}
 use Rattle.qm_convex.proofs.Corners.{corner_on_edge, corner_on_next}
 use Rattle.qm_convex.proofs.Central.{wholly_in_front}
 
@@ -128,15 +125,15 @@ square_all P h a b pa pb oa ob = All-from_recursion P (square h a b).edges (pa, 
 -- how the normals of a plane and two walls turn, by one number of the plane's normal
 
 pub turn_x_y : (h : Plane) → (meet h wall_x wall_y).w ≡ h.nz
-unfolding meet determinant symbol_wall_x symbol_wall_y
+unfolding meet determinant
 turn_x_y h = solved (numbers_of_plane h []) (symbol_meet (plane_from 0) symbol_wall_x symbol_wall_y).w (variable 2) tt
 
 pub turn_z_x : (h : Plane) → (meet h wall_z wall_x).w ≡ h.ny
-unfolding meet determinant symbol_wall_z symbol_wall_x
+unfolding meet determinant
 turn_z_x h = solved (numbers_of_plane h []) (symbol_meet (plane_from 0) symbol_wall_z symbol_wall_x).w (variable 1) tt
 
 pub turn_y_z : (h : Plane) → (meet h wall_y wall_z).w ≡ h.nx
-unfolding meet determinant symbol_wall_y symbol_wall_z
+unfolding meet determinant
 turn_y_z h = solved (numbers_of_plane h []) (symbol_meet (plane_from 0) symbol_wall_y symbol_wall_z).w (variable 0) tt
 
 -- in the other order they turn the other way
@@ -149,19 +146,19 @@ turn_exchanged h a b =
 -- between a wall and its opposite is within the cube's extent
 module _ (p : Point) where
   pub between_x : IsBetween wall_x p ↔ IsWithinExtent p.x p.w
-  between_x = let e = x_low in let f = x_high in (
+  between_x = let e = x_low p in let f = x_high p in (
     (λ s. let near = s.near in let far = s.far in record { above = omega (arith, linear); below = omega (arith, linear) }),
     (λ s. let above = s.above in let below = s.below in record { near = omega (arith, linear); far = omega (arith, linear) }),
   )
 
   pub between_y : IsBetween wall_y p ↔ IsWithinExtent p.y p.w
-  between_y = let e = y_low in let f = y_high in (
+  between_y = let e = y_low p in let f = y_high p in (
     (λ s. let near = s.near in let far = s.far in record { above = omega (arith, linear); below = omega (arith, linear) }),
     (λ s. let above = s.above in let below = s.below in record { near = omega (arith, linear); far = omega (arith, linear) }),
   )
 
   pub between_z : IsBetween wall_z p ↔ IsWithinExtent p.z p.w
-  between_z = let e = z_low in let f = z_high in (
+  between_z = let e = z_low p in let f = z_high p in (
     (λ s. let near = s.near in let far = s.far in record { above = omega (arith, linear); below = omega (arith, linear) }),
     (λ s. let above = s.above in let below = s.below in record { near = omega (arith, linear); far = omega (arith, linear) }),
   )
@@ -176,8 +173,8 @@ walls_x_y_z p = (
 pub walls_exchanged : (a b c : Plane) → AreWalls a b c → AreWalls b a c
 walls_exchanged a b c w p = ((λ s. let t = (w p).0 s in (t.0, t.2, t.1, t.3)), (λ s. (w p).1 (s.0, s.2, s.1, s.3)))
 
-pub walls_turned : (a b c : Plane) → AreWalls a b c → AreWalls b c a
-walls_turned a b c w p = ((λ s. let t = (w p).0 s in (t.0, t.2, t.3, t.1)), (λ s. (w p).1 (s.0, s.3, s.1, s.2)))
+pub walls_rotated : (a b c : Plane) → AreWalls a b c → AreWalls b c a
+walls_rotated a b c w p = ((λ s. let t = (w p).0 s in (t.0, t.2, t.3, t.1)), (λ s. (w p).1 (s.0, s.3, s.1, s.2)))
 
 -- ---- the part of a plane inside the cube: its square between two pairs of walls, cut by the third pair
 

@@ -20,13 +20,13 @@ use Rattle.qm_space.proofs.PlaneSymbols.{PlaneSymbols, PointSymbols, plane_from,
 abbrev pub symbol_opposite : PlaneSymbols → PlaneSymbols
 symbol_opposite a = record { nx = negated a.nx; ny = negated a.ny; nz = negated a.nz; d = a.d }
 
-pub symbol_wall_x : PlaneSymbols
+abbrev pub symbol_wall_x : PlaneSymbols
 symbol_wall_x = record { nx = number (pos 1); ny = number (pos 0); nz = number (pos 0); d = number (neg_ℤ extent) }
 
-pub symbol_wall_y : PlaneSymbols
+abbrev pub symbol_wall_y : PlaneSymbols
 symbol_wall_y = record { nx = number (pos 0); ny = number (pos 1); nz = number (pos 0); d = number (neg_ℤ extent) }
 
-pub symbol_wall_z : PlaneSymbols
+abbrev pub symbol_wall_z : PlaneSymbols
 symbol_wall_z = record { nx = number (pos 0); ny = number (pos 0); nz = number (pos 1); d = number (neg_ℤ extent) }
 
 -- ---- values
@@ -50,27 +50,27 @@ module _ (p : Point) where
   high x = negated x ⊕ number extent ⊗ variable 3
 
   pub x_low : value wall_x p ≡ p.x +ℤ (extent *ℤ p.w)
-  unfolding value symbol_wall_x
+  unfolding value
   x_low = solved (numbers_of_point p []) (symbol_value symbol_wall_x q) (low q.x) tt
 
   pub x_high : value (opposite wall_x) p ≡ neg_ℤ p.x +ℤ (extent *ℤ p.w)
-  unfolding value symbol_wall_x
+  unfolding value
   x_high = solved (numbers_of_point p []) (symbol_value (symbol_opposite symbol_wall_x) q) (high q.x) tt
 
   pub y_low : value wall_y p ≡ p.y +ℤ (extent *ℤ p.w)
-  unfolding value symbol_wall_y
+  unfolding value
   y_low = solved (numbers_of_point p []) (symbol_value symbol_wall_y q) (low q.y) tt
 
   pub y_high : value (opposite wall_y) p ≡ neg_ℤ p.y +ℤ (extent *ℤ p.w)
-  unfolding value symbol_wall_y
+  unfolding value
   y_high = solved (numbers_of_point p []) (symbol_value (symbol_opposite symbol_wall_y) q) (high q.y) tt
 
   pub z_low : value wall_z p ≡ p.z +ℤ (extent *ℤ p.w)
-  unfolding value symbol_wall_z
+  unfolding value
   z_low = solved (numbers_of_point p []) (symbol_value symbol_wall_z q) (low q.z) tt
 
   pub z_high : value (opposite wall_z) p ≡ neg_ℤ p.z +ℤ (extent *ℤ p.w)
-  unfolding value symbol_wall_z
+  unfolding value
   z_high = solved (numbers_of_point p []) (symbol_value (symbol_opposite symbol_wall_z) q) (high q.z) tt
 
 -- ---- the cube is the cell of its walls

@@ -92,9 +92,9 @@ meet_exchanged a b c =
     (solved zs (symbol_meet q p r).x (one ⊗ (symbol_meet p q r).x) tt) (solved zs (symbol_meet q p r).y (one ⊗ (symbol_meet p q r).y) tt)
     (solved zs (symbol_meet q p r).z (one ⊗ (symbol_meet p q r).z) tt) (solved zs (symbol_meet q p r).w (one ⊗ (symbol_meet p q r).w) tt)
 
-pub meet_turned : (a b c : Plane) → meet b c a ≡ meet a b c
+pub meet_rotated : (a b c : Plane) → meet b c a ≡ meet a b c
 unfolding meet determinant
-meet_turned a b c =
+meet_rotated a b c =
     let p = plane_from 0 in let q = plane_from 4 in let r = plane_from 8 in
     let zs = numbers_of_plane a (numbers_of_plane b (numbers_of_plane c [])) in
     same_point (meet b c a) (meet a b c)

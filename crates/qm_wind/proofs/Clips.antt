@@ -5,7 +5,7 @@ use Rattle.qm_space.specs.Plane.{Plane, value, flipped}
 use Rattle.qm_numbers.proofs.IntegerProducts.{linear}
 use Rattle.qm_space.proofs.Planes.{value_flipped}
 use Rattle.qm_convex.specs.Winding.{Winding, corner_at, IsConvex}
-use Rattle.qm_convex.specs.Turning.{place_after}
+use Rattle.qm_convex.specs.Rotation.{place_after}
 use Rattle.qm_convex.specs.Sides.{HasCornerInFront, HasCornerBehind, HasNoCornerInFront, HasNoCornerBehind, HasNoneInFront, HasSomeInFront, IsWhollyInFront}
 use Rattle.qm_convex.specs.Cut.{IsFrontRun, IsPartInFront}
 use Rattle.qm_convex.proofs.Places.{next_below}

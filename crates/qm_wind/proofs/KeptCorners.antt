@@ -6,9 +6,10 @@ use Rattle.qm_space.specs.Plane.{Plane}
 use Rattle.qm_space.specs.Meet.{meet}
 use Rattle.qm_space.specs.Reduced.{IsReduced}
 use Rattle.qm_convex.specs.Winding.{corners, Winding, corner_at, edge_at, IsConvex}
-use Rattle.qm_convex.specs.Square.{opposite, square}
+use Rattle.qm_convex.specs.Square.{square}
+use Rattle.qm_space.specs.Cube.{opposite}
 use Rattle.qm_convex.proofs.Squares.{square_all, square_corners}
-use Rattle.qm_convex.specs.Turning.{turned_list, place_after}
+use Rattle.qm_convex.specs.Rotation.{rotated_list, place_after}
 use Rattle.qm_convex.specs.Sides.{HasCornerBehind}
 use Rattle.qm_convex.specs.Cut.{IsFrontRun, cut}
 use Rattle.qm_convex.proofs.Places.{after_none}
@@ -27,11 +28,11 @@ pub view_length : (u v : Winding) → u ≡ v → length u.edges ≡ length v.ed
 view_length u v e = ap (λ w. length w.edges) e
 
 -- the winding of the cut's edges is the cut
-pub cut_view : (u v : Winding) (g : Plane) (start count : ℕ) (es : List Plane) → u ≡ v → es ≡ take (count + 1) (turned_list start u.edges) ++ g ∷ [] →
+pub cut_view : (u v : Winding) (g : Plane) (start count : ℕ) (es : List Plane) → u ≡ v → es ≡ take (count + 1) (rotated_list start u.edges) ++ g ∷ [] →
     record { plane = u.plane; edges = es } ≡ cut v g start count
 cut_view u v g start count es e f =
     (λ t. record { plane = u.plane; edges = f t })
-    ∙ ap (λ n. record { plane = u.plane; edges = take n (turned_list start u.edges) ++ g ∷ [] }) {x = count + 1} {y = suc count} (omega arith)
+    ∙ ap (λ n. record { plane = u.plane; edges = take n (rotated_list start u.edges) ++ g ∷ [] }) {x = count + 1} {y = suc count} (omega arith)
     ∙ ap (λ w. cut w g start count) e
 
 -- and keeps its corners: those of the run, and the two where the plane crosses an edge
@@ -39,7 +40,7 @@ pub kept_cut : (v : Winding) (kept : List Point) (g last first : Plane) (start c
     IsKept v kept → IsReduced g → IsFrontRun v g start count → HasCornerBehind v g →
     last ≡ edge_at v (place_after (length v.edges) start count) → first ≡ edge_at v start →
     record { plane = v.plane; edges = es } ≡ cut v g start count →
-    ps ≡ (take count (turned_list start kept) ++ meet v.plane last g ∷ []) ++ meet v.plane g first ∷ [] →
+    ps ≡ (take count (rotated_list start kept) ++ meet v.plane last g ∷ []) ++ meet v.plane g first ∷ [] →
     IsKept (record { plane = v.plane; edges = es }) ps
 kept_cut v kept g last first start count es ps k r x b el ef e f =
     let start_below : start ≤ length v.edges = (let h = x.in_range in omega arith) in
@@ -48,8 +49,8 @@ kept_cut v kept g last first start count es ps k r x b el ef e f =
       plane = k.plane;
       edges = cut_all IsReduced v g start count k.edges r;
       corners_kept =
-          f ∙ append_assoc (take count (turned_list start kept)) (meet v.plane last g ∷ []) (meet v.plane g first ∷ [])
-          ∙ (λ t. take count (turned_list start (k.corners_kept t)) ++ meet v.plane (el t) g ∷ meet v.plane g (first_is t) ∷ [])
+          f ∙ append_assoc (take count (rotated_list start kept)) (meet v.plane last g ∷ []) (meet v.plane g first ∷ [])
+          ∙ (λ t. take count (rotated_list start (k.corners_kept t)) ++ meet v.plane (el t) g ∷ meet v.plane g (first_is t) ∷ [])
           ∙ cut_corners v g start count start_below x.not_all;
     })
   where

@@ -2,7 +2,8 @@ ghost use Rattle.std.specs.Prelude.{◌≡◌, ◌<◌, ◌≤◌, length, IfOk,
 ghost use Rattle.qm_geom.specs.Rounding.{HasSmallCoordinates};
 ghost use Rattle.qm_convex.specs.Winding.{corner_at};
 ghost use Rattle.qm_convex.specs.Vertex.{IsVertex, HasVerticesAsCorners};
-ghost use Rattle.qm_convex.specs.Square.{MissesCube, IsWorldPart, IsInWorld, IsInClosedCube};
+ghost use Rattle.qm_convex.specs.Square.{MissesCube, IsWorldPart, IsInWorld};
+ghost use Rattle.qm_space.specs.Cube.{IsInClosedCube};
 ghost use Rattle.qm_wind.specs.Clipped.{IsClip, facing};
 
 use crate::polygon::Polygon;

@@ -1,5 +1,5 @@
 use Rattle.qm_geom.proofs.Flipped.{turned_32}
-use Rattle.qm_convex.proofs.Squares.{opposite_reduced}
+use Rattle.qm_space.proofs.Cubes.{opposite_reduced}
 use Rattle.qm_wind.proofs.WallsAcross.{kept_64}
 use Rattle.qm_wind.proofs.walls.opposite.Goals as goal
 

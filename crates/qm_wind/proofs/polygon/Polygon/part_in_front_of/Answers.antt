@@ -1,7 +1,7 @@
 use Rattle.std.proofs.Common.{◌∙◌, sym, ap, subst, arith}
 use Rattle.std.proofs.lemmas.Result.{IfOk-weaker}
 use Rattle.qm_convex.specs.Winding.{IsConvex}
-use Rattle.qm_convex.specs.Turning.{place_after}
+use Rattle.qm_convex.specs.Rotation.{place_after}
 use Rattle.qm_convex.specs.Cut.{IsPartInFront}
 use Rattle.qm_convex.proofs.Cutting.{cut_is_part}
 use Rattle.qm_wind.proofs.KeptCorners.{view_length}
