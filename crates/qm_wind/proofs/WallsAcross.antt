@@ -1,5 +1,5 @@
 -- The walls across a plane, in their order.
-use Rattle.std.proofs.Common.{◌≡◌, ◌≤◌, ◌^◌, ℤ, pos, ◌<ℤ◌, ◌≤ℤ◌, sym, subst, arith, int_cmp, Less, Equal, Greater, Ordering, to_z, of_z, w64, unsigned_abs, ◌∙◌}
+use Rattle.std.proofs.Common.{◌≡◌, ℤ, pos, ◌<ℤ◌, ◌≤ℤ◌, sym, subst, arith, int_cmp, Less, Equal, Greater, Ordering, ◌∙◌}
 use Rattle.std.proofs.lemmas.Int.{ints}
 use Rattle.qm_space.specs.Plane.{Plane}
 use Rattle.qm_space.specs.Meet.{meet}
@@ -10,10 +10,7 @@ use Rattle.qm_convex.specs.Square.{AreWalls}
 use Rattle.qm_space.specs.Cube.{wall_x, wall_y, wall_z}
 use Rattle.qm_convex.proofs.Squares.{walls_x_y_z, walls_exchanged, walls_rotated, turn_exchanged, turn_x_y, turn_z_x, turn_y_z}
 use Rattle.qm_wind.specs.declared.walls.Walls.{Walls}
-use Rattle.qm_wind.specs.Across.{StandAcross}
-
-pub kept_64 : (z : ℤ) → unsigned_abs z ≤ 2 ^ 44 → to_z w64 (of_z w64 z) ≡ z
-kept_64 z h = omega (arith, ints)
+use Rattle.qm_wind.specs.inner.Across.{StandAcross}
 
 -- three walls that stand across a plane, as the sign of the component across the first two says
 pub across_front : (h a b c : Plane) (z : ℤ) → AreWalls a b c → a.d <ℤ pos 0 → b.d <ℤ pos 0 → (meet h a b).w ≡ z → pos 0 <ℤ z → StandAcross h a b c
