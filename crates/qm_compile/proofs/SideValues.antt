@@ -66,7 +66,7 @@ face_sides x face coordinates plane =
     let p0 = face_point face 0 in
     let p1 = face_point face 1 in
     let p2 = face_point face 2 in
-    is_turned p0 p1 p2 x (face_plane face).0 (face_plane face).1 (plane_through_is p0 p1 p2 (face_point_whole face 0 coordinates) (face_point_whole face 1 coordinates) (face_point_whole face 2 coordinates) (normal_off_line p0 p1 p2 plane))
+    is_turned p0 p1 p2 x (face_plane face).0 (face_plane face).1 (plane_through_is p0 p1 p2 (face_point_whole face 0 coordinates) (face_point_whole face 1 coordinates) (face_point_whole face 2 coordinates) (normal_off_line p0 p1 p2 refl refl refl plane))
 
 pub sides_of_faces : (x : Point) (faces : List Face) → AreValidFaces faces → AllByRecursion (FaceSides x) faces
 sides_of_faces x faces valid =

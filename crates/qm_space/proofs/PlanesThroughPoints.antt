@@ -1,9 +1,10 @@
 -- The plane through three points: what it holds, how large its numbers are, that it is the only one, and
 -- that it has no normal exactly where the points lie on one line.
-use Rattle.std.proofs.Common.{◌≡◌, ℕ, suc, zero, ◌+◌, ◌*◌, ◌≤◌, ◌^◌, Bool, true, false, not, ℤ, pos, ◌+ℤ◌, ◌-ℤ◌, ◌*ℤ◌, neg_ℤ, ◌<ℤ◌, List, [], ◌∷◌, slice_index_or, ap, ap₂, sym, subst, refl, ◌∙◌, arith, unsigned_abs, int_cmp}
+use Rattle.std.proofs.Common.{◌≡◌, ℕ, suc, zero, ◌+◌, ◌*◌, ◌≤◌, Bool, true, false, not, ℤ, pos, ◌+ℤ◌, ◌-ℤ◌, ◌*ℤ◌, neg_ℤ, ◌<ℤ◌, List, [], ◌∷◌, slice_index_or, ap, ap₂, sym, subst, refl, ◌∙◌, arith, unsigned_abs, int_cmp}
 use Rattle.std.proofs.lemmas.Int.{ints}
 use Rattle.std.proofs.Math.IntN.{*ℤ_comm}
 use Rattle.qm_numbers.specs.Gcd.{gcd, gcd_within}
+use Rattle.qm_space.specs.Bounds.{world_extent, normal_bound, distance_bound, outward_distance_bound}
 use Rattle.qm_space.specs.Point.{Point, whole_point, IsCoordinate, AreCoordinates, IsWholePoint}
 use Rattle.qm_space.specs.Plane.{Plane, value, flipped, scaled}
 use Rattle.qm_space.specs.Reduced.{leads_positive, HasNormal}
@@ -32,18 +33,18 @@ whole_point_is_whole at h = record { x = coordinate_read at 0 h; y = coordinate_
 
 -- ---- sizes
 
-pub coordinate_small : (c : ℤ) → IsCoordinate c → unsigned_abs c ≤ 4096
+pub coordinate_small : (c : ℤ) → IsCoordinate c → unsigned_abs c ≤ world_extent
 coordinate_small c h = let l = h.low in let r = h.high in omega (arith, ints)
 
 -- the three differences of three numbers of a range
-differences_small : (a b c : ℤ) → IsCoordinate a → IsCoordinate b → IsCoordinate c → unsigned_abs (c -ℤ b) + unsigned_abs (a -ℤ c) + unsigned_abs (b -ℤ a) ≤ 16384
+differences_small : (a b c : ℤ) → IsCoordinate a → IsCoordinate b → IsCoordinate c → unsigned_abs (c -ℤ b) + unsigned_abs (a -ℤ c) + unsigned_abs (b -ℤ a) ≤ 4 * world_extent
 differences_small a b c h k l = let p = h.low in let q = h.high in let r = k.low in let s = k.high in let t = l.low in let u = l.high in omega (arith, ints)
 
 abs_of_three : (a b c : ℤ) → unsigned_abs ((a +ℤ b) +ℤ c) ≤ unsigned_abs a + unsigned_abs b + unsigned_abs c
 abs_of_three a b c = omega (arith, ints)
 
 -- a coefficient of the normal, of coordinates across two axes
-cross_small : (a0 a1 a2 b0 b1 b2 : ℤ) → IsCoordinate a0 → IsCoordinate a1 → IsCoordinate a2 → IsCoordinate b0 → IsCoordinate b1 → IsCoordinate b2 → unsigned_abs (((a0 -ℤ a1) *ℤ (b2 -ℤ b1)) -ℤ ((b0 -ℤ b1) *ℤ (a2 -ℤ a1))) ≤ 2 ^ 26
+cross_small : (a0 a1 a2 b0 b1 b2 : ℤ) → IsCoordinate a0 → IsCoordinate a1 → IsCoordinate a2 → IsCoordinate b0 → IsCoordinate b1 → IsCoordinate b2 → unsigned_abs (((a0 -ℤ a1) *ℤ (b2 -ℤ b1)) -ℤ ((b0 -ℤ b1) *ℤ (a2 -ℤ a1))) ≤ normal_bound
 cross_small a0 a1 a2 b0 b1 b2 h0 h1 h2 k0 k1 k2 =
     let v = variable in
     let e = solved (a0 ∷ a1 ∷ a2 ∷ b0 ∷ b1 ∷ b2 ∷ [])
@@ -51,18 +52,18 @@ cross_small a0 a1 a2 b0 b1 b2 h0 h1 h2 k0 k1 k2 =
     (v 0 ⊗ (v 5 ⊖ v 4) ⊕ v 1 ⊗ (v 3 ⊖ v 5) ⊕ v 2 ⊗ (v 4 ⊖ v 3)) tt in
     let f = ap unsigned_abs e in
     let s = abs_of_three (a0 *ℤ (b2 -ℤ b1)) (a1 *ℤ (b0 -ℤ b2)) (a2 *ℤ (b1 -ℤ b0)) in
-    let p0 = abs_product_bound a0 (b2 -ℤ b1) 4096 (unsigned_abs (b2 -ℤ b1)) (coordinate_small a0 h0) (omega arith) in
-    let p1 = abs_product_bound a1 (b0 -ℤ b2) 4096 (unsigned_abs (b0 -ℤ b2)) (coordinate_small a1 h1) (omega arith) in
-    let p2 = abs_product_bound a2 (b1 -ℤ b0) 4096 (unsigned_abs (b1 -ℤ b0)) (coordinate_small a2 h2) (omega arith) in
+    let p0 = abs_product_bound a0 (b2 -ℤ b1) world_extent (unsigned_abs (b2 -ℤ b1)) (coordinate_small a0 h0) (omega arith) in
+    let p1 = abs_product_bound a1 (b0 -ℤ b2) world_extent (unsigned_abs (b0 -ℤ b2)) (coordinate_small a1 h1) (omega arith) in
+    let p2 = abs_product_bound a2 (b1 -ℤ b0) world_extent (unsigned_abs (b1 -ℤ b0)) (coordinate_small a2 h2) (omega arith) in
     let d = differences_small b0 b1 b2 k0 k1 k2 in
     omega arith
 
-distance_small : (a b c x y z : ℤ) → unsigned_abs a ≤ 2 ^ 26 → unsigned_abs b ≤ 2 ^ 26 → unsigned_abs c ≤ 2 ^ 26 → IsCoordinate x → IsCoordinate y → IsCoordinate z → unsigned_abs (((a *ℤ x) +ℤ (b *ℤ y)) +ℤ (c *ℤ z)) ≤ 3 * 2 ^ 38
+distance_small : (a b c x y z : ℤ) → unsigned_abs a ≤ normal_bound → unsigned_abs b ≤ normal_bound → unsigned_abs c ≤ normal_bound → IsCoordinate x → IsCoordinate y → IsCoordinate z → unsigned_abs (((a *ℤ x) +ℤ (b *ℤ y)) +ℤ (c *ℤ z)) ≤ outward_distance_bound
 distance_small a b c x y z p q r h k l =
     let s = abs_of_three (a *ℤ x) (b *ℤ y) (c *ℤ z) in
-    let m = abs_product_bound a x (2 ^ 26) 4096 p (coordinate_small x h) in
-    let n = abs_product_bound b y (2 ^ 26) 4096 q (coordinate_small y k) in
-    let o = abs_product_bound c z (2 ^ 26) 4096 r (coordinate_small z l) in
+    let m = abs_product_bound a x normal_bound world_extent p (coordinate_small x h) in
+    let n = abs_product_bound b y normal_bound world_extent q (coordinate_small y k) in
+    let o = abs_product_bound c z normal_bound world_extent r (coordinate_small z l) in
     omega arith
 
 -- three whole points of the closed cube
@@ -93,10 +94,10 @@ taken_is p0 p1 p2 out true o e n s =
 taken_is p0 p1 p2 out false o e n s =
     let m = flipped_has_normal out n in
     let k = common_factor_positive (flipped out) m in
-    let x : unsigned_abs (neg_ℤ out.nx) ≤ 2 ^ 26 = let l = s.nx_small in omega (arith, ints) in
-    let y : unsigned_abs (neg_ℤ out.ny) ≤ 2 ^ 26 = let l = s.ny_small in omega (arith, ints) in
-    let z : unsigned_abs (neg_ℤ out.nz) ≤ 2 ^ 26 = let l = s.nz_small in omega (arith, ints) in
-    let d : unsigned_abs (neg_ℤ out.d) ≤ 2 ^ 44 = let l = s.d_small in omega (arith, ints) in
+    let x : unsigned_abs (neg_ℤ out.nx) ≤ normal_bound = let l = s.nx_small in omega (arith, ints) in
+    let y : unsigned_abs (neg_ℤ out.ny) ≤ normal_bound = let l = s.ny_small in omega (arith, ints) in
+    let z : unsigned_abs (neg_ℤ out.nz) ≤ normal_bound = let l = s.nz_small in omega (arith, ints) in
+    let d : unsigned_abs (neg_ℤ out.d) ≤ distance_bound = let l = s.d_small in omega (arith, ints) in
     record {
       is_reduced = reduced_is_reduced (flipped out) m x y z d;
       leads = reduced_leads (flipped out) m ∙ leads_flipped out n ∙ ap not e;

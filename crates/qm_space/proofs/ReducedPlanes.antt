@@ -1,11 +1,12 @@
 -- Multiples of planes, the sign with which a plane leads, and planes in lowest terms.
-use Rattle.std.proofs.Common.{◌≡◌, ℕ, suc, zero, ◌*◌, ◌≤◌, ◌<◌, ◌^◌, Bool, true, false, not, IsTrue, ℤ, pos, negsuc, ◌+ℤ◌, ◌*ℤ◌, neg_ℤ, ◌<ℤ◌, [], ◌∷◌, ap, sym, subst, refl, ◌∙◌, arith, unsigned_abs, int_div, true≢false, eq-zero-or-pos, ⊎_elim, mul-one}
+use Rattle.std.proofs.Common.{◌≡◌, ℕ, suc, zero, ◌*◌, ◌≤◌, ◌<◌, Bool, true, false, not, IsTrue, ℤ, pos, negsuc, ◌+ℤ◌, ◌*ℤ◌, neg_ℤ, ◌<ℤ◌, [], ◌∷◌, ap, sym, subst, refl, ◌∙◌, arith, unsigned_abs, int_div, true≢false, eq-zero-or-pos, ⊎_elim, mul-one}
 use Rattle.std.specs.Int.{◌∣◌}
 use Rattle.std.proofs.lemmas.Int.{ints}
 use Rattle.std.proofs.lemmas.Nat.Gcd.{dvd_trans}
 use Rattle.std.proofs.Math.Nat.{eq-zero_of_zero-dvd, eq-one_of_dvd-one, mul-dvd-mul_left, dvd_of_mul-dvd-mul_left}
 use Rattle.std.proofs.Math.IntN.{*ℤ_comm}
 use Rattle.qm_numbers.specs.Gcd.{gcd}
+use Rattle.qm_space.specs.Bounds.{normal_bound, distance_bound}
 use Rattle.qm_space.specs.Plane.{Plane, flipped, scaled}
 use Rattle.qm_space.specs.Reduced.{sign_decides, leads_positive, HasNormal, IsReduced}
 use Rattle.qm_space.specs.ThreePoints.{common_factor, reduced}
@@ -174,7 +175,7 @@ reduced_no_greater h n =
     record { nx = abs_division_at_most h.nx k p c.nx; ny = abs_division_at_most h.ny k p c.ny; nz = abs_division_at_most h.nz k p c.nz; d = abs_division_at_most h.d k p c.d }
 
 -- a plane of small numbers, in lowest terms
-pub reduced_is_reduced : (h : Plane) → HasNormal h → unsigned_abs h.nx ≤ 2 ^ 26 → unsigned_abs h.ny ≤ 2 ^ 26 → unsigned_abs h.nz ≤ 2 ^ 26 → unsigned_abs h.d ≤ 2 ^ 44 → IsReduced (reduced h)
+pub reduced_is_reduced : (h : Plane) → HasNormal h → unsigned_abs h.nx ≤ normal_bound → unsigned_abs h.ny ≤ normal_bound → unsigned_abs h.nz ≤ normal_bound → unsigned_abs h.d ≤ distance_bound → IsReduced (reduced h)
 reduced_is_reduced h n x y z d =
     let s = reduced_no_greater h n in
     record {

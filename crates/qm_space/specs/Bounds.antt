@@ -4,8 +4,12 @@ use Rattle.std.specs.Prelude.{ℕ, ◌*◌, ◌^◌, ℤ, pos}
 -- follows from these.
 
 -- the world is the open cube in which each coordinate lies strictly between this number and its opposite
+abbrev pub world_extent : ℕ
+world_extent = 4096
+
+-- the same as an integer
 abbrev pub extent : ℤ
-extent = pos 4096
+extent = pos world_extent
 
 -- a coordinate of a corner that code rounds
 abbrev pub rounded_bound : ℕ
@@ -30,3 +34,11 @@ meet_bound = 3 * 2 ^ 97
 -- w of the point in which three planes meet
 abbrev pub meet_weight_bound : ℕ
 meet_weight_bound = 3 * 2 ^ 79
+
+-- a plane's value at a whole point of the closed cube
+abbrev pub whole_value_bound : ℕ
+whole_value_bound = 2 ^ 45
+
+-- a plane's value at the point in which three planes meet
+abbrev pub meet_value_bound : ℕ
+meet_value_bound = 3 * 2 ^ 125
