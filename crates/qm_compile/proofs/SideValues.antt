@@ -8,7 +8,7 @@ use Rattle.std.proofs.lemmas.List.Elements.{recursion_from_All, All-nil}
 use Rattle.qm_space.specs.Point.{Point, AreCoordinates, IsCoordinate, IsWholePoint}
 use Rattle.qm_space.specs.Plane.{Plane, value}
 use Rattle.qm_space.specs.ThreePoints.{IsPlaneThrough, outward_plane}
-use Rattle.qm_space.proofs.Signs.{compares_less, compares_greater, less_compares, greater_compares}
+use Rattle.qm_numbers.proofs.Signs.{compares_less, compares_greater, less_compares, greater_compares}
 use Rattle.qm_space.proofs.PlanesThroughPoints.{whole_point_is_whole, plane_through_is, normal_off_line, through_front, through_back}
 use Rattle.qm_mapfile.specs.declared.face.Face.{Face}
 use Rattle.qm_mapfile.specs.Face.{HasPlane, face_point, face_plane, face_outward}
@@ -66,7 +66,7 @@ face_sides x face coordinates plane =
     let p0 = face_point face 0 in
     let p1 = face_point face 1 in
     let p2 = face_point face 2 in
-    is_turned p0 p1 p2 x (face_plane face).0 (face_plane face).1 (plane_through_is p0 p1 p2 (face_point_whole face 0 coordinates) (face_point_whole face 1 coordinates) (face_point_whole face 2 coordinates) (normal_off_line p0 p1 p2 plane))
+    is_turned p0 p1 p2 x (face_plane face).0 (face_plane face).1 (plane_through_is p0 p1 p2 (face_point_whole face 0 coordinates) (face_point_whole face 1 coordinates) (face_point_whole face 2 coordinates) (normal_off_line p0 p1 p2 refl refl refl plane))
 
 pub sides_of_faces : (x : Point) (faces : List Face) → AreValidFaces faces → AllByRecursion (FaceSides x) faces
 sides_of_faces x faces valid =

@@ -5,15 +5,15 @@ use Rattle.std.proofs.lemmas.Int.{ints}
 use Rattle.std.proofs.lemmas.List.Elements.{All-from_get_or}
 use Rattle.qm_space.specs.Point.{Point, point_sum, point_times}
 use Rattle.qm_space.specs.Plane.{Plane, value, IsOn, IsInFront, flipped}
-use Rattle.qm_space.proofs.IntegerProducts.{linear, *ℤ_zero, *ℤ_one}
-use Rattle.qm_space.proofs.Signs.{by_least, product_not_negative, times_at_most}
+use Rattle.qm_numbers.proofs.IntegerProducts.{linear, *ℤ_zero, *ℤ_one}
+use Rattle.qm_numbers.proofs.Signs.{by_least, product_not_negative, times_at_most}
 use Rattle.qm_space.proofs.Planes.{value_sum, value_times, value_flipped}
 use Rattle.qm_convex.specs.Winding.{Winding, next_place, edge_at, corner_at, IsConvex, IsInRegion}
 use Rattle.qm_convex.specs.Sides.{HasNoneInFront, HasSomeInFront, IsWhollyInFront, LiesIn, HasNoCornerInFront, HasNoCornerBehind, HasCornerInFront, HasCornersOn}
-use Rattle.qm_convex.specs.Turning.{place_after, turned}
+use Rattle.qm_convex.specs.Rotation.{place_after, rotated}
 use Rattle.qm_convex.proofs.Places.{next_inner, next_next_other, after_below, after_none}
 use Rattle.qm_convex.proofs.Corners.{corner_on_plane, corner_not_behind, by_edge}
-use Rattle.qm_convex.proofs.Turning.{turned_length, turned_corner, turned_convex, turned_region}
+use Rattle.qm_convex.proofs.Rotation.{rotated_length, rotated_corner, rotated_convex, rotated_region}
 use Rattle.qm_convex.proofs.Hull.{hull, hull_strict_at_first}
 
 -- ---- the strict form of the hull law
@@ -22,13 +22,13 @@ use Rattle.qm_convex.proofs.Hull.{hull, hull_strict_at_first}
 pub hull_strict : (v : Winding) (g : Plane) → IsConvex v → ((i : ℕ) → i < length v.edges → value g (corner_at v i) ≤ℤ pos 0) →
     (k : ℕ) → k < length v.edges → value g (corner_at v k) <ℤ pos 0 → (p : Point) → IsInRegion v p → value g p <ℤ pos 0
 hull_strict v g c a k h s p r =
-    hull_strict_at_first (turned k v) g (turned_convex k v (omega arith) c)
-    (λ i l. let m : i < length v.edges = omega (arith, same) in subst (λ q. value g q ≤ℤ pos 0) (sym (turned_corner k v i (omega arith) m)) (a (place_after (length v.edges) k i) (after_below (length v.edges) k i (omega arith) m)))
-    (subst (λ q. value g q <ℤ pos 0) (sym (turned_corner k v 0 (omega arith) (omega arith) ∙ ap (corner_at v) (after_none (length v.edges) k h))) s)
-    p ((turned_region k v p h).1 r)
+    hull_strict_at_first (rotated k v) g (rotated_convex k v (omega arith) c)
+    (λ i l. let m : i < length v.edges = omega (arith, same) in subst (λ q. value g q ≤ℤ pos 0) (sym (rotated_corner k v i (omega arith) m)) (a (place_after (length v.edges) k i) (after_below (length v.edges) k i (omega arith) m)))
+    (subst (λ q. value g q <ℤ pos 0) (sym (rotated_corner k v 0 (omega arith) (omega arith) ∙ ap (corner_at v) (after_none (length v.edges) k h))) s)
+    p ((rotated_region k v p h).1 r)
   where
-    same : length (turned k v).edges ≡ length v.edges
-    same = turned_length k v (omega arith)
+    same : length (rotated k v).edges ≡ length v.edges
+    same = rotated_length k v (omega arith)
 
 -- the same with the sides exchanged
 pub hull_in_front : (v : Winding) (g : Plane) → IsConvex v → ((i : ℕ) → i < length v.edges → pos 0 ≤ℤ value g (corner_at v i)) →

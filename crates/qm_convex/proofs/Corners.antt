@@ -8,7 +8,7 @@ use Rattle.qm_space.specs.Point.{Point}
 use Rattle.qm_space.specs.Plane.{Plane, value, IsOn, IsInFront}
 use Rattle.qm_space.specs.Meet.{HasMeetSizes}
 use Rattle.qm_space.specs.Reduced.{IsReduced}
-use Rattle.qm_space.proofs.IntegerProducts.{linear}
+use Rattle.qm_numbers.proofs.IntegerProducts.{linear}
 use Rattle.qm_space.proofs.Planes.{first_holds_meet, second_holds_meet, third_holds_meet}
 use Rattle.qm_space.proofs.Exchange.{value_on_line}
 use Rattle.qm_space.proofs.Sizes.{meet_sizes, value_at_meet_small}

@@ -6,7 +6,7 @@ use Rattle.std.proofs.lemmas.Bool.{cases_eq, cases_lt}
 use Rattle.qm_space.specs.Point.{Point}
 use Rattle.qm_space.specs.Plane.{Plane, value, IsInFront, IsBehind}
 use Rattle.qm_space.specs.Meet.{meet}
-use Rattle.qm_space.proofs.IntegerProducts.{linear}
+use Rattle.qm_numbers.proofs.IntegerProducts.{linear}
 use Rattle.qm_convex.specs.Winding.{Winding, next_place, edge_at, corner_at, IsConvex, IsInRegion}
 use Rattle.qm_convex.proofs.Places.{next_inner, next_last, next_below, by_next}
 use Rattle.qm_convex.proofs.Corners.{corner_not_behind, far_corner_in_front}

@@ -7,21 +7,21 @@ use Rattle.std.proofs.lemmas.List.Elements.{All-nil, All-push, All-take, All-dro
 use Rattle.qm_space.specs.Point.{Point}
 use Rattle.qm_space.specs.Plane.{Plane, value, IsInFront, IsBehind, flipped}
 use Rattle.qm_space.specs.Meet.{meet}
-use Rattle.qm_space.proofs.IntegerProducts.{linear}
-use Rattle.qm_space.proofs.Signs.{by_least, by_sign}
+use Rattle.qm_numbers.proofs.IntegerProducts.{linear}
+use Rattle.qm_numbers.proofs.Signs.{by_least, by_sign}
 use Rattle.qm_space.proofs.Planes.{value_flipped}
 use Rattle.qm_convex.specs.Winding.{Winding, edge_at, corner_at, corners, IsConvex, IsInRegion}
 use Rattle.qm_convex.proofs.Corners.{corners_by_place, corners_length, corner_in_list}
-use Rattle.qm_convex.specs.Turning.{place_after, turned_list, turned}
+use Rattle.qm_convex.specs.Rotation.{place_after, rotated_list, rotated}
 use Rattle.qm_convex.specs.Sides.{HasCornerInFront, HasCornerBehind, IsWhollyInFront, HasSomeInFront}
 use Rattle.qm_convex.specs.Cut.{IsPartInFront, IsParted, IsPartWithin, IsFrontRun, cut}
 use Rattle.qm_convex.proofs.Places.{after_below, after_none, after_next, next_inner, next_last, next_injective, steps_to}
-use Rattle.qm_convex.proofs.Turning.{turned_list_length, turned_list_at, turned_length, turned_edge, turned_corner, turned_convex, turned_region}
+use Rattle.qm_convex.proofs.Rotation.{rotated_list_length, rotated_list_at, rotated_length, rotated_edge, rotated_corner, rotated_convex, rotated_region}
 use Rattle.qm_convex.proofs.Central.{middle, middle_in_region, some_in_front}
 use Rattle.qm_convex.proofs.CutAtFirst.{IsRunAtFirst, cut_at_first_convex, cut_at_first_region}
 
 -- read from the first corner in front, the winding has its corners in front first
-run_at_first : (v : Winding) (g : Plane) (start before : ℕ) → IsFrontRun v g start (suc before) → HasCornerBehind v g → IsRunAtFirst (turned start v) g before
+run_at_first : (v : Winding) (g : Plane) (start before : ℕ) → IsFrontRun v g start (suc before) → HasCornerBehind v g → IsRunAtFirst (rotated start v) g before
 run_at_first v g start before x (b, b_below, b_behind) = record {
   last = n - 1;
   at_last = let e = same in let a = x.in_range in omega arith;
@@ -35,11 +35,11 @@ run_at_first v g start before x (b, b_below, b_behind) = record {
     n : ℕ
     n = length v.edges
 
-    same : length (turned start v).edges ≡ length v.edges
-    same = turned_length start v (let a = x.in_range in omega arith)
+    same : length (rotated start v).edges ≡ length v.edges
+    same = rotated_length start v (let a = x.in_range in omega arith)
 
-    at : (P : Point → Type 0) (k : ℕ) → k < length v.edges → P (corner_at v (place_after (length v.edges) start k)) → P (corner_at (turned start v) k)
-    at P k h t = subst P (sym (turned_corner start v k (let a = x.in_range in omega arith) h)) t
+    at : (P : Point → Type 0) (k : ℕ) → k < length v.edges → P (corner_at v (place_after (length v.edges) start k)) → P (corner_at (rotated start v) k)
+    at P k h t = subst P (sym (rotated_corner start v k (let a = x.in_range in omega arith) h)) t
 
     -- where all corners but one are in front, the one behind is that one
     behind_last : suc before ≡ n - 1 → (j : ℕ) × (j < n) × (place_after n start j ≡ b) → IsBehind g (corner_at v (place_after n start (n - 1)))
@@ -52,15 +52,15 @@ run_at_first v g start before x (b, b_below, b_behind) = record {
 pub cut_convex : (v : Winding) (g : Plane) (start count : ℕ) → IsConvex v → IsFrontRun v g start count → HasCornerBehind v g → IsConvex (cut v g start count)
 cut_convex v g start zero c x b = absurd (let a = x.some in omega arith)
 cut_convex v g start (suc before) c x b =
-    cut_at_first_convex (turned start v) g before (turned_convex start v (let a = x.in_range in omega arith) c) (run_at_first v g start before x b)
+    cut_at_first_convex (rotated start v) g before (rotated_convex start v (let a = x.in_range in omega arith) c) (run_at_first v g start before x b)
 
 -- and its points are exactly the winding's points in front of the plane
 pub cut_region : (v : Winding) (g : Plane) (start count : ℕ) → IsConvex v → IsFrontRun v g start count → HasCornerBehind v g →
     (p : Point) → IsInRegion (cut v g start count) p ↔ (IsInRegion v p × IsInFront g p)
 cut_region v g start zero c x b p = absurd (let a = x.some in omega arith)
 cut_region v g start (suc before) c x b p =
-    let t = turned_region start v p x.in_range in
-    let r = cut_at_first_region (turned start v) g before (turned_convex start v (let a = x.in_range in omega arith) c) (run_at_first v g start before x b) p in
+    let t = rotated_region start v p x.in_range in
+    let r = cut_at_first_region (rotated start v) g before (rotated_convex start v (let a = x.in_range in omega arith) c) (run_at_first v g start before x b) p in
     ((λ s. let q = r.0 s in (t.0 q.0, q.1)), (λ s. r.1 (t.1 s.0, s.1)))
 
 -- ---- a winding with a corner in front and a corner behind has such a run
@@ -148,20 +148,20 @@ front_run v g (a, a_below, a_front) (b, b_below, b_behind) = from_steps (steps_t
 -- ---- the edges of the cut, by place: a loop that writes them one by one makes this list
 
 module _ (v : Winding) (g : Plane) (start count : ℕ) (h : start ≤ length v.edges) (l : count < length v.edges) where
-  kept_length : length (take (suc count) (turned start v).edges) ≡ suc count
-  kept_length = length-take-le (suc count) (turned start v).edges (let e = turned_length start v h in omega arith)
+  kept_length : length (take (suc count) (rotated start v).edges) ≡ suc count
+  kept_length = length-take-le (suc count) (rotated start v).edges (let e = rotated_length start v h in omega arith)
 
   pub cut_length : length (cut v g start count).edges ≡ suc (suc count)
-  cut_length = let a = length-append (take (suc count) (turned start v).edges) (g ∷ []) in let b = kept_length in omega arith
+  cut_length = let a = length-append (take (suc count) (rotated start v).edges) (g ∷ []) in let b = kept_length in omega arith
 
   pub cut_edge_kept : (k : ℕ) → k ≤ count → edge_at (cut v g start count) k ≡ edge_at v (place_after (length v.edges) start k)
   cut_edge_kept k m =
-      get_or_append_left (take (suc count) (turned start v).edges) (g ∷ []) v.plane k (let e = kept_length in omega arith)
-      ∙ get_or-take (suc count) (turned start v).edges k v.plane (omega arith)
-      ∙ turned_edge start v k h (omega arith)
+      get_or_append_left (take (suc count) (rotated start v).edges) (g ∷ []) v.plane k (let e = kept_length in omega arith)
+      ∙ get_or-take (suc count) (rotated start v).edges k v.plane (omega arith)
+      ∙ rotated_edge start v k h (omega arith)
 
   pub cut_edge_new : edge_at (cut v g start count) (suc count) ≡ g
-  cut_edge_new = get_or_at (take (suc count) (turned start v).edges) g [] v.plane (suc count) kept_length
+  cut_edge_new = get_or_at (take (suc count) (rotated start v).edges) g [] v.plane (suc count) kept_length
 
   pub cut_edges_by_place : (es : List Plane) → length es ≡ suc (suc count) →
       ((k : ℕ) → k ≤ count → get_or es k v.plane ≡ edge_at v (place_after (length v.edges) start k)) → get_or es (suc count) v.plane ≡ g →
@@ -217,7 +217,7 @@ module _ (v : Winding) (g : Plane) (start count : ℕ) (h : start ≤ length v.e
 
   -- so the corners of the cut are those of the run, and then the two new ones
   pub cut_corners :
-      take count (turned_list start (corners v)) ++ meet v.plane (edge_at v (place_after (length v.edges) start count)) g ∷ meet v.plane g (edge_at v (place_after (length v.edges) start 0)) ∷ []
+      take count (rotated_list start (corners v)) ++ meet v.plane (edge_at v (place_after (length v.edges) start count)) g ∷ meet v.plane g (edge_at v (place_after (length v.edges) start 0)) ∷ []
       ≡ corners (cut v g start count)
   cut_corners =
       cut_corners_by_place (run ++ leaving ∷ entering ∷ []) leaving
@@ -227,7 +227,7 @@ module _ (v : Winding) (g : Plane) (start count : ℕ) (h : start ≤ length v.e
       (get_or-append_right run (leaving ∷ entering ∷ []) count (suc count) leaving run_length (omega arith) ∙ ap (λ j. get_or (leaving ∷ entering ∷ []) j leaving) {x = suc count - count} {y = 1} (omega arith))
     where
       run : List Point
-      run = take count (turned_list start (corners v))
+      run = take count (rotated_list start (corners v))
 
       leaving : Point
       leaving = meet v.plane (edge_at v (place_after (length v.edges) start count)) g
@@ -238,22 +238,22 @@ module _ (v : Winding) (g : Plane) (start count : ℕ) (h : start ≤ length v.e
       below : start ≤ length (corners v)
       below = let a = corners_length v in let b = h in omega arith
 
-      run_length : length (take count (turned_list start (corners v))) ≡ count
-      run_length = length-take-le count (turned_list start (corners v)) (let a = turned_list_length start (corners v) below in let b = corners_length v in let d = l in omega arith)
+      run_length : length (take count (rotated_list start (corners v))) ≡ count
+      run_length = length-take-le count (rotated_list start (corners v)) (let a = rotated_list_length start (corners v) below in let b = corners_length v in let d = l in omega arith)
 
-      run_at : (k : ℕ) → k < count → get_or (take count (turned_list start (corners v))) k leaving ≡ corner_at v (place_after (length v.edges) start k)
+      run_at : (k : ℕ) → k < count → get_or (take count (rotated_list start (corners v))) k leaving ≡ corner_at v (place_after (length v.edges) start k)
       run_at k m =
           let a = corners_length v in
-          get_or-take count (turned_list start (corners v)) k leaving m
-          ∙ turned_list_at start (corners v) k leaving below (omega (arith, l))
+          get_or-take count (rotated_list start (corners v)) k leaving m
+          ∙ rotated_list_at start (corners v) k leaving below (omega (arith, l))
           ∙ ap (λ n. get_or (corners v) (place_after n start k) leaving) a
           ∙ corner_in_list v (place_after (length v.edges) start k) leaving (after_below (length v.edges) start k h (omega (arith, l)))
 
 -- what holds of the edges and of the plane holds of the cut's edges
 pub cut_all : (P : Plane → Type 0) (v : Winding) (g : Plane) (start count : ℕ) → All P v.edges → P g → All P (cut v g start count).edges
 cut_all P v g start count a p =
-    All-push P (take (suc count) (turned start v).edges) g
-    (All-take P (suc count) (turned start v).edges (All-append P (drop start v.edges) (take start v.edges) (All-drop P start v.edges a) (All-take P start v.edges a))) p
+    All-push P (take (suc count) (rotated start v).edges) g
+    (All-take P (suc count) (rotated start v).edges (All-append P (drop start v.edges) (take start v.edges) (All-drop P start v.edges a) (All-take P start v.edges a))) p
 
 -- ---- parts
 

@@ -4,11 +4,11 @@ use Rattle.std.proofs.lemmas.List.{length-drop}
 use Rattle.std.proofs.Math.IntN.{*ℤ_comm}
 use Rattle.qm_space.specs.Point.{Point, point_sum, point_times}
 use Rattle.qm_space.specs.Plane.{Plane, value, IsOn, IsInFront}
-use Rattle.qm_space.specs.Ratio.{Ratio, IsAtMostRatio}
-use Rattle.qm_space.proofs.IntegerProducts.{linear, neg-*ℤ, *ℤ_zero}
-use Rattle.qm_space.proofs.Signs.{product_positive, product_not_positive, positive_times_negative, not_positive_beside, negative_beside}
+use Rattle.qm_numbers.specs.Ratio.{Ratio, IsAtMostRatio}
+use Rattle.qm_numbers.proofs.IntegerProducts.{linear, neg-*ℤ, *ℤ_zero}
+use Rattle.qm_numbers.proofs.Signs.{product_positive, product_not_positive, positive_times_negative, not_positive_beside, negative_beside}
 use Rattle.qm_space.proofs.Planes.{value_sum, value_times}
-use Rattle.qm_space.proofs.Ratios.{IsLeastAt, least_ratio}
+use Rattle.qm_numbers.proofs.Ratios.{IsLeastAt, least_ratio}
 use Rattle.qm_convex.specs.Winding.{Winding, next_place, edge_at, corner_at, IsConvex, IsInRegion}
 use Rattle.qm_convex.proofs.Places.{next_inner, next_below}
 use Rattle.qm_convex.proofs.Corners.{corner_on_plane, corner_on_edge, corner_on_next, far_corner_in_front, value_on_edge}

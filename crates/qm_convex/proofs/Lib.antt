@@ -2,7 +2,7 @@ pub mod Places
 pub mod Corners
 pub mod Regions
 pub mod Hull
-pub mod Turning
+pub mod Rotation
 pub mod Central
 pub mod NewCorners
 pub mod CutAtFirst

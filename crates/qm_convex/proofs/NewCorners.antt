@@ -4,9 +4,9 @@ use Rattle.qm_space.specs.Point.{Point}
 use Rattle.qm_space.specs.Plane.{Plane, value}
 use Rattle.qm_space.specs.Determinant.{determinant}
 use Rattle.qm_space.specs.Meet.{meet}
-use Rattle.qm_space.proofs.IntegerProducts.{linear}
-use Rattle.qm_space.proofs.Signs.{product_positive, product_not_negative, positive_beside, not_negative_beside}
-use Rattle.qm_space.proofs.Ring.{number, negated, ◌⊕◌, ◌⊖◌, ◌⊗◌, solved}
+use Rattle.qm_numbers.proofs.IntegerProducts.{linear}
+use Rattle.qm_numbers.proofs.Signs.{product_positive, product_not_negative, positive_beside, not_negative_beside}
+use Rattle.qm_numbers.proofs.Ring.{number, negated, ◌⊕◌, ◌⊖◌, ◌⊗◌, solved}
 use Rattle.qm_space.proofs.PlaneSymbols.{plane_from, point_from, numbers_of_plane, numbers_of_point, symbol_value, symbol_meet}
 use Rattle.qm_space.proofs.Planes.{first_holds_meet, second_holds_meet, third_holds_meet}
 use Rattle.qm_space.proofs.Exchange.{line_factor}

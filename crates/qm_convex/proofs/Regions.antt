@@ -3,8 +3,8 @@ use Rattle.std.proofs.Common.{ℤ, pos, ◌*ℤ◌, ◌<ℤ◌, ◌↔◌, ap, s
 use Rattle.std.proofs.lemmas.List.Elements.{All-from_get_or}
 use Rattle.qm_space.specs.Point.{Point, point_sum, point_times}
 use Rattle.qm_space.specs.Plane.{value, IsInFront}
-use Rattle.qm_space.proofs.IntegerProducts.{linear, *ℤ_zero}
-use Rattle.qm_space.proofs.Signs.{product_positive, positive_beside, zero_beside_positive}
+use Rattle.qm_numbers.proofs.IntegerProducts.{linear, *ℤ_zero}
+use Rattle.qm_numbers.proofs.Signs.{product_positive, positive_beside, zero_beside_positive}
 use Rattle.qm_space.proofs.Planes.{value_sum, value_times}
 use Rattle.qm_convex.specs.Winding.{Winding, edge_at, IsInRegion}
 

@@ -7,7 +7,7 @@ use Rattle.qm_space.specs.Plane.{Plane, value, IsInFront}
 use Rattle.qm_space.specs.Determinant.{determinant}
 use Rattle.qm_space.specs.Meet.{meet}
 use Rattle.qm_convex.specs.Winding.{Winding, next_place, corner_at, corners, IsConvex, IsInRegion}
-use Rattle.qm_convex.specs.Turning.{place_after}
+use Rattle.qm_convex.specs.Rotation.{place_after}
 use Rattle.qm_convex.specs.Cut.{IsFrontRun, IsPartInFront, cut}
 use Rattle.qm_convex.specs.Sides.{HasCornerBehind}
 use Rattle.qm_convex.specs.Square.{square}

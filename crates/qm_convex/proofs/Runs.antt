@@ -3,10 +3,10 @@ use Rattle.std.proofs.Common.{◌≡◌, ℕ, zero, suc, ◌-◌, ◌<◌, ◌�
 use Rattle.std.proofs.lemmas.Bool.{cases_lt}
 use Rattle.std.proofs.lemmas.List.Elements.{All-from_get_or}
 use Rattle.qm_space.specs.Plane.{Plane, value, IsInFront}
-use Rattle.qm_space.proofs.IntegerProducts.{linear}
-use Rattle.qm_space.proofs.Signs.{by_least}
+use Rattle.qm_numbers.proofs.IntegerProducts.{linear}
+use Rattle.qm_numbers.proofs.Signs.{by_least}
 use Rattle.qm_convex.specs.Winding.{Winding, next_place, edge_at, corner_at, IsConvex, IsInRegion}
-use Rattle.qm_convex.specs.Turning.{place_after}
+use Rattle.qm_convex.specs.Rotation.{place_after}
 use Rattle.qm_convex.specs.Sides.{HasCornerInFront, HasCornerBehind}
 use Rattle.qm_convex.specs.Cut.{IsFrontRun, EntersFrontAt, LeavesFrontAt, cut}
 use Rattle.qm_convex.proofs.Places.{next_inner, next_last, next_below, next_injective, after_below, after_none, after_next, after_injective, steps_to}

@@ -1,37 +1,25 @@
 -- The square that a plane has between two pairs of planes, and the part of a plane inside the world's cube.
-use Rattle.std.proofs.Common.{◌≡◌, ℕ, zero, suc, ◌<◌, pos, neg_ℤ, ◌+ℤ◌, ◌*ℤ◌, ◌<ℤ◌, ◌≤ℤ◌, [], ◌∷◌, length, ◌↔◌, refl, sym, ◌∙◌, arith, subst}
+use Rattle.std.proofs.Common.{◌≡◌, ℕ, zero, suc, ◌<◌, pos, neg_ℤ, ◌<ℤ◌, [], ◌∷◌, length, slice_index_or, ◌↔◌, refl, sym, ◌∙◌, arith, subst}
 use Rattle.std.specs.List.{All}
-use Rattle.std.specs.Int.{◌∣◌}
-use Rattle.std.proofs.lemmas.Nat.Gcd.{dvd_antisymm, dvd_of_mod-eq-zero}
 use Rattle.std.proofs.lemmas.List.Elements.{All-from_recursion}
-use Rattle.std.proofs.lemmas.Int.{ints}
-use Rattle.qm_space.specs.Point.{Point, IsWithinExtent, IsInCube, extent}
+use Rattle.qm_space.specs.Point.{Point, IsWithinExtent, IsInCube}
 use Rattle.qm_space.specs.Plane.{Plane, value, IsOn, IsInFront}
 use Rattle.qm_space.specs.Determinant.{determinant}
 use Rattle.qm_space.specs.Meet.{meet}
-use Rattle.qm_space.specs.Reduced.{IsReduced}
-use Rattle.qm_space.proofs.IntegerProducts.{linear}
-use Rattle.qm_space.proofs.Signs.{product_positive, abs_neg}
-use Rattle.qm_space.proofs.Ring.{Expression, number, variable, negated, ◌⊕◌, ◌⊗◌, solved}
-use Rattle.qm_space.proofs.PlaneSymbols.{PlaneSymbols, PointSymbols, plane_from, point_from, numbers_of_plane, numbers_of_point, symbol_value, symbol_meet}
+use Rattle.qm_numbers.proofs.IntegerProducts.{linear}
+use Rattle.qm_numbers.proofs.Signs.{product_positive}
+use Rattle.qm_numbers.proofs.Ring.{variable, negated, solved}
+use Rattle.qm_space.proofs.PlaneSymbols.{plane_from, numbers_of_plane, symbol_meet}
 use Rattle.qm_convex.specs.Winding.{Winding, next_place, edge_at, corner_at, corners, IsConvex, IsInRegion}
 use Rattle.qm_convex.specs.Cut.{IsPartInFront}
 use Rattle.qm_convex.specs.Sides.{HasNoneInFront}
-use Rattle.qm_convex.specs.Square.{opposite, IsBetween, square, wall_x, wall_y, wall_z, AreWalls, MissesCube, IsWorldPart, IsInWorld, IsInClosedCube}
+use Rattle.qm_convex.specs.Square.{IsBetween, square, AreWalls, MissesCube, IsWorldPart, IsInWorld}
+use Rattle.qm_space.specs.Cube.{opposite, wall_x, wall_y, wall_z, cube_walls, IsInClosedCube}
+use Rattle.qm_space.proofs.Cubes.{symbol_opposite, symbol_wall_x, symbol_wall_y, symbol_wall_z, opposite_sum, x_low, x_high, y_low, y_high, z_low, z_high, cube_is_cell, closed_from_walls}
 use Rattle.qm_convex.proofs.Corners.{corner_on_edge, corner_on_next}
 use Rattle.qm_convex.proofs.Central.{wholly_in_front}
 
 -- ---- opposite planes
-
-abbrev symbol_opposite : PlaneSymbols → PlaneSymbols
-symbol_opposite a = record { nx = negated a.nx; ny = negated a.ny; nz = negated a.nz; d = a.d }
-
--- the values of a plane and its opposite add up to the width between them
-opposite_sum : (a : Plane) (p : Point) → value a p +ℤ value (opposite a) p ≡ (neg_ℤ a.d *ℤ p.w) +ℤ (neg_ℤ a.d *ℤ p.w)
-unfolding value
-opposite_sum a p =
-    let e = plane_from 0 in let q = point_from 4 in
-    solved (numbers_of_plane a (numbers_of_point p [])) (symbol_value e q ⊕ symbol_value (symbol_opposite e) q) (negated e.d ⊗ q.w ⊕ negated e.d ⊗ q.w) tt
 
 -- a point on the one is in front of the other
 front_of_opposite : (a : Plane) (p : Point) → a.d <ℤ pos 0 → pos 0 <ℤ p.w → value a p ≡ pos 0 → IsInFront (opposite a) p
@@ -136,25 +124,16 @@ square_all P h a b pa pb oa ob = All-from_recursion P (square h a b).edges (pa, 
 
 -- how the normals of a plane and two walls turn, by one number of the plane's normal
 
-symbol_wall_x : PlaneSymbols
-symbol_wall_x = record { nx = number (pos 1); ny = number (pos 0); nz = number (pos 0); d = number (neg_ℤ extent) }
-
-symbol_wall_y : PlaneSymbols
-symbol_wall_y = record { nx = number (pos 0); ny = number (pos 1); nz = number (pos 0); d = number (neg_ℤ extent) }
-
-symbol_wall_z : PlaneSymbols
-symbol_wall_z = record { nx = number (pos 0); ny = number (pos 0); nz = number (pos 1); d = number (neg_ℤ extent) }
-
 pub turn_x_y : (h : Plane) → (meet h wall_x wall_y).w ≡ h.nz
-unfolding meet determinant symbol_wall_x symbol_wall_y
+unfolding meet determinant
 turn_x_y h = solved (numbers_of_plane h []) (symbol_meet (plane_from 0) symbol_wall_x symbol_wall_y).w (variable 2) tt
 
 pub turn_z_x : (h : Plane) → (meet h wall_z wall_x).w ≡ h.ny
-unfolding meet determinant symbol_wall_z symbol_wall_x
+unfolding meet determinant
 turn_z_x h = solved (numbers_of_plane h []) (symbol_meet (plane_from 0) symbol_wall_z symbol_wall_x).w (variable 1) tt
 
 pub turn_y_z : (h : Plane) → (meet h wall_y wall_z).w ≡ h.nx
-unfolding meet determinant symbol_wall_y symbol_wall_z
+unfolding meet determinant
 turn_y_z h = solved (numbers_of_plane h []) (symbol_meet (plane_from 0) symbol_wall_y symbol_wall_z).w (variable 0) tt
 
 -- in the other order they turn the other way
@@ -166,54 +145,20 @@ turn_exchanged h a b =
 
 -- between a wall and its opposite is within the cube's extent
 module _ (p : Point) where
-  abbrev q : PointSymbols
-  q = point_from 0
-
-  abbrev low : Expression → Expression
-  low x = x ⊕ number extent ⊗ variable 3
-
-  abbrev high : Expression → Expression
-  high x = negated x ⊕ number extent ⊗ variable 3
-
-  -- a wall's value, and its opposite's
-  x_low : value wall_x p ≡ p.x +ℤ (extent *ℤ p.w)
-  unfolding value symbol_wall_x
-  x_low = solved (numbers_of_point p []) (symbol_value symbol_wall_x q) (low q.x) tt
-
-  x_high : value (opposite wall_x) p ≡ neg_ℤ p.x +ℤ (extent *ℤ p.w)
-  unfolding value symbol_wall_x
-  x_high = solved (numbers_of_point p []) (symbol_value (symbol_opposite symbol_wall_x) q) (high q.x) tt
-
-  y_low : value wall_y p ≡ p.y +ℤ (extent *ℤ p.w)
-  unfolding value symbol_wall_y
-  y_low = solved (numbers_of_point p []) (symbol_value symbol_wall_y q) (low q.y) tt
-
-  y_high : value (opposite wall_y) p ≡ neg_ℤ p.y +ℤ (extent *ℤ p.w)
-  unfolding value symbol_wall_y
-  y_high = solved (numbers_of_point p []) (symbol_value (symbol_opposite symbol_wall_y) q) (high q.y) tt
-
-  z_low : value wall_z p ≡ p.z +ℤ (extent *ℤ p.w)
-  unfolding value symbol_wall_z
-  z_low = solved (numbers_of_point p []) (symbol_value symbol_wall_z q) (low q.z) tt
-
-  z_high : value (opposite wall_z) p ≡ neg_ℤ p.z +ℤ (extent *ℤ p.w)
-  unfolding value symbol_wall_z
-  z_high = solved (numbers_of_point p []) (symbol_value (symbol_opposite symbol_wall_z) q) (high q.z) tt
-
   pub between_x : IsBetween wall_x p ↔ IsWithinExtent p.x p.w
-  between_x = let e = x_low in let f = x_high in (
+  between_x = let e = x_low p in let f = x_high p in (
     (λ s. let near = s.near in let far = s.far in record { above = omega (arith, linear); below = omega (arith, linear) }),
     (λ s. let above = s.above in let below = s.below in record { near = omega (arith, linear); far = omega (arith, linear) }),
   )
 
   pub between_y : IsBetween wall_y p ↔ IsWithinExtent p.y p.w
-  between_y = let e = y_low in let f = y_high in (
+  between_y = let e = y_low p in let f = y_high p in (
     (λ s. let near = s.near in let far = s.far in record { above = omega (arith, linear); below = omega (arith, linear) }),
     (λ s. let above = s.above in let below = s.below in record { near = omega (arith, linear); far = omega (arith, linear) }),
   )
 
   pub between_z : IsBetween wall_z p ↔ IsWithinExtent p.z p.w
-  between_z = let e = z_low in let f = z_high in (
+  between_z = let e = z_low p in let f = z_high p in (
     (λ s. let near = s.near in let far = s.far in record { above = omega (arith, linear); below = omega (arith, linear) }),
     (λ s. let above = s.above in let below = s.below in record { near = omega (arith, linear); far = omega (arith, linear) }),
   )
@@ -228,32 +173,8 @@ walls_x_y_z p = (
 pub walls_exchanged : (a b c : Plane) → AreWalls a b c → AreWalls b a c
 walls_exchanged a b c w p = ((λ s. let t = (w p).0 s in (t.0, t.2, t.1, t.3)), (λ s. (w p).1 (s.0, s.2, s.1, s.3)))
 
-pub walls_turned : (a b c : Plane) → AreWalls a b c → AreWalls b c a
-walls_turned a b c w p = ((λ s. let t = (w p).0 s in (t.0, t.2, t.3, t.1)), (λ s. (w p).1 (s.0, s.3, s.1, s.2)))
-
--- the walls and their opposites are in lowest terms
-
-only_one : (k : ℕ) → k ∣ 1 → k ≡ 1
-only_one k h = dvd_antisymm h (dvd_of_mod-eq-zero 1 (omega arith))
-
-pub wall_x_reduced : IsReduced wall_x
-wall_x_reduced = record { normal = λ e f g. absurd (omega (arith, ints)); lowest = λ k d e f g. only_one k d; nx_small = omega arith; ny_small = omega arith; nz_small = omega arith; d_small = omega arith }
-
-pub wall_y_reduced : IsReduced wall_y
-wall_y_reduced = record { normal = λ e f g. absurd (omega (arith, ints)); lowest = λ k d e f g. only_one k e; nx_small = omega arith; ny_small = omega arith; nz_small = omega arith; d_small = omega arith }
-
-pub wall_z_reduced : IsReduced wall_z
-wall_z_reduced = record { normal = λ e f g. absurd (omega (arith, ints)); lowest = λ k d e f g. only_one k f; nx_small = omega arith; ny_small = omega arith; nz_small = omega arith; d_small = omega arith }
-
-pub opposite_reduced : (a : Plane) → IsReduced a → IsReduced (opposite a)
-opposite_reduced a r = record {
-  normal = λ e f g. r.normal (omega (arith, ints)) (omega (arith, ints)) (omega (arith, ints));
-  lowest = λ k d e f g. r.lowest k (subst (λ m. k ∣ m) (abs_neg a.nx) d) (subst (λ m. k ∣ m) (abs_neg a.ny) e) (subst (λ m. k ∣ m) (abs_neg a.nz) f) g;
-  nx_small = let s = r.nx_small in let e = abs_neg a.nx in omega arith;
-  ny_small = let s = r.ny_small in let e = abs_neg a.ny in omega arith;
-  nz_small = let s = r.nz_small in let e = abs_neg a.nz in omega arith;
-  d_small = r.d_small;
-}
+pub walls_rotated : (a b c : Plane) → AreWalls a b c → AreWalls b c a
+walls_rotated a b c w p = ((λ s. let t = (w p).0 s in (t.0, t.2, t.3, t.1)), (λ s. (w p).1 (s.0, s.3, s.1, s.2)))
 
 -- ---- the part of a plane inside the cube: its square between two pairs of walls, cut by the third pair
 
@@ -300,15 +221,6 @@ part_in_world w v g i x = record { convex = x.convex; inside = λ p r. i.inside 
 
 -- their corners lie in the cube or on its border
 pub corner_in_closed_cube : (v : Winding) → IsInWorld v → (i : ℕ) → i < length v.edges → IsInClosedCube (corner_at v i)
-corner_in_closed_cube v world i h = record {
-  weight = world.convex.weight i h;
-  x = let a = at wall_x (λ p s. s.1.near) in let b = at (opposite wall_x) (λ p s. s.1.far) in let e = x_low q in let f = x_high q in record { above = omega (arith, linear); below = omega (arith, linear) };
-  y = let a = at wall_y (λ p s. s.2.near) in let b = at (opposite wall_y) (λ p s. s.2.far) in let e = y_low q in let f = y_high q in record { above = omega (arith, linear); below = omega (arith, linear) };
-  z = let a = at wall_z (λ p s. s.3.near) in let b = at (opposite wall_z) (λ p s. s.3.far) in let e = z_low q in let f = z_high q in record { above = omega (arith, linear); below = omega (arith, linear) };
-}
-  where
-    q : Point
-    q = corner_at v i
-
-    at : (g : Plane) → ((p : Point) → (pos 0 <ℤ p.w) × IsBetween wall_x p × IsBetween wall_y p × IsBetween wall_z p → IsInFront g p) → pos 0 ≤ℤ value g (corner_at v i)
-    at g f = ((wholly_in_front v g world.convex).0 (λ p r. f p ((walls_x_y_z p).0 (world.inside p r)))).0 i h
+corner_in_closed_cube v world i h =
+    closed_from_walls (corner_at v i) (world.convex.weight i h)
+    (λ k d l. ((wholly_in_front v (slice_index_or cube_walls k d) world.convex).0 (λ p r. (cube_is_cell p).0 (world.inside p r) k d l)).0 i h)

@@ -6,12 +6,13 @@ use Rattle.std.proofs.lemmas.Bool.{cases_eq}
 use Rattle.std.proofs.lemmas.List.Elements.{All-from_get_or}
 use Rattle.qm_space.specs.Point.{Point, point_sum, point_times, IsSamePlace}
 use Rattle.qm_space.specs.Plane.{Plane, value, IsOn, IsInFront}
-use Rattle.qm_space.proofs.IntegerProducts.{linear, *ℤ_zero, zero_*ℤ, one_*ℤ, neg-*ℤ}
-use Rattle.qm_space.proofs.Signs.{by_sign, product_positive, product_not_negative, zero_beside_positive}
+use Rattle.qm_numbers.proofs.IntegerProducts.{linear, *ℤ_zero, zero_*ℤ, one_*ℤ, neg-*ℤ}
+use Rattle.qm_numbers.proofs.Signs.{by_sign, product_positive, product_not_negative, zero_beside_positive}
 use Rattle.qm_space.proofs.Planes.{same_point, value_sum, value_times, meet_only}
 use Rattle.qm_space.proofs.Exchange.{point_on_line}
 use Rattle.qm_convex.specs.Winding.{Winding, next_place, edge_at, corner_at, IsConvex, IsInRegion}
-use Rattle.qm_convex.specs.Vertex.{IsInClosedRegion, IsBetweenPoints, IsVertex, IsSomeCorner, nothing, AreOnLine, HasStraightCorner, HasVerticesAsCorners}
+use Rattle.qm_convex.specs.Vertex.{IsInClosedRegion, IsBetweenPoints, IsVertex, IsSomeCorner, HasStraightCorner, HasVerticesAsCorners}
+use Rattle.qm_space.specs.Line.{AreOnOneLine, nothing}
 use Rattle.qm_convex.proofs.Places.{next_inner, next_below, next_other, next_next_other, place_before}
 use Rattle.qm_convex.proofs.Corners.{corner_on_plane, corner_on_edge, corner_on_next, corner_not_behind, far_corner_in_front, value_on_edge}
 use Rattle.qm_convex.proofs.NewCorners.{far_plane, value_far_plane, by_first, by_second}
@@ -240,7 +241,7 @@ unfolding value
 value_nothing g = let a = *ℤ_zero g.nx in let b = *ℤ_zero g.ny in let d = *ℤ_zero g.nz in let e = *ℤ_zero g.d in omega (arith, linear)
 
 -- the values of a plane add up to nothing too
-value_on_line_sum : (g : Plane) (p q r : Point) (l : AreOnLine p q r) →
+value_on_line_sum : (g : Plane) (p q r : Point) (l : AreOnOneLine p q r) →
     ((l.times_p *ℤ value g p) +ℤ (l.times_q *ℤ value g q)) +ℤ (l.times_r *ℤ value g r) ≡ pos 0
 value_on_line_sum g p q r l =
     let s = value_sum g (point_sum (point_times l.times_p p) (point_times l.times_q q)) (point_times l.times_r r) in

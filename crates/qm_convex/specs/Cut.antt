@@ -1,8 +1,9 @@
-use Rattle.std.specs.Prelude.{◌≡◌, ℕ, suc, ◌-◌, ◌<◌, ◌≤◌, pos, ◌≤ℤ◌, [], ◌∷◌, ◌++◌, List, length, take, All, ◌↔◌, ◌⊎◌}
+use Rattle.std.specs.Prelude.{◌≡◌, ℕ, suc, ◌-◌, ◌<◌, ◌≤◌, pos, ◌≤ℤ◌, [], ◌∷◌, ◌++◌, List, length, take, ◌↔◌, ◌⊎◌}
 use Rattle.qm_space.specs.Point.{Point}
 use Rattle.qm_space.specs.Plane.{Plane, value, IsOn, IsInFront, flipped}
+use Rattle.qm_space.specs.Cell.{IsInCell}
 use Rattle.qm_convex.specs.Winding.{Winding, next_place, corner_at, IsInRegion, IsConvex}
-use Rattle.qm_convex.specs.Turning.{place_after, turned}
+use Rattle.qm_convex.specs.Rotation.{place_after, rotated}
 
 -- the winding w is the part of the winding v in front of the plane
 pub record IsPartInFront (w v : Winding) (g : Plane) : Type 0 where
@@ -16,11 +17,11 @@ pub record IsParted (v : Winding) (g : Plane) (in_front behind : Winding) : Type
   pub part_behind : IsPartInFront behind v (flipped g)
   pub whole : (p : Point) → IsInRegion v p → IsInRegion in_front p ⊎ (IsInRegion behind p ⊎ IsOn g p)
 
--- the winding w is the part of the winding v in front of each of the planes
+-- the winding w is the part of the winding v in the cell of the planes
 pub record IsPartWithin (w v : Winding) (gs : List Plane) : Type 0 where
   pub convex : IsConvex w
   pub plane : w.plane ≡ v.plane
-  pub points : (p : Point) → IsInRegion w p ↔ (IsInRegion v p × All (λ g. IsInFront g p) gs)
+  pub points : (p : Point) → IsInRegion w p ↔ (IsInRegion v p × IsInCell gs p)
 
 -- From the place `start` on, so many corners in a row are in front of the plane; the one before them and the one after
 -- them are not.
@@ -43,4 +44,4 @@ LeavesFrontAt v g i = IsInFront g (corner_at v i) × (value g (corner_at v (next
 -- the winding cut down to the front of the plane, by the run of its corners in front: the edges at these corners, and
 -- the plane itself for the new edge
 abbrev pub cut : Winding → Plane → ℕ → ℕ → Winding
-cut v g start count = record { plane = v.plane; edges = take (suc count) (turned start v).edges ++ g ∷ [] }
+cut v g start count = record { plane = v.plane; edges = take (suc count) (rotated start v).edges ++ g ∷ [] }

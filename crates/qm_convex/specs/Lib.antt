@@ -1,5 +1,5 @@
 pub mod Winding
-pub mod Turning
+pub mod Rotation
 pub mod Sides
 pub mod Cut
 pub mod Square

@@ -1,6 +1,7 @@
 use Rattle.std.specs.Prelude.{◌≡◌, ℕ, ◌<◌, ◌≤◌, ℤ, pos, ◌<ℤ◌, ◌≤ℤ◌, length, All}
 use Rattle.qm_space.specs.Point.{Point, point_sum, point_times, IsSamePlace}
 use Rattle.qm_space.specs.Plane.{value, IsOn}
+use Rattle.qm_space.specs.Line.{AreOnOneLine}
 use Rattle.qm_convex.specs.Winding.{Winding, next_place, corner_at}
 
 -- a point of the polygon or of its border
@@ -28,22 +29,10 @@ pub record IsVertex (v : Winding) (p : Point) : Type 0 where
 abbrev pub IsSomeCorner : Winding → Point → Type 0
 IsSomeCorner v p = (i : ℕ) × (i < length v.edges) × IsSamePlace p (corner_at v i)
 
--- no number at all: what multiples of points may add up to
-abbrev pub nothing : Point
-nothing = record { x = pos 0; y = pos 0; z = pos 0; w = pos 0 }
-
--- three points lie on one line: multiples of them, not all 0, add up to nothing
-pub record AreOnLine (p q r : Point) : Type 0 where
-  pub times_p : ℤ
-  pub times_q : ℤ
-  pub times_r : ℤ
-  pub some : (times_p ≡ pos 0 → times_q ≡ pos 0 → times_r ≡ pos 0 → ⊥)
-  pub sum : point_sum (point_sum (point_times times_p p) (point_times times_q q)) (point_times times_r r) ≡ nothing
-
 -- from the corner at a place on, three neighbours lie on one line
 abbrev pub HasStraightCorner : Winding → ℕ → Type 0
 HasStraightCorner v i =
-    AreOnLine (corner_at v i) (corner_at v (next_place (length v.edges) i)) (corner_at v (next_place (length v.edges) (next_place (length v.edges) i)))
+    AreOnOneLine (corner_at v i) (corner_at v (next_place (length v.edges) i)) (corner_at v (next_place (length v.edges) (next_place (length v.edges) i)))
 
 -- the corners are exactly the vertices, at least three, and no three neighbours lie on one line
 pub record HasVerticesAsCorners (v : Winding) : Type 0 where

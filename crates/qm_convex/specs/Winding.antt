@@ -1,8 +1,9 @@
-use Rattle.std.specs.Prelude.{◌≡◌, ℕ, suc, ◌<◌, ◌≤◌, ◌==◌, pos, ◌<ℤ◌, List, length, map, slice_index_or, All, if◌then◌else◌}
+use Rattle.std.specs.Prelude.{◌≡◌, ℕ, suc, ◌<◌, ◌≤◌, ◌==◌, pos, ◌<ℤ◌, List, length, map, slice_index_or, if◌then◌else◌}
 use Rattle.std.specs.List.{range_with_len}
 use Rattle.qm_space.specs.Point.{Point}
 use Rattle.qm_space.specs.Plane.{Plane, IsOn, IsInFront}
 use Rattle.qm_space.specs.Meet.{meet}
+use Rattle.qm_space.specs.Cell.{IsInCell}
 
 -- A polygon on a plane: one plane for each edge, with the polygon on its front. As seen from the front of the
 -- polygon's plane the edges go round counterclockwise.
@@ -26,11 +27,11 @@ corner_at v i = meet v.plane (edge_at v i) (edge_at v (next_place (length v.edge
 abbrev pub corners : Winding → List Point
 corners v = map (corner_at v) (range_with_len 0 (length v.edges))
 
--- the polygon's points, its border left out: on the plane, and strictly in front of each edge
+-- the polygon's points, its border left out: on the plane, and in the cell of its edges
 pub record IsInRegion (v : Winding) (p : Point) : Type 0 where
   pub weight : pos 0 <ℤ p.w
   pub on : IsOn v.plane p
-  pub inside : All (λ e. IsInFront e p) v.edges
+  pub inside : IsInCell v.edges p
 
 -- a convex polygon with no edge to spare: each corner is a point, and it lies strictly in front of each edge
 -- but the two that meet there

@@ -5,7 +5,7 @@ use Rattle.qm_space.specs.Plane.{Plane}
 use Rattle.qm_space.specs.Meet.{meet}
 use Rattle.qm_space.specs.Determinant.{determinant}
 use Rattle.qm_space.proofs.Planes.{same_point}
-use Rattle.qm_space.proofs.Ring.{◌⊕◌, ◌⊗◌, solved}
+use Rattle.qm_numbers.proofs.Ring.{◌⊕◌, ◌⊗◌, solved}
 use Rattle.qm_space.proofs.PlaneSymbols.{plane_from, numbers_of_plane, symbol_meet, symbol_along}
 use Rattle.qm_geom.specs.Vectors.{cross, normal_of}
 

@@ -1,5 +1,5 @@
 use Rattle.std.proofs.Common.{◌≡◌, ℕ, unsigned_abs}
-use Rattle.qm_space.specs.Gcd.{gcd}
+use Rattle.qm_numbers.specs.Gcd.{gcd}
 use Rattle.qm_space.specs.Plane.{Plane}
 use Rattle.qm_space.specs.ThreePoints.{common_factor}
 

@@ -3,7 +3,7 @@ use Rattle.std.specs.Int.{◌∣◌}
 use Rattle.std.proofs.lemmas.Int.{ints}
 use Rattle.qm_space.specs.Plane.{Plane, flipped}
 use Rattle.qm_space.specs.Reduced.{IsReduced}
-use Rattle.qm_space.proofs.Signs.{abs_neg}
+use Rattle.qm_numbers.proofs.Signs.{abs_neg}
 
 divides_back : (k : ℕ) (z : ℤ) → k ∣ unsigned_abs (neg_ℤ z) → k ∣ unsigned_abs z
 divides_back k z h = let P : ℕ → Type 0 = λ n. k ∣ n in subst P (abs_neg z) h

@@ -8,9 +8,9 @@ use Rattle.std.proofs.lemmas.List.Elements.{All-nil, All-more}
 use Rattle.std.proofs.Math.IntN.{*ℤ_comm}
 use Rattle.qm_space.specs.Point.{Point}
 use Rattle.qm_space.specs.Plane.{value, IsInFront}
-use Rattle.qm_space.proofs.IntegerProducts.{linear}
-use Rattle.qm_space.proofs.Signs.{by_least, times_at_most, abs_sum, abs_product_bound}
-use Rattle.qm_space.proofs.Ring.{variable, number, ◌⊕◌, ◌⊖◌, ◌⊗◌, solved}
+use Rattle.qm_numbers.proofs.IntegerProducts.{linear}
+use Rattle.qm_numbers.proofs.Signs.{by_least, times_at_most, abs_sum, abs_product_bound}
+use Rattle.qm_numbers.proofs.Ring.{variable, number, ◌⊕◌, ◌⊖◌, ◌⊗◌, solved}
 use Rattle.qm_geom.specs.LeastDistance.{plane_at, IsComponent, IsLeastDistance, IsLeastDistanceOf}
 use Rattle.qm_geom.specs.Rounding.{IsRoundedUp, HasSmallCoordinates}
 

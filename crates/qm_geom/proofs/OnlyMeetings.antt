@@ -5,8 +5,8 @@ use Rattle.qm_space.specs.Point.{Point, point_sum, point_times}
 use Rattle.qm_space.specs.Plane.{Plane, IsOn}
 use Rattle.qm_space.specs.Meet.{meet, HasMeetSizes}
 use Rattle.qm_space.specs.Reduced.{IsReduced}
-use Rattle.qm_space.proofs.IntegerProducts.{linear, *ℤ-+ℤ}
-use Rattle.qm_space.proofs.Signs.{by_sign, zero_beside_positive}
+use Rattle.qm_numbers.proofs.IntegerProducts.{linear, *ℤ-+ℤ}
+use Rattle.qm_numbers.proofs.Signs.{by_sign, zero_beside_positive}
 use Rattle.qm_space.proofs.Planes.{first_holds_meet, second_holds_meet, third_holds_meet, meet_only, meet_exchanged}
 use Rattle.qm_space.proofs.Directions.{common_direction, another_point}
 use Rattle.qm_space.proofs.Sizes.{meet_sizes}

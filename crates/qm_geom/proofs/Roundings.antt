@@ -4,10 +4,10 @@ use Rattle.std.specs.Int.{int_div_euclid}
 use Rattle.std.proofs.lemmas.Bool.{cases_lt}
 use Rattle.std.proofs.lemmas.Int.{ints}
 use Rattle.std.proofs.Math.IntN.{*ℤ_comm}
-use Rattle.qm_space.specs.FloorDivision.{floor_div}
-use Rattle.qm_space.proofs.IntegerProducts.{linear, *ℤ-+ℤ, +ℤ-*ℤ, -ℤ-*ℤ, neg-*ℤ, one_*ℤ}
-use Rattle.qm_space.proofs.Signs.{cancel_less, cancel_at_most, within_abs, abs_at_most, abs_neg, abs_product}
-use Rattle.qm_space.proofs.Divisors.{floor_div_is}
+use Rattle.qm_numbers.specs.FloorDivision.{floor_div}
+use Rattle.qm_numbers.proofs.IntegerProducts.{linear, *ℤ-+ℤ, +ℤ-*ℤ, -ℤ-*ℤ, neg-*ℤ, one_*ℤ}
+use Rattle.qm_numbers.proofs.Signs.{cancel_less, cancel_at_most, within_abs, abs_at_most, abs_neg, abs_product}
+use Rattle.qm_numbers.proofs.Divisors.{floor_div_is}
 use Rattle.qm_geom.specs.Rounding.{IsRoundedDown, IsRoundedUp, IsNearest}
 
 -- ---- down

@@ -2,7 +2,7 @@ use Rattle.std.proofs.Common.{◌≡◌, ◌≤◌, ◌<◌, ◌^◌, ℕ, ℤ, 
 use Rattle.std.proofs.Math.Nat.{div-le_self}
 use Rattle.std.proofs.lemmas.Int.{ints, to_z-of_z, to_z_pos, quot_fits}
 use Rattle.qm_space.specs.Point.{IsCoordinate}
-use Rattle.qm_space.proofs.Signs.{abs_at_most, abs_product_bound}
+use Rattle.qm_numbers.proofs.Signs.{abs_at_most, abs_product_bound}
 
 -- a whole coordinate of the cube
 pub coordinate_small : (c : ℤ) → IsCoordinate c → unsigned_abs c ≤ 2 ^ 12

@@ -1,5 +1,6 @@
-use Rattle.std.specs.Prelude.{ℤ, pos, ◌≤◌, ◌^◌, ◌≤ℤ◌, ◌<ℤ◌, unsigned_abs, List, slice_index_or}
+use Rattle.std.specs.Prelude.{ℤ, pos, ◌≤◌, ◌≤ℤ◌, ◌<ℤ◌, unsigned_abs, List, slice_index_or}
 use Rattle.std.specs.List.{All, Any}
+use Rattle.qm_space.specs.Bounds.{normal_bound}
 use Rattle.qm_space.specs.Point.{Point}
 use Rattle.qm_space.specs.Plane.{Plane, value, IsInFront}
 
@@ -14,7 +15,7 @@ plane_at normal d = record {
 
 -- a component of a normal
 abbrev pub IsComponent : ℤ → Type 0
-IsComponent n = unsigned_abs n ≤ 2 ^ 26
+IsComponent n = unsigned_abs n ≤ normal_bound
 
 -- at this distance and any greater no corner is in front of the plane, and at any lesser distance some corner is
 pub record IsLeastDistance (normal : List ℤ) (corners : List Point) (least : ℤ) : Type 0 where

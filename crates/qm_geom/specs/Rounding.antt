@@ -1,4 +1,5 @@
 use Rattle.std.specs.Prelude.{◌≡◌, ℤ, pos, ◌*◌, ◌≤◌, ◌<◌, ◌+ℤ◌, ◌-ℤ◌, ◌*ℤ◌, ◌≤ℤ◌, ◌<ℤ◌, unsigned_abs, List, slice_index_or}
+use Rattle.qm_space.specs.Bounds.{rounded_bound}
 use Rattle.qm_space.specs.Point.{Point}
 
 -- Whole numbers near the fraction over / under, for under above 0.
@@ -24,8 +25,8 @@ pub record AreCoordinatesBy (Rule : ℤ → ℤ → ℤ → Type 0) (p : Point) 
   pub of_y : Rule p.y p.w (slice_index_or numbers 1 (pos 0))
   pub of_z : Rule p.z p.w (slice_index_or numbers 2 (pos 0))
 
--- each coordinate is at most 65,536 in absolute value
+-- the absolute value of each coordinate is at most the bound up to which corners are rounded
 pub record HasSmallCoordinates (p : Point) : Type 0 where
-  pub x_small : unsigned_abs p.x ≤ 65536 * unsigned_abs p.w
-  pub y_small : unsigned_abs p.y ≤ 65536 * unsigned_abs p.w
-  pub z_small : unsigned_abs p.z ≤ 65536 * unsigned_abs p.w
+  pub x_small : unsigned_abs p.x ≤ rounded_bound * unsigned_abs p.w
+  pub y_small : unsigned_abs p.y ≤ rounded_bound * unsigned_abs p.w
+  pub z_small : unsigned_abs p.z ≤ rounded_bound * unsigned_abs p.w

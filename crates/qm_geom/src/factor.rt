@@ -1,5 +1,5 @@
 ghost use Rattle.std.specs.Prelude.{◌≡◌, ◌≤◌, ◌+◌};
-ghost use Rattle.qm_space.specs.Gcd.{gcd};
+ghost use Rattle.qm_numbers.specs.Gcd.{gcd};
 
 /// The greatest common divisor, by Euclid's remainders; where one number is 0, it is the other.
 pub(crate) fn common_divisor(first: u64, second: u64) -> u64

@@ -1,6 +1,6 @@
 ghost use Rattle.std.specs.Prelude.{◌↔◌, IsTrue};
 ghost use Rattle.qm_space.specs.Point.{whole_point, AreCoordinates};
-ghost use Rattle.qm_space.specs.ThreePoints.{AreOnOneLine};
+ghost use Rattle.qm_space.specs.Line.{AreOnOneLine};
 
 use crate::unreduced::UnreducedPlane;
 

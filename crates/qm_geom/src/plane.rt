@@ -2,7 +2,8 @@ ghost use Rattle.std.specs.Prelude.{◌≡◌, ◌≤◌, ◌+◌, ◌*◌, ◌^
 ghost use Rattle.std.specs.Ordering.{int_cmp};
 ghost use Rattle.qm_space.specs.Plane.{flipped, value};
 ghost use Rattle.qm_space.specs.Point.{whole_point, AreCoordinates};
-ghost use Rattle.qm_space.specs.ThreePoints.{plane_through, IsPlaneThrough, AreOnOneLine};
+ghost use Rattle.qm_space.specs.ThreePoints.{plane_through, IsPlaneThrough};
+ghost use Rattle.qm_space.specs.Line.{AreOnOneLine};
 
 use crate::point::Point;
 use crate::unreduced::UnreducedPlane;

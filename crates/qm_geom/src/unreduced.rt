@@ -1,5 +1,6 @@
-ghost use Rattle.std.specs.Prelude.{◌≡◌, ◌<◌, ◌≤◌, ◌^◌, ◌↔◌, IsTrue, pos, int_div, unsigned_abs, if◌then◌else◌};
+ghost use Rattle.std.specs.Prelude.{◌≡◌, ◌<◌, ◌≤◌, ◌^◌, ◌↔◌, IsTrue, pos, int_div, unsigned_abs};
 ghost use Rattle.qm_space.specs.Plane.{flipped};
+ghost use Rattle.qm_space.specs.Turned.{turned};
 ghost use Rattle.qm_space.specs.Reduced.{leads_positive, HasNormal};
 ghost use Rattle.qm_space.specs.Point.{whole_point, AreCoordinates};
 ghost use Rattle.qm_space.specs.ThreePoints.{outward_plane, common_factor, reduced};
@@ -71,7 +72,7 @@ impl UnreducedPlane {
 
     /// The same points, with the normal turned where it does not lead with a positive component.
     pub(crate) fn leading(&self) -> UnreducedPlane
-        ensures value { result ≡ (if leads_positive self.now then self.now else flipped self.now) }
+        ensures value { result ≡ turned (leads_positive self.now) self.now }
         ensures normal { HasNormal self.now → HasNormal result }
     {
         if self.leads_positive() {

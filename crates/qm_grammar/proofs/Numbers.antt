@@ -9,7 +9,8 @@ use Rattle.qm_decimal.specs.Answer.{IsAnswer}
 use Rattle.qm_decimal.specs.Computed.{read_at}
 use Rattle.qm_decimal.proofs.Computed.{read_at_answers}
 use Rattle.qm_decimal.proofs.Uniqueness.{same_answer}
-use Rattle.qm_space.specs.Point.{IsCoordinate, extent}
+use Rattle.qm_space.specs.Point.{IsCoordinate}
+use Rattle.qm_space.specs.Bounds.{extent}
 use Rattle.qm_grammar.specs.declared.refusal.Refusal.{Refusal}
 use Rattle.qm_grammar.specs.declared.refusal.Refusal.TheVariants as refusal
 use Rattle.qm_grammar.specs.Number.{whole_fraction, SpellsWhole, SpellsCoordinate, IsNoNumberText, IsFractionText, IsHugeText, IsOutsideText}

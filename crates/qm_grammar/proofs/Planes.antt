@@ -30,14 +30,14 @@ tested_none h e =
 pub false_span : (points : List (List ℤ)) → span_plane points ≡ false → SpanPlane points → ⊥
 unfolding span_plane
 false_span points e spans =
-    spans (no_normal_one_line (point_at points 0) (point_at points 1) (point_at points 2)
+    spans (no_normal_one_line (point_at points 0) (point_at points 1) (point_at points 2) refl refl refl
     (tested_none (outward_plane (point_at points 0) (point_at points 1) (point_at points 2)) e))
 
 -- points that span one
 pub true_span : (points : List (List ℤ)) → span_plane points ≡ true → SpanPlane points
 unfolding span_plane
 true_span points e = λ line. true≢false (sym e ∙ none_tested (outward_plane (point_at points 0) (point_at points 1) (point_at points 2))
-    (one_line_no_normal (point_at points 0) (point_at points 1) (point_at points 2) line))
+    (one_line_no_normal (point_at points 0) (point_at points 1) (point_at points 2) refl refl refl line))
 
 pub span_true : (points : List (List ℤ)) → SpanPlane points → span_plane points ≡ true
 span_true points spans = true_from_ne_false (span_plane points) (λ e. false_span points e spans)

@@ -1,7 +1,7 @@
 -- Nine coordinates as three points.
 use Rattle.std.proofs.Common.{◌≡◌, ◌<◌, ℕ, suc, zero, ℤ, Bool, true, false, not, IsTrue, ◌↔◌, List, [], ◌∷◌, length, get_or, slice_index_or, refl, arith, All}
 use Rattle.qm_space.specs.Point.{IsCoordinate, AreCoordinates}
-use Rattle.qm_space.specs.ThreePoints.{AreOnOneLine}
+use Rattle.qm_space.specs.Line.{AreOnOneLine}
 use Rattle.qm_mapfile.specs.Face.{point_at}
 use Rattle.qm_grammar.specs.Slots.{points_of}
 use Rattle.qm_grammar.specs.Machine.{span_plane}

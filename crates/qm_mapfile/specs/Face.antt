@@ -1,7 +1,8 @@
 use Rattle.std.specs.Prelude.{ℕ, ℤ, Bool, List, [], slice_index_or}
 use Rattle.qm_space.specs.Point.{Point, whole_point}
 use Rattle.qm_space.specs.Plane.{Plane}
-use Rattle.qm_space.specs.ThreePoints.{outward_plane, plane_through, AreOnOneLine}
+use Rattle.qm_space.specs.ThreePoints.{outward_plane, plane_through}
+use Rattle.qm_space.specs.Line.{AreOnOneLine}
 use Rattle.qm_mapfile.specs.declared.face.Face.{Face}
 
 -- one of three points that are given by their coordinates

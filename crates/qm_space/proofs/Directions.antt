@@ -5,9 +5,9 @@ use Rattle.qm_space.specs.Point.{Point, point_sum}
 use Rattle.qm_space.specs.Plane.{Plane, value, IsOn}
 use Rattle.qm_space.specs.Determinant.{determinant}
 use Rattle.qm_space.specs.Meet.{along, meet, LiesAlong}
-use Rattle.qm_space.proofs.IntegerProducts.{linear}
-use Rattle.qm_space.proofs.Signs.{by_zero}
-use Rattle.qm_space.proofs.Ring.{number, variable, negated, ◌⊕◌, ◌⊖◌, ◌⊗◌, solved}
+use Rattle.qm_numbers.proofs.IntegerProducts.{linear}
+use Rattle.qm_numbers.proofs.Signs.{by_zero}
+use Rattle.qm_numbers.proofs.Ring.{number, variable, negated, ◌⊕◌, ◌⊖◌, ◌⊗◌, solved}
 use Rattle.qm_space.proofs.PlaneSymbols.{plane_from, numbers_of_plane, symbol_value, symbol_meet, symbol_along}
 use Rattle.qm_space.proofs.Planes.{value_sum}
 

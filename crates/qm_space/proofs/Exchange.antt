@@ -4,9 +4,9 @@ use Rattle.qm_space.specs.Point.{Point, point_sum, point_times}
 use Rattle.qm_space.specs.Plane.{Plane, value, IsOn}
 use Rattle.qm_space.specs.Determinant.{determinant, determinant_of_four}
 use Rattle.qm_space.specs.Meet.{meet}
-use Rattle.qm_space.proofs.IntegerProducts.{linear}
-use Rattle.qm_space.proofs.Signs.{product_not_negative, not_negative_beside}
-use Rattle.qm_space.proofs.Ring.{variable, number, negated, ◌⊕◌, ◌⊗◌, solved}
+use Rattle.qm_numbers.proofs.IntegerProducts.{linear}
+use Rattle.qm_numbers.proofs.Signs.{product_not_negative, not_negative_beside}
+use Rattle.qm_numbers.proofs.Ring.{variable, number, negated, ◌⊕◌, ◌⊗◌, solved}
 use Rattle.qm_space.proofs.PlaneSymbols.{plane_from, point_from, numbers_of_plane, numbers_of_point, symbol_determinant_of_four, symbol_value, symbol_meet, symbol_sum, symbol_times}
 use Rattle.qm_space.proofs.Planes.{same_point, value_at_meet, meet_exchanged, value_times, value_sum}
 

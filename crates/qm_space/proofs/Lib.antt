@@ -1,12 +1,10 @@
-pub mod IntegerProducts
-pub mod Signs
-pub mod Ring
 pub mod PlaneSymbols
-pub mod Divisors
 pub mod Planes
 pub mod ReducedPlanes
+pub mod TurnedPlanes
+pub mod Cubes
+pub mod Lines
 pub mod PlanesThroughPoints
 pub mod Sizes
 pub mod Directions
 pub mod Exchange
-pub mod Ratios

@@ -3,7 +3,7 @@
 use Rattle.std.proofs.Common.{ℕ, ◌+◌, ℤ, pos, List, ◌∷◌}
 use Rattle.qm_space.specs.Point.{Point}
 use Rattle.qm_space.specs.Plane.{Plane}
-use Rattle.qm_space.proofs.Ring.{Expression, variable, number, negated, ◌⊕◌, ◌⊖◌, ◌⊗◌}
+use Rattle.qm_numbers.proofs.Ring.{Expression, variable, number, negated, ◌⊕◌, ◌⊖◌, ◌⊗◌}
 
 pub record PlaneSymbols : Type 0 where
   pub nx : Expression

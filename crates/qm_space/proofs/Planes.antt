@@ -5,9 +5,9 @@ use Rattle.qm_space.specs.Point.{Point, point_sum, point_times}
 use Rattle.qm_space.specs.Plane.{Plane, value, IsBehind, IsOn, IsInFront, flipped, scaled}
 use Rattle.qm_space.specs.Determinant.{determinant, determinant_of_four}
 use Rattle.qm_space.specs.Meet.{meet}
-use Rattle.qm_space.proofs.IntegerProducts.{linear, zero_*ℤ}
-use Rattle.qm_space.proofs.Signs.{zero_beside, factor_compares}
-use Rattle.qm_space.proofs.Ring.{number, variable, negated, ◌⊕◌, ◌⊗◌, solved}
+use Rattle.qm_numbers.proofs.IntegerProducts.{linear, zero_*ℤ}
+use Rattle.qm_numbers.proofs.Signs.{zero_beside, factor_compares}
+use Rattle.qm_numbers.proofs.Ring.{number, variable, negated, ◌⊕◌, ◌⊗◌, solved}
 use Rattle.qm_space.proofs.PlaneSymbols.{plane_from, point_from, numbers_of_plane, numbers_of_point, symbol_value, symbol_determinant, symbol_determinant_of_four, symbol_meet, symbol_scaled, symbol_flipped, symbol_sum, symbol_times}
 
 -- ---- the value
@@ -92,9 +92,9 @@ meet_exchanged a b c =
     (solved zs (symbol_meet q p r).x (one ⊗ (symbol_meet p q r).x) tt) (solved zs (symbol_meet q p r).y (one ⊗ (symbol_meet p q r).y) tt)
     (solved zs (symbol_meet q p r).z (one ⊗ (symbol_meet p q r).z) tt) (solved zs (symbol_meet q p r).w (one ⊗ (symbol_meet p q r).w) tt)
 
-pub meet_turned : (a b c : Plane) → meet b c a ≡ meet a b c
+pub meet_rotated : (a b c : Plane) → meet b c a ≡ meet a b c
 unfolding meet determinant
-meet_turned a b c =
+meet_rotated a b c =
     let p = plane_from 0 in let q = plane_from 4 in let r = plane_from 8 in
     let zs = numbers_of_plane a (numbers_of_plane b (numbers_of_plane c [])) in
     same_point (meet b c a) (meet a b c)

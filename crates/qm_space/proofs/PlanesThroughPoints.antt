@@ -1,19 +1,24 @@
 -- The plane through three points: what it holds, how large its numbers are, that it is the only one, and
 -- that it has no normal exactly where the points lie on one line.
-use Rattle.std.proofs.Common.{◌≡◌, ℕ, suc, zero, ◌+◌, ◌*◌, ◌≤◌, ◌^◌, Bool, true, false, not, if◌then◌else◌, ℤ, pos, ◌+ℤ◌, ◌-ℤ◌, ◌*ℤ◌, neg_ℤ, ◌<ℤ◌, List, [], ◌∷◌, slice_index_or, ap, ap₂, sym, subst, refl, ◌∙◌, arith, unsigned_abs, int_cmp}
+use Rattle.std.proofs.Common.{◌≡◌, ℕ, suc, zero, ◌+◌, ◌*◌, ◌≤◌, Bool, true, false, not, ℤ, pos, ◌+ℤ◌, ◌-ℤ◌, ◌*ℤ◌, neg_ℤ, ◌<ℤ◌, List, [], ◌∷◌, slice_index_or, ap, ap₂, sym, subst, refl, ◌∙◌, arith, unsigned_abs, int_cmp}
 use Rattle.std.proofs.lemmas.Int.{ints}
 use Rattle.std.proofs.Math.IntN.{*ℤ_comm}
-use Rattle.qm_space.specs.Gcd.{gcd, gcd_within}
+use Rattle.qm_numbers.specs.Gcd.{gcd, gcd_within}
+use Rattle.qm_space.specs.Bounds.{world_extent, normal_bound, distance_bound, outward_distance_bound}
 use Rattle.qm_space.specs.Point.{Point, whole_point, IsCoordinate, AreCoordinates, IsWholePoint}
 use Rattle.qm_space.specs.Plane.{Plane, value, flipped, scaled}
 use Rattle.qm_space.specs.Reduced.{leads_positive, HasNormal}
-use Rattle.qm_space.specs.ThreePoints.{outward_plane, HasOutwardSizes, AreOnOneLine, common_factor, reduced, plane_through, IsPlaneThrough}
-use Rattle.qm_space.proofs.IntegerProducts.{linear, *ℤ_zero, zero_*ℤ, one_*ℤ, neg-*ℤ, *ℤ-neg}
-use Rattle.qm_space.proofs.Signs.{by_zero, zero_beside, factor_compares, abs_product_bound}
-use Rattle.qm_space.proofs.Ring.{variable, number, ◌⊕◌, ◌⊖◌, ◌⊗◌, solved}
+use Rattle.qm_space.specs.Turned.{turned}
+use Rattle.qm_space.specs.Line.{AreOnOneLine, HaveStepsOnOneLine}
+use Rattle.qm_space.specs.ThreePoints.{outward_plane, HasOutwardSizes, common_factor, reduced, plane_through, IsPlaneThrough}
+use Rattle.qm_numbers.proofs.IntegerProducts.{linear, *ℤ_zero, zero_*ℤ, one_*ℤ}
+use Rattle.qm_numbers.proofs.Signs.{by_zero, zero_beside, zero_beside_positive, factor_compares, abs_product_bound}
+use Rattle.qm_numbers.proofs.Ring.{variable, number, ◌⊕◌, ◌⊖◌, ◌⊗◌, solved}
 use Rattle.qm_space.proofs.PlaneSymbols.{point_from, numbers_of_point, symbol_value, symbol_outward}
-use Rattle.qm_space.proofs.Planes.{value_scaled}
-use Rattle.qm_space.proofs.ReducedPlanes.{scaled_neg, scaled_has_normal, flipped_twice, flipped_has_normal, leads_flipped, common_factor_positive, reduced_back, reduced_leads, reduced_is_reduced, multiples_equal}
+use Rattle.qm_space.proofs.Planes.{value_scaled, value_flipped}
+use Rattle.qm_space.proofs.ReducedPlanes.{scaled_neg, scaled_flipped, scaled_has_normal, flipped_twice, flipped_has_normal, leads_flipped, common_factor_positive, reduced_back, reduced_leads, reduced_is_reduced, multiples_equal}
+use Rattle.qm_space.proofs.TurnedPlanes.{turned_on, turned_has_normal}
+use Rattle.qm_space.proofs.Lines.{steps_from_line, line_from_steps}
 
 -- ---- whole points
 
@@ -28,18 +33,18 @@ whole_point_is_whole at h = record { x = coordinate_read at 0 h; y = coordinate_
 
 -- ---- sizes
 
-pub coordinate_small : (c : ℤ) → IsCoordinate c → unsigned_abs c ≤ 4096
+pub coordinate_small : (c : ℤ) → IsCoordinate c → unsigned_abs c ≤ world_extent
 coordinate_small c h = let l = h.low in let r = h.high in omega (arith, ints)
 
 -- the three differences of three numbers of a range
-differences_small : (a b c : ℤ) → IsCoordinate a → IsCoordinate b → IsCoordinate c → unsigned_abs (c -ℤ b) + unsigned_abs (a -ℤ c) + unsigned_abs (b -ℤ a) ≤ 16384
+differences_small : (a b c : ℤ) → IsCoordinate a → IsCoordinate b → IsCoordinate c → unsigned_abs (c -ℤ b) + unsigned_abs (a -ℤ c) + unsigned_abs (b -ℤ a) ≤ 4 * world_extent
 differences_small a b c h k l = let p = h.low in let q = h.high in let r = k.low in let s = k.high in let t = l.low in let u = l.high in omega (arith, ints)
 
 abs_of_three : (a b c : ℤ) → unsigned_abs ((a +ℤ b) +ℤ c) ≤ unsigned_abs a + unsigned_abs b + unsigned_abs c
 abs_of_three a b c = omega (arith, ints)
 
 -- a coefficient of the normal, of coordinates across two axes
-cross_small : (a0 a1 a2 b0 b1 b2 : ℤ) → IsCoordinate a0 → IsCoordinate a1 → IsCoordinate a2 → IsCoordinate b0 → IsCoordinate b1 → IsCoordinate b2 → unsigned_abs (((a0 -ℤ a1) *ℤ (b2 -ℤ b1)) -ℤ ((b0 -ℤ b1) *ℤ (a2 -ℤ a1))) ≤ 2 ^ 26
+cross_small : (a0 a1 a2 b0 b1 b2 : ℤ) → IsCoordinate a0 → IsCoordinate a1 → IsCoordinate a2 → IsCoordinate b0 → IsCoordinate b1 → IsCoordinate b2 → unsigned_abs (((a0 -ℤ a1) *ℤ (b2 -ℤ b1)) -ℤ ((b0 -ℤ b1) *ℤ (a2 -ℤ a1))) ≤ normal_bound
 cross_small a0 a1 a2 b0 b1 b2 h0 h1 h2 k0 k1 k2 =
     let v = variable in
     let e = solved (a0 ∷ a1 ∷ a2 ∷ b0 ∷ b1 ∷ b2 ∷ [])
@@ -47,18 +52,18 @@ cross_small a0 a1 a2 b0 b1 b2 h0 h1 h2 k0 k1 k2 =
     (v 0 ⊗ (v 5 ⊖ v 4) ⊕ v 1 ⊗ (v 3 ⊖ v 5) ⊕ v 2 ⊗ (v 4 ⊖ v 3)) tt in
     let f = ap unsigned_abs e in
     let s = abs_of_three (a0 *ℤ (b2 -ℤ b1)) (a1 *ℤ (b0 -ℤ b2)) (a2 *ℤ (b1 -ℤ b0)) in
-    let p0 = abs_product_bound a0 (b2 -ℤ b1) 4096 (unsigned_abs (b2 -ℤ b1)) (coordinate_small a0 h0) (omega arith) in
-    let p1 = abs_product_bound a1 (b0 -ℤ b2) 4096 (unsigned_abs (b0 -ℤ b2)) (coordinate_small a1 h1) (omega arith) in
-    let p2 = abs_product_bound a2 (b1 -ℤ b0) 4096 (unsigned_abs (b1 -ℤ b0)) (coordinate_small a2 h2) (omega arith) in
+    let p0 = abs_product_bound a0 (b2 -ℤ b1) world_extent (unsigned_abs (b2 -ℤ b1)) (coordinate_small a0 h0) (omega arith) in
+    let p1 = abs_product_bound a1 (b0 -ℤ b2) world_extent (unsigned_abs (b0 -ℤ b2)) (coordinate_small a1 h1) (omega arith) in
+    let p2 = abs_product_bound a2 (b1 -ℤ b0) world_extent (unsigned_abs (b1 -ℤ b0)) (coordinate_small a2 h2) (omega arith) in
     let d = differences_small b0 b1 b2 k0 k1 k2 in
     omega arith
 
-distance_small : (a b c x y z : ℤ) → unsigned_abs a ≤ 2 ^ 26 → unsigned_abs b ≤ 2 ^ 26 → unsigned_abs c ≤ 2 ^ 26 → IsCoordinate x → IsCoordinate y → IsCoordinate z → unsigned_abs (((a *ℤ x) +ℤ (b *ℤ y)) +ℤ (c *ℤ z)) ≤ 3 * 2 ^ 38
+distance_small : (a b c x y z : ℤ) → unsigned_abs a ≤ normal_bound → unsigned_abs b ≤ normal_bound → unsigned_abs c ≤ normal_bound → IsCoordinate x → IsCoordinate y → IsCoordinate z → unsigned_abs (((a *ℤ x) +ℤ (b *ℤ y)) +ℤ (c *ℤ z)) ≤ outward_distance_bound
 distance_small a b c x y z p q r h k l =
     let s = abs_of_three (a *ℤ x) (b *ℤ y) (c *ℤ z) in
-    let m = abs_product_bound a x (2 ^ 26) 4096 p (coordinate_small x h) in
-    let n = abs_product_bound b y (2 ^ 26) 4096 q (coordinate_small y k) in
-    let o = abs_product_bound c z (2 ^ 26) 4096 r (coordinate_small z l) in
+    let m = abs_product_bound a x normal_bound world_extent p (coordinate_small x h) in
+    let n = abs_product_bound b y normal_bound world_extent q (coordinate_small y k) in
+    let o = abs_product_bound c z normal_bound world_extent r (coordinate_small z l) in
     omega arith
 
 -- three whole points of the closed cube
@@ -74,7 +79,7 @@ outward_sizes p0 p1 p2 h0 h1 h2 =
 
 -- one plane in lowest terms, as `plane_through` takes it from an outward plane
 abbrev taken : Plane → Bool → Plane × Bool
-taken out lead = (reduced (if lead then out else flipped out), lead)
+taken out lead = (reduced (turned lead out), lead)
 
 taken_is : (p0 p1 p2 : Point) (out : Plane) (lead : Bool) → outward_plane p0 p1 p2 ≡ out → leads_positive out ≡ lead → HasNormal out → HasOutwardSizes out → IsPlaneThrough p0 p1 p2 (taken out lead).0 lead
 taken_is p0 p1 p2 out true o e n s =
@@ -89,10 +94,10 @@ taken_is p0 p1 p2 out true o e n s =
 taken_is p0 p1 p2 out false o e n s =
     let m = flipped_has_normal out n in
     let k = common_factor_positive (flipped out) m in
-    let x : unsigned_abs (neg_ℤ out.nx) ≤ 2 ^ 26 = let l = s.nx_small in omega (arith, ints) in
-    let y : unsigned_abs (neg_ℤ out.ny) ≤ 2 ^ 26 = let l = s.ny_small in omega (arith, ints) in
-    let z : unsigned_abs (neg_ℤ out.nz) ≤ 2 ^ 26 = let l = s.nz_small in omega (arith, ints) in
-    let d : unsigned_abs (neg_ℤ out.d) ≤ 2 ^ 44 = let l = s.d_small in omega (arith, ints) in
+    let x : unsigned_abs (neg_ℤ out.nx) ≤ normal_bound = let l = s.nx_small in omega (arith, ints) in
+    let y : unsigned_abs (neg_ℤ out.ny) ≤ normal_bound = let l = s.ny_small in omega (arith, ints) in
+    let z : unsigned_abs (neg_ℤ out.nz) ≤ normal_bound = let l = s.nz_small in omega (arith, ints) in
+    let d : unsigned_abs (neg_ℤ out.d) ≤ distance_bound = let l = s.d_small in omega (arith, ints) in
     record {
       is_reduced = reduced_is_reduced (flipped out) m x y z d;
       leads = reduced_leads (flipped out) m ∙ leads_flipped out n ∙ ap not e;
@@ -101,8 +106,8 @@ taken_is p0 p1 p2 out false o e n s =
       multiple = o ∙ sym (turned_back out);
     }
   where
-    turned_back : (h : Plane) → scaled (neg_ℤ (pos (common_factor (flipped h)))) (reduced (flipped h)) ≡ h
-    turned_back h = scaled_neg (pos (common_factor (flipped h))) (reduced (flipped h)) ∙ ap flipped (reduced_back (flipped h)) ∙ flipped_twice h
+    turned_back : (h : Plane) → scaled (pos (common_factor (flipped h))) (flipped (reduced (flipped h))) ≡ h
+    turned_back h = scaled_flipped (pos (common_factor (flipped h))) (reduced (flipped h)) ∙ ap flipped (reduced_back (flipped h)) ∙ flipped_twice h
 
 -- where the outward plane has a normal, `plane_through` is the plane through the points
 pub plane_through_is : (p0 p1 p2 : Point) → IsWholePoint p0 → IsWholePoint p1 → IsWholePoint p2 → HasNormal (outward_plane p0 p1 p2) → IsPlaneThrough p0 p1 p2 (plane_through p0 p1 p2).0 (plane_through p0 p1 p2).1
@@ -163,13 +168,16 @@ across i j a b c d e f n =
     (λ h. zero_beside j ((a *ℤ d) -ℤ (b *ℤ c)) (n h) second)
     (λ h. zero_beside i ((a *ℤ d) -ℤ (b *ℤ c)) h first)
 
--- points on one line have an outward plane with no normal
-pub one_line_no_normal : (p0 p1 p2 : Point) → AreOnOneLine p0 p1 p2 → HasNoNormal (outward_plane p0 p1 p2)
+-- whole points on one line have an outward plane with no normal
+steps_no_normal : (p0 p1 p2 : Point) → HaveStepsOnOneLine p0 p1 p2 → HasNoNormal (outward_plane p0 p1 p2)
 unfolding outward_plane
-one_line_no_normal p0 p1 p2 l =
+steps_no_normal p0 p1 p2 l =
     let ax = p0.x -ℤ p1.x in let ay = p0.y -ℤ p1.y in let az = p0.z -ℤ p1.z in
     let bx = p2.x -ℤ p1.x in let by = p2.y -ℤ p1.y in let bz = p2.z -ℤ p1.z in
     (across l.i l.j ay az by bz l.y l.z l.some, across l.i l.j az ax bz bx l.z l.x l.some, across l.i l.j ax ay bx by l.x l.y l.some)
+
+pub one_line_no_normal : (p0 p1 p2 : Point) → p0.w ≡ pos 1 → p1.w ≡ pos 1 → p2.w ≡ pos 1 → AreOnOneLine p0 p1 p2 → HasNoNormal (outward_plane p0 p1 p2)
+one_line_no_normal p0 p1 p2 w0 w1 w2 l = steps_no_normal p0 p1 p2 (steps_from_line p0 p1 p2 w0 w1 w2 l)
 
 -- the multiples of two steps a and b that make them equal, from one number of a that is not 0
 crossed : (a b c d : ℤ) → (a *ℤ d) -ℤ (b *ℤ c) ≡ pos 0 → c *ℤ b ≡ a *ℤ d
@@ -178,10 +186,10 @@ crossed a b c d e = let f = *ℤ_comm b c in omega (arith, linear)
 crossed_back : (a b c d : ℤ) → (b *ℤ c) -ℤ (a *ℤ d) ≡ pos 0 → c *ℤ b ≡ a *ℤ d
 crossed_back a b c d e = let f = *ℤ_comm b c in omega (arith, linear)
 
--- points whose outward plane has no normal are on one line
-pub no_normal_one_line : (p0 p1 p2 : Point) → HasNoNormal (outward_plane p0 p1 p2) → AreOnOneLine p0 p1 p2
+-- whole points whose outward plane has no normal are on one line
+no_normal_steps : (p0 p1 p2 : Point) → HasNoNormal (outward_plane p0 p1 p2) → HaveStepsOnOneLine p0 p1 p2
 unfolding outward_plane
-no_normal_one_line p0 p1 p2 n =
+no_normal_steps p0 p1 p2 n =
     let ax = p0.x -ℤ p1.x in let ay = p0.y -ℤ p1.y in let az = p0.z -ℤ p1.z in
     let bx = p2.x -ℤ p1.x in let by = p2.y -ℤ p1.y in let bz = p2.z -ℤ p1.z in
     by_zero ax
@@ -195,23 +203,18 @@ no_normal_one_line p0 p1 p2 n =
     still : (a b : ℤ) → a ≡ pos 0 → pos 1 *ℤ a ≡ pos 0 *ℤ b
     still a b e = one_*ℤ a ∙ e ∙ sym (zero_*ℤ b)
 
--- points that are on no line have an outward plane with a normal
-pub normal_off_line : (p0 p1 p2 : Point) → (AreOnOneLine p0 p1 p2 → ⊥) → HasNormal (outward_plane p0 p1 p2)
-normal_off_line p0 p1 p2 n = λ x y z. n (no_normal_one_line p0 p1 p2 (x, y, z))
+pub no_normal_one_line : (p0 p1 p2 : Point) → p0.w ≡ pos 1 → p1.w ≡ pos 1 → p2.w ≡ pos 1 → HasNoNormal (outward_plane p0 p1 p2) → AreOnOneLine p0 p1 p2
+no_normal_one_line p0 p1 p2 w0 w1 w2 n = line_from_steps p0 p1 p2 w0 w1 w2 (no_normal_steps p0 p1 p2 n)
+
+-- whole points that are on no line have an outward plane with a normal
+pub normal_off_line : (p0 p1 p2 : Point) → p0.w ≡ pos 1 → p1.w ≡ pos 1 → p2.w ≡ pos 1 → (AreOnOneLine p0 p1 p2 → ⊥) → HasNormal (outward_plane p0 p1 p2)
+normal_off_line p0 p1 p2 w0 w1 w2 n = λ x y z. n (no_normal_one_line p0 p1 p2 w0 w1 w2 (x, y, z))
 
 -- ---- what it is to be the plane through three points
 
--- the outward plane is this multiple of the plane
-abbrev pub turned_factor : Bool → ℤ → ℤ
-turned_factor out_is_front factor = if out_is_front then factor else neg_ℤ factor
-
-turned_not_zero : (b : Bool) (k : ℤ) → pos 0 <ℤ k → turned_factor b k ≡ pos 0 → ⊥
-turned_not_zero true k p e = absurd (omega (arith, linear))
-turned_not_zero false k p e = absurd (omega (arith, linear))
-
--- the outward value at any point is that multiple of the plane's value
-pub through_value : (p0 p1 p2 q : Point) (plane : Plane) (out_is_front : Bool) (h : IsPlaneThrough p0 p1 p2 plane out_is_front) → value (outward_plane p0 p1 p2) q ≡ turned_factor out_is_front h.factor *ℤ value plane q
-through_value p0 p1 p2 q plane b h = ap (λ g. value g q) h.multiple ∙ value_scaled (turned_factor b h.factor) plane q
+-- the outward value at any point is a positive multiple of the turned plane's value
+pub through_value : (p0 p1 p2 q : Point) (plane : Plane) (out_is_front : Bool) (h : IsPlaneThrough p0 p1 p2 plane out_is_front) → value (outward_plane p0 p1 p2) q ≡ h.factor *ℤ value (turned out_is_front plane) q
+through_value p0 p1 p2 q plane b h = ap (λ g. value g q) h.multiple ∙ value_scaled h.factor (turned b plane) q
 
 -- so where the outward normal points to the front, both have one sign at each point
 pub through_front : (p0 p1 p2 q : Point) (plane : Plane) → IsPlaneThrough p0 p1 p2 plane true → int_cmp (value (outward_plane p0 p1 p2) q) (pos 0) ≡ int_cmp (value plane q) (pos 0)
@@ -220,38 +223,54 @@ through_front p0 p1 p2 q plane h = ap (λ v. int_cmp v (pos 0)) (through_value p
 -- and where it points to the back, opposite signs
 pub through_back : (p0 p1 p2 q : Point) (plane : Plane) → IsPlaneThrough p0 p1 p2 plane false → int_cmp (value (outward_plane p0 p1 p2) q) (pos 0) ≡ int_cmp (neg_ℤ (value plane q)) (pos 0)
 through_back p0 p1 p2 q plane h =
-    ap (λ v. int_cmp v (pos 0)) (through_value p0 p1 p2 q plane false h ∙ neg-*ℤ h.factor (value plane q) ∙ sym (*ℤ-neg h.factor (value plane q)))
+    ap (λ v. int_cmp v (pos 0)) (through_value p0 p1 p2 q plane false h ∙ ap (λ v. h.factor *ℤ v) (value_flipped plane q))
     ∙ factor_compares h.factor (neg_ℤ (value plane q)) h.positive
 
 -- where the outward plane holds a point, so does the plane, and the other way round
 pub through_holds : (p0 p1 p2 q : Point) (plane : Plane) (b : Bool) → IsPlaneThrough p0 p1 p2 plane b → value (outward_plane p0 p1 p2) q ≡ pos 0 → value plane q ≡ pos 0
 through_holds p0 p1 p2 q plane b h e =
-    zero_beside (turned_factor b h.factor) (value plane q) (turned_not_zero b h.factor h.positive) (sym (through_value p0 p1 p2 q plane b h) ∙ e)
+    (turned_on b plane q).0 (zero_beside_positive h.factor (value (turned b plane) q) h.positive (sym (through_value p0 p1 p2 q plane b h) ∙ e))
 
 pub outward_holds : (p0 p1 p2 q : Point) (plane : Plane) (b : Bool) → IsPlaneThrough p0 p1 p2 plane b → value plane q ≡ pos 0 → value (outward_plane p0 p1 p2) q ≡ pos 0
 outward_holds p0 p1 p2 q plane b h e =
-    through_value p0 p1 p2 q plane b h ∙ ap (λ v. turned_factor b h.factor *ℤ v) e ∙ *ℤ_zero (turned_factor b h.factor)
+    through_value p0 p1 p2 q plane b h ∙ ap (λ v. h.factor *ℤ v) ((turned_on b plane q).1 e) ∙ *ℤ_zero h.factor
+
+above_zero : (k : ℤ) → pos 0 <ℤ k → k ≡ pos 0 → ⊥
+above_zero k p e = absurd (omega (arith, linear))
 
 -- three points with a plane through them have an outward plane with a normal
 pub through_has_normal : (p0 p1 p2 : Point) (plane : Plane) (b : Bool) → IsPlaneThrough p0 p1 p2 plane b → HasNormal (outward_plane p0 p1 p2)
 through_has_normal p0 p1 p2 plane b h =
-    subst HasNormal (sym h.multiple) (scaled_has_normal (turned_factor b h.factor) plane (turned_not_zero b h.factor h.positive) (h.is_reduced).normal)
+    subst HasNormal (sym h.multiple) (scaled_has_normal h.factor (turned b plane) (above_zero h.factor h.positive) (turned_has_normal b plane (h.is_reduced).normal))
 
 -- so they are on no line
-pub through_off_line : (p0 p1 p2 : Point) (plane : Plane) (b : Bool) → IsPlaneThrough p0 p1 p2 plane b → AreOnOneLine p0 p1 p2 → ⊥
-through_off_line p0 p1 p2 plane b h l = let n = one_line_no_normal p0 p1 p2 l in through_has_normal p0 p1 p2 plane b h n.0 n.1 n.2
+pub through_off_line : (p0 p1 p2 : Point) (plane : Plane) (b : Bool) → p0.w ≡ pos 1 → p1.w ≡ pos 1 → p2.w ≡ pos 1 → IsPlaneThrough p0 p1 p2 plane b → AreOnOneLine p0 p1 p2 → ⊥
+through_off_line p0 p1 p2 plane b w0 w1 w2 h l = let n = one_line_no_normal p0 p1 p2 w0 w1 w2 l in through_has_normal p0 p1 p2 plane b h n.0 n.1 n.2
 
 -- ---- there is at most one
+
+-- a positive multiple of a turned plane is a multiple of the plane, whose sign is the side
+abbrev side_factor : Bool → ℤ → ℤ
+side_factor true k = k
+side_factor false k = neg_ℤ k
+
+side_not_zero : (b : Bool) (k : ℤ) → pos 0 <ℤ k → side_factor b k ≡ pos 0 → ⊥
+side_not_zero true k p e = absurd (omega (arith, linear))
+side_not_zero false k p e = absurd (omega (arith, linear))
+
+side_multiple : (b : Bool) (k : ℤ) (h : Plane) → scaled k (turned b h) ≡ scaled (side_factor b k) h
+side_multiple true k h = refl
+side_multiple false k h = scaled_flipped k h ∙ sym (scaled_neg k h)
 
 -- the same numbers in lowest terms, led by a positive one: multiples of them are equal only where they and the factors are
 pub through_unique : (p0 p1 p2 : Point) (g h : Plane) (a b : Bool) → IsPlaneThrough p0 p1 p2 g a → IsPlaneThrough p0 p1 p2 h b → (g ≡ h) × (a ≡ b)
 through_unique p0 p1 p2 g h a b s t =
-    let r = multiples_equal (turned_factor a s.factor) (turned_factor b t.factor) g h
-    (turned_not_zero a s.factor s.positive) (turned_not_zero b t.factor t.positive)
-    (sym s.multiple ∙ t.multiple) (s.is_reduced).lowest (t.is_reduced).lowest s.leads t.leads in
+    let r = multiples_equal (side_factor a s.factor) (side_factor b t.factor) g h
+    (side_not_zero a s.factor s.positive) (side_not_zero b t.factor t.positive)
+    (sym (side_multiple a s.factor g) ∙ sym s.multiple ∙ t.multiple ∙ side_multiple b t.factor h) (s.is_reduced).lowest (t.is_reduced).lowest s.leads t.leads in
     (r.0, one_flag a b s.factor t.factor s.positive t.positive r.1)
   where
-    one_flag : (a b : Bool) (j k : ℤ) → pos 0 <ℤ j → pos 0 <ℤ k → turned_factor a j ≡ turned_factor b k → a ≡ b
+    one_flag : (a b : Bool) (j k : ℤ) → pos 0 <ℤ j → pos 0 <ℤ k → side_factor a j ≡ side_factor b k → a ≡ b
     one_flag true true j k p q e = refl
     one_flag false false j k p q e = refl
     one_flag true false j k p q e = absurd (omega (arith, linear))

@@ -1,18 +1,19 @@
 -- Multiples of planes, the sign with which a plane leads, and planes in lowest terms.
-use Rattle.std.proofs.Common.{◌≡◌, ℕ, suc, zero, ◌*◌, ◌≤◌, ◌<◌, ◌^◌, Bool, true, false, not, IsTrue, ℤ, pos, negsuc, ◌+ℤ◌, ◌*ℤ◌, neg_ℤ, ◌<ℤ◌, [], ◌∷◌, ap, sym, subst, refl, ◌∙◌, arith, unsigned_abs, int_div, true≢false, eq-zero-or-pos, ⊎_elim, mul-one}
+use Rattle.std.proofs.Common.{◌≡◌, ℕ, suc, zero, ◌*◌, ◌≤◌, ◌<◌, Bool, true, false, not, IsTrue, ℤ, pos, negsuc, ◌+ℤ◌, ◌*ℤ◌, neg_ℤ, ◌<ℤ◌, [], ◌∷◌, ap, sym, subst, refl, ◌∙◌, arith, unsigned_abs, int_div, true≢false, eq-zero-or-pos, ⊎_elim, mul-one}
 use Rattle.std.specs.Int.{◌∣◌}
 use Rattle.std.proofs.lemmas.Int.{ints}
 use Rattle.std.proofs.lemmas.Nat.Gcd.{dvd_trans}
 use Rattle.std.proofs.Math.Nat.{eq-zero_of_zero-dvd, eq-one_of_dvd-one, mul-dvd-mul_left, dvd_of_mul-dvd-mul_left}
 use Rattle.std.proofs.Math.IntN.{*ℤ_comm}
-use Rattle.qm_space.specs.Gcd.{gcd}
+use Rattle.qm_numbers.specs.Gcd.{gcd}
+use Rattle.qm_space.specs.Bounds.{normal_bound, distance_bound}
 use Rattle.qm_space.specs.Plane.{Plane, flipped, scaled}
 use Rattle.qm_space.specs.Reduced.{sign_decides, leads_positive, HasNormal, IsReduced}
 use Rattle.qm_space.specs.ThreePoints.{common_factor, reduced}
-use Rattle.qm_space.proofs.IntegerProducts.{linear, *ℤ_assoc, *ℤ_zero, *ℤ_one, one_*ℤ, neg-*ℤ}
-use Rattle.qm_space.proofs.Signs.{by_sign, zero_beside, product_positive, positive_times_negative, negative_times_positive, negative_times_negative, abs_zero, cancel_equal, times_at_most, positive_beside}
-use Rattle.qm_space.proofs.Divisors.{gcd_divides_left, gcd_divides_right, divides_gcd, exact_division, abs_exact_division, abs_division_at_most, lowest_combination}
-use Rattle.qm_space.proofs.Ring.{variable, ◌⊕◌, ◌⊗◌, solved}
+use Rattle.qm_numbers.proofs.IntegerProducts.{linear, *ℤ_assoc, *ℤ_zero, *ℤ_one, one_*ℤ, neg-*ℤ, *ℤ-neg}
+use Rattle.qm_numbers.proofs.Signs.{abs_neg, by_sign, zero_beside, product_positive, positive_times_negative, negative_times_positive, negative_times_negative, abs_zero, cancel_equal, times_at_most, positive_beside}
+use Rattle.qm_numbers.proofs.Divisors.{gcd_divides_left, gcd_divides_right, divides_gcd, exact_division, abs_exact_division, abs_division_at_most, lowest_combination}
+use Rattle.qm_numbers.proofs.Ring.{variable, ◌⊕◌, ◌⊗◌, solved}
 
 -- ---- planes are equal where their four numbers are
 
@@ -27,6 +28,9 @@ scaled_scaled j k h = same_plane (scaled j (scaled k h)) (scaled (j *ℤ k) h) (
 
 pub scaled_neg : (k : ℤ) (h : Plane) → scaled (neg_ℤ k) h ≡ flipped (scaled k h)
 scaled_neg k h = same_plane (scaled (neg_ℤ k) h) (flipped (scaled k h)) (neg-*ℤ k h.nx) (neg-*ℤ k h.ny) (neg-*ℤ k h.nz) (neg-*ℤ k h.d)
+
+pub scaled_flipped : (k : ℤ) (h : Plane) → scaled k (flipped h) ≡ flipped (scaled k h)
+scaled_flipped k h = same_plane (scaled k (flipped h)) (flipped (scaled k h)) (*ℤ-neg k h.nx) (*ℤ-neg k h.ny) (*ℤ-neg k h.nz) (*ℤ-neg k h.d)
 
 pub flipped_twice : (h : Plane) → flipped (flipped h) ≡ h
 flipped_twice h = same_plane (flipped (flipped h)) h (omega (arith, linear)) (omega (arith, linear)) (omega (arith, linear)) (omega (arith, linear))
@@ -171,7 +175,7 @@ reduced_no_greater h n =
     record { nx = abs_division_at_most h.nx k p c.nx; ny = abs_division_at_most h.ny k p c.ny; nz = abs_division_at_most h.nz k p c.nz; d = abs_division_at_most h.d k p c.d }
 
 -- a plane of small numbers, in lowest terms
-pub reduced_is_reduced : (h : Plane) → HasNormal h → unsigned_abs h.nx ≤ 2 ^ 26 → unsigned_abs h.ny ≤ 2 ^ 26 → unsigned_abs h.nz ≤ 2 ^ 26 → unsigned_abs h.d ≤ 2 ^ 44 → IsReduced (reduced h)
+pub reduced_is_reduced : (h : Plane) → HasNormal h → unsigned_abs h.nx ≤ normal_bound → unsigned_abs h.ny ≤ normal_bound → unsigned_abs h.nz ≤ normal_bound → unsigned_abs h.d ≤ distance_bound → IsReduced (reduced h)
 reduced_is_reduced h n x y z d =
     let s = reduced_no_greater h n in
     record {
@@ -182,6 +186,20 @@ reduced_is_reduced h n x y z d =
       nz_small = omega arith;
       d_small = omega arith;
     }
+
+-- a plane with its sides exchanged is in lowest terms too
+pub flipped_is_reduced : (h : Plane) → IsReduced h → IsReduced (flipped h)
+flipped_is_reduced h r = record {
+  normal = flipped_has_normal h r.normal;
+  lowest = λ k x y z d. r.lowest k (divides_back k h.nx x) (divides_back k h.ny y) (divides_back k h.nz z) (divides_back k h.d d);
+  nx_small = let s = r.nx_small in let e = abs_neg h.nx in omega arith;
+  ny_small = let s = r.ny_small in let e = abs_neg h.ny in omega arith;
+  nz_small = let s = r.nz_small in let e = abs_neg h.nz in omega arith;
+  d_small = let s = r.d_small in let e = abs_neg h.d in omega arith;
+}
+  where
+    divides_back : (k : ℕ) (z : ℤ) → k ∣ unsigned_abs (neg_ℤ z) → k ∣ unsigned_abs z
+    divides_back k z c = subst (λ (n : ℕ). k ∣ n) (abs_neg z) c
 
 -- ---- planes in lowest terms that lead positive are equal where multiples of them are
 

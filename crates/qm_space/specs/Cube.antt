@@ -1,6 +1,7 @@
 use Rattle.std.specs.Prelude.{ℤ, pos, neg_ℤ, ◌*ℤ◌, ◌<ℤ◌, ◌≤ℤ◌, List, [], ◌∷◌}
-use Rattle.qm_space.specs.Point.{Point, extent}
-use Rattle.qm_space.specs.Plane.{Plane, IsInFront}
+use Rattle.qm_space.specs.Bounds.{extent}
+use Rattle.qm_space.specs.Point.{Point}
+use Rattle.qm_space.specs.Plane.{Plane}
 
 -- The world's cube by its six walls, and the cube together with them.
 

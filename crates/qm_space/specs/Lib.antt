@@ -1,12 +1,12 @@
-pub mod Gcd
+pub mod Bounds
 pub mod Point
 pub mod Plane
 pub mod Determinant
+pub mod Vector
 pub mod Meet
 pub mod Reduced
+pub mod Line
 pub mod ThreePoints
-pub mod FloorDivision
-pub mod Ratio
 pub mod Turned
 pub mod Cell
 pub mod Cube

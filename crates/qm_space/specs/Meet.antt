@@ -1,7 +1,9 @@
-use Rattle.std.specs.Prelude.{◌≡◌, ◌≤◌, ◌*◌, ◌^◌, pos, ◌-ℤ◌, ◌*ℤ◌, unsigned_abs}
+use Rattle.std.specs.Prelude.{◌≡◌, ◌≤◌, pos, unsigned_abs}
+use Rattle.qm_space.specs.Bounds.{meet_bound, meet_weight_bound}
 use Rattle.qm_space.specs.Point.{Point}
 use Rattle.qm_space.specs.Plane.{Plane, IsOn}
 use Rattle.qm_space.specs.Determinant.{determinant}
+use Rattle.qm_space.specs.Vector.{cross, normal_of}
 
 -- the point in which three planes meet, by Cramer's rule; its w is 0 where they do not meet in exactly one point
 unfoldable pub meet : Plane → Plane → Plane → Point
@@ -12,21 +14,16 @@ meet a b c = record {
   w = determinant a.nx a.ny a.nz b.nx b.ny b.nz c.nx c.ny c.nz;
 }
 
--- the direction along two planes, across both normals; a point with w = 0 stands for a direction
+-- the direction along two planes, across both normals
 unfoldable pub along : Plane → Plane → Point
-along a b = record {
-  x = (a.ny *ℤ b.nz) -ℤ (a.nz *ℤ b.ny);
-  y = (a.nz *ℤ b.nx) -ℤ (a.nx *ℤ b.nz);
-  z = (a.nx *ℤ b.ny) -ℤ (a.ny *ℤ b.nx);
-  w = pos 0;
-}
+along a b = cross (normal_of a) (normal_of b)
 
 -- the sizes of the numbers of the point in which three reduced planes meet
 pub record HasMeetSizes (p : Point) : Type 0 where
-  pub x_small : unsigned_abs p.x ≤ 3 * 2 ^ 97
-  pub y_small : unsigned_abs p.y ≤ 3 * 2 ^ 97
-  pub z_small : unsigned_abs p.z ≤ 3 * 2 ^ 97
-  pub w_small : unsigned_abs p.w ≤ 3 * 2 ^ 79
+  pub x_small : unsigned_abs p.x ≤ meet_bound
+  pub y_small : unsigned_abs p.y ≤ meet_bound
+  pub z_small : unsigned_abs p.z ≤ meet_bound
+  pub w_small : unsigned_abs p.w ≤ meet_weight_bound
 
 -- a direction, not of length 0, that lies in three planes
 pub record LiesAlong (v : Point) (a b c : Plane) : Type 0 where

@@ -1,4 +1,5 @@
 use Rattle.std.specs.Prelude.{◌≡◌, ℤ, pos, neg_ℤ, ◌+ℤ◌, ◌*ℤ◌, ◌<ℤ◌, ◌≤ℤ◌, List, slice_index_or, All}
+use Rattle.qm_space.specs.Bounds.{extent}
 
 -- four whole numbers with w above 0 stand for the point (x / w, y / w, z / w)
 pub record Point : Type 0 where
@@ -23,10 +24,6 @@ IsSamePlace p q = point_times q.w p ≡ point_times p.w q
 abbrev pub whole_point : List ℤ → Point
 whole_point at =
     record { x = slice_index_or at 0 (pos 0); y = slice_index_or at 1 (pos 0); z = slice_index_or at 2 (pos 0); w = pos 1 }
-
--- the world is the open cube in which each coordinate lies strictly between these two bounds
-abbrev pub extent : ℤ
-extent = pos 4096
 
 -- strictly between the cube's two faces across one axis
 pub record IsWithinExtent (coordinate w : ℤ) : Type 0 where

@@ -1,5 +1,6 @@
-use Rattle.std.specs.Prelude.{◌≡◌, ℕ, zero, suc, ◌≤◌, ◌^◌, ℤ, pos, negsuc, Bool, true, false, unsigned_abs}
+use Rattle.std.specs.Prelude.{◌≡◌, ℕ, zero, suc, ◌≤◌, ℤ, pos, negsuc, Bool, true, false, unsigned_abs}
 use Rattle.std.specs.Int.{◌∣◌}
+use Rattle.qm_space.specs.Bounds.{normal_bound, distance_bound}
 use Rattle.qm_space.specs.Plane.{Plane}
 
 -- a first number that is not 0 decides by its sign
@@ -20,7 +21,7 @@ HasNormal h = (h.nx ≡ pos 0 → h.ny ≡ pos 0 → h.nz ≡ pos 0 → ⊥)
 pub record IsReduced (h : Plane) : Type 0 where
   pub normal : HasNormal h
   pub lowest : (k : ℕ) → k ∣ unsigned_abs h.nx → k ∣ unsigned_abs h.ny → k ∣ unsigned_abs h.nz → k ∣ unsigned_abs h.d → k ≡ 1
-  pub nx_small : unsigned_abs h.nx ≤ 2 ^ 26
-  pub ny_small : unsigned_abs h.ny ≤ 2 ^ 26
-  pub nz_small : unsigned_abs h.nz ≤ 2 ^ 26
-  pub d_small : unsigned_abs h.d ≤ 2 ^ 44
+  pub nx_small : unsigned_abs h.nx ≤ normal_bound
+  pub ny_small : unsigned_abs h.ny ≤ normal_bound
+  pub nz_small : unsigned_abs h.nz ≤ normal_bound
+  pub d_small : unsigned_abs h.d ≤ distance_bound

@@ -2,27 +2,27 @@
 use Rattle.std.proofs.Common.{◌≡◌, ℕ, ◌<◌, true, false, ⊎_elim, Option, None, Some, length, ap, sym, ◌∙◌, subst, arith}
 use Rattle.std.proofs.lemmas.Bool.{MatchBool-at_true, MatchBool-at_false}
 use Rattle.qm_space.specs.Plane.{Plane, value, flipped}
-use Rattle.qm_space.proofs.IntegerProducts.{linear}
+use Rattle.qm_numbers.proofs.IntegerProducts.{linear}
 use Rattle.qm_space.proofs.Planes.{value_flipped}
 use Rattle.qm_convex.specs.Winding.{Winding, corner_at, IsConvex}
-use Rattle.qm_convex.specs.Turning.{place_after}
+use Rattle.qm_convex.specs.Rotation.{place_after}
 use Rattle.qm_convex.specs.Sides.{HasCornerInFront, HasCornerBehind, HasNoCornerInFront, HasNoCornerBehind, HasNoneInFront, HasSomeInFront, IsWhollyInFront}
 use Rattle.qm_convex.specs.Cut.{IsFrontRun, IsPartInFront}
 use Rattle.qm_convex.proofs.Places.{next_below}
 use Rattle.qm_convex.proofs.Central.{none_in_front, some_in_front, wholly_in_front}
 use Rattle.qm_convex.proofs.Runs.{run_between, enters_somewhere, leaves_somewhere}
 use Rattle.std.specs.Option.{MatchOption}
-use Rattle.qm_wind.specs.declared.sides.Sides.{Sides}
-use Rattle.qm_wind.specs.Survey.{IsStart, IsEnd, IsSurvey}
+use Rattle.qm_wind.specs.declared.survey.Survey.{Survey}
+use Rattle.qm_wind.specs.inner.Surveyed.{IsStart, IsEnd, IsSurvey}
 
-pub survey_gone : (v : Winding) (g : Plane) (s : Sides) → IsConvex v → IsSurvey v g s → s.some_in_front ≡ false → HasNoneInFront v g
+pub survey_gone : (v : Winding) (g : Plane) (s : Survey) → IsConvex v → IsSurvey v g s → s.some_in_front ≡ false → HasNoneInFront v g
 survey_gone v g s c x e = (none_in_front v g c).1 (MatchBool-at_false (HasCornerInFront v g) (HasNoCornerInFront v g) e x.front)
 
-pub survey_whole : (v : Winding) (g : Plane) (s : Sides) → IsConvex v → IsSurvey v g s → s.some_in_front ≡ true → s.some_behind ≡ false → IsWhollyInFront v g
+pub survey_whole : (v : Winding) (g : Plane) (s : Survey) → IsConvex v → IsSurvey v g s → s.some_in_front ≡ true → s.some_behind ≡ false → IsWhollyInFront v g
 survey_whole v g s c x e f = (wholly_in_front v g c).1 (MatchBool-at_false (HasCornerBehind v g) (HasNoCornerBehind v g) f x.behind, MatchBool-at_true (HasCornerInFront v g) (HasNoCornerInFront v g) e x.front)
 
 -- with corners on both sides, both ends of the run were found
-module _ (v : Winding) (g : Plane) (s : Sides) (c : IsConvex v) (x : IsSurvey v g s) (e : s.some_in_front ≡ true) (f : s.some_behind ≡ true) where
+module _ (v : Winding) (g : Plane) (s : Survey) (c : IsConvex v) (x : IsSurvey v g s) (e : s.some_in_front ≡ true) (f : s.some_behind ≡ true) where
   front : HasCornerInFront v g
   front = MatchBool-at_true (HasCornerInFront v g) (HasNoCornerInFront v g) e x.front
 

@@ -6,20 +6,21 @@ use Rattle.qm_space.specs.Plane.{Plane}
 use Rattle.qm_space.specs.Meet.{meet}
 use Rattle.qm_space.specs.Reduced.{IsReduced}
 use Rattle.qm_convex.specs.Winding.{corners, Winding, corner_at, edge_at, IsConvex}
-use Rattle.qm_convex.specs.Square.{opposite, square}
+use Rattle.qm_convex.specs.Square.{square}
+use Rattle.qm_space.specs.Cube.{opposite}
 use Rattle.qm_convex.proofs.Squares.{square_all, square_corners}
-use Rattle.qm_convex.specs.Turning.{turned_list, place_after}
+use Rattle.qm_convex.specs.Rotation.{rotated_list, place_after}
 use Rattle.qm_convex.specs.Sides.{HasCornerBehind}
 use Rattle.qm_convex.specs.Cut.{IsFrontRun, cut}
 use Rattle.qm_convex.proofs.Places.{after_none}
 use Rattle.qm_convex.proofs.Corners.{corners_length, corner_in_list}
 use Rattle.qm_convex.proofs.Cutting.{cut_convex, cut_all, cut_corners, cut_length, cut_corner_leaving, cut_corner_entering}
-use Rattle.qm_wind.specs.Kept.{IsKept}
+use Rattle.qm_wind.specs.inner.KeptCorners.{HasKeptCorners}
 
-pub kept_length : (v : Winding) (kept : List Point) → IsKept v kept → length kept ≡ length v.edges
+pub kept_length : (v : Winding) (kept : List Point) → HasKeptCorners v kept → length kept ≡ length v.edges
 kept_length v kept k = ap length k.corners_kept ∙ corners_length v
 
-pub kept_corner : (v : Winding) (kept : List Point) (i : ℕ) (d : Point) → IsKept v kept → i < length v.edges → get_or kept i d ≡ corner_at v i
+pub kept_corner : (v : Winding) (kept : List Point) (i : ℕ) (d : Point) → HasKeptCorners v kept → i < length v.edges → get_or kept i d ≡ corner_at v i
 kept_corner v kept i d k h = ap (λ ps. get_or ps i d) k.corners_kept ∙ corner_in_list v i d h
 
 -- what a winding is seen as has as many edges
@@ -27,29 +28,29 @@ pub view_length : (u v : Winding) → u ≡ v → length u.edges ≡ length v.ed
 view_length u v e = ap (λ w. length w.edges) e
 
 -- the winding of the cut's edges is the cut
-pub cut_view : (u v : Winding) (g : Plane) (start count : ℕ) (es : List Plane) → u ≡ v → es ≡ take (count + 1) (turned_list start u.edges) ++ g ∷ [] →
+pub cut_view : (u v : Winding) (g : Plane) (start count : ℕ) (es : List Plane) → u ≡ v → es ≡ take (count + 1) (rotated_list start u.edges) ++ g ∷ [] →
     record { plane = u.plane; edges = es } ≡ cut v g start count
 cut_view u v g start count es e f =
     (λ t. record { plane = u.plane; edges = f t })
-    ∙ ap (λ n. record { plane = u.plane; edges = take n (turned_list start u.edges) ++ g ∷ [] }) {x = count + 1} {y = suc count} (omega arith)
+    ∙ ap (λ n. record { plane = u.plane; edges = take n (rotated_list start u.edges) ++ g ∷ [] }) {x = count + 1} {y = suc count} (omega arith)
     ∙ ap (λ w. cut w g start count) e
 
 -- and keeps its corners: those of the run, and the two where the plane crosses an edge
 pub kept_cut : (v : Winding) (kept : List Point) (g last first : Plane) (start count : ℕ) (es : List Plane) (ps : List Point) →
-    IsKept v kept → IsReduced g → IsFrontRun v g start count → HasCornerBehind v g →
+    HasKeptCorners v kept → IsReduced g → IsFrontRun v g start count → HasCornerBehind v g →
     last ≡ edge_at v (place_after (length v.edges) start count) → first ≡ edge_at v start →
     record { plane = v.plane; edges = es } ≡ cut v g start count →
-    ps ≡ (take count (turned_list start kept) ++ meet v.plane last g ∷ []) ++ meet v.plane g first ∷ [] →
-    IsKept (record { plane = v.plane; edges = es }) ps
+    ps ≡ (take count (rotated_list start kept) ++ meet v.plane last g ∷ []) ++ meet v.plane g first ∷ [] →
+    HasKeptCorners (record { plane = v.plane; edges = es }) ps
 kept_cut v kept g last first start count es ps k r x b el ef e f =
     let start_below : start ≤ length v.edges = (let h = x.in_range in omega arith) in
-    subst (λ w. IsKept w ps) (sym e) (record {
+    subst (λ w. HasKeptCorners w ps) (sym e) (record {
       convex = cut_convex v g start count k.convex x b;
       plane = k.plane;
       edges = cut_all IsReduced v g start count k.edges r;
       corners_kept =
-          f ∙ append_assoc (take count (turned_list start kept)) (meet v.plane last g ∷ []) (meet v.plane g first ∷ [])
-          ∙ (λ t. take count (turned_list start (k.corners_kept t)) ++ meet v.plane (el t) g ∷ meet v.plane g (first_is t) ∷ [])
+          f ∙ append_assoc (take count (rotated_list start kept)) (meet v.plane last g ∷ []) (meet v.plane g first ∷ [])
+          ∙ (λ t. take count (rotated_list start (k.corners_kept t)) ++ meet v.plane (el t) g ∷ meet v.plane g (first_is t) ∷ [])
           ∙ cut_corners v g start count start_below x.not_all;
     })
   where
@@ -62,9 +63,9 @@ pub kept_square : (h a b c d h' a' b' c' d' : Plane) (k l m n : Point) (es : Lis
     IsReduced h' → IsReduced a' → IsReduced b' → IsReduced c' → IsReduced d' →
     k ≡ meet h a b → l ≡ meet h b c' → m ≡ meet h c' d' → n ≡ meet h d' a →
     es ≡ a' ∷ b' ∷ c' ∷ d' ∷ [] → ps ≡ k ∷ l ∷ m ∷ n ∷ [] →
-    IsKept (record { plane = h'; edges = es }) ps
+    HasKeptCorners (record { plane = h'; edges = es }) ps
 kept_square h a b c d h' a' b' c' d' k l m n es ps convex eh ea eb ec ed oc od rh ra rb rc rd ek el em en e f =
-    subst (λ w. IsKept w ps) (sym (λ i. record { plane = eh i; edges = (e ∙ (λ j. ea j ∷ eb j ∷ (ec ∙ oc) j ∷ (ed ∙ od) j ∷ [])) i })) (record {
+    subst (λ w. HasKeptCorners w ps) (sym (λ i. record { plane = eh i; edges = (e ∙ (λ j. ea j ∷ eb j ∷ (ec ∙ oc) j ∷ (ed ∙ od) j ∷ [])) i })) (record {
       convex = convex;
       plane = subst IsReduced eh rh;
       edges = square_all IsReduced h a b (subst IsReduced ea ra) (subst IsReduced eb rb) (subst IsReduced (ec ∙ oc) rc) (subst IsReduced (ed ∙ od) rd);

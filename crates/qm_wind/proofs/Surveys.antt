@@ -5,15 +5,15 @@ use Rattle.std.specs.Ordering.{is_gt, is_lt}
 use Rattle.std.proofs.lemmas.Bool.{cases_eq}
 use Rattle.qm_space.specs.Point.{Point}
 use Rattle.qm_space.specs.Plane.{Plane, value}
-use Rattle.qm_space.proofs.IntegerProducts.{linear}
-use Rattle.qm_space.proofs.Signs.{by_sign, compares_less, compares_equal, compares_greater}
+use Rattle.qm_numbers.proofs.IntegerProducts.{linear}
+use Rattle.qm_numbers.proofs.Signs.{by_sign, compares_less, compares_equal, compares_greater}
 use Rattle.qm_convex.specs.Winding.{Winding, next_place, corner_at, corners}
 use Rattle.qm_convex.specs.Sides.{HasCornerInFront, HasCornerBehind, HasNoCornerInFront, HasNoCornerBehind}
 use Rattle.qm_convex.specs.Cut.{EntersFrontAt, LeavesFrontAt}
 use Rattle.qm_convex.proofs.Places.{next_inner, next_last}
 use Rattle.qm_convex.proofs.Corners.{corners_length, corner_in_list}
-use Rattle.qm_wind.specs.declared.sides.Sides.{Sides}
-use Rattle.qm_wind.specs.Survey.{noted, IsStart, IsEnd, IsSurvey, IsSurveyBelow}
+use Rattle.qm_wind.specs.declared.survey.Survey.{Survey}
+use Rattle.qm_wind.specs.inner.Surveyed.{noted, IsStart, IsEnd, IsSurvey, IsSurveyBelow}
 
 -- a comparison with 0, in its three cases
 by_comparison : {P : Type 0} (z : ℤ) (o : Ordering) → o ≡ int_cmp z (pos 0) →
@@ -91,7 +91,7 @@ survey_one v g first h e = record {
 }
 
 -- one corner more
-pub survey_more : (v : Winding) (g : Plane) (m : ℕ) (s : Sides) (before here : Ordering) → suc m < length v.edges →
+pub survey_more : (v : Winding) (g : Plane) (m : ℕ) (s : Survey) (before here : Ordering) → suc m < length v.edges →
     before ≡ int_cmp (value g (corner_at v m)) (pos 0) → here ≡ int_cmp (value g (corner_at v (suc m))) (pos 0) →
     IsSurveyBelow v g (suc m) s → IsSurveyBelow v g (suc (suc m)) (noted s before here (suc m))
 survey_more v g m s before here h was is x = record {
@@ -108,7 +108,7 @@ survey_more v g m s before here h was is x = record {
 }
 
 -- the edge from the last corner to the first completes the survey
-pub survey_all : (v : Winding) (g : Plane) (m : ℕ) (s : Sides) (before first : Ordering) → suc m ≡ length v.edges →
+pub survey_all : (v : Winding) (g : Plane) (m : ℕ) (s : Survey) (before first : Ordering) → suc m ≡ length v.edges →
     before ≡ int_cmp (value g (corner_at v m)) (pos 0) → first ≡ int_cmp (value g (corner_at v 0)) (pos 0) →
     IsSurveyBelow v g (suc m) s → IsSurvey v g (noted s before first 0)
 survey_all v g m s before first n was is x = record {
@@ -161,10 +161,10 @@ survey_start v g ps p first front behind e h r s f b =
 same_place : (v : Winding) (g : Plane) (i j : ℕ) → i ≡ j → int_cmp (value g (corner_at v i)) (pos 0) ≡ int_cmp (value g (corner_at v j)) (pos 0)
 same_place v g i j e = ap (λ k. int_cmp (value g (corner_at v k)) (pos 0)) e
 
-same_count : (v : Winding) (g : Plane) (i j : ℕ) (s : Sides) → i ≡ j → IsSurveyBelow v g i s → IsSurveyBelow v g j s
+same_count : (v : Winding) (g : Plane) (i j : ℕ) (s : Survey) → i ≡ j → IsSurveyBelow v g i s → IsSurveyBelow v g j s
 same_count v g i j s e x = subst (λ k. IsSurveyBelow v g k s) e x
 
-pub survey_step : (v : Winding) (g : Plane) (ps : List Point) (i : ℕ) (p : Point) (s : Sides) (before here : Ordering) (t : Sides) → ps ≡ corners v → 1 ≤ i → i < length ps → p ≡ get_or ps i p →
+pub survey_step : (v : Winding) (g : Plane) (ps : List Point) (i : ℕ) (p : Point) (s : Survey) (before here : Ordering) (t : Survey) → ps ≡ corners v → 1 ≤ i → i < length ps → p ≡ get_or ps i p →
     here ≡ int_cmp (value g p) (pos 0) → t ≡ noted s before here i →
     IsSurveyBelow v g i s × (before ≡ int_cmp (value g (corner_at v (i - 1))) (pos 0)) →
     IsSurveyBelow v g (i + 1) t × (here ≡ int_cmp (value g (corner_at v (i + 1 - 1))) (pos 0))
@@ -176,7 +176,7 @@ survey_step v g ps (suc m) p s before here t e l h r is n x =
       side ∙ same_place v g (suc m) (suc m + 1 - 1) (omega arith),
     )
 
-pub survey_end : (v : Winding) (g : Plane) (ps : List Point) (i : ℕ) (p : Point) (s : Sides) (before first : Ordering) (t : Sides) → ps ≡ corners v → 1 ≤ i → i ≡ length ps → p ≡ get_or ps 0 p →
+pub survey_end : (v : Winding) (g : Plane) (ps : List Point) (i : ℕ) (p : Point) (s : Survey) (before first : Ordering) (t : Survey) → ps ≡ corners v → 1 ≤ i → i ≡ length ps → p ≡ get_or ps 0 p →
     first ≡ int_cmp (value g p) (pos 0) → t ≡ noted s before first 0 →
     IsSurveyBelow v g i s × (before ≡ int_cmp (value g (corner_at v (i - 1))) (pos 0)) → IsSurvey v g t
 survey_end v g ps zero p s before first t e l h r is n x = absurd (omega arith)

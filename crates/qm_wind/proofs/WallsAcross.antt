@@ -1,18 +1,16 @@
 -- The walls across a plane, in their order.
-use Rattle.std.proofs.Common.{◌≡◌, ◌≤◌, ◌^◌, ℤ, pos, ◌<ℤ◌, ◌≤ℤ◌, sym, subst, arith, int_cmp, Less, Equal, Greater, Ordering, to_z, of_z, w64, unsigned_abs, ◌∙◌}
+use Rattle.std.proofs.Common.{◌≡◌, ℤ, pos, ◌<ℤ◌, ◌≤ℤ◌, sym, subst, arith, int_cmp, Less, Equal, Greater, Ordering, ◌∙◌}
 use Rattle.std.proofs.lemmas.Int.{ints}
 use Rattle.qm_space.specs.Plane.{Plane}
 use Rattle.qm_space.specs.Meet.{meet}
 use Rattle.qm_space.specs.Reduced.{HasNormal}
-use Rattle.qm_space.proofs.IntegerProducts.{linear}
-use Rattle.qm_space.proofs.Signs.{by_sign, less_compares, greater_compares, equal_compares}
-use Rattle.qm_convex.specs.Square.{AreWalls, wall_x, wall_y, wall_z}
-use Rattle.qm_convex.proofs.Squares.{walls_x_y_z, walls_exchanged, walls_turned, turn_exchanged, turn_x_y, turn_z_x, turn_y_z}
+use Rattle.qm_numbers.proofs.IntegerProducts.{linear}
+use Rattle.qm_numbers.proofs.Signs.{by_sign, less_compares, greater_compares, equal_compares}
+use Rattle.qm_convex.specs.Square.{AreWalls}
+use Rattle.qm_space.specs.Cube.{wall_x, wall_y, wall_z}
+use Rattle.qm_convex.proofs.Squares.{walls_x_y_z, walls_exchanged, walls_rotated, turn_exchanged, turn_x_y, turn_z_x, turn_y_z}
 use Rattle.qm_wind.specs.declared.walls.Walls.{Walls}
-use Rattle.qm_wind.specs.Across.{StandAcross}
-
-pub kept_64 : (z : ℤ) → unsigned_abs z ≤ 2 ^ 44 → to_z w64 (of_z w64 z) ≡ z
-kept_64 z h = omega (arith, ints)
+use Rattle.qm_wind.specs.inner.Across.{StandAcross}
 
 -- three walls that stand across a plane, as the sign of the component across the first two says
 pub across_front : (h a b c : Plane) (z : ℤ) → AreWalls a b c → a.d <ℤ pos 0 → b.d <ℤ pos 0 → (meet h a b).w ≡ z → pos 0 <ℤ z → StandAcross h a b c
@@ -26,10 +24,10 @@ pub across_same : (h : Plane) (s : Walls) (x y z a b c : Plane) → s ≡ record
 across_same h s x y z a b c e ex ey ez t = subst (λ (u : Walls). StandAcross h u.first u.second u.third) (sym (e ∙ (λ i. record { first = ex i; second = ey i; third = ez i }))) t
 
 walls_y_z_x : AreWalls wall_y wall_z wall_x
-walls_y_z_x = walls_turned wall_x wall_y wall_z walls_x_y_z
+walls_y_z_x = walls_rotated wall_x wall_y wall_z walls_x_y_z
 
 walls_z_x_y : AreWalls wall_z wall_x wall_y
-walls_z_x_y = walls_turned wall_y wall_z wall_x walls_y_z_x
+walls_z_x_y = walls_rotated wall_y wall_z wall_x walls_y_z_x
 
 module _ (u h : Plane) (e : u ≡ h) where
   pub z_front : (o : Ordering) → o ≡ int_cmp u.nz (pos 0) → o ≡ Greater → StandAcross h wall_x wall_y wall_z

@@ -1,3 +1,4 @@
+use Rattle.std.specs.Prelude.{Bool, true, false}
 use Rattle.qm_space.specs.Plane.{Plane, flipped}
 use Rattle.qm_convex.specs.Winding.{Winding}
 use Rattle.qm_convex.specs.Sides.{HasNoneInFront, HasSomeInFront, IsWhollyInFront}
@@ -7,10 +8,10 @@ use Rattle.qm_wind.specs.declared.winding.Side.TheVariants.{Front, Back}
 use Rattle.qm_wind.specs.declared.winding.Clip.{Clip}
 use Rattle.qm_wind.specs.declared.winding.Clip.TheVariants.{Whole, Gone, Cut}
 
--- the plane, turned so that the side is its front
-abbrev pub facing : Side → Plane → Plane
-facing Front h = h
-facing Back h = flipped h
+-- whether the side is a plane's own front: to such a side a plane is `turned`
+abbrev pub is_front : Side → Bool
+is_front Front = true
+is_front Back = false
 
 -- what is left of a winding in front of a plane
 abbrev pub IsClip : Clip → Winding → Plane → Type 0

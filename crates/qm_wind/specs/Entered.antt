@@ -1,7 +1,8 @@
-use Rattle.std.specs.Prelude.{◌≡◌, ◌⊎◌}
-use Rattle.qm_space.specs.Plane.{flipped}
+use Rattle.std.specs.Prelude.{◌≡◌, Bool}
+use Rattle.qm_space.specs.Turned.{turned}
 use Rattle.qm_wind.specs.declared.pane.Pane.{Pane}
 
--- the plane into which one goes is the winding's plane, or that plane flipped
-abbrev pub IsPane : Pane → Type 0
-IsPane pane = (pane.into ≡ pane.winding.plane) ⊎ (pane.into ≡ flipped pane.winding.plane)
+-- the plane into which one goes is the winding's plane, turned to one of its sides
+pub record IsPane (pane : Pane) : Type 0 where
+  pub side : Bool
+  pub into : pane.into ≡ turned side pane.winding.plane

@@ -1,5 +1,3 @@
-pub mod Kept
-pub mod Survey
 pub mod Clipped
-pub mod Across
 pub mod Entered
+pub mod inner

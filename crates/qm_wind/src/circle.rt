@@ -1,5 +1,5 @@
 ghost use Rattle.std.specs.Prelude.{◌≡◌, ◌<◌, ◌≤◌, ◌++◌, take, length, slice_index_or, OnOk};
-ghost use Rattle.qm_convex.specs.Turning.{turned_list, place_after};
+ghost use Rattle.qm_convex.specs.Rotation.{rotated_list, place_after};
 
 use smallvec::SmallVec;
 use std::alloc::AllocError;
@@ -21,7 +21,7 @@ pub(crate) fn add_arc<T: Copy + Default + Drop>(
 ) -> Result<(), AllocError>
     requires start_in_range { start ≤ length items.now }
     requires count_in_range { count ≤ length items.now }
-    ensures { OnOk result (list.new.items ≡ list.old.items ++ take count (turned_list start items.now)) }
+    ensures { OnOk result (list.new.items ≡ list.old.items ++ take count (rotated_list start items.now)) }
 {
     let before_end = items.len() - start;
     if count <= before_end {

@@ -8,9 +8,10 @@ ghost use Rattle.qm_convex.specs.Winding.{Winding, corner_at, IsConvex, IsInRegi
 ghost use Rattle.qm_convex.specs.Sides.{HasNoneInFront, HasSomeInFront, IsWhollyInFront, LiesIn};
 ghost use Rattle.qm_convex.specs.Sides.{HasNoCornerInFront, HasNoCornerBehind, HasCornerInFront, HasCornersOn};
 ghost use Rattle.qm_convex.specs.Cut.{IsPartInFront, IsParted};
-ghost use Rattle.qm_convex.specs.Turning.{IsSameTurned};
+ghost use Rattle.qm_convex.specs.Rotation.{IsSameRotated};
 ghost use Rattle.qm_convex.specs.Vertex.{HasVerticesAsCorners};
-ghost use Rattle.qm_convex.specs.Square.{IsInWorld, IsInClosedCube};
+ghost use Rattle.qm_convex.specs.Square.{IsInWorld};
+ghost use Rattle.qm_space.specs.Cube.{IsInClosedCube};
 
 /// The central law: a plane's value is at most 0 on the whole winding exactly where it is at most 0 at
 /// each corner.
@@ -51,7 +52,7 @@ pub fn parted()
 
 /// A winding read from another of its edges on is the same winding.
 pub fn turned()
-    ensures { (v : Winding) (i : ℕ) → IsConvex v → i < length v.edges → IsSameTurned v i }
+    ensures { (v : Winding) (i : ℕ) → IsConvex v → i < length v.edges → IsSameRotated v i }
 {}
 
 /// The corners of a winding are exactly its vertices, at least three, no three neighbours on a line.

@@ -6,7 +6,7 @@ mod circle;
 pub mod laws;
 mod pane;
 mod polygon;
-mod sides;
+mod survey;
 mod walls;
 mod winding;
 

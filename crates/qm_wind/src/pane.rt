@@ -1,5 +1,6 @@
 ghost use Rattle.std.specs.Prelude.{◌≡◌};
-ghost use Rattle.qm_wind.specs.Clipped.{facing};
+ghost use Rattle.qm_space.specs.Turned.{turned};
+ghost use Rattle.qm_wind.specs.Clipped.{is_front};
 ghost use Rattle.qm_wind.specs.Entered.{IsPane};
 
 use crate::winding::{Side, Winding};
@@ -17,8 +18,8 @@ impl Pane {
     /// The winding, entered to one side of its plane.
     pub fn entering(winding: Winding, side: Side) -> Pane
         ensures winding { result.winding ≡ winding }
-        ensures into { result.into ≡ facing side winding.plane }
-        ensures turned { IsPane result }
+        ensures into { result.into ≡ turned (is_front side) winding.plane }
+        ensures pane { IsPane result }
     {
         let plane = winding.plane();
         let into = match side {

@@ -3,10 +3,10 @@ ghost use Rattle.qm_convex.specs.Winding.{corner_at, IsConvex};
 ghost use Rattle.qm_convex.specs.Square.{square};
 ghost use Rattle.qm_convex.specs.Cut.{IsFrontRun, IsPartInFront, cut};
 ghost use Rattle.qm_convex.specs.Sides.{HasCornerBehind, HasNoneInFront};
-ghost use Rattle.qm_wind.specs.Survey.{IsSurvey};
+ghost use Rattle.qm_wind.specs.inner.Surveyed.{IsSurvey};
 
 use crate::circle::{add_arc, item, place_after, steps_between};
-use crate::sides::Sides;
+use crate::survey::Survey;
 use crate::walls::opposite;
 use qm_geom::{Corner, Plane};
 use smallvec::SmallVec;
@@ -24,13 +24,13 @@ pub(crate) struct Polygon {
 
 impl Model for Polygon {
     ghost use Rattle.qm_convex.specs.Winding.{Winding};
-    ghost use Rattle.qm_wind.specs.Kept.{IsKept};
+    ghost use Rattle.qm_wind.specs.inner.KeptCorners.{HasKeptCorners};
 
     ghost Value = { Winding };
 
     ghost view = { λ w. record { plane = w.plane; edges = w.edges.items } };
 
-    ghost invariant = { λ w. IsKept (record { plane = w.plane; edges = w.edges.items }) w.corners.items };
+    ghost invariant = { λ w. HasKeptCorners (record { plane = w.plane; edges = w.edges.items }) w.corners.items };
 }
 
 impl Polygon {
@@ -73,25 +73,25 @@ impl Polygon {
     }
 
     /// On which sides of a plane its corners lie.
-    pub(crate) fn sides(&self, plane: &Plane) -> Sides
+    pub(crate) fn survey(&self, plane: &Plane) -> Survey
         ensures { IsSurvey self.now plane.now result }
     {
-        Sides::of(self.corners.as_slice(), plane)
+        Survey::of(self.corners.as_slice(), plane)
     }
 
     /// The part in front of a plane, for a polygon with corners on both sides.
     pub(crate) fn part_in_front_of(
         &self,
         plane: &Plane,
-        sides: &Sides,
+        survey: &Survey,
     ) -> Result<Polygon, AllocError>
-        requires survey { IsSurvey self.now plane.now sides.now }
-        requires front { sides.now.some_in_front ≡ true }
-        requires behind { sides.now.some_behind ≡ true }
+        requires surveyed { IsSurvey self.now plane.now survey.now }
+        requires front { survey.now.some_in_front ≡ true }
+        requires behind { survey.now.some_behind ≡ true }
         ensures { IfOk result (λ w. IsPartInFront w self.now plane.now) }
     {
-        let count = steps_between(self.edges.len(), sides.start, sides.end);
-        self.cut(plane, sides.start, count)
+        let count = steps_between(self.edges.len(), survey.start, survey.end);
+        self.cut(plane, survey.start, count)
     }
 
     /// The part in front of the plane, by the run of the corners there.
@@ -127,14 +127,14 @@ impl Polygon {
             MatchOption part (HasNoneInFront self plane.now) (λ w. IsPartInFront w self plane.now)) }
     {
         let _ = &self.plane;
-        let sides = self.sides(plane);
-        if !sides.some_in_front {
+        let survey = self.survey(plane);
+        if !survey.some_in_front {
             return Ok(None);
         }
-        if !sides.some_behind {
+        if !survey.some_behind {
             return Ok(Some(self));
         }
-        Ok(Some(self.part_in_front_of(plane, &sides)?))
+        Ok(Some(self.part_in_front_of(plane, &survey)?))
     }
 
     /// The part of a plane between two walls and their opposites.

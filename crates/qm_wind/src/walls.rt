@@ -1,6 +1,6 @@
 ghost use Rattle.std.specs.Prelude.{◌≡◌};
-ghost use Rattle.qm_convex.specs.Square.{opposite, wall_x, wall_y, wall_z};
-ghost use Rattle.qm_wind.specs.Across.{StandAcross};
+ghost use Rattle.qm_space.specs.Cube.{opposite, wall_x, wall_y, wall_z};
+ghost use Rattle.qm_wind.specs.inner.Across.{StandAcross};
 
 use qm_geom::Plane;
 use std::cmp::Ordering;

@@ -1,9 +1,11 @@
 ghost use Rattle.std.specs.Prelude.{◌≡◌, ◌<◌, ◌≤◌, length, IfOk, MatchOption};
+ghost use Rattle.qm_space.specs.Turned.{turned};
 ghost use Rattle.qm_geom.specs.Rounding.{HasSmallCoordinates};
 ghost use Rattle.qm_convex.specs.Winding.{corner_at};
 ghost use Rattle.qm_convex.specs.Vertex.{IsVertex, HasVerticesAsCorners};
-ghost use Rattle.qm_convex.specs.Square.{MissesCube, IsWorldPart, IsInWorld, IsInClosedCube};
-ghost use Rattle.qm_wind.specs.Clipped.{IsClip, facing};
+ghost use Rattle.qm_convex.specs.Square.{MissesCube, IsWorldPart, IsInWorld};
+ghost use Rattle.qm_space.specs.Cube.{IsInClosedCube};
+ghost use Rattle.qm_wind.specs.Clipped.{IsClip, is_front};
 
 use crate::polygon::Polygon;
 use crate::walls::{Walls, opposite};
@@ -65,7 +67,7 @@ impl Winding {
     /// What is left of the winding on one side of a plane. `Gone` exactly where none of its points is
     /// strictly on that side, `Whole` exactly where each is.
     pub fn clip(&self, plane: &Plane, keep: Side) -> Result<Clip, AllocError>
-        ensures { IfOk result (λ clip. IsClip clip self.now (facing keep plane.now)) }
+        ensures { IfOk result (λ clip. IsClip clip self.now (turned (is_front keep) plane.now)) }
     {
         match keep {
             Side::Front => self.in_front_of(plane),
@@ -77,14 +79,14 @@ impl Winding {
     fn in_front_of(&self, plane: &Plane) -> Result<Clip, AllocError>
         ensures { IfOk result (λ clip. IsClip clip self.now plane.now) }
     {
-        let sides = self.polygon.sides(plane);
-        if !sides.some_in_front {
+        let survey = self.polygon.survey(plane);
+        if !survey.some_in_front {
             return Ok(Clip::Gone);
         }
-        if !sides.some_behind {
+        if !survey.some_behind {
             return Ok(Clip::Whole);
         }
-        let polygon = self.polygon.part_in_front_of(plane, &sides)?;
+        let polygon = self.polygon.part_in_front_of(plane, &survey)?;
         Ok(Clip::Cut(Winding { polygon }))
     }
 

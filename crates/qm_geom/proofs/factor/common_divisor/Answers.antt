@@ -1,7 +1,7 @@
 use Rattle.std.proofs.Common.{arith}
 use Rattle.std.proofs.Math.Nat.{mod-le}
 use Rattle.std.proofs.lemmas.Nat.Gcd.{IsGcd-from_zero, IsGcd-from_mod, same_from_IsGcd}
-use Rattle.qm_space.proofs.Divisors.{gcd_is}
+use Rattle.qm_numbers.proofs.Divisors.{gcd_is}
 use Rattle.qm_geom.proofs.factor.common_divisor.Goals as goal
 
 pub loop-less-preserved : goal.loop-less-preserved

@@ -3,8 +3,8 @@ use Rattle.std.proofs.lemmas.Int.{ints, to_z-of_z}
 use Rattle.std.proofs.lemmas.Option.{IfSome_then}
 use Rattle.qm_space.specs.Point.{Point}
 use Rattle.qm_space.specs.Plane.{Plane, value, IsOn}
-use Rattle.qm_space.proofs.IntegerProducts.{linear, one_*ℤ, zero_*ℤ}
-use Rattle.qm_space.proofs.Signs.{abs_product}
+use Rattle.qm_numbers.proofs.IntegerProducts.{linear, one_*ℤ, zero_*ℤ}
+use Rattle.qm_numbers.proofs.Signs.{abs_product}
 use Rattle.qm_geom.specs.Corners.{MeetOnlyIn}
 use Rattle.qm_geom.specs.Rounding.{HasSmallCoordinates}
 use Rattle.qm_geom.proofs.tests.corner_on_axis.Goals as goal

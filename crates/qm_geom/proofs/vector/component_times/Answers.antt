@@ -1,5 +1,5 @@
 use Rattle.std.proofs.Common.{◌≡◌, ◌≤◌, ◌^◌, ◌∙◌, ◌*ℤ◌, ℤ, ap, sym, subst, lit≤, unsigned_abs}
-use Rattle.qm_space.proofs.Signs.{abs_product_bound}
+use Rattle.qm_numbers.proofs.Signs.{abs_product_bound}
 use Rattle.qm_geom.proofs.Wrapped.{coordinate_small, kept_32, product_kept}
 use Rattle.qm_geom.proofs.vector.component_times.Goals as goal
 

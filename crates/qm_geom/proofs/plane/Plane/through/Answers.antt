@@ -11,7 +11,7 @@ pub returns-then-not-has_normal-clause-no_normal :
 returns-then-not-has_normal-clause-no_normal c =
     let none : HasNoNormal c.outward-outward.result =
     by_normal c.outward-outward.result (λ n. let h = c.if-not-has_normal.ensures.1 n in cc) (λ z. z) in
-    (λ _. no_normal_one_line _ _ _ (subst HasNoNormal c.outward-outward.ensures none), λ _. refl)
+    (λ _. no_normal_one_line _ _ _ refl refl refl (subst HasNoNormal c.outward-outward.ensures none), λ _. refl)
 
 pub returns-clause-value : goal.returns-clause-value
 unfolding plane_through
@@ -29,4 +29,4 @@ pub returns-clause-no_normal : goal.returns-clause-no_normal
 returns-clause-no_normal c =
     let normal : HasNormal (outward_plane (whole_point c.args.p0) (whole_point c.args.p1) (whole_point c.args.p2)) =
     subst HasNormal c.outward-outward.ensures (c.has_normal.ensures.0 c.if-not-has_normal.false) in
-    (λ e. cc, λ line. let z = one_line_no_normal _ _ _ line in absurd (normal z.0 z.1 z.2))
+    (λ e. cc, λ line. let z = one_line_no_normal _ _ _ refl refl refl line in absurd (normal z.0 z.1 z.2))

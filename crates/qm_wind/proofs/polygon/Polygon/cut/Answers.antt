@@ -1,6 +1,6 @@
 use Rattle.std.proofs.Common.{◌∙◌, ◌+◌, ◌++◌, [], ◌∷◌, length, get_or, take, refl, sym, ap, ap₂, subst, arith}
 use Rattle.qm_space.specs.Reduced.{IsReduced}
-use Rattle.qm_convex.specs.Turning.{turned_list, place_after}
+use Rattle.qm_convex.specs.Rotation.{rotated_list, place_after}
 use Rattle.qm_convex.specs.Cut.{IsFrontRun}
 use Rattle.qm_convex.specs.Sides.{HasCornerBehind}
 use Rattle.qm_convex.proofs.Places.{after_below}
@@ -37,15 +37,15 @@ invariant_of-result c =
     (c.item-last.ensures c.self.inside.plane ∙ ap (λ es. get_or es c.place_after.result c.self.inside.plane) c.as_slice-3.ensures
     ∙ ap (λ i. get_or c.self.inside.edges.items i c.self.inside.plane) (c.place_after.ensures ∙ ap (λ n. place_after n c.args.start c.args.count) c.len.ensures.value))
     (c.item-first.ensures c.self.inside.plane ∙ ap (λ es. get_or es c.args.start c.self.inside.plane) c.as_slice-4.ensures)
-    (cut_view _ _ c.args.plane.now c.args.start c.args.count _ refl (c.in_ok-push.ensures.ok ∙ ap₂ (λ es g. es ++ g ∷ []) (c.in_ok-add_arc.ensures ∙ ap₂ (λ old es. old ++ take (c.args.count + 1) (turned_list c.args.start es)) c.new-edges.ensures.items c.as_slice.ensures) c.plane.view_is))
+    (cut_view _ _ c.args.plane.now c.args.start c.args.count _ refl (c.in_ok-push.ensures.ok ∙ ap₂ (λ es g. es ++ g ∷ []) (c.in_ok-add_arc.ensures ∙ ap₂ (λ old es. old ++ take (c.args.count + 1) (rotated_list c.args.start es)) c.new-edges.ensures.items c.as_slice.ensures) c.plane.view_is))
     (c.in_ok-push-3.ensures.ok
-    ∙ ap (λ ps. ps ++ c.turning-2.result ∷ []) (c.in_ok-push-2.ensures.ok ∙ ap (λ ps. ps ++ c.turning.result ∷ []) (c.in_ok-add_arc-2.ensures ∙ ap₂ (λ old ps. old ++ take c.args.count (turned_list c.args.start ps)) c.new-corners.ensures.items c.as_slice-2.ensures))
-    ∙ ap₂ (λ m n. (take c.args.count (turned_list c.args.start c.self.inside.corners.items) ++ m ∷ []) ++ n ∷ []) c.turning.ensures c.turning-2.ensures)
+    ∙ ap (λ ps. ps ++ c.turning-2.result ∷ []) (c.in_ok-push-2.ensures.ok ∙ ap (λ ps. ps ++ c.turning.result ∷ []) (c.in_ok-add_arc-2.ensures ∙ ap₂ (λ old ps. old ++ take c.args.count (rotated_list c.args.start ps)) c.new-corners.ensures.items c.as_slice-2.ensures))
+    ∙ ap₂ (λ m n. (take c.args.count (rotated_list c.args.start c.self.inside.corners.items) ++ m ∷ []) ++ n ∷ []) c.turning.ensures c.turning-2.ensures)
 
 pub returns : goal.returns
 returns c =
     cut_view _ _ c.args.plane.now c.args.start c.args.count _ c.self.view_is
-    (c.in_ok-push.ensures.ok ∙ ap₂ (λ es g. es ++ g ∷ []) (c.in_ok-add_arc.ensures ∙ ap₂ (λ old es. old ++ take (c.args.count + 1) (turned_list c.args.start es)) c.new-edges.ensures.items c.as_slice.ensures) c.plane.view_is)
+    (c.in_ok-push.ensures.ok ∙ ap₂ (λ es g. es ++ g ∷ []) (c.in_ok-add_arc.ensures ∙ ap₂ (λ old es. old ++ take (c.args.count + 1) (rotated_list c.args.start es)) c.new-edges.ensures.items c.as_slice.ensures) c.plane.view_is)
 
 pub turning-requires : goal.turning-requires
 turning-requires c =

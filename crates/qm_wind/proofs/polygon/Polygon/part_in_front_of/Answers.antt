@@ -1,7 +1,7 @@
 use Rattle.std.proofs.Common.{◌∙◌, sym, ap, subst, arith}
 use Rattle.std.proofs.lemmas.Result.{IfOk-weaker}
 use Rattle.qm_convex.specs.Winding.{IsConvex}
-use Rattle.qm_convex.specs.Turning.{place_after}
+use Rattle.qm_convex.specs.Rotation.{place_after}
 use Rattle.qm_convex.specs.Cut.{IsPartInFront}
 use Rattle.qm_convex.proofs.Cutting.{cut_is_part}
 use Rattle.qm_wind.proofs.KeptCorners.{view_length}
@@ -13,7 +13,7 @@ pub steps_between-count-requires-clause-from_in_range :
 steps_between-count-requires-clause-from_in_range c =
     let e = view_length _ _ c.self.view_is in
     let n = c.len.ensures.value in
-    let l = survey_start_below c.args.self.now c.args.plane.now c.args.sides.now (subst IsConvex c.self.view_is c.self.invariant.convex) c.requires.survey c.requires.front c.requires.behind in
+    let l = survey_start_below c.args.self.now c.args.plane.now c.args.survey.now (subst IsConvex c.self.view_is c.self.invariant.convex) c.requires.surveyed c.requires.front c.requires.behind in
     omega arith
 
 pub steps_between-count-requires-clause-to_in_range :
@@ -21,26 +21,26 @@ pub steps_between-count-requires-clause-to_in_range :
 steps_between-count-requires-clause-to_in_range c =
     let e = view_length _ _ c.self.view_is in
     let n = c.len.ensures.value in
-    let l = survey_end_below c.args.self.now c.args.plane.now c.args.sides.now (subst IsConvex c.self.view_is c.self.invariant.convex) c.requires.survey c.requires.front c.requires.behind in
+    let l = survey_end_below c.args.self.now c.args.plane.now c.args.survey.now (subst IsConvex c.self.view_is c.self.invariant.convex) c.requires.surveyed c.requires.front c.requires.behind in
     omega arith
 
 pub steps_between-count-requires-clause-different :
     goal.steps_between-count-requires-clause-different
 steps_between-count-requires-clause-different c =
-    survey_ends_differ c.args.self.now c.args.plane.now c.args.sides.now (subst IsConvex c.self.view_is c.self.invariant.convex) c.requires.survey c.requires.front c.requires.behind
+    survey_ends_differ c.args.self.now c.args.plane.now c.args.survey.now (subst IsConvex c.self.view_is c.self.invariant.convex) c.requires.surveyed c.requires.front c.requires.behind
 
 pub cut-requires-clause-run : goal.cut-requires-clause-run
 cut-requires-clause-run c =
     let e = view_length _ _ c.self.view_is in
     let n = c.len.ensures.value in
     let l = c.steps_between-count.ensures.below in
-    survey_run c.args.self.now c.args.plane.now c.args.sides.now (subst IsConvex c.self.view_is c.self.invariant.convex) c.requires.survey c.requires.front c.requires.behind
+    survey_run c.args.self.now c.args.plane.now c.args.survey.now (subst IsConvex c.self.view_is c.self.invariant.convex) c.requires.surveyed c.requires.front c.requires.behind
     c.steps_between-count.result (omega arith)
-    (ap (λ k. place_after k c.args.sides.now.start c.steps_between-count.result) (sym e ∙ sym n) ∙ c.steps_between-count.ensures.value)
+    (ap (λ k. place_after k c.args.survey.now.start c.steps_between-count.result) (sym e ∙ sym n) ∙ c.steps_between-count.ensures.value)
 
 pub cut-requires-clause-behind : goal.cut-requires-clause-behind
 cut-requires-clause-behind c =
-    survey_behind c.args.self.now c.args.plane.now c.args.sides.now (subst IsConvex c.self.view_is c.self.invariant.convex) c.requires.survey c.requires.front c.requires.behind
+    survey_behind c.args.self.now c.args.plane.now c.args.survey.now (subst IsConvex c.self.view_is c.self.invariant.convex) c.requires.surveyed c.requires.front c.requires.behind
 
 pub returns : goal.returns
 returns c =
@@ -48,10 +48,10 @@ returns c =
     let e = view_length _ _ c.self.view_is in
     let n = c.len.ensures.value in
     let l = c.steps_between-count.ensures.below in
-    let run = survey_run c.args.self.now c.args.plane.now c.args.sides.now convex c.requires.survey c.requires.front c.requires.behind
+    let run = survey_run c.args.self.now c.args.plane.now c.args.survey.now convex c.requires.surveyed c.requires.front c.requires.behind
     c.steps_between-count.result (omega arith)
-    (ap (λ k. place_after k c.args.sides.now.start c.steps_between-count.result) (sym e ∙ sym n) ∙ c.steps_between-count.ensures.value) in
-    let behind = survey_behind c.args.self.now c.args.plane.now c.args.sides.now convex c.requires.survey c.requires.front c.requires.behind in
+    (ap (λ k. place_after k c.args.survey.now.start c.steps_between-count.result) (sym e ∙ sym n) ∙ c.steps_between-count.ensures.value) in
+    let behind = survey_behind c.args.self.now c.args.plane.now c.args.survey.now convex c.requires.surveyed c.requires.front c.requires.behind in
     IfOk-weaker c.cut.result _ (λ w. IsPartInFront w c.args.self.now c.args.plane.now)
-    (λ w is. subst (λ u. IsPartInFront u c.args.self.now c.args.plane.now) (sym is) (cut_is_part c.args.self.now c.args.plane.now c.args.sides.now.start c.steps_between-count.result convex run behind))
+    (λ w is. subst (λ u. IsPartInFront u c.args.self.now c.args.plane.now) (sym is) (cut_is_part c.args.self.now c.args.plane.now c.args.survey.now.start c.steps_between-count.result convex run behind))
     c.cut.ensures

@@ -1,9 +1,9 @@
 -- Ratios of whole numbers: their order, and the least of a list.
 use Rattle.std.proofs.Common.{ℕ, zero, suc, ◌<◌, pos, ◌*ℤ◌, ◌<ℤ◌, List, [], ◌∷◌, length, get_or, arith}
-use Rattle.qm_space.specs.Ratio.{Ratio, IsAtMostRatio}
-use Rattle.qm_space.proofs.IntegerProducts.{linear}
-use Rattle.qm_space.proofs.Signs.{by_least, times_at_most, cancel_at_most}
-use Rattle.qm_space.proofs.Ring.{variable, ◌⊗◌, solved}
+use Rattle.qm_numbers.specs.Ratio.{Ratio, IsAtMostRatio}
+use Rattle.qm_numbers.proofs.IntegerProducts.{linear}
+use Rattle.qm_numbers.proofs.Signs.{by_least, times_at_most, cancel_at_most}
+use Rattle.qm_numbers.proofs.Ring.{variable, ◌⊗◌, solved}
 
 pub ratio_self : (r : Ratio) → IsAtMostRatio r r
 ratio_self r = omega (arith, linear)

@@ -1,6 +1,6 @@
 ghost use Rattle.std.specs.Prelude.{◌≡◌, ◌<◌, length};
 ghost use Rattle.qm_convex.specs.Winding.{Winding, corners};
-ghost use Rattle.qm_wind.specs.Survey.{noted, IsSurvey};
+ghost use Rattle.qm_wind.specs.inner.Surveyed.{noted, IsSurvey};
 
 use qm_geom::{Corner, Plane};
 use std::cmp::Ordering;
@@ -8,7 +8,7 @@ use std::cmp::Ordering;
 /// On which sides of a plane a winding's corners lie, and where its border comes to the plane's front
 /// and leaves it again.
 #[derive(Clone, Copy)]
-pub(crate) struct Sides {
+pub(crate) struct Survey {
     pub(crate) some_in_front: bool,
     pub(crate) some_behind: bool,
     /// The first corner in front after one that isn't, if there is one.
@@ -17,14 +17,14 @@ pub(crate) struct Sides {
     pub(crate) end: usize,
 }
 
-impl Sides {
+impl Survey {
     /// With the corner at a place, after the one before it.
-    fn noting(self, before: Ordering, here: Ordering, place: usize) -> Sides
+    fn noting(self, before: Ordering, here: Ordering, place: usize) -> Survey
         ensures { result ≡ noted self before here place }
     {
         let was_in_front = before.is_gt();
         let is_in_front = here.is_gt();
-        Sides {
+        Survey {
             some_in_front: self.some_in_front || is_in_front,
             some_behind: self.some_behind || here.is_lt(),
             start: if is_in_front && !was_in_front {
@@ -41,13 +41,13 @@ impl Sides {
     }
 
     /// Of all corners of a winding, each measured once.
-    pub(crate) fn of(kept: &[Corner], plane: &Plane) -> Sides
+    pub(crate) fn of(kept: &[Corner], plane: &Plane) -> Survey
         requires { 0 < length kept.now }
         ensures { (v : Winding) → kept.now ≡ corners v → IsSurvey v plane.now result }
     {
         let first = kept[0].side(plane);
         let mut before = first;
-        let mut sides = Sides {
+        let mut survey = Survey {
             some_in_front: first.is_gt(),
             some_behind: first.is_lt(),
             start: 0,
@@ -55,9 +55,9 @@ impl Sides {
         };
         for i in 1..kept.len() {
             let here = kept[i].side(plane);
-            sides = sides.noting(before, here, i);
+            survey = survey.noting(before, here, i);
             before = here;
         }
-        sides.noting(before, first, 0)
+        survey.noting(before, first, 0)
     }
 }

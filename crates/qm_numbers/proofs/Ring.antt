@@ -2,7 +2,7 @@
 -- multiplied out into terms, and gathered by monomial; the identity holds where every coefficient is 0.
 use Rattle.std.proofs.Common.{◌≡◌, ℕ, suc, zero, Bool, true, false, T, ltb, eqb, eqb→eq, ℤ, pos, negsuc, ◌+ℤ◌, ◌-ℤ◌, ◌*ℤ◌, neg_ℤ, List, [], ◌∷◌, ◌++◌, refl, ap, sym, ◌∙◌, arith, subst}
 use Rattle.std.proofs.Math.IntN.{*ℤ_comm}
-use Rattle.qm_space.proofs.IntegerProducts.{linear, *ℤ_assoc, *ℤ_left_comm, *ℤ-+ℤ, +ℤ-*ℤ, neg-*ℤ, *ℤ_one, one_*ℤ, zero_*ℤ}
+use Rattle.qm_numbers.proofs.IntegerProducts.{linear, *ℤ_assoc, *ℤ_left_comm, *ℤ-+ℤ, +ℤ-*ℤ, neg-*ℤ, *ℤ_one, one_*ℤ, zero_*ℤ}
 
 -- ---- expressions
 

@@ -4,7 +4,7 @@ use Rattle.qm_space.specs.Reduced.{IsReduced}
 use Rattle.qm_convex.specs.Winding.{Winding, corners, IsConvex}
 
 -- what is true of each winding in code: it is convex, its planes are in lowest terms, and its corners are kept beside it
-pub record IsKept (v : Winding) (kept : List Point) : Type 0 where
+pub record HasKeptCorners (v : Winding) (kept : List Point) : Type 0 where
   pub convex : IsConvex v
   pub plane : IsReduced v.plane
   pub edges : All IsReduced v.edges

@@ -2,7 +2,7 @@
 use Rattle.std.proofs.Common.{◌≡◌, ℕ, suc, zero, ◌+◌, ◌*◌, ◌≤◌, ◌<◌, ℤ, pos, negsuc, ◌+ℤ◌, ◌-ℤ◌, ◌*ℤ◌, neg_ℤ, ◌≤ℤ◌, ◌<ℤ◌, ap, refl, sym, ◌∙◌, arith, unsigned_abs, int_cmp, Less, Equal, Greater, ◌⊎◌, inl, inr, mul-le-mul}
 use Rattle.std.proofs.lemmas.Int.{ints, unsigned_abs-mul}
 use Rattle.std.proofs.Math.IntN.{*ℤ_comm}
-use Rattle.qm_space.proofs.IntegerProducts.{linear, *ℤ--ℤ, *ℤ-neg, neg-*ℤ, *ℤ_zero}
+use Rattle.qm_numbers.proofs.IntegerProducts.{linear, *ℤ--ℤ, *ℤ-neg, neg-*ℤ, *ℤ_zero}
 
 -- ---- three cases
 

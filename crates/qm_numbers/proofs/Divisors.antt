@@ -5,11 +5,11 @@ use Rattle.std.proofs.lemmas.Int.{ints, quot-rem}
 use Rattle.std.proofs.lemmas.Nat.Gcd.{IsGcd-from_mod, dvd_refl, dvd-zero, dvd_trans, mod-eq-zero_of_dvd}
 use Rattle.std.proofs.Math.Nat.{mul-div_cancel'}
 use Rattle.std.proofs.Math.IntN.{*ℤ_comm}
-use Rattle.qm_space.specs.Gcd.{gcd, gcd_within}
-use Rattle.qm_space.specs.FloorDivision.{floor_div}
-use Rattle.qm_space.proofs.IntegerProducts.{linear, *ℤ_assoc, *ℤ-+ℤ, *ℤ_one, one_*ℤ, zero_*ℤ}
-use Rattle.qm_space.proofs.Signs.{abs_product, cancel_less}
-use Rattle.qm_space.proofs.Ring.{variable, ◌⊕◌, ◌⊖◌, ◌⊗◌, solved}
+use Rattle.qm_numbers.specs.Gcd.{gcd, gcd_within}
+use Rattle.qm_numbers.specs.FloorDivision.{floor_div}
+use Rattle.qm_numbers.proofs.IntegerProducts.{linear, *ℤ_assoc, *ℤ-+ℤ, *ℤ_one, one_*ℤ, zero_*ℤ}
+use Rattle.qm_numbers.proofs.Signs.{abs_product, cancel_less}
+use Rattle.qm_numbers.proofs.Ring.{variable, ◌⊕◌, ◌⊖◌, ◌⊗◌, solved}
 
 -- ---- the greatest common divisor
 

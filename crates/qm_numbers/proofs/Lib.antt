@@ -1,0 +1,6 @@
+pub mod IntegerProducts
+pub mod Signs
+pub mod Ring
+pub mod Divisors
+pub mod Ratios
+pub mod Bits

@@ -1,0 +1,44 @@
+use Rattle.std.specs.Prelude.{ℕ, ◌*◌, ◌^◌, ℤ, pos}
+
+-- Each bound of the world and of its planes, by what it bounds. What code holds in numbers of 32, 64 and 128 bits
+-- follows from these.
+
+-- the world is the open cube in which each coordinate lies strictly between this number and its opposite
+abbrev pub world_extent : ℕ
+world_extent = 4096
+
+-- the same as an integer
+abbrev pub extent : ℤ
+extent = pos world_extent
+
+-- a coordinate of a corner that code rounds
+abbrev pub rounded_bound : ℕ
+rounded_bound = 65536
+
+-- a component of a plane's normal
+abbrev pub normal_bound : ℕ
+normal_bound = 2 ^ 26
+
+-- a plane's distance
+abbrev pub distance_bound : ℕ
+distance_bound = 2 ^ 44
+
+-- the distance of the outward plane of three whole points, before it is brought to lowest terms
+abbrev pub outward_distance_bound : ℕ
+outward_distance_bound = 3 * 2 ^ 38
+
+-- x, y and z of the point in which three planes meet
+abbrev pub meet_bound : ℕ
+meet_bound = 3 * 2 ^ 97
+
+-- w of the point in which three planes meet
+abbrev pub meet_weight_bound : ℕ
+meet_weight_bound = 3 * 2 ^ 79
+
+-- a plane's value at a whole point of the closed cube
+abbrev pub whole_value_bound : ℕ
+whole_value_bound = 2 ^ 45
+
+-- a plane's value at the point in which three planes meet
+abbrev pub meet_value_bound : ℕ
+meet_value_bound = 3 * 2 ^ 125

@@ -1,0 +1,3 @@
+pub mod KeptCorners
+pub mod Surveyed
+pub mod Across
