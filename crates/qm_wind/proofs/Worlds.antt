@@ -1,6 +1,7 @@
 -- What holds of a corner of a winding inside the cube.
 use Rattle.std.proofs.Common.{◌≡◌, ℕ, ℤ, ◌<◌, ◌≤◌, ◌*◌, pos, ◌<ℤ◌, length, sym, subst, unsigned_abs, arith}
 use Rattle.std.proofs.lemmas.Int.{ints}
+use Rattle.qm_space.specs.Bounds.{rounded_bound}
 use Rattle.qm_space.specs.Point.{Point}
 use Rattle.qm_geom.specs.Rounding.{HasSmallCoordinates}
 use Rattle.qm_convex.specs.Winding.{Winding, corner_at}
@@ -10,7 +11,7 @@ use Rattle.qm_space.specs.Cube.{IsUpToExtent, IsInClosedCube}
 use Rattle.qm_convex.proofs.Squares.{corner_in_closed_cube}
 use Rattle.qm_convex.proofs.Vertices.{corner_is_vertex}
 
-small_up_to_extent : (c w : ℤ) → pos 0 <ℤ w → IsUpToExtent c w → unsigned_abs c ≤ 65536 * unsigned_abs w
+small_up_to_extent : (c w : ℤ) → pos 0 <ℤ w → IsUpToExtent c w → unsigned_abs c ≤ rounded_bound * unsigned_abs w
 small_up_to_extent c w h u = let a = u.above in let b = u.below in omega (arith, ints)
 
 small_in_closed_cube : (p : Point) → IsInClosedCube p → HasSmallCoordinates p
