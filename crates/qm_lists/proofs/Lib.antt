@@ -1,7 +1,8 @@
 pub mod Cases
+pub mod Elements
+pub mod FlatMaps
 pub mod Options
 pub mod Places
-pub mod Elements
 pub mod Reached
-pub mod WorkLists
 pub mod SmallGraph
+pub mod WorkLists

@@ -3,4 +3,4 @@
 
 mod append;
 
-pub use append::{Append, append_all};
+pub use append::{Encoding, append_all};

@@ -3,4 +3,4 @@ use Rattle.std.specs.List.{flat_map}
 use Rattle.qm_lists.proofs.append.append_all.Given as goal
 
 abbrev pub invariant-loop-value : goal.invariant-loop-value
-invariant-loop-value g l = l.out.items ≡ l.fn.out.items ++ flat_map g.T.Append.bytes_of (take l.value-index l.values)
+invariant-loop-value g l = l.out.items ≡ l.fn.out.items ++ flat_map g.E.Encoding.bytes_of (take l.value-index l.values)
