@@ -1,5 +1,5 @@
 -- The parts of a text that are put one after another.
-use Rattle.std.proofs.Common.{◌≡◌, ℕ, List, [], ◌∷◌, ◌++◌, map, flat_map, sym, ap, ◌∙◌, append_assoc, append-nil}
+use Rattle.std.proofs.Common.{◌≡◌, ℕ, ℤ, pos, List, [], ◌∷◌, ◌++◌, length, get_or, map, flat_map, sym, ap, ◌∙◌, append_assoc, append-nil, arith}
 use Rattle.std.proofs.lemmas.Grind.{flat_map-append}
 use Rattle.std.proofs.lemmas.List.Concat.{flat_map-cons}
 use Rattle.std.proofs.lemmas.List.Folds.{flat_map-map}
@@ -8,8 +8,9 @@ use Rattle.qm_mapfile.specs.declared.entity.Brush.{Brush}
 use Rattle.qm_mapfile.specs.declared.entity.Pair.{Pair}
 use Rattle.qm_mapfile.specs.declared.entity.Entity.{Entity}
 use Rattle.qm_lists.proofs.FlatMaps.{flat_map-flat_map}
-use Rattle.qm_mapout.specs.Lines.{Line, line_text, text_of}
-use Rattle.qm_mapout.specs.Printed.{brace_line, open_brace, close_brace, pair_line, face_line, brush_lines, entity_lines}
+use Rattle.qm_grammar.specs.Symbol.{Symbol}
+use Rattle.qm_mapout.specs.Lines.{Line, line_text, text_of, spaced, spelling}
+use Rattle.qm_mapout.specs.Printed.{brace_line, open_brace, close_brace, pair_line, face_line, brush_lines, entity_lines, number, open_parenthesis, close_parenthesis, point_symbols, texture_symbol, mapping_front, mapping_last}
 
 -- a line before others
 text_cons : (line : Line) (lines : List Line) → text_of (line ∷ lines) ≡ line_text line ++ text_of lines
@@ -59,3 +60,37 @@ entity_put entity start first second third opens puts_pairs puts_brushes =
     ∙ sym (ap (λ t. t ++ (brushes ++ closed)) puts_pairs)
     ∙ sym (append_assoc second brushes closed)
     ∙ sym (ap (λ t. t ++ closed) puts_brushes)
+
+-- ( x y z ), token by token
+pub point_put : (point : List ℤ) (start first second third fourth : List ℕ) → length point ≡ 3 → first ≡ start ++ spaced open_parenthesis → second ≡ first ++ spaced (number (get_or point 0 (pos 0))) → third ≡ second ++ spaced (number (get_or point 1 (pos 0))) → fourth ≡ third ++ spaced (number (get_or point 2 (pos 0))) → start ++ flat_map spaced (point_symbols point) ≡ fourth ++ spaced close_parenthesis
+unfolding point_symbols
+point_put [] start first second third fourth three opens x y z = absurd (omega arith)
+point_put (a ∷ []) start first second third fourth three opens x y z = absurd (omega arith)
+point_put (a ∷ b ∷ []) start first second third fourth three opens x y z = absurd (omega arith)
+point_put (a ∷ b ∷ c ∷ d ∷ more) start first second third fourth three opens x y z = absurd (omega arith)
+point_put (a ∷ b ∷ c ∷ []) start first second third fourth three opens x y z =
+    rw (z, y, x, opens) (simp append_assoc)
+
+-- three points, the texture and the mapping of a face
+pub face_put : (face : Face) (start first second third fourth : List ℕ) → length face.points ≡ 3 → first ≡ start ++ flat_map spaced (point_symbols (get_or face.points 0 [])) → second ≡ first ++ flat_map spaced (point_symbols (get_or face.points 1 [])) → third ≡ second ++ flat_map spaced (point_symbols (get_or face.points 2 [])) → fourth ≡ third ++ spaced (texture_symbol face.texture) → start ++ line_text (face_line face) ≡ fourth ++ (flat_map spaced (mapping_front face.mapping) ++ (spelling (mapping_last face.mapping) ++ 10 ∷ []))
+unfolding face_line line_text
+face_put face start first second third fourth three a b c t =
+    ap (λ s. start ++ s) (parts face.points three)
+    ∙ rw (t, c, b, a) (simp append_assoc)
+  where
+    rest : List ℕ
+    rest = spelling (mapping_last face.mapping) ++ 10 ∷ []
+
+    front : List Symbol
+    front = mapping_front face.mapping
+
+    tail : flat_map spaced (texture_symbol face.texture ∷ front) ≡ spaced (texture_symbol face.texture) ++ flat_map spaced front
+    tail = flat_map-cons spaced (texture_symbol face.texture) front
+
+    parts : (points : List (List ℤ)) → length points ≡ 3 → flat_map spaced (flat_map point_symbols points ++ texture_symbol face.texture ∷ front) ++ rest ≡ (flat_map spaced (point_symbols (get_or points 0 [])) ++ (flat_map spaced (point_symbols (get_or points 1 [])) ++ (flat_map spaced (point_symbols (get_or points 2 [])) ++ (spaced (texture_symbol face.texture) ++ flat_map spaced front)))) ++ rest
+    parts [] e = absurd (omega arith)
+    parts (p ∷ []) e = absurd (omega arith)
+    parts (p ∷ q ∷ []) e = absurd (omega arith)
+    parts (p ∷ q ∷ r ∷ s ∷ more) e = absurd (omega arith)
+    parts (p ∷ q ∷ r ∷ []) e =
+        rw (flat_map-append spaced (flat_map point_symbols (p ∷ q ∷ r ∷ [])) (texture_symbol face.texture ∷ front), tail, flat_map-flat_map spaced point_symbols (p ∷ q ∷ r ∷ [])) (simp (append_assoc, append-nil, flat_map-cons))
