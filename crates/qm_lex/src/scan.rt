@@ -185,8 +185,6 @@ pub fn token_at(text: &[u8], position: Position) -> Result<Found, LexFault>
                 line: close.line,
             },
         }),
-        None => Err(LexFault::UnclosedQuote {
-            line: position.line,
-        }),
+        None => Err(LexFault::UnclosedQuote { line: open.line }),
     }
 }

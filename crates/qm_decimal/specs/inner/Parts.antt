@@ -1,7 +1,8 @@
-use Rattle.std.specs.Prelude.{◌≡◌, ◌≢◌, ◌≤◌, ◌<◌, ℕ, ◌+◌, ◌-◌, ◌*◌, ◌^◌, min, Bool, true, false, List, ◌++◌, length, take, slice_index, All, Any, Ok, Err, Result}
+use Rattle.std.specs.Prelude.{◌≡◌, ◌≢◌, ◌≤◌, ◌<◌, ℕ, ◌+◌, ◌*◌, ◌^◌, min, Bool, true, false, List, ◌++◌, length, take, slice_index, All, Any, Ok, Err, Result}
 use Rattle.std.specs.Char.{digit_value}
 use Rattle.std.specs.Str.Parse.{digits_value, AllDigits}
 use Rattle.qm_decimal.specs.Number.{Sign, missing, plus, minus, sign_text, IsUnsigned, all_digits}
+use Rattle.qm_decimal.specs.Computed.{in_units}
 use Rattle.qm_decimal.specs.Answer.{limit, IsFine, IsTooFine, IsSmall, IsTooLarge}
 use Rattle.qm_decimal.specs.declared.fraction.NumberFault.{NumberFault}
 use Rattle.qm_decimal.specs.declared.fraction.NumberFault.TheVariants.{Form, TooFine, TooLarge}
@@ -32,10 +33,6 @@ IsZerosAnswer text (Ok _) = All (λ byte. byte ≡ 48) text
 IsZerosAnswer text (Err Form) = AllDigits 10 text → ⊥
 IsZerosAnswer text (Err TooFine) = AllDigits 10 text × Any (λ byte. byte ≢ 48) text
 IsZerosAnswer text (Err TooLarge) = ⊥
-
--- decimals in units of ten to the minus places
-abbrev pub in_units : List ℕ → ℕ → ℕ
-in_units decimals places = digits_value 10 (take places decimals) * 10 ^ (places - length decimals)
 
 -- the decimals of a number, that are fine at these places
 pub record IsDecimalPart (decimals : List ℕ) (places value : ℕ) : Type 0 where
