@@ -3,7 +3,7 @@ use Rattle.std.specs.Prelude.{FitsSigned}
 use Rattle.std.proofs.lemmas.List.{append_assoc}
 use Rattle.std.proofs.lemmas.Int.{to_z-of_z, fits_signed_from_abs}
 use Rattle.qm_compile.specs.TreeFile.{plane_bytes}
-use Rattle.qm_compile.proofs.tree_file.put_plane.Goals as goal
+use Rattle.qm_compile.proofs.tree_file.PlaneBytesEncoding.append.Goals as goal
 
 pub returns : goal.returns
 unfolding plane_bytes
