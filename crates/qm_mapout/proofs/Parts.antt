@@ -93,4 +93,4 @@ face_put face start first second third fourth three a b c t =
     parts (p ∷ q ∷ []) e = absurd (omega arith)
     parts (p ∷ q ∷ r ∷ s ∷ more) e = absurd (omega arith)
     parts (p ∷ q ∷ r ∷ []) e =
-        rw (flat_map-append spaced (flat_map point_symbols (p ∷ q ∷ r ∷ [])) (texture_symbol face.texture ∷ front), tail, flat_map-flat_map spaced point_symbols (p ∷ q ∷ r ∷ [])) (simp (append_assoc, append-nil, flat_map-cons))
+        rw (flat_map-append spaced (flat_map point_symbols (p ∷ q ∷ r ∷ [])) (texture_symbol face.texture ∷ front), tail, flat_map-flat_map spaced point_symbols (p ∷ q ∷ r ∷ [])) (simp (append_assoc, append-nil))

@@ -1,4 +1,4 @@
-use Rattle.std.proofs.Common.{ℕ, ◌≡◌, ◌++◌, length, rules, arith, get_or, pos, w32}
+use Rattle.std.proofs.Common.{rules, get_or, pos, w32}
 use Rattle.std.specs.Prelude.{FitsSigned}
 use Rattle.std.proofs.lemmas.Int.{to_z-of_z}
 use Rattle.qm_mapout.proofs.Parts.{point_put}
