@@ -1,11 +1,12 @@
 //! The bytes of a tree file. All numbers are little-endian.
 
-ghost use Rattle.std.specs.Prelude.{◌≡◌, ◌+◌, ◌<◌, ◌^◌, ◌++◌, IfOk, OnOk, length, flat_map, count_by};
+ghost use Rattle.std.specs.Prelude.{◌≡◌, ◌+◌, ◌<◌, ◌^◌, ◌++◌, IfOk, OnOk, length, count_by};
 ghost use Rattle.qm_compile.specs.TreeFile.{count_bytes, component_bytes, distance_bytes, plane_bytes, child_bytes, node_bytes, leaf_bytes, header_bytes, file_bytes, is_open};
 
 use crate::tree::{Child, Leaf, Node};
 use qm_contents::{Contents, code};
 use qm_geom::Plane;
+use qm_lists::{Encoding, append_all};
 use std::alloc::{AllocError, Global};
 
 /// The bytes before the planes, of each plane, of each node and of each leaf.
@@ -33,9 +34,9 @@ pub fn encode(
         + LEAF_LENGTH * leaves.len();
     let mut bytes = Vec::with_capacity(alloc, room)?;
     put_header(&mut bytes, planes.len(), nodes.len(), leaves)?;
-    put_planes(&mut bytes, planes)?;
-    put_nodes(&mut bytes, nodes)?;
-    put_leaves(&mut bytes, leaves)?;
+    append_all::<PlaneBytes>(&mut bytes, planes)?;
+    append_all::<NodeBytes>(&mut bytes, nodes)?;
+    append_all::<LeafBytes>(&mut bytes, leaves)?;
     Ok(bytes)
 }
 
@@ -57,33 +58,6 @@ fn put_header(
     Ok(())
 }
 
-fn put_planes(bytes: &mut Vec<u8>, planes: &[Plane]) -> Result<(), AllocError>
-    ensures { OnOk result (bytes.new.items ≡ bytes.old.items ++ flat_map plane_bytes planes.now) }
-{
-    for plane in planes {
-        put_plane(bytes, plane)?;
-    }
-    Ok(())
-}
-
-fn put_nodes(bytes: &mut Vec<u8>, nodes: &[Node]) -> Result<(), AllocError>
-    ensures { OnOk result (bytes.new.items ≡ bytes.old.items ++ flat_map node_bytes nodes.now) }
-{
-    for node in nodes {
-        put_node(bytes, node)?;
-    }
-    Ok(())
-}
-
-fn put_leaves(bytes: &mut Vec<u8>, leaves: &[Leaf]) -> Result<(), AllocError>
-    ensures { OnOk result (bytes.new.items ≡ bytes.old.items ++ flat_map leaf_bytes leaves.now) }
-{
-    for leaf in leaves {
-        put_leaf(bytes, leaf)?;
-    }
-    Ok(())
-}
-
 /// How many leaves are not solid.
 fn count_open(leaves: &[Leaf]) -> usize
     ensures { result ≡ count_by is_open leaves.now }
@@ -102,15 +76,23 @@ fn put_count(bytes: &mut Vec<u8>, count: usize) -> Result<(), AllocError>
 }
 
 /// The normal as three numbers of 32 bits, and the distance in 64.
-#[tactic(auto, unfolding(crate::specs::TreeFile::plane_bytes))]
-fn put_plane(bytes: &mut Vec<u8>, plane: &Plane) -> Result<(), AllocError>
-    ensures { OnOk result (bytes.new.items ≡ bytes.old.items ++ plane_bytes plane.now) }
-{
-    put_component(bytes, plane.nx)?;
-    put_component(bytes, plane.ny)?;
-    put_component(bytes, plane.nz)?;
-    put_distance(bytes, plane.d)?;
-    Ok(())
+struct PlaneBytes;
+
+impl Encoding for PlaneBytes {
+    type Value = Plane;
+
+    ghost can_append = { λ _. Unit {0} };
+
+    ghost bytes_of = { plane_bytes };
+
+    #[tactic(auto, unfolding(crate::specs::TreeFile::plane_bytes))]
+    fn append(bytes: &mut Vec<u8>, plane: &Plane) -> Result<(), AllocError> {
+        put_component(bytes, plane.nx)?;
+        put_component(bytes, plane.ny)?;
+        put_component(bytes, plane.nz)?;
+        put_distance(bytes, plane.d)?;
+        Ok(())
+    }
 }
 
 #[tactic(auto, unfolding(crate::specs::TreeFile::component_bytes))]
@@ -128,13 +110,21 @@ fn put_distance(bytes: &mut Vec<u8>, distance: i64) -> Result<(), AllocError>
 }
 
 /// The plane's number in 32 bits, and both children.
-#[tactic(auto, unfolding(crate::specs::TreeFile::node_bytes))]
-fn put_node(bytes: &mut Vec<u8>, node: &Node) -> Result<(), AllocError>
-    ensures { OnOk result (bytes.new.items ≡ bytes.old.items ++ node_bytes node.now) }
-{
-    bytes.extend_from_slice(&node.plane.to_le_bytes())?;
-    put_child(bytes, node.front)?;
-    put_child(bytes, node.back)
+struct NodeBytes;
+
+impl Encoding for NodeBytes {
+    type Value = Node;
+
+    ghost can_append = { λ _. Unit {0} };
+
+    ghost bytes_of = { node_bytes };
+
+    #[tactic(auto, unfolding(crate::specs::TreeFile::node_bytes))]
+    fn append(bytes: &mut Vec<u8>, node: &Node) -> Result<(), AllocError> {
+        bytes.extend_from_slice(&node.plane.to_le_bytes())?;
+        put_child(bytes, node.front)?;
+        put_child(bytes, node.back)
+    }
 }
 
 /// A node's number, or -(1 + number) of a leaf, in 64 bits. In two's complement the latter is the
@@ -151,11 +141,19 @@ fn put_child(bytes: &mut Vec<u8>, child: Child) -> Result<(), AllocError>
 }
 
 /// The code of the contents in 32 bits, and a byte that is 1 where the leaf is filled.
-#[tactic(auto, unfolding(crate::specs::TreeFile::leaf_bytes))]
-fn put_leaf(bytes: &mut Vec<u8>, leaf: &Leaf) -> Result<(), AllocError>
-    ensures { OnOk result (bytes.new.items ≡ bytes.old.items ++ leaf_bytes leaf.now) }
-{
-    bytes.extend_from_slice(&code(leaf.contents).to_le_bytes())?;
-    bytes.push(u8::from(leaf.filled))?;
-    Ok(())
+struct LeafBytes;
+
+impl Encoding for LeafBytes {
+    type Value = Leaf;
+
+    ghost can_append = { λ _. Unit {0} };
+
+    ghost bytes_of = { leaf_bytes };
+
+    #[tactic(auto, unfolding(crate::specs::TreeFile::leaf_bytes))]
+    fn append(bytes: &mut Vec<u8>, leaf: &Leaf) -> Result<(), AllocError> {
+        bytes.extend_from_slice(&code(leaf.contents).to_le_bytes())?;
+        bytes.push(u8::from(leaf.filled))?;
+        Ok(())
+    }
 }

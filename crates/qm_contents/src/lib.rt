@@ -5,8 +5,6 @@
 mod codes;
 mod contents;
 mod precedence;
-#[cfg(test)]
-mod tests;
 mod texture;
 
 pub use codes::{code, of_code};

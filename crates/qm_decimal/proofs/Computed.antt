@@ -5,21 +5,17 @@ use Rattle.std.specs.List.{list_all, prefix_len, All}
 use Rattle.std.specs.Str.Parse.{digits_value, AllDigits}
 use Rattle.std.proofs.lemmas.Bool.{eqb-true, eqb-false, ltb-true, ltb-false}
 use Rattle.std.proofs.lemmas.List.Sums.{prefix_len-le-length, prefix_len_stops, AllPass-from_list_all}
+use Rattle.qm_lists.proofs.Cases.{by_cases_of}
 use Rattle.qm_decimal.specs.declared.fraction.NumberFault.TheVariants.{Form, TooFine, TooLarge}
 use Rattle.qm_decimal.specs.Answer.{IsAnswer, limit}
 use Rattle.qm_decimal.specs.Number.{IsTail, missing, plus, minus}
-use Rattle.qm_decimal.specs.Parts.{IsSignSplit, IsWholePart, IsDecimalPart, in_units}
-use Rattle.qm_decimal.specs.Computed.{fraction_of, answer_of_magnitude, answer_of_digits, answer_of_parts, answer_of_tail, unsigned_at, read_at}
+use Rattle.qm_decimal.specs.inner.Parts.{IsSignSplit, IsWholePart, IsDecimalPart}
+use Rattle.qm_decimal.specs.Computed.{fraction_of, answer_of_magnitude, answer_of_digits, answer_of_parts, answer_of_tail, unsigned_at, read_at, in_units}
 use Rattle.qm_decimal.proofs.ByteTests.{digits_from_test, test_from_digits, other_from_test}
 use Rattle.qm_decimal.proofs.Scaling.{order}
 use Rattle.qm_decimal.proofs.Values.{power_positive}
 use Rattle.qm_decimal.proofs.Reading.{no_tail, no_digits, decimal_fault, within_limit, above_limit}
 use Rattle.qm_decimal.proofs.Uniqueness.{signed_fault, signed_value}
-
--- what holds of both arms holds of the choice
-both_arms : {A : Type 0} (P : A → Type 0) (test : Bool) (x y : A) → (test ≡ true → P x) → (test ≡ false → P y) → P (if test then x else y)
-both_arms P true x y when_true when_false = when_true refl
-both_arms P false x y when_true when_false = when_false refl
 
 -- ---- the digits that a text begins with
 
@@ -81,7 +77,7 @@ magnitude_answers : (text : List ℕ) (negative : Bool) (u : List ℕ) (v n p : 
 magnitude_answers text negative u v n p d h some part =
     let whole = digits_value 10 (take n u) in
     let magnitude = whole * 10 ^ p + in_units d p in
-    both_arms (IsAnswer text p) (nat_lt (limit * 10 ^ p) magnitude) (Err TooLarge) (Ok (fraction_of negative p magnitude))
+    by_cases_of (λ t. IsAnswer text p (if t then Err TooLarge else Ok (fraction_of negative p magnitude))) (nat_lt (limit * 10 ^ p) magnitude)
     (λ test. signed_fault TooLarge text negative u p h.split
     (above_limit u v n p (10 ^ p) (in_units d p) d h.whole h.tail some part refl
     (kept_large limit whole v (in_units d p) (10 ^ p) h.whole.capped (ltb-true (limit * 10 ^ p) magnitude test) (power_positive p))))
@@ -96,8 +92,7 @@ magnitude_answers text negative u v n p d h some part =
 
 digits_answer : (text : List ℕ) (negative : Bool) (u : List ℕ) (v n p : ℕ) (d : List ℕ) → IsParted text negative u v n d → (n + length d ≡ 0 → ⊥) → AllDigits 10 d → IsAnswer text p (answer_of_digits negative p (take n u) d)
 digits_answer text negative u v n p d h some digits =
-    both_arms (IsAnswer text p) (list_all (λ byte. byte == 48) (drop p d))
-    (answer_of_magnitude negative p (digits_value 10 (take n u) * 10 ^ p + in_units d p)) (Err TooFine)
+    by_cases_of (λ t. IsAnswer text p (if t then answer_of_magnitude negative p (digits_value 10 (take n u) * 10 ^ p + in_units d p) else Err TooFine)) (list_all (λ byte. byte == 48) (drop p d))
     (λ test. magnitude_answers text negative u v n p d h some (record { digits = digits; fine = zeros_from_test (drop p d) test; value_is = refl }))
     (λ test. signed_fault TooFine text negative u p h.split
     (decimal_fault TooFine u v n p d h.whole h.tail some (record { digits = digits; too_fine = other_from_test (drop p d) test })))
@@ -107,14 +102,13 @@ unfolding answer_of_parts
 parts_answer text negative u v n p d h =
     let within : n ≤ length u = h.whole.within in
     let size : length (take n u) ≡ n = omega (arith, length-take n u) in
-    both_arms (IsAnswer text p) (length (take n u) + length d == 0) (Err Form)
-    (if list_all is_ascii_digit d then answer_of_digits negative p (take n u) d else Err Form)
+    by_cases_of (λ t. IsAnswer text p (if t then Err Form else (if list_all is_ascii_digit d then answer_of_digits negative p (take n u) d else Err Form))) (length (take n u) + length d == 0)
     (λ test.
     let none : length (take n u) + length d ≡ 0 = eqb-true (length (take n u) + length d) 0 test in
     signed_fault Form text negative u p h.split (no_digits u v n d h.whole h.tail (omega arith)))
     (λ test.
     let some : n + length d ≡ 0 → ⊥ = λ none. eqb-false (length (take n u) + length d) 0 test (omega arith) in
-    both_arms (IsAnswer text p) (list_all is_ascii_digit d) (answer_of_digits negative p (take n u) d) (Err Form)
+    by_cases_of (λ t. IsAnswer text p (if t then answer_of_digits negative p (take n u) d else Err Form)) (list_all is_ascii_digit d)
     (λ all. digits_answer text negative u v n p d h some (digits_from_test d all))
     (λ all. signed_fault Form text negative u p h.split
     (decimal_fault Form u v n p d h.whole h.tail some (λ digits. let yes = test_from_digits d digits in cc))))
@@ -124,7 +118,7 @@ tail_answer : (text : List ℕ) (negative : Bool) (u : List ℕ) (v n p : ℕ) �
 tail_answer text negative u v n p split whole [] e =
     parts_answer text negative u v n p [] (record { split = split; whole = whole; tail = inr (e, refl) })
 tail_answer text negative u v n p split whole (byte ∷ bytes) e =
-    both_arms (IsAnswer text p) (byte == 46) (answer_of_parts negative p (take n u) bytes) (Err Form)
+    by_cases_of (λ t. IsAnswer text p (if t then answer_of_parts negative p (take n u) bytes else Err Form)) (byte == 46)
     (λ test.
     let point : byte ≡ 46 = eqb-true byte 46 test in
     parts_answer text negative u v n p bytes (record { split = split; whole = whole; tail = inl (e ∙ ap (λ (b : ℕ). b ∷ bytes) point) }))
@@ -146,15 +140,14 @@ unfolding read_at
 read_at_answers [] p =
     unsigned_answer [] false [] p (record { sign = missing; spelled = refl; negative = refl; no_more = λ _. (λ e. omega arith, λ e. omega arith) })
 read_at_answers (byte ∷ bytes) p =
-    both_arms (IsAnswer (byte ∷ bytes) p) (byte == 45) (unsigned_at true p bytes)
-    (if byte == 43 then unsigned_at false p bytes else unsigned_at false p (byte ∷ bytes))
+    by_cases_of (λ t. IsAnswer (byte ∷ bytes) p (if t then unsigned_at true p bytes else (if byte == 43 then unsigned_at false p bytes else unsigned_at false p (byte ∷ bytes)))) (byte == 45)
     (λ test. unsigned_answer (byte ∷ bytes) true bytes p (record {
       sign = minus;
       spelled = ap (λ (b : ℕ). b ∷ bytes) (eqb-true byte 45 test);
       negative = refl;
       no_more = λ e. cc;
     }))
-    (λ not_minus. both_arms (IsAnswer (byte ∷ bytes) p) (byte == 43) (unsigned_at false p bytes) (unsigned_at false p (byte ∷ bytes))
+    (λ not_minus. by_cases_of (λ t. IsAnswer (byte ∷ bytes) p (if t then unsigned_at false p bytes else unsigned_at false p (byte ∷ bytes))) (byte == 43)
     (λ test. unsigned_answer (byte ∷ bytes) false bytes p (record {
       sign = plus;
       spelled = ap (λ (b : ℕ). b ∷ bytes) (eqb-true byte 43 test);

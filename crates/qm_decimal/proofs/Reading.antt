@@ -8,7 +8,7 @@ use Rattle.qm_decimal.specs.declared.fraction.NumberFault.{NumberFault}
 use Rattle.qm_decimal.specs.declared.fraction.NumberFault.TheVariants.{Form, TooFine, TooLarge}
 use Rattle.qm_decimal.specs.Answer.{limit}
 use Rattle.qm_decimal.specs.Number.{IsTail, IsUnsigned, all_digits}
-use Rattle.qm_decimal.specs.Parts.{IsZerosAnswer, IsDecimalAnswer, IsDecimalPart, IsWholePart, IsMagnitudeAnswer, IsMagnitude, IsTooLargeUnsigned}
+use Rattle.qm_decimal.specs.inner.Parts.{IsZerosAnswer, IsDecimalAnswer, IsDecimalPart, IsWholePart, IsMagnitudeAnswer, IsMagnitude, IsTooLargeUnsigned}
 use Rattle.qm_decimal.proofs.Texts.{NoDigitAhead, last_digits, joined_digits, zeros_digits, same_digits, no_digit_tail, same_decimals}
 use Rattle.qm_decimal.proofs.Values.{all_digits_split, fine_units, power_positive}
 use Rattle.qm_decimal.proofs.Scaling.{IsScaled, scaled_value, scaled_small, scaled_large}

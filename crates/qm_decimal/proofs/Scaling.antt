@@ -3,7 +3,7 @@ use Rattle.std.proofs.Common.{◌≡◌, ◌<◌, ◌≤◌, ℕ, ◌+◌, ◌*�
 use Rattle.std.proofs.lemmas.Int.{ints}
 use Rattle.std.proofs.Math.IntN.{pos-*ℤ-pos, negsuc-*ℤ-pos}
 use Rattle.qm_decimal.specs.Number.{Sign, missing, plus, minus, signed}
-use Rattle.qm_decimal.specs.Parts.{is_minus}
+use Rattle.qm_decimal.specs.inner.Parts.{is_minus}
 
 -- one number is at most the other, or above it
 pub order : (a b : ℕ) → (a ≤ b) ⊎ (b < a)

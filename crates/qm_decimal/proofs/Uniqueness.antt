@@ -6,7 +6,7 @@ use Rattle.qm_decimal.specs.declared.fraction.NumberFault.{NumberFault}
 use Rattle.qm_decimal.specs.declared.fraction.NumberFault.TheVariants.{Form, TooFine, TooLarge}
 use Rattle.qm_decimal.specs.Number.{IsUnsigned, Number, Spells, all_digits, signed}
 use Rattle.qm_decimal.specs.Answer.{IsAnswer, IsValue, IsFine, IsTooFine, limit}
-use Rattle.qm_decimal.specs.Parts.{IsSignSplit, IsMagnitude, IsMagnitudeAnswer}
+use Rattle.qm_decimal.specs.inner.Parts.{IsSignSplit, IsMagnitude, IsMagnitudeAnswer}
 use Rattle.qm_decimal.proofs.Scaling.{signed_times, with_sign_is, cancel_times}
 use Rattle.qm_decimal.proofs.Texts.{number_of, same_number, same_sign, no_sign_unsigned}
 use Rattle.qm_decimal.proofs.Values.{power_positive}

@@ -4,7 +4,7 @@ use Rattle.std.specs.Char.{digit_value}
 use Rattle.std.specs.List.{All}
 use Rattle.std.specs.Str.Parse.{AllDigits, digits_value, digits_value_after}
 use Rattle.qm_decimal.specs.Answer.{IsFine}
-use Rattle.qm_decimal.specs.Parts.{in_units}
+use Rattle.qm_decimal.specs.Computed.{in_units}
 use Rattle.qm_decimal.proofs.Scaling.{order}
 use Rattle.qm_decimal.proofs.Texts.{first_digits}
 use Rattle.std.proofs.lemmas.Int.Digits.{digits_value-lt}

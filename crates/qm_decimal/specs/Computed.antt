@@ -1,5 +1,5 @@
 -- What reading a text answers, computed from left to right.
-use Rattle.std.specs.Prelude.{ℕ, ◌+◌, ◌*◌, ◌^◌, pos, neg_ℤ, Bool, true, false, ◌==◌, nat_lt, if◌then◌else◌, List, [], ◌∷◌, length, take, drop, Result, Ok, Err}
+use Rattle.std.specs.Prelude.{ℕ, ◌+◌, ◌-◌, ◌*◌, ◌^◌, pos, neg_ℤ, Bool, true, false, ◌==◌, nat_lt, if◌then◌else◌, List, [], ◌∷◌, length, take, drop, Result, Ok, Err}
 use Rattle.std.specs.Char.{is_ascii_digit}
 use Rattle.std.specs.List.{list_all, prefix_len}
 use Rattle.std.specs.Str.Parse.{digits_value}
@@ -7,7 +7,10 @@ use Rattle.qm_decimal.specs.declared.fraction.Fraction.{Fraction}
 use Rattle.qm_decimal.specs.declared.fraction.NumberFault.{NumberFault}
 use Rattle.qm_decimal.specs.declared.fraction.NumberFault.TheVariants.{Form, TooFine, TooLarge}
 use Rattle.qm_decimal.specs.Answer.{limit}
-use Rattle.qm_decimal.specs.Parts.{in_units}
+
+-- decimals in units of ten to the minus places
+abbrev pub in_units : List ℕ → ℕ → ℕ
+in_units decimals places = digits_value 10 (take places decimals) * 10 ^ (places - length decimals)
 
 -- the fraction of a magnitude in units of ten to the minus places
 abbrev pub fraction_of : Bool → ℕ → ℕ → Fraction

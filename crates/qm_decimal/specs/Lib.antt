@@ -1,5 +1,5 @@
 pub mod Number
 pub mod Answer
-pub mod Parts
 pub mod Printed
 pub mod Computed
+pub mod inner

@@ -26,6 +26,6 @@ printed negative over under =
     else with_six_decimals negative (millionths over under)
 
 -- n millionths are nearer to over / under than any other number of millionths, or as near and further from 0
-pub record IsNearest (over under n : ℕ) : Type 0 where
+pub record IsNearestMillionths (over under n : ℕ) : Type 0 where
   pub not_above : 2 * n * under ≤ 2 * over * 1000000 + under
   pub not_below : 2 * over * 1000000 + under < 2 * (n + 1) * under

@@ -11,6 +11,3 @@ mod whole;
 pub use fraction::{Fraction, NumberFault};
 pub use print::print6;
 pub use reader::read;
-
-#[cfg(test)]
-mod tests;

@@ -1,5 +1,5 @@
 ghost use Rattle.std.specs.Prelude.{◌≡◌, ◌^◌, ◌<◌, ◌≤◌, ◌++◌, ◌<ℤ◌, pos, int_lt, unsigned_abs, decimal, OnOk, OnErr};
-ghost use Rattle.qm_decimal.specs.Printed.{IsNearest, millionths, printed, shown_sign, with_six_decimals};
+ghost use Rattle.qm_decimal.specs.Printed.{IsNearestMillionths, millionths, printed, shown_sign, with_six_decimals};
 
 use crate::backward::Backward;
 use std::alloc::AllocError;
@@ -51,7 +51,7 @@ pub fn print6(numerator: i128, denominator: i128, out: &mut Vec<u8>) -> Result<(
     ensures err { OnErr result (out.new.items ≡ out.old.items) }
 
     // What is printed with six decimals is the nearest such number.
-    ensures nearest { IsNearest (unsigned_abs numerator) (unsigned_abs denominator)
+    ensures nearest { IsNearestMillionths (unsigned_abs numerator) (unsigned_abs denominator)
         (millionths (unsigned_abs numerator) (unsigned_abs denominator)) }
 {
     let over = numerator.unsigned_abs();

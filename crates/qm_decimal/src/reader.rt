@@ -2,7 +2,7 @@ ghost use Rattle.std.specs.Prelude.{◌≡◌, ◌≤◌, ◌<◌, ◌^◌, ℕ,
 ghost use Rattle.qm_decimal.specs.Answer.{IsAnswer};
 ghost use Rattle.qm_decimal.specs.Computed.{read_at};
 ghost use Rattle.qm_decimal.specs.Number.{Number, Spells, IsTail};
-ghost use Rattle.qm_decimal.specs.Parts.{IsMagnitudeAnswer, IsSignSplit};
+ghost use Rattle.qm_decimal.specs.inner.Parts.{IsMagnitudeAnswer, IsSignSplit};
 
 use crate::decimals::{decimal_part, power_of_ten};
 use crate::fraction::{Fraction, NumberFault};

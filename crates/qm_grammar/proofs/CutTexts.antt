@@ -6,7 +6,7 @@ use Rattle.std.proofs.lemmas.List.{take-append-drop, take-append-le, length-take
 use Rattle.std.proofs.lemmas.List.Elements.{All-head, All-tail}
 use Rattle.qm_lex.specs.Lexeme.{Lexeme, line_ends}
 use Rattle.qm_lex.specs.Lexing.{Lexing, prepend}
-use Rattle.qm_lex.specs.Modes.{Mode, between, mode_after, ended_by, read}
+use Rattle.qm_lex.specs.inner.Modes.{Mode, between, mode_after, ended_by, read}
 use Rattle.qm_lex.proofs.LaterTokens.{EndsFrom, read_from}
 use Rattle.qm_grammar.specs.declared.refusal.Refusal.{Refusal}
 use Rattle.qm_grammar.specs.declared.fault.MapFault.TheVariants as fault

@@ -4,7 +4,7 @@ use Rattle.std.specs.Prelude.{All}
 use Rattle.std.proofs.lemmas.List.{get_or_at}
 use Rattle.qm_lex.specs.Lexeme.{Lexeme, StandsIn}
 use Rattle.qm_lex.specs.Lexing.{Lexing, IsLexingOf}
-use Rattle.qm_lex.specs.Modes.{between, read}
+use Rattle.qm_lex.specs.inner.Modes.{between, read}
 use Rattle.qm_lex.proofs.Cutting.{pieces_of}
 use Rattle.qm_lex.proofs.PieceRuns.{read_pieces}
 use Rattle.qm_lex.proofs.Standing.{pieces_stand}

@@ -4,7 +4,7 @@ use Rattle.std.proofs.lemmas.Bool.{ltb-true, ltb-false, eqb-true, both_ways, eq-
 use Rattle.std.proofs.lemmas.List.{nil_from_length}
 use Rattle.qm_lex.specs.Lexeme.{Lexeme}
 use Rattle.qm_lex.specs.Lexing.{Lexing, IsLexingOf}
-use Rattle.qm_lex.specs.Modes.{between, read}
+use Rattle.qm_lex.specs.inner.Modes.{between, read}
 use Rattle.qm_mapfile.specs.declared.entity.Entity.{Entity}
 use Rattle.qm_mapfile.specs.declared.entity.MapFile.{MapFile}
 use Rattle.qm_grammar.specs.declared.place.Place.TheVariants as place

@@ -7,7 +7,7 @@ use Rattle.qm_decimal.specs.declared.fraction.NumberFault.{NumberFault}
 use Rattle.qm_decimal.specs.declared.fraction.NumberFault.TheVariants as number
 use Rattle.qm_decimal.specs.Computed.{read_at}
 use Rattle.qm_lex.specs.Lexeme.{Lexeme}
-use Rattle.qm_lex.specs.Modes.{between, read}
+use Rattle.qm_lex.specs.inner.Modes.{between, read}
 use Rattle.qm_space.specs.Point.{Point}
 use Rattle.qm_space.specs.Bounds.{extent}
 use Rattle.qm_space.specs.Plane.{Plane}

@@ -6,7 +6,7 @@ use Rattle.std.proofs.lemmas.List.Edits.{between_more}
 use Rattle.std.proofs.lemmas.List.Sums.{count_by-le-length}
 use Rattle.qm_lex.specs.Lexeme.{line_ends}
 use Rattle.qm_lex.specs.Lexing.{lexeme_then, prepend}
-use Rattle.qm_lex.specs.Modes.{Mode, between, slash, in_comment, in_word, in_quote, mode_after, ended_by, at_end, word_before, quoted_before, read}
+use Rattle.qm_lex.specs.inner.Modes.{Mode, between, slash, in_comment, in_word, in_quote, mode_after, ended_by, at_end, word_before, quoted_before, read}
 
 -- no line ends with another byte than 10
 pub same_line : (line byte : ℕ) → (byte ≡ 10 → ⊥) → line + line_ends (byte ∷ []) ≡ line

@@ -3,7 +3,7 @@ use Rattle.std.proofs.Common.{ℕ, ◌+◌, ◌≤◌, Bool, true, false, if◌t
 use Rattle.std.specs.Prelude.{All, IfSome}
 use Rattle.std.proofs.lemmas.List.Elements.{All-nil, All-cons}
 use Rattle.qm_lex.specs.Lexeme.{Lexeme, line_ends}
-use Rattle.qm_lex.specs.Modes.{Mode, between, slash, in_comment, in_word, in_quote, mode_after, ended_by, at_end, read}
+use Rattle.qm_lex.specs.inner.Modes.{Mode, between, slash, in_comment, in_word, in_quote, mode_after, ended_by, at_end, read}
 use Rattle.qm_lex.proofs.Standing.{all_prepended}
 
 -- a lexeme ends at an offset or behind it

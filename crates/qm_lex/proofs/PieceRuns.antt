@@ -7,7 +7,7 @@ use Rattle.std.proofs.lemmas.List.Elements.{All-head, All-tail}
 use Rattle.std.proofs.lemmas.List.Sums.{sum_by-append}
 use Rattle.qm_lex.specs.Lexeme.{line_ends}
 use Rattle.qm_lex.specs.Lexing.{Lexing, unclosed_on, lexeme_then, lexing_from}
-use Rattle.qm_lex.specs.Modes.{between, slash, in_comment, in_word, in_quote, word_before, quoted_before, read}
+use Rattle.qm_lex.specs.inner.Modes.{between, slash, in_comment, in_word, in_quote, word_before, quoted_before, read}
 use Rattle.qm_lex.specs.Piece.{Piece, blank, comment, word, quoted, unclosed, EndsLine, EndsWord, OpensWord, ArePiecesOf}
 use Rattle.qm_lex.proofs.ByteSteps.{slash_begins, word_begins, same_line}
 

@@ -1,5 +1,7 @@
 use Rattle.std.specs.Prelude.{◌≡◌, ℕ, ◌+◌, List, [], ◌∷◌, Option, Some, None, length}
 use Rattle.qm_lex.specs.declared.token.TokenKind.TheVariants.{Word, Quoted}
+use Rattle.qm_lex.specs.declared.token.LexFault.{LexFault}
+use Rattle.qm_lex.specs.declared.token.LexFault.TheVariants.{UnclosedQuote}
 use Rattle.qm_lex.specs.Lexeme.{Lexeme, line_ends}
 use Rattle.qm_lex.specs.Piece.{Piece, word, quoted, unclosed, bytes_of, ArePiecesOf}
 
@@ -43,3 +45,7 @@ lexing_from offset line (piece ∷ pieces) =
 -- the text is made of pieces that give these lexemes and this quote; lines count from 1
 abbrev pub IsLexingOf : List ℕ → Lexing → Type 0
 IsLexingOf text lexing = (pieces : List Piece) × ArePiecesOf text pieces × (lexing ≡ lexing_from 0 1 pieces)
+
+-- the line that a fault names
+abbrev pub fault_line : LexFault → ℕ
+fault_line (UnclosedQuote line) = line

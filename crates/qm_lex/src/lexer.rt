@@ -1,9 +1,8 @@
 ghost use Rattle.std.specs.Prelude.{◌≡◌, ◌+◌, ◌≤◌, [], All, IfOk, IfErr, IfSome, MatchOption, length};
 ghost use Rattle.qm_lex.specs.Lexeme.{StandsIn, lexeme_of, quote_length};
-ghost use Rattle.qm_lex.specs.Lexing.{Lexing, IsLexingOf, nothing, lexeme_then, unclosed_on};
-ghost use Rattle.qm_lex.specs.Scan.{fault_line};
+ghost use Rattle.qm_lex.specs.Lexing.{Lexing, IsLexingOf, nothing, lexeme_then, unclosed_on, fault_line};
 
-use crate::scan::{Place, gap_end, token_at};
+use crate::scan::{Position, gap_end, token_at};
 use crate::token::{LexFault, Token};
 use std::marker::Model;
 
@@ -12,19 +11,19 @@ use std::marker::Model;
 #[derive(Drop)]
 pub struct Lexer<'a> {
     text: &'a [u8],
-    place: Place,
+    position: Position,
 }
 
 impl<'a> Model for Lexer<'a> {
-    ghost use Rattle.qm_lex.specs.Reading.{Reading, reading_at};
+    ghost use Rattle.qm_lex.specs.Reading.{Reading};
 
     ghost Value = { Reading };
 
-    ghost use Rattle.qm_lex.specs.Scan.{IsPlaceIn};
+    ghost use Rattle.qm_lex.specs.inner.Scan.{IsPositionIn, reading_at};
 
-    ghost view = { λ lexer. reading_at lexer.text.now lexer.place.at lexer.place.line };
+    ghost view = { λ lexer. reading_at lexer.text.now lexer.position };
 
-    ghost invariant = { λ lexer. IsPlaceIn lexer.text.now lexer.place };
+    ghost invariant = { λ lexer. IsPositionIn lexer.text.now lexer.position };
 }
 
 impl Lexer<'_> {
@@ -38,7 +37,7 @@ impl Lexer<'_> {
     {
         Lexer {
             text,
-            place: Place { at: 0, line: 1 },
+            position: Position { offset: 0, line: 1 },
         }
     }
 
@@ -59,20 +58,17 @@ impl Lexer<'_> {
         ensures within { IfOk result (λ answer. IfSome answer (λ token.
             (token.start ≤ token.end) × (token.end + quote_length token.kind ≤ length self.old.text))) }
     {
-        let place = gap_end(self.text, self.place);
-        self.place = place;
-        if place.at == self.text.len() {
+        let position = gap_end(self.text, self.position);
+        self.position = position;
+        if position.offset == self.text.len() {
             return Ok(None);
         }
-        match token_at(self.text, place) {
+        match token_at(self.text, position) {
             Ok(found) => {
-                self.place = found.behind;
+                self.position = found.behind;
                 Ok(Some(found.token))
             }
             Err(fault) => Err(fault),
         }
     }
 }
-
-#[cfg(test)]
-mod tests;

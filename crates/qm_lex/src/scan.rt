@@ -1,23 +1,23 @@
 ghost use Rattle.std.specs.Prelude.{◌≡◌, ℕ, ◌+◌, ◌-◌, ◌≤◌, ◌<◌, ◌^◌, ◌∷◌, ◌↔◌, [], IsTrue, IfNone, IfSome, MatchResult, drop, length, slice_index};
 ghost use Rattle.qm_lex.specs.Lexeme.{line_ends};
-ghost use Rattle.qm_lex.specs.Lexing.{unclosed_on};
-ghost use Rattle.qm_lex.specs.Modes.{read, between, in_comment, in_quote};
-ghost use Rattle.qm_lex.specs.Scan.{IsPlaceIn, IsPast, StartsToken, IsWordEnd, IsClosedAt, IsFoundAt, left_at, fault_line};
+ghost use Rattle.qm_lex.specs.Lexing.{unclosed_on, fault_line};
+ghost use Rattle.qm_lex.specs.inner.Modes.{read, between, in_comment, in_quote};
+ghost use Rattle.qm_lex.specs.inner.Scan.{IsPositionIn, IsPast, StartsToken, IsWordEnd, IsClosedAt, IsFoundAt, left_at};
 
 use crate::token::{LexFault, Token, TokenKind};
 
-/// A place in a text: an offset, and the line there.
+/// Where a reader stands in a text: an offset, and the line there.
 #[derive(Clone, Copy)]
-pub struct Place {
-    pub at: usize,
+pub struct Position {
+    pub offset: usize,
     pub line: u64,
 }
 
-/// A token, and the place behind it.
+/// A token, and the position behind it.
 #[derive(Clone, Copy)]
 pub struct Found {
     pub token: Token,
-    pub behind: Place,
+    pub behind: Position,
 }
 
 // The line behind a byte that stands on a line.
@@ -29,14 +29,14 @@ fn line_behind(line: u64, byte: u8) -> u64
 }
 
 // Whether two slashes stand at an offset.
-fn opens_comment(text: &[u8], at: usize) -> bool
-    requires { at < length text.now }
-    ensures { IsTrue result ↔ ((slice_index text.now at ≡ 47) × (slice_index text.now (at + 1) ≡ 47)) }
+fn opens_comment(text: &[u8], offset: usize) -> bool
+    requires { offset < length text.now }
+    ensures { IsTrue result ↔ ((slice_index text.now offset ≡ 47) × (slice_index text.now (offset + 1) ≡ 47)) }
 {
-    if text[at] != b'/' {
+    if text[offset] != b'/' {
         return false;
     }
-    match text.get(at + 1) {
+    match text.get(offset + 1) {
         Some(next) => *next == b'/',
         None => false,
     }
@@ -51,55 +51,55 @@ fn comment_end(text: &[u8], from: usize) -> usize
         → read in_comment from line (drop from text.now)
         ≡ read between result line (drop result text.now) }
 {
-    for at in from..text.len() {
-        let candidate = text[at];
+    for offset in from..text.len() {
+        let candidate = text[offset];
         if candidate == b'\n' {
-            return at;
+            return offset;
         }
     }
     text.len()
 }
 
-// The place behind the blank byte or the comment that stands at a place, if one stands there.
-fn behind_gap(text: &[u8], place: Place) -> Option<Place>
-    requires in_text { place.at < length text.now }
-    requires line_bound { place.line ≤ place.at + 1 }
-    ensures gap { IfSome result (IsPast text.now place) }
-    ensures token { IfNone result (StartsToken text.now place.at) }
+// The position behind the blank byte or the comment that stands at a position, if one stands there.
+fn behind_gap(text: &[u8], position: Position) -> Option<Position>
+    requires in_text { position.offset < length text.now }
+    requires line_bound { position.line ≤ position.offset + 1 }
+    ensures gap { IfSome result (IsPast text.now position) }
+    ensures token { IfNone result (StartsToken text.now position.offset) }
 {
-    let at = place.at;
-    let line = place.line;
-    let byte = text[at];
+    let offset = position.offset;
+    let line = position.line;
+    let byte = text[offset];
     if byte <= b' ' {
-        return Some(Place {
-            at: at + 1,
+        return Some(Position {
+            offset: offset + 1,
             line: line_behind(line, byte),
         });
     }
-    if opens_comment(text, at) {
-        return Some(Place {
-            at: comment_end(text, at + 2),
+    if opens_comment(text, offset) {
+        return Some(Position {
+            offset: comment_end(text, offset + 2),
             line,
         });
     }
     None
 }
 
-/// The place of the next token, or the end of the text.
-pub fn gap_end(text: &[u8], from: Place) -> Place
-    requires { IsPlaceIn text.now from }
-    ensures place { IsPlaceIn text.now result }
+/// The position of the next token, or the end of the text.
+pub fn gap_end(text: &[u8], from: Position) -> Position
+    requires { IsPositionIn text.now from }
+    ensures position { IsPositionIn text.now result }
     ensures same_left { left_at text.now from ≡ left_at text.now result }
-    ensures token { result.at < length text.now → StartsToken text.now result.at }
+    ensures token { result.offset < length text.now → StartsToken text.now result.offset }
 {
-    let mut place = from;
-    while place.at < text.len() {
-        match behind_gap(text, place) {
-            Some(next) => place = next,
-            None => return place,
+    let mut position = from;
+    while position.offset < text.len() {
+        match behind_gap(text, position) {
+            Some(next) => position = next,
+            None => return position,
         }
     }
-    place
+    position
 }
 
 // The offset behind the word that starts at an offset.
@@ -107,84 +107,84 @@ fn word_end(text: &[u8], start: usize) -> usize
     requires { start < length text.now }
     ensures { IsWordEnd text.now start result }
 {
-    for at in start + 1..text.len() {
-        let next = text[at];
+    for offset in start + 1..text.len() {
+        let next = text[offset];
         if next <= b' ' {
-            return at;
+            return offset;
         }
     }
     text.len()
 }
 
-// The place of the next quote, if there is one.
-fn closing_quote(text: &[u8], from: Place) -> Option<Place>
-    requires { IsPlaceIn text.now from }
+// The position of the next quote, if there is one.
+fn closing_quote(text: &[u8], from: Position) -> Option<Position>
+    requires { IsPositionIn text.now from }
     ensures closed { IfSome result (IsClosedAt text.now from) }
     ensures unclosed { IfNone result
-        (read (in_quote [] from.at from.line) from.at from.line (drop from.at text.now)
+        (read (in_quote [] from.offset from.line) from.offset from.line (drop from.offset text.now)
         ≡ unclosed_on from.line) }
 {
     let mut line = from.line;
-    for at in from.at..text.len() {
-        let byte = text[at];
+    for offset in from.offset..text.len() {
+        let byte = text[offset];
         if byte == b'"' {
-            return Some(Place { at, line });
+            return Some(Position { offset, line });
         }
         line = line_behind(line, byte);
     }
     None
 }
 
-// The word that starts at a place.
-fn word_at(text: &[u8], place: Place) -> Found
-    requires place { IsPlaceIn text.now place }
-    requires token { StartsToken text.now place.at }
-    requires no_quote { slice_index text.now place.at ≡ 34 → ⊥ }
-    ensures { IsFoundAt text.now place result }
+// The word that starts at a position.
+fn word_at(text: &[u8], position: Position) -> Found
+    requires position { IsPositionIn text.now position }
+    requires token { StartsToken text.now position.offset }
+    requires no_quote { slice_index text.now position.offset ≡ 34 → ⊥ }
+    ensures { IsFoundAt text.now position result }
 {
-    let end = word_end(text, place.at);
+    let end = word_end(text, position.offset);
     Found {
         token: Token {
             kind: TokenKind::Word,
-            start: place.at as u64,
+            start: position.offset as u64,
             end: end as u64,
-            line: place.line,
+            line: position.line,
         },
-        behind: Place {
-            at: end,
-            line: place.line,
+        behind: Position {
+            offset: end,
+            line: position.line,
         },
     }
 }
 
-/// The token that starts at a place, or the fault of its quote.
-pub fn token_at(text: &[u8], place: Place) -> Result<Found, LexFault>
-    requires place { IsPlaceIn text.now place }
-    requires token { StartsToken text.now place.at }
+/// The token that starts at a position, or the fault of its quote.
+pub fn token_at(text: &[u8], position: Position) -> Result<Found, LexFault>
+    requires position { IsPositionIn text.now position }
+    requires token { StartsToken text.now position.offset }
     ensures { MatchResult result
-        (IsFoundAt text.now place)
-        (λ fault. left_at text.now place ≡ unclosed_on (fault_line fault)) }
+        (IsFoundAt text.now position)
+        (λ fault. left_at text.now position ≡ unclosed_on (fault_line fault)) }
 {
-    if text[place.at] != b'"' {
-        return Ok(word_at(text, place));
+    if text[position.offset] != b'"' {
+        return Ok(word_at(text, position));
     }
-    let open = Place {
-        at: place.at + 1,
-        line: place.line,
+    let open = Position {
+        offset: position.offset + 1,
+        line: position.line,
     };
     match closing_quote(text, open) {
         Some(close) => Ok(Found {
             token: Token {
                 kind: TokenKind::Quoted,
-                start: open.at as u64,
-                end: close.at as u64,
+                start: open.offset as u64,
+                end: close.offset as u64,
                 line: open.line,
             },
-            behind: Place {
-                at: close.at + 1,
+            behind: Position {
+                offset: close.offset + 1,
                 line: close.line,
             },
         }),
-        None => Err(LexFault::UnclosedQuote { line: place.line }),
+        None => Err(LexFault::UnclosedQuote { line: open.line }),
     }
 }

@@ -1,12 +1,12 @@
 /// What a token is: a word, or what stands between two quotes.
-#[derive(Clone, Copy, Debug, PartialEq, Eq)]
+#[derive(Clone, Copy)]
 pub enum TokenKind {
     Word,
     Quoted,
 }
 
 /// A token of a text.
-#[derive(Clone, Copy, Debug, PartialEq, Eq)]
+#[derive(Clone, Copy)]
 pub struct Token {
     pub kind: TokenKind,
     /// The offset of the token's first byte. The quotes of a quoted token are no bytes of it.
@@ -18,7 +18,7 @@ pub struct Token {
 }
 
 /// Why a text has no further token, though it is not at its end.
-#[derive(Clone, Copy, Debug, PartialEq, Eq)]
+#[derive(Clone, Copy)]
 pub enum LexFault {
     /// A quote opens a token and is never closed.
     UnclosedQuote {

@@ -2,7 +2,7 @@
 use Rattle.std.proofs.Common.{◌≡◌, ◌<◌, ℕ, List, [], length, Option, Some, None, Ok, Err, ◌∙◌, ap, arith}
 use Rattle.qm_lex.specs.Lexeme.{Lexeme}
 use Rattle.qm_lex.specs.Lexing.{Lexing, IsLexingOf, nothing, lexeme_then, unclosed_on}
-use Rattle.qm_lex.specs.Modes.{between, read}
+use Rattle.qm_lex.specs.inner.Modes.{between, read}
 use Rattle.qm_lex.specs.Reading.{Reading}
 use Rattle.qm_lex.proofs.Cutting.{pieces_of}
 use Rattle.qm_lex.proofs.PieceRuns.{read_pieces}

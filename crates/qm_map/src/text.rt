@@ -1,6 +1,6 @@
 ghost use Rattle.std.specs.Prelude.{◌≡◌, ◌≢◌, ◌≤◌, ◌+◌, length, None, Ok, Err, IfOk, IfErr, Result};
 ghost use Rattle.qm_lex.specs.Lexeme.{lexeme_of, quote_length};
-ghost use Rattle.qm_lex.specs.Scan.{fault_line};
+ghost use Rattle.qm_lex.specs.Lexing.{fault_line};
 ghost use Rattle.qm_mapfile.specs.declared.entity.MapFile.{MapFile};
 ghost use Rattle.qm_grammar.specs.declared.fault.MapFault.{MapFault};
 ghost use Rattle.qm_grammar.specs.Faults.{fault_of};

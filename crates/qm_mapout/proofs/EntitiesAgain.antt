@@ -15,9 +15,10 @@ use Rattle.qm_grammar.specs.Symbol.{Symbol, mark_of_byte, sort_of}
 use Rattle.qm_grammar.specs.Grammar.{SpellsFaces, SpellsBrush, SpellsParts, SpellsEntity, SpellsEntities, IsBraced}
 use Rattle.qm_grammar.specs.Grammar as grammar
 use Rattle.qm_grammar.specs.Valid.{IsValidFace, IsValidBrush, IsValidPair, IsValidEntity}
+use Rattle.qm_lists.proofs.Elements.{AllByRecursion-append}
 use Rattle.qm_mapout.specs.Lines.{Line, symbols_of_line, symbols_of}
 use Rattle.qm_mapout.specs.Printed.{open_brace, close_brace, brace_line, pair_line, face_line, brush_lines, entity_lines}
-use Rattle.qm_mapout.proofs.LinesLexed.{IsWritableLine, all-append}
+use Rattle.qm_mapout.proofs.LinesLexed.{IsWritableLine}
 use Rattle.qm_mapout.proofs.FacesAgain.{face_again, quotable, quoted_sort, mark_can_stand}
 
 symbols-cons : (line : Line) (lines : List Line) → symbols_of (line ∷ lines) ≡ symbols_of_line line ++ symbols_of lines
@@ -71,7 +72,7 @@ brace_writable = ((mark_can_stand 123 (lit< tt) (λ e. omega (arith, e)), tt), (
 braced_writable : (lines : List Line) → AllByRecursion IsWritableLine lines → AllByRecursion IsWritableLine (braced_lines lines)
 unfolding braced_lines
 braced_writable lines all =
-    (brace_writable.0, all-append IsWritableLine lines (brace_line close_brace ∷ []) all (brace_writable.1, tt))
+    (brace_writable.0, AllByRecursion-append IsWritableLine lines (brace_line close_brace ∷ []) all (brace_writable.1, tt))
 
 brush_spelled : (brush : Brush) → IsValidBrush brush → SpellsBrush (symbols_of (brush_lines brush)) brush
 unfolding brush_lines braced_lines
@@ -98,7 +99,7 @@ brushes_writable [] valid = tt
 brushes_writable (brush ∷ brushes) valid =
     let P : List Line → Type 0 = AllByRecursion IsWritableLine in
     subst P (sym (flat_map-cons brush_lines brush brushes))
-    (all-append IsWritableLine (brush_lines brush) (flat_map brush_lines brushes)
+    (AllByRecursion-append IsWritableLine (brush_lines brush) (flat_map brush_lines brushes)
     (brush_writable brush (All-head IsValidBrush brush brushes valid)) (brushes_writable brushes (All-tail IsValidBrush brush brushes valid)))
 
 parts_spelled : (pairs : List Pair) (brushes : List Brush) → All IsValidBrush brushes →
@@ -139,7 +140,7 @@ entity_writable entity valid =
     let lines : List Line = map pair_line entity.pairs ++ flat_map brush_lines entity.brushes in
     let P : List Line → Type 0 = AllByRecursion IsWritableLine in
     subst P (sym (entity_as_braced entity))
-    (braced_writable lines (all-append IsWritableLine (map pair_line entity.pairs) (flat_map brush_lines entity.brushes)
+    (braced_writable lines (AllByRecursion-append IsWritableLine (map pair_line entity.pairs) (flat_map brush_lines entity.brushes)
     (pairs_writable entity.pairs valid.pairs) (brushes_writable entity.brushes valid.brushes)))
 
 pub entities_spelled : (entities : List Entity) → All IsValidEntity entities → SpellsEntities (symbols_of (flat_map entity_lines entities)) entities
@@ -155,5 +156,5 @@ entities_writable [] valid = tt
 entities_writable (entity ∷ entities) valid =
     let P : List Line → Type 0 = AllByRecursion IsWritableLine in
     subst P (sym (flat_map-cons entity_lines entity entities))
-    (all-append IsWritableLine (entity_lines entity) (flat_map entity_lines entities)
+    (AllByRecursion-append IsWritableLine (entity_lines entity) (flat_map entity_lines entities)
     (entity_writable entity (All-head IsValidEntity entity entities valid)) (entities_writable entities (All-tail IsValidEntity entity entities valid)))

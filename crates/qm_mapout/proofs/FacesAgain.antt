@@ -1,5 +1,5 @@
 -- The line of a face spells the face.
-use Rattle.std.proofs.Common.{◌≡◌, ◌≢◌, ◌<◌, ◌⊎◌, ℕ, suc, ℤ, Bool, true, false, ◌||◌, nat_le, ◌==◌, if◌then◌else◌, List, [], ◌∷◌, ◌++◌, Option, Some, None, lit<, refl, sym, ap, subst, ◌∙◌, inl, inr, append_assoc, append-nil, arith, rules, length, flat_map, is_some}
+use Rattle.std.proofs.Common.{◌≡◌, ◌≢◌, ◌<◌, ◌⊎◌, ℕ, suc, ℤ, Bool, true, false, ◌||◌, nat_le, ◌==◌, if◌then◌else◌, List, [], ◌∷◌, ◌++◌, None, lit<, refl, sym, ap, subst, ◌∙◌, inl, inr, append_assoc, append-nil, arith, rules, length, flat_map, is_some}
 use Rattle.std.specs.Prelude.{All}
 use Rattle.std.specs.List.{AllByRecursion, list_any}
 use Rattle.std.specs.Fmt.{signed_decimal}
@@ -21,10 +21,12 @@ use Rattle.qm_grammar.specs.Slots.{points_of, mapping_of, mapping_slots, head_sl
 use Rattle.qm_grammar.specs.Slots as slots
 use Rattle.qm_grammar.specs.Grammar.{SpellsFace}
 use Rattle.qm_grammar.specs.Valid.{IsNameText, HasNoQuote, HasWords, IsValidFace, words_of_mapping}
+use Rattle.qm_lists.proofs.Elements.{AllByRecursion-append}
+use Rattle.qm_lists.proofs.Options.{none_from_is_some}
 use Rattle.qm_mapout.specs.Lines.{symbols_of_line}
 use Rattle.qm_mapout.specs.Printed.{word, quoted, number, open_parenthesis, close_parenthesis, open_bracket, close_bracket, point_symbols, needs_quotes, begins_comment, texture_symbol, axis_symbols, mapping_front, mapping_last, face_line}
 use Rattle.qm_mapout.proofs.Lexed.{IsWritable}
-use Rattle.qm_mapout.proofs.LinesLexed.{IsWritableLine, all-append}
+use Rattle.qm_mapout.proofs.LinesLexed.{IsWritableLine}
 use Rattle.qm_mapout.proofs.Numbers.{number_text}
 
 -- symbols that fill slots and can be written
@@ -45,7 +47,7 @@ pub join : {s t : List Slot} {xs ys : List Symbol} {ns ms : List ℤ} {ts us : L
     Stand s xs ns ts → Stand t ys ms us → Stand (s ++ t) (xs ++ ys) (ns ++ ms) (ts ++ us)
 join first second = record {
   fill = fill_join first.fill second.fill;
-  writable = all-append IsWritable _ _ first.writable second.writable;
+  writable = AllByRecursion-append IsWritable _ _ first.writable second.writable;
 }
 
 -- one symbol in one slot
@@ -152,10 +154,6 @@ record IsPlainName (name : List ℕ) : Type 0 where
   no_mark : mark_of name ≡ None
   some : length name ≡ 0 → ⊥
 
-none_by_test : {X : Type 0} (o : Option X) → is_some o ≡ false → o ≡ None
-none_by_test None e = refl
-none_by_test (Some x) e = cc
-
 plain_by_test : (name : List ℕ) → needs_quotes name ≡ false → IsPlainName name
 unfolding needs_quotes
 plain_by_test name e =
@@ -165,7 +163,7 @@ plain_by_test name e =
     record {
       visible = no_blanks name (or_right (length name == 0) blank shorter);
       no_comment = or_right (length name == 0 || blank) (begins_comment name) front;
-      no_mark = none_by_test (mark_of name) (or_right (length name == 0 || blank || begins_comment name) (is_some (mark_of name)) e);
+      no_mark = none_from_is_some (mark_of name) (or_right (length name == 0 || blank || begins_comment name) (is_some (mark_of name)) e);
       some = λ h. elim (eqb_tells (length name) 0) [
         | inl same ↦ (let zero_test = same.0 in let no_zero = or_left (length name == 0) blank shorter in cc)
         | inr other ↦ other.1 h

@@ -4,3 +4,4 @@ pub mod Numbers
 pub mod FacesAgain
 pub mod EntitiesAgain
 pub mod ReadAgain
+mod Parts

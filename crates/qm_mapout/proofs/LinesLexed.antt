@@ -6,6 +6,7 @@ use Rattle.std.proofs.lemmas.List.{map-append}
 use Rattle.qm_lex.specs.Lexing.{Lexing, IsLexingOf, lexing_from}
 use Rattle.qm_lex.specs.Piece.{ArePiecesOf}
 use Rattle.qm_grammar.specs.Symbol.{Symbol, symbol_of}
+use Rattle.qm_lists.proofs.Elements.{AllByRecursion-append, AllByRecursion-parts}
 use Rattle.qm_mapout.specs.Lines.{Line, spelling, spaced, line_text, text_of, symbols_of_line, symbols_of}
 use Rattle.qm_mapout.proofs.Lexed.{Gapped, IsGood, IsWritable, gapped_text, gapped_pieces, symbols_at, pieces_stand, lexed}
 
@@ -72,15 +73,6 @@ lines_symbols (line ∷ lines) =
     ∙ ap (λ t. symbols_of_line line ++ t) (lines_symbols lines)
     ∙ sym (flat_map-cons symbols_of_line line lines)
 
-pub all-append : {X : Type 0} (P : X → Type 0) (xs ys : List X) → AllByRecursion P xs → AllByRecursion P ys → AllByRecursion P (xs ++ ys)
-all-append P [] ys first second = second
-all-append P (x ∷ xs) ys first second = (first.0, all-append P xs ys first.1 second)
-
-pub all-append_parts : {X : Type 0} (P : X → Type 0) (xs ys : List X) → AllByRecursion P (xs ++ ys) → AllByRecursion P xs × AllByRecursion P ys
-all-append_parts P [] ys all = (tt, all)
-all-append_parts P (x ∷ xs) ys all =
-    let rest = all-append_parts P xs ys all.1 in ((all.0, rest.0), rest.1)
-
 front_good : (front : List Symbol) → AllByRecursion IsWritable front → AllByRecursion IsGood (map space_behind front)
 unfolding space_behind
 front_good [] all = tt
@@ -89,8 +81,8 @@ front_good (symbol ∷ symbols) all = (record { writable = all.0; parts = lit≤
 line_good : (line : Line) → AllByRecursion IsWritable (symbols_of_line line) → AllByRecursion IsGood (gapped_line line)
 unfolding gapped_line line_end_behind
 line_good line all =
-    let parts = all-append_parts IsWritable line.front (line.last ∷ []) all in
-    all-append IsGood (map space_behind line.front) (line_end_behind line.last ∷ []) (front_good line.front parts.0)
+    let parts = AllByRecursion-parts IsWritable line.front (line.last ∷ []) all in
+    AllByRecursion-append IsGood (map space_behind line.front) (line_end_behind line.last ∷ []) (front_good line.front parts.0)
     (record { writable = parts.1.0; parts = lit≤ tt }, tt)
 
 -- each token of the line can stand
@@ -103,7 +95,7 @@ lines_good [] all = tt
 lines_good (line ∷ lines) all =
     let P : List Gapped → Type 0 = AllByRecursion IsGood in
     subst P (sym (flat_map-cons gapped_line line lines))
-    (all-append IsGood (gapped_line line) (flat_map gapped_line lines) (line_good line all.0) (lines_good lines all.1))
+    (AllByRecursion-append IsGood (gapped_line line) (flat_map gapped_line lines) (line_good line all.0) (lines_good lines all.1))
 
 -- what the text of lines gives
 pub record IsLexedAs (text : List ℕ) (symbols : List Symbol) : Type 0 where

@@ -8,6 +8,7 @@ ghost use Rattle.qm_grammar.specs.Valid.{HasWords, IsValidFace};
 ghost use Rattle.qm_mapout.specs.Printed.{word, point_symbols, begins_comment, needs_quotes, texture_symbol, axis_symbols, mapping_front, mapping_last, face_line};
 
 use crate::line::{put_last_word, put_number, put_quoted, put_word};
+use qm_lists::{Encoding, append_all};
 use qm_mapfile::{Face, Mapping, Text};
 use std::alloc::AllocError;
 
@@ -71,14 +72,26 @@ fn put_texture(out: &mut Vec<u8>, name: &[u8]) -> Result<(), AllocError>
     }
 }
 
+/// A word and a space.
+struct SpacedWord;
+
+impl Encoding for SpacedWord {
+    type Value = Text;
+
+    ghost can_append = { λ _. Unit {0} };
+
+    ghost bytes_of = { λ bytes. spaced (word bytes) };
+
+    fn append(out: &mut Vec<u8>, bytes: &Text) -> Result<(), AllocError> {
+        put_word(out, bytes.as_slice())
+    }
+}
+
 /// Words, each with a space.
 fn put_words(out: &mut Vec<u8>, words: &[Text]) -> Result<(), AllocError>
     ensures { OnOk result (out.new.items ≡ out.old.items ++ flat_map spaced (map word words.now)) }
 {
-    for word in words {
-        put_word(out, word.as_slice())?;
-    }
-    Ok(())
+    append_all::<SpacedWord>(out, words)
 }
 
 /// `[ a b c d ]`
@@ -113,15 +126,22 @@ fn put_mapping(out: &mut Vec<u8>, mapping: &Mapping) -> Result<(), AllocError>
 }
 
 /// Three points, the texture and the mapping.
-#[tactic(auto, unfolding(crate::specs::Printed::face_line, crate::specs::Lines::line_text))]
-pub(crate) fn put_face(out: &mut Vec<u8>, face: &Face) -> Result<(), AllocError>
-    requires { IsValidFace face.now }
-    ensures { OnOk result (out.new.items ≡ out.old.items ++ line_text (face_line face.now)) }
-{
-    let [first, second, third] = &face.points;
-    put_point(out, first)?;
-    put_point(out, second)?;
-    put_point(out, third)?;
-    put_texture(out, face.texture.as_slice())?;
-    put_mapping(out, &face.mapping)
+pub(crate) struct FaceLine;
+
+impl Encoding for FaceLine {
+    type Value = Face;
+
+    ghost can_append = { IsValidFace };
+
+    ghost bytes_of = { λ face. line_text (face_line face) };
+
+    #[tactic(auto, unfolding(crate::specs::Printed::face_line, crate::specs::Lines::line_text))]
+    fn append(out: &mut Vec<u8>, face: &Face) -> Result<(), AllocError> {
+        let [first, second, third] = &face.points;
+        put_point(out, first)?;
+        put_point(out, second)?;
+        put_point(out, third)?;
+        put_texture(out, face.texture.as_slice())?;
+        put_mapping(out, &face.mapping)
+    }
 }

@@ -1,12 +1,12 @@
-ghost use Rattle.std.specs.Prelude.{◌≡◌, ◌≤◌, ◌++◌, length, flat_map, All, IfOk, OnOk, OnErr};
+ghost use Rattle.std.specs.Prelude.{◌≡◌, ◌≤◌, ◌++◌, length, IfOk, OnOk, OnErr};
 ghost use Rattle.qm_grammar.specs.Faults.{text_limit};
 ghost use Rattle.qm_grammar.specs.Meaning.{IsMapText};
-ghost use Rattle.qm_grammar.specs.Valid.{IsValid, IsValidEntity};
-ghost use Rattle.qm_mapout.specs.Lines.{text_of};
-ghost use Rattle.qm_mapout.specs.Printed.{entity_lines, printed};
+ghost use Rattle.qm_grammar.specs.Valid.{IsValid};
+ghost use Rattle.qm_mapout.specs.Printed.{printed};
 
-use crate::entity::put_entity;
-use qm_mapfile::{Entity, MapFile};
+use crate::entity::EntityLines;
+use qm_lists::append_all;
+use qm_mapfile::MapFile;
 use std::alloc::{AllocError, Global};
 
 /// Appends the canonical text of a map: each brace, each pair and each face on a line of its own, the tokens of a
@@ -35,16 +35,6 @@ fn canonical_text(alloc: Global, map: &MapFile) -> Result<Vec<u8>, AllocError>
     ensures { IfOk result (λ text. text.items ≡ printed map.now) }
 {
     let mut text = Vec::new(alloc);
-    put_entities(&mut text, map.entities.as_slice())?;
+    append_all::<EntityLines>(&mut text, map.entities.as_slice())?;
     Ok(text)
-}
-
-fn put_entities(out: &mut Vec<u8>, entities: &[Entity]) -> Result<(), AllocError>
-    requires { All IsValidEntity entities.now }
-    ensures { OnOk result (out.new.items ≡ out.old.items ++ text_of (flat_map entity_lines entities.now)) }
-{
-    for entity in entities {
-        put_entity(out, entity)?;
-    }
-    Ok(())
 }

@@ -4,4 +4,4 @@ use Rattle.qm_compile.proofs.tree_file.encode.Goals as goal
 
 pub returns : goal.returns
 unfolding file_bytes
-returns c = rw (c.in_ok-put_leaves.ensures, c.in_ok-put_nodes.ensures, c.in_ok-put_planes.ensures, c.in_ok-put_header.ensures, c.in_ok-bytes.ensures.items) (simp append_assoc)
+returns c = rw (c.in_ok-append_all-3.ensures, c.in_ok-append_all-2.ensures, c.in_ok-append_all.ensures, c.in_ok-put_header.ensures, c.in_ok-bytes.ensures.items) (simp append_assoc)

@@ -1,12 +1,12 @@
 use Rattle.std.proofs.Common.{◌≡◌, ◌-◌, length}
-use Rattle.qm_lex.specs.Scan.{IsPlaceIn, left_at}
+use Rattle.qm_lex.specs.inner.Scan.{IsPositionIn, left_at}
 use Rattle.qm_lex.proofs.scan.gap_end.Given as goal
 
-abbrev pub invariant-loop-place : goal.invariant-loop-place
-invariant-loop-place l = record {
-  place : IsPlaceIn l.text l.place;
-  same_left : left_at l.text l.fn.from ≡ left_at l.text l.place;
+abbrev pub invariant-loop-position : goal.invariant-loop-position
+invariant-loop-position l = record {
+  position : IsPositionIn l.text l.position;
+  same_left : left_at l.text l.fn.from ≡ left_at l.text l.position;
 }
 
-abbrev pub decreases-loop-place : goal.decreases-loop-place
-decreases-loop-place l = length l.text - l.place.at
+abbrev pub decreases-loop-position : goal.decreases-loop-position
+decreases-loop-position l = length l.text - l.position.offset

@@ -1,6 +1,10 @@
-use Rattle.qm_grammar.specs.Valid.{IsValid}
+use Rattle.std.proofs.Common.{◌∙◌, refl}
+use Rattle.qm_lists.proofs.FlatMaps.{flat_map-flat_map}
+use Rattle.qm_mapout.specs.Lines.{line_text}
+use Rattle.qm_mapout.specs.Printed.{entity_lines, printed}
 use Rattle.qm_mapout.proofs.printer.canonical_text.Goals as goal
 
-pub put_entities-requires : goal.put_entities-requires
-unfolding IsValid
-put_entities-requires c = rw c.as_slice.ensures c.requires.1
+pub returns : goal.returns
+unfolding printed
+returns c =
+    rw (flat_map-flat_map line_text entity_lines c.args.map.now.entities, ← c.as_slice.ensures) (c.in_ok-append_all.ensures ∙ rw c.new-text.ensures.items refl)

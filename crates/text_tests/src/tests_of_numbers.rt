@@ -1,0 +1,54 @@
+use qm_decimal::{Fraction, NumberFault, print6, read};
+use std::alloc::{AllocError, Global};
+use std::test::Fail;
+
+/// The greatest absolute value of a numerator that is printed.
+const BOUND: u128 = 1 << 100;
+
+/// The text of a fraction, and none of a fraction that is not printed.
+fn printed(alloc: Global, numerator: i128, denominator: i128) -> Result<Vec<u8>, AllocError> {
+    let mut out = Vec::new(alloc);
+    if denominator > 0 && numerator.unsigned_abs() <= BOUND {
+        print6(numerator, denominator, &mut out)?;
+    }
+    Ok(out)
+}
+
+#[test]
+fn fractions_are_printed(rt: HostRuntime) -> Result<(), Fail> {
+    let rows = [
+        (1, 3, b"0.333333".as_slice()),
+        (-2, 3, b"-0.666667"),
+        (5, 1, b"5"),
+        (1, 2_000_000, b"0.000001"),
+        (-1, 10_000_000, b"0.000000"),
+    ];
+    for (numerator, denominator, text) in rows {
+        let shown = printed(rt.alloc(), numerator, denominator)?;
+        assert!(rt; shown.as_slice() == text);
+    }
+    Ok(())
+}
+
+/// A number in millionths, and a letter for each fault.
+fn millionths(text: &[u8]) -> Result<i64, u8> {
+    match read(text, 6) {
+        Ok(Fraction { numerator, .. }) => Ok(numerator),
+        Err(NumberFault::Form) => Err(b'f'),
+        Err(NumberFault::TooFine) => Err(b'd'),
+        Err(NumberFault::TooLarge) => Err(b'l'),
+    }
+}
+
+#[test]
+fn numbers_are_read(rt: HostRuntime) {
+    let rows = [
+        (b"+3.25".as_slice(), Ok(3_250_000)),
+        (b"-.5", Ok(-500_000)),
+        (b"1000000000.", Ok(1_000_000_000_000_000)),
+        (b"1e3", Err(b'f')),
+        (b"0.0000001", Err(b'd')),
+        (b"-1000000001", Err(b'l')),
+    ];
+    assert!(rt; rows.iter().all(|(text, answer)| millionths(text) == *answer));
+}

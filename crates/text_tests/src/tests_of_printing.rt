@@ -1,0 +1,38 @@
+use qm_map::parse;
+use qm_mapout::print;
+use std::alloc::{AllocError, Global};
+use std::test::Fail;
+
+/// What a list holds after the map of a text is printed to it, or nothing where the text means no map.
+fn printed_behind(alloc: Global, old: &[u8], text: &[u8]) -> Result<Vec<u8>, AllocError> {
+    let Ok(map) = parse(alloc, text) else {
+        return Ok(Vec::new(alloc));
+    };
+    let mut out = Vec::from_slice(alloc, old)?;
+    print(alloc, &map, &mut out)?;
+    Ok(out)
+}
+
+#[test]
+fn a_map_is_printed_behind_what_was_there(rt: HostRuntime) -> Result<(), Fail> {
+    let text = b"{ \"a\"\"b c\" { ( -0 +1 2. ) ( 0 1 0 ) ( 0 0 1 ) \"x y\" 0 0 0 1 1 } } { }";
+    let printed = b"old\n{\n\"a\" \"b c\"\n{\n( 0 1 2 ) ( 0 1 0 ) ( 0 0 1 ) \"x y\" 0 0 0 1 1\n}\n}\n{\n}\n";
+    let out = printed_behind(rt.alloc(), b"old\n", text)?;
+    assert!(rt; out.as_slice() == printed.as_slice());
+    Ok(())
+}
+
+#[test]
+fn a_texture_stands_between_quotes_where_it_has_to(rt: HostRuntime) -> Result<(), Fail> {
+    let rows = [
+        (b"{ { ( 0 0 0 ) ( 0 1 0 ) ( 0 0 1 ) \"\" 0 0 0 1 1 } }".as_slice(), b"\"\"".as_slice()),
+        (b"{ { ( 0 0 0 ) ( 0 1 0 ) ( 0 0 1 ) \"{\" 0 0 0 1 1 } }", b"\"{\""),
+        (b"{ { ( 0 0 0 ) ( 0 1 0 ) ( 0 0 1 ) \"//x\" 0 0 0 1 1 } }", b"\"//x\""),
+        (b"{ { ( 0 0 0 ) ( 0 1 0 ) ( 0 0 1 ) \"/x\" 0 0 0 1 1 } }", b"/x"),
+    ];
+    for (text, name) in rows {
+        let out = printed_behind(rt.alloc(), b"", text)?;
+        assert!(rt; out.get(34..34 + name.len()) == Some(name));
+    }
+    Ok(())
+}
