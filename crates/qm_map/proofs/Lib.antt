@@ -3,3 +3,4 @@ pub mod WordLaws
 pub mod Meanings
 pub mod Places
 pub mod Means
+pub mod OriginFlags

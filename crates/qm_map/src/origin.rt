@@ -1,4 +1,4 @@
-ghost use Rattle.std.specs.Prelude.{◌≡◌, ◌==◌, None, Some, MatchOption, bytes_eq};
+ghost use Rattle.std.specs.Prelude.{◌≡◌, ◌&&◌, not, None, Some, MatchOption, bytes_eq};
 ghost use Rattle.qm_grammar.specs.Origin.{origin_key, value_of};
 ghost use Rattle.qm_grammar.specs.Machine.{millionths_of, origin_of};
 
@@ -18,6 +18,13 @@ pub(crate) fn is_origin_key(key: &[u8]) -> bool
     ensures { result ≡ bytes_eq key.now origin_key }
 {
     key == b"origin".as_slice()
+}
+
+/// Whether pairs have no origin behind one more, which has this key.
+pub(crate) fn lacks_behind(lacked: bool, key: &[u8]) -> bool
+    ensures { result ≡ (lacked && not (bytes_eq key.now origin_key)) }
+{
+    lacked && !is_origin_key(key)
 }
 
 /// The value of the first pair with the key `origin`.

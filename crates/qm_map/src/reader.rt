@@ -1,4 +1,4 @@
-ghost use Rattle.std.specs.Prelude.{◌≡◌, ◌+◌, ◌==◌, ◌&&◌, not, [], ◌∷◌, ◌++◌, Ok, OnOk, length};
+ghost use Rattle.std.specs.Prelude.{◌≡◌, ◌+◌, ◌==◌, ◌&&◌, not, [], ◌∷◌, ◌++◌, Ok, IfOk, OnOk, length};
 ghost use Rattle.qm_grammar.specs.Front.{outside};
 ghost use Rattle.qm_grammar.specs.Slots.{points_of};
 ghost use Rattle.qm_grammar.specs.Machine.{step, step_outside, step_entity, step_value, step_brush, step_face, step_slot, step_mark, with_value, without_brush, with_face, with_left, with_number, with_text, coordinate_of, span_plane, is_bad_origin};
@@ -8,13 +8,13 @@ ghost use Rattle.qm_map.specs.Stepping.{IsStep};
 use crate::face::{are_flat, face_of};
 use crate::list::take_all;
 use crate::number::coordinate;
-use crate::origin::{first_origin, is_origin_key, origin_of};
+use crate::origin::{is_origin_key, lacks_behind, origin_of};
 use crate::slots::{behind_bracket, behind_first, behind_word};
 use crate::sort::{is_same_mark, sort_of};
 use crate::stop::Stop;
 use qm_grammar::{Mark, Place, Refusal, Slot, Sort};
 use qm_lex::TokenKind;
-use qm_mapfile::{Brush, Entity, Face, Items, MapFile, Pair, Text};
+use qm_mapfile::{Brush, Entity, Face, Items, MapFile, Pair, Parts, Text};
 use std::alloc::{AllocError, Global};
 use std::marker::Model;
 use std::mem;
@@ -32,12 +32,18 @@ pub(crate) struct Reader {
     numbers: Vec<i32>,
     texts: Vec<Text>,
     left: &'static [Slot],
+    /// No pair of the open entity has the key `origin`.
+    lacks_origin: bool,
+    /// What the entities without pairs, and those without brushes, share.
+    no_pairs: Parts<Pair>,
+    no_brushes: Parts<Brush>,
 }
 
 impl Model for Reader {
-    ghost use Rattle.std.specs.Prelude.{length, All};
+    ghost use Rattle.std.specs.Prelude.{◌≡◌, [], length, All, is_none};
     ghost use Rattle.qm_space.specs.Point.{IsCoordinate};
     ghost use Rattle.qm_grammar.specs.Front.{Front};
+    ghost use Rattle.qm_grammar.specs.Origin.{origin_key, value_of};
     ghost use Rattle.qm_map.specs.Steady.{HasDueParts};
 
     ghost Value = { Front };
@@ -56,15 +62,18 @@ impl Model for Reader {
 
     ghost invariant = { λ r.
         All IsCoordinate r.numbers.items
-        × HasDueParts r.place (length r.numbers.items) (length r.texts.items) r.left.now };
+        × HasDueParts r.place (length r.numbers.items) (length r.texts.items) r.left.now
+        × (r.lacks_origin ≡ is_none (value_of origin_key r.pairs.items))
+        × (r.no_pairs ≡ [])
+        × (r.no_brushes ≡ []) };
 }
 
 impl Reader {
     /// Before the first token.
-    pub(crate) fn new(alloc: Global) -> Reader
-        ensures { result ≡ outside [] }
+    pub(crate) fn new(alloc: Global) -> Result<Reader, AllocError>
+        ensures { IfOk result (λ reader. reader ≡ outside []) }
     {
-        Reader {
+        Ok(Reader {
             alloc,
             place: Place::Outside,
             entities: Vec::new(alloc),
@@ -75,7 +84,10 @@ impl Reader {
             numbers: Vec::new(alloc),
             texts: Vec::new(alloc),
             left: &[],
-        }
+            lacks_origin: true,
+            no_pairs: Parts::none(alloc)?,
+            no_brushes: Parts::none(alloc)?,
+        })
     }
 
     /// Where in a map it stands.
@@ -152,6 +164,7 @@ impl Reader {
         ensures { OnOk result (self.new ≡ outside (self.old.entities ++ (record { pairs = self.old.pairs; brushes = self.old.brushes }) ∷ [])) }
     {
         let pairs = take_all(self.alloc, &mut self.pairs)?;
+        self.lacks_origin = true;
         let brushes = take_all(self.alloc, &mut self.brushes)?;
         self.place = Place::Outside;
         self.key = Text::new(self.alloc);
@@ -160,8 +173,8 @@ impl Reader {
         self.texts.clear();
         self.left = &[];
         self.entities.push(Entity {
-            pairs: Items::from_vec(pairs),
-            brushes: Items::from_vec(brushes),
+            pairs: Parts::from_vec(self.alloc, pairs, &self.no_pairs)?,
+            brushes: Parts::from_vec(self.alloc, brushes, &self.no_brushes)?,
         })?;
         Ok(())
     }
@@ -190,7 +203,7 @@ impl Reader {
     {
         !self.entities.is_empty()
             && is_origin_key(self.key.as_slice())
-            && first_origin(&self.pairs).is_none()
+            && self.lacks_origin
             && origin_of(value).is_none()
     }
 
@@ -201,8 +214,10 @@ impl Reader {
     {
         let value = Text::from_slice(self.alloc, value)?;
         let key = mem::replace(&mut self.key, Text::new(self.alloc));
+        let lacks_origin = lacks_behind(self.lacks_origin, key.as_slice());
         self.place = Place::Entity;
         self.pairs.push(Pair { key, value })?;
+        self.lacks_origin = lacks_origin;
         Ok(())
     }
 

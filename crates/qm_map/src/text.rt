@@ -121,7 +121,9 @@ fn meaning_of(alloc: Global, text: &[u8]) -> Result<MapFile, MapFault>
     ensures { result ≢ Err MapFault.Memory → result ≡ meaning_of text.now }
 {
     let mut lexer = Lexer::new(text);
-    let mut reader = Reader::new(alloc);
+    let Ok(mut reader) = Reader::new(alloc) else {
+        return Err(MapFault::Memory);
+    };
     'tokens: loop {
         match lexer.next() {
             Ok(Some(token)) => {

@@ -10,7 +10,7 @@ use Rattle.qm_map.proofs.text.meaning_of.Goals as goal
 pub tokens-init : goal.tokens-init
 tokens-init c =
     let P : Front → Type 0 = λ front. IsUnderway c.args.text.now front c.new-lexer.result in
-    subst P (sym c.new-reader.ensures)
+    subst P (sym c.in-Ok.ensures)
     (begun c.args.text.now c.new-lexer.result c.new-lexer.ensures.text (lexing_is c.args.text.now c.new-lexer.result.left c.new-lexer.ensures.only))
 
 pub returns-in-Err-take : goal.returns-in-Err-take
