@@ -4,7 +4,7 @@ ghost use Rattle.std.specs.Prelude.{◌≡◌, ◌<◌, ◌≤◌, ◌+◌, ◌-
 ghost use Rattle.qm_shelf.specs.Counts.{Stays, ShelfCounted};
 ghost use Rattle.qm_shelf.specs.Reads.{bytes_of};
 ghost use Rattle.qm_grammar.specs.Faults.{text_limit};
-ghost use Rattle.qm_compile.specs.ReadTexts.{read_of};
+ghost use Rattle.qm_grammar.specs.CutText.{read_of};
 
 use qm_shelf::{Shelf, ShelfFault};
 use std::alloc::{AllocError, Global};

@@ -3,6 +3,7 @@
 
 mod entity_origin;
 mod face;
+pub mod laws;
 mod lines;
 mod list;
 mod number;
@@ -11,8 +12,6 @@ mod reader;
 mod slots;
 mod sort;
 mod stop;
-#[cfg(test)]
-mod tests;
 mod text;
 mod words;
 
