@@ -4,12 +4,14 @@
 
 mod context;
 mod fault;
+mod limit;
 mod mark;
 mod refusal;
 mod slot;
 
 pub use context::Context;
 pub use fault::MapFault;
+pub use limit::TEXT_LIMIT;
 pub use mark::{Mark, Sort};
 pub use refusal::Refusal;
 pub use slot::Slot;

@@ -1,6 +1,7 @@
 //! Reads MAP texts: the map that a text means, or the first fault with its line.
 #![tactic(auto)]
 
+mod empties;
 mod entity_origin;
 mod face;
 pub mod laws;

@@ -5,6 +5,7 @@ ghost use Rattle.qm_grammar.specs.inner.Machine.{step, step_outside, step_entity
 ghost use Rattle.qm_map.specs.inner.Steady.{HasDueParts};
 ghost use Rattle.qm_map.specs.inner.Stepping.{IsStep};
 
+use crate::empties::Empties;
 use crate::face::{are_flat, face_of};
 use crate::list::take_all;
 use crate::number::coordinate;
@@ -14,7 +15,7 @@ use crate::sort::{is_same_mark, sort_of};
 use crate::stop::Stop;
 use qm_grammar::{Context, Mark, Refusal, Slot, Sort};
 use qm_lex::TokenKind;
-use qm_mapfile::{Brush, Entity, Face, Items, MapFile, Pair, Parts, Text};
+use qm_mapfile::{Brush, Entity, Face, Items, MapFile, Pair, Text};
 use std::alloc::{AllocError, Global};
 use std::marker::Model;
 use std::mem;
@@ -34,13 +35,11 @@ pub(crate) struct Reader {
     left: &'static [Slot],
     /// No pair of the open entity has the key `origin`.
     lacks_origin: bool,
-    /// What the entities without pairs, and those without brushes, share.
-    no_pairs: Parts<Pair>,
-    no_brushes: Parts<Brush>,
+    empties: Empties,
 }
 
 impl Model for Reader {
-    ghost use Rattle.std.specs.Prelude.{◌≡◌, [], length, All, is_none};
+    ghost use Rattle.std.specs.Prelude.{◌≡◌, length, All, is_none};
     ghost use Rattle.qm_space.specs.Point.{IsCoordinate};
     ghost use Rattle.qm_grammar.specs.Prefix.{Prefix};
     ghost use Rattle.qm_grammar.specs.Origin.{origin_key, value_of};
@@ -63,9 +62,7 @@ impl Model for Reader {
     ghost invariant = { λ r.
         All IsCoordinate r.numbers.items
         × HasDueParts r.context (length r.numbers.items) (length r.texts.items) r.left.now
-        × (r.lacks_origin ≡ is_none (value_of origin_key r.pairs.items))
-        × (r.no_pairs ≡ [])
-        × (r.no_brushes ≡ []) };
+        × (r.lacks_origin ≡ is_none (value_of origin_key r.pairs.items)) };
 }
 
 impl Reader {
@@ -73,6 +70,7 @@ impl Reader {
     pub(crate) fn new(alloc: Global) -> Result<Reader, AllocError>
         ensures { IfOk result (λ reader. reader ≡ outside []) }
     {
+        let empties = Empties::new(alloc)?;
         Ok(Reader {
             alloc,
             context: Context::Outside,
@@ -85,8 +83,7 @@ impl Reader {
             texts: Vec::new(alloc),
             left: &[],
             lacks_origin: true,
-            no_pairs: Parts::none(alloc)?,
-            no_brushes: Parts::none(alloc)?,
+            empties,
         })
     }
 
@@ -167,16 +164,14 @@ impl Reader {
         let pairs = take_all(self.alloc, &mut self.pairs)?;
         self.lacks_origin = true;
         let brushes = take_all(self.alloc, &mut self.brushes)?;
+        let entity = self.empties.entity_of(self.alloc, pairs, brushes)?;
         self.context = Context::Outside;
         self.key = Text::new(self.alloc);
         self.faces.clear();
         self.numbers.clear();
         self.texts.clear();
         self.left = &[];
-        self.entities.push(Entity {
-            pairs: Parts::from_vec(self.alloc, pairs, &self.no_pairs)?,
-            brushes: Parts::from_vec(self.alloc, brushes, &self.no_brushes)?,
-        })?;
+        self.entities.push(entity)?;
         Ok(())
     }
 

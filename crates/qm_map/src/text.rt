@@ -12,13 +12,10 @@ ghost use Rattle.qm_map.specs.inner.Taking.{IsTaken};
 use crate::lines::{last_line, line_at};
 use crate::reader::Reader;
 use crate::stop::Stop;
-use qm_grammar::{MapFault, Context, Refusal};
+use qm_grammar::{Context, MapFault, Refusal, TEXT_LIMIT};
 use qm_lex::{LexFault, Lexer, Token, TokenKind};
 use qm_mapfile::MapFile;
 use std::alloc::Global;
-
-/// The most bytes that a text may have.
-const TEXT_LIMIT: usize = 67_108_864;
 
 /// The fault of a refused token on a line.
 fn fault_of(reason: Refusal, line: u64) -> MapFault
