@@ -3,10 +3,11 @@
 doors, lamps and other entities with their pairs, brushes of six to twelve faces with a comment each, and numbers
 with and without `.000`. The same words give the same text.
 
-    bench/make_map.py MEGABYTES [standard | valve | mixed] [crlf]
+    bench/make_map.py MEGABYTES [standard | valve | mixed | braces | origins] [crlf]
 
-`mixed`, which is what stands for no word, has a brush of either form in turn by chance; `crlf` ends lines with the
-bytes 13 and 10."""
+`mixed`, which is what stands for no word, has a brush of either form in turn by chance; `braces` has entities without
+pairs and brushes alone. `origins`, of whatever length is asked for, has a million pairs in one entity, of which the
+last 100,000 are origins. `crlf` ends lines with the bytes 13 and 10."""
 
 from random import Random
 import sys
@@ -99,12 +100,32 @@ def lines(random, size, form):
         entity += 1
 
 
+def braces(size):
+    """The lines of entities without pairs and brushes."""
+    for _ in range(size // 4):
+        yield "{ }"
+
+
+def origins():
+    """The lines of a world, and of an entity with a million pairs, of which the last 100,000 are origins."""
+    yield "{ }"
+    yield "{"
+    for i in range(900_000):
+        yield f'"key{i}" "value"'
+    for i in range(100_000):
+        yield f'"origin" "{i % 4096} 0 0"'
+    yield "}"
+
+
 def main():
     megabytes = int(sys.argv[1])
-    form = next((word for word in sys.argv[2:] if word in ("standard", "valve", "mixed")), "mixed")
+    forms = ("standard", "valve", "mixed", "braces", "origins")
+    form = next((word for word in sys.argv[2:] if word in forms), "mixed")
+    size = megabytes * 1_000_000
     end = "\r\n" if "crlf" in sys.argv[2:] else "\n"
     out = open(sys.stdout.fileno(), "w", newline="")
-    for line in lines(Random(20), megabytes * 1_000_000, form):
+    text = braces(size) if form == "braces" else origins() if form == "origins" else lines(Random(20), size, form)
+    for line in text:
         out.write(line + end)
 
 

@@ -5,7 +5,7 @@ use Rattle.qm_mapfile.specs.declared.entity.MapFile.{MapFile}
 use Rattle.qm_grammar.specs.Meaning.{IsMapText}
 use Rattle.qm_compile.specs.declared.job.Job.{Job}
 use Rattle.qm_compile.specs.Product.{IsProduct}
-use Rattle.qm_compile.specs.ReadTexts.{read_of}
+use Rattle.qm_grammar.specs.CutText.{read_of}
 use Rattle.qm_compile.specs.Run.{ShelfState, text_under, IsKept, TextMeans, HoldsPart, IsUnfinished, IsDone}
 use Rattle.qm_compile.proofs.ReadMeanings.{text_means}
 

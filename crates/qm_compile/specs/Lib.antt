@@ -8,7 +8,6 @@ pub mod Made
 pub mod Numbering
 pub mod Outcome
 pub mod Product
-pub mod ReadTexts
 pub mod Run
 pub mod SideLists
 pub mod Sides

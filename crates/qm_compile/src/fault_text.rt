@@ -1,7 +1,8 @@
 //! How the fault of a MAP text is printed.
 
 ghost use Rattle.std.specs.Prelude.{◌≡◌, IfOk, string_bytes};
-ghost use Rattle.qm_compile.specs.FaultText.{number_of_fault, line_of_fault, words_of_fault, fault_text};
+ghost use Rattle.qm_grammar.specs.MapFault.{number_of_fault, line_of_fault};
+ghost use Rattle.qm_compile.specs.FaultText.{words_of_fault, fault_text};
 
 use qm_map::MapFault;
 use std::alloc::{AllocError, Global};

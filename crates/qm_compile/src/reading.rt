@@ -4,16 +4,14 @@ ghost use Rattle.std.specs.Prelude.{◌≡◌, ◌<◌, ◌≤◌, ◌+◌, ◌-
 ghost use Rattle.qm_shelf.specs.Counts.{Stays, ShelfCounted};
 ghost use Rattle.qm_shelf.specs.Reads.{bytes_of};
 ghost use Rattle.qm_grammar.specs.Faults.{text_limit};
-ghost use Rattle.qm_compile.specs.ReadTexts.{read_of};
+ghost use Rattle.qm_grammar.specs.CutText.{read_of};
 
+use qm_grammar::TEXT_LIMIT;
 use qm_shelf::{Shelf, ShelfFault};
 use std::alloc::{AllocError, Global};
 
 /// The most bytes that are read or written at once.
 pub const PIECE: usize = 65_536;
-
-/// The most bytes that a text may have.
-pub const TEXT_LIMIT: usize = 67_108_864;
 
 /// Reads the text under a name to its end, or to one byte past the limit of a text.
 pub fn read_text<H: Shelf>(alloc: Global, shelf: &mut H, name: &str) -> Result<Vec<u8>, ShelfFault>

@@ -13,8 +13,8 @@ use Rattle.qm_grammar.specs.declared.slot.Slot.TheVariants as slot
 use Rattle.qm_grammar.specs.Symbol.{Symbol}
 use Rattle.qm_grammar.specs.Slots.{Form, standard, valve, head_slots, mapping_slots, face_slots, Fill, points_of}
 use Rattle.qm_grammar.specs.Grammar.{SpellsFace}
-use Rattle.qm_grammar.specs.Front.{Front, in_brush, in_face, IsBegunFace, in_head, in_mapping}
-use Rattle.qm_grammar.specs.Machine.{step}
+use Rattle.qm_grammar.specs.Prefix.{Prefix, in_brush, in_face, IsBegunFace, in_head, in_mapping}
+use Rattle.qm_grammar.specs.inner.Machine.{step}
 use Rattle.qm_grammar.proofs.Filling.{takes, coordinates, coordinates-append, fill_push, number_filled, numbers_filled}
 use Rattle.qm_grammar.proofs.FaceSteps.{SpansAt, behind}
 use Rattle.qm_grammar.proofs.FaceRuns.{points_kept, MappingCut, mapping_cut, mapping_goes_on, mapping_coordinates, head_goes_on}
@@ -98,8 +98,8 @@ head_spans filled more one two ns number is count added here before beyond =
 
 -- ---- one more symbol
 
--- a symbol behind the front of a face goes on with it, or ends it
-pub data IsFaceNext (es : List Entity) (ps : List Pair) (bs : List Brush) (fs : List Face) (symbols : List Symbol) (next : Front) : Type 0 where
+-- a symbol behind the prefix of a face goes on with it, or ends it
+pub data IsFaceNext (es : List Entity) (ps : List Pair) (bs : List Brush) (fs : List Face) (symbols : List Symbol) (next : Prefix) : Type 0 where
   goes_on : {ns : List ℤ} {ts : List (List ℕ)} {left : List Slot} → IsBegunFace symbols ns ts left → next ≡ in_face es ps bs fs ns ts left → IsFaceNext es ps bs fs symbols next
   ends : {face : Face} → SpellsFace symbols face → next ≡ in_brush es ps bs (fs ++ face ∷ []) → IsFaceNext es ps bs fs symbols next
 
@@ -109,7 +109,7 @@ push_some (first ∷ filled) one none = absurd cc
 
 module _ (es : List Entity) (ps : List Pair) (bs : List Brush) (fs : List Face) where
   -- in the head
-  head_next : (symbols : List Symbol) (ns : List ℤ) (ts : List (List ℕ)) (filled more : List Slot) (one two : Slot) (symbol : Symbol) (next : Front) → Fill filled symbols ns ts → filled ++ one ∷ (two ∷ more) ≡ head_slots ++ slot.FirstOfMapping ∷ [] → (15 ≤ length filled → SpanPlane (points_of ns)) → IsSlotRead es ps bs fs ns ts one (two ∷ more) symbol next → IsFaceNext es ps bs fs (symbols ++ symbol ∷ []) next
+  head_next : (symbols : List Symbol) (ns : List ℤ) (ts : List (List ℕ)) (filled more : List Slot) (one two : Slot) (symbol : Symbol) (next : Prefix) → Fill filled symbols ns ts → filled ++ one ∷ (two ∷ more) ≡ head_slots ++ slot.FirstOfMapping ∷ [] → (15 ≤ length filled → SpanPlane (points_of ns)) → IsSlotRead es ps bs fs ns ts one (two ∷ more) symbol next → IsFaceNext es ps bs fs (symbols ++ symbol ∷ []) next
   head_next symbols ns ts filled more one two symbol next fill is spans read =
       goes_on
       (in_head {filled = filled ++ one ∷ []} (fill_push fill read.fills) (push_some filled one)
@@ -118,7 +118,7 @@ module _ (es : List Entity) (ps : List Pair) (bs : List Brush) (fs : List Face) 
       read.next_is
 
   -- behind the head
-  first_next : (symbols : List Symbol) (ns : List ℤ) (ts : List (List ℕ)) (filled : List Slot) (symbol : Symbol) (next : Front) → Fill filled symbols ns ts → filled ≡ head_slots → SpanPlane (points_of ns) → IsFirstRead es ps bs fs ns ts symbol next → IsFaceNext es ps bs fs (symbols ++ symbol ∷ []) next
+  first_next : (symbols : List Symbol) (ns : List ℤ) (ts : List (List ℕ)) (filled : List Slot) (symbol : Symbol) (next : Prefix) → Fill filled symbols ns ts → filled ≡ head_slots → SpanPlane (points_of ns) → IsFirstRead es ps bs fs ns ts symbol next → IsFaceNext es ps bs fs (symbols ++ symbol ∷ []) next
   first_next symbols ns ts filled symbol next fill is spans read =
       let count : length filled ≡ 16 = ap length is in
       let none_taken : coordinates (read.one ∷ read.others) ≡ 0 = ap coordinates (sym read.mapping) ∙ mapping_coordinates read.form in
@@ -131,7 +131,7 @@ module _ (es : List Entity) (ps : List Pair) (bs : List Brush) (fs : List Face) 
       read.next_is
 
   -- in the mapping
-  mapping_next : (form : Form) (symbols : List Symbol) (ns : List ℤ) (ts : List (List ℕ)) (filled others : List Slot) (one : Slot) (symbol : Symbol) (next : Front) → Fill filled symbols ns ts → 17 ≤ length filled → filled ++ one ∷ others ≡ face_slots form → SpanPlane (points_of ns) → IsSlotRead es ps bs fs ns ts one others symbol next → IsFaceNext es ps bs fs (symbols ++ symbol ∷ []) next
+  mapping_next : (form : Form) (symbols : List Symbol) (ns : List ℤ) (ts : List (List ℕ)) (filled others : List Slot) (one : Slot) (symbol : Symbol) (next : Prefix) → Fill filled symbols ns ts → 17 ≤ length filled → filled ++ one ∷ others ≡ face_slots form → SpanPlane (points_of ns) → IsSlotRead es ps bs fs ns ts one others symbol next → IsFaceNext es ps bs fs (symbols ++ symbol ∷ []) next
   mapping_next form symbols ns ts filled others one symbol next fill beyond is spans read =
       mapping_next_by others is read.next_is
     where
@@ -160,7 +160,7 @@ module _ (es : List Entity) (ps : List Pair) (bs : List Brush) (fs : List Face) 
           (append_assoc filled (one ∷ []) (two ∷ rest) ∙ joined) (spans_on ns read.number (cut (two ∷ rest) joined) spans))
           next_is
 
-  pub begun_next : (symbols : List Symbol) (ns : List ℤ) (ts : List (List ℕ)) (left : List Slot) (symbol : Symbol) (next : Front) → IsBegunFace symbols ns ts left → step (in_face es ps bs fs ns ts left) symbol ≡ Ok next → IsFaceNext es ps bs fs (symbols ++ symbol ∷ []) next
+  pub begun_next : (symbols : List Symbol) (ns : List ℤ) (ts : List (List ℕ)) (left : List Slot) (symbol : Symbol) (next : Prefix) → IsBegunFace symbols ns ts left → step (in_face es ps bs fs ns ts left) symbol ≡ Ok next → IsFaceNext es ps bs fs (symbols ++ symbol ∷ []) next
   begun_next symbols ns ts [] symbol next (in_head {filled = filled} fill some is spans) read = absurd (head_goes_on filled [] symbols ns ts fill is refl)
   begun_next symbols ns ts (one ∷ []) symbol next (in_head {filled = filled} fill some is spans) read =
       let both = same_from_push filled head_slots one slot.FirstOfMapping is in

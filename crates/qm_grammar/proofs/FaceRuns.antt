@@ -16,8 +16,8 @@ use Rattle.qm_grammar.specs.declared.slot.Slot.TheVariants as slot
 use Rattle.qm_grammar.specs.Symbol.{Symbol, sort_of}
 use Rattle.qm_grammar.specs.Slots.{Form, standard, valve, head_slots, mapping_slots, face_slots, Fills, mark, coordinate, texture, quoted_texture, word, Fill, none, more, points_of, face_of}
 use Rattle.qm_grammar.specs.Grammar.{SpellsFace}
-use Rattle.qm_grammar.specs.Front.{Front, in_brush, in_face, IsBegunFace, in_head, in_mapping}
-use Rattle.qm_grammar.specs.Machine.{step, step_brush, runs, behind_first}
+use Rattle.qm_grammar.specs.Prefix.{Prefix, in_brush, in_face, IsBegunFace, in_head, in_mapping}
+use Rattle.qm_grammar.specs.inner.Machine.{step, step_brush, runs, behind_first}
 use Rattle.qm_grammar.proofs.Runs.{runs_step, runs_then, runs_one}
 use Rattle.qm_grammar.proofs.Filling.{takes, coordinates, coordinates-append, number_filled, numbers_filled, FillParts, fill_cut}
 use Rattle.qm_grammar.proofs.FaceSteps.{step_sorted, SpansAt, behind, fill_step, first_step}
@@ -116,9 +116,9 @@ mapping_cut filled left mapping is beyond =
 head_open : (filled left : List Slot) → filled ++ left ≡ head_slots ++ slot.FirstOfMapping ∷ [] → length filled ≤ 14 → closes 0 filled ≡ false
 head_open filled left is few =
     let count : 14 ≡ length filled + (14 - length filled) = omega arith in
-    let front : filled ++ take (14 - length filled) left ≡ take 14 (head_slots ++ slot.FirstOfMapping ∷ []) =
+    let prefix : filled ++ take (14 - length filled) left ≡ take 14 (head_slots ++ slot.FirstOfMapping ∷ []) =
     sym (take-append-add filled left (14 - length filled)) ∙ ap (λ (n : ℕ). take n (filled ++ left)) (sym count) ∙ ap (take 14) is in
-    closes_more 0 filled (take (14 - length filled) left) (ap (closes 0) front)
+    closes_more 0 filled (take (14 - length filled) left) (ap (closes 0) prefix)
 
 head_closes_well : (filled left : List Slot) (numbers : List ℤ) → filled ++ left ≡ head_slots ++ slot.FirstOfMapping ∷ [] → length numbers ≡ coordinates filled → (15 ≤ length filled → SpanPlane (points_of numbers)) → ClosesWell [] filled numbers
 head_closes_well filled left numbers is count spans =
@@ -160,7 +160,7 @@ module _ (es : List Entity) (ps : List Pair) (bs : List Brush) (fs : List Face) 
       (fill_step es ps bs fs ns ts one left symbol number text fills spans))
   fill_run ns ts left one (next ∷ slots) symbols numbers texts (more {symbol = symbol} {symbols = symbols'} {number = number} {numbers = numbers'} {text = text} {texts = texts'} fills rest) well =
       let spans = spans_here ns one (next ∷ slots) (number ++ numbers') well in
-      let mid : Front = in_face es ps bs fs (ns ++ number) (ts ++ text) (next ∷ (slots ++ left)) in
+      let mid : Prefix = in_face es ps bs fs (ns ++ number) (ts ++ text) (next ∷ (slots ++ left)) in
       runs_step (in_face es ps bs fs ns ts (one ∷ (next ∷ (slots ++ left)))) mid symbol symbols'
       (fill_step es ps bs fs ns ts one (next ∷ (slots ++ left)) symbol number text fills spans)
       ∙ fill_run (ns ++ number) (ts ++ text) left next slots symbols' numbers' texts' rest (spans_behind ns number numbers' one (next ∷ slots) (number_filled fills) well)
@@ -190,9 +190,9 @@ module _ (es : List Entity) (ps : List Pair) (bs : List Brush) (fs : List Face) 
       rw (append-nil number, append-nil text)
       (runs_one (in_face es ps bs fs ns ts (slot.FirstOfMapping ∷ [])) (behind es ps bs fs (ns ++ number) (ts ++ text) left) symbol
       (first_step es ps bs fs form ns ts one left symbol number text (sym is) fills
-      ∙ ap (λ (f : Front). Ok f) (sym (behind_open (ns ++ number) (ts ++ text) left (mapping_goes_on form one left is)))))
+      ∙ ap (λ (f : Prefix). Ok f) (sym (behind_open (ns ++ number) (ts ++ text) left (mapping_goes_on form one left is)))))
   mapping_run form ns ts left one (next ∷ slots) symbols numbers texts few is (more {symbol = symbol} {symbols = symbols'} {number = number} {numbers = numbers'} {text = text} {texts = texts'} fills rest) =
-      let mid : Front = in_face es ps bs fs (ns ++ number) (ts ++ text) (next ∷ (slots ++ left)) in
+      let mid : Prefix = in_face es ps bs fs (ns ++ number) (ts ++ text) (next ∷ (slots ++ left)) in
       runs_step (in_face es ps bs fs ns ts (slot.FirstOfMapping ∷ [])) mid symbol symbols'
       (first_step es ps bs fs form ns ts one (next ∷ (slots ++ left)) symbol number text (sym is) fills)
       ∙ fill_run (ns ++ number) (ts ++ text) left next slots symbols' numbers' texts' rest
@@ -261,8 +261,8 @@ module _ (es : List Entity) (ps : List Pair) (bs : List Brush) (fs : List Face) 
   pub begun_run : (symbols : List Symbol) (numbers : List ℤ) (texts : List (List ℕ)) (left : List Slot) → IsBegunFace symbols numbers texts left → runs (in_brush es ps bs fs) symbols ≡ Ok (in_face es ps bs fs numbers texts left)
   begun_run symbols numbers texts left (in_head {filled = filled} fill some is spans) =
       in_head_run filled left symbols numbers texts fill some is (head_closes_well filled left numbers is (numbers_filled fill) spans)
-      ∙ ap (λ (f : Front). Ok f) (behind_open numbers texts left (head_goes_on filled left symbols numbers texts fill is))
+      ∙ ap (λ (f : Prefix). Ok f) (behind_open numbers texts left (head_goes_on filled left symbols numbers texts fill is))
   begun_run symbols numbers texts left (in_mapping form {filled = filled} fill beyond some is spans) =
       let cut : MappingCut filled left (mapping_slots form) = mapping_cut filled left (mapping_slots form) is beyond in
       through_mapping form cut.one cut.slots left symbols numbers texts cut.rest (subst (λ (l : List Slot). Fill l symbols numbers texts) cut.joined fill) spans
-      ∙ ap (λ (f : Front). Ok f) (behind_open numbers texts left some)
+      ∙ ap (λ (f : Prefix). Ok f) (behind_open numbers texts left some)

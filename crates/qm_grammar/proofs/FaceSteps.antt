@@ -14,15 +14,15 @@ use Rattle.qm_grammar.specs.declared.slot.Slot.{Slot}
 use Rattle.qm_grammar.specs.declared.slot.Slot.TheVariants as slot
 use Rattle.qm_grammar.specs.Symbol.{Symbol, sort_of, mark_of_byte}
 use Rattle.qm_grammar.specs.Slots.{Form, standard, valve, mapping_slots, Fills, mark, coordinate, texture, quoted_texture, word, points_of, face_of}
-use Rattle.qm_grammar.specs.Front.{Front, in_brush, in_face}
-use Rattle.qm_grammar.specs.Machine.{mark_byte, is_same_mark, span_plane, step, step_at, step_slot, step_mark, with_left}
+use Rattle.qm_grammar.specs.Prefix.{Prefix, in_brush, in_face}
+use Rattle.qm_grammar.specs.inner.Machine.{mark_byte, is_same_mark, span_plane, step, step_at, step_slot, step_mark, with_left}
 use Rattle.qm_grammar.proofs.Planes.{span_true, true_span, false_span}
 use Rattle.qm_grammar.proofs.Numbers.{spelled_coordinate}
 
--- a step goes by the place and the symbol's sort
-pub step_sorted : (front : Front) (symbol : Symbol) (s : Sort) → sort_of symbol ≡ s → step front symbol ≡ step_at front.place front s symbol.bytes
+-- a step goes by the context and the symbol's sort
+pub step_sorted : (prefix : Prefix) (symbol : Symbol) (s : Sort) → sort_of symbol ≡ s → step prefix symbol ≡ step_at prefix.context prefix s symbol.bytes
 unfolding step
-step_sorted front symbol s is = ap (λ (t : Sort). step_at front.place front t symbol.bytes) is
+step_sorted prefix symbol s is = ap (λ (t : Sort). step_at prefix.context prefix t symbol.bytes) is
 
 -- ---- the same mark
 
@@ -81,7 +81,7 @@ flat_is numbers tested =
 -- ---- one symbol in one slot
 
 -- behind a token of a face: in the face, or behind it where no slot is left
-abbrev pub behind : List Entity → List Pair → List Brush → List Face → List ℤ → List (List ℕ) → List Slot → Front
+abbrev pub behind : List Entity → List Pair → List Brush → List Face → List ℤ → List (List ℕ) → List Slot → Prefix
 behind es ps bs fs ns ts [] = in_brush es ps bs (fs ++ face_of ns ts ∷ [])
 behind es ps bs fs ns ts (next ∷ others) = in_face es ps bs fs ns ts (next ∷ others)
 
@@ -92,12 +92,12 @@ module _ (es : List Entity) (ps : List Pair) (bs : List Brush) (fs : List Face) 
 
   mark_stepped : (ns : List ℤ) (ts : List (List ℕ)) (m : Mark) (left others : List Slot) → SpansAt (slot.Mark m) ns → step_mark (in_face es ps bs fs ns ts left) m others ≡ Ok (behind es ps bs fs ns ts others)
   unfolding step_mark
-  mark_stepped ns ts CloseParenthesis left others spans = rw (not_flat ns (spans refl)) (ap (λ (f : Front). Ok f) (left_behind ns ts left others))
-  mark_stepped ns ts OpenBrace left others spans = ap (λ (f : Front). Ok f) (left_behind ns ts left others)
-  mark_stepped ns ts CloseBrace left others spans = ap (λ (f : Front). Ok f) (left_behind ns ts left others)
-  mark_stepped ns ts OpenParenthesis left others spans = ap (λ (f : Front). Ok f) (left_behind ns ts left others)
-  mark_stepped ns ts OpenBracket left others spans = ap (λ (f : Front). Ok f) (left_behind ns ts left others)
-  mark_stepped ns ts CloseBracket left others spans = ap (λ (f : Front). Ok f) (left_behind ns ts left others)
+  mark_stepped ns ts CloseParenthesis left others spans = rw (not_flat ns (spans refl)) (ap (λ (f : Prefix). Ok f) (left_behind ns ts left others))
+  mark_stepped ns ts OpenBrace left others spans = ap (λ (f : Prefix). Ok f) (left_behind ns ts left others)
+  mark_stepped ns ts CloseBrace left others spans = ap (λ (f : Prefix). Ok f) (left_behind ns ts left others)
+  mark_stepped ns ts OpenParenthesis left others spans = ap (λ (f : Prefix). Ok f) (left_behind ns ts left others)
+  mark_stepped ns ts OpenBracket left others spans = ap (λ (f : Prefix). Ok f) (left_behind ns ts left others)
+  mark_stepped ns ts CloseBracket left others spans = ap (λ (f : Prefix). Ok f) (left_behind ns ts left others)
 
   -- a symbol that fills the slot is read
   pub fill_step : (ns : List ℤ) (ts : List (List ℕ)) (one : Slot) (others : List Slot) (symbol : Symbol) (number : List ℤ) (text : List (List ℕ)) → Fills one symbol number text → SpansAt one ns → step (in_face es ps bs fs ns ts (one ∷ others)) symbol ≡ Ok (behind es ps bs fs (ns ++ number) (ts ++ text) others)
@@ -107,16 +107,16 @@ module _ (es : List Entity) (ps : List Pair) (bs : List Brush) (fs : List Face) 
       ∙ rw (same_mark m, append-nil ns, append-nil ts) (mark_stepped ns ts m (slot.Mark m ∷ others) others spans)
   fill_step ns ts one others symbol number text (coordinate {number = c} is spells) spans =
       step_sorted (in_face es ps bs fs ns ts (slot.Coordinate ∷ others)) symbol sort.Name is
-      ∙ rw (spelled_coordinate symbol.bytes c spells, append-nil ts) (ap (λ (f : Front). Ok f) (left_behind (ns ++ c ∷ []) ts (slot.Coordinate ∷ others) others))
+      ∙ rw (spelled_coordinate symbol.bytes c spells, append-nil ts) (ap (λ (f : Prefix). Ok f) (left_behind (ns ++ c ∷ []) ts (slot.Coordinate ∷ others) others))
   fill_step ns ts one others symbol number text (texture is) spans =
       step_sorted (in_face es ps bs fs ns ts (slot.Texture ∷ others)) symbol sort.Name is
-      ∙ rw (append-nil ns) (ap (λ (f : Front). Ok f) (left_behind ns (ts ++ symbol.bytes ∷ []) (slot.Texture ∷ others) others))
+      ∙ rw (append-nil ns) (ap (λ (f : Prefix). Ok f) (left_behind ns (ts ++ symbol.bytes ∷ []) (slot.Texture ∷ others) others))
   fill_step ns ts one others symbol number text (quoted_texture is) spans =
       step_sorted (in_face es ps bs fs ns ts (slot.Texture ∷ others)) symbol sort.Quoted is
-      ∙ rw (append-nil ns) (ap (λ (f : Front). Ok f) (left_behind ns (ts ++ symbol.bytes ∷ []) (slot.Texture ∷ others) others))
+      ∙ rw (append-nil ns) (ap (λ (f : Prefix). Ok f) (left_behind ns (ts ++ symbol.bytes ∷ []) (slot.Texture ∷ others) others))
   fill_step ns ts one others symbol number text (word is) spans =
       step_sorted (in_face es ps bs fs ns ts (slot.Word ∷ others)) symbol sort.Name is
-      ∙ rw (append-nil ns) (ap (λ (f : Front). Ok f) (left_behind ns (ts ++ symbol.bytes ∷ []) (slot.Word ∷ others) others))
+      ∙ rw (append-nil ns) (ap (λ (f : Prefix). Ok f) (left_behind ns (ts ++ symbol.bytes ∷ []) (slot.Word ∷ others) others))
 
   -- the first symbol of a mapping tells its form
   pub first_step : (form : Form) (ns : List ℤ) (ts : List (List ℕ)) (one : Slot) (others : List Slot) (symbol : Symbol) (number : List ℤ) (text : List (List ℕ)) → mapping_slots form ≡ one ∷ others → Fills one symbol number text → step (in_face es ps bs fs ns ts (slot.FirstOfMapping ∷ [])) symbol ≡ Ok (in_face es ps bs fs (ns ++ number) (ts ++ text) others)

@@ -8,12 +8,12 @@ use Rattle.qm_grammar.specs.declared.refusal.Refusal.TheVariants as refusal
 use Rattle.qm_grammar.specs.declared.fault.MapFault.{MapFault}
 use Rattle.qm_grammar.specs.declared.fault.MapFault.TheVariants as fault
 use Rattle.qm_grammar.specs.Symbol.{symbol_of}
-use Rattle.qm_grammar.specs.Front.{Front, outside, IsFront}
+use Rattle.qm_grammar.specs.Prefix.{Prefix, outside, IsPrefix}
 use Rattle.qm_grammar.specs.Faults.{text_limit, end_of, fault_of, Rank, of_length, of_end, rank_number, rank_of, IsRefused, EndsInside, Stands, too_long, refused, unclosed, end_inside, no_entity, ComesFirst, IsFirstFault}
-use Rattle.qm_grammar.specs.Machine.{steps, runs}
+use Rattle.qm_grammar.specs.inner.Machine.{steps, runs}
 use Rattle.qm_grammar.proofs.Runs.{not_both, same_ok, same_err, IsFirstRefused, steps_first, first_steps, runs_steps}
-use Rattle.qm_grammar.proofs.FrontRuns.{front_runs}
-use Rattle.qm_grammar.proofs.FrontReads.{runs_front}
+use Rattle.qm_grammar.proofs.PrefixRuns.{prefix_runs}
+use Rattle.qm_grammar.proofs.PrefixReads.{runs_prefix}
 use Rattle.qm_grammar.proofs.Refused.{step_refused}
 use Rattle.qm_grammar.proofs.Refusing.{refused_step}
 use Rattle.qm_grammar.proofs.Lexings.{ends_within}
@@ -26,9 +26,9 @@ refused_steps lexemes token reason is =
       before = is.before;
       after = is.after;
       split = is.split;
-      mid = is.front;
-      read = front_runs (map symbol_of is.before) is.front is.is_front;
-      refused = refused_step is.front (symbol_of token) reason is.refuses;
+      mid = is.prefix;
+      read = prefix_runs (map symbol_of is.before) is.prefix is.is_prefix;
+      refused = refused_step is.prefix (symbol_of token) reason is.refuses;
     })
 
 pub steps_refused : (lexemes : List Lexeme) (token : Lexeme) (reason : Refusal) → steps (outside []) lexemes ≡ Err (reason, token) → IsRefused lexemes token reason
@@ -38,8 +38,8 @@ steps_refused lexemes token reason read =
       before = first.before;
       after = first.after;
       split = first.split;
-      front = first.mid;
-      is_front = runs_front (map symbol_of first.before) first.mid first.read;
+      prefix = first.mid;
+      is_prefix = runs_prefix (map symbol_of first.before) first.mid first.read;
       refuses = step_refused first.mid (symbol_of token) reason first.refused;
     }
 
@@ -49,13 +49,13 @@ one_refused lexemes token other reason why first second =
     let both : (reason, token) ≡ (why, other) = same_err (steps (outside []) lexemes) (reason, token) (why, other) (refused_steps lexemes token reason first) (refused_steps lexemes other why second) in
     (ap (λ (p : Refusal × Lexeme). p.1) both, ap (λ (p : Refusal × Lexeme). p.0) both)
 
--- lexemes that are a front are read, so none of them is refused
-pub front_steps : (lexemes : List Lexeme) (front : Front) → IsFront (map symbol_of lexemes) front → steps (outside []) lexemes ≡ Ok front
-front_steps lexemes front is = runs_steps (outside []) front lexemes (front_runs (map symbol_of lexemes) front is)
+-- lexemes that are a prefix are read, so none of them is refused
+pub prefix_steps : (lexemes : List Lexeme) (prefix : Prefix) → IsPrefix (map symbol_of lexemes) prefix → steps (outside []) lexemes ≡ Ok prefix
+prefix_steps lexemes prefix is = runs_steps (outside []) prefix lexemes (prefix_runs (map symbol_of lexemes) prefix is)
 
-pub none_refused : (lexemes : List Lexeme) (front : Front) (token : Lexeme) (reason : Refusal) → steps (outside []) lexemes ≡ Ok front → IsRefused lexemes token reason → ⊥
-none_refused lexemes front token reason read is =
-    not_both (steps (outside []) lexemes) front (reason, token) read (refused_steps lexemes token reason is)
+pub none_refused : (lexemes : List Lexeme) (prefix : Prefix) (token : Lexeme) (reason : Refusal) → steps (outside []) lexemes ≡ Ok prefix → IsRefused lexemes token reason → ⊥
+none_refused lexemes prefix token reason read is =
+    not_both (steps (outside []) lexemes) prefix (reason, token) read (refused_steps lexemes token reason is)
 
 -- ---- the order of faults
 
@@ -104,59 +104,59 @@ module _ (text : List ℕ) (lexing : Lexing) where
       comes (end_of token) (rank_of reason) (length text) of_end within (omega arith)
 
   -- a fault at the end, where the text is not too long and all tokens are read
-  pub end_first : length text ≤ text_limit → (front : Front) → steps (outside []) lexing.lexemes ≡ Ok front → (at : ℕ) (rank : Rank) (other : MapFault) → Stands text lexing at rank other → ComesFirst (length text) of_end at rank
-  end_first short front read at rank other (too_long long) = absurd (omega arith)
-  end_first short front read at rank other (refused {token = token} {reason = reason} is) = absurd (none_refused lexing.lexemes front token reason read is)
-  end_first short front read at rank other (unclosed line) = comes (length text) of_end (length text) of_end (omega arith) (omega arith)
-  end_first short front read at rank other (end_inside closed ends) = comes (length text) of_end (length text) of_end (omega arith) (omega arith)
-  end_first short front read at rank other (no_entity closed ends) = comes (length text) of_end (length text) of_end (omega arith) (omega arith)
+  pub end_first : length text ≤ text_limit → (prefix : Prefix) → steps (outside []) lexing.lexemes ≡ Ok prefix → (at : ℕ) (rank : Rank) (other : MapFault) → Stands text lexing at rank other → ComesFirst (length text) of_end at rank
+  end_first short prefix read at rank other (too_long long) = absurd (omega arith)
+  end_first short prefix read at rank other (refused {token = token} {reason = reason} is) = absurd (none_refused lexing.lexemes prefix token reason read is)
+  end_first short prefix read at rank other (unclosed line) = comes (length text) of_end (length text) of_end (omega arith) (omega arith)
+  end_first short prefix read at rank other (end_inside closed ends) = comes (length text) of_end (length text) of_end (omega arith) (omega arith)
+  end_first short prefix read at rank other (no_entity closed ends) = comes (length text) of_end (length text) of_end (omega arith) (omega arith)
 
-  -- ---- one fault at a place and a rank
+  -- ---- one fault at an offset and of a rank
 
   -- a text that ends inside has a token
   not_inside : EndsInside lexing.lexemes → lexing.lexemes ≡ [] → ⊥
   not_inside ends none =
-      let read : runs (outside []) (map symbol_of lexing.lexemes) ≡ Ok ends.front = front_runs (map symbol_of lexing.lexemes) ends.front ends.is_front in
+      let read : runs (outside []) (map symbol_of lexing.lexemes) ≡ Ok ends.prefix = prefix_runs (map symbol_of lexing.lexemes) ends.prefix ends.is_prefix in
       let nothing : runs (outside []) (map symbol_of lexing.lexemes) ≡ Ok (outside []) = ap (λ (l : List Lexeme). runs (outside []) (map symbol_of l)) none in
-      let same : ends.front ≡ outside [] = same_ok (runs (outside []) (map symbol_of lexing.lexemes)) ends.front (outside []) read nothing in
-      ends.inside (ap (λ (f : Front). f.place) same)
+      let same : ends.prefix ≡ outside [] = same_ok (runs (outside []) (map symbol_of lexing.lexemes)) ends.prefix (outside []) read nothing in
+      ends.inside (ap (λ (f : Prefix). f.context) same)
 
   pub same_fault : (at other_at : ℕ) (rank other_rank : Rank) (one other : MapFault) → Stands text lexing at rank one → Stands text lexing other_at other_rank other → at ≡ other_at → rank_number rank ≡ rank_number other_rank → one ≡ other
-  same_fault at other_at rank other_rank one other (too_long long) (too_long long') places ranks = refl
-  same_fault at other_at rank other_rank one other (too_long long) (refused {reason = reason} is) places ranks = absurd (let within = rank_within reason in omega arith)
-  same_fault at other_at rank other_rank one other (too_long long) (unclosed is) places ranks = absurd (omega arith)
-  same_fault at other_at rank other_rank one other (too_long long) (end_inside closed is) places ranks = absurd (omega arith)
-  same_fault at other_at rank other_rank one other (too_long long) (no_entity closed is) places ranks = absurd (omega arith)
-  same_fault at other_at rank other_rank one other (refused {reason = reason} is) (too_long long) places ranks = absurd (let within = rank_within reason in omega arith)
-  same_fault at other_at rank other_rank one other (refused {token = token} {reason = reason} is) (refused {token = second} {reason = why} again) places ranks =
+  same_fault at other_at rank other_rank one other (too_long long) (too_long long') offsets ranks = refl
+  same_fault at other_at rank other_rank one other (too_long long) (refused {reason = reason} is) offsets ranks = absurd (let within = rank_within reason in omega arith)
+  same_fault at other_at rank other_rank one other (too_long long) (unclosed is) offsets ranks = absurd (omega arith)
+  same_fault at other_at rank other_rank one other (too_long long) (end_inside closed is) offsets ranks = absurd (omega arith)
+  same_fault at other_at rank other_rank one other (too_long long) (no_entity closed is) offsets ranks = absurd (omega arith)
+  same_fault at other_at rank other_rank one other (refused {reason = reason} is) (too_long long) offsets ranks = absurd (let within = rank_within reason in omega arith)
+  same_fault at other_at rank other_rank one other (refused {token = token} {reason = reason} is) (refused {token = second} {reason = why} again) offsets ranks =
       let same = one_refused lexing.lexemes token second reason why is again in
       ap₂ (λ (r : Refusal) (t : Lexeme). fault_of r t.line) same.1 same.0
-  same_fault at other_at rank other_rank one other (refused {reason = reason} is) (unclosed line) places ranks = absurd (let within = rank_within reason in omega arith)
-  same_fault at other_at rank other_rank one other (refused {reason = reason} is) (end_inside closed ends) places ranks = absurd (let within = rank_within reason in omega arith)
-  same_fault at other_at rank other_rank one other (refused {reason = reason} is) (no_entity closed ends) places ranks = absurd (let within = rank_within reason in omega arith)
-  same_fault at other_at rank other_rank one other (unclosed is) (too_long long) places ranks = absurd (omega arith)
-  same_fault at other_at rank other_rank one other (unclosed line) (refused {reason = reason} is) places ranks = absurd (let within = rank_within reason in omega arith)
-  same_fault at other_at rank other_rank one other (unclosed {line = line} is) (unclosed {line = line'} is') places ranks =
+  same_fault at other_at rank other_rank one other (refused {reason = reason} is) (unclosed line) offsets ranks = absurd (let within = rank_within reason in omega arith)
+  same_fault at other_at rank other_rank one other (refused {reason = reason} is) (end_inside closed ends) offsets ranks = absurd (let within = rank_within reason in omega arith)
+  same_fault at other_at rank other_rank one other (refused {reason = reason} is) (no_entity closed ends) offsets ranks = absurd (let within = rank_within reason in omega arith)
+  same_fault at other_at rank other_rank one other (unclosed is) (too_long long) offsets ranks = absurd (omega arith)
+  same_fault at other_at rank other_rank one other (unclosed line) (refused {reason = reason} is) offsets ranks = absurd (let within = rank_within reason in omega arith)
+  same_fault at other_at rank other_rank one other (unclosed {line = line} is) (unclosed {line = line'} is') offsets ranks =
       let same : line ≡ line' = cc in
       ap (λ (l : ℕ). fault.UnclosedQuote l) same
-  same_fault at other_at rank other_rank one other (unclosed is) (end_inside closed ends) places ranks = absurd cc
-  same_fault at other_at rank other_rank one other (unclosed is) (no_entity closed ends) places ranks = absurd cc
-  same_fault at other_at rank other_rank one other (end_inside closed ends) (too_long long) places ranks = absurd (omega arith)
-  same_fault at other_at rank other_rank one other (end_inside closed ends) (refused {reason = reason} is) places ranks = absurd (let within = rank_within reason in omega arith)
-  same_fault at other_at rank other_rank one other (end_inside closed ends) (unclosed is) places ranks = absurd cc
-  same_fault at other_at rank other_rank one other (end_inside closed ends) (end_inside closed' ends') places ranks = refl
-  same_fault at other_at rank other_rank one other (end_inside closed ends) (no_entity closed' none) places ranks = absurd (not_inside ends none)
-  same_fault at other_at rank other_rank one other (no_entity closed none) (too_long long) places ranks = absurd (omega arith)
-  same_fault at other_at rank other_rank one other (no_entity closed none) (refused {reason = reason} is) places ranks = absurd (let within = rank_within reason in omega arith)
-  same_fault at other_at rank other_rank one other (no_entity closed none) (unclosed is) places ranks = absurd cc
-  same_fault at other_at rank other_rank one other (no_entity closed none) (end_inside closed' ends) places ranks = absurd (not_inside ends none)
-  same_fault at other_at rank other_rank one other (no_entity closed none) (no_entity closed' none') places ranks = refl
+  same_fault at other_at rank other_rank one other (unclosed is) (end_inside closed ends) offsets ranks = absurd cc
+  same_fault at other_at rank other_rank one other (unclosed is) (no_entity closed ends) offsets ranks = absurd cc
+  same_fault at other_at rank other_rank one other (end_inside closed ends) (too_long long) offsets ranks = absurd (omega arith)
+  same_fault at other_at rank other_rank one other (end_inside closed ends) (refused {reason = reason} is) offsets ranks = absurd (let within = rank_within reason in omega arith)
+  same_fault at other_at rank other_rank one other (end_inside closed ends) (unclosed is) offsets ranks = absurd cc
+  same_fault at other_at rank other_rank one other (end_inside closed ends) (end_inside closed' ends') offsets ranks = refl
+  same_fault at other_at rank other_rank one other (end_inside closed ends) (no_entity closed' none) offsets ranks = absurd (not_inside ends none)
+  same_fault at other_at rank other_rank one other (no_entity closed none) (too_long long) offsets ranks = absurd (omega arith)
+  same_fault at other_at rank other_rank one other (no_entity closed none) (refused {reason = reason} is) offsets ranks = absurd (let within = rank_within reason in omega arith)
+  same_fault at other_at rank other_rank one other (no_entity closed none) (unclosed is) offsets ranks = absurd cc
+  same_fault at other_at rank other_rank one other (no_entity closed none) (end_inside closed' ends) offsets ranks = absurd (not_inside ends none)
+  same_fault at other_at rank other_rank one other (no_entity closed none) (no_entity closed' none') offsets ranks = refl
 
   earliest : (at other_at : ℕ) (rank other_rank : Rank) → ComesFirst at rank other_at other_rank → ComesFirst other_at other_rank at rank → (at ≡ other_at) × (rank_number rank ≡ rank_number other_rank)
   earliest at other_at rank other_rank (inl less) (inl more) = absurd (omega arith)
   earliest at other_at rank other_rank (inl less) (inr same) = absurd (let e = same.0 in omega arith)
   earliest at other_at rank other_rank (inr same) (inl more) = absurd (let e = same.0 in omega arith)
-  earliest at other_at rank other_rank (inr (places, below)) (inr (again, above)) = (places, omega arith)
+  earliest at other_at rank other_rank (inr (offsets, below)) (inr (again, above)) = (offsets, omega arith)
 
   -- a text has one first fault at most
   pub one_first_fault : (one other : MapFault) → IsFirstFault text lexing one → IsFirstFault text lexing other → one ≡ other

@@ -7,20 +7,20 @@ use Rattle.qm_lex.specs.Lexing.{Lexing, IsLexingOf}
 use Rattle.qm_lex.specs.inner.Modes.{between, read}
 use Rattle.qm_mapfile.specs.declared.entity.Entity.{Entity}
 use Rattle.qm_mapfile.specs.declared.entity.MapFile.{MapFile}
-use Rattle.qm_grammar.specs.declared.place.Place.TheVariants as place
+use Rattle.qm_grammar.specs.declared.context.Context.TheVariants as context
 use Rattle.qm_grammar.specs.declared.refusal.Refusal.{Refusal}
 use Rattle.qm_grammar.specs.declared.fault.MapFault.{MapFault}
 use Rattle.qm_grammar.specs.declared.fault.MapFault.TheVariants as fault
 use Rattle.qm_grammar.specs.Symbol.{Symbol, symbol_of}
 use Rattle.qm_grammar.specs.Grammar.{SpellsEntities, none, more, SpellsMap}
-use Rattle.qm_grammar.specs.Front.{Front, outside, IsFront, outside_front, entity_front, key_front, brush_front, face_front, IsOutside}
+use Rattle.qm_grammar.specs.Prefix.{Prefix, outside, IsPrefix, outside_prefix, entity_prefix, key_prefix, brush_prefix, face_prefix, IsOutside}
 use Rattle.qm_grammar.specs.Faults.{text_limit, line_at, last_line, end_of, fault_of, Rank, of_length, of_end, rank_of, ComesFirst, IsRefused, Stands, too_long, refused, unclosed, end_inside, no_entity, IsFirstFault}
 use Rattle.qm_grammar.specs.Meaning.{IsMapText, IsFaultText, Means}
-use Rattle.qm_grammar.specs.Machine.{steps, closed_by_end, ended, meaning_of}
+use Rattle.qm_grammar.specs.inner.Machine.{steps, closed_by_end, ended, meaning_of}
 use Rattle.qm_grammar.proofs.Runs.{same_ok, steps_runs}
-use Rattle.qm_grammar.proofs.FrontReads.{runs_front}
+use Rattle.qm_grammar.proofs.PrefixReads.{runs_prefix}
 use Rattle.qm_grammar.proofs.Lexings.{read_lexing, one_lexing, ends_within}
-use Rattle.qm_grammar.proofs.FirstFaults.{steps_refused, front_steps, one_refused, none_refused, long_first, token_first, end_first, one_first_fault}
+use Rattle.qm_grammar.proofs.FirstFaults.{steps_refused, prefix_steps, one_refused, none_refused, long_first, token_first, end_first, one_first_fault}
 
 -- no token spells no entity
 no_symbols : {symbols : List Symbol} {entities : List Entity} → SpellsEntities symbols entities → entities ≡ [] → symbols ≡ []
@@ -51,9 +51,9 @@ module _ (text : List ℕ) (lexing : Lexing) (is : IsLexingOf text lexing) where
       fault_text (end_of token) (rank_of reason) (fault_of reason token.line) (refused refuses)
       (token_first text lexing is token reason refuses (ltb-false text_limit (end_of token) early))
 
-  module _ (front : Front) (all_read : steps (outside []) lexing.lexemes ≡ Ok front) where
+  module _ (prefix : Prefix) (all_read : steps (outside []) lexing.lexemes ≡ Ok prefix) where
     end_fault : length text ≤ text_limit → (found : MapFault) → Stands text lexing (length text) of_end found → IsFaultText text found
-    end_fault short found stands = fault_text (length text) of_end found stands (end_first text lexing short front all_read)
+    end_fault short found stands = fault_text (length text) of_end found stands (end_first text lexing short prefix all_read)
 
     outside_means : length text ≤ text_limit → lexing.unclosed_line ≡ None → (es : List Entity) → IsOutside (map symbol_of lexing.lexemes) es → (t : Bool) → (length es == 0) ≡ t → Means text (if t then Err (fault.NoEntity (last_line text)) else Ok (record { entities = es }))
     outside_means short closed es spelled true empty =
@@ -72,30 +72,30 @@ module _ (text : List ℕ) (lexing : Lexing) (is : IsLexingOf text lexing) where
       };
     }
 
-    inside_means : length text ≤ text_limit → lexing.unclosed_line ≡ None → IsFront (map symbol_of lexing.lexemes) front → front.place ≢ place.Outside → IsFaultText text (fault.EndInside (last_line text))
-    inside_means short closed is_front inside =
-        end_fault short (fault.EndInside (last_line text)) (end_inside closed (record { front = front; is_front = is_front; inside = inside }))
+    inside_means : length text ≤ text_limit → lexing.unclosed_line ≡ None → IsPrefix (map symbol_of lexing.lexemes) prefix → prefix.context ≢ context.Outside → IsFaultText text (fault.EndInside (last_line text))
+    inside_means short closed is_prefix inside =
+        end_fault short (fault.EndInside (last_line text)) (end_inside closed (record { prefix = prefix; is_prefix = is_prefix; inside = inside }))
 
-  closed_means : length text ≤ text_limit → lexing.unclosed_line ≡ None → (front : Front) → steps (outside []) lexing.lexemes ≡ Ok front → IsFront (map symbol_of lexing.lexemes) front → Means text (closed_by_end text None front)
-  closed_means short closed front all_read (outside_front {entities = es} spelled) = outside_means (outside es) all_read short closed es spelled (length es == 0) refl
-  closed_means short closed front all_read (entity_front spelled) = inside_means front all_read short closed (entity_front spelled) (λ never. absurd cc)
-  closed_means short closed front all_read (key_front spelled) = inside_means front all_read short closed (key_front spelled) (λ never. absurd cc)
-  closed_means short closed front all_read (brush_front spelled) = inside_means front all_read short closed (brush_front spelled) (λ never. absurd cc)
-  closed_means short closed front all_read (face_front spelled) = inside_means front all_read short closed (face_front spelled) (λ never. absurd cc)
+  closed_means : length text ≤ text_limit → lexing.unclosed_line ≡ None → (prefix : Prefix) → steps (outside []) lexing.lexemes ≡ Ok prefix → IsPrefix (map symbol_of lexing.lexemes) prefix → Means text (closed_by_end text None prefix)
+  closed_means short closed prefix all_read (outside_prefix {entities = es} spelled) = outside_means (outside es) all_read short closed es spelled (length es == 0) refl
+  closed_means short closed prefix all_read (entity_prefix spelled) = inside_means prefix all_read short closed (entity_prefix spelled) (λ never. absurd cc)
+  closed_means short closed prefix all_read (key_prefix spelled) = inside_means prefix all_read short closed (key_prefix spelled) (λ never. absurd cc)
+  closed_means short closed prefix all_read (brush_prefix spelled) = inside_means prefix all_read short closed (brush_prefix spelled) (λ never. absurd cc)
+  closed_means short closed prefix all_read (face_prefix spelled) = inside_means prefix all_read short closed (face_prefix spelled) (λ never. absurd cc)
 
-  quote_means : length text ≤ text_limit → (quote : Option ℕ) → lexing.unclosed_line ≡ quote → (front : Front) → steps (outside []) lexing.lexemes ≡ Ok front → Means text (closed_by_end text quote front)
-  quote_means short (Some line) opened front all_read = end_fault front all_read short (fault.UnclosedQuote line) (unclosed opened)
-  quote_means short None closed front all_read =
-      closed_means short closed front all_read (runs_front (map symbol_of lexing.lexemes) front (steps_runs (outside []) front lexing.lexemes all_read))
+  quote_means : length text ≤ text_limit → (quote : Option ℕ) → lexing.unclosed_line ≡ quote → (prefix : Prefix) → steps (outside []) lexing.lexemes ≡ Ok prefix → Means text (closed_by_end text quote prefix)
+  quote_means short (Some line) opened prefix all_read = end_fault prefix all_read short (fault.UnclosedQuote line) (unclosed opened)
+  quote_means short None closed prefix all_read =
+      closed_means short closed prefix all_read (runs_prefix (map symbol_of lexing.lexemes) prefix (steps_runs (outside []) prefix lexing.lexemes all_read))
 
-  read_means : (front : Front) → steps (outside []) lexing.lexemes ≡ Ok front → (t : Bool) → nat_lt text_limit (length text) ≡ t → Means text (if t then Err (fault.TextTooLong (line_at text text_limit)) else closed_by_end text lexing.unclosed_line front)
-  read_means front all_read true long =
+  read_means : (prefix : Prefix) → steps (outside []) lexing.lexemes ≡ Ok prefix → (t : Bool) → nat_lt text_limit (length text) ≡ t → Means text (if t then Err (fault.TextTooLong (line_at text text_limit)) else closed_by_end text lexing.unclosed_line prefix)
+  read_means prefix all_read true long =
       fault_text (text_limit + 1) of_length (fault.TextTooLong (line_at text text_limit)) (too_long (ltb-true text_limit (length text) long))
-      (long_first text lexing (ltb-true text_limit (length text) long) (λ token reason refuses. absurd (none_refused lexing.lexemes front token reason all_read refuses)))
-  read_means front all_read false short = quote_means (ltb-false text_limit (length text) short) lexing.unclosed_line refl front all_read
+      (long_first text lexing (ltb-true text_limit (length text) long) (λ token reason refuses. absurd (none_refused lexing.lexemes prefix token reason all_read refuses)))
+  read_means prefix all_read false short = quote_means (ltb-false text_limit (length text) short) lexing.unclosed_line refl prefix all_read
 
-  ended_means : (result : Result Front (Refusal × Lexeme)) → steps (outside []) lexing.lexemes ≡ result → Means text (ended text lexing.unclosed_line result)
-  ended_means (Ok front) all_read = read_means front all_read (nat_lt text_limit (length text)) refl
+  ended_means : (result : Result Prefix (Refusal × Lexeme)) → steps (outside []) lexing.lexemes ≡ result → Means text (ended text lexing.unclosed_line result)
+  ended_means (Ok prefix) all_read = read_means prefix all_read (nat_lt text_limit (length text)) refl
   ended_means (Err (reason, token)) first =
       refused_means token reason (steps_refused lexing.lexemes token reason first) (nat_lt text_limit (end_of token)) refl
 
@@ -111,7 +111,7 @@ means_meaning text =
 -- the tokens of a map lead to its entities
 map_steps : (lexemes : List Lexeme) (one : MapFile) → SpellsMap (map symbol_of lexemes) one → steps (outside []) lexemes ≡ Ok (outside one.entities)
 map_steps lexemes one spells =
-    front_steps lexemes (outside one.entities) (outside_front (record { spelled = spells.entities; origins = spells.origins }))
+    prefix_steps lexemes (outside one.entities) (outside_prefix (record { spelled = spells.entities; origins = spells.origins }))
 
 -- a text of a map has no fault
 map_no_fault : (text : List ℕ) (lexing : Lexing) (one : MapFile) → length text ≤ text_limit → lexing.unclosed_line ≡ None → SpellsMap (map symbol_of lexing.lexemes) one → (at : ℕ) (rank : Rank) (found : MapFault) → Stands text lexing at rank found → ⊥
@@ -120,14 +120,14 @@ map_no_fault text lexing one short closed spells at rank found (refused {token =
     none_refused lexing.lexemes (outside one.entities) token reason (map_steps lexing.lexemes one spells) is
 map_no_fault text lexing one short closed spells at rank found (unclosed opened) = absurd cc
 map_no_fault text lexing one short closed spells at rank found (end_inside closed' ends) =
-    let read = front_steps lexing.lexemes ends.front ends.is_front in
-    let same : ends.front ≡ outside one.entities = same_ok (steps (outside []) lexing.lexemes) ends.front (outside one.entities) read (map_steps lexing.lexemes one spells) in
-    ends.inside (ap (λ (f : Front). f.place) same)
+    let read = prefix_steps lexing.lexemes ends.prefix ends.is_prefix in
+    let same : ends.prefix ≡ outside one.entities = same_ok (steps (outside []) lexing.lexemes) ends.prefix (outside one.entities) read (map_steps lexing.lexemes one spells) in
+    ends.inside (ap (λ (f : Prefix). f.context) same)
 map_no_fault text lexing one short closed spells at rank found (no_entity closed' empty) =
     let read = map_steps lexing.lexemes one spells in
     let nothing : steps (outside []) lexing.lexemes ≡ Ok (outside []) = ap (steps (outside [])) empty in
     let same : outside one.entities ≡ outside [] = same_ok (steps (outside []) lexing.lexemes) (outside one.entities) (outside []) read nothing in
-    spells.some (ap (λ (f : Front). f.entities) same)
+    spells.some (ap (λ (f : Prefix). f.entities) same)
 
 same_lexing : (text : List ℕ) (one other : Lexing) → IsLexingOf text one → IsLexingOf text other → one ≡ other
 same_lexing text one other is again = one_lexing text one is ∙ sym (one_lexing text other again)
@@ -143,7 +143,7 @@ one_map text one other is again =
     let second : SpellsMap (map symbol_of is.lexing.lexemes) other = subst (λ (l : Lexing). SpellsMap (map symbol_of l.lexemes) other) lexings again.spelled in
     let same : outside one.entities ≡ outside other.entities =
     same_ok (steps (outside []) is.lexing.lexemes) (outside one.entities) (outside other.entities) (map_steps is.lexing.lexemes one is.spelled) (map_steps is.lexing.lexemes other second) in
-    ap (λ (f : Front). record { entities = f.entities }) same
+    ap (λ (f : Prefix). record { entities = f.entities }) same
 
 one_fault : (text : List ℕ) (one other : MapFault) → IsFaultText text one → IsFaultText text other → one ≡ other
 one_fault text one other is again =

@@ -5,7 +5,7 @@ use Rattle.std.proofs.lemmas.Int.{ints}
 use Rattle.qm_decimal.specs.declared.fraction.Fraction.{Fraction}
 use Rattle.qm_decimal.specs.declared.fraction.NumberFault.{NumberFault}
 use Rattle.qm_decimal.specs.declared.fraction.NumberFault.TheVariants as number
-use Rattle.qm_decimal.specs.Answer.{IsAnswer}
+use Rattle.qm_decimal.specs.Answer.{IsNoNumber, IsTooFineText, IsTooLargeText, IsAnswer}
 use Rattle.qm_decimal.specs.Computed.{read_at}
 use Rattle.qm_decimal.proofs.Computed.{read_at_answers}
 use Rattle.qm_decimal.proofs.Uniqueness.{same_answer}
@@ -13,8 +13,8 @@ use Rattle.qm_space.specs.Point.{IsCoordinate}
 use Rattle.qm_space.specs.Bounds.{extent}
 use Rattle.qm_grammar.specs.declared.refusal.Refusal.{Refusal}
 use Rattle.qm_grammar.specs.declared.refusal.Refusal.TheVariants as refusal
-use Rattle.qm_grammar.specs.Number.{whole_fraction, SpellsWhole, SpellsCoordinate, IsNoNumberText, IsFractionText, IsHugeText, IsOutsideText}
-use Rattle.qm_grammar.specs.Machine.{coordinate_of, coordinate_of_answer, coordinate_in_range}
+use Rattle.qm_grammar.specs.Number.{whole_fraction, SpellsWhole, SpellsCoordinate, IsOutsideText}
+use Rattle.qm_grammar.specs.inner.Machine.{coordinate_of, coordinate_of_answer, coordinate_in_range}
 
 -- the answer that a text has is the one that is computed
 pub computed_answer : (text : List ℕ) (places : ℕ) (answer : Result Fraction NumberFault) → IsAnswer text places answer → read_at text places ≡ answer
@@ -56,9 +56,9 @@ in_range_ok fraction is = rw (is_within fraction.numerator is) refl
 
 -- why a word in a coordinate's place is refused
 pub data IsBadCoordinate (text : List ℕ) : Refusal → Type 0 where
-  no_number : IsNoNumberText text → IsBadCoordinate text refusal.BadNumber
-  fraction : IsFractionText text → IsBadCoordinate text refusal.Fraction
-  huge : IsHugeText text → IsBadCoordinate text refusal.CoordinateRange
+  no_number : IsNoNumber text → IsBadCoordinate text refusal.BadNumber
+  fraction : IsTooFineText text 0 → IsBadCoordinate text refusal.Fraction
+  too_large : IsTooLargeText text 0 → IsBadCoordinate text refusal.CoordinateRange
   outside : IsOutsideText text → IsBadCoordinate text refusal.CoordinateRange
 
 -- a word that spells a coordinate is read as it
@@ -75,7 +75,7 @@ pub bad_coordinate : (text : List ℕ) (reason : Refusal) → IsBadCoordinate te
 unfolding coordinate_of
 bad_coordinate text reason (no_number is) = rw (computed_answer text 0 (Err number.Form) is) refl
 bad_coordinate text reason (fraction is) = rw (computed_answer text 0 (Err number.TooFine) is) refl
-bad_coordinate text reason (huge is) = rw (computed_answer text 0 (Err number.TooLarge) is) refl
+bad_coordinate text reason (too_large is) = rw (computed_answer text 0 (Err number.TooLarge) is) refl
 bad_coordinate text reason (outside is) =
     rw (computed_answer text 0 (Ok (whole_fraction is.number)) is.spelled) (range_refused is.number is.out_of_range)
 
@@ -120,7 +120,7 @@ refused_answer text reason (Err number.TooFine) is refused =
     subst (IsBadCoordinate text) reasons (fraction (answer_computed text 0 (Err number.TooFine) is))
 refused_answer text reason (Err number.TooLarge) is refused =
     let reasons : refusal.CoordinateRange ≡ reason = cc in
-    subst (IsBadCoordinate text) reasons (huge (answer_computed text 0 (Err number.TooLarge) is))
+    subst (IsBadCoordinate text) reasons (too_large (answer_computed text 0 (Err number.TooLarge) is))
 
 pub coordinate_bad : (text : List ℕ) (reason : Refusal) → coordinate_of text ≡ Err reason → IsBadCoordinate text reason
 unfolding coordinate_of

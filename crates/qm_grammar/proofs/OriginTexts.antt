@@ -6,10 +6,10 @@ use Rattle.qm_decimal.specs.declared.fraction.NumberFault.{NumberFault}
 use Rattle.qm_decimal.specs.Answer.{IsAnswer}
 use Rattle.qm_decimal.specs.Computed.{read_at}
 use Rattle.qm_space.specs.Point.{Point}
-use Rattle.qm_mapfile.specs.Words.{words_of}
+use Rattle.qm_grammar.specs.Words.{words_of}
 use Rattle.qm_grammar.specs.Number.{SpellsMillionths, millionths}
 use Rattle.qm_grammar.specs.Origin.{SpellsOrigin, IsOriginText}
-use Rattle.qm_grammar.specs.Machine.{millionths_in_range, millionths_of_answer, millionths_of, point_of_words, origin_of}
+use Rattle.qm_grammar.specs.inner.Machine.{millionths_in_range, millionths_of_answer, millionths_of, point_of_words, origin_of}
 use Rattle.qm_grammar.proofs.Numbers.{computed_answer, answer_computed}
 
 -- an option is one of two

@@ -6,7 +6,7 @@ use Rattle.qm_space.specs.Plane.{Plane}
 use Rattle.qm_space.specs.ThreePoints.{outward_plane}
 use Rattle.qm_space.proofs.PlanesThroughPoints.{HasNoNormal, one_line_no_normal, no_normal_one_line}
 use Rattle.qm_mapfile.specs.Face.{SpanPlane, point_at}
-use Rattle.qm_grammar.specs.Machine.{has_normal, span_plane}
+use Rattle.qm_grammar.specs.inner.Machine.{has_normal, span_plane}
 
 is_zero : (n : ℤ) → n ≡ pos 0 → int_eq n (pos 0) ≡ true
 is_zero n e = (Decides-int_eq n (pos 0)).1 e

@@ -10,128 +10,128 @@ use Rattle.qm_grammar.specs.declared.mark.Sort.{Sort}
 use Rattle.qm_grammar.specs.declared.mark.Sort.TheVariants as sort
 use Rattle.qm_grammar.specs.declared.slot.Slot.{Slot}
 use Rattle.qm_grammar.specs.declared.slot.Slot.TheVariants as slot
-use Rattle.qm_grammar.specs.declared.place.Place.{Place}
-use Rattle.qm_grammar.specs.declared.place.Place.TheVariants as place
+use Rattle.qm_grammar.specs.declared.context.Context.{Context}
+use Rattle.qm_grammar.specs.declared.context.Context.TheVariants as context
 use Rattle.qm_grammar.specs.declared.refusal.Refusal.{Refusal}
 use Rattle.qm_grammar.specs.declared.refusal.Refusal.TheVariants as refusal
 use Rattle.qm_grammar.specs.Symbol.{Symbol, sort_of}
 use Rattle.qm_grammar.specs.Origin.{origin_key, value_of, IsOriginText}
 use Rattle.qm_grammar.specs.Slots.{points_of}
-use Rattle.qm_grammar.specs.Front.{Front}
-use Rattle.qm_grammar.specs.Table.{Allows, entity_opens, key, brush_opens, entity_closes, value, face_begins, brush_closes, mark, coordinate, texture, quoted_texture, word_of_mapping, axis_opens, word, IsAtCoordinate, ClosesThirdPoint, IsOriginValue, ClosesEmptyBrush, Refuses, unexpected, bad_number, fraction, huge, out_of_range, no_normal, no_faces, bad_origin}
-use Rattle.qm_grammar.specs.Machine.{is_same_mark, origin_of, is_bad_origin, span_plane, step, step_at, step_outside, step_entity, step_value, step_brush, step_face, step_slot, step_mark, with_number}
+use Rattle.qm_grammar.specs.Prefix.{Prefix}
+use Rattle.qm_grammar.specs.Table.{Allows, entity_opens, key, brush_opens, entity_closes, value, face_begins, brush_closes, mark, coordinate, texture, quoted_texture, word_of_mapping, axis_opens, word, IsAtCoordinate, ClosesThirdPoint, IsOriginValue, ClosesEmptyBrush, Refuses, unexpected, bad_number, fraction, too_large, out_of_range, no_normal, no_faces, bad_origin}
+use Rattle.qm_grammar.specs.inner.Machine.{is_same_mark, origin_of, is_bad_origin, span_plane, step, step_at, step_outside, step_entity, step_value, step_brush, step_face, step_slot, step_mark, with_number}
 use Rattle.qm_grammar.proofs.Planes.{span_false}
 use Rattle.qm_grammar.proofs.Numbers.{IsBadCoordinate, bad_coordinate}
-use Rattle.qm_grammar.proofs.Numbers.{no_number, fraction, huge, outside}
+use Rattle.qm_grammar.proofs.Numbers.{no_number, fraction, too_large, outside}
 use Rattle.qm_grammar.proofs.OriginTexts.{some_origin}
 use Rattle.qm_grammar.proofs.FaceSteps.{mark_same, is_flat}
 use Rattle.qm_grammar.proofs.Runs.{same_err}
-use Rattle.qm_grammar.proofs.Refused.{absent_none, step_placed}
+use Rattle.qm_grammar.proofs.Refused.{absent_none, step_in_context}
 
--- ---- tokens of a sort that no place allows
+-- ---- tokens of a sort that no context allows
 
-outside_refuses : (front : Front) (left : List Slot) (s : Sort) → (Allows place.Outside left s → ⊥) → step_outside front s ≡ Err refusal.Unexpected
+outside_refuses : (prefix : Prefix) (left : List Slot) (s : Sort) → (Allows context.Outside left s → ⊥) → step_outside prefix s ≡ Err refusal.Unexpected
 unfolding step_outside
-outside_refuses front left (sort.Mark OpenBrace) never = absurd (never entity_opens)
-outside_refuses front left s never = refl
+outside_refuses prefix left (sort.Mark OpenBrace) never = absurd (never entity_opens)
+outside_refuses prefix left s never = refl
 
-entity_refuses : (front : Front) (left : List Slot) (s : Sort) (bytes : List ℕ) → (Allows place.Entity left s → ⊥) → step_entity front s bytes ≡ Err refusal.Unexpected
+entity_refuses : (prefix : Prefix) (left : List Slot) (s : Sort) (bytes : List ℕ) → (Allows context.Entity left s → ⊥) → step_entity prefix s bytes ≡ Err refusal.Unexpected
 unfolding step_entity
-entity_refuses front left sort.Quoted bytes never = absurd (never key)
-entity_refuses front left (sort.Mark OpenBrace) bytes never = absurd (never brush_opens)
-entity_refuses front left (sort.Mark CloseBrace) bytes never = absurd (never entity_closes)
-entity_refuses front left s bytes never = refl
+entity_refuses prefix left sort.Quoted bytes never = absurd (never key)
+entity_refuses prefix left (sort.Mark OpenBrace) bytes never = absurd (never brush_opens)
+entity_refuses prefix left (sort.Mark CloseBrace) bytes never = absurd (never entity_closes)
+entity_refuses prefix left s bytes never = refl
 
-value_refuses : (front : Front) (left : List Slot) (s : Sort) (bytes : List ℕ) → (Allows place.Value left s → ⊥) → step_value front s bytes ≡ Err refusal.Unexpected
+value_refuses : (prefix : Prefix) (left : List Slot) (s : Sort) (bytes : List ℕ) → (Allows context.Value left s → ⊥) → step_value prefix s bytes ≡ Err refusal.Unexpected
 unfolding step_value
-value_refuses front left sort.Quoted bytes never = absurd (never value)
-value_refuses front left s bytes never = refl
+value_refuses prefix left sort.Quoted bytes never = absurd (never value)
+value_refuses prefix left s bytes never = refl
 
-brush_refuses : (front : Front) (left : List Slot) (s : Sort) → (Allows place.Brush left s → ⊥) → step_brush front s ≡ Err refusal.Unexpected
+brush_refuses : (prefix : Prefix) (left : List Slot) (s : Sort) → (Allows context.Brush left s → ⊥) → step_brush prefix s ≡ Err refusal.Unexpected
 unfolding step_brush
-brush_refuses front left (sort.Mark OpenParenthesis) never = absurd (never face_begins)
-brush_refuses front left (sort.Mark CloseBrace) never = absurd (never brush_closes)
-brush_refuses front left s never = refl
+brush_refuses prefix left (sort.Mark OpenParenthesis) never = absurd (never face_begins)
+brush_refuses prefix left (sort.Mark CloseBrace) never = absurd (never brush_closes)
+brush_refuses prefix left s never = refl
 
-slot_refuses : (front : Front) (one : Slot) (others : List Slot) (s : Sort) (bytes : List ℕ) → (Allows place.Face (one ∷ others) s → ⊥) → step_slot front one others s bytes ≡ Err refusal.Unexpected
+slot_refuses : (prefix : Prefix) (one : Slot) (others : List Slot) (s : Sort) (bytes : List ℕ) → (Allows context.Face (one ∷ others) s → ⊥) → step_slot prefix one others s bytes ≡ Err refusal.Unexpected
 unfolding step_slot
-slot_refuses front (slot.Mark due) others (sort.Mark m) bytes never =
-    rw (false_from_ne_true (is_same_mark due m) (λ same. never (subst (λ (k : Mark). Allows place.Face (slot.Mark due ∷ others) (sort.Mark k)) (mark_same due m same) mark))) refl
-slot_refuses front slot.Coordinate others sort.Name bytes never = absurd (never coordinate)
-slot_refuses front slot.Texture others sort.Name bytes never = absurd (never texture)
-slot_refuses front slot.Texture others sort.Quoted bytes never = absurd (never quoted_texture)
-slot_refuses front slot.FirstOfMapping others sort.Name bytes never = absurd (never word_of_mapping)
-slot_refuses front slot.FirstOfMapping others (sort.Mark OpenBracket) bytes never = absurd (never axis_opens)
-slot_refuses front slot.Word others sort.Name bytes never = absurd (never word)
-slot_refuses front one others s bytes never = refl
+slot_refuses prefix (slot.Mark due) others (sort.Mark m) bytes never =
+    rw (false_from_ne_true (is_same_mark due m) (λ same. never (subst (λ (k : Mark). Allows context.Face (slot.Mark due ∷ others) (sort.Mark k)) (mark_same due m same) mark))) refl
+slot_refuses prefix slot.Coordinate others sort.Name bytes never = absurd (never coordinate)
+slot_refuses prefix slot.Texture others sort.Name bytes never = absurd (never texture)
+slot_refuses prefix slot.Texture others sort.Quoted bytes never = absurd (never quoted_texture)
+slot_refuses prefix slot.FirstOfMapping others sort.Name bytes never = absurd (never word_of_mapping)
+slot_refuses prefix slot.FirstOfMapping others (sort.Mark OpenBracket) bytes never = absurd (never axis_opens)
+slot_refuses prefix slot.Word others sort.Name bytes never = absurd (never word)
+slot_refuses prefix one others s bytes never = refl
 
-face_refuses : (front : Front) (left : List Slot) (s : Sort) (bytes : List ℕ) → (Allows place.Face left s → ⊥) → step_face front left s bytes ≡ Err refusal.Unexpected
-face_refuses front [] s bytes never = refl
-face_refuses front (one ∷ others) s bytes never = slot_refuses front one others s bytes never
+face_refuses : (prefix : Prefix) (left : List Slot) (s : Sort) (bytes : List ℕ) → (Allows context.Face left s → ⊥) → step_face prefix left s bytes ≡ Err refusal.Unexpected
+face_refuses prefix [] s bytes never = refl
+face_refuses prefix (one ∷ others) s bytes never = slot_refuses prefix one others s bytes never
 
-place_refuses : (front : Front) (p : Place) (s : Sort) (bytes : List ℕ) → (Allows p front.left s → ⊥) → step_at p front s bytes ≡ Err refusal.Unexpected
-place_refuses front place.Outside s bytes never = outside_refuses front front.left s never
-place_refuses front place.Entity s bytes never = entity_refuses front front.left s bytes never
-place_refuses front place.Value s bytes never = value_refuses front front.left s bytes never
-place_refuses front place.Brush s bytes never = brush_refuses front front.left s never
-place_refuses front place.Face s bytes never = face_refuses front front.left s bytes never
+context_refuses : (prefix : Prefix) (p : Context) (s : Sort) (bytes : List ℕ) → (Allows p prefix.left s → ⊥) → step_at p prefix s bytes ≡ Err refusal.Unexpected
+context_refuses prefix context.Outside s bytes never = outside_refuses prefix prefix.left s never
+context_refuses prefix context.Entity s bytes never = entity_refuses prefix prefix.left s bytes never
+context_refuses prefix context.Value s bytes never = value_refuses prefix prefix.left s bytes never
+context_refuses prefix context.Brush s bytes never = brush_refuses prefix prefix.left s never
+context_refuses prefix context.Face s bytes never = face_refuses prefix prefix.left s bytes never
 
 -- ---- the other reasons
 
-module _ (front : Front) (symbol : Symbol) where
-  coordinate_refuses : (reason : Refusal) → IsAtCoordinate front symbol → IsBadCoordinate symbol.bytes reason → step front symbol ≡ Err reason
+module _ (prefix : Prefix) (symbol : Symbol) where
+  coordinate_refuses : (reason : Refusal) → IsAtCoordinate prefix symbol → IsBadCoordinate symbol.bytes reason → step prefix symbol ≡ Err reason
   unfolding step_slot
   coordinate_refuses reason at bad =
-      step_placed front symbol place.Face sort.Name at.in_face at.is_name
-      ∙ ap (λ (l : List Slot). step_face front l sort.Name symbol.bytes) at.next
-      ∙ ap (λ (r : Result ℤ Refusal). with_number front at.others r) (bad_coordinate symbol.bytes reason bad)
+      step_in_context prefix symbol context.Face sort.Name at.in_face at.is_name
+      ∙ ap (λ (l : List Slot). step_face prefix l sort.Name symbol.bytes) at.next
+      ∙ ap (λ (r : Result ℤ Refusal). with_number prefix at.others r) (bad_coordinate symbol.bytes reason bad)
 
-  flat_points : ClosesThirdPoint front symbol → (SpanPlane (points_of front.numbers) → ⊥) → is_flat front.numbers ≡ true
+  flat_points : ClosesThirdPoint prefix symbol → (SpanPlane (points_of prefix.numbers) → ⊥) → is_flat prefix.numbers ≡ true
   flat_points closes flat =
-      and_from (length front.numbers == 9) (not (span_plane (points_of front.numbers))) (eq-eqb (length front.numbers) 9 closes.three_points)
-      (not_from_false (span_plane (points_of front.numbers)) (span_false (points_of front.numbers) flat))
+      and_from (length prefix.numbers == 9) (not (span_plane (points_of prefix.numbers))) (eq-eqb (length prefix.numbers) 9 closes.three_points)
+      (not_from_false (span_plane (points_of prefix.numbers)) (span_false (points_of prefix.numbers) flat))
 
-  normal_refuses : ClosesThirdPoint front symbol → (SpanPlane (points_of front.numbers) → ⊥) → step front symbol ≡ Err refusal.NoNormal
+  normal_refuses : ClosesThirdPoint prefix symbol → (SpanPlane (points_of prefix.numbers) → ⊥) → step prefix symbol ≡ Err refusal.NoNormal
   unfolding step_slot step_mark
   normal_refuses closes flat =
-      step_placed front symbol place.Face (sort.Mark CloseParenthesis) closes.in_face closes.closes
-      ∙ ap (λ (l : List Slot). step_face front l (sort.Mark CloseParenthesis) symbol.bytes) closes.next
+      step_in_context prefix symbol context.Face (sort.Mark CloseParenthesis) closes.in_face closes.closes
+      ∙ ap (λ (l : List Slot). step_face prefix l (sort.Mark CloseParenthesis) symbol.bytes) closes.next
       ∙ rw (flat_points closes flat) refl
 
-  faces_refuses : ClosesEmptyBrush front symbol → step front symbol ≡ Err refusal.NoFaces
+  faces_refuses : ClosesEmptyBrush prefix symbol → step prefix symbol ≡ Err refusal.NoFaces
   unfolding step_brush
   faces_refuses closes =
-      step_placed front symbol place.Brush (sort.Mark CloseBrace) closes.in_brush closes.closes
-      ∙ rw (eq-eqb (length front.faces) 0 (ap length closes.no_faces)) refl
+      step_in_context prefix symbol context.Brush (sort.Mark CloseBrace) closes.in_brush closes.closes
+      ∙ rw (eq-eqb (length prefix.faces) 0 (ap length closes.no_faces)) refl
 
-  bad_value : IsOriginValue front symbol → (IsOriginText symbol.bytes → ⊥) → is_bad_origin front symbol.bytes ≡ true
+  bad_value : IsOriginValue prefix symbol → (IsOriginText symbol.bytes → ⊥) → is_bad_origin prefix symbol.bytes ≡ true
   unfolding is_bad_origin
   bad_value at no_point =
-      and_from (not (length front.entities == 0) && bytes_eq front.key origin_key && is_none (value_of origin_key front.pairs)) (is_none (origin_of symbol.bytes))
-      (and_from (not (length front.entities == 0) && bytes_eq front.key origin_key) (is_none (value_of origin_key front.pairs))
-      (and_from (not (length front.entities == 0)) (bytes_eq front.key origin_key)
-      (not_from_false (length front.entities == 0) (ne_eqb (length front.entities) 0 (λ e. at.not_world (nil_from_length front.entities e))))
-      ((bytes_eq-Decides front.key origin_key).1 at.key_is))
-      (absent_none (value_of origin_key front.pairs) at.first))
+      and_from (not (length prefix.entities == 0) && bytes_eq prefix.key origin_key && is_none (value_of origin_key prefix.pairs)) (is_none (origin_of symbol.bytes))
+      (and_from (not (length prefix.entities == 0) && bytes_eq prefix.key origin_key) (is_none (value_of origin_key prefix.pairs))
+      (and_from (not (length prefix.entities == 0)) (bytes_eq prefix.key origin_key)
+      (not_from_false (length prefix.entities == 0) (ne_eqb (length prefix.entities) 0 (λ e. at.not_world (nil_from_length prefix.entities e))))
+      ((bytes_eq-Decides prefix.key origin_key).1 at.key_is))
+      (absent_none (value_of origin_key prefix.pairs) at.first))
       (true_from_ne_false (is_none (origin_of symbol.bytes)) (λ found. no_point (some_origin symbol.bytes found)))
 
-  origin_refuses : IsOriginValue front symbol → (IsOriginText symbol.bytes → ⊥) → step front symbol ≡ Err refusal.BadOrigin
+  origin_refuses : IsOriginValue prefix symbol → (IsOriginText symbol.bytes → ⊥) → step prefix symbol ≡ Err refusal.BadOrigin
   unfolding step_value
   origin_refuses at no_point =
-      step_placed front symbol place.Value sort.Quoted at.behind_key at.is_quoted ∙ rw (bad_value at no_point) refl
+      step_in_context prefix symbol context.Value sort.Quoted at.behind_key at.is_quoted ∙ rw (bad_value at no_point) refl
 
   -- what the table refuses, the machine refuses
-  pub refused_step : (reason : Refusal) → Refuses front symbol reason → step front symbol ≡ Err reason
+  pub refused_step : (reason : Refusal) → Refuses prefix symbol reason → step prefix symbol ≡ Err reason
   refused_step reason (unexpected never) =
-      step_placed front symbol front.place (sort_of symbol) refl refl ∙ place_refuses front front.place (sort_of symbol) symbol.bytes never
+      step_in_context prefix symbol prefix.context (sort_of symbol) refl refl ∙ context_refuses prefix prefix.context (sort_of symbol) symbol.bytes never
   refused_step reason (bad_number at is) = coordinate_refuses refusal.BadNumber at (no_number is)
   refused_step reason (fraction at is) = coordinate_refuses refusal.Fraction at (fraction is)
-  refused_step reason (huge at is) = coordinate_refuses refusal.CoordinateRange at (huge is)
+  refused_step reason (too_large at is) = coordinate_refuses refusal.CoordinateRange at (too_large is)
   refused_step reason (out_of_range at is) = coordinate_refuses refusal.CoordinateRange at (outside is)
   refused_step reason (no_normal closes flat) = normal_refuses closes flat
   refused_step reason (no_faces closes) = faces_refuses closes
   refused_step reason (bad_origin at no_point) = origin_refuses at no_point
 
   -- a token is refused for one reason at most
-  pub one_reason : (reason other : Refusal) → Refuses front symbol reason → Refuses front symbol other → reason ≡ other
-  one_reason reason other first second = same_err (step front symbol) reason other (refused_step reason first) (refused_step other second)
+  pub one_reason : (reason other : Refusal) → Refuses prefix symbol reason → Refuses prefix symbol other → reason ≡ other
+  one_reason reason other first second = same_err (step prefix symbol) reason other (refused_step reason first) (refused_step other second)

@@ -10,7 +10,7 @@ use Rattle.qm_grammar.specs.declared.fault.MapFault.TheVariants as fault
 use Rattle.qm_grammar.specs.Symbol.{mark_of_byte, sort_of}
 use Rattle.qm_grammar.specs.Origin.{origin_key}
 use Rattle.qm_grammar.specs.Meaning.{IsMapText, Means}
-use Rattle.qm_grammar.specs.Machine.{coordinate_of, millionths_of, origin_of, span_plane, step_outside, step_entity, is_bad_origin, step_value, step_brush, step_mark, step_slot, step, meaning_of}
+use Rattle.qm_grammar.specs.inner.Machine.{coordinate_of, millionths_of, origin_of, span_plane, step_outside, step_entity, is_bad_origin, step_value, step_brush, step_mark, step_slot, step, meaning_of}
 use Rattle.qm_grammar.proofs.Meanings.{means_meaning}
 
 -- one entity with one pair and one brush, which has one face

@@ -14,13 +14,13 @@ use Rattle.qm_grammar.specs.declared.refusal.Refusal.{Refusal}
 use Rattle.qm_grammar.specs.declared.refusal.Refusal.TheVariants as refusal
 use Rattle.qm_grammar.specs.Symbol.{Symbol, sort_of}
 use Rattle.qm_grammar.specs.Slots.{Form, standard, valve, mapping_slots, Fills, mark, coordinate, texture, quoted_texture, word}
-use Rattle.qm_grammar.specs.Front.{Front, in_face}
-use Rattle.qm_grammar.specs.Machine.{is_same_mark, coordinate_of, step, step_slot, step_mark, with_left, behind_word, behind_bracket}
+use Rattle.qm_grammar.specs.Prefix.{Prefix, in_face}
+use Rattle.qm_grammar.specs.inner.Machine.{is_same_mark, coordinate_of, step, step_slot, step_mark, with_left, behind_word, behind_bracket}
 use Rattle.qm_grammar.proofs.Numbers.{coordinate_spelled}
 use Rattle.qm_grammar.proofs.FaceSteps.{step_sorted, mark_same, SpansAt, is_flat, flat_not, behind, left_behind}
 
 -- a symbol has filled the first slot that is left
-pub record IsSlotRead (es : List Entity) (ps : List Pair) (bs : List Brush) (fs : List Face) (ns : List ℤ) (ts : List (List ℕ)) (one : Slot) (others : List Slot) (symbol : Symbol) (next : Front) : Type 0 where
+pub record IsSlotRead (es : List Entity) (ps : List Pair) (bs : List Brush) (fs : List Face) (ns : List ℤ) (ts : List (List ℕ)) (one : Slot) (others : List Slot) (symbol : Symbol) (next : Prefix) : Type 0 where
   pub number : List ℤ
   pub text : List (List ℕ)
   pub fills : Fills one symbol number text
@@ -28,7 +28,7 @@ pub record IsSlotRead (es : List Entity) (ps : List Pair) (bs : List Brush) (fs 
   pub next_is : next ≡ behind es ps bs fs (ns ++ number) (ts ++ text) others
 
 -- a symbol has told the form of the mapping
-pub record IsFirstRead (es : List Entity) (ps : List Pair) (bs : List Brush) (fs : List Face) (ns : List ℤ) (ts : List (List ℕ)) (symbol : Symbol) (next : Front) : Type 0 where
+pub record IsFirstRead (es : List Entity) (ps : List Pair) (bs : List Brush) (fs : List Face) (ns : List ℤ) (ts : List (List ℕ)) (symbol : Symbol) (next : Prefix) : Type 0 where
   pub form : Form
   pub one : Slot
   pub others : List Slot
@@ -46,17 +46,17 @@ module _ (es : List Entity) (ps : List Pair) (bs : List Brush) (fs : List Face) 
   same_texts : (ns : List ℤ) (ts : List (List ℕ)) (others : List Slot) → behind es ps bs fs ns ts others ≡ behind es ps bs fs ns (ts ++ []) others
   same_texts ns ts others = ap (λ (l : List (List ℕ)). behind es ps bs fs ns l others) (sym (append-nil ts))
 
-  left_read : (ns : List ℤ) (ts : List (List ℕ)) (left others : List Slot) (next : Front) → ◌≡◌ {A = Result Front Refusal} (Ok (with_left (in_face es ps bs fs ns ts left) others)) (Ok next) → next ≡ behind es ps bs fs ns ts others
+  left_read : (ns : List ℤ) (ts : List (List ℕ)) (left others : List Slot) (next : Prefix) → ◌≡◌ {A = Result Prefix Refusal} (Ok (with_left (in_face es ps bs fs ns ts left) others)) (Ok next) → next ≡ behind es ps bs fs ns ts others
   left_read ns ts left others next read =
       let same : with_left (in_face es ps bs fs ns ts left) others ≡ next = cc in
       sym same ∙ left_behind es ps bs fs ns ts left others
 
-  closer_read : (ns : List ℤ) (ts : List (List ℕ)) (left others : List Slot) (next : Front) (t : Bool) → is_flat ns ≡ t → step_mark (in_face es ps bs fs ns ts left) CloseParenthesis others ≡ Ok next → SpansAt (slot.Mark CloseParenthesis) ns × (next ≡ behind es ps bs fs ns ts others)
+  closer_read : (ns : List ℤ) (ts : List (List ℕ)) (left others : List Slot) (next : Prefix) (t : Bool) → is_flat ns ≡ t → step_mark (in_face es ps bs fs ns ts left) CloseParenthesis others ≡ Ok next → SpansAt (slot.Mark CloseParenthesis) ns × (next ≡ behind es ps bs fs ns ts others)
   unfolding step_mark
   closer_read ns ts left others next true flat read = absurd (let never : Err refusal.NoNormal ≡ Ok next = rw flat at read in cc)
   closer_read ns ts left others next false spans read = (λ closer. flat_not ns spans, left_read ns ts left others next (rw spans at read))
 
-  mark_read : (ns : List ℤ) (ts : List (List ℕ)) (m : Mark) (left others : List Slot) (next : Front) → step_mark (in_face es ps bs fs ns ts left) m others ≡ Ok next → SpansAt (slot.Mark m) ns × (next ≡ behind es ps bs fs ns ts others)
+  mark_read : (ns : List ℤ) (ts : List (List ℕ)) (m : Mark) (left others : List Slot) (next : Prefix) → step_mark (in_face es ps bs fs ns ts left) m others ≡ Ok next → SpansAt (slot.Mark m) ns × (next ≡ behind es ps bs fs ns ts others)
   unfolding step_mark
   mark_read ns ts CloseParenthesis left others next read = closer_read ns ts left others next (is_flat ns) refl read
   mark_read ns ts OpenBrace left others next read = (λ closer. absurd cc, left_read ns ts left others next read)
@@ -65,7 +65,7 @@ module _ (es : List Entity) (ps : List Pair) (bs : List Brush) (fs : List Face) 
   mark_read ns ts OpenBracket left others next read = (λ closer. absurd cc, left_read ns ts left others next read)
   mark_read ns ts CloseBracket left others next read = (λ closer. absurd cc, left_read ns ts left others next read)
 
-  due_read : (ns : List ℤ) (ts : List (List ℕ)) (due m : Mark) (others : List Slot) (symbol : Symbol) (next : Front) → sort_of symbol ≡ sort.Mark m → (t : Bool) → is_same_mark due m ≡ t → step_slot (in_face es ps bs fs ns ts (slot.Mark due ∷ others)) (slot.Mark due) others (sort.Mark m) symbol.bytes ≡ Ok next → IsSlotRead es ps bs fs ns ts (slot.Mark due) others symbol next
+  due_read : (ns : List ℤ) (ts : List (List ℕ)) (due m : Mark) (others : List Slot) (symbol : Symbol) (next : Prefix) → sort_of symbol ≡ sort.Mark m → (t : Bool) → is_same_mark due m ≡ t → step_slot (in_face es ps bs fs ns ts (slot.Mark due ∷ others)) (slot.Mark due) others (sort.Mark m) symbol.bytes ≡ Ok next → IsSlotRead es ps bs fs ns ts (slot.Mark due) others symbol next
   unfolding step_slot
   due_read ns ts due m others symbol next is true same read =
       let marks = mark_same due m same in
@@ -79,7 +79,7 @@ module _ (es : List Entity) (ps : List Pair) (bs : List Brush) (fs : List Face) 
       }
   due_read ns ts due m others symbol next is false same read = absurd (let never : Err refusal.Unexpected ≡ Ok next = rw same at read in cc)
 
-  coordinate_read : (ns : List ℤ) (ts : List (List ℕ)) (others : List Slot) (symbol : Symbol) (next : Front) → sort_of symbol ≡ sort.Name → (r : Result ℤ Refusal) → coordinate_of symbol.bytes ≡ r → step_slot (in_face es ps bs fs ns ts (slot.Coordinate ∷ others)) slot.Coordinate others sort.Name symbol.bytes ≡ Ok next → IsSlotRead es ps bs fs ns ts slot.Coordinate others symbol next
+  coordinate_read : (ns : List ℤ) (ts : List (List ℕ)) (others : List Slot) (symbol : Symbol) (next : Prefix) → sort_of symbol ≡ sort.Name → (r : Result ℤ Refusal) → coordinate_of symbol.bytes ≡ r → step_slot (in_face es ps bs fs ns ts (slot.Coordinate ∷ others)) slot.Coordinate others sort.Name symbol.bytes ≡ Ok next → IsSlotRead es ps bs fs ns ts slot.Coordinate others symbol next
   unfolding step_slot
   coordinate_read ns ts others symbol next is (Ok c) spelled read = record {
     number = c ∷ [];
@@ -90,7 +90,7 @@ module _ (es : List Entity) (ps : List Pair) (bs : List Brush) (fs : List Face) 
   }
   coordinate_read ns ts others symbol next is (Err reason) spelled read = absurd (let never : Err reason ≡ Ok next = rw spelled at read in cc)
 
-  sorted_read : (ns : List ℤ) (ts : List (List ℕ)) (one : Slot) (others : List Slot) (symbol : Symbol) (next : Front) (s : Sort) → sort_of symbol ≡ s → one ≢ slot.FirstOfMapping → step_slot (in_face es ps bs fs ns ts (one ∷ others)) one others s symbol.bytes ≡ Ok next → IsSlotRead es ps bs fs ns ts one others symbol next
+  sorted_read : (ns : List ℤ) (ts : List (List ℕ)) (one : Slot) (others : List Slot) (symbol : Symbol) (next : Prefix) (s : Sort) → sort_of symbol ≡ s → one ≢ slot.FirstOfMapping → step_slot (in_face es ps bs fs ns ts (one ∷ others)) one others s symbol.bytes ≡ Ok next → IsSlotRead es ps bs fs ns ts one others symbol next
   unfolding step_slot
   sorted_read ns ts (slot.Mark due) others symbol next (sort.Mark m) is plain read = due_read ns ts due m others symbol next is (is_same_mark due m) refl read
   sorted_read ns ts slot.Coordinate others symbol next sort.Name is plain read = coordinate_read ns ts others symbol next is (coordinate_of symbol.bytes) refl read
@@ -119,11 +119,11 @@ module _ (es : List Entity) (ps : List Pair) (bs : List Brush) (fs : List Face) 
   sorted_read ns ts one others symbol next s is plain read = absurd cc
 
   -- a symbol that is read in a slot fills it
-  pub slot_read : (ns : List ℤ) (ts : List (List ℕ)) (one : Slot) (others : List Slot) (symbol : Symbol) (next : Front) → one ≢ slot.FirstOfMapping → step (in_face es ps bs fs ns ts (one ∷ others)) symbol ≡ Ok next → IsSlotRead es ps bs fs ns ts one others symbol next
+  pub slot_read : (ns : List ℤ) (ts : List (List ℕ)) (one : Slot) (others : List Slot) (symbol : Symbol) (next : Prefix) → one ≢ slot.FirstOfMapping → step (in_face es ps bs fs ns ts (one ∷ others)) symbol ≡ Ok next → IsSlotRead es ps bs fs ns ts one others symbol next
   slot_read ns ts one others symbol next plain read =
       sorted_read ns ts one others symbol next (sort_of symbol) refl plain (sym (step_sorted (in_face es ps bs fs ns ts (one ∷ others)) symbol (sort_of symbol) refl) ∙ read)
 
-  sorted_first : (ns : List ℤ) (ts : List (List ℕ)) (symbol : Symbol) (next : Front) (s : Sort) → sort_of symbol ≡ s → step_slot (in_face es ps bs fs ns ts (slot.FirstOfMapping ∷ [])) slot.FirstOfMapping [] s symbol.bytes ≡ Ok next → IsFirstRead es ps bs fs ns ts symbol next
+  sorted_first : (ns : List ℤ) (ts : List (List ℕ)) (symbol : Symbol) (next : Prefix) (s : Sort) → sort_of symbol ≡ s → step_slot (in_face es ps bs fs ns ts (slot.FirstOfMapping ∷ [])) slot.FirstOfMapping [] s symbol.bytes ≡ Ok next → IsFirstRead es ps bs fs ns ts symbol next
   unfolding step_slot
   sorted_first ns ts symbol next sort.Name is read = record {
     form = standard;
@@ -147,6 +147,6 @@ module _ (es : List Entity) (ps : List Pair) (bs : List Brush) (fs : List Face) 
   }
   sorted_first ns ts symbol next s is read = absurd cc
 
-  pub first_read : (ns : List ℤ) (ts : List (List ℕ)) (symbol : Symbol) (next : Front) → step (in_face es ps bs fs ns ts (slot.FirstOfMapping ∷ [])) symbol ≡ Ok next → IsFirstRead es ps bs fs ns ts symbol next
+  pub first_read : (ns : List ℤ) (ts : List (List ℕ)) (symbol : Symbol) (next : Prefix) → step (in_face es ps bs fs ns ts (slot.FirstOfMapping ∷ [])) symbol ≡ Ok next → IsFirstRead es ps bs fs ns ts symbol next
   first_read ns ts symbol next read =
       sorted_first ns ts symbol next (sort_of symbol) refl (sym (step_sorted (in_face es ps bs fs ns ts (slot.FirstOfMapping ∷ [])) symbol (sort_of symbol) refl) ∙ read)

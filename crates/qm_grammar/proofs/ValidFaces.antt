@@ -14,7 +14,7 @@ use Rattle.qm_grammar.specs.Slots.{Form, standard, valve, head_slots, mapping_sl
 use Rattle.qm_grammar.specs.Grammar.{SpellsFace}
 use Rattle.qm_grammar.specs.Valid.{HasNoQuote, IsNameText, words_of_mapping, HasWords, IsValidFace}
 use Rattle.qm_grammar.proofs.Filling.{coordinates, texts_in, numbers_filled, texts_filled, symbols_filled, FillParts, fill_cut}
-use Rattle.qm_grammar.proofs.Parts.{all_front, all_back}
+use Rattle.qm_grammar.proofs.Parts.{all_prefix, all_back}
 use Rattle.qm_grammar.proofs.TokenTexts.{IsTokenText, name_text, quoted_text}
 
 -- ---- what the slots of a row give
@@ -144,7 +144,7 @@ face_valid symbols face spells tokens =
     let nine : length spells.numbers ≡ 9 = numbers_filled spells.filled ∙ nine_taken form in
     subst IsValidFace (sym spells.is_face)
     (face_valid_by form spells.numbers cut.texts_first cut.texts_then spells.texts (texts_filled cut.first) cut.texts_are
-    (textures_valid cut.first (all_front IsTokenText cut.symbols_first cut.symbols_then parts))
+    (textures_valid cut.first (all_prefix IsTokenText cut.symbols_first cut.symbols_then parts))
     (words_valid cut.rest (mapping_plain form) (all_back IsTokenText cut.symbols_first cut.symbols_then parts))
     (texts_filled cut.rest)
     (points_valid spells.numbers nine (numbers_valid spells.filled))

@@ -12,7 +12,7 @@ use Rattle.qm_grammar.specs.Symbol.{Symbol, symbol_of}
 use Rattle.qm_grammar.specs.Grammar.{SpellsFaces, none, more, IsBraced, SpellsBrush, SpellsPair, SpellsParts, pair, brush, SpellsEntity, SpellsEntities, SpellsMap}
 use Rattle.qm_grammar.specs.Meaning.{IsMapText}
 use Rattle.qm_grammar.specs.Valid.{IsValidFace, IsValidBrush, IsValidPair, IsValidEntity, face_count, IsValid}
-use Rattle.qm_grammar.proofs.Parts.{all_front, all_back}
+use Rattle.qm_grammar.proofs.Parts.{all_prefix, all_back}
 use Rattle.qm_grammar.proofs.TokenTexts.{IsTokenText, quoted_text, lexing_texts, lexing_counted}
 use Rattle.qm_grammar.proofs.ValidFaces.{face_valid, face_counted}
 
@@ -22,7 +22,7 @@ faces_valid : {symbols : List Symbol} {faces : List Face} → SpellsFaces symbol
 faces_valid none tokens = All-nil IsValidFace
 faces_valid (more {symbols = first} {others = others} {face = face} {faces = faces} spells rest) tokens =
     All-cons IsValidFace face faces
-    (face_valid first face spells (all_front IsTokenText first others tokens))
+    (face_valid first face spells (all_prefix IsTokenText first others tokens))
     (faces_valid rest (all_back IsTokenText first others tokens))
 
 faces_counted : {symbols : List Symbol} {faces : List Face} → SpellsFaces symbols faces → length faces ≤ length symbols
@@ -36,7 +36,7 @@ faces_counted (more {symbols = first} {others = others} {face = face} spells res
 braced_inner : (symbols inner : List Symbol) → IsBraced symbols inner → All IsTokenText symbols → All IsTokenText inner
 braced_inner symbols inner braced tokens =
     let all : All IsTokenText (braced.open_brace ∷ (inner ++ braced.close_brace ∷ [])) = subst (All IsTokenText) braced.spelled tokens in
-    all_front IsTokenText inner (braced.close_brace ∷ []) (All-tail IsTokenText braced.open_brace (inner ++ braced.close_brace ∷ []) all)
+    all_prefix IsTokenText inner (braced.close_brace ∷ []) (All-tail IsTokenText braced.open_brace (inner ++ braced.close_brace ∷ []) all)
 
 braced_counted : (symbols inner : List Symbol) → IsBraced symbols inner → length inner ≤ length symbols
 braced_counted symbols inner braced =
@@ -75,7 +75,7 @@ brushes_valid (pair {key = key} {value = value} {others = others} spells rest) t
     brushes_valid rest (All-tail IsTokenText value others (All-tail IsTokenText key (value ∷ others) tokens))
 brushes_valid (brush {symbols = first} {others = others} {brush = one} {brushes = brushes} spells rest) tokens =
     All-cons IsValidBrush one brushes
-    (brush_valid first one spells (all_front IsTokenText first others tokens))
+    (brush_valid first one spells (all_prefix IsTokenText first others tokens))
     (brushes_valid rest (all_back IsTokenText first others tokens))
 
 brushes_counted : {symbols : List Symbol} {pairs : List Pair} {brushes : List Brush} → SpellsParts symbols pairs brushes → sum_by (λ one. length one.faces) brushes ≤ length symbols
@@ -101,7 +101,7 @@ entities_valid : {symbols : List Symbol} {entities : List Entity} → SpellsEnti
 entities_valid none tokens = All-nil IsValidEntity
 entities_valid (more {symbols = first} {others = others} {entity = one} {entities = entities} spells rest) tokens =
     All-cons IsValidEntity one entities
-    (entity_valid first one spells (all_front IsTokenText first others tokens))
+    (entity_valid first one spells (all_prefix IsTokenText first others tokens))
     (entities_valid rest (all_back IsTokenText first others tokens))
 
 entities_counted : {symbols : List Symbol} {entities : List Entity} → SpellsEntities symbols entities → sum_by face_count entities ≤ length symbols

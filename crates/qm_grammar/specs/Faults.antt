@@ -1,13 +1,13 @@
 use Rattle.std.specs.Prelude.{◌≡◌, ◌≢◌, ◌<◌, ◌≤◌, ◌⊎◌, ℕ, ◌+◌, List, [], ◌∷◌, ◌++◌, Some, None, length, map, take}
 use Rattle.qm_lex.specs.Lexeme.{Lexeme, quote_length, line_ends}
 use Rattle.qm_lex.specs.Lexing.{Lexing}
-use Rattle.qm_grammar.specs.declared.place.Place.TheVariants as place
+use Rattle.qm_grammar.specs.declared.context.Context.TheVariants as context
 use Rattle.qm_grammar.specs.declared.refusal.Refusal.{Refusal}
 use Rattle.qm_grammar.specs.declared.refusal.Refusal.TheVariants as refusal
 use Rattle.qm_grammar.specs.declared.fault.MapFault.{MapFault}
 use Rattle.qm_grammar.specs.declared.fault.MapFault.TheVariants as fault
 use Rattle.qm_grammar.specs.Symbol.{symbol_of}
-use Rattle.qm_grammar.specs.Front.{Front, IsFront}
+use Rattle.qm_grammar.specs.Prefix.{Prefix, IsPrefix}
 use Rattle.qm_grammar.specs.Table.{Refuses}
 
 -- Where the faults of a text stand, and which comes first.
@@ -38,7 +38,7 @@ fault_of refusal.NoNormal line = fault.NoNormal line
 fault_of refusal.NoFaces line = fault.NoFaces line
 fault_of refusal.BadOrigin line = fault.BadOrigin line
 
--- which fault goes first at one place: a text that is too long, then a token that is refused for another reason than
+-- which fault goes first at one offset: a text that is too long, then a token that is refused for another reason than
 -- its sort, then one that is refused for its sort, and then what is found at the end of the text
 pub data Rank : Type 0 where
   of_length : Rank
@@ -56,22 +56,22 @@ abbrev pub rank_of : Refusal → Rank
 rank_of refusal.Unexpected = of_sort
 rank_of _ = of_content
 
--- a token behind a front is refused
+-- a token behind a prefix is refused
 pub record IsRefused (lexemes : List Lexeme) (token : Lexeme) (reason : Refusal) : Type 0 where
   pub before : List Lexeme
   pub after : List Lexeme
   pub split : lexemes ≡ before ++ token ∷ after
-  pub front : Front
-  pub is_front : IsFront (map symbol_of before) front
-  pub refuses : Refuses front (symbol_of token) reason
+  pub prefix : Prefix
+  pub is_prefix : IsPrefix (map symbol_of before) prefix
+  pub refuses : Refuses prefix (symbol_of token) reason
 
--- all tokens are a front that is inside an entity
+-- all tokens are a prefix that is inside an entity
 pub record EndsInside (lexemes : List Lexeme) : Type 0 where
-  pub front : Front
-  pub is_front : IsFront (map symbol_of lexemes) front
-  pub inside : front.place ≢ place.Outside
+  pub prefix : Prefix
+  pub is_prefix : IsPrefix (map symbol_of lexemes) prefix
+  pub inside : prefix.context ≢ context.Outside
 
--- the faults of a text with these lexemes: the place at which each stands, its rank there, and the fault with its line
+-- the faults of a text with these lexemes: the offset at which each stands, its rank there, and the fault with its line
 pub data Stands (text : List ℕ) (lexing : Lexing) : ℕ → Rank → MapFault → Type 0 where
   too_long :
       text_limit < length text →
@@ -89,7 +89,7 @@ pub data Stands (text : List ℕ) (lexing : Lexing) : ℕ → Rank → MapFault 
       lexing.unclosed_line ≡ None → lexing.lexemes ≡ [] →
       Stands text lexing (length text) of_end (fault.NoEntity (last_line text))
 
--- a place and a rank there come before others, or are the same
+-- an offset and a rank there come before others, or are the same
 abbrev pub ComesFirst : ℕ → Rank → ℕ → Rank → Type 0
 ComesFirst at rank other_at other_rank =
     (at < other_at) ⊎ ((at ≡ other_at) × (rank_number rank ≤ rank_number other_rank))

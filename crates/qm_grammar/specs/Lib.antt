@@ -3,9 +3,12 @@ pub mod Number
 pub mod Origin
 pub mod Slots
 pub mod Grammar
-pub mod Front
+pub mod Prefix
 pub mod Table
 pub mod Faults
 pub mod Meaning
 pub mod Valid
-pub mod Machine
+pub mod Words
+pub mod MapFault
+pub mod CutText
+pub mod inner

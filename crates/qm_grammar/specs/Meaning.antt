@@ -25,3 +25,7 @@ pub record IsFaultText (text : List ℕ) (found : MapFault) : Type 0 where
 abbrev pub Means : List ℕ → Result MapFile MapFault → Type 0
 Means text (Ok map) = IsMapText text map
 Means text (Err found) = IsFaultText text found
+
+-- a text means something
+abbrev pub HasMeaning : List ℕ → Type 0
+HasMeaning text = (meaning : Result MapFile MapFault) × Means text meaning

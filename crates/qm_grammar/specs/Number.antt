@@ -1,6 +1,5 @@
-use Rattle.std.specs.Prelude.{◌<◌, ℕ, ◌*◌, ℤ, List, Ok, Err, unsigned_abs}
+use Rattle.std.specs.Prelude.{◌<◌, ℕ, ◌*◌, ℤ, List, Ok, unsigned_abs}
 use Rattle.qm_decimal.specs.declared.fraction.Fraction.{Fraction}
-use Rattle.qm_decimal.specs.declared.fraction.NumberFault.TheVariants.{Form, TooFine, TooLarge}
 use Rattle.qm_decimal.specs.Answer.{IsAnswer}
 use Rattle.qm_space.specs.Point.{IsCoordinate}
 
@@ -16,18 +15,6 @@ SpellsWhole text number = IsAnswer text 0 (Ok (whole_fraction number))
 pub record SpellsCoordinate (text : List ℕ) (number : ℤ) : Type 0 where
   pub spelled : SpellsWhole text number
   pub in_range : IsCoordinate number
-
--- the text spells no number
-abbrev pub IsNoNumberText : List ℕ → Type 0
-IsNoNumberText text = IsAnswer text 0 (Err Form)
-
--- the text spells a number with a digit other than 0 behind the point
-abbrev pub IsFractionText : List ℕ → Type 0
-IsFractionText text = IsAnswer text 0 (Err TooFine)
-
--- the text spells a whole number that is too large to be read
-abbrev pub IsHugeText : List ℕ → Type 0
-IsHugeText text = IsAnswer text 0 (Err TooLarge)
 
 -- the text spells a whole number outside the closed cube
 pub record IsOutsideText (text : List ℕ) : Type 0 where

@@ -1,6 +1,6 @@
 use Rattle.std.specs.Prelude.{◌≡◌, ℕ, pos, List, [], ◌∷◌, Option, Some, None, IfSome, All, codes, if◌then◌else◌, bytes_eq}
 use Rattle.qm_space.specs.Point.{Point}
-use Rattle.qm_mapfile.specs.Words.{words_of}
+use Rattle.qm_grammar.specs.Words.{words_of}
 use Rattle.qm_mapfile.specs.declared.entity.Pair.{Pair}
 use Rattle.qm_mapfile.specs.declared.entity.Entity.{Entity}
 use Rattle.qm_grammar.specs.Number.{SpellsMillionths}

@@ -19,6 +19,10 @@ point_slots = slot.Mark OpenParenthesis ∷ slot.Coordinate ∷ slot.Coordinate 
 abbrev pub head_slots : List Slot
 head_slots = point_slots ++ (point_slots ++ (point_slots ++ slot.Texture ∷ []))
 
+-- the slots of a face as far as its form is open
+abbrev pub open_slots : List Slot
+open_slots = head_slots ++ slot.FirstOfMapping ∷ []
+
 -- two offsets, a rotation and two scales
 abbrev pub standard_slots : List Slot
 standard_slots = slot.Word ∷ slot.Word ∷ slot.Word ∷ slot.Word ∷ slot.Word ∷ []

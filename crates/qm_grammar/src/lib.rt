@@ -2,14 +2,16 @@
 //! This crate has a few plain types, definitions and laws, and no function.
 #![tactic(auto)]
 
+mod context;
 mod fault;
+mod limit;
 mod mark;
-mod place;
 mod refusal;
 mod slot;
 
+pub use context::Context;
 pub use fault::MapFault;
+pub use limit::TEXT_LIMIT;
 pub use mark::{Mark, Sort};
-pub use place::Place;
 pub use refusal::Refusal;
 pub use slot::Slot;

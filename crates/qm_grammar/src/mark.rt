@@ -1,5 +1,5 @@
 /// A word that groups others: one of `{`, `}`, `(`, `)`, `[` and `]`.
-#[derive(Clone, Copy, Debug, PartialEq, Eq)]
+#[derive(Clone, Copy)]
 pub enum Mark {
     OpenBrace,
     CloseBrace,
@@ -10,7 +10,7 @@ pub enum Mark {
 }
 
 /// What the grammar sees of a token, beside its bytes.
-#[derive(Clone, Copy, Debug, PartialEq, Eq)]
+#[derive(Clone, Copy)]
 pub enum Sort {
     Mark(Mark),
     /// A word that is not a mark: a number, a texture or a word of a mapping.

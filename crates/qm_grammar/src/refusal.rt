@@ -1,5 +1,5 @@
 /// Why a token is refused.
-#[derive(Clone, Copy, Debug, PartialEq, Eq)]
+#[derive(Clone, Copy)]
 pub enum Refusal {
     /// No token of its sort may stand there.
     Unexpected,

@@ -1,7 +1,7 @@
 use crate::mark::Mark;
 
 /// What one token of a face is for.
-#[derive(Clone, Copy, Debug, PartialEq, Eq)]
+#[derive(Clone, Copy)]
 pub enum Slot {
     /// This mark.
     Mark(Mark),

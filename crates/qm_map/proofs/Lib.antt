@@ -1,5 +1,6 @@
 pub mod NinePoints
 pub mod WordLaws
 pub mod Meanings
-pub mod Places
+pub mod OriginPoints
 pub mod Means
+pub mod OriginFlags

@@ -8,8 +8,8 @@ use Rattle.qm_lex.proofs.Cutting.{pieces_of}
 use Rattle.qm_lex.proofs.PieceRuns.{read_pieces}
 use Rattle.qm_grammar.specs.declared.refusal.Refusal.{Refusal}
 use Rattle.qm_grammar.specs.Symbol.{symbol_of}
-use Rattle.qm_grammar.specs.Front.{Front, outside}
-use Rattle.qm_grammar.specs.Machine.{step, steps, refused_at, ended, meaning_of}
+use Rattle.qm_grammar.specs.Prefix.{Prefix, outside}
+use Rattle.qm_grammar.specs.inner.Machine.{step, steps, refused_at, ended, meaning_of}
 use Rattle.qm_grammar.proofs.Runs.{steps_step, steps_refused}
 
 -- the lexing that is read is one
@@ -18,10 +18,10 @@ lexing_is text lexing only =
     let pieces = pieces_of text in
     only (read between 0 1 text) (pieces.0, pieces.1, read_pieces text pieces.0 0 1 pieces.1)
 
--- a reader has come to a front, and this is left of the text
-pub record IsUnderway (text : List ℕ) (front : Front) (reading : Reading) : Type 0 where
+-- a reader has come to a prefix, and this is left of the text
+pub record IsUnderway (text : List ℕ) (prefix : Prefix) (reading : Reading) : Type 0 where
   pub text_is : reading.text ≡ text
-  pub rest : steps (outside []) (read between 0 1 text).lexemes ≡ steps front reading.left.lexemes
+  pub rest : steps (outside []) (read between 0 1 text).lexemes ≡ steps prefix reading.left.lexemes
   pub unclosed : (read between 0 1 text).unclosed_line ≡ reading.left.unclosed_line
 
 pub begun : (text : List ℕ) (reading : Reading) → reading.text ≡ text → read between 0 1 text ≡ reading.left → IsUnderway text (outside []) reading
@@ -32,33 +32,33 @@ begun text reading same left = record {
 }
 
 -- a token further
-pub advanced : (text : List ℕ) (front next : Front) (reading later : Reading) (lexeme : Lexeme) → IsUnderway text front reading → later.text ≡ reading.text → reading.left ≡ lexeme_then lexeme later.left → step front (symbol_of lexeme) ≡ Ok next → IsUnderway text next later
-advanced text front next reading later lexeme u same left led = record {
+pub advanced : (text : List ℕ) (prefix next : Prefix) (reading later : Reading) (lexeme : Lexeme) → IsUnderway text prefix reading → later.text ≡ reading.text → reading.left ≡ lexeme_then lexeme later.left → step prefix (symbol_of lexeme) ≡ Ok next → IsUnderway text next later
+advanced text prefix next reading later lexeme u same left led = record {
   text_is = same ∙ u.text_is;
-  rest = u.rest ∙ ap (λ (l : Lexing). steps front l.lexemes) left ∙ steps_step front next lexeme later.left.lexemes led;
+  rest = u.rest ∙ ap (λ (l : Lexing). steps prefix l.lexemes) left ∙ steps_step prefix next lexeme later.left.lexemes led;
   unclosed = u.unclosed ∙ ap (λ (l : Lexing). l.unclosed_line) left;
 }
 
-pub refused_is : (text : List ℕ) (front : Front) (reading : Reading) (rest : Lexing) (lexeme : Lexeme) (reason : Refusal) → IsUnderway text front reading → reading.left ≡ lexeme_then lexeme rest → step front (symbol_of lexeme) ≡ Err reason → meaning_of text ≡ Err (refused_at text reason lexeme)
+pub refused_is : (text : List ℕ) (prefix : Prefix) (reading : Reading) (rest : Lexing) (lexeme : Lexeme) (reason : Refusal) → IsUnderway text prefix reading → reading.left ≡ lexeme_then lexeme rest → step prefix (symbol_of lexeme) ≡ Err reason → meaning_of text ≡ Err (refused_at text reason lexeme)
 unfolding meaning_of
-refused_is text front reading rest lexeme reason u left refused =
-    let run = u.rest ∙ ap (λ (l : Lexing). steps front l.lexemes) left ∙ steps_refused front lexeme rest.lexemes reason refused in
+refused_is text prefix reading rest lexeme reason u left refused =
+    let run = u.rest ∙ ap (λ (l : Lexing). steps prefix l.lexemes) left ∙ steps_refused prefix lexeme rest.lexemes reason refused in
     ap (λ r. ended text (read between 0 1 text).unclosed_line r) run
 
-over_is : (text : List ℕ) (front : Front) (reading : Reading) (unclosed : Option ℕ) → IsUnderway text front reading → reading.left ≡ record { lexemes = []; unclosed_line = unclosed } → meaning_of text ≡ ended text unclosed (Ok front)
+over_is : (text : List ℕ) (prefix : Prefix) (reading : Reading) (unclosed : Option ℕ) → IsUnderway text prefix reading → reading.left ≡ record { lexemes = []; unclosed_line = unclosed } → meaning_of text ≡ ended text unclosed (Ok prefix)
 unfolding meaning_of
-over_is text front reading unclosed u left =
-    let run : steps (outside []) (read between 0 1 text).lexemes ≡ Ok front = u.rest ∙ ap (λ (l : Lexing). steps front l.lexemes) left in
+over_is text prefix reading unclosed u left =
+    let run : steps (outside []) (read between 0 1 text).lexemes ≡ Ok prefix = u.rest ∙ ap (λ (l : Lexing). steps prefix l.lexemes) left in
     let quote : (read between 0 1 text).unclosed_line ≡ unclosed = u.unclosed ∙ ap (λ (l : Lexing). l.unclosed_line) left in
-    ap (λ r. ended text (read between 0 1 text).unclosed_line r) run ∙ ap (λ (q : Option ℕ). ended text q (Ok front)) quote
+    ap (λ r. ended text (read between 0 1 text).unclosed_line r) run ∙ ap (λ (q : Option ℕ). ended text q (Ok prefix)) quote
 
 -- nothing is left
-pub ended_is : (text : List ℕ) (front : Front) (reading : Reading) → IsUnderway text front reading → reading.left ≡ nothing → meaning_of text ≡ ended text None (Ok front)
-ended_is text front reading u left = over_is text front reading None u left
+pub ended_is : (text : List ℕ) (prefix : Prefix) (reading : Reading) → IsUnderway text prefix reading → reading.left ≡ nothing → meaning_of text ≡ ended text None (Ok prefix)
+ended_is text prefix reading u left = over_is text prefix reading None u left
 
 -- only a quote is left that is not closed
-pub unclosed_is : (text : List ℕ) (front : Front) (reading : Reading) (line : ℕ) → IsUnderway text front reading → reading.left ≡ unclosed_on line → meaning_of text ≡ ended text (Some line) (Ok front)
-unclosed_is text front reading line u left = over_is text front reading (Some line) u left
+pub unclosed_is : (text : List ℕ) (prefix : Prefix) (reading : Reading) (line : ℕ) → IsUnderway text prefix reading → reading.left ≡ unclosed_on line → meaning_of text ≡ ended text (Some line) (Ok prefix)
+unclosed_is text prefix reading line u left = over_is text prefix reading (Some line) u left
 
 -- a token fewer is left
 pub fewer_left : (reading later : Reading) (lexeme : Lexeme) → reading.left ≡ lexeme_then lexeme later.left → length later.left.lexemes < length reading.left.lexemes

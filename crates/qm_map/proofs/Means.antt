@@ -3,7 +3,7 @@ use Rattle.std.proofs.Common.{◌≡◌, ◌≢◌, ◌∙◌, ℕ, List, Ok, Er
 use Rattle.qm_mapfile.specs.declared.entity.MapFile.{MapFile}
 use Rattle.qm_grammar.specs.declared.fault.MapFault.{MapFault}
 use Rattle.qm_grammar.specs.declared.fault.MapFault.TheVariants.{Memory}
-use Rattle.qm_grammar.specs.Machine.{meaning_of}
+use Rattle.qm_grammar.specs.inner.Machine.{meaning_of}
 use Rattle.qm_grammar.specs.Meaning.{Means, IsMapText, IsFaultText}
 use Rattle.qm_grammar.specs.Valid.{IsValid}
 use Rattle.qm_grammar.proofs.Meanings.{means_meaning, meaning_only}

@@ -4,7 +4,7 @@ use Rattle.qm_space.specs.Point.{IsCoordinate, AreCoordinates}
 use Rattle.qm_space.specs.Line.{AreOnOneLine}
 use Rattle.qm_mapfile.specs.Face.{point_at}
 use Rattle.qm_grammar.specs.Slots.{points_of}
-use Rattle.qm_grammar.specs.Machine.{span_plane}
+use Rattle.qm_grammar.specs.inner.Machine.{span_plane}
 use Rattle.qm_grammar.proofs.Planes.{span_true, span_false}
 
 -- whether points are on one line, computed

@@ -3,7 +3,7 @@ use Rattle.std.proofs.Common.{◌≡◌, ℕ, ◌+◌, ◌≤◌, Bool, true, fa
 use Rattle.std.specs.List.{prefix_len}
 use Rattle.std.proofs.lemmas.Bool.{false≢true}
 use Rattle.std.proofs.lemmas.Bool.Decides.{nat_tests}
-use Rattle.qm_mapfile.specs.Words.{Word, words_of, parts_words, is_at_gap, lengthened}
+use Rattle.qm_grammar.specs.Words.{Word, words_of, parts_words, is_at_gap, lengthened}
 
 -- whether a byte belongs to a word
 abbrev pub is_ink : ℕ → Bool

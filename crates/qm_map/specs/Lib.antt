@@ -1,4 +1,2 @@
-pub mod Steady
-pub mod Stepping
-pub mod Taking
-pub mod Place
+pub mod OriginPoint
+pub mod inner

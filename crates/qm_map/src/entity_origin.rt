@@ -1,7 +1,7 @@
 ghost use Rattle.std.specs.Prelude.{◌≡◌, List, None, MatchOption};
 ghost use Rattle.qm_mapfile.specs.declared.entity.Pair.{Pair};
 ghost use Rattle.qm_grammar.specs.Origin.{origin_key, value_of, HasGoodOrigin};
-ghost use Rattle.qm_map.specs.Place.{IsAt};
+ghost use Rattle.qm_map.specs.OriginPoint.{IsOriginPoint};
 
 use crate::origin::{first_origin, origin_of};
 use qm_geom::Point;
@@ -18,7 +18,7 @@ pub trait EntityOrigin {
         requires { HasGoodOrigin (pairs self.now) }
         ensures { MatchOption result
             (value_of origin_key (pairs self.now) ≡ None)
-            (λ point. IsAt (pairs self.now) point) };
+            (λ point. IsOriginPoint (pairs self.now) point) };
 }
 
 impl EntityOrigin for Entity {

@@ -1,7 +1,7 @@
 ghost use Rattle.std.specs.Prelude.{◌≡◌, ◌<◌, [], not, length, All, IfOk, OnOk, OnErr};
 ghost use Rattle.qm_space.specs.Point.{IsCoordinate};
 ghost use Rattle.qm_grammar.specs.Slots.{points_of, mapping_of, face_of};
-ghost use Rattle.qm_grammar.specs.Machine.{span_plane};
+ghost use Rattle.qm_grammar.specs.inner.Machine.{span_plane};
 
 use qm_geom::are_on_one_line;
 use qm_mapfile::{Face, Items, Mapping, Text};

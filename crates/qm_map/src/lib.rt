@@ -1,8 +1,10 @@
 //! Reads MAP texts: the map that a text means, or the first fault with its line.
 #![tactic(auto)]
 
+mod empties;
 mod entity_origin;
 mod face;
+pub mod laws;
 mod lines;
 mod list;
 mod number;
@@ -11,8 +13,6 @@ mod reader;
 mod slots;
 mod sort;
 mod stop;
-#[cfg(test)]
-mod tests;
 mod text;
 mod words;
 

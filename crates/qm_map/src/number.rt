@@ -1,6 +1,6 @@
 ghost use Rattle.std.specs.Prelude.{◌≡◌, IfOk};
 ghost use Rattle.qm_space.specs.Point.{IsCoordinate};
-ghost use Rattle.qm_grammar.specs.Machine.{coordinate_of};
+ghost use Rattle.qm_grammar.specs.inner.Machine.{coordinate_of};
 
 use qm_decimal::NumberFault;
 use qm_grammar::Refusal;
@@ -9,7 +9,7 @@ use qm_grammar::Refusal;
 const EXTENT: i64 = 4096;
 
 /// The coordinate that a word spells.
-#[tactic(auto, unfolding(qm_grammar::specs::Machine::coordinate_of))]
+#[tactic(auto, unfolding(qm_grammar::specs::inner::Machine::coordinate_of))]
 pub(crate) fn coordinate(word: &[u8]) -> Result<i32, Refusal>
     ensures value { result ≡ coordinate_of word.now }
     ensures in_cube { IfOk result IsCoordinate }

@@ -1,6 +1,6 @@
-ghost use Rattle.std.specs.Prelude.{◌≡◌, ◌==◌, None, Some, MatchOption, bytes_eq};
+ghost use Rattle.std.specs.Prelude.{◌≡◌, ◌&&◌, not, None, Some, MatchOption, bytes_eq};
 ghost use Rattle.qm_grammar.specs.Origin.{origin_key, value_of};
-ghost use Rattle.qm_grammar.specs.Machine.{millionths_of, origin_of};
+ghost use Rattle.qm_grammar.specs.inner.Machine.{millionths_of, origin_of};
 
 use crate::words::Words;
 use qm_geom::Point;
@@ -12,12 +12,19 @@ const MILLIONTHS: i64 = 1_000_000;
 /// No number of an origin is as far as this from 0.
 const BOUND: u64 = 4_096_000_000;
 
-/// Whether this is the key under which an entity has its place.
+/// Whether this is the key under which an entity has its origin.
 #[tactic(auto, unfolding(qm_grammar::specs::Origin::origin_key))]
 pub(crate) fn is_origin_key(key: &[u8]) -> bool
     ensures { result ≡ bytes_eq key.now origin_key }
 {
     key == b"origin".as_slice()
+}
+
+/// Whether pairs have no origin behind one more, which has this key.
+pub(crate) fn lacks_behind(lacked: bool, key: &[u8]) -> bool
+    ensures { result ≡ (lacked && not (bytes_eq key.now origin_key)) }
+{
+    lacked && !is_origin_key(key)
 }
 
 /// The value of the first pair with the key `origin`.
@@ -33,7 +40,7 @@ pub(crate) fn first_origin(pairs: &[Pair]) -> Option<&[u8]>
 }
 
 /// One number of an origin, in millionths.
-#[tactic(auto, unfolding(qm_grammar::specs::Machine::millionths_of))]
+#[tactic(auto, unfolding(qm_grammar::specs::inner::Machine::millionths_of))]
 fn millionths_of(word: &[u8]) -> Option<i64>
     ensures { result ≡ millionths_of word.now }
 {
@@ -51,7 +58,7 @@ fn millionths_of(word: &[u8]) -> Option<i64>
 }
 
 /// The point that the value of an origin gives.
-#[tactic(auto, unfolding(qm_grammar::specs::Machine::origin_of))]
+#[tactic(auto, unfolding(qm_grammar::specs::inner::Machine::origin_of))]
 pub(crate) fn origin_of(value: &[u8]) -> Option<Point>
     ensures { result ≡ origin_of value.now }
 {

@@ -1,18 +1,19 @@
-ghost use Rattle.std.specs.Prelude.{◌≡◌, ◌+◌, ◌==◌, ◌&&◌, not, [], ◌∷◌, ◌++◌, Ok, OnOk, length};
-ghost use Rattle.qm_grammar.specs.Front.{outside};
+ghost use Rattle.std.specs.Prelude.{◌≡◌, ◌+◌, ◌==◌, ◌&&◌, not, [], ◌∷◌, ◌++◌, Ok, IfOk, OnOk, length};
+ghost use Rattle.qm_grammar.specs.Prefix.{outside};
 ghost use Rattle.qm_grammar.specs.Slots.{points_of};
-ghost use Rattle.qm_grammar.specs.Machine.{step, step_outside, step_entity, step_value, step_brush, step_face, step_slot, step_mark, with_value, without_brush, with_face, with_left, with_number, with_text, coordinate_of, span_plane, is_bad_origin};
-ghost use Rattle.qm_map.specs.Steady.{HasDueParts};
-ghost use Rattle.qm_map.specs.Stepping.{IsStep};
+ghost use Rattle.qm_grammar.specs.inner.Machine.{step, step_outside, step_entity, step_value, step_brush, step_face, step_slot, step_mark, with_value, without_brush, with_face, with_left, with_number, with_text, coordinate_of, span_plane, is_bad_origin};
+ghost use Rattle.qm_map.specs.inner.Steady.{HasDueParts};
+ghost use Rattle.qm_map.specs.inner.Stepping.{IsStep};
 
+use crate::empties::Empties;
 use crate::face::{are_flat, face_of};
 use crate::list::take_all;
 use crate::number::coordinate;
-use crate::origin::{first_origin, is_origin_key, origin_of};
+use crate::origin::{is_origin_key, lacks_behind, origin_of};
 use crate::slots::{behind_bracket, behind_first, behind_word};
 use crate::sort::{is_same_mark, sort_of};
 use crate::stop::Stop;
-use qm_grammar::{Mark, Place, Refusal, Slot, Sort};
+use qm_grammar::{Context, Mark, Refusal, Slot, Sort};
 use qm_lex::TokenKind;
 use qm_mapfile::{Brush, Entity, Face, Items, MapFile, Pair, Text};
 use std::alloc::{AllocError, Global};
@@ -23,7 +24,7 @@ use std::mem;
 #[derive(Drop)]
 pub(crate) struct Reader {
     alloc: Global,
-    place: Place,
+    context: Context,
     entities: Vec<Entity>,
     pairs: Vec<Pair>,
     brushes: Vec<Brush>,
@@ -32,18 +33,22 @@ pub(crate) struct Reader {
     numbers: Vec<i32>,
     texts: Vec<Text>,
     left: &'static [Slot],
+    /// No pair of the open entity has the key `origin`.
+    lacks_origin: bool,
+    empties: Empties,
 }
 
 impl Model for Reader {
-    ghost use Rattle.std.specs.Prelude.{length, All};
+    ghost use Rattle.std.specs.Prelude.{◌≡◌, length, All, is_none};
     ghost use Rattle.qm_space.specs.Point.{IsCoordinate};
-    ghost use Rattle.qm_grammar.specs.Front.{Front};
-    ghost use Rattle.qm_map.specs.Steady.{HasDueParts};
+    ghost use Rattle.qm_grammar.specs.Prefix.{Prefix};
+    ghost use Rattle.qm_grammar.specs.Origin.{origin_key, value_of};
+    ghost use Rattle.qm_map.specs.inner.Steady.{HasDueParts};
 
-    ghost Value = { Front };
+    ghost Value = { Prefix };
 
     ghost view = { λ r. record {
-      place = r.place;
+      context = r.context;
       entities = r.entities.items;
       pairs = r.pairs.items;
       brushes = r.brushes.items;
@@ -56,17 +61,19 @@ impl Model for Reader {
 
     ghost invariant = { λ r.
         All IsCoordinate r.numbers.items
-        × HasDueParts r.place (length r.numbers.items) (length r.texts.items) r.left.now };
+        × HasDueParts r.context (length r.numbers.items) (length r.texts.items) r.left.now
+        × (r.lacks_origin ≡ is_none (value_of origin_key r.pairs.items)) };
 }
 
 impl Reader {
     /// Before the first token.
-    pub(crate) fn new(alloc: Global) -> Reader
-        ensures { result ≡ outside [] }
+    pub(crate) fn new(alloc: Global) -> Result<Reader, AllocError>
+        ensures { IfOk result (λ reader. reader ≡ outside []) }
     {
-        Reader {
+        let empties = Empties::new(alloc)?;
+        Ok(Reader {
             alloc,
-            place: Place::Outside,
+            context: Context::Outside,
             entities: Vec::new(alloc),
             pairs: Vec::new(alloc),
             brushes: Vec::new(alloc),
@@ -75,14 +82,16 @@ impl Reader {
             numbers: Vec::new(alloc),
             texts: Vec::new(alloc),
             left: &[],
-        }
+            lacks_origin: true,
+            empties,
+        })
     }
 
     /// Where in a map it stands.
-    pub(crate) fn place(&self) -> Place
-        ensures { result ≡ self.now.place }
+    pub(crate) fn context(&self) -> Context
+        ensures { result ≡ self.now.context }
     {
-        self.place
+        self.context
     }
 
     /// The map of the entities that have ended.
@@ -96,47 +105,47 @@ impl Reader {
     }
 
     /// Takes the next token, of this kind and with these bytes.
-    #[tactic(auto, unfolding(qm_grammar::specs::Machine::step))]
+    #[tactic(auto, unfolding(qm_grammar::specs::inner::Machine::step))]
     pub(crate) fn accept(&mut self, kind: TokenKind, bytes: &[u8]) -> Result<(), Stop>
         ensures { IsStep result self.new (step self.old (record { kind = kind; bytes = bytes.now })) }
     {
         let sort = sort_of(kind, bytes);
-        match self.place {
-            Place::Outside => self.step_outside(sort),
-            Place::Entity => self.step_entity(sort, bytes),
-            Place::Value => self.step_value(sort, bytes),
-            Place::Brush => self.step_brush(sort),
-            Place::Face => self.step_face(sort, bytes),
+        match self.context {
+            Context::Outside => self.step_outside(sort),
+            Context::Entity => self.step_entity(sort, bytes),
+            Context::Value => self.step_value(sort, bytes),
+            Context::Brush => self.step_brush(sort),
+            Context::Face => self.step_face(sort, bytes),
         }
     }
 
-    #[tactic(auto, unfolding(qm_grammar::specs::Machine::step_outside))]
+    #[tactic(auto, unfolding(qm_grammar::specs::inner::Machine::step_outside))]
     fn step_outside(&mut self, sort: Sort) -> Result<(), Stop>
-        requires { self.old.place ≡ Place.Outside }
+        requires { self.old.context ≡ Context.Outside }
         ensures { IsStep result self.new (step_outside self.old sort) }
     {
         match sort {
             Sort::Mark(Mark::OpenBrace) => {
-                self.place = Place::Entity;
+                self.context = Context::Entity;
                 Ok(())
             }
             _ => Err(Stop::Refused(Refusal::Unexpected)),
         }
     }
 
-    #[tactic(auto, unfolding(qm_grammar::specs::Machine::step_entity))]
+    #[tactic(auto, unfolding(qm_grammar::specs::inner::Machine::step_entity))]
     fn step_entity(&mut self, sort: Sort, bytes: &[u8]) -> Result<(), Stop>
-        requires { self.old.place ≡ Place.Entity }
+        requires { self.old.context ≡ Context.Entity }
         ensures { IsStep result self.new (step_entity self.old sort bytes.now) }
     {
         match sort {
             Sort::Quoted => {
                 self.key = Text::from_slice(self.alloc, bytes)?;
-                self.place = Place::Value;
+                self.context = Context::Value;
                 Ok(())
             }
             Sort::Mark(Mark::OpenBrace) => {
-                self.place = Place::Brush;
+                self.context = Context::Brush;
                 Ok(())
             }
             Sort::Mark(Mark::CloseBrace) => {
@@ -148,27 +157,27 @@ impl Reader {
     }
 
     /// Puts the open entity to the others.
+    #[inline(never)]
     fn end_entity(&mut self) -> Result<(), AllocError>
         ensures { OnOk result (self.new ≡ outside (self.old.entities ++ (record { pairs = self.old.pairs; brushes = self.old.brushes }) ∷ [])) }
     {
         let pairs = take_all(self.alloc, &mut self.pairs)?;
+        self.lacks_origin = true;
         let brushes = take_all(self.alloc, &mut self.brushes)?;
-        self.place = Place::Outside;
+        let entity = self.empties.entity_of(self.alloc, pairs, brushes)?;
+        self.context = Context::Outside;
         self.key = Text::new(self.alloc);
         self.faces.clear();
         self.numbers.clear();
         self.texts.clear();
         self.left = &[];
-        self.entities.push(Entity {
-            pairs: Items::from_vec(pairs),
-            brushes: Items::from_vec(brushes),
-        })?;
+        self.entities.push(entity)?;
         Ok(())
     }
 
-    #[tactic(auto, unfolding(qm_grammar::specs::Machine::step_value))]
+    #[tactic(auto, unfolding(qm_grammar::specs::inner::Machine::step_value))]
     fn step_value(&mut self, sort: Sort, bytes: &[u8]) -> Result<(), Stop>
-        requires { self.old.place ≡ Place.Value }
+        requires { self.old.context ≡ Context.Value }
         ensures { IsStep result self.new (step_value self.old sort bytes.now) }
     {
         match sort {
@@ -184,36 +193,38 @@ impl Reader {
     }
 
     /// Whether a value is the first one under the key `origin` in an entity that is not the first, and gives no point.
-    #[tactic(auto, unfolding(qm_grammar::specs::Machine::is_bad_origin))]
+    #[tactic(auto, unfolding(qm_grammar::specs::inner::Machine::is_bad_origin))]
     fn is_bad_origin(&self, value: &[u8]) -> bool
         ensures { result ≡ is_bad_origin self.now value.now }
     {
         !self.entities.is_empty()
             && is_origin_key(self.key.as_slice())
-            && first_origin(&self.pairs).is_none()
+            && self.lacks_origin
             && origin_of(value).is_none()
     }
 
     /// Puts the open pair to the others.
     fn end_pair(&mut self, value: &[u8]) -> Result<(), AllocError>
-        requires { self.old.place ≡ Place.Value }
+        requires { self.old.context ≡ Context.Value }
         ensures { OnOk result (self.new ≡ with_value self.old value.now) }
     {
         let value = Text::from_slice(self.alloc, value)?;
         let key = mem::replace(&mut self.key, Text::new(self.alloc));
-        self.place = Place::Entity;
+        let lacks_origin = lacks_behind(self.lacks_origin, key.as_slice());
+        self.context = Context::Entity;
         self.pairs.push(Pair { key, value })?;
+        self.lacks_origin = lacks_origin;
         Ok(())
     }
 
-    #[tactic(auto, unfolding(qm_grammar::specs::Machine::step_brush))]
+    #[tactic(auto, unfolding(qm_grammar::specs::inner::Machine::step_brush))]
     fn step_brush(&mut self, sort: Sort) -> Result<(), Stop>
-        requires { self.old.place ≡ Place.Brush }
+        requires { self.old.context ≡ Context.Brush }
         ensures { IsStep result self.new (step_brush self.old sort) }
     {
         match sort {
             Sort::Mark(Mark::OpenParenthesis) => {
-                self.place = Place::Face;
+                self.context = Context::Face;
                 self.left = behind_first();
                 Ok(())
             }
@@ -230,11 +241,11 @@ impl Reader {
 
     /// Puts the open brush to the others.
     fn end_brush(&mut self) -> Result<(), AllocError>
-        requires { self.old.place ≡ Place.Brush }
+        requires { self.old.context ≡ Context.Brush }
         ensures { OnOk result (self.new ≡ without_brush self.old) }
     {
         let faces = take_all(self.alloc, &mut self.faces)?;
-        self.place = Place::Entity;
+        self.context = Context::Entity;
         self.brushes.push(Brush {
             faces: Items::from_vec(faces),
         })?;
@@ -242,7 +253,7 @@ impl Reader {
     }
 
     fn step_face(&mut self, sort: Sort, bytes: &[u8]) -> Result<(), Stop>
-        requires { self.old.place ≡ Place.Face }
+        requires { self.old.context ≡ Context.Face }
         ensures { IsStep result self.new (step_face self.old self.old.left sort bytes.now) }
     {
         match self.left {
@@ -251,7 +262,7 @@ impl Reader {
         }
     }
 
-    #[tactic(auto, unfolding(qm_grammar::specs::Machine::step_slot))]
+    #[tactic(auto, unfolding(qm_grammar::specs::inner::Machine::step_slot))]
     fn step_slot(
         &mut self,
         slot: Slot,
@@ -259,8 +270,8 @@ impl Reader {
         sort: Sort,
         bytes: &[u8],
     ) -> Result<(), Stop>
-        requires place { self.old.place ≡ Place.Face }
-        requires due { HasDueParts Place.Face (length self.old.numbers) (length self.old.texts) (slot ∷ others.now) }
+        requires context { self.old.context ≡ Context.Face }
+        requires due { HasDueParts Context.Face (length self.old.numbers) (length self.old.texts) (slot ∷ others.now) }
         ensures { IsStep result self.new (step_slot self.old slot others.now sort bytes.now) }
     {
         match (slot, sort) {
@@ -283,10 +294,10 @@ impl Reader {
         }
     }
 
-    #[tactic(auto, unfolding(qm_grammar::specs::Machine::step_mark))]
+    #[tactic(auto, unfolding(qm_grammar::specs::inner::Machine::step_mark))]
     fn step_mark(&mut self, mark: Mark, others: &'static [Slot]) -> Result<(), Stop>
-        requires place { self.old.place ≡ Place.Face }
-        requires due { HasDueParts Place.Face (length self.old.numbers) (length self.old.texts) others.now }
+        requires context { self.old.context ≡ Context.Face }
+        requires due { HasDueParts Context.Face (length self.old.numbers) (length self.old.texts) others.now }
         ensures { IsStep result self.new (step_mark self.old mark others.now) }
     {
         match mark {
@@ -310,8 +321,8 @@ impl Reader {
 
     /// Takes a token that gives nothing.
     fn step_over(&mut self, others: &'static [Slot]) -> Result<(), Stop>
-        requires place { self.old.place ≡ Place.Face }
-        requires due { HasDueParts Place.Face (length self.old.numbers) (length self.old.texts) others.now }
+        requires context { self.old.context ≡ Context.Face }
+        requires due { HasDueParts Context.Face (length self.old.numbers) (length self.old.texts) others.now }
         ensures { IsStep result self.new (Ok (with_left self.old others.now)) }
     {
         self.left = others;
@@ -320,8 +331,8 @@ impl Reader {
     }
 
     fn step_number(&mut self, others: &'static [Slot], bytes: &[u8]) -> Result<(), Stop>
-        requires place { self.old.place ≡ Place.Face }
-        requires due { HasDueParts Place.Face (length self.old.numbers + 1) (length self.old.texts) others.now }
+        requires context { self.old.context ≡ Context.Face }
+        requires due { HasDueParts Context.Face (length self.old.numbers + 1) (length self.old.texts) others.now }
         ensures { IsStep result self.new (with_number self.old others.now (coordinate_of bytes.now)) }
     {
         let number = coordinate(bytes)?;
@@ -332,8 +343,8 @@ impl Reader {
     }
 
     fn step_text(&mut self, others: &'static [Slot], bytes: &[u8]) -> Result<(), Stop>
-        requires place { self.old.place ≡ Place.Face }
-        requires due { HasDueParts Place.Face (length self.old.numbers) (length self.old.texts + 1) others.now }
+        requires context { self.old.context ≡ Context.Face }
+        requires due { HasDueParts Context.Face (length self.old.numbers) (length self.old.texts + 1) others.now }
         ensures { IsStep result self.new (Ok (with_text self.old others.now bytes.now)) }
     {
         self.texts.push(Text::from_slice(self.alloc, bytes)?)?;
@@ -345,7 +356,7 @@ impl Reader {
     /// Ends the face where no token is due.
     #[inline]
     fn end_slot(&mut self) -> Result<(), AllocError>
-        requires { self.old.place ≡ Place.Face }
+        requires { self.old.context ≡ Context.Face }
         ensures { OnOk result (self.new ≡ with_left self.old self.old.left) }
     {
         if self.left.is_empty() {
@@ -357,12 +368,12 @@ impl Reader {
     /// Puts the open face to the others.
     #[inline(never)]
     fn end_face(&mut self) -> Result<(), AllocError>
-        requires place { self.old.place ≡ Place.Face }
+        requires context { self.old.context ≡ Context.Face }
         requires whole { self.old.left ≡ [] }
         ensures { OnOk result (self.new ≡ with_face self.old) }
     {
         let face = face_of(&self.numbers, &mut self.texts)?;
-        self.place = Place::Brush;
+        self.context = Context::Brush;
         self.numbers.clear();
         self.faces.push(face)?;
         Ok(())

@@ -1,5 +1,5 @@
 ghost use Rattle.std.specs.Prelude.{◌≡◌};
-ghost use Rattle.qm_grammar.specs.Machine.{behind_first, behind_word, behind_bracket};
+ghost use Rattle.qm_grammar.specs.inner.Machine.{behind_first, behind_word, behind_bracket};
 
 use qm_grammar::{Mark, Slot};
 

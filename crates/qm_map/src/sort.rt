@@ -1,6 +1,6 @@
 ghost use Rattle.std.specs.Prelude.{◌≡◌};
 ghost use Rattle.qm_grammar.specs.Symbol.{mark_of_byte, mark_of, sort_of};
-ghost use Rattle.qm_grammar.specs.Machine.{mark_byte, is_same_mark};
+ghost use Rattle.qm_grammar.specs.inner.Machine.{mark_byte, is_same_mark};
 
 use qm_grammar::{Mark, Sort};
 use qm_lex::TokenKind;

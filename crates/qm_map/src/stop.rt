@@ -5,7 +5,6 @@ use qm_grammar::Refusal;
 use std::alloc::{AllocError, AllocFailed};
 
 /// Why a token does not lead further.
-#[derive(Clone, Copy, Debug, PartialEq, Eq)]
 pub(crate) enum Stop {
     /// It is refused.
     Refused(Refusal),

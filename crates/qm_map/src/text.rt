@@ -4,21 +4,18 @@ ghost use Rattle.qm_lex.specs.Lexing.{fault_line};
 ghost use Rattle.qm_mapfile.specs.declared.entity.MapFile.{MapFile};
 ghost use Rattle.qm_grammar.specs.declared.fault.MapFault.{MapFault};
 ghost use Rattle.qm_grammar.specs.Faults.{fault_of};
-ghost use Rattle.qm_grammar.specs.Machine.{refused_at, closed_by_end, ended, meaning_of};
+ghost use Rattle.qm_grammar.specs.inner.Machine.{refused_at, closed_by_end, ended, meaning_of};
 ghost use Rattle.qm_grammar.specs.Meaning.{Means, IsMapText, IsFaultText};
 ghost use Rattle.qm_grammar.specs.Valid.{IsValid};
-ghost use Rattle.qm_map.specs.Taking.{IsTaken};
+ghost use Rattle.qm_map.specs.inner.Taking.{IsTaken};
 
 use crate::lines::{last_line, line_at};
 use crate::reader::Reader;
 use crate::stop::Stop;
-use qm_grammar::{MapFault, Place, Refusal};
+use qm_grammar::{Context, MapFault, Refusal, TEXT_LIMIT};
 use qm_lex::{LexFault, Lexer, Token, TokenKind};
 use qm_mapfile::MapFile;
 use std::alloc::Global;
-
-/// The most bytes that a text may have.
-const TEXT_LIMIT: usize = 67_108_864;
 
 /// The fault of a refused token on a line.
 fn fault_of(reason: Refusal, line: u64) -> MapFault
@@ -78,7 +75,7 @@ fn take(reader: &mut Reader, text: &[u8], token: Token) -> Result<(), MapFault>
 fn closed_by_end(text: &[u8], reader: Reader) -> Result<MapFile, MapFault>
     ensures { result ≡ closed_by_end text.now None reader }
 {
-    if reader.place() != Place::Outside {
+    if reader.context() != Context::Outside {
         return Err(MapFault::EndInside {
             line: last_line(text),
         });
@@ -121,7 +118,9 @@ fn meaning_of(alloc: Global, text: &[u8]) -> Result<MapFile, MapFault>
     ensures { result ≢ Err MapFault.Memory → result ≡ meaning_of text.now }
 {
     let mut lexer = Lexer::new(text);
-    let mut reader = Reader::new(alloc);
+    let Ok(mut reader) = Reader::new(alloc) else {
+        return Err(MapFault::Memory);
+    };
     'tokens: loop {
         match lexer.next() {
             Ok(Some(token)) => {
@@ -139,7 +138,7 @@ fn meaning_of(alloc: Global, text: &[u8]) -> Result<MapFile, MapFault>
 ///
 /// # Errors
 ///
-/// The fault with the least place in the text, with its line. `Memory` where memory runs out.
+/// The fault that stands first in the text, with its line. `Memory` where memory runs out.
 pub fn parse(alloc: Global, text: &[u8]) -> Result<MapFile, MapFault>
     // The text means the map.
     ensures meant { IfOk result (λ map. IsMapText text.now map) }
@@ -149,10 +148,6 @@ pub fn parse(alloc: Global, text: &[u8]) -> Result<MapFile, MapFault>
 
     // The text means nothing else.
     ensures only { result ≢ Err MapFault.Memory → (other : Result MapFile MapFault) → Means text.now other → other ≡ result }
-
-    // Each text means a map or a fault, and that is what is answered, unless memory runs out.
-    ensures total { Means text.now (meaning_of text.now) }
-    ensures computed { result ≢ Err MapFault.Memory → result ≡ meaning_of text.now }
 
     ensures valid { IfOk result IsValid }
 {

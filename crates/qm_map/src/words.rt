@@ -1,6 +1,6 @@
 ghost use Rattle.std.specs.Prelude.{◌≡◌, ◌≤◌, [], ◌∷◌, length, not, MatchOption};
 ghost use Rattle.std.specs.List.{prefix_len};
-ghost use Rattle.qm_mapfile.specs.Words.{words_of, parts_words};
+ghost use Rattle.qm_grammar.specs.Words.{words_of, parts_words};
 
 use std::marker::Model;
 
@@ -12,7 +12,7 @@ pub(crate) struct Words<'a> {
 
 impl<'a> Model for Words<'a> {
     ghost use Rattle.std.specs.Prelude.{List};
-    ghost use Rattle.qm_mapfile.specs.Words.{Word, words_of};
+    ghost use Rattle.qm_grammar.specs.Words.{Word, words_of};
 
     ghost Value = { List Word };
 
@@ -38,7 +38,7 @@ impl<'a> Words<'a> {
     }
 }
 
-/// How many blanks stand in front.
+/// How many blanks stand in prefix.
 fn blanks_len(bytes: &[u8]) -> usize
     ensures value { result ≡ prefix_len parts_words bytes.now }
     ensures within { result ≤ length bytes.now }

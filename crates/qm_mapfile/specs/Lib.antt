@@ -1,5 +1,4 @@
 pub mod Face
-pub mod Words
 pub use Rattle.qm_space.specs.Point
 pub use Rattle.qm_space.specs.Plane
 pub use Rattle.qm_space.specs.Reduced

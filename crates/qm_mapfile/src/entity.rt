@@ -1,5 +1,6 @@
 use crate::face::Face;
 use crate::items::Items;
+use crate::parts::Parts;
 use crate::text::Text;
 
 /// A convex solid: what lies behind all its faces.
@@ -18,8 +19,8 @@ pub struct Pair {
 /// A thing of the map, described by pairs, with the brushes that belong to it.
 #[derive(Drop)]
 pub struct Entity {
-    pub pairs: Items<Pair>,
-    pub brushes: Items<Brush>,
+    pub pairs: Parts<Pair>,
+    pub brushes: Parts<Brush>,
 }
 
 /// A whole map. Its first entity is the world.

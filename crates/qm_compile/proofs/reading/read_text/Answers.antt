@@ -2,7 +2,7 @@ use Rattle.std.proofs.Common.{◌≡◌, ◌+◌, ◌++◌, ◌≤◌, ℕ, List
 use Rattle.std.proofs.lemmas.List.{length-take, length-append, length-drop}
 use Rattle.qm_shelf.specs.Reads.{bytes_of}
 use Rattle.qm_grammar.specs.Faults.{text_limit}
-use Rattle.qm_compile.specs.ReadTexts.{read_of}
+use Rattle.qm_grammar.specs.CutText.{read_of}
 use Rattle.qm_compile.proofs.Counted.{fault_counted_since, stays_twice}
 use Rattle.qm_compile.proofs.Pieces.{read_further, read_all}
 use Rattle.qm_compile.proofs.reading.read_text.Goals as goal

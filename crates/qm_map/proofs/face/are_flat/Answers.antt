@@ -1,5 +1,5 @@
 use Rattle.std.proofs.Common.{◌≡◌, not, List, ℤ, subst, sym}
-use Rattle.qm_grammar.specs.Machine.{span_plane}
+use Rattle.qm_grammar.specs.inner.Machine.{span_plane}
 use Rattle.qm_map.proofs.NinePoints.{flat_is, nine_points, HasThreePoints}
 use Rattle.qm_map.proofs.face.are_flat.Goals as goal
 

@@ -2,15 +2,15 @@ use Rattle.std.proofs.Common.{◌≡◌, ◌∙◌, List, ℕ, ap, sym, subst, S
 use Rattle.qm_lex.specs.Lexeme.{lexeme_of}
 use Rattle.qm_lex.specs.Lexing.{lexeme_then}
 use Rattle.qm_lex.specs.Lexing.{fault_line}
-use Rattle.qm_grammar.specs.Front.{Front}
-use Rattle.qm_grammar.specs.Machine.{ended}
+use Rattle.qm_grammar.specs.Prefix.{Prefix}
+use Rattle.qm_grammar.specs.inner.Machine.{ended}
 use Rattle.qm_map.proofs.Meanings.{IsUnderway, begun, lexing_is, refused_is, ended_is, unclosed_is}
 use Rattle.qm_map.proofs.text.meaning_of.Goals as goal
 
 pub tokens-init : goal.tokens-init
 tokens-init c =
-    let P : Front → Type 0 = λ front. IsUnderway c.args.text.now front c.new-lexer.result in
-    subst P (sym c.new-reader.ensures)
+    let P : Prefix → Type 0 = λ prefix. IsUnderway c.args.text.now prefix c.new-lexer.result in
+    subst P (sym c.in-Ok.ensures)
     (begun c.args.text.now c.new-lexer.result c.new-lexer.ensures.text (lexing_is c.args.text.now c.new-lexer.result.left c.new-lexer.ensures.only))
 
 pub returns-in-Err-take : goal.returns-in-Err-take

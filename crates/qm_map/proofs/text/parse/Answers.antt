@@ -1,4 +1,3 @@
-use Rattle.qm_grammar.proofs.Meanings.{means_meaning}
 use Rattle.qm_map.proofs.Means.{map_is, fault_is, only_is, valid_is}
 use Rattle.qm_map.proofs.text.parse.Goals as goal
 
@@ -10,9 +9,6 @@ returns-clause-fault c = fault_is c.args.text.now c.meaning_of.result c.meaning_
 
 pub returns-clause-only : goal.returns-clause-only
 returns-clause-only c = only_is c.args.text.now c.meaning_of.result c.meaning_of.ensures
-
-pub returns-clause-total : goal.returns-clause-total
-returns-clause-total c = means_meaning c.args.text.now
 
 pub returns-clause-valid : goal.returns-clause-valid
 returns-clause-valid c = valid_is c.args.text.now c.meaning_of.result c.meaning_of.ensures

@@ -1,8 +1,8 @@
 use Rattle.std.specs.Prelude.{◌≡◌, ◌≤◌, ℕ, ◌+◌, List, [], ◌∷◌}
 use Rattle.qm_grammar.specs.declared.slot.Slot.{Slot}
 use Rattle.qm_grammar.specs.declared.slot.Slot.TheVariants.{Coordinate, Texture, FirstOfMapping}
-use Rattle.qm_grammar.specs.declared.place.Place.{Place}
-use Rattle.qm_grammar.specs.declared.place.Place.TheVariants.{Face}
+use Rattle.qm_grammar.specs.declared.context.Context.{Context}
+use Rattle.qm_grammar.specs.declared.context.Context.TheVariants.{Face}
 
 -- What a reader keeps true of the face that it reads.
 
@@ -21,6 +21,6 @@ textures_left (FirstOfMapping ∷ slots) = 0
 textures_left (_ ∷ slots) = textures_left slots
 
 -- an open face has nine coordinates and a texture, read or still due; behind a face no number is left over
-abbrev pub HasDueParts : Place → ℕ → ℕ → List Slot → Type 0
+abbrev pub HasDueParts : Context → ℕ → ℕ → List Slot → Type 0
 HasDueParts Face numbers texts left = (numbers + coordinates_left left ≡ 9) × (1 ≤ texts + textures_left left)
 HasDueParts _ numbers texts left = numbers ≡ 0

@@ -1,6 +1,6 @@
 /// Where in a map a reader of tokens stands.
-#[derive(Clone, Copy, Debug, PartialEq, Eq)]
-pub enum Place {
+#[derive(Clone, Copy, PartialEq)]
+pub enum Context {
     /// Between entities.
     Outside,
     /// Between the pairs and brushes of an entity.

@@ -1,4 +1,4 @@
--- What is spelled is read through: from the grammar, and from fronts of it, to runs of the machine.
+-- What is spelled is read through: from the grammar, and from prefixes of it, to runs of the machine.
 use Rattle.std.proofs.Common.{◌≡◌, ◌≢◌, ℕ, true, false, not, ◌&&◌, ◌==◌, List, [], ◌∷◌, ◌++◌, length, IfSome, Option, Some, None, is_none, bytes_eq, Ok, refl, sym, ap, subst, ◌∙◌, ⊎_elim, append_assoc, append-nil}
 use Rattle.std.proofs.lemmas.Bool.{cases_Bool, eq-eqb, ne_eqb, both_ways, and_parts, false_from_ne_true, not-true}
 use Rattle.std.proofs.lemmas.List.{nil_from_length}
@@ -12,9 +12,9 @@ use Rattle.qm_grammar.specs.declared.mark.Sort.TheVariants as sort
 use Rattle.qm_grammar.specs.Symbol.{Symbol, sort_of}
 use Rattle.qm_grammar.specs.Origin.{origin_key, value_of, IsOriginText, HasGoodOrigin, OriginsAreGood}
 use Rattle.qm_grammar.specs.Grammar.{SpellsFaces, none, more, SpellsBrush, SpellsParts, pair, brush, SpellsEntity, SpellsEntities}
-use Rattle.qm_grammar.specs.Front.{Front, outside, in_entity, behind_key, in_brush, in_face, IsOutside, IsInEntity, IsInBrush, IsFront, outside_front, entity_front, key_front, brush_front, face_front}
-use Rattle.qm_grammar.specs.Machine.{step, step_outside, step_entity, step_value, step_brush, is_bad_origin, origin_of, runs}
-use Rattle.qm_grammar.proofs.Parts.{all_front, all_back}
+use Rattle.qm_grammar.specs.Prefix.{Prefix, outside, in_entity, behind_key, in_brush, in_face, IsOutside, IsInEntity, IsInBrush, IsPrefix, outside_prefix, entity_prefix, key_prefix, brush_prefix, face_prefix}
+use Rattle.qm_grammar.specs.inner.Machine.{step, step_outside, step_entity, step_value, step_brush, is_bad_origin, origin_of, runs}
+use Rattle.qm_grammar.proofs.Parts.{all_prefix, all_back}
 use Rattle.qm_grammar.proofs.Runs.{runs_step, runs_then, runs_one}
 use Rattle.qm_grammar.proofs.OriginTexts.{none_no_origin}
 use Rattle.qm_grammar.proofs.FaceSteps.{step_sorted}
@@ -80,12 +80,12 @@ good_last (world ∷ others) last good some =
     let P : Entity → Type 0 = λ entity. HasGoodOrigin entity.pairs in
     All-head P last [] (all_back P others (last ∷ []) good)
 
-good_front : (es others : List Entity) → OriginsAreGood (es ++ others) → OriginsAreGood es
-good_front [] others good = tt
-good_front (world ∷ es) others good = all_front (λ (entity : Entity). HasGoodOrigin entity.pairs) es others good
+good_prefix : (es others : List Entity) → OriginsAreGood (es ++ others) → OriginsAreGood es
+good_prefix [] others good = tt
+good_prefix (world ∷ es) others good = all_prefix (λ (entity : Entity). HasGoodOrigin entity.pairs) es others good
 
 pub good_before : (es : List Entity) (last : Entity) → OriginsAreGood (es ++ last ∷ []) → OriginsAreGood es
-good_before es last good = good_front es (last ∷ []) good
+good_before es last good = good_prefix es (last ∷ []) good
 
 pub good_more : (es : List Entity) (last : Entity) → OriginsAreGood es → IsGoodBehind es last.pairs → OriginsAreGood (es ++ last ∷ [])
 good_more [] last good behind = All-nil (λ (entity : Entity). HasGoodOrigin entity.pairs)
@@ -153,13 +153,13 @@ entities_run : (es : List Entity) (symbols : List Symbol) (entities : List Entit
 entities_run es symbols entities none good = ap (λ (l : List Entity). Ok (outside l)) (sym (append-nil es))
 entities_run es symbols entities (more {symbols = first} {others = others} {entity = one} {entities = rest} spells spell_rest) good =
     let moved : OriginsAreGood ((es ++ one ∷ []) ++ rest) = subst OriginsAreGood (sym (append_assoc es (one ∷ []) rest)) good in
-    let here : IsGoodBehind es one.pairs = good_last es one (good_front (es ++ one ∷ []) rest moved) in
+    let here : IsGoodBehind es one.pairs = good_last es one (good_prefix (es ++ one ∷ []) rest moved) in
     runs_then (outside es) (outside (es ++ one ∷ [])) (outside ((es ++ one ∷ []) ++ rest)) first others
     (entity_run es first one spells here)
     (entities_run (es ++ one ∷ []) others rest spell_rest moved)
     ∙ ap (λ (l : List Entity). Ok (outside l)) (append_assoc es (one ∷ []) rest)
 
--- ---- fronts
+-- ---- prefixes
 
 outside_runs : (symbols : List Symbol) (es : List Entity) → IsOutside symbols es → runs (outside []) symbols ≡ Ok (outside es)
 outside_runs symbols es is = entities_run [] symbols es is.spelled is.origins
@@ -167,7 +167,7 @@ outside_runs symbols es is = entities_run [] symbols es is.spelled is.origins
 entity_runs : (symbols : List Symbol) (es : List Entity) (ps : List Pair) (bs : List Brush) → IsInEntity symbols es ps bs → runs (outside []) symbols ≡ Ok (in_entity es ps bs)
 entity_runs symbols es ps bs is =
     let last : Entity = record { pairs = ps; brushes = bs } in
-    ap (runs (outside [])) is.is_front
+    ap (runs (outside [])) is.split
     ∙ runs_then (outside []) (outside es) (in_entity es ps bs) is.before (is.open_brace ∷ is.inner)
     (entities_run [] is.before es is.spelled (good_before es last is.origins))
     (runs_step (outside es) (in_entity es [] []) is.open_brace is.inner (entity_opens es is.open_brace is.opens)
@@ -175,25 +175,25 @@ entity_runs symbols es ps bs is =
 
 brush_runs : (symbols : List Symbol) (es : List Entity) (ps : List Pair) (bs : List Brush) (fs : List Face) → IsInBrush symbols es ps bs fs → runs (outside []) symbols ≡ Ok (in_brush es ps bs fs)
 brush_runs symbols es ps bs fs is =
-    ap (runs (outside [])) is.is_front
+    ap (runs (outside [])) is.split
     ∙ runs_then (outside []) (in_entity es ps bs) (in_brush es ps bs fs) is.before (is.open_brace ∷ is.inner)
     (entity_runs is.before es ps bs is.entity)
     (runs_step (in_entity es ps bs) (in_brush es ps bs []) is.open_brace is.inner (brush_opens es ps bs is.open_brace is.opens)
     ∙ faces_run es ps bs [] is.inner fs is.spelled)
 
--- what is a front is read through, and gives what it has spelled
-pub front_runs : (symbols : List Symbol) (front : Front) → IsFront symbols front → runs (outside []) symbols ≡ Ok front
-front_runs symbols front (outside_front {entities = es} is) = outside_runs symbols es is
-front_runs symbols front (entity_front {entities = es} {pairs = ps} {brushes = bs} is) = entity_runs symbols es ps bs is
-front_runs symbols front (key_front {entities = es} {pairs = ps} {brushes = bs} {key = key} is) =
-    ap (runs (outside [])) is.is_front
+-- what is a prefix is read through, and gives what it has spelled
+pub prefix_runs : (symbols : List Symbol) (prefix : Prefix) → IsPrefix symbols prefix → runs (outside []) symbols ≡ Ok prefix
+prefix_runs symbols prefix (outside_prefix {entities = es} is) = outside_runs symbols es is
+prefix_runs symbols prefix (entity_prefix {entities = es} {pairs = ps} {brushes = bs} is) = entity_runs symbols es ps bs is
+prefix_runs symbols prefix (key_prefix {entities = es} {pairs = ps} {brushes = bs} {key = key} is) =
+    ap (runs (outside [])) is.split
     ∙ runs_then (outside []) (in_entity es ps bs) (behind_key es ps bs key) is.before (is.key_symbol ∷ [])
     (entity_runs is.before es ps bs is.entity)
     (runs_one (in_entity es ps bs) (behind_key es ps bs key) is.key_symbol
     (key_read es ps bs is.key_symbol is.quoted ∙ ap (λ (k : List ℕ). Ok (behind_key es ps bs k)) (sym is.is_key)))
-front_runs symbols front (brush_front {entities = es} {pairs = ps} {brushes = bs} {faces = fs} is) = brush_runs symbols es ps bs fs is
-front_runs symbols front (face_front {entities = es} {pairs = ps} {brushes = bs} {faces = fs} {numbers = ns} {texts = ts} {left = left} is) =
-    ap (runs (outside [])) is.is_front
+prefix_runs symbols prefix (brush_prefix {entities = es} {pairs = ps} {brushes = bs} {faces = fs} is) = brush_runs symbols es ps bs fs is
+prefix_runs symbols prefix (face_prefix {entities = es} {pairs = ps} {brushes = bs} {faces = fs} {numbers = ns} {texts = ts} {left = left} is) =
+    ap (runs (outside [])) is.split
     ∙ runs_then (outside []) (in_brush es ps bs fs) (in_face es ps bs fs ns ts left) is.before is.begun
     (brush_runs is.before es ps bs fs is.brush)
     (begun_run es ps bs fs is.begun ns ts left is.begins)

@@ -1,8 +1,16 @@
-use super::fault_of;
-use qm_grammar::MapFault;
+use qm_map::{MapFault, parse};
+use std::alloc::Global;
+
+/// Whether this is the fault of a text.
+fn is_fault(alloc: Global, text: &[u8], fault: MapFault) -> bool {
+    match parse(alloc, text) {
+        Ok(_) => false,
+        Err(found) => found == fault,
+    }
+}
 
 #[test]
-fn where_the_text_ends(rt: HostRuntime) {
+fn faults_at_the_end(rt: HostRuntime) {
     for (text, fault) in [
         (b"".as_slice(), MapFault::NoEntity { line: 1 }),
         (b"// {\n\n", MapFault::NoEntity { line: 3 }),
@@ -18,7 +26,7 @@ fn where_the_text_ends(rt: HostRuntime) {
         (b"{ \"a", MapFault::UnclosedQuote { line: 1 }),
         (b"{ }\n\"a\nb", MapFault::UnclosedQuote { line: 2 }),
     ] {
-        assert_eq!(rt; fault_of(rt.alloc(), text), Some(fault));
+        assert!(rt; is_fault(rt.alloc(), text, fault));
     }
 }
 
@@ -48,15 +56,12 @@ fn tokens_of_another_sort(rt: HostRuntime) {
         (b"{ }//", 1),
         (b"{\n}/", 2),
     ] {
-        assert_eq!(rt;
-            fault_of(rt.alloc(), text),
-            Some(MapFault::Unexpected { line })
-        );
+        assert!(rt; is_fault(rt.alloc(), text, MapFault::Unexpected { line }));
     }
 }
 
 #[test]
-fn numbers(rt: HostRuntime) {
+fn tokens_that_say_what_may_not_be(rt: HostRuntime) {
     for (text, fault) in [
         (b"{ { ( 1e3".as_slice(), MapFault::BadNumber { line: 1 }),
         (b"{ { (\n+ 0 0 )", MapFault::BadNumber { line: 2 }),
@@ -72,16 +77,8 @@ fn numbers(rt: HostRuntime) {
             b"{ { ( 99999999999999999999 0 0 )",
             MapFault::CoordinateRange { line: 1 },
         ),
-    ] {
-        assert_eq!(rt; fault_of(rt.alloc(), text), Some(fault));
-    }
-}
-
-#[test]
-fn faces_and_brushes(rt: HostRuntime) {
-    for (text, fault) in [
         (
-            b"// a room\n{\n{\n( 0 0 0 ) ( 1 1 1 ) ( 2 2 2 ) stone 0 0 0 1 1 } }".as_slice(),
+            b"// a room\n{\n{\n( 0 0 0 ) ( 1 1 1 ) ( 2 2 2 ) stone 0 0 0 1 1 } }",
             MapFault::NoNormal { line: 4 },
         ),
         (
@@ -94,20 +91,15 @@ fn faces_and_brushes(rt: HostRuntime) {
         ),
         (b"{ {\n}", MapFault::NoFaces { line: 2 }),
         (b"{ { } \"a", MapFault::NoFaces { line: 1 }),
+        (
+            b"{ } {\n\"origin\" \"1 2\" }",
+            MapFault::BadOrigin { line: 2 },
+        ),
+        (
+            b"{ } { \"a\" \"b\" \"origin\"\n\"0,0,0\" }",
+            MapFault::BadOrigin { line: 2 },
+        ),
     ] {
-        assert_eq!(rt; fault_of(rt.alloc(), text), Some(fault));
-    }
-}
-
-#[test]
-fn numbers_that_are_read(rt: HostRuntime) {
-    for text in [
-        b"{ { ( 4096 -4096 0 ) ( 4096 4096 0 ) ( 4096 0 4096 ) a 0 0 0 1 1 } }".as_slice(),
-        b"{ { ( +64 64. 64.000 ) ( -0 .0 00064 ) ( 0 0 1 ) a 0 0 0 1 1 } }",
-        b"{ { ( 0 0 0 ) ( 0 1 0 ) ( 0 0 1 ) \"{\" b\"c [d e//f 0 1 } }",
-        b"{ } // x",
-        b"{ \"\"\"\" }",
-    ] {
-        assert!(rt; fault_of(rt.alloc(), text).is_none());
+        assert!(rt; is_fault(rt.alloc(), text, fault));
     }
 }

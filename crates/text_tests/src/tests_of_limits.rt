@@ -1,0 +1,44 @@
+use qm_map::{MapFault, parse};
+use std::alloc::Global;
+
+/// The most bytes that a text may have.
+const LIMIT: usize = 67_108_864;
+
+/// The fault of a text that begins with these bytes, is filled up with one byte to a length, and ends with another.
+fn fault_of(
+    alloc: Global,
+    start: &[u8],
+    filling: u8,
+    length: usize,
+    last: &[u8],
+) -> Option<MapFault> {
+    let mut text = Vec::from_slice(alloc, start).ok()?;
+    text.resize(length, filling).ok()?;
+    text.extend_from_slice(last).ok()?;
+    parse(alloc, &text).err()
+}
+
+#[test]
+fn texts_about_the_limit(rt: HostRuntime) {
+    for (start, filling, last, fault) in [
+        (
+            b"".as_slice(),
+            b' ',
+            b"".as_slice(),
+            MapFault::NoEntity { line: 1 },
+        ),
+        (b"", b' ', b"\n", MapFault::TextTooLong { line: 1 }),
+        (b"}", b' ', b" ", MapFault::Unexpected { line: 1 }),
+        (b"\n", b'}', b"\n", MapFault::Unexpected { line: 2 }),
+        (b"\n", b'}', b"}", MapFault::TextTooLong { line: 2 }),
+        (b"{ \"", b'\n', b"", MapFault::UnclosedQuote { line: 1 }),
+        (
+            b"{ \"",
+            b'\n',
+            b"a",
+            MapFault::TextTooLong { line: 67_108_862 },
+        ),
+    ] {
+        assert!(rt; fault_of(rt.alloc(), start, filling, LIMIT, last) == Some(fault));
+    }
+}

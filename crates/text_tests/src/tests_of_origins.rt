@@ -1,0 +1,55 @@
+use qm_geom::Point;
+use qm_map::{EntityOrigin, MapFault, parse};
+use std::alloc::Global;
+
+/// Whether the text is refused for an origin on its first line.
+fn has_bad_origin(alloc: Global, text: &[u8]) -> bool {
+    match parse(alloc, text) {
+        Ok(_) => false,
+        Err(found) => found == MapFault::BadOrigin { line: 1 },
+    }
+}
+
+#[test]
+fn origins_that_give_no_point(rt: HostRuntime) {
+    for text in [
+        b"{ } { \"origin\" \"1 2 3 4\" }".as_slice(),
+        b"{ } { \"origin\" \"\" }",
+        b"{ } { \"origin\" \"4096 0 0\" }",
+        b"{ } { \"origin\" \"0 -4096 0\" }",
+        b"{ } { \"origin\" \"0 0 0.0000001\" }",
+        b"{ } { \"origin\" \"0 0 x\" \"origin\" \"0 0 0\" }",
+        b"{ } { \"origin\" \"0 0 0\" } { \"a\" \"b\" \"origin\" \"x\" }",
+        b"{ } { \"origin\" \"a\nb\" }",
+    ] {
+        assert!(rt; has_bad_origin(rt.alloc(), text));
+    }
+}
+
+/// The point of the second entity of a text.
+fn second_point(alloc: Global, text: &[u8]) -> Option<Point> {
+    let map = parse(alloc, text).ok()?;
+    map.entities.as_slice().get(1)?.origin()
+}
+
+#[test]
+fn the_point_of_the_first_origin(rt: HostRuntime) {
+    for (text, [x, y, z]) in [
+        (
+            b"{ } { \"classname\" \"light\" \"origin\" \" 1 -2.5 0.000001\" \"origin\" \"x\" }".as_slice(),
+            [1_000_000, -2_500_000, 1],
+        ),
+        (
+            b"{ \"origin\" \"x\" } { \"Origin\" \"x\" \"origin \" \"y\" \"origin\" \"\t-4095.999999 0.5\n1. \" }",
+            [-4_095_999_999, 500_000, 1_000_000],
+        ),
+    ] {
+        let point = Point {
+            x,
+            y,
+            z,
+            w: 1_000_000,
+        };
+        assert!(rt; second_point(rt.alloc(), text) == Some(point));
+    }
+}
