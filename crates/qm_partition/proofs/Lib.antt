@@ -1,0 +1,4 @@
+pub mod Counts
+pub mod LeafNumbers
+pub mod Cells
+pub mod Samples

@@ -1,0 +1,5 @@
+pub mod Strengths
+pub mod Insides
+pub mod ContentsLaws
+pub mod FlatSolids
+pub mod Samples

@@ -1,0 +1,4 @@
+pub mod Solid
+pub mod Holding
+pub mod Contents
+pub mod Opposed
