@@ -1,4 +1,4 @@
-use Rattle.std.proofs.Common.{◌≡◌, pos, ◌≤ℤ◌, List, [], ◌∷◌, map, All, Contains, Option, Some, inl, inr, sym, refl, ap, ◌∙◌, arith, subst}
+use Rattle.std.proofs.Common.{◌≡◌, pos, ◌≤ℤ◌, List, [], ◌∷◌, map, All, Option, Some, inl, inr, sym, refl, ap, ◌∙◌, arith, subst}
 use Rattle.std.specs.Prelude.{unwrap_or}
 use Rattle.std.proofs.lemmas.List.Elements.{All-map, All-contains, All-from_recursion, recursion_from_All, All-nil, All-cons, All-head, All-tail}
 use Rattle.qm_space.specs.Point.{Point, IsInCube}
@@ -11,7 +11,7 @@ use Rattle.qm_grammar.specs.Valid.{IsValidFace}
 use Rattle.qm_contents.specs.declared.contents.Contents.{Contents}
 use Rattle.qm_contents.specs.declared.contents.Contents.TheVariants.{Empty}
 use Rattle.qm_solids.specs.Solid.{Solid}
-use Rattle.qm_solids.specs.Holding.{IsInside, IsInFrontOfNone, Holds}
+use Rattle.qm_solids.specs.Holding.{IsInside, Holds}
 use Rattle.qm_solids.specs.Contents.{IsHeldBy, HasContents}
 use Rattle.qm_solids.proofs.Strengths.{at_most_itself}
 use Rattle.qm_solids.proofs.Insides.{behind_all, inside_of_behind, inside_in_front_of_none}

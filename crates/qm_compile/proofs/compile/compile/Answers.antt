@@ -1,8 +1,6 @@
-use Rattle.std.proofs.Common.{◌∙◌, ap, sym, subst, List}
+use Rattle.std.proofs.Common.{◌∙◌, ap, sym, List}
 use Rattle.std.specs.Prelude.{is_some}
 use Rattle.qm_mapfile.specs.declared.face.Face.{Face}
-use Rattle.qm_grammar.specs.Valid.{IsValidFace}
-use Rattle.qm_brush.specs.Valid.{HasValidFaces}
 use Rattle.qm_brush.proofs.ValidBrushes.{valid_brushes}
 use Rattle.qm_compile.specs.Chain.{tree_of_walk}
 use Rattle.qm_compile.specs.Texts.{tree_summary}
