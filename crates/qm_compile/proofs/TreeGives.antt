@@ -12,10 +12,11 @@ use Rattle.qm_contents.specs.declared.contents.Contents.{Contents}
 use Rattle.qm_contents.specs.declared.contents.Contents.TheVariants.{Empty}
 use Rattle.qm_solids.specs.Solid.{Solid}
 use Rattle.qm_solids.specs.Holding.{IsInside, Holds}
-use Rattle.qm_solids.specs.Contents.{IsHeldBy, HasContents}
-use Rattle.qm_solids.proofs.Strengths.{at_most_itself}
+use Rattle.qm_solids.specs.Strongest.{IsOneThat}
+use Rattle.qm_solids.specs.Contents.{HasContents}
+use Rattle.qm_contents.proofs.Strengths.{at_most_itself}
 use Rattle.qm_solids.proofs.Insides.{behind_all, inside_of_behind, inside_in_front_of_none}
-use Rattle.qm_solids.proofs.ContentsLaws.{nothing_holds}
+use Rattle.qm_solids.proofs.ContentsLaws.{none_has}
 use Rattle.qm_brush.specs.Brushes.{contents_of_brush}
 use Rattle.qm_brush.specs.Solids.{filled_with, drawn_solids}
 use Rattle.qm_brush.proofs.DrawnSolids.{one_solid}
@@ -54,12 +55,12 @@ module _ (brush : Brush) (contents : Contents) where
   not_in_front x holds = recursion_from_All (λ face. value (face_outward face) x ≤ℤ pos 0) brush.faces (of_each_face (λ h. value h x ≤ℤ pos 0) brush.faces holds.not_in_front)
 
   -- the only solid that can hold a point
-  held_by : (x : Point) (other : Solid) → IsHeldBy (solid ∷ []) x other → solid ≡ other
+  held_by : (x : Point) (other : Solid) → IsOneThat (λ s. Holds s x) (solid ∷ []) other → solid ≡ other
   held_by x other held = All-contains (λ s. solid ≡ s) (solid ∷ []) other (All-from_recursion (λ s. solid ≡ s) (solid ∷ []) (refl, tt)) held.listed
 
   -- a point that it does not hold is empty
   is_empty : (x : Point) → (Holds solid x → ⊥) → HasContents (solid ∷ []) x Empty
-  is_empty x free = nothing_holds (solid ∷ []) x (λ other held. free (subst (λ (s : Solid). Holds s x) (sym (held_by x other held)) held.holds))
+  is_empty x free = none_has (λ s. Holds s x) (solid ∷ []) (λ other held. free (subst (λ (s : Solid). Holds s x) (sym (held_by x other held)) held.has))
 
   -- a point behind all faces has the brush's contents
   is_filled : (x : Point) → IsInCube x → IsBehindAll brush.faces x → HasContents (solid ∷ []) x contents
@@ -70,7 +71,7 @@ module _ (brush : Brush) (contents : Contents) where
         not_in_front = inside_in_front_of_none solid x inside;
       } in
       record {
-        given = inr (solid, record { listed = (0, omega arith, refl); holds = holds }, refl);
+        given = inr (solid, record { listed = (0, omega arith, refl); has = holds }, refl);
         strongest = λ other held. at_most_itself other.contents contents (sym (ap (λ (s : Solid). s.contents) (held_by x other held)));
       }
 

@@ -11,11 +11,11 @@ use Rattle.qm_solids.specs.Solid.{Solid}
 use Rattle.qm_solids.specs.Holding.{IsInside, IsFull, Holds}
 use Rattle.qm_solids.specs.Contents.{HasContents}
 use Rattle.qm_solids.proofs.Insides.{inside_of_behind, inside_in_front_of_none}
-use Rattle.qm_solids.proofs.Strengths.{at_most_solid}
-use Rattle.qm_solids.proofs.ContentsLaws.{nothing_holds}
+use Rattle.qm_contents.proofs.Strengths.{at_most_solid}
+use Rattle.qm_solids.proofs.ContentsLaws.{none_has}
 use Rattle.qm_solids.proofs.FlatSolids.{opposed_is_flat}
 
-abbrev plane : ℤ → ℤ → ℤ → ℤ → Plane
+abbrev pub plane : ℤ → ℤ → ℤ → ℤ → Plane
 plane nx ny nz d = record { nx = nx; ny = ny; nz = nz; d = d }
 
 -- a whole point
@@ -34,7 +34,7 @@ box low high =
 abbrev pub cube : Solid
 cube = record { contents = contents.Solid; outward = box (pos 0) (pos 64) }
 
-middle_in_cube : IsInCube (at (pos 32) (pos 32) (pos 32))
+pub middle_in_cube : IsInCube (at (pos 32) (pos 32) (pos 32))
 middle_in_cube =
     let side : IsWithinExtent (pos 32) (pos 1) = record { above = omega (arith, ints); below = omega (arith, ints) } in
     record { weight = omega (arith, ints); x = side; y = side; z = side }
@@ -90,19 +90,19 @@ box_holds_middle its low high least below above =
       not_in_front = inside_in_front_of_none solid x inside;
     }
 
-stone_holds_middle : Holds stone (at (pos 32) (pos 32) (pos 32))
+pub stone_holds_middle : Holds stone (at (pos 32) (pos 32) (pos 32))
 stone_holds_middle = box_holds_middle contents.Solid (pos 16) (pos 48) (omega (arith, ints)) (omega (arith, ints)) (omega (arith, ints))
 
 -- the middle is stone, whichever is named first
 pub stone_in_water : HasContents (water ∷ stone ∷ []) (at (pos 32) (pos 32) (pos 32)) contents.Solid
 stone_in_water = record {
-  given = inr (stone, record { listed = (1, omega arith, refl); holds = stone_holds_middle }, refl);
+  given = inr (stone, record { listed = (1, omega arith, refl); has = stone_holds_middle }, refl);
   strongest = λ solid held. at_most_solid solid.contents;
 }
 
 pub water_round_stone : HasContents (stone ∷ water ∷ []) (at (pos 32) (pos 32) (pos 32)) contents.Solid
 water_round_stone = record {
-  given = inr (stone, record { listed = (0, omega arith, refl); holds = stone_holds_middle }, refl);
+  given = inr (stone, record { listed = (0, omega arith, refl); has = stone_holds_middle }, refl);
   strongest = λ solid held. at_most_solid solid.contents;
 }
 
@@ -122,8 +122,8 @@ water_holds_border =
 
 pub water_at_border : HasContents (water ∷ stone ∷ []) (at (pos 8) (pos 8) (pos 8)) contents.Water
 water_at_border = record {
-  given = inr (water, record { listed = (0, omega arith, refl); holds = water_holds_border }, refl);
-  strongest = λ solid held. of_two water stone (λ s. Holds s (at (pos 8) (pos 8) (pos 8)) → IsAtMost s.contents contents.Water) (λ holds. omega arith) (λ holds. absurd (stone_is_left holds)) solid held.listed held.holds;
+  given = inr (water, record { listed = (0, omega arith, refl); has = water_holds_border }, refl);
+  strongest = λ solid held. of_two water stone (λ s. Holds s (at (pos 8) (pos 8) (pos 8)) → IsAtMost s.contents contents.Water) (λ holds. omega arith) (λ holds. absurd (stone_is_left holds)) solid held.listed held.has;
 }
 
 -- outside all solids a point is empty
@@ -131,7 +131,7 @@ pub beyond_the_cube : HasContents (cube ∷ []) (at (pos 65) (pos 32) (pos 32)) 
 beyond_the_cube =
     let x = at (pos 65) (pos 32) (pos 32) in
     let left = All-from_recursion (λ s. Holds s x → ⊥) (cube ∷ []) (cube_is_left, tt) in
-    nothing_holds (cube ∷ []) x (λ solid held. All-contains (λ s. Holds s x → ⊥) (cube ∷ []) solid left held.listed held.holds)
+    none_has (λ s. Holds s x) (cube ∷ []) (λ solid held. All-contains (λ s. Holds s x → ⊥) (cube ∷ []) solid left held.listed held.has)
 
 -- ---- two opposed planes
 
