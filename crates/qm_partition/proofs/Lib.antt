@@ -1,4 +1,6 @@
 pub mod Counts
 pub mod LeafNumbers
 pub mod Cells
+pub mod JoinedLeaves
+pub mod OneNumbering
 pub mod Samples

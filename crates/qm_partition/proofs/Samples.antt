@@ -10,6 +10,7 @@ use Rattle.qm_partition.specs.declared.node.Leaf.{Leaf as LeafRecord}
 use Rattle.qm_partition.specs.declared.node.Child.TheVariants.{Node, Leaf}
 use Rattle.qm_partition.specs.Partition.{leaf, node}
 use Rattle.qm_partition.specs.Tree.{Tree}
+use Rattle.qm_partition.specs.Joining.{joined}
 use Rattle.qm_partition.specs.Counting.{leaf_count, node_count, leaves_of}
 use Rattle.qm_partition.specs.Numbering.{nodes_of, AreNumbered}
 use Rattle.qm_partition.specs.LeafOfPoint.{node_value, leaf_at, leaf_number_at, IsOffNodePlanes}
@@ -86,3 +87,13 @@ cell_row = refl
 in_cell_row : IsInCell (cell_of cube_tree.planes way_in) middle
 unfolding value
 in_cell_row = All-from_recursion (λ h. IsInFront h middle) (cell_of cube_tree.planes way_in) (grind (arith, ints))
+
+-- ---- joining
+
+-- two empty leaves under a node become one; the node above them has leaves of different contents and stays
+joined_row : joined (node 0 (node 1 (leaf empty) (leaf empty)) (leaf stone)) ≡ node 0 (leaf empty) (leaf stone)
+joined_row = refl
+
+-- the tree of the cube has nothing to join
+cube_is_joined : joined cube_tree.shape ≡ cube_tree.shape
+cube_is_joined = refl

@@ -4,3 +4,4 @@ pub mod LeafOfPoint
 pub mod Ways
 pub mod Counting
 pub mod Numbering
+pub mod Joining
