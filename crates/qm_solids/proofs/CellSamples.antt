@@ -78,8 +78,8 @@ first_is_candidate = record {
     behind_others = λ other among. All-contains IsBehindOrLies cube.outward other each_plane among;
   };
   not_outdone = λ outdone.
-  let left = All-from_recursion (λ s. ContainsCell s [] → ⊥) (cube ∷ []) (not_all, tt) in
-  All-contains (λ s. ContainsCell s [] → ⊥) (cube ∷ []) outdone.stronger left outdone.listed outdone.contains;
+      let left = All-from_recursion (λ s. ContainsCell s [] → ⊥) (cube ∷ []) (not_all, tt) in
+      All-contains (λ s. ContainsCell s [] → ⊥) (cube ∷ []) outdone.stronger left outdone.listed outdone.contains;
 }
 
 -- of the book's planes x = 0 is the least candidate of the whole world
