@@ -1,7 +1,7 @@
 -- A point that is on no node plane lies in the cell of the way to its leaf, and in no other cell.
-use Rattle.std.proofs.Common.{◌≡◌, ◌≢◌, ℕ, zero, suc, ◌+◌, ℤ, pos, ◌<ℤ◌, ◌≤ℤ◌, Bool, true, false, inl, inr, List, [], ◌∷◌, ◌++◌, length, map, Some, refl, sym, ap, ◌∙◌, subst, arith}
+use Rattle.std.proofs.Common.{◌≡◌, ℕ, zero, suc, ◌+◌, Bool, true, false, inl, inr, List, [], ◌∷◌, ◌++◌, length, map, Some, refl, sym, ap, ◌∙◌, subst, arith}
 use Rattle.std.specs.Prelude.{slice_get, option_map}
-use Rattle.std.proofs.lemmas.Int.{ints, by_lt_z}
+use Rattle.std.proofs.lemmas.Int.{ints}
 use Rattle.std.proofs.lemmas.List.{length-append, length-map}
 use Rattle.std.proofs.lemmas.List.Elements.{All-nil, All-cons, All-head, All-tail}
 use Rattle.std.proofs.lemmas.Option.{slice_get-map}
@@ -16,7 +16,8 @@ use Rattle.qm_partition.specs.Counting.{leaf_count}
 use Rattle.qm_partition.specs.LeafOfPoint.{node_value, leaf_at, leaf_number_at, IsOffNodePlanes}
 use Rattle.qm_partition.specs.Ways.{Way, after_step, ways, cell_of, LeadsTo}
 use Rattle.qm_partition.proofs.Counts.{leaf_count-node}
-use Rattle.qm_partition.proofs.LeafNumbers.{at_front, at_back, at_either, side_test, leaf_of_number}
+use Rattle.qm_partition.proofs.AppendedLists.{at_front, at_back, at_either}
+use Rattle.qm_partition.proofs.LeafNumbers.{side_test, above_zero, leaf_of_number}
 
 -- there is a way to each leaf
 pub length-ways : (shape : Partition) → length (ways shape) ≡ leaf_count shape
@@ -39,9 +40,6 @@ record IsLed (planes : List Plane) (shape : Partition) (x : Point) : Type 0 wher
 one_step_more : (planes : List Plane) (n : ℕ) (to_front : Bool) (way : Way) (x : Point) → IsInFront (turned to_front (plane_at planes n)) x → IsInCell (cell_of planes way) x → IsInCell (cell_of planes (after_step n to_front way)) x
 one_step_more planes n to_front way x ahead inside =
     All-cons (λ h. IsInFront h x) (turned to_front (plane_at planes n)) (cell_of planes way) ahead inside
-
-above_zero : (v : ℤ) → pos 0 ≤ℤ v → v ≢ pos 0 → pos 0 <ℤ v
-above_zero v least other = by_lt_z (pos 0) v (λ h. h) (λ h. absurd (other (omega (arith, ints))))
 
 module _ (planes : List Plane) (n : ℕ) (front back : Partition) (x : Point) where
   abbrev h : Plane

@@ -1,3 +1,4 @@
+pub mod AppendedLists
 pub mod Counts
 pub mod LeafNumbers
 pub mod Cells

@@ -1,13 +1,16 @@
 -- Worked rows: a solid that contains a cell, and the least candidate of the whole cube.
-use Rattle.std.proofs.Common.{ℕ, ◌≤◌, pos, neg_ℤ, inl, List, [], ◌∷◌, All, refl, arith}
+use Rattle.std.proofs.Common.{ℕ, ◌≤◌, pos, neg_ℤ, inl, inr, List, [], ◌∷◌, All, refl, arith}
 use Rattle.std.proofs.lemmas.Int.{ints}
 use Rattle.std.proofs.lemmas.List.Elements.{All-from_recursion, All-contains, All-nil}
 use Rattle.qm_space.specs.Point.{Point, IsInCube}
 use Rattle.qm_space.specs.Plane.{Plane, value, IsBehind, IsInFront}
 use Rattle.qm_solids.specs.Solid.{inward}
-use Rattle.qm_solids.specs.Cells.{ContainsCell}
+use Rattle.qm_solids.specs.Cells.{ContainsCell, CellHasContents}
 use Rattle.qm_solids.specs.Candidates.{LiesOn, IsOutdone, IsCandidate}
 use Rattle.qm_solids.specs.Least.{IsLeastCandidate}
+use Rattle.qm_contents.specs.declared.contents.Contents.TheVariants.{Empty, Solid}
+use Rattle.qm_contents.proofs.Strengths.{at_most_solid}
+use Rattle.qm_solids.proofs.ContentsLaws.{none_has}
 use Rattle.qm_solids.proofs.Insides.{behind_all}
 use Rattle.qm_solids.proofs.Samples.{plane, at, cube, cube_is_full, stone, water, stone_holds_middle}
 
@@ -18,6 +21,13 @@ stone_contains = record { full = stone_holds_middle.full; inside = λ x in_cube 
 -- so it outdoes the water there
 water_is_outdone : IsOutdone (water ∷ stone ∷ []) (inward stone) water
 water_is_outdone = record { stronger = stone; listed = (1, omega arith, refl); at_least = omega arith; contains = stone_contains }
+
+-- and the cell is stone
+stone_cell : CellHasContents (water ∷ stone ∷ []) (inward stone) Solid
+stone_cell = record {
+  given = inr (stone, record { listed = (1, omega arith, refl); has = stone_contains }, refl);
+  strongest = λ solid one. at_most_solid solid.contents;
+}
 
 -- ---- a book of two planes of the cube: x = 0 and z = 64
 
@@ -60,6 +70,10 @@ not_all contains =
     let inside = contains.inside x (point_in_cube 100 32 32 (omega arith) (omega arith) (omega arith)) (All-nil (λ h. IsInFront h x)) in
     let behind = behind_all cube.outward x inside 0 (plane (pos 1) (pos 0) (pos 0) (pos 64)) (omega arith) in
     absurd (omega (arith, ints, behind))
+
+-- so that the whole world, taken as a cell, is empty
+world_cell : CellHasContents (cube ∷ []) [] Empty
+world_cell = none_has (λ s. ContainsCell s []) (cube ∷ []) (λ solid one. All-contains (λ s. ContainsCell s [] → ⊥) (cube ∷ []) solid (All-from_recursion (λ s. ContainsCell s [] → ⊥) (cube ∷ []) (not_all, tt)) one.listed one.has)
 
 first_is_candidate : IsCandidate (cube ∷ []) [] first_plane
 unfolding value
