@@ -1,13 +1,21 @@
 -- What a valid map says of the brushes of its world.
-use Rattle.std.proofs.Common.{ℕ, zero, suc, ◌<◌, ◌≤◌, List, [], ◌∷◌, length, get_or, All, arith}
+use Rattle.std.proofs.Common.{ℕ, zero, suc, ◌<◌, ◌≤◌, ◌^◌, List, [], ◌∷◌, length, get_or, All, arith}
 use Rattle.std.specs.Prelude.{sum_by}
 use Rattle.std.proofs.lemmas.List.Sums.{sum_by-cons}
 use Rattle.qm_mapfile.specs.declared.entity.Brush.{Brush}
 use Rattle.qm_mapfile.specs.declared.entity.Entity.{Entity}
 use Rattle.qm_mapfile.specs.declared.entity.MapFile.{MapFile}
-use Rattle.qm_grammar.specs.Valid.{IsValid, IsValidEntity, IsValidBrush, face_count}
-use Rattle.qm_brush.specs.Brushes.{brushes_of_first}
-use Rattle.qm_brush.specs.Valid.{HasValidBrushes}
+use Rattle.qm_grammar.specs.Valid.{IsValid, IsValidFace, IsValidEntity, IsValidBrush, face_count}
+use Rattle.qm_brush.specs.Brushes.{brushes_of_first, world_brushes}
+
+-- the faces of a brush of a valid map
+pub record HasValidFaces (brush : Brush) : Type 0 where
+  pub few : length brush.faces ≤ 2 ^ 26
+  pub faces : All IsValidFace brush.faces
+
+-- each brush of the world is one of a valid map
+abbrev pub HasValidBrushes : MapFile → Type 0
+HasValidBrushes map = All HasValidFaces (world_brushes map)
 
 -- no brush has more faces than the map
 brush_few : (brushes : List Brush) (k : ℕ) (d : Brush) → k < length brushes → length (get_or brushes k d).faces ≤ sum_by (λ brush. length brush.faces) brushes

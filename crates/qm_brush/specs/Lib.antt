@@ -1,3 +1,2 @@
 pub mod Brushes
 pub mod Solids
-pub mod Valid

@@ -8,7 +8,7 @@ use Rattle.std.proofs.lemmas.List.Filters.{length-filter_more}
 use Rattle.qm_mapfile.specs.declared.entity.Brush.{Brush}
 use Rattle.qm_mapfile.specs.declared.entity.MapFile.{MapFile}
 use Rattle.qm_brush.specs.Brushes.{is_drawn, world_brushes}
-use Rattle.qm_brush.specs.Valid.{HasValidFaces, HasValidBrushes}
+use Rattle.qm_brush.proofs.ValidBrushes.{HasValidFaces, HasValidBrushes}
 use Rattle.qm_compile.specs.OneBrush.{IsOneBrushMap}
 
 -- The brushes of the world that are drawn, where there is one.
