@@ -1,16 +1,17 @@
-use Rattle.std.proofs.Common.{◌≡◌, ◌≢◌, ℕ, ◌+◌, ℤ, pos, negsuc, ◌<ℤ◌, ◌≤ℤ◌, Bool, true, false, if◌then◌else◌, List, [], ◌∷◌, ◌++◌, length, map, ◌⊎◌, inl, inr, refl, ap, arith, subst}
+use Rattle.std.proofs.Common.{◌≡◌, ℕ, ◌+◌, pos, ◌<ℤ◌, Bool, true, false, if◌then◌else◌, List, [], ◌∷◌, ◌++◌, length, map, ◌⊎◌, inl, inr, refl, ap, arith, subst}
 use Rattle.std.specs.List.{AllByRecursion}
-use Rattle.std.specs.Prelude.{int_lt}
 use Rattle.std.proofs.lemmas.List.{length-append, append_assoc}
 use Rattle.std.proofs.Math.Seq.{get_or-append_seam}
-use Rattle.std.proofs.lemmas.Int.{ints, by_lt_z}
+use Rattle.std.proofs.lemmas.Int.{ints}
 use Rattle.qm_space.specs.Point.{Point}
 use Rattle.qm_space.specs.Plane.{Plane, value}
 use Rattle.qm_contents.specs.declared.contents.Contents.{Contents}
 use Rattle.qm_contents.specs.declared.contents.Contents.TheVariants.{Empty}
-use Rattle.qm_compile.specs.declared.tree.Leaf.{Leaf}
+use Rattle.qm_partition.specs.declared.node.Leaf.{Leaf}
+use Rattle.qm_partition.specs.Partition.{Partition, leaf, node}
+use Rattle.qm_partition.specs.LeafOfPoint.{leaf_at, node_value, IsOffNodePlanes}
+use Rattle.qm_partition.proofs.LeafNumbers.{side_test, above_zero}
 use Rattle.qm_compile.specs.Sides.{Side}
-use Rattle.qm_compile.specs.Tree.{Tree, leaf, node, leaf_at, node_value, IsOffNodePlanes}
 use Rattle.qm_compile.specs.Chain.{chain, open_leaf}
 use Rattle.qm_compile.proofs.SideValues.{outer_value, IsWithin, IsNotOutside}
 
@@ -44,21 +45,12 @@ within_one_more last found side sides x within (inr led) = inr (led.0, λ none. 
 outside_of_one : (last : Contents) (side : Side) (sides : List Side) (x : Point) → pos 0 <ℤ outer_value side x → IsLedRight last (open_leaf Empty) (side ∷ sides) x
 outside_of_one last side sides x outside = inr (refl, λ none. absurd (omega (arith, ints, outside, none.0)))
 
--- the walk's test, and what it says
-side_test : (v : ℤ) → ((int_lt v (pos 0) ≡ true) × v <ℤ pos 0) ⊎ ((int_lt v (pos 0) ≡ false) × pos 0 ≤ℤ v)
-side_test (pos n) = inr (grind arith, omega (arith, ints))
-side_test (negsuc n) = inl (refl, omega (arith, ints))
-
--- a number that is neither below 0 nor 0 is above 0
-above_zero : (v : ℤ) → pos 0 ≤ℤ v → v ≢ pos 0 → pos 0 <ℤ v
-above_zero v least other = by_lt_z (pos 0) v (λ h. h) (λ h. absurd (other (omega (arith, ints))))
-
 -- a node on the plane of a side, with what it encloses at its inner child
-enclosing : Bool → ℕ → Tree → Tree
+enclosing : Bool → ℕ → Partition → Partition
 enclosing out_is_front n inner =
     if out_is_front then node n (leaf (open_leaf Empty)) inner else node n inner (leaf (open_leaf Empty))
 
-module _ (last : Contents) (n : ℕ) (planes : List Plane) (inner : Tree) (plane : Plane) (sides : List Side) (x : Point) where
+module _ (last : Contents) (n : ℕ) (planes : List Plane) (inner : Partition) (plane : Plane) (sides : List Side) (x : Point) where
   one_node : (b : Bool) → node_value planes n x ≡ value plane x → IsOffNodePlanes planes (enclosing b n inner) x → (IsOffNodePlanes planes inner x → IsLedRight last (leaf_at planes inner x) sides x) → IsLedRight last (leaf_at planes (enclosing b n inner) x) ((plane, b) ∷ sides) x
   unfolding enclosing
   one_node true stand off within =

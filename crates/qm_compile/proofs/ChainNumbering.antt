@@ -5,12 +5,14 @@ use Rattle.std.proofs.lemmas.List.{append-nil, append_assoc, at_drop_more, lengt
 use Rattle.std.proofs.lemmas.List.Sums.{sum_by-cons, count_by-le-length}
 use Rattle.std.proofs.lemmas.Bool.Decides.{nat_tests}
 use Rattle.std.proofs.Math.Nat.{add-zero}
-use Rattle.qm_compile.specs.declared.tree.Leaf.{Leaf as LeafRecord}
+use Rattle.qm_partition.specs.declared.node.Leaf.{Leaf as LeafRecord}
 use Rattle.qm_contents.specs.declared.contents.Contents.{Contents}
 use Rattle.qm_contents.specs.declared.contents.Contents.TheVariants.{Empty}
-use Rattle.qm_compile.specs.declared.tree.Node.{Node as NodeRecord}
-use Rattle.qm_compile.specs.declared.tree.Child.TheVariants.{Node, Leaf}
-use Rattle.qm_compile.specs.Numbering.{nodes_of, leaves_of, leaf_count, child_of}
+use Rattle.qm_partition.specs.declared.node.Node.{Node as NodeRecord}
+use Rattle.qm_partition.specs.declared.node.Child.TheVariants.{Node, Leaf}
+use Rattle.qm_partition.specs.Counting.{leaves_of, leaf_count}
+use Rattle.qm_partition.specs.Numbering.{nodes_of, leaves_after, child_of}
+use Rattle.qm_partition.proofs.Counts.{leaves_after-count}
 use Rattle.qm_compile.specs.Chain.{chain, open_leaf}
 use Rattle.qm_compile.specs.ChainStep.{chain_node, inner_child}
 
@@ -41,12 +43,12 @@ leaves_before false = 0
 -- the nodes of a chain are the first side's node and those of the rest
 pub nodes_of-chain : (last : Contents) (n k : ℕ) (flag : Bool) (flags : List Bool) → nodes_of (chain last n (flag ∷ flags)) n k ≡ chain_node n flag (length flags) k ∷ nodes_of (chain last (n + 1) flags) (n + 1) (k + leaves_before flag)
 nodes_of-chain last n k true flags =
-    rw add-zero (ap (λ back. record { plane = n; front = Leaf k; back = back } ∷ nodes_of (chain last (n + 1) flags) (n + 1) (k + 1)) (child_of-chain last (n + 1) (k + 1) flags))
+    ap (λ back. record { plane = n; front = Leaf k; back = back } ∷ nodes_of (chain last (n + 1) flags) (n + 1) (k + 1)) (child_of-chain last (n + 1) (k + 1) flags)
 nodes_of-chain last n k false flags =
     let inner = chain last (n + 1) flags in
     let count : leaf_count inner ≡ length flags + 1 = leaf_count-chain last (n + 1) flags in
-    let same : k + leaf_count inner ≡ k + length flags + 1 = omega (arith, count) in
-    rw (add-zero, append-nil, same) (ap (λ front. record { plane = n; front = front; back = Leaf (k + length flags + 1) } ∷ nodes_of inner (n + 1) k) (child_of-chain last (n + 1) k flags))
+    let after : leaves_after inner k ≡ k + length flags + 1 = omega (arith, leaves_after-count inner k, count) in
+    rw (add-zero, append-nil, after) (ap (λ front. record { plane = n; front = front; back = Leaf (k + length flags + 1) } ∷ nodes_of inner (n + 1) k) (child_of-chain last (n + 1) k flags))
 
 -- how many flags are true, by cases on the first
 count-true : (flags : List Bool) → count_by (λ flag. flag) (true ∷ flags) ≡ suc (count_by (λ flag. flag) flags)

@@ -1,12 +1,13 @@
 use Rattle.std.proofs.Common.{◌≡◌, ℕ, ◌+◌, if◌then◌else◌, Bool, List, [], ◌∷◌, ◌++◌, length, true, false, refl, ap, ◌∙◌, arith, codes}
-use Rattle.std.proofs.lemmas.List.{length-map, length-append}
+use Rattle.std.proofs.lemmas.List.{length-map}
 use Rattle.qm_space.specs.Plane.{Plane}
 use Rattle.qm_contents.specs.declared.contents.Contents.{Contents}
 use Rattle.qm_contents.specs.declared.contents.Contents.TheVariants.{Empty}
-use Rattle.qm_compile.specs.declared.tree.Leaf.{Leaf as LeafRecord}
-use Rattle.qm_compile.specs.declared.tree.Node.{Node as NodeRecord}
-use Rattle.qm_compile.specs.Tree.{Tree, leaf, node}
-use Rattle.qm_compile.specs.Numbering.{nodes_of, leaves_of, node_count, leaf_count}
+use Rattle.qm_partition.specs.declared.node.Leaf.{Leaf as LeafRecord}
+use Rattle.qm_partition.specs.declared.node.Node.{Node as NodeRecord}
+use Rattle.qm_partition.specs.Counting.{leaves_of, node_count, leaf_count}
+use Rattle.qm_partition.specs.Numbering.{nodes_of}
+use Rattle.qm_partition.proofs.Counts.{length-nodes_of}
 use Rattle.qm_compile.specs.Chain.{chain, tree_of_walk, last_contents}
 use Rattle.qm_compile.specs.Texts.{count_line, tree_summary}
 use Rattle.qm_compile.specs.TreeFile.{file_bytes, file_of}
@@ -16,13 +17,6 @@ use Rattle.qm_compile.proofs.ChainContents.{flags_of, planes_of}
 use Rattle.qm_compile.proofs.ChainNumbering.{leaf_count-chain}
 
 -- How many nodes and leaves a tree has, and what its file and summary say of it.
-
-pub length-nodes_of : (tree : Tree) (n k : ℕ) → length (nodes_of tree n k) ≡ node_count tree
-length-nodes_of (leaf found) n k = refl
-length-nodes_of (node plane front back) n k =
-    let after = n + 1 + node_count front in
-    let leaves = k + leaf_count front in
-    omega (arith, length-append (nodes_of front (n + 1) k) (nodes_of back after leaves), length-nodes_of front (n + 1) k, length-nodes_of back after leaves)
 
 -- a chain has as many nodes as sides
 pub node_count-chain : (last : Contents) (n : ℕ) (flags : List Bool) → node_count (chain last n flags) ≡ length flags

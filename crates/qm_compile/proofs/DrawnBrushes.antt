@@ -7,7 +7,9 @@ use Rattle.std.proofs.lemmas.List.Elements.{filter-append, filter_passes, All-fi
 use Rattle.std.proofs.lemmas.List.Filters.{length-filter_more}
 use Rattle.qm_mapfile.specs.declared.entity.Brush.{Brush}
 use Rattle.qm_mapfile.specs.declared.entity.MapFile.{MapFile}
-use Rattle.qm_compile.specs.Brushes.{is_drawn, world_brushes, IsOneBrushMap, AreValidFaces, HasValidBrushes}
+use Rattle.qm_brush.specs.Brushes.{is_drawn, world_brushes}
+use Rattle.qm_brush.proofs.ValidBrushes.{HasValidFaces, HasValidBrushes}
+use Rattle.qm_compile.specs.OneBrush.{IsOneBrushMap}
 
 -- The brushes of the world that are drawn, where there is one.
 
@@ -40,17 +42,17 @@ second_drawn brushes i found next one within so_far some is drawn all =
     let only = ap length all in
     absurd (omega (arith, first, before, counted, both, whole, only))
 
-module _ (meant : MapFile) (brush : Brush) (one : IsOneBrushMap meant brush) where
+module _ (map : MapFile) (brush : Brush) (one : IsOneBrushMap map brush) where
   -- the one brush has contents
   pub one-drawn : is_drawn brush ≡ true
   one-drawn =
-      let all = filter_passes is_drawn (world_brushes meant) in
+      let all = filter_passes is_drawn (world_brushes map) in
       let its = subst (λ (brushes : List Brush). All (λ b. is_drawn b ≡ true) brushes) one all in
       its 0 brush (omega arith)
 
   -- and valid faces
-  pub one-valid : HasValidBrushes meant → AreValidFaces brush.faces
+  pub one-valid : HasValidBrushes map → HasValidFaces brush
   one-valid valid =
-      let all = All-filter is_drawn (λ b. AreValidFaces b.faces) (world_brushes meant) valid in
-      let its = subst (λ (brushes : List Brush). All (λ b. AreValidFaces b.faces) brushes) one all in
+      let all = All-filter is_drawn HasValidFaces (world_brushes map) valid in
+      let its = subst (All HasValidFaces) one all in
       its 0 brush (omega arith)

@@ -1,3 +1,4 @@
+pub mod BrushCounts
 pub mod ChainContents
 pub mod ChainNumbering
 pub mod ChainSizes
@@ -13,6 +14,5 @@ pub mod ReadMeanings
 pub mod Reported
 pub mod SideValues
 pub mod TreeGives
-pub mod ValidBrushes
 pub mod WalkRight
 pub mod WalkSteps

@@ -1,4 +1,4 @@
-use Rattle.std.proofs.Common.{◌≡◌, ℕ, ℤ, pos, neg_ℤ, ◌<ℤ◌, ◌≤ℤ◌, Bool, true, false, List, [], length, get_or, inl, inr, refl, sym, ◌∙◌, subst, arith}
+use Rattle.std.proofs.Common.{◌≡◌, ℕ, ℤ, pos, neg_ℤ, ◌<ℤ◌, ◌≤ℤ◌, Bool, true, false, List, [], length, get_or, All, inl, inr, refl, sym, ◌∙◌, subst, arith}
 use Rattle.std.specs.List.{AllByRecursion}
 use Rattle.std.specs.Ordering.{int_cmp}
 use Rattle.std.proofs.lemmas.Bool.{cases_lt}
@@ -12,7 +12,7 @@ use Rattle.qm_numbers.proofs.Signs.{compares_less, compares_greater, less_compar
 use Rattle.qm_space.proofs.PlanesThroughPoints.{whole_point_is_whole, plane_through_is, normal_off_line, through_front, through_back}
 use Rattle.qm_mapfile.specs.declared.face.Face.{Face}
 use Rattle.qm_mapfile.specs.Face.{HasPlane, face_point, face_plane, face_outward}
-use Rattle.qm_compile.specs.Brushes.{HasCoordinates, AreValidFaces}
+use Rattle.qm_grammar.specs.Valid.{IsValidFace}
 use Rattle.qm_compile.specs.Sides.{Side}
 
 -- On which side of the outer side of a face's plane a point is, and on which of the outward plane through the
@@ -55,19 +55,19 @@ is_turned p0 p1 p2 x plane true through = one_sign _ _ (through_front p0 p1 p2 x
 is_turned p0 p1 p2 x plane false through = one_sign _ _ (through_back p0 p1 p2 x plane through)
 
 -- a point of a face is a whole point of the closed cube
-face_point_whole : (face : Face) (k : ℕ) → HasCoordinates face → IsWholePoint (face_point face k)
+face_point_whole : (face : Face) (k : ℕ) → All AreCoordinates face.points → IsWholePoint (face_point face k)
 face_point_whole face k coordinates = whole_point_is_whole (get_or face.points k []) (elim (cases_lt k (length face.points)) [
   | inl within ↦ coordinates k [] within
   | inr past ↦ subst AreCoordinates (sym (get_or_past face.points k [] past)) (All-nil IsCoordinate)
 ])
 
-face_sides : (x : Point) (face : Face) → HasCoordinates face → HasPlane face → FaceSides x face
+face_sides : (x : Point) (face : Face) → All AreCoordinates face.points → HasPlane face → FaceSides x face
 face_sides x face coordinates plane =
     let p0 = face_point face 0 in
     let p1 = face_point face 1 in
     let p2 = face_point face 2 in
     is_turned p0 p1 p2 x (face_plane face).0 (face_plane face).1 (plane_through_is p0 p1 p2 (face_point_whole face 0 coordinates) (face_point_whole face 1 coordinates) (face_point_whole face 2 coordinates) (normal_off_line p0 p1 p2 refl refl refl plane))
 
-pub sides_of_faces : (x : Point) (faces : List Face) → AreValidFaces faces → AllByRecursion (FaceSides x) faces
+pub sides_of_faces : (x : Point) (faces : List Face) → All IsValidFace faces → AllByRecursion (FaceSides x) faces
 sides_of_faces x faces valid =
-    recursion_from_All (FaceSides x) faces (λ k d within. face_sides x (get_or faces k d) (valid.coordinates k d within) (valid.planes k d within))
+    recursion_from_All (FaceSides x) faces (λ k d within. face_sides x (get_or faces k d) (valid k d within).coordinates (valid k d within).plane)

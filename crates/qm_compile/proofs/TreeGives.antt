@@ -1,93 +1,110 @@
-use Rattle.std.proofs.Common.{◌≡◌, List, [], ◌∷◌, Contains, Option, Some, inl, inr, sym, refl, ap, ◌∙◌, arith, subst}
+use Rattle.std.proofs.Common.{◌≡◌, pos, ◌≤ℤ◌, List, [], ◌∷◌, map, All, Option, Some, inl, inr, sym, refl, ap, ◌∙◌, arith, subst}
 use Rattle.std.specs.Prelude.{unwrap_or}
-use Rattle.std.proofs.lemmas.List.Elements.{Contains-push_cases}
-use Rattle.std.proofs.lemmas.Int.{ints}
+use Rattle.std.proofs.lemmas.List.Elements.{All-map, All-contains, All-from_recursion, recursion_from_All, All-nil, All-cons, All-head, All-tail}
 use Rattle.qm_space.specs.Point.{Point, IsInCube}
+use Rattle.qm_space.specs.Plane.{Plane, value, IsBehind}
 use Rattle.qm_mapfile.specs.declared.face.Face.{Face}
 use Rattle.qm_mapfile.specs.declared.entity.Brush.{Brush}
 use Rattle.qm_mapfile.specs.declared.entity.MapFile.{MapFile}
+use Rattle.qm_mapfile.specs.Face.{face_outward}
+use Rattle.qm_grammar.specs.Valid.{IsValidFace}
 use Rattle.qm_contents.specs.declared.contents.Contents.{Contents}
 use Rattle.qm_contents.specs.declared.contents.Contents.TheVariants.{Empty}
-use Rattle.qm_contents.specs.Precedence.{IsAtMost}
-use Rattle.qm_compile.specs.declared.tree.Leaf.{Leaf}
-use Rattle.qm_compile.specs.Brushes.{drawn_brushes, contents_of_brush, IsOneBrushMap, AreValidFaces}
-use Rattle.qm_compile.specs.Chain.{last_contents, tree_of_walk, tree_of_first, tree_of, GivesContents, open_leaf}
-use Rattle.qm_compile.specs.Contents.{Holds, IsFull, IsHeldBy, IsBehindAll, IsNotInFrontOfAny, HasContents}
+use Rattle.qm_solids.specs.Solid.{Solid}
+use Rattle.qm_solids.specs.Holding.{IsInside, Holds}
+use Rattle.qm_solids.specs.Strongest.{IsOneThat}
+use Rattle.qm_solids.specs.Contents.{HasContents}
+use Rattle.qm_contents.proofs.Strengths.{at_most_itself}
+use Rattle.qm_solids.proofs.Insides.{behind_all, inside_of_behind, inside_in_front_of_none}
+use Rattle.qm_solids.proofs.ContentsLaws.{none_has}
+use Rattle.qm_brush.specs.Brushes.{contents_of_brush}
+use Rattle.qm_brush.specs.Solids.{filled_with, drawn_solids}
+use Rattle.qm_brush.proofs.DrawnSolids.{one_solid}
+use Rattle.qm_partition.specs.declared.node.Leaf.{Leaf}
+use Rattle.qm_compile.specs.Chain.{last_contents, tree_of_walk, tree_of_first, tree_of, open_leaf}
+use Rattle.qm_compile.specs.GivesContents.{GivesContents}
+use Rattle.qm_compile.specs.OneBrush.{IsOneBrushMap}
 use Rattle.qm_compile.specs.Walk.{Walk, walk_of}
 use Rattle.qm_compile.proofs.ChainContents.{IsLedRight, planes_stand, chain_leads_right}
 use Rattle.qm_compile.proofs.KnownSides.{by_test}
 use Rattle.qm_compile.proofs.SideValues.{sides_of_faces}
-use Rattle.qm_compile.proofs.WalkRight.{IsRight, walk_is_right}
+use Rattle.qm_compile.proofs.WalkRight.{IsBehindAll, IsNotInFrontOfAny, IsRight, walk_is_right}
 
 -- The tree of a map of one brush gives each point the contents that the brush defines there.
 
--- a point that is behind each face is in front of none
-not_in_front : (faces : List Face) (x : Point) → IsBehindAll faces x → IsNotInFrontOfAny faces x
-not_in_front [] x behind = tt
-not_in_front (face ∷ faces) x behind = (omega (arith, ints, behind.0), not_in_front faces x behind.1)
+-- what is said of each outward plane is said of each face
+of_each_face : (P : Plane → Type 0) (faces : List Face) → All P (map face_outward faces) → All (λ face. P (face_outward face)) faces
+of_each_face P [] all = All-nil (λ face. P (face_outward face))
+of_each_face P (face ∷ faces) all =
+    All-cons (λ face. P (face_outward face)) face faces (All-head P (face_outward face) (map face_outward faces) all) (of_each_face P faces (All-tail P (face_outward face) (map face_outward faces) all))
 
--- the only brush of a list of one
-only_one : (one other : Brush) → Contains (one ∷ []) other → one ≡ other
-only_one one other among = elim (Contains-push_cases [] one other among) [ inl none ↦ absurd (omega (arith, none.1)) | inr same ↦ same ]
+module _ (brush : Brush) (contents : Contents) where
+  abbrev solid : Solid
+  solid = filled_with brush contents
 
--- no contents are stronger than themselves
-at_most_itself : (a b : Contents) → a ≡ b → IsAtMost a b
-at_most_itself a b same = subst (λ (c : Contents). IsAtMost a c) same (omega arith)
+  -- a point strictly inside the solid is behind each face, and conversely
+  behind_faces : (x : Point) → IsInside solid x → IsBehindAll brush.faces x
+  behind_faces x inside = recursion_from_All (λ face. IsBehind (face_outward face) x) brush.faces (of_each_face (λ h. IsBehind h x) brush.faces (behind_all solid.outward x inside))
 
-module _ (meant : MapFile) (brush : Brush) (contents : Contents) (one : IsOneBrushMap meant brush) (filled : contents_of_brush brush ≡ Some contents) where
-  -- the only brush that can hold a point
-  held_by : (x : Point) (other : Brush) (its : Contents) → IsHeldBy meant x other its → Holds brush x × (its ≡ contents)
-  held_by x other its held =
-      let among = subst (λ (brushes : List Brush). Contains brushes other) one held.drawn in
-      let same : brush ≡ other = only_one brush other among in
-      let both : Some its ≡ Some contents = sym held.its_contents ∙ sym (ap contents_of_brush same) ∙ filled in
-      (subst (λ (b : Brush). Holds b x) (sym same) held.holds, cc)
+  inside_faces : (x : Point) → IsBehindAll brush.faces x → IsInside solid x
+  inside_faces x behind =
+      inside_of_behind solid.outward x (All-map (λ h. IsBehind h x) face_outward brush.faces (All-from_recursion (λ face. IsBehind (face_outward face) x) brush.faces behind))
 
-  -- a point that the brush does not hold is empty
-  is_empty : (x : Point) → (Holds brush x → ⊥) → HasContents meant x Empty
-  is_empty x free = record { given = inl refl; strongest = λ other its held. absurd (free (held_by x other its held).0) }
+  -- a point that the solid holds is in front of no face
+  not_in_front : (x : Point) → Holds solid x → IsNotInFrontOfAny brush.faces x
+  not_in_front x holds = recursion_from_All (λ face. value (face_outward face) x ≤ℤ pos 0) brush.faces (of_each_face (λ h. value h x ≤ℤ pos 0) brush.faces holds.not_in_front)
+
+  -- the only solid that can hold a point
+  held_by : (x : Point) (other : Solid) → IsOneThat (λ s. Holds s x) (solid ∷ []) other → solid ≡ other
+  held_by x other held = All-contains (λ s. solid ≡ s) (solid ∷ []) other (All-from_recursion (λ s. solid ≡ s) (solid ∷ []) (refl, tt)) held.listed
+
+  -- a point that it does not hold is empty
+  is_empty : (x : Point) → (Holds solid x → ⊥) → HasContents (solid ∷ []) x Empty
+  is_empty x free = none_has (λ s. Holds s x) (solid ∷ []) (λ other held. free (subst (λ (s : Solid). Holds s x) (sym (held_by x other held)) held.has))
 
   -- a point behind all faces has the brush's contents
-  is_filled : (x : Point) → IsInCube x → IsBehindAll brush.faces x → HasContents meant x contents
+  is_filled : (x : Point) → IsInCube x → IsBehindAll brush.faces x → HasContents (solid ∷ []) x contents
   is_filled x in_cube behind =
-      let full : IsFull brush = record { within = x; in_cube = in_cube; behind = behind } in
-      let drawn : Contains (drawn_brushes meant) brush = subst (λ (brushes : List Brush). Contains brushes brush) (sym one) (0, omega arith, refl) in
-      let held : IsHeldBy meant x brush contents = record { drawn = drawn; its_contents = filled; holds = record { full = full; not_in_front = not_in_front brush.faces x behind } } in
+      let inside = inside_faces x behind in
+      let holds : Holds solid x = record {
+        full = record { within = x; in_cube = in_cube; inside = inside };
+        not_in_front = inside_in_front_of_none solid x inside;
+      } in
       record {
-        given = inr (brush, held);
-        strongest = λ other its held. at_most_itself its contents (held_by x other its held).1;
+        given = inr (solid, record { listed = (0, omega arith, refl); has = holds }, refl);
+        strongest = λ other held. at_most_itself other.contents contents (sym (ap (λ (s : Solid). s.contents) (held_by x other held)));
       }
 
-  -- a leaf that is right for the sides of a walk has the contents that the map defines
-  right_contents : (walk : Walk) → ((y : Point) → IsRight y [] brush.faces walk) → (x : Point) (found : Leaf) → IsInCube x → IsLedRight (last_contents walk contents) found walk.sides x → HasContents meant x found.contents
+  -- a leaf that is right for the sides of a walk has the contents that the solid defines
+  right_contents : (walk : Walk) → ((y : Point) → IsRight y [] brush.faces walk) → (x : Point) (found : Leaf) → IsInCube x → IsLedRight (last_contents walk contents) found walk.sides x → HasContents (solid ∷ []) x found.contents
   right_contents walk right x found in_cube (inl led) =
       by_test walk.is_opposed
       (λ opposed.
       let last : found ≡ open_leaf Empty = led.0 ∙ rw opposed refl in
-      rw last (is_empty x (λ holds. (right holds.full.within).opposed opposed tt holds.full.behind)))
+      rw last (is_empty x (λ holds. (right holds.full.within).opposed opposed tt (behind_faces holds.full.within holds.full.inside))))
       (λ unopposed.
       let last : found ≡ open_leaf contents = led.0 ∙ rw unopposed refl in
       rw last (is_filled x in_cube ((right x).inside led.1 unopposed).1))
   right_contents walk right x found in_cube (inr led) =
-      rw led.0 (is_empty x (λ holds. led.1 ((right x).outside holds.not_in_front tt)))
+      rw led.0 (is_empty x (λ holds. led.1 ((right x).outside (not_in_front x holds) tt)))
 
-  walk_gives : (walk : Walk) → ((y : Point) → IsRight y [] brush.faces walk) → GivesContents (tree_of_walk walk contents) meant
+  walk_gives : (walk : Walk) → ((y : Point) → IsRight y [] brush.faces walk) → GivesContents (tree_of_walk walk contents) (solid ∷ [])
   unfolding GivesContents
   walk_gives walk right x in_cube off =
       right_contents walk right x _ in_cube (chain_leads_right _ x (last_contents walk contents) 0 walk.sides (planes_stand x walk.sides) off)
 
 -- the walk along all faces is right
-walk_of_is_right : (faces : List Face) → AreValidFaces faces → (y : Point) → IsRight y [] faces (walk_of faces)
+walk_of_is_right : (faces : List Face) → All IsValidFace faces → (y : Point) → IsRight y [] faces (walk_of faces)
 unfolding walk_of
 walk_of_is_right faces valid y = walk_is_right y [] faces (sides_of_faces y faces valid)
 
 -- the tree of a map of one brush is the brush's
-pub tree_of-one_brush : (meant : MapFile) (brush : Brush) (contents : Contents) → IsOneBrushMap meant brush → contents_of_brush brush ≡ Some contents → tree_of meant ≡ tree_of_walk (walk_of brush.faces) contents
+pub tree_of-one_brush : (map : MapFile) (brush : Brush) (contents : Contents) → IsOneBrushMap map brush → contents_of_brush brush ≡ Some contents → tree_of map ≡ tree_of_walk (walk_of brush.faces) contents
 unfolding tree_of
-tree_of-one_brush meant brush contents one filled =
+tree_of-one_brush map brush contents one filled =
     ap tree_of_first one ∙ ap (λ (its : Option Contents). tree_of_walk (walk_of brush.faces) (unwrap_or its Empty)) filled
 
 -- the tree of a map of one brush gives each point the contents that the map defines there
-pub one_brush_gives : (meant : MapFile) (brush : Brush) (contents : Contents) → IsOneBrushMap meant brush → contents_of_brush brush ≡ Some contents → AreValidFaces brush.faces → GivesContents (tree_of meant) meant
-one_brush_gives meant brush contents one filled valid =
-    rw (tree_of-one_brush meant brush contents one filled) (walk_gives meant brush contents one filled (walk_of brush.faces) (walk_of_is_right brush.faces valid))
+pub one_brush_gives : (map : MapFile) (brush : Brush) (contents : Contents) → IsOneBrushMap map brush → contents_of_brush brush ≡ Some contents → All IsValidFace brush.faces → GivesContents (tree_of map) (drawn_solids map)
+one_brush_gives map brush contents one filled valid =
+    rw (tree_of-one_brush map brush contents one filled, one_solid map brush contents one filled) (walk_gives brush contents (walk_of brush.faces) (walk_of_is_right brush.faces valid))

@@ -1,11 +1,10 @@
-use Rattle.std.proofs.Common.{◌≡◌, pos, ◌<ℤ◌, Bool, true, false, List, [], ◌∷◌, ◌++◌, Option, Some, None, refl, arith}
+use Rattle.std.proofs.Common.{◌≡◌, pos, ◌<ℤ◌, ◌≤ℤ◌, Bool, true, false, List, [], ◌∷◌, ◌++◌, Option, Some, None, refl, arith}
 use Rattle.std.specs.List.{AllByRecursion}
 use Rattle.std.proofs.lemmas.Int.{ints}
 use Rattle.qm_space.specs.Point.{Point}
-use Rattle.qm_space.specs.Plane.{Plane, value}
+use Rattle.qm_space.specs.Plane.{Plane, value, IsBehind}
 use Rattle.qm_mapfile.specs.declared.face.Face.{Face}
 use Rattle.qm_mapfile.specs.Face.{face_plane, face_outward}
-use Rattle.qm_compile.specs.Contents.{IsBehindAll, IsNotInFrontOfAny}
 use Rattle.qm_compile.specs.Sides.{Side, outside_of, joined}
 use Rattle.qm_compile.specs.Walk.{Walk, walk_on}
 use Rattle.qm_compile.proofs.KnownSides.{at_known_side}
@@ -13,6 +12,14 @@ use Rattle.qm_compile.proofs.WalkSteps.{walk_from}
 use Rattle.qm_compile.proofs.SideValues.{outer_value, IsWithin, IsNotOutside, HaveOneSign, FaceSides}
 
 -- What the sides that a walk finds say of a point's sides of the faces.
+
+-- strictly behind each face
+abbrev pub IsBehindAll : List Face → Point → Type 0
+IsBehindAll faces x = AllByRecursion (λ face. IsBehind (face_outward face) x) faces
+
+-- behind or on each face
+abbrev pub IsNotInFrontOfAny : List Face → Point → Type 0
+IsNotInFrontOfAny faces x = AllByRecursion (λ face. value (face_outward face) x ≤ℤ pos 0) faces
 
 -- of the sides found before, the faces from there on, and what the walk along them finds
 pub record IsRight (x : Point) (before : List Side) (faces : List Face) (walk : Walk) : Type 0 where

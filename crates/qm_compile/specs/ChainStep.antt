@@ -1,7 +1,7 @@
 use Rattle.std.specs.Prelude.{ℕ, ◌+◌, Bool, true, false, ◌==◌, if◌then◌else◌}
-use Rattle.qm_compile.specs.declared.tree.Node.{Node as NodeRecord}
-use Rattle.qm_compile.specs.declared.tree.Child.{Child}
-use Rattle.qm_compile.specs.declared.tree.Child.TheVariants.{Node, Leaf}
+use Rattle.qm_partition.specs.declared.node.Node.{Node as NodeRecord}
+use Rattle.qm_partition.specs.declared.node.Child.{Child}
+use Rattle.qm_partition.specs.declared.node.Child.TheVariants.{Node, Leaf}
 
 -- the child that goes on with so many sides of a chain: a leaf where there is none
 abbrev pub inner_child : ℕ → ℕ → ℕ → Child

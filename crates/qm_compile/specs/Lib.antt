@@ -1,11 +1,10 @@
-pub mod Brushes
 pub mod Chain
 pub mod ChainStep
 pub mod Command
-pub mod Contents
 pub mod FaultText
+pub mod GivesContents
 pub mod Made
-pub mod Numbering
+pub mod OneBrush
 pub mod Outcome
 pub mod Product
 pub mod Run
@@ -13,6 +12,5 @@ pub mod SideLists
 pub mod Sides
 pub mod StatusNumber
 pub mod Texts
-pub mod Tree
 pub mod TreeFile
 pub mod Walk

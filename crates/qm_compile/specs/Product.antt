@@ -6,8 +6,10 @@ use Rattle.qm_grammar.specs.Meaning.{IsMapText}
 use Rattle.qm_mapout.specs.Printed.{printed}
 use Rattle.qm_compile.specs.declared.job.Job.{Job}
 use Rattle.qm_compile.specs.declared.job.Job.TheVariants.{Compile, Format}
-use Rattle.qm_compile.specs.Brushes.{IsOneBrushMap}
-use Rattle.qm_compile.specs.Chain.{tree_of, GivesContents}
+use Rattle.qm_brush.specs.Solids.{drawn_solids}
+use Rattle.qm_compile.specs.Chain.{tree_of}
+use Rattle.qm_compile.specs.GivesContents.{GivesContents}
+use Rattle.qm_compile.specs.OneBrush.{IsOneBrushMap}
 use Rattle.qm_compile.specs.Texts.{count_line, summary_of}
 use Rattle.qm_compile.specs.TreeFile.{file_of}
 
@@ -44,7 +46,7 @@ Takes Format meant = Unit {0}
 -- what the file says of the map: the tree gives each point the contents that the map's brushes define there; the
 -- text means the map, where it is within the limit
 unfoldable pub IsTrueTo : Job → MapFile → Type 0
-IsTrueTo Compile meant = GivesContents (tree_of meant) meant
+IsTrueTo Compile meant = GivesContents (tree_of meant) (drawn_solids meant)
 IsTrueTo Format meant = length (printed meant) ≤ text_limit → IsMapText (printed meant) meant
 
 -- the file and the report of a map that is taken

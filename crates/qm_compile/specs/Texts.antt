@@ -1,10 +1,10 @@
 use Rattle.std.specs.Prelude.{ℕ, List, [], ◌∷◌, ◌++◌, length, codes}
 use Rattle.std.specs.Fmt.{decimal}
 use Rattle.qm_mapfile.specs.declared.entity.MapFile.{MapFile}
-use Rattle.qm_compile.specs.Brushes.{drawn_brushes}
-use Rattle.qm_compile.specs.Numbering.{node_count, leaf_count}
+use Rattle.qm_brush.specs.Brushes.{drawn_brushes}
+use Rattle.qm_partition.specs.Counting.{node_count, leaf_count}
 use Rattle.qm_compile.specs.Chain.{tree_of}
-use Rattle.qm_compile.specs.Tree.{TreeWithPlanes}
+use Rattle.qm_partition.specs.Tree.{Tree}
 
 -- The texts that the program prints; each line ends with the byte 10.
 
@@ -28,10 +28,10 @@ abbrev pub count_line : List ℕ → ℕ → List ℕ
 count_line name count = line (name ++ (32 ∷ decimal count))
 
 -- how many brushes there are, and how many planes, nodes and leaves their tree has
-unfoldable pub tree_summary : ℕ → TreeWithPlanes → List ℕ
+unfoldable pub tree_summary : ℕ → Tree → List ℕ
 tree_summary brushes built =
     count_line (codes "brushes") brushes
-    ++ (count_line (codes "planes") (length built.planes) ++ (count_line (codes "nodes") (node_count built.tree) ++ count_line (codes "leaves") (leaf_count built.tree)))
+    ++ (count_line (codes "planes") (length built.planes) ++ (count_line (codes "nodes") (node_count built.shape) ++ count_line (codes "leaves") (leaf_count built.shape)))
 
 -- the summary of a map, of whose world the brushes that are not clip count
 unfoldable pub summary_of : MapFile → List ℕ

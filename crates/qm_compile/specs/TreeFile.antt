@@ -4,12 +4,13 @@ use Rattle.qm_space.specs.Plane.{Plane}
 use Rattle.qm_contents.specs.declared.contents.Contents.{Contents}
 use Rattle.qm_contents.specs.declared.contents.Contents.TheVariants.{Solid}
 use Rattle.qm_contents.specs.Codes.{code_of}
-use Rattle.qm_compile.specs.declared.tree.Leaf.{Leaf as LeafRecord}
-use Rattle.qm_compile.specs.declared.tree.Node.{Node as NodeRecord}
-use Rattle.qm_compile.specs.declared.tree.Child.{Child}
-use Rattle.qm_compile.specs.declared.tree.Child.TheVariants.{Node, Leaf}
-use Rattle.qm_compile.specs.Tree.{TreeWithPlanes}
-use Rattle.qm_compile.specs.Numbering.{nodes_of, leaves_of}
+use Rattle.qm_partition.specs.declared.node.Leaf.{Leaf as LeafRecord}
+use Rattle.qm_partition.specs.declared.node.Node.{Node as NodeRecord}
+use Rattle.qm_partition.specs.declared.node.Child.{Child}
+use Rattle.qm_partition.specs.declared.node.Child.TheVariants.{Node, Leaf}
+use Rattle.qm_partition.specs.Tree.{Tree}
+use Rattle.qm_partition.specs.Counting.{leaves_of}
+use Rattle.qm_partition.specs.Numbering.{nodes_of}
 
 -- All numbers are little-endian; signed ones are in two's complement.
 
@@ -62,5 +63,5 @@ file_bytes planes nodes leaves =
     ++ (flat_map plane_bytes planes ++ (flat_map node_bytes nodes ++ flat_map leaf_bytes leaves))
 
 -- the tree file of a tree, whose nodes and leaves are numbered front first
-unfoldable pub file_of : TreeWithPlanes → List ℕ
-file_of built = file_bytes built.planes (nodes_of built.tree 0 0) (leaves_of built.tree)
+unfoldable pub file_of : Tree → List ℕ
+file_of built = file_bytes built.planes (nodes_of built.shape 0 0) (leaves_of built.shape)

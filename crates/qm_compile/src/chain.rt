@@ -4,10 +4,11 @@ ghost use Rattle.std.specs.Prelude.{◌≡◌, ◌+◌, ◌-◌, ◌≤◌, ◌<
 ghost use Rattle.qm_contents.specs.declared.contents.Contents.{Contents};
 ghost use Rattle.qm_compile.specs.Chain.{chain};
 ghost use Rattle.qm_compile.specs.ChainStep.{chain_node};
-ghost use Rattle.qm_compile.specs.Numbering.{nodes_of, leaves_of};
+ghost use Rattle.qm_partition.specs.Counting.{leaves_of};
+ghost use Rattle.qm_partition.specs.Numbering.{nodes_of};
 
-use crate::tree::{Child, Leaf, Node};
 use qm_contents::Contents;
+use qm_partition::{Child, Leaf, Node};
 use std::alloc::{AllocError, Global};
 
 /// The node of the side `plane` of a chain with `inner_sides` sides inside it, where `before` leaves

@@ -1,9 +1,8 @@
 //! From a map to the bytes of its tree file.
 
-ghost use Rattle.std.specs.Prelude.{◌≡◌, ◌++◌, if◌then◌else◌, IfOk, MatchOption, codes, string_bytes};
-ghost use Rattle.qm_grammar.specs.Valid.{IsValid};
+ghost use Rattle.std.specs.Prelude.{◌≡◌, ◌≤◌, ◌^◌, ◌++◌, length, All, if◌then◌else◌, IfOk, MatchOption, codes, string_bytes};
+ghost use Rattle.qm_grammar.specs.Valid.{IsValid, IsValidFace};
 ghost use Rattle.qm_compile.specs.declared.job.Job.TheVariants.{Compile};
-ghost use Rattle.qm_compile.specs.Brushes.{AreValidFaces};
 ghost use Rattle.qm_compile.specs.Chain.{tree_of_walk};
 ghost use Rattle.qm_compile.specs.Product.{IsProduct, HasNoOneBrush};
 ghost use Rattle.qm_compile.specs.Texts.{count_line, tree_summary};
@@ -13,9 +12,10 @@ ghost use Rattle.qm_compile.specs.Walk.{walk_of};
 use crate::chain::{leaves_of_chain, nodes_of_chain};
 use crate::counts::put_count;
 use crate::made::Product;
-use crate::one_brush::{contents_of_brush, one_brush};
+use crate::one_brush::one_brush;
 use crate::tree_file::encode;
 use crate::walk::{Walk, walk_along};
+use qm_brush::contents_of_brush;
 use qm_contents::Contents;
 use qm_mapfile::{Face, MapFile};
 use std::alloc::{AllocError, Global};
@@ -37,7 +37,8 @@ pub fn compile(alloc: Global, map: &MapFile) -> Result<Option<Product>, AllocErr
 
 /// Compiles the one brush of a map, which has these faces and contents, to a chain.
 fn compile_faces(alloc: Global, faces: &[Face], contents: Contents) -> Result<Product, AllocError>
-    requires { AreValidFaces faces.now }
+    requires few { length faces.now ≤ 2 ^ 26 }
+    requires valid { All IsValidFace faces.now }
     ensures file { IfOk result
         (λ product. product.file.items ≡ file_of (tree_of_walk (walk_of faces.now) contents)) }
     ensures report { IfOk result

@@ -17,7 +17,6 @@ mod reading;
 mod status;
 #[cfg(test)]
 mod tests;
-mod tree;
 mod tree_file;
 mod walk;
 mod writing;

@@ -3,10 +3,10 @@
 ghost use Rattle.std.specs.Prelude.{◌≡◌, ◌+◌, ◌<◌, ◌^◌, ◌++◌, IfOk, OnOk, length, count_by};
 ghost use Rattle.qm_compile.specs.TreeFile.{count_bytes, component_bytes, distance_bytes, plane_bytes, child_bytes, node_bytes, leaf_bytes, header_bytes, file_bytes, is_open};
 
-use crate::tree::{Child, Leaf, Node};
 use qm_contents::{Contents, code};
 use qm_geom::Plane;
 use qm_lists::{Encoding, append_all};
+use qm_partition::{Child, Leaf, Node};
 use std::alloc::{AllocError, Global};
 
 /// The bytes before the planes, of each plane, of each node and of each leaf.

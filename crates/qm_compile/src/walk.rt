@@ -1,9 +1,10 @@
 //! The walk along the faces of a brush, which finds the sides of its chain.
 
-ghost use Rattle.std.specs.Prelude.{◌≡◌, ◌<◌, ◌≤◌, ◌+◌, ◌-◌, ◌^◌, List, length, vec_len, IfOk, IsTrue};
+ghost use Rattle.std.specs.Prelude.{◌≡◌, ◌<◌, ◌≤◌, ◌+◌, ◌-◌, ◌^◌, List, length, vec_len, IfOk, IsTrue, All};
+ghost use Rattle.qm_space.specs.Point.{AreCoordinates};
 ghost use Rattle.qm_space.specs.Reduced.{leads_positive};
 ghost use Rattle.qm_mapfile.specs.Face.{HasPlane, face_plane};
-ghost use Rattle.qm_compile.specs.Brushes.{HasCoordinates, AreValidFaces};
+ghost use Rattle.qm_grammar.specs.Valid.{IsValidFace};
 ghost use Rattle.qm_compile.specs.Sides.{Side};
 ghost use Rattle.qm_compile.specs.SideLists.{AreSides, IsJoined, IsWalk};
 ghost use Rattle.qm_compile.specs.Walk.{walk_of};
@@ -24,7 +25,8 @@ pub struct Walk {
 /// Walks along the faces of a brush in their order, to the end or to the first face that is turned
 /// against an earlier one on its plane, which leaves nothing inside.
 pub fn walk_along(alloc: Global, faces: &[Face]) -> Result<Walk, AllocError>
-    requires { AreValidFaces faces.now }
+    requires few { length faces.now ≤ 2 ^ 26 }
+    requires valid { All IsValidFace faces.now }
     ensures walked { IfOk result
         (λ walk. IsWalk (walk_of faces.now) walk.planes walk.out_is_front.items walk.is_opposed) }
     ensures few { IfOk result (λ walk. length walk.planes ≤ length faces.now) }
@@ -73,7 +75,7 @@ fn join_side(
 
 /// The plane of a face, and whether outward is its front.
 fn plane_of_face(face: &Face) -> (Plane, bool)
-    requires coordinates { HasCoordinates face.now }
+    requires coordinates { All AreCoordinates face.now.points }
     requires plane { HasPlane face.now }
     ensures value { result ≡ face_plane face.now }
     ensures leads { IsTrue (leads_positive result.0) }

@@ -1,7 +1,7 @@
 use Rattle.std.proofs.Common.{◌≡◌, ◌≤◌, ◌++◌, drop}
 use Rattle.qm_contents.specs.declared.contents.Contents.{Contents}
 use Rattle.qm_compile.specs.Chain.{chain}
-use Rattle.qm_compile.specs.Numbering.{nodes_of}
+use Rattle.qm_partition.specs.Numbering.{nodes_of}
 use Rattle.qm_compile.proofs.chain.nodes_of_chain.Given as goal
 
 -- the nodes so far and those of the sides that are left are all nodes

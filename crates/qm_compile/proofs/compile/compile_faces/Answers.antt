@@ -1,7 +1,8 @@
 use Rattle.std.proofs.Common.{◌∙◌, refl, ap, sym, subst, List, Bool, length, arith}
 use Rattle.qm_space.specs.Plane.{Plane}
 use Rattle.qm_compile.specs.Chain.{chain, last_contents}
-use Rattle.qm_compile.specs.Numbering.{nodes_of, leaves_of}
+use Rattle.qm_partition.specs.Counting.{leaves_of}
+use Rattle.qm_partition.specs.Numbering.{nodes_of}
 use Rattle.qm_compile.specs.SideLists.{IsWalk}
 use Rattle.qm_compile.specs.Walk.{walk_of}
 use Rattle.qm_compile.proofs.ChainSizes.{IsBuilt, is_built, chain_lengths, chain_file, chain_summary}

@@ -1,5 +1,5 @@
 use Rattle.qm_compile.specs.Product.{file_for, report_of, Takes, IsTrueTo}
-use Rattle.qm_compile.proofs.ValidBrushes.{brush_count-few}
+use Rattle.qm_compile.proofs.BrushCounts.{brush_count-few}
 use Rattle.qm_compile.proofs.format.format.Goals as goal
 
 pub counts-requires : goal.counts-requires

@@ -2,7 +2,7 @@ use Rattle.std.proofs.Common.{◌∙◌, List, sym, ap, filter, arith}
 use Rattle.std.specs.Prelude.{is_some}
 use Rattle.std.specs.Option.{option_copied}
 use Rattle.qm_mapfile.specs.declared.entity.Brush.{Brush}
-use Rattle.qm_compile.specs.Brushes.{is_drawn}
+use Rattle.qm_brush.specs.Brushes.{is_drawn}
 use Rattle.qm_compile.proofs.DrawnBrushes.{second_drawn, copied_is_some}
 use Rattle.qm_compile.proofs.one_brush.one_brush.Goals as goal
 

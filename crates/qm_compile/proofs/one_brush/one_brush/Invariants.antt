@@ -1,6 +1,6 @@
 use Rattle.std.proofs.Common.{◌≡◌, take, filter}
 use Rattle.std.specs.Option.{option_copied, option_to_list}
-use Rattle.qm_compile.specs.Brushes.{is_drawn}
+use Rattle.qm_brush.specs.Brushes.{is_drawn}
 use Rattle.qm_compile.proofs.one_brush.one_brush.Given as goal
 
 -- what was found are the drawn brushes so far

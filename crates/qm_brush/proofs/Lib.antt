@@ -1,0 +1,3 @@
+pub mod ValidBrushes
+pub mod DrawnSolids
+pub mod Samples

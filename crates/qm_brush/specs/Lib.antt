@@ -1,0 +1,2 @@
+pub mod Brushes
+pub mod Solids

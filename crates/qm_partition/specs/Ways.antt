@@ -1,0 +1,35 @@
+use Rattle.std.specs.Prelude.{◌≡◌, ℕ, Bool, true, false, List, [], ◌∷◌, ◌++◌, Some, map, slice_get}
+use Rattle.qm_space.specs.Plane.{Plane}
+use Rattle.qm_space.specs.Turned.{turned}
+use Rattle.qm_partition.specs.declared.step.Step.{Step}
+use Rattle.qm_partition.specs.declared.node.Leaf.{Leaf}
+use Rattle.qm_partition.specs.Partition.{Partition, leaf, node}
+use Rattle.qm_partition.specs.Counting.{leaves_of}
+use Rattle.qm_partition.specs.Tree.{plane_at}
+
+-- a way down from the root: its steps, the root's first
+abbrev pub Way : Type 0
+Way = List Step
+
+-- a way with one step before it
+abbrev pub after_step : ℕ → Bool → Way → Way
+after_step n to_front way = record { plane = n; front = to_front } ∷ way
+
+-- the ways down to the leaves, in the order of the leaves
+abbrev pub ways : Partition → List Way
+ways (leaf found) = [] ∷ []
+ways (node n front back) = map (after_step n true) (ways front) ++ map (after_step n false) (ways back)
+
+-- the way to the leaf of number k, and that leaf
+pub record LeadsTo (shape : Partition) (k : ℕ) (way : Way) (found : Leaf) : Type 0 where
+  pub way_is : slice_get (ways shape) k ≡ Some way
+  pub leaf_is : slice_get (leaves_of shape) k ≡ Some found
+
+-- the plane of a step, turned to the side to which the step leads
+abbrev pub turned_to : List Plane → Step → Plane
+turned_to planes step = turned step.front (plane_at planes step.plane)
+
+-- the cell of a way: the planes of its steps, each turned to the side to which the step leads; the points of a leaf are
+-- those of the cube in the cell of the way to the leaf
+abbrev pub cell_of : List Plane → Way → List Plane
+cell_of planes way = map (turned_to planes) way

@@ -1,0 +1,6 @@
+pub mod Insides
+pub mod ContentsLaws
+pub mod FlatSolids
+pub mod CellLaws
+pub mod Samples
+pub mod CellSamples
