@@ -1,0 +1,28 @@
+use Rattle.std.specs.Prelude.{ℕ, ◌≡◌, ◌+◌, ◌⊎◌, IsTrue, List, take, Some}
+use Rattle.qm_shelf.specs.ShelfState.{ShelfState, text_under}
+
+-- Files that are read and written whole.
+
+-- as much of a text as is read: one byte past a limit is enough to know that it is too long
+unfoldable pub up_to_limit : ℕ → List ℕ → List ℕ
+up_to_limit limit text = take (limit + 1) text
+
+-- where the shelf tells what it holds, these bytes are the text under a name, as far as it is read
+abbrev pub IsReadFrom : ShelfState → List ℕ → ℕ → List ℕ → Type 0
+IsReadFrom shelf name limit bytes = IsTrue shelf.tells → bytes ≡ up_to_limit limit (text_under shelf name)
+
+-- the file has exactly these bytes
+abbrev pub HoldsAll : ShelfState → List ℕ → List ℕ → Type 0
+HoldsAll shelf name bytes = shelf.held name ≡ Some bytes
+
+-- the file has some of the first of these bytes: none, all, or any number between
+abbrev pub HoldsPrefix : ShelfState → List ℕ → List ℕ → Type 0
+HoldsPrefix shelf name bytes = (count : ℕ) × (shelf.held name ≡ Some (take count bytes))
+
+-- the file is as it was
+abbrev pub HoldsTheSame : ShelfState → ShelfState → List ℕ → Type 0
+HoldsTheSame before after name = after.held name ≡ before.held name
+
+-- writing these bytes was not begun or not ended: the file is as it was, or has some of the first of them
+abbrev pub HoldsUnfinished : ShelfState → ShelfState → List ℕ → List ℕ → Type 0
+HoldsUnfinished before after name bytes = HoldsTheSame before after name ⊎ HoldsPrefix after name bytes
