@@ -5,9 +5,11 @@
 
 mod calls;
 mod file_map;
+mod file_name;
 pub mod folder_shelf;
 pub mod mem_shelf;
 pub mod mem_sink;
+mod open_file;
 pub mod reading;
 pub mod shelf;
 pub mod sink;
