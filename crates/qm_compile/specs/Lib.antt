@@ -1,6 +1,7 @@
 pub mod Brushes
 pub mod Chain
 pub mod ChainStep
+pub mod ComesOf
 pub mod Command
 pub mod Contents
 pub mod FaultText
@@ -8,11 +9,11 @@ pub mod Made
 pub mod Numbering
 pub mod Outcome
 pub mod Product
-pub mod ReadTexts
 pub mod Run
 pub mod SideLists
 pub mod Sides
 pub mod StatusNumber
+pub mod TextMeans
 pub mod Texts
 pub mod Tree
 pub mod TreeFile

@@ -38,3 +38,11 @@ module _ (before between after : ShelfState) where
     reads = stays_twice _ _ _ none.reads reads;
     writes = stays_twice _ _ _ none.writes counted;
   }
+
+  -- what a fault of writing means is so from an earlier moment too, where no call before it failed
+  pub write_fault_twice : (fault : ShelfFault) (name : List ℕ) → MetNoFault before between → WriteFaultMeans between after name fault → WriteFaultMeans before after name fault
+  write_fault_twice Failed name none fails = record {
+    rose = subst (λ (count : ℕ). Rose count (after.write_faults name)) (none.writes name) fails.rose;
+    reads = stays_twice _ _ _ none.reads fails.reads;
+  }
+  write_fault_twice Memory name none same = no_fault_twice none same

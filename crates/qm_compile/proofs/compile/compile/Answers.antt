@@ -29,5 +29,5 @@ returns c =
     let filled = sym c.contents_of_brush.ensures ∙ c.unwrap-contents.ensures in
     let valid = one-valid meant brush one (valid_brushes meant c.requires) in
     let file_is = c.in_ok-product.ensures.file ∙ ap (λ (faces : List Face). file_of (tree_of_walk (walk_of faces) contents)) c.as_slice.ensures in
-    let summary_is = c.in_ok-product.ensures.report ∙ ap (λ (faces : List Face). tree_summary 1 (tree_of_walk (walk_of faces) contents)) c.as_slice.ensures in
+    let summary_is = c.in_ok-product.ensures.summary ∙ ap (λ (faces : List Face). tree_summary 1 (tree_of_walk (walk_of faces) contents)) c.as_slice.ensures in
     compiled_one meant brush contents _ _ one filled valid file_is summary_is
