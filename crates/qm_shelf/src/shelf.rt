@@ -14,7 +14,7 @@ pub const FARTHEST_PLACE: u64 = 1_073_741_825;
 pub const PIECE: usize = 65_536;
 
 /// Why a call of a shelf did not do its work.
-#[derive(Clone, Copy, PartialEq, Eq, Debug)]
+#[derive(Clone, Copy)]
 pub enum ShelfFault {
     /// The outside failed, and the fault was counted.
     Failed,
