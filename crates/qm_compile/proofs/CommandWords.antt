@@ -1,11 +1,8 @@
-use Rattle.std.proofs.Common.{◌≡◌, ℕ, List, [], ◌∷◌, length, get_or, map, refl, arith}
+use Rattle.std.proofs.Common.{◌≡◌, ℕ, List, [], ◌∷◌, length, get_or, refl, arith}
 use Rattle.std.specs.Borrow.{Bor}
+use Rattle.qm_compile.specs.Command.{words_of}
 
 -- Three words as a slice of texts, and as their bytes.
-
--- the bytes of words
-abbrev pub bytes_of_words : List (Bor (List ℕ)) → List (List ℕ)
-bytes_of_words words = map (λ word. word.now) words
 
 -- three words are these three
 pub record AreThree (words : List (Bor (List ℕ))) (default : Bor (List ℕ)) (a b c : List ℕ) : Type 0 where
@@ -14,14 +11,14 @@ pub record AreThree (words : List (Bor (List ℕ))) (default : Bor (List ℕ)) (
   pub second : (get_or words 1 default).now ≡ b
   pub third : (get_or words 2 default).now ≡ c
 
-pub are_three : (words : List (Bor (List ℕ))) (default : Bor (List ℕ)) (a b c : List ℕ) → bytes_of_words words ≡ a ∷ b ∷ c ∷ [] → AreThree words default a b c
+pub are_three : (words : List (Bor (List ℕ))) (default : Bor (List ℕ)) (a b c : List ℕ) → words_of words ≡ a ∷ b ∷ c ∷ [] → AreThree words default a b c
 are_three [] default a b c e = cc
 are_three (x ∷ []) default a b c e = cc
 are_three (x ∷ y ∷ []) default a b c e = cc
 are_three (x ∷ y ∷ z ∷ []) default a b c e = record { three = refl; first = cc; second = cc; third = cc }
 are_three (x ∷ y ∷ z ∷ w ∷ ws) default a b c e = cc
 
-pub spelled_by_three : (words : List (Bor (List ℕ))) (default : Bor (List ℕ)) → length words ≡ 3 → bytes_of_words words ≡ (get_or words 0 default).now ∷ (get_or words 1 default).now ∷ (get_or words 2 default).now ∷ []
+pub spelled_by_three : (words : List (Bor (List ℕ))) (default : Bor (List ℕ)) → length words ≡ 3 → words_of words ≡ (get_or words 0 default).now ∷ (get_or words 1 default).now ∷ (get_or words 2 default).now ∷ []
 spelled_by_three [] default e = absurd (omega arith)
 spelled_by_three (x ∷ []) default e = absurd (omega arith)
 spelled_by_three (x ∷ y ∷ []) default e = absurd (omega arith)

@@ -4,12 +4,10 @@ pub mod ChainNumbering
 pub mod ChainSizes
 pub mod CommandWords
 pub mod CompiledOne
-pub mod Counted
 pub mod DrawnBrushes
 pub mod KnownSides
 pub mod MadeTexts
 pub mod Outcomes
-pub mod Pieces
 pub mod ReadMeanings
 pub mod Reported
 pub mod SideValues

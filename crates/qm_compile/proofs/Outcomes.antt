@@ -1,39 +1,45 @@
 use Rattle.std.proofs.Common.{◌≡◌, ℕ, List, Some, take, ◌⊎◌, inl, inr, ap, ◌∙◌, Ok}
 use Rattle.std.specs.Prelude.{IsTrue}
-use Rattle.qm_shelf.specs.Counts.{StaysElsewhere}
+use Rattle.qm_shelf.specs.ShelfState.{ShelfState}
+use Rattle.qm_shelf.specs.ShelfChanges.{IsKept, IsKeptElsewhere}
+use Rattle.qm_shelf.specs.WholeFiles.{IsReadFrom, HoldsTheSame, HoldsExactly, HoldsUnfinished}
 use Rattle.qm_mapfile.specs.declared.entity.MapFile.{MapFile}
+use Rattle.qm_grammar.specs.Faults.{text_limit}
 use Rattle.qm_grammar.specs.Meaning.{IsMapText}
-use Rattle.qm_compile.specs.declared.job.Job.{Job}
+use Rattle.qm_compile.specs.declared.command.Command.{Command}
+use Rattle.qm_compile.specs.ComesOf.{HoldsPart, IsUnfinished, IsDone}
 use Rattle.qm_compile.specs.Product.{IsProduct}
-use Rattle.qm_grammar.specs.CutText.{read_of}
-use Rattle.qm_compile.specs.Run.{ShelfState, text_under, IsKept, TextMeans, HoldsPart, IsUnfinished, IsDone}
+use Rattle.qm_compile.specs.TextMeans.{TextMeans}
 use Rattle.qm_compile.proofs.ReadMeanings.{text_means}
 
 -- What comes of reading a text, making a file of it and writing the file, one after another.
 
 -- nothing was written
-pub kept_unfinished : (before after : ShelfState) (job : Job) (map out : List ℕ) → IsKept before after → IsUnfinished before after job map out
-kept_unfinished before after job map out kept = record { others = λ name other. kept name; part = λ tells. inl (kept out) }
+pub kept_unfinished : (before after : ShelfState) (command : Command) (map_name out_name : List ℕ) → IsKept before after → IsUnfinished before after command map_name out_name
+kept_unfinished before after command map_name out_name kept = record {
+  others = λ name other. kept name;
+  part = λ tells. inl (kept out_name);
+}
 
-module _ (before between after : ShelfState) (job : Job) (map out text file report bytes : List ℕ) (read : IsTrue before.tells → text ≡ read_of (text_under before map)) (kept : IsKept before between) (meant : MapFile) (means : IsMapText text meant) (made : IsProduct job meant file report) (same : bytes ≡ file) (others : StaysElsewhere out between.held after.held) where
-  its_meaning : TextMeans before map (Ok meant)
-  its_meaning = text_means before map text (Ok meant) read means
+module _ (before between after : ShelfState) (command : Command) (map_name out_name text file summary bytes : List ℕ) (read : IsReadFrom before map_name text_limit text) (kept : IsKept before between) (map : MapFile) (means : IsMapText text map) (made : IsProduct command map file summary) (same : bytes ≡ file) (others : IsKeptElsewhere between after out_name) where
+  its_meaning : TextMeans before map_name (Ok map)
+  its_meaning = text_means before map_name text (Ok map) read means
 
   -- a part of the file was written, or nothing
-  part_written : (after.held out ≡ between.held out) ⊎ ((count : ℕ) × (after.held out ≡ Some (take count bytes))) → HoldsPart before after job map out
-  part_written (inl nothing) = inl (nothing ∙ kept out)
+  part_written : HoldsUnfinished between after out_name bytes → HoldsTheSame before after out_name ⊎ HoldsPart before after command map_name out_name
+  part_written (inl nothing) = inl (nothing ∙ kept out_name)
   part_written (inr part) =
-      inr (meant, part.0, its_meaning, made.takes, part.1 ∙ ap (λ (b : List ℕ). Some (take part.0 b)) (same ∙ made.is_file))
+      inr (map, its_meaning, made.takes, (part.0, part.1 ∙ ap (λ (b : List ℕ). Some (take part.0 b)) (same ∙ made.is_file)))
 
   -- writing the file stopped on the way
-  pub stopped_writing : (IsTrue before.tells → (after.held out ≡ between.held out) ⊎ ((count : ℕ) × (after.held out ≡ Some (take count bytes)))) → IsUnfinished before after job map out
+  pub stopped_writing : (IsTrue before.tells → HoldsUnfinished between after out_name bytes) → IsUnfinished before after command map_name out_name
   stopped_writing stopped = record {
     others = λ name other. others name other ∙ kept name;
     part = λ tells. part_written (stopped tells);
   }
 
   -- the file was written whole
-  pub all_written : (IsTrue before.tells → after.held out ≡ Some bytes) → IsDone before after job map out meant
+  pub all_written : (IsTrue before.tells → HoldsExactly after out_name bytes) → IsDone before after command map_name out_name map
   all_written wrote = record {
     others = λ name other. others name other ∙ kept name;
     file = λ tells. wrote tells ∙ ap (λ (b : List ℕ). Some b) (same ∙ made.is_file);

@@ -1,5 +1,6 @@
 pub mod Chain
 pub mod ChainStep
+pub mod ComesOf
 pub mod Command
 pub mod FaultText
 pub mod GivesContents
@@ -11,6 +12,7 @@ pub mod Run
 pub mod SideLists
 pub mod Sides
 pub mod StatusNumber
+pub mod TextMeans
 pub mod Texts
 pub mod TreeFile
 pub mod Walk

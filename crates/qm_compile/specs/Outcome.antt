@@ -7,7 +7,7 @@ use Rattle.qm_compile.specs.Texts.{usage_text, read_fault_text, write_fault_text
 
 -- the status of what came of a command
 abbrev pub status_of : Outcome → Status
-status_of (Done report) = status.Done
+status_of (Done summary) = status.Done
 status_of Usage = status.Usage
 status_of ReadFault = status.ReadFault
 status_of (MapFault text) = status.MapFault
@@ -16,7 +16,7 @@ status_of NotBuilt = status.NotBuilt
 
 -- the text that is printed of it
 abbrev pub text_of : Outcome → List ℕ
-text_of (Done report) = string_bytes report
+text_of (Done summary) = string_bytes summary
 text_of Usage = usage_text
 text_of ReadFault = read_fault_text
 text_of (MapFault text) = string_bytes text

@@ -34,5 +34,5 @@ tree_summary brushes built =
     ++ (count_line (codes "planes") (length built.planes) ++ (count_line (codes "nodes") (node_count built.shape) ++ count_line (codes "leaves") (leaf_count built.shape)))
 
 -- the summary of a map, of whose world the brushes that are not clip count
-unfoldable pub summary_of : MapFile → List ℕ
-summary_of meant = tree_summary (length (drawn_brushes meant)) (tree_of meant)
+unfoldable pub compile_summary : MapFile → List ℕ
+compile_summary map = tree_summary (length (drawn_brushes map)) (tree_of map)

@@ -2,7 +2,7 @@
 
 ghost use Rattle.std.specs.Prelude.{◌≡◌, ◌≤◌, ◌^◌, ◌++◌, length, All, if◌then◌else◌, IfOk, MatchOption, codes, string_bytes};
 ghost use Rattle.qm_grammar.specs.Valid.{IsValid, IsValidFace};
-ghost use Rattle.qm_compile.specs.declared.job.Job.TheVariants.{Compile};
+ghost use Rattle.qm_compile.specs.declared.command.Command.TheVariants.{Compile};
 ghost use Rattle.qm_compile.specs.Chain.{tree_of_walk};
 ghost use Rattle.qm_compile.specs.Product.{IsProduct, HasNoOneBrush};
 ghost use Rattle.qm_compile.specs.Texts.{count_line, tree_summary};
@@ -10,7 +10,7 @@ ghost use Rattle.qm_compile.specs.TreeFile.{file_of};
 ghost use Rattle.qm_compile.specs.Walk.{walk_of};
 
 use crate::chain::{leaves_of_chain, nodes_of_chain};
-use crate::counts::put_count;
+use crate::count_lines::put_count_line;
 use crate::made::Product;
 use crate::one_brush::one_brush;
 use crate::tree_file::encode;
@@ -25,7 +25,7 @@ use std::alloc::{AllocError, Global};
 pub fn compile(alloc: Global, map: &MapFile) -> Result<Option<Product>, AllocError>
     requires { IsValid map.now }
     ensures { IfOk result (λ found. MatchOption found (HasNoOneBrush map.now)
-        (λ product. IsProduct Compile map.now product.file.items (string_bytes product.report))) }
+        (λ product. IsProduct Compile map.now product.file.items (string_bytes product.summary))) }
 {
     let Some(brush) = one_brush(map) else {
         return Ok(None);
@@ -41,8 +41,8 @@ fn compile_faces(alloc: Global, faces: &[Face], contents: Contents) -> Result<Pr
     requires valid { All IsValidFace faces.now }
     ensures file { IfOk result
         (λ product. product.file.items ≡ file_of (tree_of_walk (walk_of faces.now) contents)) }
-    ensures report { IfOk result
-        (λ product. string_bytes product.report ≡ tree_summary 1 (tree_of_walk (walk_of faces.now) contents)) }
+    ensures summary { IfOk result
+        (λ product. string_bytes product.summary ≡ tree_summary 1 (tree_of_walk (walk_of faces.now) contents)) }
 {
     let walk = walk_along(alloc, faces)?;
     let last = last_contents(&walk, contents);
@@ -50,8 +50,8 @@ fn compile_faces(alloc: Global, faces: &[Face], contents: Contents) -> Result<Pr
     let nodes = nodes_of_chain(alloc, &walk.out_is_front)?;
     let leaves = leaves_of_chain(alloc, &walk.out_is_front, last)?;
     let file = encode(alloc, planes, &nodes, &leaves)?;
-    let report = summary(alloc, 1, planes.len(), nodes.len(), leaves.len())?;
-    Ok(Product { file, report })
+    let summary = summary(alloc, 1, planes.len(), nodes.len(), leaves.len())?;
+    Ok(Product { file, summary })
 }
 
 /// What the last leaf of a chain has: the contents of the brush, or nothing where one of its faces is
@@ -79,9 +79,9 @@ fn summary(
         ++ (count_line (codes "nodes") nodes ++ count_line (codes "leaves") leaves))) }
 {
     let mut text = String::new(alloc);
-    put_count(&mut text, "brushes", brushes)?;
-    put_count(&mut text, "planes", planes)?;
-    put_count(&mut text, "nodes", nodes)?;
-    put_count(&mut text, "leaves", leaves)?;
+    put_count_line(&mut text, "brushes", brushes)?;
+    put_count_line(&mut text, "planes", planes)?;
+    put_count_line(&mut text, "nodes", nodes)?;
+    put_count_line(&mut text, "leaves", leaves)?;
     Ok(text)
 }

@@ -2,10 +2,10 @@
 
 ghost use Rattle.std.specs.Prelude.{◌≡◌, ◌<◌, ◌^◌, ◌++◌, length, IfOk, codes, string_bytes};
 ghost use Rattle.qm_grammar.specs.Valid.{IsValid};
-ghost use Rattle.qm_compile.specs.declared.job.Job.TheVariants.{Format};
-ghost use Rattle.qm_compile.specs.Product.{IsProduct, brush_count, counts_of};
+ghost use Rattle.qm_compile.specs.declared.command.Command.TheVariants.{Format};
+ghost use Rattle.qm_compile.specs.Product.{IsProduct, brush_count, format_summary};
 
-use crate::counts::put_count;
+use crate::count_lines::put_count_line;
 use crate::made::Product;
 use qm_mapfile::MapFile;
 use qm_mapout::print;
@@ -15,23 +15,23 @@ use std::alloc::{AllocError, Global};
 pub fn format(alloc: Global, map: &MapFile) -> Result<Product, AllocError>
     requires { IsValid map.now }
     ensures { IfOk result
-        (λ product. IsProduct Format map.now product.file.items (string_bytes product.report)) }
+        (λ product. IsProduct Format map.now product.file.items (string_bytes product.summary)) }
 {
-    let report = counts(alloc, map)?;
+    let summary = summary(alloc, map)?;
     let mut file = Vec::new(alloc);
     print(alloc, map, &mut file)?;
-    Ok(Product { file, report })
+    Ok(Product { file, summary })
 }
 
 /// A line for each count.
-#[tactic(auto, unfolding(crate::specs::Product::counts_of))]
-fn counts(alloc: Global, map: &MapFile) -> Result<String, AllocError>
+#[tactic(auto, unfolding(crate::specs::Product::format_summary))]
+fn summary(alloc: Global, map: &MapFile) -> Result<String, AllocError>
     requires { brush_count map.now < 2 ^ 64 }
-    ensures { IfOk result (λ text. string_bytes text ≡ counts_of map.now) }
+    ensures { IfOk result (λ text. string_bytes text ≡ format_summary map.now) }
 {
     let mut text = String::new(alloc);
-    put_count(&mut text, "entities", map.entities.len())?;
-    put_count(&mut text, "brushes", brush_count(map))?;
+    put_count_line(&mut text, "entities", map.entities.len())?;
+    put_count_line(&mut text, "brushes", brush_count(map))?;
     Ok(text)
 }
 

@@ -4,22 +4,18 @@
 mod chain;
 mod command;
 mod compile;
-mod counts;
+mod count_lines;
 mod fault_text;
 mod format;
-mod job;
 mod made;
 mod make;
 mod one_brush;
 mod outcome;
 mod program;
-mod reading;
 mod status;
-#[cfg(test)]
-mod tests;
 mod tree_file;
 mod walk;
-mod writing;
+mod words;
 
 pub use program::run;
 pub use qm_contents::Contents;

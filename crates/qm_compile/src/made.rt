@@ -1,10 +1,10 @@
 use qm_map::MapFault;
 
-/// A file, and the text that is printed of it.
+/// A file, and the summary that is printed of it.
 #[derive(Drop)]
 pub struct Product {
     pub file: Vec<u8>,
-    pub report: String,
+    pub summary: String,
 }
 
 /// What comes of a text.

@@ -6,20 +6,20 @@ ghost use Rattle.qm_compile.specs.Made.{ComesOfMap, ComesOfText, IsFaultAlone};
 
 use crate::compile::compile;
 use crate::format::format;
-use crate::job::Job;
+use crate::command::Command;
 use crate::made::Made;
 use qm_map::{MapFault, parse};
 use qm_mapfile::MapFile;
 use std::alloc::{AllocError, Global};
 
 /// Makes of a text what a command asks for. The text is let go of before the file is made.
-pub fn make(alloc: Global, job: Job, text: Vec<u8>) -> Result<Made, AllocError>
-    ensures { IfOk result (λ made. ComesOfText job text.items made) }
+pub fn make(alloc: Global, command: Command, text: Vec<u8>) -> Result<Made, AllocError>
+    ensures { IfOk result (λ made. ComesOfText command text.items made) }
 {
-    let meant = parse(alloc, &text);
+    let meaning = parse(alloc, &text);
     drop(text);
-    match meant {
-        Ok(map) => make_of_map(alloc, job, &map),
+    match meaning {
+        Ok(map) => make_of_map(alloc, command, &map),
         Err(fault) => fault_of_text(fault),
     }
 }
@@ -35,16 +35,16 @@ fn fault_of_text(fault: MapFault) -> Result<Made, AllocError>
 }
 
 /// Makes of a map what a command asks for.
-fn make_of_map(alloc: Global, job: Job, map: &MapFile) -> Result<Made, AllocError>
+fn make_of_map(alloc: Global, command: Command, map: &MapFile) -> Result<Made, AllocError>
     requires { IsValid map.now }
-    ensures { IfOk result (λ made. ComesOfMap job map.now made) }
+    ensures { IfOk result (λ made. ComesOfMap command map.now made) }
 {
-    match job {
-        Job::Compile => match compile(alloc, map)? {
+    match command {
+        Command::Compile => match compile(alloc, map)? {
             Some(product) => Ok(Made::Product(product)),
             None => Ok(Made::NotBuilt),
         },
-        Job::Format => {
+        Command::Format => {
             let product = format(alloc, map)?;
             Ok(Made::Product(product))
         }

@@ -5,7 +5,7 @@ use crate::status::Status;
 /// What came of a command, before it is printed.
 #[derive(Drop)]
 pub enum Outcome {
-    /// The file is written; the text is what is reported of it.
+    /// The file is written; the text is its summary.
     Done(String),
     Usage,
     ReadFault,
@@ -38,7 +38,7 @@ impl Outcome {
         ensures { result.now ≡ text_of self.now }
     {
         match self {
-            Outcome::Done(report) => report.as_bytes(),
+            Outcome::Done(summary) => summary.as_bytes(),
             Outcome::Usage =>
                 b"usage: qmapc compile MAP OUT [--prt FILE] [--threads N] [--fast] | inspect TREE QUERY.. | format MAP OUT | demo N NUMBER\n",
             Outcome::ReadFault => b"read fault\n",

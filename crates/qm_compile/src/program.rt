@@ -1,23 +1,27 @@
 //! All that the program does.
 
-ghost use Rattle.std.specs.Prelude.{◌≡◌, ℕ, List, IfOk, OnErr, map};
-ghost use Rattle.qm_compile.specs.declared.job.Job.{Job};
-ghost use Rattle.qm_compile.specs.Command.{IsCommand};
+ghost use Rattle.std.specs.Prelude.{ℕ, List, IfOk, OnErr};
+ghost use Rattle.qm_shelf.specs.Outside.{outside};
+ghost use Rattle.qm_shelf.specs.ShelfState.{shelf_state};
+ghost use Rattle.qm_compile.specs.declared.command.Command.{Command};
+ghost use Rattle.qm_compile.specs.Command.{IsCommand, words_of};
+ghost use Rattle.qm_compile.specs.ComesOf.{ComesOf, IsCutShort};
 ghost use Rattle.qm_compile.specs.Outcome.{status_of, text_of};
-ghost use Rattle.qm_compile.specs.Run.{Answers, ComesOf, Due, IsCutShort, shelf_state, sink_state};
+ghost use Rattle.qm_compile.specs.Run.{Answers, Due};
 
-use crate::command::command_of;
+use crate::command::Command;
 use crate::fault_text::fault_text;
-use crate::job::Job;
 use crate::made::Made;
 use crate::make::make;
 use crate::outcome::Outcome;
-use crate::reading::read_text;
 use crate::status::Status;
-use crate::writing::write_file;
-use qm_shelf::{Shelf, ShelfFault, Sink, SinkFault};
+use crate::words::command_of;
+use qm_shelf::{Shelf, ShelfFault, Sink, SinkFault, read_whole, write_whole};
 use std::alloc::{AllocError, Global};
 use std::thread::Threads;
+
+/// The most bytes that the text of a map may have.
+const TEXT_LIMIT: usize = 67_108_864;
 
 /// Carries out the command that the words are: reads the map from the shelf, writes to it the file that is
 /// made of the map, and prints to the sink what came of it, in one write.
@@ -28,12 +32,7 @@ pub fn run<R: Threads + Sync, H: Shelf, S: Sink>(
     shelf: &mut H,
     out: &mut S,
 ) -> Status
-    ensures { Answers (map (λ word. word.now) words.now)
-        (shelf_state H.tells (H.held shelf.old) (H.read_faults shelf.old) (H.write_faults shelf.old))
-        (shelf_state H.tells (H.held shelf.new) (H.read_faults shelf.new) (H.write_faults shelf.new))
-        (sink_state S.tells (S.written out.old) (S.faults out.old))
-        (sink_state S.tells (S.written out.new) (S.faults out.new))
-        result }
+    ensures { Answers (words_of words.now) (outside H.Shelf S.Sink shelf.old out.old) (outside H.Shelf S.Sink shelf.new out.new) result }
 {
     let Ok(outcome) = carry_out(alloc, words, shelf) else {
         return Status::Memory;
@@ -48,51 +47,42 @@ pub fn run<R: Threads + Sync, H: Shelf, S: Sink>(
 /// Carries out the command that the words are on the shelf, and says what came of it. Memory may run
 /// out only on the way of a command.
 fn carry_out<H: Shelf>(alloc: Global, words: &[&str], shelf: &mut H) -> Result<Outcome, AllocError>
-    ensures due { IfOk result (λ outcome. Due (map (λ word. word.now) words.now)
-        (shelf_state H.tells (H.held shelf.old) (H.read_faults shelf.old) (H.write_faults shelf.old))
-        (shelf_state H.tells (H.held shelf.new) (H.read_faults shelf.new) (H.write_faults shelf.new))
+    ensures due { IfOk result (λ outcome. Due (words_of words.now) (shelf_state H.Shelf shelf.old) (shelf_state H.Shelf shelf.new)
         (status_of outcome) (text_of outcome)) }
-    ensures memory { OnErr result ((job : Job) × (map_name : List ℕ) × (out : List ℕ) ×
-        IsCommand (map (λ word. word.now) words.now) job map_name out × IsCutShort
-        (shelf_state H.tells (H.held shelf.old) (H.read_faults shelf.old) (H.write_faults shelf.old))
-        (shelf_state H.tells (H.held shelf.new) (H.read_faults shelf.new) (H.write_faults shelf.new))
-        job map_name out) }
+    ensures memory { OnErr result ((command : Command) × (map_name : List ℕ) × (out_name : List ℕ) × IsCommand (words_of words.now) command map_name out_name
+        × IsCutShort (shelf_state H.Shelf shelf.old) (shelf_state H.Shelf shelf.new) command map_name out_name) }
 {
     match command_of(words) {
         None => Ok(Outcome::Usage),
-        Some((job, map, out)) => carry_out_command(alloc, shelf, job, map, out),
+        Some((command, map_name, out_name)) =>
+            carry_out_command(alloc, shelf, command, map_name, out_name),
     }
 }
 
-/// Reads the text under `map`, and makes `out` hold the file that is made of it.
+/// Reads the text under `map_name`, and makes `out_name` hold the file that is made of it.
 fn carry_out_command<H: Shelf>(
     alloc: Global,
     shelf: &mut H,
-    job: Job,
-    map: &str,
-    out: &str,
+    command: Command,
+    map_name: &str,
+    out_name: &str,
 ) -> Result<Outcome, AllocError>
-    ensures due { IfOk result (λ outcome. ComesOf
-        (shelf_state H.tells (H.held shelf.old) (H.read_faults shelf.old) (H.write_faults shelf.old))
-        (shelf_state H.tells (H.held shelf.new) (H.read_faults shelf.new) (H.write_faults shelf.new))
-        job map.now out.now (status_of outcome) (text_of outcome)) }
-    ensures memory { OnErr result (IsCutShort
-        (shelf_state H.tells (H.held shelf.old) (H.read_faults shelf.old) (H.write_faults shelf.old))
-        (shelf_state H.tells (H.held shelf.new) (H.read_faults shelf.new) (H.write_faults shelf.new))
-        job map.now out.now) }
+    ensures due { IfOk result (λ outcome. ComesOf (shelf_state H.Shelf shelf.old) (shelf_state H.Shelf shelf.new) command map_name.now out_name.now
+        (status_of outcome) (text_of outcome)) }
+    ensures memory { OnErr result (IsCutShort (shelf_state H.Shelf shelf.old) (shelf_state H.Shelf shelf.new) command map_name.now out_name.now) }
 {
-    let text = match read_text(alloc, shelf, map) {
+    let text = match read_whole(alloc, shelf, map_name, TEXT_LIMIT) {
         Ok(text) => text,
         Err(ShelfFault::Failed) => return Ok(Outcome::ReadFault),
         Err(ShelfFault::Memory) => return Err(AllocError),
     };
-    let product = match make(alloc, job, text)? {
+    let product = match make(alloc, command, text)? {
         Made::Product(product) => product,
         Made::Fault(fault) => return Ok(Outcome::MapFault(fault_text(alloc, fault)?)),
         Made::NotBuilt => return Ok(Outcome::NotBuilt),
     };
-    match write_file(shelf, out, &product.file) {
-        Ok(()) => Ok(Outcome::Done(product.report)),
+    match write_whole(shelf, out_name, &product.file) {
+        Ok(()) => Ok(Outcome::Done(product.summary)),
         Err(ShelfFault::Failed) => Ok(Outcome::WriteFault),
         Err(ShelfFault::Memory) => Err(AllocError),
     }

@@ -16,7 +16,7 @@ use Rattle.qm_grammar.specs.Symbol.{symbol_of}
 use Rattle.qm_grammar.specs.Prefix.{Prefix, outside}
 use Rattle.qm_grammar.specs.Faults.{text_limit, line_at, end_of, fault_of}
 use Rattle.qm_grammar.specs.Meaning.{Means}
-use Rattle.qm_grammar.specs.CutText.{read_of}
+use Rattle.qm_lists.specs.Limit.{up_to_one_past}
 use Rattle.qm_grammar.specs.inner.Machine.{step, steps, ended, meaning_of}
 use Rattle.qm_grammar.proofs.Meanings.{means_meaning, meaning_only}
 use Rattle.qm_grammar.proofs.Runs.{by_result, steps_step, steps_refused}
@@ -106,19 +106,19 @@ cut_means text long =
     ∙ ap meaning_of (take-append-drop (text_limit + 1) text)
 
 -- what has to be read of a text means what the text means
-read_meaning : (text : List ℕ) → meaning_of (read_of text) ≡ meaning_of text
-unfolding read_of
+read_meaning : (text : List ℕ) → meaning_of (up_to_one_past text_limit text) ≡ meaning_of text
+unfolding up_to_one_past
 read_meaning text = elim (cases_lt text_limit (length text)) [
   | inl long ↦ cut_means text long
   | inr short ↦ ap meaning_of (take_all (text_limit + 1) text (omega (arith, short)))
 ]
 
-pub read_means : (text : List ℕ) (meaning : Result MapFile MapFault) → Means (read_of text) meaning → Means text meaning
+pub read_means : (text : List ℕ) (meaning : Result MapFile MapFault) → Means (up_to_one_past text_limit text) meaning → Means text meaning
 read_means text meaning means =
-    let same : meaning ≡ meaning_of text = meaning_only (read_of text) meaning means ∙ read_meaning text in
+    let same : meaning ≡ meaning_of text = meaning_only (up_to_one_past text_limit text) meaning means ∙ read_meaning text in
     subst (λ (m : Result MapFile MapFault). Means text m) (sym same) (means_meaning text)
 
-pub means_read : (text : List ℕ) (meaning : Result MapFile MapFault) → Means text meaning → Means (read_of text) meaning
+pub means_read : (text : List ℕ) (meaning : Result MapFile MapFault) → Means text meaning → Means (up_to_one_past text_limit text) meaning
 means_read text meaning means =
-    let same : meaning ≡ meaning_of (read_of text) = meaning_only text meaning means ∙ sym (read_meaning text) in
-    subst (λ (m : Result MapFile MapFault). Means (read_of text) m) (sym same) (means_meaning (read_of text))
+    let same : meaning ≡ meaning_of (up_to_one_past text_limit text) = meaning_only text meaning means ∙ sym (read_meaning text) in
+    subst (λ (m : Result MapFile MapFault). Means (up_to_one_past text_limit text) m) (sym same) (means_meaning (up_to_one_past text_limit text))

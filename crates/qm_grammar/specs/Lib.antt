@@ -10,5 +10,4 @@ pub mod Meaning
 pub mod Valid
 pub mod Words
 pub mod MapFault
-pub mod CutText
 pub mod inner

@@ -1,2 +1,3 @@
 pub mod Reach
 pub mod WorkList
+pub mod Limit

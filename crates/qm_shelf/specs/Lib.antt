@@ -3,6 +3,12 @@ pub mod Counts
 pub mod MemoryShelf
 pub mod MemorySink
 pub mod NamedFiles
+pub mod Outside
+pub mod Printing
 pub mod Reads
+pub mod ShelfChanges
+pub mod ShelfState
+pub mod SinkState
 pub mod SureForms
+pub mod WholeFiles
 pub mod Writes

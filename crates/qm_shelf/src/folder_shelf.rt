@@ -7,18 +7,24 @@ ghost use Rattle.qm_shelf.specs.Reads.{IsRead};
 ghost use Rattle.qm_shelf.specs.Writes.{IsEmptied, IsKeptOrEmptied, IsAdded, IsPrefixAdded};
 
 use crate::calls::one_more;
+use crate::open_file::{OpenFile, open_at, read_once};
 use crate::shelf::{Shelf, ShelfFault};
 use std::fs::File;
-use std::io::{Read, Seek, SeekFrom, Write};
+use std::io::Write;
 use std::rt::Files;
 use std::{fs, io};
 
 /// The files of the real folder. It tells nothing of what they hold. It has one count of faults for
 /// each kind, over all names, which rises by one at each error and stays at 2^64 - 1 once it is there.
 /// To read a name that is not there is an error, and so is to append to it.
+///
+/// A read that goes on where the last one ended, with no write between them, neither opens the file again
+/// nor seeks in it, so that a pipe can be read in order. A read from the start opens the file.
 #[derive(Drop)]
-pub struct FolderShelf<'a, R> {
+pub struct FolderShelf<'a, R: Files> {
     rt: &'a R,
+    /// The file that was read last.
+    reading: Option<OpenFile<R::File>>,
     read_faults: u64,
     write_faults: u64,
 }
@@ -31,9 +37,33 @@ impl<'a, R: Files> FolderShelf<'a, R> {
     {
         FolderShelf {
             rt,
+            reading: None,
             read_faults: 0,
             write_faults: 0,
         }
+    }
+
+    /// Reads once from a file, from place `at` on, and answers how many bytes came.
+    fn read_file(&mut self, name: &str, at: u64, into: &mut [u8]) -> io::Result<usize>
+        ensures count { IfOk result (λ count. count ≤ length into.new) }
+        ensures read_faults_stay { self.new.read_faults ≡ self.old.read_faults }
+        ensures write_faults_stay { self.new.write_faults ≡ self.old.write_faults }
+    {
+        let mut file = match self.take_file(name, at) {
+            Some(file) => file,
+            None => open_at(self.rt, name, at)?,
+        };
+        let count = read_once(&mut file, into)?;
+        self.reading = OpenFile::keep(name, file, at.saturating_add(count as u64));
+        Ok(count)
+    }
+
+    /// Takes the file that was read last, where it goes on from place `at`, and else closes it.
+    fn take_file(&mut self, name: &str, at: u64) -> Option<R::File>
+        ensures read_faults_stay { self.new.read_faults ≡ self.old.read_faults }
+        ensures write_faults_stay { self.new.write_faults ≡ self.old.write_faults }
+    {
+        self.reading.take()?.at(name, at)
     }
 }
 
@@ -55,7 +85,7 @@ impl<'a, R: Files> Shelf for FolderShelf<'a, R> {
         ensures takes_no_memory { IfErr result (λ fault. fault ≡ ShelfFault.Failed) }
         ensures by_one { OnErr result (self.new.read_faults ≡ one_more self.old.read_faults) }
     {
-        match read_file(self.rt, name, at, into) {
+        match self.read_file(name, at, into) {
             Ok(count) => Ok(count),
             Err(_) => {
                 self.read_faults = one_more(self.read_faults);
@@ -72,6 +102,7 @@ impl<'a, R: Files> Shelf for FolderShelf<'a, R> {
         ensures takes_no_memory { IfErr result (λ fault. fault ≡ ShelfFault.Failed) }
         ensures by_one { OnErr result (self.new.write_faults ≡ one_more self.old.write_faults) }
     {
+        self.reading = None;
         match fs::create(self.rt, name) {
             Ok(_) => Ok(()),
             Err(_) => {
@@ -89,6 +120,7 @@ impl<'a, R: Files> Shelf for FolderShelf<'a, R> {
         ensures takes_no_memory { IfErr result (λ fault. fault ≡ ShelfFault.Failed) }
         ensures by_one { OnErr result (self.new.write_faults ≡ one_more self.old.write_faults) }
     {
+        self.reading = None;
         match append_to_file(self.rt, name, bytes) {
             Ok(()) => Ok(()),
             Err(_) => {
@@ -97,15 +129,6 @@ impl<'a, R: Files> Shelf for FolderShelf<'a, R> {
             }
         }
     }
-}
-
-/// Reads once from a file, from place `at` on, and answers how many bytes came.
-fn read_file<R: Files>(rt: &R, name: &str, at: u64, into: &mut [u8]) -> io::Result<usize>
-    ensures { IfOk result (λ count. count ≤ length into.new) }
-{
-    let mut file = fs::open(rt, name)?;
-    file.seek(SeekFrom::Start(at))?;
-    file.read(into)
 }
 
 /// Adds bytes at the end of a file that is there.

@@ -5,22 +5,26 @@
 
 mod calls;
 mod file_map;
+mod file_name;
 pub mod folder_shelf;
 pub mod mem_shelf;
 pub mod mem_sink;
+mod open_file;
+pub mod reading;
 pub mod shelf;
 pub mod sink;
 pub mod sure_shelf;
 pub mod sure_sink;
 pub mod term_sink;
-#[cfg(test)]
-mod tests;
+pub mod writing;
 
 pub use folder_shelf::FolderShelf;
 pub use mem_shelf::MemShelf;
 pub use mem_sink::MemSink;
-pub use shelf::{FARTHEST_PLACE, Shelf, ShelfFault};
+pub use reading::read_whole;
+pub use shelf::{FARTHEST_PLACE, PIECE, Shelf, ShelfFault};
 pub use sink::{Sink, SinkFault};
 pub use sure_shelf::SureShelf;
 pub use sure_sink::SureSink;
 pub use term_sink::TermSink;
+pub use writing::write_whole;

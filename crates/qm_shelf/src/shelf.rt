@@ -10,8 +10,11 @@ use std::alloc::AllocError;
 /// The largest place from which a read may start, in bytes: a gibibyte and one byte.
 pub const FARTHEST_PLACE: u64 = 1_073_741_825;
 
+/// The most bytes that are read or written at once where a file is read or written whole.
+pub const PIECE: usize = 65_536;
+
 /// Why a call of a shelf did not do its work.
-#[derive(Clone, Copy, PartialEq, Eq, Debug)]
+#[derive(Clone, Copy)]
 pub enum ShelfFault {
     /// The outside failed, and the fault was counted.
     Failed,

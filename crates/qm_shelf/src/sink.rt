@@ -7,7 +7,7 @@ ghost use Rattle.qm_shelf.specs.Writes.{ContinuesInto};
 use std::alloc::AllocError;
 
 /// Why a call of a sink did not do its work.
-#[derive(Clone, Copy, PartialEq, Eq, Debug)]
+#[derive(Clone, Copy)]
 pub enum SinkFault {
     /// The outside failed, and the fault was counted.
     Failed,

@@ -28,5 +28,5 @@ returns c =
     let filled = sym c.contents_of_brush.ensures ∙ c.unwrap-contents.ensures in
     let valid = one-valid map brush one (valid_brushes map c.requires) in
     let file_is = c.in_ok-product.ensures.file ∙ ap (λ (faces : List Face). file_of (tree_of_walk (walk_of faces) contents)) c.as_slice.ensures in
-    let summary_is = c.in_ok-product.ensures.report ∙ ap (λ (faces : List Face). tree_summary 1 (tree_of_walk (walk_of faces) contents)) c.as_slice.ensures in
+    let summary_is = c.in_ok-product.ensures.summary ∙ ap (λ (faces : List Face). tree_summary 1 (tree_of_walk (walk_of faces) contents)) c.as_slice.ensures in
     compiled_one map brush contents _ _ one filled valid.faces file_is summary_is

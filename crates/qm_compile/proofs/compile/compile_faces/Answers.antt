@@ -29,5 +29,5 @@ encode-requires c =
 pub returns-clause-file : goal.returns-clause-file
 returns-clause-file c = chain_file _ _ _ _ _ (built (goal.at.returns-clause-file c).After-deref-4) _ c.in_ok-file.ensures
 
-pub returns-clause-report : goal.returns-clause-report
-returns-clause-report c = chain_summary _ _ _ _ _ (built (goal.at.returns-clause-report c).After-deref-4) _ _ _ _ refl (c.len.ensures ∙ sym c.deref-3.ensures.len) (c.len-2.ensures ∙ sym c.deref-4.ensures.len) c.in_ok-report.ensures
+pub returns-clause-summary : goal.returns-clause-summary
+returns-clause-summary c = chain_summary _ _ _ _ _ (built (goal.at.returns-clause-summary c).After-deref-4) _ _ _ _ refl (c.len.ensures ∙ sym c.deref-3.ensures.len) (c.len-2.ensures ∙ sym c.deref-4.ensures.len) c.in_ok-summary.ensures

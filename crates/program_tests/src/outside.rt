@@ -1,0 +1,61 @@
+use qm_compile::{Status, run};
+use qm_shelf::{MemShelf, MemSink};
+use std::alloc::{AllocError, Global};
+use std::thread::Threads;
+
+/// A shelf that holds a text under `map` and another file, and a sink to which nothing was written.
+#[derive(Drop)]
+pub struct Outside {
+    pub shelf: MemShelf,
+    pub sink: MemSink,
+}
+
+impl Outside {
+    pub fn new(alloc: Global, text: &[u8]) -> Result<Outside, AllocError> {
+        let mut shelf = MemShelf::new(alloc);
+        shelf.put("map", text)?;
+        shelf.put("other", b"kept")?;
+        Ok(Outside {
+            shelf,
+            sink: MemSink::new(alloc),
+        })
+    }
+
+    /// Whether the program, run on these words, ends with this status and prints this text.
+    pub fn says<R: AllocGlobal + Threads + Sync>(
+        &mut self,
+        rt: &R,
+        words: &[&str],
+        status: u8,
+        printed: &str,
+    ) -> bool {
+        let answer: Status = run(rt, rt.alloc(), words, &mut self.shelf, &mut self.sink);
+        answer.number() == status && self.sink.bytes() == printed.as_bytes()
+    }
+
+    /// Whether `out` holds these bytes, `map` this text and the other file what it held, and so many reads,
+    /// writes and prints failed.
+    pub fn holds(&self, out: Option<&[u8]>, text: &[u8], faults: [u64; 3]) -> bool {
+        self.shelf.get("out") == out
+            && self.shelf.get("map") == Some(text)
+            && self.shelf.get("other") == Some(b"kept".as_slice())
+            && self.shelf.read_faults() == faults[0]
+            && self.shelf.write_faults() == faults[1]
+            && self.sink.faults() == faults[2]
+    }
+}
+
+/// Whether a text, under `map`, is answered with this status and this printed text, and `out` then holds
+/// these bytes; nothing else changes, and no fault is met.
+pub fn gives<R: AllocGlobal + Threads + Sync>(
+    rt: &R,
+    verb: &str,
+    text: &[u8],
+    status: u8,
+    printed: &str,
+    out: Option<&[u8]>,
+) -> Result<bool, AllocError> {
+    let mut outside = Outside::new(rt.alloc(), text)?;
+    let says = outside.says(rt, &[verb, "map", "out"], status, printed);
+    Ok(says && outside.holds(out, text, [0, 0, 0]))
+}

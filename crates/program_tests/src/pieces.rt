@@ -1,0 +1,55 @@
+use super::outside::Outside;
+use super::printed::READ_FAULT;
+use qm_shelf::{FolderShelf, read_whole, write_whole};
+use std::alloc::{AllocError, Global};
+use std::fs;
+use std::test::Fail;
+
+/// An empty entity after so many spaces.
+fn after_spaces(alloc: Global, count: usize) -> Result<Vec<u8>, AllocError> {
+    let mut text = Vec::new(alloc);
+    text.resize(count, b' ')?;
+    text.extend_from_slice(b"{ }")?;
+    Ok(text)
+}
+
+/// A text of 100,003 bytes is read in two pieces and a read that finds its end, and one of 200,003 bytes in
+/// four pieces. A fault of any of these reads is one of the text.
+#[test]
+fn reads_a_text_in_pieces(rt: HostRuntime) -> Result<(), Fail> {
+    let counts = "entities 1\nbrushes 0\n";
+    let old = b"old".as_slice();
+    let file = b"{\n}\n".as_slice();
+    let rows = [
+        (100_000, 0, 5, READ_FAULT, old, [1, 0, 0]),
+        (100_000, 1, 5, READ_FAULT, old, [1, 0, 0]),
+        (100_000, 2, 5, READ_FAULT, old, [1, 0, 0]),
+        (100_000, 5, 0, counts, file, [0, 0, 0]),
+        (200_000, 4, 5, READ_FAULT, old, [1, 0, 0]),
+        (200_000, 7, 0, counts, file, [0, 0, 0]),
+    ];
+    for (spaces, call, status, printed, out, faults) in rows {
+        let text = after_spaces(rt.alloc(), spaces)?;
+        let mut outside = Outside::new(rt.alloc(), &text)?;
+        outside.shelf.put("out", old)?;
+        outside.shelf.fail_call(call)?;
+        assert!(rt; outside.says(&rt, &["format", "map", "out"], status, printed));
+        assert!(rt; outside.holds(Some(out), &text, faults));
+    }
+    Ok(())
+}
+
+/// A file of 200,003 bytes is written and read whole, and up to one byte past a limit.
+#[test]
+fn keeps_a_long_file_in_the_folder(rt: HostRuntime) -> Result<(), Fail> {
+    let name = "program_tests_long_file.txt";
+    let bytes = after_spaces(rt.alloc(), 200_000)?;
+    let mut shelf = FolderShelf::over(&rt);
+    let wrote = write_whole(&mut shelf, name, &bytes).is_ok();
+    let whole = read_whole(rt.alloc(), &mut shelf, name, 200_003);
+    let first = read_whole(rt.alloc(), &mut shelf, name, 70_000);
+    fs::remove_file(&rt, name)?;
+    assert!(rt; wrote && whole.is_ok_and(|whole| whole == bytes));
+    assert!(rt; first.is_ok_and(|first| first.as_slice() == &bytes[..70_001]));
+    Ok(())
+}
