@@ -1,6 +1,8 @@
 //! A system whose every file reads like a pipe: it gives one byte a read, cannot be sought in, and each
 //! second read of it is interrupted by a signal.
 
+ghost use Rattle.std.specs.Prelude.{IsErr};
+
 use super::folder::reads;
 use qm_shelf::FolderShelf;
 use std::alloc::Allocator;
@@ -21,7 +23,9 @@ struct Pipe {
     is_interrupted: bool,
 }
 
-fn refused<T>() -> io::Result<T> {
+fn refused<T>() -> io::Result<T>
+    ensures { IsErr result }
+{
     Err(Error::from(ErrorKind::Unsupported))
 }
 

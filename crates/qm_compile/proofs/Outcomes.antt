@@ -1,15 +1,20 @@
-use Rattle.std.proofs.Common.{◌≡◌, ℕ, List, Some, take, ◌⊎◌, inl, inr, ap, ◌∙◌, Ok}
+use Rattle.std.proofs.Common.{◌≡◌, ℕ, List, Some, take, ◌⊎◌, inl, inr, sym, subst, ap, ◌∙◌, Ok}
 use Rattle.std.specs.Prelude.{IsTrue}
 use Rattle.qm_shelf.specs.ShelfState.{ShelfState}
-use Rattle.qm_shelf.specs.ShelfChanges.{IsKept, IsKeptElsewhere}
+use Rattle.qm_shelf.specs.ShelfChanges.{IsKept, IsKeptElsewhere, MetNoFault, WriteFaultMeans}
 use Rattle.qm_shelf.specs.WholeFiles.{IsReadFrom, HoldsTheSame, HoldsExactly, HoldsUnfinished}
+use Rattle.qm_shelf.specs.declared.shelf.ShelfFault.{ShelfFault}
+use Rattle.qm_shelf.specs.declared.shelf.ShelfFault.TheVariants.{Failed, Memory}
+use Rattle.qm_shelf.proofs.Counted.{no_fault_twice, write_fault_twice}
 use Rattle.qm_mapfile.specs.declared.entity.MapFile.{MapFile}
 use Rattle.qm_grammar.specs.Faults.{text_limit}
 use Rattle.qm_grammar.specs.Meaning.{IsMapText}
 use Rattle.qm_compile.specs.declared.command.Command.{Command}
-use Rattle.qm_compile.specs.ComesOf.{HoldsPart, IsUnfinished, IsDone}
+use Rattle.qm_compile.specs.declared.status.Status.TheVariants.{Done, WriteFault}
+use Rattle.qm_compile.specs.ComesOf.{ComesOf, HoldsPart, IsUnfinished, IsDone, IsCutShort, write_fault, done}
 use Rattle.qm_compile.specs.Product.{IsProduct}
 use Rattle.qm_compile.specs.TextMeans.{TextMeans}
+use Rattle.qm_compile.specs.Texts.{write_fault_text}
 use Rattle.qm_compile.proofs.ReadMeanings.{text_means}
 
 -- What comes of reading a text, making a file of it and writing the file, one after another.
@@ -21,7 +26,7 @@ kept_unfinished before after command map_name out_name kept = record {
   part = λ tells. inl (kept out_name);
 }
 
-module _ (before between after : ShelfState) (command : Command) (map_name out_name text file summary bytes : List ℕ) (read : IsReadFrom before map_name text_limit text) (kept : IsKept before between) (map : MapFile) (means : IsMapText text map) (made : IsProduct command map file summary) (same : bytes ≡ file) (others : IsKeptElsewhere between after out_name) where
+module _ (before between after : ShelfState) (command : Command) (map_name out_name text file summary bytes : List ℕ) (read : IsReadFrom before map_name text_limit text) (kept : IsKept before between) (map : MapFile) (means : IsMapText text map) (made : IsProduct command map file summary) (same : bytes ≡ file) (others : IsKeptElsewhere between after out_name) (no_fault : MetNoFault before between) where
   its_meaning : TextMeans before map_name (Ok map)
   its_meaning = text_means before map_name text (Ok map) read means
 
@@ -32,14 +37,14 @@ module _ (before between after : ShelfState) (command : Command) (map_name out_n
       inr (map, its_meaning, made.takes, (part.0, part.1 ∙ ap (λ (b : List ℕ). Some (take part.0 b)) (same ∙ made.is_file)))
 
   -- writing the file stopped on the way
-  pub stopped_writing : (IsTrue before.tells → HoldsUnfinished between after out_name bytes) → IsUnfinished before after command map_name out_name
+  stopped_writing : (IsTrue before.tells → HoldsUnfinished between after out_name bytes) → IsUnfinished before after command map_name out_name
   stopped_writing stopped = record {
     others = λ name other. others name other ∙ kept name;
     part = λ tells. part_written (stopped tells);
   }
 
   -- the file was written whole
-  pub all_written : (IsTrue before.tells → HoldsExactly after out_name bytes) → IsDone before after command map_name out_name map
+  all_written : (IsTrue before.tells → HoldsExactly after out_name bytes) → IsDone before after command map_name out_name map
   all_written wrote = record {
     others = λ name other. others name other ∙ kept name;
     file = λ tells. wrote tells ∙ ap (λ (b : List ℕ). Some b) (same ∙ made.is_file);
@@ -47,3 +52,19 @@ module _ (before between after : ShelfState) (command : Command) (map_name out_n
     takes = made.takes;
     is_true = made.is_true;
   }
+
+  pub done_due : (IsTrue before.tells → HoldsExactly after out_name bytes) → MetNoFault between after → ComesOf before after command map_name out_name Done summary
+  done_due wrote none =
+      subst (λ (t : List ℕ). ComesOf before after command map_name out_name Done t) (sym made.is_summary) (done (all_written wrote) (no_fault_twice before between after no_fault none))
+
+  -- what the fault of the write means, as the fault of the command
+  fault_since : (fault its : ShelfFault) → fault ≡ its → WriteFaultMeans between after out_name fault → WriteFaultMeans before after out_name its
+  fault_since fault its is means =
+      subst (λ (f : ShelfFault). WriteFaultMeans before after out_name f) is (write_fault_twice before between after fault out_name no_fault means)
+
+  pub write_fault_due : (IsTrue before.tells → HoldsUnfinished between after out_name bytes) → (fault : ShelfFault) → fault ≡ Failed → WriteFaultMeans between after out_name fault → ComesOf before after command map_name out_name WriteFault write_fault_text
+  write_fault_due stopped fault is means =
+      write_fault its_meaning made.takes (fault_since fault Failed is means) (stopped_writing stopped)
+
+  pub cut_short : (IsTrue before.tells → HoldsUnfinished between after out_name bytes) → (fault : ShelfFault) → fault ≡ Memory → WriteFaultMeans between after out_name fault → IsCutShort before after command map_name out_name
+  cut_short stopped fault is means = record { no_fault = fault_since fault Memory is means; unfinished = stopped_writing stopped }

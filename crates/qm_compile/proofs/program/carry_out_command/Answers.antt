@@ -1,12 +1,11 @@
 use Rattle.std.proofs.Common.{sym, subst, List, ℕ, Ok, Err}
 use Rattle.qm_shelf.specs.ShelfState.{shelf_state}
-use Rattle.qm_shelf.specs.ShelfChanges.{ReadFaultMeans, WriteFaultMeans}
+use Rattle.qm_shelf.specs.ShelfChanges.{ReadFaultMeans}
 use Rattle.qm_shelf.specs.declared.shelf.ShelfFault.{ShelfFault}
-use Rattle.qm_shelf.proofs.Counted.{no_fault_twice, write_fault_twice}
-use Rattle.qm_compile.specs.declared.status.Status.TheVariants.{Done, MapFault}
-use Rattle.qm_compile.specs.ComesOf.{ComesOf, read_fault, map_fault, not_built, write_fault, done}
+use Rattle.qm_compile.specs.declared.status.Status.TheVariants.{MapFault}
+use Rattle.qm_compile.specs.ComesOf.{ComesOf, read_fault, map_fault, not_built}
 use Rattle.qm_compile.specs.FaultText.{fault_text}
-use Rattle.qm_compile.proofs.Outcomes.{kept_unfinished, stopped_writing, all_written}
+use Rattle.qm_compile.proofs.Outcomes.{kept_unfinished, done_due, write_fault_due, cut_short}
 use Rattle.qm_compile.proofs.ReadMeanings.{text_means}
 use Rattle.qm_compile.proofs.program.carry_out_command.Goals as goal
 
@@ -51,10 +50,9 @@ returns-in-Ok-write_whole-clause-due g c =
     let between = shelf_state g.H.Shelf c.read_whole.new.shelf in
     let after = shelf_state g.H.Shelf c.write_whole.new.shelf in
     let read = c.in-Ok.ensures in
-    let wrote = c.in-Ok-write_whole.ensures in
     let made = rw c.in-Product.is at c.in_ok-product.ensures in
-    let is = all_written before between after c.args.command c.args.map_name.now c.args.out_name.now c.in-Ok.text.items _ _ c.deref.result.now read.bytes read.kept made.0 made.1 made.2 c.deref.ensures.value wrote.kept_elsewhere wrote.whole in
-    subst (λ (text : List ℕ). ComesOf before after c.args.command c.args.map_name.now c.args.out_name.now Done text) (sym made.2.is_summary) (done is (no_fault_twice before between after read.ok wrote.ok))
+    let wrote = c.in-Ok-write_whole.ensures in
+    done_due before between after c.args.command c.args.map_name.now c.args.out_name.now c.in-Ok.text.items _ _ c.deref.result.now read.bytes read.kept made.0 made.1 made.2 c.deref.ensures.value wrote.kept_elsewhere read.ok wrote.whole wrote.ok
 
 pub returns-in-Err-Failed-write_whole-clause-due : goal.returns-in-Err-Failed-write_whole-clause-due
 returns-in-Err-Failed-write_whole-clause-due g c =
@@ -62,12 +60,9 @@ returns-in-Err-Failed-write_whole-clause-due g c =
     let between = shelf_state g.H.Shelf c.read_whole.new.shelf in
     let after = shelf_state g.H.Shelf c.write_whole.new.shelf in
     let read = c.in-Ok.ensures in
-    let wrote = c.in-Err-Failed-write_whole.ensures in
     let made = rw c.in-Product.is at c.in_ok-product.ensures in
-    let unfinished = stopped_writing before between after c.args.command c.args.map_name.now c.args.out_name.now c.in-Ok.text.items _ _ c.deref.result.now read.bytes read.kept made.0 made.1 made.2 c.deref.ensures.value wrote.kept_elsewhere wrote.unfinished in
-    let failed = write_fault_twice before between after c.in-Err-Failed-write_whole.field-0 c.args.out_name.now read.ok wrote.err in
-    let meaning = text_means before c.args.map_name.now c.in-Ok.text.items (Ok made.0) read.bytes made.1 in
-    write_fault meaning made.2.takes (subst (λ (fault : ShelfFault). WriteFaultMeans before after c.args.out_name.now fault) c.in-Err-Failed-write_whole.field-0-is failed) unfinished
+    let wrote = c.in-Err-Failed-write_whole.ensures in
+    write_fault_due before between after c.args.command c.args.map_name.now c.args.out_name.now c.in-Ok.text.items _ _ c.deref.result.now read.bytes read.kept made.0 made.1 made.2 c.deref.ensures.value wrote.kept_elsewhere read.ok wrote.unfinished c.in-Err-Failed-write_whole.field-0 c.in-Err-Failed-write_whole.field-0-is wrote.err
 
 pub returns-clause-memory : goal.returns-clause-memory
 returns-clause-memory g c =
@@ -75,11 +70,6 @@ returns-clause-memory g c =
     let between = shelf_state g.H.Shelf c.read_whole.new.shelf in
     let after = shelf_state g.H.Shelf c.write_whole.new.shelf in
     let read = c.in-Ok.ensures in
-    let wrote = c.in-Err-Memory-write_whole.ensures in
     let made = rw c.in-Product.is at c.in_ok-product.ensures in
-    let unfinished = stopped_writing before between after c.args.command c.args.map_name.now c.args.out_name.now c.in-Ok.text.items _ _ c.deref.result.now read.bytes read.kept made.0 made.1 made.2 c.deref.ensures.value wrote.kept_elsewhere wrote.unfinished in
-    let no_fault = write_fault_twice before between after c.in-Err-Memory-write_whole.field-0 c.args.out_name.now read.ok wrote.err in
-    record {
-      no_fault = subst (λ (fault : ShelfFault). WriteFaultMeans before after c.args.out_name.now fault) c.in-Err-Memory-write_whole.field-0-is no_fault;
-      unfinished = unfinished;
-    }
+    let wrote = c.in-Err-Memory-write_whole.ensures in
+    cut_short before between after c.args.command c.args.map_name.now c.args.out_name.now c.in-Ok.text.items _ _ c.deref.result.now read.bytes read.kept made.0 made.1 made.2 c.deref.ensures.value wrote.kept_elsewhere read.ok wrote.unfinished c.in-Err-Memory-write_whole.field-0 c.in-Err-Memory-write_whole.field-0-is wrote.err
