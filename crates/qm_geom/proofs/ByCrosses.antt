@@ -9,13 +9,13 @@ use Rattle.qm_space.specs.Determinant.{determinant}
 use Rattle.qm_space.proofs.Planes.{same_point}
 use Rattle.qm_space.proofs.Ring.{◌⊕◌, ◌⊗◌, solved}
 use Rattle.qm_space.proofs.PlaneSymbols.{plane_from, numbers_of_plane, symbol_meet, symbol_along}
-use Rattle.qm_geom.specs.Vectors.{cross, dot, normal_of, IsWithin}
+use Rattle.qm_geom.specs.inner.Vectors.{cross, dot, normal_of, IsWithin}
 use Rattle.qm_geom.specs.declared.vector.Vector.{Vector}
 use Rattle.qm_geom.proofs.Kept.{kept, fits_64, fits_128}
 use Rattle.qm_geom.proofs.Vectors.{vector, point, vector_kept, small_vector, IsWithin-more}
 
 -- the cross products of the normals in pairs, by the distances, over the triple product
-abbrev pub by_crosses : Plane → Plane → Plane → Point
+abbrev by_crosses : Plane → Plane → Plane → Point
 by_crosses a b c =
     let u = cross (normal_of b) (normal_of c) in
     let v = cross (normal_of c) (normal_of a) in
@@ -28,7 +28,7 @@ by_crosses a b c =
       w = dot (normal_of a) u;
     }
 
-pub by_crosses_is : (a b c : Plane) → by_crosses a b c ≡ meet a b c
+by_crosses_is : (a b c : Plane) → by_crosses a b c ≡ meet a b c
 unfolding meet determinant cross dot
 by_crosses_is a b c =
     let f = plane_from 0 in let g = plane_from 4 in let h = plane_from 8 in

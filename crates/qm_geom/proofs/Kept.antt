@@ -1,8 +1,11 @@
 -- What the code's sums, differences and products are: the numbers themselves, where they fit.
-use Rattle.std.proofs.Common.{◌≡◌, ◌≤◌, ◌*◌, ◌^◌, ◌∙◌, ℕ, ℤ, ◌+ℤ◌, ◌-ℤ◌, ◌-◌, ◌*ℤ◌, FitsSigned, to_z, of_z, ◌+◌, w32, w64, mul-le-mul, unsigned_abs, arith, lit≤, refl}
+use Rattle.std.proofs.Common.{◌≡◌, ◌≤◌, ◌<◌, suc, pos, negsuc, int_div, ◌*◌, ◌^◌, ◌∙◌, ℕ, ℤ, ◌+ℤ◌, ◌-ℤ◌, ◌-◌, ◌*ℤ◌, FitsSigned, to_z, of_z, ◌+◌, w32, w64, mul-le-mul, unsigned_abs, arith, lit≤, refl}
 use mir.Syntax.{Width, w128}
-use Rattle.std.proofs.lemmas.Int.{ints, to_z-of_z, fits_signed_from_abs}
+use Rattle.std.proofs.lemmas.Int.{ints, to_z-of_z, to_z_pos, quot_fits, fits_signed_from_abs}
+use Rattle.std.proofs.Math.Nat.{div-le_self}
 use Rattle.qm_space.proofs.Signs.{abs_sum, abs_difference, abs_product, abs_product_bound}
+use Rattle.qm_geom.proofs.Bits.{kept_128}
+use Rattle.qm_geom.proofs.Roundings.{twice_is}
 
 -- a number as the code keeps it
 abbrev pub kept : Width → ℤ → ℤ
@@ -173,3 +176,27 @@ factors_small a b m n k h l x y p =
 pub factors_answered : (r a b : ℤ) (m n : ℕ) → unsigned_abs a ≤ m → unsigned_abs b ≤ n → m ≤ 2 ^ 63 - 1 → n ≤ 2 ^ 127 - 1 → r ≡ kept w64 a *ℤ kept w128 b → r ≡ a *ℤ b
 factors_answered r a b m n h l x y e =
     e ∙ rw (to_z-of_z w64 a (fits_64 a m h x), to_z-of_z w128 b (fits_128 b n l y)) refl
+
+-- ---- quotients
+
+pub quotient_kept : (a : ℤ) (k : ℕ) → FitsSigned w64 a → 0 < k → k < 2 ^ 41 → to_z w64 (of_z w64 (int_div (to_z w64 (of_z w64 a)) (to_z w64 k))) ≡ int_div a (pos k)
+quotient_kept a k f p small =
+    rw (to_z-of_z w64 a f, to_z_pos w64 k (omega arith)) (to_z-of_z w64 (int_div a (pos k)) (quot_fits w64 a (pos k) f (omega (arith, ints))))
+
+pub quotient_small : (a : ℤ) (k : ℕ) → unsigned_abs (int_div a (pos k)) ≤ unsigned_abs a
+quotient_small (pos n) k = div-le_self n k
+quotient_small (negsuc n) k = let h = div-le_self (suc n) k in omega (arith, ints)
+
+-- twice a number, and one more, as the code adds them
+pub doubled_sum_kept : (a b : ℤ) → unsigned_abs a ≤ 3 * 2 ^ 97 → unsigned_abs b ≤ 3 * 2 ^ 79 → to_z w128 (of_z w128 (to_z w128 (of_z w128 (pos 2 *ℤ to_z w128 (of_z w128 a))) +ℤ to_z w128 (of_z w128 b))) ≡ (a +ℤ a) +ℤ b
+doubled_sum_kept a b h k =
+    rw (kept_128 a _ h (lit≤ tt), kept_128 b _ k (lit≤ tt), twice_is a) (twice_sum a b h k)
+  where
+    twice_sum : (a b : ℤ) → unsigned_abs a ≤ 3 * 2 ^ 97 → unsigned_abs b ≤ 3 * 2 ^ 79 → to_z w128 (of_z w128 (to_z w128 (of_z w128 (a +ℤ a)) +ℤ b)) ≡ (a +ℤ a) +ℤ b
+    twice_sum a b h k = omega (arith, ints)
+
+pub doubled_kept : (b : ℤ) → unsigned_abs b ≤ 3 * 2 ^ 79 → to_z w128 (of_z w128 (pos 2 *ℤ to_z w128 (of_z w128 b))) ≡ b +ℤ b
+doubled_kept b k = rw (kept_128 b _ k (lit≤ tt), twice_is b) (twice b k)
+  where
+    twice : (b : ℤ) → unsigned_abs b ≤ 3 * 2 ^ 79 → to_z w128 (of_z w128 (b +ℤ b)) ≡ b +ℤ b
+    twice b k = omega (arith, ints)

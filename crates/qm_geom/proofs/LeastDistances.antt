@@ -10,8 +10,9 @@ use Rattle.qm_space.specs.Point.{Point}
 use Rattle.qm_space.specs.Plane.{value, IsInFront}
 use Rattle.qm_space.proofs.IntegerProducts.{linear}
 use Rattle.qm_space.proofs.Signs.{by_least, times_at_most, abs_sum, abs_product_bound}
-use Rattle.qm_geom.specs.LeastDistance.{plane_at, IsComponent, IsLeastDistance, IsLeastDistanceOf}
-use Rattle.qm_geom.specs.Vectors.{vector_of, step_to, dot, IsWithin}
+use Rattle.qm_geom.specs.LeastDistance.{plane_at, IsComponent, IsLeastDistance}
+use Rattle.qm_geom.specs.inner.LeastDistanceOf.{IsLeastDistanceOf}
+use Rattle.qm_geom.specs.inner.Vectors.{vector_of, step_to, dot, IsWithin}
 use Rattle.qm_geom.specs.declared.vector.Vector.{Vector}
 use Rattle.qm_geom.specs.Rounding.{IsRoundedUp, HasSmallCoordinates}
 

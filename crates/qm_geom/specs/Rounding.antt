@@ -1,4 +1,4 @@
-use Rattle.std.specs.Prelude.{◌≡◌, ℤ, pos, ◌*◌, ◌^◌, ◌≤◌, ◌<◌, ◌+ℤ◌, ◌-ℤ◌, ◌*ℤ◌, ◌≤ℤ◌, ◌<ℤ◌, unsigned_abs, List, slice_index_or}
+use Rattle.std.specs.Prelude.{◌≡◌, ℤ, pos, ◌*◌, ◌≤◌, ◌<◌, ◌+ℤ◌, ◌-ℤ◌, ◌*ℤ◌, ◌≤ℤ◌, ◌<ℤ◌, unsigned_abs, List, slice_index_or}
 use Rattle.qm_space.specs.Point.{Point}
 
 -- Whole numbers near the fraction over / under, for under above 0.
@@ -29,10 +29,3 @@ pub record HasSmallCoordinates (p : Point) : Type 0 where
   pub x_small : unsigned_abs p.x ≤ 65536 * unsigned_abs p.w
   pub y_small : unsigned_abs p.y ≤ 65536 * unsigned_abs p.w
   pub z_small : unsigned_abs p.z ≤ 65536 * unsigned_abs p.w
-
--- a coordinate of at most 65,536 in absolute value, as a fraction of numbers that a corner may have
-pub record IsSmallCoordinate (over under : ℤ) : Type 0 where
-  pub positive : pos 0 <ℤ under
-  pub small : unsigned_abs over ≤ 65536 * unsigned_abs under
-  pub over_size : unsigned_abs over ≤ 3 * 2 ^ 97
-  pub under_size : unsigned_abs under ≤ 3 * 2 ^ 79

@@ -3,7 +3,7 @@ ghost use Rattle.std.specs.Ordering.{int_cmp};
 ghost use Rattle.qm_space.specs.Plane.{flipped, value};
 ghost use Rattle.qm_space.specs.Point.{whole_point, AreCoordinates};
 ghost use Rattle.qm_space.specs.ThreePoints.{plane_through, IsPlaneThrough, AreOnOneLine};
-ghost use Rattle.qm_geom.specs.Vectors.{normal_of, IsWithin};
+ghost use Rattle.qm_geom.specs.inner.Vectors.{normal_of, IsWithin};
 
 use crate::point::Point;
 use crate::unreduced::UnreducedPlane;

@@ -10,7 +10,7 @@ pub(crate) struct Vector {
 }
 
 impl Vector {
-    ghost use Rattle.qm_geom.specs.Vectors.{vector_of, step_between, cross, dot, IsWithin};
+    ghost use Rattle.qm_geom.specs.inner.Vectors.{vector_of, step_between, cross, dot, IsWithin};
 
     /// Three numbers.
     pub(crate) fn of(numbers: [i32; 3]) -> Vector

@@ -1,14 +1,15 @@
-use Rattle.qm_geom.proofs.Flipped.{turned_32}
+use Rattle.std.proofs.Common.{lit≤}
+use Rattle.qm_geom.proofs.Bits.{negated_32}
 use Rattle.qm_convex.proofs.Squares.{opposite_reduced}
 use Rattle.qm_wind.proofs.WallsAcross.{kept_64}
 use Rattle.qm_wind.proofs.walls.opposite.Goals as goal
 
 pub invariant_of-result : goal.invariant_of-result
 invariant_of-result c =
-    rw (turned_32 _ c.wall.invariant.nx_small, turned_32 _ c.wall.invariant.ny_small, turned_32 _ c.wall.invariant.nz_small, kept_64 _ c.wall.invariant.d_small)
+    rw (negated_32 _ _ c.wall.invariant.nx_small (lit≤ tt), negated_32 _ _ c.wall.invariant.ny_small (lit≤ tt), negated_32 _ _ c.wall.invariant.nz_small (lit≤ tt), kept_64 _ c.wall.invariant.d_small)
     (opposite_reduced _ c.wall.invariant)
 
 pub returns : goal.returns
 returns c =
-    rw (turned_32 _ c.wall.invariant.nx_small, turned_32 _ c.wall.invariant.ny_small, turned_32 _ c.wall.invariant.nz_small, kept_64 _ c.wall.invariant.d_small)
+    rw (negated_32 _ _ c.wall.invariant.nx_small (lit≤ tt), negated_32 _ _ c.wall.invariant.ny_small (lit≤ tt), negated_32 _ _ c.wall.invariant.nz_small (lit≤ tt), kept_64 _ c.wall.invariant.d_small)
     (rw (← c.wall.view_is))
