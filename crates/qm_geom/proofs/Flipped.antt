@@ -1,4 +1,4 @@
-use Rattle.std.proofs.Common.{◌≡◌, ◌≤◌, ◌^◌, arith, subst, ℕ, ℤ, pos, neg_ℤ, ◌-ℤ◌, to_z, of_z, w32, w64, unsigned_abs}
+use Rattle.std.proofs.Common.{◌≡◌, ◌≤◌, arith, subst, ℕ, ℤ, pos, neg_ℤ, unsigned_abs}
 use Rattle.std.specs.Int.{◌∣◌}
 use Rattle.std.proofs.lemmas.Int.{ints}
 use Rattle.qm_space.specs.Plane.{Plane, flipped}
@@ -24,10 +24,3 @@ IsReduced-flipped h r = record {
   nz_small = small_neg h.nz _ r.nz_small;
   d_small = small_neg h.d _ r.d_small;
 }
-
--- what the code's `-z` gives
-pub turned_32 : (z : ℤ) → unsigned_abs z ≤ 2 ^ 26 → to_z w32 (of_z w32 (pos 0 -ℤ to_z w32 (of_z w32 z))) ≡ neg_ℤ z
-turned_32 z h = omega (arith, ints)
-
-pub turned_64 : (z : ℤ) (n : ℕ) → unsigned_abs z ≤ n → n ≤ 2 ^ 44 → to_z w64 (of_z w64 (pos 0 -ℤ to_z w64 (of_z w64 z))) ≡ neg_ℤ z
-turned_64 z n h small = omega (arith, ints)

@@ -1,5 +1,5 @@
 -- The least distance at which corners are not in front of a plane.
-use Rattle.std.proofs.Common.{◌≡◌, ℕ, ◌+◌, ◌*◌, ◌≤◌, ◌<◌, ◌^◌, ℤ, pos, ◌+ℤ◌, ◌-ℤ◌, ◌*ℤ◌, ◌≤ℤ◌, ◌<ℤ◌, List, [], ◌∷◌, slice_index_or, get_or, length, take, refl, sym, subst, ap, ◌∙◌, arith, unsigned_abs}
+use Rattle.std.proofs.Common.{◌≡◌, ℕ, ◌+◌, ◌*◌, ◌≤◌, ◌<◌, ◌^◌, ℤ, pos, ◌+ℤ◌, ◌-ℤ◌, ◌*ℤ◌, ◌≤ℤ◌, ◌<ℤ◌, List, slice_index_or, get_or, length, take, refl, sym, subst, arith, unsigned_abs}
 use Rattle.std.specs.Int.{int_max}
 use Rattle.std.specs.List.{All, Any}
 use Rattle.std.proofs.lemmas.Int.{ints, clamps}
@@ -10,31 +10,18 @@ use Rattle.qm_space.specs.Point.{Point}
 use Rattle.qm_space.specs.Plane.{value, IsInFront}
 use Rattle.qm_numbers.proofs.IntegerProducts.{linear}
 use Rattle.qm_numbers.proofs.Signs.{by_least, times_at_most, abs_sum, abs_product_bound}
-use Rattle.qm_numbers.proofs.Ring.{variable, number, ◌⊕◌, ◌⊖◌, ◌⊗◌, solved}
-use Rattle.qm_geom.specs.LeastDistance.{plane_at, IsComponent, IsLeastDistance, IsLeastDistanceOf}
+use Rattle.qm_geom.specs.LeastDistance.{plane_at, IsComponent, IsLeastDistance}
+use Rattle.qm_geom.specs.inner.LeastDistanceOf.{IsLeastDistanceOf}
+use Rattle.qm_geom.specs.inner.Vectors.{vector_of, step_to, dot, IsWithin}
+use Rattle.qm_geom.specs.declared.vector.Vector.{Vector}
 use Rattle.qm_geom.specs.Rounding.{IsRoundedUp, HasSmallCoordinates}
 
--- the sum of three products
-abbrev pub along : List ℤ → Point → ℤ
-along normal p =
-    ((slice_index_or normal 0 (pos 0) *ℤ p.x) +ℤ (slice_index_or normal 1 (pos 0) *ℤ p.y)) +ℤ (slice_index_or normal 2 (pos 0) *ℤ p.z)
+-- the distance is taken off the dot product of the normal and the point's numerators
+value_at : (normal : List ℤ) (d : ℤ) (p : Point) → value (plane_at normal d) p ≡ dot (vector_of normal) (step_to p) -ℤ (d *ℤ p.w)
+unfolding value dot
+value_at normal d p = refl
 
-pub along_is : (normal : List ℤ) (p : Point) → value (plane_at normal (pos 0)) p ≡ along normal p
-unfolding value
-along_is normal p =
-    let v = variable in
-    solved (slice_index_or normal 0 (pos 0) ∷ slice_index_or normal 1 (pos 0) ∷ slice_index_or normal 2 (pos 0) ∷ p.x ∷ p.y ∷ p.z ∷ p.w ∷ [])
-    (v 0 ⊗ v 3 ⊕ v 1 ⊗ v 4 ⊕ v 2 ⊗ v 5 ⊖ number (pos 0) ⊗ v 6) (v 0 ⊗ v 3 ⊕ v 1 ⊗ v 4 ⊕ v 2 ⊗ v 5) tt
-
-value_opened : (normal : List ℤ) (d : ℤ) (p : Point) → value (plane_at normal d) p ≡ along normal p -ℤ (d *ℤ p.w)
-unfolding value
-value_opened normal d p = refl
-
--- the distance is taken off
-value_at : (normal : List ℤ) (d : ℤ) (p : Point) → value (plane_at normal d) p ≡ value (plane_at normal (pos 0)) p -ℤ (d *ℤ p.w)
-value_at normal d p = value_opened normal d p ∙ ap (λ z. z -ℤ (d *ℤ p.w)) (sym (along_is normal p))
-
-pub up_is_least : (normal : List ℤ) (p : Point) (q : ℤ) → pos 0 <ℤ p.w → IsRoundedUp (value (plane_at normal (pos 0)) p) p.w q → IsLeastDistanceOf normal p q
+pub up_is_least : (normal : List ℤ) (p : Point) (q : ℤ) → pos 0 <ℤ p.w → IsRoundedUp (dot (vector_of normal) (step_to p)) p.w q → IsLeastDistanceOf normal p q
 up_is_least normal p q h r = record {
   not_in_front = λ d l.
       let e = value_at normal d p in let t = times_at_most p.w q d (omega (arith, linear)) l in
@@ -46,17 +33,20 @@ up_is_least normal p q h r = record {
       omega (arith, linear);
 }
 
--- it is at most 3 · 2^42
-pub along_small : (normal : List ℤ) (p : Point) → IsComponent (slice_index_or normal 0 (pos 0)) → IsComponent (slice_index_or normal 1 (pos 0)) → IsComponent (slice_index_or normal 2 (pos 0)) → HasSmallCoordinates p → unsigned_abs (value (plane_at normal (pos 0)) p) ≤ 2 ^ 44 * unsigned_abs p.w
-along_small normal p i j k s =
+-- the dot product is at most 3 · 2^42 denominators
+pub along_small : (v : Vector) (p : Point) → IsWithin v (2 ^ 26) → HasSmallCoordinates p → unsigned_abs (dot v (step_to p)) ≤ 2 ^ 44 * unsigned_abs p.w
+unfolding dot
+along_small v p i s =
     let n = 65536 * unsigned_abs p.w in
-    let a = slice_index_or normal 0 (pos 0) in let b = slice_index_or normal 1 (pos 0) in let c = slice_index_or normal 2 (pos 0) in
-    let x = abs_product_bound a p.x (2 ^ 26) n i s.x_small in
-    let y = abs_product_bound b p.y (2 ^ 26) n j s.y_small in
-    let z = abs_product_bound c p.z (2 ^ 26) n k s.z_small in
-    let t = abs_sum (a *ℤ p.x) (b *ℤ p.y) in
-    let u = abs_sum ((a *ℤ p.x) +ℤ (b *ℤ p.y)) (c *ℤ p.z) in
-    rw (along_is normal p) (omega arith)
+    let x = abs_product_bound v.x p.x (2 ^ 26) n i.x_small s.x_small in
+    let y = abs_product_bound v.y p.y (2 ^ 26) n i.y_small s.y_small in
+    let z = abs_product_bound v.z p.z (2 ^ 26) n i.z_small s.z_small in
+    let t = abs_sum (v.x *ℤ p.x) (v.y *ℤ p.y) in
+    let u = abs_sum ((v.x *ℤ p.x) +ℤ (v.y *ℤ p.y)) (v.z *ℤ p.z) in
+    omega arith
+
+pub components_small : (normal : List ℤ) → IsComponent (slice_index_or normal 0 (pos 0)) → IsComponent (slice_index_or normal 1 (pos 0)) → IsComponent (slice_index_or normal 2 (pos 0)) → IsWithin (vector_of normal) (2 ^ 26)
+components_small normal x y z = record { x_small = x; y_small = y; z_small = z }
 
 -- ---- of several corners, one after another
 

@@ -1,4 +1,4 @@
-use Rattle.std.proofs.Common.{◌≡◌, ℤ, ℕ, zero, suc, ◌+◌, ◌<◌, ◌^◌, List, [], ◌∷◌, ◌++◌, length, ◌⊎◌, inl, inr, refl, sym, subst, ap, ◌∙◌, arith, Bool, true, false, length-append, slice_get, Some, None, IsTrue, ⊎_elim}
+use Rattle.std.proofs.Common.{◌≡◌, ℤ, ℕ, ◌+◌, ◌<◌, ◌^◌, List, [], ◌∷◌, ◌++◌, length, refl, sym, subst, ap, ◌∙◌, arith, true, length-append, slice_get, Some, None, IsTrue, ⊎_elim}
 use Rattle.std.specs.declared.cmp.Ordering.{Ordering}
 use Rattle.std.specs.declared.cmp.Ordering.TheVariants.{Less, Equal, Greater}
 use Rattle.std.specs.BTreeMap.{BTreeMap, get, Updates, IsUnchanged}
@@ -8,25 +8,10 @@ use Rattle.std.proofs.lemmas.Cmp.{tied_itself, then_total, on_total, int_cmp_tot
 use Rattle.std.proofs.lemmas.Map.Lookups.{exact_signed}
 use Rattle.qm_space.specs.Plane.{Plane}
 use Rattle.qm_space.specs.Reduced.{leads_positive, IsReduced}
-use Rattle.qm_geom.specs.Planes.{AreBookPlanes, IsNumbered, plane_cmp}
-
--- ---- places in a list that gains an element at its end
-
-pub slice_get-push_old : (xs : List Plane) (x y : Plane) (n : ℕ) → slice_get xs n ≡ Some y → slice_get (xs ++ x ∷ []) n ≡ Some y
-slice_get-push_old [] x y n h = cc
-slice_get-push_old (z ∷ zs) x y zero h = h
-slice_get-push_old (z ∷ zs) x y (suc n) h = slice_get-push_old zs x y n h
-
-pub slice_get-push_last : (xs : List Plane) (x : Plane) → slice_get (xs ++ x ∷ []) (length xs) ≡ Some x
-slice_get-push_last [] x = refl
-slice_get-push_last (z ∷ zs) x = slice_get-push_last zs x
-
-pub slice_get-push_cases : (xs : List Plane) (x y : Plane) (n : ℕ) → slice_get (xs ++ x ∷ []) n ≡ Some y → (slice_get xs n ≡ Some y) ⊎ ((n ≡ length xs) × (x ≡ y))
-slice_get-push_cases [] x y zero h = inr (refl, cc)
-slice_get-push_cases [] x y (suc n) h = cc
-slice_get-push_cases (z ∷ zs) x y zero h = inl h
-slice_get-push_cases (z ∷ zs) x y (suc n) h =
-    ⊎_elim (λ e. inl e) (λ e. inr (ap suc e.0, e.1)) (slice_get-push_cases zs x y n h)
+use Rattle.qm_geom.specs.Planes.{AreBookPlanes, plane_cmp}
+use Rattle.qm_geom.specs.inner.Numbered.{IsNumbered}
+use Rattle.qm_geom.proofs.Places.{slice_get-push_old, slice_get-push_last, slice_get-push_cases}
+use Rattle.qm_geom.proofs.Cases.{by_cases}
 
 -- ---- the order of planes
 
@@ -68,10 +53,6 @@ same_from_is_eq g h e =
 
 -- ---- the numbers of a book's planes
 
-by_test : {P : Type 0} (b : Bool) → (b ≡ true → P) → (b ≡ false → P) → P
-by_test true when_true when_false = when_true refl
-by_test false when_true when_false = when_false refl
-
 pub IsNumbered-same : (xs ys : List Plane) (m n : BTreeMap Plane ℕ) → ys ≡ xs → IsUnchanged m n → IsNumbered xs m → IsNumbered ys n
 IsNumbered-same xs ys m n e u b =
     rw e record {
@@ -87,13 +68,13 @@ IsNumbered-gained xs x m n b low leads absent u room = record {
   reduced = λ k h at. ⊎_elim (λ e. b.reduced k h e) (λ e. subst IsReduced e.1 low) (slice_get-push_cases xs x h k at);
   leads = λ k h at. ⊎_elim (λ e. b.leads k h e) (λ e. let P : Plane → Type 0 = λ g. IsTrue (leads_positive g) in subst P e.1 leads) (slice_get-push_cases xs x h k at);
   placed = λ k h at. ⊎_elim (λ e. stays h k (b.placed k h e)) (λ e. let P : Plane → Type 0 = λ g. get plane_cmp n g ≡ Some k in subst P e.1 (u.1 ∙ ap Some (sym e.0))) (slice_get-push_cases xs x h k at);
-  found = λ k h at. by_test (is_eq (plane_cmp x h)) (λ tied. here h k at tied) (λ apart. slice_get-push_old xs x h k (b.found k h (sym (u.2 h apart) ∙ at)));
+  found = λ k h at. by_cases (is_eq (plane_cmp x h)) (λ tied. here h k at tied) (λ apart. slice_get-push_old xs x h k (b.found k h (sym (u.2 h apart) ∙ at)));
   short = omega (arith, length-append xs (x ∷ []));
 }
   where
     stays : (h : Plane) (k : ℕ) → get plane_cmp m h ≡ Some k → get plane_cmp n h ≡ Some k
     stays h k at =
-        by_test (is_eq (plane_cmp x h)) (λ tied. let e : x ≡ h = same_from_is_eq x h tied in let f : get plane_cmp m h ≡ None = subst (λ (g : Plane). get plane_cmp m g ≡ None) e absent in cc) (λ apart. u.2 h apart ∙ at)
+        by_cases (is_eq (plane_cmp x h)) (λ tied. let e : x ≡ h = same_from_is_eq x h tied in let f : get plane_cmp m h ≡ None = subst (λ (g : Plane). get plane_cmp m g ≡ None) e absent in cc) (λ apart. u.2 h apart ∙ at)
 
     here : (h : Plane) (k : ℕ) → get plane_cmp n h ≡ Some k → is_eq (plane_cmp x h) ≡ true → slice_get (xs ++ x ∷ []) k ≡ Some h
     here h k at tied =

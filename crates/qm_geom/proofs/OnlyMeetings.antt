@@ -3,13 +3,11 @@ use Rattle.std.proofs.Common.{◌≡◌, ℤ, pos, negsuc, true, false, ◌+ℤ�
 use Rattle.std.proofs.lemmas.Int.{ints}
 use Rattle.qm_space.specs.Point.{Point, point_sum, point_times}
 use Rattle.qm_space.specs.Plane.{Plane, IsOn}
-use Rattle.qm_space.specs.Meet.{meet, HasMeetSizes}
-use Rattle.qm_space.specs.Reduced.{IsReduced}
+use Rattle.qm_space.specs.Meet.{meet}
 use Rattle.qm_numbers.proofs.IntegerProducts.{linear, *ℤ-+ℤ}
 use Rattle.qm_numbers.proofs.Signs.{by_sign, zero_beside_positive}
 use Rattle.qm_space.proofs.Planes.{first_holds_meet, second_holds_meet, third_holds_meet, meet_only, meet_exchanged}
 use Rattle.qm_space.proofs.Directions.{common_direction, another_point}
-use Rattle.qm_space.proofs.Sizes.{meet_sizes}
 use Rattle.qm_geom.specs.Corners.{is_negative, with_positive_weight, MeetBeside, MeetOnlyIn}
 
 -- where w is above 0, the meeting point is the only one
@@ -88,9 +86,6 @@ turned_times p h = by_negative p.w (λ e. rw e refl) (λ e. absurd (some_negativ
     some_negative : (z : ℤ) → z <ℤ pos 0 → is_negative z ≡ false → ⊥
     some_negative (pos n) h e = omega (arith, ints)
     some_negative (negsuc n) h e = cc
-
-pub turned_sizes : (a b c : Plane) → IsReduced a → IsReduced b → IsReduced c → HasMeetSizes (with_positive_weight (meet a b c))
-turned_sizes a b c h k l = by_turned HasMeetSizes a b c (meet_sizes b a c k h l) (meet_sizes a b c h k l)
 
 not_negative : (p : Point) → pos 0 ≤ℤ (with_positive_weight p).w
 unfolding with_positive_weight

@@ -1,22 +1,18 @@
 -- What the code's numbers of 128 bits hold: the number itself, since it fits.
-use Rattle.std.proofs.Common.{◌≡◌, ◌≤◌, ◌*◌, ◌^◌, ℕ, ℤ, pos, negsuc, neg_ℤ, ◌+ℤ◌, ◌-ℤ◌, ◌*ℤ◌, ◌<ℤ◌, ◌<◌, FitsSigned, to_z, of_z, w32, w64, sym, subst, unsigned_abs, arith, lit≤, refl}
+use Rattle.std.proofs.Common.{◌≡◌, ◌≤◌, ◌*◌, ◌^◌, ℕ, ℤ, pos, negsuc, neg_ℤ, ◌-ℤ◌, ◌*ℤ◌, ◌<ℤ◌, FitsSigned, to_z, of_z, w32, sym, subst, unsigned_abs, arith, lit≤}
 use mir.Syntax.{w128}
 use Rattle.std.proofs.lemmas.Int.{ints, to_z-of_z}
 use Rattle.qm_space.specs.Point.{Point, point_times}
 use Rattle.qm_space.specs.Meet.{HasMeetSizes}
 use Rattle.qm_space.proofs.Planes.{same_point}
 use Rattle.qm_geom.specs.Corners.{IsCorner}
-use Rattle.qm_geom.proofs.Roundings.{twice_is}
-
-pub kept_128 : (z : ℤ) (n : ℕ) → unsigned_abs z ≤ n → n ≤ 3 * 2 ^ 125 → to_z w128 (of_z w128 z) ≡ z
-kept_128 z n h small = omega (arith, ints)
+use Rattle.qm_geom.specs.inner.SmallCoordinate.{IsSmallCoordinate}
+use Rattle.qm_geom.specs.Rounding.{HasSmallCoordinates}
+use Rattle.qm_geom.proofs.Bits.{kept_128}
 
 -- what the code's `-z` gives
 turned_128 : (z : ℤ) (n : ℕ) → unsigned_abs z ≤ n → n ≤ 2 ^ 126 → to_z w128 (of_z w128 (pos 0 -ℤ to_z w128 (of_z w128 z))) ≡ negsuc 0 *ℤ z
 turned_128 z n h small = let e : negsuc 0 *ℤ z ≡ neg_ℤ z = omega (arith, ints) in omega (arith, ints)
-
-pub difference_kept_64 : (a b : ℤ) → unsigned_abs a ≤ 2 ^ 52 → unsigned_abs b ≤ 2 ^ 52 → to_z w64 (of_z w64 (to_z w64 (of_z w64 a) -ℤ to_z w64 (of_z w64 b))) ≡ a -ℤ b
-difference_kept_64 a b h k = omega (arith, ints)
 
 -- a point as its fields hold it, and as they hold it turned
 
@@ -43,45 +39,24 @@ held_turned_is p s =
 pub held_is_corner : (p : Point) → pos 0 <ℤ p.w → HasMeetSizes p → IsCorner (held p)
 held_is_corner p w s = subst IsCorner (sym (held_is p s)) (record { weight = w; sizes = s })
 
--- the code's test `z == 0`
-
-pub zero_from_bits : (z : ℤ) (n : ℕ) → unsigned_abs z ≤ n → n ≤ 3 * 2 ^ 125 → of_z w128 z ≡ 0 → z ≡ pos 0
-zero_from_bits z n h small e = let k = kept_128 z n h small in omega (arith, ints)
-
-pub bits_of_zero : (z : ℤ) → z ≡ pos 0 → of_z w128 z ≡ 0
-bits_of_zero z e = rw e refl
-
--- what a cast to fewer bits gives
-
-pub narrowed_64 : (z : ℤ) → unsigned_abs z ≤ 2 ^ 44 → to_z w64 (of_z w64 (to_z w128 (of_z w128 z))) ≡ z
-narrowed_64 z h = omega (arith, ints)
-
-pub narrowed_32 : (z : ℤ) → unsigned_abs z ≤ 65536 → to_z w32 (of_z w32 (to_z w64 (of_z w64 z))) ≡ z
-narrowed_32 z h = omega (arith, ints)
-
-pub fits_32 : (z : ℤ) → unsigned_abs z ≤ 65536 → FitsSigned w32 (to_z w64 (of_z w64 z))
-fits_32 z h = omega (arith, ints)
-
--- what the code's `-z` gives, for any number but the least
-
-pub negated_128 : (z : ℤ) → unsigned_abs z < 2 ^ 127 → to_z w128 (of_z w128 (pos 0 -ℤ to_z w128 (of_z w128 z))) ≡ neg_ℤ z
-negated_128 z h = omega (arith, ints)
-
--- twice a number, and one more, as the code adds them
-pub doubled_sum_kept : (a b : ℤ) → unsigned_abs a ≤ 2 ^ 124 → unsigned_abs b ≤ 2 ^ 124 → to_z w128 (of_z w128 (to_z w128 (of_z w128 (pos 2 *ℤ to_z w128 (of_z w128 a))) +ℤ to_z w128 (of_z w128 b))) ≡ (a +ℤ a) +ℤ b
-doubled_sum_kept a b h k =
-    rw (kept_128 a _ h (lit≤ tt), kept_128 b _ k (lit≤ tt), twice_is a) (twice_sum a b h k)
-  where
-    twice_sum : (a b : ℤ) → unsigned_abs a ≤ 2 ^ 124 → unsigned_abs b ≤ 2 ^ 124 → to_z w128 (of_z w128 (to_z w128 (of_z w128 (a +ℤ a)) +ℤ b)) ≡ (a +ℤ a) +ℤ b
-    twice_sum a b h k = omega (arith, ints)
-
-pub doubled_kept : (b : ℤ) → unsigned_abs b ≤ 2 ^ 124 → to_z w128 (of_z w128 (pos 2 *ℤ to_z w128 (of_z w128 b))) ≡ b +ℤ b
-doubled_kept b k = rw (kept_128 b _ k (lit≤ tt), twice_is b) (twice b k)
-  where
-    twice : (b : ℤ) → unsigned_abs b ≤ 2 ^ 124 → to_z w128 (of_z w128 (b +ℤ b)) ≡ b +ℤ b
-    twice b k = omega (arith, ints)
-
 -- what holds of the numbers as the code holds them, holds of the numbers
 pub rule_kept : (Rule : ℤ → ℤ → ℤ → Type 0) (a b q : ℤ) → unsigned_abs a ≤ 3 * 2 ^ 97 → unsigned_abs b ≤ 3 * 2 ^ 79 → FitsSigned w32 q → Rule (to_z w128 (of_z w128 a)) (to_z w128 (of_z w128 b)) q → Rule a b (to_z w32 (of_z w32 q))
 rule_kept Rule a b q h k l r =
     rw (to_z-of_z w32 q l) (rw (kept_128 a _ h (lit≤ tt), kept_128 b _ k (lit≤ tt)) at r)
+
+-- the coordinates of a corner, as the code gives them to be rounded
+
+small_kept : (a b : ℤ) → IsSmallCoordinate a b → IsSmallCoordinate (to_z w128 (of_z w128 a)) (to_z w128 (of_z w128 b))
+small_kept a b h = rw (kept_128 a _ h.over_size (lit≤ tt), kept_128 b _ h.under_size (lit≤ tt)) h
+
+pub x_kept : (p : Point) → IsCorner p → HasSmallCoordinates p → IsSmallCoordinate (to_z w128 (of_z w128 p.x)) (to_z w128 (of_z w128 p.w))
+x_kept p c s =
+    small_kept p.x p.w (record { positive = c.weight; small = s.x_small; over_size = c.sizes.x_small; under_size = c.sizes.w_small })
+
+pub y_kept : (p : Point) → IsCorner p → HasSmallCoordinates p → IsSmallCoordinate (to_z w128 (of_z w128 p.y)) (to_z w128 (of_z w128 p.w))
+y_kept p c s =
+    small_kept p.y p.w (record { positive = c.weight; small = s.y_small; over_size = c.sizes.y_small; under_size = c.sizes.w_small })
+
+pub z_kept : (p : Point) → IsCorner p → HasSmallCoordinates p → IsSmallCoordinate (to_z w128 (of_z w128 p.z)) (to_z w128 (of_z w128 p.w))
+z_kept p c s =
+    small_kept p.z p.w (record { positive = c.weight; small = s.z_small; over_size = c.sizes.z_small; under_size = c.sizes.w_small })

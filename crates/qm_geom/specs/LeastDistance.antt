@@ -21,8 +21,3 @@ IsComponent n = unsigned_abs n ≤ normal_bound
 pub record IsLeastDistance (normal : List ℤ) (corners : List Point) (least : ℤ) : Type 0 where
   pub none_in_front : (d : ℤ) → least ≤ℤ d → All (λ p. value (plane_at normal d) p ≤ℤ pos 0) corners
   pub some_in_front : (d : ℤ) → d <ℤ least → Any (λ p. IsInFront (plane_at normal d) p) corners
-
--- the same of one corner
-pub record IsLeastDistanceOf (normal : List ℤ) (p : Point) (least : ℤ) : Type 0 where
-  pub not_in_front : (d : ℤ) → least ≤ℤ d → value (plane_at normal d) p ≤ℤ pos 0
-  pub in_front : (d : ℤ) → d <ℤ least → IsInFront (plane_at normal d) p

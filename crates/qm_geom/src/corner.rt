@@ -1,21 +1,24 @@
-ghost use Rattle.std.specs.Prelude.{◌≡◌, ◌<◌, ◌≤◌, ◌*◌, ◌^◌, ℕ, pos, ◌*ℤ◌, ◌+ℤ◌, ◌-ℤ◌, ◌<ℤ◌, unsigned_abs, IfSome, IfNone};
+ghost use Rattle.std.specs.Prelude.{◌≡◌, ◌<◌, ◌≤◌, ◌*◌, ◌^◌, ℕ, pos, ◌*ℤ◌, ◌<ℤ◌, unsigned_abs, IfSome, IfNone};
 ghost use Rattle.std.specs.List.{All};
 ghost use Rattle.std.specs.Ordering.{int_cmp};
 ghost use Rattle.qm_space.specs.Point.{Point};
 ghost use Rattle.qm_space.specs.Plane.{value, IsOn};
 ghost use Rattle.qm_space.specs.Meet.{meet, HasMeetSizes};
 ghost use Rattle.qm_geom.specs.Corners.{numerator, with_positive_weight, MeetBeside, MeetOnlyIn};
-ghost use Rattle.qm_geom.specs.LeastDistance.{plane_at, IsComponent, IsLeastDistanceOf};
+ghost use Rattle.qm_geom.specs.LeastDistance.{IsComponent};
+ghost use Rattle.qm_geom.specs.inner.LeastDistanceOf.{IsLeastDistanceOf};
+ghost use Rattle.qm_geom.specs.inner.Vectors.{dot, step_to, IsWithin};
 ghost use Rattle.qm_geom.specs.Rounding.{AreCoordinatesBy, HasSmallCoordinates, IsNearest, IsRoundedDown, IsRoundedUp};
 
 use crate::meeting::Meeting;
 use crate::plane::Plane;
 use crate::rounding::{coordinate_above, coordinate_below, nearest_coordinate, rounded_up};
+use crate::vector::Vector;
 use std::cmp::Ordering;
 use std::marker::Model;
 
 /// The one point in which three planes meet: three numerators over one positive denominator.
-#[derive(Clone, Copy, Debug)]
+#[derive(Clone, Copy)]
 pub struct Corner {
     x: i128,
     y: i128,
@@ -156,66 +159,33 @@ impl Corner {
         requires corner_small { HasSmallCoordinates self.now }
         ensures { IsLeastDistanceOf normal self.now result }
     {
-        rounded_up(self.along(normal), self.w)
+        rounded_up(self.along(&Vector::of(normal)), self.w)
     }
 
     /// The dot product of a normal with the three numerators.
-    fn along(&self, normal: [i32; 3]) -> i128
-        requires { All IsComponent normal }
-        ensures exact { result ≡ value (plane_at normal (pos 0)) self.now }
+    fn along(&self, normal: &Vector) -> i128
+        requires { IsWithin normal.now (2 ^ 26) }
+        ensures exact { result ≡ dot normal.now (step_to self.now) }
         ensures size { unsigned_abs result ≤ 9 * 2 ^ 123 }
     {
-        sum_of_three(
-            component_times(normal[0], self.x),
-            component_times(normal[1], self.y),
-            component_times(normal[2], self.z),
-        )
+        let of_x = times(normal.x, self.x);
+        let of_y = times(normal.y, self.y);
+        let of_z = times(normal.z, self.z);
+        of_x + of_y + of_z
     }
 
     fn value(&self, plane: &Plane) -> i128
         ensures { result ≡ value plane.now self.now }
     {
-        let along = sum_of_three(
-            component_times(plane.nx, self.x),
-            component_times(plane.ny, self.y),
-            component_times(plane.nz, self.z),
-        );
-        less(along, distance_times(plane.d, self.w))
+        self.along(&plane.normal()) - times(plane.d, self.w)
     }
 }
 
-fn component_times(component: i32, numerator: i128) -> i128
-    requires component_small { unsigned_abs component ≤ 2 ^ 26 }
-    requires numerator_small { unsigned_abs numerator ≤ 3 * 2 ^ 97 }
-    ensures exact { result ≡ component *ℤ numerator }
+/// A component of a normal times a numerator, or a distance times a denominator.
+fn times(first: i64, second: i128) -> i128
+    requires { unsigned_abs first * unsigned_abs second ≤ 3 * 2 ^ 123 }
+    ensures exact { result ≡ first *ℤ second }
     ensures size { unsigned_abs result ≤ 3 * 2 ^ 123 }
 {
-    i128::from(component) * numerator
-}
-
-fn distance_times(distance: i64, denominator: i128) -> i128
-    requires distance_small { unsigned_abs distance ≤ 2 ^ 44 }
-    requires denominator_small { unsigned_abs denominator ≤ 3 * 2 ^ 79 }
-    ensures exact { result ≡ distance *ℤ denominator }
-    ensures size { unsigned_abs result ≤ 3 * 2 ^ 123 }
-{
-    i128::from(distance) * denominator
-}
-
-fn sum_of_three(first: i128, second: i128, third: i128) -> i128
-    requires first_small { unsigned_abs first ≤ 3 * 2 ^ 123 }
-    requires second_small { unsigned_abs second ≤ 3 * 2 ^ 123 }
-    requires third_small { unsigned_abs third ≤ 3 * 2 ^ 123 }
-    ensures exact { result ≡ (first +ℤ second) +ℤ third }
-    ensures size { unsigned_abs result ≤ 9 * 2 ^ 123 }
-{
-    first + second + third
-}
-
-fn less(along: i128, distance: i128) -> i128
-    requires along_small { unsigned_abs along ≤ 9 * 2 ^ 123 }
-    requires distance_small { unsigned_abs distance ≤ 3 * 2 ^ 123 }
-    ensures { result ≡ along -ℤ distance }
-{
-    along - distance
+    i128::from(first) * second
 }

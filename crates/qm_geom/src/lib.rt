@@ -11,8 +11,6 @@ mod plane;
 mod plane_book;
 mod point;
 mod rounding;
-#[cfg(test)]
-mod tests;
 mod unreduced;
 mod vector;
 

@@ -1,7 +1,7 @@
-ghost use Rattle.std.specs.Prelude.{◌≡◌, ◌≤◌, ◌*◌, ◌^◌, ◌*ℤ◌, ◌+ℤ◌, ◌-ℤ◌, unsigned_abs};
+ghost use Rattle.std.specs.Prelude.{◌≡◌, ◌^◌};
 ghost use Rattle.qm_space.specs.Meet.{meet};
 ghost use Rattle.qm_geom.specs.Corners.{with_positive_weight};
-ghost use Rattle.qm_geom.specs.Vectors.{cross, normal_of, IsWithin};
+ghost use Rattle.qm_geom.specs.inner.Vectors.{cross, normal_of, IsWithin};
 
 use crate::plane::Plane;
 use crate::vector::Vector;
@@ -39,27 +39,28 @@ impl Meeting {
         let across_a = normals_crossed(b, c);
         let across_b = normals_crossed(c, a);
         let across_c = normals_crossed(a, b);
+        let distances = Vector {
+            x: a.d,
+            y: b.d,
+            z: c.d,
+        };
         Meeting {
-            x: sum_of_three(
-                product(a.d, across_a.x),
-                product(b.d, across_b.x),
-                product(c.d, across_c.x),
-            ),
-            y: sum_of_three(
-                product(a.d, across_a.y),
-                product(b.d, across_b.y),
-                product(c.d, across_c.y),
-            ),
-            z: sum_of_three(
-                product(a.d, across_a.z),
-                product(b.d, across_b.z),
-                product(c.d, across_c.z),
-            ),
-            w: sum_of_three(
-                product(i64::from(a.nx), across_a.x),
-                product(i64::from(a.ny), across_a.y),
-                product(i64::from(a.nz), across_a.z),
-            ),
+            x: distances.dot(&Vector {
+                x: across_a.x,
+                y: across_b.x,
+                z: across_c.x,
+            }),
+            y: distances.dot(&Vector {
+                x: across_a.y,
+                y: across_b.y,
+                z: across_c.y,
+            }),
+            z: distances.dot(&Vector {
+                x: across_a.z,
+                y: across_b.z,
+                z: across_c.z,
+            }),
+            w: a.normal().dot(&across_a),
         }
     }
 
@@ -84,47 +85,5 @@ fn normals_crossed(a: &Plane, b: &Plane) -> Vector
     ensures exact { result ≡ cross (normal_of a.now) (normal_of b.now) }
     ensures size { IsWithin result (2 ^ 53) }
 {
-    Vector {
-        x: crossed(a.ny, b.nz, a.nz, b.ny),
-        y: crossed(a.nz, b.nx, a.nx, b.nz),
-        z: crossed(a.nx, b.ny, a.ny, b.nx),
-    }
-}
-
-fn crossed(first: i32, second: i32, third: i32, fourth: i32) -> i64
-    requires first_small { unsigned_abs first ≤ 2 ^ 26 }
-    requires second_small { unsigned_abs second ≤ 2 ^ 26 }
-    requires third_small { unsigned_abs third ≤ 2 ^ 26 }
-    requires fourth_small { unsigned_abs fourth ≤ 2 ^ 26 }
-    ensures exact { result ≡ (first *ℤ second) -ℤ (third *ℤ fourth) }
-    ensures size { unsigned_abs result ≤ 2 ^ 53 }
-{
-    product_of_components(first, second) - product_of_components(third, fourth)
-}
-
-fn product_of_components(first: i32, second: i32) -> i64
-    requires first_small { unsigned_abs first ≤ 2 ^ 26 }
-    requires second_small { unsigned_abs second ≤ 2 ^ 26 }
-    ensures exact { result ≡ first *ℤ second }
-    ensures size { unsigned_abs result ≤ 2 ^ 52 }
-{
-    i64::from(first) * i64::from(second)
-}
-
-fn product(first: i64, second: i64) -> i128
-    requires first_small { unsigned_abs first ≤ 2 ^ 44 }
-    requires second_small { unsigned_abs second ≤ 2 ^ 53 }
-    ensures exact { result ≡ first *ℤ second }
-    ensures size { unsigned_abs result ≤ 2 ^ 97 }
-{
-    i128::from(first) * i128::from(second)
-}
-
-fn sum_of_three(first: i128, second: i128, third: i128) -> i128
-    requires first_small { unsigned_abs first ≤ 2 ^ 97 }
-    requires second_small { unsigned_abs second ≤ 2 ^ 97 }
-    requires third_small { unsigned_abs third ≤ 2 ^ 97 }
-    ensures { result ≡ (first +ℤ second) +ℤ third }
-{
-    first + second + third
+    a.normal().cross(&b.normal())
 }

@@ -1,18 +1,20 @@
-ghost use Rattle.std.specs.Prelude.{◌≡◌, ◌≤◌, ◌+◌, ◌*◌, ◌^◌, pos, ◌*ℤ◌, ◌+ℤ◌, ◌-ℤ◌, unsigned_abs, ◌↔◌, IfOk, IsErr};
+ghost use Rattle.std.specs.Prelude.{◌≡◌, ◌^◌, pos, ◌↔◌, IfOk, IsErr};
 ghost use Rattle.std.specs.Ordering.{int_cmp};
 ghost use Rattle.qm_space.specs.Plane.{flipped, value};
 ghost use Rattle.qm_space.specs.Point.{whole_point, AreCoordinates};
 ghost use Rattle.qm_space.specs.ThreePoints.{plane_through, IsPlaneThrough};
 ghost use Rattle.qm_space.specs.Line.{AreOnOneLine};
+ghost use Rattle.qm_geom.specs.inner.Vectors.{normal_of, IsWithin};
 
 use crate::point::Point;
 use crate::unreduced::UnreducedPlane;
+use crate::vector::{Vector, product};
 use std::cmp::Ordering;
 use std::marker::Model;
 
 /// A plane in lowest terms: the points with `n · p = d`. Its front is the side to which the normal
 /// points.
-#[derive(Clone, Copy, Debug, PartialEq, Eq, PartialOrd, Ord)]
+#[derive(Clone, Copy, PartialEq, Eq, PartialOrd, Ord)]
 pub struct Plane {
     pub nx: i32,
     pub ny: i32,
@@ -45,7 +47,7 @@ impl Default for Plane {
 }
 
 /// The points lie on one line, so that no plane is the plane through them.
-#[derive(Clone, Copy, Debug, PartialEq, Eq)]
+#[derive(Clone, Copy)]
 pub struct NoNormal;
 
 impl Plane {
@@ -86,46 +88,26 @@ impl Plane {
         self.value(at).cmp(&0)
     }
 
+    /// The normal.
+    pub(crate) fn normal(&self) -> Vector
+        ensures exact { result ≡ normal_of self.now }
+        ensures size { IsWithin result (2 ^ 26) }
+    {
+        Vector {
+            x: i64::from(self.nx),
+            y: i64::from(self.ny),
+            z: i64::from(self.nz),
+        }
+    }
+
     fn value(&self, at: &Point) -> i128
         ensures { result ≡ value self.now at.now }
     {
-        let along = sum_of_three(
-            component_times(self.nx, at.x),
-            component_times(self.ny, at.y),
-            component_times(self.nz, at.z),
-        );
-        less(along, distance_times(self.d, at.w))
+        let along = self.normal().dot(&Vector {
+            x: at.x,
+            y: at.y,
+            z: at.z,
+        });
+        along - product(self.d, at.w)
     }
-}
-
-fn component_times(component: i32, coordinate: i64) -> i128
-    ensures exact { result ≡ component *ℤ coordinate }
-    ensures size { unsigned_abs result ≤ 2 ^ 94 }
-{
-    i128::from(component) * i128::from(coordinate)
-}
-
-fn distance_times(distance: i64, weight: i64) -> i128
-    ensures exact { result ≡ distance *ℤ weight }
-    ensures size { unsigned_abs result ≤ 2 ^ 126 }
-{
-    i128::from(distance) * i128::from(weight)
-}
-
-fn sum_of_three(first: i128, second: i128, third: i128) -> i128
-    requires first_small { unsigned_abs first ≤ 2 ^ 94 }
-    requires second_small { unsigned_abs second ≤ 2 ^ 94 }
-    requires third_small { unsigned_abs third ≤ 2 ^ 94 }
-    ensures exact { result ≡ (first +ℤ second) +ℤ third }
-    ensures size { unsigned_abs result ≤ 2 ^ 96 }
-{
-    first + second + third
-}
-
-fn less(along: i128, distance: i128) -> i128
-    requires along_small { unsigned_abs along ≤ 2 ^ 96 }
-    requires distance_small { unsigned_abs distance ≤ 2 ^ 126 }
-    ensures { result ≡ along -ℤ distance }
-{
-    along - distance
 }

@@ -17,7 +17,7 @@ pub struct PlaneBook {
 impl Model for PlaneBook {
     ghost use Rattle.std.specs.Prelude.{List};
     ghost use Rattle.qm_space.specs.Plane.{Plane};
-    ghost use Rattle.qm_geom.specs.Planes.{IsNumbered};
+    ghost use Rattle.qm_geom.specs.inner.Numbered.{IsNumbered};
 
     ghost Value = { List Plane };
 

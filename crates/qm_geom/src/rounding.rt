@@ -1,5 +1,6 @@
 ghost use Rattle.std.specs.Prelude.{◌≡◌, ◌<◌, ◌≤◌, ◌*◌, ◌^◌, pos, ◌<ℤ◌, ◌≤ℤ◌, unsigned_abs};
 ghost use Rattle.qm_geom.specs.Rounding.{IsRoundedDown, IsRoundedUp, IsNearest};
+ghost use Rattle.qm_geom.specs.inner.SmallCoordinate.{IsSmallCoordinate};
 
 /// The greatest whole number that is at most the fraction.
 pub(crate) fn rounded_down(over: i128, under: i128) -> i64
@@ -24,8 +25,7 @@ pub(crate) fn rounded_up(over: i128, under: i128) -> i64
 
 /// A coordinate of at most 65,536 in absolute value, rounded down.
 pub(crate) fn coordinate_below(over: i128, under: i128) -> i32
-    requires under_positive { pos 0 <ℤ under }
-    requires coordinate_small { unsigned_abs over ≤ 65536 * unsigned_abs under }
+    requires { IsSmallCoordinate over under }
     ensures { IsRoundedDown over under result }
 {
     rounded_down(over, under) as i32
@@ -33,9 +33,7 @@ pub(crate) fn coordinate_below(over: i128, under: i128) -> i32
 
 /// A coordinate of at most 65,536 in absolute value, rounded up.
 pub(crate) fn coordinate_above(over: i128, under: i128) -> i32
-    requires under_positive { pos 0 <ℤ under }
-    requires over_small { unsigned_abs over < 2 ^ 127 }
-    requires coordinate_small { unsigned_abs over ≤ 65536 * unsigned_abs under }
+    requires { IsSmallCoordinate over under }
     ensures { IsRoundedUp over under result }
 {
     rounded_up(over, under) as i32
@@ -44,10 +42,7 @@ pub(crate) fn coordinate_above(over: i128, under: i128) -> i32
 /// A coordinate of at most 65,536 in absolute value, rounded to the nearest whole number; of two that
 /// are equally near, to the one farther from 0.
 pub(crate) fn nearest_coordinate(over: i128, under: i128) -> i32
-    requires under_positive { pos 0 <ℤ under }
-    requires over_small { unsigned_abs over ≤ 2 ^ 124 }
-    requires under_small { unsigned_abs under ≤ 2 ^ 124 }
-    requires coordinate_small { unsigned_abs over ≤ 65536 * unsigned_abs under }
+    requires { IsSmallCoordinate over under }
     ensures { IsNearest over under result }
 {
     if over < 0 {
@@ -61,10 +56,7 @@ pub(crate) fn nearest_coordinate(over: i128, under: i128) -> i32
 /// rounded down.
 fn nearest_from_zero(over: i128, under: i128) -> i32
     requires not_negative { pos 0 ≤ℤ over }
-    requires under_positive { pos 0 <ℤ under }
-    requires over_small { unsigned_abs over ≤ 2 ^ 124 }
-    requires under_small { unsigned_abs under ≤ 2 ^ 124 }
-    requires coordinate_small { unsigned_abs over ≤ 65536 * unsigned_abs under }
+    requires small { IsSmallCoordinate over under }
     ensures exact { IsNearest over under result }
     ensures size { unsigned_abs result ≤ 65536 }
 {

@@ -41,7 +41,7 @@ impl UnreducedPlane {
         ensures { result ≡ outward_plane (whole_point p0) (whole_point p1) (whole_point p2) }
     {
         let normal = Vector::between(p1, p0).cross(&Vector::between(p1, p2));
-        let d = normal.dot(p1);
+        let d = normal.dot(&Vector::of(p1)) as i64;
         UnreducedPlane {
             nx: normal.x,
             ny: normal.y,

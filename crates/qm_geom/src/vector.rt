@@ -1,7 +1,7 @@
-ghost use Rattle.std.specs.Prelude.{◌≡◌, ◌≤◌, ◌^◌, ◌*ℤ◌, ◌+ℤ◌, ◌-ℤ◌, unsigned_abs};
+ghost use Rattle.std.specs.Prelude.{◌≡◌, ◌≤◌, ◌*◌, ◌^◌, ◌*ℤ◌, ◌-ℤ◌, unsigned_abs};
 ghost use Rattle.qm_space.specs.Point.{whole_point, IsCoordinate, AreCoordinates};
 
-/// A step from one point to another, or a normal.
+/// A step from one point to another, a normal, or the distances of three planes.
 #[derive(Clone, Copy)]
 pub(crate) struct Vector {
     pub(crate) x: i64,
@@ -10,14 +10,25 @@ pub(crate) struct Vector {
 }
 
 impl Vector {
-    ghost use Rattle.qm_geom.specs.Vectors.{step_between, cross, dot, IsWithin};
+    ghost use Rattle.qm_geom.specs.inner.Vectors.{vector_of, step_between, cross, dot, IsWithin};
+
+    /// Three numbers.
+    pub(crate) fn of(numbers: [i32; 3]) -> Vector
+        ensures { result ≡ vector_of numbers }
+    {
+        Vector {
+            x: i64::from(numbers[0]),
+            y: i64::from(numbers[1]),
+            z: i64::from(numbers[2]),
+        }
+    }
 
     /// The step from one whole point to another.
     pub(crate) fn between(from: [i32; 3], to: [i32; 3]) -> Vector
         requires from_in_cube { AreCoordinates from }
         requires to_in_cube { AreCoordinates to }
         ensures exact { result ≡ step_between (whole_point from) (whole_point to) }
-        ensures size { IsWithin result (2 ^ 13) }
+        ensures size { IsWithin result (2 ^ 26) }
     {
         Vector {
             x: difference(from[0], to[0]),
@@ -26,12 +37,12 @@ impl Vector {
         }
     }
 
-    /// The cross product of two steps.
+    /// The cross product of two steps or normals.
     pub(crate) fn cross(&self, other: &Vector) -> Vector
-        requires self_small { IsWithin self.now (2 ^ 13) }
-        requires other_small { IsWithin other.now (2 ^ 13) }
+        requires self_small { IsWithin self.now (2 ^ 26) }
+        requires other_small { IsWithin other.now (2 ^ 26) }
         ensures exact { result ≡ cross self.now other.now }
-        ensures size { IsWithin result (2 ^ 27) }
+        ensures size { IsWithin result (2 ^ 53) }
     {
         Vector {
             x: crossed(self.y, other.z, self.z, other.y),
@@ -40,17 +51,16 @@ impl Vector {
         }
     }
 
-    /// The dot product with a whole point.
-    pub(crate) fn dot(&self, point: [i32; 3]) -> i64
-        requires self_small { IsWithin self.now (2 ^ 27) }
-        requires point_in_cube { AreCoordinates point }
-        ensures { result ≡ dot self.now (whole_point point) }
+    /// The dot product.
+    pub(crate) fn dot(&self, other: &Vector) -> i128
+        requires { IsWithin self.now (2 ^ 53) }
+        ensures exact { result ≡ dot self.now other.now }
+        ensures size { unsigned_abs result ≤ 3 * 2 ^ 116 }
     {
-        sum_of_three(
-            component_times(self.x, point[0]),
-            component_times(self.y, point[1]),
-            component_times(self.z, point[2]),
-        )
+        let of_x = product(self.x, other.x);
+        let of_y = product(self.y, other.y);
+        let of_z = product(self.z, other.z);
+        of_x + of_y + of_z
     }
 }
 
@@ -58,45 +68,26 @@ fn difference(from: i32, to: i32) -> i64
     requires from_in_cube { IsCoordinate from }
     requires to_in_cube { IsCoordinate to }
     ensures exact { result ≡ to -ℤ from }
-    ensures size { unsigned_abs result ≤ 2 ^ 13 }
+    ensures size { unsigned_abs result ≤ 2 ^ 26 }
 {
     i64::from(to) - i64::from(from)
 }
 
 fn crossed(first: i64, second: i64, third: i64, fourth: i64) -> i64
-    requires first_small { unsigned_abs first ≤ 2 ^ 13 }
-    requires second_small { unsigned_abs second ≤ 2 ^ 13 }
-    requires third_small { unsigned_abs third ≤ 2 ^ 13 }
-    requires fourth_small { unsigned_abs fourth ≤ 2 ^ 13 }
+    requires first_small { unsigned_abs first ≤ 2 ^ 26 }
+    requires second_small { unsigned_abs second ≤ 2 ^ 26 }
+    requires third_small { unsigned_abs third ≤ 2 ^ 26 }
+    requires fourth_small { unsigned_abs fourth ≤ 2 ^ 26 }
     ensures exact { result ≡ (first *ℤ second) -ℤ (third *ℤ fourth) }
-    ensures size { unsigned_abs result ≤ 2 ^ 27 }
+    ensures size { unsigned_abs result ≤ 2 ^ 53 }
 {
-    product(first, second) - product(third, fourth)
+    first * second - third * fourth
 }
 
-fn product(first: i64, second: i64) -> i64
-    requires first_small { unsigned_abs first ≤ 2 ^ 13 }
-    requires second_small { unsigned_abs second ≤ 2 ^ 13 }
+/// The product of two numbers of 64 bits, which 128 bits hold.
+pub(crate) fn product(first: i64, second: i64) -> i128
     ensures exact { result ≡ first *ℤ second }
-    ensures size { unsigned_abs result ≤ 2 ^ 26 }
+    ensures size { unsigned_abs result ≤ 2 ^ 126 }
 {
-    first * second
-}
-
-fn component_times(component: i64, coordinate: i32) -> i64
-    requires component_small { unsigned_abs component ≤ 2 ^ 27 }
-    requires coordinate_in_cube { IsCoordinate coordinate }
-    ensures exact { result ≡ component *ℤ coordinate }
-    ensures size { unsigned_abs result ≤ 2 ^ 39 }
-{
-    component * i64::from(coordinate)
-}
-
-fn sum_of_three(first: i64, second: i64, third: i64) -> i64
-    requires first_small { unsigned_abs first ≤ 2 ^ 39 }
-    requires second_small { unsigned_abs second ≤ 2 ^ 39 }
-    requires third_small { unsigned_abs third ≤ 2 ^ 39 }
-    ensures { result ≡ (first +ℤ second) +ℤ third }
-{
-    first + second + third
+    i128::from(first) * i128::from(second)
 }

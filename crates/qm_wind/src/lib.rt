@@ -13,5 +13,3 @@ mod winding;
 pub use pane::Pane;
 pub use winding::{Clip, Side, Winding};
 
-#[cfg(test)]
-mod tests;

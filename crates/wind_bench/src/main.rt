@@ -7,8 +7,6 @@
 mod planes;
 mod streams;
 mod tally;
-#[cfg(test)]
-mod tests;
 
 use std::{env, io};
 use streams::Stream;

@@ -2,18 +2,16 @@ ghost use Rattle.std.specs.Prelude.{◌≤◌};
 ghost use Rattle.qm_space.specs.Point.{IsCoordinate, AreCoordinates};
 
 use qm_geom::Plane;
-#[cfg(test)]
-use qm_wind::Side;
 use std::alloc::{AllocError, Global};
 
 /// A stream of numbers that look random: a linear congruential generator of 64 bits.
 #[derive(Drop)]
-pub(crate) struct Numbers {
+struct Numbers {
     state: u64,
 }
 
 impl Numbers {
-    pub(crate) fn starting_at(start: u64) -> Numbers {
+    fn starting_at(start: u64) -> Numbers {
         Numbers { state: start }
     }
 
@@ -39,22 +37,12 @@ impl Numbers {
     }
 
     /// A plane through three such points.
-    pub(crate) fn plane(&mut self, reach: u32) -> Plane
+    fn plane(&mut self, reach: u32) -> Plane
         requires { reach ≤ 4096 }
     {
         match Plane::through(self.point(reach), self.point(reach), self.point(reach)) {
             Ok((plane, _)) => plane,
             Err(_) => Plane::default(),
-        }
-    }
-
-    /// One of a plane's two sides.
-    #[cfg(test)]
-    pub(crate) fn side(&mut self) -> Side {
-        if self.next() % 2 == 0 {
-            Side::Front
-        } else {
-            Side::Back
         }
     }
 }

@@ -1,8 +1,11 @@
-use Rattle.std.proofs.Common.{arith}
-use Rattle.std.proofs.lemmas.Int.{to_z-of_z}
-use Rattle.qm_geom.specs.Vectors.{cross}
+use Rattle.std.proofs.Common.{◌∙◌, refl}
 use Rattle.qm_geom.proofs.meeting.normals_crossed.Goals as goal
 
+pub cross-requires : goal.cross-requires
+cross-requires c = record { self_small = c.normal.ensures.size; other_small = c.normal-2.ensures.size }
+
 pub returns-clause-exact : goal.returns-clause-exact
-unfolding cross
-returns-clause-exact c = rw (← c.a.view_is, ← c.b.view_is) (grind (arith, to_z-of_z))
+returns-clause-exact c = c.cross.ensures.exact ∙ rw (c.normal.ensures.exact, c.normal-2.ensures.exact) refl
+
+pub returns-clause-size : goal.returns-clause-size
+returns-clause-size c = c.cross.ensures.size

@@ -1,15 +1,15 @@
 use mir.Syntax.{w128}
 use Rattle.std.proofs.lemmas.Int.{to_z-of_z}
 use Rattle.qm_geom.proofs.Roundings.{up_small}
-use Rattle.qm_geom.proofs.Wide.{narrowed_32, fits_32}
+use Rattle.qm_geom.proofs.Bits.{narrowed_32, fits_32}
 use Rattle.qm_geom.proofs.rounding.coordinate_above.Goals as goal
 
 pub overflow_cast-result : goal.overflow_cast-result
 overflow_cast-result c =
     let exact = rw (to_z-of_z w128 c.args.over c.ranges.over, to_z-of_z w128 c.args.under c.ranges.under) at c.rounded_up.ensures.exact in
-    fits_32 c.rounded_up.result (up_small _ _ _ _ c.requires.under_positive c.requires.coordinate_small exact)
+    fits_32 c.rounded_up.result (up_small _ _ _ _ c.requires.positive c.requires.small exact)
 
 pub returns : goal.returns
 returns c =
     let exact = rw (to_z-of_z w128 c.args.over c.ranges.over, to_z-of_z w128 c.args.under c.ranges.under) at c.rounded_up.ensures.exact in
-    rw (narrowed_32 c.rounded_up.result (up_small _ _ _ _ c.requires.under_positive c.requires.coordinate_small exact)) exact
+    rw (narrowed_32 c.rounded_up.result (up_small _ _ _ _ c.requires.positive c.requires.small exact)) exact

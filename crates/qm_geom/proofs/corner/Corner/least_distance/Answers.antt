@@ -1,21 +1,30 @@
-use Rattle.std.proofs.Common.{rules, ◌<ℤ◌, pos, ap, lit≤}
-use Rattle.qm_space.specs.Plane.{value}
-use Rattle.qm_geom.specs.LeastDistance.{plane_at}
+use Rattle.std.proofs.Common.{rules, ◌≡◌, ◌^◌, ◌<ℤ◌, ◌∙◌, pos, ap, arith, lit≤, sym, subst}
+use Rattle.qm_geom.specs.inner.Vectors.{IsWithin, vector_of, step_to, dot}
+use Rattle.qm_geom.specs.declared.vector.Vector.{Vector}
 use Rattle.qm_geom.specs.Rounding.{IsRoundedUp}
-use Rattle.qm_geom.proofs.LeastDistances.{along_small, up_is_least}
-use Rattle.qm_geom.proofs.Wide.{kept_128}
-use Rattle.qm_geom.proofs.Wrapped.{kept_64}
+use Rattle.qm_geom.proofs.LeastDistances.{along_small, components_small, up_is_least}
+use Rattle.qm_geom.proofs.Bits.{kept_128, kept_64}
 use Rattle.qm_geom.proofs.corner.Corner.least_distance.Goals as goal
 
-pub rounded_up-requires-clause-fraction_small : goal.rounded_up-requires-clause-fraction_small
-rounded_up-requires-clause-fraction_small c =
-    let small =
-    along_small c.args.normal c.args.self.now (c.requires.normal_small 0 (pos 0) (search rules)) (c.requires.normal_small 1 (pos 0) (search rules)) (c.requires.normal_small 2 (pos 0) (search rules)) c.requires.corner_small in
-    rw (kept_128 c.along.result _ c.along.ensures.size (lit≤ tt), kept_128 c.self.inside.w _ c.self.invariant.sizes.w_small (lit≤ tt), c.along.ensures.exact, ap (λ p. p.w) c.self.view_is) small
+pub along-requires : goal.along-requires
+along-requires c =
+    subst (λ (v : Vector). IsWithin v (2 ^ 26)) (sym c.of.ensures)
+    (components_small c.args.normal (c.requires.normal_small 0 (pos 0) (search rules)) (c.requires.normal_small 1 (pos 0) (search rules)) (c.requires.normal_small 2 (pos 0) (search rules)))
+
+pub rounded_up-requires : goal.rounded_up-requires
+rounded_up-requires c =
+    let weight : pos 0 <ℤ c.args.self.now.w = rw (← c.self.view_is) c.self.invariant.weight in
+    let normal = subst (λ (v : Vector). IsWithin v (2 ^ 26)) (sym c.of.ensures)
+    (components_small c.args.normal (c.requires.normal_small 0 (pos 0) (search rules)) (c.requires.normal_small 1 (pos 0) (search rules)) (c.requires.normal_small 2 (pos 0) (search rules))) in
+    let small = along_small c.of.result c.args.self.now normal c.requires.corner_small in
+    let size = c.along.ensures.size in
+    rw (kept_128 c.along.result _ c.along.ensures.size (lit≤ tt), kept_128 c.self.inside.w _ c.self.invariant.sizes.w_small (lit≤ tt), ap (λ p. p.w) c.self.view_is)
+    (record { under_positive = weight; over_small = omega arith; fraction_small = rw c.along.ensures.exact small })
 
 pub returns : goal.returns
 returns c =
     let weight : pos 0 <ℤ c.args.self.now.w = rw (← c.self.view_is) c.self.invariant.weight in
-    let up : IsRoundedUp (value (plane_at c.args.normal (pos 0)) c.args.self.now) c.args.self.now.w c.rounded_up.result =
-    rw (kept_128 c.along.result _ c.along.ensures.size (lit≤ tt), kept_128 c.self.inside.w _ c.self.invariant.sizes.w_small (lit≤ tt), c.along.ensures.exact, ap (λ p. p.w) c.self.view_is) at c.rounded_up.ensures.exact in
+    let along : c.along.result ≡ dot (vector_of c.args.normal) (step_to c.args.self.now) = c.along.ensures.exact ∙ ap (λ v. dot v (step_to c.args.self.now)) c.of.ensures in
+    let up : IsRoundedUp (dot (vector_of c.args.normal) (step_to c.args.self.now)) c.args.self.now.w c.rounded_up.result =
+    rw (kept_128 c.along.result _ c.along.ensures.size (lit≤ tt), kept_128 c.self.inside.w _ c.self.invariant.sizes.w_small (lit≤ tt), along, ap (λ p. p.w) c.self.view_is) at c.rounded_up.ensures.exact in
     rw (kept_64 c.rounded_up.result _ c.rounded_up.ensures.size (lit≤ tt)) (up_is_least c.args.normal c.args.self.now c.rounded_up.result weight up)

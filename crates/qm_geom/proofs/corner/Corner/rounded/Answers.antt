@@ -1,6 +1,16 @@
-use Rattle.qm_geom.specs.Rounding.{IsNearest}
-use Rattle.qm_geom.proofs.Wide.{rule_kept}
+use Rattle.std.proofs.Common.{sym, subst}
+use Rattle.qm_geom.specs.Rounding.{IsNearest, HasSmallCoordinates}
+use Rattle.qm_geom.proofs.Wide.{x_kept, y_kept, z_kept, rule_kept}
 use Rattle.qm_geom.proofs.corner.Corner.rounded.Goals as goal
+
+pub nearest_coordinate-requires : goal.nearest_coordinate-requires
+nearest_coordinate-requires c = x_kept _ c.self.invariant (subst HasSmallCoordinates (sym c.self.view_is) c.requires)
+
+pub nearest_coordinate-requires-2 : goal.nearest_coordinate-requires-2
+nearest_coordinate-requires-2 c = y_kept _ c.self.invariant (subst HasSmallCoordinates (sym c.self.view_is) c.requires)
+
+pub nearest_coordinate-requires-3 : goal.nearest_coordinate-requires-3
+nearest_coordinate-requires-3 c = z_kept _ c.self.invariant (subst HasSmallCoordinates (sym c.self.view_is) c.requires)
 
 pub returns : goal.returns
 returns c =

@@ -1,8 +1,8 @@
 use Rattle.std.proofs.Common.{lit≤}
-use Rattle.qm_geom.proofs.Flipped.{turned_64}
+use Rattle.qm_geom.proofs.Bits.{negated_64}
 use Rattle.qm_geom.proofs.unreduced.UnreducedPlane.flipped.Goals as goal
 
 pub returns : goal.returns
 returns c =
-    rw (turned_64 c.self.inside.nx _ c.self.invariant.nx_small (lit≤ tt), turned_64 c.self.inside.ny _ c.self.invariant.ny_small (lit≤ tt), turned_64 c.self.inside.nz _ c.self.invariant.nz_small (lit≤ tt), turned_64 c.self.inside.d _ c.self.invariant.d_small (lit≤ tt))
+    rw (negated_64 c.self.inside.nx _ c.self.invariant.nx_small (lit≤ tt), negated_64 c.self.inside.ny _ c.self.invariant.ny_small (lit≤ tt), negated_64 c.self.inside.nz _ c.self.invariant.nz_small (lit≤ tt), negated_64 c.self.inside.d _ c.self.invariant.d_small (lit≤ tt))
     (rw (← c.self.view_is))

@@ -7,7 +7,7 @@ use std::alloc::{AllocError, Global};
 
 /// A place: three numerators over one positive denominator, in lowest terms. The planes here are so
 /// small that no number of 128 bits wraps.
-#[derive(Clone, Copy, Debug, PartialEq, Eq)]
+#[derive(Clone, Copy, PartialEq, Eq)]
 pub(crate) struct Place {
     x: i128,
     y: i128,

@@ -1,0 +1,75 @@
+//! Planes through three points, their sides, and their numbers.
+
+use crate::shapes::{inside, through};
+use qm_geom::{Plane, PlaneBook, Point};
+use std::alloc::Global;
+use std::cmp::Ordering;
+
+/// Whether the plane through three points has these numbers, and the normal of the points points to its
+/// front as is said.
+fn is_through(points: [[i32; 3]; 3], numbers: (i32, i32, i32, i64), out_is_front: bool) -> bool {
+    match Plane::through(inside(points[0]), inside(points[1]), inside(points[2])) {
+        Ok((plane, out)) => {
+            (plane.nx, plane.ny, plane.nz, plane.d) == numbers && out == out_is_front
+        }
+        Err(_) => false,
+    }
+}
+
+#[test]
+fn planes_through_points(rt: HostRuntime) {
+    assert!(rt;
+        is_through(
+            [[128, 0, 0], [128, 1, 0], [128, 0, 1]],
+            (1, 0, 0, 128),
+            false
+        ) && is_through(
+            [[4096, -4095, 0], [-4096, -4096, 0], [-4095, 4096, 1]],
+            (1, -8192, 67108863, 33550336),
+            true
+        ) && Plane::through([0, 0, 0], [1, 1, 1], [2, 2, 2]).is_err()
+    );
+}
+
+/// The side of the plane x = 128 on which the point of this x lies, in halves.
+fn side_of_wall(x: i64) -> Ordering {
+    let wall = through([[128, 0, 0], [128, 1, 0], [128, 0, 1]]);
+    wall.side(&Point {
+        x,
+        y: 5,
+        z: -7,
+        w: 2,
+    })
+}
+
+#[test]
+fn sides(rt: HostRuntime) {
+    assert!(rt;
+        side_of_wall(255).is_lt() && side_of_wall(256).is_eq() && side_of_wall(257).is_gt()
+    );
+}
+
+/// The number of the plane through three points, in a book of few planes.
+fn number(book: &mut PlaneBook, points: [[i32; 3]; 3]) -> Option<u32> {
+    if book.len() > 9 {
+        return None;
+    }
+    let (plane, _) =
+        Plane::through(inside(points[0]), inside(points[1]), inside(points[2])).ok()?;
+    book.number(plane).ok()
+}
+
+/// The numbers that three planes get, of which the first and the last are the same, and how many there
+/// are then.
+fn numbers(alloc: Global) -> Option<(u32, u32, u32, u32)> {
+    let mut book = PlaneBook::new(alloc);
+    let first = number(&mut book, [[128, 0, 0], [128, 1, 0], [128, 0, 1]])?;
+    let second = number(&mut book, [[0, 0, 0], [1, 0, 0], [0, 1, 0]])?;
+    let third = number(&mut book, [[128, 0, 0], [128, 1, 0], [128, 0, 1]])?;
+    Some((first, second, third, book.len()))
+}
+
+#[test]
+fn a_plane_has_one_number(rt: HostRuntime) {
+    assert!(rt; numbers(rt.alloc()) == Some((0, 1, 0, 2)));
+}

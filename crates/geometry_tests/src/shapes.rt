@@ -1,0 +1,58 @@
+//! Planes and windings that several tests start from.
+
+ghost use Rattle.qm_space.specs.Point.{IsCoordinate, AreCoordinates};
+
+use qm_geom::Plane;
+use qm_wind::{Clip, Side, Winding};
+use std::alloc::Global;
+
+/// The plane through three points that are on no line. What is outside the cube counts as on its border.
+pub(crate) fn through(points: [[i32; 3]; 3]) -> Plane {
+    match Plane::through(inside(points[0]), inside(points[1]), inside(points[2])) {
+        Ok((plane, _)) => plane,
+        Err(_) => Plane::default(),
+    }
+}
+
+pub(crate) fn inside(point: [i32; 3]) -> [i32; 3]
+    ensures { AreCoordinates result }
+{
+    [
+        coordinate(point[0]),
+        coordinate(point[1]),
+        coordinate(point[2]),
+    ]
+}
+
+fn coordinate(number: i32) -> i32
+    ensures { IsCoordinate result }
+{
+    number.clamp(-4096, 4096)
+}
+
+/// The plane z = 0.
+pub(crate) fn floor() -> Plane {
+    through([[0, 0, 0], [1, 0, 0], [0, 1, 0]])
+}
+
+/// The part of a plane inside the cube.
+pub(crate) fn on(alloc: Global, plane: &Plane) -> Option<Winding> {
+    Winding::on(alloc, plane).ok()?
+}
+
+/// What is cut off on one side.
+fn cut(winding: &Winding, plane: &Plane, keep: Side) -> Option<Winding> {
+    match winding.clip(plane, keep).ok()? {
+        Clip::Cut(part) => Some(part),
+        _ => None,
+    }
+}
+
+/// What cuts by one plane after another leave.
+pub(crate) fn cut_by(start: Winding, cuts: &[([[i32; 3]; 3], Side)]) -> Option<Winding> {
+    let mut winding = start;
+    for (points, keep) in cuts {
+        winding = cut(&winding, &through(*points), *keep)?;
+    }
+    Some(winding)
+}

@@ -1,0 +1,231 @@
+//! The parts of planes inside the cube, and what planes cut off them.
+
+use crate::corners::{Way, has_corners};
+use crate::shapes::{cut_by, floor, on, through};
+use qm_geom::Plane;
+use qm_wind::{Clip, Pane, Side, Winding};
+use std::alloc::Global;
+
+/// The plane x = 0.
+fn middle() -> Plane {
+    through([[0, 0, 0], [0, 1, 0], [0, 0, 1]])
+}
+
+/// Whether the part of a plane inside the cube has these corners.
+fn has_part(alloc: Global, points: [[i32; 3]; 3], places: &[[i32; 3]]) -> bool {
+    match on(alloc, &through(points)) {
+        Some(winding) => has_corners(&winding, Way::Nearest, places),
+        None => places.is_empty(),
+    }
+}
+
+#[test]
+fn parts_of_planes(rt: HostRuntime) {
+    let alloc = rt.alloc();
+    assert!(rt;
+        has_part(alloc, [[4096, 0, 0], [4096, 1, 0], [4096, 0, 1]], &[])
+            && has_part(
+                alloc,
+                [[0, 0, 0], [1, 0, 0], [0, 1, 0]],
+                &[
+                    [-4096, -4096, 0],
+                    [4096, -4096, 0],
+                    [4096, 4096, 0],
+                    [-4096, 4096, 0]
+                ]
+            )
+            && has_part(
+                alloc,
+                [[0, 0, 0], [1, -1, 0], [0, 1, -1]],
+                &[
+                    [4096, -4096, 0],
+                    [4096, 0, -4096],
+                    [0, 4096, -4096],
+                    [-4096, 4096, 0],
+                    [-4096, 0, 4096],
+                    [0, -4096, 4096],
+                ]
+            )
+    );
+}
+
+/// What is left of a winding: so many corners, where it was cut.
+const GONE: usize = 0;
+
+const WHOLE: usize = 100;
+
+fn left(winding: &Winding, plane: &Plane, keep: Side) -> Option<usize> {
+    match winding.clip(plane, keep).ok()? {
+        Clip::Whole => Some(WHOLE),
+        Clip::Gone => Some(GONE),
+        Clip::Cut(part) => Some(part.len()),
+    }
+}
+
+/// Whether each plane leaves of the winding in front of it and behind it what is said.
+fn leaves(winding: &Winding, rows: &[([[i32; 3]; 3], usize, usize)]) -> bool {
+    rows.iter().all(|(points, front, back)| {
+        let plane = through(*points);
+        left(winding, &plane, Side::Front) == Some(*front)
+            && left(winding, &plane, Side::Back) == Some(*back)
+    })
+}
+
+/// What planes through the floor's middle, on it, above it, across a corner, through two corners, through
+/// one, and along an edge leave.
+fn floor_is_cut(alloc: Global) -> bool {
+    let rows = [
+        ([[0, 0, 0], [0, 1, 0], [0, 0, 1]], 4, 4),
+        ([[0, 0, 0], [1, 0, 0], [0, 1, 0]], GONE, GONE),
+        ([[0, 0, 1], [1, 0, 1], [0, 1, 1]], GONE, WHOLE),
+        ([[4000, 4000, 0], [3904, 4096, 0], [4000, 4000, 1]], 3, 5),
+        ([[0, 0, 0], [1, 1, 0], [0, 0, 1]], 3, 3),
+        ([[4096, 4096, 0], [0, -4096, 0], [0, -4096, 1]], 3, 4),
+        ([[4096, 0, 0], [4096, 1, 0], [4096, 0, 1]], GONE, WHOLE),
+    ];
+    match on(alloc, &floor()) {
+        Some(square) => leaves(&square, &rows),
+        None => false,
+    }
+}
+
+#[test]
+fn planes_beside_and_across_the_floor(rt: HostRuntime) {
+    assert!(rt; floor_is_cut(rt.alloc()));
+}
+
+/// The floor's square without one of its corners.
+fn five_corners(alloc: Global) -> Option<Winding> {
+    cut_by(
+        on(alloc, &floor())?,
+        &[([[4000, 4000, 0], [3904, 4096, 0], [4000, 4000, 1]], Side::Back)],
+    )
+}
+
+/// What the plane of that cut and one through a new corner alone leave.
+fn part_is_touched(alloc: Global) -> bool {
+    let rows = [
+        ([[4000, 4000, 0], [3904, 4096, 0], [4000, 4000, 1]], GONE, WHOLE),
+        ([[3904, 4096, 0], [4096, 4000, 0], [4096, 4000, 1]], GONE, WHOLE),
+    ];
+    match five_corners(alloc) {
+        Some(part) => leaves(&part, &rows),
+        None => false,
+    }
+}
+
+#[test]
+fn planes_that_touch_a_part(rt: HostRuntime) {
+    assert!(rt; part_is_touched(rt.alloc()));
+}
+
+/// The part of one of the steepest planes in front of another.
+fn steepest_part(alloc: Global) -> Option<Winding> {
+    let steep = through([[4096, -4095, 0], [-4096, -4096, 0], [-4095, 4096, 1]]);
+    cut_by(
+        on(alloc, &steep)?,
+        &[([[4096, 0, -4095], [-4096, 0, -4096], [-4095, 1, 4096]], Side::Front)],
+    )
+}
+
+fn steepest_planes_meet(alloc: Global) -> bool {
+    let places = [[4096, 4096, 1], [-4096, 4096, 1], [-4096, 1, 1], [4096, 0, 0]];
+    match steepest_part(alloc) {
+        Some(part) => has_corners(&part, Way::Nearest, &places),
+        None => false,
+    }
+}
+
+#[test]
+fn the_steepest_planes(rt: HostRuntime) {
+    assert!(rt; steepest_planes_meet(rt.alloc()));
+}
+
+/// The floor's square without its corners, by so many cuts that its edges no longer stand inline.
+fn twelve_corners(alloc: Global) -> Option<Winding> {
+    cut_by(
+        on(alloc, &floor())?,
+        &[
+            (
+                [[3000, 3000, 0], [3000, 3000, 1], [2000, 4000, 0]],
+                Side::Back,
+            ),
+            (
+                [[3000, -3000, 0], [3000, -3000, 1], [2000, -4000, 0]],
+                Side::Back,
+            ),
+            (
+                [[-3000, -3000, 0], [-3000, -3000, 1], [-2000, -4000, 0]],
+                Side::Front,
+            ),
+            (
+                [[-3000, 3000, 0], [-3000, 3000, 1], [-2000, 4000, 0]],
+                Side::Front,
+            ),
+            (
+                [[4000, 1500, 0], [4000, 1500, 1], [3900, 1700, 0]],
+                Side::Back,
+            ),
+            (
+                [[4000, -1500, 0], [4000, -1500, 1], [3900, -1700, 0]],
+                Side::Back,
+            ),
+            (
+                [[-4000, -1500, 0], [-4000, -1500, 1], [-3900, -1700, 0]],
+                Side::Front,
+            ),
+            (
+                [[-4000, 1500, 0], [-4000, 1500, 1], [-3900, 1700, 0]],
+                Side::Front,
+            ),
+        ],
+    )
+}
+
+/// Whether a winding is the one of twelve corners, and its halves have eight.
+fn is_the_one_of_twelve(winding: &Winding) -> bool {
+    let places = [
+        [4096, -1308, 0],
+        [4096, 1308, 0],
+        [3500, 2500, 0],
+        [1904, 4096, 0],
+        [-1904, 4096, 0],
+        [-3500, 2500, 0],
+        [-4096, 1308, 0],
+        [-4096, -1308, 0],
+        [-3500, -2500, 0],
+        [-1904, -4096, 0],
+        [1904, -4096, 0],
+        [3500, -2500, 0],
+    ];
+    has_corners(winding, Way::Nearest, &places)
+        && winding.plane() == floor()
+        && leaves(winding, &[([[0, 0, 0], [0, 1, 0], [0, 0, 1]], 8, 8)])
+}
+
+fn copy_has_twelve(alloc: Global) -> Option<bool> {
+    let winding = twelve_corners(alloc)?;
+    let copied = winding.copy().ok()?;
+    Some(is_the_one_of_twelve(&copied))
+}
+
+#[test]
+fn a_copy_of_more_corners_than_stand_inline(rt: HostRuntime) {
+    assert!(rt; copy_has_twelve(rt.alloc()) == Some(true));
+}
+
+/// Whether the plane x = 0, entered to a side, faces as is said.
+fn leads_into(alloc: Global, side: Side, into: Plane) -> bool {
+    match on(alloc, &middle()) {
+        Some(winding) => Pane::entering(winding, side).into == into,
+        None => false,
+    }
+}
+
+#[test]
+fn a_pane_leads_to_its_side(rt: HostRuntime) {
+    assert!(rt;
+        leads_into(rt.alloc(), Side::Back, middle().flipped())
+            && leads_into(rt.alloc(), Side::Front, middle())
+    );
+}

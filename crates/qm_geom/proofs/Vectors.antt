@@ -1,0 +1,109 @@
+-- Vectors as the code keeps them.
+use Rattle.std.proofs.Common.{◌≡◌, ◌≤◌, ◌*◌, ◌-◌, ◌^◌, ◌*ℤ◌, ◌-ℤ◌, ◌∙◌, ℕ, ℤ, FitsSigned, w32, w64, arith, lit≤, refl, sym, subst, unsigned_abs}
+use mir.Syntax.{w128}
+use Rattle.std.proofs.lemmas.Int.{to_z-of_z}
+use Rattle.qm_space.specs.Point.{Point, IsCoordinate, IsWholePoint}
+use Rattle.qm_space.specs.Plane.{Plane, value}
+use Rattle.qm_space.specs.ThreePoints.{outward_plane, HasOutwardSizes}
+use Rattle.qm_numbers.proofs.Signs.{abs_difference, abs_at_most}
+use Rattle.qm_space.proofs.PlanesThroughPoints.{outward_sizes}
+use Rattle.qm_geom.specs.inner.Vectors.{normal_of, step_to, step_between, cross, dot, IsWithin}
+use Rattle.qm_geom.specs.declared.vector.Vector.{Vector}
+use Rattle.qm_geom.proofs.Kept.{kept, small_kept, fits_64, fits_128, answered, product_answered, apart_is}
+use Rattle.qm_geom.proofs.Bits.{kept_32}
+
+-- three numbers as one vector
+abbrev pub vector : ℤ → ℤ → ℤ → Vector
+vector x y z = record { x = x; y = y; z = z }
+
+pub same_vector : (a b c p q r : ℤ) → a ≡ p → b ≡ q → c ≡ r → vector a b c ≡ vector p q r
+same_vector a b c p q r x y z = rw (x, y, z)
+
+pub small_vector : (a b c : ℤ) (n : ℕ) → n ≤ 2 ^ 63 - 1 → unsigned_abs a ≤ n → unsigned_abs b ≤ n → unsigned_abs c ≤ n → IsWithin (vector (kept w64 a) (kept w64 b) (kept w64 c)) n
+small_vector a b c n l x y z =
+    record { x_small = small_kept a n l x; y_small = small_kept b n l y; z_small = small_kept c n l z }
+
+pub IsWithin-more : (v : Vector) (m n : ℕ) → IsWithin v m → m ≤ n → IsWithin v n
+IsWithin-more v m n h l = record {
+  x_small = let s = h.x_small in omega arith;
+  y_small = let s = h.y_small in omega arith;
+  z_small = let s = h.z_small in omega arith;
+}
+
+-- the three coordinates of a point that has a weight too
+abbrev pub point : ℤ → ℤ → ℤ → ℤ → Point
+point x y z w = record { x = x; y = y; z = z; w = w }
+
+pub vector_kept : (x y z : ℤ) → FitsSigned w64 x → FitsSigned w64 y → FitsSigned w64 z → vector (kept w64 x) (kept w64 y) (kept w64 z) ≡ vector x y z
+vector_kept x y z f g h = same_vector _ _ _ _ _ _ (to_z-of_z w64 x f) (to_z-of_z w64 y g) (to_z-of_z w64 z h)
+
+-- a plane's value is a dot product with a product taken off
+pub value_is : (h : Plane) (p : Point) (r q : ℤ) → r ≡ dot (normal_of h) (step_to p) → q ≡ h.d *ℤ p.w → r -ℤ q ≡ value h p
+unfolding value dot
+value_is h p r q e f = rw (e, f) refl
+
+-- as the code computes it at a point of 64 bits
+pub value_at_point : (h : Plane) (p : Point) (n : Vector) (x y z w d r q : ℤ) → n ≡ normal_of h → point x y z w ≡ p → d ≡ h.d → FitsSigned w64 x → FitsSigned w64 y → FitsSigned w64 z → FitsSigned w64 w → FitsSigned w64 d → r ≡ dot n (vector (kept w64 x) (kept w64 y) (kept w64 z)) → q ≡ kept w64 d *ℤ kept w64 w → unsigned_abs r ≤ 3 * 2 ^ 116 → unsigned_abs q ≤ 2 ^ 126 → kept w128 (kept w128 r -ℤ kept w128 q) ≡ value h p
+value_at_point h p n x y z w d r q of_h of_p of_d fx fy fz fw fd along times k l =
+    apart_is r q (3 * 2 ^ 116) (2 ^ 126) k l (lit≤ tt)
+    ∙ value_is h p r q (along ∙ rw (vector_kept x y z fx fy fz, of_h, ← of_p) refl) (product_answered w64 q d w fd fw times ∙ rw (of_d, ← of_p) refl)
+
+-- ---- steps between whole points, and the outward plane
+
+-- a whole coordinate of the cube
+coordinate_small : (c : ℤ) → IsCoordinate c → unsigned_abs c ≤ 2 ^ 12
+coordinate_small c h = abs_at_most c 4096 h.low h.high
+
+pub coordinate_kept : (z : ℤ) → IsCoordinate z → IsCoordinate (kept w32 z)
+coordinate_kept z h = rw (kept_32 z (2 ^ 12) (coordinate_small z h) (lit≤ tt)) h
+
+step_small : (a b : ℤ) → unsigned_abs a ≤ 2 ^ 12 → unsigned_abs b ≤ 2 ^ 12 → unsigned_abs (b -ℤ a) ≤ 2 ^ 13
+step_small a b h k = let s = abs_difference b a in omega arith
+
+pub difference_answered : (r a b : ℤ) → IsCoordinate a → IsCoordinate b → r ≡ kept w32 b -ℤ kept w32 a → kept w64 r ≡ b -ℤ a
+difference_answered r a b h k e =
+    answered w64 (b -ℤ a) r (fits_64 (b -ℤ a) _ (step_small a b (coordinate_small a h) (coordinate_small b k)) (lit≤ tt))
+    (e ∙ rw (kept_32 a (2 ^ 12) (coordinate_small a h) (lit≤ tt), kept_32 b (2 ^ 12) (coordinate_small b k) (lit≤ tt)) refl)
+
+abbrev pub plane : ℤ → ℤ → ℤ → ℤ → Plane
+plane nx ny nz d = record { nx = nx; ny = ny; nz = nz; d = d }
+
+outward_is : (p0 p1 p2 : Point) (n s t o : Vector) (d : ℤ) → s ≡ step_between p1 p0 → t ≡ step_between p1 p2 → n ≡ cross s t → o ≡ step_to p1 → d ≡ dot n o → plane n.x n.y n.z d ≡ outward_plane p0 p1 p2
+unfolding outward_plane step_between cross dot
+outward_is p0 p1 p2 n s t o d of_s of_t of_n of_o of_d = rw (of_d, of_n, of_s, of_t, of_o) refl
+
+wide_distance : (d : ℤ) → unsigned_abs d ≤ 3 * 2 ^ 38 → kept w128 d ≡ d
+wide_distance d h = to_z-of_z w128 d (fits_128 d _ h (lit≤ tt))
+
+distance_fits : (d : ℤ) → unsigned_abs d ≤ 3 * 2 ^ 38 → FitsSigned w64 (kept w128 d)
+distance_fits d h = rw (wide_distance d h) (fits_64 d _ h (lit≤ tt))
+
+plane_kept : (nx ny nz d : ℤ) → HasOutwardSizes (plane nx ny nz d) → plane (kept w64 nx) (kept w64 ny) (kept w64 nz) (kept w64 (kept w128 d)) ≡ plane nx ny nz d
+plane_kept nx ny nz d s =
+    rw (wide_distance d s.d_small, to_z-of_z w64 nx (fits_64 nx _ s.nx_small (lit≤ tt)), to_z-of_z w64 ny (fits_64 ny _ s.ny_small (lit≤ tt)), to_z-of_z w64 nz (fits_64 nz _ s.nz_small (lit≤ tt)), to_z-of_z w64 d (fits_64 d _ s.d_small (lit≤ tt)))
+    refl
+
+-- what the code's steps s and t, their cross product n, the second point's vector o and the distance d are
+pub record AreOutwardParts (p0 p1 p2 : Point) (s t n o : Vector) (d : ℤ) : Type 0 where
+  pub first_step : s ≡ step_between p1 p0
+  pub second_step : t ≡ step_between p1 p2
+  pub normal : n ≡ cross s t
+  pub second_point : o ≡ step_to p1
+  pub distance : d ≡ dot n o
+  pub p0_whole : IsWholePoint p0
+  pub p1_whole : IsWholePoint p1
+  pub p2_whole : IsWholePoint p2
+
+parts_are : (p0 p1 p2 : Point) (s t n o : Vector) (d : ℤ) → AreOutwardParts p0 p1 p2 s t n o d → plane n.x n.y n.z d ≡ outward_plane p0 p1 p2
+parts_are p0 p1 p2 s t n o d p = outward_is p0 p1 p2 n s t o d p.first_step p.second_step p.normal p.second_point p.distance
+
+parts_sizes : (p0 p1 p2 : Point) (s t n o : Vector) (d : ℤ) → AreOutwardParts p0 p1 p2 s t n o d → HasOutwardSizes (plane n.x n.y n.z d)
+parts_sizes p0 p1 p2 s t n o d p =
+    subst HasOutwardSizes (sym (parts_are p0 p1 p2 s t n o d p)) (outward_sizes p0 p1 p2 p.p0_whole p.p1_whole p.p2_whole)
+
+pub outward_distance_fits : (p0 p1 p2 : Point) (s t n o : Vector) (d : ℤ) → AreOutwardParts p0 p1 p2 s t n o d → FitsSigned w64 (kept w128 d)
+outward_distance_fits p0 p1 p2 s t n o d p = let h = parts_sizes p0 p1 p2 s t n o d p in distance_fits d h.d_small
+
+pub outward_kept : (p0 p1 p2 : Point) (s t n o : Vector) (d : ℤ) → AreOutwardParts p0 p1 p2 s t n o d → plane (kept w64 n.x) (kept w64 n.y) (kept w64 n.z) (kept w64 (kept w128 d)) ≡ outward_plane p0 p1 p2
+outward_kept p0 p1 p2 s t n o d p =
+    plane_kept n.x n.y n.z d (parts_sizes p0 p1 p2 s t n o d p) ∙ parts_are p0 p1 p2 s t n o d p

@@ -1,0 +1,23 @@
+use Rattle.std.proofs.Common.{sym, subst}
+use Rattle.qm_geom.specs.Rounding.{IsRoundedDown, HasSmallCoordinates}
+use Rattle.qm_geom.proofs.Wide.{x_kept, y_kept, z_kept, rule_kept}
+use Rattle.qm_geom.proofs.corner.Corner.below.Goals as goal
+
+pub coordinate_below-requires : goal.coordinate_below-requires
+coordinate_below-requires c = x_kept _ c.self.invariant (subst HasSmallCoordinates (sym c.self.view_is) c.requires)
+
+pub coordinate_below-requires-2 : goal.coordinate_below-requires-2
+coordinate_below-requires-2 c = y_kept _ c.self.invariant (subst HasSmallCoordinates (sym c.self.view_is) c.requires)
+
+pub coordinate_below-requires-3 : goal.coordinate_below-requires-3
+coordinate_below-requires-3 c = z_kept _ c.self.invariant (subst HasSmallCoordinates (sym c.self.view_is) c.requires)
+
+pub returns : goal.returns
+returns c =
+    let s = c.self.invariant.sizes in
+    rw (← c.self.view_is)
+    (record {
+      of_x = rule_kept IsRoundedDown c.self.inside.x c.self.inside.w c.coordinate_below.result s.x_small s.w_small (record { sfits = c.coordinate_below.type_inv }) c.coordinate_below.ensures;
+      of_y = rule_kept IsRoundedDown c.self.inside.y c.self.inside.w c.coordinate_below-2.result s.y_small s.w_small (record { sfits = c.coordinate_below-2.type_inv }) c.coordinate_below-2.ensures;
+      of_z = rule_kept IsRoundedDown c.self.inside.z c.self.inside.w c.coordinate_below-3.result s.z_small s.w_small (record { sfits = c.coordinate_below-3.type_inv }) c.coordinate_below-3.ensures;
+    })

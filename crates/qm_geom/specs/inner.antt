@@ -1,0 +1,4 @@
+pub mod LeastDistanceOf
+pub mod Numbered
+pub mod SmallCoordinate
+pub mod Vectors
