@@ -1,7 +1,7 @@
 use Rattle.std.proofs.Common.{◌≡◌, ◌∙◌, sym, add-one, ℕ, take, ap, ◌+◌, ◌≤◌, List, [], ◌∷◌, ◌++◌, length, arith, length-append, slice_get, Some}
 use Rattle.qm_space.specs.Plane.{Plane}
 use Rattle.qm_geom.specs.Planes.{AreDistinct, Enters, was_there, is_gained}
-use Rattle.qm_geom.proofs.Places.{slice_get-push_old, slice_get-push_last, slice_get-take, take_next, length-take_at}
+use Rattle.qm_lists.proofs.Places.{slice_get-push_old, slice_get-push_last, slice_get-take, take_next, length-take_at}
 
 -- a plane that the book did not have is gained at its end
 pub enters_at_end : (old new : List Plane) (plane : Plane) (number : ℕ) → Enters old new plane number → ((n : ℕ) → slice_get old n ≡ Some plane → ⊥) → (new ≡ old ++ plane ∷ []) × (number ≡ length old)

@@ -1,6 +1,4 @@
-pub mod Bits
 pub mod ByCrosses
-pub mod Cases
 pub mod Entering
 pub mod Factors
 pub mod Flipped
@@ -8,7 +6,6 @@ pub mod Kept
 pub mod LeastDistances
 pub mod Numbers
 pub mod OnlyMeetings
-pub mod Places
 pub mod Roundings
 pub mod Vectors
 pub mod Wide

@@ -10,8 +10,8 @@ use Rattle.qm_space.specs.Plane.{Plane}
 use Rattle.qm_space.specs.Reduced.{leads_positive, IsReduced}
 use Rattle.qm_geom.specs.Planes.{AreBookPlanes, plane_cmp}
 use Rattle.qm_geom.specs.inner.Numbered.{IsNumbered}
-use Rattle.qm_geom.proofs.Places.{slice_get-push_old, slice_get-push_last, slice_get-push_cases}
-use Rattle.qm_geom.proofs.Cases.{by_cases}
+use Rattle.qm_lists.proofs.Places.{slice_get-push_old, slice_get-push_last, slice_get-push_cases}
+use Rattle.qm_lists.proofs.Cases.{by_cases}
 
 -- ---- the order of planes
 

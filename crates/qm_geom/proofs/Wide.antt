@@ -8,7 +8,7 @@ use Rattle.qm_space.proofs.Planes.{same_point}
 use Rattle.qm_geom.specs.Corners.{IsCorner}
 use Rattle.qm_geom.specs.inner.SmallCoordinate.{IsSmallCoordinate}
 use Rattle.qm_geom.specs.Rounding.{HasSmallCoordinates}
-use Rattle.qm_geom.proofs.Bits.{kept_128}
+use Rattle.qm_numbers.proofs.Bits.{kept_128}
 
 -- what the code's `-z` gives
 turned_128 : (z : ℤ) (n : ℕ) → unsigned_abs z ≤ n → n ≤ 2 ^ 126 → to_z w128 (of_z w128 (pos 0 -ℤ to_z w128 (of_z w128 z))) ≡ negsuc 0 *ℤ z

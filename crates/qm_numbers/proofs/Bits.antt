@@ -14,11 +14,6 @@ kept_64 z n h small = omega (arith, ints)
 pub kept_128 : (z : ℤ) (n : ℕ) → unsigned_abs z ≤ n → n ≤ 3 * 2 ^ 125 → to_z w128 (of_z w128 z) ≡ z
 kept_128 z n h small = omega (arith, ints)
 
--- ---- a difference
-
-pub difference_kept_64 : (a b : ℤ) → unsigned_abs a ≤ 2 ^ 52 → unsigned_abs b ≤ 2 ^ 52 → to_z w64 (of_z w64 (to_z w64 (of_z w64 a) -ℤ to_z w64 (of_z w64 b))) ≡ a -ℤ b
-difference_kept_64 a b h k = omega (arith, ints)
-
 -- ---- what the code's `-z` gives
 
 pub negated_32 : (z : ℤ) (n : ℕ) → unsigned_abs z ≤ n → n ≤ 2 ^ 30 → to_z w32 (of_z w32 (pos 0 -ℤ to_z w32 (of_z w32 z))) ≡ neg_ℤ z

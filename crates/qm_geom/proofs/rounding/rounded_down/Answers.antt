@@ -4,7 +4,7 @@ use Rattle.std.specs.Int.{int_div_euclid}
 use Rattle.std.proofs.lemmas.Int.{to_z-of_z}
 use Rattle.qm_geom.specs.Rounding.{IsRoundedDown}
 use Rattle.qm_geom.proofs.Roundings.{down_is, down_small}
-use Rattle.qm_geom.proofs.Bits.{narrowed_64}
+use Rattle.qm_numbers.proofs.Bits.{narrowed_64}
 use Rattle.qm_geom.proofs.rounding.rounded_down.Goals as goal
 
 pub returns-clause-exact : goal.returns-clause-exact

@@ -3,7 +3,7 @@ use Rattle.qm_space.specs.Meet.{meet}
 use Rattle.qm_geom.specs.Corners.{with_positive_weight, MeetOnlyIn}
 use Rattle.qm_geom.proofs.OnlyMeetings.{turned_positive, turned_beside, turned_is_only, turned_no_only}
 use Rattle.qm_geom.proofs.Wide.{held_is, held_is_corner}
-use Rattle.qm_geom.proofs.Bits.{zero_from_bits, bits_of_zero}
+use Rattle.qm_numbers.proofs.Bits.{zero_from_bits, bits_of_zero}
 use Rattle.qm_geom.proofs.corner.Corner.of.Goals as goal
 
 pub returns-then-meeting-eq0-clause-none : goal.returns-then-meeting-eq0-clause-none

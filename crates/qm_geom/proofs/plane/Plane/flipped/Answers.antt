@@ -1,6 +1,6 @@
 use Rattle.std.proofs.Common.{lit≤}
 use Rattle.qm_geom.proofs.Flipped.{IsReduced-flipped}
-use Rattle.qm_geom.proofs.Bits.{negated_32, negated_64}
+use Rattle.qm_numbers.proofs.Bits.{negated_32, negated_64}
 use Rattle.qm_geom.proofs.plane.Plane.flipped.Goals as goal
 
 pub invariant_of-result : goal.invariant_of-result

@@ -1,7 +1,7 @@
 use Rattle.std.proofs.Common.{◌<◌, ◌∙◌, ap, lit≤, sym, subst, ℕ, unsigned_abs}
 use Rattle.qm_space.proofs.ReducedPlanes.{common_factor_positive}
 use Rattle.qm_geom.proofs.Factors.{common_factor_in_turn}
-use Rattle.qm_geom.proofs.Bits.{kept_64}
+use Rattle.qm_numbers.proofs.Bits.{kept_64}
 use Rattle.qm_geom.proofs.unreduced.UnreducedPlane.common_factor.Goals as goal
 
 pub returns-clause-value : goal.returns-clause-value

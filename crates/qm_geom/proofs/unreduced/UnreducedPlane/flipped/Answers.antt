@@ -1,5 +1,5 @@
 use Rattle.std.proofs.Common.{lit≤}
-use Rattle.qm_geom.proofs.Bits.{negated_64}
+use Rattle.qm_numbers.proofs.Bits.{negated_64}
 use Rattle.qm_geom.proofs.unreduced.UnreducedPlane.flipped.Goals as goal
 
 pub returns : goal.returns
