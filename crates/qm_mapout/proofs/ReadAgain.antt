@@ -10,18 +10,18 @@ use Rattle.qm_mapout.specs.Printed.{map_lines, printed}
 use Rattle.qm_mapout.proofs.LinesLexed.{lines_lexed}
 use Rattle.qm_mapout.proofs.EntitiesAgain.{entities_spelled, entities_writable}
 
-pub printed_means : (meant : MapFile) → IsValid meant → length (printed meant) ≤ text_limit → IsMapText (printed meant) meant
+pub printed_means : (map : MapFile) → IsValid map → length (printed map) ≤ text_limit → IsMapText (printed map) map
 unfolding printed IsValid
-printed_means meant valid short =
-    let found = lines_lexed (map_lines meant) (entities_writable meant.entities valid.1) in
-    let P : List Symbol → Type 0 = λ ss. SpellsMap ss meant in
+printed_means map valid short =
+    let found = lines_lexed (map_lines map) (entities_writable map.entities valid.1) in
+    let P : List Symbol → Type 0 = λ ss. SpellsMap ss map in
     record {
       short = short;
       lexing = found.lexing;
       is_lexing = found.is_lexing;
       closed = found.closed;
       spelled = subst P (sym found.symbols_are) (record {
-        entities = entities_spelled meant.entities valid.1;
+        entities = entities_spelled map.entities valid.1;
         some = valid.0;
         origins = valid.2;
       });

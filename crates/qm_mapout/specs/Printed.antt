@@ -99,8 +99,8 @@ entity_lines entity =
     ∷ (map pair_line entity.pairs ++ (flat_map brush_lines entity.brushes ++ brace_line close_brace ∷ []))
 
 abbrev pub map_lines : MapFile → List Line
-map_lines meant = flat_map entity_lines meant.entities
+map_lines map = flat_map entity_lines map.entities
 
 -- the canonical text
 unfoldable pub printed : MapFile → List ℕ
-printed meant = text_of (map_lines meant)
+printed map = text_of (map_lines map)

@@ -22,5 +22,8 @@ fn names_give_contents_by_the_first_rule_that_fits(rt: HostRuntime) {
         (b"stone", Some(Contents::Solid)),
         (b"", Some(Contents::Solid)),
     ];
-    assert!(rt; rows.iter().all(|(name, contents)| of_texture(name) == *contents));
+    assert!(rt;
+        rows.iter()
+            .all(|(name, contents)| of_texture(name) == *contents)
+    );
 }

@@ -50,5 +50,8 @@ fn numbers_are_read(rt: HostRuntime) {
         (b"0.0000001", Err(b'd')),
         (b"-1000000001", Err(b'l')),
     ];
-    assert!(rt; rows.iter().all(|(text, answer)| millionths(text) == *answer));
+    assert!(rt;
+        rows.iter()
+            .all(|(text, answer)| millionths(text) == *answer)
+    );
 }

@@ -16,7 +16,8 @@ fn printed_behind(alloc: Global, old: &[u8], text: &[u8]) -> Result<Vec<u8>, All
 #[test]
 fn a_map_is_printed_behind_what_was_there(rt: HostRuntime) -> Result<(), Fail> {
     let text = b"{ \"a\"\"b c\" { ( -0 +1 2. ) ( 0 1 0 ) ( 0 0 1 ) \"x y\" 0 0 0 1 1 } } { }";
-    let printed = b"old\n{\n\"a\" \"b c\"\n{\n( 0 1 2 ) ( 0 1 0 ) ( 0 0 1 ) \"x y\" 0 0 0 1 1\n}\n}\n{\n}\n";
+    let printed =
+        b"old\n{\n\"a\" \"b c\"\n{\n( 0 1 2 ) ( 0 1 0 ) ( 0 0 1 ) \"x y\" 0 0 0 1 1\n}\n}\n{\n}\n";
     let out = printed_behind(rt.alloc(), b"old\n", text)?;
     assert!(rt; out.as_slice() == printed.as_slice());
     Ok(())
@@ -25,10 +26,22 @@ fn a_map_is_printed_behind_what_was_there(rt: HostRuntime) -> Result<(), Fail> {
 #[test]
 fn a_texture_stands_between_quotes_where_it_has_to(rt: HostRuntime) -> Result<(), Fail> {
     let rows = [
-        (b"{ { ( 0 0 0 ) ( 0 1 0 ) ( 0 0 1 ) \"\" 0 0 0 1 1 } }".as_slice(), b"\"\"".as_slice()),
-        (b"{ { ( 0 0 0 ) ( 0 1 0 ) ( 0 0 1 ) \"{\" 0 0 0 1 1 } }", b"\"{\""),
-        (b"{ { ( 0 0 0 ) ( 0 1 0 ) ( 0 0 1 ) \"//x\" 0 0 0 1 1 } }", b"\"//x\""),
-        (b"{ { ( 0 0 0 ) ( 0 1 0 ) ( 0 0 1 ) \"/x\" 0 0 0 1 1 } }", b"/x"),
+        (
+            b"{ { ( 0 0 0 ) ( 0 1 0 ) ( 0 0 1 ) \"\" 0 0 0 1 1 } }".as_slice(),
+            b"\"\"".as_slice(),
+        ),
+        (
+            b"{ { ( 0 0 0 ) ( 0 1 0 ) ( 0 0 1 ) \"{\" 0 0 0 1 1 } }",
+            b"\"{\"",
+        ),
+        (
+            b"{ { ( 0 0 0 ) ( 0 1 0 ) ( 0 0 1 ) \"//x\" 0 0 0 1 1 } }",
+            b"\"//x\"",
+        ),
+        (
+            b"{ { ( 0 0 0 ) ( 0 1 0 ) ( 0 0 1 ) \"/x\" 0 0 0 1 1 } }",
+            b"/x",
+        ),
     ];
     for (text, name) in rows {
         let out = printed_behind(rt.alloc(), b"", text)?;

@@ -24,7 +24,13 @@ fn gives(text: &[u8], tokens: &[[u64; 4]]) -> bool {
 #[test]
 fn tokens_of_a_text(rt: HostRuntime) {
     let text = b"{ \"a\n b\"c // \"\r\n-1.5 /\"}";
-    let tokens = [[0, 0, 1, 1], [1, 3, 7, 1], [0, 8, 9, 2], [0, 16, 20, 3], [0, 21, 24, 3]];
+    let tokens = [
+        [0, 0, 1, 1],
+        [1, 3, 7, 1],
+        [0, 8, 9, 2],
+        [0, 16, 20, 3],
+        [0, 21, 24, 3],
+    ];
     assert!(rt; gives(text, &tokens));
 }
 
