@@ -14,7 +14,8 @@ use Rattle.qm_geom.specs.LeastDistance.{plane_at, IsComponent, IsLeastDistance}
 use Rattle.qm_geom.specs.inner.LeastDistanceOf.{IsLeastDistanceOf}
 use Rattle.qm_geom.specs.inner.Vectors.{vector_of, step_to, dot, IsWithin}
 use Rattle.qm_geom.specs.declared.vector.Vector.{Vector}
-use Rattle.qm_geom.specs.Rounding.{IsRoundedUp, HasSmallCoordinates}
+use Rattle.qm_numbers.specs.Rounding.{IsRoundedUp}
+use Rattle.qm_geom.specs.Rounding.{HasSmallCoordinates}
 
 -- the distance is taken off the dot product of the normal and the point's numerators
 value_at : (normal : List ℤ) (d : ℤ) (p : Point) → value (plane_at normal d) p ≡ dot (vector_of normal) (step_to p) -ℤ (d *ℤ p.w)

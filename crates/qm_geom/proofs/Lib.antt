@@ -1,11 +1,8 @@
 pub mod ByCrosses
 pub mod Entering
 pub mod Factors
-pub mod Flipped
-pub mod Kept
 pub mod LeastDistances
 pub mod Numbers
 pub mod OnlyMeetings
-pub mod Roundings
 pub mod Vectors
 pub mod Wide

@@ -1,4 +1,4 @@
-use Rattle.std.proofs.Common.{◌≡◌, ℤ, ℕ, ◌+◌, ◌<◌, ◌^◌, List, [], ◌∷◌, ◌++◌, length, refl, sym, subst, ap, ◌∙◌, arith, true, length-append, slice_get, Some, None, IsTrue, ⊎_elim}
+use Rattle.std.proofs.Common.{◌≡◌, ℕ, ◌+◌, ◌<◌, ◌^◌, List, [], ◌∷◌, ◌++◌, length, refl, sym, subst, ap, ◌∙◌, arith, true, length-append, slice_get, Some, None, IsTrue, ⊎_elim}
 use Rattle.std.specs.declared.cmp.Ordering.{Ordering}
 use Rattle.std.specs.declared.cmp.Ordering.TheVariants.{Less, Equal, Greater}
 use Rattle.std.specs.BTreeMap.{BTreeMap, get, Updates, IsUnchanged}
@@ -8,6 +8,7 @@ use Rattle.std.proofs.lemmas.Cmp.{tied_itself, then_total, on_total, int_cmp_tot
 use Rattle.std.proofs.lemmas.Map.Lookups.{exact_signed}
 use Rattle.qm_space.specs.Plane.{Plane}
 use Rattle.qm_space.specs.Reduced.{leads_positive, IsReduced}
+use Rattle.qm_space.proofs.ReducedPlanes.{same_plane}
 use Rattle.qm_geom.specs.Planes.{AreBookPlanes, plane_cmp}
 use Rattle.qm_geom.specs.inner.Numbered.{IsNumbered}
 use Rattle.qm_lists.proofs.Places.{slice_get-push_old, slice_get-push_last, slice_get-push_cases}
@@ -28,15 +29,6 @@ equal_parts : (o p : Ordering) → ordering_then o p ≡ Equal → (o ≡ Equal)
 equal_parts Less p h = cc
 equal_parts Equal p h = (refl, h)
 equal_parts Greater p h = cc
-
-abbrev plane_of : ℤ → ℤ → ℤ → ℤ → Plane
-plane_of nx ny nz d = record { nx = nx; ny = ny; nz = nz; d = d }
-
-same_parts : (a b c d p q r s : ℤ) → a ≡ p → b ≡ q → c ≡ r → d ≡ s → plane_of a b c d ≡ plane_of p q r s
-same_parts a b c d p q r s x y z w = rw (x, y, z, w)
-
-same_plane : (g h : Plane) → g.nx ≡ h.nx → g.ny ≡ h.ny → g.nz ≡ h.nz → g.d ≡ h.d → g ≡ h
-same_plane g h x y z d = same_parts _ _ _ _ _ _ _ _ x y z d
 
 is_eq-Equal : (o : Ordering) → is_eq o ≡ true → o ≡ Equal
 is_eq-Equal Less h = cc

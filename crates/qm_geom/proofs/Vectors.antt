@@ -9,7 +9,7 @@ use Rattle.qm_numbers.proofs.Signs.{abs_difference, abs_at_most}
 use Rattle.qm_space.proofs.PlanesThroughPoints.{outward_sizes}
 use Rattle.qm_geom.specs.inner.Vectors.{normal_of, step_to, step_between, cross, dot, IsWithin}
 use Rattle.qm_geom.specs.declared.vector.Vector.{Vector}
-use Rattle.qm_geom.proofs.Kept.{kept, small_kept, fits_64, fits_128, answered, product_answered, apart_is}
+use Rattle.qm_numbers.proofs.Kept.{kept, small_kept, fits_64, fits_128, answered, product_answered, apart_is}
 use Rattle.qm_numbers.proofs.Bits.{kept_32}
 
 -- three numbers as one vector

@@ -8,7 +8,8 @@ ghost use Rattle.qm_geom.specs.Corners.{numerator, with_positive_weight, MeetBes
 ghost use Rattle.qm_geom.specs.LeastDistance.{IsComponent};
 ghost use Rattle.qm_geom.specs.inner.LeastDistanceOf.{IsLeastDistanceOf};
 ghost use Rattle.qm_geom.specs.inner.Vectors.{dot, step_to, IsWithin};
-ghost use Rattle.qm_geom.specs.Rounding.{AreCoordinatesBy, HasSmallCoordinates, IsNearest, IsRoundedDown, IsRoundedUp};
+ghost use Rattle.qm_numbers.specs.Rounding.{IsNearest, IsRoundedDown, IsRoundedUp};
+ghost use Rattle.qm_geom.specs.Rounding.{AreCoordinatesBy, HasSmallCoordinates};
 
 use crate::meeting::Meeting;
 use crate::plane::Plane;

@@ -1,5 +1,5 @@
 ghost use Rattle.std.specs.Prelude.{◌≡◌, ◌<◌, ◌≤◌, ◌*◌, ◌^◌, pos, ◌<ℤ◌, ◌≤ℤ◌, unsigned_abs};
-ghost use Rattle.qm_geom.specs.Rounding.{IsRoundedDown, IsRoundedUp, IsNearest};
+ghost use Rattle.qm_numbers.specs.Rounding.{IsRoundedDown, IsRoundedUp, IsNearest};
 ghost use Rattle.qm_geom.specs.inner.SmallCoordinate.{IsSmallCoordinate};
 
 /// The greatest whole number that is at most the fraction.

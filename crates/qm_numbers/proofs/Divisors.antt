@@ -7,7 +7,8 @@ use Rattle.std.proofs.Math.Nat.{mul-div_cancel'}
 use Rattle.std.proofs.Math.IntN.{*ℤ_comm}
 use Rattle.qm_numbers.specs.Gcd.{gcd, gcd_within}
 use Rattle.qm_numbers.specs.FloorDivision.{floor_div}
-use Rattle.qm_numbers.proofs.IntegerProducts.{linear, *ℤ_assoc, *ℤ-+ℤ, *ℤ_one, one_*ℤ, zero_*ℤ}
+use Rattle.qm_numbers.specs.Rounding.{IsRoundedDown}
+use Rattle.qm_numbers.proofs.IntegerProducts.{linear, *ℤ_assoc, +ℤ-*ℤ, one_*ℤ, zero_*ℤ}
 use Rattle.qm_numbers.proofs.Signs.{abs_product, cancel_less}
 use Rattle.qm_numbers.proofs.Ring.{variable, ◌⊕◌, ◌⊖◌, ◌⊗◌, solved}
 
@@ -140,33 +141,35 @@ abs_division_at_most z k p h =
 
 -- ---- floor division
 
--- q · b ≤ a < q · b + b, where q is the floor of a / b
-pub record IsFloor (a b q : ℤ) : Type 0 where
-  pub at_most : (q *ℤ b) ≤ℤ a
-  pub above : a <ℤ ((q *ℤ b) +ℤ b)
-
-pub floor_div_is : (a b : ℤ) → pos 0 <ℤ b → IsFloor a b (floor_div a b)
+floor_parts : (a b : ℤ) → pos 0 <ℤ b → ((floor_div a b *ℤ b) ≤ℤ a) × (a <ℤ ((floor_div a b *ℤ b) +ℤ b))
 unfolding floor_div
-floor_div_is (pos n) (pos zero) h = absurd (omega (arith, ints))
-floor_div_is (pos n) (pos (suc m)) h =
+floor_parts (pos n) (pos zero) h = absurd (omega (arith, ints))
+floor_parts (pos n) (pos (suc m)) h =
     let e = div-add-mod' n (suc m) in
     let l : n % suc m < suc m = mod-lt n (omega arith) in
-    record { at_most = omega (arith, ints); above = omega (arith, ints) }
-floor_div_is (pos n) (negsuc m) h = absurd (omega (arith, ints))
-floor_div_is (negsuc n) (pos zero) h = absurd (omega (arith, ints))
-floor_div_is (negsuc n) (pos (suc m)) h =
+    (omega (arith, ints), omega (arith, ints))
+floor_parts (pos n) (negsuc m) h = absurd (omega (arith, ints))
+floor_parts (negsuc n) (pos zero) h = absurd (omega (arith, ints))
+floor_parts (negsuc n) (pos (suc m)) h =
     let e = div-add-mod' n (suc m) in
     let l : n % suc m < suc m = mod-lt n (omega arith) in
-    record { at_most = omega (arith, ints); above = omega (arith, ints) }
-floor_div_is (negsuc n) (negsuc m) h = absurd (omega (arith, ints))
+    (omega (arith, ints), omega (arith, ints))
+floor_parts (negsuc n) (negsuc m) h = absurd (omega (arith, ints))
+
+-- the floor of a / b is the fraction rounded down
+pub floor_div_is : (a b : ℤ) → pos 0 <ℤ b → IsRoundedDown a b (floor_div a b)
+floor_div_is a b h =
+    let f = floor_parts a b h in
+    let e = +ℤ-*ℤ (floor_div a b) (pos 1) b in let o = one_*ℤ b in
+    record { at_most = f.0; next = let l = f.1 in omega (arith, linear) }
 
 -- no other number is the floor
-pub one_floor : (a b p q : ℤ) → pos 0 <ℤ b → IsFloor a b p → IsFloor a b q → p ≡ q
+pub one_floor : (a b p q : ℤ) → pos 0 <ℤ b → IsRoundedDown a b p → IsRoundedDown a b q → p ≡ q
 one_floor a b p q h f g =
     let s = *ℤ_comm b p in let t = *ℤ_comm b q in
-    let u = *ℤ-+ℤ b q (pos 1) in let w = *ℤ-+ℤ b p (pos 1) in let o = *ℤ_one b in
-    let l = cancel_less b p (q +ℤ pos 1) h (let x = f.at_most in let y = g.above in omega (arith, linear)) in
-    let m = cancel_less b q (p +ℤ pos 1) h (let x = g.at_most in let y = f.above in omega (arith, linear)) in
+    let u = *ℤ_comm b (q +ℤ pos 1) in let w = *ℤ_comm b (p +ℤ pos 1) in
+    let l = cancel_less b p (q +ℤ pos 1) h (let x = f.at_most in let y = g.next in omega (arith, linear)) in
+    let m = cancel_less b q (p +ℤ pos 1) h (let x = g.at_most in let y = f.next in omega (arith, linear)) in
     omega (arith, linear)
 
 -- worked rows

@@ -4,3 +4,5 @@ pub mod Ring
 pub mod Divisors
 pub mod Ratios
 pub mod Bits
+pub mod Roundings
+pub mod Kept

@@ -1,3 +1,4 @@
 pub mod Gcd
 pub mod FloorDivision
 pub mod Ratio
+pub mod Rounding

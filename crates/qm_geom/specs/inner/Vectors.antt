@@ -1,6 +1,7 @@
-use Rattle.std.specs.Prelude.{ℕ, ℤ, pos, ◌≤◌, ◌*ℤ◌, ◌+ℤ◌, ◌-ℤ◌, unsigned_abs, List, slice_index_or}
+use Rattle.std.specs.Prelude.{ℕ, ℤ, pos, ◌≤◌, ◌*ℤ◌, ◌+ℤ◌, unsigned_abs, List, slice_index_or}
 use Rattle.qm_space.specs.Point.{Point}
 use Rattle.qm_space.specs.Plane.{Plane}
+use Rattle.qm_space.specs.Vector as space
 use Rattle.qm_geom.specs.declared.vector.Vector.{Vector}
 
 -- three numbers
@@ -14,16 +15,19 @@ step_to p = record { x = p.x; y = p.y; z = p.z }
 
 -- the step from one whole point to another
 unfoldable pub step_between : Point → Point → Vector
-step_between from to = record { x = to.x -ℤ from.x; y = to.y -ℤ from.y; z = to.z -ℤ from.z }
+step_between from to = step_to (space.step_between from to)
 
 -- the normal of a plane
 abbrev pub normal_of : Plane → Vector
-normal_of h = record { x = h.nx; y = h.ny; z = h.nz }
+normal_of h = step_to (space.normal_of h)
+
+-- the direction of three numbers, as a point
+abbrev pub direction_of : Vector → Point
+direction_of a = record { x = a.x; y = a.y; z = a.z; w = pos 0 }
 
 -- the cross product
 unfoldable pub cross : Vector → Vector → Vector
-cross a b =
-    record { x = (a.y *ℤ b.z) -ℤ (a.z *ℤ b.y); y = (a.z *ℤ b.x) -ℤ (a.x *ℤ b.z); z = (a.x *ℤ b.y) -ℤ (a.y *ℤ b.x) }
+cross a b = step_to (space.cross (direction_of a) (direction_of b))
 
 -- the dot product
 unfoldable pub dot : Vector → Vector → ℤ

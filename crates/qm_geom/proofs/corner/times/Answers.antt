@@ -1,5 +1,5 @@
 use Rattle.std.proofs.Common.{◌≤◌, ◌*◌, ◌^◌, ℤ, sym, subst, lit≤, unsigned_abs}
-use Rattle.qm_geom.proofs.Kept.{long_fits, long_is, long_size}
+use Rattle.qm_numbers.proofs.Kept.{long_fits, long_is, long_size}
 use Rattle.qm_geom.proofs.corner.times.Goals as goal
 
 pub overflow_mul-result : goal.overflow_mul-result

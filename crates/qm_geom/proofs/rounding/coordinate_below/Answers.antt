@@ -1,6 +1,6 @@
 use mir.Syntax.{w128}
 use Rattle.std.proofs.lemmas.Int.{to_z-of_z}
-use Rattle.qm_geom.proofs.Roundings.{down_small}
+use Rattle.qm_numbers.proofs.Roundings.{down_small}
 use Rattle.qm_numbers.proofs.Bits.{narrowed_32, fits_32}
 use Rattle.qm_geom.proofs.rounding.coordinate_below.Goals as goal
 

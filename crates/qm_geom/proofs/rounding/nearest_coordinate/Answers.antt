@@ -1,7 +1,7 @@
 use Rattle.std.proofs.Common.{arith, lit≤}
 use mir.Syntax.{w128}
 use Rattle.std.proofs.lemmas.Int.{to_z-of_z}
-use Rattle.qm_geom.proofs.Roundings.{nearest_turned}
+use Rattle.qm_numbers.proofs.Roundings.{nearest_turned}
 use Rattle.qm_numbers.proofs.Bits.{negated_32, negated_128}
 use Rattle.qm_geom.proofs.rounding.nearest_coordinate.Goals as goal
 

@@ -1,6 +1,6 @@
-use Rattle.qm_geom.proofs.Roundings.{nearest_is, nearest_small}
+use Rattle.qm_numbers.proofs.Roundings.{nearest_is, nearest_small}
 use Rattle.qm_numbers.proofs.Bits.{narrowed_32, fits_32}
-use Rattle.qm_geom.proofs.Kept.{doubled_sum_kept, doubled_kept}
+use Rattle.qm_numbers.proofs.Kept.{doubled_sum_kept, doubled_kept}
 use Rattle.qm_geom.proofs.rounding.nearest_from_zero.Goals as goal
 
 pub overflow_cast-result : goal.overflow_cast-result

@@ -2,8 +2,8 @@ use Rattle.std.proofs.Common.{◌≡◌}
 use mir.Syntax.{w128}
 use Rattle.std.specs.Int.{int_div_euclid}
 use Rattle.std.proofs.lemmas.Int.{to_z-of_z}
-use Rattle.qm_geom.specs.Rounding.{IsRoundedDown}
-use Rattle.qm_geom.proofs.Roundings.{down_is, down_small}
+use Rattle.qm_numbers.specs.Rounding.{IsRoundedDown}
+use Rattle.qm_numbers.proofs.Roundings.{down_is, down_small}
 use Rattle.qm_numbers.proofs.Bits.{narrowed_64}
 use Rattle.qm_geom.proofs.rounding.rounded_down.Goals as goal
 

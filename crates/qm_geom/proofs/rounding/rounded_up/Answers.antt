@@ -1,7 +1,7 @@
 use Rattle.std.proofs.Common.{lit≤}
 use mir.Syntax.{w128}
 use Rattle.std.proofs.lemmas.Int.{to_z-of_z}
-use Rattle.qm_geom.proofs.Roundings.{up_from_down, up_small}
+use Rattle.qm_numbers.proofs.Roundings.{up_from_down, up_small}
 use Rattle.qm_numbers.proofs.Bits.{negated_64, negated_128}
 use Rattle.qm_geom.proofs.rounding.rounded_up.Goals as goal
 

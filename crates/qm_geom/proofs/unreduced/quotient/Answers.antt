@@ -1,5 +1,5 @@
 use Rattle.std.proofs.Common.{◌≤◌, ℤ, sym, subst, unsigned_abs}
-use Rattle.qm_geom.proofs.Kept.{quotient_kept, quotient_small}
+use Rattle.qm_numbers.proofs.Kept.{quotient_kept, quotient_small}
 use Rattle.qm_geom.proofs.unreduced.quotient.Goals as goal
 
 pub returns-clause-exact : goal.returns-clause-exact

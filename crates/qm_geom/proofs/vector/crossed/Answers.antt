@@ -1,5 +1,5 @@
 use Rattle.std.proofs.Common.{◌≤◌, ◌^◌, ℤ, sym, subst, unsigned_abs}
-use Rattle.qm_geom.proofs.Kept.{crossed_part_fits, crossed_fits, crossed_is, crossed_size}
+use Rattle.qm_numbers.proofs.Kept.{crossed_part_fits, crossed_fits, crossed_is, crossed_size}
 use Rattle.qm_geom.proofs.vector.crossed.Goals as goal
 
 pub overflow_mul-result : goal.overflow_mul-result

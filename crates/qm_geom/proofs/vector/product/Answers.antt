@@ -1,5 +1,5 @@
 use Rattle.std.proofs.Common.{◌≤◌, ◌^◌, ℤ, sym, subst, unsigned_abs}
-use Rattle.qm_geom.proofs.Kept.{wide_fits, wide_is, wide_size}
+use Rattle.qm_numbers.proofs.Kept.{wide_fits, wide_is, wide_size}
 use Rattle.qm_geom.proofs.vector.product.Goals as goal
 
 pub overflow_mul-result : goal.overflow_mul-result

@@ -1,5 +1,5 @@
 use Rattle.std.proofs.Common.{rules, ◌*◌, ◌^◌, FitsSigned, ap, lit≤, w64}
-use Rattle.qm_geom.proofs.Kept.{apart_fits}
+use Rattle.qm_numbers.proofs.Kept.{apart_fits}
 use Rattle.qm_geom.proofs.Vectors.{IsWithin-more, value_at_point}
 use Rattle.qm_geom.proofs.plane.Plane.value.Goals as goal
 

@@ -1,6 +1,6 @@
 use Rattle.std.proofs.Common.{rules, ◌≡◌, ◌≤◌, ◌*◌, ◌^◌, ◌*ℤ◌, ◌∙◌, ℤ, FitsSigned, w64, sym, subst, lit≤, unsigned_abs}
 use Rattle.qm_geom.specs.inner.Vectors.{dot}
-use Rattle.qm_geom.proofs.Kept.{product_answered, product_size, first_two_fit, three_fit, three_is, three_small}
+use Rattle.qm_numbers.proofs.Kept.{product_answered, product_size, first_two_fit, three_fit, three_is, three_small}
 use Rattle.qm_geom.proofs.vector.Vector.dot.Goals as goal
 
 of_x_is : (c : goal.After-product-of_z) → c.product-of_x.result ≡ c.args.self.now.x *ℤ c.args.other.now.x

@@ -1,5 +1,5 @@
 use Rattle.std.proofs.Common.{rules, pos, slice_index_or, FitsSigned, w32}
-use Rattle.qm_geom.proofs.Kept.{widened_32}
+use Rattle.qm_numbers.proofs.Kept.{widened_32}
 use Rattle.qm_geom.proofs.Vectors.{same_vector}
 use Rattle.qm_geom.proofs.vector.Vector.of.Goals as goal
 

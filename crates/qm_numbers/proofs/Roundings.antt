@@ -8,17 +8,13 @@ use Rattle.qm_numbers.specs.FloorDivision.{floor_div}
 use Rattle.qm_numbers.proofs.IntegerProducts.{linear, *ℤ-+ℤ, +ℤ-*ℤ, -ℤ-*ℤ, neg-*ℤ, one_*ℤ}
 use Rattle.qm_numbers.proofs.Signs.{cancel_less, cancel_at_most, within_abs, abs_at_most, abs_neg, abs_product}
 use Rattle.qm_numbers.proofs.Divisors.{floor_div_is}
-use Rattle.qm_geom.specs.Rounding.{IsRoundedDown, IsRoundedUp, IsNearest}
+use Rattle.qm_numbers.specs.Rounding.{IsRoundedDown, IsRoundedUp, IsNearest}
 
 -- ---- down
 
 pub down_is : (a b : ℤ) → pos 0 <ℤ b → IsRoundedDown a b (int_div_euclid a b)
 unfolding floor_div
-down_is a b h =
-    let f = floor_div_is a b h in
-    let q = int_div_euclid a b in
-    let e = +ℤ-*ℤ q (pos 1) b in let o = one_*ℤ b in
-    record { at_most = f.at_most; next = let l = f.above in omega (arith, linear) }
+down_is a b h = floor_div_is a b h
 
 -- the bounds that an absolute value of at most n times another sets
 bounds : (a b : ℤ) (n : ℕ) → pos 0 <ℤ b → unsigned_abs a ≤ n * unsigned_abs b → ((neg_ℤ (pos n) *ℤ b) ≤ℤ a) × (a ≤ℤ (pos n *ℤ b))

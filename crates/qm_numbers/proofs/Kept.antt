@@ -5,7 +5,7 @@ use Rattle.std.proofs.lemmas.Int.{ints, to_z-of_z, to_z_pos, quot_fits, fits_sig
 use Rattle.std.proofs.Math.Nat.{div-le_self}
 use Rattle.qm_numbers.proofs.Signs.{abs_sum, abs_difference, abs_product, abs_product_bound}
 use Rattle.qm_numbers.proofs.Bits.{kept_128}
-use Rattle.qm_geom.proofs.Roundings.{twice_is}
+use Rattle.qm_numbers.proofs.Roundings.{twice_is}
 
 -- a number as the code keeps it
 abbrev pub kept : Width → ℤ → ℤ
