@@ -3,6 +3,8 @@ use Rattle.std.specs.List.{AllByRecursion}
 use Rattle.std.specs.Bool.{beq}
 use Rattle.std.specs.Ordering.{is_eq}
 use Rattle.std.proofs.lemmas.List.{map-append}
+use Rattle.std.proofs.lemmas.Option.{slice_get_within}
+use Rattle.qm_lists.proofs.Cases.{by_cases}
 use Rattle.qm_space.specs.Plane.{Plane}
 use Rattle.qm_geom.specs.Planes.{plane_cmp, AreDistinct, Enters, was_there, is_gained}
 use Rattle.qm_geom.proofs.Numbers.{plane_cmp-itself, same_from_is_eq}
@@ -10,11 +12,6 @@ use Rattle.qm_compile.specs.Sides.{Side, outside_of, joined}
 use Rattle.qm_compile.specs.SideLists.{AreSides, KeepsSides, IsJoined}
 
 -- What is known of a plane among the sides, and by the number that a book gives it.
-
--- by the two values of a test
-pub by_test : {A : Type 0} (b : Bool) → (b ≡ true → A) → (b ≡ false → A) → A
-by_test true on_true on_false = on_true refl
-by_test false on_true on_false = on_false refl
 
 -- one turn of the search
 outside_here : (side : Side) (sides : List Side) (plane : Plane) → is_eq (plane_cmp side.0 plane) ≡ true → outside_of (side ∷ sides) plane ≡ Some side.1
@@ -27,7 +24,7 @@ outside_later side sides plane other = rw other refl
 pub at_known_side : (P : Side → Type 0) (sides : List Side) (plane : Plane) (out : Bool) → outside_of sides plane ≡ Some out → AllByRecursion P sides → P (plane, out)
 at_known_side P [] plane out found all = cc
 at_known_side P (side ∷ sides) plane out found all =
-    by_test (is_eq (plane_cmp side.0 plane))
+    by_cases (is_eq (plane_cmp side.0 plane))
     (λ same.
     let on : side.0 ≡ plane = same_from_is_eq side.0 plane same in
     let outside : Some side.1 ≡ Some out = sym (outside_here side sides plane same) ∙ found in
@@ -40,7 +37,7 @@ at_known_side P (side ∷ sides) plane out found all =
 pub unknown_plane : (sides : List Side) (plane : Plane) → ((n : ℕ) → slice_get (map (λ side. side.0) sides) n ≡ Some plane → ⊥) → outside_of sides plane ≡ None
 unknown_plane [] plane absent = refl
 unknown_plane (side ∷ sides) plane absent =
-    by_test (is_eq (plane_cmp side.0 plane))
+    by_cases (is_eq (plane_cmp side.0 plane))
     (λ same. absurd (absent 0 (ap (λ (h : Plane). Some h) (same_from_is_eq side.0 plane same))))
     (λ other. outside_later side sides plane other ∙ unknown_plane sides plane (λ n at. absent (suc n) at))
 
@@ -55,21 +52,15 @@ known_plane (side ∷ sides) zero plane distinct at =
     let is : side.0 ≡ plane = cc in
     outside_here side sides plane (subst (λ (h : Plane). is_eq (plane_cmp side.0 h) ≡ true) is (ap is_eq (plane_cmp-itself side.0)))
 known_plane (side ∷ sides) (suc n) plane distinct at =
-    by_test (is_eq (plane_cmp side.0 plane))
+    by_cases (is_eq (plane_cmp side.0 plane))
     (λ same.
     let e : zero ≡ suc n = distinct zero (suc n) plane (ap (λ (h : Plane). Some h) (same_from_is_eq side.0 plane same)) at in
     absurd (omega arith))
     (λ other. outside_later side sides plane other ∙ known_plane sides n plane (distinct_rest side.0 (map (λ s. s.0) sides) distinct) at)
 
--- an item that is there is within the list
-slice_get-within : (planes : List Plane) (n : ℕ) (plane : Plane) → slice_get planes n ≡ Some plane → n < length planes
-slice_get-within [] n plane at = cc
-slice_get-within (first ∷ rest) zero plane at = omega arith
-slice_get-within (first ∷ rest) (suc n) plane at = let within = slice_get-within rest n plane at in omega arith
-
 -- a plane that a book numbers behind its end is gained
 gained : (old new : List Plane) (plane : Plane) (number : ℕ) → Enters old new plane number → number ≡ length old → (new ≡ old ++ (plane ∷ [])) × ((n : ℕ) → slice_get old n ≡ Some plane → ⊥)
-gained old new plane number (was_there at same) last = let within = slice_get-within old number plane at in absurd (omega (arith, within, last))
+gained old new plane number (was_there at same) last = let within = slice_get_within old number plane at in absurd (omega (arith, within, last))
 gained old new plane number (is_gained absent after is) last = (after, absent)
 
 -- a plane that a book numbers before its end was there
@@ -78,7 +69,7 @@ known old new plane number (was_there at same) other = (same, at)
 known old new plane number (is_gained absent after is) other = absurd (other is)
 
 pub known-within : (old new : List Plane) (plane : Plane) (number : ℕ) → Enters old new plane number → number ≢ length old → number < length old
-known-within old new plane number enters other = slice_get-within old number plane (known old new plane number enters other).1
+known-within old new plane number enters other = slice_get_within old number plane (known old new plane number enters other).1
 
 -- one more side on a plane that was not there
 pub joined_new : (sides : List Side) (plane : Plane) (out : Bool) (old new : List Plane) (flags : List Bool) (number : ℕ) → AreSides sides old flags → Enters old new plane number → number ≡ length old → IsJoined sides (plane, out) true new (flags ++ (out ∷ []))
@@ -94,7 +85,7 @@ joined_new sides plane out old new flags number are enters last =
 
 keeps : (sides : List Side) (side : Side) (outside goes_on : Bool) (planes : List Plane) (flags : List Bool) → goes_on ≡ beq outside side.1 → AreSides sides planes flags → KeepsSides (joined sides side (Some outside)) sides goes_on planes flags
 keeps sides side outside goes_on planes flags is are =
-    by_test (beq outside side.1) (λ same. rw same (is ∙ same, are)) (λ other. rw other (is ∙ other, are))
+    by_cases (beq outside side.1) (λ same. rw same (is ∙ same, are)) (λ other. rw other (is ∙ other, are))
 
 -- one more side on a plane that was there
 pub joined_known : (sides : List Side) (plane : Plane) (out goes_on : Bool) (old new : List Plane) (flags : List Bool) (number : ℕ) → AreSides sides old flags → AreDistinct new → Enters old new plane number → number ≢ length old → goes_on ≡ beq (get_or flags number false) out → IsJoined sides (plane, out) goes_on new flags

@@ -1,6 +1,7 @@
 use Rattle.std.proofs.Common.{◌≡◌, pos, ◌≤ℤ◌, List, [], ◌∷◌, map, All, Option, Some, inl, inr, sym, refl, ap, ◌∙◌, arith, subst}
 use Rattle.std.specs.Prelude.{unwrap_or}
 use Rattle.std.proofs.lemmas.List.Elements.{All-map, All-contains, All-from_recursion, recursion_from_All, All-nil, All-cons, All-head, All-tail}
+use Rattle.qm_lists.proofs.Cases.{by_cases}
 use Rattle.qm_space.specs.Point.{Point, IsInCube}
 use Rattle.qm_space.specs.Plane.{Plane, value, IsBehind}
 use Rattle.qm_mapfile.specs.declared.face.Face.{Face}
@@ -26,7 +27,6 @@ use Rattle.qm_compile.specs.GivesContents.{GivesContents}
 use Rattle.qm_compile.specs.OneBrush.{IsOneBrushMap}
 use Rattle.qm_compile.specs.Walk.{Walk, walk_of}
 use Rattle.qm_compile.proofs.ChainContents.{IsLedRight, planes_stand, chain_leads_right}
-use Rattle.qm_compile.proofs.KnownSides.{by_test}
 use Rattle.qm_compile.proofs.SideValues.{sides_of_faces}
 use Rattle.qm_compile.proofs.WalkRight.{IsBehindAll, IsNotInFrontOfAny, IsRight, walk_is_right}
 
@@ -78,7 +78,7 @@ module _ (brush : Brush) (contents : Contents) where
   -- a leaf that is right for the sides of a walk has the contents that the solid defines
   right_contents : (walk : Walk) → ((y : Point) → IsRight y [] brush.faces walk) → (x : Point) (found : Leaf) → IsInCube x → IsLedRight (last_contents walk contents) found walk.sides x → HasContents (solid ∷ []) x found.contents
   right_contents walk right x found in_cube (inl led) =
-      by_test walk.is_opposed
+      by_cases walk.is_opposed
       (λ opposed.
       let last : found ≡ open_leaf Empty = led.0 ∙ rw opposed refl in
       rw last (is_empty x (λ holds. (right holds.full.within).opposed opposed tt (behind_faces holds.full.within holds.full.inside))))

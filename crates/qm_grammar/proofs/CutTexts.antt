@@ -4,6 +4,7 @@ use Rattle.std.specs.Prelude.{All}
 use Rattle.std.proofs.lemmas.Bool.{lt-ltb, cases_lt}
 use Rattle.std.proofs.lemmas.List.{take_all, take-append-drop, take-append-le, length-take-le}
 use Rattle.std.proofs.lemmas.List.Elements.{All-head, All-tail}
+use Rattle.qm_lists.proofs.Cases.{by_result}
 use Rattle.qm_lex.specs.Lexeme.{Lexeme, line_ends}
 use Rattle.qm_lex.specs.Lexing.{Lexing, prepend}
 use Rattle.qm_lex.specs.inner.Modes.{Mode, between, mode_after, ended_by, read}
@@ -19,7 +20,7 @@ use Rattle.qm_grammar.specs.Meaning.{Means}
 use Rattle.qm_lists.specs.Limit.{up_to_one_past}
 use Rattle.qm_grammar.specs.inner.Machine.{step, steps, ended, meaning_of}
 use Rattle.qm_grammar.proofs.Meanings.{means_meaning, meaning_only}
-use Rattle.qm_grammar.proofs.Runs.{by_result, steps_step, steps_refused}
+use Rattle.qm_grammar.proofs.Runs.{steps_step, steps_refused}
 
 -- what a reader of tokens ends with: a prefix, or a token that is refused
 abbrev Outcome : Type 0

@@ -1,6 +1,7 @@
 -- Which values of an origin give a point, as it is computed.
 use Rattle.std.proofs.Common.{◌≡◌, ◌<◌, ℕ, ◌*◌, Bool, true, false, ℤ, pos, unsigned_abs, ltb, List, [], ◌∷◌, Option, Some, None, is_none, Result, Ok, Err, ap, refl, sym, subst, ◌∙◌}
 use Rattle.std.proofs.lemmas.Bool.{lt-ltb, ltb-true}
+use Rattle.qm_lists.proofs.Cases.{by_option}
 use Rattle.qm_decimal.specs.declared.fraction.Fraction.{Fraction}
 use Rattle.qm_decimal.specs.declared.fraction.NumberFault.{NumberFault}
 use Rattle.qm_decimal.specs.Answer.{IsAnswer}
@@ -11,11 +12,6 @@ use Rattle.qm_grammar.specs.Number.{SpellsMillionths, millionths}
 use Rattle.qm_grammar.specs.Origin.{SpellsOrigin, IsOriginText}
 use Rattle.qm_grammar.specs.inner.Machine.{millionths_in_range, millionths_of_answer, millionths_of, point_of_words, origin_of}
 use Rattle.qm_grammar.proofs.Numbers.{computed_answer, answer_computed}
-
--- an option is one of two
-pub by_option : {A P : Type 0} (o : Option A) → (o ≡ None → P) → ((a : A) → o ≡ Some a → P) → P
-by_option None none some = none refl
-by_option (Some a) none some = some a refl
 
 -- ---- one number
 

@@ -2,6 +2,7 @@
 use Rattle.std.proofs.Common.{◌≡◌, ◌≢◌, ℕ, Bool, true, false, not, ◌&&◌, ◌==◌, ℤ, List, [], ◌∷◌, ◌++◌, length, IfSome, Option, Some, None, is_none, bytes_eq, Result, Ok, Err, refl, sym, ap, subst, ◌∙◌, ⊎_elim, append_assoc, append-nil, arith}
 use Rattle.std.proofs.lemmas.Bool.{cases_Bool, eq-eqb, ne_eqb, both_ways, and_from, and_cases, not_from_false}
 use Rattle.std.proofs.lemmas.List.{nil_from_length}
+use Rattle.qm_lists.proofs.Cases.{by_option, by_result}
 use Rattle.qm_mapfile.specs.declared.face.Face.{Face}
 use Rattle.qm_mapfile.specs.declared.entity.Brush.{Brush}
 use Rattle.qm_mapfile.specs.declared.entity.Pair.{Pair}
@@ -19,8 +20,8 @@ use Rattle.qm_grammar.specs.Origin.{origin_key, value_of, IsOriginText}
 use Rattle.qm_grammar.specs.Grammar.{SpellsBrush, SpellsEntity, SpellsEntities}
 use Rattle.qm_grammar.specs.Prefix.{Prefix, outside, in_entity, behind_key, in_brush, in_face, IsOutside, IsInEntity, IsInBrush, IsInFace, IsBehindKey, IsPrefix, outside_prefix, entity_prefix, key_prefix, brush_prefix, face_prefix, in_head}
 use Rattle.qm_grammar.specs.inner.Machine.{step, step_at, step_outside, step_entity, step_value, step_brush, is_bad_origin, origin_of, runs, behind_first}
-use Rattle.qm_grammar.proofs.Runs.{by_result, runs_step, runs_refused, not_both}
-use Rattle.qm_grammar.proofs.OriginTexts.{by_option, some_origin}
+use Rattle.qm_grammar.proofs.Runs.{runs_step, runs_refused, not_both}
+use Rattle.qm_grammar.proofs.OriginTexts.{some_origin}
 use Rattle.qm_grammar.proofs.FaceSteps.{step_sorted}
 use Rattle.qm_grammar.proofs.Pushes.{no_faces_spelled, no_parts_spelled, no_entities_spelled, faces_push, pair_push, brush_push, entities_push}
 use Rattle.qm_grammar.proofs.FaceReads.{IsFaceNext, goes_on, ends, begun_next}

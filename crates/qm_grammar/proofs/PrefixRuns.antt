@@ -3,6 +3,7 @@ use Rattle.std.proofs.Common.{◌≡◌, ◌≢◌, ℕ, true, false, not, ◌&&
 use Rattle.std.proofs.lemmas.Bool.{cases_Bool, eq-eqb, ne_eqb, both_ways, and_parts, false_from_ne_true, not-true}
 use Rattle.std.proofs.lemmas.List.{nil_from_length}
 use Rattle.std.proofs.lemmas.List.Elements.{All-append, All-nil, All-cons, All-head}
+use Rattle.qm_lists.proofs.Elements.{All-last_part}
 use Rattle.qm_mapfile.specs.declared.face.Face.{Face}
 use Rattle.qm_mapfile.specs.declared.entity.Brush.{Brush}
 use Rattle.qm_mapfile.specs.declared.entity.Pair.{Pair}
@@ -14,7 +15,7 @@ use Rattle.qm_grammar.specs.Origin.{origin_key, value_of, IsOriginText, HasGoodO
 use Rattle.qm_grammar.specs.Grammar.{SpellsFaces, none, more, SpellsBrush, SpellsParts, pair, brush, SpellsEntity, SpellsEntities}
 use Rattle.qm_grammar.specs.Prefix.{Prefix, outside, in_entity, behind_key, in_brush, in_face, IsOutside, IsInEntity, IsInBrush, IsPrefix, outside_prefix, entity_prefix, key_prefix, brush_prefix, face_prefix}
 use Rattle.qm_grammar.specs.inner.Machine.{step, step_outside, step_entity, step_value, step_brush, is_bad_origin, origin_of, runs}
-use Rattle.qm_grammar.proofs.Parts.{all_prefix, all_back}
+use Rattle.qm_grammar.proofs.Parts.{all_prefix}
 use Rattle.qm_grammar.proofs.Runs.{runs_step, runs_then, runs_one}
 use Rattle.qm_grammar.proofs.OriginTexts.{none_no_origin}
 use Rattle.qm_grammar.proofs.FaceSteps.{step_sorted}
@@ -78,7 +79,7 @@ pub good_last : (es : List Entity) (last : Entity) → OriginsAreGood (es ++ las
 good_last [] last good some = absurd (some refl)
 good_last (world ∷ others) last good some =
     let P : Entity → Type 0 = λ entity. HasGoodOrigin entity.pairs in
-    All-head P last [] (all_back P others (last ∷ []) good)
+    All-head P last [] (All-last_part P others (last ∷ []) good)
 
 good_prefix : (es others : List Entity) → OriginsAreGood (es ++ others) → OriginsAreGood es
 good_prefix [] others good = tt

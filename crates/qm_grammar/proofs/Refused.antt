@@ -3,6 +3,7 @@ use Rattle.std.proofs.Common.{◌≡◌, ◌≢◌, Bool, true, false, not, ◌&
 use Rattle.std.proofs.lemmas.Bool.{and_parts, not-true, both_ways, eq-eqb, eqb-true}
 use Rattle.std.proofs.lemmas.List.{nil_from_length}
 use Rattle.std.proofs.lemmas.Slice.Eq.{bytes_eq-Decides}
+use Rattle.qm_lists.proofs.Options.{IsNone_from_is_none}
 use Rattle.qm_mapfile.specs.declared.entity.Entity.{Entity}
 use Rattle.qm_grammar.specs.declared.mark.Mark.{Mark}
 use Rattle.qm_grammar.specs.declared.mark.Mark.TheVariants.{OpenBrace, CloseBrace, OpenParenthesis, CloseParenthesis, OpenBracket}
@@ -24,14 +25,6 @@ use Rattle.qm_grammar.proofs.OriginTexts.{none_no_origin}
 use Rattle.qm_grammar.proofs.FaceSteps.{step_sorted, same_mark, mark_same, is_flat, flat_is}
 
 -- ---- what the tests of an origin say
-
-pub none_absent : {A : Type 0} (o : Option A) → is_none o ≡ true → IsNone o
-none_absent None is = refl
-none_absent (Some a) is = absurd cc
-
-pub absent_none : {A : Type 0} (o : Option A) → IsNone o → is_none o ≡ true
-absent_none None is = refl
-absent_none (Some a) is = absurd cc
 
 pub some_entities : (es : List Entity) → not (length es == 0) ≡ true → es ≢ []
 some_entities es some none = both_ways (length es == 0) (not-true (length es == 0) some) (eq-eqb (length es) 0 (ap length none))
@@ -81,7 +74,7 @@ module _ (prefix : Prefix) (symbol : Symbol) where
         is_quoted = sorted;
         not_world = some_entities prefix.entities two.0;
         key_is = (bytes_eq-Decides prefix.key origin_key).0 two.1;
-        first = none_absent (value_of origin_key prefix.pairs) three.1;
+        first = IsNone_from_is_none (value_of origin_key prefix.pairs) three.1;
       })
       (none_no_origin symbol.bytes four.1)
 

@@ -3,6 +3,7 @@ use Rattle.std.proofs.Common.{◌≡◌, ℕ, true, not, ◌&&◌, ◌==◌, ℤ
 use Rattle.std.proofs.lemmas.Bool.{and_from, not_from_false, eq-eqb, ne_eqb, true_from_ne_false, false_from_ne_true}
 use Rattle.std.proofs.lemmas.List.{nil_from_length}
 use Rattle.std.proofs.lemmas.Slice.Eq.{bytes_eq-Decides}
+use Rattle.qm_lists.proofs.Options.{is_none_from_IsNone}
 use Rattle.qm_mapfile.specs.Face.{SpanPlane}
 use Rattle.qm_grammar.specs.declared.mark.Mark.{Mark}
 use Rattle.qm_grammar.specs.declared.mark.Mark.TheVariants.{OpenBrace, CloseBrace, OpenParenthesis, CloseParenthesis, OpenBracket}
@@ -26,7 +27,7 @@ use Rattle.qm_grammar.proofs.Numbers.{no_number, fraction, too_large, outside}
 use Rattle.qm_grammar.proofs.OriginTexts.{some_origin}
 use Rattle.qm_grammar.proofs.FaceSteps.{mark_same, is_flat}
 use Rattle.qm_grammar.proofs.Runs.{same_err}
-use Rattle.qm_grammar.proofs.Refused.{absent_none, step_in_context}
+use Rattle.qm_grammar.proofs.Refused.{step_in_context}
 
 -- ---- tokens of a sort that no context allows
 
@@ -112,7 +113,7 @@ module _ (prefix : Prefix) (symbol : Symbol) where
       (and_from (not (length prefix.entities == 0)) (bytes_eq prefix.key origin_key)
       (not_from_false (length prefix.entities == 0) (ne_eqb (length prefix.entities) 0 (λ e. at.not_world (nil_from_length prefix.entities e))))
       ((bytes_eq-Decides prefix.key origin_key).1 at.key_is))
-      (absent_none (value_of origin_key prefix.pairs) at.first))
+      (is_none_from_IsNone (value_of origin_key prefix.pairs) at.first))
       (true_from_ne_false (is_none (origin_of symbol.bytes)) (λ found. no_point (some_origin symbol.bytes found)))
 
   origin_refuses : IsOriginValue prefix symbol → (IsOriginText symbol.bytes → ⊥) → step prefix symbol ≡ Err refusal.BadOrigin

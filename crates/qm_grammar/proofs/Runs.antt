@@ -1,15 +1,11 @@
 -- How a row of symbols is read, one by one, and how that goes with a row of lexemes.
 use Rattle.std.proofs.Common.{◌≡◌, List, [], ◌∷◌, ◌++◌, map, Result, Ok, Err, refl, sym, ap, ◌∙◌}
+use Rattle.qm_lists.proofs.Cases.{by_result}
 use Rattle.qm_lex.specs.Lexeme.{Lexeme}
 use Rattle.qm_grammar.specs.declared.refusal.Refusal.{Refusal}
 use Rattle.qm_grammar.specs.Symbol.{Symbol, symbol_of}
 use Rattle.qm_grammar.specs.Prefix.{Prefix}
 use Rattle.qm_grammar.specs.inner.Machine.{step, steps, runs}
-
--- a result is one of two
-pub by_result : {A E P : Type 0} (r : Result A E) → ((a : A) → r ≡ Ok a → P) → ((e : E) → r ≡ Err e → P) → P
-by_result (Ok a) good bad = good a refl
-by_result (Err e) good bad = bad e refl
 
 -- no result is both
 pub not_both : {A E P : Type 0} (r : Result A E) (a : A) (e : E) → r ≡ Ok a → r ≡ Err e → P

@@ -3,6 +3,7 @@ use Rattle.std.proofs.Common.{◌≡◌, ◌≢◌, ℕ, ◌+◌, ◌<◌, ◌�
 use Rattle.std.specs.Prelude.{All, IfSome}
 use Rattle.std.proofs.lemmas.List.{length-map}
 use Rattle.std.proofs.lemmas.List.Elements.{All-nil, All-cons, All-map, All-contains}
+use Rattle.qm_lists.proofs.Cases.{by_option}
 use Rattle.qm_lex.specs.declared.token.TokenKind.{TokenKind}
 use Rattle.qm_lex.specs.declared.token.TokenKind.TheVariants as kind
 use Rattle.qm_lex.specs.Lexeme.{Lexeme, line_ends}
@@ -12,7 +13,6 @@ use Rattle.qm_grammar.specs.declared.mark.Mark.{Mark}
 use Rattle.qm_grammar.specs.declared.mark.Sort.TheVariants as sort
 use Rattle.qm_grammar.specs.Symbol.{Symbol, symbol_of, mark_of, word_sort, sort_by_kind, sort_of}
 use Rattle.qm_grammar.specs.Valid.{HasNoQuote, IsNameText}
-use Rattle.qm_grammar.proofs.OriginTexts.{by_option}
 
 -- the bytes that a token of a kind may have
 abbrev pub IsKindText : TokenKind → List ℕ → Type 0

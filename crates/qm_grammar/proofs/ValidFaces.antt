@@ -3,6 +3,7 @@ use Rattle.std.proofs.Common.{◌≡◌, ℕ, ◌≤◌, Bool, true, false, ◌&
 use Rattle.std.specs.Prelude.{All}
 use Rattle.std.proofs.lemmas.Bool.{and_parts, eq-eqb, ne_eqb}
 use Rattle.std.proofs.lemmas.List.Elements.{All-nil, All-cons, All-head, All-tail, All-append}
+use Rattle.qm_lists.proofs.Elements.{All-last_part}
 use Rattle.qm_space.specs.Point.{IsCoordinate, AreCoordinates}
 use Rattle.qm_mapfile.specs.declared.face.Face.{Face}
 use Rattle.qm_mapfile.specs.Face.{HasPlane}
@@ -14,7 +15,7 @@ use Rattle.qm_grammar.specs.Slots.{Form, standard, valve, head_slots, mapping_sl
 use Rattle.qm_grammar.specs.Grammar.{SpellsFace}
 use Rattle.qm_grammar.specs.Valid.{HasNoQuote, IsNameText, words_of_mapping, HasWords, IsValidFace}
 use Rattle.qm_grammar.proofs.Filling.{coordinates, texts_in, numbers_filled, texts_filled, symbols_filled, FillParts, fill_cut}
-use Rattle.qm_grammar.proofs.Parts.{all_prefix, all_back}
+use Rattle.qm_grammar.proofs.Parts.{all_prefix}
 use Rattle.qm_grammar.proofs.TokenTexts.{IsTokenText, name_text, quoted_text}
 
 -- ---- what the slots of a row give
@@ -145,7 +146,7 @@ face_valid symbols face spells tokens =
     subst IsValidFace (sym spells.is_face)
     (face_valid_by form spells.numbers cut.texts_first cut.texts_then spells.texts (texts_filled cut.first) cut.texts_are
     (textures_valid cut.first (all_prefix IsTokenText cut.symbols_first cut.symbols_then parts))
-    (words_valid cut.rest (mapping_plain form) (all_back IsTokenText cut.symbols_first cut.symbols_then parts))
+    (words_valid cut.rest (mapping_plain form) (All-last_part IsTokenText cut.symbols_first cut.symbols_then parts))
     (texts_filled cut.rest)
     (points_valid spells.numbers nine (numbers_valid spells.filled))
     (subst HasPlane spells.is_face spells.plane))

@@ -3,6 +3,7 @@ use Rattle.std.proofs.Common.{◌≡◌, ℕ, ◌^◌, ◌≤◌, suc, List, [],
 use Rattle.std.specs.Prelude.{All}
 use Rattle.std.proofs.lemmas.List.Elements.{All-nil, All-cons, All-head, All-tail}
 use Rattle.std.proofs.lemmas.List.Sums.{sum_by-cons}
+use Rattle.qm_lists.proofs.Elements.{All-last_part}
 use Rattle.qm_mapfile.specs.declared.face.Face.{Face}
 use Rattle.qm_mapfile.specs.declared.entity.Brush.{Brush}
 use Rattle.qm_mapfile.specs.declared.entity.Pair.{Pair}
@@ -12,7 +13,7 @@ use Rattle.qm_grammar.specs.Symbol.{Symbol, symbol_of}
 use Rattle.qm_grammar.specs.Grammar.{SpellsFaces, none, more, IsBraced, SpellsBrush, SpellsPair, SpellsParts, pair, brush, SpellsEntity, SpellsEntities, SpellsMap}
 use Rattle.qm_grammar.specs.Meaning.{IsMapText}
 use Rattle.qm_grammar.specs.Valid.{IsValidFace, IsValidBrush, IsValidPair, IsValidEntity, face_count, IsValid}
-use Rattle.qm_grammar.proofs.Parts.{all_prefix, all_back}
+use Rattle.qm_grammar.proofs.Parts.{all_prefix}
 use Rattle.qm_grammar.proofs.TokenTexts.{IsTokenText, quoted_text, lexing_texts, lexing_counted}
 use Rattle.qm_grammar.proofs.ValidFaces.{face_valid, face_counted}
 
@@ -23,7 +24,7 @@ faces_valid none tokens = All-nil IsValidFace
 faces_valid (more {symbols = first} {others = others} {face = face} {faces = faces} spells rest) tokens =
     All-cons IsValidFace face faces
     (face_valid first face spells (all_prefix IsTokenText first others tokens))
-    (faces_valid rest (all_back IsTokenText first others tokens))
+    (faces_valid rest (All-last_part IsTokenText first others tokens))
 
 faces_counted : {symbols : List Symbol} {faces : List Face} → SpellsFaces symbols faces → length faces ≤ length symbols
 faces_counted none = omega arith
@@ -67,7 +68,7 @@ pairs_valid (pair {key = key} {value = value} {others = others} {pair = one} {pa
     All-cons IsValidPair one pairs
     (pair_valid key value one spells (All-head IsTokenText key (value ∷ others) tokens) (All-head IsTokenText value others behind))
     (pairs_valid rest (All-tail IsTokenText value others behind))
-pairs_valid (brush {symbols = first} {others = others} spells rest) tokens = pairs_valid rest (all_back IsTokenText first others tokens)
+pairs_valid (brush {symbols = first} {others = others} spells rest) tokens = pairs_valid rest (All-last_part IsTokenText first others tokens)
 
 brushes_valid : {symbols : List Symbol} {pairs : List Pair} {brushes : List Brush} → SpellsParts symbols pairs brushes → All IsTokenText symbols → All IsValidBrush brushes
 brushes_valid none tokens = All-nil IsValidBrush
@@ -76,7 +77,7 @@ brushes_valid (pair {key = key} {value = value} {others = others} spells rest) t
 brushes_valid (brush {symbols = first} {others = others} {brush = one} {brushes = brushes} spells rest) tokens =
     All-cons IsValidBrush one brushes
     (brush_valid first one spells (all_prefix IsTokenText first others tokens))
-    (brushes_valid rest (all_back IsTokenText first others tokens))
+    (brushes_valid rest (All-last_part IsTokenText first others tokens))
 
 brushes_counted : {symbols : List Symbol} {pairs : List Pair} {brushes : List Brush} → SpellsParts symbols pairs brushes → sum_by (λ one. length one.faces) brushes ≤ length symbols
 brushes_counted none = omega arith
@@ -102,7 +103,7 @@ entities_valid none tokens = All-nil IsValidEntity
 entities_valid (more {symbols = first} {others = others} {entity = one} {entities = entities} spells rest) tokens =
     All-cons IsValidEntity one entities
     (entity_valid first one spells (all_prefix IsTokenText first others tokens))
-    (entities_valid rest (all_back IsTokenText first others tokens))
+    (entities_valid rest (All-last_part IsTokenText first others tokens))
 
 entities_counted : {symbols : List Symbol} {entities : List Entity} → SpellsEntities symbols entities → sum_by face_count entities ≤ length symbols
 entities_counted none = omega arith
