@@ -114,6 +114,7 @@ fn quote_line(fault: LexFault) -> u64
 }
 
 /// Takes the tokens of a text one by one, and then its end.
+#[inline(never)]
 fn meaning_of(alloc: Global, text: &[u8]) -> Result<MapFile, MapFault>
     ensures { result ≢ Err MapFault.Memory → result ≡ meaning_of text.now }
 {
