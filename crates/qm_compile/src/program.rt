@@ -54,8 +54,9 @@ fn carry_out<H: Shelf>(alloc: Global, words: &[&str], shelf: &mut H) -> Result<O
 {
     match command_of(words) {
         None => Ok(Outcome::Usage),
-        Some((command, map_name, out_name)) =>
-            carry_out_command(alloc, shelf, command, map_name, out_name),
+        Some((command, map_name, out_name)) => carry_out_command(
+            alloc, shelf, command, map_name, out_name,
+        ),
     }
 }
 
