@@ -4,7 +4,8 @@ use Rattle.std.specs.Bool.{beq}
 use Rattle.std.specs.Ordering.{is_eq}
 use Rattle.std.proofs.lemmas.List.{map-append}
 use Rattle.qm_space.specs.Plane.{Plane}
-use Rattle.qm_geom.specs.Planes.{plane_cmp, AreDistinct, Enters, was_there, is_gained}
+use Rattle.qm_space.specs.Book.{AreDistinct}
+use Rattle.qm_geom.specs.Planes.{plane_cmp, Enters, was_there, is_gained}
 use Rattle.qm_geom.proofs.Numbers.{plane_cmp-itself, same_from_is_eq}
 use Rattle.qm_compile.specs.Sides.{Side, outside_of, joined}
 use Rattle.qm_compile.specs.SideLists.{AreSides, KeepsSides, IsJoined}

@@ -1,6 +1,7 @@
 use Rattle.std.proofs.Common.{◌≡◌, ◌∙◌, sym, add-one, ℕ, zero, suc, ◌<◌, take, refl, ap, ◌+◌, ◌≤◌, List, [], ◌∷◌, ◌++◌, length, arith, length-append, slice_get, Some}
 use Rattle.qm_space.specs.Plane.{Plane}
-use Rattle.qm_geom.specs.Planes.{AreDistinct, Enters, was_there, is_gained}
+use Rattle.qm_space.specs.Book.{AreDistinct}
+use Rattle.qm_geom.specs.Planes.{Enters, was_there, is_gained}
 use Rattle.qm_geom.proofs.Numbers.{slice_get-push_old, slice_get-push_last}
 
 -- a plane that the book did not have is gained at its end

@@ -11,7 +11,7 @@ use Rattle.qm_space.specs.Plane.{value, IsInFront}
 use Rattle.qm_numbers.proofs.IntegerProducts.{linear}
 use Rattle.qm_numbers.proofs.Signs.{by_least, times_at_most, abs_sum, abs_product_bound}
 use Rattle.qm_numbers.proofs.Ring.{variable, number, ◌⊕◌, ◌⊖◌, ◌⊗◌, solved}
-use Rattle.qm_geom.specs.LeastDistance.{plane_at, IsComponent, IsLeastDistance, IsLeastDistanceOf}
+use Rattle.qm_geom.specs.LeastDistance.{plane_at_distance, IsComponent, IsLeastDistance, IsLeastDistanceOf}
 use Rattle.qm_geom.specs.Rounding.{IsRoundedUp, HasSmallCoordinates}
 
 -- the sum of three products
@@ -19,22 +19,22 @@ abbrev pub along : List ℤ → Point → ℤ
 along normal p =
     ((slice_index_or normal 0 (pos 0) *ℤ p.x) +ℤ (slice_index_or normal 1 (pos 0) *ℤ p.y)) +ℤ (slice_index_or normal 2 (pos 0) *ℤ p.z)
 
-pub along_is : (normal : List ℤ) (p : Point) → value (plane_at normal (pos 0)) p ≡ along normal p
+pub along_is : (normal : List ℤ) (p : Point) → value (plane_at_distance normal (pos 0)) p ≡ along normal p
 unfolding value
 along_is normal p =
     let v = variable in
     solved (slice_index_or normal 0 (pos 0) ∷ slice_index_or normal 1 (pos 0) ∷ slice_index_or normal 2 (pos 0) ∷ p.x ∷ p.y ∷ p.z ∷ p.w ∷ [])
     (v 0 ⊗ v 3 ⊕ v 1 ⊗ v 4 ⊕ v 2 ⊗ v 5 ⊖ number (pos 0) ⊗ v 6) (v 0 ⊗ v 3 ⊕ v 1 ⊗ v 4 ⊕ v 2 ⊗ v 5) tt
 
-value_opened : (normal : List ℤ) (d : ℤ) (p : Point) → value (plane_at normal d) p ≡ along normal p -ℤ (d *ℤ p.w)
+value_opened : (normal : List ℤ) (d : ℤ) (p : Point) → value (plane_at_distance normal d) p ≡ along normal p -ℤ (d *ℤ p.w)
 unfolding value
 value_opened normal d p = refl
 
 -- the distance is taken off
-value_at : (normal : List ℤ) (d : ℤ) (p : Point) → value (plane_at normal d) p ≡ value (plane_at normal (pos 0)) p -ℤ (d *ℤ p.w)
+value_at : (normal : List ℤ) (d : ℤ) (p : Point) → value (plane_at_distance normal d) p ≡ value (plane_at_distance normal (pos 0)) p -ℤ (d *ℤ p.w)
 value_at normal d p = value_opened normal d p ∙ ap (λ z. z -ℤ (d *ℤ p.w)) (sym (along_is normal p))
 
-pub up_is_least : (normal : List ℤ) (p : Point) (q : ℤ) → pos 0 <ℤ p.w → IsRoundedUp (value (plane_at normal (pos 0)) p) p.w q → IsLeastDistanceOf normal p q
+pub up_is_least : (normal : List ℤ) (p : Point) (q : ℤ) → pos 0 <ℤ p.w → IsRoundedUp (value (plane_at_distance normal (pos 0)) p) p.w q → IsLeastDistanceOf normal p q
 up_is_least normal p q h r = record {
   not_in_front = λ d l.
       let e = value_at normal d p in let t = times_at_most p.w q d (omega (arith, linear)) l in
@@ -47,7 +47,7 @@ up_is_least normal p q h r = record {
 }
 
 -- it is at most 3 · 2^42
-pub along_small : (normal : List ℤ) (p : Point) → IsComponent (slice_index_or normal 0 (pos 0)) → IsComponent (slice_index_or normal 1 (pos 0)) → IsComponent (slice_index_or normal 2 (pos 0)) → HasSmallCoordinates p → unsigned_abs (value (plane_at normal (pos 0)) p) ≤ 2 ^ 44 * unsigned_abs p.w
+pub along_small : (normal : List ℤ) (p : Point) → IsComponent (slice_index_or normal 0 (pos 0)) → IsComponent (slice_index_or normal 1 (pos 0)) → IsComponent (slice_index_or normal 2 (pos 0)) → HasSmallCoordinates p → unsigned_abs (value (plane_at_distance normal (pos 0)) p) ≤ 2 ^ 44 * unsigned_abs p.w
 along_small normal p i j k s =
     let n = 65536 * unsigned_abs p.w in
     let a = slice_index_or normal 0 (pos 0) in let b = slice_index_or normal 1 (pos 0) in let c = slice_index_or normal 2 (pos 0) in
@@ -62,12 +62,12 @@ along_small normal p i j k s =
 
 -- as far as the first i corners: none of them is in front at this distance or beyond, and some corner is before it
 pub record IsLeastSoFar (normal : List ℤ) (corners : List Point) (i : ℕ) (least : ℤ) : Type 0 where
-  pub none_in_front : (d : ℤ) → least ≤ℤ d → All (λ p. value (plane_at normal d) p ≤ℤ pos 0) (take i corners)
-  pub some_in_front : (d : ℤ) → d <ℤ least → Any (λ p. IsInFront (plane_at normal d) p) corners
+  pub none_in_front : (d : ℤ) → least ≤ℤ d → All (λ p. value (plane_at_distance normal d) p ≤ℤ pos 0) (take i corners)
+  pub some_in_front : (d : ℤ) → d <ℤ least → Any (λ p. IsInFront (plane_at_distance normal d) p) corners
 
 pub so_far_begun : (normal : List ℤ) (corners : List Point) (p : Point) (least : ℤ) → p ≡ get_or corners 0 p → 0 < length corners → IsLeastDistanceOf normal p least → IsLeastSoFar normal corners 0 least
 so_far_begun normal corners p least e h l = record {
-  none_in_front = λ d k. All-nil (λ p. value (plane_at normal d) p ≤ℤ pos 0);
+  none_in_front = λ d k. All-nil (λ p. value (plane_at_distance normal d) p ≤ℤ pos 0);
   some_in_front = λ d k. (0, p, h, sym e, l.in_front d k);
 }
 
@@ -85,8 +85,8 @@ pub so_far_gained : (normal : List ℤ) (corners : List Point) (i : ℕ) (p : Po
 so_far_gained normal corners i p least next e h s l = record {
   none_in_front = λ d k.
       let x = left_at_most least next in let y = right_at_most least next in
-      All-more (λ p. value (plane_at normal d) p ≤ℤ pos 0) corners i p h (s.none_in_front d (omega (arith, linear)))
-      (subst (λ (q : Point). value (plane_at normal d) q ≤ℤ pos 0) e (l.not_in_front d (omega (arith, linear))));
+      All-more (λ p. value (plane_at_distance normal d) p ≤ℤ pos 0) corners i p h (s.none_in_front d (omega (arith, linear)))
+      (subst (λ (q : Point). value (plane_at_distance normal d) q ≤ℤ pos 0) e (l.not_in_front d (omega (arith, linear))));
   some_in_front = λ d k.
       by_greater least next
       (λ g. s.some_in_front d (omega (arith, linear)))
@@ -96,6 +96,6 @@ so_far_gained normal corners i p least next e h s l = record {
 pub so_far_ended : (normal : List ℤ) (corners : List Point) (i : ℕ) (least : ℤ) → length corners ≤ i → IsLeastSoFar normal corners i least → IsLeastDistance normal corners least
 so_far_ended normal corners i least h s = record {
   none_in_front = λ d k.
-      subst (λ (ps : List Point). All (λ p. value (plane_at normal d) p ≤ℤ pos 0) ps) (take_all i corners h) (s.none_in_front d k);
+      subst (λ (ps : List Point). All (λ p. value (plane_at_distance normal d) p ≤ℤ pos 0) ps) (take_all i corners h) (s.none_in_front d k);
   some_in_front = s.some_in_front;
 }

@@ -8,7 +8,9 @@ use Rattle.std.proofs.lemmas.Cmp.{tied_itself, then_total, on_total, int_cmp_tot
 use Rattle.std.proofs.lemmas.Map.Lookups.{exact_signed}
 use Rattle.qm_space.specs.Plane.{Plane}
 use Rattle.qm_space.specs.Reduced.{leads_positive, IsReduced}
-use Rattle.qm_geom.specs.Planes.{AreBookPlanes, IsNumbered, plane_cmp}
+use Rattle.qm_space.specs.Book.{AreBookPlanes}
+use Rattle.qm_geom.specs.Planes.{plane_cmp}
+use Rattle.qm_geom.specs.inner.Numbered.{IsNumbered}
 
 -- ---- places in a list that gains an element at its end
 

@@ -3,3 +3,4 @@ pub mod LeastDistance
 pub mod Planes
 pub mod Rounding
 pub mod Vectors
+pub mod inner

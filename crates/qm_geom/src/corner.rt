@@ -5,7 +5,7 @@ ghost use Rattle.qm_space.specs.Point.{Point};
 ghost use Rattle.qm_space.specs.Plane.{value, IsOn};
 ghost use Rattle.qm_space.specs.Meet.{meet, HasMeetSizes};
 ghost use Rattle.qm_geom.specs.Corners.{numerator, with_positive_weight, MeetBeside, MeetOnlyIn};
-ghost use Rattle.qm_geom.specs.LeastDistance.{plane_at, IsComponent, IsLeastDistanceOf};
+ghost use Rattle.qm_geom.specs.LeastDistance.{plane_at_distance, IsComponent, IsLeastDistanceOf};
 ghost use Rattle.qm_geom.specs.Rounding.{AreCoordinatesBy, HasSmallCoordinates, IsNearest, IsRoundedDown, IsRoundedUp};
 
 use crate::meeting::Meeting;
@@ -162,7 +162,7 @@ impl Corner {
     /// The dot product of a normal with the three numerators.
     fn along(&self, normal: [i32; 3]) -> i128
         requires { All IsComponent normal }
-        ensures exact { result ≡ value (plane_at normal (pos 0)) self.now }
+        ensures exact { result ≡ value (plane_at_distance normal (pos 0)) self.now }
         ensures size { unsigned_abs result ≤ 9 * 2 ^ 123 }
     {
         sum_of_three(

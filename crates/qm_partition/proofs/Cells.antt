@@ -11,7 +11,7 @@ use Rattle.qm_space.specs.Turned.{turned}
 use Rattle.qm_space.specs.Cell.{IsInCell}
 use Rattle.qm_space.proofs.Planes.{flipped_in_front}
 use Rattle.qm_partition.specs.Partition.{Partition, leaf, node}
-use Rattle.qm_partition.specs.Tree.{plane_at}
+use Rattle.qm_space.specs.Book.{plane_at}
 use Rattle.qm_partition.specs.Counting.{leaf_count}
 use Rattle.qm_partition.specs.LeafOfPoint.{node_value, leaf_at, leaf_number_at, IsOffNodePlanes}
 use Rattle.qm_partition.specs.Ways.{Way, after_step, ways, cell_of, LeadsTo}

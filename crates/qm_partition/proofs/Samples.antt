@@ -1,5 +1,5 @@
 -- Worked row: the tree of one cube, and the leaf of a point in it.
-use Rattle.std.proofs.Common.{◌≡◌, ℤ, pos, neg_ℤ, false, true, [], ◌∷◌, refl, arith}
+use Rattle.std.proofs.Common.{◌≡◌, ◌<◌, ℤ, pos, neg_ℤ, false, true, [], ◌∷◌, refl, arith}
 use Rattle.std.proofs.lemmas.Int.{ints}
 use Rattle.std.proofs.lemmas.List.Elements.{All-from_recursion}
 use Rattle.qm_space.specs.Point.{Point}
@@ -9,9 +9,9 @@ use Rattle.qm_contents.specs.declared.contents.Contents.TheVariants.{Empty, Soli
 use Rattle.qm_partition.specs.declared.node.Leaf.{Leaf as LeafRecord}
 use Rattle.qm_partition.specs.declared.node.Child.TheVariants.{Node, Leaf}
 use Rattle.qm_partition.specs.Partition.{leaf, node}
-use Rattle.qm_partition.specs.Tree.{Tree}
+use Rattle.qm_partition.specs.Tree.{Tree, NamesItsPlanes}
 use Rattle.qm_partition.specs.Joining.{joined}
-use Rattle.qm_partition.specs.Counting.{leaf_count, node_count, leaves_of}
+use Rattle.qm_partition.specs.Counting.{leaf_count, node_count, leaves_of, node_planes}
 use Rattle.qm_partition.specs.Numbering.{nodes_of, AreNumbered}
 use Rattle.qm_partition.specs.LeafOfPoint.{node_value, leaf_at, leaf_number_at, IsOffNodePlanes}
 use Rattle.qm_partition.specs.Ways.{Way, cell_of, LeadsTo}
@@ -62,6 +62,14 @@ leaf_row = (refl, refl)
 middle_is_off : IsOffNodePlanes cube_tree.planes cube_tree.shape middle
 unfolding node_value value
 middle_is_off = grind (arith, ints)
+
+-- a point on the plane x = 64 is on a node plane
+border_is_on : IsOffNodePlanes cube_tree.planes cube_tree.shape (record { x = pos 64; y = pos 32; z = pos 32; w = pos 1 }) → ⊥
+unfolding node_value value
+border_is_on off = off.1.0 refl
+
+names_row : NamesItsPlanes cube_tree
+names_row = All-from_recursion (λ n. n < 6) (node_planes cube_tree.shape) (grind arith)
 
 -- a point on the plane x = 64 goes to the front, to the leaf outside
 front_row : leaf_number_at cube_tree.planes cube_tree.shape (record { x = pos 64; y = pos 32; z = pos 32; w = pos 1 }) ≡ 0

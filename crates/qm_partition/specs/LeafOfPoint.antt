@@ -3,7 +3,7 @@ use Rattle.qm_space.specs.Point.{Point}
 use Rattle.qm_space.specs.Plane.{Plane, value}
 use Rattle.qm_partition.specs.declared.node.Leaf.{Leaf}
 use Rattle.qm_partition.specs.Partition.{Partition, leaf, node}
-use Rattle.qm_partition.specs.Tree.{plane_at}
+use Rattle.qm_space.specs.Book.{plane_at}
 use Rattle.qm_partition.specs.Counting.{leaf_count}
 
 -- the value at a point of the plane of a number

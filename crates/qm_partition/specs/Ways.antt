@@ -5,7 +5,7 @@ use Rattle.qm_partition.specs.declared.step.Step.{Step}
 use Rattle.qm_partition.specs.declared.node.Leaf.{Leaf}
 use Rattle.qm_partition.specs.Partition.{Partition, leaf, node}
 use Rattle.qm_partition.specs.Counting.{leaves_of}
-use Rattle.qm_partition.specs.Tree.{plane_at}
+use Rattle.qm_space.specs.Book.{plane_at}
 
 -- a way down from the root: its steps, the root's first
 abbrev pub Way : Type 0

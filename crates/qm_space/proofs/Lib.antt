@@ -8,3 +8,4 @@ pub mod PlanesThroughPoints
 pub mod Sizes
 pub mod Directions
 pub mod Exchange
+pub mod Books

@@ -5,6 +5,7 @@ pub mod Determinant
 pub mod Vector
 pub mod Meet
 pub mod Reduced
+pub mod Book
 pub mod Line
 pub mod ThreePoints
 pub mod Turned
