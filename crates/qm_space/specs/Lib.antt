@@ -1,6 +1,7 @@
 pub mod Bounds
 pub mod Point
 pub mod Plane
+pub mod Multiple
 pub mod Determinant
 pub mod Vector
 pub mod Meet
