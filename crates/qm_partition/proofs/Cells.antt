@@ -13,7 +13,7 @@ use Rattle.qm_space.proofs.Planes.{flipped_in_front}
 use Rattle.qm_partition.specs.Partition.{Partition, leaf, node}
 use Rattle.qm_space.specs.Book.{plane_at}
 use Rattle.qm_partition.specs.Counting.{leaf_count}
-use Rattle.qm_partition.specs.LeafOfPoint.{node_value, leaf_at, leaf_number_at, IsOffNodePlanes}
+use Rattle.qm_partition.specs.LeafOfPoint.{node_value, leaf_record_at, leaf_at, IsOffNodePlanes}
 use Rattle.qm_partition.specs.Ways.{Way, after_step, ways, cell_of, LeadsTo}
 use Rattle.qm_partition.proofs.Counts.{leaf_count-node}
 use Rattle.qm_partition.proofs.AppendedLists.{at_front, at_back, at_either}
@@ -34,7 +34,7 @@ to_front-count n front = length-map (ways front) (after_step n true) ∙ length-
 -- the way to the leaf of a point, in whose cell the point lies
 record IsLed (planes : List Plane) (shape : Partition) (x : Point) : Type 0 where
   way : Way
-  way_is : slice_get (ways shape) (leaf_number_at planes shape x) ≡ Some way
+  way_is : slice_get (ways shape) (leaf_at planes shape x) ≡ Some way
   in_cell : IsInCell (cell_of planes way) x
 
 one_step_more : (planes : List Plane) (n : ℕ) (to_front : Bool) (way : Way) (x : Point) → IsInFront (turned to_front (plane_at planes n)) x → IsInCell (cell_of planes way) x → IsInCell (cell_of planes (after_step n to_front way)) x
@@ -48,20 +48,20 @@ module _ (planes : List Plane) (n : ℕ) (front back : Partition) (x : Point) wh
   abbrev all_ways : List Way
   all_ways = ways (node n front back)
 
-  led_back : IsBehind h x → (led : IsLed planes back x) → (slice_get all_ways (leaf_count front + leaf_number_at planes back x) ≡ Some (after_step n false led.way)) × IsInCell (cell_of planes (after_step n false led.way)) x
+  led_back : IsBehind h x → (led : IsLed planes back x) → (slice_get all_ways (leaf_count front + leaf_at planes back x) ≡ Some (after_step n false led.way)) × IsInCell (cell_of planes (after_step n false led.way)) x
   led_back behind led =
       let to_front = map (after_step n true) (ways front) in
       let to_back = map (after_step n false) (ways back) in
-      let k = leaf_number_at planes back x in
+      let k = leaf_at planes back x in
       let place = ap (λ (c : ℕ). slice_get (to_front ++ to_back) (c + k)) (sym (to_front-count n front)) in
       let its = at_back to_front to_back k ∙ slice_get-map (after_step n false) (ways back) k ∙ ap (option_map (after_step n false)) led.way_is in
       (place ∙ its, one_step_more planes n false led.way x ((flipped_in_front h x).1 behind) led.in_cell)
 
-  led_front : IsInFront h x → (led : IsLed planes front x) → (slice_get all_ways (leaf_number_at planes front x) ≡ Some (after_step n true led.way)) × IsInCell (cell_of planes (after_step n true led.way)) x
+  led_front : IsInFront h x → (led : IsLed planes front x) → (slice_get all_ways (leaf_at planes front x) ≡ Some (after_step n true led.way)) × IsInCell (cell_of planes (after_step n true led.way)) x
   led_front ahead led =
       let to_front = map (after_step n true) (ways front) in
       let to_back = map (after_step n false) (ways back) in
-      let k = leaf_number_at planes front x in
+      let k = leaf_at planes front x in
       let its = slice_get-map (after_step n true) (ways front) k ∙ ap (option_map (after_step n true)) led.way_is in
       (at_front to_front to_back k (after_step n true led.way) its, one_step_more planes n true led.way x ahead led.in_cell)
 
@@ -80,7 +80,7 @@ is_led planes (node n front back) x off = elim (side_test (node_value planes n x
 ]
 
 -- the leaf of a point that is on no node plane is at the end of a way in whose cell the point lies
-pub leaf_of_point : (planes : List Plane) (shape : Partition) (x : Point) → IsOffNodePlanes planes shape x → (way : Way) × LeadsTo shape (leaf_number_at planes shape x) way (leaf_at planes shape x) × IsInCell (cell_of planes way) x
+pub leaf_of_point : (planes : List Plane) (shape : Partition) (x : Point) → IsOffNodePlanes planes shape x → (way : Way) × LeadsTo shape (leaf_at planes shape x) way (leaf_record_at planes shape x) × IsInCell (cell_of planes way) x
 leaf_of_point planes shape x off =
     let led = is_led planes shape x off in
     (led.way, record { way_is = led.way_is; leaf_is = leaf_of_number planes shape x }, led.in_cell)
@@ -101,7 +101,7 @@ first_step planes n to_front rest way x is inside =
     (All-head (λ h. IsInFront h x) h (cell_of planes rest) here, All-tail (λ h. IsInFront h x) h (cell_of planes rest) here)
 
 -- a point in the cell of the way of number k has the leaf of number k
-pub number_of_cell : (planes : List Plane) (shape : Partition) (x : Point) (k : ℕ) (way : Way) → slice_get (ways shape) k ≡ Some way → IsInCell (cell_of planes way) x → leaf_number_at planes shape x ≡ k
+pub number_of_cell : (planes : List Plane) (shape : Partition) (x : Point) (k : ℕ) (way : Way) → slice_get (ways shape) k ≡ Some way → IsInCell (cell_of planes way) x → leaf_at planes shape x ≡ k
 unfolding node_value
 number_of_cell planes (leaf found) x zero way at inside = refl
 number_of_cell planes (leaf found) x (suc k) way at inside = absurd cc

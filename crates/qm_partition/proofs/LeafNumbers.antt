@@ -6,7 +6,7 @@ use Rattle.qm_space.specs.Point.{Point}
 use Rattle.qm_space.specs.Plane.{Plane}
 use Rattle.qm_partition.specs.Partition.{Partition, leaf, node}
 use Rattle.qm_partition.specs.Counting.{leaves_of}
-use Rattle.qm_partition.specs.LeafOfPoint.{node_value, leaf_at, leaf_number_at}
+use Rattle.qm_partition.specs.LeafOfPoint.{node_value, leaf_record_at, leaf_at}
 use Rattle.qm_partition.proofs.AppendedLists.{at_front, at_back}
 
 -- the test of a walk, and what it says
@@ -19,9 +19,9 @@ pub above_zero : (v : ℤ) → pos 0 ≤ℤ v → v ≢ pos 0 → pos 0 <ℤ v
 above_zero v least other = by_lt_z (pos 0) v (λ h. h) (λ h. absurd (other (omega (arith, ints))))
 
 -- the leaf of a point has the point's number
-pub leaf_of_number : (planes : List Plane) (shape : Partition) (x : Point) → slice_get (leaves_of shape) (leaf_number_at planes shape x) ≡ Some (leaf_at planes shape x)
+pub leaf_of_number : (planes : List Plane) (shape : Partition) (x : Point) → slice_get (leaves_of shape) (leaf_at planes shape x) ≡ Some (leaf_record_at planes shape x)
 leaf_of_number planes (leaf found) x = refl
 leaf_of_number planes (node n front back) x = elim (side_test (node_value planes n x)) [
-  | inl behind ↦ rw behind.0 (at_back (leaves_of front) (leaves_of back) (leaf_number_at planes back x) ∙ leaf_of_number planes back x)
-  | inr ahead ↦ rw ahead.0 (at_front (leaves_of front) (leaves_of back) (leaf_number_at planes front x) _ (leaf_of_number planes front x))
+  | inl behind ↦ rw behind.0 (at_back (leaves_of front) (leaves_of back) (leaf_at planes back x) ∙ leaf_of_number planes back x)
+  | inr ahead ↦ rw ahead.0 (at_front (leaves_of front) (leaves_of back) (leaf_at planes front x) _ (leaf_of_number planes front x))
 ]

@@ -13,7 +13,7 @@ use Rattle.qm_partition.specs.Tree.{Tree, NamesItsPlanes}
 use Rattle.qm_partition.specs.Joining.{joined}
 use Rattle.qm_partition.specs.Counting.{leaf_count, node_count, leaves_of, node_planes}
 use Rattle.qm_partition.specs.Numbering.{nodes_of, AreNumbered}
-use Rattle.qm_partition.specs.LeafOfPoint.{node_value, leaf_at, leaf_number_at, IsOffNodePlanes}
+use Rattle.qm_partition.specs.LeafOfPoint.{node_value, leaf_record_at, leaf_at, IsOffNodePlanes}
 use Rattle.qm_partition.specs.Ways.{Way, cell_of, LeadsTo}
 
 abbrev plane : ℤ → ℤ → ℤ → ℤ → Plane
@@ -55,7 +55,7 @@ numbered_row = record { nodes_are = refl; leaves_are = refl }
 abbrev pub middle : Point
 middle = record { x = pos 32; y = pos 32; z = pos 32; w = pos 1 }
 
-leaf_row : (leaf_at cube_tree.planes cube_tree.shape middle ≡ stone) × (leaf_number_at cube_tree.planes cube_tree.shape middle ≡ 3)
+leaf_row : (leaf_record_at cube_tree.planes cube_tree.shape middle ≡ stone) × (leaf_at cube_tree.planes cube_tree.shape middle ≡ 3)
 unfolding node_value value
 leaf_row = (refl, refl)
 
@@ -72,7 +72,7 @@ names_row : NamesItsPlanes cube_tree
 names_row = All-from_recursion (λ n. n < 6) (node_planes cube_tree.shape) (grind arith)
 
 -- a point on the plane x = 64 goes to the front, to the leaf outside
-front_row : leaf_number_at cube_tree.planes cube_tree.shape (record { x = pos 64; y = pos 32; z = pos 32; w = pos 1 }) ≡ 0
+front_row : leaf_at cube_tree.planes cube_tree.shape (record { x = pos 64; y = pos 32; z = pos 32; w = pos 1 }) ≡ 0
 unfolding node_value value
 front_row = refl
 

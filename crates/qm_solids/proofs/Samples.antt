@@ -145,5 +145,5 @@ flat_is_flat = opposed_is_flat flat (record {
   other = plane (pos 0) (pos 0) (neg_ℤ (pos 2)) (pos 0);
   has_one = (0, omega arith, refl);
   has_other = (1, omega arith, refl);
-  opposed = record { i = pos 2; j = pos 1; i_positive = omega (arith, ints); j_positive = omega (arith, ints); multiples = refl };
+  opposed = record { times = pos 2; some = omega (arith, ints); multiple = record { factor = pos 1; positive = omega (arith, ints); multiple = refl } };
 })

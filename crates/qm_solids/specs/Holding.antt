@@ -1,6 +1,6 @@
-use Rattle.std.specs.Prelude.{pos, ◌≤ℤ◌, List, All}
+use Rattle.std.specs.Prelude.{List, All}
 use Rattle.qm_space.specs.Point.{Point, IsInCube}
-use Rattle.qm_space.specs.Plane.{Plane, value}
+use Rattle.qm_space.specs.Plane.{Plane, IsNotInFront}
 use Rattle.qm_space.specs.Cell.{IsInCell}
 use Rattle.qm_solids.specs.Solid.{Solid, inward}
 
@@ -10,7 +10,7 @@ IsInside solid x = IsInCell (inward solid) x
 
 -- behind each of these planes or on it
 abbrev pub IsInFrontOfNone : List Plane → Point → Type 0
-IsInFrontOfNone planes x = All (λ h. value h x ≤ℤ pos 0) planes
+IsInFrontOfNone planes x = All (λ h. IsNotInFront h x) planes
 
 -- a solid is full where some point of the cube is strictly inside it
 pub record IsFull (solid : Solid) : Type 0 where

@@ -2,7 +2,6 @@ pub mod Solid
 pub mod Holding
 pub mod Strongest
 pub mod Contents
-pub mod Opposed
 pub mod Cells
 pub mod Candidates
 pub mod Least

@@ -9,7 +9,7 @@ use Rattle.qm_space.specs.Point.{Point, whole_point, IsCoordinate, AreCoordinate
 use Rattle.qm_space.specs.Plane.{Plane, value, flipped, scaled}
 use Rattle.qm_space.specs.Reduced.{leads_positive, HasNormal}
 use Rattle.qm_space.specs.Turned.{turned}
-use Rattle.qm_space.specs.Line.{AreOnOneLine, HaveStepsOnOneLine}
+use Rattle.qm_space.specs.Line.{AreOnOneLine}
 use Rattle.qm_space.specs.ThreePoints.{outward_plane, HasOutwardSizes, common_factor, reduced, plane_through, IsPlaneThrough}
 use Rattle.qm_numbers.proofs.IntegerProducts.{linear, *ℤ_zero, zero_*ℤ, one_*ℤ}
 use Rattle.qm_numbers.proofs.Signs.{by_zero, zero_beside, zero_beside_positive, factor_compares, abs_product_bound}
@@ -18,7 +18,7 @@ use Rattle.qm_space.proofs.PlaneSymbols.{point_from, numbers_of_point, symbol_va
 use Rattle.qm_space.proofs.Planes.{value_scaled, value_flipped}
 use Rattle.qm_space.proofs.ReducedPlanes.{scaled_neg, scaled_flipped, scaled_has_normal, flipped_twice, flipped_has_normal, leads_flipped, common_factor_positive, reduced_back, reduced_leads, reduced_is_reduced, multiples_equal}
 use Rattle.qm_space.proofs.TurnedPlanes.{turned_on, turned_has_normal}
-use Rattle.qm_space.proofs.Lines.{steps_from_line, line_from_steps}
+use Rattle.qm_space.proofs.Lines.{HaveStepsOnOneLine, steps_from_line, line_from_steps}
 
 -- ---- whole points
 

@@ -7,7 +7,7 @@ ghost use Rattle.qm_wind.specs.inner.Surveyed.{IsSurvey};
 
 use crate::circle::{add_arc, item, place_after, steps_between};
 use crate::survey::Survey;
-use crate::walls::opposite;
+use crate::walls::mirrored;
 use qm_geom::{Corner, Plane};
 use smallvec::SmallVec;
 use std::alloc::{AllocError, Global};
@@ -137,7 +137,7 @@ impl Polygon {
         Ok(Some(self.part_in_front_of(plane, &survey)?))
     }
 
-    /// The part of a plane between two walls and their opposites.
+    /// The part of a plane between two walls and these mirrored.
     pub(crate) fn square(
         alloc: Global,
         plane: &Plane,
@@ -150,8 +150,8 @@ impl Polygon {
         let _ = &plane.nx;
         let _ = &first.nx;
         let _ = &second.nx;
-        let third = opposite(first);
-        let fourth = opposite(second);
+        let third = mirrored(first);
+        let fourth = mirrored(second);
         let _ = &third.nx;
         let _ = &fourth.nx;
         let edges = SmallVec::from_array(alloc, [*first, *second, third, fourth])?;

@@ -8,7 +8,7 @@ ghost use Rattle.qm_space.specs.Cube.{IsInClosedCube};
 ghost use Rattle.qm_wind.specs.Clipped.{IsClip, is_front};
 
 use crate::polygon::Polygon;
-use crate::walls::{Walls, opposite};
+use crate::walls::{Walls, mirrored};
 use qm_geom::{Corner, Plane};
 use std::alloc::{AllocError, Global};
 use std::marker::Model;
@@ -58,7 +58,7 @@ impl Winding {
             None => return Ok(None),
             Some(near) => near,
         };
-        match near.kept_in_front_of(&opposite(&walls.third))? {
+        match near.kept_in_front_of(&mirrored(&walls.third))? {
             None => Ok(None),
             Some(polygon) => Ok(Some(Winding { polygon })),
         }
