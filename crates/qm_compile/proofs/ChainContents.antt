@@ -10,7 +10,7 @@ use Rattle.qm_contents.specs.declared.contents.Contents.TheVariants.{Empty}
 use Rattle.qm_partition.specs.declared.node.Leaf.{Leaf}
 use Rattle.qm_partition.specs.Partition.{Partition, leaf, node}
 use Rattle.qm_partition.specs.LeafOfPoint.{leaf_record_at, node_value, IsOffNodePlanes}
-use Rattle.qm_partition.proofs.LeafNumbers.{side_test, above_zero}
+use Rattle.qm_numbers.proofs.Signs.{side_test, above_zero}
 use Rattle.qm_compile.specs.Sides.{Side}
 use Rattle.qm_compile.specs.Chain.{chain, open_leaf}
 use Rattle.qm_compile.proofs.SideValues.{outer_value, IsWithin, IsNotOutside}

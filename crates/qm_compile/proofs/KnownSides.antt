@@ -3,6 +3,7 @@ use Rattle.std.specs.List.{AllByRecursion}
 use Rattle.std.specs.Bool.{beq}
 use Rattle.std.specs.Ordering.{is_eq}
 use Rattle.std.proofs.lemmas.List.{map-append}
+use Rattle.qm_lists.proofs.Cases.{by_cases}
 use Rattle.qm_space.specs.Plane.{Plane}
 use Rattle.qm_space.specs.Book.{AreDistinct}
 use Rattle.qm_geom.specs.Planes.{plane_cmp, Enters, was_there, is_gained}
@@ -11,11 +12,6 @@ use Rattle.qm_compile.specs.Sides.{Side, outside_of, joined}
 use Rattle.qm_compile.specs.SideLists.{AreSides, KeepsSides, IsJoined}
 
 -- What is known of a plane among the sides, and by the number that a book gives it.
-
--- by the two values of a test
-pub by_test : {A : Type 0} (b : Bool) → (b ≡ true → A) → (b ≡ false → A) → A
-by_test true on_true on_false = on_true refl
-by_test false on_true on_false = on_false refl
 
 -- one turn of the search
 outside_here : (side : Side) (sides : List Side) (plane : Plane) → is_eq (plane_cmp side.0 plane) ≡ true → outside_of (side ∷ sides) plane ≡ Some side.1
@@ -28,7 +24,7 @@ outside_later side sides plane other = rw other refl
 pub at_known_side : (P : Side → Type 0) (sides : List Side) (plane : Plane) (out : Bool) → outside_of sides plane ≡ Some out → AllByRecursion P sides → P (plane, out)
 at_known_side P [] plane out found all = cc
 at_known_side P (side ∷ sides) plane out found all =
-    by_test (is_eq (plane_cmp side.0 plane))
+    by_cases (is_eq (plane_cmp side.0 plane))
     (λ same.
     let on : side.0 ≡ plane = same_from_is_eq side.0 plane same in
     let outside : Some side.1 ≡ Some out = sym (outside_here side sides plane same) ∙ found in
@@ -41,7 +37,7 @@ at_known_side P (side ∷ sides) plane out found all =
 pub unknown_plane : (sides : List Side) (plane : Plane) → ((n : ℕ) → slice_get (map (λ side. side.0) sides) n ≡ Some plane → ⊥) → outside_of sides plane ≡ None
 unknown_plane [] plane absent = refl
 unknown_plane (side ∷ sides) plane absent =
-    by_test (is_eq (plane_cmp side.0 plane))
+    by_cases (is_eq (plane_cmp side.0 plane))
     (λ same. absurd (absent 0 (ap (λ (h : Plane). Some h) (same_from_is_eq side.0 plane same))))
     (λ other. outside_later side sides plane other ∙ unknown_plane sides plane (λ n at. absent (suc n) at))
 
@@ -56,7 +52,7 @@ known_plane (side ∷ sides) zero plane distinct at =
     let is : side.0 ≡ plane = cc in
     outside_here side sides plane (subst (λ (h : Plane). is_eq (plane_cmp side.0 h) ≡ true) is (ap is_eq (plane_cmp-itself side.0)))
 known_plane (side ∷ sides) (suc n) plane distinct at =
-    by_test (is_eq (plane_cmp side.0 plane))
+    by_cases (is_eq (plane_cmp side.0 plane))
     (λ same.
     let e : zero ≡ suc n = distinct zero (suc n) plane (ap (λ (h : Plane). Some h) (same_from_is_eq side.0 plane same)) at in
     absurd (omega arith))
@@ -95,7 +91,7 @@ joined_new sides plane out old new flags number are enters last =
 
 keeps : (sides : List Side) (side : Side) (outside goes_on : Bool) (planes : List Plane) (flags : List Bool) → goes_on ≡ beq outside side.1 → AreSides sides planes flags → KeepsSides (joined sides side (Some outside)) sides goes_on planes flags
 keeps sides side outside goes_on planes flags is are =
-    by_test (beq outside side.1) (λ same. rw same (is ∙ same, are)) (λ other. rw other (is ∙ other, are))
+    by_cases (beq outside side.1) (λ same. rw same (is ∙ same, are)) (λ other. rw other (is ∙ other, are))
 
 -- one more side on a plane that was there
 pub joined_known : (sides : List Side) (plane : Plane) (out goes_on : Bool) (old new : List Plane) (flags : List Bool) (number : ℕ) → AreSides sides old flags → AreDistinct new → Enters old new plane number → number ≢ length old → goes_on ≡ beq (get_or flags number false) out → IsJoined sides (plane, out) goes_on new flags

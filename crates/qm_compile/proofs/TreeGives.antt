@@ -1,6 +1,8 @@
-use Rattle.std.proofs.Common.{◌≡◌, pos, ◌≤ℤ◌, List, [], ◌∷◌, map, All, Option, Some, inl, inr, sym, refl, ap, ◌∙◌, arith, subst}
+use Rattle.std.proofs.Common.{◌≡◌, pos, ◌≤ℤ◌, List, [], ◌∷◌, All, Option, Some, inl, inr, sym, refl, ap, ◌∙◌, arith, subst}
 use Rattle.std.specs.Prelude.{unwrap_or}
-use Rattle.std.proofs.lemmas.List.Elements.{All-map, All-contains, All-from_recursion, recursion_from_All, All-nil, All-cons, All-head, All-tail}
+use Rattle.std.proofs.lemmas.List.Elements.{All-map, All-contains, All-from_recursion, recursion_from_All}
+use Rattle.qm_lists.proofs.Cases.{by_cases}
+use Rattle.qm_lists.proofs.Elements.{All-from_map}
 use Rattle.qm_space.specs.Point.{Point, IsInCube}
 use Rattle.qm_space.specs.Plane.{Plane, value, IsBehind}
 use Rattle.qm_space.specs.Reduced.{HasNormal}
@@ -28,17 +30,10 @@ use Rattle.qm_compile.specs.OneBrush.{IsOneBrushMap}
 use Rattle.qm_compile.specs.Walk.{Walk, walk_of}
 use Rattle.qm_compile.proofs.ChainContents.{IsLedRight, planes_of, planes_stand, chain_leads_right}
 use Rattle.qm_compile.proofs.ChainPlanes.{chain_names, walk_normals}
-use Rattle.qm_compile.proofs.KnownSides.{by_test}
 use Rattle.qm_compile.proofs.SideValues.{sides_of_faces}
 use Rattle.qm_compile.proofs.WalkRight.{IsBehindAll, IsNotInFrontOfAny, IsRight, walk_is_right}
 
 -- The tree of a map of one brush gives each point the contents that the brush defines there.
-
--- what is said of each outward plane is said of each face
-of_each_face : (P : Plane → Type 0) (faces : List Face) → All P (map face_outward faces) → All (λ face. P (face_outward face)) faces
-of_each_face P [] all = All-nil (λ face. P (face_outward face))
-of_each_face P (face ∷ faces) all =
-    All-cons (λ face. P (face_outward face)) face faces (All-head P (face_outward face) (map face_outward faces) all) (of_each_face P faces (All-tail P (face_outward face) (map face_outward faces) all))
 
 module _ (brush : Brush) (contents : Contents) where
   abbrev solid : Solid
@@ -46,7 +41,7 @@ module _ (brush : Brush) (contents : Contents) where
 
   -- a point strictly inside the solid is behind each face, and conversely
   behind_faces : (x : Point) → IsInside solid x → IsBehindAll brush.faces x
-  behind_faces x inside = recursion_from_All (λ face. IsBehind (face_outward face) x) brush.faces (of_each_face (λ h. IsBehind h x) brush.faces (behind_all solid.outward x inside))
+  behind_faces x inside = recursion_from_All (λ face. IsBehind (face_outward face) x) brush.faces (All-from_map (λ h. IsBehind h x) face_outward brush.faces (behind_all solid.outward x inside))
 
   inside_faces : (x : Point) → IsBehindAll brush.faces x → IsInside solid x
   inside_faces x behind =
@@ -54,7 +49,7 @@ module _ (brush : Brush) (contents : Contents) where
 
   -- a point that the solid holds is in front of no face
   not_in_front : (x : Point) → Holds solid x → IsNotInFrontOfAny brush.faces x
-  not_in_front x holds = recursion_from_All (λ face. value (face_outward face) x ≤ℤ pos 0) brush.faces (of_each_face (λ h. value h x ≤ℤ pos 0) brush.faces holds.not_in_front)
+  not_in_front x holds = recursion_from_All (λ face. value (face_outward face) x ≤ℤ pos 0) brush.faces (All-from_map (λ h. value h x ≤ℤ pos 0) face_outward brush.faces holds.not_in_front)
 
   -- the only solid that can hold a point
   held_by : (x : Point) (other : Solid) → IsOneThat (λ s. Holds s x) (solid ∷ []) other → solid ≡ other
@@ -80,7 +75,7 @@ module _ (brush : Brush) (contents : Contents) where
   -- a leaf that is right for the sides of a walk has the contents that the solid defines
   right_contents : (walk : Walk) → ((y : Point) → IsRight y [] brush.faces walk) → (x : Point) (found : Leaf) → IsInCube x → IsLedRight (last_contents walk contents) found walk.sides x → HasContents (solid ∷ []) x found.contents
   right_contents walk right x found in_cube (inl led) =
-      by_test walk.is_opposed
+      by_cases walk.is_opposed
       (λ opposed.
       let last : found ≡ open_leaf Empty = led.0 ∙ rw opposed refl in
       rw last (is_empty x (λ holds. (right holds.full.within).opposed opposed tt (behind_faces holds.full.within holds.full.inside))))

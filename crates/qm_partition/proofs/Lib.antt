@@ -1,4 +1,3 @@
-pub mod AppendedLists
 pub mod Counts
 pub mod NodePlanes
 pub mod LeafNumbers

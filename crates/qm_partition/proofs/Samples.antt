@@ -3,7 +3,7 @@ use Rattle.std.proofs.Common.{◌≡◌, ◌<◌, ℤ, pos, neg_ℤ, false, true
 use Rattle.std.proofs.lemmas.Int.{ints}
 use Rattle.std.proofs.lemmas.List.Elements.{All-from_recursion}
 use Rattle.qm_space.specs.Point.{Point}
-use Rattle.qm_space.specs.Plane.{Plane, value, IsInFront}
+use Rattle.qm_space.specs.Plane.{Plane, plane_of, value, IsInFront}
 use Rattle.qm_space.specs.Cell.{IsInCell}
 use Rattle.qm_contents.specs.declared.contents.Contents.TheVariants.{Empty, Solid}
 use Rattle.qm_partition.specs.declared.node.Leaf.{Leaf as LeafRecord}
@@ -16,9 +16,6 @@ use Rattle.qm_partition.specs.Numbering.{nodes_of, AreNumbered}
 use Rattle.qm_partition.specs.LeafOfPoint.{node_value, leaf_record_at, leaf_at, IsOffNodePlanes}
 use Rattle.qm_partition.specs.Ways.{Way, cell_of, LeadsTo}
 
-abbrev plane : ℤ → ℤ → ℤ → ℤ → Plane
-plane nx ny nz d = record { nx = nx; ny = ny; nz = nz; d = d }
-
 abbrev empty : LeafRecord
 empty = record { contents = Empty; filled = false }
 
@@ -30,8 +27,8 @@ stone = record { contents = Solid; filled = false }
 abbrev pub cube_tree : Tree
 cube_tree = record {
   planes =
-      plane (pos 1) (pos 0) (pos 0) (pos 0) ∷ plane (pos 1) (pos 0) (pos 0) (pos 64) ∷ plane (pos 0) (pos 1) (pos 0) (pos 0)
-      ∷ plane (pos 0) (pos 1) (pos 0) (pos 64) ∷ plane (pos 0) (pos 0) (pos 1) (pos 0) ∷ plane (pos 0) (pos 0) (pos 1) (pos 64) ∷ [];
+      plane_of (pos 1) (pos 0) (pos 0) (pos 0) ∷ plane_of (pos 1) (pos 0) (pos 0) (pos 64) ∷ plane_of (pos 0) (pos 1) (pos 0) (pos 0)
+      ∷ plane_of (pos 0) (pos 1) (pos 0) (pos 64) ∷ plane_of (pos 0) (pos 0) (pos 1) (pos 0) ∷ plane_of (pos 0) (pos 0) (pos 1) (pos 64) ∷ [];
   shape =
       node 0 (node 1 (leaf empty) (node 2 (node 3 (leaf empty) (node 4 (node 5 (leaf empty) (leaf stone)) (leaf empty))) (leaf empty))) (leaf empty);
 }
@@ -87,8 +84,8 @@ way_row = record { way_is = refl; leaf_is = refl }
 
 -- its cell is the inside of the cube: two of its planes are turned
 cell_row : cell_of cube_tree.planes way_in ≡
-    plane (pos 1) (pos 0) (pos 0) (pos 0) ∷ plane (neg_ℤ (pos 1)) (pos 0) (pos 0) (neg_ℤ (pos 64)) ∷ plane (pos 0) (pos 1) (pos 0) (pos 0)
-    ∷ plane (pos 0) (neg_ℤ (pos 1)) (pos 0) (neg_ℤ (pos 64)) ∷ plane (pos 0) (pos 0) (pos 1) (pos 0) ∷ plane (pos 0) (pos 0) (neg_ℤ (pos 1)) (neg_ℤ (pos 64)) ∷ []
+    plane_of (pos 1) (pos 0) (pos 0) (pos 0) ∷ plane_of (neg_ℤ (pos 1)) (pos 0) (pos 0) (neg_ℤ (pos 64)) ∷ plane_of (pos 0) (pos 1) (pos 0) (pos 0)
+    ∷ plane_of (pos 0) (neg_ℤ (pos 1)) (pos 0) (neg_ℤ (pos 64)) ∷ plane_of (pos 0) (pos 0) (pos 1) (pos 0) ∷ plane_of (pos 0) (pos 0) (neg_ℤ (pos 1)) (neg_ℤ (pos 64)) ∷ []
 cell_row = refl
 
 -- and has the middle

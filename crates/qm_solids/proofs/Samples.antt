@@ -3,7 +3,7 @@ use Rattle.std.proofs.Common.{ℤ, pos, neg_ℤ, ◌<ℤ◌, ◌≤ℤ◌, inr, 
 use Rattle.std.proofs.lemmas.Int.{ints}
 use Rattle.std.proofs.lemmas.List.Elements.{All-from_recursion, All-contains}
 use Rattle.qm_space.specs.Point.{Point, IsInCube, IsWithinExtent}
-use Rattle.qm_space.specs.Plane.{Plane, value, IsBehind}
+use Rattle.qm_space.specs.Plane.{Plane, plane_of, value, IsBehind}
 use Rattle.qm_contents.specs.declared.contents.Contents.{Contents}
 use Rattle.qm_contents.specs.declared.contents.Contents.TheVariants as contents
 use Rattle.qm_contents.specs.Precedence.{IsAtMost}
@@ -15,9 +15,6 @@ use Rattle.qm_contents.proofs.Strengths.{at_most_solid}
 use Rattle.qm_solids.proofs.ContentsLaws.{none_has}
 use Rattle.qm_solids.proofs.FlatSolids.{opposed_is_flat}
 
-abbrev pub plane : ℤ → ℤ → ℤ → ℤ → Plane
-plane nx ny nz d = record { nx = nx; ny = ny; nz = nz; d = d }
-
 -- a whole point
 abbrev pub at : ℤ → ℤ → ℤ → Point
 at x y z = record { x = x; y = y; z = z; w = pos 1 }
@@ -25,9 +22,9 @@ at x y z = record { x = x; y = y; z = z; w = pos 1 }
 -- the outward planes of the box of the points whose coordinates lie between two numbers
 abbrev pub box : ℤ → ℤ → List Plane
 box low high =
-    plane (pos 1) (pos 0) (pos 0) high ∷ plane (pos 0) (pos 1) (pos 0) high ∷ plane (pos 0) (pos 0) (pos 1) high
-    ∷ plane (neg_ℤ (pos 1)) (pos 0) (pos 0) (neg_ℤ low) ∷ plane (pos 0) (neg_ℤ (pos 1)) (pos 0) (neg_ℤ low)
-    ∷ plane (pos 0) (pos 0) (neg_ℤ (pos 1)) (neg_ℤ low) ∷ []
+    plane_of (pos 1) (pos 0) (pos 0) high ∷ plane_of (pos 0) (pos 1) (pos 0) high ∷ plane_of (pos 0) (pos 0) (pos 1) high
+    ∷ plane_of (neg_ℤ (pos 1)) (pos 0) (pos 0) (neg_ℤ low) ∷ plane_of (pos 0) (neg_ℤ (pos 1)) (pos 0) (neg_ℤ low)
+    ∷ plane_of (pos 0) (pos 0) (neg_ℤ (pos 1)) (neg_ℤ low) ∷ []
 
 -- ---- a cube of stone
 
@@ -63,7 +60,7 @@ cube_holds_face =
 -- and no point beyond it
 pub cube_is_left : Holds cube (at (pos 65) (pos 32) (pos 32)) → ⊥
 unfolding value
-cube_is_left holds = let first = holds.not_in_front 0 (plane (pos 1) (pos 0) (pos 0) (pos 64)) (omega arith) in absurd (omega (arith, ints, first))
+cube_is_left holds = let first = holds.not_in_front 0 (plane_of (pos 1) (pos 0) (pos 0) (pos 64)) (omega arith) in absurd (omega (arith, ints, first))
 
 -- ---- water round stone, in either order
 
@@ -109,7 +106,7 @@ water_round_stone = record {
 -- nearer to the water's border there is no stone
 stone_is_left : Holds stone (at (pos 8) (pos 8) (pos 8)) → ⊥
 unfolding value
-stone_is_left holds = let low = holds.not_in_front 3 (plane (neg_ℤ (pos 1)) (pos 0) (pos 0) (neg_ℤ (pos 16))) (omega arith) in absurd (omega (arith, ints, low))
+stone_is_left holds = let low = holds.not_in_front 3 (plane_of (neg_ℤ (pos 1)) (pos 0) (pos 0) (neg_ℤ (pos 16))) (omega arith) in absurd (omega (arith, ints, low))
 
 water_holds_border : Holds water (at (pos 8) (pos 8) (pos 8))
 unfolding value
@@ -137,12 +134,12 @@ beyond_the_cube =
 
 -- what is in front of z = 0 and what is behind it have no point in common, so that a solid of both is flat
 abbrev pub flat : Solid
-flat = record { contents = contents.Solid; outward = plane (pos 0) (pos 0) (pos 1) (pos 0) ∷ plane (pos 0) (pos 0) (neg_ℤ (pos 2)) (pos 0) ∷ [] }
+flat = record { contents = contents.Solid; outward = plane_of (pos 0) (pos 0) (pos 1) (pos 0) ∷ plane_of (pos 0) (pos 0) (neg_ℤ (pos 2)) (pos 0) ∷ [] }
 
 flat_is_flat : IsFull flat → ⊥
 flat_is_flat = opposed_is_flat flat (record {
-  one = plane (pos 0) (pos 0) (pos 1) (pos 0);
-  other = plane (pos 0) (pos 0) (neg_ℤ (pos 2)) (pos 0);
+  one = plane_of (pos 0) (pos 0) (pos 1) (pos 0);
+  other = plane_of (pos 0) (pos 0) (neg_ℤ (pos 2)) (pos 0);
   has_one = (0, omega arith, refl);
   has_other = (1, omega arith, refl);
   opposed = record { times = pos 2; some = omega (arith, ints); multiple = record { factor = pos 1; positive = omega (arith, ints); multiple = refl } };

@@ -8,6 +8,10 @@ pub record Plane : Type 0 where
   pub nz : ℤ
   pub d : ℤ
 
+-- a plane by its four numbers
+abbrev pub plane_of : ℤ → ℤ → ℤ → ℤ → Plane
+plane_of nx ny nz d = record { nx = nx; ny = ny; nz = nz; d = d }
+
 -- the plane's value at a point: less than 0 behind it, 0 on it, greater than 0 in front of it
 unfoldable pub value : Plane → Point → ℤ
 value h p = (((h.nx *ℤ p.x) +ℤ (h.ny *ℤ p.y)) +ℤ (h.nz *ℤ p.z)) -ℤ (h.d *ℤ p.w)
