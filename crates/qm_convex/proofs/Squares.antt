@@ -13,7 +13,8 @@ use Rattle.qm_space.proofs.PlaneSymbols.{plane_from, numbers_of_plane, symbol_me
 use Rattle.qm_convex.specs.Winding.{Winding, next_place, edge_at, corner_at, corners, IsConvex, IsInRegion}
 use Rattle.qm_convex.specs.Cut.{IsPartInFront}
 use Rattle.qm_convex.specs.Sides.{HasNoneInFront}
-use Rattle.qm_convex.specs.Square.{IsBetweenMirrored, square, AreWalls, MissesCube, IsWorldPart, IsInWorld}
+use Rattle.qm_convex.specs.World.{MissesCube, IsWorldPart, IsInWorld}
+use Rattle.qm_convex.specs.inner.Square.{IsBetweenMirrored, square, AreWalls}
 use Rattle.qm_space.specs.Cube.{mirrored, wall_x, wall_y, wall_z, cube_walls, IsInClosedCube}
 use Rattle.qm_space.proofs.Cubes.{symbol_mirrored, symbol_wall_x, symbol_wall_y, symbol_wall_z, mirrored_sum, x_low, x_high, y_low, y_high, z_low, z_high, cube_is_cell, closed_from_walls}
 use Rattle.qm_convex.proofs.Corners.{corner_on_edge, corner_on_next}

@@ -2,7 +2,7 @@
 use Rattle.std.proofs.Common.{◌≡◌, ◌<◌, ℤ, pos, neg_ℤ, false, true, [], ◌∷◌, refl, arith}
 use Rattle.std.proofs.lemmas.Int.{ints}
 use Rattle.std.proofs.lemmas.List.Elements.{All-from_recursion}
-use Rattle.qm_space.specs.Point.{Point}
+use Rattle.qm_space.specs.Point.{Point, IsWithinExtent}
 use Rattle.qm_space.specs.Plane.{Plane, plane_of, value, IsInFront}
 use Rattle.qm_space.specs.Cell.{IsInCell}
 use Rattle.qm_contents.specs.declared.contents.Contents.TheVariants.{Empty, Solid}
@@ -14,7 +14,7 @@ use Rattle.qm_partition.specs.Joining.{joined}
 use Rattle.qm_partition.specs.Counting.{leaf_count, node_count, leaves_of, node_planes}
 use Rattle.qm_partition.specs.Numbering.{nodes_of, AreNumbered}
 use Rattle.qm_partition.specs.LeafOfPoint.{node_value, leaf_record_at, leaf_at, IsOffNodePlanes}
-use Rattle.qm_partition.specs.Ways.{Way, cell_of, LeadsTo}
+use Rattle.qm_partition.specs.Ways.{Way, cell_of, LeadsTo, IsInLeaf}
 
 abbrev empty : LeafRecord
 empty = record { contents = Empty; filled = false }
@@ -92,6 +92,12 @@ cell_row = refl
 in_cell_row : IsInCell (cell_of cube_tree.planes way_in) middle
 unfolding value
 in_cell_row = All-from_recursion (λ h. IsInFront h middle) (cell_of cube_tree.planes way_in) (grind (arith, ints))
+
+-- so that the leaf has a point
+in_leaf_row : IsInLeaf cube_tree.planes way_in middle
+in_leaf_row =
+    let side : IsWithinExtent (pos 32) (pos 1) = record { above = omega (arith, ints); below = omega (arith, ints) } in
+    record { in_cube = record { weight = omega (arith, ints); x = side; y = side; z = side }; in_cell = in_cell_row }
 
 -- ---- joining
 

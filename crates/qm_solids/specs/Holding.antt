@@ -18,7 +18,8 @@ pub record IsFull (solid : Solid) : Type 0 where
   pub in_cube : IsInCube within
   pub inside : IsInside solid within
 
--- a full solid holds the points that are in front of none of its outward planes; one that is not full holds none
+-- a full solid holds the points that are in front of none of its outward planes, also those outside the cube, of which
+-- no clause speaks; one that is not full holds none. Points have w above 0: each clause takes `IsInCube`, which says so.
 pub record Holds (solid : Solid) (x : Point) : Type 0 where
   pub full : IsFull solid
   pub not_in_front : IsInFrontOfNone solid.outward x

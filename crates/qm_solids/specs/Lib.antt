@@ -1,4 +1,5 @@
 pub mod Solid
+pub mod Outward
 pub mod Holding
 pub mod Strongest
 pub mod Contents

@@ -6,12 +6,12 @@ use Rattle.qm_space.specs.Plane.{Plane}
 use Rattle.qm_space.specs.Meet.{meet}
 use Rattle.qm_space.specs.Reduced.{IsReduced}
 use Rattle.qm_convex.specs.Winding.{corners, Winding, corner_at, edge_at, IsConvex}
-use Rattle.qm_convex.specs.Square.{square}
+use Rattle.qm_convex.specs.inner.Square.{square}
 use Rattle.qm_space.specs.Cube.{mirrored}
 use Rattle.qm_convex.proofs.Squares.{square_all, square_corners}
 use Rattle.qm_convex.specs.Rotation.{rotated_list, place_after}
 use Rattle.qm_convex.specs.Sides.{HasCornerBehind}
-use Rattle.qm_convex.specs.Cut.{IsFrontRun, cut}
+use Rattle.qm_convex.specs.inner.FrontRun.{IsFrontRun, cut}
 use Rattle.qm_convex.proofs.Places.{after_none}
 use Rattle.qm_convex.proofs.Corners.{corners_length, corner_in_list}
 use Rattle.qm_convex.proofs.Cutting.{cut_convex, cut_all, cut_corners, cut_length, cut_corner_leaving, cut_corner_entering}

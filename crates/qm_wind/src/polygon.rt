@@ -1,7 +1,8 @@
 ghost use Rattle.std.specs.Prelude.{◌≡◌, ◌<◌, true, length, IfOk, MatchOption};
 ghost use Rattle.qm_convex.specs.Winding.{corner_at, IsConvex};
-ghost use Rattle.qm_convex.specs.Square.{square};
-ghost use Rattle.qm_convex.specs.Cut.{IsFrontRun, IsPartInFront, cut};
+ghost use Rattle.qm_convex.specs.inner.Square.{square};
+ghost use Rattle.qm_convex.specs.Cut.{IsPartInFront};
+ghost use Rattle.qm_convex.specs.inner.FrontRun.{IsFrontRun, cut};
 ghost use Rattle.qm_convex.specs.Sides.{HasCornerBehind, HasNoneInFront};
 ghost use Rattle.qm_wind.specs.inner.Surveyed.{IsSurvey};
 

@@ -3,7 +3,7 @@ ghost use Rattle.qm_space.specs.Turned.{turned};
 ghost use Rattle.qm_geom.specs.Rounding.{HasSmallCoordinates};
 ghost use Rattle.qm_convex.specs.Winding.{corner_at};
 ghost use Rattle.qm_convex.specs.Vertex.{IsVertex, HasVerticesAsCorners};
-ghost use Rattle.qm_convex.specs.Square.{MissesCube, IsWorldPart, IsInWorld};
+ghost use Rattle.qm_convex.specs.World.{MissesCube, IsWorldPart, IsInWorld};
 ghost use Rattle.qm_space.specs.Cube.{IsInClosedCube};
 ghost use Rattle.qm_wind.specs.Clipped.{IsClip, is_front};
 
@@ -29,7 +29,7 @@ pub struct Winding {
 
 impl Model for Winding {
     ghost use Rattle.qm_convex.specs.Winding.{Winding};
-    ghost use Rattle.qm_convex.specs.Square.{IsInWorld};
+    ghost use Rattle.qm_convex.specs.World.{IsInWorld};
 
     ghost Value = { Winding };
 
