@@ -1,4 +1,4 @@
-use Rattle.std.specs.Prelude.{◌≡◌, ℕ, ◌<◌, ◌≤◌, pos, ◌<ℤ◌, length, All}
+use Rattle.std.specs.Prelude.{ℕ, ◌<◌, ◌≤◌, pos, ◌<ℤ◌, length, All}
 use Rattle.qm_space.specs.Point.{Point, IsSamePlace}
 use Rattle.qm_space.specs.Plane.{IsOn, IsNotBehind}
 use Rattle.qm_space.specs.Line.{AreOnOneLine, IsBetween}

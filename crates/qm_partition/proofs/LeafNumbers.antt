@@ -1,7 +1,6 @@
 -- The leaf of a point is the one of its number.
-use Rattle.std.proofs.Common.{◌≡◌, ◌≢◌, ℤ, pos, negsuc, ◌<ℤ◌, ◌≤ℤ◌, true, false, ◌⊎◌, inl, inr, List, Some, refl, ◌∙◌, arith}
-use Rattle.std.specs.Prelude.{int_lt, slice_get}
-use Rattle.std.proofs.lemmas.Int.{ints, by_lt_z}
+use Rattle.std.proofs.Common.{◌≡◌, inl, inr, List, Some, refl, ◌∙◌}
+use Rattle.std.specs.Prelude.{slice_get}
 use Rattle.qm_space.specs.Point.{Point}
 use Rattle.qm_space.specs.Plane.{Plane}
 use Rattle.qm_partition.specs.Partition.{Partition, leaf, node}

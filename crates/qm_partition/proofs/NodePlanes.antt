@@ -1,5 +1,5 @@
 -- A point is off the node planes if and only if it is on the plane of no node's number.
-use Rattle.std.proofs.Common.{◌≢◌, ℕ, pos, List, [], ◌∷◌, ◌++◌, All, ◌↔◌}
+use Rattle.std.proofs.Common.{◌≢◌, ℕ, pos, List, ◌++◌, All, ◌↔◌}
 use Rattle.std.proofs.lemmas.List.Elements.{All-nil, All-cons, All-head, All-tail, All-append}
 use Rattle.qm_lists.proofs.Elements.{All-first_part, All-last_part}
 use Rattle.qm_space.specs.Point.{Point}

@@ -1,9 +1,9 @@
 -- Worked row: the tree of one cube, and the leaf of a point in it.
-use Rattle.std.proofs.Common.{◌≡◌, ◌<◌, ℤ, pos, neg_ℤ, false, true, [], ◌∷◌, refl, arith}
+use Rattle.std.proofs.Common.{◌≡◌, ◌<◌, pos, neg_ℤ, false, true, [], ◌∷◌, refl, arith}
 use Rattle.std.proofs.lemmas.Int.{ints}
 use Rattle.std.proofs.lemmas.List.Elements.{All-from_recursion}
 use Rattle.qm_space.specs.Point.{Point, IsWithinExtent}
-use Rattle.qm_space.specs.Plane.{Plane, plane_of, value, IsInFront}
+use Rattle.qm_space.specs.Plane.{plane_of, value, IsInFront}
 use Rattle.qm_space.specs.Cell.{IsInCell}
 use Rattle.qm_contents.specs.declared.contents.Contents.TheVariants.{Empty, Solid}
 use Rattle.qm_partition.specs.declared.node.Leaf.{Leaf as LeafRecord}

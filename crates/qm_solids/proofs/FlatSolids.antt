@@ -1,5 +1,5 @@
 -- A solid with two opposed planes is flat.
-use Rattle.std.proofs.Common.{◌≡◌, ℤ, pos, neg_ℤ, ◌*ℤ◌, ◌<ℤ◌, Contains, sym, ap, ◌∙◌, arith}
+use Rattle.std.proofs.Common.{ℤ, pos, ◌<ℤ◌, Contains, arith}
 use Rattle.std.proofs.lemmas.Int.{ints}
 use Rattle.std.proofs.lemmas.List.Elements.{All-contains}
 use Rattle.qm_space.specs.Point.{Point}

@@ -54,8 +54,8 @@ line_from_steps p q r wp wq wr l = record {
   times_r = neg_ℤ l.j;
   some = λ e _ f. l.some e (omega (arith, linear));
   sum = same_point (point_sum (point_sum (point_times l.i p) (point_times (l.j -ℤ l.i) q)) (point_times (neg_ℤ l.j) r)) four_zeros
-    (sum_from l.i l.j p.x q.x r.x l.x) (sum_from l.i l.j p.y q.y r.y l.y) (sum_from l.i l.j p.z q.z r.z l.z)
-    ((λ n. ((l.i *ℤ wp n) +ℤ ((l.j -ℤ l.i) *ℤ wq n)) +ℤ (neg_ℤ l.j *ℤ wr n)) ∙ ones l.i l.j);
+      (sum_from l.i l.j p.x q.x r.x l.x) (sum_from l.i l.j p.y q.y r.y l.y) (sum_from l.i l.j p.z q.z r.z l.z)
+      ((λ n. ((l.i *ℤ wp n) +ℤ ((l.j -ℤ l.i) *ℤ wq n)) +ℤ (neg_ℤ l.j *ℤ wr n)) ∙ ones l.i l.j);
 }
   where
     ones : (i j : ℤ) → ((i *ℤ pos 1) +ℤ ((j -ℤ i) *ℤ pos 1)) +ℤ (neg_ℤ j *ℤ pos 1) ≡ pos 0
