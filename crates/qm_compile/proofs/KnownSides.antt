@@ -10,7 +10,7 @@ use Rattle.qm_space.specs.Book.{AreDistinct}
 use Rattle.qm_geom.specs.Planes.{plane_cmp, Enters, was_there, is_gained}
 use Rattle.qm_geom.proofs.Numbers.{plane_cmp-itself, same_from_is_eq}
 use Rattle.qm_compile.specs.Sides.{Side, outside_of, joined}
-use Rattle.qm_compile.specs.SideLists.{AreSides, KeepsSides, IsJoined}
+use Rattle.qm_compile.specs.inner.SideLists.{AreSides, KeepsSides, IsJoined}
 
 -- What is known of a plane among the sides, and by the number that a book gives it.
 
