@@ -54,8 +54,7 @@ fn number(book: &mut PlaneBook, points: [[i32; 3]; 3]) -> Option<u32> {
     if book.len() > 9 {
         return None;
     }
-    let (plane, _) =
-        Plane::through(inside(points[0]), inside(points[1]), inside(points[2])).ok()?;
+    let (plane, _) = Plane::through(inside(points[0]), inside(points[1]), inside(points[2])).ok()?;
     book.number(plane).ok()
 }
 

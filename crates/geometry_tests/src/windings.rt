@@ -98,15 +98,26 @@ fn planes_beside_and_across_the_floor(rt: HostRuntime) {
 fn five_corners(alloc: Global) -> Option<Winding> {
     cut_by(
         on(alloc, &floor())?,
-        &[([[4000, 4000, 0], [3904, 4096, 0], [4000, 4000, 1]], Side::Back)],
+        &[(
+            [[4000, 4000, 0], [3904, 4096, 0], [4000, 4000, 1]],
+            Side::Back,
+        )],
     )
 }
 
 /// What the plane of that cut and one through a new corner alone leave.
 fn part_is_touched(alloc: Global) -> bool {
     let rows = [
-        ([[4000, 4000, 0], [3904, 4096, 0], [4000, 4000, 1]], GONE, WHOLE),
-        ([[3904, 4096, 0], [4096, 4000, 0], [4096, 4000, 1]], GONE, WHOLE),
+        (
+            [[4000, 4000, 0], [3904, 4096, 0], [4000, 4000, 1]],
+            GONE,
+            WHOLE,
+        ),
+        (
+            [[3904, 4096, 0], [4096, 4000, 0], [4096, 4000, 1]],
+            GONE,
+            WHOLE,
+        ),
     ];
     match five_corners(alloc) {
         Some(part) => leaves(&part, &rows),
@@ -124,12 +135,20 @@ fn steepest_part(alloc: Global) -> Option<Winding> {
     let steep = through([[4096, -4095, 0], [-4096, -4096, 0], [-4095, 4096, 1]]);
     cut_by(
         on(alloc, &steep)?,
-        &[([[4096, 0, -4095], [-4096, 0, -4096], [-4095, 1, 4096]], Side::Front)],
+        &[(
+            [[4096, 0, -4095], [-4096, 0, -4096], [-4095, 1, 4096]],
+            Side::Front,
+        )],
     )
 }
 
 fn steepest_planes_meet(alloc: Global) -> bool {
-    let places = [[4096, 4096, 1], [-4096, 4096, 1], [-4096, 1, 1], [4096, 0, 0]];
+    let places = [
+        [4096, 4096, 1],
+        [-4096, 4096, 1],
+        [-4096, 1, 1],
+        [4096, 0, 0],
+    ];
     match steepest_part(alloc) {
         Some(part) => has_corners(&part, Way::Nearest, &places),
         None => false,

@@ -12,4 +12,3 @@ mod winding;
 
 pub use pane::Pane;
 pub use winding::{Clip, Side, Winding};
-
