@@ -40,7 +40,7 @@ pub record IsCutShort (before after : ShelfState) (command : Command) (map_name 
   pub no_fault : MetNoFault before after
   pub unfinished : IsUnfinished before after command map_name out_name
 
--- what else comes of it: a status, and the text that is due with it
+-- what comes of it where memory does not run out: a status, and the text that is due with it
 pub data ComesOf (before after : ShelfState) (command : Command) (map_name out_name : List ℕ) : Status → List ℕ → Type 0 where
   -- MAP could not be read, and nothing was changed
   read_fault :

@@ -4,9 +4,9 @@ ghost use Rattle.std.specs.Prelude.{IfOk};
 ghost use Rattle.qm_grammar.specs.Valid.{IsValid};
 ghost use Rattle.qm_compile.specs.Made.{ComesOfMap, ComesOfText, IsFaultAlone};
 
+use crate::command::Command;
 use crate::compile::compile;
 use crate::format::format;
-use crate::command::Command;
 use crate::made::Made;
 use qm_map::{MapFault, parse};
 use qm_mapfile::MapFile;

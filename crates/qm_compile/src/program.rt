@@ -16,12 +16,10 @@ use crate::make::make;
 use crate::outcome::Outcome;
 use crate::status::Status;
 use crate::words::command_of;
+use qm_grammar::TEXT_LIMIT;
 use qm_shelf::{Shelf, ShelfFault, Sink, SinkFault, read_whole, write_whole};
 use std::alloc::{AllocError, Global};
 use std::thread::Threads;
-
-/// The most bytes that the text of a map may have.
-const TEXT_LIMIT: usize = 67_108_864;
 
 /// Carries out the command that the words are: reads the map from the shelf, writes to it the file that is
 /// made of the map, and prints to the sink what came of it, in one write.
@@ -54,8 +52,9 @@ fn carry_out<H: Shelf>(alloc: Global, words: &[&str], shelf: &mut H) -> Result<O
 {
     match command_of(words) {
         None => Ok(Outcome::Usage),
-        Some((command, map_name, out_name)) =>
-            carry_out_command(alloc, shelf, command, map_name, out_name),
+        Some((command, map_name, out_name)) => carry_out_command(
+            alloc, shelf, command, map_name, out_name,
+        ),
     }
 }
 

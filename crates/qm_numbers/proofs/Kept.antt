@@ -75,7 +75,7 @@ long_is p a b n e h k s l =
 
 -- ---- sums of three numbers of 128 bits
 
-three_size : (a b c : ℤ) (n : ℕ) → unsigned_abs a ≤ n → unsigned_abs b ≤ n → unsigned_abs c ≤ n → unsigned_abs ((a +ℤ b) +ℤ c) ≤ 3 * n
+pub three_size : (a b c : ℤ) (n : ℕ) → unsigned_abs a ≤ n → unsigned_abs b ≤ n → unsigned_abs c ≤ n → unsigned_abs ((a +ℤ b) +ℤ c) ≤ 3 * n
 three_size a b c n x y z = let s = abs_sum a b in let t = abs_sum (a +ℤ b) c in omega arith
 
 two_size : (a b : ℤ) (n : ℕ) → unsigned_abs a ≤ n → unsigned_abs b ≤ n → unsigned_abs (a +ℤ b) ≤ 3 * n
@@ -141,9 +141,6 @@ product_answered w r a b h k e = e ∙ rw (to_z-of_z w a h, to_z-of_z w b k) ref
 -- a product of which one number is small
 pub product_size : (r a b : ℤ) → FitsSigned w64 b → unsigned_abs a ≤ 2 ^ 53 → r ≡ a *ℤ b → unsigned_abs r ≤ 2 ^ 116
 product_size r a b h k e = rw e (abs_product_bound a b (2 ^ 53) (2 ^ 63) k (size_64 b h))
-
-pub three_small : (a b c : ℤ) (n : ℕ) → unsigned_abs a ≤ n → unsigned_abs b ≤ n → unsigned_abs c ≤ n → unsigned_abs ((a +ℤ b) +ℤ c) ≤ 3 * n
-three_small = three_size
 
 pub small_kept : (z : ℤ) (n : ℕ) → n ≤ 2 ^ 63 - 1 → unsigned_abs z ≤ n → unsigned_abs (kept w64 z) ≤ n
 small_kept z n l h = rw (to_z-of_z w64 z (fits_64 z n h l)) h

@@ -1,6 +1,6 @@
 use Rattle.std.proofs.Common.{◌≡◌, ◌≤◌, ◌*◌, ◌^◌, ◌*ℤ◌, ◌∙◌, ℤ, sym, subst, lit≤, unsigned_abs}
 use Rattle.qm_geom.specs.inner.Vectors.{dot}
-use Rattle.qm_numbers.proofs.Kept.{factors_small, factors_answered, first_two_fit, three_fit, three_is, three_small}
+use Rattle.qm_numbers.proofs.Kept.{factors_small, factors_answered, first_two_fit, three_fit, three_is, three_size}
 use Rattle.qm_geom.proofs.corner.Corner.along.Goals as goal
 
 pub times-of_x-requires : goal.times-of_x-requires
@@ -46,4 +46,4 @@ pub returns-clause-size : goal.returns-clause-size
 returns-clause-size c =
     subst (λ (z : ℤ). unsigned_abs z ≤ 9 * 2 ^ 123)
     (sym (three_is c.times-of_x.result c.times-of_y.result c.times-of_z.result (3 * 2 ^ 123) c.times-of_x.ensures.size c.times-of_y.ensures.size c.times-of_z.ensures.size (lit≤ tt)))
-    (three_small c.times-of_x.result c.times-of_y.result c.times-of_z.result (3 * 2 ^ 123) c.times-of_x.ensures.size c.times-of_y.ensures.size c.times-of_z.ensures.size)
+    (three_size c.times-of_x.result c.times-of_y.result c.times-of_z.result (3 * 2 ^ 123) c.times-of_x.ensures.size c.times-of_y.ensures.size c.times-of_z.ensures.size)

@@ -1,6 +1,6 @@
 use Rattle.std.proofs.Common.{rules, ◌≡◌, ◌≤◌, ◌*◌, ◌^◌, ◌*ℤ◌, ◌∙◌, ℤ, FitsSigned, w64, sym, subst, lit≤, unsigned_abs}
 use Rattle.qm_geom.specs.inner.Vectors.{dot}
-use Rattle.qm_numbers.proofs.Kept.{product_answered, product_size, first_two_fit, three_fit, three_is, three_small}
+use Rattle.qm_numbers.proofs.Kept.{product_answered, product_size, first_two_fit, three_fit, three_is, three_size}
 use Rattle.qm_geom.proofs.vector.Vector.dot.Goals as goal
 
 of_x_is : (c : goal.After-product-of_z) → c.product-of_x.result ≡ c.args.self.now.x *ℤ c.args.other.now.x
@@ -51,4 +51,4 @@ pub returns-clause-size : goal.returns-clause-size
 returns-clause-size c =
     subst (λ (z : ℤ). unsigned_abs z ≤ 3 * 2 ^ 116)
     (sym (three_is c.product-of_x.result c.product-of_y.result c.product-of_z.result (2 ^ 116) (of_x_small c) (of_y_small c) (of_z_small c) (lit≤ tt)))
-    (three_small c.product-of_x.result c.product-of_y.result c.product-of_z.result (2 ^ 116) (of_x_small c) (of_y_small c) (of_z_small c))
+    (three_size c.product-of_x.result c.product-of_y.result c.product-of_z.result (2 ^ 116) (of_x_small c) (of_y_small c) (of_z_small c))
