@@ -5,12 +5,12 @@ use Rattle.std.proofs.lemmas.List.Sums.{sum_by-cons}
 use Rattle.qm_mapfile.specs.declared.entity.Brush.{Brush}
 use Rattle.qm_mapfile.specs.declared.entity.Entity.{Entity}
 use Rattle.qm_mapfile.specs.declared.entity.MapFile.{MapFile}
-use Rattle.qm_grammar.specs.Valid.{IsValid, IsValidFace, IsValidEntity, IsValidBrush, face_count}
+use Rattle.qm_grammar.specs.Valid.{IsValid, IsValidFace, IsValidEntity, IsValidBrush, face_count, face_limit}
 use Rattle.qm_brush.specs.Brushes.{brushes_of_first, world_brushes}
 
 -- the faces of a brush of a valid map
 pub record HasValidFaces (brush : Brush) : Type 0 where
-  pub few : length brush.faces ≤ 2 ^ 26
+  pub few : length brush.faces ≤ face_limit
   pub faces : All IsValidFace brush.faces
 
 -- each brush of the world is one of a valid map

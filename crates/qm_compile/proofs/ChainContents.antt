@@ -9,8 +9,8 @@ use Rattle.qm_contents.specs.declared.contents.Contents.{Contents}
 use Rattle.qm_contents.specs.declared.contents.Contents.TheVariants.{Empty}
 use Rattle.qm_partition.specs.declared.node.Leaf.{Leaf}
 use Rattle.qm_partition.specs.Partition.{Partition, leaf, node}
-use Rattle.qm_partition.specs.LeafOfPoint.{leaf_at, node_value, IsOffNodePlanes}
-use Rattle.qm_partition.proofs.LeafNumbers.{side_test, above_zero}
+use Rattle.qm_partition.specs.LeafOfPoint.{leaf_record_at, node_value, IsOffNodePlanes}
+use Rattle.qm_numbers.proofs.Signs.{side_test, above_zero}
 use Rattle.qm_compile.specs.Sides.{Side}
 use Rattle.qm_compile.specs.Chain.{chain, open_leaf}
 use Rattle.qm_compile.proofs.SideValues.{outer_value, IsWithin, IsNotOutside}
@@ -51,11 +51,11 @@ enclosing out_is_front n inner =
     if out_is_front then node n (leaf (open_leaf Empty)) inner else node n inner (leaf (open_leaf Empty))
 
 module _ (last : Contents) (n : ℕ) (planes : List Plane) (inner : Partition) (plane : Plane) (sides : List Side) (x : Point) where
-  one_node : (b : Bool) → node_value planes n x ≡ value plane x → IsOffNodePlanes planes (enclosing b n inner) x → (IsOffNodePlanes planes inner x → IsLedRight last (leaf_at planes inner x) sides x) → IsLedRight last (leaf_at planes (enclosing b n inner) x) ((plane, b) ∷ sides) x
+  one_node : (b : Bool) → node_value planes n x ≡ value plane x → IsOffNodePlanes planes (enclosing b n inner) x → (IsOffNodePlanes planes inner x → IsLedRight last (leaf_record_at planes inner x) sides x) → IsLedRight last (leaf_record_at planes (enclosing b n inner) x) ((plane, b) ∷ sides) x
   unfolding enclosing
   one_node true stand off within =
       elim (side_test (node_value planes n x)) [
-        | inl behind ↦ rw behind.0 (within_one_more last (leaf_at planes inner x) (plane, true) sides x (omega (arith, ints, stand, behind.1)) (within off.2))
+        | inl behind ↦ rw behind.0 (within_one_more last (leaf_record_at planes inner x) (plane, true) sides x (omega (arith, ints, stand, behind.1)) (within off.2))
         | inr front ↦
             let above = above_zero (node_value planes n x) front.1 off.0 in
             rw front.0 (outside_of_one last (plane, true) sides x (omega (arith, ints, stand, above)))
@@ -65,11 +65,11 @@ module _ (last : Contents) (n : ℕ) (planes : List Plane) (inner : Partition) (
         | inl behind ↦ rw behind.0 (outside_of_one last (plane, false) sides x (omega (arith, ints, stand, behind.1)))
         | inr front ↦
             let above = above_zero (node_value planes n x) front.1 off.0 in
-            rw front.0 (within_one_more last (leaf_at planes inner x) (plane, false) sides x (omega (arith, ints, stand, above)) (within off.1))
+            rw front.0 (within_one_more last (leaf_record_at planes inner x) (plane, false) sides x (omega (arith, ints, stand, above)) (within off.1))
       ]
 
 -- the chain of sides leads each point that is on no node plane right
-pub chain_leads_right : (planes : List Plane) (x : Point) (last : Contents) (n : ℕ) (sides : List Side) → StandAt planes x n sides → IsOffNodePlanes planes (chain last n (flags_of sides)) x → IsLedRight last (leaf_at planes (chain last n (flags_of sides)) x) sides x
+pub chain_leads_right : (planes : List Plane) (x : Point) (last : Contents) (n : ℕ) (sides : List Side) → StandAt planes x n sides → IsOffNodePlanes planes (chain last n (flags_of sides)) x → IsLedRight last (leaf_record_at planes (chain last n (flags_of sides)) x) sides x
 unfolding enclosing
 chain_leads_right planes x last n [] stand off = inl (refl, tt)
 chain_leads_right planes x last n (side ∷ sides) stand off =

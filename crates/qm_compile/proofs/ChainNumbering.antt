@@ -14,7 +14,7 @@ use Rattle.qm_partition.specs.Counting.{leaves_of, leaf_count}
 use Rattle.qm_partition.specs.Numbering.{nodes_of, leaves_after, child_of}
 use Rattle.qm_partition.proofs.Counts.{leaves_after-count}
 use Rattle.qm_compile.specs.Chain.{chain, open_leaf}
-use Rattle.qm_compile.specs.ChainStep.{chain_node, inner_child}
+use Rattle.qm_compile.specs.inner.ChainStep.{chain_node, inner_child}
 
 -- How the nodes and leaves of a chain are numbered.
 

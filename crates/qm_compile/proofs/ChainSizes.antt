@@ -11,7 +11,7 @@ use Rattle.qm_partition.proofs.Counts.{length-nodes_of}
 use Rattle.qm_compile.specs.Chain.{chain, tree_of_walk, last_contents}
 use Rattle.qm_compile.specs.Texts.{count_line, tree_summary}
 use Rattle.qm_compile.specs.TreeFile.{file_bytes, file_of}
-use Rattle.qm_compile.specs.SideLists.{IsWalk}
+use Rattle.qm_compile.specs.inner.SideLists.{IsWalk}
 use Rattle.qm_compile.specs.Walk.{Walk}
 use Rattle.qm_compile.proofs.ChainContents.{flags_of, planes_of}
 use Rattle.qm_compile.proofs.ChainNumbering.{leaf_count-chain}

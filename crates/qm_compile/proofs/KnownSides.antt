@@ -6,10 +6,11 @@ use Rattle.std.proofs.lemmas.List.{map-append}
 use Rattle.std.proofs.lemmas.Option.{slice_get_within}
 use Rattle.qm_lists.proofs.Cases.{by_cases}
 use Rattle.qm_space.specs.Plane.{Plane}
-use Rattle.qm_geom.specs.Planes.{plane_cmp, AreDistinct, Enters, was_there, is_gained}
+use Rattle.qm_space.specs.Book.{AreDistinct}
+use Rattle.qm_geom.specs.Planes.{plane_cmp, Enters, was_there, is_gained}
 use Rattle.qm_geom.proofs.Numbers.{plane_cmp-itself, same_from_is_eq}
 use Rattle.qm_compile.specs.Sides.{Side, outside_of, joined}
-use Rattle.qm_compile.specs.SideLists.{AreSides, KeepsSides, IsJoined}
+use Rattle.qm_compile.specs.inner.SideLists.{AreSides, KeepsSides, IsJoined}
 
 -- What is known of a plane among the sides, and by the number that a book gives it.
 

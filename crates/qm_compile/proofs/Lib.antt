@@ -1,5 +1,6 @@
 pub mod BrushCounts
 pub mod ChainContents
+pub mod ChainPlanes
 pub mod ChainNumbering
 pub mod ChainSizes
 pub mod CommandWords

@@ -6,7 +6,7 @@ use Rattle.qm_grammar.specs.Meaning.{IsMapText, IsFaultText}
 use Rattle.qm_compile.specs.declared.command.Command.{Command}
 use Rattle.qm_compile.specs.declared.made.Made.{Made}
 use Rattle.qm_compile.specs.declared.made.Made.TheVariants.{Product, Fault, NotBuilt}
-use Rattle.qm_compile.specs.Made.{ComesOfMap, ComesOfText, IsFaultAlone}
+use Rattle.qm_compile.specs.inner.Made.{ComesOfMap, ComesOfText, IsFaultAlone}
 
 -- What comes of the map that a text means, or of its fault, comes of the text.
 

@@ -4,7 +4,7 @@ use Rattle.qm_compile.specs.declared.outcome.Outcome.{Outcome}
 use Rattle.qm_compile.specs.declared.outcome.Outcome.TheVariants.{Done, Usage, ReadFault, MapFault, WriteFault, NotBuilt}
 use Rattle.qm_compile.specs.declared.status.Status.{Status}
 use Rattle.qm_compile.specs.declared.status.Status.TheVariants as status
-use Rattle.qm_compile.specs.Outcome.{status_of}
+use Rattle.qm_compile.specs.inner.Outcome.{status_of}
 use Rattle.qm_compile.specs.Run.{Answers, Reports, FailsToReport, RunsOutReporting, RunsOut}
 
 -- The ways in which a run ends.

@@ -7,6 +7,7 @@ use Rattle.std.proofs.lemmas.List.{get_or_past}
 use Rattle.std.proofs.lemmas.List.Elements.{recursion_from_All, All-nil}
 use Rattle.qm_space.specs.Point.{Point, AreCoordinates, IsCoordinate, IsWholePoint}
 use Rattle.qm_space.specs.Plane.{Plane, value}
+use Rattle.qm_space.specs.Reduced.{HasNormal}
 use Rattle.qm_space.specs.ThreePoints.{IsPlaneThrough, outward_plane}
 use Rattle.qm_numbers.proofs.Signs.{compares_less, compares_greater, less_compares, greater_compares}
 use Rattle.qm_space.proofs.PlanesThroughPoints.{whole_point_is_whole, plane_through_is, normal_off_line, through_front, through_back}
@@ -61,12 +62,21 @@ face_point_whole face k coordinates = whole_point_is_whole (get_or face.points k
   | inr past ↦ subst AreCoordinates (sym (get_or_past face.points k [] past)) (All-nil IsCoordinate)
 ])
 
-face_sides : (x : Point) (face : Face) → All AreCoordinates face.points → HasPlane face → FaceSides x face
-face_sides x face coordinates plane =
+-- the plane of a face, as the one through the face's points
+face_through : (face : Face) → All AreCoordinates face.points → HasPlane face → IsPlaneThrough (face_point face 0) (face_point face 1) (face_point face 2) (face_plane face).0 (face_plane face).1
+face_through face coordinates plane =
     let p0 = face_point face 0 in
     let p1 = face_point face 1 in
     let p2 = face_point face 2 in
-    is_turned p0 p1 p2 x (face_plane face).0 (face_plane face).1 (plane_through_is p0 p1 p2 (face_point_whole face 0 coordinates) (face_point_whole face 1 coordinates) (face_point_whole face 2 coordinates) (normal_off_line p0 p1 p2 refl refl refl plane))
+    plane_through_is p0 p1 p2 (face_point_whole face 0 coordinates) (face_point_whole face 1 coordinates) (face_point_whole face 2 coordinates) (normal_off_line p0 p1 p2 refl refl refl plane)
+
+-- it has a normal
+pub has_normal_plane : (face : Face) → IsValidFace face → HasNormal (face_plane face).0
+has_normal_plane face valid = (face_through face valid.coordinates valid.plane).is_reduced.normal
+
+face_sides : (x : Point) (face : Face) → All AreCoordinates face.points → HasPlane face → FaceSides x face
+face_sides x face coordinates plane =
+    is_turned (face_point face 0) (face_point face 1) (face_point face 2) x (face_plane face).0 (face_plane face).1 (face_through face coordinates plane)
 
 pub sides_of_faces : (x : Point) (faces : List Face) → All IsValidFace faces → AllByRecursion (FaceSides x) faces
 sides_of_faces x faces valid =

@@ -1,9 +1,11 @@
-use Rattle.std.proofs.Common.{◌≡◌, pos, ◌≤ℤ◌, List, [], ◌∷◌, map, All, Option, Some, inl, inr, sym, refl, ap, ◌∙◌, arith, subst}
+use Rattle.std.proofs.Common.{◌≡◌, pos, ◌≤ℤ◌, List, [], ◌∷◌, All, Option, Some, inl, inr, sym, refl, ap, ◌∙◌, arith, subst}
 use Rattle.std.specs.Prelude.{unwrap_or}
 use Rattle.std.proofs.lemmas.List.Elements.{All-map, All-contains, All-from_recursion, recursion_from_All, All-nil, All-cons, All-head, All-tail}
 use Rattle.qm_lists.proofs.Cases.{by_cases}
+use Rattle.qm_lists.proofs.Elements.{All-from_map}
 use Rattle.qm_space.specs.Point.{Point, IsInCube}
 use Rattle.qm_space.specs.Plane.{Plane, value, IsBehind}
+use Rattle.qm_space.specs.Reduced.{HasNormal}
 use Rattle.qm_mapfile.specs.declared.face.Face.{Face}
 use Rattle.qm_mapfile.specs.declared.entity.Brush.{Brush}
 use Rattle.qm_mapfile.specs.declared.entity.MapFile.{MapFile}
@@ -26,17 +28,12 @@ use Rattle.qm_compile.specs.Chain.{last_contents, tree_of_walk, tree_of_first, t
 use Rattle.qm_compile.specs.GivesContents.{GivesContents}
 use Rattle.qm_compile.specs.OneBrush.{IsOneBrushMap}
 use Rattle.qm_compile.specs.Walk.{Walk, walk_of}
-use Rattle.qm_compile.proofs.ChainContents.{IsLedRight, planes_stand, chain_leads_right}
+use Rattle.qm_compile.proofs.ChainContents.{IsLedRight, planes_of, planes_stand, chain_leads_right}
+use Rattle.qm_compile.proofs.ChainPlanes.{chain_names, walk_normals}
 use Rattle.qm_compile.proofs.SideValues.{sides_of_faces}
 use Rattle.qm_compile.proofs.WalkRight.{IsBehindAll, IsNotInFrontOfAny, IsRight, walk_is_right}
 
 -- The tree of a map of one brush gives each point the contents that the brush defines there.
-
--- what is said of each outward plane is said of each face
-of_each_face : (P : Plane → Type 0) (faces : List Face) → All P (map face_outward faces) → All (λ face. P (face_outward face)) faces
-of_each_face P [] all = All-nil (λ face. P (face_outward face))
-of_each_face P (face ∷ faces) all =
-    All-cons (λ face. P (face_outward face)) face faces (All-head P (face_outward face) (map face_outward faces) all) (of_each_face P faces (All-tail P (face_outward face) (map face_outward faces) all))
 
 module _ (brush : Brush) (contents : Contents) where
   abbrev solid : Solid
@@ -44,7 +41,7 @@ module _ (brush : Brush) (contents : Contents) where
 
   -- a point strictly inside the solid is behind each face, and conversely
   behind_faces : (x : Point) → IsInside solid x → IsBehindAll brush.faces x
-  behind_faces x inside = recursion_from_All (λ face. IsBehind (face_outward face) x) brush.faces (of_each_face (λ h. IsBehind h x) brush.faces (behind_all solid.outward x inside))
+  behind_faces x inside = recursion_from_All (λ face. IsBehind (face_outward face) x) brush.faces (All-from_map (λ h. IsBehind h x) face_outward brush.faces (behind_all solid.outward x inside))
 
   inside_faces : (x : Point) → IsBehindAll brush.faces x → IsInside solid x
   inside_faces x behind =
@@ -52,7 +49,7 @@ module _ (brush : Brush) (contents : Contents) where
 
   -- a point that the solid holds is in front of no face
   not_in_front : (x : Point) → Holds solid x → IsNotInFrontOfAny brush.faces x
-  not_in_front x holds = recursion_from_All (λ face. value (face_outward face) x ≤ℤ pos 0) brush.faces (of_each_face (λ h. value h x ≤ℤ pos 0) brush.faces holds.not_in_front)
+  not_in_front x holds = recursion_from_All (λ face. value (face_outward face) x ≤ℤ pos 0) brush.faces (All-from_map (λ h. value h x ≤ℤ pos 0) face_outward brush.faces holds.not_in_front)
 
   -- the only solid that can hold a point
   held_by : (x : Point) (other : Solid) → IsOneThat (λ s. Holds s x) (solid ∷ []) other → solid ≡ other
@@ -88,10 +85,12 @@ module _ (brush : Brush) (contents : Contents) where
   right_contents walk right x found in_cube (inr led) =
       rw led.0 (is_empty x (λ holds. led.1 ((right x).outside (not_in_front x holds) tt)))
 
-  walk_gives : (walk : Walk) → ((y : Point) → IsRight y [] brush.faces walk) → GivesContents (tree_of_walk walk contents) (solid ∷ [])
-  unfolding GivesContents
-  walk_gives walk right x in_cube off =
-      right_contents walk right x _ in_cube (chain_leads_right _ x (last_contents walk contents) 0 walk.sides (planes_stand x walk.sides) off)
+  walk_gives : (walk : Walk) → All HasNormal (planes_of walk.sides) → ((y : Point) → IsRight y [] brush.faces walk) → GivesContents (tree_of_walk walk contents) (solid ∷ [])
+  walk_gives walk normals right = record {
+    named = chain_names walk contents;
+    normals = normals;
+    gives = λ x in_cube off. right_contents walk right x _ in_cube (chain_leads_right _ x (last_contents walk contents) 0 walk.sides (planes_stand x walk.sides) off);
+  }
 
 -- the walk along all faces is right
 walk_of_is_right : (faces : List Face) → All IsValidFace faces → (y : Point) → IsRight y [] faces (walk_of faces)
@@ -107,4 +106,4 @@ tree_of-one_brush map brush contents one filled =
 -- the tree of a map of one brush gives each point the contents that the map defines there
 pub one_brush_gives : (map : MapFile) (brush : Brush) (contents : Contents) → IsOneBrushMap map brush → contents_of_brush brush ≡ Some contents → All IsValidFace brush.faces → GivesContents (tree_of map) (drawn_solids map)
 one_brush_gives map brush contents one filled valid =
-    rw (tree_of-one_brush map brush contents one filled, one_solid map brush contents one filled) (walk_gives brush contents (walk_of brush.faces) (walk_of_is_right brush.faces valid))
+    rw (tree_of-one_brush map brush contents one filled, one_solid map brush contents one filled) (walk_gives brush contents (walk_of brush.faces) (walk_normals brush.faces valid) (walk_of_is_right brush.faces valid))

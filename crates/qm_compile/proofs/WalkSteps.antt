@@ -4,7 +4,7 @@ use Rattle.qm_space.specs.Plane.{Plane}
 use Rattle.qm_mapfile.specs.declared.face.Face.{Face}
 use Rattle.qm_mapfile.specs.Face.{face_plane}
 use Rattle.qm_compile.specs.Sides.{Side, after_side}
-use Rattle.qm_compile.specs.SideLists.{AreSides, KeepsSides, IsJoined, IsWalk}
+use Rattle.qm_compile.specs.inner.SideLists.{AreSides, KeepsSides, IsJoined, IsWalk}
 use Rattle.qm_compile.specs.Walk.{Walk, walk_after, walk_on, walk_of}
 
 -- The walk along faces, one by one.

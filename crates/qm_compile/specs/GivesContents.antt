@@ -1,12 +1,14 @@
-use Rattle.std.specs.Prelude.{List}
+use Rattle.std.specs.Prelude.{List, All}
 use Rattle.qm_space.specs.Point.{Point, IsInCube}
+use Rattle.qm_space.specs.Reduced.{HasNormal}
 use Rattle.qm_solids.specs.Solid.{Solid}
 use Rattle.qm_solids.specs.Contents.{HasContents}
-use Rattle.qm_partition.specs.Tree.{Tree}
-use Rattle.qm_partition.specs.LeafOfPoint.{leaf_at, IsOffNodePlanes}
+use Rattle.qm_partition.specs.Tree.{Tree, NamesItsPlanes}
+use Rattle.qm_partition.specs.LeafOfPoint.{leaf_record_at, IsOffNodePlanes}
 
--- the tree leads each point inside the cube that is on no node plane to a leaf of the contents that the solids define
--- there
-unfoldable pub GivesContents : Tree → List Solid → Type 0
-GivesContents built solids =
-    (x : Point) → IsInCube x → IsOffNodePlanes built.planes built.shape x → HasContents solids x (leaf_at built.planes built.shape x).contents
+-- each node names one of the planes, and each plane has a normal: else no point would be off the node planes; and the
+-- tree leads each point inside the cube that is on no node plane to a leaf of the contents that the solids define there
+pub record GivesContents (built : Tree) (solids : List Solid) : Type 0 where
+  pub named : NamesItsPlanes built
+  pub normals : All HasNormal built.planes
+  pub gives : (x : Point) → IsInCube x → IsOffNodePlanes built.planes built.shape x → HasContents solids x (leaf_record_at built.planes built.shape x).contents

@@ -3,7 +3,7 @@
 ghost use Rattle.std.specs.Prelude.{◌≡◌, ◌+◌, ◌-◌, ◌≤◌, ◌<◌, ◌^◌, IfOk, length, count_by};
 ghost use Rattle.qm_contents.specs.declared.contents.Contents.{Contents};
 ghost use Rattle.qm_compile.specs.Chain.{chain};
-ghost use Rattle.qm_compile.specs.ChainStep.{chain_node};
+ghost use Rattle.qm_compile.specs.inner.ChainStep.{chain_node};
 ghost use Rattle.qm_partition.specs.Counting.{leaves_of};
 ghost use Rattle.qm_partition.specs.Numbering.{nodes_of};
 

@@ -2,7 +2,7 @@
 
 ghost use Rattle.std.specs.Prelude.{IfOk};
 ghost use Rattle.qm_grammar.specs.Valid.{IsValid};
-ghost use Rattle.qm_compile.specs.Made.{ComesOfMap, ComesOfText, IsFaultAlone};
+ghost use Rattle.qm_compile.specs.inner.Made.{ComesOfMap, ComesOfText, IsFaultAlone};
 
 use crate::command::Command;
 use crate::compile::compile;

@@ -16,7 +16,7 @@ pub enum Outcome {
 }
 
 impl Outcome {
-    ghost use Rattle.qm_compile.specs.Outcome.{status_of, text_of};
+    ghost use Rattle.qm_compile.specs.inner.Outcome.{status_of, text_of};
 
     /// The status that is due.
     pub fn status(&self) -> Status

@@ -6,7 +6,7 @@ ghost use Rattle.qm_shelf.specs.ShelfState.{shelf_state};
 ghost use Rattle.qm_compile.specs.declared.command.Command.{Command};
 ghost use Rattle.qm_compile.specs.Command.{IsCommand, words_of};
 ghost use Rattle.qm_compile.specs.ComesOf.{ComesOf, IsCutShort};
-ghost use Rattle.qm_compile.specs.Outcome.{status_of, text_of};
+ghost use Rattle.qm_compile.specs.inner.Outcome.{status_of, text_of};
 ghost use Rattle.qm_compile.specs.Run.{Answers, Due};
 
 use crate::command::Command;

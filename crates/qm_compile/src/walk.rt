@@ -6,7 +6,7 @@ ghost use Rattle.qm_space.specs.Reduced.{leads_positive};
 ghost use Rattle.qm_mapfile.specs.Face.{HasPlane, face_plane};
 ghost use Rattle.qm_grammar.specs.Valid.{IsValidFace};
 ghost use Rattle.qm_compile.specs.Sides.{Side};
-ghost use Rattle.qm_compile.specs.SideLists.{AreSides, IsJoined, IsWalk};
+ghost use Rattle.qm_compile.specs.inner.SideLists.{AreSides, IsJoined, IsWalk};
 ghost use Rattle.qm_compile.specs.Walk.{walk_of};
 
 use qm_geom::{Plane, PlaneBook};

@@ -14,7 +14,8 @@ use Rattle.qm_convex.specs.Winding.{Winding, edge_at, corner_at, corners, IsConv
 use Rattle.qm_convex.proofs.Corners.{corners_by_place, corners_length, corner_in_list}
 use Rattle.qm_convex.specs.Rotation.{place_after, rotated_list, rotated}
 use Rattle.qm_convex.specs.Sides.{HasCornerInFront, HasCornerBehind, IsWhollyInFront, HasSomeInFront}
-use Rattle.qm_convex.specs.Cut.{IsPartInFront, IsParted, IsPartWithin, IsFrontRun, cut}
+use Rattle.qm_convex.specs.Cut.{IsPartInFront, IsParted, IsPartWithin}
+use Rattle.qm_convex.specs.inner.FrontRun.{IsFrontRun, cut}
 use Rattle.qm_convex.proofs.Places.{after_below, after_none, after_next, next_inner, next_last, next_injective, steps_to}
 use Rattle.qm_convex.proofs.Rotation.{rotated_list_length, rotated_list_at, rotated_length, rotated_edge, rotated_corner, rotated_convex, rotated_region}
 use Rattle.qm_convex.proofs.Central.{middle, middle_in_region, some_in_front}

@@ -8,9 +8,10 @@ use Rattle.qm_space.specs.Determinant.{determinant}
 use Rattle.qm_space.specs.Meet.{meet}
 use Rattle.qm_convex.specs.Winding.{Winding, next_place, corner_at, corners, IsConvex, IsInRegion}
 use Rattle.qm_convex.specs.Rotation.{place_after}
-use Rattle.qm_convex.specs.Cut.{IsFrontRun, IsPartInFront, cut}
+use Rattle.qm_convex.specs.Cut.{IsPartInFront}
+use Rattle.qm_convex.specs.inner.FrontRun.{IsFrontRun, cut}
 use Rattle.qm_convex.specs.Sides.{HasCornerBehind}
-use Rattle.qm_convex.specs.Square.{square}
+use Rattle.qm_convex.specs.inner.Square.{square}
 use Rattle.qm_convex.proofs.Squares.{square_convex}
 use Rattle.qm_convex.proofs.Cutting.{cut_is_part}
 

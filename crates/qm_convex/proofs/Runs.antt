@@ -8,7 +8,7 @@ use Rattle.qm_numbers.proofs.Signs.{by_least}
 use Rattle.qm_convex.specs.Winding.{Winding, next_place, edge_at, corner_at, IsConvex, IsInRegion}
 use Rattle.qm_convex.specs.Rotation.{place_after}
 use Rattle.qm_convex.specs.Sides.{HasCornerInFront, HasCornerBehind}
-use Rattle.qm_convex.specs.Cut.{IsFrontRun, EntersFrontAt, LeavesFrontAt, cut}
+use Rattle.qm_convex.specs.inner.FrontRun.{IsFrontRun, EntersFrontAt, LeavesFrontAt, cut}
 use Rattle.qm_convex.proofs.Places.{next_inner, next_last, next_below, next_injective, after_below, after_none, after_next, after_injective, steps_to}
 use Rattle.qm_convex.proofs.Corners.{corner_on_plane, corner_on_edge}
 use Rattle.qm_convex.proofs.Cutting.{cut_length, cut_edge_kept, cut_edge_new, cut_region, front_run}

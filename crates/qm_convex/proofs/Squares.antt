@@ -13,55 +13,56 @@ use Rattle.qm_space.proofs.PlaneSymbols.{plane_from, numbers_of_plane, symbol_me
 use Rattle.qm_convex.specs.Winding.{Winding, next_place, edge_at, corner_at, corners, IsConvex, IsInRegion}
 use Rattle.qm_convex.specs.Cut.{IsPartInFront}
 use Rattle.qm_convex.specs.Sides.{HasNoneInFront}
-use Rattle.qm_convex.specs.Square.{IsBetween, square, AreWalls, MissesCube, IsWorldPart, IsInWorld}
-use Rattle.qm_space.specs.Cube.{opposite, wall_x, wall_y, wall_z, cube_walls, IsInClosedCube}
-use Rattle.qm_space.proofs.Cubes.{symbol_opposite, symbol_wall_x, symbol_wall_y, symbol_wall_z, opposite_sum, x_low, x_high, y_low, y_high, z_low, z_high, cube_is_cell, closed_from_walls}
+use Rattle.qm_convex.specs.World.{MissesCube, IsWorldPart, IsInWorld}
+use Rattle.qm_convex.specs.inner.Square.{IsBetweenMirrored, square, AreWalls}
+use Rattle.qm_space.specs.Cube.{mirrored, wall_x, wall_y, wall_z, cube_walls, IsInClosedCube}
+use Rattle.qm_space.proofs.Cubes.{symbol_mirrored, symbol_wall_x, symbol_wall_y, symbol_wall_z, mirrored_sum, x_low, x_high, y_low, y_high, z_low, z_high, cube_is_cell, closed_from_walls}
 use Rattle.qm_convex.proofs.Corners.{corner_on_edge, corner_on_next}
 use Rattle.qm_convex.proofs.Central.{wholly_in_front}
 
--- ---- opposite planes
+-- ---- mirrored planes
 
 -- a point on the one is in front of the other
-front_of_opposite : (a : Plane) (p : Point) → a.d <ℤ pos 0 → pos 0 <ℤ p.w → value a p ≡ pos 0 → IsInFront (opposite a) p
-front_of_opposite a p h k e = let s = opposite_sum a p in let m = product_positive (neg_ℤ a.d) p.w (omega (arith, linear)) k in omega (arith, linear)
+front_of_mirrored : (a : Plane) (p : Point) → a.d <ℤ pos 0 → pos 0 <ℤ p.w → value a p ≡ pos 0 → IsInFront (mirrored a) p
+front_of_mirrored a p h k e = let s = mirrored_sum a p in let m = product_positive (neg_ℤ a.d) p.w (omega (arith, linear)) k in omega (arith, linear)
 
-front_from_opposite : (a : Plane) (p : Point) → a.d <ℤ pos 0 → pos 0 <ℤ p.w → value (opposite a) p ≡ pos 0 → IsInFront a p
-front_from_opposite a p h k e = let s = opposite_sum a p in let m = product_positive (neg_ℤ a.d) p.w (omega (arith, linear)) k in omega (arith, linear)
+front_from_mirrored : (a : Plane) (p : Point) → a.d <ℤ pos 0 → pos 0 <ℤ p.w → value (mirrored a) p ≡ pos 0 → IsInFront a p
+front_from_mirrored a p h k e = let s = mirrored_sum a p in let m = product_positive (neg_ℤ a.d) p.w (omega (arith, linear)) k in omega (arith, linear)
 
 -- ---- the square's corners
 
 module _ (h a b : Plane) where
-  second_weight : (meet h b (opposite a)).w ≡ (meet h a b).w
+  second_weight : (meet h b (mirrored a)).w ≡ (meet h a b).w
   unfolding meet determinant
   second_weight =
       let p = plane_from 0 in let q = plane_from 4 in let r = plane_from 8 in
-      solved (numbers_of_plane h (numbers_of_plane a (numbers_of_plane b []))) (symbol_meet p r (symbol_opposite q)).w (symbol_meet p q r).w tt
+      solved (numbers_of_plane h (numbers_of_plane a (numbers_of_plane b []))) (symbol_meet p r (symbol_mirrored q)).w (symbol_meet p q r).w tt
 
-  third_weight : (meet h (opposite a) (opposite b)).w ≡ (meet h a b).w
+  third_weight : (meet h (mirrored a) (mirrored b)).w ≡ (meet h a b).w
   unfolding meet determinant
   third_weight =
       let p = plane_from 0 in let q = plane_from 4 in let r = plane_from 8 in
-      solved (numbers_of_plane h (numbers_of_plane a (numbers_of_plane b []))) (symbol_meet p (symbol_opposite q) (symbol_opposite r)).w (symbol_meet p q r).w tt
+      solved (numbers_of_plane h (numbers_of_plane a (numbers_of_plane b []))) (symbol_meet p (symbol_mirrored q) (symbol_mirrored r)).w (symbol_meet p q r).w tt
 
-  fourth_weight : (meet h (opposite b) a).w ≡ (meet h a b).w
+  fourth_weight : (meet h (mirrored b) a).w ≡ (meet h a b).w
   unfolding meet determinant
   fourth_weight =
       let p = plane_from 0 in let q = plane_from 4 in let r = plane_from 8 in
-      solved (numbers_of_plane h (numbers_of_plane a (numbers_of_plane b []))) (symbol_meet p (symbol_opposite r) q).w (symbol_meet p q r).w tt
+      solved (numbers_of_plane h (numbers_of_plane a (numbers_of_plane b []))) (symbol_meet p (symbol_mirrored r) q).w (symbol_meet p q r).w tt
 
   first_corner : corner_at (square h a b) 0 ≡ meet h a b
   unfolding corner_at next_place
   first_corner = refl
 
-  second_corner : corner_at (square h a b) 1 ≡ meet h b (opposite a)
+  second_corner : corner_at (square h a b) 1 ≡ meet h b (mirrored a)
   unfolding corner_at next_place
   second_corner = refl
 
-  third_corner : corner_at (square h a b) 2 ≡ meet h (opposite a) (opposite b)
+  third_corner : corner_at (square h a b) 2 ≡ meet h (mirrored a) (mirrored b)
   unfolding corner_at next_place
   third_corner = refl
 
-  fourth_corner : corner_at (square h a b) 3 ≡ meet h (opposite b) a
+  fourth_corner : corner_at (square h a b) 3 ≡ meet h (mirrored b) a
   unfolding corner_at next_place
   fourth_corner = refl
 
@@ -83,19 +84,19 @@ module _ (h a b : Plane) where
     square_inside : (i k : ℕ) → i < 4 → k < 4 → (k ≡ i → ⊥) → (k ≡ next_place 4 i → ⊥) → IsInFront (edge_at (square h a b) k) (corner_at (square h a b) i)
     square_inside zero zero l m f s = absurd (f refl)
     square_inside zero (suc zero) l m f s = absurd (s (sym next_row.0))
-    square_inside zero (suc (suc zero)) l m f s = front_of_opposite a (corner_at (square h a b) 0) a_apart (square_weight 0 l) (corner_on_edge (square h a b) 0)
-    square_inside zero (suc (suc (suc zero))) l m f s = front_of_opposite b (corner_at (square h a b) 0) b_apart (square_weight 0 l) (on_next 0 1 next_row.0)
-    square_inside (suc zero) zero l m f s = front_from_opposite a (corner_at (square h a b) 1) a_apart (square_weight 1 l) (on_next 1 2 next_row.1)
+    square_inside zero (suc (suc zero)) l m f s = front_of_mirrored a (corner_at (square h a b) 0) a_apart (square_weight 0 l) (corner_on_edge (square h a b) 0)
+    square_inside zero (suc (suc (suc zero))) l m f s = front_of_mirrored b (corner_at (square h a b) 0) b_apart (square_weight 0 l) (on_next 0 1 next_row.0)
+    square_inside (suc zero) zero l m f s = front_from_mirrored a (corner_at (square h a b) 1) a_apart (square_weight 1 l) (on_next 1 2 next_row.1)
     square_inside (suc zero) (suc zero) l m f s = absurd (f refl)
     square_inside (suc zero) (suc (suc zero)) l m f s = absurd (s (sym next_row.1))
-    square_inside (suc zero) (suc (suc (suc zero))) l m f s = front_of_opposite b (corner_at (square h a b) 1) b_apart (square_weight 1 l) (corner_on_edge (square h a b) 1)
-    square_inside (suc (suc zero)) zero l m f s = front_from_opposite a (corner_at (square h a b) 2) a_apart (square_weight 2 l) (corner_on_edge (square h a b) 2)
-    square_inside (suc (suc zero)) (suc zero) l m f s = front_from_opposite b (corner_at (square h a b) 2) b_apart (square_weight 2 l) (on_next 2 3 next_row.2)
+    square_inside (suc zero) (suc (suc (suc zero))) l m f s = front_of_mirrored b (corner_at (square h a b) 1) b_apart (square_weight 1 l) (corner_on_edge (square h a b) 1)
+    square_inside (suc (suc zero)) zero l m f s = front_from_mirrored a (corner_at (square h a b) 2) a_apart (square_weight 2 l) (corner_on_edge (square h a b) 2)
+    square_inside (suc (suc zero)) (suc zero) l m f s = front_from_mirrored b (corner_at (square h a b) 2) b_apart (square_weight 2 l) (on_next 2 3 next_row.2)
     square_inside (suc (suc zero)) (suc (suc zero)) l m f s = absurd (f refl)
     square_inside (suc (suc zero)) (suc (suc (suc zero))) l m f s = absurd (s (sym next_row.2))
     square_inside (suc (suc (suc zero))) zero l m f s = absurd (s (sym next_row.3))
-    square_inside (suc (suc (suc zero))) (suc zero) l m f s = front_from_opposite b (corner_at (square h a b) 3) b_apart (square_weight 3 l) (corner_on_edge (square h a b) 3)
-    square_inside (suc (suc (suc zero))) (suc (suc zero)) l m f s = front_of_opposite a (corner_at (square h a b) 3) a_apart (square_weight 3 l) (on_next 3 0 next_row.3)
+    square_inside (suc (suc (suc zero))) (suc zero) l m f s = front_from_mirrored b (corner_at (square h a b) 3) b_apart (square_weight 3 l) (corner_on_edge (square h a b) 3)
+    square_inside (suc (suc (suc zero))) (suc (suc zero)) l m f s = front_of_mirrored a (corner_at (square h a b) 3) a_apart (square_weight 3 l) (on_next 3 0 next_row.3)
     square_inside (suc (suc (suc zero))) (suc (suc (suc zero))) l m f s = absurd (f refl)
     square_inside (suc (suc (suc (suc i)))) k l m f s = absurd (omega arith)
     square_inside i (suc (suc (suc (suc k)))) l m f s = absurd (omega arith)
@@ -105,19 +106,19 @@ module _ (h a b : Plane) where
     square_convex = record { enough = omega arith; weight = square_weight; inside = square_inside }
 
   -- its points are those of the plane between either pair
-  pub square_region : (p : Point) → IsInRegion (square h a b) p ↔ ((pos 0 <ℤ p.w) × IsOn h p × IsBetween a p × IsBetween b p)
+  pub square_region : (p : Point) → IsInRegion (square h a b) p ↔ ((pos 0 <ℤ p.w) × IsOn h p × IsBetweenMirrored a p × IsBetweenMirrored b p)
   square_region p = (
     (λ r. (r.weight, r.on, record { near = r.inside 0 h (omega arith); far = r.inside 2 h (omega arith) }, record { near = r.inside 1 h (omega arith); far = r.inside 3 h (omega arith) })),
     (λ s. record { weight = s.0; on = s.1; inside = All-from_recursion (λ e. IsInFront e p) (square h a b).edges (s.2.near, (s.3.near, (s.2.far, (s.3.far, tt)))) }),
   )
 
 -- its corners
-pub square_corners : (h a b : Plane) → corners (square h a b) ≡ meet h a b ∷ meet h b (opposite a) ∷ meet h (opposite a) (opposite b) ∷ meet h (opposite b) a ∷ []
+pub square_corners : (h a b : Plane) → corners (square h a b) ≡ meet h a b ∷ meet h b (mirrored a) ∷ meet h (mirrored a) (mirrored b) ∷ meet h (mirrored b) a ∷ []
 unfolding corner_at next_place
 square_corners h a b = refl
 
--- what holds of the planes and their opposites holds of its edges
-pub square_all : (P : Plane → Type 0) (h a b : Plane) → P a → P b → P (opposite a) → P (opposite b) → All P (square h a b).edges
+-- what holds of the planes and the mirrored ones holds of its edges
+pub square_all : (P : Plane → Type 0) (h a b : Plane) → P a → P b → P (mirrored a) → P (mirrored b) → All P (square h a b).edges
 square_all P h a b pa pb oa ob = All-from_recursion P (square h a b).edges (pa, (pb, (oa, (ob, tt))))
 
 -- ---- the world's cube
@@ -143,21 +144,21 @@ turn_exchanged h a b =
     let p = plane_from 0 in let q = plane_from 4 in let r = plane_from 8 in
     solved (numbers_of_plane h (numbers_of_plane a (numbers_of_plane b []))) (symbol_meet p r q).w (negated (symbol_meet p q r).w) tt
 
--- between a wall and its opposite is within the cube's extent
+-- between a wall and the mirrored one is within the cube's extent
 module _ (p : Point) where
-  pub between_x : IsBetween wall_x p ↔ IsWithinExtent p.x p.w
+  pub between_x : IsBetweenMirrored wall_x p ↔ IsWithinExtent p.x p.w
   between_x = let e = x_low p in let f = x_high p in (
     (λ s. let near = s.near in let far = s.far in record { above = omega (arith, linear); below = omega (arith, linear) }),
     (λ s. let above = s.above in let below = s.below in record { near = omega (arith, linear); far = omega (arith, linear) }),
   )
 
-  pub between_y : IsBetween wall_y p ↔ IsWithinExtent p.y p.w
+  pub between_y : IsBetweenMirrored wall_y p ↔ IsWithinExtent p.y p.w
   between_y = let e = y_low p in let f = y_high p in (
     (λ s. let near = s.near in let far = s.far in record { above = omega (arith, linear); below = omega (arith, linear) }),
     (λ s. let above = s.above in let below = s.below in record { near = omega (arith, linear); far = omega (arith, linear) }),
   )
 
-  pub between_z : IsBetween wall_z p ↔ IsWithinExtent p.z p.w
+  pub between_z : IsBetweenMirrored wall_z p ↔ IsWithinExtent p.z p.w
   between_z = let e = z_low p in let f = z_high p in (
     (λ s. let near = s.near in let far = s.far in record { above = omega (arith, linear); below = omega (arith, linear) }),
     (λ s. let above = s.above in let below = s.below in record { near = omega (arith, linear); far = omega (arith, linear) }),
@@ -187,8 +188,8 @@ module _ (h a b c : Plane) (walls : AreWalls a b c) where
       let f = s.3.near in
       omega (arith, linear)
 
-  -- or where nothing of the rest is in front of its opposite
-  pub misses_far : (v : Winding) → IsPartInFront v (square h a b) c → HasNoneInFront v (opposite c) → MissesCube h
+  -- or where nothing of the rest is in front of the mirrored one
+  pub misses_far : (v : Winding) → IsPartInFront v (square h a b) c → HasNoneInFront v (mirrored c) → MissesCube h
   misses_far v x n p i on =
       let s = (walls p).0 i in
       let m = n p ((x.points p).1 ((square_region h a b p).1 (s.0, on, s.1, s.2), s.3.near)) in
@@ -196,7 +197,7 @@ module _ (h a b c : Plane) (walls : AreWalls a b c) where
       omega (arith, linear)
 
   -- else what both leave is the plane's part inside the cube
-  pub world_part : (v w : Winding) → IsPartInFront v (square h a b) c → IsPartInFront w v (opposite c) → IsWorldPart w h
+  pub world_part : (v w : Winding) → IsPartInFront v (square h a b) c → IsPartInFront w v (mirrored c) → IsWorldPart w h
   world_part v w x y = record { convex = y.convex; plane = y.plane ∙ x.plane; points = λ p. (to_cube p, from_cube p) }
     where
       to_cube : (p : Point) → IsInRegion w p → IsOn h p × IsInCube p

@@ -11,8 +11,8 @@ use Rattle.qm_numbers.proofs.Signs.{by_sign, product_positive, product_not_negat
 use Rattle.qm_space.proofs.Planes.{same_point, value_sum, value_times, meet_only}
 use Rattle.qm_space.proofs.Exchange.{point_on_line}
 use Rattle.qm_convex.specs.Winding.{Winding, next_place, edge_at, corner_at, IsConvex, IsInRegion}
-use Rattle.qm_convex.specs.Vertex.{IsInClosedRegion, IsBetweenPoints, IsVertex, IsSomeCorner, HasStraightCorner, HasVerticesAsCorners}
-use Rattle.qm_space.specs.Line.{AreOnOneLine, nothing}
+use Rattle.qm_convex.specs.Vertex.{IsInClosedRegion, IsVertex, IsSomeCorner, HasStraightCorner, HasVerticesAsCorners}
+use Rattle.qm_space.specs.Line.{AreOnOneLine, IsBetween, four_zeros}
 use Rattle.qm_convex.proofs.Places.{next_inner, next_below, next_other, next_next_other, place_before}
 use Rattle.qm_convex.proofs.Corners.{corner_on_plane, corner_on_edge, corner_on_next, corner_not_behind, far_corner_in_front, value_on_edge}
 use Rattle.qm_convex.proofs.NewCorners.{far_plane, value_far_plane, by_first, by_second}
@@ -26,7 +26,7 @@ corner_closed v c i h = record {
 }
 
 -- a plane that holds a point between two others, and has neither behind it, holds both
-both_on : (g : Plane) (p q r : Point) → IsBetweenPoints p q r → IsOn g p → pos 0 ≤ℤ value g q → pos 0 ≤ℤ value g r → IsOn g q × IsOn g r
+both_on : (g : Plane) (p q r : Point) → IsBetween p q r → IsOn g p → pos 0 ≤ℤ value g q → pos 0 ≤ℤ value g r → IsOn g q × IsOn g r
 both_on g p q r b on a d =
     let e = sym (value_times g b.times_p p) ∙ ap (value g) b.sum ∙ value_sum g (point_times b.times_q q) (point_times b.times_r r) in
     let eq = value_times g b.times_q q in
@@ -47,7 +47,7 @@ at_corner v i q x y z = meet_only v.plane (edge_at v i) (edge_at v (next_place (
 pub corner_is_vertex : (v : Winding) → IsConvex v → (i : ℕ) → i < length v.edges → IsVertex v (corner_at v i)
 corner_is_vertex v c i h = record { closed = corner_closed v c i h; extreme = extreme }
   where
-    extreme : (q r : Point) → IsInClosedRegion v q → IsInClosedRegion v r → IsBetweenPoints (corner_at v i) q r → IsSamePlace q (corner_at v i) × IsSamePlace r (corner_at v i)
+    extreme : (q r : Point) → IsInClosedRegion v q → IsInClosedRegion v r → IsBetween (corner_at v i) q r → IsSamePlace q (corner_at v i) × IsSamePlace r (corner_at v i)
     extreme q r x y b =
         let n = length v.edges in
         let l = next_below n i h in
@@ -236,11 +236,11 @@ vertex_is_corner v c p x = ⊎_elim
 
 -- ---- no three neighbours lie on one line
 
-value_nothing : (g : Plane) → value g nothing ≡ pos 0
+value_zeros : (g : Plane) → value g four_zeros ≡ pos 0
 unfolding value
-value_nothing g = let a = *ℤ_zero g.nx in let b = *ℤ_zero g.ny in let d = *ℤ_zero g.nz in let e = *ℤ_zero g.d in omega (arith, linear)
+value_zeros g = let a = *ℤ_zero g.nx in let b = *ℤ_zero g.ny in let d = *ℤ_zero g.nz in let e = *ℤ_zero g.d in omega (arith, linear)
 
--- the values of a plane add up to nothing too
+-- the values of a plane add up to 0 too
 value_on_line_sum : (g : Plane) (p q r : Point) (l : AreOnOneLine p q r) →
     ((l.times_p *ℤ value g p) +ℤ (l.times_q *ℤ value g q)) +ℤ (l.times_r *ℤ value g r) ≡ pos 0
 value_on_line_sum g p q r l =
@@ -250,7 +250,7 @@ value_on_line_sum g p q r l =
     let b = value_times g l.times_q q in
     let d = value_times g l.times_r r in
     let e = ap (value g) l.sum in
-    let z = value_nothing g in
+    let z = value_zeros g in
     omega (arith, linear)
 
 no_multiple : (k z : ℤ) → pos 0 <ℤ z → k *ℤ z ≡ pos 0 → k ≡ pos 0

@@ -2,5 +2,6 @@ pub mod Winding
 pub mod Rotation
 pub mod Sides
 pub mod Cut
-pub mod Square
+pub mod World
 pub mod Vertex
+pub mod inner

@@ -1,13 +1,13 @@
-use Rattle.std.specs.Prelude.{ℕ, ◌<◌, pos, ◌≤ℤ◌, length}
+use Rattle.std.specs.Prelude.{ℕ, ◌<◌, length}
 use Rattle.qm_space.specs.Point.{Point}
-use Rattle.qm_space.specs.Plane.{Plane, value, IsOn, IsInFront, IsBehind}
+use Rattle.qm_space.specs.Plane.{Plane, IsOn, IsInFront, IsBehind, IsNotInFront, IsNotBehind}
 use Rattle.qm_convex.specs.Winding.{Winding, corner_at, IsInRegion}
 
 -- On which side of a plane a winding lies, by its points and by its corners.
 
 -- no point of the winding is in front
 abbrev pub HasNoneInFront : Winding → Plane → Type 0
-HasNoneInFront v g = (p : Point) → IsInRegion v p → value g p ≤ℤ pos 0
+HasNoneInFront v g = (p : Point) → IsInRegion v p → IsNotInFront g p
 
 -- some point of the winding is in front
 abbrev pub HasSomeInFront : Winding → Plane → Type 0
@@ -22,10 +22,10 @@ abbrev pub LiesIn : Winding → Plane → Type 0
 LiesIn v g = (p : Point) → IsInRegion v p → IsOn g p
 
 abbrev pub HasNoCornerInFront : Winding → Plane → Type 0
-HasNoCornerInFront v g = (i : ℕ) → i < length v.edges → value g (corner_at v i) ≤ℤ pos 0
+HasNoCornerInFront v g = (i : ℕ) → i < length v.edges → IsNotInFront g (corner_at v i)
 
 abbrev pub HasNoCornerBehind : Winding → Plane → Type 0
-HasNoCornerBehind v g = (i : ℕ) → i < length v.edges → pos 0 ≤ℤ value g (corner_at v i)
+HasNoCornerBehind v g = (i : ℕ) → i < length v.edges → IsNotBehind g (corner_at v i)
 
 abbrev pub HasCornerInFront : Winding → Plane → Type 0
 HasCornerInFront v g = (i : ℕ) × (i < length v.edges) × IsInFront g (corner_at v i)

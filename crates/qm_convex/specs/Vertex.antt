@@ -1,29 +1,19 @@
-use Rattle.std.specs.Prelude.{◌≡◌, ℕ, ◌<◌, ◌≤◌, ℤ, pos, ◌<ℤ◌, ◌≤ℤ◌, length, All}
-use Rattle.qm_space.specs.Point.{Point, point_sum, point_times, IsSamePlace}
-use Rattle.qm_space.specs.Plane.{value, IsOn}
-use Rattle.qm_space.specs.Line.{AreOnOneLine}
+use Rattle.std.specs.Prelude.{ℕ, ◌<◌, ◌≤◌, pos, ◌<ℤ◌, length, All}
+use Rattle.qm_space.specs.Point.{Point, IsSamePlace}
+use Rattle.qm_space.specs.Plane.{IsOn, IsNotBehind}
+use Rattle.qm_space.specs.Line.{AreOnOneLine, IsBetween}
 use Rattle.qm_convex.specs.Winding.{Winding, next_place, corner_at}
 
 -- a point of the polygon or of its border
 pub record IsInClosedRegion (v : Winding) (p : Point) : Type 0 where
   pub weight : pos 0 <ℤ p.w
   pub on : IsOn v.plane p
-  pub inside : All (λ e. pos 0 ≤ℤ value e p) v.edges
-
--- the point lies strictly between two others: a multiple of it is the sum of multiples of both, each multiple positive
-pub record IsBetweenPoints (p q r : Point) : Type 0 where
-  pub times_p : ℤ
-  pub times_q : ℤ
-  pub times_r : ℤ
-  pub some_p : pos 0 <ℤ times_p
-  pub some_q : pos 0 <ℤ times_q
-  pub some_r : pos 0 <ℤ times_r
-  pub sum : point_times times_p p ≡ point_sum (point_times times_q q) (point_times times_r r)
+  pub inside : All (λ e. IsNotBehind e p) v.edges
 
 -- a vertex is a point of the polygon or of its border that lies between no two other such points
 pub record IsVertex (v : Winding) (p : Point) : Type 0 where
   pub closed : IsInClosedRegion v p
-  pub extreme : (q r : Point) → IsInClosedRegion v q → IsInClosedRegion v r → IsBetweenPoints p q r → IsSamePlace q p × IsSamePlace r p
+  pub extreme : (q r : Point) → IsInClosedRegion v q → IsInClosedRegion v r → IsBetween p q r → IsSamePlace q p × IsSamePlace r p
 
 -- the point is one of the winding's corners
 abbrev pub IsSomeCorner : Winding → Point → Type 0

@@ -10,7 +10,7 @@ use Rattle.qm_space.specs.Point.{Point}
 use Rattle.qm_space.specs.Plane.{value, IsInFront}
 use Rattle.qm_numbers.proofs.IntegerProducts.{linear}
 use Rattle.qm_numbers.proofs.Signs.{by_least, times_at_most, abs_sum, abs_product_bound}
-use Rattle.qm_geom.specs.LeastDistance.{plane_at, IsComponent, IsLeastDistance}
+use Rattle.qm_geom.specs.LeastDistance.{plane_at_distance, IsComponent, IsLeastDistance}
 use Rattle.qm_geom.specs.inner.LeastDistanceOf.{IsLeastDistanceOf}
 use Rattle.qm_geom.specs.inner.Vectors.{vector_of, step_to, dot, IsWithin}
 use Rattle.qm_geom.specs.declared.vector.Vector.{Vector}
@@ -18,7 +18,7 @@ use Rattle.qm_numbers.specs.Rounding.{IsRoundedUp}
 use Rattle.qm_geom.specs.Rounding.{HasSmallCoordinates}
 
 -- the distance is taken off the dot product of the normal and the point's numerators
-value_at : (normal : List ℤ) (d : ℤ) (p : Point) → value (plane_at normal d) p ≡ dot (vector_of normal) (step_to p) -ℤ (d *ℤ p.w)
+value_at : (normal : List ℤ) (d : ℤ) (p : Point) → value (plane_at_distance normal d) p ≡ dot (vector_of normal) (step_to p) -ℤ (d *ℤ p.w)
 unfolding value dot
 value_at normal d p = refl
 
@@ -53,12 +53,12 @@ components_small normal x y z = record { x_small = x; y_small = y; z_small = z }
 
 -- as far as the first i corners: none of them is in front at this distance or beyond, and some corner is before it
 pub record IsLeastSoFar (normal : List ℤ) (corners : List Point) (i : ℕ) (least : ℤ) : Type 0 where
-  pub none_in_front : (d : ℤ) → least ≤ℤ d → All (λ p. value (plane_at normal d) p ≤ℤ pos 0) (take i corners)
-  pub some_in_front : (d : ℤ) → d <ℤ least → Any (λ p. IsInFront (plane_at normal d) p) corners
+  pub none_in_front : (d : ℤ) → least ≤ℤ d → All (λ p. value (plane_at_distance normal d) p ≤ℤ pos 0) (take i corners)
+  pub some_in_front : (d : ℤ) → d <ℤ least → Any (λ p. IsInFront (plane_at_distance normal d) p) corners
 
 pub so_far_begun : (normal : List ℤ) (corners : List Point) (p : Point) (least : ℤ) → p ≡ get_or corners 0 p → 0 < length corners → IsLeastDistanceOf normal p least → IsLeastSoFar normal corners 0 least
 so_far_begun normal corners p least e h l = record {
-  none_in_front = λ d k. All-nil (λ p. value (plane_at normal d) p ≤ℤ pos 0);
+  none_in_front = λ d k. All-nil (λ p. value (plane_at_distance normal d) p ≤ℤ pos 0);
   some_in_front = λ d k. (0, p, h, sym e, l.in_front d k);
 }
 
@@ -76,8 +76,8 @@ pub so_far_gained : (normal : List ℤ) (corners : List Point) (i : ℕ) (p : Po
 so_far_gained normal corners i p least next e h s l = record {
   none_in_front = λ d k.
       let x = left_at_most least next in let y = right_at_most least next in
-      All-more (λ p. value (plane_at normal d) p ≤ℤ pos 0) corners i p h (s.none_in_front d (omega (arith, linear)))
-      (subst (λ (q : Point). value (plane_at normal d) q ≤ℤ pos 0) e (l.not_in_front d (omega (arith, linear))));
+      All-more (λ p. value (plane_at_distance normal d) p ≤ℤ pos 0) corners i p h (s.none_in_front d (omega (arith, linear)))
+      (subst (λ (q : Point). value (plane_at_distance normal d) q ≤ℤ pos 0) e (l.not_in_front d (omega (arith, linear))));
   some_in_front = λ d k.
       by_greater least next
       (λ g. s.some_in_front d (omega (arith, linear)))
@@ -87,6 +87,6 @@ so_far_gained normal corners i p least next e h s l = record {
 pub so_far_ended : (normal : List ℤ) (corners : List Point) (i : ℕ) (least : ℤ) → length corners ≤ i → IsLeastSoFar normal corners i least → IsLeastDistance normal corners least
 so_far_ended normal corners i least h s = record {
   none_in_front = λ d k.
-      subst (λ (ps : List Point). All (λ p. value (plane_at normal d) p ≤ℤ pos 0) ps) (take_all i corners h) (s.none_in_front d k);
+      subst (λ (ps : List Point). All (λ p. value (plane_at_distance normal d) p ≤ℤ pos 0) ps) (take_all i corners h) (s.none_in_front d k);
   some_in_front = s.some_in_front;
 }

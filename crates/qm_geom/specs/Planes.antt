@@ -1,21 +1,7 @@
-use Rattle.std.specs.Prelude.{◌≡◌, ℕ, ◌<◌, ◌^◌, List, [], ◌∷◌, ◌++◌, length, IsTrue, Some, slice_get}
+use Rattle.std.specs.Prelude.{◌≡◌, ℕ, List, [], ◌∷◌, ◌++◌, length, Some, slice_get}
 use Rattle.std.specs.declared.cmp.Ordering.{Ordering}
 use Rattle.std.specs.Ordering.{int_cmp, ordering_then}
 use Rattle.qm_space.specs.Plane.{Plane}
-use Rattle.qm_space.specs.Reduced.{leads_positive, IsReduced}
-
--- no plane is at two places
-abbrev pub AreDistinct : List Plane → Type 0
-AreDistinct planes =
-    (m n : ℕ) (plane : Plane) → slice_get planes m ≡ Some plane → slice_get planes n ≡ Some plane → m ≡ n
-
--- what every list of a book's planes is: the planes are in lowest terms, each leads with a positive
--- component, no plane is there twice, and their places are numbers of 32 bits
-pub record AreBookPlanes (planes : List Plane) : Type 0 where
-  pub reduced : (n : ℕ) (plane : Plane) → slice_get planes n ≡ Some plane → IsReduced plane
-  pub leads : (n : ℕ) (plane : Plane) → slice_get planes n ≡ Some plane → IsTrue (leads_positive plane)
-  pub distinct : AreDistinct planes
-  pub short : length planes < 2 ^ 32
 
 -- the answer to a plane that enters a book: its number, and the book afterwards
 pub data Enters (old new : List Plane) (plane : Plane) (number : ℕ) : Type 0 where

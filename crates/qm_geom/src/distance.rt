@@ -1,7 +1,7 @@
 ghost use Rattle.std.specs.Prelude.{◌≡◌, ◌<◌, ◌≤◌, ◌*◌, ◌^◌, pos, unsigned_abs, length};
 ghost use Rattle.std.specs.List.{All};
 ghost use Rattle.qm_space.specs.Plane.{value};
-ghost use Rattle.qm_geom.specs.LeastDistance.{plane_at, IsComponent, IsLeastDistance};
+ghost use Rattle.qm_geom.specs.LeastDistance.{plane_at_distance, IsComponent, IsLeastDistance};
 ghost use Rattle.qm_geom.specs.Rounding.{HasSmallCoordinates};
 
 use crate::corner::Corner;

@@ -12,7 +12,7 @@ use Rattle.qm_mapfile.specs.declared.entity.MapFile.{MapFile}
 use Rattle.qm_grammar.specs.Symbol.{Symbol, symbol_of}
 use Rattle.qm_grammar.specs.Grammar.{SpellsFaces, none, more, IsBraced, SpellsBrush, SpellsPair, SpellsParts, pair, brush, SpellsEntity, SpellsEntities, SpellsMap}
 use Rattle.qm_grammar.specs.Meaning.{IsMapText}
-use Rattle.qm_grammar.specs.Valid.{IsValidFace, IsValidBrush, IsValidPair, IsValidEntity, face_count, IsValid}
+use Rattle.qm_grammar.specs.Valid.{IsValidFace, IsValidBrush, IsValidPair, IsValidEntity, face_count, IsValid, face_limit}
 use Rattle.qm_grammar.proofs.Parts.{all_prefix}
 use Rattle.qm_grammar.proofs.TokenTexts.{IsTokenText, quoted_text, lexing_texts, lexing_counted}
 use Rattle.qm_grammar.proofs.ValidFaces.{face_valid, face_counted}
@@ -122,5 +122,5 @@ map_valid text one is =
     let tokens = lexing_counted text is.lexing is.is_lexing in
     let faces = entities_counted spells.entities in
     let short = is.short in
-    let few : sum_by face_count one.entities ≤ 2 ^ 26 = omega arith in
+    let few : sum_by face_count one.entities ≤ face_limit = omega arith in
     (spells.some, entities_valid spells.entities (lexing_texts text is.lexing is.is_lexing), spells.origins, few)

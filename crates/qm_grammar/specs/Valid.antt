@@ -53,6 +53,10 @@ pub record IsValidEntity (entity : Entity) : Type 0 where
   pub pairs : All IsValidPair entity.pairs
   pub brushes : All IsValidBrush entity.brushes
 
+-- the most faces that a map has
+abbrev pub face_limit : ℕ
+face_limit = 2 ^ 26
+
 -- how many faces the brushes of an entity have
 abbrev pub face_count : Entity → ℕ
 face_count entity = sum_by (λ brush. length brush.faces) entity.brushes
@@ -61,4 +65,4 @@ face_count entity = sum_by (λ brush. length brush.faces) entity.brushes
 unfoldable pub IsValid : MapFile → Type 0
 IsValid map =
     (map.entities ≢ []) × All IsValidEntity map.entities × OriginsAreGood map.entities
-    × (sum_by face_count map.entities ≤ 2 ^ 26)
+    × (sum_by face_count map.entities ≤ face_limit)

@@ -1,5 +1,6 @@
 -- The sign of an integer: three cases, the signs of products, and cancelling.
-use Rattle.std.proofs.Common.{◌≡◌, ℕ, suc, zero, ◌+◌, ◌*◌, ◌≤◌, ◌<◌, ℤ, pos, negsuc, ◌+ℤ◌, ◌-ℤ◌, ◌*ℤ◌, neg_ℤ, ◌≤ℤ◌, ◌<ℤ◌, ap, refl, sym, ◌∙◌, arith, unsigned_abs, int_cmp, Less, Equal, Greater, ◌⊎◌, inl, inr, mul-le-mul}
+use Rattle.std.specs.Prelude.{int_lt}
+use Rattle.std.proofs.Common.{◌≡◌, true, false, ℕ, suc, zero, ◌+◌, ◌*◌, ◌≤◌, ◌<◌, ℤ, pos, negsuc, ◌+ℤ◌, ◌-ℤ◌, ◌*ℤ◌, neg_ℤ, ◌≤ℤ◌, ◌<ℤ◌, ap, refl, sym, ◌∙◌, arith, unsigned_abs, int_cmp, Less, Equal, Greater, ◌⊎◌, inl, inr, mul-le-mul}
 use Rattle.std.proofs.lemmas.Int.{ints, unsigned_abs-mul}
 use Rattle.std.proofs.Math.IntN.{*ℤ_comm}
 use Rattle.qm_numbers.proofs.IntegerProducts.{linear, *ℤ--ℤ, *ℤ-neg, neg-*ℤ, *ℤ_zero}
@@ -26,6 +27,15 @@ by_least a b l g = by_order a b l (λ h. g (omega (arith, linear))) (λ h. g (om
 -- 0 or not
 pub by_zero : {P : Type 0} (z : ℤ) → (z ≡ pos 0 → P) → ((z ≡ pos 0 → ⊥) → P) → P
 by_zero z e n = by_sign z (λ h. n (λ f. absurd (omega (arith, linear)))) e (λ h. n (λ f. absurd (omega (arith, linear))))
+
+-- the test for a number below 0, and what it says
+pub side_test : (v : ℤ) → ((int_lt v (pos 0) ≡ true) × v <ℤ pos 0) ⊎ ((int_lt v (pos 0) ≡ false) × pos 0 ≤ℤ v)
+side_test (pos n) = inr (grind arith, omega (arith, ints))
+side_test (negsuc n) = inl (refl, omega (arith, ints))
+
+-- a number that is neither below 0 nor 0 is above 0
+pub above_zero : (v : ℤ) → pos 0 ≤ℤ v → (v ≡ pos 0 → ⊥) → pos 0 <ℤ v
+above_zero v least other = by_sign v (λ h. absurd (omega (arith, linear))) (λ h. absurd (other h)) (λ h. h)
 
 -- ---- products
 

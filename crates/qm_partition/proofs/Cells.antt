@@ -1,5 +1,5 @@
 -- A point that is on no node plane lies in the cell of the way to its leaf, and in no other cell.
-use Rattle.std.proofs.Common.{◌≡◌, ℕ, zero, suc, ◌+◌, Bool, true, false, inl, inr, List, [], ◌∷◌, ◌++◌, length, map, Some, refl, sym, ap, ◌∙◌, subst, arith}
+use Rattle.std.proofs.Common.{◌≡◌, ℕ, zero, suc, ◌+◌, Bool, true, false, inl, inr, List, [], ◌++◌, length, map, Some, refl, sym, ap, ◌∙◌, subst, arith}
 use Rattle.std.specs.Prelude.{slice_get, option_map}
 use Rattle.std.proofs.lemmas.Int.{ints}
 use Rattle.std.proofs.lemmas.List.{length-append, length-map}
@@ -11,13 +11,14 @@ use Rattle.qm_space.specs.Turned.{turned}
 use Rattle.qm_space.specs.Cell.{IsInCell}
 use Rattle.qm_space.proofs.Planes.{flipped_in_front}
 use Rattle.qm_partition.specs.Partition.{Partition, leaf, node}
-use Rattle.qm_partition.specs.Tree.{plane_at}
+use Rattle.qm_space.specs.Book.{plane_at}
 use Rattle.qm_partition.specs.Counting.{leaf_count}
-use Rattle.qm_partition.specs.LeafOfPoint.{node_value, leaf_at, leaf_number_at, IsOffNodePlanes}
+use Rattle.qm_partition.specs.LeafOfPoint.{node_value, leaf_record_at, leaf_at, IsOffNodePlanes}
 use Rattle.qm_partition.specs.Ways.{Way, after_step, ways, cell_of, LeadsTo}
 use Rattle.qm_partition.proofs.Counts.{leaf_count-node}
-use Rattle.qm_partition.proofs.AppendedLists.{at_front, at_back, at_either}
-use Rattle.qm_partition.proofs.LeafNumbers.{side_test, above_zero, leaf_of_number}
+use Rattle.qm_lists.proofs.Places.{slice_get-append_old, slice_get-append_past, slice_get-append_cases, slice_get-map_from}
+use Rattle.qm_numbers.proofs.Signs.{side_test, above_zero}
+use Rattle.qm_partition.proofs.LeafNumbers.{leaf_of_number}
 
 -- there is a way to each leaf
 pub length-ways : (shape : Partition) → length (ways shape) ≡ leaf_count shape
@@ -34,7 +35,7 @@ to_front-count n front = length-map (ways front) (after_step n true) ∙ length-
 -- the way to the leaf of a point, in whose cell the point lies
 record IsLed (planes : List Plane) (shape : Partition) (x : Point) : Type 0 where
   way : Way
-  way_is : slice_get (ways shape) (leaf_number_at planes shape x) ≡ Some way
+  way_is : slice_get (ways shape) (leaf_at planes shape x) ≡ Some way
   in_cell : IsInCell (cell_of planes way) x
 
 one_step_more : (planes : List Plane) (n : ℕ) (to_front : Bool) (way : Way) (x : Point) → IsInFront (turned to_front (plane_at planes n)) x → IsInCell (cell_of planes way) x → IsInCell (cell_of planes (after_step n to_front way)) x
@@ -48,22 +49,22 @@ module _ (planes : List Plane) (n : ℕ) (front back : Partition) (x : Point) wh
   abbrev all_ways : List Way
   all_ways = ways (node n front back)
 
-  led_back : IsBehind h x → (led : IsLed planes back x) → (slice_get all_ways (leaf_count front + leaf_number_at planes back x) ≡ Some (after_step n false led.way)) × IsInCell (cell_of planes (after_step n false led.way)) x
+  led_back : IsBehind h x → (led : IsLed planes back x) → (slice_get all_ways (leaf_count front + leaf_at planes back x) ≡ Some (after_step n false led.way)) × IsInCell (cell_of planes (after_step n false led.way)) x
   led_back behind led =
       let to_front = map (after_step n true) (ways front) in
       let to_back = map (after_step n false) (ways back) in
-      let k = leaf_number_at planes back x in
+      let k = leaf_at planes back x in
       let place = ap (λ (c : ℕ). slice_get (to_front ++ to_back) (c + k)) (sym (to_front-count n front)) in
-      let its = at_back to_front to_back k ∙ slice_get-map (after_step n false) (ways back) k ∙ ap (option_map (after_step n false)) led.way_is in
+      let its = slice_get-append_past to_front to_back k ∙ slice_get-map (after_step n false) (ways back) k ∙ ap (option_map (after_step n false)) led.way_is in
       (place ∙ its, one_step_more planes n false led.way x ((flipped_in_front h x).1 behind) led.in_cell)
 
-  led_front : IsInFront h x → (led : IsLed planes front x) → (slice_get all_ways (leaf_number_at planes front x) ≡ Some (after_step n true led.way)) × IsInCell (cell_of planes (after_step n true led.way)) x
+  led_front : IsInFront h x → (led : IsLed planes front x) → (slice_get all_ways (leaf_at planes front x) ≡ Some (after_step n true led.way)) × IsInCell (cell_of planes (after_step n true led.way)) x
   led_front ahead led =
       let to_front = map (after_step n true) (ways front) in
       let to_back = map (after_step n false) (ways back) in
-      let k = leaf_number_at planes front x in
+      let k = leaf_at planes front x in
       let its = slice_get-map (after_step n true) (ways front) k ∙ ap (option_map (after_step n true)) led.way_is in
-      (at_front to_front to_back k (after_step n true led.way) its, one_step_more planes n true led.way x ahead led.in_cell)
+      (slice_get-append_old to_front to_back (after_step n true led.way) k its, one_step_more planes n true led.way x ahead led.in_cell)
 
 is_led : (planes : List Plane) (shape : Partition) (x : Point) → IsOffNodePlanes planes shape x → IsLed planes shape x
 unfolding node_value
@@ -80,18 +81,12 @@ is_led planes (node n front back) x off = elim (side_test (node_value planes n x
 ]
 
 -- the leaf of a point that is on no node plane is at the end of a way in whose cell the point lies
-pub leaf_of_point : (planes : List Plane) (shape : Partition) (x : Point) → IsOffNodePlanes planes shape x → (way : Way) × LeadsTo shape (leaf_number_at planes shape x) way (leaf_at planes shape x) × IsInCell (cell_of planes way) x
+pub leaf_of_point : (planes : List Plane) (shape : Partition) (x : Point) → IsOffNodePlanes planes shape x → (way : Way) × LeadsTo shape (leaf_at planes shape x) way (leaf_record_at planes shape x) × IsInCell (cell_of planes way) x
 leaf_of_point planes shape x off =
     let led = is_led planes shape x off in
     (led.way, record { way_is = led.way_is; leaf_is = leaf_of_number planes shape x }, led.in_cell)
 
 -- ---- no other cell has the point
-
--- an item of the items that a function gives
-of_map : {X Y : Type 0} (f : X → Y) (xs : List X) (k : ℕ) (y : Y) → slice_get (map f xs) k ≡ Some y → (x : X) × (slice_get xs k ≡ Some x) × (f x ≡ y)
-of_map f [] k y at = absurd cc
-of_map f (first ∷ xs) zero y at = (first, refl, cc)
-of_map f (first ∷ xs) (suc k) y at = of_map f xs k y at
 
 -- the first step of a way in whose cell the point lies, and the rest of the way
 first_step : (planes : List Plane) (n : ℕ) (to_front : Bool) (rest way : Way) (x : Point) → after_step n to_front rest ≡ way → IsInCell (cell_of planes way) x → IsInFront (turned to_front (plane_at planes n)) x × IsInCell (cell_of planes rest) x
@@ -101,14 +96,14 @@ first_step planes n to_front rest way x is inside =
     (All-head (λ h. IsInFront h x) h (cell_of planes rest) here, All-tail (λ h. IsInFront h x) h (cell_of planes rest) here)
 
 -- a point in the cell of the way of number k has the leaf of number k
-pub number_of_cell : (planes : List Plane) (shape : Partition) (x : Point) (k : ℕ) (way : Way) → slice_get (ways shape) k ≡ Some way → IsInCell (cell_of planes way) x → leaf_number_at planes shape x ≡ k
+pub number_of_cell : (planes : List Plane) (shape : Partition) (x : Point) (k : ℕ) (way : Way) → slice_get (ways shape) k ≡ Some way → IsInCell (cell_of planes way) x → leaf_at planes shape x ≡ k
 unfolding node_value
 number_of_cell planes (leaf found) x zero way at inside = refl
 number_of_cell planes (leaf found) x (suc k) way at inside = absurd cc
 number_of_cell planes (node n front back) x k way at inside =
-    elim (at_either (map (after_step n true) (ways front)) (map (after_step n false) (ways back)) k way at) [
+    elim (slice_get-append_cases (map (after_step n true) (ways front)) (map (after_step n false) (ways back)) way k at) [
       | inl here ↦
-          let of = of_map (after_step n true) (ways front) k way here in
+          let of = slice_get-map_from (after_step n true) (ways front) k way here in
           let step = first_step planes n true of.0 way x of.2 inside in
           let below = number_of_cell planes front x k of.0 of.1 step.1 in
           elim (side_test (node_value planes n x)) [
@@ -116,7 +111,7 @@ number_of_cell planes (node n front back) x k way at inside =
             | inr ahead ↦ rw ahead.0 below
           ]
       | inr there ↦
-          let of = of_map (after_step n false) (ways back) there.0 way there.2 in
+          let of = slice_get-map_from (after_step n false) (ways back) there.0 way there.2 in
           let step = first_step planes n false of.0 way x of.2 inside in
           let below = number_of_cell planes back x there.0 of.0 of.1 step.1 in
           let is_behind = (flipped_in_front (plane_at planes n) x).0 step.0 in

@@ -9,7 +9,7 @@ use Rattle.qm_contents.specs.Precedence.{strength}
 use Rattle.qm_contents.proofs.Strengths.{same_strength}
 use Rattle.qm_partition.specs.declared.node.Leaf.{Leaf}
 use Rattle.qm_partition.specs.Partition.{Partition, leaf, node}
-use Rattle.qm_partition.specs.LeafOfPoint.{node_value, leaf_at}
+use Rattle.qm_partition.specs.LeafOfPoint.{node_value, leaf_record_at}
 use Rattle.qm_partition.specs.Joining.{are_equal, joined_node, joined}
 
 are_equal-contents : (a b : Leaf) → are_equal a b ≡ true → a.contents ≡ b.contents
@@ -20,7 +20,7 @@ are_equal-contents a b same =
 module _ (planes : List Plane) (x : Point) where
   -- the contents that a partition has at the point
   abbrev contents_at : Partition → Contents
-  contents_at shape = (leaf_at planes shape x).contents
+  contents_at shape = (leaf_record_at planes shape x).contents
 
   abbrev is_behind : ℕ → Bool
   is_behind n = int_lt (node_value planes n x) (pos 0)
@@ -29,7 +29,7 @@ module _ (planes : List Plane) (x : Point) where
   at_node : (n : ℕ) (front back : Partition) → contents_at (node n front back) ≡ (if is_behind n then contents_at back else contents_at front)
   at_node n front back = by_side (is_behind n)
     where
-      by_side : (b : Bool) → (if b then leaf_at planes back x else leaf_at planes front x).contents ≡ (if b then contents_at back else contents_at front)
+      by_side : (b : Bool) → (if b then leaf_record_at planes back x else leaf_record_at planes front x).contents ≡ (if b then contents_at back else contents_at front)
       by_side true = refl
       by_side false = refl
 

@@ -1,5 +1,5 @@
-pub mod AppendedLists
 pub mod Counts
+pub mod NodePlanes
 pub mod LeafNumbers
 pub mod Cells
 pub mod JoinedLeaves

@@ -1,23 +1,20 @@
 -- Worked row: the tree of one cube, and the leaf of a point in it.
-use Rattle.std.proofs.Common.{◌≡◌, ℤ, pos, neg_ℤ, false, true, [], ◌∷◌, refl, arith}
+use Rattle.std.proofs.Common.{◌≡◌, ◌<◌, pos, neg_ℤ, false, true, [], ◌∷◌, refl, arith}
 use Rattle.std.proofs.lemmas.Int.{ints}
 use Rattle.std.proofs.lemmas.List.Elements.{All-from_recursion}
-use Rattle.qm_space.specs.Point.{Point}
-use Rattle.qm_space.specs.Plane.{Plane, value, IsInFront}
+use Rattle.qm_space.specs.Point.{Point, IsWithinExtent}
+use Rattle.qm_space.specs.Plane.{plane_of, value, IsInFront}
 use Rattle.qm_space.specs.Cell.{IsInCell}
 use Rattle.qm_contents.specs.declared.contents.Contents.TheVariants.{Empty, Solid}
 use Rattle.qm_partition.specs.declared.node.Leaf.{Leaf as LeafRecord}
 use Rattle.qm_partition.specs.declared.node.Child.TheVariants.{Node, Leaf}
 use Rattle.qm_partition.specs.Partition.{leaf, node}
-use Rattle.qm_partition.specs.Tree.{Tree}
+use Rattle.qm_partition.specs.Tree.{Tree, NamesItsPlanes}
 use Rattle.qm_partition.specs.Joining.{joined}
-use Rattle.qm_partition.specs.Counting.{leaf_count, node_count, leaves_of}
+use Rattle.qm_partition.specs.Counting.{leaf_count, node_count, leaves_of, node_planes}
 use Rattle.qm_partition.specs.Numbering.{nodes_of, AreNumbered}
-use Rattle.qm_partition.specs.LeafOfPoint.{node_value, leaf_at, leaf_number_at, IsOffNodePlanes}
-use Rattle.qm_partition.specs.Ways.{Way, cell_of, LeadsTo}
-
-abbrev plane : ℤ → ℤ → ℤ → ℤ → Plane
-plane nx ny nz d = record { nx = nx; ny = ny; nz = nz; d = d }
+use Rattle.qm_partition.specs.LeafOfPoint.{node_value, leaf_record_at, leaf_at, IsOffNodePlanes}
+use Rattle.qm_partition.specs.Ways.{Way, cell_of, LeadsTo, IsInLeaf}
 
 abbrev empty : LeafRecord
 empty = record { contents = Empty; filled = false }
@@ -30,8 +27,8 @@ stone = record { contents = Solid; filled = false }
 abbrev pub cube_tree : Tree
 cube_tree = record {
   planes =
-      plane (pos 1) (pos 0) (pos 0) (pos 0) ∷ plane (pos 1) (pos 0) (pos 0) (pos 64) ∷ plane (pos 0) (pos 1) (pos 0) (pos 0)
-      ∷ plane (pos 0) (pos 1) (pos 0) (pos 64) ∷ plane (pos 0) (pos 0) (pos 1) (pos 0) ∷ plane (pos 0) (pos 0) (pos 1) (pos 64) ∷ [];
+      plane_of (pos 1) (pos 0) (pos 0) (pos 0) ∷ plane_of (pos 1) (pos 0) (pos 0) (pos 64) ∷ plane_of (pos 0) (pos 1) (pos 0) (pos 0)
+      ∷ plane_of (pos 0) (pos 1) (pos 0) (pos 64) ∷ plane_of (pos 0) (pos 0) (pos 1) (pos 0) ∷ plane_of (pos 0) (pos 0) (pos 1) (pos 64) ∷ [];
   shape =
       node 0 (node 1 (leaf empty) (node 2 (node 3 (leaf empty) (node 4 (node 5 (leaf empty) (leaf stone)) (leaf empty))) (leaf empty))) (leaf empty);
 }
@@ -55,7 +52,7 @@ numbered_row = record { nodes_are = refl; leaves_are = refl }
 abbrev pub middle : Point
 middle = record { x = pos 32; y = pos 32; z = pos 32; w = pos 1 }
 
-leaf_row : (leaf_at cube_tree.planes cube_tree.shape middle ≡ stone) × (leaf_number_at cube_tree.planes cube_tree.shape middle ≡ 3)
+leaf_row : (leaf_record_at cube_tree.planes cube_tree.shape middle ≡ stone) × (leaf_at cube_tree.planes cube_tree.shape middle ≡ 3)
 unfolding node_value value
 leaf_row = (refl, refl)
 
@@ -63,8 +60,16 @@ middle_is_off : IsOffNodePlanes cube_tree.planes cube_tree.shape middle
 unfolding node_value value
 middle_is_off = grind (arith, ints)
 
+-- a point on the plane x = 64 is on a node plane
+border_is_on : IsOffNodePlanes cube_tree.planes cube_tree.shape (record { x = pos 64; y = pos 32; z = pos 32; w = pos 1 }) → ⊥
+unfolding node_value value
+border_is_on off = off.1.0 refl
+
+names_row : NamesItsPlanes cube_tree
+names_row = All-from_recursion (λ n. n < 6) (node_planes cube_tree.shape) (grind arith)
+
 -- a point on the plane x = 64 goes to the front, to the leaf outside
-front_row : leaf_number_at cube_tree.planes cube_tree.shape (record { x = pos 64; y = pos 32; z = pos 32; w = pos 1 }) ≡ 0
+front_row : leaf_at cube_tree.planes cube_tree.shape (record { x = pos 64; y = pos 32; z = pos 32; w = pos 1 }) ≡ 0
 unfolding node_value value
 front_row = refl
 
@@ -79,14 +84,20 @@ way_row = record { way_is = refl; leaf_is = refl }
 
 -- its cell is the inside of the cube: two of its planes are turned
 cell_row : cell_of cube_tree.planes way_in ≡
-    plane (pos 1) (pos 0) (pos 0) (pos 0) ∷ plane (neg_ℤ (pos 1)) (pos 0) (pos 0) (neg_ℤ (pos 64)) ∷ plane (pos 0) (pos 1) (pos 0) (pos 0)
-    ∷ plane (pos 0) (neg_ℤ (pos 1)) (pos 0) (neg_ℤ (pos 64)) ∷ plane (pos 0) (pos 0) (pos 1) (pos 0) ∷ plane (pos 0) (pos 0) (neg_ℤ (pos 1)) (neg_ℤ (pos 64)) ∷ []
+    plane_of (pos 1) (pos 0) (pos 0) (pos 0) ∷ plane_of (neg_ℤ (pos 1)) (pos 0) (pos 0) (neg_ℤ (pos 64)) ∷ plane_of (pos 0) (pos 1) (pos 0) (pos 0)
+    ∷ plane_of (pos 0) (neg_ℤ (pos 1)) (pos 0) (neg_ℤ (pos 64)) ∷ plane_of (pos 0) (pos 0) (pos 1) (pos 0) ∷ plane_of (pos 0) (pos 0) (neg_ℤ (pos 1)) (neg_ℤ (pos 64)) ∷ []
 cell_row = refl
 
 -- and has the middle
 in_cell_row : IsInCell (cell_of cube_tree.planes way_in) middle
 unfolding value
 in_cell_row = All-from_recursion (λ h. IsInFront h middle) (cell_of cube_tree.planes way_in) (grind (arith, ints))
+
+-- so that the leaf has a point
+in_leaf_row : IsInLeaf cube_tree.planes way_in middle
+in_leaf_row =
+    let side : IsWithinExtent (pos 32) (pos 1) = record { above = omega (arith, ints); below = omega (arith, ints) } in
+    record { in_cube = record { weight = omega (arith, ints); x = side; y = side; z = side }; in_cell = in_cell_row }
 
 -- ---- joining
 

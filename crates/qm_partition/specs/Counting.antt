@@ -13,3 +13,8 @@ leaf_count shape = length (leaves_of shape)
 abbrev pub node_count : Partition → ℕ
 node_count (leaf found) = 0
 node_count (node n front back) = suc (node_count front + node_count back)
+
+-- the numbers of the planes of its nodes
+abbrev pub node_planes : Partition → List ℕ
+node_planes (leaf found) = []
+node_planes (node n front back) = n ∷ (node_planes front ++ node_planes back)

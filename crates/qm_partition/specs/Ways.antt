@@ -1,11 +1,14 @@
-use Rattle.std.specs.Prelude.{◌≡◌, ℕ, Bool, true, false, List, [], ◌∷◌, ◌++◌, Some, map, slice_get}
+use Rattle.std.specs.Prelude.{◌≡◌, ℕ, Bool, true, false, List, [], ◌∷◌, ◌++◌, Some, map, slice_get, Contains}
+use Rattle.qm_space.specs.Point.{Point, IsInCube}
 use Rattle.qm_space.specs.Plane.{Plane}
 use Rattle.qm_space.specs.Turned.{turned}
+use Rattle.qm_space.specs.Cell.{IsInCell}
 use Rattle.qm_partition.specs.declared.step.Step.{Step}
 use Rattle.qm_partition.specs.declared.node.Leaf.{Leaf}
 use Rattle.qm_partition.specs.Partition.{Partition, leaf, node}
+use Rattle.qm_partition.specs.Tree.{Tree}
 use Rattle.qm_partition.specs.Counting.{leaves_of}
-use Rattle.qm_partition.specs.Tree.{plane_at}
+use Rattle.qm_space.specs.Book.{plane_at}
 
 -- a way down from the root: its steps, the root's first
 abbrev pub Way : Type 0
@@ -29,7 +32,15 @@ pub record LeadsTo (shape : Partition) (k : ℕ) (way : Way) (found : Leaf) : Ty
 abbrev pub turned_to : List Plane → Step → Plane
 turned_to planes step = turned step.front (plane_at planes step.plane)
 
--- the cell of a way: the planes of its steps, each turned to the side to which the step leads; the points of a leaf are
--- those of the cube in the cell of the way to the leaf
+-- the cell of a way: the planes of its steps, each turned to the side to which the step leads
 abbrev pub cell_of : List Plane → Way → List Plane
 cell_of planes way = map (turned_to planes) way
+
+-- the points of the leaf at the end of a way: inside the cube, and strictly on the way's side of each plane above it
+pub record IsInLeaf (planes : List Plane) (way : Way) (x : Point) : Type 0 where
+  pub in_cube : IsInCube x
+  pub in_cell : IsInCell (cell_of planes way) x
+
+-- each leaf has a point
+abbrev pub HasPoints : Tree → Type 0
+HasPoints tree = (way : Way) → Contains (ways tree.shape) way → (x : Point) × IsInLeaf tree.planes way x

@@ -19,6 +19,6 @@ pub struct Node {
 #[derive(Clone, Copy)]
 pub struct Leaf {
     pub contents: Contents,
-    /// Whether the leaf is marked as lying outside the map, which makes it solid. No leaf is so far.
+    /// Whether the leaf is marked as lying outside the map, which makes it solid.
     pub filled: bool,
 }

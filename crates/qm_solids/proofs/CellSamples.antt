@@ -3,7 +3,7 @@ use Rattle.std.proofs.Common.{ℕ, ◌≤◌, pos, neg_ℤ, inl, inr, List, [], 
 use Rattle.std.proofs.lemmas.Int.{ints}
 use Rattle.std.proofs.lemmas.List.Elements.{All-from_recursion, All-contains, All-nil}
 use Rattle.qm_space.specs.Point.{Point, IsInCube}
-use Rattle.qm_space.specs.Plane.{Plane, value, IsBehind, IsInFront}
+use Rattle.qm_space.specs.Plane.{Plane, plane_of, value, IsBehind, IsInFront}
 use Rattle.qm_solids.specs.Solid.{inward}
 use Rattle.qm_solids.specs.Cells.{ContainsCell, CellHasContents}
 use Rattle.qm_solids.specs.Candidates.{LiesOn, IsOutdone, IsCandidate}
@@ -12,7 +12,7 @@ use Rattle.qm_contents.specs.declared.contents.Contents.TheVariants.{Empty, Soli
 use Rattle.qm_contents.proofs.Strengths.{at_most_solid}
 use Rattle.qm_solids.proofs.ContentsLaws.{none_has}
 use Rattle.qm_solids.proofs.Insides.{behind_all}
-use Rattle.qm_solids.proofs.Samples.{plane, at, cube, cube_is_full, stone, water, stone_holds_middle}
+use Rattle.qm_solids.proofs.Samples.{at, cube, cube_is_full, stone, water, stone_holds_middle}
 
 -- the stone contains its own inside as a cell
 stone_contains : ContainsCell stone (inward stone)
@@ -32,10 +32,10 @@ stone_cell = record {
 -- ---- a book of two planes of the cube: x = 0 and z = 64
 
 abbrev book : List Plane
-book = plane (pos 1) (pos 0) (pos 0) (pos 0) ∷ plane (pos 0) (pos 0) (pos 1) (pos 64) ∷ []
+book = plane_of (pos 1) (pos 0) (pos 0) (pos 0) ∷ plane_of (pos 0) (pos 0) (pos 1) (pos 64) ∷ []
 
 abbrev first_plane : Plane
-first_plane = plane (pos 1) (pos 0) (pos 0) (pos 0)
+first_plane = plane_of (pos 1) (pos 0) (pos 0) (pos 0)
 
 -- a point of the cube's face x = 0
 abbrev on_first : Point
@@ -50,7 +50,7 @@ point_in_cube x y z small_x small_y small_z = record {
 }
 
 -- the cube's plane x = 0, turned outward, lies on the book's
-turned_lies_on : LiesOn (plane (neg_ℤ (pos 1)) (pos 0) (pos 0) (neg_ℤ (pos 0))) first_plane
+turned_lies_on : LiesOn (plane_of (neg_ℤ (pos 1)) (pos 0) (pos 0) (neg_ℤ (pos 0))) first_plane
 turned_lies_on = record { factor = neg_ℤ (pos 1); not_zero = λ is. cc; multiple = refl }
 
 -- of each plane of the cube: the point is behind it, or it lies on the plane x = 0
@@ -68,7 +68,7 @@ unfolding value
 not_all contains =
     let x = at (pos 100) (pos 32) (pos 32) in
     let inside = contains.inside x (point_in_cube 100 32 32 (omega arith) (omega arith) (omega arith)) (All-nil (λ h. IsInFront h x)) in
-    let behind = behind_all cube.outward x inside 0 (plane (pos 1) (pos 0) (pos 0) (pos 64)) (omega arith) in
+    let behind = behind_all cube.outward x inside 0 (plane_of (pos 1) (pos 0) (pos 0) (pos 64)) (omega arith) in
     absurd (omega (arith, ints, behind))
 
 -- so that the whole world, taken as a cell, is empty
@@ -81,7 +81,7 @@ first_is_candidate = record {
   solid = cube;
   listed = (0, omega arith, refl);
   full = cube_is_full;
-  face = plane (neg_ℤ (pos 1)) (pos 0) (pos 0) (neg_ℤ (pos 0));
+  face = plane_of (neg_ℤ (pos 1)) (pos 0) (pos 0) (neg_ℤ (pos 0));
   has_face = (3, omega arith, refl);
   lies_on = turned_lies_on;
   point = on_first;

@@ -1,7 +1,8 @@
 -- The points strictly inside a solid, said of its outward planes.
-use Rattle.std.proofs.Common.{false, List, [], ◌∷◌, map, All, arith}
+use Rattle.std.proofs.Common.{false, List, map, All, arith}
 use Rattle.std.proofs.lemmas.Int.{ints}
-use Rattle.std.proofs.lemmas.List.Elements.{All-nil, All-cons, All-head, All-tail}
+use Rattle.std.proofs.lemmas.List.Elements.{All-weaker, All-map}
+use Rattle.qm_lists.proofs.Elements.{All-from_map}
 use Rattle.qm_space.specs.Point.{Point}
 use Rattle.qm_space.specs.Plane.{Plane, IsBehind, IsInFront}
 use Rattle.qm_space.specs.Turned.{turned}
@@ -12,18 +13,12 @@ use Rattle.qm_solids.specs.Holding.{IsInside, IsInFrontOfNone}
 
 -- strictly inside is strictly behind each outward plane
 pub behind_all : (outward : List Plane) (x : Point) → IsInCell (map (turned false) outward) x → All (λ h. IsBehind h x) outward
-behind_all [] x inside = All-nil (λ h. IsBehind h x)
-behind_all (h ∷ outward) x inside =
-    let first = All-head (λ h. IsInFront h x) (turned false h) (map (turned false) outward) inside in
-    let rest = All-tail (λ h. IsInFront h x) (turned false h) (map (turned false) outward) inside in
-    All-cons (λ h. IsBehind h x) h outward ((flipped_in_front h x).0 first) (behind_all outward x rest)
+behind_all outward x inside =
+    All-weaker (λ h. IsInFront (turned false h) x) (λ h. IsBehind h x) (λ h. (flipped_in_front h x).0) outward (All-from_map (λ h. IsInFront h x) (turned false) outward inside)
 
 pub inside_of_behind : (outward : List Plane) (x : Point) → All (λ h. IsBehind h x) outward → IsInCell (map (turned false) outward) x
-inside_of_behind [] x behind = All-nil (λ h. IsInFront h x)
-inside_of_behind (h ∷ outward) x behind =
-    let first = All-head (λ h. IsBehind h x) h outward behind in
-    let rest = All-tail (λ h. IsBehind h x) h outward behind in
-    All-cons (λ h. IsInFront h x) (turned false h) (map (turned false) outward) ((flipped_in_front h x).1 first) (inside_of_behind outward x rest)
+inside_of_behind outward x behind =
+    All-map (λ h. IsInFront h x) (turned false) outward (All-weaker (λ h. IsBehind h x) (λ h. IsInFront (turned false h) x) (λ h. (flipped_in_front h x).1) outward behind)
 
 -- a point strictly inside is in front of no plane
 pub inside_in_front_of_none : (solid : Solid) (x : Point) → IsInside solid x → IsInFrontOfNone solid.outward x

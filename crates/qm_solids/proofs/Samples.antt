@@ -1,22 +1,22 @@
 -- Worked rows: a cube of stone, and water round stone.
-use Rattle.std.proofs.Common.{ℤ, pos, neg_ℤ, ◌<ℤ◌, ◌≤ℤ◌, inr, List, [], ◌∷◌, All, Contains, refl, arith}
+use Rattle.std.proofs.Common.{◌≡◌, ℤ, pos, neg_ℤ, ◌+ℤ◌, ◌*ℤ◌, ◌<ℤ◌, ◌≤ℤ◌, inr, List, [], ◌∷◌, All, Contains, refl, arith}
 use Rattle.std.proofs.lemmas.Int.{ints}
 use Rattle.std.proofs.lemmas.List.Elements.{All-from_recursion, All-contains}
+use Rattle.qm_numbers.proofs.IntegerProducts.{linear}
+use Rattle.qm_space.specs.Bounds.{extent}
 use Rattle.qm_space.specs.Point.{Point, IsInCube, IsWithinExtent}
-use Rattle.qm_space.specs.Plane.{Plane, value, IsBehind}
+use Rattle.qm_space.specs.Plane.{Plane, plane_of, value, IsBehind}
+use Rattle.qm_space.proofs.Cubes.{x_high}
 use Rattle.qm_contents.specs.declared.contents.Contents.{Contents}
 use Rattle.qm_contents.specs.declared.contents.Contents.TheVariants as contents
 use Rattle.qm_contents.specs.Precedence.{IsAtMost}
 use Rattle.qm_solids.specs.Solid.{Solid}
 use Rattle.qm_solids.specs.Holding.{IsInside, IsFull, Holds}
 use Rattle.qm_solids.specs.Contents.{HasContents}
-use Rattle.qm_solids.proofs.Insides.{inside_of_behind, inside_in_front_of_none}
+use Rattle.qm_solids.proofs.Insides.{behind_all, inside_of_behind, inside_in_front_of_none}
 use Rattle.qm_contents.proofs.Strengths.{at_most_solid}
 use Rattle.qm_solids.proofs.ContentsLaws.{none_has}
 use Rattle.qm_solids.proofs.FlatSolids.{opposed_is_flat}
-
-abbrev pub plane : ℤ → ℤ → ℤ → ℤ → Plane
-plane nx ny nz d = record { nx = nx; ny = ny; nz = nz; d = d }
 
 -- a whole point
 abbrev pub at : ℤ → ℤ → ℤ → Point
@@ -25,9 +25,9 @@ at x y z = record { x = x; y = y; z = z; w = pos 1 }
 -- the outward planes of the box of the points whose coordinates lie between two numbers
 abbrev pub box : ℤ → ℤ → List Plane
 box low high =
-    plane (pos 1) (pos 0) (pos 0) high ∷ plane (pos 0) (pos 1) (pos 0) high ∷ plane (pos 0) (pos 0) (pos 1) high
-    ∷ plane (neg_ℤ (pos 1)) (pos 0) (pos 0) (neg_ℤ low) ∷ plane (pos 0) (neg_ℤ (pos 1)) (pos 0) (neg_ℤ low)
-    ∷ plane (pos 0) (pos 0) (neg_ℤ (pos 1)) (neg_ℤ low) ∷ []
+    plane_of (pos 1) (pos 0) (pos 0) high ∷ plane_of (pos 0) (pos 1) (pos 0) high ∷ plane_of (pos 0) (pos 0) (pos 1) high
+    ∷ plane_of (neg_ℤ (pos 1)) (pos 0) (pos 0) (neg_ℤ low) ∷ plane_of (pos 0) (neg_ℤ (pos 1)) (pos 0) (neg_ℤ low)
+    ∷ plane_of (pos 0) (pos 0) (neg_ℤ (pos 1)) (neg_ℤ low) ∷ []
 
 -- ---- a cube of stone
 
@@ -63,7 +63,7 @@ cube_holds_face =
 -- and no point beyond it
 pub cube_is_left : Holds cube (at (pos 65) (pos 32) (pos 32)) → ⊥
 unfolding value
-cube_is_left holds = let first = holds.not_in_front 0 (plane (pos 1) (pos 0) (pos 0) (pos 64)) (omega arith) in absurd (omega (arith, ints, first))
+cube_is_left holds = let first = holds.not_in_front 0 (plane_of (pos 1) (pos 0) (pos 0) (pos 64)) (omega arith) in absurd (omega (arith, ints, first))
 
 -- ---- water round stone, in either order
 
@@ -109,7 +109,7 @@ water_round_stone = record {
 -- nearer to the water's border there is no stone
 stone_is_left : Holds stone (at (pos 8) (pos 8) (pos 8)) → ⊥
 unfolding value
-stone_is_left holds = let low = holds.not_in_front 3 (plane (neg_ℤ (pos 1)) (pos 0) (pos 0) (neg_ℤ (pos 16))) (omega arith) in absurd (omega (arith, ints, low))
+stone_is_left holds = let low = holds.not_in_front 3 (plane_of (neg_ℤ (pos 1)) (pos 0) (pos 0) (neg_ℤ (pos 16))) (omega arith) in absurd (omega (arith, ints, low))
 
 water_holds_border : Holds water (at (pos 8) (pos 8) (pos 8))
 unfolding value
@@ -137,13 +137,77 @@ beyond_the_cube =
 
 -- what is in front of z = 0 and what is behind it have no point in common, so that a solid of both is flat
 abbrev pub flat : Solid
-flat = record { contents = contents.Solid; outward = plane (pos 0) (pos 0) (pos 1) (pos 0) ∷ plane (pos 0) (pos 0) (neg_ℤ (pos 2)) (pos 0) ∷ [] }
+flat = record { contents = contents.Solid; outward = plane_of (pos 0) (pos 0) (pos 1) (pos 0) ∷ plane_of (pos 0) (pos 0) (neg_ℤ (pos 2)) (pos 0) ∷ [] }
 
 flat_is_flat : IsFull flat → ⊥
 flat_is_flat = opposed_is_flat flat (record {
-  one = plane (pos 0) (pos 0) (pos 1) (pos 0);
-  other = plane (pos 0) (pos 0) (neg_ℤ (pos 2)) (pos 0);
+  one = plane_of (pos 0) (pos 0) (pos 1) (pos 0);
+  other = plane_of (pos 0) (pos 0) (neg_ℤ (pos 2)) (pos 0);
   has_one = (0, omega arith, refl);
   has_other = (1, omega arith, refl);
-  opposed = record { i = pos 2; j = pos 1; i_positive = omega (arith, ints); j_positive = omega (arith, ints); multiples = refl };
+  opposed = record { times = pos 2; some = omega (arith, ints); multiple = record { factor = pos 1; positive = omega (arith, ints); multiple = refl } };
 })
+
+-- what lies beyond the cube is flat too, with no opposed planes: the points of x at least 4096
+abbrev pub beyond : Solid
+beyond = record { contents = contents.Solid; outward = plane_of (neg_ℤ (pos 1)) (pos 0) (pos 0) (neg_ℤ extent) ∷ [] }
+
+beyond_is_flat : IsFull beyond → ⊥
+beyond_is_flat full =
+    let x = full.within in
+    let outward = plane_of (neg_ℤ (pos 1)) (pos 0) (pos 0) (neg_ℤ extent) in
+    let behind : value outward x <ℤ pos 0 = behind_all beyond.outward x full.inside 0 outward (omega arith) in
+    let its : value outward x ≡ neg_ℤ x.x +ℤ (extent *ℤ x.w) = x_high x in
+    let below = full.in_cube.x.below in
+    absurd (omega (arith, linear, behind, its, below))
+
+-- ---- a solid without a border on most sides
+
+-- all that is not in front of z = 0
+abbrev pub ground : Solid
+ground = record { contents = contents.Solid; outward = plane_of (pos 0) (pos 0) (pos 1) (pos 0) ∷ [] }
+
+ground_is_full : IsFull ground
+unfolding value
+ground_is_full =
+    let x = at (pos 0) (pos 0) (neg_ℤ (pos 1)) in
+    let side : IsWithinExtent (pos 0) (pos 1) = record { above = omega (arith, ints); below = omega (arith, ints) } in
+    let low : IsWithinExtent (neg_ℤ (pos 1)) (pos 1) = record { above = omega (arith, ints); below = omega (arith, ints) } in
+    record {
+      within = x;
+      in_cube = record { weight = omega (arith, ints); x = side; y = side; z = low };
+      inside = inside_of_behind ground.outward x (All-from_recursion (λ h. IsBehind h x) ground.outward (omega (arith, ints), tt));
+    }
+
+-- it holds a point far out
+ground_holds : Holds ground (at (pos 4000) (pos 0) (pos 0))
+unfolding value
+ground_holds = record {
+  full = ground_is_full;
+  not_in_front = All-from_recursion (λ h. value h (at (pos 4000) (pos 0) (pos 0)) ≤ℤ pos 0) ground.outward (omega (arith, ints), tt);
+}
+
+-- ---- two cubes with one face in common
+
+-- the cube that stands on the other one
+abbrev pub upper : Solid
+upper = record {
+  contents = contents.Water;
+  outward =
+      plane_of (pos 1) (pos 0) (pos 0) (pos 64) ∷ plane_of (pos 0) (pos 1) (pos 0) (pos 64) ∷ plane_of (pos 0) (pos 0) (pos 1) (pos 128)
+      ∷ plane_of (neg_ℤ (pos 1)) (pos 0) (pos 0) (pos 0) ∷ plane_of (pos 0) (neg_ℤ (pos 1)) (pos 0) (pos 0) ∷ plane_of (pos 0) (pos 0) (neg_ℤ (pos 1)) (neg_ℤ (pos 64)) ∷ [];
+}
+
+-- on the face that both have the stronger contents count
+shared_face : HasContents (upper ∷ cube ∷ []) (at (pos 32) (pos 32) (pos 64)) contents.Solid
+unfolding value
+shared_face =
+    let x = at (pos 32) (pos 32) (pos 64) in
+    let holds : Holds cube x = record {
+      full = cube_is_full;
+      not_in_front = All-from_recursion (λ h. value h x ≤ℤ pos 0) cube.outward (omega (arith, ints), (omega (arith, ints), (omega (arith, ints), (omega (arith, ints), (omega (arith, ints), (omega (arith, ints), tt))))));
+    } in
+    record {
+      given = inr (cube, record { listed = (1, omega arith, refl); has = holds }, refl);
+      strongest = λ solid held. at_most_solid solid.contents;
+    }

@@ -3,8 +3,6 @@ use Rattle.qm_space.specs.Plane.{Plane}
 use Rattle.qm_solids.specs.Solid.{Solid}
 use Rattle.qm_solids.specs.Candidates.{IsCandidate}
 
--- A book is a list of planes; a plane's number is its place in it, counted from 0.
-
 -- two components of the normal are 0
 abbrev pub IsAxial : Plane → Type 0
 IsAxial h =

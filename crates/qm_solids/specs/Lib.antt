@@ -1,8 +1,8 @@
 pub mod Solid
+pub mod Outward
 pub mod Holding
 pub mod Strongest
 pub mod Contents
-pub mod Opposed
 pub mod Cells
 pub mod Candidates
 pub mod Least

@@ -1,4 +1,4 @@
--- The walls of the cube: a plane's opposite, the values of the walls, and the cube as the cell of its walls.
+-- The walls of the cube: a plane mirrored at the origin, the values of the walls, and the cube as the cell of its walls.
 use Rattle.std.proofs.Common.{◌≡◌, ℤ, pos, neg_ℤ, ◌+ℤ◌, ◌*ℤ◌, ◌<ℤ◌, ◌≤ℤ◌, [], All, ◌↔◌, arith, subst}
 use Rattle.std.specs.Int.{◌∣◌}
 use Rattle.std.proofs.lemmas.Int.{ints}
@@ -9,16 +9,16 @@ use Rattle.qm_space.specs.Point.{Point, IsInCube}
 use Rattle.qm_space.specs.Plane.{Plane, value, IsInFront}
 use Rattle.qm_space.specs.Reduced.{IsReduced}
 use Rattle.qm_space.specs.Cell.{IsInCell}
-use Rattle.qm_space.specs.Cube.{opposite, wall_x, wall_y, wall_z, cube_walls, IsInClosedCube}
+use Rattle.qm_space.specs.Cube.{mirrored, wall_x, wall_y, wall_z, cube_walls, IsInClosedCube}
 use Rattle.qm_numbers.proofs.IntegerProducts.{linear}
 use Rattle.qm_numbers.proofs.Signs.{abs_neg, positive_beside}
 use Rattle.qm_numbers.proofs.Ring.{Expression, number, variable, negated, ◌⊕◌, ◌⊗◌, solved}
 use Rattle.qm_space.proofs.PlaneSymbols.{PlaneSymbols, PointSymbols, plane_from, point_from, numbers_of_plane, numbers_of_point, symbol_value}
 
--- ---- the walls and opposite planes in symbols
+-- ---- the walls and mirrored planes in symbols
 
-abbrev pub symbol_opposite : PlaneSymbols → PlaneSymbols
-symbol_opposite a = record { nx = negated a.nx; ny = negated a.ny; nz = negated a.nz; d = a.d }
+abbrev pub symbol_mirrored : PlaneSymbols → PlaneSymbols
+symbol_mirrored a = record { nx = negated a.nx; ny = negated a.ny; nz = negated a.nz; d = a.d }
 
 abbrev pub symbol_wall_x : PlaneSymbols
 symbol_wall_x = record { nx = number (pos 1); ny = number (pos 0); nz = number (pos 0); d = number (neg_ℤ extent) }
@@ -31,14 +31,14 @@ symbol_wall_z = record { nx = number (pos 0); ny = number (pos 0); nz = number (
 
 -- ---- values
 
--- the values of a plane and its opposite add up to the width between them
-pub opposite_sum : (a : Plane) (p : Point) → value a p +ℤ value (opposite a) p ≡ (neg_ℤ a.d *ℤ p.w) +ℤ (neg_ℤ a.d *ℤ p.w)
+-- the values of a plane and the mirrored one add up to the width between them
+pub mirrored_sum : (a : Plane) (p : Point) → value a p +ℤ value (mirrored a) p ≡ (neg_ℤ a.d *ℤ p.w) +ℤ (neg_ℤ a.d *ℤ p.w)
 unfolding value
-opposite_sum a p =
+mirrored_sum a p =
     let e = plane_from 0 in let q = point_from 4 in
-    solved (numbers_of_plane a (numbers_of_point p [])) (symbol_value e q ⊕ symbol_value (symbol_opposite e) q) (negated e.d ⊗ q.w ⊕ negated e.d ⊗ q.w) tt
+    solved (numbers_of_plane a (numbers_of_point p [])) (symbol_value e q ⊕ symbol_value (symbol_mirrored e) q) (negated e.d ⊗ q.w ⊕ negated e.d ⊗ q.w) tt
 
--- a wall's value, and its opposite's
+-- a wall's value, and that of the mirrored wall
 module _ (p : Point) where
   abbrev q : PointSymbols
   q = point_from 0
@@ -53,25 +53,25 @@ module _ (p : Point) where
   unfolding value
   x_low = solved (numbers_of_point p []) (symbol_value symbol_wall_x q) (low q.x) tt
 
-  pub x_high : value (opposite wall_x) p ≡ neg_ℤ p.x +ℤ (extent *ℤ p.w)
+  pub x_high : value (mirrored wall_x) p ≡ neg_ℤ p.x +ℤ (extent *ℤ p.w)
   unfolding value
-  x_high = solved (numbers_of_point p []) (symbol_value (symbol_opposite symbol_wall_x) q) (high q.x) tt
+  x_high = solved (numbers_of_point p []) (symbol_value (symbol_mirrored symbol_wall_x) q) (high q.x) tt
 
   pub y_low : value wall_y p ≡ p.y +ℤ (extent *ℤ p.w)
   unfolding value
   y_low = solved (numbers_of_point p []) (symbol_value symbol_wall_y q) (low q.y) tt
 
-  pub y_high : value (opposite wall_y) p ≡ neg_ℤ p.y +ℤ (extent *ℤ p.w)
+  pub y_high : value (mirrored wall_y) p ≡ neg_ℤ p.y +ℤ (extent *ℤ p.w)
   unfolding value
-  y_high = solved (numbers_of_point p []) (symbol_value (symbol_opposite symbol_wall_y) q) (high q.y) tt
+  y_high = solved (numbers_of_point p []) (symbol_value (symbol_mirrored symbol_wall_y) q) (high q.y) tt
 
   pub z_low : value wall_z p ≡ p.z +ℤ (extent *ℤ p.w)
   unfolding value
   z_low = solved (numbers_of_point p []) (symbol_value symbol_wall_z q) (low q.z) tt
 
-  pub z_high : value (opposite wall_z) p ≡ neg_ℤ p.z +ℤ (extent *ℤ p.w)
+  pub z_high : value (mirrored wall_z) p ≡ neg_ℤ p.z +ℤ (extent *ℤ p.w)
   unfolding value
-  z_high = solved (numbers_of_point p []) (symbol_value (symbol_opposite symbol_wall_z) q) (high q.z) tt
+  z_high = solved (numbers_of_point p []) (symbol_value (symbol_mirrored symbol_wall_z) q) (high q.z) tt
 
 -- ---- the cube is the cell of its walls
 
@@ -117,7 +117,7 @@ origin_row = (cube_is_cell (record { x = pos 0; y = pos 0; z = pos 0; w = pos 1 
   z = record { above = omega (arith, ints); below = omega (arith, ints) };
 }
 
--- ---- the walls and their opposites are in lowest terms
+-- ---- the walls and the mirrored ones are in lowest terms
 
 pub wall_x_reduced : IsReduced wall_x
 wall_x_reduced = record { normal = λ e f g. absurd (omega (arith, ints)); lowest = λ k d e f g. eq-one_of_dvd-one d; nx_small = omega arith; ny_small = omega arith; nz_small = omega arith; d_small = omega arith }
@@ -128,8 +128,8 @@ wall_y_reduced = record { normal = λ e f g. absurd (omega (arith, ints)); lowes
 pub wall_z_reduced : IsReduced wall_z
 wall_z_reduced = record { normal = λ e f g. absurd (omega (arith, ints)); lowest = λ k d e f g. eq-one_of_dvd-one f; nx_small = omega arith; ny_small = omega arith; nz_small = omega arith; d_small = omega arith }
 
-pub opposite_reduced : (a : Plane) → IsReduced a → IsReduced (opposite a)
-opposite_reduced a r = record {
+pub mirrored_reduced : (a : Plane) → IsReduced a → IsReduced (mirrored a)
+mirrored_reduced a r = record {
   normal = λ e f g. r.normal (omega (arith, ints)) (omega (arith, ints)) (omega (arith, ints));
   lowest = λ k d e f g. r.lowest k (subst (λ m. k ∣ m) (abs_neg a.nx) d) (subst (λ m. k ∣ m) (abs_neg a.ny) e) (subst (λ m. k ∣ m) (abs_neg a.nz) f) g;
   nx_small = let s = r.nx_small in let e = abs_neg a.nx in omega arith;

@@ -1,5 +1,6 @@
 pub mod PlaneSymbols
 pub mod Planes
+pub mod Multiples
 pub mod ReducedPlanes
 pub mod TurnedPlanes
 pub mod Cubes
@@ -8,3 +9,4 @@ pub mod PlanesThroughPoints
 pub mod Sizes
 pub mod Directions
 pub mod Exchange
+pub mod Books

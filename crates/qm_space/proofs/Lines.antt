@@ -1,10 +1,20 @@
 -- Three whole points are on one line exactly where multiples of two of their steps are equal.
 use Rattle.std.proofs.Common.{◌≡◌, ℤ, pos, neg_ℤ, ◌+ℤ◌, ◌-ℤ◌, ◌*ℤ◌, [], ◌∷◌, ap, ◌∙◌, arith}
 use Rattle.qm_space.specs.Point.{Point, point_sum, point_times}
-use Rattle.qm_space.specs.Line.{nothing, AreOnOneLine, HaveStepsOnOneLine}
+use Rattle.qm_space.specs.Line.{four_zeros, AreOnOneLine}
 use Rattle.qm_numbers.proofs.IntegerProducts.{linear, *ℤ_one, zero_*ℤ}
 use Rattle.qm_numbers.proofs.Ring.{number, variable, negated, ◌⊕◌, ◌⊖◌, ◌⊗◌, solved}
 use Rattle.qm_space.proofs.Planes.{same_point}
+
+-- three whole points on one line, by two of their steps: i times the step from q to p is j times the step from q to r,
+-- where i and j are not both 0
+pub record HaveStepsOnOneLine (p q r : Point) : Type 0 where
+  pub i : ℤ
+  pub j : ℤ
+  pub some : (i ≡ pos 0 → j ≡ pos 0 → ⊥)
+  pub x : i *ℤ (p.x -ℤ q.x) ≡ j *ℤ (r.x -ℤ q.x)
+  pub y : i *ℤ (p.y -ℤ q.y) ≡ j *ℤ (r.y -ℤ q.y)
+  pub z : i *ℤ (p.z -ℤ q.z) ≡ j *ℤ (r.z -ℤ q.z)
 
 -- one coordinate, where the multiples add up to 0
 step_from : (i j k x y z : ℤ) → (i +ℤ j) +ℤ k ≡ pos 0 → ((i *ℤ x) +ℤ (j *ℤ y)) +ℤ (k *ℤ z) ≡ pos 0 → i *ℤ (x -ℤ y) ≡ neg_ℤ k *ℤ (z -ℤ y)
@@ -43,9 +53,9 @@ line_from_steps p q r wp wq wr l = record {
   times_q = l.j -ℤ l.i;
   times_r = neg_ℤ l.j;
   some = λ e _ f. l.some e (omega (arith, linear));
-  sum = same_point (point_sum (point_sum (point_times l.i p) (point_times (l.j -ℤ l.i) q)) (point_times (neg_ℤ l.j) r)) nothing
-    (sum_from l.i l.j p.x q.x r.x l.x) (sum_from l.i l.j p.y q.y r.y l.y) (sum_from l.i l.j p.z q.z r.z l.z)
-    ((λ n. ((l.i *ℤ wp n) +ℤ ((l.j -ℤ l.i) *ℤ wq n)) +ℤ (neg_ℤ l.j *ℤ wr n)) ∙ ones l.i l.j);
+  sum = same_point (point_sum (point_sum (point_times l.i p) (point_times (l.j -ℤ l.i) q)) (point_times (neg_ℤ l.j) r)) four_zeros
+      (sum_from l.i l.j p.x q.x r.x l.x) (sum_from l.i l.j p.y q.y r.y l.y) (sum_from l.i l.j p.z q.z r.z l.z)
+      ((λ n. ((l.i *ℤ wp n) +ℤ ((l.j -ℤ l.i) *ℤ wq n)) +ℤ (neg_ℤ l.j *ℤ wr n)) ∙ ones l.i l.j);
 }
   where
     ones : (i j : ℤ) → ((i *ℤ pos 1) +ℤ ((j -ℤ i) *ℤ pos 1)) +ℤ (neg_ℤ j *ℤ pos 1) ≡ pos 0

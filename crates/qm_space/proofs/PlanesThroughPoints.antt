@@ -9,7 +9,7 @@ use Rattle.qm_space.specs.Point.{Point, whole_point, IsCoordinate, AreCoordinate
 use Rattle.qm_space.specs.Plane.{Plane, value, flipped, scaled}
 use Rattle.qm_space.specs.Reduced.{leads_positive, HasNormal}
 use Rattle.qm_space.specs.Turned.{turned}
-use Rattle.qm_space.specs.Line.{AreOnOneLine, HaveStepsOnOneLine}
+use Rattle.qm_space.specs.Line.{AreOnOneLine}
 use Rattle.qm_space.specs.ThreePoints.{outward_plane, HasOutwardSizes, common_factor, reduced, plane_through, IsPlaneThrough}
 use Rattle.qm_numbers.proofs.IntegerProducts.{linear, *ℤ_zero, zero_*ℤ, one_*ℤ}
 use Rattle.qm_numbers.proofs.Signs.{by_zero, zero_beside, zero_beside_positive, factor_compares, abs_product_bound}
@@ -18,7 +18,7 @@ use Rattle.qm_space.proofs.PlaneSymbols.{point_from, numbers_of_point, symbol_va
 use Rattle.qm_space.proofs.Planes.{value_scaled, value_flipped}
 use Rattle.qm_space.proofs.ReducedPlanes.{scaled_neg, scaled_flipped, scaled_has_normal, flipped_twice, flipped_has_normal, leads_flipped, common_factor_positive, reduced_back, reduced_leads, reduced_is_reduced, multiples_equal}
 use Rattle.qm_space.proofs.TurnedPlanes.{turned_on, turned_has_normal}
-use Rattle.qm_space.proofs.Lines.{steps_from_line, line_from_steps}
+use Rattle.qm_space.proofs.Lines.{HaveStepsOnOneLine, steps_from_line, line_from_steps}
 
 -- ---- whole points
 
@@ -87,9 +87,7 @@ taken_is p0 p1 p2 out true o e n s =
     record {
       is_reduced = reduced_is_reduced out n s.nx_small s.ny_small s.nz_small (let d = s.d_small in omega arith);
       leads = reduced_leads out n ∙ e;
-      factor = pos (common_factor out);
-      positive = omega (arith, ints);
-      multiple = o ∙ sym (reduced_back out);
+      multiple = record { factor = pos (common_factor out); positive = omega (arith, ints); multiple = o ∙ sym (reduced_back out) };
     }
 taken_is p0 p1 p2 out false o e n s =
     let m = flipped_has_normal out n in
@@ -101,9 +99,7 @@ taken_is p0 p1 p2 out false o e n s =
     record {
       is_reduced = reduced_is_reduced (flipped out) m x y z d;
       leads = reduced_leads (flipped out) m ∙ leads_flipped out n ∙ ap not e;
-      factor = pos (common_factor (flipped out));
-      positive = omega (arith, ints);
-      multiple = o ∙ sym (turned_back out);
+      multiple = record { factor = pos (common_factor (flipped out)); positive = omega (arith, ints); multiple = o ∙ sym (turned_back out) };
     }
   where
     turned_back : (h : Plane) → scaled (pos (common_factor (flipped h))) (flipped (reduced (flipped h))) ≡ h
@@ -213,27 +209,27 @@ normal_off_line p0 p1 p2 w0 w1 w2 n = λ x y z. n (no_normal_one_line p0 p1 p2 w
 -- ---- what it is to be the plane through three points
 
 -- the outward value at any point is a positive multiple of the turned plane's value
-pub through_value : (p0 p1 p2 q : Point) (plane : Plane) (out_is_front : Bool) (h : IsPlaneThrough p0 p1 p2 plane out_is_front) → value (outward_plane p0 p1 p2) q ≡ h.factor *ℤ value (turned out_is_front plane) q
-through_value p0 p1 p2 q plane b h = ap (λ g. value g q) h.multiple ∙ value_scaled h.factor (turned b plane) q
+pub through_value : (p0 p1 p2 q : Point) (plane : Plane) (out_is_front : Bool) (h : IsPlaneThrough p0 p1 p2 plane out_is_front) → value (outward_plane p0 p1 p2) q ≡ h.multiple.factor *ℤ value (turned out_is_front plane) q
+through_value p0 p1 p2 q plane b h = ap (λ g. value g q) h.multiple.multiple ∙ value_scaled h.multiple.factor (turned b plane) q
 
 -- so where the outward normal points to the front, both have one sign at each point
 pub through_front : (p0 p1 p2 q : Point) (plane : Plane) → IsPlaneThrough p0 p1 p2 plane true → int_cmp (value (outward_plane p0 p1 p2) q) (pos 0) ≡ int_cmp (value plane q) (pos 0)
-through_front p0 p1 p2 q plane h = ap (λ v. int_cmp v (pos 0)) (through_value p0 p1 p2 q plane true h) ∙ factor_compares h.factor (value plane q) h.positive
+through_front p0 p1 p2 q plane h = ap (λ v. int_cmp v (pos 0)) (through_value p0 p1 p2 q plane true h) ∙ factor_compares h.multiple.factor (value plane q) h.multiple.positive
 
 -- and where it points to the back, opposite signs
 pub through_back : (p0 p1 p2 q : Point) (plane : Plane) → IsPlaneThrough p0 p1 p2 plane false → int_cmp (value (outward_plane p0 p1 p2) q) (pos 0) ≡ int_cmp (neg_ℤ (value plane q)) (pos 0)
 through_back p0 p1 p2 q plane h =
-    ap (λ v. int_cmp v (pos 0)) (through_value p0 p1 p2 q plane false h ∙ ap (λ v. h.factor *ℤ v) (value_flipped plane q))
-    ∙ factor_compares h.factor (neg_ℤ (value plane q)) h.positive
+    ap (λ v. int_cmp v (pos 0)) (through_value p0 p1 p2 q plane false h ∙ ap (λ v. h.multiple.factor *ℤ v) (value_flipped plane q))
+    ∙ factor_compares h.multiple.factor (neg_ℤ (value plane q)) h.multiple.positive
 
 -- where the outward plane holds a point, so does the plane, and the other way round
 pub through_holds : (p0 p1 p2 q : Point) (plane : Plane) (b : Bool) → IsPlaneThrough p0 p1 p2 plane b → value (outward_plane p0 p1 p2) q ≡ pos 0 → value plane q ≡ pos 0
 through_holds p0 p1 p2 q plane b h e =
-    (turned_on b plane q).0 (zero_beside_positive h.factor (value (turned b plane) q) h.positive (sym (through_value p0 p1 p2 q plane b h) ∙ e))
+    (turned_on b plane q).0 (zero_beside_positive h.multiple.factor (value (turned b plane) q) h.multiple.positive (sym (through_value p0 p1 p2 q plane b h) ∙ e))
 
 pub outward_holds : (p0 p1 p2 q : Point) (plane : Plane) (b : Bool) → IsPlaneThrough p0 p1 p2 plane b → value plane q ≡ pos 0 → value (outward_plane p0 p1 p2) q ≡ pos 0
 outward_holds p0 p1 p2 q plane b h e =
-    through_value p0 p1 p2 q plane b h ∙ ap (λ v. h.factor *ℤ v) ((turned_on b plane q).1 e) ∙ *ℤ_zero h.factor
+    through_value p0 p1 p2 q plane b h ∙ ap (λ v. h.multiple.factor *ℤ v) ((turned_on b plane q).1 e) ∙ *ℤ_zero h.multiple.factor
 
 above_zero : (k : ℤ) → pos 0 <ℤ k → k ≡ pos 0 → ⊥
 above_zero k p e = absurd (omega (arith, linear))
@@ -241,7 +237,7 @@ above_zero k p e = absurd (omega (arith, linear))
 -- three points with a plane through them have an outward plane with a normal
 pub through_has_normal : (p0 p1 p2 : Point) (plane : Plane) (b : Bool) → IsPlaneThrough p0 p1 p2 plane b → HasNormal (outward_plane p0 p1 p2)
 through_has_normal p0 p1 p2 plane b h =
-    subst HasNormal (sym h.multiple) (scaled_has_normal h.factor (turned b plane) (above_zero h.factor h.positive) (turned_has_normal b plane (h.is_reduced).normal))
+    subst HasNormal (sym h.multiple.multiple) (scaled_has_normal h.multiple.factor (turned b plane) (above_zero h.multiple.factor h.multiple.positive) (turned_has_normal b plane (h.is_reduced).normal))
 
 -- so they are on no line
 pub through_off_line : (p0 p1 p2 : Point) (plane : Plane) (b : Bool) → p0.w ≡ pos 1 → p1.w ≡ pos 1 → p2.w ≡ pos 1 → IsPlaneThrough p0 p1 p2 plane b → AreOnOneLine p0 p1 p2 → ⊥
@@ -265,10 +261,10 @@ side_multiple false k h = scaled_flipped k h ∙ sym (scaled_neg k h)
 -- the same numbers in lowest terms, led by a positive one: multiples of them are equal only where they and the factors are
 pub through_unique : (p0 p1 p2 : Point) (g h : Plane) (a b : Bool) → IsPlaneThrough p0 p1 p2 g a → IsPlaneThrough p0 p1 p2 h b → (g ≡ h) × (a ≡ b)
 through_unique p0 p1 p2 g h a b s t =
-    let r = multiples_equal (side_factor a s.factor) (side_factor b t.factor) g h
-    (side_not_zero a s.factor s.positive) (side_not_zero b t.factor t.positive)
-    (sym (side_multiple a s.factor g) ∙ sym s.multiple ∙ t.multiple ∙ side_multiple b t.factor h) (s.is_reduced).lowest (t.is_reduced).lowest s.leads t.leads in
-    (r.0, one_flag a b s.factor t.factor s.positive t.positive r.1)
+    let r = multiples_equal (side_factor a s.multiple.factor) (side_factor b t.multiple.factor) g h
+    (side_not_zero a s.multiple.factor s.multiple.positive) (side_not_zero b t.multiple.factor t.multiple.positive)
+    (sym (side_multiple a s.multiple.factor g) ∙ sym s.multiple.multiple ∙ t.multiple.multiple ∙ side_multiple b t.multiple.factor h) (s.is_reduced).lowest (t.is_reduced).lowest s.leads t.leads in
+    (r.0, one_flag a b s.multiple.factor t.multiple.factor s.multiple.positive t.multiple.positive r.1)
   where
     one_flag : (a b : Bool) (j k : ℤ) → pos 0 <ℤ j → pos 0 <ℤ k → side_factor a j ≡ side_factor b k → a ≡ b
     one_flag true true j k p q e = refl

@@ -5,11 +5,11 @@ use Rattle.qm_space.specs.Plane.{Plane}
 
 -- The world's cube by its six walls, and the cube together with them.
 
--- the plane that faces this one from the other side of the origin, at the same distance
-abbrev pub opposite : Plane → Plane
-opposite a = record { nx = neg_ℤ a.nx; ny = neg_ℤ a.ny; nz = neg_ℤ a.nz; d = a.d }
+-- the plane mirrored at the origin: it faces this one from the other side, at the same distance
+abbrev pub mirrored : Plane → Plane
+mirrored a = record { nx = neg_ℤ a.nx; ny = neg_ℤ a.ny; nz = neg_ℤ a.nz; d = a.d }
 
--- three of the six walls of the cube, turned inward; the others are opposite
+-- three of the six walls of the cube, turned inward; the others are these mirrored
 abbrev pub wall_x : Plane
 wall_x = record { nx = pos 1; ny = pos 0; nz = pos 0; d = neg_ℤ extent }
 
@@ -21,7 +21,7 @@ wall_z = record { nx = pos 0; ny = pos 0; nz = pos 1; d = neg_ℤ extent }
 
 -- the six walls, turned inward: the cell of these is the cube
 abbrev pub cube_walls : List Plane
-cube_walls = wall_x ∷ wall_y ∷ wall_z ∷ opposite wall_x ∷ opposite wall_y ∷ opposite wall_z ∷ []
+cube_walls = wall_x ∷ wall_y ∷ wall_z ∷ mirrored wall_x ∷ mirrored wall_y ∷ mirrored wall_z ∷ []
 
 -- between the cube's two walls across one axis, or on one of them
 pub record IsUpToExtent (coordinate w : ℤ) : Type 0 where

@@ -1,10 +1,12 @@
 pub mod Bounds
 pub mod Point
 pub mod Plane
+pub mod Multiple
 pub mod Determinant
 pub mod Vector
 pub mod Meet
 pub mod Reduced
+pub mod Book
 pub mod Line
 pub mod ThreePoints
 pub mod Turned

@@ -16,7 +16,7 @@ point_sum p q = record { x = p.x +ℤ q.x; y = p.y +ℤ q.y; z = p.z +ℤ q.z; w
 abbrev pub point_times : ℤ → Point → Point
 point_times k p = record { x = k *ℤ p.x; y = k *ℤ p.y; z = k *ℤ p.z; w = k *ℤ p.w }
 
--- the two points stand for one place: each, times the w of the other, is the same
+-- two points of w above 0 stand for one place: each, times the w of the other, is the same
 abbrev pub IsSamePlace : Point → Point → Type 0
 IsSamePlace p q = point_times q.w p ≡ point_times p.w q
 

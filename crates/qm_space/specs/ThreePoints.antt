@@ -1,8 +1,9 @@
-use Rattle.std.specs.Prelude.{◌≡◌, ℕ, ◌≤◌, ℤ, pos, ◌+ℤ◌, ◌*ℤ◌, ◌<ℤ◌, Bool, IsTrue, unsigned_abs, int_div}
+use Rattle.std.specs.Prelude.{ℕ, ◌≤◌, pos, ◌+ℤ◌, ◌*ℤ◌, Bool, IsTrue, unsigned_abs, int_div}
 use Rattle.qm_numbers.specs.Gcd.{gcd}
 use Rattle.qm_space.specs.Bounds.{normal_bound, outward_distance_bound}
 use Rattle.qm_space.specs.Point.{Point}
-use Rattle.qm_space.specs.Plane.{Plane, scaled}
+use Rattle.qm_space.specs.Plane.{Plane}
+use Rattle.qm_space.specs.Multiple.{IsPositiveMultiple}
 use Rattle.qm_space.specs.Turned.{turned}
 use Rattle.qm_space.specs.Vector.{cross, step_between}
 use Rattle.qm_space.specs.Reduced.{leads_positive, IsReduced}
@@ -44,6 +45,4 @@ plane_through p0 p1 p2 =
 pub record IsPlaneThrough (p0 p1 p2 : Point) (plane : Plane) (out_is_front : Bool) : Type 0 where
   pub is_reduced : IsReduced plane
   pub leads : IsTrue (leads_positive plane)
-  pub factor : ℤ
-  pub positive : pos 0 <ℤ factor
-  pub multiple : outward_plane p0 p1 p2 ≡ scaled factor (turned out_is_front plane)
+  pub multiple : IsPositiveMultiple (outward_plane p0 p1 p2) (turned out_is_front plane)

@@ -7,7 +7,8 @@ use Rattle.qm_space.proofs.Planes.{value_flipped}
 use Rattle.qm_convex.specs.Winding.{Winding, corner_at, IsConvex}
 use Rattle.qm_convex.specs.Rotation.{place_after}
 use Rattle.qm_convex.specs.Sides.{HasCornerInFront, HasCornerBehind, HasNoCornerInFront, HasNoCornerBehind, HasNoneInFront, HasSomeInFront, IsWhollyInFront}
-use Rattle.qm_convex.specs.Cut.{IsFrontRun, IsPartInFront}
+use Rattle.qm_convex.specs.Cut.{IsPartInFront}
+use Rattle.qm_convex.specs.inner.FrontRun.{IsFrontRun}
 use Rattle.qm_convex.proofs.Places.{next_below}
 use Rattle.qm_convex.proofs.Central.{none_in_front, some_in_front, wholly_in_front}
 use Rattle.qm_convex.proofs.Runs.{run_between, enters_somewhere, leaves_somewhere}

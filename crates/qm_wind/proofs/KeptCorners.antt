@@ -6,12 +6,12 @@ use Rattle.qm_space.specs.Plane.{Plane}
 use Rattle.qm_space.specs.Meet.{meet}
 use Rattle.qm_space.specs.Reduced.{IsReduced}
 use Rattle.qm_convex.specs.Winding.{corners, Winding, corner_at, edge_at, IsConvex}
-use Rattle.qm_convex.specs.Square.{square}
-use Rattle.qm_space.specs.Cube.{opposite}
+use Rattle.qm_convex.specs.inner.Square.{square}
+use Rattle.qm_space.specs.Cube.{mirrored}
 use Rattle.qm_convex.proofs.Squares.{square_all, square_corners}
 use Rattle.qm_convex.specs.Rotation.{rotated_list, place_after}
 use Rattle.qm_convex.specs.Sides.{HasCornerBehind}
-use Rattle.qm_convex.specs.Cut.{IsFrontRun, cut}
+use Rattle.qm_convex.specs.inner.FrontRun.{IsFrontRun, cut}
 use Rattle.qm_convex.proofs.Places.{after_none}
 use Rattle.qm_convex.proofs.Corners.{corners_length, corner_in_list}
 use Rattle.qm_convex.proofs.Cutting.{cut_convex, cut_all, cut_corners, cut_length, cut_corner_leaving, cut_corner_entering}
@@ -59,7 +59,7 @@ kept_cut v kept g last first start count es ps k r x b el ef e f =
 
 -- a square and its corners, of planes and points that are these
 pub kept_square : (h a b c d h' a' b' c' d' : Plane) (k l m n : Point) (es : List Plane) (ps : List Point) → IsConvex (square h a b) →
-    h' ≡ h → a' ≡ a → b' ≡ b → c' ≡ c → d' ≡ d → c ≡ opposite a → d ≡ opposite b →
+    h' ≡ h → a' ≡ a → b' ≡ b → c' ≡ c → d' ≡ d → c ≡ mirrored a → d ≡ mirrored b →
     IsReduced h' → IsReduced a' → IsReduced b' → IsReduced c' → IsReduced d' →
     k ≡ meet h a b → l ≡ meet h b c' → m ≡ meet h c' d' → n ≡ meet h d' a →
     es ≡ a' ∷ b' ∷ c' ∷ d' ∷ [] → ps ≡ k ∷ l ∷ m ∷ n ∷ [] →
@@ -94,11 +94,11 @@ square_weight h a b i p c l e = subst (λ q. pos 0 <ℤ q.w) (sym (corner_in_lis
 pub square_first : (h a b : Plane) → IsConvex (square h a b) → pos 0 <ℤ (meet h a b).w
 square_first h a b x = square_weight h a b 0 (meet h a b) x (omega arith) (ap (λ ps. get_or ps 0 (meet h a b)) (square_corners h a b))
 
-pub square_second : (h a b c : Plane) → IsConvex (square h a b) → c ≡ opposite a → pos 0 <ℤ (meet h b c).w
+pub square_second : (h a b c : Plane) → IsConvex (square h a b) → c ≡ mirrored a → pos 0 <ℤ (meet h b c).w
 square_second h a b c x e = square_weight h a b 1 (meet h b c) x (omega arith) (ap (λ ps. get_or ps 1 (meet h b c)) (square_corners h a b) ∙ ap (λ p. meet h b p) (sym e))
 
-pub square_third : (h a b c d : Plane) → IsConvex (square h a b) → c ≡ opposite a → d ≡ opposite b → pos 0 <ℤ (meet h c d).w
+pub square_third : (h a b c d : Plane) → IsConvex (square h a b) → c ≡ mirrored a → d ≡ mirrored b → pos 0 <ℤ (meet h c d).w
 square_third h a b c d x e f = square_weight h a b 2 (meet h c d) x (omega arith) (ap (λ ps. get_or ps 2 (meet h c d)) (square_corners h a b) ∙ (λ i. meet h (sym e i) (sym f i)))
 
-pub square_fourth : (h a b d : Plane) → IsConvex (square h a b) → d ≡ opposite b → pos 0 <ℤ (meet h d a).w
+pub square_fourth : (h a b d : Plane) → IsConvex (square h a b) → d ≡ mirrored b → pos 0 <ℤ (meet h d a).w
 square_fourth h a b d x f = square_weight h a b 3 (meet h d a) x (omega arith) (ap (λ ps. get_or ps 3 (meet h d a)) (square_corners h a b) ∙ ap (λ p. meet h p a) (sym f))

@@ -9,7 +9,7 @@ use Rattle.qm_numbers.proofs.IntegerProducts.{linear}
 use Rattle.qm_numbers.proofs.Signs.{by_sign, compares_less, compares_equal, compares_greater}
 use Rattle.qm_convex.specs.Winding.{Winding, next_place, corner_at, corners}
 use Rattle.qm_convex.specs.Sides.{HasCornerInFront, HasCornerBehind, HasNoCornerInFront, HasNoCornerBehind}
-use Rattle.qm_convex.specs.Cut.{EntersFrontAt, LeavesFrontAt}
+use Rattle.qm_convex.specs.inner.FrontRun.{EntersFrontAt, LeavesFrontAt}
 use Rattle.qm_convex.proofs.Places.{next_inner, next_last}
 use Rattle.qm_convex.proofs.Corners.{corners_length, corner_in_list}
 use Rattle.qm_wind.specs.declared.survey.Survey.{Survey}

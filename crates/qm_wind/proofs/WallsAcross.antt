@@ -6,7 +6,7 @@ use Rattle.qm_space.specs.Meet.{meet}
 use Rattle.qm_space.specs.Reduced.{HasNormal}
 use Rattle.qm_numbers.proofs.IntegerProducts.{linear}
 use Rattle.qm_numbers.proofs.Signs.{by_sign, less_compares, greater_compares, equal_compares}
-use Rattle.qm_convex.specs.Square.{AreWalls}
+use Rattle.qm_convex.specs.inner.Square.{AreWalls}
 use Rattle.qm_space.specs.Cube.{wall_x, wall_y, wall_z}
 use Rattle.qm_convex.proofs.Squares.{walls_x_y_z, walls_exchanged, walls_rotated, turn_exchanged, turn_x_y, turn_z_x, turn_y_z}
 use Rattle.qm_wind.specs.declared.walls.Walls.{Walls}

@@ -6,7 +6,7 @@ use Rattle.qm_space.specs.Point.{Point}
 use Rattle.qm_geom.specs.Rounding.{HasSmallCoordinates}
 use Rattle.qm_convex.specs.Winding.{Winding, corner_at}
 use Rattle.qm_convex.specs.Vertex.{IsVertex}
-use Rattle.qm_convex.specs.Square.{IsInWorld}
+use Rattle.qm_convex.specs.World.{IsInWorld}
 use Rattle.qm_space.specs.Cube.{IsUpToExtent, IsInClosedCube}
 use Rattle.qm_convex.proofs.Squares.{corner_in_closed_cube}
 use Rattle.qm_convex.proofs.Vertices.{corner_is_vertex}

@@ -10,7 +10,7 @@ ghost use Rattle.qm_convex.specs.Sides.{HasNoCornerInFront, HasNoCornerBehind, H
 ghost use Rattle.qm_convex.specs.Cut.{IsPartInFront, IsParted};
 ghost use Rattle.qm_convex.specs.Rotation.{IsSameRotated};
 ghost use Rattle.qm_convex.specs.Vertex.{HasVerticesAsCorners};
-ghost use Rattle.qm_convex.specs.Square.{IsInWorld};
+ghost use Rattle.qm_convex.specs.World.{IsInWorld};
 ghost use Rattle.qm_space.specs.Cube.{IsInClosedCube};
 
 /// The central law: a plane's value is at most 0 on the whole winding exactly where it is at most 0 at

@@ -1,13 +1,14 @@
 ghost use Rattle.std.specs.Prelude.{◌≡◌, ◌<◌, true, length, IfOk, MatchOption};
 ghost use Rattle.qm_convex.specs.Winding.{corner_at, IsConvex};
-ghost use Rattle.qm_convex.specs.Square.{square};
-ghost use Rattle.qm_convex.specs.Cut.{IsFrontRun, IsPartInFront, cut};
+ghost use Rattle.qm_convex.specs.inner.Square.{square};
+ghost use Rattle.qm_convex.specs.Cut.{IsPartInFront};
+ghost use Rattle.qm_convex.specs.inner.FrontRun.{IsFrontRun, cut};
 ghost use Rattle.qm_convex.specs.Sides.{HasCornerBehind, HasNoneInFront};
 ghost use Rattle.qm_wind.specs.inner.Surveyed.{IsSurvey};
 
 use crate::circle::{add_arc, item, place_after, steps_between};
 use crate::survey::Survey;
-use crate::walls::opposite;
+use crate::walls::mirrored;
 use qm_geom::{Corner, Plane};
 use smallvec::SmallVec;
 use std::alloc::{AllocError, Global};
@@ -137,7 +138,7 @@ impl Polygon {
         Ok(Some(self.part_in_front_of(plane, &survey)?))
     }
 
-    /// The part of a plane between two walls and their opposites.
+    /// The part of a plane between two walls and these mirrored.
     pub(crate) fn square(
         alloc: Global,
         plane: &Plane,
@@ -150,8 +151,8 @@ impl Polygon {
         let _ = &plane.nx;
         let _ = &first.nx;
         let _ = &second.nx;
-        let third = opposite(first);
-        let fourth = opposite(second);
+        let third = mirrored(first);
+        let fourth = mirrored(second);
         let _ = &third.nx;
         let _ = &fourth.nx;
         let edges = SmallVec::from_array(alloc, [*first, *second, third, fourth])?;

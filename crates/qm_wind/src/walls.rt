@@ -1,5 +1,5 @@
 ghost use Rattle.std.specs.Prelude.{◌≡◌};
-ghost use Rattle.qm_space.specs.Cube.{opposite, wall_x, wall_y, wall_z};
+ghost use Rattle.qm_space.specs.Cube.{mirrored, wall_x, wall_y, wall_z};
 ghost use Rattle.qm_wind.specs.inner.Across.{StandAcross};
 
 use qm_geom::Plane;
@@ -15,8 +15,8 @@ pub(crate) struct Walls {
 }
 
 /// The face of the world's cube opposite to a wall.
-pub(crate) fn opposite(wall: &Plane) -> Plane
-    ensures { result ≡ opposite wall.now }
+pub(crate) fn mirrored(wall: &Plane) -> Plane
+    ensures { result ≡ mirrored wall.now }
 {
     Plane {
         nx: -wall.nx,

@@ -3,12 +3,12 @@ ghost use Rattle.qm_space.specs.Turned.{turned};
 ghost use Rattle.qm_geom.specs.Rounding.{HasSmallCoordinates};
 ghost use Rattle.qm_convex.specs.Winding.{corner_at};
 ghost use Rattle.qm_convex.specs.Vertex.{IsVertex, HasVerticesAsCorners};
-ghost use Rattle.qm_convex.specs.Square.{MissesCube, IsWorldPart, IsInWorld};
+ghost use Rattle.qm_convex.specs.World.{MissesCube, IsWorldPart, IsInWorld};
 ghost use Rattle.qm_space.specs.Cube.{IsInClosedCube};
 ghost use Rattle.qm_wind.specs.Clipped.{IsClip, is_front};
 
 use crate::polygon::Polygon;
-use crate::walls::{Walls, opposite};
+use crate::walls::{Walls, mirrored};
 use qm_geom::{Corner, Plane};
 use std::alloc::{AllocError, Global};
 use std::marker::Model;
@@ -29,7 +29,7 @@ pub struct Winding {
 
 impl Model for Winding {
     ghost use Rattle.qm_convex.specs.Winding.{Winding};
-    ghost use Rattle.qm_convex.specs.Square.{IsInWorld};
+    ghost use Rattle.qm_convex.specs.World.{IsInWorld};
 
     ghost Value = { Winding };
 
@@ -58,7 +58,7 @@ impl Winding {
             None => return Ok(None),
             Some(near) => near,
         };
-        match near.kept_in_front_of(&opposite(&walls.third))? {
+        match near.kept_in_front_of(&mirrored(&walls.third))? {
             None => Ok(None),
             Some(polygon) => Ok(Some(Winding { polygon })),
         }

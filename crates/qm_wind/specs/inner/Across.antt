@@ -1,7 +1,7 @@
 use Rattle.std.specs.Prelude.{pos, ◌<ℤ◌}
 use Rattle.qm_space.specs.Plane.{Plane}
 use Rattle.qm_space.specs.Meet.{meet}
-use Rattle.qm_convex.specs.Square.{AreWalls}
+use Rattle.qm_convex.specs.inner.Square.{AreWalls}
 
 -- three walls of the cube, the first two across a plane: the normals of the plane and of these two turn to the front
 pub record StandAcross (h a b c : Plane) : Type 0 where

@@ -5,7 +5,7 @@ use Rattle.std.specs.declared.cmp.Ordering.{Ordering}
 use Rattle.qm_space.specs.Plane.{Plane, value}
 use Rattle.qm_convex.specs.Winding.{Winding, next_place, corner_at}
 use Rattle.qm_convex.specs.Sides.{HasCornerInFront, HasCornerBehind, HasNoCornerInFront, HasNoCornerBehind}
-use Rattle.qm_convex.specs.Cut.{EntersFrontAt, LeavesFrontAt}
+use Rattle.qm_convex.specs.inner.FrontRun.{EntersFrontAt, LeavesFrontAt}
 use Rattle.qm_wind.specs.declared.survey.Survey.{Survey}
 
 -- with the corner at a place, after the one before it

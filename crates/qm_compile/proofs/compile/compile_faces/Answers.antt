@@ -3,7 +3,7 @@ use Rattle.qm_space.specs.Plane.{Plane}
 use Rattle.qm_compile.specs.Chain.{chain, last_contents}
 use Rattle.qm_partition.specs.Counting.{leaves_of}
 use Rattle.qm_partition.specs.Numbering.{nodes_of}
-use Rattle.qm_compile.specs.SideLists.{IsWalk}
+use Rattle.qm_compile.specs.inner.SideLists.{IsWalk}
 use Rattle.qm_compile.specs.Walk.{walk_of}
 use Rattle.qm_compile.proofs.ChainSizes.{IsBuilt, is_built, chain_lengths, chain_file, chain_summary}
 use Rattle.qm_compile.proofs.compile.compile_faces.Goals as goal

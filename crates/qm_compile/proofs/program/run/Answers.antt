@@ -4,7 +4,7 @@ use Rattle.std.proofs.lemmas.List.{append-nil}
 use Rattle.qm_shelf.specs.Counts.{SinkFaultCounted}
 use Rattle.qm_shelf.specs.Writes.{ContinuesInto}
 use Rattle.qm_shelf.specs.declared.sink.SinkFault.{SinkFault}
-use Rattle.qm_compile.specs.Outcome.{status_of, text_of}
+use Rattle.qm_compile.specs.inner.Outcome.{status_of, text_of}
 use Rattle.qm_compile.proofs.Reported.{answers_report, answers_failure, answers_no_room, answers_run_out}
 use Rattle.qm_compile.proofs.program.run.Goals as goal
 

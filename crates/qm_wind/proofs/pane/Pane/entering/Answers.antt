@@ -6,7 +6,7 @@ use Rattle.qm_wind.proofs.pane.Pane.entering.Goals.{in-Front, in-Back}
 
 pub returns-clause-into : goal.returns-clause-into
 returns-clause-into c = elim c.match-side.branch [
-    in-Front w ↦ rw w.in-Front.is (w.into-is ∙ c.plane-plane.ensures)
+  | in-Front w ↦ rw w.in-Front.is (w.into-is ∙ c.plane-plane.ensures)
   | in-Back w ↦ rw w.in-Back.is (w.into-is ∙ w.flipped-into.ensures ∙ ap flipped c.plane-plane.ensures)
 ]
 

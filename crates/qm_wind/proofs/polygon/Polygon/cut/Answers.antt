@@ -1,7 +1,7 @@
 use Rattle.std.proofs.Common.{◌∙◌, ◌+◌, ◌++◌, [], ◌∷◌, length, get_or, take, refl, sym, ap, ap₂, subst, arith}
 use Rattle.qm_space.specs.Reduced.{IsReduced}
 use Rattle.qm_convex.specs.Rotation.{rotated_list, place_after}
-use Rattle.qm_convex.specs.Cut.{IsFrontRun}
+use Rattle.qm_convex.specs.inner.FrontRun.{IsFrontRun}
 use Rattle.qm_convex.specs.Sides.{HasCornerBehind}
 use Rattle.qm_convex.proofs.Places.{after_below}
 use Rattle.qm_wind.proofs.KeptCorners.{leaving_weight, entering_weight, kept_length, view_length, cut_view, kept_cut}

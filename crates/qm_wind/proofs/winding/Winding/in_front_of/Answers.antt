@@ -1,6 +1,6 @@
 use Rattle.std.proofs.Common.{subst}
 use Rattle.qm_convex.specs.Cut.{IsPartInFront}
-use Rattle.qm_convex.specs.Square.{IsInWorld}
+use Rattle.qm_convex.specs.World.{IsInWorld}
 use Rattle.qm_wind.specs.inner.Surveyed.{IsSurvey}
 use Rattle.qm_wind.proofs.Clips.{survey_gone, survey_whole, survey_some_behind}
 use Rattle.qm_wind.proofs.winding.Winding.in_front_of.Goals as goal

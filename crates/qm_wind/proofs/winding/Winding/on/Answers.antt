@@ -16,17 +16,17 @@ pub returns-in-None-2 : goal.returns-in-None-2
 returns-in-None-2 c =
     misses_far c.args.plane.now c.across-walls.result.first c.across-walls.result.second c.across-walls.result.third c.across-walls.ensures.walls c.in-Some.near
     (some_kept _ _ _ _ c.in_ok-kept_in_front_of.field-0 c.in-Some.near c.in_ok-square.ensures refl c.in-Some.is c.in_ok-kept_in_front_of.ensures)
-    (none_kept _ _ _ _ c.in_ok-kept_in_front_of-2.field-0 refl c.opposite.ensures c.in-None-2.is c.in_ok-kept_in_front_of-2.ensures)
+    (none_kept _ _ _ _ c.in_ok-kept_in_front_of-2.field-0 refl c.mirrored.ensures c.in-None-2.is c.in_ok-kept_in_front_of-2.ensures)
 
 pub returns-in-Some-2 : goal.returns-in-Some-2
 returns-in-Some-2 c =
     world_part c.args.plane.now c.across-walls.result.first c.across-walls.result.second c.across-walls.result.third c.across-walls.ensures.walls c.in-Some.near c.in-Some-2.polygon
     (some_kept _ _ _ _ c.in_ok-kept_in_front_of.field-0 c.in-Some.near c.in_ok-square.ensures refl c.in-Some.is c.in_ok-kept_in_front_of.ensures)
-    (some_kept _ _ _ _ c.in_ok-kept_in_front_of-2.field-0 c.in-Some-2.polygon refl c.opposite.ensures c.in-Some-2.is c.in_ok-kept_in_front_of-2.ensures)
+    (some_kept _ _ _ _ c.in_ok-kept_in_front_of-2.field-0 c.in-Some-2.polygon refl c.mirrored.ensures c.in-Some-2.is c.in_ok-kept_in_front_of-2.ensures)
 
 pub invariant_of-result : goal.invariant_of-result
 invariant_of-result c =
     world_part_in_world c.in-Some-2.polygon c.args.plane.now
     (world_part c.args.plane.now c.across-walls.result.first c.across-walls.result.second c.across-walls.result.third c.across-walls.ensures.walls c.in-Some.near c.in-Some-2.polygon
     (some_kept _ _ _ _ c.in_ok-kept_in_front_of.field-0 c.in-Some.near c.in_ok-square.ensures refl c.in-Some.is c.in_ok-kept_in_front_of.ensures)
-    (some_kept _ _ _ _ c.in_ok-kept_in_front_of-2.field-0 c.in-Some-2.polygon refl c.opposite.ensures c.in-Some-2.is c.in_ok-kept_in_front_of-2.ensures))
+    (some_kept _ _ _ _ c.in_ok-kept_in_front_of-2.field-0 c.in-Some-2.polygon refl c.mirrored.ensures c.in-Some-2.is c.in_ok-kept_in_front_of-2.ensures))

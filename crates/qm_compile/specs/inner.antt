@@ -1,0 +1,4 @@
+pub mod ChainStep
+pub mod Made
+pub mod Outcome
+pub mod SideLists

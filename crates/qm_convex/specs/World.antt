@@ -1,0 +1,19 @@
+use Rattle.std.specs.Prelude.{◌≡◌, ◌↔◌}
+use Rattle.qm_space.specs.Point.{Point, IsInCube}
+use Rattle.qm_space.specs.Plane.{Plane, IsOn}
+use Rattle.qm_convex.specs.Winding.{Winding, IsInRegion, IsConvex}
+
+-- no point of the world's cube is on the plane
+abbrev pub MissesCube : Plane → Type 0
+MissesCube h = (p : Point) → IsInCube p → IsOn h p → ⊥
+
+-- the winding is the part of the plane inside the world's cube
+pub record IsWorldPart (w : Winding) (h : Plane) : Type 0 where
+  pub convex : IsConvex w
+  pub plane : w.plane ≡ h
+  pub points : (p : Point) → IsInRegion w p ↔ (IsOn h p × IsInCube p)
+
+-- a convex polygon inside the world's cube
+pub record IsInWorld (v : Winding) : Type 0 where
+  pub convex : IsConvex v
+  pub inside : (p : Point) → IsInRegion v p → IsInCube p

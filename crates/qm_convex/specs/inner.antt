@@ -1,0 +1,2 @@
+pub mod FrontRun
+pub mod Square

@@ -1,0 +1,8 @@
+use Rattle.std.specs.Prelude.{◌≡◌, ℤ, pos, ◌<ℤ◌}
+use Rattle.qm_space.specs.Plane.{Plane, scaled}
+
+-- the plane h is a positive multiple of g: the same points are in front of it, on it and behind it
+pub record IsPositiveMultiple (h g : Plane) : Type 0 where
+  pub factor : ℤ
+  pub positive : pos 0 <ℤ factor
+  pub multiple : h ≡ scaled factor g
