@@ -51,7 +51,7 @@ pub fn parted()
 {}
 
 /// A winding read from another of its edges on is the same winding.
-pub fn turned()
+pub fn rotated()
     ensures { (v : Winding) (i : ℕ) → IsConvex v → i < length v.edges → IsSameRotated v i }
 {}
 
