@@ -1,10 +1,10 @@
 use Rattle.std.proofs.Common.{◌≡◌, pos, ◌≤ℤ◌, List, [], ◌∷◌, All, Option, Some, inl, inr, sym, refl, ap, ◌∙◌, arith, subst}
 use Rattle.std.specs.Prelude.{unwrap_or}
-use Rattle.std.proofs.lemmas.List.Elements.{All-map, All-contains, All-from_recursion, recursion_from_All, All-nil, All-cons, All-head, All-tail}
+use Rattle.std.proofs.lemmas.List.Elements.{All-map, All-contains, All-from_recursion, recursion_from_All}
 use Rattle.qm_lists.proofs.Cases.{by_cases}
 use Rattle.qm_lists.proofs.Elements.{All-from_map}
 use Rattle.qm_space.specs.Point.{Point, IsInCube}
-use Rattle.qm_space.specs.Plane.{Plane, value, IsBehind}
+use Rattle.qm_space.specs.Plane.{value, IsBehind}
 use Rattle.qm_space.specs.Reduced.{HasNormal}
 use Rattle.qm_mapfile.specs.declared.face.Face.{Face}
 use Rattle.qm_mapfile.specs.declared.entity.Brush.{Brush}

@@ -1,4 +1,4 @@
-use Rattle.std.specs.Prelude.{ℕ, ◌≡◌, ◌+◌, ◌⊎◌, IsTrue, List, take, Some}
+use Rattle.std.specs.Prelude.{ℕ, ◌≡◌, ◌⊎◌, IsTrue, List, take, Some}
 use Rattle.qm_lists.specs.Limit.{up_to_one_past}
 use Rattle.qm_shelf.specs.ShelfState.{ShelfState, text_under}
 

@@ -1,4 +1,4 @@
-use Rattle.std.specs.Prelude.{ℤ, pos, ◌≤ℤ◌, ◌<ℤ◌, List}
+use Rattle.std.specs.Prelude.{ℤ, ◌≤ℤ◌, ◌<ℤ◌, List}
 use Rattle.qm_space.specs.Point.{Point}
 use Rattle.qm_space.specs.Plane.{IsInFront, IsNotInFront}
 use Rattle.qm_geom.specs.LeastDistance.{plane_at_distance}
