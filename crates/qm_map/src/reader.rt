@@ -157,7 +157,7 @@ impl Reader {
     }
 
     /// Puts the open entity to the others.
-    #[inline(never)]
+    #[inline]
     fn end_entity(&mut self) -> Result<(), AllocError>
         ensures { OnOk result (self.new ≡ outside (self.old.entities ++ (record { pairs = self.old.pairs; brushes = self.old.brushes }) ∷ [])) }
     {
@@ -342,6 +342,7 @@ impl Reader {
         Ok(())
     }
 
+    #[inline]
     fn step_text(&mut self, others: &'static [Slot], bytes: &[u8]) -> Result<(), Stop>
         requires context { self.old.context ≡ Context.Face }
         requires due { HasDueParts Context.Face (length self.old.numbers) (length self.old.texts + 1) others.now }
