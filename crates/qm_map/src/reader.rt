@@ -163,8 +163,9 @@ impl Reader {
     {
         let pairs = take_all(self.alloc, &mut self.pairs)?;
         self.lacks_origin = true;
-        let brushes = take_all(self.alloc, &mut self.brushes)?;
-        let entity = self.empties.entity_of(self.alloc, pairs, brushes)?;
+        let entity = self
+            .empties
+            .entity_of(self.alloc, pairs, &mut self.brushes)?;
         self.context = Context::Outside;
         self.key = Text::new(self.alloc);
         self.faces.clear();
