@@ -131,6 +131,7 @@ fn meaning_of(alloc: Global, text: &[u8]) -> Result<MapFile, MapFault>
         match lexer.next() {
             Ok(Some(token)) => {
                 if let Err(fault) = take(&mut reader, text, token) {
+                    drop(reader);
                     return Err(fault);
                 }
             }
