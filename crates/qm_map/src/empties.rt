@@ -1,5 +1,6 @@
-ghost use Rattle.std.specs.Prelude.{◌≡◌, IfOk};
+ghost use Rattle.std.specs.Prelude.{◌≡◌, [], IfOk, OnOk};
 
+use crate::list::take_all;
 use qm_mapfile::{Brush, Entity, Pair, Parts};
 use std::alloc::{AllocError, Global};
 use std::marker::Model;
@@ -28,15 +29,17 @@ impl Empties {
         Ok(Empties { pairs, brushes })
     }
 
-    /// The entity of these pairs and brushes.
+    /// The entity of these pairs and brushes. The brushes are taken out of their list.
     pub(crate) fn entity_of(
         &self,
         alloc: Global,
         pairs: Vec<Pair>,
-        brushes: Vec<Brush>,
+        brushes: &mut Vec<Brush>,
     ) -> Result<Entity, AllocError>
-        ensures { IfOk result (λ entity. entity ≡ record { pairs = pairs.items; brushes = brushes.items }) }
+        ensures entity { IfOk result (λ entity. entity ≡ record { pairs = pairs.items; brushes = brushes.old.items }) }
+        ensures taken { OnOk result (brushes.new.items ≡ []) }
     {
+        let brushes = take_all(alloc, brushes)?;
         let pairs = Parts::from_vec(alloc, pairs, &self.pairs)?;
         let brushes = Parts::from_vec(alloc, brushes, &self.brushes)?;
         Ok(Entity { pairs, brushes })

@@ -157,14 +157,15 @@ impl Reader {
     }
 
     /// Puts the open entity to the others.
-    #[inline(never)]
+    #[inline]
     fn end_entity(&mut self) -> Result<(), AllocError>
         ensures { OnOk result (self.new ≡ outside (self.old.entities ++ (record { pairs = self.old.pairs; brushes = self.old.brushes }) ∷ [])) }
     {
         let pairs = take_all(self.alloc, &mut self.pairs)?;
         self.lacks_origin = true;
-        let brushes = take_all(self.alloc, &mut self.brushes)?;
-        let entity = self.empties.entity_of(self.alloc, pairs, brushes)?;
+        let entity = self
+            .empties
+            .entity_of(self.alloc, pairs, &mut self.brushes)?;
         self.context = Context::Outside;
         self.key = Text::new(self.alloc);
         self.faces.clear();
@@ -342,6 +343,7 @@ impl Reader {
         Ok(())
     }
 
+    #[inline]
     fn step_text(&mut self, others: &'static [Slot], bytes: &[u8]) -> Result<(), Stop>
         requires context { self.old.context ≡ Context.Face }
         requires due { HasDueParts Context.Face (length self.old.numbers) (length self.old.texts + 1) others.now }

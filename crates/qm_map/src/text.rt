@@ -76,6 +76,7 @@ fn closed_by_end(text: &[u8], reader: Reader) -> Result<MapFile, MapFault>
     ensures { result ≡ closed_by_end text.now None reader }
 {
     if reader.context() != Context::Outside {
+        drop(reader);
         return Err(MapFault::EndInside {
             line: last_line(text),
         });
@@ -94,12 +95,16 @@ fn ended(text: &[u8], unclosed: Option<u64>, reader: Reader) -> Result<MapFile, 
     ensures { result ≡ ended text.now unclosed (Ok reader) }
 {
     if text.len() > TEXT_LIMIT {
+        drop(reader);
         return Err(MapFault::TextTooLong {
             line: line_at(text, TEXT_LIMIT),
         });
     }
     match unclosed {
-        Some(line) => Err(MapFault::UnclosedQuote { line }),
+        Some(line) => {
+            drop(reader);
+            Err(MapFault::UnclosedQuote { line })
+        }
         None => closed_by_end(text, reader),
     }
 }
@@ -126,6 +131,7 @@ fn meaning_of(alloc: Global, text: &[u8]) -> Result<MapFile, MapFault>
         match lexer.next() {
             Ok(Some(token)) => {
                 if let Err(fault) = take(&mut reader, text, token) {
+                    drop(reader);
                     return Err(fault);
                 }
             }
