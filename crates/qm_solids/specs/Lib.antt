@@ -6,3 +6,4 @@ pub mod Contents
 pub mod Cells
 pub mod Candidates
 pub mod Least
+pub mod InBook

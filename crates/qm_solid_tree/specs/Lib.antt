@@ -1,0 +1,4 @@
+pub mod Division
+pub mod Uniform
+pub mod TreeOf
+pub mod GivesContents
