@@ -10,3 +10,4 @@ pub mod Sizes
 pub mod Directions
 pub mod Exchange
 pub mod Books
+pub mod Openness
