@@ -1,4 +1,4 @@
-use Rattle.std.specs.Prelude.{◌≡◌, ◌⊎◌, ℕ, ◌+◌, ◌<◌, Bool, List, [], ◌∷◌, length, map, All, Contains, Option, Some, None, IfSome, slice_get}
+use Rattle.std.specs.Prelude.{◌≡◌, ◌⊎◌, ℕ, ◌+◌, ◌<◌, Bool, List, [], ◌∷◌, length, map, All, Contains, Option, Some, None, IsSomeAnd, slice_get}
 use Rattle.qm_space.specs.Point.{Point, IsInCube}
 use Rattle.qm_space.specs.Plane.{Plane, IsOn}
 use Rattle.qm_space.specs.Cell.{IsInCell}
@@ -57,7 +57,7 @@ HasTheirPlanes book solids =
 
 -- contents are known that are at least as strong
 abbrev pub IsReached : Option Contents → Contents → Type 0
-IsReached strongest contents = IfSome strongest (λ known. IsAtMost contents known)
+IsReached strongest contents = IsSomeAnd strongest (λ known. IsAtMost contents known)
 
 -- contents are known, if any, only of a solid that contains the cell
 abbrev pub AreOfSomeSolid : List Solid → List Plane → Option Contents → Type 0

@@ -1,6 +1,7 @@
 use Rattle.std.specs.Prelude.{◌≡◌, ◌↔◌, ℕ, ◌<◌, List, length, All, Contains, Some, slice_get}
 use Rattle.qm_space.specs.Point.{Point}
 use Rattle.qm_space.specs.Plane.{Plane}
+use Rattle.qm_space.specs.Reduced.{IsReduced}
 use Rattle.qm_convex.specs.Winding.{IsInRegion, IsConvex}
 use Rattle.qm_solids.specs.Solid.{Solid}
 use Rattle.qm_solids.specs.Holding.{IsFull}
@@ -30,13 +31,14 @@ pub record HasPointOfFace (face : Plane) (x : Point) (pieces : List Piece) : Typ
   pub lies_on : LiesOn face piece.winding.plane
   pub has : IsInRegion piece.winding x
 
--- the pieces are what the cell has of the solid's faces, and it has some
+-- the pieces are what the cell has of the solid's faces
 pub record ArePieces (book cell : List Plane) (solid : Solid) (pieces : List Piece) : Type 0 where
-  pub some : 0 < length pieces
   pub sound : All (IsPiece book cell solid) pieces
   pub complete : (face : Plane) (x : Point) → Contains solid.outward face → IsOnFace solid cell face x → HasPointOfFace face x pieces
 
--- a full solid with its pieces in the cell
+-- a full solid with the pieces that the cell has of its faces, at least one
 pub record IsContender (book cell : List Plane) (contender : Contender) : Type 0 where
   pub full : IsFull (solid_of contender)
+  pub reduced : All IsReduced contender.outward.items
+  pub some : 0 < length contender.pieces.items
   pub pieces : ArePieces book cell (solid_of contender) contender.pieces.items

@@ -1,0 +1,3 @@
+pub mod PieceParts
+pub mod Parts
+pub mod Gathered

@@ -1,0 +1,35 @@
+use Rattle.std.specs.Prelude.{◌≡◌, ◌⊎◌, ◌<◌, ◌≤◌, List, length, Contains, Option, MatchOption}
+use Rattle.qm_space.specs.Plane.{Plane}
+use Rattle.qm_convex.specs.Sides.{HasNoneInFront}
+use Rattle.qm_convex.specs.Cut.{IsPartInFront}
+use Rattle.qm_split.specs.declared.piece.Piece.{Piece}
+
+-- What pieces have in front of a plane.
+
+-- the piece q is what the piece p has in front of the plane
+pub record IsFrontOf (p : Piece) (g : Plane) (q : Piece) : Type 0 where
+  pub number : q.number ≡ p.number
+  pub part : IsPartInFront q.winding p.winding g
+
+-- the answer, for a piece that may have nothing there
+abbrev pub IsPartOf : Piece → Plane → Option Piece → Type 0
+IsPartOf p g part = MatchOption part (HasNoneInFront p.winding g) (IsFrontOf p g)
+
+-- a piece of a list that is in front of the plane in part
+pub record ComesOf (ps : List Piece) (g : Plane) (q : Piece) : Type 0 where
+  pub piece : Piece
+  pub listed : Contains ps piece
+  pub is : IsFrontOf piece g q
+
+-- one of a list that is what the piece p has in front of the plane
+pub record GoesTo (qs : List Piece) (g : Plane) (p : Piece) : Type 0 where
+  pub piece : Piece
+  pub listed : Contains qs piece
+  pub is : IsFrontOf p g piece
+
+-- the pieces qs are what the pieces ps have in front of the plane, and they are fewer where one has nothing there
+pub record AreFront (ps : List Piece) (g : Plane) (qs : List Piece) : Type 0 where
+  pub each : (q : Piece) → Contains qs q → ComesOf ps g q
+  pub all : (p : Piece) → Contains ps p → HasNoneInFront p.winding g ⊎ GoesTo qs g p
+  pub no_more : length qs ≤ length ps
+  pub fewer : (p : Piece) → Contains ps p → HasNoneInFront p.winding g → length qs < length ps
