@@ -11,3 +11,4 @@ pub mod Directions
 pub mod Exchange
 pub mod Books
 pub mod Openness
+pub mod Proportional
