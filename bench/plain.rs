@@ -168,6 +168,41 @@ impl Winding {
         }
     }
 
+    /// The part of a plane across an axis, inside the cube.
+    fn on(plane: &Plane) -> Winding {
+        let wall = |nx, ny, nz| Plane { nx, ny, nz, d: -4096 };
+        let (u, v) = match (plane.nx, plane.ny) {
+            (1, _) => ([0, 1, 0], [0, 0, 1]),
+            (_, 1) => ([0, 0, 1], [1, 0, 0]),
+            _ => ([1, 0, 0], [0, 1, 0]),
+        };
+        let near = |n: [i32; 3]| wall(n[0], n[1], n[2]);
+        let far = |n: [i32; 3]| wall(-n[0], -n[1], -n[2]);
+        Winding::of(plane, &[near(u), near(v), far(u), far(v)])
+    }
+
+    fn kept(self, plane: &Plane, side: Side) -> Winding {
+        match self.clip(plane, side) {
+            Clip::Cut(part) => part,
+            Clip::Whole | Clip::Gone => self,
+        }
+    }
+
+    /// Both parts, by two clips.
+    fn split(self, plane: &Plane) -> (Option<Winding>, Option<Winding>) {
+        match self.clip(plane, Side::Front) {
+            Clip::Whole => (Some(self), None),
+            Clip::Cut(front) => match self.clip(plane, Side::Back) {
+                Clip::Cut(back) => (Some(front), Some(back)),
+                _ => (Some(front), None),
+            },
+            Clip::Gone => match self.clip(plane, Side::Back) {
+                Clip::Gone => (None, None),
+                _ => (None, Some(self)),
+            },
+        }
+    }
+
     fn in_front_of(&self, g: &Plane) -> Clip {
         let edges = self.edges.as_slice();
         let n = edges.len();
@@ -220,19 +255,95 @@ impl Winding {
     }
 }
 
+struct Numbers {
+    state: u64,
+}
+
+impl Numbers {
+    fn next(&mut self) -> u32 {
+        self.state = self.state.wrapping_mul(6364136223846793005).wrapping_add(1442695040888963407);
+        (self.state >> 33) as u32
+    }
+
+    fn point(&mut self, reach: u32) -> [i32; 3] {
+        [(); 3].map(|()| (self.next() % (2 * reach + 1)) as i32 - reach as i32)
+    }
+
+    fn plane(&mut self, reach: u32) -> Plane {
+        let (a, b, c) = (self.point(reach), self.point(reach), self.point(reach));
+        Plane::through(a, b, c).unwrap_or(Plane { nx: 1, ny: 0, nz: 0, d: 0 })
+    }
+}
+
 fn planes() -> Vec<Plane> {
-    let mut state: u64 = 1;
-    let mut next = || {
-        state = state.wrapping_mul(6364136223846793005).wrapping_add(1442695040888963407);
-        ((state >> 33) % 8193) as i32 - 4096
-    };
-    let mut point = || [next(), next(), next()];
-    (0..1024)
-        .map(|_| {
-            let (a, b, c) = (point(), point(), point());
-            Plane::through(a, b, c).unwrap_or(Plane { nx: 1, ny: 0, nz: 0, d: 0 })
-        })
-        .collect()
+    let mut numbers = Numbers { state: 1 };
+    (0..1024).map(|_| numbers.plane(4096)).collect()
+}
+
+/// The plane across an axis, so many steps of 64 along it, counted from 2,048 below 0.
+fn across(axis: usize, steps: u32) -> Plane {
+    let mut normal = [0; 3];
+    normal[axis] = 1;
+    Plane { nx: normal[0], ny: normal[1], nz: normal[2], d: i64::from(steps) * 64 - 2048 }
+}
+
+/// The faces of 64 boxes, and the planes of a tree of ten levels, each eighth of which is slanted.
+struct Tree {
+    faces: Vec<Winding>,
+    planes: Vec<Plane>,
+}
+
+impl Tree {
+    fn new() -> Tree {
+        let mut numbers = Numbers { state: 1 };
+        let faces = (0..64).flat_map(|_| faces_of_box(&mut numbers)).collect();
+        let planes = (0..1023)
+            .map(|place| {
+                if place % 8 == 7 {
+                    numbers.plane(2048)
+                } else {
+                    let axis = numbers.next() as usize % 3;
+                    across(axis, numbers.next() % 65)
+                }
+            })
+            .collect();
+        Tree { faces, planes }
+    }
+
+    fn push_down(&self, tally: &mut Tally) {
+        let mut pieces: Vec<(Winding, usize)> = self.faces.iter().map(|face| (face.clone(), 0)).collect();
+        for _ in 0..10 {
+            let mut below = Vec::with_capacity(pieces.len());
+            for (winding, node) in pieces {
+                let (front, back) = winding.split(&self.planes[node]);
+                tally.note_halves(&front, &back);
+                if let Some(part) = front {
+                    below.push((part, 2 * node + 1));
+                }
+                if let Some(part) = back {
+                    below.push((part, 2 * node + 2));
+                }
+            }
+            pieces = below;
+        }
+    }
+}
+
+fn faces_of_box(numbers: &mut Numbers) -> Vec<Winding> {
+    let low = [(); 3].map(|()| numbers.next() % 48);
+    let high = low.map(|low| low + 1 + numbers.next() % 16);
+    let mut faces = Vec::new();
+    for axis in 0..3 {
+        for end in [low[axis], high[axis]] {
+            let mut face = Winding::on(&across(axis, end));
+            for other in (0..3).filter(|other| *other != axis) {
+                face = face.kept(&across(other, low[other]), Side::Front);
+                face = face.kept(&across(other, high[other]), Side::Back);
+            }
+            faces.push(face);
+        }
+    }
+    faces
 }
 
 fn square() -> Winding {
@@ -290,19 +401,36 @@ impl Tally {
             }
         }
     }
+
+    fn note_halves(&mut self, front: &Option<Winding>, back: &Option<Winding>) {
+        match (front, back) {
+            (Some(front), Some(back)) => {
+                self.cut += 1;
+                self.corners += (front.edges.as_slice().len() + back.edges.as_slice().len()) as u64;
+            }
+            (None, None) => self.gone += 1,
+            _ => self.whole += 1,
+        }
+    }
 }
 
 fn main() {
     let words: Vec<String> = std::env::args().skip(1).collect();
     let rounds = words.get(1).and_then(|w| w.parse::<u32>().ok()).unwrap_or(1);
     let planes = planes();
-    for name in ["squares", "octagons", "misses", "chains"] {
+    for name in ["squares", "octagons", "misses", "chains", "tree"] {
         if words.first().is_some_and(|w| w != name) {
             continue;
         }
         let mut tally = Tally::default();
+        if name == "tree" {
+            let tree = Tree::new();
+            for _ in 0..rounds {
+                tree.push_down(&mut tally);
+            }
+        }
         let start = start(name);
-        for _ in 0..rounds {
+        for _ in 0..if name == "tree" { 0 } else { rounds } {
             let mut winding = start.clone();
             for plane in &planes {
                 if name != "chains" {

@@ -1,4 +1,4 @@
-use qm_wind::Clip;
+use qm_wind::{Clip, Winding};
 
 /// How many windings were left whole, gone and cut, and how many corners those that were cut have.
 #[derive(Clone, Copy, Default)]
@@ -20,6 +20,22 @@ impl Tally {
                 tally.cut = tally.cut.wrapping_add(1);
                 tally.corners = tally.corners.wrapping_add(part.len() as u64);
             }
+        }
+        tally
+    }
+
+    /// With one more that was split: cut in two, left whole on one side, or gone, since it lies in the
+    /// plane.
+    pub(crate) fn with_halves(self, front: &Option<Winding>, back: &Option<Winding>) -> Tally {
+        let mut tally = self;
+        match (front, back) {
+            (Some(front), Some(back)) => {
+                tally.cut = tally.cut.wrapping_add(1);
+                let corners = (front.len() as u64).wrapping_add(back.len() as u64);
+                tally.corners = tally.corners.wrapping_add(corners);
+            }
+            (None, None) => tally.gone = tally.gone.wrapping_add(1),
+            _ => tally.whole = tally.whole.wrapping_add(1),
         }
         tally
     }
