@@ -1,15 +1,15 @@
-ghost use Rattle.std.specs.Prelude.{◌≡◌, ◌≢◌, ◌<◌, ◌≤◌, ◌⊎◌, List, ◌++◌, ◌∷◌, [], length, IfOk, All, Contains};
+ghost use Rattle.std.specs.Prelude.{◌≡◌, List, ◌++◌, ◌∷◌, [], length, IfOk, All};
 ghost use Rattle.std.specs.Bool.{MatchBool};
 ghost use Rattle.qm_space.specs.Plane.{Plane, flipped};
-ghost use Rattle.qm_convex.specs.Sides.{HasNoneInFront};
-ghost use Rattle.qm_split.specs.Pieces.{solid_of, IsContender};
-ghost use Rattle.qm_split.specs.inner.PieceParts.{AreFront};
-ghost use Rattle.qm_split.specs.inner.Parts.{IsSection, IsPartIn, IsKeptBehind, IsAheadOf, part_count, HasPieceOn, IsShortened};
+ghost use Rattle.qm_space.specs.Reduced.{IsReduced};
+ghost use Rattle.qm_solids.specs.Holding.{IsFull};
+ghost use Rattle.qm_split.specs.Pieces.{solid_of, ArePieces, IsContender};
+ghost use Rattle.qm_split.specs.inner.Parts.{IsSection, IsPartIn, IsAhead, IsNotAhead, HasAhead, part_count, IsShortened};
 
-use crate::piece::Piece;
+use crate::piece::{Piece, split_pieces};
 use qm_contents::Contents;
 use qm_geom::Plane;
-use qm_wind::Winding;
+use qm_wind::{Lies, Winding};
 use smallvec::SmallVec;
 use std::alloc::AllocError;
 
@@ -21,12 +21,12 @@ pub(crate) struct Contender {
     pub(crate) pieces: Vec<Piece>,
 }
 
-/// What a full solid is to a cell: one that has a part of a face in it, one that contains it, or one apart from it.
+/// What a full solid is to a cell: one that has a part of a face in it, one that contains it, or one that lies outside it.
 #[derive(Drop)]
 pub(crate) enum Part {
     Kept(Contender),
-    Contains(Contents),
-    Apart,
+    Containing(Contents),
+    Outside,
 }
 
 /// What a contender of a cell is to what the cell has in front of a plane, and behind it.
@@ -34,13 +34,6 @@ pub(crate) enum Part {
 pub(crate) struct Parts {
     pub(crate) front: Part,
     pub(crate) back: Part,
-}
-
-/// What pieces have in front of a plane, and behind it.
-#[derive(Drop)]
-pub(crate) struct PieceLists {
-    front: Vec<Piece>,
-    back: Vec<Piece>,
 }
 
 impl Contender {
@@ -67,25 +60,8 @@ impl Contender {
     }
 }
 
-/// What pieces have in front of a plane, and behind it.
-fn split_pieces(pieces: Vec<Piece>, plane: &Plane) -> Result<PieceLists, AllocError>
-    ensures front { IfOk result (λ lists. AreFront pieces.items plane.now lists.front.items) }
-    ensures back { IfOk result (λ lists. AreFront pieces.items (flipped plane.now) lists.back.items) }
-{
-    let alloc = *pieces.allocator();
-    let mut lists = PieceLists {
-        front: Vec::new(alloc),
-        back: Vec::new(alloc),
-    };
-    for piece in pieces {
-        let parts = piece.split(plane)?;
-        push_some(&mut lists.front, parts.front)?;
-        push_some(&mut lists.back, parts.back)?;
-    }
-    Ok(lists)
-}
-
-/// What a solid is to what a cell has in front of a plane, with its pieces there.
+/// What a full solid is to what a cell has in front of a plane, by its pieces there, and by a winding that lies on the plane
+/// in the cell.
 fn part_in_front(
     contents: Contents,
     outward: &SmallVec<Plane, 8>,
@@ -93,6 +69,12 @@ fn part_in_front(
     section: &Winding,
     plane: &Plane,
 ) -> Result<Part, AllocError>
+    ensures part { IfOk result (λ part. (book cell : List Plane) →
+        IsFull (record { contents = contents; outward = outward.now.items }) → All IsReduced outward.now.items →
+        IsSection cell plane.now section.now →
+        ArePieces book (cell ++ plane.now ∷ []) (record { contents = contents; outward = outward.now.items }) pieces.items →
+        IsPartIn book (cell ++ plane.now ∷ []) (record { contents = contents; outward = outward.now.items }) part) }
+    ensures count { IfOk result (λ part. part_count part ≡ length pieces.items) }
 {
     if !pieces.is_empty() {
         let outward = SmallVec::from_slice(*outward.allocator(), outward.as_slice())?;
@@ -103,7 +85,34 @@ fn part_in_front(
         }));
     }
     if is_inside(outward.as_slice(), section, plane) {
-        return Ok(Part::Contains(contents));
+        return Ok(Part::Containing(contents));
     }
-    Ok(Part::Apart)
+    Ok(Part::Outside)
+}
+
+/// Whether what is in front of a plane near a winding on it lies behind all planes. A plane does not lie behind itself.
+fn is_inside(outward: &[Plane], section: &Winding, plane: &Plane) -> bool
+    ensures answer { MatchBool result (All (IsNotAhead section.now plane.now) outward.now) (HasAhead outward.now section.now plane.now) }
+    ensures reduced { IsReduced plane.now }
+{
+    let _ = &plane.nx;
+    for face in outward {
+        if is_ahead(face, section, plane) {
+            return false;
+        }
+    }
+    true
+}
+
+/// Whether some of a winding is in front of a face's plane, or the face's plane is the other one.
+fn is_ahead(face: &Plane, section: &Winding, plane: &Plane) -> bool
+    ensures { MatchBool result (IsAhead section.now plane.now face.now) (IsNotAhead section.now plane.now face.now) }
+{
+    if *face == *plane {
+        return true;
+    }
+    match section.lies(face) {
+        Lies::Front | Lies::Across => true,
+        Lies::Back | Lies::On => false,
+    }
 }

@@ -10,7 +10,7 @@ use Rattle.qm_solids.specs.Uniform.{LiesOutside}
 use Rattle.qm_split.specs.declared.piece.Piece.{Piece}
 use Rattle.qm_split.specs.declared.contender.Contender.{Contender}
 use Rattle.qm_split.specs.declared.contender.Part.{Part}
-use Rattle.qm_split.specs.declared.contender.Part.TheVariants.{Kept, Contains as Containing, Apart}
+use Rattle.qm_split.specs.declared.contender.Part.TheVariants.{Kept, Containing, Outside}
 use Rattle.qm_split.specs.Pieces.{solid_of, IsContender}
 
 -- What a solid is to a cell.
@@ -18,13 +18,13 @@ use Rattle.qm_split.specs.Pieces.{solid_of, IsContender}
 abbrev pub IsPartIn : List Plane → List Plane → Solid → Part → Type 0
 IsPartIn book cell solid (Kept contender) = IsContender book cell contender × (solid_of contender ≡ solid)
 IsPartIn book cell solid (Containing contents) = (contents ≡ solid.contents) × ContainsCell solid cell
-IsPartIn book cell solid Apart = LiesOutside solid cell
+IsPartIn book cell solid Outside = LiesOutside solid cell
 
 -- how many pieces it has
 abbrev pub part_count : Part → ℕ
 part_count (Kept contender) = length contender.pieces.items
 part_count (Containing contents) = 0
-part_count Apart = 0
+part_count Outside = 0
 
 -- a winding on a plane, each point of it in the cell
 pub record IsSection (cell : List Plane) (h : Plane) (w : Winding) : Type 0 where
