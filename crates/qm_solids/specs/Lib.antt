@@ -6,4 +6,5 @@ pub mod Contents
 pub mod Cells
 pub mod Candidates
 pub mod Least
+pub mod Alike
 pub mod InBook
