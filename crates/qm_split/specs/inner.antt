@@ -1,3 +1,6 @@
+pub mod Ranks
+pub mod Ranked
 pub mod PieceParts
+pub mod FacePieces
 pub mod Parts
 pub mod Gathered

@@ -1,12 +1,14 @@
-ghost use Rattle.std.specs.Prelude.{◌≡◌, List, ◌++◌, ◌∷◌, [], length, IfOk, All};
+ghost use Rattle.std.specs.Prelude.{◌≡◌, List, ◌++◌, ◌∷◌, [], length, IfOk, IfSome, All};
 ghost use Rattle.std.specs.Bool.{MatchBool};
 ghost use Rattle.qm_space.specs.Plane.{Plane, flipped};
 ghost use Rattle.qm_space.specs.Reduced.{IsReduced};
 ghost use Rattle.qm_solids.specs.Holding.{IsFull};
 ghost use Rattle.qm_split.specs.Pieces.{solid_of, ArePieces, IsContender};
 ghost use Rattle.qm_split.specs.inner.Parts.{IsSection, IsPartIn, IsAhead, IsNotAhead, HasAhead, part_count, IsShortened};
+ghost use Rattle.qm_split.specs.inner.Ranked.{IsLesser, IsWindingOf};
 
 use crate::piece::{Piece, split_pieces};
+use crate::rank::{Rank, first_of};
 use qm_contents::Contents;
 use qm_geom::Plane;
 use qm_wind::{Lies, Winding};
@@ -57,6 +59,29 @@ impl Contender {
         let front = part_in_front(contents, &outward, lists.front, section, plane)?;
         let back = part_in_front(contents, &outward, lists.back, section, &plane.flipped())?;
         Ok(Parts { front, back })
+    }
+
+    /// The rank that comes first, of one and those of the pieces.
+    pub(crate) fn lesser(&self, before: Option<Rank>) -> Option<Rank>
+        ensures { IsLesser before self.now.pieces.items result }
+    {
+        let mut least = before;
+        for piece in &self.pieces {
+            least = Some(first_of(least, piece.rank()));
+        }
+        least
+    }
+
+    /// The winding of a piece on a plane, if there is one.
+    pub(crate) fn winding_on(&self, plane: &Plane) -> Option<&Winding>
+        ensures { IfSome result (λ w. IsWindingOf self.now.pieces.items plane.now w.now) }
+    {
+        for piece in &self.pieces {
+            if piece.winding.plane() == *plane {
+                return Some(&piece.winding);
+            }
+        }
+        None
     }
 }
 

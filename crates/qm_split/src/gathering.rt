@@ -1,15 +1,20 @@
-ghost use Rattle.std.specs.Prelude.{◌≡◌, ◌↔◌, ◌+◌, ◌≤◌, List, ◌++◌, ◌∷◌, [], map, Option, IfOk, OnOk, IsTrue, All};
+ghost use Rattle.std.specs.Prelude.{◌≡◌, ◌↔◌, ◌+◌, ◌<◌, ◌≤◌, length, None, IfSome, List, ◌++◌, ◌∷◌, [], map, Option, IfOk, OnOk, IsTrue, All};
 ghost use Rattle.qm_space.specs.Plane.{Plane, flipped};
 ghost use Rattle.qm_solids.specs.Solid.{Solid};
 ghost use Rattle.qm_contents.specs.declared.contents.Contents.{Contents};
+ghost use Rattle.qm_solids.specs.InBook.{solid_at, solid_in, solids_in, IsBookOf};
 ghost use Rattle.qm_split.specs.Pieces.{solid_of, IsContender};
 ghost use Rattle.qm_split.specs.CellFragments.{pieces_of, IsReached};
 ghost use Rattle.qm_split.specs.inner.Parts.{IsSection, IsPartIn, part_count};
 ghost use Rattle.qm_split.specs.inner.Gathered.{IsGathered, HasFewer};
+ghost use Rattle.qm_split.specs.inner.Ranked.{IsLeastRank, IsWindingOfSome};
 
 use crate::contender::{Contender, Part};
+use crate::in_cube::part_in_cube;
+use crate::rank::Rank;
+use qm_brush::BrushList;
 use qm_contents::{Contents, stronger};
-use qm_geom::Plane;
+use qm_geom::{Plane, PlaneBook};
 use qm_wind::Winding;
 use std::alloc::{AllocError, Global};
 
@@ -58,8 +63,7 @@ impl Gathering {
     }
 
     /// Keeps a solid that has a part of a face in the cell, unless contents as strong are known.
-    fn keep(&mut self, contender: Contender) -> Result<(), AllocError>
-    {
+    fn keep(&mut self, contender: Contender) -> Result<(), AllocError> {
         if !is_reached(self.strongest, contender.contents) {
             self.contenders.push(contender)?;
         }
@@ -67,12 +71,50 @@ impl Gathering {
     }
 
     /// Notes contents that fill the cell, and gives up solids that are not stronger.
-    fn raise(&mut self, contents: Contents)
-    {
+    fn raise(&mut self, contents: Contents) {
         if !is_reached(self.strongest, contents) {
             self.strongest = Some(contents);
             self.contenders.retain(|contender| !is_reached(Some(contents), contender.contents));
         }
+    }
+
+    /// For the whole cube, of the brushes of a list.
+    pub(crate) fn in_cube(
+        alloc: Global,
+        list: &BrushList,
+        book: &PlaneBook,
+    ) -> Result<Gathering, AllocError>
+        requires filled { IsBookOf book.now list.now }
+        ensures { IfOk result (IsGathered book.now [] None (solids_in book.now list.now)) }
+    {
+        let mut gathering = Gathering::new(alloc, None);
+        for i in 0..list.len() {
+            gathering.add(brush_in_cube(alloc, list, i, book)?)?;
+        }
+        Ok(gathering)
+    }
+
+    /// The rank of the piece that comes first.
+    pub(crate) fn least(&self) -> Option<Rank>
+        ensures { IsLeastRank self.now.contenders.items result }
+    {
+        let mut least = None;
+        for contender in &self.contenders {
+            least = contender.lesser(least);
+        }
+        least
+    }
+
+    /// The winding of a piece on a plane, if there is one.
+    pub(crate) fn winding_on(&self, plane: &Plane) -> Option<&Winding>
+        ensures { IfSome result (λ w. IsWindingOfSome self.now.contenders.items plane.now w.now) }
+    {
+        for contender in &self.contenders {
+            if let Some(winding) = contender.winding_on(plane) {
+                return Some(winding);
+            }
+        }
+        None
     }
 
     /// For a plane, and a winding that lies on it in the cell.
@@ -100,6 +142,23 @@ impl Gathering {
         }
         Ok(Gatherings { front, back })
     }
+}
+
+/// What a brush of a list is to the cube.
+fn brush_in_cube(
+    alloc: Global,
+    list: &BrushList,
+    i: u64,
+    book: &PlaneBook,
+) -> Result<Part, AllocError>
+    requires filled { IsBookOf book.now list.now }
+    requires in_range { i < length list.now }
+    ensures { IfOk result (IsPartIn book.now [] (solid_in book.now (solid_at list.now i))) }
+{
+    if !list.full(i) {
+        return Ok(Part::Outside);
+    }
+    part_in_cube(alloc, list.contents(i), list.faces(i), book)
 }
 
 /// Whether contents are known that are at least as strong.

@@ -5,6 +5,9 @@
 mod contender;
 mod fragments;
 mod gathering;
+mod in_cube;
 mod piece;
+mod rank;
+mod section;
 
-pub use fragments::{Fragments, Halves};
+pub use fragments::{CellHalves, Fragments};

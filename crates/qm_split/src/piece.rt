@@ -1,7 +1,9 @@
 ghost use Rattle.std.specs.Prelude.{◌≡◌, Contains, IfOk, IsOk, OnOk, Option, Some, option_to_list, ◌++◌};
 ghost use Rattle.qm_space.specs.Plane.{flipped};
 ghost use Rattle.qm_split.specs.inner.PieceParts.{IsPartOf, AreFront, IsNumberedPiece};
+ghost use Rattle.qm_split.specs.inner.Ranked.{IsRankOf};
 
+use crate::rank::{Rank, is_axial};
 use qm_geom::Plane;
 use qm_wind::Winding;
 use std::alloc::AllocError;
@@ -28,6 +30,16 @@ pub(crate) struct PieceLists {
 }
 
 impl Piece {
+    /// Where its plane comes among candidates.
+    pub(crate) fn rank(&self) -> Rank
+        ensures { IsRankOf self.now result }
+    {
+        Rank {
+            axial: is_axial(&self.winding.plane()),
+            number: self.number,
+        }
+    }
+
     fn split(self, plane: &Plane) -> Result<PieceParts, AllocError>
         ensures front { IfOk result (λ parts. IsPartOf self plane.now parts.front) }
         ensures back { IfOk result (λ parts. IsPartOf self (flipped plane.now) parts.back) }

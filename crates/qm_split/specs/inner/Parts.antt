@@ -55,3 +55,7 @@ pub record HasPieceIn (pieces : List Piece) (h : Plane) : Type 0 where
 pub record IsShortened (contender : Contender) (h : Plane) (part : Part) : Type 0 where
   pub no_more : part_count part ≤ length contender.pieces.items
   pub fewer : HasPieceIn contender.pieces.items h → part_count part < length contender.pieces.items
+
+-- no point of the winding is in the cell
+abbrev pub HasNoneWithin : Winding → List Plane → Type 0
+HasNoneWithin w cell = (x : Point) → IsInRegion w x → IsInCell cell x → ⊥
