@@ -8,3 +8,4 @@ pub mod CellSamples
 pub mod PlanesInCommon
 pub mod UniformCells
 pub mod FullSolids
+pub mod BookFaces
