@@ -13,3 +13,4 @@ pub mod Exchange
 pub mod Books
 pub mod Openness
 pub mod Proportional
+pub mod Crossings
