@@ -2,6 +2,7 @@ ghost use Rattle.std.specs.Prelude.{◌≡◌, List, ◌++◌, ◌∷◌, [], le
 ghost use Rattle.std.specs.Bool.{MatchBool};
 ghost use Rattle.qm_space.specs.Plane.{Plane, flipped};
 ghost use Rattle.qm_space.specs.Reduced.{IsReduced};
+ghost use Rattle.qm_convex.specs.Winding.{IsConvex};
 ghost use Rattle.qm_solids.specs.Holding.{IsFull};
 ghost use Rattle.qm_split.specs.Pieces.{solid_of, ArePieces, IsContender};
 ghost use Rattle.qm_split.specs.inner.Parts.{IsSection, IsPartIn, IsAhead, IsNotAhead, HasAhead, part_count, IsShortened};
@@ -117,7 +118,8 @@ fn part_in_front(
 
 /// Whether what is in front of a plane near a winding on it lies behind all planes. A plane does not lie behind itself.
 fn is_inside(outward: &[Plane], section: &Winding, plane: &Plane) -> bool
-    ensures answer { MatchBool result (All (IsNotAhead section.now plane.now) outward.now) (HasAhead outward.now section.now plane.now) }
+    ensures answer { IsConvex section.now →
+        MatchBool result (All (IsNotAhead section.now plane.now) outward.now) (HasAhead outward.now section.now plane.now) }
     ensures reduced { IsReduced plane.now }
 {
     let _ = &plane.nx;
@@ -131,7 +133,8 @@ fn is_inside(outward: &[Plane], section: &Winding, plane: &Plane) -> bool
 
 /// Whether some of a winding is in front of a face's plane, or the face's plane is the other one.
 fn is_ahead(face: &Plane, section: &Winding, plane: &Plane) -> bool
-    ensures { MatchBool result (IsAhead section.now plane.now face.now) (IsNotAhead section.now plane.now face.now) }
+    ensures { IsConvex section.now →
+        MatchBool result (IsAhead section.now plane.now face.now) (IsNotAhead section.now plane.now face.now) }
 {
     if *face == *plane {
         return true;

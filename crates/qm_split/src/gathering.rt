@@ -6,7 +6,7 @@ ghost use Rattle.qm_solids.specs.InBook.{solid_at, solid_in, solids_in, IsBookOf
 ghost use Rattle.qm_split.specs.Pieces.{solid_of, IsContender};
 ghost use Rattle.qm_split.specs.CellFragments.{pieces_of, IsReached};
 ghost use Rattle.qm_split.specs.inner.Parts.{IsSection, IsPartIn, part_count};
-ghost use Rattle.qm_split.specs.inner.Gathered.{IsGathered, HasFewer};
+ghost use Rattle.qm_split.specs.inner.Gathered.{IsGathered, HasFewer, Keeps, Raises, is_stronger_than};
 ghost use Rattle.qm_split.specs.inner.Ranked.{IsLeastRank, IsWindingOfSome};
 
 use crate::contender::{Contender, Part};
@@ -63,7 +63,9 @@ impl Gathering {
     }
 
     /// Keeps a solid that has a part of a face in the cell, unless contents as strong are known.
-    fn keep(&mut self, contender: Contender) -> Result<(), AllocError> {
+    fn keep(&mut self, contender: Contender) -> Result<(), AllocError>
+        ensures { OnOk result (Keeps self.old contender self.new) }
+    {
         if !is_reached(self.strongest, contender.contents) {
             self.contenders.push(contender)?;
         }
@@ -71,10 +73,13 @@ impl Gathering {
     }
 
     /// Notes contents that fill the cell, and gives up solids that are not stronger.
-    fn raise(&mut self, contents: Contents) {
+    fn raise(&mut self, contents: Contents)
+        ensures { Raises self.old contents self.new }
+    {
         if !is_reached(self.strongest, contents) {
             self.strongest = Some(contents);
-            self.contenders.retain(|contender| !is_reached(Some(contents), contender.contents));
+            self.contenders
+                .retain(|contender| is_stronger_than(contents, contender));
         }
     }
 
@@ -169,4 +174,11 @@ fn is_reached(strongest: Option<Contents>, contents: Contents) -> bool
         None => false,
         Some(known) => stronger(contents, known) == known,
     }
+}
+
+/// Whether a contender is stronger than contents.
+fn is_stronger_than(contents: Contents, contender: &Contender) -> bool
+    ensures { result ≡ is_stronger_than contents contender.now }
+{
+    stronger(contender.contents, contents) != contents
 }

@@ -1,6 +1,7 @@
-use Rattle.std.specs.Prelude.{◌≡◌, ◌⊎◌, ◌<◌, ◌≤◌, List, Option, Some, length, map, All, Contains}
+use Rattle.std.specs.Prelude.{◌≡◌, ◌⊎◌, ◌<◌, ◌≤◌, Bool, nat_lt, List, [], ◌∷◌, ◌++◌, Option, Some, length, map, filter, All, Contains}
 use Rattle.qm_space.specs.Plane.{Plane}
 use Rattle.qm_contents.specs.declared.contents.Contents.{Contents}
+use Rattle.qm_contents.specs.Precedence.{strength}
 use Rattle.qm_solids.specs.Solid.{Solid}
 use Rattle.qm_solids.specs.Holding.{IsFull}
 use Rattle.qm_solids.specs.Cells.{ContainsCell}
@@ -35,3 +36,18 @@ pub record HasContenderIn (contenders : List Contender) (h : Plane) : Type 0 whe
 pub record HasFewer (contenders : List Contender) (h : Plane) (gathering : Gathering) : Type 0 where
   pub no_more : pieces_of gathering.contenders.items ≤ pieces_of contenders
   pub fewer : HasContenderIn contenders h → pieces_of gathering.contenders.items < pieces_of contenders
+
+-- a contender is kept unless contents as strong are known
+pub data Keeps (old : Gathering) (contender : Contender) (new : Gathering) : Type 0 where
+  passed : IsReached old.strongest contender.contents → new ≡ old → Keeps old contender new
+  gained : (IsReached old.strongest contender.contents → ⊥) → new.strongest ≡ old.strongest →
+      new.contenders.items ≡ old.contenders.items ++ contender ∷ [] → Keeps old contender new
+
+abbrev pub is_stronger_than : Contents → Contender → Bool
+is_stronger_than contents contender = nat_lt (strength contents) (strength contender.contents)
+
+-- contents are noted unless others as strong are known, and contenders that are not stronger are given up
+pub data Raises (old : Gathering) (contents : Contents) (new : Gathering) : Type 0 where
+  known : IsReached old.strongest contents → new ≡ old → Raises old contents new
+  risen : (IsReached old.strongest contents → ⊥) → new.strongest ≡ Some contents →
+      new.contenders.items ≡ filter (is_stronger_than contents) old.contenders.items → Raises old contents new
