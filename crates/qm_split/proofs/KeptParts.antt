@@ -3,6 +3,7 @@ use Rattle.std.proofs.Common.{◌≡◌, ◌<◌, List, [], ◌∷◌, ◌++◌,
 use Rattle.std.proofs.lemmas.List.Elements.{All-contains}
 use Rattle.qm_space.specs.Plane.{Plane, flipped}
 use Rattle.qm_space.specs.Reduced.{IsReduced}
+use Rattle.qm_space.proofs.Planes.{flipped_on}
 use Rattle.qm_convex.specs.Winding.{Winding}
 use Rattle.qm_convex.specs.Sides.{HasNoneInFront, LiesIn}
 use Rattle.qm_solids.specs.Solid.{Solid}
@@ -15,8 +16,8 @@ use Rattle.qm_split.specs.declared.contender.Contender.{Contender}
 use Rattle.qm_split.specs.declared.contender.Part.{Part}
 use Rattle.qm_split.specs.Pieces.{solid_of, ArePieces, IsContender}
 use Rattle.qm_split.specs.inner.PieceParts.{AreFront}
-use Rattle.qm_split.specs.inner.Parts.{IsSection, IsAhead, IsNotAhead, HasAhead, part_count, HasPieceIn, IsShortened}
-use Rattle.qm_split.proofs.PartedPieces.{meets_no_face}
+use Rattle.qm_split.specs.inner.Parts.{IsPartIn, IsSection, IsAhead, IsNotAhead, HasAhead, part_count, HasPieceIn, IsShortened}
+use Rattle.qm_split.proofs.PartedPieces.{meets_no_face, pieces_in_front}
 
 -- a contender that stands for a full solid, with the pieces of that solid
 pub kept_contender : (book cell : List Plane) (contender : Contender) (solid : Solid) → solid_of contender ≡ solid → IsFull solid → All IsReduced solid.outward →
@@ -54,3 +55,26 @@ shortened contender h g part qs are count none = record {
   no_more = let m = are.no_more in omega arith;
   fewer = λ has. let f = are.fewer has.piece has.listed (none has.piece.winding has.lies_in) in omega arith;
 }
+
+-- ---- behind the plane, which is in front of it flipped
+
+pub section_flipped : (cell : List Plane) (g : Plane) (w : Winding) → IsSection cell g w → IsSection cell (flipped g) w
+section_flipped cell g w section =
+    record { convex = section.convex; on = λ x r. (flipped_on g x).1 (section.on x r); in_cube = section.in_cube; in_cell = section.in_cell }
+
+-- what code finds of a solid, by its pieces in front of a plane
+abbrev pub IsFoundPart : Solid → Winding → List Piece → Part → Plane → Type 0
+IsFoundPart solid w pieces part g =
+    (book cell : List Plane) → IsFull solid → All IsReduced solid.outward → IsSection cell g w → ArePieces book (cell ++ g ∷ []) solid pieces → IsPartIn book (cell ++ g ∷ []) solid part
+
+module _ (contender : Contender) (w : Winding) (qs : List Piece) (part : Part) (h : Plane) where
+  pub part_ahead : AreFront contender.pieces.items h qs → IsFoundPart (solid_of contender) w qs part h →
+      (book cell : List Plane) → IsContender book cell contender → IsSection cell h w → IsPartIn book (cell ++ h ∷ []) (solid_of contender) part
+  part_ahead are found book cell contends section =
+      found book cell contends.full contends.reduced section (pieces_in_front book cell (solid_of contender) contender.pieces.items qs h contends.pieces are)
+
+  pub part_behind : (f : Plane) → f ≡ flipped h → AreFront contender.pieces.items (flipped h) qs → IsFoundPart (solid_of contender) w qs part f →
+      (book cell : List Plane) → IsContender book cell contender → IsSection cell h w → IsPartIn book (cell ++ flipped h ∷ []) (solid_of contender) part
+  part_behind f same are found book cell contends section =
+      subst (IsFoundPart (solid_of contender) w qs part) same found book cell contends.full contends.reduced (section_flipped cell h w section)
+      (pieces_in_front book cell (solid_of contender) contender.pieces.items qs (flipped h) contends.pieces are)

@@ -4,3 +4,4 @@ pub mod SidesOfPlanes
 pub mod PartedPieces
 pub mod KeptParts
 pub mod Gatherings
+pub mod SplitGatherings
