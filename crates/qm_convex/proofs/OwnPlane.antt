@@ -134,3 +134,8 @@ beside v g c none out = by_corner_in_front v g
   where
     not_behind : (i : ℕ) → i < length v.edges → pos 0 ≤ℤ value g (corner_at v i)
     not_behind i h = let m = (none_in_front v (flipped g) c).0 none i h in let e = value_flipped g (corner_at v i) in omega (arith, linear)
+
+pub beside_back : (v : Winding) (g : Plane) → IsConvex v → HasNoneInFront v g → (LiesIn v g → ⊥) → IsWhollyInFront v (flipped g)
+beside_back v g c none out = beside v (flipped g) c
+    (λ p r. let m = none p r in let e = value_flipped (flipped g) p in let f = value_flipped g p in omega (arith, linear))
+    (λ l. out (λ p r. let m = l p r in let f = value_flipped g p in omega (arith, linear)))

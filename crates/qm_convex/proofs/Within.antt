@@ -1,5 +1,5 @@
 -- Windings within a cuboid.
-use Rattle.std.proofs.Common.{◌≡◌, ℤ, pos, neg_ℤ, ◌*ℤ◌, ◌<ℤ◌, ◌≤ℤ◌, arith}
+use Rattle.std.proofs.Common.{◌≡◌, ℤ, pos, neg_ℤ, ◌*ℤ◌, ◌<ℤ◌, ◌≤ℤ◌, ap, sym, ◌∙◌, arith}
 use Rattle.std.proofs.Math.IntN.{*ℤ_comm}
 use Rattle.qm_numbers.proofs.IntegerProducts.{linear}
 use Rattle.qm_numbers.proofs.Signs.{product_positive, product_not_negative, product_not_positive, negative_times_positive}
@@ -59,3 +59,13 @@ part_within w v g c t l part k p r =
 -- and a winding within what is left on either side of a plane in which it lies
 pub on_within : (v : Winding) (g : Plane) (c t : Cuboid) → LiesWithin v c → LiesIn v g → IsTightened t c g → LiesWithin v t
 on_within v g c t l on k p r = k p (weight_not_negative v p r) (l p r) (let f = on p r in omega (arith, linear))
+
+-- so the part of a plane in the cube lies within what both sides leave of the closed cube
+pub world_part_within : (w : Winding) (h : Plane) (t u : Cuboid) → IsInWorld w → w.plane ≡ h → IsTightened t whole_cuboid h → IsTightened u t (flipped h) → LiesWithin w u
+world_part_within w h t u i e k l = on_within w (flipped h) t u (on_within w h whole_cuboid t (world_within w i) on k) turned l
+  where
+    on : LiesIn w h
+    on p r = ap (λ (g : Plane). value g p) (sym e) ∙ r.on
+
+    turned : LiesIn w (flipped h)
+    turned p r = let f = on p r in let m = value_flipped h p in omega (arith, linear)

@@ -4,7 +4,7 @@ ghost use Rattle.qm_space.specs.Point.{IsCoordinate};
 use crate::planes::{Numbers, through};
 use crate::tally::Tally;
 use qm_geom::Plane;
-use qm_wind::{Clip, Side, Winding};
+use qm_wind::{Clip, Halves, Side, Winding};
 use std::alloc::{AllocError, Global};
 
 /// A box in steps of 64 units, counted from 2,048 units below 0.
@@ -162,7 +162,7 @@ impl Piece {
         let Halves {
             front: in_front,
             back: behind,
-        } = Halves::of(self.winding, plane)?;
+        } = self.winding.split(plane)?;
         let tally = tally.with_halves(&in_front, &behind);
         if let Some(winding) = in_front {
             below.push(Piece {
@@ -177,42 +177,5 @@ impl Piece {
             })?;
         }
         Ok(tally)
-    }
-}
-
-#[derive(Drop)]
-struct Halves {
-    front: Option<Winding>,
-    back: Option<Winding>,
-}
-
-impl Halves {
-    fn of(winding: Winding, plane: &Plane) -> Result<Halves, AllocError> {
-        match winding.clip(plane, Side::Front)? {
-            Clip::Whole => Ok(Halves {
-                front: Some(winding),
-                back: None,
-            }),
-            Clip::Cut(front) => match winding.clip(plane, Side::Back)? {
-                Clip::Cut(back) => Ok(Halves {
-                    front: Some(front),
-                    back: Some(back),
-                }),
-                _ => Ok(Halves {
-                    front: Some(front),
-                    back: None,
-                }),
-            },
-            Clip::Gone => match winding.clip(plane, Side::Back)? {
-                Clip::Gone => Ok(Halves {
-                    front: None,
-                    back: None,
-                }),
-                _ => Ok(Halves {
-                    front: None,
-                    back: Some(winding),
-                }),
-            },
-        }
     }
 }
