@@ -33,7 +33,7 @@ module _ (v : Winding) (own g : Plane) (c : IsConvex v) (o : own ≡ v.plane) (r
   on_by_second a b f d e = (
     (λ t. own_lies_in v g (inr (turned_back (same_by_test own (flipped g) (sym e ∙ t))))),
     (λ l. ⊎_elim
-      (λ same. absurd (true≢false (sym (test_by_same own g (o ∙ sym same)) ∙ sym d ∙ f)))
-      (λ turned. e ∙ test_by_same own (flipped g) (o ∙ sym (flipped_twice v.plane) ∙ ap flipped (sym turned)))
-      (lies_in_own v g c s own_reduced l)),
+        (λ same. absurd (true≢false (sym (test_by_same own g (o ∙ sym same)) ∙ sym d ∙ f)))
+        (λ turned. e ∙ test_by_same own (flipped g) (o ∙ sym (flipped_twice v.plane) ∙ ap flipped (sym turned)))
+        (lies_in_own v g c s own_reduced l)),
   )

@@ -73,9 +73,7 @@ impl Winding {
             None => Ok(None),
             Some(polygon) => Ok(Some(Winding {
                 polygon,
-                cuboid: Cuboid::whole()
-                    .tightened(plane)
-                    .tightened(&plane.flipped()),
+                cuboid: Cuboid::whole().tightened(plane).tightened(&plane.flipped()),
             })),
         }
     }
@@ -152,14 +150,22 @@ impl Winding {
             return Found::Front;
         }
         if least >= 0 {
-            return if self.is_on(plane) { Found::On } else { Found::Front };
+            return if self.is_on(plane) {
+                Found::On
+            } else {
+                Found::Front
+            };
         }
         let greatest = self.cuboid.greatest_value(plane);
         if greatest < 0 {
             return Found::Back;
         }
         if greatest <= 0 {
-            return if self.is_on(plane) { Found::On } else { Found::Back };
+            return if self.is_on(plane) {
+                Found::On
+            } else {
+                Found::Back
+            };
         }
         self.found_by_corners(plane)
     }
