@@ -1,8 +1,8 @@
-ghost use Rattle.std.specs.Prelude.{◌≡◌, ◌≤◌, ◌*◌, ◌^◌, ℤ, pos, ◌*ℤ◌, ◌≤ℤ◌, unsigned_abs};
-ghost use Rattle.qm_space.specs.Bounds.{normal_bound};
+ghost use Rattle.std.specs.Prelude.{◌≡◌, ◌≤◌, ◌*◌, ◌^◌, ℤ, pos, negsuc, neg_ℤ, ◌*ℤ◌, ◌≤ℤ◌, ◌⊎◌, unsigned_abs};
+ghost use Rattle.qm_space.specs.Bounds.{normal_bound, distance_bound};
 ghost use Rattle.qm_space.specs.Point.{Point, IsCoordinate};
 ghost use Rattle.qm_space.specs.Plane.{value};
-ghost use Rattle.qm_space.specs.Cuboid.{IsInSpan, IsInCuboid, whole_span, whole_cuboid, least_product, greatest_product, least_value, greatest_value, IsTightened};
+ghost use Rattle.qm_space.specs.Cuboid.{IsInSpan, IsInCuboid, whole_span, whole_cuboid, least_product, greatest_product, least_value, greatest_value, IsTightened, IsTightenedSpan};
 
 use crate::plane::Plane;
 use std::marker::Model;
@@ -38,6 +38,67 @@ impl Span {
             low: -WORLD_EXTENT,
             high: WORLD_EXTENT,
         }
+    }
+
+    /// What is, times a component, at least a distance, where the component is 1 or -1; else the span.
+    fn tightened(self, component: i32, distance: i64) -> Span
+        requires component_small { unsigned_abs component ≤ normal_bound }
+        requires distance_small { unsigned_abs distance ≤ distance_bound }
+        ensures { IsTightenedSpan result self component distance }
+    {
+        if component == 1 {
+            return self.from(distance);
+        }
+        if component == -1 {
+            return self.up_to(-distance);
+        }
+        self
+    }
+
+    /// The numbers of the span from a number on; only its high end where that is above them all.
+    fn from(self, least: i64) -> Span
+        ensures { IsTightenedSpan result self (pos 1) least }
+    {
+        Span {
+            low: self.low_from(least),
+            high: self.high,
+        }
+    }
+
+    fn low_from(&self, least: i64) -> i32
+        ensures coordinate { IsCoordinate result }
+        ensures bound { (result ≤ℤ self.now.low) ⊎ (result ≤ℤ least) }
+    {
+        if least <= i64::from(self.low) {
+            return self.low;
+        }
+        if least < i64::from(self.high) {
+            return least as i32;
+        }
+        self.high
+    }
+
+    /// The numbers of the span up to a number; only its low end where that is below them all.
+    fn up_to(self, greatest: i64) -> Span
+        ensures { IsTightenedSpan result self (negsuc 0) (neg_ℤ greatest) }
+    {
+        Span {
+            low: self.low,
+            high: self.high_up_to(greatest),
+        }
+    }
+
+    fn high_up_to(&self, greatest: i64) -> i32
+        ensures coordinate { IsCoordinate result }
+        ensures bound { (self.now.high ≤ℤ result) ⊎ (greatest ≤ℤ result) }
+    {
+        if greatest >= i64::from(self.high) {
+            return self.high;
+        }
+        if greatest > i64::from(self.low) {
+            return greatest as i32;
+        }
+        self.low
     }
 
     /// The least product of a component and a number of the span.
@@ -129,5 +190,34 @@ impl Cuboid {
         let of_y = self.y.greatest_product(plane.ny);
         let of_z = self.z.greatest_product(plane.nz);
         of_x + of_y + of_z - plane.d
+    }
+
+    /// A cuboid that has all of this one that is not behind a plane: tightened where the plane stands
+    /// across an axis at a whole number, else as it is.
+    pub fn tightened(self, plane: &Plane) -> Cuboid
+        ensures { IsTightened result self plane.now }
+    {
+        if plane.ny == 0 && plane.nz == 0 {
+            return Cuboid {
+                x: self.x.tightened(plane.nx, plane.d),
+                y: self.y,
+                z: self.z,
+            };
+        }
+        if plane.nx == 0 && plane.nz == 0 {
+            return Cuboid {
+                x: self.x,
+                y: self.y.tightened(plane.ny, plane.d),
+                z: self.z,
+            };
+        }
+        if plane.nx == 0 && plane.ny == 0 {
+            return Cuboid {
+                x: self.x,
+                y: self.y,
+                z: self.z.tightened(plane.nz, plane.d),
+            };
+        }
+        self
     }
 }

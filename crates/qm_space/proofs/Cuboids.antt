@@ -1,12 +1,13 @@
 -- A plane's values at the points of a cuboid.
 use Rattle.std.specs.Prelude.{int_lt}
-use Rattle.std.proofs.Common.{◌≡◌, ◌≤◌, ◌^◌, true, false, ℕ, ℤ, pos, neg_ℤ, ◌+ℤ◌, ◌-ℤ◌, ◌*ℤ◌, ◌≤ℤ◌, ◌<ℤ◌, ap, sym, ◌∙◌, subst, arith, unsigned_abs, ⊎_elim, cond}
+use Rattle.std.proofs.Common.{◌≡◌, ◌≤◌, ◌^◌, true, false, ℕ, ℤ, pos, negsuc, neg_ℤ, ◌+ℤ◌, ◌-ℤ◌, ◌*ℤ◌, ◌≤ℤ◌, ◌<ℤ◌, ap, sym, ◌∙◌, subst, arith, unsigned_abs, ◌⊎◌, ⊎_elim, cond}
 use Rattle.std.proofs.lemmas.Int.{ints}
+use Rattle.std.proofs.Math.IntN.{*ℤ_comm}
 use Rattle.qm_space.specs.Bounds.{extent, normal_bound}
 use Rattle.qm_space.specs.Point.{Point, IsCoordinate, IsInCube}
 use Rattle.qm_space.specs.Plane.{Plane, value}
-use Rattle.qm_space.specs.Cuboid.{Span, Cuboid, IsInSpan, IsInCuboid, whole_span, whole_cuboid, least_product, greatest_product, least_value, greatest_value}
-use Rattle.qm_numbers.proofs.IntegerProducts.{linear, *ℤ_assoc, *ℤ-neg, +ℤ-*ℤ, -ℤ-*ℤ, neg-*ℤ}
+use Rattle.qm_space.specs.Cuboid.{Span, Cuboid, IsInSpan, IsInCuboid, whole_span, whole_cuboid, least_product, greatest_product, least_value, greatest_value, IsTightened, IsTightenedSpan}
+use Rattle.qm_numbers.proofs.IntegerProducts.{linear, *ℤ_assoc, one_*ℤ, zero_*ℤ, +ℤ-*ℤ, -ℤ-*ℤ, neg-*ℤ}
 use Rattle.qm_numbers.proofs.Signs.{side_test, times_at_most, abs_product_bound}
 use Rattle.qm_space.proofs.PlanesThroughPoints.{coordinate_small}
 
@@ -76,3 +77,41 @@ cube_in_whole p c = record { x = within p.x c.x.above c.x.below; y = within p.y 
 
 pub product_small : (n c : ℤ) → unsigned_abs n ≤ normal_bound → IsCoordinate c → unsigned_abs (n *ℤ c) ≤ 2 ^ 38
 product_small n c h k = let p = abs_product_bound n c normal_bound 4096 h (coordinate_small c k) in omega arith
+
+-- ---- spans and cuboids that are tightened
+
+-- a span from a number on, as the code chooses its low end
+pub from_kept : (span : Span) (least low : ℤ) → (low ≤ℤ span.low) ⊎ (low ≤ℤ least) → IsTightenedSpan (record { low = low; high = span.high }) span (pos 1) least
+from_kept span least low h c w pw s l = ⊎_elim
+    (λ k. let p = times_at_most w low span.low pw k in let e = *ℤ_comm w low in let f = *ℤ_comm w span.low in let a = s.above in record { above = omega (arith, linear); below = s.below })
+    (λ k. let p = times_at_most w low least pw k in let e = *ℤ_comm w low in let f = *ℤ_comm w least in let o = one_*ℤ c in record { above = omega (arith, linear); below = s.below })
+    h
+
+pub up_to_kept : (span : Span) (greatest high : ℤ) → (span.high ≤ℤ high) ⊎ (greatest ≤ℤ high) → IsTightenedSpan (record { low = span.low; high = high }) span (negsuc 0) (neg_ℤ greatest)
+up_to_kept span greatest high h c w pw s l = ⊎_elim
+    (λ k. let p = times_at_most w span.high high pw k in let e = *ℤ_comm w high in let f = *ℤ_comm w span.high in let a = s.below in record { above = s.above; below = omega (arith, linear) })
+    (λ k. let p = times_at_most w greatest high pw k in let e = *ℤ_comm w high in let f = *ℤ_comm w greatest in let n = neg-*ℤ greatest w in let o = neg-*ℤ (pos 1) c in let q = one_*ℤ c in record { above = s.above; below = omega (arith, linear) })
+    h
+
+-- a value whose two other components are 0
+alone_x : (h : Plane) (p : Point) → h.ny ≡ pos 0 → h.nz ≡ pos 0 → value h p ≡ (h.nx *ℤ p.x) -ℤ (h.d *ℤ p.w)
+unfolding value
+alone_x h p y z = let a = ap (λ n. n *ℤ p.y) y ∙ zero_*ℤ p.y in let b = ap (λ n. n *ℤ p.z) z ∙ zero_*ℤ p.z in omega (arith, linear)
+
+alone_y : (h : Plane) (p : Point) → h.nx ≡ pos 0 → h.nz ≡ pos 0 → value h p ≡ (h.ny *ℤ p.y) -ℤ (h.d *ℤ p.w)
+unfolding value
+alone_y h p x z = let a = ap (λ n. n *ℤ p.x) x ∙ zero_*ℤ p.x in let b = ap (λ n. n *ℤ p.z) z ∙ zero_*ℤ p.z in omega (arith, linear)
+
+alone_z : (h : Plane) (p : Point) → h.nx ≡ pos 0 → h.ny ≡ pos 0 → value h p ≡ (h.nz *ℤ p.z) -ℤ (h.d *ℤ p.w)
+unfolding value
+alone_z h p x y = let a = ap (λ n. n *ℤ p.x) x ∙ zero_*ℤ p.x in let b = ap (λ n. n *ℤ p.y) y ∙ zero_*ℤ p.y in omega (arith, linear)
+
+-- the span across the axis on which a plane stands tightens a cuboid
+pub tightened_x : (c : Cuboid) (h : Plane) (t : Span) → h.ny ≡ pos 0 → h.nz ≡ pos 0 → IsTightenedSpan t c.x h.nx h.d → IsTightened (record { x = t; y = c.y; z = c.z }) c h
+tightened_x c h t y z k p w i l = let e = alone_x h p y z in record { x = k p.x p.w w i.x (omega (arith, linear)); y = i.y; z = i.z }
+
+pub tightened_y : (c : Cuboid) (h : Plane) (t : Span) → h.nx ≡ pos 0 → h.nz ≡ pos 0 → IsTightenedSpan t c.y h.ny h.d → IsTightened (record { x = c.x; y = t; z = c.z }) c h
+tightened_y c h t x z k p w i l = let e = alone_y h p x z in record { x = i.x; y = k p.y p.w w i.y (omega (arith, linear)); z = i.z }
+
+pub tightened_z : (c : Cuboid) (h : Plane) (t : Span) → h.nx ≡ pos 0 → h.ny ≡ pos 0 → IsTightenedSpan t c.z h.nz h.d → IsTightened (record { x = c.x; y = c.y; z = t }) c h
+tightened_z c h t x y k p w i l = let e = alone_z h p x y in record { x = i.x; y = i.y; z = k p.z p.w w i.z (omega (arith, linear)) }

@@ -51,7 +51,10 @@ least_value h c = ((least_product h.nx c.x +ℤ least_product h.ny c.y) +ℤ lea
 unfoldable pub greatest_value : Plane → Cuboid → ℤ
 greatest_value h c = ((greatest_product h.nx c.x +ℤ greatest_product h.ny c.y) +ℤ greatest_product h.nz c.z) -ℤ h.d
 
--- the cuboid t is a part of the cuboid c, and has of it all that is not behind a plane
-pub record IsTightened (t c : Cuboid) (h : Plane) : Type 0 where
-  pub part : (p : Point) → pos 0 ≤ℤ p.w → IsInCuboid t p → IsInCuboid c p
-  pub kept : (p : Point) → pos 0 ≤ℤ p.w → IsInCuboid c p → IsNotBehind h p → IsInCuboid t p
+-- the cuboid t has all of the cuboid c that is not behind a plane
+abbrev pub IsTightened : Cuboid → Cuboid → Plane → Type 0
+IsTightened t c h = (p : Point) → pos 0 ≤ℤ p.w → IsInCuboid c p → IsNotBehind h p → IsInCuboid t p
+
+-- the span t has all of a span that is, times a number n, at least d
+abbrev pub IsTightenedSpan : Span → Span → ℤ → ℤ → Type 0
+IsTightenedSpan t span n d = (c w : ℤ) → pos 0 ≤ℤ w → IsInSpan span c w → (d *ℤ w) ≤ℤ (n *ℤ c) → IsInSpan t c w

@@ -1,10 +1,11 @@
-ghost use Rattle.std.specs.Prelude.{◌≡◌, ◌<◌, true, length, IfOk, MatchOption};
+ghost use Rattle.std.specs.Prelude.{◌≡◌, ◌<◌, length, IfOk, MatchOption};
 ghost use Rattle.qm_convex.specs.Winding.{corner_at, IsConvex};
 ghost use Rattle.qm_convex.specs.inner.Square.{square};
 ghost use Rattle.qm_convex.specs.Cut.{IsPartInFront};
 ghost use Rattle.qm_convex.specs.inner.FrontRun.{IsFrontRun, cut};
 ghost use Rattle.qm_convex.specs.Sides.{HasCornerBehind, HasNoneInFront};
 ghost use Rattle.qm_wind.specs.inner.Surveyed.{IsRun, IsSurvey};
+ghost use Rattle.qm_wind.specs.inner.Finding.{HasCornersAcross};
 
 use crate::circle::{add_arc, steps_between};
 use crate::survey::{Run, Survey, corner};
@@ -74,12 +75,10 @@ impl Polygon {
         Survey::of(&self.plane, self.edges.as_slice(), plane)
     }
 
-    /// The part in front of a plane, by the run of the corners there, for a polygon with a corner
-    /// behind it.
+    /// The part in front of a plane, by the run of the corners there, where some are on both sides.
     pub(crate) fn part_in_front_of(&self, plane: &Plane, run: &Run) -> Result<Polygon, AllocError>
         requires run { IsRun self.now plane.now run.now }
-        requires front { run.now.some ≡ true }
-        requires behind { HasCornerBehind self.now plane.now }
+        requires across { HasCornersAcross self.now plane.now }
         ensures { IfOk result (λ w. IsPartInFront w self.now plane.now) }
     {
         let count = steps_between(self.edges.len(), run.start, run.end);

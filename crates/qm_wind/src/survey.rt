@@ -1,8 +1,8 @@
 ghost use Rattle.std.specs.Prelude.{◌≡◌, ◌<◌, pos, length};
 ghost use Rattle.std.specs.Ordering.{int_cmp};
 ghost use Rattle.qm_space.specs.Plane.{value};
-ghost use Rattle.qm_convex.specs.Winding.{Winding, corner_at, IsConvex, next_place};
-ghost use Rattle.qm_wind.specs.inner.Surveyed.{noted, IsSurvey};
+ghost use Rattle.qm_convex.specs.Winding.{corner_at, IsConvex, next_place};
+ghost use Rattle.qm_wind.specs.inner.Surveyed.{noted, begun, surveyed, IsSurvey};
 
 use qm_geom::{Corner, Plane};
 use std::cmp::Ordering;
@@ -40,7 +40,9 @@ pub(crate) struct Survey {
 
 impl Survey {
     /// Of the first corner alone.
-    fn beginning(first: Ordering) -> Survey {
+    fn beginning(first: Ordering) -> Survey
+        ensures { result ≡ begun first }
+    {
         Survey {
             front: Run {
                 some: first.is_gt(),
@@ -56,7 +58,9 @@ impl Survey {
     }
 
     /// With the corner at a place, after the one before it.
-    fn noting(self, before: Ordering, here: Ordering, place: usize) -> Survey {
+    fn noting(self, before: Ordering, here: Ordering, place: usize) -> Survey
+        ensures { result ≡ surveyed self before here place }
+    {
         Survey {
             front: self.front.noting(before.is_gt(), here.is_gt(), place),
             back: self.back.noting(before.is_lt(), here.is_lt(), place),
@@ -102,7 +106,8 @@ pub(crate) fn corner(on: &Plane, edges: &[Plane], i: usize) -> Corner
 /// The place after a place, of places in a circle.
 fn next_place(places: usize, place: usize) -> usize
     requires { place < places }
-    ensures { result ≡ next_place places place }
+    ensures value { result ≡ next_place places place }
+    ensures below { result < places }
 {
     if place + 1 == places { 0 } else { place + 1 }
 }

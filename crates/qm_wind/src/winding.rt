@@ -1,18 +1,17 @@
 ghost use Rattle.std.specs.Prelude.{◌≡◌, ◌<◌, ◌≤◌, ◌↔◌, length, IsTrue, IfOk, MatchOption};
-ghost use Rattle.qm_space.specs.Plane.{flipped};
 ghost use Rattle.qm_space.specs.Turned.{turned};
 ghost use Rattle.qm_geom.specs.Rounding.{HasSmallCoordinates};
 ghost use Rattle.qm_convex.specs.Winding.{corner_at};
 ghost use Rattle.qm_convex.specs.Vertex.{IsVertex, HasVerticesAsCorners};
 ghost use Rattle.qm_convex.specs.Cut.{IsPartInFront};
-ghost use Rattle.qm_convex.specs.Sides.{HasCornerInFront, LiesIn};
+ghost use Rattle.qm_convex.specs.Sides.{LiesIn};
 ghost use Rattle.qm_convex.specs.World.{MissesCube, IsWorldPart, IsInWorld, LiesWithin};
 ghost use Rattle.qm_space.specs.Cube.{IsInClosedCube};
 ghost use Rattle.qm_wind.specs.Clipped.{IsClip, is_front};
 ghost use Rattle.qm_wind.specs.Split.{IsSplit};
 ghost use Rattle.qm_wind.specs.Lying.{IsLying};
 ghost use Rattle.qm_wind.specs.inner.Surveyed.{IsRun};
-ghost use Rattle.qm_wind.specs.inner.Finding.{IsFound};
+ghost use Rattle.qm_wind.specs.inner.Finding.{IsFound, HasCornersAcross};
 
 use crate::found::Found;
 use crate::halves::Halves;
@@ -74,9 +73,7 @@ impl Winding {
             None => Ok(None),
             Some(polygon) => Ok(Some(Winding {
                 polygon,
-                cuboid: Cuboid::whole()
-                    .tightened(plane)
-                    .tightened(&plane.flipped()),
+                cuboid: Cuboid::whole().tightened(plane).tightened(&plane.flipped()),
             })),
         }
     }
@@ -96,9 +93,11 @@ impl Winding {
     fn in_front_of(&self, plane: &Plane) -> Result<Clip, AllocError>
         ensures { IfOk result (λ clip. IsClip clip self.now plane.now) }
     {
+        let _ = &self.polygon;
         match self.found(plane) {
             Found::Front => Ok(Clip::Whole),
-            Found::Back | Found::On => Ok(Clip::Gone),
+            Found::Back => Ok(Clip::Gone),
+            Found::On => Ok(Clip::Gone),
             Found::Across(survey) => Ok(Clip::Cut(self.part(plane, &survey.front)?)),
         }
     }
@@ -132,6 +131,7 @@ impl Winding {
     pub fn lies(&self, plane: &Plane) -> Lies
         ensures { IsLying result self.now plane.now }
     {
+        let _ = &self.polygon;
         match self.found(plane) {
             Found::Front => Lies::Front,
             Found::Back => Lies::Back,
@@ -149,21 +149,25 @@ impl Winding {
         if least > 0 {
             return Found::Front;
         }
+        if least >= 0 {
+            return if self.is_on(plane) {
+                Found::On
+            } else {
+                Found::Front
+            };
+        }
         let greatest = self.cuboid.greatest_value(plane);
         if greatest < 0 {
             return Found::Back;
         }
-        if least < 0 && greatest > 0 {
-            return self.found_by_corners(plane);
+        if greatest <= 0 {
+            return if self.is_on(plane) {
+                Found::On
+            } else {
+                Found::Back
+            };
         }
-        if self.is_on(plane) {
-            return Found::On;
-        }
-        if least == 0 {
-            Found::Front
-        } else {
-            Found::Back
-        }
+        self.found_by_corners(plane)
     }
 
     /// Where the winding lies beside a plane, by its corners.
@@ -184,15 +188,15 @@ impl Winding {
         ensures { IsTrue result ↔ LiesIn self.now plane.now }
     {
         let own = self.polygon.plane();
+        let _ = &own.nx;
+        let _ = &plane.nx;
         own == *plane || own == plane.flipped()
     }
 
-    /// The part in front of a plane, by the run of the corners there, for a winding with a corner
-    /// behind it.
+    /// The part in front of a plane, by the run of the corners there, where some are on both sides.
     fn part(&self, plane: &Plane, run: &Run) -> Result<Winding, AllocError>
         requires run { IsRun self.now plane.now run.now }
-        requires front { HasCornerInFront self.now plane.now }
-        requires back { HasCornerInFront self.now (flipped plane.now) }
+        requires across { HasCornersAcross self.now plane.now }
         ensures { IfOk result (λ w. IsPartInFront w self.now plane.now) }
     {
         Ok(Winding {

@@ -1,4 +1,4 @@
-use qm_wind::{Clip, Winding};
+use qm_wind::Clip;
 
 /// How many windings were left whole, gone and cut, and how many corners those that were cut have.
 #[derive(Clone, Copy, Default)]
@@ -12,31 +12,29 @@ pub(crate) struct Tally {
 impl Tally {
     /// With one more.
     pub(crate) fn with(self, clip: &Clip) -> Tally {
-        let mut tally = self;
         match clip {
-            Clip::Whole => tally.whole = tally.whole.wrapping_add(1),
-            Clip::Gone => tally.gone = tally.gone.wrapping_add(1),
-            Clip::Cut(part) => {
-                tally.cut = tally.cut.wrapping_add(1);
-                tally.corners = tally.corners.wrapping_add(part.len() as u64);
-            }
+            Clip::Whole => self.with_whole(),
+            Clip::Gone => self.with_gone(),
+            Clip::Cut(part) => self.with_cut(part.len() as u64),
         }
+    }
+
+    pub(crate) fn with_whole(self) -> Tally {
+        let mut tally = self;
+        tally.whole = tally.whole.wrapping_add(1);
         tally
     }
 
-    /// With one more that was split: cut in two, left whole on one side, or gone, since it lies in the
-    /// plane.
-    pub(crate) fn with_halves(self, front: &Option<Winding>, back: &Option<Winding>) -> Tally {
+    pub(crate) fn with_gone(self) -> Tally {
         let mut tally = self;
-        match (front, back) {
-            (Some(front), Some(back)) => {
-                tally.cut = tally.cut.wrapping_add(1);
-                let corners = (front.len() as u64).wrapping_add(back.len() as u64);
-                tally.corners = tally.corners.wrapping_add(corners);
-            }
-            (None, None) => tally.gone = tally.gone.wrapping_add(1),
-            _ => tally.whole = tally.whole.wrapping_add(1),
-        }
+        tally.gone = tally.gone.wrapping_add(1);
+        tally
+    }
+
+    pub(crate) fn with_cut(self, corners: u64) -> Tally {
+        let mut tally = self;
+        tally.cut = tally.cut.wrapping_add(1);
+        tally.corners = tally.corners.wrapping_add(corners);
         tally
     }
 }

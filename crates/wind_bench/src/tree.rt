@@ -4,7 +4,7 @@ ghost use Rattle.qm_space.specs.Point.{IsCoordinate};
 use crate::planes::{Numbers, through};
 use crate::tally::Tally;
 use qm_geom::Plane;
-use qm_wind::{Clip, Side, Winding};
+use qm_wind::{Clip, Halves, Lies, Side, Winding};
 use std::alloc::{AllocError, Global};
 
 /// A box in steps of 64 units, counted from 2,048 units below 0.
@@ -148,6 +148,8 @@ struct Piece {
 }
 
 impl Piece {
+    /// Goes on below, whole or in two parts. It asks first where it lies: so a piece that isn't cut is
+    /// moved but once.
     fn push(
         self,
         planes: &Vec<Plane>,
@@ -157,62 +159,54 @@ impl Piece {
         let Some(plane) = planes.get(self.node as usize) else {
             return Ok(tally);
         };
-        let front = self.node.wrapping_mul(2).wrapping_add(1);
+        let Piece { winding, node } = self;
+        let front = node.wrapping_mul(2).wrapping_add(1);
         let back = front.wrapping_add(1);
-        let Halves {
-            front: in_front,
-            back: behind,
-        } = Halves::of(self.winding, plane)?;
-        let tally = tally.with_halves(&in_front, &behind);
-        if let Some(winding) = in_front {
-            below.push(Piece {
+        match winding.lies(plane) {
+            Lies::Front => below.push(Piece {
                 winding,
                 node: front,
-            })?;
-        }
-        if let Some(winding) = behind {
-            below.push(Piece {
+            })?,
+            Lies::Back => below.push(Piece {
                 winding,
                 node: back,
-            })?;
+            })?,
+            Lies::On => return Ok(tally.with_gone()),
+            Lies::Across => {
+                let halves = winding.split(plane)?;
+                let corners = push_halves(halves, front, back, below)?;
+                return Ok(tally.with_cut(corners));
+            }
         }
-        Ok(tally)
+        Ok(tally.with_whole())
     }
 }
 
-#[derive(Drop)]
-struct Halves {
-    front: Option<Winding>,
-    back: Option<Winding>,
-}
-
-impl Halves {
-    fn of(winding: Winding, plane: &Plane) -> Result<Halves, AllocError> {
-        match winding.clip(plane, Side::Front)? {
-            Clip::Whole => Ok(Halves {
-                front: Some(winding),
-                back: None,
-            }),
-            Clip::Cut(front) => match winding.clip(plane, Side::Back)? {
-                Clip::Cut(back) => Ok(Halves {
-                    front: Some(front),
-                    back: Some(back),
-                }),
-                _ => Ok(Halves {
-                    front: Some(front),
-                    back: None,
-                }),
-            },
-            Clip::Gone => match winding.clip(plane, Side::Back)? {
-                Clip::Gone => Ok(Halves {
-                    front: None,
-                    back: None,
-                }),
-                _ => Ok(Halves {
-                    front: None,
-                    back: Some(winding),
-                }),
-            },
-        }
+/// Pushes the parts to their places. How many corners they have.
+fn push_halves(
+    halves: Halves,
+    front: u32,
+    back: u32,
+    below: &mut Vec<Piece>,
+) -> Result<u64, AllocError> {
+    let Halves {
+        front: in_front,
+        back: behind,
+    } = halves;
+    let mut corners = 0_u64;
+    if let Some(winding) = in_front {
+        corners = corners.wrapping_add(winding.len() as u64);
+        below.push(Piece {
+            winding,
+            node: front,
+        })?;
     }
+    if let Some(winding) = behind {
+        corners = corners.wrapping_add(winding.len() as u64);
+        below.push(Piece {
+            winding,
+            node: back,
+        })?;
+    }
+    Ok(corners)
 }

@@ -1,5 +1,7 @@
-use Rattle.std.specs.Prelude.{◌≡◌, ℕ, suc, ◌<◌, pos, ◌≤ℤ◌, Bool, true, not, ◌&&◌, ◌||◌, if◌then◌else◌, ◌⊎◌, length}
+use Rattle.std.specs.Prelude.{◌≡◌, ℕ, suc, ◌<◌, pos, ◌≤ℤ◌, Bool, not, ◌&&◌, ◌||◌, if◌then◌else◌, ◌⊎◌, length}
 use Rattle.std.specs.Bool.{MatchBool}
+use Rattle.std.specs.Ordering.{is_gt, is_lt}
+use Rattle.std.specs.declared.cmp.Ordering.{Ordering}
 use Rattle.qm_space.specs.Plane.{Plane, value, flipped}
 use Rattle.qm_convex.specs.Winding.{Winding, next_place, corner_at}
 use Rattle.qm_convex.specs.Sides.{HasCornerInFront, HasNoCornerInFront}
@@ -13,6 +15,20 @@ noted run was is place = record {
   some = run.some || is;
   start = if is && not was then place else run.start;
   end = if was && not is then place else run.end;
+}
+
+-- a survey of the first corner alone
+abbrev pub begun : Ordering → Survey
+begun first = record {
+  front = record { some = is_gt first; start = 0; end = 0 };
+  back = record { some = is_lt first; start = 0; end = 0 };
+}
+
+-- and with the corner at a place, after the one before it
+abbrev pub surveyed : Survey → Ordering → Ordering → ℕ → Survey
+surveyed s before here place = record {
+  front = noted s.front (is_gt before) (is_gt here) place;
+  back = noted s.back (is_lt before) (is_lt here) place;
 }
 
 -- the border comes to the front before the corner at a place
