@@ -31,7 +31,7 @@ use Rattle.qm_solids.proofs.Samples.{at, ground}
 -- ---- planes on one another
 
 -- the floor z = 0, by other multiples
-abbrev floor : Plane
+abbrev pub floor : Plane
 floor = plane_of (pos 0) (pos 0) (pos 1) (pos 0)
 
 abbrev floor_twice : Plane
@@ -94,7 +94,7 @@ opposed_row = opposed_numbers book are_book 0 0 (omega arith) (omega arith) true
 -- ---- what is not above the floor, and cells above and below it
 
 module _ (x : Point) where
-  height : value floor x ≡ x.z
+  pub height : value floor x ≡ x.z
   unfolding value
   height =
       let v = variable in let o = number (pos 0) in
@@ -123,7 +123,7 @@ ten_times : (w : ℤ) → pos 0 <ℤ w → pos 0 <ℤ (pos 10 *ℤ w)
 ten_times w some = product_positive (pos 10) w (omega (arith, ints)) some
 
 -- what holds of the one face of the ground holds of each
-of_ground : (P : Plane → Type 0) → P floor → (face : Plane) → Contains ground.outward face → P face
+pub of_ground : (P : Plane → Type 0) → P floor → (face : Plane) → Contains ground.outward face → P face
 of_ground P is face among = All-contains P ground.outward face (All-from_recursion P ground.outward (is, tt)) among
 
 ground_misses_deep : MeetsNoFace ground deep
