@@ -1,1 +1,2 @@
 pub mod PartedCells
+pub mod PartedSamples

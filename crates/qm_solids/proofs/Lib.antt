@@ -10,3 +10,4 @@ pub mod PlanesInCommon
 pub mod UniformCells
 pub mod FullSolids
 pub mod BookFaces
+pub mod UniformSamples
