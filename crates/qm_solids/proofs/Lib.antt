@@ -6,3 +6,6 @@ pub mod AlikeSolids
 pub mod CellLaws
 pub mod Samples
 pub mod CellSamples
+pub mod PlanesInCommon
+pub mod UniformCells
+pub mod FullSolids
