@@ -63,8 +63,8 @@ impl BrushList {
     {
         let start = self.faces.len();
         enter_faces(&mut self.faces, brush.faces.as_slice(), book)?;
-        let full = is_full(alloc, &self.faces[start..], book.planes())?;
         let end = self.faces.len();
+        let full = is_full(alloc, &self.faces[start..end], book.planes())?;
         self.entries.push(Entry {
             contents,
             full,
