@@ -1,29 +1,26 @@
 -- A brush that is added to a list.
-use Rattle.std.proofs.Common.{◌≡◌, ℕ, ◌<◌, ◌≤◌, ◌+◌, ◌-◌, Bool, true, false, List, [], ◌∷◌, ◌++◌, length, get_or, take, drop, map, All, inl, inr, refl, sym, ap, ◌∙◌, subst, arith}
+use Rattle.std.proofs.Common.{◌≡◌, ℕ, ◌-◌, Bool, true, false, List, [], ◌∷◌, ◌++◌, length, get_or, take, drop, map, All, inl, inr, refl, sym, ap, ◌∙◌, subst, arith}
 use Rattle.std.specs.List.{AllZip}
 use Rattle.std.specs.Bool.{MatchBool}
 use Rattle.std.proofs.lemmas.Bool.{cases_lt}
 use Rattle.std.proofs.lemmas.List.{take_all, take-append-le, drop-append-le, drop_at, map-append, length-append, length-drop, get_or_past}
-use Rattle.std.proofs.lemmas.List.Elements.{All-nil, All-cons, All-head, All-tail, All-push}
-use Rattle.qm_space.specs.Point.{Point, AreCoordinates, IsCoordinate, IsWholePoint}
+use Rattle.std.proofs.lemmas.List.Elements.{All-nil, All-head, All-tail, All-push}
+use Rattle.qm_space.specs.Point.{AreCoordinates, IsCoordinate, IsWholePoint}
 use Rattle.qm_space.specs.Plane.{Plane}
 use Rattle.qm_space.specs.Multiple.{IsPositiveMultiple}
 use Rattle.qm_space.specs.Turned.{turned}
 use Rattle.qm_space.specs.Book.{AreBookPlanes}
 use Rattle.qm_space.specs.Cell.{IsInCell}
-use Rattle.qm_space.specs.ThreePoints.{IsPlaneThrough}
 use Rattle.qm_space.proofs.PlanesThroughPoints.{whole_point_is_whole, plane_through_is, normal_off_line}
-use Rattle.qm_geom.specs.Planes.{AreEntered}
 use Rattle.qm_mapfile.specs.declared.face.Face.{Face}
 use Rattle.qm_mapfile.specs.declared.entity.Brush.{Brush}
-use Rattle.qm_mapfile.specs.Face.{HasPlane, face_point, face_plane, face_outward}
+use Rattle.qm_mapfile.specs.Face.{face_point, face_outward}
 use Rattle.qm_grammar.specs.Valid.{IsValidFace}
-use Rattle.qm_contents.specs.declared.contents.Contents.{Contents}
 use Rattle.qm_solids.specs.declared.face.FaceRef.{FaceRef}
 use Rattle.qm_solids.specs.Solid.{Solid}
 use Rattle.qm_solids.specs.Holding.{IsFull}
 use Rattle.qm_solids.specs.Outward.{outward_planes, AreNumberedIn}
-use Rattle.qm_solids.specs.InBook.{BookSolid, solid_in, IsKeptIn}
+use Rattle.qm_solids.specs.InBook.{BookSolid, solid_in}
 use Rattle.qm_brush.specs.declared.entry.Entry.{Entry}
 use Rattle.qm_brush.specs.inner.Entries.{faces_of_entry, solid_of_entry, solids_of_entries, IsWithin, AreWithin}
 use Rattle.qm_brush.specs.inner.Entered.{turned_outward, AreFacesEntered}
@@ -35,7 +32,7 @@ use Rattle.qm_brush.specs.inner.Added.{IsAdded}
 -- a point of a face is a whole point of the closed cube
 face_point_whole : (face : Face) (k : ℕ) → All AreCoordinates face.points → IsWholePoint (face_point face k)
 face_point_whole face k coordinates = whole_point_is_whole (get_or face.points k []) (elim (cases_lt k (length face.points)) [
-  inl within ↦ coordinates k [] within
+  | inl within ↦ coordinates k [] within
   | inr past ↦ subst AreCoordinates (sym (get_or_past face.points k [] past)) (All-nil IsCoordinate)
 ])
 
@@ -60,7 +57,7 @@ full_with_planes solid other same full = record {
   inside = subst (λ (planes : List Plane). IsInCell (map (turned false) planes) full.within) same full.inside;
 }
 
-flag_with_planes : (flag : Bool) (solid other : Solid) → solid.outward ≡ other.outward → MatchBool flag (IsFull solid) (IsFull solid → ⊥) → MatchBool flag (IsFull other) (IsFull other → ⊥)
+pub flag_with_planes : (flag : Bool) (solid other : Solid) → solid.outward ≡ other.outward → MatchBool flag (IsFull solid) (IsFull solid → ⊥) → MatchBool flag (IsFull other) (IsFull other → ⊥)
 flag_with_planes true solid other same full = full_with_planes solid other same full
 flag_with_planes false solid other same flat = λ full. flat (full_with_planes other solid (sym same) full)
 

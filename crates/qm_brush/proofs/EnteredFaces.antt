@@ -1,19 +1,18 @@
 -- Faces whose planes enter a book, one after another.
-use Rattle.std.proofs.Common.{◌≡◌, ℕ, ◌<◌, ◌≤◌, ◌+◌, Bool, List, [], ◌∷◌, ◌++◌, length, get_or, take, drop, All, Some, Result, Ok, Err, refl, sym, ap, ◌∙◌, subst, arith}
+use Rattle.std.proofs.Common.{◌≡◌, ℕ, ◌<◌, ◌≤◌, ◌+◌, List, [], ◌∷◌, ◌++◌, length, get_or, take, drop, Some, Result, Ok, Err, refl, sym, ap, ◌∙◌, subst, arith}
 use Rattle.std.specs.Prelude.{slice_get, OnErr}
 use Rattle.std.specs.Prelude.{map as mapped}
 use Rattle.std.proofs.lemmas.Option.{slice_get-get_or, slice_get_within}
-use Rattle.std.proofs.lemmas.List.{length-take, take_all, take_more, append_assoc, append-nil, map-append, take-append-drop, length-append, length-map}
-use Rattle.std.proofs.lemmas.List.Elements.{All-nil, All-cons, All-head, All-tail, All-push, All-weaker}
+use Rattle.std.proofs.lemmas.List.{length-take, take_all, take_more, append_assoc, append-nil, map-append, take-append-drop, length-map}
+use Rattle.std.proofs.lemmas.List.Elements.{All-nil, All-head, All-tail, All-push}
 use Rattle.qm_space.specs.Plane.{Plane}
 use Rattle.qm_space.specs.Turned.{turned}
 use Rattle.qm_space.specs.Book.{plane_at}
 use Rattle.qm_space.proofs.Books.{plane_at_from}
-use Rattle.qm_geom.specs.Planes.{Enters, AreEntered, none}
-use Rattle.qm_geom.proofs.Entering.{entered_at, earlier_stay, length-entered}
-use Rattle.qm_geom.proofs.EnteredPlanes.{one_entered, more_entered, all_stay, length-all_entered}
+use Rattle.qm_geom.specs.Planes.{AreEntered, none}
+use Rattle.qm_geom.proofs.Entering.{entered_at, earlier_stay}
+use Rattle.qm_geom.proofs.EnteredPlanes.{one_entered, more_entered, length-all_entered}
 use Rattle.qm_mapfile.specs.declared.face.Face.{Face}
-use Rattle.qm_mapfile.specs.Face.{face_plane}
 use Rattle.qm_solids.specs.declared.face.FaceRef.{FaceRef}
 use Rattle.qm_solids.specs.Outward.{outward_of, outward_planes, AreNumberedIn}
 use Rattle.qm_brush.specs.Planes.{plane_of_face}

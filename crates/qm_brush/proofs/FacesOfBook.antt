@@ -1,6 +1,5 @@
 -- The faces of a solid by the numbers of their planes: which are on one plane, and which are opposed.
-use Rattle.std.proofs.Common.{◌≡◌, ℕ, ◌<◌, ◌≤◌, ◌+◌, ⊎_elim, ℤ, pos, neg_ℤ, ◌*ℤ◌, ◌<ℤ◌, Bool, true, false, not, List, [], length, get_or, take, All, Contains, Some, refl, sym, ap, ◌∙◌, subst, arith}
-use Rattle.std.specs.Prelude.{slice_get}
+use Rattle.std.proofs.Common.{◌≡◌, ℕ, ◌<◌, ◌≤◌, ◌+◌, ⊎_elim, pos, neg_ℤ, ◌*ℤ◌, Bool, true, false, not, List, [], length, get_or, take, All, Contains, refl, sym, ap, ◌∙◌, subst, arith}
 use Rattle.std.proofs.lemmas.Bool.{cases_eq}
 use Rattle.std.proofs.lemmas.Option.{slice_get-get_or}
 use Rattle.std.specs.Bool.{MatchBool}
@@ -12,7 +11,7 @@ use Rattle.qm_numbers.proofs.Signs.{zero_beside_positive}
 use Rattle.qm_lists.proofs.Mapped.{Contains-map, Contains-from_map}
 use Rattle.qm_space.specs.Point.{Point, point_times}
 use Rattle.qm_space.specs.Plane.{Plane, value, flipped, scaled, IsOn, IsBehind, IsInFront}
-use Rattle.qm_space.specs.Reduced.{HasNormal, IsReduced}
+use Rattle.qm_space.specs.Reduced.{HasNormal}
 use Rattle.qm_space.specs.Turned.{turned}
 use Rattle.qm_space.specs.Book.{plane_at, AreBookPlanes}
 use Rattle.qm_space.proofs.Planes.{value_scaled, value_times, value_flipped}
@@ -20,8 +19,7 @@ use Rattle.qm_space.proofs.ReducedPlanes.{flipped_twice}
 use Rattle.qm_space.proofs.TurnedPlanes.{turned_on, turned_has_normal}
 use Rattle.qm_space.proofs.Openness.{ahead, by_ahead}
 use Rattle.qm_solids.specs.declared.face.FaceRef.{FaceRef}
-use Rattle.qm_solids.specs.Outward.{outward_of, outward_planes, AreNumberedIn}
-use Rattle.qm_solids.specs.Solid.{Solid}
+use Rattle.qm_solids.specs.Outward.{outward_of, AreNumberedIn}
 use Rattle.qm_solids.specs.Holding.{IsFull, IsInside}
 use Rattle.qm_solids.specs.Candidates.{LiesOn, IsOnFace}
 use Rattle.qm_solids.specs.Uniform.{MeetsNoFace}
@@ -30,7 +28,7 @@ use Rattle.qm_solids.proofs.PlanesInCommon.{lies_on_turned, lies_on_from_turned,
 use Rattle.qm_solids.proofs.FullSolids.{full_by_face, full_by_middle, middle_of_cube}
 use Rattle.qm_brush.specs.declared.fullness.FacePart.{FacePart}
 use Rattle.qm_brush.specs.declared.fullness.FacePart.TheVariants.{Opposed, Missing, Present}
-use Rattle.qm_brush.specs.inner.FaceParts.{plane_in, AreOnOnePlane, AreTurnedApart, IsBehindOther, IsOnPart, IsPresent, IsMissing, IsOpposed, IsPartOfFace}
+use Rattle.qm_brush.specs.inner.FaceParts.{AreOnOnePlane, AreTurnedApart, IsBehindOther, IsPresent, IsMissing, IsOpposed, IsPartOfFace}
 use Rattle.qm_brush.specs.inner.Fullness.{solid_behind}
 
 -- ---- two faces

@@ -3,6 +3,7 @@ pub mod DrawnSolids
 pub mod EntryLists
 pub mod EnteredFaces
 pub mod AddedBrushes
+pub mod ListedBrushes
 pub mod FacesOfBook
 pub mod PartsOfFaces
 pub mod Samples

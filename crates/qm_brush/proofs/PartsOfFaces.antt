@@ -1,18 +1,15 @@
 -- The part of a face in the cube and behind other faces, one after another.
-use Rattle.std.proofs.Common.{◌≡◌, ℕ, ◌<◌, ◌≤◌, ◌+◌, Bool, true, false, not, List, [], ◌∷◌, length, get_or, take, All, Contains, refl, sym, ap, ◌∙◌, subst, arith}
-use Rattle.std.specs.Bool.{MatchBool}
+use Rattle.std.proofs.Common.{◌≡◌, ℕ, ◌<◌, ◌≤◌, ◌+◌, Bool, not, List, [], ◌∷◌, length, get_or, take, All, refl, sym, ap, ◌∙◌, subst, arith}
 use Rattle.std.proofs.lemmas.Int.{ints}
 use Rattle.std.proofs.lemmas.List.{take_all, take_more}
 use Rattle.std.proofs.lemmas.List.Elements.{All-nil, All-same, All-more, All-take, All-head, Contains-get_or}
 use Rattle.qm_lists.proofs.Elements.{All-first_part, All-last_part}
-use Rattle.qm_space.specs.Point.{Point}
-use Rattle.qm_space.specs.Plane.{Plane, flipped, IsOn, IsInFront}
+use Rattle.qm_space.specs.Plane.{Plane, flipped, IsOn}
 use Rattle.qm_space.specs.Turned.{turned}
-use Rattle.qm_space.specs.Book.{plane_at}
 use Rattle.qm_space.proofs.Planes.{flipped_in_front}
 use Rattle.qm_space.proofs.TurnedPlanes.{turned_other}
 use Rattle.qm_convex.specs.Winding.{Winding, IsConvex}
-use Rattle.qm_convex.specs.Sides.{HasNoneInFront, IsWhollyInFront}
+use Rattle.qm_convex.specs.Sides.{IsWhollyInFront}
 use Rattle.qm_convex.specs.Cut.{IsPartInFront}
 use Rattle.qm_convex.specs.World.{MissesCube, IsWorldPart}
 use Rattle.qm_convex.proofs.Central.{has_a_point}
@@ -21,7 +18,7 @@ use Rattle.qm_solids.specs.Outward.{outward_of}
 use Rattle.qm_solids.proofs.FaceSides.{plane_read}
 use Rattle.qm_brush.specs.declared.fullness.FacePart.{FacePart}
 use Rattle.qm_brush.specs.declared.fullness.FacePart.TheVariants.{Opposed, Missing, Present}
-use Rattle.qm_brush.specs.inner.FaceParts.{plane_in, inward_of, AreOnOnePlane, AreTurnedApart, IsBehindOther, IsOnPart, IsFacePart, IsNarrowed, IsLost, IsNarrowing, IsPresent, IsMissing, IsOpposed, IsPartOfFace}
+use Rattle.qm_brush.specs.inner.FaceParts.{inward_of, AreTurnedApart, IsBehindOther, IsFacePart, IsNarrowed, IsLost, IsNarrowing, IsPresent, IsMissing, IsOpposed, IsPartOfFace}
 
 -- what holds of each element up to one holds of those before it, and of that one
 of_more : {X : Type 0} (P : X → Type 0) (xs : List X) (i : ℕ) (d : X) → i < length xs → All P (take (i + 1) xs) → All P (take i xs) × P (get_or xs i d)
@@ -86,12 +83,13 @@ module _ (planes : List Plane) (faces : List FaceRef) (face : FaceRef) where
       convex = narrowed.convex;
       points = λ x. (
         (λ inside.
-        let both = (narrowed.points x).0 inside in
-        let on_part = (part.points x).0 both.0 in
-        record { in_cube = on_part.in_cube; on = on_part.on; behind = All-more (IsBehindOther planes face x) faces i d within on_part.behind both.1 }),
+            let both = (narrowed.points x).0 inside in
+            let on_part = (part.points x).0 both.0 in
+            record { in_cube = on_part.in_cube; on = on_part.on; behind = All-more (IsBehindOther planes face x) faces i d within on_part.behind both.1 }),
         (λ on_part. (narrowed.points x).1 (
           (part.points x).1 (record { in_cube = on_part.in_cube; on = on_part.on; behind = (of_more (IsBehindOther planes face x) faces i d within on_part.behind).0 }),
-          (of_more (IsBehindOther planes face x) faces i d within on_part.behind).1)),
+          (of_more (IsBehindOther planes face x) faces i d within on_part.behind).1,
+        )),
       );
       none_apart = All-more (λ other. AreTurnedApart face other → ⊥) faces i d within part.none_apart narrowed.not_apart;
     }

@@ -1,5 +1,5 @@
 -- Planes that enter a book one after another.
-use Rattle.std.proofs.Common.{◌≡◌, ℕ, ◌+◌, ◌≤◌, List, [], ◌∷◌, ◌++◌, length, Some, subst, arith}
+use Rattle.std.proofs.Common.{◌≡◌, ℕ, ◌+◌, ◌≤◌, List, [], ◌∷◌, ◌++◌, length, Some, arith}
 use Rattle.std.specs.Prelude.{slice_get}
 use Rattle.qm_space.specs.Plane.{Plane}
 use Rattle.qm_geom.specs.Planes.{Enters, AreEntered, none, next}

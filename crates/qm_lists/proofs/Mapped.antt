@@ -1,5 +1,5 @@
 -- The elements of what a function gives of a list.
-use Rattle.std.proofs.Common.{◌≡◌, ℕ, ◌<◌, zero, suc, sym, subst, List, [], ◌∷◌, length, map, Contains, refl, ap, ◌∙◌, arith}
+use Rattle.std.proofs.Common.{◌≡◌, ℕ, ◌<◌, zero, suc, sym, subst, List, [], ◌∷◌, map, Contains, refl, ap, ◌∙◌, arith}
 use Rattle.std.proofs.lemmas.List.{length-map, get_or-map}
 
 -- what a function gives of an element is among what it gives of all

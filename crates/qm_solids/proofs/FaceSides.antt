@@ -1,10 +1,10 @@
 -- On which sides of the outward planes of faces a point lies, by the planes of a book.
-use Rattle.std.proofs.Common.{◌≡◌, ℕ, ◌<◌, ◌≤◌, ◌+◌, ℤ, pos, ◌<ℤ◌, ◌≤ℤ◌, Bool, true, false, List, length, get_or, take, map, All, sym, ap, ◌∙◌, subst, refl, arith, int_cmp, Less, Equal, Greater, Ordering}
+use Rattle.std.proofs.Common.{◌≡◌, ℕ, ◌<◌, ◌≤◌, ℤ, pos, ◌<ℤ◌, ◌≤ℤ◌, Bool, false, List, length, get_or, take, All, sym, ap, ◌∙◌, subst, arith, int_cmp, Less, Equal, Greater, Ordering}
 use Rattle.std.specs.Bool.{MatchBool}
 use Rattle.std.specs.Ordering.{is_gt, is_ge, ordering_reverse}
 use Rattle.std.proofs.lemmas.Int.{ints}
 use Rattle.std.proofs.lemmas.List.{take_all, get_or_default}
-use Rattle.std.proofs.lemmas.List.Elements.{All-same, All-more, All-map}
+use Rattle.std.proofs.lemmas.List.Elements.{All-same, All-map}
 use Rattle.qm_numbers.proofs.Signs.{by_sign, compares_less, compares_equal, compares_greater}
 use Rattle.qm_lists.proofs.Elements.{All-from_map}
 use Rattle.qm_space.specs.Point.{Point}

@@ -1,18 +1,16 @@
-use Rattle.std.specs.Prelude.{◌≡◌, List, [], ◌∷◌, ◌++◌, MatchOption, OnErr, Option, All}
-use Rattle.std.specs.Prelude.{map as mapped, flat_map, filter}
+use Rattle.std.specs.Prelude.{◌≡◌, List, [], ◌∷◌, ◌++◌, MatchOption, All}
+use Rattle.std.specs.Prelude.{flat_map, filter}
 use Rattle.std.specs.List.{AllZip, filter_map}
 use Rattle.qm_space.specs.Plane.{Plane}
 use Rattle.qm_space.specs.Book.{AreBookPlanes}
 use Rattle.qm_geom.specs.Planes.{AreEntered}
-use Rattle.qm_mapfile.specs.declared.face.Face.{Face}
 use Rattle.qm_mapfile.specs.declared.entity.Brush.{Brush}
-use Rattle.qm_mapfile.specs.Face.{face_outward}
 use Rattle.qm_contents.specs.declared.contents.Contents.{Contents}
 use Rattle.qm_solids.specs.Alike.{IsAlike}
 use Rattle.qm_solids.specs.InBook.{BookSolid, solid_in, solids_in, IsKeptIn}
 use Rattle.qm_brush.specs.Brushes.{contents_of_brush, is_drawn}
 use Rattle.qm_brush.specs.Solids.{filled_with, solid_of}
-use Rattle.qm_brush.specs.Planes.{plane_of_face, planes_of_brush}
+use Rattle.qm_brush.specs.Planes.{planes_of_brush}
 
 -- a brush with these contents was added at the end of a list, and the planes of its faces entered
 pub record IsAdded (brush : Brush) (contents : Contents) (before after : List BookSolid) (old new : List Plane) : Type 0 where

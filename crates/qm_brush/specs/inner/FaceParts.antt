@@ -1,11 +1,10 @@
-use Rattle.std.specs.Prelude.{◌≡◌, ◌↔◌, Bool, false, List, All, Contains}
+use Rattle.std.specs.Prelude.{◌≡◌, ◌↔◌, false, List, All, Contains}
 use Rattle.qm_space.specs.Point.{Point, IsInCube}
 use Rattle.qm_space.specs.Plane.{Plane, IsOn, IsBehind}
 use Rattle.qm_space.specs.Book.{plane_at}
 use Rattle.qm_space.specs.Turned.{turned}
 use Rattle.qm_convex.specs.Winding.{Winding, IsInRegion, IsConvex}
 use Rattle.qm_convex.specs.Sides.{HasNoneInFront}
-use Rattle.qm_contents.specs.declared.contents.Contents.TheVariants.{Empty}
 use Rattle.qm_solids.specs.declared.face.FaceRef.{FaceRef}
 use Rattle.qm_solids.specs.Outward.{outward_of}
 use Rattle.qm_brush.specs.declared.fullness.FacePart.{FacePart}

@@ -1,4 +1,4 @@
-use Rattle.std.proofs.Common.{◌≤◌, length, sym, subst, arith}
+use Rattle.std.proofs.Common.{sym, subst, arith}
 use Rattle.qm_space.specs.Plane.{Plane}
 use Rattle.qm_brush.specs.Planes.{plane_of_face}
 use Rattle.qm_brush.specs.inner.Entered.{AreFirstEntered}

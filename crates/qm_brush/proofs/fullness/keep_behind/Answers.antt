@@ -4,7 +4,7 @@ use Rattle.qm_space.specs.Turned.{turned}
 use Rattle.qm_convex.specs.Cut.{IsPartInFront}
 use Rattle.qm_wind.specs.declared.winding.Clip.{Clip}
 use Rattle.qm_wind.specs.Clipped.{is_front, IsClip}
-use Rattle.qm_brush.proofs.PartsOfFaces.{inner_plane, wholly_kept}
+use Rattle.qm_brush.proofs.PartsOfFaces.{inner_plane}
 use Rattle.qm_brush.proofs.fullness.keep_behind.Goals as goal
 
 pub returns-in-Cut : goal.returns-in-Cut

@@ -1,6 +1,4 @@
-use Rattle.std.proofs.Common.{◌≡◌, List, subst, rules}
-use Rattle.qm_space.specs.Book.{AreBookPlanes}
-use Rattle.qm_space.specs.Plane.{Plane}
+use Rattle.std.proofs.Common.{List, subst, rules}
 use Rattle.qm_mapfile.specs.declared.face.Face.{Face}
 use Rattle.qm_brush.specs.declared.entry.Entry.{Entry}
 use Rattle.qm_brush.specs.inner.Entered.{AreFacesEntered}
