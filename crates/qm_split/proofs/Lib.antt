@@ -5,3 +5,5 @@ pub mod PartedPieces
 pub mod KeptParts
 pub mod Gatherings
 pub mod SplitGatherings
+pub mod RankOrder
+pub mod KnownFragments

@@ -1,8 +1,7 @@
-use Rattle.std.specs.Prelude.{◌≡◌, ◌⊎◌, ℕ, ◌+◌, ◌<◌, Bool, List, [], ◌∷◌, length, map, All, Contains, Option, Some, None, IsSomeAnd, slice_get}
+use Rattle.std.specs.Prelude.{◌≡◌, ◌⊎◌, ℕ, ◌+◌, List, [], ◌∷◌, length, map, All, Contains, Option, Some, None, IsSomeAnd}
 use Rattle.qm_space.specs.Point.{Point, IsInCube}
 use Rattle.qm_space.specs.Plane.{Plane, IsOn}
 use Rattle.qm_space.specs.Cell.{IsInCell}
-use Rattle.qm_space.specs.Turned.{turned}
 use Rattle.qm_space.specs.Book.{AreBookPlanes}
 use Rattle.qm_contents.specs.declared.contents.Contents.{Contents}
 use Rattle.qm_contents.specs.Precedence.{IsAtMost}
@@ -42,19 +41,6 @@ pub record HasPoint (cell : List Plane) : Type 0 where
   pub in_cube : IsInCube point
   pub in_cell : IsInCell cell point
 
--- the plane is one of the book, turned to one of its sides
-pub record IsTurnedIn (book : List Plane) (face : Plane) : Type 0 where
-  pub number : ℕ
-  pub side : Bool
-  pub plane : Plane
-  pub numbered : slice_get book number ≡ Some plane
-  pub is : face ≡ turned side plane
-
--- each outward plane of the solids is one of the book
-abbrev pub HasTheirPlanes : List Plane → List Solid → Type 0
-HasTheirPlanes book solids =
-    (solid : Solid) (face : Plane) → Contains solids solid → Contains solid.outward face → IsTurnedIn book face
-
 -- contents are known that are at least as strong
 abbrev pub IsReached : Option Contents → Contents → Type 0
 IsReached strongest contents = IsSomeAnd strongest (λ known. IsAtMost contents known)
@@ -79,7 +65,6 @@ pub record IsKeptContender (solids : List Solid) (book cell : List Plane) (stron
 -- fragments of the faces of solids in a cell, by the planes of a book
 pub record AreFragmentsOf (solids : List Solid) (book cell : List Plane) (fragments : Fragments) : Type 0 where
   pub book_planes : AreBookPlanes book
-  pub their_planes : HasTheirPlanes book solids
   pub cell_is : cell_of fragments ≡ cell
   pub inner : HasPoint cell
   pub given : AreOfSomeSolid solids cell fragments.gathering.strongest

@@ -51,7 +51,8 @@ impl Fragments {
         ensures { (solids : List Solid) (book cell : List Plane) → AreFragmentsOf solids book cell self.now →
             MatchOption result (HasNoCandidate solids book cell) (λ n. IsLeastCandidate solids book cell n (plane_at book n)) }
     {
-        self.gathering.least().map(|rank| rank.number)
+        let least = self.gathering.least()?;
+        Some(least.number)
     }
 
     /// What the cell has in front of a plane and behind it, for a plane that has a point of the cell. Where the plane is a
