@@ -7,3 +7,5 @@ pub mod Gatherings
 pub mod SplitGatherings
 pub mod RankOrder
 pub mod KnownFragments
+pub mod SectionsOfCells
+pub mod FacesInCube

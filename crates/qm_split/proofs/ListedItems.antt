@@ -1,7 +1,8 @@
 -- What is listed in a list, in what a function makes of it, and in what a test leaves of it.
-use Rattle.std.proofs.Common.{◌≡◌, ◌⊎◌, inl, inr, ⊎_elim, ℕ, zero, suc, ◌<◌, Bool, true, false, true≢false, List, [], ◌∷◌, length, map, All, Contains, get_or, refl, sym, ◌∙◌, ap, subst, arith}
+use Rattle.std.proofs.Common.{◌≡◌, ◌⊎◌, inl, inr, ⊎_elim, ℕ, zero, suc, ◌<◌, Bool, true, false, true≢false, List, [], ◌∷◌, length, map, take, drop, ◌+◌, ◌++◌, All, Contains, get_or, refl, sym, ◌∙◌, ap, subst, arith}
 use Rattle.std.specs.List.{filter}
-use Rattle.std.proofs.lemmas.List.Elements.{Contains-get_or}
+use Rattle.std.proofs.lemmas.List.{take_more, drop_more, take-append-drop}
+use Rattle.std.proofs.lemmas.List.Elements.{Contains-get_or, Contains-append_left}
 
 -- nothing is in an empty list
 pub none_listed : {X : Type 0} (x : X) → Contains [] x → ⊥
@@ -55,5 +56,20 @@ module _ {X : Type 0} (test : X → Bool) where
   listed_filter (z ∷ xs) x among passes = ⊎_elim
       (λ same. let yes : test z ≡ true = ap test same ∙ passes in rw yes (subst (λ (y : X). Contains (z ∷ filter test xs) y) same (listed_here z (filter test xs))))
       (λ later. let rest = listed_filter xs x later passes in
-          by_test (test z) (λ is. rw is (listed_later z x (filter test xs) rest)) (λ is. rw is rest))
+      by_test (test z) (λ is. rw is (listed_later z x (filter test xs) rest)) (λ is. rw is rest))
       (listed_cases z x xs among)
+
+-- ---- what code reads at a place
+
+module _ {X : Type 0} (xs : List X) (k : ℕ) (x : X) (within : k < length xs) (read : x ≡ get_or xs k x) where
+  pub listed_read : (ys : List X) → xs ≡ ys → Contains ys x
+  listed_read ys same = subst (λ (zs : List X). Contains zs x) same (k, within, sym read)
+
+  pub taken_next : take (k + 1) xs ≡ take k xs ++ x ∷ []
+  taken_next = take_more xs k x within ∙ ap (λ (y : X). take k xs ++ y ∷ []) (sym read)
+
+  pub parted_at : xs ≡ take k xs ++ x ∷ drop (k + 1) xs
+  parted_at = sym (take-append-drop k xs) ∙ ap (λ (r : List X). take k xs ++ r) (drop_more xs k x within ∙ ap (λ (y : X). y ∷ drop (k + 1) xs) (sym read))
+
+  pub listed_of_taken : (y : X) → Contains (take (k + 1) xs) y → Contains xs y
+  listed_of_taken y among = subst (λ (ys : List X). Contains ys y) (take-append-drop (k + 1) xs) (Contains-append_left (take (k + 1) xs) (drop (k + 1) xs) y among)

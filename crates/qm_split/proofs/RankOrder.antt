@@ -49,7 +49,6 @@ one_rank piece a b is_a is_b =
     both false true there back = back refl
     both false false there back = refl
 
-
 not_after_its_own : (piece : Piece) (a b : Rank) → IsRankOf piece a → IsRankOf piece b → IsNotAfter a b
 not_after_its_own piece a b is_a is_b = subst (IsNotAfter a) (one_rank piece a b is_a is_b) (not_after_itself a)
 
@@ -78,22 +77,22 @@ module _ (before : Option Rank) (pieces : List Piece) (piece : Piece) (rank : Ra
     inr its_own,
     (λ r same. no_rank r (sym none.0 ∙ same)),
     (λ other s among of_other. ⊎_elim (λ earlier. absurd (none.1 other earlier))
-      (λ same. not_after_its_own piece rank s is (subst (λ (p : Piece). IsRankOf p s) (sym same) of_other))
-      (Contains-push_cases pieces piece other among)),
+        (λ same. not_after_its_own piece rank s is (subst (λ (p : Piece). IsRankOf p s) (sym same) of_other))
+        (Contains-push_cases pieces piece other among)),
   )
 
   lesser_after_some : (least first : Rank) → IsLesser before pieces (Some least) → IsFirstOf (Some least) rank first → IsLesser before (pieces ++ piece ∷ []) (Some first)
   lesser_after_some least first are is_first = (
     ⊎_elim
-      (λ same. ⊎_elim (λ b. inl (b ∙ ap (λ (r : Rank). Some r) (sym same)))
+        (λ same. ⊎_elim (λ b. inl (b ∙ ap (λ (r : Rank). Some r) (sym same)))
         (λ one. inr (record { piece = one.piece; listed = Contains-append_left pieces (piece ∷ []) one.piece one.listed; is = subst (IsRankOf one.piece) (sym same) one.is })) are.0)
-      (λ same. inr (subst (IsRankOfOne (pieces ++ piece ∷ [])) (sym same) its_own))
-      is_first.0,
+        (λ same. inr (subst (IsRankOfOne (pieces ++ piece ∷ [])) (sym same) its_own))
+        is_first.0,
     (λ r same. not_after_through first least r is_first.1 (are.1 r same)),
     (λ other s among of_other. ⊎_elim
-      (λ earlier. not_after_through first least s is_first.1 (are.2 other s earlier of_other))
-      (λ same. not_after_through first rank s is_first.2 (not_after_its_own piece rank s is (subst (λ (p : Piece). IsRankOf p s) (sym same) of_other)))
-      (Contains-push_cases pieces piece other among)),
+        (λ earlier. not_after_through first least s is_first.1 (are.2 other s earlier of_other))
+        (λ same. not_after_through first rank s is_first.2 (not_after_its_own piece rank s is (subst (λ (p : Piece). IsRankOf p s) (sym same) of_other)))
+        (Contains-push_cases pieces piece other among)),
   )
 
   pub lesser_more : (least : Option Rank) (first : Rank) → IsLesser before pieces least → IsFirstOf least rank first → IsLesser before (pieces ++ piece ∷ []) (Some first)
@@ -120,12 +119,12 @@ module _ (done : List Contender) (contender : Contender) where
   )
   least_more (Some least) (Some first) are is = (
     ⊎_elim
-      (λ same. record {
-        contender = are.0.contender;
-        listed = Contains-append_left done (contender ∷ []) are.0.contender are.0.listed;
-        one = subst (IsRankOfOne are.0.contender.pieces.items) (same_rank least first same) are.0.one;
-      })
-      (λ one. record { contender = contender; listed = Contains-push done contender; one = one })
-      is.0,
+        (λ same. record {
+          contender = are.0.contender;
+          listed = Contains-append_left done (contender ∷ []) are.0.contender are.0.listed;
+          one = subst (IsRankOfOne are.0.contender.pieces.items) (same_rank least first same) are.0.one;
+        })
+        (λ one. record { contender = contender; listed = Contains-push done contender; one = one })
+        is.0,
     after_none_of_next first (λ q among piece other among_pieces of_other. not_after_through first least other (is.1 least refl) (are.1 q among piece other among_pieces of_other)) is.2,
   )

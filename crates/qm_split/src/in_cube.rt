@@ -1,14 +1,15 @@
-ghost use Rattle.std.specs.Prelude.{◌≡◌, ◌<◌, ◌++◌, ◌∷◌, List, [], length, IfOk, OnOk, Contains, MatchOption};
+ghost use Rattle.std.specs.Prelude.{◌≡◌, ◌<◌, not, ◌++◌, ◌∷◌, List, [], length, IfOk, OnOk, Contains, MatchOption};
 ghost use Rattle.qm_contents.specs.declared.contents.Contents.{Contents};
 ghost use Rattle.qm_solids.specs.declared.face.FaceRef.{FaceRef};
 ghost use Rattle.qm_solids.specs.Holding.{IsFull};
 ghost use Rattle.qm_solids.specs.Outward.{outward_of, outward_planes, AreNumberedIn};
+ghost use Rattle.qm_wind.specs.Clipped.{is_front};
 ghost use Rattle.qm_split.specs.Pieces.{ArePieces};
 ghost use Rattle.qm_split.specs.inner.Parts.{IsPartIn};
 ghost use Rattle.qm_split.specs.inner.FacePieces.{solid_behind, IsFacePiece, HasNoFacePoint};
 
 use crate::contender::{Contender, Part};
-use crate::piece::Piece;
+use crate::piece::{Piece, numbered, push_some};
 use crate::section::kept;
 use qm_contents::Contents;
 use qm_geom::{Plane, PlaneBook};
@@ -82,12 +83,8 @@ fn pieces_in_cube(
     let _ = book.len();
     let mut pieces = Vec::new(alloc);
     for face in faces {
-        if let Some(winding) = face_in_cube(alloc, face.plane, faces, book)? {
-            pieces.push(Piece {
-                number: face.plane,
-                winding,
-            })?;
-        }
+        let winding = face_in_cube(alloc, face.plane, faces, book)?;
+        push_some(&mut pieces, numbered(face.plane, winding))?;
     }
     Ok(pieces)
 }
@@ -130,10 +127,16 @@ fn behind(
     if face.plane == number {
         return Ok(Some(winding));
     }
-    let side = if face.out_is_front {
+    kept(winding, &book.plane(face.plane), inner_side(face))
+}
+
+/// The side of a face's plane on which its solid lies.
+fn inner_side(face: &FaceRef) -> Side
+    ensures { is_front result ≡ not face.now.out_is_front }
+{
+    if face.out_is_front {
         Side::Back
     } else {
         Side::Front
-    };
-    kept(winding, &book.plane(face.plane), side)
+    }
 }

@@ -54,7 +54,7 @@ impl Piece {
 }
 
 /// The piece of a number, if there is a winding.
-fn numbered(number: u32, winding: Option<Winding>) -> Option<Piece>
+pub(crate) fn numbered(number: u32, winding: Option<Winding>) -> Option<Piece>
     ensures { IsNumberedPiece number winding result }
 {
     match winding {
@@ -80,7 +80,7 @@ pub(crate) fn split_pieces(pieces: Vec<Piece>, plane: &Plane) -> Result<PieceLis
 }
 
 /// Adds a piece, if there is one.
-fn push_some(pieces: &mut Vec<Piece>, piece: Option<Piece>) -> Result<(), AllocError>
+pub(crate) fn push_some(pieces: &mut Vec<Piece>, piece: Option<Piece>) -> Result<(), AllocError>
     ensures { OnOk result (pieces.new.items ≡ pieces.old.items ++ option_to_list piece) }
 {
     if let Some(piece) = piece {

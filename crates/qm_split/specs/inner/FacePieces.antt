@@ -1,4 +1,4 @@
-use Rattle.std.specs.Prelude.{◌≡◌, ◌≢◌, ◌↔◌, ℕ, List, Contains}
+use Rattle.std.specs.Prelude.{◌≡◌, ◌≢◌, ◌↔◌, ◌⊎◌, ℕ, List, Contains}
 use Rattle.qm_space.specs.Point.{Point, IsInCube}
 use Rattle.qm_space.specs.Plane.{Plane, IsOn, IsBehind}
 use Rattle.qm_space.specs.Book.{plane_at}
@@ -7,6 +7,7 @@ use Rattle.qm_convex.specs.Winding.{Winding, IsInRegion, IsConvex}
 use Rattle.qm_solids.specs.declared.face.FaceRef.{FaceRef}
 use Rattle.qm_solids.specs.Outward.{outward_of, outward_planes}
 use Rattle.qm_solids.specs.Solid.{Solid}
+use Rattle.qm_split.specs.declared.piece.Piece.{Piece}
 
 -- Faces by the numbers of their planes in a book.
 
@@ -33,3 +34,23 @@ pub record IsFacePiece (book : List Plane) (number : ℕ) (faces : List FaceRef)
 -- there is no such point
 abbrev pub HasNoFacePoint : List Plane → ℕ → List FaceRef → Type 0
 HasNoFacePoint book number faces = (x : Point) → IsFacePoint book number faces x → ⊥
+
+-- the piece is what the cube has of a face
+pub record IsPieceOfFace (book : List Plane) (faces : List FaceRef) (face : FaceRef) (piece : Piece) : Type 0 where
+  pub number : piece.number ≡ face.plane
+  pub winding : IsFacePiece book face.plane faces piece.winding
+
+pub record ComesOfFace (book : List Plane) (faces done : List FaceRef) (piece : Piece) : Type 0 where
+  pub face : FaceRef
+  pub listed : Contains done face
+  pub is : IsPieceOfFace book faces face piece
+
+pub record HasPieceOfFace (book : List Plane) (faces : List FaceRef) (pieces : List Piece) (face : FaceRef) : Type 0 where
+  pub piece : Piece
+  pub listed : Contains pieces piece
+  pub is : IsPieceOfFace book faces face piece
+
+-- the pieces are what the cube has of those faces that are done, of all faces of a solid
+pub record HasFacePieces (book : List Plane) (faces done : List FaceRef) (pieces : List Piece) : Type 0 where
+  pub each : (piece : Piece) → Contains pieces piece → ComesOfFace book faces done piece
+  pub all : (face : FaceRef) → Contains done face → HasNoFacePoint book face.plane faces ⊎ HasPieceOfFace book faces pieces face

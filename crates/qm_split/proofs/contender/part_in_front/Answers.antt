@@ -10,10 +10,12 @@ use Rattle.qm_split.proofs.contender.part_in_front.Goals as goal
 
 pub returns-then-is_inside-clause-part : goal.returns-then-is_inside-clause-part
 returns-then-is_inside-clause-part c = λ book cell full reduced section pieces.
-    let none : c.args.pieces.items ≡ [] = nil_from_length c.args.pieces.items (grind (arith, common_steps)) in
-    (refl, contains_beyond book cell (record { contents = c.args.contents; outward = c.args.outward.now.items }) c.args.section.now c.args.plane.now c.is_inside.ensures.reduced full reduced section
-    (subst (λ (ps : List Piece). ArePieces book (cell ++ c.args.plane.now ∷ []) (record { contents = c.args.contents; outward = c.args.outward.now.items }) ps) none pieces)
-    (subst (λ (os : List Plane). All (IsNotAhead c.args.section.now c.args.plane.now) os) c.as_slice-2.ensures (c.if-is_inside.ensures.answer section.convex)))
+    let none : c.args.pieces.items ≡ [] = nil_from_length c.args.pieces.items (grind (arith, common_steps)) in (
+      refl,
+      contains_beyond book cell (record { contents = c.args.contents; outward = c.args.outward.now.items }) c.args.section.now c.args.plane.now c.is_inside.ensures.reduced full reduced section
+          (subst (λ (ps : List Piece). ArePieces book (cell ++ c.args.plane.now ∷ []) (record { contents = c.args.contents; outward = c.args.outward.now.items }) ps) none pieces)
+          (subst (λ (os : List Plane). All (IsNotAhead c.args.section.now c.args.plane.now) os) c.as_slice-2.ensures (c.if-is_inside.ensures.answer section.convex)),
+    )
 
 pub returns-clause-part : goal.returns-clause-part
 returns-clause-part c = λ book cell full reduced section pieces.
