@@ -6,18 +6,22 @@ use Rattle.std.proofs.lemmas.List.Elements.{All-nil, All-contains, Contains-push
 use Rattle.qm_numbers.proofs.IntegerProducts.{linear}
 use Rattle.qm_space.specs.Point.{Point}
 use Rattle.qm_space.specs.Plane.{Plane, IsOn, IsBehind, IsInFront}
+use Rattle.qm_space.specs.Reduced.{IsReduced}
 use Rattle.qm_space.specs.Turned.{turned}
 use Rattle.qm_space.specs.Book.{plane_at, AreBookPlanes}
-use Rattle.qm_space.proofs.TurnedPlanes.{turned_other_in_front}
+use Rattle.qm_space.proofs.TurnedPlanes.{turned_other_in_front, turned_is_reduced}
 use Rattle.qm_convex.specs.Winding.{Winding, IsInRegion}
 use Rattle.qm_convex.specs.Sides.{HasNoneInFront}
 use Rattle.qm_convex.specs.Cut.{IsPartInFront}
 use Rattle.qm_convex.specs.World.{MissesCube, IsWorldPart}
 use Rattle.qm_contents.specs.declared.contents.Contents.{Contents}
 use Rattle.qm_solids.specs.declared.face.FaceRef.{FaceRef}
-use Rattle.qm_solids.specs.Outward.{outward_of, AreNumberedIn}
+use Rattle.qm_solids.specs.Outward.{outward_of, outward_planes, AreNumberedIn}
 use Rattle.qm_solids.specs.Solid.{Solid}
+use Rattle.qm_solids.specs.Holding.{IsFull}
+use Rattle.qm_solids.specs.Cells.{ContainsCell}
 use Rattle.qm_solids.specs.Candidates.{LiesOn, IsOnFace}
+use Rattle.qm_solids.proofs.UniformCells.{contains_throughout}
 use Rattle.qm_solids.proofs.PlanesInCommon.{turned_lies_on, same_face, lies_on_back}
 use Rattle.qm_solids.proofs.BookFaces.{stands_at, same_number}
 use Rattle.qm_split.specs.declared.piece.Piece.{Piece}
@@ -25,6 +29,7 @@ use Rattle.qm_split.specs.Pieces.{IsPiece, HasPointOfFace, ArePieces}
 use Rattle.qm_split.specs.inner.PieceParts.{IsNumberedPiece}
 use Rattle.qm_split.specs.inner.FacePieces.{solid_behind, IsBehindOthers, IsFacePoint, IsFacePiece, HasNoFacePoint, IsPieceOfFace, HasPieceOfFace, HasFacePieces}
 use Rattle.qm_split.proofs.ListedItems.{none_listed, all_of_listed, listed_map, listed_from_map}
+use Rattle.qm_split.proofs.PartedPieces.{meets_no_face}
 
 -- ---- the winding of one face
 
@@ -199,3 +204,19 @@ module _ (book : List Plane) (faces : List FaceRef) (contents : Contents) (plane
 
   pub pieces_in_cube : ArePieces book [] solid ps
   pieces_in_cube = record { sound = all_of_listed (IsPiece book [] solid) ps sound_piece; complete = complete_at_face }
+
+-- ---- what a full solid is to the cube
+
+-- each outward plane is in lowest terms, since it is a plane of the book
+pub outward_reduced : (book : List Plane) (faces : List FaceRef) → AreBookPlanes book → AreNumberedIn book faces → All IsReduced (outward_planes book faces)
+outward_reduced book faces planes numbered = all_of_listed IsReduced (outward_planes book faces) one
+  where
+    one : (h : Plane) → Contains (outward_planes book faces) h → IsReduced h
+    one h among =
+        let r = listed_from_map (outward_of book) faces h among in
+        let within = All-contains (λ (g : FaceRef). g.plane < length book) faces r.0 numbered r.1 in
+        subst IsReduced r.2 (turned_is_reduced r.0.out_is_front (plane_at book r.0.plane) (planes.reduced r.0.plane (plane_at book r.0.plane) (stands_at book r.0.plane within)))
+
+-- a full solid without pieces contains the cube
+pub contains_cube : (book : List Plane) (solid : Solid) → IsFull solid → ArePieces book [] solid [] → ContainsCell solid []
+contains_cube book solid full are = contains_throughout solid [] (meets_no_face book [] solid are) full.within full.in_cube (All-nil (λ h. IsInFront h full.within)) full.inside

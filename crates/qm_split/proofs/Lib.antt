@@ -9,3 +9,4 @@ pub mod RankOrder
 pub mod KnownFragments
 pub mod SectionsOfCells
 pub mod FacesInCube
+pub mod MadeFragments

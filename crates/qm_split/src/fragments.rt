@@ -39,9 +39,11 @@ impl Fragments {
         requires filled { IsBookOf book.now list.now }
         ensures { IfOk result (AreFragmentsOf (solids_in book.now list.now) book.now []) }
     {
+        let _planes = book.len();
+        let gathering = Gathering::in_cube(alloc, list, book)?;
         Ok(Fragments {
             cell: Vec::new(alloc),
-            gathering: Gathering::in_cube(alloc, list, book)?,
+            gathering,
         })
     }
 
@@ -66,6 +68,7 @@ impl Fragments {
         ensures front_count { IfOk result (λ halves. IsCandidatePlane self plane.now → piece_count halves.front < piece_count self) }
         ensures back_count { IfOk result (λ halves. IsCandidatePlane self plane.now → piece_count halves.back < piece_count self) }
     {
+        let _ = &plane.nx;
         let section = self.section(plane)?;
         let Fragments { cell, gathering } = self;
         let halves = gathering.split(plane, &section)?;

@@ -29,6 +29,7 @@ pub(crate) fn part_in_cube(
     requires full { IsFull (solid_behind book.now faces.now contents) }
     ensures { IfOk result (IsPartIn book.now [] (solid_behind book.now faces.now contents)) }
 {
+    let _planes = book.len();
     let pieces = pieces_in_cube(alloc, faces, book)?;
     if pieces.is_empty() {
         return Ok(Part::Containing(contents));
@@ -80,7 +81,7 @@ fn pieces_in_cube(
     ensures { IfOk result (λ pieces. (contents : Contents) → IsFull (solid_behind book.now faces.now contents) →
         ArePieces book.now [] (solid_behind book.now faces.now contents) pieces.items) }
 {
-    let _ = book.len();
+    let _planes = book.len();
     let mut pieces = Vec::new(alloc);
     for face in faces {
         let winding = face_in_cube(alloc, face.plane, faces, book)?;
