@@ -5,3 +5,4 @@ pub mod AlikeSolids
 pub mod CellLaws
 pub mod Samples
 pub mod CellSamples
+pub mod PlanesInCommon

@@ -10,3 +10,5 @@ pub mod Sizes
 pub mod Directions
 pub mod Exchange
 pub mod Books
+pub mod Openness
+pub mod Proportional
