@@ -6,3 +6,4 @@ pub mod CellLaws
 pub mod Samples
 pub mod CellSamples
 pub mod PlanesInCommon
+pub mod HeldPoints

@@ -12,3 +12,4 @@ pub mod Exchange
 pub mod Books
 pub mod Openness
 pub mod Proportional
+pub mod ClosedCells
