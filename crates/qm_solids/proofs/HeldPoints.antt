@@ -1,8 +1,8 @@
 -- A solid holds the points of its inside and of its border: those near which it has points strictly inside.
-use Rattle.std.proofs.Common.{ℤ, pos, ◌≤ℤ◌, ◌<ℤ◌, false, get_or, List, map, All, arith}
+use Rattle.std.proofs.Common.{ℤ, pos, ◌≤ℤ◌, ◌<ℤ◌, false, get_or, List, map, arith}
 use Rattle.std.proofs.lemmas.List.Elements.{All-map}
 use Rattle.qm_space.specs.Point.{Point}
-use Rattle.qm_space.specs.Plane.{Plane, value, IsNotBehind}
+use Rattle.qm_space.specs.Plane.{Plane, IsNotBehind}
 use Rattle.qm_space.specs.Turned.{turned}
 use Rattle.qm_space.proofs.Planes.{value_flipped}
 use Rattle.qm_space.proofs.Openness.{moved, limit_not_in_front}

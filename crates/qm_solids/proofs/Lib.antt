@@ -7,3 +7,4 @@ pub mod Samples
 pub mod CellSamples
 pub mod PlanesInCommon
 pub mod HeldPoints
+pub mod SameFaces
