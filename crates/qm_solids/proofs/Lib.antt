@@ -8,3 +8,4 @@ pub mod CellSamples
 pub mod PlanesInCommon
 pub mod HeldPoints
 pub mod SameFaces
+pub mod UniformCells

@@ -13,3 +13,4 @@ pub mod Books
 pub mod Openness
 pub mod Proportional
 pub mod ClosedCells
+pub mod Crossings
