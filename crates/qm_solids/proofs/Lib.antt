@@ -9,3 +9,4 @@ pub mod PlanesInCommon
 pub mod HeldPoints
 pub mod SameFaces
 pub mod UniformCells
+pub mod FullSolids

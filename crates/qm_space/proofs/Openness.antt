@@ -4,10 +4,11 @@ use Rattle.std.proofs.lemmas.Int.{ints}
 use Rattle.std.proofs.lemmas.List.Elements.{All-nil, All-cons}
 use Rattle.qm_space.specs.Point.{Point, point_sum, point_times, IsInCube}
 use Rattle.qm_space.specs.Plane.{Plane, value, IsBehind, IsInFront, IsNotInFront}
+use Rattle.qm_space.specs.Reduced.{HasNormal}
 use Rattle.qm_space.specs.Cell.{IsInCell}
 use Rattle.qm_space.specs.Cube.{cube_walls}
 use Rattle.qm_numbers.proofs.IntegerProducts.{linear, *ℤ_one, *ℤ-neg}
-use Rattle.qm_numbers.proofs.Signs.{by_least, times_at_most}
+use Rattle.qm_numbers.proofs.Signs.{by_sign, by_zero, by_least, times_at_most, product_positive, negative_times_negative, square_not_negative}
 use Rattle.qm_space.proofs.Planes.{value_sum, value_times}
 use Rattle.qm_space.proofs.Cubes.{cube_is_cell}
 
@@ -77,3 +78,34 @@ limit_not_in_front g x v often = by_least (pos 0) (value g x)
     let behind = found.2 in
     absurd (omega (arith, linear)))
     (λ not. not)
+
+-- ---- four numbers in front of a plane
+
+-- the plane's own numbers
+abbrev pub ahead : Plane → Point
+ahead h = record { x = h.nx; y = h.ny; z = h.nz; w = neg_ℤ h.d }
+
+value_ahead : (h : Plane) → value h (ahead h) ≡ (((h.nx *ℤ h.nx) +ℤ (h.ny *ℤ h.ny)) +ℤ (h.nz *ℤ h.nz)) +ℤ (h.d *ℤ h.d)
+unfolding value
+value_ahead h = let e = *ℤ-neg h.d h.d in omega (arith, linear)
+
+square_positive : (a : ℤ) → (a ≡ pos 0 → ⊥) → pos 0 <ℤ (a *ℤ a)
+square_positive a some = by_sign a (λ l. negative_times_negative a a l l) (λ e. absurd (some e)) (λ l. product_positive a a l l)
+
+-- they are in front of it, unless all are 0
+pub by_ahead : {P : Type 0} (h : Plane) → (IsInFront h (ahead h) → P) → (h.nx ≡ pos 0 → h.ny ≡ pos 0 → h.nz ≡ pos 0 → h.d ≡ pos 0 → P) → P
+by_ahead h front none =
+    let e = value_ahead h in
+    let x = square_not_negative h.nx in let y = square_not_negative h.ny in let z = square_not_negative h.nz in let d = square_not_negative h.d in
+    by_zero h.nx
+    (λ zx. by_zero h.ny
+    (λ zy. by_zero h.nz
+    (λ zz. by_zero h.d
+    (λ zd. none zx zy zz zd)
+    (λ some. let l = square_positive h.d some in front (omega (arith, linear))))
+    (λ some. let l = square_positive h.nz some in front (omega (arith, linear))))
+    (λ some. let l = square_positive h.ny some in front (omega (arith, linear))))
+    (λ some. let l = square_positive h.nx some in front (omega (arith, linear)))
+
+pub ahead_in_front : (h : Plane) → HasNormal h → IsInFront h (ahead h)
+ahead_in_front h normal = by_ahead h (λ front. front) (λ x y z d. absurd (normal x y z))
