@@ -5,3 +5,5 @@ pub mod LeafPoints
 pub mod TreeContents
 pub mod TreeLaws
 pub mod SameTree
+pub mod BookSolids
+pub mod Building
