@@ -10,3 +10,4 @@ pub mod HeldPoints
 pub mod SameFaces
 pub mod UniformCells
 pub mod FullSolids
+pub mod PassedPlanes
