@@ -11,11 +11,11 @@ use Rattle.qm_partition.specs.Joining.{joined}
 use Rattle.qm_solid_tree.specs.Division.{HasNoCandidate, front_of, back_of, Divides, undivided, divided}
 use Rattle.qm_solid_tree.specs.TreeOf.{IsTreeOf}
 
-module _ (solids : List Solid) (book : List Plane) where
-  -- a leaf of these contents
-  abbrev pub leaf_with : Contents → Partition
-  leaf_with contents = leaf (record { contents = contents; filled = false })
+-- a leaf of these contents
+abbrev pub leaf_with : Contents → Partition
+leaf_with contents = leaf (record { contents = contents; filled = false })
 
+module _ (solids : List Solid) (book : List Plane) where
   pub leaf_divides : (cell : List Plane) (contents : Contents) → HasNoCandidate solids book cell → CellHasContents solids cell contents → Divides solids book cell (leaf_with contents)
   leaf_divides cell contents none has = undivided none has refl
 

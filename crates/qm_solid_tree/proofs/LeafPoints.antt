@@ -75,5 +75,5 @@ module _ (solids : List Solid) (book : List Plane) (planes : AreBookPlanes book)
       let each = joined_have_points book (IsPointOf []) is.whole (division_has_points is.divides whole_has_point) in
       let its = subst (λ (s : Partition). All (HasPointWith book (IsPointOf [])) (ways s)) (sym is.is_joined) each in
       λ way among.
-          let at = All-contains (HasPointWith book (IsPointOf [])) (ways tree.shape) way its among in
-          (at.point, subst (λ (planes : List Plane). IsInLeaf planes way at.point) (sym is.planes) (record { in_cube = at.has.0; in_cell = at.in_cell }))
+      let at = All-contains (HasPointWith book (IsPointOf [])) (ways tree.shape) way its among in
+      (at.point, subst (λ (planes : List Plane). IsInLeaf planes way at.point) (sym is.planes) (record { in_cube = at.has.0; in_cell = at.in_cell }))

@@ -7,3 +7,4 @@ pub mod TreeLaws
 pub mod SameTree
 pub mod BookSolids
 pub mod Building
+pub mod Samples

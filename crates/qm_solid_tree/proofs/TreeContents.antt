@@ -138,9 +138,9 @@ module _ (solids : List Solid) (book : List Plane) (planes : AreBookPlanes book)
         either (inr at_most) = at_most
         either (inl stronger) =
             let not_outdone : IsOutdone solids cell solid → ⊥ = λ outdone.
-                let up = outdone.at_least in
-                let bound = has.strongest outdone.stronger (record { listed = outdone.listed; has = outdone.contains }) in
-                absurd (omega (arith, up, bound, stronger)) in
+            let up = outdone.at_least in
+            let bound = has.strongest outdone.stronger (record { listed = outdone.listed; has = outdone.contains }) in
+            absurd (omega (arith, up, bound, stronger)) in
             absurd (lies_outside solids book cell has_planes none solid listed full not_outdone y in_cube in_cell (record { full = full; not_in_front = inside_in_front_of_none solid y inside }))
 
     -- a solid that holds a point is no stronger than the leaves of a part that has the point strictly inside it

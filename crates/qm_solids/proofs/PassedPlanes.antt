@@ -1,10 +1,10 @@
 -- Planes that a cell has passed: no plane on whose side it lies has a candidate's points in it, and a cell in front of an
 -- outward plane has no point on a face of the solid.
-use Rattle.std.proofs.Common.{pos, ◌<ℤ◌, Bool, List, Contains, arith}
+use Rattle.std.proofs.Common.{Bool, List, Contains, arith}
 use Rattle.std.proofs.lemmas.List.Elements.{All-contains}
 use Rattle.qm_numbers.proofs.IntegerProducts.{linear}
 use Rattle.qm_space.specs.Point.{Point}
-use Rattle.qm_space.specs.Plane.{Plane, value, IsOn, IsInFront}
+use Rattle.qm_space.specs.Plane.{Plane, IsOn, IsInFront}
 use Rattle.qm_space.specs.Turned.{turned}
 use Rattle.qm_space.proofs.TurnedPlanes.{turned_on}
 use Rattle.qm_solids.specs.Solid.{Solid}
