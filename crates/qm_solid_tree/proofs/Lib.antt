@@ -8,3 +8,4 @@ pub mod SameTree
 pub mod BookSolids
 pub mod Building
 pub mod Samples
+pub mod PartedSamples

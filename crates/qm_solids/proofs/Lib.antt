@@ -11,3 +11,5 @@ pub mod SameFaces
 pub mod UniformCells
 pub mod FullSolids
 pub mod PassedPlanes
+pub mod BookFaces
+pub mod UniformSamples
