@@ -4,7 +4,7 @@ use Rattle.std.specs.Prelude.{slice_get}
 use Rattle.std.proofs.lemmas.List.Elements.{All-contains, All-map, All-weaker}
 use Rattle.qm_space.specs.Plane.{Plane}
 use Rattle.qm_space.specs.Book.{plane_at}
-use Rattle.qm_space.proofs.Books.{plane_at_stands}
+use Rattle.qm_space.proofs.Books.{stands_at}
 use Rattle.qm_solids.specs.declared.face.FaceRef.{FaceRef}
 use Rattle.qm_solids.specs.Outward.{outward_of}
 use Rattle.qm_solids.specs.InBook.{BookSolid, solid_in, solids_in, IsKeptIn, IsBookOf}
@@ -25,7 +25,7 @@ HasPlaneOf book face = (n : ℕ) × (h : Plane) × (slice_get book n ≡ Some h)
 has_plane_of_face : (book : List Plane) (face : FaceRef) → face.plane < length book → HasPlaneOf book (outward_of book face)
 has_plane_of_face book face within =
     let h = plane_at book face.plane in
-    (face.plane, h, plane_at_stands book face.plane within, turned_lies_on face.out_is_front h)
+    (face.plane, h, stands_at book face.plane within, turned_lies_on face.out_is_front h)
 
 has_planes_of_solid : (book : List Plane) (solid : BookSolid) → IsKeptIn book solid → All (HasPlaneOf book) (solid_in book solid).outward
 has_planes_of_solid book solid kept =

@@ -1,7 +1,6 @@
 -- Planes of a book that are turned to sides, as faces of solids name them: what they have in common shows in their numbers
 -- and sides.
-use Rattle.std.proofs.Common.{◌≡◌, ℕ, zero, suc, ◌<◌, Bool, true, false, not, List, [], ◌∷◌, length, Some, refl, ap, sym, ◌∙◌, subst, arith}
-use Rattle.std.specs.Prelude.{slice_get}
+use Rattle.std.proofs.Common.{◌≡◌, ℕ, ◌<◌, Bool, true, false, not, List, length, refl, ap, sym, ◌∙◌, subst, arith}
 use Rattle.qm_space.specs.Plane.{Plane, flipped}
 use Rattle.qm_space.specs.Reduced.{HasNormal}
 use Rattle.qm_space.specs.Turned.{turned}
@@ -9,17 +8,12 @@ use Rattle.qm_space.specs.Multiple.{HasSameSides}
 use Rattle.qm_space.specs.Book.{plane_at, AreBookPlanes}
 use Rattle.qm_numbers.proofs.IntegerProducts.{linear}
 use Rattle.qm_space.proofs.Planes.{flipped_behind}
+pub use Rattle.qm_space.proofs.Books.{stands_at}
 use Rattle.qm_space.proofs.TurnedPlanes.{turned_other}
 use Rattle.qm_space.proofs.Openness.{ahead, ahead_in_front}
 use Rattle.qm_solids.specs.Candidates.{LiesOn}
 use Rattle.qm_solids.proofs.FlatSolids.{AreOpposed}
 use Rattle.qm_solids.proofs.PlanesInCommon.{lies_on_from_turned, one_number, same_sides_itself, same_sides_lies_on, same_behind}
-
--- the plane of a number stands at its place
-pub stands_at : (book : List Plane) (n : ℕ) → n < length book → slice_get book n ≡ Some (plane_at book n)
-stands_at [] n within = absurd (omega arith)
-stands_at (h ∷ book) zero within = refl
-stands_at (h ∷ book) (suc n) within = stands_at book n (omega arith)
 
 -- no plane with a normal has its own sides exchanged
 not_both_sides : (h : Plane) → HasNormal h → HasSameSides h (flipped h) → ⊥

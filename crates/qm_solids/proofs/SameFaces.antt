@@ -4,12 +4,11 @@ use Rattle.std.proofs.Common.{◌≡◌, ℕ, pos, inl, inr, List, All, Contains
 use Rattle.std.specs.List.{AllZip}
 use Rattle.std.proofs.lemmas.List.Elements.{All-contains}
 use Rattle.qm_lists.proofs.Pairs.{All-from_contains, partner, AllZip-back, AllZip-weaker}
-use Rattle.qm_numbers.proofs.IntegerProducts.{linear, one_*ℤ}
+use Rattle.qm_numbers.proofs.IntegerProducts.{linear}
 use Rattle.qm_numbers.proofs.Signs.{by_least}
 use Rattle.qm_space.specs.Point.{Point}
-use Rattle.qm_space.specs.Plane.{Plane, value, scaled, IsBehind, IsNotInFront}
+use Rattle.qm_space.specs.Plane.{Plane, value, IsBehind, IsNotInFront}
 use Rattle.qm_space.specs.Multiple.{IsPositiveMultiple, HasSameSides}
-use Rattle.qm_space.proofs.ReducedPlanes.{same_plane}
 use Rattle.qm_contents.specs.declared.contents.Contents.{Contents}
 use Rattle.qm_contents.specs.Precedence.{IsAtMost}
 use Rattle.qm_solids.specs.Solid.{Solid}
@@ -20,7 +19,7 @@ use Rattle.qm_solids.specs.Cells.{ContainsCell, CellHasContents}
 use Rattle.qm_solids.specs.Candidates.{LiesOn, IsOnFace, IsOutdone, IsCandidate}
 use Rattle.qm_solids.specs.Least.{IsNumberedCandidate, IsLeastCandidate}
 use Rattle.qm_solids.proofs.Insides.{behind_all, inside_of_behind}
-use Rattle.qm_solids.proofs.PlanesInCommon.{lies_on_through, lies_on_back, same_sides_lies_on, same_in_front, same_behind}
+use Rattle.qm_solids.proofs.PlanesInCommon.{one_scaled, lies_on_through, lies_on_back, same_sides_lies_on, same_in_front, same_behind}
 use Rattle.qm_solids.proofs.AlikeSolids.{IsAlike}
 
 -- ---- planes of the same sides
@@ -28,12 +27,9 @@ use Rattle.qm_solids.proofs.AlikeSolids.{IsAlike}
 pub same_sides_back : (a h : Plane) → HasSameSides a h → HasSameSides h a
 same_sides_back a h same = record { times = same.factor; factor = same.times; some_times = same.some_factor; some_factor = same.some_times; multiple = sym same.multiple }
 
-one_time : (a : Plane) → scaled (pos 1) a ≡ a
-one_time a = same_plane (scaled (pos 1) a) a (one_*ℤ a.nx) (one_*ℤ a.ny) (one_*ℤ a.nz) (one_*ℤ a.d)
-
 -- a positive multiple has the same sides
 pub multiple_has_same_sides : (a h : Plane) → IsPositiveMultiple a h → HasSameSides a h
-multiple_has_same_sides a h of = record { times = pos 1; factor = of.factor; some_times = omega (arith, linear); some_factor = of.positive; multiple = one_time a ∙ of.multiple }
+multiple_has_same_sides a h of = record { times = pos 1; factor = of.factor; some_times = omega (arith, linear); some_factor = of.positive; multiple = one_scaled a ∙ of.multiple }
 
 pub same_not_in_front : (a h : Plane) (x : Point) → HasSameSides a h → IsNotInFront a x → IsNotInFront h x
 same_not_in_front a h x same not = by_least (pos 0) (value h x)

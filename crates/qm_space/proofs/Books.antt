@@ -11,7 +11,7 @@ plane_at_from (first ∷ planes) zero h at = cc
 plane_at_from (first ∷ planes) (suc n) h at = plane_at_from planes n h at
 
 -- and the plane of a number that is there stands at its place
-pub plane_at_stands : (planes : List Plane) (n : ℕ) → n < length planes → slice_get planes n ≡ Some (plane_at planes n)
-plane_at_stands [] n within = absurd (omega (arith, within))
-plane_at_stands (first ∷ planes) zero within = refl
-plane_at_stands (first ∷ planes) (suc n) within = plane_at_stands planes n (omega (arith, within))
+pub stands_at : (planes : List Plane) (n : ℕ) → n < length planes → slice_get planes n ≡ Some (plane_at planes n)
+stands_at [] n within = absurd (omega (arith, within))
+stands_at (first ∷ planes) zero within = refl
+stands_at (first ∷ planes) (suc n) within = stands_at planes n (omega (arith, within))
