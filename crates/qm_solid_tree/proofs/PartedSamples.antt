@@ -1,7 +1,6 @@
 -- Worked rows: the cube parted by the floor of the ground, with a triangle on the floor.
 use Rattle.std.proofs.Common.{◌≡◌, inr, ℕ, zero, suc, ◌<◌, true, false, ℤ, pos, neg_ℤ, ◌+ℤ◌, ◌-ℤ◌, ◌*ℤ◌, ◌<ℤ◌, [], ◌∷◌, ◌++◌, All, refl, ap, arith}
 use Rattle.std.proofs.lemmas.Int.{ints}
-use Rattle.std.proofs.Math.Nat.{eq-one_of_dvd-one}
 use Rattle.std.proofs.lemmas.List.Elements.{All-from_recursion, All-nil}
 use Rattle.qm_numbers.proofs.IntegerProducts.{linear}
 use Rattle.qm_numbers.proofs.Signs.{product_positive}
@@ -22,7 +21,7 @@ use Rattle.qm_solids.specs.Candidates.{IsOnFace}
 use Rattle.qm_solids.specs.Uniform.{MeetsNoFace, LiesOutside}
 use Rattle.qm_solids.proofs.Samples.{ground, ground_is_full}
 use Rattle.qm_solids.proofs.FullSolids.{middle_of_cube, middle_in_cube}
-use Rattle.qm_solids.proofs.UniformSamples.{floor, height, of_ground}
+use Rattle.qm_solids.proofs.UniformSamples.{floor, floor_is_reduced, height, of_ground}
 use Rattle.qm_solid_tree.proofs.PartedCells.{side_of, HasPoint, both_sides, IsPartOn, SparesSide, contains_side, side_spared, contains_front, outside_front}
 
 -- the triangle of the points of the floor with x and y above 0 and x + y below 4096
@@ -143,9 +142,6 @@ spared_again : SparesSide ground triangle floor false
 spared_again = side_spared ground [] floor false triangle floor_normal triangle_is_part ground_contains_below
 
 -- though no point of the triangle is above the floor, the ground doesn't contain what is: its own plane has those sides
-floor_is_reduced : IsReduced floor
-floor_is_reduced = record { normal = floor_normal; lowest = λ k d e f g. eq-one_of_dvd-one f; nx_small = omega arith; ny_small = omega arith; nz_small = omega arith; d_small = omega arith }
-
 all_reduced : All IsReduced ground.outward
 all_reduced = All-from_recursion IsReduced ground.outward (floor_is_reduced, tt)
 

@@ -1,7 +1,14 @@
 -- Planes of a book that are turned to sides, as faces of solids name them: what they have in common shows in their numbers
 -- and sides.
-use Rattle.std.proofs.Common.{◌≡◌, ℕ, ◌<◌, Bool, true, false, not, List, length, refl, ap, sym, ◌∙◌, subst, arith}
-use Rattle.qm_space.specs.Plane.{Plane, flipped}
+use Rattle.std.proofs.Common.{◌≡◌, ℕ, ◌<◌, Bool, true, false, not, List, length, refl, ap, sym, ◌∙◌, subst, arith, map, All, Contains, get_or}
+use Rattle.std.proofs.lemmas.List.Elements.{All-map, All-contains, All-contains_itself, Contains-get_or}
+use Rattle.qm_lists.proofs.Elements.{All-from_map}
+use Rattle.qm_space.specs.Point.{Point, IsInCube}
+use Rattle.qm_space.specs.Cell.{IsInCell}
+use Rattle.qm_solids.specs.declared.face.FaceRef.{FaceRef}
+use Rattle.qm_solids.specs.Solid.{Solid}
+use Rattle.qm_solids.specs.Outward.{outward_of}
+use Rattle.qm_space.specs.Plane.{Plane, flipped, IsOn, IsBehind}
 use Rattle.qm_space.specs.Reduced.{HasNormal}
 use Rattle.qm_space.specs.Turned.{turned}
 use Rattle.qm_space.specs.Multiple.{HasSameSides}
@@ -11,9 +18,9 @@ use Rattle.qm_space.proofs.Planes.{flipped_behind}
 pub use Rattle.qm_space.proofs.Books.{stands_at}
 use Rattle.qm_space.proofs.TurnedPlanes.{turned_other}
 use Rattle.qm_space.proofs.Openness.{ahead, ahead_in_front}
-use Rattle.qm_solids.specs.Candidates.{LiesOn}
+use Rattle.qm_solids.specs.Candidates.{LiesOn, IsOnFace}
 use Rattle.qm_solids.proofs.FlatSolids.{AreOpposed}
-use Rattle.qm_solids.proofs.PlanesInCommon.{lies_on_from_turned, one_number, same_sides_itself, same_sides_lies_on, same_behind}
+use Rattle.qm_solids.proofs.PlanesInCommon.{turned_lies_on, lies_on_from_turned, one_number, same_sides_itself, same_sides_lies_on, same_behind}
 
 -- no plane with a normal has its own sides exchanged
 not_both_sides : (h : Plane) → HasNormal h → HasSameSides h (flipped h) → ⊥
@@ -75,3 +82,43 @@ pub opposed_by_sides_of_one : (h : Plane) (s t : Bool) → (s ≡ t → ⊥) →
 opposed_by_sides_of_one h s t apart =
     let same = subst (λ (g : Plane). HasSameSides (turned s h) g) (ap (λ (side : Bool). turned side h) (other_side s t apart) ∙ turned_other t h) (same_sides_itself (turned s h)) in
     record { times = same.times; some = same.some_times; multiple = record { factor = same.factor; positive = same.some_factor; multiple = same.multiple } }
+
+-- ---- the points on a face of a solid whose faces are those of a book
+
+module _ (book : List Plane) (are : AreBookPlanes book) (solid : Solid) (faces : List FaceRef) (is : solid.outward ≡ map (outward_of book) faces) (numbered : All (λ face. face.plane < length book) faces) (n : ℕ) (n_within : n < length book) (cell : List Plane) (x : Point) where
+  -- strictly behind the faces of other numbers
+  abbrev pub IsBehindOthers : Type 0
+  IsBehindOthers = (face : FaceRef) → Contains faces face → (face.plane ≡ n → ⊥) → IsBehind (outward_of book face) x
+
+  has_number : (face : FaceRef) → Contains faces face → face.plane < length book
+  has_number face among = All-contains (λ f. f.plane < length book) faces face numbered among
+
+  lies_by_number : (face : FaceRef) → face.plane ≡ n → LiesOn (outward_of book face) (plane_at book n)
+  lies_by_number face same = subst (λ (k : ℕ). LiesOn (outward_of book face) (plane_at book k)) same (turned_lies_on face.out_is_front (plane_at book face.plane))
+
+  number_by_lies : (face : FaceRef) → Contains faces face → LiesOn (outward_of book face) (plane_at book n) → face.plane ≡ n
+  number_by_lies face among lies = same_number book are face.plane n (has_number face among) n_within face.out_is_front true lies
+
+  -- a face of the list is an outward plane
+  pub outward_listed : (face : FaceRef) → Contains faces face → Contains solid.outward (outward_of book face)
+  outward_listed face among =
+      let planes = map (outward_of book) faces in
+      let each = All-from_map (λ h. Contains planes h) (outward_of book) faces (All-contains_itself planes) in
+      subst (λ (hs : List Plane). Contains hs (outward_of book face)) (sym is) (All-contains (λ f. Contains planes (outward_of book f)) faces face each among)
+
+  pub on_face_by_numbers : IsInCube x → IsInCell cell x → IsOn (plane_at book n) x → IsBehindOthers → IsOnFace solid cell (plane_at book n) x
+  on_face_by_numbers in_cube in_cell on behind = record {
+    in_cube = in_cube;
+    in_cell = in_cell;
+    on = on;
+    behind_others = λ other among. All-contains Unless solid.outward other (subst (λ (hs : List Plane). All Unless hs) (sym is) (All-map Unless (outward_of book) faces (λ k d there. one (get_or faces k d) (Contains-get_or faces k d there)))) among;
+  }
+    where
+      Unless : Plane → Type 0
+      Unless other = (LiesOn other (plane_at book n) → ⊥) → IsBehind other x
+
+      one : (face : FaceRef) → Contains faces face → Unless (outward_of book face)
+      one face among apart = behind face among (λ same. apart (lies_by_number face same))
+
+  pub behind_other_numbers : IsOnFace solid cell (plane_at book n) x → IsBehindOthers
+  behind_other_numbers on_face face among other_number = on_face.behind_others (outward_of book face) (outward_listed face among) (λ lies. other_number (number_by_lies face among lies))

@@ -1,5 +1,5 @@
 -- Worked rows: planes on one another, cells that no face meets, and full solids.
-use Rattle.std.proofs.Common.{◌≡◌, ◌⊎◌, ℕ, zero, suc, true, false, ℤ, pos, neg_ℤ, ◌+ℤ◌, ◌-ℤ◌, ◌*ℤ◌, ◌<ℤ◌, List, [], ◌∷◌, Contains, Some, refl, ap, arith, subst}
+use Rattle.std.proofs.Common.{◌≡◌, ◌⊎◌, ℕ, zero, suc, true, false, ℤ, pos, neg_ℤ, ◌+ℤ◌, ◌-ℤ◌, ◌*ℤ◌, ◌<ℤ◌, List, [], ◌∷◌, Contains, Some, refl, ap, arith, subst, ◌<◌, length, All}
 use Rattle.std.proofs.lemmas.Int.{ints}
 use Rattle.std.proofs.lemmas.List.Elements.{All-from_recursion, All-contains, All-nil}
 use Rattle.std.specs.Prelude.{slice_get, IsTrue}
@@ -10,9 +10,10 @@ use Rattle.qm_space.specs.Bounds.{extent}
 use Rattle.qm_space.specs.Point.{Point, IsInCube}
 use Rattle.qm_space.specs.Plane.{Plane, plane_of, value, IsBehind, IsInFront, flipped}
 use Rattle.qm_space.specs.Reduced.{leads_positive, IsReduced}
-use Rattle.qm_space.specs.Cube.{wall_x}
 use Rattle.qm_space.specs.Book.{AreBookPlanes}
-use Rattle.qm_space.proofs.Cubes.{wall_x_reduced}
+use Rattle.std.proofs.Math.Nat.{eq-one_of_dvd-one}
+use Rattle.qm_solids.specs.declared.face.FaceRef.{FaceRef}
+use Rattle.qm_solids.specs.Outward.{outward_of}
 use Rattle.qm_space.proofs.ReducedPlanes.{flipped_is_reduced}
 use Rattle.qm_solids.specs.Solid.{Solid}
 use Rattle.qm_solids.specs.Holding.{IsFull}
@@ -25,7 +26,7 @@ use Rattle.qm_solids.proofs.FlatSolids.{AreOpposed, HasOpposedPlanes}
 use Rattle.qm_solids.proofs.PlanesInCommon.{lies_on_itself, lies_on_back, lies_on_through, same_face, reduced_lies_on, reduced_same_sides, one_number, same_sides_itself}
 use Rattle.qm_solids.proofs.UniformCells.{contains_throughout, outside_throughout}
 use Rattle.qm_solids.proofs.FullSolids.{middle_of_cube, full_by_face, full_by_middle}
-use Rattle.qm_solids.proofs.BookFaces.{same_number_and_side, opposed_numbers, opposed_by_sides_of_one}
+use Rattle.qm_solids.proofs.BookFaces.{on_face_by_numbers, behind_other_numbers, same_number_and_side, opposed_numbers, opposed_by_sides_of_one}
 use Rattle.qm_solids.proofs.Samples.{at, ground}
 
 -- ---- planes on one another
@@ -53,13 +54,16 @@ floor_lies_on_down = lies_on_through floor floor_twice floor_down floor_lies_on_
 down_lies_on_floor : LiesOn floor_down floor
 down_lies_on_floor = lies_on_back floor floor_down floor_lies_on_down
 
--- the wall x = -4096 as the one plane of a book
-abbrev book : List Plane
-book = wall_x ∷ []
+-- the floor as the one plane of a book
+pub floor_is_reduced : IsReduced floor
+floor_is_reduced = record { normal = λ e f g. absurd (omega (arith, ints)); lowest = λ k d e f g. eq-one_of_dvd-one f; nx_small = omega arith; ny_small = omega arith; nz_small = omega arith; d_small = omega arith }
 
-only_wall : (n : ℕ) (h : Plane) → slice_get book n ≡ Some h → wall_x ≡ h
-only_wall zero h is = cc
-only_wall (suc n) h is = absurd cc
+abbrev book : List Plane
+book = floor ∷ []
+
+only_floor : (n : ℕ) (h : Plane) → slice_get book n ≡ Some h → floor ≡ h
+only_floor zero h is = cc
+only_floor (suc n) h is = absurd cc
 
 only_place : (n : ℕ) (h : Plane) → slice_get book n ≡ Some h → n ≡ 0
 only_place zero h is = refl
@@ -67,29 +71,28 @@ only_place (suc n) h is = absurd cc
 
 are_book : AreBookPlanes book
 are_book = record {
-  reduced = λ n h is. subst (λ (p : Plane). IsReduced p) (only_wall n h is) wall_x_reduced;
-  leads = λ n h is. subst (λ (p : Plane). IsTrue (leads_positive p)) (only_wall n h is) refl;
+  reduced = λ n h is. subst (λ (p : Plane). IsReduced p) (only_floor n h is) floor_is_reduced;
+  leads = λ n h is. subst (λ (p : Plane). IsTrue (leads_positive p)) (only_floor n h is) refl;
   distinct = λ m n h is_m is_n. let a = only_place m h is_m in let b = only_place n h is_n in omega (arith, a, b);
   short = omega arith;
 }
 
--- it is equal to what lies on it in lowest terms, or that flipped
-wall_row : (flipped wall_x ≡ wall_x) ⊎ (flipped wall_x ≡ flipped wall_x)
-wall_row = reduced_lies_on (flipped wall_x) wall_x (flipped_is_reduced wall_x wall_x_reduced) wall_x_reduced
+-- what lies on it in lowest terms is equal to it, or it is that flipped
+flipped_row : (flipped floor ≡ floor) ⊎ (flipped floor ≡ flipped floor)
+flipped_row = reduced_lies_on (flipped floor) floor (flipped_is_reduced floor floor_is_reduced) floor_is_reduced
     (record { times = pos 1; factor = neg_ℤ (pos 1); some_times = λ e. cc; some_factor = λ e. cc; multiple = refl })
 
-same_sides_row : wall_x ≡ wall_x
-same_sides_row = reduced_same_sides wall_x wall_x wall_x_reduced wall_x_reduced (same_sides_itself wall_x)
+same_sides_row : floor ≡ floor
+same_sides_row = reduced_same_sides floor floor floor_is_reduced floor_is_reduced (same_sides_itself floor)
 
 number_row : zero ≡ zero
-number_row = one_number book 0 0 wall_x wall_x are_book refl refl
-    (record { times = pos 1; factor = pos 1; some_times = λ e. cc; some_factor = λ e. cc; multiple = refl })
+number_row = one_number book 0 0 floor floor are_book refl refl (lies_on_itself floor)
 
 side_row : (zero ≡ zero) × (true ≡ true)
-side_row = same_number_and_side book are_book 0 0 (omega arith) (omega arith) true true (same_sides_itself wall_x)
+side_row = same_number_and_side book are_book 0 0 (omega arith) (omega arith) true true (same_sides_itself floor)
 
 opposed_row : (zero ≡ zero) × (true ≡ false → ⊥)
-opposed_row = opposed_numbers book are_book 0 0 (omega arith) (omega arith) true false (opposed_by_sides_of_one wall_x true false (λ e. cc))
+opposed_row = opposed_numbers book are_book 0 0 (omega arith) (omega arith) true false (opposed_by_sides_of_one floor true false (λ e. cc))
 
 -- ---- what is not above the floor, and cells above and below it
 
@@ -197,6 +200,23 @@ floor_has_middle = record {
   behind_others = λ other among. of_ground (λ h. (LiesOn h floor → ⊥) → IsBehind h middle_of_cube)
       (λ apart. absurd (apart (lies_on_itself floor))) other among;
 }
+
+-- the same, by the number of the floor in the book: the ground has no face of another number
+abbrev ground_faces : List FaceRef
+ground_faces = record { plane = 0; out_is_front = true } ∷ []
+
+numbered : All (λ face. face.plane < length book) ground_faces
+numbered = All-from_recursion (λ face. face.plane < length book) ground_faces (omega arith, tt)
+
+behind_none : (face : FaceRef) → Contains ground_faces face → (face.plane ≡ 0 → ⊥) → IsBehind (outward_of book face) middle_of_cube
+behind_none face among other = absurd (other (All-contains (λ f. f.plane ≡ 0) ground_faces face (All-from_recursion (λ f. f.plane ≡ 0) ground_faces (refl, tt)) among))
+
+numbered_has_middle : IsOnFace ground [] floor middle_of_cube
+numbered_has_middle = on_face_by_numbers book are_book ground ground_faces refl numbered 0 (omega arith) [] middle_of_cube
+    floor_has_middle.in_cube floor_has_middle.in_cell floor_has_middle.on behind_none
+
+behind_again : (face : FaceRef) → Contains ground_faces face → (face.plane ≡ 0 → ⊥) → IsBehind (outward_of book face) middle_of_cube
+behind_again = behind_other_numbers book are_book ground ground_faces refl numbered 0 (omega arith) [] middle_of_cube numbered_has_middle
 
 down_has_middle : IsOnFace ground [] floor_down middle_of_cube
 down_has_middle = same_face ground [] floor floor_down middle_of_cube floor_lies_on_down floor_has_middle
