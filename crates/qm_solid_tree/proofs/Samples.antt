@@ -1,6 +1,6 @@
 -- Worked rows: the division of the whole cube and the tree that a half space of stone defines, and those that a box of
 -- stone defines.
-use Rattle.std.proofs.Common.{◌≡◌, ℕ, ◌<◌, ◌≤◌, zero, suc, ℤ, pos, neg_ℤ, unsigned_abs, Bool, true, false, not, inl, inr, List, [], ◌∷◌, ◌++◌, All, Contains, Some, refl, sym, subst, arith}
+use Rattle.std.proofs.Common.{◌≡◌, ℕ, ◌<◌, ◌≤◌, zero, suc, ℤ, pos, neg_ℤ, unsigned_abs, Bool, true, false, not, inl, inr, List, [], ◌∷◌, ◌++◌, All, Contains, Some, refl, sym, ◌∙◌, subst, arith}
 use Rattle.std.specs.Prelude.{slice_get}
 use Rattle.std.proofs.lemmas.Int.{ints}
 use Rattle.std.proofs.lemmas.Bool.{cases_eq}
@@ -10,7 +10,14 @@ use Rattle.qm_space.specs.Point.{Point, IsInCube}
 use Rattle.qm_space.specs.Plane.{Plane, plane_of, value, IsBehind, IsInFront, IsOn}
 use Rattle.qm_space.specs.Turned.{turned}
 use Rattle.qm_space.specs.Cell.{IsInCell}
-use Rattle.qm_space.specs.Book.{plane_at}
+use Rattle.std.proofs.Math.Nat.{eq-one_of_dvd-one}
+use Rattle.std.specs.Prelude.{IsTrue}
+use Rattle.qm_space.specs.Reduced.{leads_positive, IsReduced}
+use Rattle.qm_space.specs.Book.{plane_at, AreBookPlanes}
+use Rattle.qm_partition.specs.Ways.{HasPoints}
+use Rattle.qm_solid_tree.specs.GivesContents.{GivesContents}
+use Rattle.qm_solid_tree.proofs.LeafPoints.{tree_has_points}
+use Rattle.qm_solid_tree.proofs.TreeLaws.{gives_contents}
 use Rattle.qm_space.proofs.Books.{plane_at_from}
 use Rattle.qm_contents.specs.declared.contents.Contents.TheVariants.{Empty}
 use Rattle.qm_contents.specs.declared.contents.Contents.TheVariants as contents
@@ -28,7 +35,7 @@ use Rattle.qm_solids.proofs.Samples.{at, cube, cube_is_full, ground, ground_is_f
 use Rattle.qm_partition.specs.Partition.{node}
 use Rattle.qm_partition.specs.Tree.{Tree}
 use Rattle.qm_partition.proofs.Samples.{cube_tree}
-use Rattle.qm_solid_tree.specs.Division.{HasNoCandidate, Divides, divided}
+use Rattle.qm_solid_tree.specs.Division.{HasPlanesOf, HasNoCandidate, Divides, divided}
 use Rattle.qm_solid_tree.specs.TreeOf.{IsTreeOf}
 use Rattle.qm_solid_tree.proofs.Building.{leaf_with, leaf_divides}
 
@@ -137,6 +144,34 @@ ground_row =
     let in_front = leaf_divides (ground ∷ []) (floor ∷ []) (floor ∷ []) Empty (no_other true) empty_above in
     let behind = leaf_divides (ground ∷ []) (floor ∷ []) (turned false floor ∷ []) contents.Solid (no_other false) stone_below in
     record { planes = refl; whole = ground_tree.shape; divides = divided floor_is_least in_front behind; is_joined = refl }
+
+-- the laws say something of it: its leaves have points, and it gives the contents of the half space
+
+floor_reduced : IsReduced floor
+floor_reduced = record { normal = λ x y z. absurd (omega (arith, ints, z)); lowest = λ k x y z d. eq-one_of_dvd-one z; nx_small = omega arith; ny_small = omega arith; nz_small = omega arith; d_small = omega arith }
+
+only_floor : (n : ℕ) (h : Plane) → slice_get (floor ∷ []) n ≡ Some h → (n ≡ 0) × (floor ≡ h)
+only_floor zero h stands = (refl, plane_at_from (floor ∷ []) 0 h stands)
+only_floor (suc n) h stands = absurd cc
+
+floor_book : AreBookPlanes (floor ∷ [])
+floor_book = record {
+  reduced = λ n h stands. subst (λ (g : Plane). IsReduced g) (only_floor n h stands).1 floor_reduced;
+  leads = λ n h stands. subst (λ (g : Plane). IsTrue (leads_positive g)) (only_floor n h stands).1 refl;
+  distinct = λ m n h at_m at_n. (only_floor m h at_m).0 ∙ sym (only_floor n h at_n).0;
+  short = omega arith;
+}
+
+floor_has : HasPlanesOf (floor ∷ []) (ground ∷ [])
+floor_has solid face listed has =
+    let same = All-contains (λ g. floor ≡ g) ground.outward face (All-from_recursion (λ g. floor ≡ g) ground.outward (refl, tt)) (of_one ground (λ s. Contains s.outward face → Contains ground.outward face) (λ has. has) solid listed has) in
+    (0, floor, refl, subst (λ (g : Plane). LiesOn g floor) same (lies_on_itself floor))
+
+ground_points_row : HasPoints ground_tree
+ground_points_row = tree_has_points (ground ∷ []) (floor ∷ []) floor_book ground_tree ground_row
+
+ground_contents_row : GivesContents ground_tree (ground ∷ [])
+ground_contents_row = gives_contents (ground ∷ []) (floor ∷ []) ground_tree floor_book floor_has ground_row
 
 -- ---- a box of stone, from 0 to 64 on each axis
 
