@@ -1,0 +1,2 @@
+pub mod PartedCells
+pub mod PartedSamples

@@ -5,3 +5,8 @@ pub mod AlikeSolids
 pub mod CellLaws
 pub mod Samples
 pub mod CellSamples
+pub mod PlanesInCommon
+pub mod UniformCells
+pub mod FullSolids
+pub mod BookFaces
+pub mod UniformSamples

@@ -10,3 +10,6 @@ pub mod Sizes
 pub mod Directions
 pub mod Exchange
 pub mod Books
+pub mod Openness
+pub mod Proportional
+pub mod Crossings
