@@ -2,6 +2,7 @@
 use Rattle.std.proofs.Common.{◌≡◌, ◌≤◌, ◌*◌, ◌-◌, ◌^◌, ◌*ℤ◌, ◌-ℤ◌, ◌∙◌, ℕ, ℤ, FitsSigned, w32, w64, arith, lit≤, refl, sym, subst, unsigned_abs}
 use mir.Syntax.{w128}
 use Rattle.std.proofs.lemmas.Int.{to_z-of_z}
+use Rattle.qm_space.specs.Bounds.{world_extent}
 use Rattle.qm_space.specs.Point.{Point, IsCoordinate, IsWholePoint}
 use Rattle.qm_space.specs.Plane.{Plane, value}
 use Rattle.qm_space.specs.ThreePoints.{outward_plane, HasOutwardSizes}
@@ -52,7 +53,7 @@ value_at_point h p n x y z w d r q of_h of_p of_d fx fy fz fw fd along times k l
 
 -- a whole coordinate of the cube
 coordinate_small : (c : ℤ) → IsCoordinate c → unsigned_abs c ≤ 2 ^ 12
-coordinate_small c h = abs_at_most c 4096 h.low h.high
+coordinate_small c h = abs_at_most c world_extent h.low h.high
 
 pub coordinate_kept : (z : ℤ) → IsCoordinate z → IsCoordinate (kept w32 z)
 coordinate_kept z h = rw (kept_32 z (2 ^ 12) (coordinate_small z h) (lit≤ tt)) h

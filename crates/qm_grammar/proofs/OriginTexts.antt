@@ -6,6 +6,7 @@ use Rattle.qm_decimal.specs.declared.fraction.Fraction.{Fraction}
 use Rattle.qm_decimal.specs.declared.fraction.NumberFault.{NumberFault}
 use Rattle.qm_decimal.specs.Answer.{IsAnswer}
 use Rattle.qm_decimal.specs.Computed.{read_at}
+use Rattle.qm_space.specs.Bounds.{world_extent}
 use Rattle.qm_space.specs.Point.{Point}
 use Rattle.qm_grammar.specs.Words.{words_of}
 use Rattle.qm_grammar.specs.Number.{SpellsMillionths, millionths}
@@ -18,26 +19,26 @@ use Rattle.qm_grammar.proofs.Numbers.{computed_answer, answer_computed}
 pub spelled_millionths : (text : List ℕ) (n : ℤ) → SpellsMillionths text n → millionths_of text ≡ Some n
 unfolding millionths_of
 spelled_millionths text n spells =
-    rw (computed_answer text 6 (Ok (record { numerator = n; places = 6 })) spells.spelled, lt-ltb (unsigned_abs n) (4096 * millionths) spells.in_range) refl
+    rw (computed_answer text 6 (Ok (record { numerator = n; places = 6 })) spells.spelled, lt-ltb (unsigned_abs n) (world_extent * millionths) spells.in_range) refl
 
 six_places : (fraction : Fraction) (n : ℤ) → fraction.places ≡ 6 → fraction.numerator ≡ n → fraction ≡ record { numerator = n; places = 6 }
 six_places fraction n places numerator =
     let make : ℤ → ℕ → Fraction = λ z k. record { numerator = z; places = k } in
     ap (λ (k : ℕ). make fraction.numerator k) places ∙ ap (λ (z : ℤ). make z 6) numerator
 
-read_in_range : (text : List ℕ) (f : Fraction) (n : ℤ) → IsAnswer text 6 (Ok f) → (t : Bool) → ltb (unsigned_abs f.numerator) (4096 * millionths) ≡ t → millionths_in_range f ≡ Some n → SpellsMillionths text n
+read_in_range : (text : List ℕ) (f : Fraction) (n : ℤ) → IsAnswer text 6 (Ok f) → (t : Bool) → ltb (unsigned_abs f.numerator) (world_extent * millionths) ≡ t → millionths_in_range f ≡ Some n → SpellsMillionths text n
 read_in_range text f n is true tested read =
     let same : Some f.numerator ≡ Some n = rw tested at read in
     let numerator : f.numerator ≡ n = cc in
     record {
       spelled = subst (λ (g : Fraction). IsAnswer text 6 (Ok g)) (six_places f n is.places_kept numerator) is;
-      in_range = subst (λ (z : ℤ). unsigned_abs z < 4096 * millionths) numerator (ltb-true (unsigned_abs f.numerator) (4096 * millionths) tested);
+      in_range = subst (λ (z : ℤ). unsigned_abs z < world_extent * millionths) numerator (ltb-true (unsigned_abs f.numerator) (world_extent * millionths) tested);
     }
 read_in_range text f n is false tested read = absurd (let never : None ≡ Some n = rw tested at read in cc)
 
 read_answer : (text : List ℕ) (n : ℤ) (answer : Result Fraction NumberFault) → read_at text 6 ≡ answer → millionths_of_answer answer ≡ Some n → SpellsMillionths text n
 read_answer text n (Ok f) is read =
-    read_in_range text f n (answer_computed text 6 (Ok f) is) (ltb (unsigned_abs f.numerator) (4096 * millionths)) refl read
+    read_in_range text f n (answer_computed text 6 (Ok f) is) (ltb (unsigned_abs f.numerator) (world_extent * millionths)) refl read
 read_answer text n (Err fault) is read = absurd cc
 
 pub millionths_spelled : (text : List ℕ) (n : ℤ) → millionths_of text ≡ Some n → SpellsMillionths text n

@@ -1,6 +1,7 @@
 use Rattle.std.specs.Prelude.{◌<◌, ℕ, ◌*◌, ℤ, List, Ok, unsigned_abs}
 use Rattle.qm_decimal.specs.declared.fraction.Fraction.{Fraction}
 use Rattle.qm_decimal.specs.Answer.{IsAnswer}
+use Rattle.qm_space.specs.Bounds.{world_extent}
 use Rattle.qm_space.specs.Point.{IsCoordinate}
 
 -- a number as a fraction without decimals
@@ -29,4 +30,4 @@ millionths = 1000000
 -- the text is a number of millionths of a map unit, strictly between -4096 and 4096 map units
 pub record SpellsMillionths (text : List ℕ) (number : ℤ) : Type 0 where
   pub spelled : IsAnswer text 6 (Ok (record { numerator = number; places = 6 }))
-  pub in_range : unsigned_abs number < 4096 * millionths
+  pub in_range : unsigned_abs number < world_extent * millionths

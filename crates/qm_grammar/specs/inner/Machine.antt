@@ -9,7 +9,7 @@ use Rattle.qm_decimal.specs.Computed.{read_at}
 use Rattle.qm_lex.specs.Lexeme.{Lexeme}
 use Rattle.qm_lex.specs.inner.Modes.{between, read}
 use Rattle.qm_space.specs.Point.{Point}
-use Rattle.qm_space.specs.Bounds.{extent}
+use Rattle.qm_space.specs.Bounds.{world_extent, extent}
 use Rattle.qm_space.specs.Plane.{Plane}
 use Rattle.qm_space.specs.ThreePoints.{outward_plane}
 use Rattle.qm_mapfile.specs.declared.entity.MapFile.{MapFile}
@@ -66,7 +66,7 @@ coordinate_of text = coordinate_of_answer (read_at text 0)
 -- one number of an origin, in millionths
 abbrev pub millionths_in_range : Fraction → Option ℤ
 millionths_in_range fraction =
-    if nat_lt (unsigned_abs fraction.numerator) (4096 * millionths) then Some fraction.numerator else None
+    if nat_lt (unsigned_abs fraction.numerator) (world_extent * millionths) then Some fraction.numerator else None
 
 abbrev pub millionths_of_answer : Result Fraction NumberFault → Option ℤ
 millionths_of_answer (Ok fraction) = millionths_in_range fraction
