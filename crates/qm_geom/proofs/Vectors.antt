@@ -5,7 +5,8 @@ use Rattle.std.proofs.lemmas.Int.{to_z-of_z}
 use Rattle.qm_space.specs.Bounds.{world_extent}
 use Rattle.qm_space.specs.Point.{Point, IsCoordinate, IsWholePoint}
 use Rattle.qm_space.specs.Plane.{Plane, value}
-use Rattle.qm_space.specs.ThreePoints.{outward_plane, HasOutwardSizes}
+use Rattle.qm_space.specs.ThreePoints.{outward_plane}
+use Rattle.qm_space.specs.inner.OutwardSizes.{HasOutwardSizes}
 use Rattle.qm_numbers.proofs.Signs.{abs_difference, abs_at_most}
 use Rattle.qm_space.proofs.PlanesThroughPoints.{outward_sizes}
 use Rattle.qm_geom.specs.inner.Vectors.{normal_of, step_to, step_between, cross, dot, IsWithin}
