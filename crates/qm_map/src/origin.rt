@@ -4,7 +4,7 @@ ghost use Rattle.qm_grammar.specs.inner.Machine.{millionths_of, origin_of};
 
 use crate::words::Words;
 use qm_geom::Point;
-use qm_mapfile::{Items, Pair, Text};
+use qm_mapfile::Pair;
 use qm_space::WORLD_EXTENT;
 
 /// How many parts of a map unit the numbers of an origin count.
