@@ -5,3 +5,5 @@ pub mod AlikeSolids
 pub mod CellLaws
 pub mod Samples
 pub mod CellSamples
+pub mod FlatCounts
+pub mod FlatCounts

@@ -7,3 +7,4 @@ pub mod Cells
 pub mod Candidates
 pub mod Least
 pub mod InBook
+pub mod Flat
