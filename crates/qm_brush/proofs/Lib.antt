@@ -1,3 +1,4 @@
 pub mod ValidBrushes
 pub mod DrawnSolids
+pub mod EntryLists
 pub mod Samples

@@ -10,15 +10,11 @@ use Rattle.qm_space.proofs.Multiples.{multiple_behind, multiple_not_in_front}
 use Rattle.qm_contents.specs.declared.contents.Contents.{Contents}
 use Rattle.qm_contents.specs.Precedence.{IsAtMost}
 use Rattle.qm_solids.specs.Solid.{Solid}
+use Rattle.qm_solids.specs.Alike.{IsAlike}
 use Rattle.qm_solids.specs.Holding.{IsFull, Holds}
 use Rattle.qm_solids.specs.Strongest.{IsOneThat, AreGiven}
 use Rattle.qm_solids.specs.Contents.{HasContents}
 use Rattle.qm_solids.proofs.Insides.{behind_all, inside_of_behind}
-
--- the contents are the same, and each plane of the first is a positive multiple of the one at its place in the second
-pub record IsAlike (solid other : Solid) : Type 0 where
-  pub same_contents : solid.contents ≡ other.contents
-  pub multiples : AllZip IsPositiveMultiple solid.outward other.outward
 
 -- ---- what holds on one side of planes that are multiples
 

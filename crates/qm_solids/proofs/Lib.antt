@@ -1,5 +1,6 @@
 pub mod Insides
 pub mod ContentsLaws
+pub mod FaceSides
 pub mod FlatSolids
 pub mod AlikeSolids
 pub mod CellLaws

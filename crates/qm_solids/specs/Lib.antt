@@ -6,5 +6,6 @@ pub mod Contents
 pub mod Cells
 pub mod Candidates
 pub mod Least
+pub mod Alike
 pub mod InBook
 pub mod Flat
