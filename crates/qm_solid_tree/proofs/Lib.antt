@@ -1,0 +1,3 @@
+pub mod OneDivision
+pub mod UniformLeaves
+pub mod SameTree

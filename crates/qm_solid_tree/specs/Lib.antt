@@ -1,4 +1,3 @@
 pub mod Division
-pub mod Uniform
 pub mod TreeOf
 pub mod GivesContents

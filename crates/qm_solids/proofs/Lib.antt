@@ -7,4 +7,7 @@ pub mod CellLaws
 pub mod Samples
 pub mod CellSamples
 pub mod FlatCounts
-pub mod FlatCounts
+pub mod PlanesInCommon
+pub mod HeldPoints
+pub mod SameFaces
+pub mod UniformCells

@@ -10,3 +10,7 @@ pub mod Sizes
 pub mod Directions
 pub mod Exchange
 pub mod Books
+pub mod Openness
+pub mod Proportional
+pub mod ClosedCells
+pub mod Crossings
