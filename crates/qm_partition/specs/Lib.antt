@@ -5,3 +5,8 @@ pub mod Ways
 pub mod Counting
 pub mod Numbering
 pub mod Joining
+pub mod Visits
+pub mod WellMade
+pub mod Arrays
+pub mod Grown
+pub mod TreeCode
