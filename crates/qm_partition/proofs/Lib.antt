@@ -5,3 +5,5 @@ pub mod Cells
 pub mod JoinedLeaves
 pub mod OneNumbering
 pub mod Samples
+pub mod PlacedParts
+pub mod Sides

@@ -1,9 +1,11 @@
 ghost use Rattle.std.specs.Prelude.{◌≡◌, ◌<◌, ◌^◌, List, length, Some, slice_get, IfOk};
 ghost use Rattle.qm_space.specs.Plane.{Plane};
+ghost use Rattle.qm_partition.specs.declared.node.Node.{Node as NodeRecord};
 ghost use Rattle.qm_partition.specs.Partition.{Partition};
 ghost use Rattle.qm_partition.specs.Tree.{Tree};
 ghost use Rattle.qm_partition.specs.Counting.{leaves_of, leaf_count, node_count};
-ghost use Rattle.qm_partition.specs.Numbering.{nodes_of};
+ghost use Rattle.qm_partition.specs.Numbering.{child_of, nodes_of};
+ghost use Rattle.qm_partition.specs.LeafOfPoint.{leaf_at, child_towards};
 ghost use Rattle.qm_partition.specs.Ways.{ways};
 ghost use Rattle.qm_partition.specs.Visits.{visits};
 ghost use Rattle.qm_partition.specs.Joining.{joined};
@@ -11,8 +13,8 @@ ghost use Rattle.qm_partition.specs.WellMade.{IsWellMade, IsMadeOf};
 
 use crate::not_a_tree::NotATree;
 use crate::way::Way;
-use qm_geom::Plane;
-use qm_partition::{Leaf, Node, Visit};
+use qm_geom::{Plane, Point};
+use qm_partition::{Child, Leaf, Node, Visit};
 use std::alloc::{AllocError, Global};
 use std::marker::Model;
 
@@ -81,6 +83,43 @@ impl Tree {
         Err(AllocError)
     }
 
+    /// The number of the leaf to which a point is led: at each node to the front where the point is not behind the plane.
+    pub fn leaf_at(&self, at: &Point) -> u64
+        ensures value { result ≡ leaf_at self.now.planes self.now.shape at.now }
+    {
+        let mut child = self.root();
+        loop {
+            match child {
+                Child::Leaf(leaf) => return leaf,
+                Child::Node(n) => child = self.child_towards(n, at),
+            }
+        }
+    }
+
+    /// The child that a walk begins with.
+    fn root(&self) -> Child
+        ensures { result ≡ child_of self.now.shape 0 0 }
+    {
+        if self.nodes.is_empty() {
+            Child::Leaf(0)
+        } else {
+            Child::Node(0)
+        }
+    }
+
+    /// The child of a node on the side of a point.
+    fn child_towards(&self, n: u64, at: &Point) -> Child
+        requires { n < node_count self.now.shape }
+        ensures { (here : NodeRecord) × (slice_get (nodes_of self.now.shape 0 0) n ≡ Some here) × (result ≡ child_towards self.now.planes here at.now) }
+    {
+        let node = self.node(n);
+        if self.plane(node.plane).side(at).is_lt() {
+            node.back
+        } else {
+            node.front
+        }
+    }
+
     /// How many planes there are.
     pub fn planes(&self) -> u32
         ensures value { result ≡ length self.now.planes }
@@ -107,7 +146,8 @@ impl Tree {
     /// The node of a number.
     pub fn node(&self, n: u64) -> Node
         requires { n < node_count self.now.shape }
-        ensures { slice_get (nodes_of self.now.shape 0 0) n ≡ Some result }
+        ensures value { slice_get (nodes_of self.now.shape 0 0) n ≡ Some result }
+        ensures plane { result.plane < length self.now.planes }
     {
         self.nodes[n as usize]
     }
