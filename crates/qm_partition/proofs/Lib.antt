@@ -7,3 +7,6 @@ pub mod OneNumbering
 pub mod Samples
 pub mod PlacedParts
 pub mod Sides
+pub mod Forests
+pub mod JoinedWalks
+pub mod OwnArrays

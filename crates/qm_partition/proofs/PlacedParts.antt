@@ -12,7 +12,8 @@ use Rattle.qm_partition.specs.declared.node.Child.TheVariants.{Node, Leaf}
 use Rattle.qm_partition.specs.Partition.{Partition, leaf, node}
 use Rattle.qm_partition.specs.Counting.{leaf_count, node_count, node_planes}
 use Rattle.qm_partition.specs.Numbering.{nodes_after, leaves_after, child_of, nodes_of}
-use Rattle.qm_partition.specs.LeafOfPoint.{node_value, leaf_at, child_towards}
+use Rattle.qm_partition.specs.LeafOfPoint.{node_value, leaf_at}
+use Rattle.qm_partition.specs.inner.ChildTowards.{child_towards}
 use Rattle.qm_numbers.proofs.Signs.{side_test}
 use Rattle.qm_partition.proofs.Counts.{leaf_count-node, nodes_after-count, leaves_after-count, length-nodes_of}
 

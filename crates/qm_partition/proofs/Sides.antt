@@ -7,7 +7,8 @@ use Rattle.qm_space.specs.Plane.{Plane, value}
 use Rattle.qm_space.proofs.Books.{plane_at_from}
 use Rattle.qm_partition.specs.declared.node.Child.{Child}
 use Rattle.qm_partition.specs.declared.node.Node.{Node}
-use Rattle.qm_partition.specs.LeafOfPoint.{node_value, child_towards}
+use Rattle.qm_partition.specs.LeafOfPoint.{node_value}
+use Rattle.qm_partition.specs.inner.ChildTowards.{child_towards}
 
 by_tests : (less greater : Bool) → is_lt (if less then Less else (if greater then Greater else Equal)) ≡ less
 by_tests true greater = refl

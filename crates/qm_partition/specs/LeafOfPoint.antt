@@ -1,8 +1,6 @@
 use Rattle.std.specs.Prelude.{◌≢◌, ℕ, ◌+◌, ℤ, pos, int_lt, List, if◌then◌else◌}
 use Rattle.qm_space.specs.Point.{Point}
 use Rattle.qm_space.specs.Plane.{Plane, value}
-use Rattle.qm_partition.specs.declared.node.Child.{Child}
-use Rattle.qm_partition.specs.declared.node.Node.{Node}
 use Rattle.qm_partition.specs.declared.node.Leaf.{Leaf}
 use Rattle.qm_partition.specs.Partition.{Partition, leaf, node}
 use Rattle.qm_space.specs.Book.{plane_at}
@@ -30,7 +28,3 @@ abbrev pub IsOffNodePlanes : List Plane → Partition → Point → Type 0
 IsOffNodePlanes planes (leaf found) x = Unit {0}
 IsOffNodePlanes planes (node n front back) x =
     (node_value planes n x ≢ pos 0) × IsOffNodePlanes planes front x × IsOffNodePlanes planes back x
-
--- the child of a node on the point's side
-abbrev pub child_towards : List Plane → Node → Point → Child
-child_towards planes here x = if int_lt (node_value planes here.plane x) (pos 0) then here.back else here.front

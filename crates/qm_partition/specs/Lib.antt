@@ -8,5 +8,4 @@ pub mod Joining
 pub mod Visits
 pub mod WellMade
 pub mod Arrays
-pub mod Grown
-pub mod TreeCode
+pub mod inner

@@ -5,7 +5,8 @@ ghost use Rattle.qm_partition.specs.Partition.{Partition};
 ghost use Rattle.qm_partition.specs.Tree.{Tree};
 ghost use Rattle.qm_partition.specs.Counting.{leaves_of, leaf_count, node_count};
 ghost use Rattle.qm_partition.specs.Numbering.{child_of, nodes_of};
-ghost use Rattle.qm_partition.specs.LeafOfPoint.{leaf_at, child_towards};
+ghost use Rattle.qm_partition.specs.LeafOfPoint.{leaf_at};
+ghost use Rattle.qm_partition.specs.inner.ChildTowards.{child_towards};
 ghost use Rattle.qm_partition.specs.Ways.{ways};
 ghost use Rattle.qm_partition.specs.Visits.{visits};
 ghost use Rattle.qm_partition.specs.Joining.{joined};
@@ -28,7 +29,7 @@ pub struct Tree {
 
 impl Model for Tree {
     ghost use Rattle.qm_partition.specs.Tree.{Tree};
-    ghost use Rattle.qm_partition.specs.TreeCode.{tree_code};
+    ghost use Rattle.qm_partition.specs.inner.TreeCode.{tree_code};
     ghost use Rattle.qm_partition.specs.Arrays.{tree_of};
     ghost use Rattle.qm_partition.specs.WellMade.{IsMadeOf};
 

@@ -12,7 +12,7 @@ use Rattle.qm_partition.specs.declared.visit.Visit.TheVariants.{Node, Leaf}
 use Rattle.qm_partition.specs.Partition.{Partition, leaf}
 use Rattle.qm_partition.specs.Tree.{Tree}
 use Rattle.qm_partition.specs.Visits.{visits}
-use Rattle.qm_partition.specs.Grown.{grown_from, grown_from-visits}
+use Rattle.qm_partition.specs.inner.Grown.{grown_from, grown_from-visits}
 
 abbrev PlaneNumbers : Type 0
 PlaneNumbers = ℤ × (ℤ × (ℤ × ℤ))

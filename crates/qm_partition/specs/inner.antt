@@ -1,0 +1,4 @@
+pub mod ChildTowards
+pub mod Grown
+pub mod TreeCode
+pub mod JoinedWalk
