@@ -12,6 +12,7 @@ use Rattle.qm_partition.specs.Partition.{Partition, leaf, node}
 use Rattle.qm_partition.specs.Counting.{leaves_of}
 use Rattle.qm_partition.specs.Numbering.{nodes_after, leaves_after, child_of, nodes_of, AreNumbered}
 use Rattle.qm_partition.specs.Visits.{visits}
+use Rattle.qm_partition.specs.inner.RootChild.{root_child}
 use Rattle.qm_partition.proofs.PlacedParts.{top_node}
 
 -- their children, where their nodes are numbered from n on and their leaves from k on
@@ -170,11 +171,6 @@ pub nothing_due : (n k : ℕ) (nodes : List NodeRecord) (leaves : List LeafRecor
 nothing_due n k nodes leaves fit = nothing_left fit.forest n k nodes leaves fit.children_are fit.nodes_are fit.leaves_are
 
 -- ---- the whole
-
--- the child with which the nodes begin
-abbrev pub root_child : List NodeRecord → Child
-root_child [] = Leaf 0
-root_child (here ∷ nodes) = Node 0
 
 root_child_of : (shape : Partition) → root_child (nodes_of shape 0 0) ≡ child_of shape 0 0
 root_child_of (leaf found) = refl

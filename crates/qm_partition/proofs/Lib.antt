@@ -10,3 +10,4 @@ pub mod Sides
 pub mod Forests
 pub mod JoinedWalks
 pub mod OwnArrays
+pub mod NumberedWalks

@@ -2,3 +2,4 @@ pub mod ChildTowards
 pub mod Grown
 pub mod TreeCode
 pub mod JoinedWalk
+pub mod RootChild

@@ -2,10 +2,12 @@
 #![tactic(auto)]
 
 mod not_a_tree;
+mod numbered;
 mod tree;
 mod way;
 
 pub use not_a_tree::NotATree;
+pub use numbered::are_numbered;
 pub use qm_partition::{Child, Leaf, Node, Step, Visit};
 pub use tree::Tree;
 pub use way::Way;
