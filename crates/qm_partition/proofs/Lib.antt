@@ -6,3 +6,9 @@ pub mod JoinedLeaves
 pub mod JoinedCells
 pub mod OneNumbering
 pub mod Samples
+pub mod PlacedParts
+pub mod Sides
+pub mod Forests
+pub mod JoinedWalks
+pub mod OwnArrays
+pub mod NumberedWalks

@@ -1,0 +1,34 @@
+-- Joining visits from the last one to the first gives the visits of the joined partition.
+use Rattle.std.proofs.Common.{◌≡◌, ℕ, Bool, true, false, if◌then◌else◌, List, [], ◌∷◌, ◌++◌, Some, None, refl, sym, ap, ◌∙◌}
+use Rattle.std.proofs.lemmas.List.{append_assoc, append-nil}
+use Rattle.qm_partition.specs.declared.node.Leaf.{Leaf as LeafRecord}
+use Rattle.qm_partition.specs.declared.visit.Visit.{Visit}
+use Rattle.qm_partition.specs.declared.visit.Visit.TheVariants.{Node, Leaf}
+use Rattle.qm_partition.specs.Partition.{Partition, leaf, node}
+use Rattle.qm_partition.specs.Visits.{visits}
+use Rattle.qm_partition.specs.Joining.{are_equal, joined_node, joined}
+use Rattle.qm_partition.specs.inner.JoinedWalk.{joint_of, node_joined, joined_by, joined_from}
+
+pub joined_from-append : (walk walk' done : List Visit) → joined_from (walk ++ walk') done ≡ joined_from walk (joined_from walk' done)
+joined_from-append [] walk' done = refl
+joined_from-append (visit ∷ walk) walk' done = ap (joined_by visit) (joined_from-append walk walk' done)
+
+-- two leaves behind a node
+two_leaves : (n : ℕ) (a b : LeafRecord) (rest : List Visit) (test : Bool) → node_joined n (Leaf a ∷ (Leaf b ∷ rest)) (if test then Some a else None) ≡ visits (if test then leaf a else node n (leaf a) (leaf b)) ++ rest
+two_leaves n a b rest true = refl
+two_leaves n a b rest false = refl
+
+-- a node behind which both sides are joined
+at_joined_node : (n : ℕ) (front back : Partition) (rest : List Visit) → joined_by (Node n) (visits front ++ (visits back ++ rest)) ≡ visits (joined_node n front back) ++ rest
+at_joined_node n (leaf a) (leaf b) rest = two_leaves n a b rest (are_equal a b)
+at_joined_node n (leaf a) (node m front back) rest = refl
+at_joined_node n (node m front back) behind rest = ap (λ (walk : List Visit). Node n ∷ (Node m ∷ walk)) (sym (append_assoc (visits front ++ visits back) (visits behind) rest))
+
+pub joined_from-visits : (shape : Partition) (rest : List Visit) → joined_from (visits shape) rest ≡ visits (joined shape) ++ rest
+joined_from-visits (leaf found) rest = refl
+joined_from-visits (node n front back) rest =
+    ap (joined_by (Node n)) (
+    joined_from-append (visits front) (visits back) rest
+    ∙ ap (joined_from (visits front)) (joined_from-visits back rest)
+    ∙ joined_from-visits front (visits (joined back) ++ rest))
+    ∙ at_joined_node n (joined front) (joined back) rest

@@ -1,0 +1,5 @@
+pub mod ChildTowards
+pub mod Grown
+pub mod TreeCode
+pub mod JoinedWalk
+pub mod RootChild

@@ -1,0 +1,170 @@
+ghost use Rattle.std.specs.Prelude.{◌≡◌, ◌<◌, ◌^◌, List, length, Some, slice_get, IfOk};
+ghost use Rattle.qm_space.specs.Plane.{Plane};
+ghost use Rattle.qm_partition.specs.declared.node.Node.{Node as NodeRecord};
+ghost use Rattle.qm_partition.specs.Partition.{Partition};
+ghost use Rattle.qm_partition.specs.Tree.{Tree};
+ghost use Rattle.qm_partition.specs.Counting.{leaves_of, leaf_count, node_count};
+ghost use Rattle.qm_partition.specs.Numbering.{child_of, nodes_of};
+ghost use Rattle.qm_partition.specs.LeafOfPoint.{leaf_at};
+ghost use Rattle.qm_partition.specs.inner.ChildTowards.{child_towards};
+ghost use Rattle.qm_partition.specs.Ways.{ways};
+ghost use Rattle.qm_partition.specs.Visits.{visits};
+ghost use Rattle.qm_partition.specs.Joining.{joined};
+ghost use Rattle.qm_partition.specs.WellMade.{IsWellMade, IsMadeOf};
+
+use crate::not_a_tree::NotATree;
+use crate::way::Way;
+use qm_geom::{Plane, Point};
+use qm_partition::{Child, Leaf, Node, Visit};
+use std::alloc::{AllocError, Global};
+use std::marker::Model;
+
+/// A binary space partition tree: planes, and the nodes and leaves that cut space by them, both numbered front first.
+#[derive(Drop)]
+pub struct Tree {
+    planes: Vec<Plane>,
+    nodes: Vec<Node>,
+    leaves: Vec<Leaf>,
+}
+
+impl Model for Tree {
+    ghost use Rattle.qm_partition.specs.Tree.{Tree};
+    ghost use Rattle.qm_partition.specs.inner.TreeCode.{tree_code};
+    ghost use Rattle.qm_partition.specs.Arrays.{tree_of};
+    ghost use Rattle.qm_partition.specs.WellMade.{IsMadeOf};
+
+    ghost Value = { Tree };
+
+    ghost coded = { tree_code };
+
+    ghost view = { λ t. tree_of t.planes.items t.nodes.items t.leaves.items };
+
+    ghost invariant = { λ t. IsMadeOf (tree_of t.planes.items t.nodes.items t.leaves.items) t.planes.items t.nodes.items t.leaves.items };
+}
+
+impl Tree {
+    /// The tree of planes, nodes and leaves.
+    pub fn of(
+        alloc: Global,
+        planes: Vec<Plane>,
+        nodes: Vec<Node>,
+        leaves: Vec<Leaf>,
+    ) -> Result<Tree, NotATree>
+        ensures made { IfOk result (λ tree. IsMadeOf tree planes.items nodes.items leaves.items) }
+        ensures none { result ≡ Err NotATree.NotNumbered → (tree : Tree) → IsMadeOf tree planes.items nodes.items leaves.items → ⊥ }
+    {
+        Err(NotATree::Memory)
+    }
+
+    /// The tree of visits, in which siblings that are leaves of equal contents have become one leaf, from the leaves up.
+    pub fn joined_of(
+        alloc: Global,
+        planes: Vec<Plane>,
+        walk: Vec<Visit>,
+    ) -> Result<Tree, AllocError>
+        requires { (shape : Partition) × (visits shape ≡ walk.items) × IsWellMade (record { planes = planes.items; shape = shape }) }
+        ensures { (shape : Partition) → visits shape ≡ walk.items → IfOk result (λ tree. tree ≡ record { planes = planes.items; shape = joined shape }) }
+    {
+        Err(AllocError)
+    }
+
+    /// The tree in which siblings that are leaves of equal contents have become one leaf, from the leaves up. Nodes and
+    /// leaves are numbered anew.
+    pub fn joined(self, alloc: Global) -> Result<Tree, AllocError>
+        ensures { IfOk result (λ tree. tree ≡ record { planes = self.planes; shape = joined self.shape }) }
+    {
+        Err(AllocError)
+    }
+
+    /// The steps from the root to a leaf.
+    pub fn path(&self, alloc: Global, leaf: u64) -> Result<Way, AllocError>
+        requires { leaf < leaf_count self.now.shape }
+        ensures { IfOk result (λ way. slice_get (ways self.now.shape) leaf ≡ Some way) }
+    {
+        Err(AllocError)
+    }
+
+    /// The number of the leaf to which a point is led: at each node to the front where the point is not behind the plane.
+    pub fn leaf_at(&self, at: &Point) -> u64
+        ensures value { result ≡ leaf_at self.now.planes self.now.shape at.now }
+    {
+        let mut child = self.root();
+        loop {
+            match child {
+                Child::Leaf(leaf) => return leaf,
+                Child::Node(n) => child = self.child_towards(n, at),
+            }
+        }
+    }
+
+    /// The child that a walk begins with.
+    fn root(&self) -> Child
+        ensures { result ≡ child_of self.now.shape 0 0 }
+    {
+        if self.nodes.is_empty() {
+            Child::Leaf(0)
+        } else {
+            Child::Node(0)
+        }
+    }
+
+    /// The child of a node on the side of a point.
+    fn child_towards(&self, n: u64, at: &Point) -> Child
+        requires { n < node_count self.now.shape }
+        ensures { (here : NodeRecord) × (slice_get (nodes_of self.now.shape 0 0) n ≡ Some here) × (result ≡ child_towards self.now.planes here at.now) }
+    {
+        let node = self.node(n);
+        if self.plane(node.plane).side(at).is_lt() {
+            node.back
+        } else {
+            node.front
+        }
+    }
+
+    /// How many planes there are.
+    pub fn planes(&self) -> u32
+        ensures value { result ≡ length self.now.planes }
+        ensures well_made { IsWellMade self.now }
+    {
+        self.planes.len() as u32
+    }
+
+    /// The plane of a number.
+    pub fn plane(&self, n: u32) -> Plane
+        requires { n < length self.now.planes }
+        ensures { slice_get self.now.planes n ≡ Some result }
+    {
+        self.planes[n as usize]
+    }
+
+    /// How many nodes there are.
+    pub fn nodes(&self) -> u64
+        ensures { result ≡ node_count self.now.shape }
+    {
+        self.nodes.len() as u64
+    }
+
+    /// The node of a number.
+    pub fn node(&self, n: u64) -> Node
+        requires { n < node_count self.now.shape }
+        ensures value { slice_get (nodes_of self.now.shape 0 0) n ≡ Some result }
+        ensures plane { result.plane < length self.now.planes }
+    {
+        self.nodes[n as usize]
+    }
+
+    /// How many leaves there are.
+    pub fn leaves(&self) -> u64
+        ensures { result ≡ leaf_count self.now.shape }
+    {
+        self.leaves.len() as u64
+    }
+
+    /// The leaf of a number.
+    pub fn leaf(&self, n: u64) -> Leaf
+        requires { n < leaf_count self.now.shape }
+        ensures { slice_get (leaves_of self.now.shape) n ≡ Some result }
+    {
+        self.leaves[n as usize]
+    }
+}
