@@ -1,5 +1,6 @@
 pub mod BrushCounts
 pub mod CommandWords
+pub mod CompiledMap
 pub mod FlatSoFar
 pub mod MadeTexts
 pub mod Outcomes

@@ -6,3 +6,4 @@ pub mod Numbers
 pub mod OnlyMeetings
 pub mod Vectors
 pub mod Wide
+pub mod EnteredPlanes
