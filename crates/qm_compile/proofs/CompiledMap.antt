@@ -1,5 +1,5 @@
 -- What is built of the brushes of a map is what the map compiles to.
-use Rattle.std.proofs.Common.{◌≡◌, ℕ, List, [], length, All, sym, ap, ◌∙◌, subst}
+use Rattle.std.proofs.Common.{◌≡◌, ℕ, List, [], length, sym, ap, ◌∙◌, subst}
 use Rattle.std.specs.List.{AllZip}
 use Rattle.std.proofs.lemmas.List.{length-map}
 use Rattle.std.proofs.lemmas.List.Elements.{length_all_zip}
@@ -9,7 +9,6 @@ use Rattle.qm_geom.proofs.EnteredPlanes.{one_book}
 use Rattle.qm_mapfile.specs.declared.entity.MapFile.{MapFile}
 use Rattle.qm_brush.specs.Planes.{drawn_planes}
 use Rattle.qm_brush.specs.Solids.{drawn_solids}
-use Rattle.qm_solids.specs.Solid.{Solid}
 use Rattle.qm_solids.specs.Alike.{IsAlike}
 use Rattle.qm_solids.specs.InBook.{BookSolid, solid_in, solids_in, IsBookOf}
 use Rattle.qm_solids.proofs.AlikeSolids.{same_contents_back}

@@ -1,4 +1,4 @@
-use Rattle.std.proofs.Common.{◌≡◌, ℕ, List, Some, take, ◌⊎◌, inl, inr, sym, subst, ap, ◌∙◌, Ok}
+use Rattle.std.proofs.Common.{◌≡◌, ℕ, List, Some, take, ◌⊎◌, inl, inr, subst, ap, ◌∙◌, Ok}
 use Rattle.std.specs.Prelude.{IsTrue}
 use Rattle.qm_shelf.specs.ShelfState.{ShelfState}
 use Rattle.qm_shelf.specs.ShelfChanges.{IsKept, IsKeptElsewhere, MetNoFault, WriteFaultMeans}

@@ -1,4 +1,4 @@
-use Rattle.std.proofs.Common.{◌≡◌, List, [], subst}
+use Rattle.std.proofs.Common.{List, subst}
 use Rattle.qm_space.specs.Plane.{Plane}
 use Rattle.qm_geom.specs.Planes.{AreEntered}
 use Rattle.qm_brush.specs.Planes.{drawn_planes}

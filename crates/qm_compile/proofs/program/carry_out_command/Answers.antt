@@ -1,4 +1,4 @@
-use Rattle.std.proofs.Common.{sym, subst, List, ℕ, Ok, Err}
+use Rattle.std.proofs.Common.{sym, subst, List, ℕ, Err}
 use Rattle.qm_shelf.specs.ShelfState.{shelf_state}
 use Rattle.qm_shelf.specs.ShelfChanges.{ReadFaultMeans}
 use Rattle.qm_shelf.specs.declared.shelf.ShelfFault.{ShelfFault}
