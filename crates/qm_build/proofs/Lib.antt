@@ -1,0 +1,4 @@
+pub mod LeastPlanes
+pub mod Walks
+pub mod Visits
+pub mod Weights

@@ -1,6 +1,8 @@
-//! Builds the tree that a list of solids defines: cells are cut on their least candidates until none has one.
+//! Builds the tree that solids define: cells are cut on their least candidates, from the whole cube on, until none has
+//! one; then leaves of equal contents are joined.
 #![tactic(auto)]
 
 mod builder;
+mod division;
 
 pub use builder::build;
