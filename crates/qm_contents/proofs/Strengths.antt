@@ -42,7 +42,7 @@ at_most_solid Sky = omega arith
 pub at_most_itself : (a b : Contents) → a ≡ b → IsAtMost a b
 at_most_itself a b same = rw same (omega arith)
 
-less_or_not : (m n : ℕ) → (m < n) ⊎ (n ≤ m)
+pub less_or_not : (m n : ℕ) → (m < n) ⊎ (n ≤ m)
 less_or_not m zero = inr (omega arith)
 less_or_not zero (suc n) = inl (omega arith)
 less_or_not (suc m) (suc n) = elim (less_or_not m n) [ inl less ↦ inl (omega (arith, less)) | inr not ↦ inr (omega (arith, not)) ]

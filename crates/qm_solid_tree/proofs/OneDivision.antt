@@ -1,11 +1,9 @@
 -- Solids and a book divide a cell in one way, so that they define one tree.
-use Rattle.std.proofs.Common.{◌≡◌, ℕ, false, List, [], Some, sym, ap, ◌∙◌, subst}
+use Rattle.std.proofs.Common.{◌≡◌, ℕ, false, List, Some, sym, ap, ◌∙◌, subst}
 use Rattle.std.specs.Prelude.{slice_get}
 use Rattle.qm_space.specs.Plane.{Plane}
-use Rattle.qm_contents.specs.declared.contents.Contents.{Contents}
 use Rattle.qm_solids.specs.Solid.{Solid}
 use Rattle.qm_solids.specs.Cells.{ContainsCell}
-use Rattle.qm_solids.specs.Least.{IsLeastCandidate}
 use Rattle.qm_solids.proofs.CellLaws.{one_least}
 use Rattle.qm_solids.proofs.ContentsLaws.{one_contents}
 use Rattle.qm_partition.specs.declared.node.Leaf.{Leaf}

@@ -1,6 +1,6 @@
 -- Solids that have the same faces, place by place, define the same tree: such are solids whose planes are multiples of
 -- those of others.
-use Rattle.std.proofs.Common.{◌≡◌, List}
+use Rattle.std.proofs.Common.{List}
 use Rattle.std.specs.List.{AllZip}
 use Rattle.qm_lists.proofs.Pairs.{partner}
 use Rattle.qm_space.specs.Plane.{Plane}
@@ -8,7 +8,7 @@ use Rattle.qm_space.specs.Multiple.{HasSameSides}
 use Rattle.qm_solids.specs.Solid.{Solid}
 use Rattle.qm_solids.specs.Alike.{IsAlike}
 use Rattle.qm_solids.proofs.PlanesInCommon.{lies_on_through, same_sides_lies_on}
-use Rattle.qm_solids.proofs.SameFaces.{HasSameFaces, HaveSameFaces, solids_back, same_faces_back, alike_have_same_faces, cell_contents_kept, numbered_kept, least_kept}
+use Rattle.qm_solids.proofs.SameFaces.{HasSameFaces, HaveSameFaces, solids_back, alike_have_same_faces, cell_contents_kept, numbered_kept, least_kept}
 use Rattle.qm_partition.specs.Partition.{Partition}
 use Rattle.qm_partition.specs.Tree.{Tree}
 use Rattle.qm_solid_tree.specs.Division.{HasPlanesOf, HasNoCandidate, Divides, undivided, divided}

@@ -27,4 +27,4 @@ inside_near solid x v k least not_in_front inside =
 pub in_limit : (solid : Solid) (x v : Point) → ((least : ℤ) → (k : ℤ) × (least <ℤ k) × IsInside solid (moved k x v)) → IsInFrontOfNone solid.outward x
 in_limit solid x v often =
     λ place h there. limit_not_in_front (get_or solid.outward place h) x v
-        (λ least. let at = often least in (at.0, at.1, behind_all solid.outward (moved at.0 x v) at.2 place h there))
+    (λ least. let at = often least in (at.0, at.1, behind_all solid.outward (moved at.0 x v) at.2 place h there))

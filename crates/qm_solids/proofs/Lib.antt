@@ -11,3 +11,7 @@ pub mod PlanesInCommon
 pub mod HeldPoints
 pub mod SameFaces
 pub mod UniformCells
+pub mod FullSolids
+pub mod PassedPlanes
+pub mod BookFaces
+pub mod UniformSamples

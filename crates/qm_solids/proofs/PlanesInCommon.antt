@@ -1,17 +1,18 @@
 -- Planes that have the same points, and those of them that have the same points on each side.
 use Rattle.std.proofs.Common.{◌≡◌, ◌⊎◌, inl, inr, ℕ, Bool, true, false, not, ℤ, pos, negsuc, neg_ℤ, ◌+ℤ◌, ◌*ℤ◌, List, Some, ◌↔◌, refl, ap, sym, ◌∙◌, subst, arith}
+use Rattle.std.proofs.lemmas.Int.{ints}
 use Rattle.std.specs.Prelude.{slice_get, IsTrue}
 use Rattle.qm_space.specs.Point.{Point}
-use Rattle.qm_space.specs.Plane.{Plane, value, IsOn, flipped, scaled}
+use Rattle.qm_space.specs.Plane.{Plane, value, IsBehind, IsOn, IsInFront, flipped, scaled}
 use Rattle.qm_space.specs.Reduced.{leads_positive, IsReduced}
 use Rattle.qm_space.specs.Turned.{turned}
 use Rattle.qm_space.specs.Multiple.{HasSameSides}
 use Rattle.qm_space.specs.Book.{AreBookPlanes}
 use Rattle.std.proofs.Math.IntN.{*ℤ_comm}
 use Rattle.qm_numbers.proofs.IntegerProducts.{linear, *ℤ-neg, *ℤ_zero, zero_*ℤ, one_*ℤ, +ℤ-*ℤ}
-use Rattle.qm_numbers.proofs.Signs.{zero_beside, zero_beside_positive}
+use Rattle.qm_numbers.proofs.Signs.{zero_beside, zero_beside_positive, by_sign, product_positive, positive_times_negative, positive_beside, negative_beside}
 use Rattle.qm_space.proofs.Planes.{value_scaled}
-use Rattle.qm_space.proofs.ReducedPlanes.{same_plane, flipped_is_scaled, scaled_scaled, flipped_twice, leads_flipped, multiples_equal}
+use Rattle.qm_space.proofs.ReducedPlanes.{same_plane, flipped_is_scaled, scaled_scaled, flipped_twice, leads_flipped, multiples_equal, scaled_neg, scaled_flipped}
 use Rattle.qm_space.proofs.TurnedPlanes.{turned_is_reduced}
 use Rattle.qm_space.proofs.Proportional.{by_proportional}
 use Rattle.qm_solids.specs.Solid.{Solid}
@@ -40,7 +41,7 @@ lies_on_through a b c l m = record {
       ∙ ap (λ (p : Plane). scaled l.factor p) m.multiple ∙ scaled_scaled l.factor m.factor c;
 }
 
-one_scaled : (h : Plane) → scaled (pos 1) h ≡ h
+pub one_scaled : (h : Plane) → scaled (pos 1) h ≡ h
 one_scaled h = same_plane (scaled (pos 1) h) h (one_*ℤ h.nx) (one_*ℤ h.ny) (one_*ℤ h.nz) (one_*ℤ h.d)
 
 pub turned_lies_on : (side : Bool) (h : Plane) → LiesOn (turned side h) h
@@ -130,6 +131,9 @@ one_number book m n a h are at_m at_n l =
 
 -- ---- the same sides
 
+pub same_sides_itself : (h : Plane) → HasSameSides h h
+same_sides_itself h = record { times = pos 1; factor = pos 1; some_times = omega (arith, ints); some_factor = omega (arith, ints); multiple = refl }
+
 pub same_sides_lies_on : (a h : Plane) → HasSameSides a h → LiesOn a h
 same_sides_lies_on a h same = record {
   times = same.times;
@@ -155,3 +159,39 @@ reduced_same_sides a h r s same = by_side (reduced_lies_on a h r s (same_sides_l
     by_side (inr e) =
         let m = same.multiple in
         absurd (s.normal (part a.nx h.nx (ap (λ (p : Plane). p.nx) m) (ap (λ (p : Plane). p.nx) e)) (part a.ny h.ny (ap (λ (p : Plane). p.ny) m) (ap (λ (p : Plane). p.ny) e)) (part a.nz h.nz (ap (λ (p : Plane). p.nz) m) (ap (λ (p : Plane). p.nz) e)))
+
+-- a plane on which another lies has the other's sides, or the opposite ones
+pub by_sides : {P : Type 0} (a h : Plane) → LiesOn a h → (HasSameSides a h → P) → (HasSameSides a (flipped h) → P) → P
+by_sides a h l same opposite = by_sign l.times
+    (λ low. by_sign l.factor
+    (λ under. same (record { times = neg_ℤ l.times; factor = neg_ℤ l.factor; some_times = omega (arith, linear); some_factor = omega (arith, linear); multiple = turned_times ∙ sym (scaled_neg l.factor h) }))
+    (λ zero. absurd (l.some_factor zero))
+    (λ over. opposite (record { times = neg_ℤ l.times; factor = l.factor; some_times = omega (arith, linear); some_factor = over; multiple = turned_times ∙ sym (scaled_flipped l.factor h) })))
+    (λ zero. absurd (l.some_times zero))
+    (λ high. by_sign l.factor
+    (λ under. opposite (record { times = l.times; factor = neg_ℤ l.factor; some_times = high; some_factor = omega (arith, linear); multiple = l.multiple ∙ turned_factor }))
+    (λ zero. absurd (l.some_factor zero))
+    (λ over. same (record { times = l.times; factor = l.factor; some_times = high; some_factor = over; multiple = l.multiple })))
+  where
+    turned_times : scaled (neg_ℤ l.times) a ≡ flipped (scaled l.factor h)
+    turned_times = scaled_neg l.times a ∙ ap (λ (p : Plane). flipped p) l.multiple
+
+    turned_factor : scaled l.factor h ≡ scaled (neg_ℤ l.factor) (flipped h)
+    turned_factor = sym (flipped_twice (scaled l.factor h)) ∙ ap (λ (p : Plane). flipped p) (sym (scaled_neg l.factor h)) ∙ sym (scaled_flipped (neg_ℤ l.factor) h)
+
+-- what is in front of the one is in front of the other, and what is behind is behind
+module _ (a h : Plane) (x : Point) (same : HasSameSides a h) where
+  both_values : same.times *ℤ value a x ≡ same.factor *ℤ value h x
+  both_values = sym (value_scaled same.times a x) ∙ ap (λ (p : Plane). value p x) same.multiple ∙ value_scaled same.factor h x
+
+  pub same_in_front : IsInFront h x → IsInFront a x
+  same_in_front front =
+      let e = both_values in
+      let p = product_positive same.factor (value h x) same.some_factor front in
+      positive_beside same.times (value a x) same.some_times (omega (arith, linear))
+
+  pub same_behind : IsBehind h x → IsBehind a x
+  same_behind behind =
+      let e = both_values in
+      let p = positive_times_negative same.factor (value h x) same.some_factor behind in
+      negative_beside same.times (value a x) same.some_times (omega (arith, linear))

@@ -1,16 +1,14 @@
 -- Solids whose outward planes have, place by place, the same sides are full together, hold the same points, have the same
 -- points on their faces and the same candidates, and make the same of a cell.
-use Rattle.std.proofs.Common.{◌≡◌, ℕ, pos, ◌*ℤ◌, ◌<ℤ◌, inl, inr, List, All, Contains, sym, ap, ◌∙◌, subst, arith}
+use Rattle.std.proofs.Common.{◌≡◌, ℕ, pos, inl, inr, List, All, Contains, sym, ◌∙◌, subst, arith}
 use Rattle.std.specs.List.{AllZip}
 use Rattle.std.proofs.lemmas.List.Elements.{All-contains}
 use Rattle.qm_lists.proofs.Pairs.{All-from_contains, partner, AllZip-back, AllZip-weaker}
-use Rattle.qm_numbers.proofs.IntegerProducts.{linear, one_*ℤ}
-use Rattle.qm_numbers.proofs.Signs.{positive_times_negative, negative_beside, product_not_positive, not_positive_beside}
+use Rattle.qm_numbers.proofs.IntegerProducts.{linear}
+use Rattle.qm_numbers.proofs.Signs.{by_least}
 use Rattle.qm_space.specs.Point.{Point}
-use Rattle.qm_space.specs.Plane.{Plane, value, scaled, IsBehind, IsNotInFront}
+use Rattle.qm_space.specs.Plane.{Plane, value, IsBehind, IsNotInFront}
 use Rattle.qm_space.specs.Multiple.{IsPositiveMultiple, HasSameSides}
-use Rattle.qm_space.proofs.Planes.{value_scaled}
-use Rattle.qm_space.proofs.ReducedPlanes.{same_plane}
 use Rattle.qm_contents.specs.declared.contents.Contents.{Contents}
 use Rattle.qm_contents.specs.Precedence.{IsAtMost}
 use Rattle.qm_solids.specs.Solid.{Solid}
@@ -21,36 +19,22 @@ use Rattle.qm_solids.specs.Cells.{ContainsCell, CellHasContents}
 use Rattle.qm_solids.specs.Candidates.{LiesOn, IsOnFace, IsOutdone, IsCandidate}
 use Rattle.qm_solids.specs.Least.{IsNumberedCandidate, IsLeastCandidate}
 use Rattle.qm_solids.proofs.Insides.{behind_all, inside_of_behind}
-use Rattle.qm_solids.proofs.PlanesInCommon.{lies_on_through, lies_on_back, same_sides_lies_on}
-use Rattle.qm_solids.specs.Alike.{IsAlike}
+use Rattle.qm_solids.proofs.PlanesInCommon.{one_scaled, lies_on_through, lies_on_back, same_sides_lies_on, same_in_front, same_behind}
+use Rattle.qm_solids.proofs.AlikeSolids.{IsAlike}
 
 -- ---- planes of the same sides
 
 pub same_sides_back : (a h : Plane) → HasSameSides a h → HasSameSides h a
 same_sides_back a h same = record { times = same.factor; factor = same.times; some_times = same.some_factor; some_factor = same.some_times; multiple = sym same.multiple }
 
-one_time : (a : Plane) → scaled (pos 1) a ≡ a
-one_time a = same_plane (scaled (pos 1) a) a (one_*ℤ a.nx) (one_*ℤ a.ny) (one_*ℤ a.nz) (one_*ℤ a.d)
-
 -- a positive multiple has the same sides
 pub multiple_has_same_sides : (a h : Plane) → IsPositiveMultiple a h → HasSameSides a h
-multiple_has_same_sides a h of = record { times = pos 1; factor = of.factor; some_times = omega (arith, linear); some_factor = of.positive; multiple = one_time a ∙ of.multiple }
-
-same_values : (a h : Plane) (x : Point) (same : HasSameSides a h) → same.times *ℤ value a x ≡ same.factor *ℤ value h x
-same_values a h x same =
-    sym (value_scaled same.times a x) ∙ ap (λ (p : Plane). value p x) same.multiple ∙ value_scaled same.factor h x
-
-pub same_behind : (a h : Plane) (x : Point) → HasSameSides a h → IsBehind a x → IsBehind h x
-same_behind a h x same behind =
-    let below = positive_times_negative same.times (value a x) same.some_times behind in
-    negative_beside same.factor (value h x) same.some_factor (subst (λ v. v <ℤ pos 0) (same_values a h x same) below)
+multiple_has_same_sides a h of = record { times = pos 1; factor = of.factor; some_times = omega (arith, linear); some_factor = of.positive; multiple = one_scaled a ∙ of.multiple }
 
 pub same_not_in_front : (a h : Plane) (x : Point) → HasSameSides a h → IsNotInFront a x → IsNotInFront h x
-same_not_in_front a h x same not =
-    let some = same.some_times in
-    let below = product_not_positive same.times (value a x) (omega (arith, linear)) not in
-    let values = same_values a h x same in
-    not_positive_beside same.factor (value h x) same.some_factor (omega (arith, linear))
+same_not_in_front a h x same not = by_least (pos 0) (value h x)
+    (λ front. let ahead = same_in_front a h x same front in absurd (omega (arith, linear)))
+    (λ least. least)
 
 -- ---- solids
 
@@ -86,7 +70,7 @@ module _ (solid other : Solid) (same : HasSameFaces solid other) where
   of_each P kept each = All-from_contains P other.outward (λ g among. let at = there g among in kept at.0 g at.2 (All-contains P solid.outward at.0 each at.1))
 
   pub inside_kept : (x : Point) → IsInside solid x → IsInside other x
-  inside_kept x inside = inside_of_behind other.outward x (of_each (λ h. IsBehind h x) (λ a g. same_behind a g x) (behind_all solid.outward x inside))
+  inside_kept x inside = inside_of_behind other.outward x (of_each (λ h. IsBehind h x) (λ a g same. same_behind g a x (same_sides_back a g same)) (behind_all solid.outward x inside))
 
   pub full_kept : IsFull solid → IsFull other
   full_kept full = record { within = full.within; in_cube = full.in_cube; inside = inside_kept full.within full.inside }
@@ -105,7 +89,7 @@ module _ (solid other : Solid) (same : HasSameFaces solid other) where
     behind_others = λ g among apart.
         let at = there g among in
         let not_on : LiesOn at.0 h → ⊥ = λ lies. apart (lies_on_through g at.0 h (lies_on_back at.0 g (same_sides_lies_on at.0 g at.2)) lies) in
-        same_behind at.0 g x at.2 (on.behind_others at.0 at.1 not_on);
+        same_behind g at.0 x (same_sides_back at.0 g at.2) (on.behind_others at.0 at.1 not_on);
   }
 
 -- ---- lists of solids

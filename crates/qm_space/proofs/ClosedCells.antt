@@ -1,6 +1,5 @@
 -- Points of a cell or of its border: many times such a point, moved by a point of the cell, lies in the cell.
 use Rattle.std.proofs.Common.{ℤ, pos, ◌≤ℤ◌, get_or, List, All, arith}
-use Rattle.std.proofs.lemmas.Int.{ints}
 use Rattle.qm_space.specs.Point.{Point, IsInCube}
 use Rattle.qm_space.specs.Plane.{Plane, value, IsInFront, IsNotBehind}
 use Rattle.qm_space.specs.Cell.{IsInCell}
