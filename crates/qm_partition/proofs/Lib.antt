@@ -11,3 +11,4 @@ pub mod Forests
 pub mod JoinedWalks
 pub mod OwnArrays
 pub mod NumberedWalks
+pub mod MadeTrees

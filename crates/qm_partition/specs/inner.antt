@@ -3,3 +3,4 @@ pub mod Grown
 pub mod TreeCode
 pub mod JoinedWalk
 pub mod RootChild
+pub mod Parts

@@ -3,6 +3,7 @@
 
 mod not_a_tree;
 mod numbered;
+mod parts;
 mod tree;
 mod way;
 

@@ -13,6 +13,8 @@ ghost use Rattle.qm_partition.specs.Joining.{joined};
 ghost use Rattle.qm_partition.specs.WellMade.{IsWellMade, IsMadeOf};
 
 use crate::not_a_tree::NotATree;
+use crate::numbered::are_numbered;
+use crate::parts::are_parts;
 use crate::way::Way;
 use qm_geom::{Plane, Point};
 use qm_partition::{Child, Leaf, Node, Visit};
@@ -53,7 +55,17 @@ impl Tree {
         ensures made { IfOk result (λ tree. IsMadeOf tree planes.items nodes.items leaves.items) }
         ensures none { result ≡ Err NotATree.NotNumbered → (tree : Tree) → IsMadeOf tree planes.items nodes.items leaves.items → ⊥ }
     {
-        Err(NotATree::Memory)
+        if !are_parts(&planes, &nodes, &leaves) {
+            return Err(NotATree::NotNumbered);
+        }
+        if !are_numbered(alloc, &nodes, leaves.len() as u64)? {
+            return Err(NotATree::NotNumbered);
+        }
+        Ok(Tree {
+            planes,
+            nodes,
+            leaves,
+        })
     }
 
     /// The tree of visits, in which siblings that are leaves of equal contents have become one leaf, from the leaves up.
