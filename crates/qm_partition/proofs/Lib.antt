@@ -12,3 +12,4 @@ pub mod JoinedWalks
 pub mod OwnArrays
 pub mod NumberedWalks
 pub mod MadeTrees
+pub mod FoundWays

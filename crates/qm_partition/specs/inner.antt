@@ -4,3 +4,4 @@ pub mod TreeCode
 pub mod JoinedWalk
 pub mod RootChild
 pub mod Parts
+pub mod LeavesInFront
