@@ -13,3 +13,4 @@ pub mod OwnArrays
 pub mod NumberedWalks
 pub mod MadeTrees
 pub mod FoundWays
+pub mod NumberingWalks

@@ -4,6 +4,7 @@
 mod joining;
 mod not_a_tree;
 mod numbered;
+mod numbering;
 mod parts;
 mod tree;
 mod way;
