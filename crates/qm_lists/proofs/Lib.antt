@@ -5,5 +5,6 @@ pub mod FlatMaps
 pub mod Options
 pub mod Places
 pub mod Reached
+pub mod Reversed
 pub mod SmallGraph
 pub mod WorkLists

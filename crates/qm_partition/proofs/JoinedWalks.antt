@@ -1,6 +1,7 @@
 -- Joining visits from the last one to the first gives the visits of the joined partition.
-use Rattle.std.proofs.Common.{◌≡◌, ℕ, Bool, true, false, if◌then◌else◌, List, [], ◌∷◌, ◌++◌, Some, None, refl, sym, ap, ◌∙◌}
-use Rattle.std.proofs.lemmas.List.{append_assoc, append-nil}
+use Rattle.std.proofs.Common.{◌≡◌, ℕ, ◌-◌, Bool, true, false, if◌then◌else◌, List, [], ◌∷◌, ◌++◌, Some, None, take, drop, reverse, length, refl, sym, ap, ◌∙◌}
+use Rattle.std.proofs.lemmas.List.{append_assoc, append-nil, reverse-reverse}
+use Rattle.qm_lists.proofs.Reversed.{reverse-push, reverse-but_two}
 use Rattle.qm_partition.specs.declared.node.Leaf.{Leaf as LeafRecord}
 use Rattle.qm_partition.specs.declared.visit.Visit.{Visit}
 use Rattle.qm_partition.specs.declared.visit.Visit.TheVariants.{Node, Leaf}
@@ -32,3 +33,20 @@ joined_from-visits (node n front back) rest =
     ∙ ap (joined_from (visits front)) (joined_from-visits back rest)
     ∙ joined_from-visits front (visits (joined back) ++ rest))
     ∙ at_joined_node n (joined front) (joined back) rest
+
+-- ---- on a stack, where the last visit stands first
+
+-- two leaves at the end of a stack become one
+joint_at_end : (walk : List Visit) (n : ℕ) (joint : LeafRecord) → Some joint ≡ joint_of walk → reverse (take (length (reverse walk) - 2) (reverse walk) ++ Leaf joint ∷ []) ≡ Leaf joint ∷ drop 2 walk
+joint_at_end [] n joint is = absurd cc
+joint_at_end (Leaf front ∷ []) n joint is = absurd cc
+joint_at_end (Node m ∷ []) n joint is = absurd cc
+joint_at_end (a ∷ (b ∷ walk)) n joint is =
+    rw (reverse-but_two a b walk) (reverse-push (reverse walk) (Leaf joint) ∙ ap (λ (rest : List Visit). Leaf joint ∷ rest) (reverse-reverse walk))
+
+pub joint_pushed : (stack : List Visit) (n : ℕ) (joint : LeafRecord) → Some joint ≡ joint_of (reverse stack) → reverse (take (length stack - 2) stack ++ Leaf joint ∷ []) ≡ joined_by (Node n) (reverse stack)
+joint_pushed stack n joint is =
+    let again : reverse (reverse stack) ≡ stack = reverse-reverse stack in
+    ap (λ (all : List Visit). reverse (take (length all - 2) all ++ Leaf joint ∷ [])) (sym again)
+    ∙ joint_at_end (reverse stack) n joint is
+    ∙ ap (node_joined n (reverse stack)) is

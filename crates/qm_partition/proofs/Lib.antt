@@ -12,3 +12,6 @@ pub mod Forests
 pub mod JoinedWalks
 pub mod OwnArrays
 pub mod NumberedWalks
+pub mod MadeTrees
+pub mod FoundWays
+pub mod NumberingWalks

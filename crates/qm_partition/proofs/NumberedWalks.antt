@@ -1,6 +1,6 @@
 -- Testing whether nodes are numbered: the children that are due stand on a stack, and two counters say what comes next.
 use Rattle.std.proofs.Common.{◌≡◌, ◌<◌, ◌≤◌, ℕ, suc, ◌+◌, ◌-◌, false, List, [], ◌∷◌, ◌++◌, length, drop, reverse, get_or, refl, sym, ap, subst, ◌∙◌, ◌↔◌, arith, add-one, length-drop, drop-cons}
-use Rattle.std.proofs.lemmas.List.{reverse-append}
+use Rattle.qm_lists.proofs.Reversed.{reverse-push}
 use Rattle.std.proofs.Math.Seq.{drop-length}
 use Rattle.qm_partition.specs.declared.node.Node.{Node as NodeRecord}
 use Rattle.qm_partition.specs.declared.node.Leaf.{Leaf as LeafRecord}
@@ -17,9 +17,6 @@ pub record IsWalked (nodes : List NodeRecord) (leaves : ℕ) (due : List Child) 
   pub nodes_left : n ≤ length nodes
   pub leaves_left : k ≤ leaves
   pub same : (all : List LeafRecord) → length all ≡ leaves → (Fits (reverse due) n k (drop n nodes) (drop k all) ↔ Fits (root_child nodes ∷ []) 0 0 nodes all)
-
-reverse-push : (due : List Child) (child : Child) → reverse (due ++ child ∷ []) ≡ child ∷ reverse due
-reverse-push due child = reverse-append due (child ∷ [])
 
 module _ (nodes : List NodeRecord) (leaves : ℕ) where
   pub walk_begins : IsWalked nodes leaves (root_child nodes ∷ []) 0 0

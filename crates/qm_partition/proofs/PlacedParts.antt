@@ -2,6 +2,7 @@
 use Rattle.std.proofs.Common.{◌≡◌, ◌<◌, ◌≤◌, ℕ, zero, suc, ◌+◌, ◌-◌, pos, Bool, true, false, if◌then◌else◌, List, ◌∷◌, ◌++◌, length, Some, All, inl, inr, refl, sym, ap, subst, ◌∙◌, arith, add_assoc, add-zero, zero-add, one-add}
 use Rattle.std.specs.Prelude.{slice_get, int_lt}
 use Rattle.std.proofs.lemmas.List.Elements.{All-head, All-tail}
+use Rattle.std.proofs.lemmas.Option.{slice_get_within}
 use Rattle.qm_lists.proofs.Elements.{All-first_part, All-last_part}
 use Rattle.qm_lists.proofs.Places.{slice_get-append_old, slice_get-append_past, slice_get-append_cases}
 use Rattle.qm_space.specs.Point.{Point}
@@ -108,6 +109,12 @@ children_come_later (node p front back) n k (suc i) count m at within =
           rw place (children_come_later back n_back k_back there.0 count m there.2 (omega (arith, place)))
     ]
 
+-- both children of a numbered node come behind it
+pub sides_come_later : (whole : Partition) (j : ℕ) (here : NodeRecord) → slice_get (nodes_of whole 0 0) j ≡ Some here → (nodes_from (node_count whole) here.front < nodes_from (node_count whole) (Node j)) × (nodes_from (node_count whole) here.back < nodes_from (node_count whole) (Node j))
+sides_come_later whole j here at =
+    let within = slice_get_within (nodes_of whole 0 0) j here at in
+    rw zero-add at (children_come_later whole 0 0 j (node_count whole) here at (omega (arith, within, length-nodes_of whole 0 0)))
+
 -- ---- the way of a point
 
 -- the child is the part of the whole to which the point is led
@@ -156,20 +163,10 @@ module _ (planes : List Plane) (whole : Partition) (x : Point) where
   pub leads_on_leaf : (j : ℕ) → LeadsOn planes whole x (Leaf j) → leaf_at planes whole x ≡ j
   leads_on_leaf j led = leaf_of_part led.part led.n led.k j led.child_is led.number_is
 
-  node_of_part : (part : Partition) (n k j : ℕ) → IsPart whole part n k → Node j ≡ child_of part n k → j < node_count whole
-  node_of_part (leaf found) n k j part child = absurd cc
-  node_of_part (node p front back) n k j part child = let same : j ≡ n = cc in omega (arith, same, part.nodes_in)
-
-  -- a node that it leads to is there
-  pub leads_on_within : (j : ℕ) → LeadsOn planes whole x (Node j) → j < node_count whole
-  leads_on_within j led = node_of_part led.part led.n led.k j led.is_part led.child_is
-
 -- the child of a node on the point's side comes behind it
-pub child_towards_later : (planes : List Plane) (whole : Partition) (x : Point) (j : ℕ) (here : NodeRecord) → slice_get (nodes_of whole 0 0) j ≡ Some here → j < node_count whole → nodes_from (node_count whole) (child_towards planes here x) < nodes_from (node_count whole) (Node j)
-child_towards_later planes whole x j here at within =
-    let count = node_count whole in
-    let later = rw zero-add at (children_come_later whole 0 0 j count here at (omega arith)) in
-    either (int_lt (node_value planes here.plane x) (pos 0)) later
+pub child_towards_later : (planes : List Plane) (whole : Partition) (x : Point) (j : ℕ) (here : NodeRecord) → slice_get (nodes_of whole 0 0) j ≡ Some here → nodes_from (node_count whole) (child_towards planes here x) < nodes_from (node_count whole) (Node j)
+child_towards_later planes whole x j here at =
+    either (int_lt (node_value planes here.plane x) (pos 0)) (sides_come_later whole j here at)
     where
       either : (b : Bool) → (nodes_from (node_count whole) here.front < nodes_from (node_count whole) (Node j)) × (nodes_from (node_count whole) here.back < nodes_from (node_count whole) (Node j)) → nodes_from (node_count whole) (if b then here.back else here.front) < nodes_from (node_count whole) (Node j)
       either true later = later.1

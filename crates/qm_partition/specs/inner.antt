@@ -3,3 +3,5 @@ pub mod Grown
 pub mod TreeCode
 pub mod JoinedWalk
 pub mod RootChild
+pub mod Parts
+pub mod LeavesInFront

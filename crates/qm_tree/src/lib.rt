@@ -1,8 +1,11 @@
 //! The tree of a map: planes, nodes and leaves, numbered front first, with the leaf of a point and the way to a leaf.
 #![tactic(auto)]
 
+mod joining;
 mod not_a_tree;
 mod numbered;
+mod numbering;
+mod parts;
 mod tree;
 mod way;
 

@@ -1,4 +1,4 @@
-ghost use Rattle.std.specs.Prelude.{◌≡◌, ◌<◌, ◌^◌, List, length, Some, slice_get, IfOk};
+ghost use Rattle.std.specs.Prelude.{◌≡◌, ◌<◌, List, length, Some, slice_get, IfOk};
 ghost use Rattle.qm_space.specs.Plane.{Plane};
 ghost use Rattle.qm_partition.specs.declared.node.Node.{Node as NodeRecord};
 ghost use Rattle.qm_partition.specs.Partition.{Partition};
@@ -7,15 +7,18 @@ ghost use Rattle.qm_partition.specs.Counting.{leaves_of, leaf_count, node_count}
 ghost use Rattle.qm_partition.specs.Numbering.{child_of, nodes_of};
 ghost use Rattle.qm_partition.specs.LeafOfPoint.{leaf_at};
 ghost use Rattle.qm_partition.specs.inner.ChildTowards.{child_towards};
+ghost use Rattle.qm_partition.specs.inner.LeavesInFront.{leaves_in_front, ComesBehind};
 ghost use Rattle.qm_partition.specs.Ways.{ways};
 ghost use Rattle.qm_partition.specs.Visits.{visits};
 ghost use Rattle.qm_partition.specs.Joining.{joined};
 ghost use Rattle.qm_partition.specs.WellMade.{IsWellMade, IsMadeOf};
 
 use crate::not_a_tree::NotATree;
+use crate::numbered::are_numbered;
+use crate::parts::are_parts;
 use crate::way::Way;
 use qm_geom::{Plane, Point};
-use qm_partition::{Child, Leaf, Node, Visit};
+use qm_partition::{Child, Leaf, Node, Step, Visit};
 use std::alloc::{AllocError, Global};
 use std::marker::Model;
 
@@ -53,7 +56,17 @@ impl Tree {
         ensures made { IfOk result (λ tree. IsMadeOf tree planes.items nodes.items leaves.items) }
         ensures none { result ≡ Err NotATree.NotNumbered → (tree : Tree) → IsMadeOf tree planes.items nodes.items leaves.items → ⊥ }
     {
-        Err(NotATree::Memory)
+        if !are_parts(&planes, &nodes, &leaves) {
+            return Err(NotATree::NotNumbered);
+        }
+        if !are_numbered(alloc, &nodes, leaves.len() as u64)? {
+            return Err(NotATree::NotNumbered);
+        }
+        Ok(Tree {
+            planes,
+            nodes,
+            leaves,
+        })
     }
 
     /// The tree of visits, in which siblings that are leaves of equal contents have become one leaf, from the leaves up.
@@ -81,7 +94,25 @@ impl Tree {
         requires { leaf < leaf_count self.now.shape }
         ensures { IfOk result (λ way. slice_get (ways self.now.shape) leaf ≡ Some way) }
     {
-        Err(AllocError)
+        let mut steps = Vec::new(alloc);
+        let mut child = self.root();
+        let mut first = 0;
+        while let Child::Node(n) = child {
+            let node = self.node(n);
+            let in_front = leaves_in_front(node.back, n, first);
+            let front = leaf - first < in_front;
+            steps.push(Step {
+                plane: node.plane,
+                front,
+            })?;
+            if front {
+                child = node.front;
+            } else {
+                child = node.back;
+                first += in_front;
+            }
+        }
+        Ok(Way::of(steps))
     }
 
     /// The number of the leaf to which a point is led: at each node to the front where the point is not behind the plane.
@@ -187,5 +218,17 @@ impl Tree {
         ensures { result.now ≡ leaves_of self.now.shape }
     {
         &self.leaves
+    }
+}
+
+/// How many leaves are in front of the node of number `n`, of whose leaves the first has the number `first`, by the child
+/// behind it. As there is one leaf more than nodes, they are as many as there are numbers from `n` up to the node behind.
+fn leaves_in_front(back: Child, n: u64, first: u64) -> u64
+    requires { ComesBehind back n first }
+    ensures { result ≡ leaves_in_front back n first }
+{
+    match back {
+        Child::Leaf(leaf) => leaf - first,
+        Child::Node(m) => m - n,
     }
 }
