@@ -1,3 +1,4 @@
+pub mod DefinedTrees
 pub mod LeastPlanes
 pub mod Walks
 pub mod Visits

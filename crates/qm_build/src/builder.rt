@@ -20,5 +20,6 @@ pub fn build(alloc: Global, list: &BrushList, book: &PlaneBook) -> Result<Tree, 
 {
     let walk = walk_of_cube(alloc, list, book)?;
     let planes = Vec::from_slice(alloc, book.planes())?;
-    Tree::joined_of(alloc, planes, walk)
+    let tree = Tree::joined_of(alloc, planes, walk)?;
+    Ok(tree)
 }

@@ -11,10 +11,7 @@ use Rattle.qm_build.proofs.division.walk_of_cube.Goals.{In-Some}
 
 pub loop-fragments-init : goal.loop-fragments-init
 loop-fragments-init c =
-    let solids = solids_in c.args.book.now c.args.list.now in
-    let first = c.in_ok-push.ensures.items ∙ ap (λ (p : List Fragments). p ++ c.in_ok-of.field-0 ∷ []) c.new-pending.ensures.items in
-    let at_first = subst (λ (walk : List Visit). IsUnderWay solids c.args.book.now (c.in_ok-of.field-0 ∷ []) walk) (sym c.new-walk.ensures.items) (begins solids c.args.book.now c.in_ok-of.field-0 c.in_ok-of.ensures) in
-    subst (λ (pending : List Fragments). IsUnderWay solids c.args.book.now pending c.new-walk.result.items) (sym first) at_first
+    rw (c.in_ok-push.ensures.items, c.new-pending.ensures.items, c.new-walk.ensures.items) (begins (solids_in c.args.book.now c.args.list.now) c.args.book.now c.in_ok-of.field-0 c.in_ok-of.ensures)
 
 -- the next fragments are those of a cell
 next : (c : In-Some) → AreFragments (solids_in c.args.book.now c.args.list.now) c.args.book.now c.in-Some.fragments
