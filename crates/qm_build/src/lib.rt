@@ -4,5 +4,6 @@
 
 mod builder;
 mod division;
+pub mod laws;
 
 pub use builder::build;
