@@ -14,3 +14,5 @@ pub mod NumberedWalks
 pub mod MadeTrees
 pub mod FoundWays
 pub mod NumberingWalks
+pub mod JoinedParts
+pub mod Walking
