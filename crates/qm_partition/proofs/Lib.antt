@@ -16,3 +16,5 @@ pub mod FoundWays
 pub mod NumberingWalks
 pub mod JoinedParts
 pub mod Walking
+pub mod PartsBelow
+pub mod CoarserPartitions
