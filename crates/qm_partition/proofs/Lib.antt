@@ -15,3 +15,7 @@ pub mod NumberedWalks
 pub mod MadeTrees
 pub mod FoundWays
 pub mod NumberingWalks
+pub mod JoinedParts
+pub mod Walking
+pub mod PartsBelow
+pub mod CoarserPartitions

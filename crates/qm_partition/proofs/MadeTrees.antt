@@ -55,22 +55,22 @@ module _ (planes : List Plane) (nodes : List NodeRecord) (leaves : List LeafReco
   abbrev IsThere : ℕ → Type 0
   IsThere n = n < length planes
 
+  -- numbered nodes and leaves of a well made tree make that tree
+  pub made_of_shape : (shape : Partition) → AreNumbered shape nodes leaves → IsWellMade (record { planes = planes; shape = shape }) → IsMadeOf (tree_of planes nodes leaves) planes nodes leaves
+  made_of_shape shape are well =
+      subst (λ (shape : Partition). IsMadeOf (record { planes = planes; shape = shape }) planes nodes leaves) (sym (partition_of-numbered shape nodes leaves are))
+      (record { planes_are = refl; numbered = are; well_made = well })
+
   -- numbered parts make a tree
   pub made_of_parts : AreParts planes nodes leaves → ((shape : Partition) × AreNumbered shape nodes leaves) → IsMadeOf (tree_of planes nodes leaves) planes nodes leaves
   made_of_parts parts (shape, are) =
-      let its : shape ≡ partition_of nodes leaves = sym (partition_of-numbered shape nodes leaves are) in
       let named : All IsThere (node_planes shape) =
       planes_from_nodes IsThere shape 0 0 (subst (λ (all : List NodeRecord). All (OfPlane IsThere) all) are.nodes_are parts.named) in
-      subst (λ (shape : Partition). IsMadeOf (record { planes = planes; shape = shape }) planes nodes leaves) its
-      (record {
-        planes_are = refl;
-        numbered = are;
-        well_made = record {
-          few = parts.few;
-          leads = parts.leads;
-          names = named;
-          solid = subst (λ (all : List LeafRecord). All IsSolidIfFilled all) are.leaves_are parts.solid;
-        };
+      made_of_shape shape are (record {
+        few = parts.few;
+        leads = parts.leads;
+        names = named;
+        solid = subst (λ (all : List LeafRecord). All IsSolidIfFilled all) are.leaves_are parts.solid;
       })
 
   -- a tree is made of parts

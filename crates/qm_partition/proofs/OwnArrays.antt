@@ -16,13 +16,13 @@ use Rattle.qm_partition.proofs.PlacedParts.{top_node}
 
 module _ (leaves : List LeafRecord) where
   -- the leaves of a partition stand at their numbers, from k on
-  record AreLeavesAt (shape : Partition) (k : ℕ) : Type 0 where
-    at : (i : ℕ) (found : LeafRecord) → slice_get (leaves_of shape) i ≡ Some found → slice_get leaves (k + i) ≡ Some found
+  pub record AreLeavesAt (shape : Partition) (k : ℕ) : Type 0 where
+    pub at : (i : ℕ) (found : LeafRecord) → slice_get (leaves_of shape) i ≡ Some found → slice_get leaves (k + i) ≡ Some found
 
-  leaves_front : (p : ℕ) (front back : Partition) (k : ℕ) → AreLeavesAt (node p front back) k → AreLeavesAt front k
+  pub leaves_front : (p : ℕ) (front back : Partition) (k : ℕ) → AreLeavesAt (node p front back) k → AreLeavesAt front k
   leaves_front p front back k are = record { at = λ i found at. are.at i found (slice_get-append_old (leaves_of front) (leaves_of back) found i at) }
 
-  leaves_back : (p : ℕ) (front back : Partition) (k : ℕ) → AreLeavesAt (node p front back) k → AreLeavesAt back (leaves_after front k)
+  pub leaves_back : (p : ℕ) (front back : Partition) (k : ℕ) → AreLeavesAt (node p front back) k → AreLeavesAt back (leaves_after front k)
   leaves_back p front back k are =
       record {
         at = λ i found at.

@@ -13,8 +13,10 @@ ghost use Rattle.qm_partition.specs.Visits.{visits};
 ghost use Rattle.qm_partition.specs.Joining.{joined};
 ghost use Rattle.qm_partition.specs.WellMade.{IsWellMade, IsMadeOf};
 
+use crate::joining::joined_backwards;
 use crate::not_a_tree::NotATree;
 use crate::numbered::are_numbered;
+use crate::numbering::numbered_parts;
 use crate::parts::are_parts;
 use crate::way::Way;
 use qm_geom::{Plane, Point};
@@ -78,7 +80,13 @@ impl Tree {
         requires { (shape : Partition) × (visits shape ≡ walk.items) × IsWellMade (record { planes = planes.items; shape = shape }) }
         ensures { (shape : Partition) → visits shape ≡ walk.items → IfOk result (λ tree. tree ≡ record { planes = planes.items; shape = joined shape }) }
     {
-        Err(AllocError)
+        let backwards = joined_backwards(alloc, walk)?;
+        let (nodes, leaves) = numbered_parts(alloc, &backwards)?;
+        Ok(Tree {
+            planes,
+            nodes,
+            leaves,
+        })
     }
 
     /// The tree in which siblings that are leaves of equal contents have become one leaf, from the leaves up. Nodes and
@@ -86,7 +94,32 @@ impl Tree {
     pub fn joined(self, alloc: Global) -> Result<Tree, AllocError>
         ensures { IfOk result (λ tree. tree ≡ record { planes = self.planes; shape = joined self.shape }) }
     {
-        Err(AllocError)
+        let walk = self.walk(alloc)?;
+        let Tree { planes, .. } = self;
+        Tree::joined_of(alloc, planes, walk)
+    }
+
+    /// The visits of a walk through all nodes and leaves.
+    fn walk(&self, alloc: Global) -> Result<Vec<Visit>, AllocError>
+        ensures { IfOk result (λ walk. walk.items ≡ visits self.now.shape) }
+    {
+        let mut walk = Vec::with_capacity(alloc, self.nodes.len() + self.leaves.len())?;
+        let mut due = Vec::new(alloc);
+        due.push(self.root())?;
+        while let Some(child) = due.pop() {
+            match child {
+                Child::Leaf(leaf) => {
+                    walk.push(Visit::Leaf(self.leaf(leaf)))?;
+                }
+                Child::Node(n) => {
+                    let node = self.node(n);
+                    walk.push(Visit::Node(node.plane))?;
+                    due.push(node.back)?;
+                    due.push(node.front)?;
+                }
+            }
+        }
+        Ok(walk)
     }
 
     /// The steps from the root to a leaf.
