@@ -1,16 +1,21 @@
-ghost use Rattle.std.specs.Prelude.{◌≡◌, ◌<◌, [], ◌∷◌, length};
-ghost use Rattle.std.specs.Bool.{MatchBool};
-ghost use Rattle.qm_space.specs.Plane.{IsNotInFront};
-ghost use Rattle.qm_solids.specs.Outward.{outward_of, outward_planes, AreNumberedIn};
-ghost use Rattle.qm_solids.specs.Holding.{IsInFrontOfNone};
+ghost use Rattle.std.specs.Prelude.{◌≡◌, ◌<◌, ◌+◌, ◌-◌, ◌^◌, [], ◌∷◌, length, IfOk, OnErr, All};
+ghost use Rattle.qm_grammar.specs.Valid.{IsValidFace};
 ghost use Rattle.qm_solids.specs.InBook.{solid_at, solid_in, solids_in, IsKeptIn, IsBookOf};
 ghost use Rattle.qm_solids.specs.Contents.{HasContents};
+ghost use Rattle.qm_brush.specs.Planes.{planes_of_brush};
+ghost use Rattle.qm_brush.specs.inner.Added.{IsAdded};
+ghost use Rattle.qm_brush.specs.inner.Entered.{AreFirstEntered};
 ghost use Rattle.qm_brush.specs.inner.Entries.{solid_of_entry, IsWithin};
 
+use crate::entering::enter_faces;
 use crate::entry::Entry;
+use crate::fullness::is_full;
+use crate::sides::is_in_front_of_none;
 use qm_contents::{Contents, stronger};
-use qm_geom::{PlaneBook, Point};
+use qm_geom::{Plane, PlaneBook, Point};
+use qm_mapfile::Brush;
 use qm_solids::FaceRef;
+use std::alloc::{AllocError, Global};
 use std::marker::Model;
 
 /// The drawn brushes of a map's world in the order of the text, by the faces that they have in a book of planes.
@@ -33,6 +38,42 @@ impl Model for BrushList {
 }
 
 impl BrushList {
+    /// No brush; it takes no memory.
+    pub(crate) fn new(alloc: Global) -> BrushList
+        ensures { result ≡ [] }
+    {
+        BrushList {
+            faces: Vec::new(alloc),
+            entries: Vec::new(alloc),
+        }
+    }
+
+    /// Adds a brush. The planes of its faces enter the book, in their order; where memory runs out, first ones of them.
+    pub(crate) fn add(
+        &mut self,
+        alloc: Global,
+        brush: &Brush,
+        contents: Contents,
+        book: &mut PlaneBook,
+    ) -> Result<(), AllocError>
+        requires valid { All IsValidFace brush.now.faces }
+        requires room { length book.old + length brush.now.faces < 2 ^ 32 - 1 }
+        ensures ok { IfOk result (λ _. IsAdded brush.now contents self.old self.new book.old book.new) }
+        ensures err { OnErr result (AreFirstEntered book.old (planes_of_brush brush.now) book.new) }
+    {
+        let start = self.faces.len();
+        enter_faces(&mut self.faces, brush.faces.as_slice(), book)?;
+        let end = self.faces.len();
+        let full = is_full(alloc, &self.faces[start..end], book.planes())?;
+        self.entries.push(Entry {
+            contents,
+            full,
+            start,
+            end,
+        })?;
+        Ok(())
+    }
+
     /// How many brushes there are.
     pub fn len(&self) -> u64
         ensures { result ≡ length self.now }
@@ -72,54 +113,27 @@ impl BrushList {
         ensures { HasContents (solids_in book.now self.now) at.now result }
     {
         let faces = self.faces.as_slice();
+        let planes = book.planes();
         let mut found = Contents::Empty;
         for entry in &self.entries {
-            found = stronger(found, given_contents(faces, entry, at, book));
+            found = stronger(found, given_contents(faces, entry, at, planes));
         }
         found
     }
 }
 
 /// What one brush makes of a point.
-fn given_contents(faces: &[FaceRef], entry: &Entry, at: &Point, book: &PlaneBook) -> Contents
+fn given_contents(faces: &[FaceRef], entry: &Entry, at: &Point, planes: &[Plane]) -> Contents
     requires within { IsWithin faces.now entry.now }
-    requires kept { IsKeptIn book.now (solid_of_entry faces.now entry.now) }
-    ensures { HasContents (solid_in book.now (solid_of_entry faces.now entry.now) ∷ []) at.now result }
+    requires kept { IsKeptIn planes.now (solid_of_entry faces.now entry.now) }
+    ensures { HasContents (solid_in planes.now (solid_of_entry faces.now entry.now) ∷ []) at.now result }
 {
     if !entry.full {
         return Contents::Empty;
     }
-    if is_in_front_of_none(&faces[entry.start..entry.end], at, book) {
+    if is_in_front_of_none(&faces[entry.start..entry.end], at, planes) {
         entry.contents
     } else {
         Contents::Empty
-    }
-}
-
-/// Whether a point is in front of no outward plane of these faces.
-fn is_in_front_of_none(faces: &[FaceRef], at: &Point, book: &PlaneBook) -> bool
-    requires numbered { AreNumberedIn book.now faces.now }
-    ensures { MatchBool result (IsInFrontOfNone (outward_planes book.now faces.now) at.now)
-        (IsInFrontOfNone (outward_planes book.now faces.now) at.now → ⊥) }
-{
-    for face in faces {
-        if !is_not_in_front(face, at, book) {
-            return false;
-        }
-    }
-    true
-}
-
-/// Whether a point is not in front of the outward plane of a face.
-fn is_not_in_front(face: &FaceRef, at: &Point, book: &PlaneBook) -> bool
-    requires { face.now.plane < length book.now }
-    ensures { MatchBool result (IsNotInFront (outward_of book.now face.now) at.now)
-        (IsNotInFront (outward_of book.now face.now) at.now → ⊥) }
-{
-    let side = book.plane(face.plane).side(at);
-    if face.out_is_front {
-        side.is_le()
-    } else {
-        side.is_ge()
     }
 }

@@ -2,8 +2,11 @@
 #![tactic(auto)]
 
 mod brush_list;
+mod entering;
 mod entry;
+mod fullness;
 mod listing;
+mod sides;
 mod world;
 
 pub use brush_list::BrushList;

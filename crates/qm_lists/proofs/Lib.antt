@@ -8,3 +8,4 @@ pub mod Reached
 pub mod Reversed
 pub mod SmallGraph
 pub mod WorkLists
+pub mod Mapped
