@@ -3,6 +3,7 @@
 #![tactic(auto)]
 
 mod corner;
+mod cuboid;
 mod distance;
 mod factor;
 mod meeting;
@@ -15,6 +16,7 @@ mod unreduced;
 mod vector;
 
 pub use corner::Corner;
+pub use cuboid::{Cuboid, Span, WORLD_EXTENT};
 pub use distance::least_distance;
 pub use one_line::are_on_one_line;
 pub use plane::{NoNormal, Plane};

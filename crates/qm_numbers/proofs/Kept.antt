@@ -197,3 +197,9 @@ doubled_kept b k = rw (kept_128 b _ k (lit≤ tt), twice_is b) (twice b k)
   where
     twice : (b : ℤ) → unsigned_abs b ≤ 3 * 2 ^ 79 → to_z w128 (of_z w128 (b +ℤ b)) ≡ b +ℤ b
     twice b k = omega (arith, ints)
+
+-- ---- three numbers and a fourth
+
+pub three_less_one_kept : (a b c d : ℤ) → unsigned_abs a ≤ 2 ^ 60 → unsigned_abs b ≤ 2 ^ 60 → unsigned_abs c ≤ 2 ^ 60 → unsigned_abs d ≤ 2 ^ 60 →
+    kept w64 (kept w64 (kept w64 (kept w64 a +ℤ kept w64 b) +ℤ kept w64 c) -ℤ kept w64 d) ≡ ((a +ℤ b) +ℤ c) -ℤ d
+three_less_one_kept a b c d h i j k = omega (arith, ints)

@@ -7,6 +7,7 @@ pub mod Cubes
 pub mod Lines
 pub mod PlanesThroughPoints
 pub mod Sizes
+pub mod Cuboids
 pub mod Directions
 pub mod Exchange
 pub mod Books

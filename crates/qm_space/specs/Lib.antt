@@ -13,3 +13,4 @@ pub mod Turned
 pub mod Cell
 pub mod Cube
 pub mod inner
+pub mod Cuboid
