@@ -1,15 +1,10 @@
 -- The tree whose walk is that of the division of the whole cube.
-use Rattle.std.proofs.Common.{◌≡◌, ◌<◌, ◌^◌, true, false, List, [], ◌∷◌, ◌++◌, length, All, IsTrue, refl, sym, ap, ◌∙◌, subst}
-use Rattle.std.specs.Prelude.{slice_get}
+use Rattle.std.proofs.Common.{◌≡◌, true, false, List, [], All, refl, sym, ◌∙◌, subst}
 use Rattle.std.proofs.lemmas.Option.{slice_get-get_or}
 use Rattle.std.proofs.lemmas.List.Elements.{All-nil, All-cons, All-append}
 use Rattle.qm_space.specs.Plane.{Plane}
 use Rattle.qm_space.specs.Book.{AreBookPlanes}
-use Rattle.qm_space.specs.Reduced.{leads_positive}
 use Rattle.qm_solids.specs.Solid.{Solid}
-use Rattle.qm_solids.specs.InBook.{BookSolid, solids_in, IsBookOf}
-use Rattle.qm_partition.specs.declared.node.Leaf.{Leaf}
-use Rattle.qm_partition.specs.declared.visit.Visit.{Visit}
 use Rattle.qm_partition.specs.Partition.{Partition}
 use Rattle.qm_partition.specs.Counting.{leaves_of}
 use Rattle.qm_partition.specs.Joining.{joined}
@@ -18,7 +13,6 @@ use Rattle.qm_partition.specs.WellMade.{IsSolidIfFilled, IsWellMade}
 use Rattle.qm_solid_tree.specs.Division.{Divides, undivided, divided}
 use Rattle.qm_solid_tree.specs.TreeOf.{IsTreeOf}
 use Rattle.qm_solid_tree.proofs.TreeLaws.{division_names_planes}
-use Rattle.qm_build.specs.inner.Waiting.{IsWalk}
 
 module _ (solids : List Solid) (book : List Plane) where
   -- no leaf of a division is filled

@@ -1,13 +1,12 @@
 -- A visit of the next cell keeps what is said of a walk under way.
-use Rattle.std.proofs.Common.{◌≡◌, ℕ, List, [], ◌∷◌, ◌++◌, length, map, refl, sym, ap, ◌∙◌, subst, arith}
+use Rattle.std.proofs.Common.{◌≡◌, List, [], ◌∷◌, ◌++◌, length, map, sym, ap, ◌∙◌, subst, arith}
 use Rattle.std.specs.Prelude.{reverse}
 use Rattle.std.specs.List.{AllByRecursion}
 use Rattle.std.proofs.lemmas.List.{reverse-append}
 use Rattle.qm_space.specs.Plane.{Plane}
 use Rattle.qm_solids.specs.Solid.{Solid}
 use Rattle.qm_partition.specs.declared.visit.Visit.{Visit}
-use Rattle.qm_partition.specs.declared.visit.Visit.TheVariants.{Node, Leaf}
-use Rattle.qm_partition.specs.Partition.{Partition, leaf, node}
+use Rattle.qm_partition.specs.Partition.{Partition, node}
 use Rattle.qm_solid_tree.specs.Division.{Divides, undivided, divided, front_of, back_of}
 use Rattle.qm_split.specs.declared.fragments.Fragments.{Fragments}
 use Rattle.qm_split.specs.CellFragments.{AreFragmentsOf, cell_of}

@@ -2,7 +2,6 @@ use Rattle.std.proofs.Common.{◌≡◌, List, ◌∙◌, sym, subst}
 use Rattle.qm_space.specs.Plane.{Plane}
 use Rattle.qm_solids.specs.InBook.{solids_in}
 use Rattle.qm_partition.specs.Joining.{joined}
-use Rattle.qm_partition.specs.Tree.{Tree}
 use Rattle.qm_partition.specs.WellMade.{IsWellMade}
 use Rattle.qm_solid_tree.specs.TreeOf.{IsTreeOf}
 use Rattle.qm_solid_tree.proofs.BookSolids.{book_has_planes}

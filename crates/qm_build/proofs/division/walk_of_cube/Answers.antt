@@ -1,9 +1,6 @@
-use Rattle.std.proofs.Common.{List, [], ◌∷◌, ◌∙◌, ap, sym, subst, arith}
-use Rattle.std.specs.Prelude.{◌++◌}
+use Rattle.std.proofs.Common.{arith}
 use Rattle.qm_solids.specs.InBook.{solids_in}
-use Rattle.qm_partition.specs.declared.visit.Visit.{Visit}
-use Rattle.qm_split.specs.declared.fragments.Fragments.{Fragments}
-use Rattle.qm_build.specs.inner.UnderWay.{IsUnderWay, AreFragments}
+use Rattle.qm_build.specs.inner.UnderWay.{AreFragments}
 use Rattle.qm_build.proofs.Visits.{begins, ends, visited, next_are}
 use Rattle.qm_build.proofs.Weights.{less_to_do}
 use Rattle.qm_build.proofs.division.walk_of_cube.Goals as goal
