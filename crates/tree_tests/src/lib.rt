@@ -2,6 +2,8 @@
 #![tactic(auto)]
 
 #[cfg(test)]
+mod built;
+#[cfg(test)]
 mod cube;
 #[cfg(test)]
 mod joined;
@@ -11,3 +13,5 @@ mod long;
 mod parts;
 #[cfg(test)]
 mod refused;
+#[cfg(test)]
+mod worlds;
