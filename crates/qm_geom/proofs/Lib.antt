@@ -7,3 +7,4 @@ pub mod OnlyMeetings
 pub mod Vectors
 pub mod Wide
 pub mod Cuboids
+pub mod Lines
