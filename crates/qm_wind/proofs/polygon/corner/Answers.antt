@@ -1,6 +1,6 @@
 use Rattle.std.proofs.Common.{◌∙◌}
 use Rattle.qm_wind.proofs.Polygons.{corner_by_edges, weight_by_edges}
-use Rattle.qm_wind.proofs.survey.corner.Goals as goal
+use Rattle.qm_wind.proofs.polygon.corner.Goals as goal
 
 pub turning-requires : goal.turning-requires
 turning-requires c =
