@@ -137,21 +137,23 @@ fn counts<R: AllocGlobal + Threads + Sync>(
 /// orders.
 #[test]
 fn counts_what_boxes_give(rt: HostRuntime) -> Result<(), Fail> {
-    let wall: BoxRow = ("stone", [0, 0, 0], [4096, 64, 64]);
-    let above: BoxRow = ("stone", [0, 0, 64], [64, 64, 128]);
-    let water: BoxRow = ("*water1", [0, 0, 0], [64, 64, 64]);
-    let stone: BoxRow = ("stone", [16, 16, 16], [48, 48, 48]);
+    let wall = ("stone", [0, 0, 0], [4096, 64, 64]);
+    let above = ("stone", [0, 0, 64], [64, 64, 128]);
+    let water = ("*water1", [0, 0, 0], [64, 64, 64]);
+    let stone = ("stone", [16, 16, 16], [48, 48, 48]);
     let rows = [
-        ("", [wall].as_slice(), [1, 0, 6, 5, 6], 291),
-        (OPPOSED, [].as_slice(), [1, 1, 1, 0, 1], 66),
-        (APART, [CUBE, above].as_slice(), [3, 1, 7, 6, 7], 336),
-        ("", [water, stone].as_slice(), [2, 0, 12, 12, 13], 586),
-        ("", [stone, water].as_slice(), [2, 0, 12, 24, 25], 886),
+        ("", [wall, wall], [2, 0, 6, 5, 6], 291),
+        (APART, [CUBE, above], [3, 1, 7, 6, 7], 336),
+        (OPPOSED, [CUBE, CUBE], [3, 1, 6, 6, 7], 316),
+        ("", [water, stone], [2, 0, 12, 12, 13], 586),
+        ("", [stone, water], [2, 0, 12, 24, 25], 886),
     ];
     for (brushes, boxes, wanted, length) in rows {
-        let text = world(rt.alloc(), brushes, boxes)?;
+        let text = world(rt.alloc(), brushes, &boxes)?;
         assert!(rt; counts(&rt, &text, wanted, length)?);
     }
+    let flat = world(rt.alloc(), OPPOSED, &[])?;
+    assert!(rt; counts(&rt, &flat, [1, 1, 1, 0, 1], 66)?);
     Ok(())
 }
 

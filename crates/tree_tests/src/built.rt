@@ -101,6 +101,10 @@ fn random_worlds_are_built(rt: HostRuntime) -> Result<(), Fail> {
     Ok(())
 }
 
+/// A flat brush, whose planes have the first numbers, so that the node between the solids behind it is joined away.
+const APART: &str = "{\n( 0 0 0 ) ( 0 1 0 ) ( 1 0 0 ) stone 0 0 0 1 1\n\
+    ( 0 0 128 ) ( 1 0 128 ) ( 0 1 128 ) stone 0 0 0 1 1\n}\n";
+
 /// A point on a face that two solids share, and points in water round stone, whichever comes first.
 #[test]
 fn boxes_are_built(rt: HostRuntime) -> Result<(), Fail> {
@@ -109,14 +113,14 @@ fn boxes_are_built(rt: HostRuntime) -> Result<(), Fail> {
     let water = ("*water1", [0, 0, 0], [64, 64, 64]);
     let stone = ("stone", [16, 16, 16], [48, 48, 48]);
     let rows = [
-        ([low, high], [32, 32, 64], Solid),
-        ([water, stone], [32, 32, 32], Solid),
-        ([water, stone], [8, 8, 8], Water),
-        ([stone, water], [32, 32, 32], Solid),
-        ([stone, water], [8, 8, 8], Water),
+        (APART, [low, high], [32, 32, 64], Solid),
+        ("", [water, stone], [32, 32, 32], Solid),
+        ("", [water, stone], [8, 8, 8], Water),
+        ("", [stone, water], [32, 32, 32], Solid),
+        ("", [stone, water], [8, 8, 8], Water),
     ];
-    for (boxes, [x, y, z], contents) in rows {
-        let text = world_of_boxes(rt.alloc(), &boxes)?;
+    for (brushes, boxes, [x, y, z], contents) in rows {
+        let text = world_of_boxes(rt.alloc(), brushes, &boxes)?;
         let built = Built::of(rt.alloc(), &text);
         assert!(rt; built.is_some_and(|built| built.gives(&Point { x, y, z, w: 1 }, contents)));
     }

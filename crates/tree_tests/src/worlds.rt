@@ -6,6 +6,7 @@ use std::alloc::{AllocError, Global};
 const TEXTURES: [&str; 6] = ["stone", "*water", "*slime", "*lava", "sky", "clip"];
 
 /// Numbers that look random, by the steps of a shift register.
+#[derive(Drop)]
 pub struct Numbers {
     state: u64,
 }
@@ -42,13 +43,16 @@ impl Numbers {
     }
 }
 
-/// A world of boxes, each with a texture, a least corner and a greatest.
+/// A world of brushes that are given as text, and of boxes after them, each with a texture, a least corner and a
+/// greatest.
 pub fn world_of_boxes(
     alloc: Global,
+    brushes: &str,
     boxes: &[(&str, [i32; 3], [i32; 3])],
 ) -> Result<String, AllocError> {
     let mut text = String::new(alloc);
     text.push_str("{\n")?;
+    text.push_str(brushes)?;
     for (texture, [west, south, bottom], [east, north, top]) in boxes {
         text.push_str("{\n")?;
         for (side, at) in [west, east, south, north, bottom, top].into_iter().enumerate() {
