@@ -98,7 +98,7 @@ module _ (solid : Solid) (face : Plane) (x : Point) (free : HasOpposedPlanes sol
 abbrev pub middle_of_cube : Point
 middle_of_cube = record { x = pos 0; y = pos 0; z = pos 0; w = pos 1 }
 
-middle_in_cube : IsInCube middle_of_cube
+pub middle_in_cube : IsInCube middle_of_cube
 middle_in_cube = record {
   weight = omega (arith, ints);
   x = record { above = omega (arith, ints); below = omega (arith, ints) };

@@ -1,5 +1,6 @@
 -- Planes that have the same points, and those of them that have the same points on each side.
 use Rattle.std.proofs.Common.{◌≡◌, ◌⊎◌, inl, inr, ℕ, Bool, true, false, not, ℤ, pos, negsuc, neg_ℤ, ◌+ℤ◌, ◌*ℤ◌, List, Some, ◌↔◌, refl, ap, sym, ◌∙◌, subst, arith}
+use Rattle.std.proofs.lemmas.Int.{ints}
 use Rattle.std.specs.Prelude.{slice_get, IsTrue}
 use Rattle.qm_space.specs.Point.{Point}
 use Rattle.qm_space.specs.Plane.{Plane, value, IsBehind, IsOn, IsInFront, flipped, scaled}
@@ -40,7 +41,7 @@ lies_on_through a b c l m = record {
       ∙ ap (λ (p : Plane). scaled l.factor p) m.multiple ∙ scaled_scaled l.factor m.factor c;
 }
 
-one_scaled : (h : Plane) → scaled (pos 1) h ≡ h
+pub one_scaled : (h : Plane) → scaled (pos 1) h ≡ h
 one_scaled h = same_plane (scaled (pos 1) h) h (one_*ℤ h.nx) (one_*ℤ h.ny) (one_*ℤ h.nz) (one_*ℤ h.d)
 
 pub turned_lies_on : (side : Bool) (h : Plane) → LiesOn (turned side h) h
@@ -129,6 +130,9 @@ one_number book m n a h are at_m at_n l =
     are.distinct m n h (subst (λ (p : Plane). slice_get book m ≡ Some p) same at_m) at_n
 
 -- ---- the same sides
+
+pub same_sides_itself : (h : Plane) → HasSameSides h h
+same_sides_itself h = record { times = pos 1; factor = pos 1; some_times = omega (arith, ints); some_factor = omega (arith, ints); multiple = refl }
 
 pub same_sides_lies_on : (a h : Plane) → HasSameSides a h → LiesOn a h
 same_sides_lies_on a h same = record {

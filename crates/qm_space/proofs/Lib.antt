@@ -12,4 +12,5 @@ pub mod Exchange
 pub mod Books
 pub mod Openness
 pub mod Proportional
+pub mod ClosedCells
 pub mod Crossings

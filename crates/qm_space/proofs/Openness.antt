@@ -1,5 +1,5 @@
 -- Cells are open: what is strictly in front of planes stays so when many times a point is moved by any four numbers.
-use Rattle.std.proofs.Common.{◌≡◌, ℕ, ◌+◌, ◌≤◌, ℤ, pos, neg_ℤ, get_or, ◌+ℤ◌, ◌*ℤ◌, ◌<ℤ◌, ◌≤ℤ◌, List, [], ◌∷◌, All, unsigned_abs, arith}
+use Rattle.std.proofs.Common.{◌≡◌, ℕ, ◌+◌, ◌≤◌, ℤ, pos, neg_ℤ, get_or, ◌+ℤ◌, ◌*ℤ◌, ◌<ℤ◌, ◌≤ℤ◌, List, [], ◌∷◌, All, unsigned_abs, refl, ap, ◌∙◌, arith}
 use Rattle.std.proofs.lemmas.Int.{ints}
 use Rattle.std.proofs.lemmas.List.Elements.{All-nil, All-cons}
 use Rattle.qm_space.specs.Point.{Point, point_sum, point_times, IsInCube}
@@ -7,7 +7,7 @@ use Rattle.qm_space.specs.Plane.{Plane, value, IsBehind, IsInFront, IsNotInFront
 use Rattle.qm_space.specs.Reduced.{HasNormal}
 use Rattle.qm_space.specs.Cell.{IsInCell}
 use Rattle.qm_space.specs.Cube.{cube_walls}
-use Rattle.qm_numbers.proofs.IntegerProducts.{linear, *ℤ_one, *ℤ-neg}
+use Rattle.qm_numbers.proofs.IntegerProducts.{linear, *ℤ_one, *ℤ_zero, *ℤ-neg}
 use Rattle.qm_numbers.proofs.Signs.{by_sign, by_zero, by_least, times_at_most, product_positive, negative_times_negative, square_not_negative}
 use Rattle.qm_space.proofs.Planes.{value_sum, value_times}
 use Rattle.qm_space.proofs.Cubes.{cube_is_cell}
@@ -109,3 +109,32 @@ by_ahead h front none =
 
 pub ahead_in_front : (h : Plane) → HasNormal h → IsInFront h (ahead h)
 ahead_in_front h normal = by_ahead h (λ front. front) (λ x y z d. absurd (normal x y z))
+
+-- ---- worked rows
+
+abbrev origin : Point
+origin = record { x = pos 0; y = pos 0; z = pos 0; w = pos 1 }
+
+-- many times the middle of the cube, moved by any four numbers, is in the cube
+moved_row : IsInCube (moved (pos 100000) origin (record { x = pos 1; y = neg_ℤ (pos 2); z = pos 3; w = pos 4 }))
+unfolding reach value
+moved_row = moved_in_cube origin (record { x = pos 1; y = neg_ℤ (pos 2); z = pos 3; w = pos 4 }) (pos 100000) (omega (arith, ints)) (record {
+  weight = omega (arith, ints);
+  x = record { above = omega (arith, ints); below = omega (arith, ints) };
+  y = record { above = omega (arith, ints); below = omega (arith, ints) };
+  z = record { above = omega (arith, ints); below = omega (arith, ints) };
+})
+
+-- a plane through the middle, by points below it
+limit_row : IsNotInFront (record { nx = pos 0; ny = pos 0; nz = pos 1; d = pos 0 }) origin
+unfolding value
+limit_row =
+    let g : Plane = record { nx = pos 0; ny = pos 0; nz = pos 1; d = pos 0 } in
+    let down : Point = record { x = pos 0; y = pos 0; z = neg_ℤ (pos 1); w = pos 0 } in
+    limit_not_in_front g origin down (λ least. let k = pos (unsigned_abs least + 1) in (k, omega (arith, ints), below g down k refl refl))
+  where
+    below : (g : Plane) (v : Point) (k : ℤ) → value g origin ≡ pos 0 → value g v ≡ neg_ℤ (pos 1) → IsBehind g (moved k origin v)
+    below g v k on step =
+        let e = value_moved g k origin v in
+        let z = ap (λ n. k *ℤ n) on ∙ *ℤ_zero k in
+        omega (arith, linear)

@@ -12,3 +12,4 @@ pub mod ThreePoints
 pub mod Turned
 pub mod Cell
 pub mod Cube
+pub mod inner
