@@ -4,19 +4,17 @@ use Rattle.std.proofs.Common.{◌≡◌, ◌<◌, ℕ, zero, suc, ◌+◌, get_o
 use Rattle.std.specs.Prelude.{slice_get, Contains}
 use Rattle.std.proofs.lemmas.List.{map-append}
 use Rattle.std.proofs.lemmas.Option.{slice_get_within, slice_get-get_or}
-use Rattle.std.proofs.lemmas.List.Elements.{All-nil, All-cons, All-head, All-append}
+use Rattle.std.proofs.lemmas.List.Elements.{All-nil, All-cons, All-append}
 use Rattle.qm_lists.proofs.Elements.{All-first_part}
 use Rattle.qm_lists.proofs.Places.{slice_get-append_within, slice_get-append_past, slice_get-append_cases, slice_get-map_from}
 use Rattle.qm_contents.specs.declared.contents.Contents.TheVariants.{Empty}
-use Rattle.qm_space.specs.Point.{Point}
 use Rattle.qm_space.specs.Plane.{Plane, IsInFront}
 use Rattle.qm_contents.specs.declared.contents.Contents.{Contents}
 use Rattle.qm_partition.specs.declared.node.Leaf.{Leaf as LeafRecord}
 use Rattle.qm_partition.specs.Partition.{Partition, leaf, node}
-use Rattle.qm_partition.specs.Tree.{Tree}
 use Rattle.qm_partition.specs.Counting.{leaves_of}
 use Rattle.qm_partition.specs.Joining.{are_equal, joined_node, joined}
-use Rattle.qm_partition.specs.Ways.{Way, after_step, ways, turned_to, cell_of, LeadsTo, IsInLeaf, HasPoints}
+use Rattle.qm_partition.specs.Ways.{Way, after_step, ways, turned_to, cell_of, LeadsTo, HasPoints}
 use Rattle.qm_partition.proofs.JoinedLeaves.{are_equal-contents}
 use Rattle.qm_partition.proofs.PartsBelow.{IsBelow, itself, in_front, behind, ways_below, some_way, place_of}
 use Rattle.qm_partition.proofs.Cells.{length-ways, to_front-count}

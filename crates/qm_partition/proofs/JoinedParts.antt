@@ -1,5 +1,5 @@
 -- What joining keeps: what holds of each leaf, and of the plane of each node.
-use Rattle.std.proofs.Common.{◌≡◌, ◌<◌, length, ℕ, Bool, true, false, if◌then◌else◌, List, [], ◌∷◌, ◌++◌, All, Some, refl, sym, ap, ◌∙◌}
+use Rattle.std.proofs.Common.{◌≡◌, ◌<◌, length, ℕ, Bool, true, false, if◌then◌else◌, List, [], ◌∷◌, ◌++◌, All, Some, sym, ap, ◌∙◌}
 use Rattle.std.proofs.lemmas.List.{append-nil}
 use Rattle.std.proofs.lemmas.List.Elements.{All-nil, All-cons, All-head, All-tail, All-append}
 use Rattle.qm_lists.proofs.Elements.{All-first_part, All-last_part}
@@ -7,7 +7,6 @@ use Rattle.qm_space.specs.Plane.{Plane}
 use Rattle.qm_partition.specs.declared.node.Leaf.{Leaf as LeafRecord}
 use Rattle.qm_partition.specs.declared.visit.Visit.{Visit}
 use Rattle.qm_partition.specs.Partition.{Partition, leaf, node}
-use Rattle.qm_partition.specs.Tree.{Tree}
 use Rattle.qm_partition.specs.Counting.{leaves_of, node_planes}
 use Rattle.qm_partition.specs.Joining.{are_equal, joined_node, joined}
 use Rattle.qm_partition.specs.Visits.{visits}
