@@ -6,7 +6,7 @@ use Rattle.qm_lists.proofs.Pairs.{partner}
 use Rattle.qm_space.specs.Plane.{Plane}
 use Rattle.qm_space.specs.Multiple.{HasSameSides}
 use Rattle.qm_solids.specs.Solid.{Solid}
-use Rattle.qm_solids.proofs.AlikeSolids.{IsAlike}
+use Rattle.qm_solids.specs.Alike.{IsAlike}
 use Rattle.qm_solids.proofs.PlanesInCommon.{lies_on_through, same_sides_lies_on}
 use Rattle.qm_solids.proofs.SameFaces.{HasSameFaces, HaveSameFaces, solids_back, alike_have_same_faces, cell_contents_kept, numbered_kept, least_kept}
 use Rattle.qm_partition.specs.Partition.{Partition}

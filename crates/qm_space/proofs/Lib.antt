@@ -1,5 +1,6 @@
 pub mod PlaneSymbols
 pub mod Planes
+pub mod CommonLines
 pub mod Multiples
 pub mod ReducedPlanes
 pub mod TurnedPlanes
