@@ -116,7 +116,7 @@ module _ (book : List Plane) (faces done : List FaceRef) (face : FaceRef) (ps : 
     all = λ f among. ⊎_elim (λ before. are.all f before) (λ same. inl (subst (λ (g : FaceRef). HasNoFacePoint book g.plane faces) same none)) (Contains-push_cases done face f among);
   }
 
-  one_piece : (piece : Piece) → piece.number ≡ face.plane → IsFacePiece book face.plane faces piece.winding → HasFacePieces book faces (done ++ face ∷ []) (ps ++ piece ∷ [])
+  one_piece : (piece : Piece) → piece.number ≡ face.plane → IsFacePiece book face.plane faces piece.winding.value → HasFacePieces book faces (done ++ face ∷ []) (ps ++ piece ∷ [])
   one_piece piece number is = record {
     each = λ p among. ⊎_elim
         (λ before. let e = are.each p before in record { face = e.face; listed = earlier_face e.face e.listed; is = e.is })
@@ -133,9 +133,8 @@ module _ (book : List Plane) (faces done : List FaceRef) (face : FaceRef) (ps : 
   face_pieces_more None part none is =
       subst (λ (o : Option Piece). HasFacePieces book faces (done ++ face ∷ []) (ps ++ option_to_list o)) (sym is)
       (subst (λ (qs : List Piece). HasFacePieces book faces (done ++ face ∷ []) qs) (sym (append-nil ps)) (no_piece none))
-  face_pieces_more (Some w) part piece is =
-      subst (λ (o : Option Piece). HasFacePieces book faces (done ++ face ∷ []) (ps ++ option_to_list o)) (sym is)
-      (one_piece (record { number = face.plane; winding = w }) refl piece)
+  face_pieces_more (Some w) None piece is = absurd is
+  face_pieces_more (Some w) (Some part) piece is = one_piece part is.0 (subst (IsFacePiece book face.plane faces) (sym is.1) piece)
 
 -- the pieces of all faces are what the cube has of the solid's faces
 module _ (book : List Plane) (faces : List FaceRef) (contents : Contents) (planes : AreBookPlanes book) (numbered : AreNumberedIn book faces) (ps : List Piece) (are : HasFacePieces book faces faces ps) where

@@ -57,7 +57,7 @@ pub shortened : (contender : Contender) (h g : Plane) (part : Part) (qs : List P
     ((w : Winding) → LiesIn w h → HasNoneInFront w g) → IsShortened contender h part
 shortened contender h g part qs are count none = record {
   no_more = let m = are.no_more in omega arith;
-  fewer = λ has. let f = are.fewer has.piece has.listed (none has.piece.winding has.lies_in) in omega arith;
+  fewer = λ has. let f = are.fewer has.piece has.listed (none has.piece.winding.value has.lies_in) in omega arith;
 }
 
 -- ---- behind the plane, which is in front of it flipped
@@ -88,10 +88,10 @@ module _ (contender : Contender) (h : Plane) where
   moved_behind all = all_in_front contender.pieces.items (flipped h) (λ p among. let is = All-contains (IsLyingPiece Back h) contender.pieces.items p all among in (is.convex, is.lying))
 
   pub lost_ahead : All (IsLyingPiece Back h) contender.pieces.items → AreFront contender.pieces.items h []
-  lost_ahead all = none_in_front contender.pieces.items h (λ p among. none_of_behind p.winding h (All-contains (IsLyingPiece Back h) contender.pieces.items p all among).lying)
+  lost_ahead all = none_in_front contender.pieces.items h (λ p among. none_of_behind p.winding.value h (All-contains (IsLyingPiece Back h) contender.pieces.items p all among).lying)
 
   pub lost_behind : All (IsLyingPiece Front h) contender.pieces.items → AreFront contender.pieces.items (flipped h) []
-  lost_behind all = none_in_front contender.pieces.items (flipped h) (λ p among. none_of_ahead p.winding h (All-contains (IsLyingPiece Front h) contender.pieces.items p all among).lying)
+  lost_behind all = none_in_front contender.pieces.items (flipped h) (λ p among. none_of_ahead p.winding.value h (All-contains (IsLyingPiece Front h) contender.pieces.items p all among).lying)
 
   -- a contender whose pieces are all in front of the plane g is one there
   pub kept_whole : (g : Plane) → AreFront contender.pieces.items g contender.pieces.items → (w : Winding) (book cell : List Plane) → IsContender book cell contender → IsSection cell h w →

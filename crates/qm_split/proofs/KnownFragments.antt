@@ -42,9 +42,9 @@ contender_does_not_contain book cell contender contends contains =
     let first = first_one contender.pieces.items contender.least contends.first in
     let piece = first.piece in
     let is = All-contains (IsPiece book cell (solid_of contender)) contender.pieces.items piece contends.pieces.sound first.listed in
-    let at = has_a_point piece.winding is.convex in
+    let at = has_a_point piece.winding.value is.convex in
     let on_face = (is.points at.0).0 at.1 in
-    let on = (lies_on_points is.face piece.winding.plane at.0 is.lies_on).1 on_face.on in
+    let on = (lies_on_points is.face piece.winding.value.plane at.0 is.lies_on).1 on_face.on in
     let inside = contains.inside at.0 on_face.in_cube on_face.in_cell in
     let behind = All-contains (λ h. IsBehind h at.0) contender.outward.items is.face (behind_all contender.outward.items at.0 inside) is.has_face in
     absurd (omega (arith, linear))
@@ -108,11 +108,11 @@ module _ (solids : List Solid) (book cell : List Plane) (fragments : Fragments) 
 
   -- ---- candidates
 
-  pub candidate_of_piece : (q : Contender) (p : Piece) → Contains contenders q → Contains q.pieces.items p → IsNumberedCandidate solids book cell p.number p.winding.plane
+  pub candidate_of_piece : (q : Contender) (p : Piece) → Contains contenders q → Contains q.pieces.items p → IsNumberedCandidate solids book cell p.number p.winding.value.plane
   candidate_of_piece q p among among_pieces =
       let kept = kept_one q among in
       let is = All-contains (IsPiece book cell (solid_of q)) q.pieces.items p kept.contends.pieces.sound among_pieces in
-      let at = has_a_point p.winding is.convex in
+      let at = has_a_point p.winding.value is.convex in
       record {
         numbered = is.numbered;
         candidate = record {
@@ -135,7 +135,7 @@ module _ (solids : List Solid) (book cell : List Plane) (fragments : Fragments) 
     pub piece : Piece
     pub listed_piece : Contains contender.pieces.items piece
     pub number : n ≡ piece.number
-    pub plane : h ≡ piece.winding.plane
+    pub plane : h ≡ piece.winding.value.plane
 
   outdone_if_reached : (solid : Solid) → IsReached strongest solid.contents → IsOutdone solids cell solid
   outdone_if_reached solid reached = ⊎_elim
@@ -152,17 +152,17 @@ module _ (solids : List Solid) (book cell : List Plane) (fragments : Fragments) 
       c : IsCandidate solids cell h
       c = is.candidate
 
-      by_piece : (q : Contender) (p : Piece) → Contains contenders q → Contains q.pieces.items p → LiesOn c.face p.winding.plane → HasCandidate n h
+      by_piece : (q : Contender) (p : Piece) → Contains contenders q → Contains q.pieces.items p → LiesOn c.face p.winding.value.plane → HasCandidate n h
       by_piece q p among among_pieces lies =
           let piece = All-contains (IsPiece book cell (solid_of q)) q.pieces.items p (kept_one q among).contends.pieces.sound among_pieces in
-          let number = one_number book n p.number h p.winding.plane are.book_planes is.numbered piece.numbered (lies_on_through h c.face p.winding.plane (lies_on_back c.face h c.lies_on) lies) in
+          let number = one_number book n p.number h p.winding.value.plane are.book_planes is.numbered piece.numbered (lies_on_through h c.face p.winding.value.plane (lies_on_back c.face h c.lies_on) lies) in
           record {
             contender = q;
             listed = among;
             piece = p;
             listed_piece = among_pieces;
             number = number;
-            plane = let e : Some h ≡ Some p.winding.plane = sym is.numbered ∙ ap (slice_get book) number ∙ piece.numbered in cc;
+            plane = let e : Some h ≡ Some p.winding.value.plane = sym is.numbered ∙ ap (slice_get book) number ∙ piece.numbered in cc;
           }
 
       found : Contains (map solid_of contenders) c.solid → HasCandidate n h
@@ -198,10 +198,10 @@ rank_of : (p : Piece) → (rank : Rank) × IsRankOf p rank
 rank_of p = ⊎_elim
     (λ axial. (record { axial = true; number = p.number }, record { axial = ((λ t. axial), (λ a. refl)); number = refl }))
     (λ not. (record { axial = false; number = p.number }, record { axial = ((λ t. absurd (true≢false (sym t))), (λ a. absurd (not a))); number = refl }))
-    (axial_or_not p.winding.plane)
+    (axial_or_not p.winding.value.plane)
 
 -- what comes no later by rank comes first
-comes_first : (p r : Piece) (a b : Rank) → IsRankOf p a → IsRankOf r b → IsNotAfter a b → ComesFirst p.number p.winding.plane r.number r.winding.plane
+comes_first : (p r : Piece) (a b : Rank) → IsRankOf p a → IsRankOf r b → IsNotAfter a b → ComesFirst p.number p.winding.value.plane r.number r.winding.value.plane
 comes_first p r a b is_a is_b not_after = record {
   axial_first = λ axial. by_axial a.axial refl (is_b.axial.1 axial);
   lesser_number = λ also. let l : a.number ≤ b.number = not_less (λ less. not_after (inr (same a.axial b.axial refl refl also, less))) in let m = is_a.number in let n = is_b.number in omega arith;
@@ -210,11 +210,11 @@ comes_first p r a b is_a is_b not_after = record {
     not_less : (b.number < a.number → ⊥) → a.number ≤ b.number
     not_less never = omega arith
 
-    by_axial : (x : Bool) → a.axial ≡ x → b.axial ≡ true → IsAxial p.winding.plane
+    by_axial : (x : Bool) → a.axial ≡ x → b.axial ≡ true → IsAxial p.winding.value.plane
     by_axial true is of_b = is_a.axial.0 is
     by_axial false is of_b = absurd (not_after (inl (of_b, is)))
 
-    same : (x y : Bool) → a.axial ≡ x → b.axial ≡ y → (IsAxial p.winding.plane → IsAxial r.winding.plane) → b.axial ≡ a.axial
+    same : (x y : Bool) → a.axial ≡ x → b.axial ≡ y → (IsAxial p.winding.value.plane → IsAxial r.winding.value.plane) → b.axial ≡ a.axial
     same true y x_is y_is also = is_b.axial.1 (also (is_a.axial.0 x_is)) ∙ sym x_is
     same false true x_is y_is also = absurd (not_after (inl (y_is, x_is)))
     same false false x_is y_is also = y_is ∙ sym x_is
@@ -225,14 +225,14 @@ module _ (solids : List Solid) (book cell : List Plane) (fragments : Fragments) 
       let one = least.0.one in
       let is = candidate_of_piece solids book cell fragments are least.0.contender one.piece least.0.listed one.listed in
       let number : one.piece.number ≡ first.number = sym one.is.number in
-      let plane : one.piece.winding.plane ≡ plane_at book first.number = sym (plane_at_from book one.piece.number one.piece.winding.plane is.numbered) ∙ ap (plane_at book) number in
+      let plane : one.piece.winding.value.plane ≡ plane_at book first.number = sym (plane_at_from book one.piece.number one.piece.winding.value.plane is.numbered) ∙ ap (plane_at book) number in
       subst (λ (h : Plane). IsLeastCandidate solids book cell first.number h) plane
-      (subst (λ (n : ℕ). IsLeastCandidate solids book cell n one.piece.winding.plane) number (record {
+      (subst (λ (n : ℕ). IsLeastCandidate solids book cell n one.piece.winding.value.plane) number (record {
         is_one = is;
         first = λ m g of_m.
             let at = piece_of_candidate solids book cell fragments are m g of_m in
             let rank = rank_of at.piece in
-            subst (λ (h : Plane). ComesFirst one.piece.number one.piece.winding.plane m h) (sym at.plane)
-            (subst (λ (k : ℕ). ComesFirst one.piece.number one.piece.winding.plane k at.piece.winding.plane) (sym at.number)
+            subst (λ (h : Plane). ComesFirst one.piece.number one.piece.winding.value.plane m h) (sym at.plane)
+            (subst (λ (k : ℕ). ComesFirst one.piece.number one.piece.winding.value.plane k at.piece.winding.value.plane) (sym at.number)
             (comes_first one.piece at.piece first rank.0 one.is rank.1 (least.1 at.contender at.listed at.piece rank.0 at.listed_piece rank.1)));
       }))

@@ -8,17 +8,18 @@ use Rattle.qm_space.specs.Point.{Point}
 use Rattle.qm_space.specs.Plane.{Plane, IsOn, IsBehind, IsInFront}
 use Rattle.qm_space.specs.Cell.{IsInCell}
 use Rattle.qm_numbers.proofs.IntegerProducts.{linear}
-use Rattle.qm_convex.specs.Winding.{IsInRegion, IsConvex}
+use Rattle.qm_convex.specs.Winding.{Winding, IsInRegion, IsConvex}
 use Rattle.qm_convex.specs.Sides.{HasNoneInFront, IsWhollyInFront}
 use Rattle.qm_convex.specs.Cut.{IsPartInFront}
 use Rattle.qm_convex.proofs.Central.{has_a_point}
+use Rattle.qm_wind.specs.Split.{IsFrontOf}
 use Rattle.qm_solids.specs.Solid.{Solid}
 use Rattle.qm_solids.specs.Candidates.{LiesOn, IsOnFace}
 use Rattle.qm_solids.specs.Uniform.{MeetsNoFace}
 use Rattle.qm_split.specs.declared.piece.Piece.{Piece}
 use Rattle.qm_split.specs.Pieces.{IsPiece, HasPointOfFace, ArePieces}
 use Rattle.qm_split.proofs.ListedItems.{none_listed, all_of_listed}
-use Rattle.qm_split.specs.inner.PieceParts.{IsFrontPiece, IsPartOf, ComesOf, GoesTo, AreFront}
+use Rattle.qm_split.specs.inner.PieceParts.{IsFrontPiece, IsPartOf, IsNumberedPiece, ComesOf, GoesTo, AreFront}
 
 -- ---- along a list
 
@@ -32,10 +33,10 @@ front_of_none g = record {
 
 module _ (ps qs : List Piece) (g : Plane) (are : AreFront ps g qs) (p : Piece) where
   -- with one that has nothing in front
-  front_gone : HasNoneInFront p.winding g → AreFront (ps ++ p ∷ []) g qs
+  front_gone : HasNoneInFront p.winding.value g → AreFront (ps ++ p ∷ []) g qs
   front_gone none = record {
     each = λ q among. let c = are.each q among in record { piece = c.piece; listed = Contains-append_left ps (p ∷ []) c.piece c.listed; is = c.is };
-    all = λ o among. ⊎_elim (λ before. are.all o before) (λ same. inl (subst (λ (r : Piece). HasNoneInFront r.winding g) same none)) (Contains-push_cases ps p o among);
+    all = λ o among. ⊎_elim (λ before. are.all o before) (λ same. inl (subst (λ (r : Piece). HasNoneInFront r.winding.value g) same none)) (Contains-push_cases ps p o among);
     no_more = let l = length_push ps p in let m = are.no_more in omega arith;
     fewer = λ o among gone. let l = length_push ps p in let m = are.no_more in omega arith;
   }
@@ -54,13 +55,13 @@ module _ (ps qs : List Piece) (g : Plane) (are : AreFront ps g qs) (p : Piece) w
     no_more = let l = length_push ps p in let k = length_push qs q in let m = are.no_more in omega arith;
     fewer = λ o among gone. ⊎_elim
         (λ before. let f = are.fewer o before gone in let l = length_push ps p in let k = length_push qs q in omega arith)
-        (λ same. absurd (never (subst (λ (s : Piece). HasNoneInFront s.winding g) (sym same) gone)))
+        (λ same. absurd (never (subst (λ (s : Piece). HasNoneInFront s.winding.value g) (sym same) gone)))
         (Contains-push_cases ps p o among);
   }
     where
-      never : HasNoneInFront p.winding g → ⊥
+      never : HasNoneInFront p.winding.value g → ⊥
       never none =
-          let at = has_a_point q.winding is.part.convex in
+          let at = has_a_point q.winding.value is.part.convex in
           let both = (is.part.points at.0).0 at.1 in
           let not = none at.0 both.0 in
           let front = both.1 in
@@ -70,27 +71,33 @@ module _ (ps qs : List Piece) (g : Plane) (are : AreFront ps g qs) (p : Piece) w
   front_more None none = subst (λ (rs : List Piece). AreFront (ps ++ p ∷ []) g rs) (sym (append-nil qs)) (front_gone none)
   front_more (Some q) is = front_kept q is
 
+-- the piece of a part of its winding is a part of the piece
+pub numbered_part : (p : Piece) (g : Plane) (w : Option Winding) (part : Option Piece) → IsFrontOf w p.winding.value g → IsNumberedPiece p.number w part → IsPartOf p g part
+numbered_part p g None part none is = subst (λ (o : Option Piece). IsPartOf p g o) (sym is) none
+numbered_part p g (Some w) None front is = absurd is
+numbered_part p g (Some w) (Some q) front is = record { number = is.0; part = subst (λ (v : Winding). IsPartInFront v p.winding.value g) (sym is.1) front }
+
 -- ---- all on one side
 
-front_itself : (p : Piece) (g : Plane) → IsConvex p.winding → IsWhollyInFront p.winding g → IsFrontPiece p g p
+pub front_itself : (p : Piece) (g : Plane) → IsConvex p.winding.value → IsWhollyInFront p.winding.value g → IsFrontPiece p g p
 front_itself p g convex whole = record { number = refl; part = record { convex = convex; plane = refl; points = λ x. ((λ r. (r, whole x r)), (λ both. both.0)) } }
 
 -- pieces that are all in front are what they have there
-pub all_in_front : (ps : List Piece) (g : Plane) → ((p : Piece) → Contains ps p → IsConvex p.winding × IsWhollyInFront p.winding g) → AreFront ps g ps
+pub all_in_front : (ps : List Piece) (g : Plane) → ((p : Piece) → Contains ps p → IsConvex p.winding.value × IsWhollyInFront p.winding.value g) → AreFront ps g ps
 all_in_front ps g whole = record {
   each = λ q among. let w = whole q among in record { piece = q; listed = among; is = front_itself q g w.0 w.1 };
   all = λ p among. let w = whole p among in inr (record { piece = p; listed = among; is = front_itself p g w.0 w.1 });
   no_more = omega arith;
   fewer = λ p among none.
       let w = whole p among in
-      let at = has_a_point p.winding w.0 in
+      let at = has_a_point p.winding.value w.0 in
       let not = none at.0 at.1 in
       let front = w.1 at.0 at.1 in
       absurd (omega (arith, linear));
 }
 
 -- and pieces that have nothing there have none
-pub none_in_front : (ps : List Piece) (g : Plane) → ((p : Piece) → Contains ps p → HasNoneInFront p.winding g) → AreFront ps g []
+pub none_in_front : (ps : List Piece) (g : Plane) → ((p : Piece) → Contains ps p → HasNoneInFront p.winding.value g) → AreFront ps g []
 none_in_front ps g none = record {
   each = λ q among. absurd (none_listed q among);
   all = λ p among. inl (none p among);
@@ -125,9 +132,9 @@ module _ (book cell : List Plane) (solid : Solid) (ps qs : List Piece) (g : Plan
     convex = part.part.convex;
     points = λ x. (
       (λ r. let both = (part.part.points x).0 r in
-          subst (λ (h : Plane). IsOnFace solid beyond h x) (sym part.part.plane) (face_beyond p.winding.plane x ((is.points x).0 both.0) both.1)),
+          subst (λ (h : Plane). IsOnFace solid beyond h x) (sym part.part.plane) (face_beyond p.winding.value.plane x ((is.points x).0 both.0) both.1)),
       (λ on. (part.part.points x).1
-          ((is.points x).1 (face_of_beyond p.winding.plane x (subst (λ (h : Plane). IsOnFace solid beyond h x) part.part.plane on)), in_front_of_beyond x on.in_cell)),
+          ((is.points x).1 (face_of_beyond p.winding.value.plane x (subst (λ (h : Plane). IsOnFace solid beyond h x) part.part.plane on)), in_front_of_beyond x on.in_cell)),
     );
   }
 

@@ -18,19 +18,19 @@ solid_of contender = record { contents = contender.contents; outward = contender
 
 -- the piece is what the cell has of a face of the solid, on the plane of a number in the book
 pub record IsPiece (book cell : List Plane) (solid : Solid) (piece : Piece) : Type 0 where
-  pub numbered : slice_get book piece.number ≡ Some piece.winding.plane
+  pub numbered : slice_get book piece.number ≡ Some piece.winding.value.plane
   pub face : Plane
   pub has_face : Contains solid.outward face
-  pub lies_on : LiesOn face piece.winding.plane
-  pub convex : IsConvex piece.winding
-  pub points : (x : Point) → IsInRegion piece.winding x ↔ IsOnFace solid cell piece.winding.plane x
+  pub lies_on : LiesOn face piece.winding.value.plane
+  pub convex : IsConvex piece.winding.value
+  pub points : (x : Point) → IsInRegion piece.winding.value x ↔ IsOnFace solid cell piece.winding.value.plane x
 
 -- the piece has a point on a face
 pub record HasPointOfFace (face : Plane) (x : Point) (pieces : List Piece) : Type 0 where
   pub piece : Piece
   pub listed : Contains pieces piece
-  pub lies_on : LiesOn face piece.winding.plane
-  pub has : IsInRegion piece.winding x
+  pub lies_on : LiesOn face piece.winding.value.plane
+  pub has : IsInRegion piece.winding.value x
 
 -- the pieces are what the cell has of the solid's faces
 pub record ArePieces (book cell : List Plane) (solid : Solid) (pieces : List Piece) : Type 0 where

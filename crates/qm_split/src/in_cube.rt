@@ -85,7 +85,7 @@ fn pieces_in_cube(
     let mut pieces = Vec::new(alloc);
     for face in faces {
         let winding = face_in_cube(alloc, face.plane, faces, book)?;
-        push_some(&mut pieces, numbered(face.plane, winding))?;
+        push_some(&mut pieces, numbered(alloc, face.plane, winding)?)?;
     }
     Ok(pieces)
 }

@@ -6,13 +6,13 @@ ghost use Rattle.qm_split.specs.inner.Ranked.{IsRankOf};
 use crate::rank::{Rank, is_axial};
 use qm_geom::Plane;
 use qm_wind::{Lies, Winding};
-use std::alloc::AllocError;
+use std::alloc::{AllocError, Global};
 
 /// What a cell has of a face of a solid, on the plane of a number.
 #[derive(Drop)]
 pub(crate) struct Piece {
     pub(crate) number: u32,
-    pub(crate) winding: Winding,
+    pub(crate) winding: Box<Winding>,
 }
 
 /// What a piece has in front of a plane, and behind it.
@@ -59,26 +59,46 @@ impl Piece {
         self.winding.lies(plane)
     }
 
-    fn split(self, plane: &Plane) -> Result<PieceParts, AllocError>
+    /// What it has in front of a plane, and behind it. Where its cuboid lies on one side, it is moved.
+    fn split(self, alloc: Global, plane: &Plane) -> Result<PieceParts, AllocError>
         ensures front { IfOk result (λ parts. IsPartOf self plane.now parts.front) }
         ensures back { IfOk result (λ parts. IsPartOf self (flipped plane.now) parts.back) }
     {
+        if self.surely_lies(plane, Lies::Front) {
+            return Ok(PieceParts {
+                front: Some(self),
+                back: None,
+            });
+        }
+        if self.surely_lies(plane, Lies::Back) {
+            return Ok(PieceParts {
+                front: None,
+                back: Some(self),
+            });
+        }
         let Piece { number, winding } = self;
-        let halves = winding.split(plane)?;
+        let halves = Box::into_inner(winding).split(plane)?;
         Ok(PieceParts {
-            front: numbered(number, halves.front),
-            back: numbered(number, halves.back),
+            front: numbered(alloc, number, halves.front)?,
+            back: numbered(alloc, number, halves.back)?,
         })
     }
 }
 
 /// The piece of a number, if there is a winding.
-pub(crate) fn numbered(number: u32, winding: Option<Winding>) -> Option<Piece>
-    ensures { IsNumberedPiece number winding result }
+pub(crate) fn numbered(
+    alloc: Global,
+    number: u32,
+    winding: Option<Winding>,
+) -> Result<Option<Piece>, AllocError>
+    ensures { IfOk result (IsNumberedPiece number winding) }
 {
     match winding {
-        Some(winding) => Some(Piece { number, winding }),
-        None => None,
+        Some(winding) => {
+            let winding = Box::new(alloc, winding)?;
+            Ok(Some(Piece { number, winding }))
+        }
+        None => Ok(None),
     }
 }
 
@@ -91,7 +111,7 @@ pub(crate) fn split_pieces(pieces: Vec<Piece>, plane: &Plane) -> Result<PieceLis
     let mut front = Vec::with_capacity(alloc, pieces.len())?;
     let mut back = Vec::with_capacity(alloc, pieces.len())?;
     for piece in pieces {
-        let parts = piece.split(plane)?;
+        let parts = piece.split(alloc, plane)?;
         push_some(&mut front, parts.front)?;
         push_some(&mut back, parts.back)?;
     }

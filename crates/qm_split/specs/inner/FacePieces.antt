@@ -38,7 +38,7 @@ HasNoFacePoint book number faces = (x : Point) → IsFacePoint book number faces
 -- the piece is what the cube has of a face
 pub record IsPieceOfFace (book : List Plane) (faces : List FaceRef) (face : FaceRef) (piece : Piece) : Type 0 where
   pub number : piece.number ≡ face.plane
-  pub winding : IsFacePiece book face.plane faces piece.winding
+  pub winding : IsFacePiece book face.plane faces piece.winding.value
 
 pub record ComesOfFace (book : List Plane) (faces done : List FaceRef) (piece : Piece) : Type 0 where
   pub face : FaceRef

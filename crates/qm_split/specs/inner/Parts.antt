@@ -57,7 +57,7 @@ pub record HasAhead (outward : List Plane) (w : Winding) (g : Plane) : Type 0 wh
 pub record HasPieceIn (pieces : List Piece) (h : Plane) : Type 0 where
   pub piece : Piece
   pub listed : Contains pieces piece
-  pub lies_in : LiesIn piece.winding h
+  pub lies_in : LiesIn piece.winding.value h
 
 -- the part has no more pieces than the contender, and fewer where one of these lies in the plane
 pub record IsShortened (contender : Contender) (h : Plane) (part : Part) : Type 0 where

@@ -11,7 +11,7 @@ use Rattle.qm_split.specs.inner.Ranks.{IsNotAfter}
 
 -- where the piece's plane comes among candidates
 pub record IsRankOf (piece : Piece) (rank : Rank) : Type 0 where
-  pub axial : (rank.axial ≡ true) ↔ IsAxial piece.winding.plane
+  pub axial : (rank.axial ≡ true) ↔ IsAxial piece.winding.value.plane
   pub number : rank.number ≡ piece.number
 
 -- the rank of one of the pieces
@@ -46,7 +46,7 @@ IsLeastRank contenders (Some first) =
 pub record IsWindingOf (pieces : List Piece) (h : Plane) (w : Winding) : Type 0 where
   pub piece : Piece
   pub listed : Contains pieces piece
-  pub is : w ≡ piece.winding
+  pub is : w ≡ piece.winding.value
   pub on : w.plane ≡ h
 
 pub record IsWindingOfSome (contenders : List Contender) (h : Plane) (w : Winding) : Type 0 where

@@ -16,7 +16,7 @@ loop-face-preserved c =
     subst (λ (fs : List FaceRef). HasFacePieces c.args.book.now c.args.faces.now fs c.push_some.new.pieces.items)
     (sym (taken_next c.args.faces.now c.loop-face.face-index face c.loop-face-test.true (get_or_default c.args.faces.now c.loop-face.face-index _ face c.loop-face-test.true)))
     (subst (λ (ps : List Piece). HasFacePieces c.args.book.now c.args.faces.now (take c.loop-face.face-index c.args.faces.now ++ face ∷ []) ps) (sym c.in_ok-push_some.ensures)
-    (face_pieces_more c.args.book.now c.args.faces.now (take c.loop-face.face-index c.args.faces.now) face c.loop-face.pieces.items c.loop-face.invariant c.in_ok-winding.winding c.numbered.result c.in_ok-winding.ensures c.numbered.ensures))
+    (face_pieces_more c.args.book.now c.args.faces.now (take c.loop-face.face-index c.args.faces.now) face c.loop-face.pieces.items c.loop-face.invariant c.in_ok-winding.winding c.in_ok-numbered.field-0 c.in_ok-winding.ensures c.in_ok-numbered.ensures))
 
 pub returns : goal.returns
 returns c = λ contents full.
