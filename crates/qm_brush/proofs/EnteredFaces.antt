@@ -100,3 +100,8 @@ module _ (faces : List Face) (i : ℕ) (before middle : List FaceRef) (old mid :
     parts = ap (λ (fs : List Face). mapped plane_of_face fs) (sym (take-append-drop i faces)) ∙ map-append plane_of_face (take i faces) (drop i faces);
     entered = those.entered;
   }
+
+-- all of them are first ones
+pub whole_entered : (faces : List Face) (before after : List FaceRef) (old new : List Plane) → AreFacesEntered faces before after old new → AreFirstEntered old (mapped plane_of_face faces) new
+whole_entered faces before after old new those =
+    record { first = mapped plane_of_face faces; rest = []; parts = sym (append-nil (mapped plane_of_face faces)); entered = those.entered }
