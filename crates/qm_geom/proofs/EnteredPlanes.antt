@@ -1,8 +1,8 @@
 -- Planes that enter a book one after another.
-use Rattle.std.proofs.Common.{◌≡◌, ℕ, ◌+◌, ◌≤◌, List, [], ◌∷◌, ◌++◌, length, Some, arith}
+use Rattle.std.proofs.Common.{◌≡◌, ℕ, ◌+◌, ◌≤◌, List, [], ◌∷◌, ◌++◌, length, Some, refl, sym, ◌∙◌, subst, arith}
 use Rattle.std.specs.Prelude.{slice_get}
 use Rattle.qm_space.specs.Plane.{Plane}
-use Rattle.qm_geom.specs.Planes.{Enters, AreEntered, none, next}
+use Rattle.qm_geom.specs.Planes.{Enters, was_there, is_gained, AreEntered, none, next}
 use Rattle.qm_geom.proofs.Entering.{earlier_stay, length-entered}
 
 pub one_entered : (old new : List Plane) (plane : Plane) (number : ℕ) → Enters old new plane number → AreEntered old (plane ∷ []) new
@@ -26,3 +26,16 @@ length-all_entered old new (plane ∷ planes) (next {mid = after} {number = numb
     let first = length-entered old after plane number enters in
     let rest = length-all_entered after new planes others in
     omega arith
+
+-- ---- the same planes that enter the same book give one book
+
+one_after : {old new other : List Plane} {plane : Plane} {n m : ℕ} → Enters old new plane n → Enters old other plane m → new ≡ other
+one_after (was_there at same) (was_there at' same') = same ∙ sym same'
+one_after {n = n} (was_there at same) (is_gained absent gained number) = absurd (absent n at)
+one_after {m = m} (is_gained absent gained number) (was_there at same) = absurd (absent m at)
+one_after (is_gained absent gained number) (is_gained absent' gained' number') = gained ∙ sym gained'
+
+pub one_book : {old new other planes : List Plane} → AreEntered old planes new → AreEntered old planes other → new ≡ other
+one_book none none = refl
+one_book (next {planes = planes} first rest) (next {new = other} first' rest') =
+    one_book rest (subst (λ (mid : List Plane). AreEntered mid planes other) (one_after first' first) rest')

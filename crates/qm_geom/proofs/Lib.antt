@@ -7,3 +7,5 @@ pub mod OnlyMeetings
 pub mod Vectors
 pub mod Wide
 pub mod EnteredPlanes
+pub mod Cuboids
+pub mod Lines

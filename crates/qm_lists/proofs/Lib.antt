@@ -5,6 +5,7 @@ pub mod FlatMaps
 pub mod Options
 pub mod Places
 pub mod Reached
+pub mod Reversed
 pub mod SmallGraph
 pub mod WorkLists
 pub mod Mapped

@@ -6,3 +6,16 @@ pub mod JoinedLeaves
 pub mod JoinedCells
 pub mod OneNumbering
 pub mod Samples
+pub mod PlacedParts
+pub mod Sides
+pub mod Forests
+pub mod JoinedWalks
+pub mod OwnArrays
+pub mod NumberedWalks
+pub mod MadeTrees
+pub mod FoundWays
+pub mod NumberingWalks
+pub mod JoinedParts
+pub mod Walking
+pub mod PartsBelow
+pub mod CoarserPartitions

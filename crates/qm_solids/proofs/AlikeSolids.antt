@@ -86,3 +86,13 @@ module _ (solids others : List Solid) (alike : AllZip IsAlike solids others) (x 
     given = given_there contents has.given;
     strongest = λ other one. let at = one_back other one in subst (λ (c : Contents). IsAtMost c contents) at.2 (has.strongest at.0 at.1);
   }
+
+  given_back : (contents : Contents) → AreGiven (λ s. Holds s x) others contents → AreGiven (λ s. Holds s x) solids contents
+  given_back contents (inl empty) = inl empty
+  given_back contents (inr by) = let at = one_back by.0 by.1 in inr (at.0, at.1, at.2 ∙ by.2)
+
+  pub same_contents_back : (contents : Contents) → HasContents others x contents → HasContents solids x contents
+  same_contents_back contents has = record {
+    given = given_back contents has.given;
+    strongest = λ solid one. let at = one_there solid one in subst (λ (c : Contents). IsAtMost c contents) (sym at.2) (has.strongest at.0 at.1);
+  }

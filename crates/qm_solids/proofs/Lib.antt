@@ -6,6 +6,7 @@ pub mod AlikeSolids
 pub mod CellLaws
 pub mod Samples
 pub mod CellSamples
+pub mod FlatCounts
 pub mod PlanesInCommon
 pub mod HeldPoints
 pub mod SameFaces

@@ -9,3 +9,4 @@ pub mod Uniform
 pub mod Least
 pub mod Alike
 pub mod InBook
+pub mod Flat

@@ -3,3 +3,17 @@
 
 #[cfg(test)]
 mod brushes;
+#[cfg(test)]
+mod built;
+#[cfg(test)]
+mod cube;
+#[cfg(test)]
+mod joined;
+#[cfg(test)]
+mod long;
+#[cfg(test)]
+mod parts;
+#[cfg(test)]
+mod refused;
+#[cfg(test)]
+mod worlds;
