@@ -1,5 +1,5 @@
 -- A brush that is added to a list.
-use Rattle.std.proofs.Common.{◌≡◌, ℕ, ◌-◌, Bool, true, false, List, [], ◌∷◌, ◌++◌, length, get_or, take, drop, map, All, inl, inr, refl, sym, ap, ◌∙◌, subst, arith}
+use Rattle.std.proofs.Common.{◌≡◌, ℕ, ℤ, ◌-◌, Bool, true, false, List, [], ◌∷◌, ◌++◌, length, get_or, take, drop, map, All, inl, inr, refl, sym, ap, ◌∙◌, subst, arith}
 use Rattle.std.specs.List.{AllZip}
 use Rattle.std.specs.Bool.{MatchBool}
 use Rattle.std.proofs.lemmas.Bool.{cases_lt}
@@ -30,11 +30,14 @@ use Rattle.qm_brush.specs.inner.Added.{IsAdded}
 -- ---- the planes of a face
 
 -- a point of a face is a whole point of the closed cube
-face_point_whole : (face : Face) (k : ℕ) → All AreCoordinates face.points → IsWholePoint (face_point face k)
-face_point_whole face k coordinates = whole_point_is_whole (get_or face.points k []) (elim (cases_lt k (length face.points)) [
+pub coordinates_at : (points : List (List ℤ)) (k : ℕ) → All AreCoordinates points → AreCoordinates (get_or points k [])
+coordinates_at points k coordinates = elim (cases_lt k (length points)) [
   | inl within ↦ coordinates k [] within
-  | inr past ↦ subst AreCoordinates (sym (get_or_past face.points k [] past)) (All-nil IsCoordinate)
-])
+  | inr past ↦ subst AreCoordinates (sym (get_or_past points k [] past)) (All-nil IsCoordinate)
+]
+
+face_point_whole : (face : Face) (k : ℕ) → All AreCoordinates face.points → IsWholePoint (face_point face k)
+face_point_whole face k coordinates = whole_point_is_whole (get_or face.points k []) (coordinates_at face.points k coordinates)
 
 -- the outward plane of a valid face is a positive multiple of its plane in lowest terms, turned outward
 outward_multiple : (face : Face) → IsValidFace face → IsPositiveMultiple (face_outward face) (turned_outward face)

@@ -1,8 +1,5 @@
-use Rattle.std.proofs.Common.{List, false, rules, subst}
-use Rattle.qm_space.specs.Plane.{Plane}
-use Rattle.qm_mapfile.specs.declared.face.Face.{Face}
+use Rattle.std.proofs.Common.{false, rules}
 use Rattle.qm_brush.specs.declared.entry.Entry.{Entry}
-use Rattle.qm_brush.specs.inner.Entered.{AreFirstEntered, AreFacesEntered}
 use Rattle.qm_brush.proofs.EnteredFaces.{on_error, whole_entered}
 use Rattle.qm_brush.proofs.AddedBrushes.{longer_within, one_more_within, its_numbered, brush_added}
 use Rattle.qm_brush.proofs.brush_list.BrushList.add.Goals as goal
