@@ -25,11 +25,6 @@ listed_cases x y xs among = by among.0 among.1 among.2
     by zero within same = inl same
     by (suc k) within same = inr (k, omega arith, same)
 
--- a list that has an item has a first one
-pub first_listed : {X : Type 0} (xs : List X) → 0 < length xs → (x : X) × Contains xs x
-first_listed [] some = absurd (omega arith)
-first_listed (x ∷ xs) some = (x, listed_here x xs)
-
 module _ {X Y : Type 0} (f : X → Y) where
   pub listed_map : (xs : List X) (x : X) → Contains xs x → Contains (map f xs) (f x)
   listed_map [] x among = absurd (none_listed x among)
