@@ -155,6 +155,7 @@ impl Tree {
     /// The number of the leaf to which a point is led: at each node to the front where the point is not behind the plane.
     pub fn leaf_at(&self, at: &Point) -> u64
         ensures value { result ≡ leaf_at self.now.planes self.now.shape at.now }
+        ensures within { result < leaf_count self.now.shape }
     {
         let mut child = self.root();
         loop {
