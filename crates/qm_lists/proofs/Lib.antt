@@ -1,5 +1,6 @@
 pub mod Cases
 pub mod Elements
+pub mod Pairs
 pub mod FlatMaps
 pub mod Options
 pub mod Places
@@ -7,3 +8,4 @@ pub mod Reached
 pub mod Reversed
 pub mod SmallGraph
 pub mod WorkLists
+pub mod Mapped

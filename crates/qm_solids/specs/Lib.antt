@@ -5,4 +5,8 @@ pub mod Strongest
 pub mod Contents
 pub mod Cells
 pub mod Candidates
+pub mod Uniform
 pub mod Least
+pub mod Alike
+pub mod InBook
+pub mod Flat

@@ -1,5 +1,6 @@
 pub mod PlaneSymbols
 pub mod Planes
+pub mod CommonLines
 pub mod Multiples
 pub mod ReducedPlanes
 pub mod TurnedPlanes
@@ -7,6 +8,11 @@ pub mod Cubes
 pub mod Lines
 pub mod PlanesThroughPoints
 pub mod Sizes
+pub mod Cuboids
 pub mod Directions
 pub mod Exchange
 pub mod Books
+pub mod Openness
+pub mod Proportional
+pub mod ClosedCells
+pub mod Crossings

@@ -242,6 +242,27 @@ impl Tree {
     {
         self.leaves[n as usize]
     }
+
+    /// The planes in the order of their numbers.
+    pub fn all_planes(&self) -> &[Plane]
+        ensures { result.now ≡ self.now.planes }
+    {
+        &self.planes
+    }
+
+    /// The nodes in the order of their numbers.
+    pub fn all_nodes(&self) -> &[Node]
+        ensures { result.now ≡ nodes_of self.now.shape 0 0 }
+    {
+        &self.nodes
+    }
+
+    /// The leaves in the order of their numbers.
+    pub fn all_leaves(&self) -> &[Leaf]
+        ensures { result.now ≡ leaves_of self.now.shape }
+    {
+        &self.leaves
+    }
 }
 
 /// How many leaves are in front of the node of number `n`, of whose leaves the first has the number `first`, by the child

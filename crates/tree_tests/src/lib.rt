@@ -1,6 +1,10 @@
-//! Tests of trees, by the calls that `qm_tree` offers.
+//! Tests of trees and of the brushes that they are built from, by the calls that these crates offer.
 #![tactic(auto)]
 
+#[cfg(test)]
+mod brushes;
+#[cfg(test)]
+mod built;
 #[cfg(test)]
 mod cube;
 #[cfg(test)]
@@ -11,3 +15,5 @@ mod long;
 mod parts;
 #[cfg(test)]
 mod refused;
+#[cfg(test)]
+mod worlds;

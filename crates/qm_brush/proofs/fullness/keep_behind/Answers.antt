@@ -1,0 +1,15 @@
+use Rattle.std.proofs.Common.{subst}
+use Rattle.qm_space.specs.Plane.{Plane}
+use Rattle.qm_space.specs.Turned.{turned}
+use Rattle.qm_convex.specs.Cut.{IsPartInFront}
+use Rattle.qm_wind.specs.declared.winding.Clip.{Clip}
+use Rattle.qm_wind.specs.Clipped.{is_front, IsClip}
+use Rattle.qm_brush.proofs.PartsOfFaces.{inner_plane}
+use Rattle.qm_brush.proofs.fullness.keep_behind.Goals as goal
+
+pub returns-in-Cut : goal.returns-in-Cut
+returns-in-Cut c =
+    let clipped = subst (λ (clip : Clip). IsClip clip c.args.part.now (turned (is_front c.inner_side.result) c.index-planes-other.result)) c.in-Cut.is c.in_ok-clip.ensures in
+    subst (λ (g : Plane). IsPartInFront c.in-Cut.less c.args.part.now g)
+    (inner_plane c.args.planes.now c.args.other.now c.index-planes-other.result (is_front c.inner_side.result) c.requires.numbered c.index-planes-other.is c.inner_side.ensures)
+    clipped.0
