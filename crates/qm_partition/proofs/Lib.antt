@@ -17,5 +17,3 @@ pub mod FoundWays
 pub mod NumberingWalks
 pub mod JoinedParts
 pub mod Walking
-pub mod PartsBelow
-pub mod CoarserPartitions
