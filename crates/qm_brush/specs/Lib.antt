@@ -1,2 +1,3 @@
 pub mod Brushes
 pub mod Solids
+pub mod Planes

@@ -2,29 +2,16 @@
 use Rattle.std.proofs.Common.{◌≡◌, ℕ, zero, suc, ◌-◌, ◌<◌, ◌≤◌, ℤ, pos, neg_ℤ, ◌+ℤ◌, ◌*ℤ◌, ◌<ℤ◌, ◌≤ℤ◌, List, [], ◌∷◌, length, get_or, drop, refl, ap, sym, ◌∙◌, arith, subst}
 use Rattle.std.proofs.lemmas.List.{length-drop}
 use Rattle.std.proofs.Math.IntN.{*ℤ_comm}
-use Rattle.qm_space.specs.Point.{Point, point_sum, point_times}
+use Rattle.qm_space.specs.Point.{Point}
 use Rattle.qm_space.specs.Plane.{Plane, value, IsOn, IsInFront}
 use Rattle.qm_numbers.specs.Ratio.{Ratio, IsAtMostRatio}
-use Rattle.qm_numbers.proofs.IntegerProducts.{linear, neg-*ℤ, *ℤ_zero}
+use Rattle.qm_numbers.proofs.IntegerProducts.{linear, *ℤ_zero}
 use Rattle.qm_numbers.proofs.Signs.{product_positive, product_not_positive, positive_times_negative, not_positive_beside, negative_beside}
-use Rattle.qm_space.proofs.Planes.{value_sum, value_times}
+use Rattle.qm_space.proofs.Crossings.{through, value_through}
 use Rattle.qm_numbers.proofs.Ratios.{IsLeastAt, least_ratio}
 use Rattle.qm_convex.specs.Winding.{Winding, next_place, edge_at, corner_at, IsConvex, IsInRegion}
 use Rattle.qm_convex.proofs.Places.{next_inner, next_below}
 use Rattle.qm_convex.proofs.Corners.{corner_on_plane, corner_on_edge, corner_on_next, far_corner_in_front, value_on_edge}
-
--- The step from the point c through the point p until the plane e is met: the point is e's value at c times p, less
--- e's value at p times c.
-abbrev pub through : Plane → Point → Point → Point
-through e c p = point_sum (point_times (value e c) p) (point_times (neg_ℤ (value e p)) c)
-
-pub value_through : (g e : Plane) (c p : Point) → value g (through e c p) ≡ (value e c *ℤ value g p) +ℤ neg_ℤ (value e p *ℤ value g c)
-value_through g e c p =
-    let s = value_sum g (point_times (value e c) p) (point_times (neg_ℤ (value e p)) c) in
-    let t = value_times g (value e c) p in
-    let u = value_times g (neg_ℤ (value e p)) c in
-    let w = neg-*ℤ (value e p) (value g c) in
-    omega (arith, linear)
 
 no_more : (a b : ℤ) → b ≡ pos 0 → a *ℤ b ≡ pos 0
 no_more a b e = ap (λ x. a *ℤ x) e ∙ *ℤ_zero a

@@ -16,7 +16,8 @@ use Rattle.qm_space.specs.Line.{AreOnOneLine, IsBetween, four_zeros}
 use Rattle.qm_convex.proofs.Places.{next_inner, next_below, next_other, next_next_other, place_before}
 use Rattle.qm_convex.proofs.Corners.{corner_on_plane, corner_on_edge, corner_on_next, corner_not_behind, far_corner_in_front, value_on_edge}
 use Rattle.qm_convex.proofs.NewCorners.{far_plane, value_far_plane, by_first, by_second}
-use Rattle.qm_convex.proofs.Hull.{through, value_through, IsExit, exit_of, exit_not_behind, first_corner_inside}
+use Rattle.qm_space.proofs.Crossings.{through, value_through}
+use Rattle.qm_convex.proofs.Hull.{IsExit, exit_of, exit_not_behind, first_corner_inside}
 
 corner_closed : (v : Winding) → IsConvex v → (i : ℕ) → i < length v.edges → IsInClosedRegion v (corner_at v i)
 corner_closed v c i h = record {

@@ -12,3 +12,9 @@ pub data Enters (old new : List Plane) (plane : Plane) (number : ℕ) : Type 0 w
 abbrev pub plane_cmp : Plane → Plane → Ordering
 plane_cmp g h =
     ordering_then (int_cmp g.nx h.nx) (ordering_then (int_cmp g.ny h.ny) (ordering_then (int_cmp g.nz h.nz) (int_cmp g.d h.d)))
+
+-- planes that enter a book one after another: the book before, the planes, the book afterwards
+pub data AreEntered : List Plane → List Plane → List Plane → Type 0 where
+  none : {book : List Plane} → AreEntered book [] book
+  next : {old mid new planes : List Plane} {plane : Plane} {number : ℕ} →
+      Enters old mid plane number → AreEntered mid planes new → AreEntered old (plane ∷ planes) new

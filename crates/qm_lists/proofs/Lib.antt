@@ -1,5 +1,6 @@
 pub mod Cases
 pub mod Elements
+pub mod Pairs
 pub mod FlatMaps
 pub mod Options
 pub mod Places

@@ -51,7 +51,7 @@ point_in_cube x y z small_x small_y small_z = record {
 
 -- the cube's plane x = 0, turned outward, lies on the book's
 turned_lies_on : LiesOn (plane_of (neg_ℤ (pos 1)) (pos 0) (pos 0) (neg_ℤ (pos 0))) first_plane
-turned_lies_on = record { factor = neg_ℤ (pos 1); not_zero = λ is. cc; multiple = refl }
+turned_lies_on = record { times = pos 1; factor = neg_ℤ (pos 1); some_times = λ is. cc; some_factor = λ is. cc; multiple = refl }
 
 -- of each plane of the cube: the point is behind it, or it lies on the plane x = 0
 abbrev IsBehindOrLies : Plane → Type 0

@@ -5,3 +5,11 @@ pub mod AlikeSolids
 pub mod CellLaws
 pub mod Samples
 pub mod CellSamples
+pub mod PlanesInCommon
+pub mod HeldPoints
+pub mod SameFaces
+pub mod UniformCells
+pub mod FullSolids
+pub mod PassedPlanes
+pub mod BookFaces
+pub mod UniformSamples

@@ -167,7 +167,7 @@ beyond_is_flat full =
 abbrev pub ground : Solid
 ground = record { contents = contents.Solid; outward = plane_of (pos 0) (pos 0) (pos 1) (pos 0) ∷ [] }
 
-ground_is_full : IsFull ground
+pub ground_is_full : IsFull ground
 unfolding value
 ground_is_full =
     let x = at (pos 0) (pos 0) (neg_ℤ (pos 1)) in

@@ -9,11 +9,13 @@ use Rattle.qm_solids.specs.Cells.{ContainsCell}
 
 -- Which planes part a cell. A plane is taken without regard to its side and its scale.
 
--- both have the same points: the first is a multiple of the second, on whichever side
+-- both have the same points: a multiple of the first is a multiple of the second, on whichever side
 pub record LiesOn (a h : Plane) : Type 0 where
+  pub times : ℤ
   pub factor : ℤ
-  pub not_zero : factor ≢ pos 0
-  pub multiple : a ≡ scaled factor h
+  pub some_times : times ≢ pos 0
+  pub some_factor : factor ≢ pos 0
+  pub multiple : scaled times a ≡ scaled factor h
 
 -- a point of the cell that is on the plane, and strictly behind those planes of the solid that lie on others
 pub record IsOnFace (solid : Solid) (cell : List Plane) (h : Plane) (x : Point) : Type 0 where

@@ -5,4 +5,6 @@ pub mod Strongest
 pub mod Contents
 pub mod Cells
 pub mod Candidates
+pub mod Uniform
 pub mod Least
+pub mod InBook

@@ -12,3 +12,7 @@ pub mod Cuboids
 pub mod Directions
 pub mod Exchange
 pub mod Books
+pub mod Openness
+pub mod Proportional
+pub mod ClosedCells
+pub mod Crossings

@@ -14,3 +14,4 @@ pub mod Turned
 pub mod Cell
 pub mod Cube
 pub mod Cuboid
+pub mod inner

@@ -4,8 +4,8 @@ use std::alloc::{AllocError, Global};
 use std::marker::Model;
 use std::rc::Rc;
 
-/// A list that is empty at many places of a map, as the pairs or the brushes of an entity. It takes the room of one
-/// pointer; empty ones share what they point to. Contracts see it as the list of its items.
+/// A list that is empty at many places, as the pairs or the brushes of an entity are. It takes the room of one pointer;
+/// empty ones share what they point to. Contracts see it as the list of its items.
 #[derive(Drop)]
 pub struct Parts<T> {
     items: Rc<Vec<T>>,

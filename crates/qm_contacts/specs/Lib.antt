@@ -1,0 +1,9 @@
+pub mod Meeting
+pub mod Contact
+pub mod Outside
+pub mod Touching
+pub mod NumberedLeaves
+pub mod Portals
+pub mod Reached
+pub mod Leak
+pub mod Filled

@@ -1,0 +1,55 @@
+use Rattle.std.specs.Prelude.{ℕ, ◌==◌, ◌&&◌, Bool, true, false, List, [], ◌∷◌, take, filter, flat_map, count_by, slice_index_or}
+use Rattle.qm_space.specs.Plane.{Plane}
+use Rattle.qm_space.specs.Turned.{turned}
+use Rattle.qm_space.specs.Book.{plane_at}
+use Rattle.qm_convex.specs.Winding.{Winding}
+use Rattle.qm_contents.specs.declared.contents.Contents.TheVariants.{Solid}
+use Rattle.qm_contents.specs.Precedence.{strength}
+use Rattle.qm_partition.specs.declared.node.Leaf.{Leaf}
+use Rattle.qm_partition.specs.Tree.{Tree}
+use Rattle.qm_partition.specs.Counting.{leaves_of}
+use Rattle.qm_contacts.specs.NumberedLeaves.{is_numbered}
+use Rattle.qm_contacts.specs.Touching.{Touching}
+
+-- Through a portal one goes from one numbered leaf to another of equal contents.
+
+-- the polygon through which one goes, its plane turned to the leaf that one enters, and both leaves by their numbers
+pub record Portal : Type 0 where
+  pub winding : Winding
+  pub into : Plane
+  pub from : ℕ
+  pub to : ℕ
+
+-- the leaf at a place; one that is not there is solid
+abbrev pub leaf_record : Tree → ℕ → Leaf
+leaf_record tree k = slice_index_or (leaves_of tree.shape) k (record { contents = Solid; filled = false })
+
+-- the number of a numbered leaf: how many come before it
+abbrev pub number_of : Tree → ℕ → ℕ
+number_of tree k = count_by is_numbered (take k (leaves_of tree.shape))
+
+-- both leaves are numbered, and their contents are equal; no two kinds of contents are equally strong
+abbrev pub is_passage : Tree → Touching → Bool
+is_passage tree found =
+    let front = leaf_record tree found.meeting.front.leaf in
+    let back = leaf_record tree found.meeting.back.leaf in
+    is_numbered front && (strength front.contents == strength back.contents)
+
+abbrev pub portal : Tree → Touching → Bool → ℕ → ℕ → Portal
+portal tree found to_front from to = record {
+  winding = found.winding;
+  into = turned to_front (plane_at tree.planes found.meeting.plane);
+  from = number_of tree from;
+  to = number_of tree to;
+}
+
+-- the portal from the leaf in front to the leaf behind, and the one back
+abbrev pub both_ways : Tree → Touching → List Portal
+both_ways tree found =
+    let front = found.meeting.front.leaf in
+    let back = found.meeting.back.leaf in
+    portal tree found false front back ∷ portal tree found true back front ∷ []
+
+-- the portals of a tree, in the order of its touching pairs
+abbrev pub portals_of : Tree → List Touching → List Portal
+portals_of tree touchings = flat_map (both_ways tree) (filter (is_passage tree) touchings)
