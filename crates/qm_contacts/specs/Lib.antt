@@ -2,6 +2,7 @@ pub mod Meeting
 pub mod Contact
 pub mod Outside
 pub mod Touching
+pub mod Contacts
 pub mod NumberedLeaves
 pub mod Portals
 pub mod Reached

@@ -5,3 +5,4 @@ pub mod Ways
 pub mod Counting
 pub mod Numbering
 pub mod Joining
+pub mod Marked
