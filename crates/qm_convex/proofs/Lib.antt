@@ -11,3 +11,5 @@ pub mod Squares
 pub mod Vertices
 pub mod Rows
 pub mod Runs
+pub mod ImpliedPlanes
+pub mod Facets

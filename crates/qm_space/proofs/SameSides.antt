@@ -11,6 +11,9 @@ use Rattle.qm_space.proofs.Planes.{value_scaled}
 pub same_sides_itself : (h : Plane) → HasSameSides h h
 same_sides_itself h = record { times = pos 1; factor = pos 1; some_times = omega (arith, ints); some_factor = omega (arith, ints); multiple = refl }
 
+pub same_sides_back : (a h : Plane) → HasSameSides a h → HasSameSides h a
+same_sides_back a h same = record { times = same.factor; factor = same.times; some_times = same.some_factor; some_factor = same.some_times; multiple = sym same.multiple }
+
 -- what is in front of the one is in front of the other, and what is behind is behind
 module _ (a h : Plane) (x : Point) (same : HasSameSides a h) where
   both_values : same.times *ℤ value a x ≡ same.factor *ℤ value h x
