@@ -13,3 +13,4 @@ pub mod Rows
 pub mod Runs
 pub mod ImpliedPlanes
 pub mod Facets
+pub mod CubeFacets

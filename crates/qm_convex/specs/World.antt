@@ -1,6 +1,7 @@
 use Rattle.std.specs.Prelude.{◌≡◌, ◌↔◌}
 use Rattle.qm_space.specs.Point.{Point, IsInCube}
 use Rattle.qm_space.specs.Plane.{Plane, IsOn}
+use Rattle.qm_space.specs.Cube.{IsOnCubeFace}
 use Rattle.qm_convex.specs.Winding.{Winding, IsInRegion, IsConvex}
 
 -- no point of the world's cube is on the plane
@@ -17,3 +18,9 @@ pub record IsWorldPart (w : Winding) (h : Plane) : Type 0 where
 pub record IsInWorld (v : Winding) : Type 0 where
   pub convex : IsConvex v
   pub inside : (p : Point) → IsInRegion v p → IsInCube p
+
+-- the winding is the cube's face on a wall, seen from inside
+pub record IsCubeFace (w : Winding) (wall : Plane) : Type 0 where
+  pub convex : IsConvex w
+  pub plane : w.plane ≡ wall
+  pub points : (p : Point) → IsInRegion w p ↔ IsOnCubeFace wall p

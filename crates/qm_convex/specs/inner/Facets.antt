@@ -20,6 +20,10 @@ pub record Facet : Type 0 where
   pub inward : Plane
   pub winding : Winding
 
+-- a polygon that is seen from inside, as a facet
+abbrev pub facing_in : Winding → Facet
+facing_in face = record { inward = face.plane; winding = face }
+
 pub record IsFacet (cell : List Plane) (facet : Facet) : Type 0 where
   pub convex : IsConvex facet.winding
   pub points : (x : Point) → IsInRegion facet.winding x ↔ IsOnFacet cell facet.inward x
