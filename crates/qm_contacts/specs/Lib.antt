@@ -8,3 +8,4 @@ pub mod Portals
 pub mod Reached
 pub mod Leak
 pub mod Filled
+pub mod inner
