@@ -1,10 +1,10 @@
 -- How a polygon is pushed down a tree, and how the pieces of a node's section give the contacts at the node.
-use Rattle.std.proofs.Common.{◌≡◌, ℕ, Bool, true, false, List, [], ◌∷◌, ◌++◌, map, refl, sym, ap, ◌∙◌, subst, ◌↔◌, flat_map, arith}
+use Rattle.std.proofs.Common.{ℕ, Bool, List, [], ◌∷◌, ◌++◌, map, refl, sym, ◌∙◌, subst, ◌↔◌, arith}
 use Rattle.std.proofs.lemmas.List.Concat.{flat_map-cons}
 use Rattle.std.proofs.lemmas.List.Elements.{All-cons, All-head, All-tail, All-append}
 use Rattle.qm_lists.proofs.Elements.{All-first_part, All-last_part}
 use Rattle.qm_space.specs.Point.{Point, IsInCube}
-use Rattle.qm_space.specs.Plane.{Plane, value, IsInFront}
+use Rattle.qm_space.specs.Plane.{Plane, IsInFront}
 use Rattle.qm_space.specs.Turned.{turned}
 use Rattle.qm_space.specs.Cell.{IsInCell}
 use Rattle.qm_space.specs.Cube.{cube_walls}
@@ -17,11 +17,11 @@ use Rattle.qm_convex.specs.Sides.{HasNoneInFront}
 use Rattle.qm_convex.specs.inner.Facets.{IsSection}
 use Rattle.qm_convex.proofs.Cutting.{all_at_first}
 use Rattle.qm_partition.specs.declared.node.Leaf.{Leaf}
-use Rattle.qm_partition.specs.Partition.{Partition, leaf, node}
+use Rattle.qm_partition.specs.Partition.{leaf}
 use Rattle.qm_partition.specs.Ways.{Way, after_step, cell_of}
 use Rattle.qm_contacts.specs.Meeting.{LeafBelow, Meeting, seen_from, leaves_below, meeting_at, meetings_at}
 use Rattle.qm_contacts.specs.Contact.{IsContact}
-use Rattle.qm_contacts.specs.Touching.{Touching, IsTouching, AreApart, AreTouchings, none, touching, apart}
+use Rattle.qm_contacts.specs.Touching.{Touching, AreTouchings, none, touching, apart}
 use Rattle.qm_contacts.specs.inner.Pieces.{walled_cell, Piece, HasNoPiece, ArePieces, no_pieces, piece, nothing, touching_at, AreRows, no_rows, row}
 
 -- ---- a cell with the walls of the cube

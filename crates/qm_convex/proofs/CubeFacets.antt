@@ -1,7 +1,7 @@
 -- The cube's faces are the facets of the cell of its walls.
-use Rattle.std.proofs.Common.{◌≡◌, ℕ, ◌<◌, List, [], ◌∷◌, All, Contains, get_or, length, map, refl, ap, sym, ◌∙◌, subst, arith, ◌⊎◌, inl, inr, ⊎_elim, ◌↔◌}
+use Rattle.std.proofs.Common.{◌≡◌, List, [], ◌∷◌, All, Contains, get_or, map, sym, subst, ◌⊎◌, inl, inr, ⊎_elim, ◌↔◌}
 use Rattle.std.specs.List.{AllZip}
-use Rattle.std.proofs.lemmas.List.Elements.{All-nil, All-cons, All-head, All-tail, All-contains_itself, Contains-get_or}
+use Rattle.std.proofs.lemmas.List.Elements.{All-head, All-tail, All-contains_itself, Contains-get_or}
 use Rattle.qm_space.specs.Point.{Point}
 use Rattle.qm_space.specs.Plane.{Plane, IsInFront}
 use Rattle.qm_space.specs.Multiple.{HasSameSides}
@@ -10,7 +10,7 @@ use Rattle.qm_space.proofs.SameSides.{same_sides_itself}
 use Rattle.qm_space.proofs.CubeFaces.{by_same_plane, one_wall}
 use Rattle.qm_convex.specs.Winding.{Winding}
 use Rattle.qm_convex.specs.World.{IsCubeFace}
-use Rattle.qm_convex.specs.inner.Facets.{IsOnFacet, Facet, IsFacet, AreFacetsOn, AreFacets, none, facet, facing_in}
+use Rattle.qm_convex.specs.inner.Facets.{IsOnFacet, IsFacet, AreFacetsOn, AreFacets, none, facet, facing_in}
 
 -- the points of a face are those of the facet
 pub face_is_facet : (wall : Plane) (x : Point) → Contains cube_walls wall → IsOnCubeFace wall x ↔ IsOnFacet cube_walls wall x

@@ -88,17 +88,32 @@ module _ (cell : List Plane) (h : Plane) (s : Point) (on_s : IsOn h s) (in_cell 
       in_front : (x : Point) (place : ℕ) (d : Plane) → place < length cell → HasSameSides (get_or cell place d) h ⊎ IsInFront (get_or cell place d) x → IsInFront (get_or cell place d) x
       in_front x place d there beside = ⊎_elim (λ same. absurd (apart (get_or cell place d) (in_cell place d there) (same_sides_back (get_or cell place d) h same))) (λ ahead. ahead) beside
 
-  half_facets : (section : Winding) (facets rest : List Facet) → IsConvex section → ((x : Point) → IsInRegion section x ↔ (IsOn h x × IsInCell cell x)) → AreFacets cell facets → AreCut h facets rest → AreFacets half (rest ++ record { inward = h; winding = section } ∷ [])
-  half_facets section facets rest convex points are cut =
-      facets_append half cell (h ∷ []) rest (record { inward = h; winding = section } ∷ []) (left_facets cell facets rest in_cell are cut) (facet (section_is_facet section convex points) none)
+-- a plane that has a polygon for its section, turned to one side
+module _ (cell : List Plane) (h : Plane) (side : Bool) (section : Winding) (is : IsSection cell h section) where
+  point : (p : Point) × IsInRegion section p
+  point = has_a_point section is.convex
 
--- the facets of a cell's part on one side of a plane: what the plane leaves of the cell's facets, and the section
-pub facets_of_side : (cell : List Plane) (h : Plane) (side : Bool) (section : Winding) (facets rest : List Facet) → IsSection cell h section → AreFacets cell facets → AreCut (turned side h) facets rest → AreFacets (cell ++ turned side h ∷ []) (rest ++ record { inward = turned side h; winding = section } ∷ [])
-facets_of_side cell h side section facets rest is are cut =
-    let found = has_a_point section is.convex in
-    let s = (is.points found.0).0 found.1 in
-    half_facets cell (turned side h) found.0 ((turned_on side h found.0).1 s.0) s.1 section facets rest is.convex
-    (λ x. ((λ r. let q = (is.points x).0 r in ((turned_on side h x).1 q.0, q.1)), (λ q. (is.points x).1 ((turned_on side h x).0 q.0, q.1)))) are cut
+  in_section : IsOn h point.0 × IsInCell cell point.0
+  in_section = (is.points point.0).0 point.1
+
+  turned_point : IsOn (turned side h) point.0
+  turned_point = (turned_on side h point.0).1 in_section.0
+
+  -- the facets of the half on some planes that have the cell's points in front are what the plane leaves of the cell's
+  pub left_of_side : (planes : List Plane) (facets rest : List Facet) → ((x : Point) → IsInCell cell x → IsInCell planes x) → AreFacetsOn cell planes facets → AreCut (turned side h) facets rest → AreFacetsOn (cell ++ turned side h ∷ []) planes rest
+  left_of_side planes facets rest ahead are cut =
+      left_facets cell (turned side h) point.0 turned_point in_section.1 planes facets rest (ahead point.0 in_section.1) are cut
+
+  -- and its facet on the plane is the section
+  pub section_facet : IsFacet (cell ++ turned side h ∷ []) (record { inward = turned side h; winding = section })
+  section_facet =
+      section_is_facet cell (turned side h) point.0 turned_point in_section.1 section is.convex
+      (λ x. ((λ r. let q = (is.points x).0 r in ((turned_on side h x).1 q.0, q.1)), (λ q. (is.points x).1 ((turned_on side h x).0 q.0, q.1))))
+
+  -- so these are all its facets
+  pub facets_of_side : (facets rest : List Facet) → AreFacets cell facets → AreCut (turned side h) facets rest → AreFacets (cell ++ turned side h ∷ []) (rest ++ record { inward = turned side h; winding = section } ∷ [])
+  facets_of_side facets rest are cut =
+      facets_append (cell ++ turned side h ∷ []) cell (turned side h ∷ []) rest (record { inward = turned side h; winding = section } ∷ []) (left_of_side cell facets rest (λ x inside. inside) are cut) (facet section_facet none)
 
 -- ---- sections
 
