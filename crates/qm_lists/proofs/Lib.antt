@@ -6,3 +6,4 @@ pub mod Places
 pub mod Reached
 pub mod SmallGraph
 pub mod WorkLists
+pub mod Pairs
