@@ -1,7 +1,7 @@
 -- The leaves below a node by their numbers and ways.
 use Rattle.std.proofs.Common.{◌≡◌, ℕ, zero, suc, ◌+◌, ◌<◌, ◌≤◌, Bool, true, false, List, [], ◌∷◌, ◌++◌, All, length, map, Contains, slice_get, Some, refl, sym, ap, ◌∙◌, subst, arith, ⊎_elim}
-use Rattle.std.proofs.lemmas.List.{map-append, length-map}
-use Rattle.std.proofs.lemmas.List.Elements.{All-nil, All-cons, All-head, All-tail, All-append, All-weaker}
+use Rattle.std.proofs.lemmas.List.{length-map}
+use Rattle.std.proofs.lemmas.List.Elements.{All-nil, All-cons, All-weaker}
 use Rattle.qm_lists.proofs.Elements.{Contains-first, Contains-later, Contains-cons_cases}
 use Rattle.qm_lists.proofs.Pairs.{EachPair}
 use Rattle.qm_partition.specs.Partition.{Partition, leaf, node}

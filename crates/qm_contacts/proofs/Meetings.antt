@@ -1,13 +1,12 @@
 -- Each two leaves of a partition meet exactly once, and the meetings ascend: by node, then by the leaf in front, then by
 -- the leaf behind.
-use Rattle.std.proofs.Common.{◌≡◌, ℕ, suc, ◌+◌, ◌<◌, ◌≤◌, Bool, true, false, List, [], ◌∷◌, ◌++◌, All, length, get_or, map, flat_map, Contains, slice_get, Some, refl, sym, ap, ◌∙◌, subst, arith, ◌⊎◌, inl, inr, ⊎_elim}
+use Rattle.std.proofs.Common.{◌≡◌, ℕ, ◌+◌, ◌<◌, ◌≤◌, true, false, List, [], ◌∷◌, ◌++◌, All, get_or, map, Contains, refl, sym, subst, arith, ◌⊎◌, inl, inr, ⊎_elim}
 use Rattle.std.proofs.lemmas.List.Concat.{flat_map-cons}
-use Rattle.std.proofs.lemmas.List.Elements.{All-nil, All-cons, All-head, All-tail, All-append, All-map, All-weaker, Contains-append_left, Contains-append_right, Contains-append_cases}
+use Rattle.std.proofs.lemmas.List.Elements.{All-nil, All-head, All-tail, All-append, All-map, All-weaker, Contains-append_left, Contains-append_right, Contains-append_cases}
 use Rattle.qm_lists.proofs.Elements.{Contains-first, Contains-later, Contains-cons_cases, Contains-map, Contains-map_from}
-use Rattle.qm_lists.proofs.Pairs.{EachPair, pairs_append, pairs_map}
+use Rattle.qm_lists.proofs.Pairs.{EachPair, pairs_append}
 use Rattle.qm_partition.specs.Partition.{Partition, leaf, node}
 use Rattle.qm_partition.specs.Numbering.{nodes_after, leaves_after}
-use Rattle.qm_partition.specs.Counting.{node_count}
 use Rattle.qm_partition.specs.Ways.{Way}
 use Rattle.qm_partition.proofs.Counts.{nodes_after-count, leaves_after-count}
 use Rattle.qm_contacts.specs.Meeting.{LeafBelow, leaves_below, Meeting, meeting_at, meetings_at, then_step, meetings_below}

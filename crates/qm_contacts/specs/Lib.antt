@@ -3,6 +3,7 @@ pub mod Contact
 pub mod Outside
 pub mod Touching
 pub mod Contacts
+pub mod Crossing
 pub mod NumberedLeaves
 pub mod Portals
 pub mod Reached

@@ -1,8 +1,9 @@
 -- What holds of each element of a list holds of each element of its parts.
-use Rattle.std.proofs.Common.{◌≡◌, zero, suc, List, [], ◌∷◌, ◌++◌, length, map, refl, ap, subst, arith, ◌⊎◌, inl, inr}
+use Rattle.std.proofs.Common.{◌≡◌, ℕ, zero, suc, List, [], ◌∷◌, ◌++◌, length, map, slice_get, Some, refl, ap, subst, arith, ◌⊎◌, inl, inr}
 use Rattle.std.specs.List.{All, AllByRecursion, Contains}
 use Rattle.std.proofs.lemmas.List.{take_at, drop_at}
 use Rattle.std.proofs.lemmas.List.Elements.{All-take, All-drop, All-nil, All-cons, All-head, All-tail}
+use Rattle.std.proofs.lemmas.Option.{slice_get_within, get_or_from_slice_get}
 
 pub All-first_part : {X : Type 0} (P : X → Type 0) (xs ys : List X) → All P (xs ++ ys) → All P xs
 All-first_part P xs ys all = subst (All P) (take_at xs ys (length xs) refl) (All-take P (length xs) (xs ++ ys) all)
@@ -24,6 +25,10 @@ pub All-from_map : {X Y : Type 0} (P : X → Type 0) (f : Y → X) (ys : List Y)
 All-from_map P f [] all = All-nil (λ y. P (f y))
 All-from_map P f (y ∷ ys) all =
     All-cons (λ y. P (f y)) y ys (All-head P (f y) (map f ys) all) (All-from_map P f ys (All-tail P (f y) (map f ys) all))
+
+-- what stands at a place is an element
+pub Contains-at : {X : Type 0} (xs : List X) (i : ℕ) (x : X) → slice_get xs i ≡ Some x → Contains xs x
+Contains-at xs i x at = (i, slice_get_within xs i x at, get_or_from_slice_get xs i x x at)
 
 -- ---- the elements of a list with one element before it
 
