@@ -7,3 +7,4 @@ pub mod Reached
 pub mod SmallGraph
 pub mod WorkLists
 pub mod Pairs
+pub mod Spreads
