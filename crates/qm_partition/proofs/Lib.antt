@@ -3,5 +3,6 @@ pub mod NodePlanes
 pub mod LeafNumbers
 pub mod Cells
 pub mod JoinedLeaves
+pub mod MarkedLeaves
 pub mod OneNumbering
 pub mod Samples
