@@ -1,12 +1,12 @@
 -- Marking leaves changes no meeting, so that contacts are found before leaves are marked, and stay.
-use Rattle.std.proofs.Common.{◌≡◌, ℕ, ◌+◌, Bool, true, false, List, [], ◌∷◌, ◌++◌, map, refl, sym, ap, ◌∙◌, subst}
+use Rattle.std.proofs.Common.{◌≡◌, ℕ, ◌+◌, Bool, true, false, List, [], ◌++◌, map, refl, ap, ◌∙◌}
 use Rattle.qm_partition.specs.Partition.{Partition, leaf, node}
 use Rattle.qm_partition.specs.Tree.{Tree}
 use Rattle.qm_partition.specs.Numbering.{nodes_after, leaves_after}
 use Rattle.qm_partition.specs.Ways.{Way}
 use Rattle.qm_partition.specs.Marked.{marked, marked_tree}
 use Rattle.qm_partition.proofs.MarkedLeaves.{marked_nodes_after, marked_leaves_after}
-use Rattle.qm_contacts.specs.Meeting.{LeafBelow, seen_from, leaves_below, Meeting, meetings_at, then_step, meetings_below, meetings}
+use Rattle.qm_contacts.specs.Meeting.{seen_from, leaves_below, meetings_at, then_step, meetings_below, meetings}
 
 module _ (row : List Bool) where
   pub marked_below : (shape : Partition) (k j : ℕ) → leaves_below (marked row shape k) j ≡ leaves_below shape j
