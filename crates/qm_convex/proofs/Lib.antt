@@ -14,3 +14,4 @@ pub mod Runs
 pub mod ImpliedPlanes
 pub mod Facets
 pub mod CubeFacets
+pub mod CubeSquares
