@@ -4,6 +4,7 @@ pub mod LeafNumbers
 pub mod Cells
 pub mod JoinedLeaves
 pub mod JoinedCells
+pub mod MarkedLeaves
 pub mod OneNumbering
 pub mod Samples
 pub mod PlacedParts
