@@ -75,11 +75,8 @@ fn is_way(alloc: Global, tree: &Tree, number: u64, steps: &[(u32, bool)]) -> Opt
         return None;
     }
     let way = tree.path(alloc, number).ok()?;
-    let same = way
-        .steps()
-        .iter()
-        .zip(steps)
-        .all(|(step, (plane, front))| step.plane == *plane && step.front == *front);
+    let same = way.steps().iter().zip(steps).all(|(step, (plane, front))| step.plane == *plane
+        && step.front == *front);
     Some(same && way.len() == steps.len())
 }
 

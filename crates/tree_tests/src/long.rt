@@ -46,7 +46,12 @@ fn row(alloc: Global, nodes: Vec<Node>, first: Leaf) -> Option<Tree> {
 
 /// Whether the point (x, 0, 0) has the leaf of this number, to which there are so many steps.
 fn leads(alloc: Global, tree: &Tree, x: i64, number: u64, steps: usize) -> Option<bool> {
-    let found = tree.leaf_at(&Point { x, y: 0, z: 0, w: 1 });
+    let found = tree.leaf_at(&Point {
+        x,
+        y: 0,
+        z: 0,
+        w: 1,
+    });
     if number >= tree.leaves() {
         return None;
     }

@@ -42,7 +42,11 @@ fn makes_tree(alloc: Global) -> bool {
         && are_numbered(alloc, &[node(0, L(0), L(1))], &[filled(Solid), leaf(Water)])
         && are_numbered(
             alloc,
-            &[node(0, N(1), N(2)), node(0, L(0), L(1)), node(0, L(2), L(3))],
+            &[
+                node(0, N(1), N(2)),
+                node(0, L(0), L(1)),
+                node(0, L(2), L(3)),
+            ],
             &[empty, empty, empty, empty],
         )
 }
@@ -63,7 +67,11 @@ fn refuses_numbers(alloc: Global) -> bool {
         && is_refused(alloc, &[node(0, N(1), L(1))], &[empty, empty])
         && is_refused(
             alloc,
-            &[node(0, N(2), N(1)), node(0, L(2), L(3)), node(0, L(0), L(1))],
+            &[
+                node(0, N(2), N(1)),
+                node(0, L(2), L(3)),
+                node(0, L(0), L(1)),
+            ],
             &[empty, empty, empty, empty],
         )
 }
