@@ -30,7 +30,11 @@ fn put_box(
     put_face(text, texture, [[east, 0, 0], [east, 0, 1], [east, 1, 0]])?;
     put_face(text, texture, [[0, south, 0], [0, south, 1], [1, south, 0]])?;
     put_face(text, texture, [[0, north, 0], [1, north, 0], [0, north, 1]])?;
-    put_face(text, texture, [[0, 0, bottom], [1, 0, bottom], [0, 1, bottom]])?;
+    put_face(
+        text,
+        texture,
+        [[0, 0, bottom], [1, 0, bottom], [0, 1, bottom]],
+    )?;
     put_face(text, texture, [[0, 0, top], [0, 1, top], [1, 0, top]])?;
     text.push_str("}\n")
 }

@@ -49,7 +49,7 @@ const ROUND_A_CORNER: [BoxRow; 12] = [
     ("stone", [0, 176, 0], [96, 192, 96]),
     ("stone", [0, 64, 64], [96, 80, 96]),
     ("stone", [-16, -64, 64], [0, 64, 96]),
-    ("stone", [-16, -32, 0], [0, 0, 64]),
+    ("stone", [-16, -32, 0], [0, 64, 64]),
     ("stone", [32, 64, 0], [96, 80, 64]),
 ];
 
@@ -112,7 +112,16 @@ fn names_give_contents(rt: HostRuntime) -> Result<(), Fail> {
     }
     for name in ["clip", "CLIP"] {
         let text = named_cube(rt.alloc(), name)?;
-        assert!(rt; gives(&rt, "compile", &text, 0, EMPTY_SUMMARY, Some(EMPTY_FILE.as_slice()))?);
+        assert!(rt;
+            gives(
+                &rt,
+                "compile",
+                &text,
+                0,
+                EMPTY_SUMMARY,
+                Some(EMPTY_FILE.as_slice())
+            )?
+        );
     }
     Ok(())
 }
@@ -126,10 +135,15 @@ fn counts<R: AllocGlobal + Threads + Sync>(
     length: usize,
 ) -> Result<bool, AllocError> {
     let [brushes, flat, planes, nodes, leaves] = counts;
-    let printed = format!(in rt.alloc(); "brushes {brushes}\nflat {flat}\nplanes {planes}\nnodes {nodes}\nleaves {leaves}\n")?;
+    let printed = format!(in rt.alloc();
+        "brushes {brushes}\nflat {flat}\nplanes {planes}\nnodes {nodes}\nleaves {leaves}\n"
+    )?;
     let mut outside = Outside::new(rt.alloc(), text.as_bytes())?;
     let says = outside.says(rt, &["compile", "map", "out"], 0, &printed);
-    let is_long = outside.shelf.get("out").is_some_and(|file| file.len() == length);
+    let is_long = outside
+        .shelf
+        .get("out")
+        .is_some_and(|file| file.len() == length);
     Ok(says && is_long)
 }
 

@@ -9,3 +9,5 @@ pub mod Reversed
 pub mod SmallGraph
 pub mod WorkLists
 pub mod Mapped
+pub mod EachPair
+pub mod Spreads
