@@ -60,7 +60,8 @@ def faults():
     for name in known:
         mine = [cells for row, cells in table if row == name]
         if len(mine) != 1 or len(mine[0]) != len(HEAD):
-            yield f"{name} has {len(mine)} rows in the table, and wants one of {len(HEAD)} cells"
+            cells = ", ".join(HEAD)
+            yield f"{name} has {len(mine)} rows in the table of docs/ARCHITECTURE.md, and wants one of {len(HEAD)} cells: {cells}"
             continue
         _, _, kind, below, never = mine[0]
         if kind not in KINDS:
@@ -74,9 +75,11 @@ def faults():
             yield f"{name}: the table names {other}, which is no crate"
     pages = {page.stem for page in Path("docs/crates").glob("*.md")}
     costs = set(re.findall(r"(?m)^\| `(\w+)` \|", Path("docs/GATE.md").read_text()))
-    for what, having in (("a page docs/crates/NAME.md", pages), ("a row in docs/GATE.md", costs)):
-        for name in sorted(set(known) ^ having):
-            yield f"{name}: each crate has {what}, and nothing else has"
+    for what, having in (("page docs/crates/{}.md", pages), ("row `{}` in the table of docs/GATE.md", costs)):
+        for name in sorted(set(known) - having):
+            yield f"{name} has no {what.format(name)}"
+        for name in sorted(having - set(known)):
+            yield f"there is a {what.format(name)}, and crates.txt lists no such crate"
 
 
 def places():
@@ -91,8 +94,10 @@ def places():
 def faults_of_picture():
     known, found = crates(), list(places())
     placed = dict(found)
-    for name in sorted(set(known) ^ set(placed)):
-        yield f"{name}: the picture has each crate, and nothing else"
+    for name in sorted(set(known) - set(placed)):
+        yield f"{name} has no place in the picture of docs/ARCHITECTURE.md"
+    for name in sorted(set(placed) - set(known)):
+        yield f"the picture of docs/ARCHITECTURE.md has {name}, which crates.txt does not list"
     if len(found) != len(placed):
         yield "the picture has a crate twice"
     for name in known:
@@ -117,8 +122,10 @@ def outer(name):
 def faults_of_trust():
     said = trusted()
     for name in crates():
-        if said.get(name, set()) != outer(name):
-            yield f"{name}: README.md trusts {sorted(said.get(name, ()))}, and its specs/ have {sorted(outer(name))}"
+        for module in sorted(outer(name) - said.get(name, set())):
+            yield f"{name}: README.md, under What is trusted, does not name {module}, which crates/{name}/specs/Lib.antt lists"
+        for module in sorted(said.get(name, set()) - outer(name)):
+            yield f"{name}: README.md, under What is trusted, names {module}, which crates/{name}/specs/Lib.antt does not list"
 
 
 def main():

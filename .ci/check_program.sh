@@ -63,8 +63,8 @@ ends_with_six_where_nothing_can_be_printed() {
     (cd "$folder" && "$program" format room.map full.map >/dev/full 2>said) || status=$?
     [[ $status == 6 && ! -s $folder/said ]] && cmp "$folder/room.once" "$folder/full.map" || return 1
     status=0
-    (cd "$folder" && "$program" compile room.map none >/dev/full 2>said) || status=$?
-    [[ $status == 6 && ! -s $folder/said && ! -e $folder/none ]] || return 1
+    (cd "$folder" && "$program" compile bare.map full.tree >/dev/full 2>said) || status=$?
+    [[ $status == 6 && ! -s $folder/said ]] && cmp "$folder/bare.tree" "$folder/full.tree" || return 1
     status=0
     (cd "$folder" && "$program" format room.map closed.map >&- 2>said) || status=$?
     [[ $status == 6 && ! -s $folder/said ]] && cmp "$folder/room.once" "$folder/closed.map"
@@ -94,10 +94,15 @@ runs_out_of_memory() {
     [[ $seven -gt 0 && $status == 0 ]]
 }
 
-builds_no_room_yet() {
-    run_program compile room.map none
-    ended 10 'not built\n' || return 1
-    # a world of two brushes
+# a file of the folder has so many bytes
+has_bytes() { # has_bytes NAME BYTES
+    [[ $(stat -c %s "$folder/$1") == "$2" ]]
+}
+
+compiles_a_room() {
+    run_program compile room.map room.tree
+    ended 0 'brushes 6\nflat 0\nplanes 12\nnodes 12\nleaves 13\n' && has_bytes room.tree 586 || return 1
+    # a world of two brushes, one within the other
     {
         echo '{'
         sed '1d;$d' "$folder/cube.map"
@@ -106,8 +111,12 @@ builds_no_room_yet() {
     } >"$folder/two.map"
     run_program format two.map two.out
     [[ $status == 0 && $(<"$folder/printed") == $'entities 1\nbrushes 2' ]] || return 1
-    run_program compile two.map none
-    ended 10 'not built\n'
+    run_program compile two.map two.tree
+    ended 0 'brushes 2\nflat 0\nplanes 9\nnodes 6\nleaves 7\n' && has_bytes two.tree 376 || return 1
+    # a world without brushes
+    echo '{ }' >"$folder/bare.map"
+    run_program compile bare.map bare.tree
+    ended 0 'brushes 0\nflat 0\nplanes 0\nnodes 0\nleaves 1\n' && has_bytes bare.tree 46
 }
 
 formats_a_room_once_and_again() {
@@ -170,6 +179,7 @@ counts_clips_as_fractions_do() {
 
 cp samples/cube.map samples/room.map "$folder/"
 check "status 0: the canonical text of samples/room.map is printed again as it is" formats_a_room_once_and_again
+check "status 0: trees of a room, of one brush within another, and of no brush" compiles_a_room
 check "status 0: a text of a megabyte is read whole" formats_a_large_text
 check "status 0: OUT that was there is written anew" writes_over_what_was_there
 check "status 2: words that are no command print the usage line" prints_the_usage_line
@@ -178,7 +188,6 @@ check "status 5: a map that is missing or is a folder" says_that_a_map_is_not_re
 check "status 6: OUT that cannot be made or not be written" says_that_a_file_is_not_written
 check "status 6: a standard output that takes nothing" ends_with_six_where_nothing_can_be_printed
 check "status 7: too little memory" runs_out_of_memory
-check "status 10: a world of many brushes, and of two" builds_no_room_yet
 check "a pipe as standard output gets each byte" prints_all_into_a_pipe
 check "a map that is a pipe is read" reads_a_map_that_is_a_pipe
 check "generated texts have the faults that a plain slow reader finds" agrees_with_a_slow_reader

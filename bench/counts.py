@@ -49,19 +49,71 @@ def clip(polygon, plane):
     return "cut", kept
 
 
+class Numbers:
+    """A linear congruential generator of 64 bits."""
+
+    def __init__(self):
+        self.state = 1
+
+    def next(self):
+        self.state = (self.state * 6364136223846793005 + 1442695040888963407) % 2**64
+        return self.state >> 33
+
+    def plane(self, reach):
+        return through(*[[self.next() % (2 * reach + 1) - reach for _ in range(3)] for _ in range(3)])
+
+
 def random_planes(count):
-    state = 1
-    planes = []
-    for _ in range(count):
-        points = []
-        for _ in range(3):
-            point = []
-            for _ in range(3):
-                state = (state * 6364136223846793005 + 1442695040888963407) % 2**64
-                point.append((state >> 33) % (2 * EXTENT + 1) - EXTENT)
-            points.append(point)
-        planes.append(through(*points))
-    return planes
+    numbers = Numbers()
+    return [numbers.plane(EXTENT) for _ in range(count)]
+
+
+def steps(count):
+    return 64 * count - 2048
+
+
+def across(axis, count):
+    return tuple(int(i == axis) for i in range(3)) + (steps(count),)
+
+
+def faces_of_box(numbers):
+    low = [numbers.next() % 48 for _ in range(3)]
+    high = [at + 1 + numbers.next() % 16 for at in low]
+    for axis in range(3):
+        u, v = (axis + 1) % 3, (axis + 2) % 3
+        for end in (low[axis], high[axis]):
+            face = []
+            for a, b in ((low[u], low[v]), (high[u], low[v]), (high[u], high[v]), (low[u], high[v])):
+                place = {axis: steps(end), u: steps(a), v: steps(b)}
+                face.append(tuple(place[i] for i in range(3)))
+            yield face
+
+
+def tree_plane(numbers, place):
+    if place % 8 == 7:
+        return numbers.plane(2048)
+    axis = numbers.next() % 3
+    return across(axis, numbers.next() % 65)
+
+
+def push_down(faces, planes, counts):
+    pieces = [(face, 0) for face in faces]
+    for _ in range(10):
+        below = []
+        for piece, node in pieces:
+            plane = planes[node]
+            front, in_front = clip(piece, plane)
+            back, behind = clip(piece, flipped(plane))
+            if front == "cut":
+                counts["cut"] += 1
+                counts["corners"] += len(in_front) + len(behind)
+                below += [(in_front, 2 * node + 1), (behind, 2 * node + 2)]
+            elif front == back:
+                counts["gone"] += 1
+            else:
+                counts["whole"] += 1
+                below.append((piece, 2 * node + (1 if front == "whole" else 2)))
+        pieces = below
 
 
 def behind(polygon, planes):
@@ -91,11 +143,14 @@ STARTS = {
 }
 
 
+def tell(name, counts):
+    print(f"{name}: whole {counts['whole']}, gone {counts['gone']}, cut {counts['cut']} with {counts['corners']} corners")
+
+
 def main(rounds):
     planes = random_planes(1024)
     for name, start in STARTS.items():
-        counts = {"whole": 0, "gone": 0, "cut": 0}
-        corners = 0
+        counts = {"whole": 0, "gone": 0, "cut": 0, "corners": 0}
         for _ in range(rounds):
             polygon = start
             for plane in planes:
@@ -103,10 +158,17 @@ def main(rounds):
                 for side in sides:
                     kind, kept = clip(polygon, side)
                     counts[kind] += 1
-                    corners += len(kept) if kind == "cut" else 0
+                    counts["corners"] += len(kept) if kind == "cut" else 0
                 if name == "chains" and kind != "whole":
                     polygon = kept if kind == "cut" else start
-        print(f"{name}: whole {counts['whole']}, gone {counts['gone']}, cut {counts['cut']} with {corners} corners")
+        tell(name, counts)
+    numbers = Numbers()
+    faces = [face for _ in range(64) for face in faces_of_box(numbers)]
+    tree_planes = [tree_plane(numbers, place) for place in range(1023)]
+    counts = {"whole": 0, "gone": 0, "cut": 0, "corners": 0}
+    for _ in range(rounds):
+        push_down(faces, tree_planes, counts)
+    tell("tree", counts)
 
 
 main(int(sys.argv[1]) if len(sys.argv) > 1 else 1)

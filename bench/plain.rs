@@ -1,10 +1,10 @@
 //! The program of `crates/wind_bench` once more, by hand in plain Rust and with nothing proved, to compare
-//! speeds: `rustc -O bench/plain.rs`. Build it with `--cfg anew` to compute corners anew at each test in
-//! place of keeping them.
+//! speeds: `rustc -O bench/plain.rs`. It keeps the corners of each winding. Build it with `--cfg cuboid` to
+//! keep a cuboid in place of them, as `qm_wind` does, and to compute a corner where it is asked for.
 
 use std::cmp::Ordering;
 
-#[derive(Clone, Copy, Default)]
+#[derive(Clone, Copy, Default, PartialEq)]
 struct Plane {
     nx: i32,
     ny: i32,
@@ -109,11 +109,105 @@ impl<T: Copy + Default> List<T> {
     }
 }
 
+#[cfg(cuboid)]
+#[derive(Clone, Copy)]
+struct Span {
+    low: i32,
+    high: i32,
+}
+
+#[cfg(cuboid)]
+impl Span {
+    #[inline]
+    fn least(&self, n: i32) -> i64 {
+        i64::from(n) * i64::from(if n < 0 { self.high } else { self.low })
+    }
+
+    #[inline]
+    fn greatest(&self, n: i32) -> i64 {
+        i64::from(n) * i64::from(if n < 0 { self.low } else { self.high })
+    }
+
+    fn tightened(&self, n: i32, d: i64) -> Span {
+        let within = |d: i64| d.clamp(self.low.into(), self.high.into()) as i32;
+        match n {
+            1 => Span { low: within(d), high: self.high },
+            -1 => Span { low: self.low, high: within(-d) },
+            _ => *self,
+        }
+    }
+}
+
+#[cfg(cuboid)]
+#[derive(Clone, Copy)]
+struct Cuboid {
+    x: Span,
+    y: Span,
+    z: Span,
+}
+
+#[cfg(cuboid)]
+impl Cuboid {
+    fn whole() -> Cuboid {
+        let span = Span { low: -4096, high: 4096 };
+        Cuboid { x: span, y: span, z: span }
+    }
+
+    #[inline]
+    fn least(&self, g: &Plane) -> i64 {
+        self.x.least(g.nx) + self.y.least(g.ny) + self.z.least(g.nz) - g.d
+    }
+
+    #[inline]
+    fn greatest(&self, g: &Plane) -> i64 {
+        self.x.greatest(g.nx) + self.y.greatest(g.ny) + self.z.greatest(g.nz) - g.d
+    }
+
+    fn tightened(self, g: &Plane) -> Cuboid {
+        match (g.nx, g.ny, g.nz) {
+            (n, 0, 0) => Cuboid { x: self.x.tightened(n, g.d), ..self },
+            (0, n, 0) => Cuboid { y: self.y.tightened(n, g.d), ..self },
+            (0, 0, n) => Cuboid { z: self.z.tightened(n, g.d), ..self },
+            _ => self,
+        }
+    }
+}
+
+/// The corners on one side of a plane.
+#[derive(Clone, Copy)]
+struct Run {
+    some: bool,
+    start: usize,
+    end: usize,
+}
+
+impl Run {
+    #[inline]
+    fn note(&mut self, was: bool, is: bool, place: usize) {
+        self.some |= is;
+        if is && !was {
+            self.start = place;
+        }
+        if was && !is {
+            self.end = place;
+        }
+    }
+}
+
+enum Found {
+    Front,
+    Back,
+    On,
+    Across(Run, Run),
+}
+
 #[derive(Clone)]
 struct Winding {
+    #[cfg(cuboid)]
+    cuboid: Cuboid,
     plane: Plane,
     edges: List<Plane>,
-    #[cfg(not(anew))]
+    #[cfg(not(cuboid))]
     corners: List<Corner>,
 }
 
@@ -132,28 +226,32 @@ enum Side {
 impl Winding {
     fn of(plane: &Plane, edges: &[Plane]) -> Winding {
         let mut kept = List::new();
-        #[cfg(not(anew))]
+        #[cfg(not(cuboid))]
         let mut corners = List::new();
         for i in 0..edges.len() {
             kept.push(edges[i]);
-            #[cfg(not(anew))]
+            #[cfg(not(cuboid))]
             corners.push(Corner::of(plane, &edges[i], &edges[(i + 1) % edges.len()]));
         }
         Winding {
+            #[cfg(cuboid)]
+            cuboid: edges
+                .iter()
+                .fold(Cuboid::whole().tightened(plane).tightened(&plane.flipped()), Cuboid::tightened),
             plane: *plane,
             edges: kept,
-            #[cfg(not(anew))]
+            #[cfg(not(cuboid))]
             corners,
         }
     }
 
-    #[cfg(not(anew))]
+    #[cfg(not(cuboid))]
     #[inline]
     fn corner(&self, i: usize) -> Corner {
         self.corners.as_slice()[i]
     }
 
-    #[cfg(anew)]
+    #[cfg(cuboid)]
     #[inline]
     fn corner(&self, i: usize) -> Corner {
         let edges = self.edges.as_slice();
@@ -168,71 +266,207 @@ impl Winding {
         }
     }
 
-    fn in_front_of(&self, g: &Plane) -> Clip {
-        let edges = self.edges.as_slice();
-        let n = edges.len();
-        let (mut some_front, mut some_behind) = (false, false);
-        let (mut start, mut end) = (0, 0);
-        let first = self.corner(0).side(g);
+    /// The part of a plane across an axis, inside the cube.
+    fn on(plane: &Plane) -> Winding {
+        let wall = |nx, ny, nz| Plane { nx, ny, nz, d: -4096 };
+        let (u, v) = match (plane.nx, plane.ny) {
+            (1, _) => ([0, 1, 0], [0, 0, 1]),
+            (_, 1) => ([0, 0, 1], [1, 0, 0]),
+            _ => ([1, 0, 0], [0, 1, 0]),
+        };
+        let near = |n: [i32; 3]| wall(n[0], n[1], n[2]);
+        let far = |n: [i32; 3]| wall(-n[0], -n[1], -n[2]);
+        Winding::of(plane, &[near(u), near(v), far(u), far(v)])
+    }
+
+    fn kept(self, plane: &Plane, side: Side) -> Winding {
+        match self.clip(plane, side) {
+            Clip::Cut(part) => part,
+            Clip::Whole | Clip::Gone => self,
+        }
+    }
+
+    fn split(self, plane: &Plane) -> (Option<Winding>, Option<Winding>) {
+        match self.found(plane) {
+            Found::Front => (Some(self), None),
+            Found::Back => (None, Some(self)),
+            Found::On => (None, None),
+            Found::Across(front, back) => {
+                (Some(self.part(plane, &front)), Some(self.part(&plane.flipped(), &back)))
+            }
+        }
+    }
+
+    fn in_front_of(&self, plane: &Plane) -> Clip {
+        match self.found(plane) {
+            Found::Front => Clip::Whole,
+            Found::Back | Found::On => Clip::Gone,
+            Found::Across(front, _) => Clip::Cut(self.part(plane, &front)),
+        }
+    }
+
+    #[cfg(not(cuboid))]
+    fn found(&self, plane: &Plane) -> Found {
+        self.found_by_corners(plane)
+    }
+
+    #[cfg(cuboid)]
+    fn found(&self, plane: &Plane) -> Found {
+        let on = || self.plane == *plane || self.plane == plane.flipped();
+        let least = self.cuboid.least(plane);
+        let greatest = self.cuboid.greatest(plane);
+        match (least.cmp(&0), greatest.cmp(&0)) {
+            (Ordering::Less, Ordering::Greater) => self.found_by_corners(plane),
+            (Ordering::Greater, _) => Found::Front,
+            (_, Ordering::Less) => Found::Back,
+            _ if on() => Found::On,
+            (Ordering::Equal, _) => Found::Front,
+            _ => Found::Back,
+        }
+    }
+
+    fn found_by_corners(&self, plane: &Plane) -> Found {
+        let n = self.edges.as_slice().len();
+        let first = self.corner(0).side(plane);
+        let mut front = Run { some: first.is_gt(), start: 0, end: 0 };
+        let mut back = Run { some: first.is_lt(), start: 0, end: 0 };
         let mut before = first;
         for i in 1..=n {
-            let (place, here) = if i == n { (0, first) } else { (i, self.corner(i).side(g)) };
-            some_front |= here.is_gt();
-            some_behind |= here.is_lt();
-            if here.is_gt() && !before.is_gt() {
-                start = place;
-            }
-            if before.is_gt() && !here.is_gt() {
-                end = place;
-            }
+            let (place, here) = if i == n { (0, first) } else { (i, self.corner(i).side(plane)) };
+            front.note(before.is_gt(), here.is_gt(), place);
+            back.note(before.is_lt(), here.is_lt(), place);
             before = here;
         }
-        if !some_front {
-            return Clip::Gone;
+        match (front.some, back.some) {
+            (true, true) => Found::Across(front, back),
+            (true, false) => Found::Front,
+            (false, true) => Found::Back,
+            (false, false) => Found::On,
         }
-        if !some_behind {
-            return Clip::Whole;
-        }
+    }
+
+    /// The part in front of a plane, by the run of the corners there.
+    fn part(&self, plane: &Plane, run: &Run) -> Winding {
+        let edges = self.edges.as_slice();
+        let (n, start, end) = (edges.len(), run.start, run.end);
         let count = if start < end { end - start } else { n - start + end };
         let place = |k: usize| if start + k < n { start + k } else { start + k - n };
         let mut kept = List::new();
-        #[cfg(not(anew))]
+        #[cfg(not(cuboid))]
         let mut corners = List::new();
         for k in 0..=count {
             kept.push(edges[place(k)]);
-            #[cfg(not(anew))]
+            #[cfg(not(cuboid))]
             if k < count {
                 corners.push(self.corner(place(k)));
             }
         }
-        kept.push(*g);
-        #[cfg(not(anew))]
+        kept.push(*plane);
+        #[cfg(not(cuboid))]
         {
-            corners.push(Corner::of(&self.plane, &edges[place(count)], g));
-            corners.push(Corner::of(&self.plane, g, &edges[start]));
+            corners.push(Corner::of(&self.plane, &edges[place(count)], plane));
+            corners.push(Corner::of(&self.plane, plane, &edges[start]));
         }
-        Clip::Cut(Winding {
+        Winding {
+            #[cfg(cuboid)]
+            cuboid: self.cuboid.tightened(plane),
             plane: self.plane,
             edges: kept,
-            #[cfg(not(anew))]
+            #[cfg(not(cuboid))]
             corners,
-        })
+        }
+    }
+}
+
+struct Numbers {
+    state: u64,
+}
+
+impl Numbers {
+    fn next(&mut self) -> u32 {
+        self.state = self.state.wrapping_mul(6364136223846793005).wrapping_add(1442695040888963407);
+        (self.state >> 33) as u32
+    }
+
+    fn point(&mut self, reach: u32) -> [i32; 3] {
+        [(); 3].map(|()| (self.next() % (2 * reach + 1)) as i32 - reach as i32)
+    }
+
+    fn plane(&mut self, reach: u32) -> Plane {
+        let (a, b, c) = (self.point(reach), self.point(reach), self.point(reach));
+        Plane::through(a, b, c).unwrap_or(Plane { nx: 1, ny: 0, nz: 0, d: 0 })
     }
 }
 
 fn planes() -> Vec<Plane> {
-    let mut state: u64 = 1;
-    let mut next = || {
-        state = state.wrapping_mul(6364136223846793005).wrapping_add(1442695040888963407);
-        ((state >> 33) % 8193) as i32 - 4096
-    };
-    let mut point = || [next(), next(), next()];
-    (0..1024)
-        .map(|_| {
-            let (a, b, c) = (point(), point(), point());
-            Plane::through(a, b, c).unwrap_or(Plane { nx: 1, ny: 0, nz: 0, d: 0 })
-        })
-        .collect()
+    let mut numbers = Numbers { state: 1 };
+    (0..1024).map(|_| numbers.plane(4096)).collect()
+}
+
+/// The plane across an axis, so many steps of 64 along it, counted from 2,048 below 0.
+fn across(axis: usize, steps: u32) -> Plane {
+    let mut normal = [0; 3];
+    normal[axis] = 1;
+    Plane { nx: normal[0], ny: normal[1], nz: normal[2], d: i64::from(steps) * 64 - 2048 }
+}
+
+/// The faces of 64 boxes, and the planes of a tree of ten levels, each eighth of which is slanted.
+struct Tree {
+    faces: Vec<Winding>,
+    planes: Vec<Plane>,
+}
+
+impl Tree {
+    fn new() -> Tree {
+        let mut numbers = Numbers { state: 1 };
+        let faces = (0..64).flat_map(|_| faces_of_box(&mut numbers)).collect();
+        let planes = (0..1023)
+            .map(|place| {
+                if place % 8 == 7 {
+                    numbers.plane(2048)
+                } else {
+                    let axis = numbers.next() as usize % 3;
+                    across(axis, numbers.next() % 65)
+                }
+            })
+            .collect();
+        Tree { faces, planes }
+    }
+
+    fn push_down(&self, tally: &mut Tally) {
+        let mut pieces: Vec<(Winding, usize)> = self.faces.iter().map(|face| (face.clone(), 0)).collect();
+        for _ in 0..10 {
+            let mut below = Vec::with_capacity(pieces.len());
+            for (winding, node) in pieces {
+                let (front, back) = winding.split(&self.planes[node]);
+                tally.note_halves(&front, &back);
+                if let Some(part) = front {
+                    below.push((part, 2 * node + 1));
+                }
+                if let Some(part) = back {
+                    below.push((part, 2 * node + 2));
+                }
+            }
+            pieces = below;
+        }
+    }
+}
+
+fn faces_of_box(numbers: &mut Numbers) -> Vec<Winding> {
+    let low = [(); 3].map(|()| numbers.next() % 48);
+    let high = low.map(|low| low + 1 + numbers.next() % 16);
+    let mut faces = Vec::new();
+    for axis in 0..3 {
+        for end in [low[axis], high[axis]] {
+            let mut face = Winding::on(&across(axis, end));
+            for other in (0..3).filter(|other| *other != axis) {
+                face = face.kept(&across(other, low[other]), Side::Front);
+                face = face.kept(&across(other, high[other]), Side::Back);
+            }
+            faces.push(face);
+        }
+    }
+    faces
 }
 
 fn square() -> Winding {
@@ -290,19 +524,36 @@ impl Tally {
             }
         }
     }
+
+    fn note_halves(&mut self, front: &Option<Winding>, back: &Option<Winding>) {
+        match (front, back) {
+            (Some(front), Some(back)) => {
+                self.cut += 1;
+                self.corners += (front.edges.as_slice().len() + back.edges.as_slice().len()) as u64;
+            }
+            (None, None) => self.gone += 1,
+            _ => self.whole += 1,
+        }
+    }
 }
 
 fn main() {
     let words: Vec<String> = std::env::args().skip(1).collect();
     let rounds = words.get(1).and_then(|w| w.parse::<u32>().ok()).unwrap_or(1);
     let planes = planes();
-    for name in ["squares", "octagons", "misses", "chains"] {
+    for name in ["squares", "octagons", "misses", "chains", "tree"] {
         if words.first().is_some_and(|w| w != name) {
             continue;
         }
         let mut tally = Tally::default();
+        if name == "tree" {
+            let tree = Tree::new();
+            for _ in 0..rounds {
+                tree.push_down(&mut tally);
+            }
+        }
         let start = start(name);
-        for _ in 0..rounds {
+        for _ in 0..if name == "tree" { 0 } else { rounds } {
             let mut winding = start.clone();
             for plane in &planes {
                 if name != "chains" {

@@ -1,7 +1,7 @@
 #!/usr/bin/env bash
-# Times clips of windings: builds crates/wind_bench and, where rustc is on the PATH, the plain Rust programs
-# of bench/plain.rs, and prints for each stream how many millions of clips a second each of them does, by
-# processor time, at the best of five runs. `bench/windings.sh ROUNDS` takes longer or shorter streams.
+# Times cuts of windings: builds crates/wind_bench and, where rustc is on the PATH, the plain Rust programs
+# of bench/plain.rs, and prints for each stream how many millions of windings a second each of them
+# cuts, by processor time, at the best of five runs. `bench/windings.sh ROUNDS` takes longer or shorter streams.
 set -euo pipefail
 cd "$(dirname "${BASH_SOURCE[0]}")/.."
 rounds=${1:-2000}
@@ -16,8 +16,8 @@ cp crates/wind_bench/out/wind_bench "$folder/proved"
 programs=(proved)
 if command -v rustc >/dev/null; then
     rustc -O bench/plain.rs -o "$folder/plain"
-    rustc -O --cfg anew bench/plain.rs -o "$folder/plain_anew"
-    programs+=(plain plain_anew)
+    rustc -O --cfg cuboid bench/plain.rs -o "$folder/plain_cuboid"
+    programs+=(plain plain_cuboid)
 fi
 
 seconds() { # seconds PROGRAM STREAM: the least processor time of five runs
@@ -32,14 +32,13 @@ seconds() { # seconds PROGRAM STREAM: the least processor time of five runs
 }
 
 printf '%-10s' stream
-printf '%12s' "${programs[@]}"
-printf '   million clips a second\n'
-for stream in squares octagons misses chains; do
-    clips=$((rounds * 2048))
-    [[ $stream == chains ]] && clips=$((rounds * 1024))
+printf '%14s' "${programs[@]}"
+printf '   million windings a second\n'
+for stream in squares octagons misses chains tree; do
     printf '%-10s' "$stream"
     for program in "${programs[@]}"; do
-        awk -v clips="$clips" -v time="$(seconds "$program" "$stream")" 'BEGIN { printf "%12.2f", clips / time / 1000000 }'
+        time=$(seconds "$program" "$stream")
+        awk -v time="$time" '{ printf "%14.2f", ($3 + $5 + $7) / time / 1000000 }' "$folder/counts.$program"
         cmp -s "$folder/counts.proved" "$folder/counts.$program" || printf ' (other counts)'
     done
     printf '\n'

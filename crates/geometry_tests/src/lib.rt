@@ -12,4 +12,6 @@ mod shapes;
 #[cfg(test)]
 mod slow;
 #[cfg(test)]
+mod splits;
+#[cfg(test)]
 mod windings;

@@ -1,32 +1,13 @@
-use super::cube::{END, FIRST, OTHERS, SECOND, joined};
+use super::boxes::{BoxRow, world};
+use super::cube::{END, FIRST, OTHERS, joined};
 use super::cube_file::CUBE_FILE;
-use super::outside::gives;
-use super::printed::{NOT_BUILT, SUMMARY};
+use super::empty_file::{EMPTY_FILE, EMPTY_SUMMARY};
+use super::outside::{Outside, gives};
+use super::printed::SUMMARY;
+use super::room::ROOM;
 use std::alloc::{AllocError, Global};
 use std::test::Fail;
-
-/// The tree file of one node on the plane x = 0 with two empty leaves, worked out by hand from the table of
-/// the format.
-const OPPOSED_FILE: [u8; 91] = [
-    // magic QMTREE01
-    0x51, 0x4D, 0x54, 0x52, 0x45, 0x45, 0x30, 0x31,
-    // planes 1, nodes 1, leaves 2, numbered 2, no rows
-    0x01, 0x00, 0x00, 0x00, 0x00, 0x00, 0x00, 0x00, 0x01, 0x00, 0x00, 0x00, 0x00, 0x00, 0x00, 0x00,
-    0x02, 0x00, 0x00, 0x00, 0x00, 0x00, 0x00, 0x00, 0x02, 0x00, 0x00, 0x00, 0x00, 0x00, 0x00, 0x00,
-    0x00,
-    // plane 0: x = 0
-    0x01, 0x00, 0x00, 0x00, 0x00, 0x00, 0x00, 0x00, 0x00, 0x00, 0x00, 0x00, 0x00, 0x00, 0x00, 0x00,
-    0x00, 0x00, 0x00, 0x00,
-    // node 0: plane 0, leaf 0 in front, leaf 1 behind
-    0x00, 0x00, 0x00, 0x00, 0xFF, 0xFF, 0xFF, 0xFF, 0xFF, 0xFF, 0xFF, 0xFF, 0xFE, 0xFF, 0xFF, 0xFF,
-    0xFF, 0xFF, 0xFF, 0xFF,
-    // leaf 0 and leaf 1: empty
-    0xFF, 0xFF, 0xFF, 0xFF, 0x00, 0xFF, 0xFF, 0xFF, 0xFF, 0x00,
-];
-
-/// The beginning of the cube, with a first face that is turned against the next.
-const OPPOSED: &str = "{ { ( 0 0 0 ) ( 0 1 0 ) ( 0 0 1 ) stone 0 0 0 1 1\n\
-    ( 0 0 1 ) ( 0 1 0 ) ( 0 0 0 ) stone 0 0 0 1 1\n";
+use std::thread::Threads;
 
 /// The end of the cube, with a face on its first plane once more.
 const AGAIN: &str = "( 0 7 9 ) ( 0 8 9 ) ( 0 7 10 ) stone 0 0 0 1 1\n}\n}\n";
@@ -39,15 +20,50 @@ const AMONG: &str = "// a cube\r\n{ \"classname\" \"worldspawn\"\n\
 const DOOR: &str =
     "} }\n{ \"classname\" \"func_door\" { ( 9 0 0 ) ( 9 1 0 ) ( 9 0 1 ) stone 0 0 0 1 1 } }";
 
+/// A brush of two faces that are turned against each other on one plane.
+const OPPOSED: &str = "{\n( 0 0 0 ) ( 0 1 0 ) ( 0 0 1 ) stone 0 0 0 1 1\n\
+    ( 0 0 1 ) ( 0 1 0 ) ( 0 0 0 ) stone 0 0 0 1 1\n}\n";
+
+/// A brush of two faces that look away from each other, with nothing behind both.
+const APART: &str = "{\n( 0 0 0 ) ( 0 1 0 ) ( 1 0 0 ) stone 0 0 0 1 1\n\
+    ( 0 0 128 ) ( 1 0 128 ) ( 0 1 128 ) stone 0 0 0 1 1\n}\n";
+
+const CUBE: BoxRow = ("stone", [0, 0, 0], [64, 64, 64]);
+
+const WALLS: [BoxRow; 5] = [
+    ("stone", [-80, -80, -16], [80, 80, 0]),
+    ("stone", [-80, -80, 96], [80, 80, 112]),
+    ("stone", [-80, -80, 0], [80, -64, 96]),
+    ("stone", [-80, 64, 0], [80, 80, 96]),
+    ("stone", [-80, -64, 0], [-64, 64, 96]),
+];
+
+const ROUND_A_CORNER: [BoxRow; 12] = [
+    ("stone", [-144, -80, -16], [112, 192, 0]),
+    ("stone", [-144, -80, 96], [112, 192, 112]),
+    ("stone", [-144, -80, 0], [112, -64, 96]),
+    ("stone", [-144, -64, 0], [-128, 192, 96]),
+    ("stone", [96, -64, 0], [112, 192, 96]),
+    ("stone", [-128, 64, 0], [-16, 192, 96]),
+    ("stone", [-16, 64, 0], [0, 192, 96]),
+    ("stone", [0, 176, 0], [96, 192, 96]),
+    ("stone", [0, 64, 64], [96, 80, 96]),
+    ("stone", [-16, -64, 64], [0, 64, 96]),
+    ("stone", [-16, -32, 0], [0, 64, 64]),
+    ("stone", [32, 64, 0], [96, 80, 64]),
+];
+
+/// Texts that mean the cube, and a world without brushes.
 #[test]
-fn compiles_one_brush(rt: HostRuntime) -> Result<(), Fail> {
+fn compiles_small_worlds(rt: HostRuntime) -> Result<(), Fail> {
     let cube = CUBE_FILE.as_slice();
-    let summary = "brushes 1\nplanes 1\nnodes 1\nleaves 2\n";
+    let empty = EMPTY_FILE.as_slice();
     let rows = [
         ([FIRST, OTHERS, END], SUMMARY, cube),
         ([FIRST, OTHERS, AGAIN], SUMMARY, cube),
         ([AMONG, OTHERS, DOOR], SUMMARY, cube),
-        ([OPPOSED, OTHERS, END], summary, OPPOSED_FILE.as_slice()),
+        (["{ }", "", ""], EMPTY_SUMMARY, empty),
+        (["{ } ", FIRST, "} }"], EMPTY_SUMMARY, empty),
     ];
     for (parts, printed, file) in rows {
         let text = joined(rt.alloc(), parts)?;
@@ -78,7 +94,7 @@ fn cube_file_of(alloc: Global, numbered: u8, code: u8) -> Result<Vec<u8>, AllocE
     Ok(file)
 }
 
-/// The name on the first face decides what the inner leaf holds.
+/// The name on the first face decides what the inner leaf holds; a cube that is clip is no part of the world.
 #[test]
 fn names_give_contents(rt: HostRuntime) -> Result<(), Fail> {
     let rows = [
@@ -86,7 +102,7 @@ fn names_give_contents(rt: HostRuntime) -> Result<(), Fail> {
         ("*lava", 7, 0xFB),
         ("*Slime2", 7, 0xFC),
         ("*x", 7, 0xFD),
-        ("SKY9", 7, 0xFA),
+        ("Sky1", 7, 0xFA),
         ("\"\"", 6, 0xFE),
     ];
     for (name, numbered, code) in rows {
@@ -94,21 +110,70 @@ fn names_give_contents(rt: HostRuntime) -> Result<(), Fail> {
         let file = cube_file_of(rt.alloc(), numbered, code)?;
         assert!(rt; gives(&rt, "compile", &text, 0, SUMMARY, Some(file.as_slice()))?);
     }
+    for name in ["clip", "CLIP"] {
+        let text = named_cube(rt.alloc(), name)?;
+        assert!(rt; gives(&rt, "compile", &text, 0, EMPTY_SUMMARY, Some(EMPTY_FILE.as_slice()))?);
+    }
     Ok(())
 }
 
-/// No tree is built where the world has no brush but clip, or two.
+/// Whether a text compiles with these counts of brushes, flat ones, planes, nodes and leaves, to a file of this
+/// length.
+fn counts<R: AllocGlobal + Threads + Sync>(
+    rt: &R,
+    text: &str,
+    counts: [u64; 5],
+    length: usize,
+) -> Result<bool, AllocError> {
+    let [brushes, flat, planes, nodes, leaves] = counts;
+    let printed = format!(in rt.alloc(); "brushes {brushes}\nflat {flat}\nplanes {planes}\nnodes {nodes}\nleaves {leaves}\n")?;
+    let mut outside = Outside::new(rt.alloc(), text.as_bytes())?;
+    let says = outside.says(rt, &["compile", "map", "out"], 0, &printed);
+    let is_long = outside.shelf.get("out").is_some_and(|file| file.len() == length);
+    Ok(says && is_long)
+}
+
+/// A box that ends at the wall of the cube, flat brushes, solids that share a face, and water round stone in both
+/// orders.
 #[test]
-fn builds_nothing_from_other_worlds(rt: HostRuntime) -> Result<(), Fail> {
+fn counts_what_boxes_give(rt: HostRuntime) -> Result<(), Fail> {
+    let wall = ("stone", [0, 0, 0], [4096, 64, 64]);
+    let above = ("stone", [0, 0, 64], [64, 64, 128]);
+    let water = ("*water1", [0, 0, 0], [64, 64, 64]);
+    let stone = ("stone", [16, 16, 16], [48, 48, 48]);
     let rows = [
-        joined(rt.alloc(), ["{ }", "", ""])?,
-        joined(rt.alloc(), [FIRST, OTHERS, SECOND])?,
-        joined(rt.alloc(), ["{ } ", FIRST, "} }"])?,
-        named_cube(rt.alloc(), "clip")?,
-        named_cube(rt.alloc(), "CLIP")?,
+        ("", [wall, wall], [2, 0, 6, 5, 6], 291),
+        (APART, [CUBE, above], [3, 1, 7, 6, 7], 336),
+        (OPPOSED, [CUBE, CUBE], [3, 1, 6, 6, 7], 316),
+        ("", [water, stone], [2, 0, 12, 12, 13], 586),
+        ("", [stone, water], [2, 0, 12, 24, 25], 886),
     ];
-    for text in &rows {
-        assert!(rt; gives(&rt, "compile", text, 10, NOT_BUILT, None)?);
+    for (brushes, boxes, wanted, length) in rows {
+        let text = world(rt.alloc(), brushes, &boxes)?;
+        assert!(rt; counts(&rt, &text, wanted, length)?);
     }
+    let flat = world(rt.alloc(), OPPOSED, &[])?;
+    assert!(rt; counts(&rt, &flat, [1, 1, 1, 0, 1], 66)?);
+    Ok(())
+}
+
+/// A room, as boxes and as an editor writes it, the room with a hole in a wall, and three rooms round a corner.
+#[test]
+fn counts_what_rooms_give(rt: HostRuntime) -> Result<(), Fail> {
+    let mut room = Vec::from_slice(rt.alloc(), &WALLS)?;
+    room.push(("stone", [64, -64, 0], [80, 64, 96]))?;
+    let mut hole = Vec::from_slice(rt.alloc(), &WALLS)?;
+    hole.push(("stone", [64, -64, 0], [80, 0, 96]))?;
+    hole.push(("stone", [64, 1, 0], [80, 64, 96]))?;
+    let rows = [
+        (room.as_slice(), [6, 0, 12, 12, 13], 586),
+        (hole.as_slice(), [7, 0, 14, 14, 15], 676),
+        (ROUND_A_CORNER.as_slice(), [12, 0, 19, 22, 23], 976),
+    ];
+    for (boxes, wanted, length) in rows {
+        let text = world(rt.alloc(), "", boxes)?;
+        assert!(rt; counts(&rt, &text, wanted, length)?);
+    }
+    assert!(rt; counts(&rt, ROOM, [6, 0, 12, 12, 13], 586)?);
     Ok(())
 }

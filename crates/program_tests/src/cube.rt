@@ -17,19 +17,6 @@ pub const END: &str = "}
 }
 ";
 
-/// The end of the first brush, a second one beside it, and the end.
-pub const SECOND: &str = "}
-{
-( 128 0 0 ) ( 128 1 0 ) ( 128 0 1 ) stone 0 0 0 1 1
-( 192 0 0 ) ( 192 0 1 ) ( 192 1 0 ) stone 0 0 0 1 1
-( 0 0 0 ) ( 0 0 1 ) ( 1 0 0 ) stone 0 0 0 1 1
-( 0 64 0 ) ( 1 64 0 ) ( 0 64 1 ) stone 0 0 0 1 1
-( 0 0 0 ) ( 1 0 0 ) ( 0 1 0 ) stone 0 0 0 1 1
-( 0 0 64 ) ( 0 1 64 ) ( 1 0 64 ) stone 0 0 0 1 1
-}
-}
-";
-
 /// One text of three parts.
 pub fn joined(alloc: Global, parts: [&str; 3]) -> Result<Vec<u8>, AllocError> {
     let mut text = Vec::new(alloc);

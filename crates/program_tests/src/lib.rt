@@ -3,6 +3,8 @@
 #![tactic(auto)]
 
 #[cfg(test)]
+mod boxes;
+#[cfg(test)]
 mod compiled;
 #[cfg(test)]
 mod cube;
@@ -10,6 +12,8 @@ mod cube;
 mod cube_file;
 #[cfg(test)]
 mod devices;
+#[cfg(test)]
+mod empty_file;
 #[cfg(test)]
 mod folder;
 #[cfg(test)]

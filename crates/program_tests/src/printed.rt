@@ -1,6 +1,6 @@
 //! The printed texts.
 
-pub const SUMMARY: &str = "brushes 1\nplanes 6\nnodes 6\nleaves 7\n";
+pub const SUMMARY: &str = "brushes 1\nflat 0\nplanes 6\nnodes 6\nleaves 7\n";
 
 pub const USAGE: &str =
     "usage: qmapc compile MAP OUT [--prt FILE] [--threads N] [--fast] | inspect TREE QUERY.. | format MAP OUT | demo N NUMBER\n";
@@ -8,7 +8,5 @@ pub const USAGE: &str =
 pub const READ_FAULT: &str = "read fault\n";
 
 pub const WRITE_FAULT: &str = "write fault\n";
-
-pub const NOT_BUILT: &str = "not built\n";
 
 pub const UNEXPECTED: &str = "map fault 3 at line 1: unexpected\n";

@@ -1,5 +1,5 @@
 -- What a valid map says of the brushes of its world.
-use Rattle.std.proofs.Common.{ℕ, zero, suc, ◌<◌, ◌≤◌, List, [], ◌∷◌, length, get_or, All, arith}
+use Rattle.std.proofs.Common.{◌≡◌, ℕ, zero, suc, ◌<◌, ◌≤◌, List, [], ◌∷◌, length, get_or, All, sym, subst, arith}
 use Rattle.std.specs.Prelude.{sum_by}
 use Rattle.std.proofs.lemmas.List.Sums.{sum_by-cons}
 use Rattle.qm_mapfile.specs.declared.entity.Brush.{Brush}
@@ -42,3 +42,17 @@ valid_brushes map valid = λ k d within.
     let few = world_few map.entities k d within in
     let brush = world_brush_valid map.entities valid.1 k d within in
     record { few = omega (arith, few, valid.3); faces = brush.faces }
+
+-- the faces of the world are no more than those of the map
+faces_of_first : (entities : List Entity) → sum_by (λ brush. length brush.faces) (brushes_of_first entities) ≤ sum_by face_count entities
+faces_of_first [] = omega arith
+faces_of_first (world ∷ others) = omega (arith, sum_by-cons face_count world others)
+
+pub world_faces : (map : MapFile) → IsValid map → sum_by (λ brush. length brush.faces) (world_brushes map) ≤ face_limit
+unfolding IsValid
+world_faces map valid = let few = faces_of_first map.entities in omega (arith, few, valid.3)
+
+-- a brush of the world, by its place
+pub valid_brush_at : (map : MapFile) → IsValid map → (brushes : List Brush) (k : ℕ) (brush : Brush) → brushes ≡ world_brushes map → k < length brushes → brush ≡ get_or brushes k brush → HasValidFaces brush
+valid_brush_at map valid brushes k brush are within is =
+    subst HasValidFaces (sym is) (subst (λ (bs : List Brush). All HasValidFaces bs) (sym are) (valid_brushes map valid) k brush within)

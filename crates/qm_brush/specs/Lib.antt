@@ -1,3 +1,4 @@
 pub mod Brushes
 pub mod Solids
 pub mod Planes
+pub mod inner

@@ -1,7 +1,15 @@
 //! From a map to the solids of its world: which brushes it has, what fills them, and behind which planes they lie.
 #![tactic(auto)]
 
-mod brushes;
+mod brush_list;
+mod entering;
+mod entry;
+mod fullness;
+mod listing;
+mod sides;
+mod world;
 
-pub use brushes::{contents_of_brush, world_brushes};
+pub use brush_list::BrushList;
+pub use listing::brushes;
 pub use qm_contents::Contents;
+pub use qm_solids::FaceRef;

@@ -5,7 +5,7 @@ use Rattle.qm_grammar.specs.declared.fault.MapFault.TheVariants.{Memory}
 use Rattle.qm_grammar.specs.Meaning.{IsMapText, IsFaultText}
 use Rattle.qm_compile.specs.declared.command.Command.{Command}
 use Rattle.qm_compile.specs.declared.made.Made.{Made}
-use Rattle.qm_compile.specs.declared.made.Made.TheVariants.{Product, Fault, NotBuilt}
+use Rattle.qm_compile.specs.declared.made.Made.TheVariants.{Product, Fault}
 use Rattle.qm_compile.specs.inner.Made.{ComesOfMap, ComesOfText, IsFaultAlone}
 
 -- What comes of the map that a text means, or of its fault, comes of the text.
@@ -13,10 +13,8 @@ use Rattle.qm_compile.specs.inner.Made.{ComesOfMap, ComesOfText, IsFaultAlone}
 pub of_map : (command : Command) (text : List ℕ) (map : MapFile) → IsMapText text map → (made : Made) → ComesOfMap command map made → ComesOfText command text made
 of_map command text map means (Product product) comes = (map, means, comes)
 of_map command text map means (Fault found) comes = absurd comes
-of_map command text map means NotBuilt comes = (map, means, comes)
 
 pub of_fault : (command : Command) (text : List ℕ) (found : MapFault) → (found ≢ Memory → IsFaultText text found) → (made : Made) → IsFaultAlone found made → ComesOfText command text made
 of_fault command text found fails (Product product) alone = absurd alone
 of_fault command text found fails (Fault its) alone =
     subst (λ (f : MapFault). IsFaultText text f) (sym alone.0) (fails alone.1)
-of_fault command text found fails NotBuilt alone = absurd alone

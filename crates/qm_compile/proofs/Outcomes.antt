@@ -1,4 +1,4 @@
-use Rattle.std.proofs.Common.{◌≡◌, ℕ, List, Some, take, ◌⊎◌, inl, inr, sym, subst, ap, ◌∙◌, Ok}
+use Rattle.std.proofs.Common.{◌≡◌, ℕ, List, Some, take, ◌⊎◌, inl, inr, subst, ap, ◌∙◌, Ok}
 use Rattle.std.specs.Prelude.{IsTrue}
 use Rattle.qm_shelf.specs.ShelfState.{ShelfState}
 use Rattle.qm_shelf.specs.ShelfChanges.{IsKept, IsKeptElsewhere, MetNoFault, WriteFaultMeans}
@@ -34,7 +34,7 @@ module _ (before between after : ShelfState) (command : Command) (map_name out_n
   part_written : HoldsUnfinished between after out_name bytes → HoldsTheSame before after out_name ⊎ HoldsPart before after command map_name out_name
   part_written (inl nothing) = inl (nothing ∙ kept out_name)
   part_written (inr part) =
-      inr (map, its_meaning, made.takes, (part.0, part.1 ∙ ap (λ (b : List ℕ). Some (take part.0 b)) (same ∙ made.is_file)))
+      inr (map, file, summary, its_meaning, made, (part.0, part.1 ∙ ap (λ (b : List ℕ). Some (take part.0 b)) same))
 
   -- writing the file stopped on the way
   stopped_writing : (IsTrue before.tells → HoldsUnfinished between after out_name bytes) → IsUnfinished before after command map_name out_name
@@ -44,18 +44,18 @@ module _ (before between after : ShelfState) (command : Command) (map_name out_n
   }
 
   -- the file was written whole
-  all_written : (IsTrue before.tells → HoldsExactly after out_name bytes) → IsDone before after command map_name out_name map
+  all_written : (IsTrue before.tells → HoldsExactly after out_name bytes) → IsDone before after command map_name out_name summary
   all_written wrote = record {
     others = λ name other. others name other ∙ kept name;
-    file = λ tells. wrote tells ∙ ap (λ (b : List ℕ). Some b) (same ∙ made.is_file);
+    map = map;
     is_meant = its_meaning;
-    takes = made.takes;
-    is_true = made.is_true;
+    file = file;
+    is_made = made;
+    holds = λ tells. wrote tells ∙ ap (λ (b : List ℕ). Some b) same;
   }
 
   pub done_due : (IsTrue before.tells → HoldsExactly after out_name bytes) → MetNoFault between after → ComesOf before after command map_name out_name Done summary
-  done_due wrote none =
-      subst (λ (t : List ℕ). ComesOf before after command map_name out_name Done t) (sym made.is_summary) (done (all_written wrote) (no_fault_twice before between after no_fault none))
+  done_due wrote none = done (all_written wrote) (no_fault_twice before between after no_fault none)
 
   -- what the fault of the write means, as the fault of the command
   fault_since : (fault its : ShelfFault) → fault ≡ its → WriteFaultMeans between after out_name fault → WriteFaultMeans before after out_name its
@@ -64,7 +64,7 @@ module _ (before between after : ShelfState) (command : Command) (map_name out_n
 
   pub write_fault_due : (IsTrue before.tells → HoldsUnfinished between after out_name bytes) → (fault : ShelfFault) → fault ≡ Failed → WriteFaultMeans between after out_name fault → ComesOf before after command map_name out_name WriteFault write_fault_text
   write_fault_due stopped fault is means =
-      write_fault its_meaning made.takes (fault_since fault Failed is means) (stopped_writing stopped)
+      write_fault its_meaning (fault_since fault Failed is means) (stopped_writing stopped)
 
   pub cut_short : (IsTrue before.tells → HoldsUnfinished between after out_name bytes) → (fault : ShelfFault) → fault ≡ Memory → WriteFaultMeans between after out_name fault → IsCutShort before after command map_name out_name
   cut_short stopped fault is means = record { no_fault = fault_since fault Memory is means; unfinished = stopped_writing stopped }

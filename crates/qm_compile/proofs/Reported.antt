@@ -1,7 +1,7 @@
 use Rattle.std.proofs.Common.{◌≡◌, ℕ, List, sym, subst, inl, inr}
 use Rattle.qm_shelf.specs.Outside.{Outside}
 use Rattle.qm_compile.specs.declared.outcome.Outcome.{Outcome}
-use Rattle.qm_compile.specs.declared.outcome.Outcome.TheVariants.{Done, Usage, ReadFault, MapFault, WriteFault, NotBuilt}
+use Rattle.qm_compile.specs.declared.outcome.Outcome.TheVariants.{Done, Usage, ReadFault, MapFault, WriteFault}
 use Rattle.qm_compile.specs.declared.status.Status.{Status}
 use Rattle.qm_compile.specs.declared.status.Status.TheVariants as status
 use Rattle.qm_compile.specs.inner.Outcome.{status_of}
@@ -17,7 +17,6 @@ module _ (words : List (List ℕ)) (before after : Outside) where
   answers_due ReadFault reports = reports
   answers_due (MapFault text) reports = reports
   answers_due WriteFault reports = inl reports
-  answers_due NotBuilt reports = reports
 
   -- the text that was due was printed, so the status that was due is answered
   pub answers_report : (outcome : Outcome) (answer : Status) → answer ≡ status_of outcome → Reports words before after (status_of outcome) → Answers words before after answer

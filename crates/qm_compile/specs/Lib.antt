@@ -1,15 +1,12 @@
-pub mod Chain
 pub mod ComesOf
 pub mod Command
 pub mod FaultText
-pub mod GivesContents
-pub mod OneBrush
 pub mod Product
 pub mod Run
-pub mod Sides
 pub mod StatusNumber
+pub mod Summary
 pub mod TextMeans
 pub mod Texts
 pub mod TreeFile
-pub mod Walk
+pub mod TreeOfMap
 pub mod inner

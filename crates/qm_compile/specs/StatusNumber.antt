@@ -1,6 +1,6 @@
 use Rattle.std.specs.Prelude.{ℕ}
 use Rattle.qm_compile.specs.declared.status.Status.{Status}
-use Rattle.qm_compile.specs.declared.status.Status.TheVariants.{Done, Usage, MapFault, ReadFault, WriteFault, Memory, NotBuilt}
+use Rattle.qm_compile.specs.declared.status.Status.TheVariants.{Done, Usage, MapFault, ReadFault, WriteFault, Memory}
 
 -- the exit status of the program
 abbrev pub number_of : Status → ℕ
@@ -10,4 +10,3 @@ number_of MapFault = 4
 number_of ReadFault = 5
 number_of WriteFault = 6
 number_of Memory = 7
-number_of NotBuilt = 10

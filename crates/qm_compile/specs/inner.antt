@@ -1,4 +1,3 @@
-pub mod ChainStep
+pub mod FlatCount
 pub mod Made
 pub mod Outcome
-pub mod SideLists

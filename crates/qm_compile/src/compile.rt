@@ -1,87 +1,70 @@
 //! From a map to the bytes of its tree file.
 
-ghost use Rattle.std.specs.Prelude.{◌≡◌, ◌≤◌, ◌^◌, ◌++◌, length, All, if◌then◌else◌, IfOk, MatchOption, codes, string_bytes};
-ghost use Rattle.qm_grammar.specs.Valid.{IsValid, IsValidFace};
+ghost use Rattle.std.specs.Prelude.{◌≡◌, ◌++◌, length, IfOk, OnOk, string_bytes};
+ghost use Rattle.qm_grammar.specs.Valid.{IsValid};
 ghost use Rattle.qm_compile.specs.declared.command.Command.TheVariants.{Compile};
-ghost use Rattle.qm_compile.specs.Chain.{tree_of_walk};
-ghost use Rattle.qm_compile.specs.Product.{IsProduct, HasNoOneBrush};
-ghost use Rattle.qm_compile.specs.Texts.{count_line, tree_summary};
-ghost use Rattle.qm_compile.specs.TreeFile.{file_of};
-ghost use Rattle.qm_compile.specs.Walk.{walk_of};
+ghost use Rattle.qm_compile.specs.Product.{IsProduct};
+ghost use Rattle.qm_compile.specs.Summary.{compile_summary, tree_counts};
+ghost use Rattle.qm_compile.specs.inner.FlatCount.{flat_count};
 
-use crate::chain::{leaves_of_chain, nodes_of_chain};
 use crate::count_lines::put_count_line;
 use crate::made::Product;
-use crate::one_brush::one_brush;
 use crate::tree_file::encode;
-use crate::walk::{Walk, walk_along};
-use qm_brush::contents_of_brush;
-use qm_contents::Contents;
-use qm_mapfile::{Face, MapFile};
+use qm_brush::{BrushList, brushes};
+use qm_build::build;
+use qm_geom::PlaneBook;
+use qm_mapfile::MapFile;
+use qm_tree::Tree;
 use std::alloc::{AllocError, Global};
 
-/// Compiles a map to a tree that gives each point the contents that the map's brushes define there, with
-/// its summary. It is `None` exactly where not exactly one brush of the world is not clip.
-pub fn compile(alloc: Global, map: &MapFile) -> Result<Option<Product>, AllocError>
+/// Compiles a map to the file of its tree, with its summary.
+pub fn compile(alloc: Global, map: &MapFile) -> Result<Product, AllocError>
     requires { IsValid map.now }
-    ensures { IfOk result (λ found. MatchOption found (HasNoOneBrush map.now)
-        (λ product. IsProduct Compile map.now product.file.items (string_bytes product.summary))) }
+    ensures { IfOk result
+        (λ product. IsProduct Compile map.now product.file.items (string_bytes product.summary)) }
 {
-    let Some(brush) = one_brush(map) else {
-        return Ok(None);
-    };
-    let contents = contents_of_brush(brush).unwrap();
-    let product = compile_faces(alloc, brush.faces.as_slice(), contents)?;
-    Ok(Some(product))
-}
-
-/// Compiles the one brush of a map, which has these faces and contents, to a chain.
-fn compile_faces(alloc: Global, faces: &[Face], contents: Contents) -> Result<Product, AllocError>
-    requires few { length faces.now ≤ 2 ^ 26 }
-    requires valid { All IsValidFace faces.now }
-    ensures file { IfOk result
-        (λ product. product.file.items ≡ file_of (tree_of_walk (walk_of faces.now) contents)) }
-    ensures summary { IfOk result
-        (λ product. string_bytes product.summary ≡ tree_summary 1 (tree_of_walk (walk_of faces.now) contents)) }
-{
-    let walk = walk_along(alloc, faces)?;
-    let last = last_contents(&walk, contents);
-    let planes = walk.planes.planes();
-    let nodes = nodes_of_chain(alloc, &walk.out_is_front)?;
-    let leaves = leaves_of_chain(alloc, &walk.out_is_front, last)?;
-    let file = encode(alloc, planes, &nodes, &leaves)?;
-    let summary = summary(alloc, 1, planes.len(), nodes.len(), leaves.len())?;
+    let mut book = PlaneBook::new(alloc);
+    let list = brushes(alloc, map, &mut book)?;
+    let tree = build(alloc, &list, &book)?;
+    let summary = summary(alloc, &list, &tree)?;
+    drop(list);
+    drop(book);
+    let file = encode(alloc, &tree)?;
     Ok(Product { file, summary })
 }
 
-/// What the last leaf of a chain has: the contents of the brush, or nothing where one of its faces is
-/// turned against another.
-fn last_contents(walk: &Walk, contents: Contents) -> Contents
-    ensures { result ≡ (if walk.now.is_opposed then Contents.Empty else contents) }
-{
-    if walk.is_opposed {
-        Contents::Empty
-    } else {
-        contents
-    }
-}
-
 /// A line for each count.
-fn summary(
-    alloc: Global,
-    brushes: usize,
-    planes: usize,
-    nodes: usize,
-    leaves: usize,
-) -> Result<String, AllocError>
-    ensures { IfOk result (λ text. string_bytes text ≡
-        count_line (codes "brushes") brushes ++ (count_line (codes "planes") planes
-        ++ (count_line (codes "nodes") nodes ++ count_line (codes "leaves") leaves))) }
+#[tactic(auto, unfolding(crate::specs::Summary::compile_summary))]
+fn summary(alloc: Global, list: &BrushList, tree: &Tree) -> Result<String, AllocError>
+    ensures { IfOk result
+        (λ text. string_bytes text ≡ compile_summary (length list.now) (flat_count list.now) tree.now) }
 {
     let mut text = String::new(alloc);
-    put_count_line(&mut text, "brushes", brushes)?;
-    put_count_line(&mut text, "planes", planes)?;
-    put_count_line(&mut text, "nodes", nodes)?;
-    put_count_line(&mut text, "leaves", leaves)?;
+    put_count_line(&mut text, "brushes", list.len())?;
+    put_count_line(&mut text, "flat", count_flat(list))?;
+    put_tree_counts(&mut text, tree)?;
     Ok(text)
+}
+
+/// How many brushes of a list are flat.
+fn count_flat(list: &BrushList) -> u64
+    ensures { result ≡ flat_count list.now }
+{
+    let mut count = 0;
+    for i in 0..list.len() {
+        if !list.full(i) {
+            count += 1;
+        }
+    }
+    count
+}
+
+/// Adds the lines of a tree's planes, nodes and leaves.
+#[tactic(auto, unfolding(crate::specs::Summary::tree_counts))]
+fn put_tree_counts(text: &mut String, tree: &Tree) -> Result<(), AllocError>
+    ensures { OnOk result (string_bytes text.new ≡ string_bytes text.old ++ tree_counts tree.now) }
+{
+    put_count_line(text, "planes", u64::from(tree.planes()))?;
+    put_count_line(text, "nodes", tree.nodes())?;
+    put_count_line(text, "leaves", tree.leaves())
 }

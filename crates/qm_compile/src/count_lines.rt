@@ -4,7 +4,7 @@ ghost use Rattle.qm_compile.specs.Texts.{count_line};
 use std::alloc::AllocError;
 
 /// Adds a line of a name and a count.
-pub fn put_count_line(text: &mut String, name: &str, count: usize) -> Result<(), AllocError>
+pub fn put_count_line(text: &mut String, name: &str, count: u64) -> Result<(), AllocError>
     ensures { OnOk result (string_bytes text.new ≡ string_bytes text.old ++ count_line name.now count) }
 {
     writeln!(text, "{name} {count}")

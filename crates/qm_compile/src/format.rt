@@ -3,7 +3,8 @@
 ghost use Rattle.std.specs.Prelude.{◌≡◌, ◌<◌, ◌^◌, ◌++◌, length, IfOk, codes, string_bytes};
 ghost use Rattle.qm_grammar.specs.Valid.{IsValid};
 ghost use Rattle.qm_compile.specs.declared.command.Command.TheVariants.{Format};
-ghost use Rattle.qm_compile.specs.Product.{IsProduct, brush_count, format_summary};
+ghost use Rattle.qm_compile.specs.Product.{IsProduct};
+ghost use Rattle.qm_compile.specs.Summary.{brush_count, format_summary};
 
 use crate::count_lines::put_count_line;
 use crate::made::Product;
@@ -24,25 +25,25 @@ pub fn format(alloc: Global, map: &MapFile) -> Result<Product, AllocError>
 }
 
 /// A line for each count.
-#[tactic(auto, unfolding(crate::specs::Product::format_summary))]
+#[tactic(auto, unfolding(crate::specs::Summary::format_summary))]
 fn summary(alloc: Global, map: &MapFile) -> Result<String, AllocError>
     requires { brush_count map.now < 2 ^ 64 }
     ensures { IfOk result (λ text. string_bytes text ≡ format_summary map.now) }
 {
     let mut text = String::new(alloc);
-    put_count_line(&mut text, "entities", map.entities.len())?;
+    put_count_line(&mut text, "entities", map.entities.len() as u64)?;
     put_count_line(&mut text, "brushes", brush_count(map))?;
     Ok(text)
 }
 
 /// How many brushes all entities have.
-fn brush_count(map: &MapFile) -> usize
+fn brush_count(map: &MapFile) -> u64
     requires { brush_count map.now < 2 ^ 64 }
     ensures { result ≡ brush_count map.now }
 {
     let mut count = 0;
     for entity in map.entities.as_slice() {
-        count += entity.brushes.len();
+        count += entity.brushes.len() as u64;
     }
     count
 }

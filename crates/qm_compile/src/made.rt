@@ -13,6 +13,4 @@ pub enum Made {
     Product(Product),
     /// The text has this fault.
     Fault(MapFault),
-    /// No tree is built of the map: its world has not exactly one brush that is not clip.
-    NotBuilt,
 }

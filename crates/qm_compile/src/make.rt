@@ -40,10 +40,10 @@ fn make_of_map(alloc: Global, command: Command, map: &MapFile) -> Result<Made, A
     ensures { IfOk result (λ made. ComesOfMap command map.now made) }
 {
     match command {
-        Command::Compile => match compile(alloc, map)? {
-            Some(product) => Ok(Made::Product(product)),
-            None => Ok(Made::NotBuilt),
-        },
+        Command::Compile => {
+            let product = compile(alloc, map)?;
+            Ok(Made::Product(product))
+        }
         Command::Format => {
             let product = format(alloc, map)?;
             Ok(Made::Product(product))

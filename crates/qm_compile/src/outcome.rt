@@ -12,7 +12,6 @@ pub enum Outcome {
     /// The text of the map has a fault; the text is the line that says which.
     MapFault(String),
     WriteFault,
-    NotBuilt,
 }
 
 impl Outcome {
@@ -28,12 +27,11 @@ impl Outcome {
             Outcome::ReadFault => Status::ReadFault,
             Outcome::MapFault(_) => Status::MapFault,
             Outcome::WriteFault => Status::WriteFault,
-            Outcome::NotBuilt => Status::NotBuilt,
         }
     }
 
     /// The text that is due with the status.
-    #[tactic(auto, unfolding(crate::specs::Texts::usage_text, crate::specs::Texts::read_fault_text, crate::specs::Texts::write_fault_text, crate::specs::Texts::not_built_text))]
+    #[tactic(auto, unfolding(crate::specs::Texts::usage_text, crate::specs::Texts::read_fault_text, crate::specs::Texts::write_fault_text))]
     pub fn text(&self) -> &[u8]
         ensures { result.now ≡ text_of self.now }
     {
@@ -44,7 +42,6 @@ impl Outcome {
             Outcome::ReadFault => b"read fault\n",
             Outcome::MapFault(line) => line.as_bytes(),
             Outcome::WriteFault => b"write fault\n",
-            Outcome::NotBuilt => b"not built\n",
         }
     }
 }

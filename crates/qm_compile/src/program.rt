@@ -78,7 +78,6 @@ fn carry_out_command<H: Shelf>(
     let product = match make(alloc, command, text)? {
         Made::Product(product) => product,
         Made::Fault(fault) => return Ok(Outcome::MapFault(fault_text(alloc, fault)?)),
-        Made::NotBuilt => return Ok(Outcome::NotBuilt),
     };
     match write_whole(shelf, out_name, &product.file) {
         Ok(()) => Ok(Outcome::Done(product.summary)),

@@ -15,8 +15,6 @@ pub enum Status {
     WriteFault,
     /// Memory ran out.
     Memory,
-    /// No tree is built of the map: its world has not exactly one brush that is not clip.
-    NotBuilt,
 }
 
 impl Status {
@@ -33,7 +31,6 @@ impl Status {
             Status::ReadFault => 5,
             Status::WriteFault => 6,
             Status::Memory => 7,
-            Status::NotBuilt => 10,
         }
     }
 }

@@ -1,12 +1,13 @@
 //! The bytes of a tree file. All numbers are little-endian.
 
-ghost use Rattle.std.specs.Prelude.{◌≡◌, ◌+◌, ◌<◌, ◌^◌, ◌++◌, IfOk, OnOk, length, count_by};
-ghost use Rattle.qm_compile.specs.TreeFile.{count_bytes, component_bytes, distance_bytes, plane_bytes, child_bytes, node_bytes, leaf_bytes, header_bytes, file_bytes, is_open};
+ghost use Rattle.std.specs.Prelude.{◌≡◌, ◌++◌, IfOk, OnOk, length, count_by};
+ghost use Rattle.qm_compile.specs.TreeFile.{count_bytes, component_bytes, distance_bytes, plane_bytes, child_bytes, node_bytes, leaf_bytes, header_bytes, file_of, is_open};
 
 use qm_contents::{Contents, code};
 use qm_geom::Plane;
 use qm_lists::{Encoding, append_all};
 use qm_partition::{Child, Leaf, Node};
+use qm_tree::Tree;
 use std::alloc::{AllocError, Global};
 
 /// The bytes before the planes, of each plane, of each node and of each leaf.
@@ -18,26 +19,28 @@ const NODE_LENGTH: usize = 20;
 
 const LEAF_LENGTH: usize = 5;
 
-/// The tree file of these planes, nodes and leaves, without rows.
-pub fn encode(
-    alloc: Global,
-    planes: &[Plane],
-    nodes: &[Node],
-    leaves: &[Leaf],
-) -> Result<Vec<u8>, AllocError>
-    requires { length planes.now + length nodes.now + length leaves.now < 2 ^ 56 }
-    ensures { IfOk result (λ bytes. bytes.items ≡ file_bytes planes.now nodes.now leaves.now) }
+/// The tree file of a tree, without rows.
+pub fn encode(alloc: Global, tree: &Tree) -> Result<Vec<u8>, AllocError>
+    ensures { IfOk result (λ bytes. bytes.items ≡ file_of tree.now) }
 {
-    let room = HEADER_LENGTH
-        + PLANE_LENGTH * planes.len()
-        + NODE_LENGTH * nodes.len()
-        + LEAF_LENGTH * leaves.len();
+    let planes = tree.all_planes();
+    let nodes = tree.all_nodes();
+    let leaves = tree.all_leaves();
+    let room = file_length(planes.len(), nodes.len(), leaves.len());
     let mut bytes = Vec::with_capacity(alloc, room)?;
     put_header(&mut bytes, planes.len(), nodes.len(), leaves)?;
     append_all::<PlaneBytes>(&mut bytes, planes)?;
     append_all::<NodeBytes>(&mut bytes, nodes)?;
     append_all::<LeafBytes>(&mut bytes, leaves)?;
     Ok(bytes)
+}
+
+/// How many bytes the file of so many planes, nodes and leaves has. A number that is too large for memory stays so.
+fn file_length(planes: usize, nodes: usize, leaves: usize) -> usize {
+    HEADER_LENGTH
+        .saturating_add(planes.saturating_mul(PLANE_LENGTH))
+        .saturating_add(nodes.saturating_mul(NODE_LENGTH))
+        .saturating_add(leaves.saturating_mul(LEAF_LENGTH))
 }
 
 #[tactic(auto, unfolding(crate::specs::TreeFile::header_bytes))]

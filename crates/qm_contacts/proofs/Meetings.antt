@@ -4,7 +4,7 @@ use Rattle.std.proofs.Common.{◌≡◌, ℕ, ◌+◌, ◌<◌, ◌≤◌, true,
 use Rattle.std.proofs.lemmas.List.Concat.{flat_map-cons}
 use Rattle.std.proofs.lemmas.List.Elements.{All-nil, All-head, All-tail, All-append, All-map, All-weaker, Contains-append_left, Contains-append_right, Contains-append_cases}
 use Rattle.qm_lists.proofs.Elements.{Contains-first, Contains-later, Contains-cons_cases, Contains-map, Contains-map_from}
-use Rattle.qm_lists.proofs.Pairs.{EachPair, pairs_append}
+use Rattle.qm_lists.proofs.EachPair.{EachPair, pairs_append}
 use Rattle.qm_partition.specs.Partition.{Partition, leaf, node}
 use Rattle.qm_partition.specs.Numbering.{nodes_after, leaves_after}
 use Rattle.qm_partition.specs.Ways.{Way}

@@ -1,5 +1,5 @@
 -- Of two contents that are not stronger than each other both are the same.
-use Rattle.std.proofs.Common.{◌≡◌, ℕ, zero, suc, sym, ap, ◌∙◌, refl, arith}
+use Rattle.std.proofs.Common.{◌≡◌, ◌⊎◌, inl, inr, ℕ, ◌<◌, ◌≤◌, zero, suc, sym, ap, ◌∙◌, refl, arith}
 use Rattle.qm_contents.specs.declared.contents.Contents.{Contents}
 use Rattle.qm_contents.specs.declared.contents.Contents.TheVariants.{Empty, Solid, Water, Slime, Lava, Sky}
 use Rattle.qm_contents.specs.Precedence.{strength, IsAtMost}
@@ -41,3 +41,12 @@ at_most_solid Sky = omega arith
 
 pub at_most_itself : (a b : Contents) → a ≡ b → IsAtMost a b
 at_most_itself a b same = rw same (omega arith)
+
+pub less_or_not : (m n : ℕ) → (m < n) ⊎ (n ≤ m)
+less_or_not m zero = inr (omega arith)
+less_or_not zero (suc n) = inl (omega arith)
+less_or_not (suc m) (suc n) = elim (less_or_not m n) [ inl less ↦ inl (omega (arith, less)) | inr not ↦ inr (omega (arith, not)) ]
+
+-- others are stronger, or at most as strong
+pub stronger_or_not : (a b : Contents) → (strength a < strength b) ⊎ IsAtMost b a
+stronger_or_not a b = less_or_not (strength a) (strength b)

@@ -132,15 +132,15 @@ front_run v g (a, a_below, a_front) (b, b_below, b_behind) = from_steps (steps_t
 
     from_first : (m : ℕ) → m < n → IsFront b m → ((k : ℕ) × (k < m) × IsFront b k × ((j : ℕ) → j < k → IsNotFront b j)) ⊎ ((j : ℕ) → j < m → IsNotFront b j) →
         (start : ℕ) × (count : ℕ) × IsFrontRun v g start count
-    from_first m h here (inl (zero, l, f, q)) = absurd (behind_first f)
+    from_first m h here (inl (zero, l, f, q)) = absurd (first_not_in_front f)
       where
-        behind_first : IsFront b 0 → ⊥
-        behind_first f = let s = subst (λ p. IsInFront g (corner_at v p)) (after_none n b b_below) f in omega (arith, linear, b_behind)
+        first_not_in_front : IsFront b 0 → ⊥
+        first_not_in_front f = let s = subst (λ p. IsInFront g (corner_at v p)) (after_none n b b_below) f in omega (arith, linear, b_behind)
     from_first m h here (inl (suc k, l, f, q)) = from_start k (omega arith) (q k (omega arith)) f
-    from_first zero h here (inr q) = absurd (behind_first here)
+    from_first zero h here (inr q) = absurd (first_not_in_front here)
       where
-        behind_first : IsFront b 0 → ⊥
-        behind_first f = let s = subst (λ p. IsInFront g (corner_at v p)) (after_none n b b_below) f in omega (arith, linear, b_behind)
+        first_not_in_front : IsFront b 0 → ⊥
+        first_not_in_front f = let s = subst (λ p. IsInFront g (corner_at v p)) (after_none n b b_below) f in omega (arith, linear, b_behind)
     from_first (suc k) h here (inr q) = from_start k h (q k (omega arith)) here
 
     from_steps : (j : ℕ) × (j < n) × (place_after n b j ≡ a) → (start : ℕ) × (count : ℕ) × IsFrontRun v g start count

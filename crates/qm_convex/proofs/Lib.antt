@@ -11,6 +11,8 @@ pub mod Squares
 pub mod Vertices
 pub mod Rows
 pub mod Runs
+pub mod OwnPlane
+pub mod Within
 pub mod ImpliedPlanes
 pub mod Facets
 pub mod CubeFacets

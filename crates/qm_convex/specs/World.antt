@@ -1,6 +1,7 @@
 use Rattle.std.specs.Prelude.{◌≡◌, ◌↔◌}
 use Rattle.qm_space.specs.Point.{Point, IsInCube}
 use Rattle.qm_space.specs.Plane.{Plane, IsOn}
+use Rattle.qm_space.specs.Cuboid.{Cuboid, IsInCuboid}
 use Rattle.qm_space.specs.Cube.{IsOnCubeFace}
 use Rattle.qm_convex.specs.Winding.{Winding, IsInRegion, IsConvex}
 
@@ -18,6 +19,10 @@ pub record IsWorldPart (w : Winding) (h : Plane) : Type 0 where
 pub record IsInWorld (v : Winding) : Type 0 where
   pub convex : IsConvex v
   pub inside : (p : Point) → IsInRegion v p → IsInCube p
+
+-- each point of the winding lies in the cuboid
+abbrev pub LiesWithin : Winding → Cuboid → Type 0
+LiesWithin v c = (p : Point) → IsInRegion v p → IsInCuboid c p
 
 -- the winding is the cube's face on a wall, seen from inside
 pub record IsCubeFace (w : Winding) (wall : Plane) : Type 0 where

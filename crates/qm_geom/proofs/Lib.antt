@@ -6,3 +6,6 @@ pub mod Numbers
 pub mod OnlyMeetings
 pub mod Vectors
 pub mod Wide
+pub mod EnteredPlanes
+pub mod Cuboids
+pub mod Lines

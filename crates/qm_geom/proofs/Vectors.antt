@@ -4,9 +4,10 @@ use mir.Syntax.{w128}
 use Rattle.std.proofs.lemmas.Int.{to_z-of_z}
 use Rattle.qm_space.specs.Point.{Point, IsCoordinate, IsWholePoint}
 use Rattle.qm_space.specs.Plane.{Plane, value}
-use Rattle.qm_space.specs.ThreePoints.{outward_plane, HasOutwardSizes}
-use Rattle.qm_numbers.proofs.Signs.{abs_difference, abs_at_most}
-use Rattle.qm_space.proofs.PlanesThroughPoints.{outward_sizes}
+use Rattle.qm_space.specs.ThreePoints.{outward_plane}
+use Rattle.qm_space.specs.inner.OutwardSizes.{HasOutwardSizes}
+use Rattle.qm_numbers.proofs.Signs.{abs_difference}
+use Rattle.qm_space.proofs.PlanesThroughPoints.{coordinate_small, outward_sizes}
 use Rattle.qm_geom.specs.inner.Vectors.{normal_of, step_to, step_between, cross, dot, IsWithin}
 use Rattle.qm_geom.specs.declared.vector.Vector.{Vector}
 use Rattle.qm_numbers.proofs.Kept.{kept, small_kept, fits_64, fits_128, answered, product_answered, apart_is}
@@ -49,10 +50,6 @@ value_at_point h p n x y z w d r q of_h of_p of_d fx fy fz fw fd along times k l
     ∙ value_is h p r q (along ∙ rw (vector_kept x y z fx fy fz, of_h, ← of_p) refl) (product_answered w64 q d w fd fw times ∙ rw (of_d, ← of_p) refl)
 
 -- ---- steps between whole points, and the outward plane
-
--- a whole coordinate of the cube
-coordinate_small : (c : ℤ) → IsCoordinate c → unsigned_abs c ≤ 2 ^ 12
-coordinate_small c h = abs_at_most c 4096 h.low h.high
 
 pub coordinate_kept : (z : ℤ) → IsCoordinate z → IsCoordinate (kept w32 z)
 coordinate_kept z h = rw (kept_32 z (2 ^ 12) (coordinate_small z h) (lit≤ tt)) h

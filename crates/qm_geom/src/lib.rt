@@ -3,8 +3,10 @@
 #![tactic(auto)]
 
 mod corner;
+mod cuboid;
 mod distance;
 mod factor;
+mod line;
 mod meeting;
 mod one_line;
 mod plane;
@@ -15,7 +17,9 @@ mod unreduced;
 mod vector;
 
 pub use corner::Corner;
+pub use cuboid::{Cuboid, Span, WORLD_EXTENT};
 pub use distance::least_distance;
+pub use line::Line;
 pub use one_line::are_on_one_line;
 pub use plane::{NoNormal, Plane};
 pub use plane_book::PlaneBook;

@@ -21,7 +21,7 @@ pub(crate) struct UnreducedPlane {
 
 impl Model for UnreducedPlane {
     ghost use Rattle.qm_space.specs.Plane.{Plane};
-    ghost use Rattle.qm_space.specs.ThreePoints.{HasOutwardSizes};
+    ghost use Rattle.qm_space.specs.inner.OutwardSizes.{HasOutwardSizes};
 
     ghost Value = { Plane };
 

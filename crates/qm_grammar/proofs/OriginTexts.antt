@@ -6,9 +6,10 @@ use Rattle.qm_decimal.specs.declared.fraction.Fraction.{Fraction}
 use Rattle.qm_decimal.specs.declared.fraction.NumberFault.{NumberFault}
 use Rattle.qm_decimal.specs.Answer.{IsAnswer}
 use Rattle.qm_decimal.specs.Computed.{read_at}
+use Rattle.qm_space.specs.Bounds.{world_extent}
 use Rattle.qm_space.specs.Point.{Point}
 use Rattle.qm_grammar.specs.Words.{words_of}
-use Rattle.qm_grammar.specs.Number.{SpellsMillionths, millionths}
+use Rattle.qm_grammar.specs.Number.{SpellsMillionths, parts_of_unit}
 use Rattle.qm_grammar.specs.Origin.{SpellsOrigin, IsOriginText}
 use Rattle.qm_grammar.specs.inner.Machine.{millionths_in_range, millionths_of_answer, millionths_of, point_of_words, origin_of}
 use Rattle.qm_grammar.proofs.Numbers.{computed_answer, answer_computed}
@@ -18,26 +19,26 @@ use Rattle.qm_grammar.proofs.Numbers.{computed_answer, answer_computed}
 pub spelled_millionths : (text : List ℕ) (n : ℤ) → SpellsMillionths text n → millionths_of text ≡ Some n
 unfolding millionths_of
 spelled_millionths text n spells =
-    rw (computed_answer text 6 (Ok (record { numerator = n; places = 6 })) spells.spelled, lt-ltb (unsigned_abs n) (4096 * millionths) spells.in_range) refl
+    rw (computed_answer text 6 (Ok (record { numerator = n; places = 6 })) spells.spelled, lt-ltb (unsigned_abs n) (world_extent * parts_of_unit) spells.in_range) refl
 
 six_places : (fraction : Fraction) (n : ℤ) → fraction.places ≡ 6 → fraction.numerator ≡ n → fraction ≡ record { numerator = n; places = 6 }
 six_places fraction n places numerator =
     let make : ℤ → ℕ → Fraction = λ z k. record { numerator = z; places = k } in
     ap (λ (k : ℕ). make fraction.numerator k) places ∙ ap (λ (z : ℤ). make z 6) numerator
 
-read_in_range : (text : List ℕ) (f : Fraction) (n : ℤ) → IsAnswer text 6 (Ok f) → (t : Bool) → ltb (unsigned_abs f.numerator) (4096 * millionths) ≡ t → millionths_in_range f ≡ Some n → SpellsMillionths text n
+read_in_range : (text : List ℕ) (f : Fraction) (n : ℤ) → IsAnswer text 6 (Ok f) → (t : Bool) → ltb (unsigned_abs f.numerator) (world_extent * parts_of_unit) ≡ t → millionths_in_range f ≡ Some n → SpellsMillionths text n
 read_in_range text f n is true tested read =
     let same : Some f.numerator ≡ Some n = rw tested at read in
     let numerator : f.numerator ≡ n = cc in
     record {
       spelled = subst (λ (g : Fraction). IsAnswer text 6 (Ok g)) (six_places f n is.places_kept numerator) is;
-      in_range = subst (λ (z : ℤ). unsigned_abs z < 4096 * millionths) numerator (ltb-true (unsigned_abs f.numerator) (4096 * millionths) tested);
+      in_range = subst (λ (z : ℤ). unsigned_abs z < world_extent * parts_of_unit) numerator (ltb-true (unsigned_abs f.numerator) (world_extent * parts_of_unit) tested);
     }
 read_in_range text f n is false tested read = absurd (let never : None ≡ Some n = rw tested at read in cc)
 
 read_answer : (text : List ℕ) (n : ℤ) (answer : Result Fraction NumberFault) → read_at text 6 ≡ answer → millionths_of_answer answer ≡ Some n → SpellsMillionths text n
 read_answer text n (Ok f) is read =
-    read_in_range text f n (answer_computed text 6 (Ok f) is) (ltb (unsigned_abs f.numerator) (4096 * millionths)) refl read
+    read_in_range text f n (answer_computed text 6 (Ok f) is) (ltb (unsigned_abs f.numerator) (world_extent * parts_of_unit)) refl read
 read_answer text n (Err fault) is read = absurd cc
 
 pub millionths_spelled : (text : List ℕ) (n : ℤ) → millionths_of text ≡ Some n → SpellsMillionths text n
@@ -57,7 +58,7 @@ spelled_origin value point spells =
 -- the point of three numbers that are read
 three_read : (value a b c : List ℕ) (x y z : ℤ) (point : Point) → words_of value ≡ a ∷ b ∷ c ∷ [] → millionths_of a ≡ Some x → millionths_of b ≡ Some y → millionths_of c ≡ Some z → point_of_words (a ∷ b ∷ c ∷ []) ≡ Some point → SpellsOrigin value point
 three_read value a b c x y z point words first second third read =
-    let made : Point = record { x = x; y = y; z = z; w = pos 1000000 } in
+    let made : Point = record { x = x; y = y; z = z; w = pos parts_of_unit } in
     let same : Some made ≡ Some point = rw (first, second, third) at read in
     let points : made ≡ point = cc in
     subst (SpellsOrigin value) points

@@ -4,6 +4,7 @@ use Rattle.std.proofs.lemmas.Bool.{cases_Bool, eq-eqb, ne_eqb, both_ways, and_pa
 use Rattle.std.proofs.lemmas.List.{nil_from_length}
 use Rattle.std.proofs.lemmas.List.Elements.{All-append, All-nil, All-cons, All-head}
 use Rattle.qm_lists.proofs.Elements.{All-last_part}
+use Rattle.qm_lists.proofs.Options.{none_from_is_none}
 use Rattle.qm_mapfile.specs.declared.face.Face.{Face}
 use Rattle.qm_mapfile.specs.declared.entity.Brush.{Brush}
 use Rattle.qm_mapfile.specs.declared.entity.Pair.{Pair}
@@ -103,10 +104,6 @@ value_first key (first ∷ ps) one others absent same =
     (λ other. let later : value_of key ps ≡ None = rw other at absent in rw other (value_first key ps one others later same))
     (cases_Bool (bytes_eq first.key key))
 
-none_is : {A : Type 0} (o : Option A) → is_none o ≡ true → o ≡ None
-none_is None is = refl
-none_is (Some a) is = absurd cc
-
 -- where the first origin gives a point, its value is read
 pub good_value : (es : List Entity) (ps : List Pair) (bs : List Brush) (key value : List ℕ) (others : List Pair) → IsGoodBehind es (ps ++ (record { key = key; value = value }) ∷ others) → is_bad_origin (behind_key es ps bs key) value ≡ false
 unfolding is_bad_origin
@@ -116,7 +113,7 @@ good_value es ps bs key value others good =
     let three = and_parts (not (length es == 0) && bytes_eq key origin_key) (is_none (value_of origin_key ps)) four.0 in
     let two = and_parts (not (length es == 0)) (bytes_eq key origin_key) three.0 in
     let some : es ≢ [] = λ none. both_ways (length es == 0) (not-true (length es == 0) two.0) (eq-eqb (length es) 0 (ap length none)) in
-    let first = value_first origin_key ps (record { key = key; value = value }) others (none_is (value_of origin_key ps) three.1) two.1 in
+    let first = value_first origin_key ps (record { key = key; value = value }) others (none_from_is_none (value_of origin_key ps) three.1) two.1 in
     let point : IsOriginText value = subst (λ (o : Option (List ℕ)). IfSome o IsOriginText) first (good some) in
     none_no_origin value four.1 point)
 

@@ -1,6 +1,7 @@
 use Rattle.std.specs.Prelude.{◌≡◌, ◌≢◌, ◌<◌, ◌≤◌, ◌⊎◌, ℕ, ◌+◌, List, [], ◌∷◌, ◌++◌, Some, None, length, map, take}
 use Rattle.qm_lex.specs.Lexeme.{Lexeme, quote_length, line_ends}
 use Rattle.qm_lex.specs.Lexing.{Lexing}
+use Rattle.qm_grammar.specs.declared.limit.TheConstants.{TEXT_LIMIT}
 use Rattle.qm_grammar.specs.declared.context.Context.TheVariants as context
 use Rattle.qm_grammar.specs.declared.refusal.Refusal.{Refusal}
 use Rattle.qm_grammar.specs.declared.refusal.Refusal.TheVariants as refusal
@@ -12,9 +13,9 @@ use Rattle.qm_grammar.specs.Table.{Refuses}
 
 -- Where the faults of a text stand, and which comes first.
 
--- the most bytes that a text may have
+-- the most bytes that a text may have, 67,108,864
 abbrev pub text_limit : ℕ
-text_limit = 67108864
+text_limit = TEXT_LIMIT
 
 -- the line at an offset; lines count from 1
 abbrev pub line_at : List ℕ → ℕ → ℕ

@@ -3,7 +3,7 @@ use Rattle.qm_space.specs.Point.{Point}
 use Rattle.qm_grammar.specs.Words.{words_of}
 use Rattle.qm_mapfile.specs.declared.entity.Pair.{Pair}
 use Rattle.qm_mapfile.specs.declared.entity.Entity.{Entity}
-use Rattle.qm_grammar.specs.Number.{SpellsMillionths}
+use Rattle.qm_grammar.specs.Number.{SpellsMillionths, parts_of_unit}
 
 -- a value that gives a point: three numbers of at most six decimals, parted by blanks, which may also stand around
 -- them; each is strictly between -4096 and 4096
@@ -15,7 +15,7 @@ pub record SpellsOrigin (value : List ℕ) (point : Point) : Type 0 where
   pub x : SpellsMillionths first point.x
   pub y : SpellsMillionths second point.y
   pub z : SpellsMillionths third point.z
-  pub w : point.w ≡ pos 1000000
+  pub w : point.w ≡ pos parts_of_unit
 
 -- the value gives some point
 abbrev pub IsOriginText : List ℕ → Type 0

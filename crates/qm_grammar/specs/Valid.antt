@@ -1,4 +1,4 @@
-use Rattle.std.specs.Prelude.{◌≡◌, ◌≢◌, ◌<◌, ◌≤◌, ◌^◌, ◌⊎◌, ℕ, List, [], None, length, sum_by, All, Contains}
+use Rattle.std.specs.Prelude.{◌≡◌, ◌≢◌, ◌<◌, ◌≤◌, ◌⊎◌, ℕ, List, [], None, length, sum_by, All, Contains}
 use Rattle.qm_space.specs.Point.{AreCoordinates}
 use Rattle.qm_lex.specs.Piece.{OpensWord}
 use Rattle.qm_mapfile.specs.declared.face.Face.{Face}
@@ -11,6 +11,7 @@ use Rattle.qm_mapfile.specs.declared.entity.MapFile.{MapFile}
 use Rattle.qm_mapfile.specs.Face.{HasPlane}
 use Rattle.qm_grammar.specs.Symbol.{mark_of}
 use Rattle.qm_grammar.specs.Origin.{OriginsAreGood}
+use Rattle.qm_grammar.specs.Faults.{text_limit}
 
 -- Which maps a text can mean, said of the map alone.
 
@@ -53,9 +54,9 @@ pub record IsValidEntity (entity : Entity) : Type 0 where
   pub pairs : All IsValidPair entity.pairs
   pub brushes : All IsValidBrush entity.brushes
 
--- the most faces that a map has
+-- the most faces that a map has, since each takes more than one byte of its text
 abbrev pub face_limit : ℕ
-face_limit = 2 ^ 26
+face_limit = text_limit
 
 -- how many faces the brushes of an entity have
 abbrev pub face_count : Entity → ℕ

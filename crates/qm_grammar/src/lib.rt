@@ -8,6 +8,7 @@ mod limit;
 mod mark;
 mod refusal;
 mod slot;
+mod unit;
 
 pub use context::Context;
 pub use fault::MapFault;
@@ -15,3 +16,4 @@ pub use limit::TEXT_LIMIT;
 pub use mark::{Mark, Sort};
 pub use refusal::Refusal;
 pub use slot::Slot;
+pub use unit::PARTS_OF_UNIT;

@@ -1,10 +1,13 @@
 pub mod Cases
 pub mod Elements
+pub mod Pairs
 pub mod FlatMaps
 pub mod Options
 pub mod Places
 pub mod Reached
+pub mod Reversed
 pub mod SmallGraph
 pub mod WorkLists
-pub mod Pairs
+pub mod Mapped
+pub mod EachPair
 pub mod Spreads

@@ -1,30 +1,36 @@
--- What holds of each two elements of a list, the one that stands first taken first.
-use Rattle.std.proofs.Common.{zero, suc, List, [], ◌∷◌, ◌++◌, map, arith}
-use Rattle.std.specs.List.{All, AllPairs}
-use Rattle.std.proofs.lemmas.List.Elements.{All-head, All-tail, All-append, All-map, All-weaker}
+-- Lists whose elements are related place by place.
+use Rattle.std.proofs.Common.{◌≡◌, ℕ, ◌<◌, zero, suc, List, [], ◌∷◌, length, get_or, All, Contains, subst, refl, arith}
+use Rattle.std.specs.List.{AllZip}
+use Rattle.std.proofs.lemmas.List.Elements.{Contains-get_or}
 
--- each two of a list, the one that stands first taken first
-abbrev pub EachPair : {X : Type 0} → (X → X → Type 0) → List X → Type 0
-EachPair R [] = Unit {0}
-EachPair R (x ∷ xs) = All (R x) xs × EachPair R xs
+-- what holds of each element that a list contains
+pub All-from_contains : {X : Type 0} (P : X → Type 0) (xs : List X) → ((x : X) → Contains xs x → P x) → All P xs
+All-from_contains P xs each = λ k d within. each (get_or xs k d) (Contains-get_or xs k d within)
 
-pub pairs_append : {X : Type 0} (R : X → X → Type 0) (xs ys : List X) → EachPair R xs → EachPair R ys → All (λ x. All (R x) ys) xs → EachPair R (xs ++ ys)
-pairs_append R [] ys first second across = second
-pairs_append R (x ∷ xs) ys first second across =
-    (All-append (R x) xs ys first.0 (All-head (λ x. All (R x) ys) x xs across), pairs_append R xs ys first.1 second (All-tail (λ x. All (R x) ys) x xs across))
+module _ {X Y : Type 0} where
+  at_place : (R : X → Y → Type 0) (xs : List X) (ys : List Y) (k : ℕ) (x : X) → AllZip R xs ys → k < length xs → get_or xs k x ≡ x → (y : Y) × Contains ys y × R x y
+  at_place R [] ys k x zip within is = absurd (omega (arith, within))
+  at_place R (x' ∷ xs) [] k x zip within is = absurd zip
+  at_place R (x' ∷ xs) (y ∷ ys) zero x zip within is = (y, (0, omega arith, refl), subst (λ (z : X). R z y) is zip.0)
+  at_place R (x' ∷ xs) (y ∷ ys) (suc k) x zip within is =
+      let at = at_place R xs ys k x zip.1 (omega (arith, within)) is in
+      let place = at.1.0 in
+      let there = at.1.1 in
+      (at.0, (suc place, omega (arith, there), at.1.2), at.2)
 
-pub pairs_map : {X Y : Type 0} (R : Y → Y → Type 0) (f : X → Y) (xs : List X) → EachPair (λ x y. R (f x) (f y)) xs → EachPair R (map f xs)
-pairs_map R f [] each = tt
-pairs_map R f (x ∷ xs) each = (All-map (R (f x)) f xs each.0, pairs_map R f xs each.1)
+  -- each element of the first list has one of the second to which it is related
+  pub partner : (R : X → Y → Type 0) (xs : List X) (ys : List Y) (x : X) → AllZip R xs ys → Contains xs x → (y : Y) × Contains ys y × R x y
+  partner R xs ys x zip among = at_place R xs ys among.0 x zip among.1 among.2
 
-pub pairs_weaker : {X : Type 0} (R S : X → X → Type 0) → ((x y : X) → R x y → S x y) → (xs : List X) → EachPair R xs → EachPair S xs
-pairs_weaker R S gives [] each = tt
-pairs_weaker R S gives (x ∷ xs) each = (All-weaker (R x) (S x) (gives x) xs each.0, pairs_weaker R S gives xs each.1)
+-- the lists the other way round
+pub AllZip-back : {X Y : Type 0} (R : X → Y → Type 0) (S : Y → X → Type 0) (xs : List X) (ys : List Y) → ((x : X) (y : Y) → R x y → S y x) → AllZip R xs ys → AllZip S ys xs
+AllZip-back R S [] [] back zip = tt
+AllZip-back R S [] (y ∷ ys) back zip = absurd zip
+AllZip-back R S (x ∷ xs) [] back zip = absurd zip
+AllZip-back R S (x ∷ xs) (y ∷ ys) back zip = (back x y zip.0, AllZip-back R S xs ys back zip.1)
 
--- the same by places
-pub pairs_by_place : {X : Type 0} (R : X → X → Type 0) (xs : List X) → EachPair R xs → AllPairs R xs
-pairs_by_place R [] each i j d before within = absurd (omega arith)
-pairs_by_place R (x ∷ xs) each zero zero d before within = absurd (omega arith)
-pairs_by_place R (x ∷ xs) each zero (suc j) d before within = each.0 j d (omega arith)
-pairs_by_place R (x ∷ xs) each (suc i) zero d before within = absurd (omega arith)
-pairs_by_place R (x ∷ xs) each (suc i) (suc j) d before within = pairs_by_place R xs each.1 i j d (omega arith) (omega arith)
+pub AllZip-weaker : {X Y : Type 0} (R S : X → Y → Type 0) (xs : List X) (ys : List Y) → ((x : X) (y : Y) → R x y → S x y) → AllZip R xs ys → AllZip S xs ys
+AllZip-weaker R S [] [] weaker zip = tt
+AllZip-weaker R S [] (y ∷ ys) weaker zip = absurd zip
+AllZip-weaker R S (x ∷ xs) [] weaker zip = absurd zip
+AllZip-weaker R S (x ∷ xs) (y ∷ ys) weaker zip = (weaker x y zip.0, AllZip-weaker R S xs ys weaker zip.1)

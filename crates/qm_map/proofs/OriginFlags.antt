@@ -8,11 +8,11 @@ last_pair : (key : List ℕ) (pair : Pair) (same : Bool) → bytes_eq pair.key k
 last_pair key pair true is = rw is refl
 last_pair key pair false is = rw is refl
 
-behind_first : (key : List ℕ) (first pair : Pair) (pairs : List Pair) (same : Bool) → bytes_eq first.key key ≡ same → is_none (value_of key (pairs ++ pair ∷ [])) ≡ (is_none (value_of key pairs) && not (bytes_eq pair.key key)) → is_none (value_of key ((first ∷ pairs) ++ pair ∷ [])) ≡ (is_none (value_of key (first ∷ pairs)) && not (bytes_eq pair.key key))
-behind_first key first pair pairs true is others = rw is refl
-behind_first key first pair pairs false is others = rw is others
+lacks_behind_one : (key : List ℕ) (first pair : Pair) (pairs : List Pair) (same : Bool) → bytes_eq first.key key ≡ same → is_none (value_of key (pairs ++ pair ∷ [])) ≡ (is_none (value_of key pairs) && not (bytes_eq pair.key key)) → is_none (value_of key ((first ∷ pairs) ++ pair ∷ [])) ≡ (is_none (value_of key (first ∷ pairs)) && not (bytes_eq pair.key key))
+lacks_behind_one key first pair pairs true is others = rw is refl
+lacks_behind_one key first pair pairs false is others = rw is others
 
 -- no pair has a key where none of the earlier ones has it, and the last has not
 pub lacks_push : (key : List ℕ) (pairs : List Pair) (pair : Pair) → is_none (value_of key (pairs ++ pair ∷ [])) ≡ (is_none (value_of key pairs) && not (bytes_eq pair.key key))
 lacks_push key [] pair = last_pair key pair (bytes_eq pair.key key) refl
-lacks_push key (first ∷ pairs) pair = behind_first key first pair pairs (bytes_eq first.key key) refl (lacks_push key pairs pair)
+lacks_push key (first ∷ pairs) pair = lacks_behind_one key first pair pairs (bytes_eq first.key key) refl (lacks_push key pairs pair)

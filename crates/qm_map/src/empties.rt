@@ -1,7 +1,8 @@
 ghost use Rattle.std.specs.Prelude.{◌≡◌, [], IfOk, OnOk};
 
 use crate::list::take_all;
-use qm_mapfile::{Brush, Entity, Pair, Parts};
+use qm_lists::Parts;
+use qm_mapfile::{Brush, Entity, Pair};
 use std::alloc::{AllocError, Global};
 use std::marker::Model;
 

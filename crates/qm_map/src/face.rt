@@ -4,7 +4,8 @@ ghost use Rattle.qm_grammar.specs.Slots.{points_of, mapping_of, face_of};
 ghost use Rattle.qm_grammar.specs.inner.Machine.{span_plane};
 
 use qm_geom::are_on_one_line;
-use qm_mapfile::{Face, Items, Mapping, Text};
+use qm_lists::Items;
+use qm_mapfile::{Face, Mapping, Text};
 use std::alloc::AllocError;
 
 /// How many words the mapping with axes has.

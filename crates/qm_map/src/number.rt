@@ -4,9 +4,10 @@ ghost use Rattle.qm_grammar.specs.inner.Machine.{coordinate_of};
 
 use qm_decimal::NumberFault;
 use qm_grammar::Refusal;
+use qm_space::WORLD_EXTENT;
 
 /// How far a coordinate may be from 0.
-const EXTENT: i64 = 4096;
+const EXTENT: i64 = WORLD_EXTENT as i64;
 
 /// The coordinate that a word spells.
 #[tactic(auto, unfolding(qm_grammar::specs::inner::Machine::coordinate_of))]

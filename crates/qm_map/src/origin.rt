@@ -4,13 +4,12 @@ ghost use Rattle.qm_grammar.specs.inner.Machine.{millionths_of, origin_of};
 
 use crate::words::Words;
 use qm_geom::Point;
-use qm_mapfile::{Items, Pair, Text};
-
-/// How many parts of a map unit the numbers of an origin count.
-const MILLIONTHS: i64 = 1_000_000;
+use qm_grammar::PARTS_OF_UNIT;
+use qm_mapfile::Pair;
+use qm_space::WORLD_EXTENT;
 
 /// No number of an origin is as far as this from 0.
-const BOUND: u64 = 4_096_000_000;
+const BOUND: u64 = WORLD_EXTENT as u64 * PARTS_OF_UNIT as u64;
 
 /// Whether this is the key under which an entity has its origin.
 #[tactic(auto, unfolding(qm_grammar::specs::Origin::origin_key))]
@@ -76,6 +75,6 @@ pub(crate) fn origin_of(value: &[u8]) -> Option<Point>
         x,
         y,
         z,
-        w: MILLIONTHS,
+        w: PARTS_OF_UNIT,
     })
 }

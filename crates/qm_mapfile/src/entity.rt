@@ -1,7 +1,6 @@
 use crate::face::Face;
-use crate::items::Items;
-use crate::parts::Parts;
 use crate::text::Text;
+use qm_lists::{Items, Parts};
 
 /// A convex solid: what lies behind all its faces.
 #[derive(Drop)]

@@ -1,5 +1,5 @@
-use crate::items::Items;
 use crate::text::Text;
+use qm_lists::Items;
 
 /// How a texture lies on a face, as its words stand in the text: not checked, kept to be printed again.
 #[derive(Drop)]

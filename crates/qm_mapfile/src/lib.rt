@@ -4,12 +4,8 @@
 
 mod entity;
 mod face;
-mod items;
-mod parts;
 mod text;
 
 pub use entity::{Brush, Entity, MapFile, Pair};
 pub use face::{Face, Mapping};
-pub use items::Items;
-pub use parts::Parts;
 pub use text::Text;

@@ -6,6 +6,7 @@ use Rattle.std.specs.Str.Parse.{AllDigits, digits_value, IsNumeral}
 use Rattle.std.proofs.lemmas.Fmt.{decimal_is_IsNumeral}
 use Rattle.std.proofs.lemmas.Str.Parse.{digit_from_value}
 use Rattle.std.proofs.lemmas.List.Elements.{All-nil, All-cons}
+use Rattle.qm_space.specs.Bounds.{world_extent}
 use Rattle.qm_space.specs.Point.{IsCoordinate}
 use Rattle.qm_space.proofs.PlanesThroughPoints.{coordinate_small}
 use Rattle.qm_decimal.specs.Number.{Number, missing, minus}
@@ -44,7 +45,7 @@ digits_visible (d ∷ ds) digits =
     let range = digit_from_value d digits.0 in
     All-cons (λ byte. 32 < byte) d ds (omega (arith, range.0)) (digits_visible ds digits.1)
 
-plain_value : (text : List ℕ) (n : ℕ) → IsNumeral 10 text → digits_value 10 text ≡ n → n ≤ 4096 → IsValue text 0 (whole_fraction (pos n))
+plain_value : (text : List ℕ) (n : ℕ) → IsNumeral 10 text → digits_value 10 text ≡ n → n ≤ world_extent → IsValue text 0 (whole_fraction (pos n))
 plain_value text n numeral value small =
     let number : Number = record { sign = missing; whole = text; decimals = [] } in
     let same : digits_value 10 (text ++ []) ≡ n = ap (digits_value 10) (append-nil text) ∙ value in
@@ -61,7 +62,7 @@ plain_value text n numeral value small =
       value = ap (λ m. pos (m * 1)) (sym same);
     }
 
-minus_value : (text : List ℕ) (k : ℕ) → IsNumeral 10 text → digits_value 10 text ≡ suc k → suc k ≤ 4096 → IsValue (45 ∷ text) 0 (whole_fraction (negsuc k))
+minus_value : (text : List ℕ) (k : ℕ) → IsNumeral 10 text → digits_value 10 text ≡ suc k → suc k ≤ world_extent → IsValue (45 ∷ text) 0 (whole_fraction (negsuc k))
 minus_value text k numeral value small =
     let number : Number = record { sign = minus; whole = text; decimals = [] } in
     let same : digits_value 10 (text ++ []) ≡ suc k = ap (digits_value 10) (append-nil text) ∙ value in
@@ -85,7 +86,7 @@ pub record IsNumberText (text : List ℕ) (n : ℤ) : Type 0 where
   pub opens : OpensWord text
   pub visible : All (λ byte. 32 < byte) text
 
-plain_number : (n : ℕ) → IsCoordinate (pos n) → n ≤ 4096 → IsNumberText (decimal n) (pos n)
+plain_number : (n : ℕ) → IsCoordinate (pos n) → n ≤ world_extent → IsNumberText (decimal n) (pos n)
 plain_number n range small =
     let numeral = decimal_is_IsNumeral n (omega arith) in
     record {
@@ -95,7 +96,7 @@ plain_number n range small =
       visible = digits_visible (decimal n) numeral.0.1;
     }
 
-minus_number : (k : ℕ) → IsCoordinate (negsuc k) → suc k ≤ 4096 → IsNumberText (45 ∷ decimal (suc k)) (negsuc k)
+minus_number : (k : ℕ) → IsCoordinate (negsuc k) → suc k ≤ world_extent → IsNumberText (45 ∷ decimal (suc k)) (negsuc k)
 minus_number k range small =
     let numeral = decimal_is_IsNumeral (suc k) (omega arith) in
     record {

@@ -1,5 +1,5 @@
 -- What numbers of so many bits hold: the number itself, where it fits.
-use Rattle.std.proofs.Common.{◌≡◌, ◌≤◌, ◌<◌, ◌*◌, ◌^◌, ℕ, ℤ, pos, neg_ℤ, ◌-ℤ◌, FitsSigned, to_z, of_z, w32, w64, unsigned_abs, arith, refl}
+use Rattle.std.proofs.Common.{◌≡◌, ◌≤◌, ◌<◌, ◌*◌, ◌^◌, ℕ, ℤ, pos, neg_ℤ, ◌-ℤ◌, FitsSigned, to_z, of_z, w32, w64, unsigned_abs, arith, refl, ap, sym, ◌∙◌}
 use mir.Syntax.{w128}
 use Rattle.std.proofs.lemmas.Int.{ints}
 
@@ -43,3 +43,8 @@ narrowed_32 z h = omega (arith, ints)
 
 pub fits_32 : (z : ℤ) → unsigned_abs z ≤ 65536 → FitsSigned w32 (to_z w64 (of_z w64 z))
 fits_32 z h = omega (arith, ints)
+
+-- ---- what the code's test that a number of 32 bits is some other says
+
+pub same_from_bits_32 : (z k : ℤ) (n : ℕ) → unsigned_abs z ≤ n → unsigned_abs k ≤ n → n ≤ 2 ^ 30 → of_z w32 z ≡ of_z w32 k → z ≡ k
+same_from_bits_32 z k n h g small e = sym (kept_32 z n h small) ∙ ap (λ b. to_z w32 b) e ∙ kept_32 k n g small

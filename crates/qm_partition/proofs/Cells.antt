@@ -29,7 +29,7 @@ length-ways (node n front back) =
     omega (arith, length-append to_front to_back, length-map (ways front) (after_step n true), length-map (ways back) (after_step n false), length-ways front, length-ways back, leaf_count-node n front back)
 
 -- how many ways lead to the front
-to_front-count : (n : ℕ) (front : Partition) → length (map (after_step n true) (ways front)) ≡ leaf_count front
+pub to_front-count : (n : ℕ) (front : Partition) → length (map (after_step n true) (ways front)) ≡ leaf_count front
 to_front-count n front = length-map (ways front) (after_step n true) ∙ length-ways front
 
 -- the way to the leaf of a point, in whose cell the point lies

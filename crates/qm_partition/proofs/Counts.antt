@@ -1,9 +1,11 @@
 -- How many nodes and leaves a partition has.
-use Rattle.std.proofs.Common.{◌≡◌, ℕ, ◌+◌, length, refl, arith}
+use Rattle.std.proofs.Common.{◌≡◌, ℕ, ◌+◌, List, length, refl, ap, ◌∙◌, arith}
 use Rattle.std.proofs.lemmas.List.{length-append}
 use Rattle.qm_partition.specs.Partition.{Partition, leaf, node}
 use Rattle.qm_partition.specs.Counting.{leaves_of, leaf_count, node_count}
-use Rattle.qm_partition.specs.Numbering.{nodes_after, leaves_after, nodes_of}
+use Rattle.qm_partition.specs.declared.node.Node.{Node}
+use Rattle.qm_partition.specs.declared.node.Leaf.{Leaf}
+use Rattle.qm_partition.specs.Numbering.{nodes_after, leaves_after, nodes_of, AreNumbered}
 
 pub leaf_count-node : (n : ℕ) (front back : Partition) → leaf_count (node n front back) ≡ leaf_count front + leaf_count back
 leaf_count-node n front back = length-append (leaves_of front) (leaves_of back)
@@ -32,3 +34,7 @@ length-nodes_of (node plane front back) n k =
     let n_back = nodes_after front (n + 1) in
     let k_back = leaves_after front k in
     omega (arith, length-append (nodes_of front (n + 1) k) (nodes_of back n_back k_back), length-nodes_of front (n + 1) k, length-nodes_of back n_back k_back)
+
+-- as many nodes are numbered as there are
+pub nodes-count : (shape : Partition) (nodes : List Node) (leaves : List Leaf) → AreNumbered shape nodes leaves → length nodes ≡ node_count shape
+nodes-count shape nodes leaves are = ap length are.nodes_are ∙ length-nodes_of shape 0 0

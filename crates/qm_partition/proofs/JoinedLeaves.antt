@@ -12,7 +12,7 @@ use Rattle.qm_partition.specs.Partition.{Partition, leaf, node}
 use Rattle.qm_partition.specs.LeafOfPoint.{node_value, leaf_record_at}
 use Rattle.qm_partition.specs.Joining.{are_equal, joined_node, joined}
 
-are_equal-contents : (a b : Leaf) → are_equal a b ≡ true → a.contents ≡ b.contents
+pub are_equal-contents : (a b : Leaf) → are_equal a b ≡ true → a.contents ≡ b.contents
 are_equal-contents a b same =
     let equal : strength a.contents ≡ strength b.contents = grind (arith, nat_tests, same) in
     same_strength a.contents b.contents (omega (arith, equal)) (omega (arith, equal))

@@ -5,4 +5,8 @@ pub mod Ways
 pub mod Counting
 pub mod Numbering
 pub mod Joining
+pub mod Visits
+pub mod WellMade
+pub mod Arrays
+pub mod inner
 pub mod Marked

@@ -5,6 +5,8 @@
 
 mod node;
 mod step;
+mod visit;
 
 pub use node::{Child, Leaf, Node};
 pub use step::Step;
+pub use visit::Visit;

@@ -1,2 +1,11 @@
 pub mod PartedCells
+pub mod OneDivision
+pub mod UniformLeaves
+pub mod LeafPoints
+pub mod TreeContents
+pub mod TreeLaws
+pub mod SameTree
+pub mod BookSolids
+pub mod Building
+pub mod Samples
 pub mod PartedSamples

@@ -10,15 +10,11 @@ use Rattle.qm_space.proofs.Multiples.{multiple_behind, multiple_not_in_front}
 use Rattle.qm_contents.specs.declared.contents.Contents.{Contents}
 use Rattle.qm_contents.specs.Precedence.{IsAtMost}
 use Rattle.qm_solids.specs.Solid.{Solid}
+use Rattle.qm_solids.specs.Alike.{IsAlike}
 use Rattle.qm_solids.specs.Holding.{IsFull, Holds}
 use Rattle.qm_solids.specs.Strongest.{IsOneThat, AreGiven}
 use Rattle.qm_solids.specs.Contents.{HasContents}
 use Rattle.qm_solids.proofs.Insides.{behind_all, inside_of_behind}
-
--- the contents are the same, and each plane of the first is a positive multiple of the one at its place in the second
-pub record IsAlike (solid other : Solid) : Type 0 where
-  pub same_contents : solid.contents ≡ other.contents
-  pub multiples : AllZip IsPositiveMultiple solid.outward other.outward
 
 -- ---- what holds on one side of planes that are multiples
 
@@ -89,4 +85,14 @@ module _ (solids others : List Solid) (alike : AllZip IsAlike solids others) (x 
   same_contents contents has = record {
     given = given_there contents has.given;
     strongest = λ other one. let at = one_back other one in subst (λ (c : Contents). IsAtMost c contents) at.2 (has.strongest at.0 at.1);
+  }
+
+  given_back : (contents : Contents) → AreGiven (λ s. Holds s x) others contents → AreGiven (λ s. Holds s x) solids contents
+  given_back contents (inl empty) = inl empty
+  given_back contents (inr by) = let at = one_back by.0 by.1 in inr (at.0, at.1, at.2 ∙ by.2)
+
+  pub same_contents_back : (contents : Contents) → HasContents others x contents → HasContents solids x contents
+  same_contents_back contents has = record {
+    given = given_back contents has.given;
+    strongest = λ solid one. let at = one_there solid one in subst (λ (c : Contents). IsAtMost c contents) (sym at.2) (has.strongest at.0 at.1);
   }

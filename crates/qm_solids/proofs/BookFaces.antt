@@ -1,6 +1,6 @@
 -- Planes of a book that are turned to sides, as faces of solids name them: what they have in common shows in their numbers
 -- and sides.
-use Rattle.std.proofs.Common.{◌≡◌, ℕ, zero, suc, ◌<◌, Bool, true, false, not, List, [], ◌∷◌, length, Some, refl, ap, sym, ◌∙◌, subst, arith, map, All, Contains, get_or}
+use Rattle.std.proofs.Common.{◌≡◌, ℕ, ◌<◌, Bool, true, false, not, List, length, refl, ap, sym, ◌∙◌, subst, arith, map, All, Contains, get_or}
 use Rattle.std.proofs.lemmas.List.Elements.{All-map, All-contains, All-contains_itself, Contains-get_or}
 use Rattle.qm_lists.proofs.Elements.{All-from_map}
 use Rattle.qm_space.specs.Point.{Point, IsInCube}
@@ -8,7 +8,6 @@ use Rattle.qm_space.specs.Cell.{IsInCell}
 use Rattle.qm_solids.specs.declared.face.FaceRef.{FaceRef}
 use Rattle.qm_solids.specs.Solid.{Solid}
 use Rattle.qm_solids.specs.Outward.{outward_of}
-use Rattle.std.specs.Prelude.{slice_get}
 use Rattle.qm_space.specs.Plane.{Plane, flipped, IsOn, IsBehind}
 use Rattle.qm_space.specs.Reduced.{HasNormal}
 use Rattle.qm_space.specs.Turned.{turned}
@@ -16,18 +15,13 @@ use Rattle.qm_space.specs.Multiple.{HasSameSides}
 use Rattle.qm_space.specs.Book.{plane_at, AreBookPlanes}
 use Rattle.qm_numbers.proofs.IntegerProducts.{linear}
 use Rattle.qm_space.proofs.Planes.{flipped_behind}
+pub use Rattle.qm_space.proofs.Books.{stands_at}
 use Rattle.qm_space.proofs.TurnedPlanes.{turned_other}
 use Rattle.qm_space.proofs.Openness.{ahead, ahead_in_front}
 use Rattle.qm_solids.specs.Candidates.{LiesOn, IsOnFace}
 use Rattle.qm_solids.proofs.FlatSolids.{AreOpposed}
 use Rattle.qm_solids.proofs.PlanesInCommon.{turned_lies_on, lies_on_from_turned, one_number, same_sides_lies_on}
 use Rattle.qm_space.proofs.SameSides.{same_sides_itself, same_behind}
-
--- the plane of a number stands at its place
-pub stands_at : (book : List Plane) (n : ℕ) → n < length book → slice_get book n ≡ Some (plane_at book n)
-stands_at [] n within = absurd (omega arith)
-stands_at (h ∷ book) zero within = refl
-stands_at (h ∷ book) (suc n) within = stands_at book n (omega arith)
 
 -- no plane with a normal has its own sides exchanged
 not_both_sides : (h : Plane) → HasNormal h → HasSameSides h (flipped h) → ⊥

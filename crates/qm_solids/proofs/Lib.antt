@@ -1,12 +1,17 @@
 pub mod Insides
 pub mod ContentsLaws
+pub mod FaceSides
 pub mod FlatSolids
 pub mod AlikeSolids
 pub mod CellLaws
 pub mod Samples
 pub mod CellSamples
+pub mod FlatCounts
 pub mod PlanesInCommon
+pub mod HeldPoints
+pub mod SameFaces
 pub mod UniformCells
 pub mod FullSolids
+pub mod PassedPlanes
 pub mod BookFaces
 pub mod UniformSamples

@@ -40,7 +40,7 @@ lies_on_through a b c l m = record {
       ∙ ap (λ (p : Plane). scaled l.factor p) m.multiple ∙ scaled_scaled l.factor m.factor c;
 }
 
-one_scaled : (h : Plane) → scaled (pos 1) h ≡ h
+pub one_scaled : (h : Plane) → scaled (pos 1) h ≡ h
 one_scaled h = same_plane (scaled (pos 1) h) h (one_*ℤ h.nx) (one_*ℤ h.ny) (one_*ℤ h.nz) (one_*ℤ h.d)
 
 pub turned_lies_on : (side : Bool) (h : Plane) → LiesOn (turned side h) h

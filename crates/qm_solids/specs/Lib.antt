@@ -7,4 +7,6 @@ pub mod Cells
 pub mod Candidates
 pub mod Uniform
 pub mod Least
+pub mod Alike
 pub mod InBook
+pub mod Flat

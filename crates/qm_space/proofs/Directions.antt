@@ -4,7 +4,8 @@ use Rattle.std.proofs.lemmas.Int.{ints}
 use Rattle.qm_space.specs.Point.{Point, point_sum}
 use Rattle.qm_space.specs.Plane.{Plane, value, IsOn}
 use Rattle.qm_space.specs.Determinant.{determinant}
-use Rattle.qm_space.specs.Meet.{along, meet, LiesAlong}
+use Rattle.qm_space.specs.Meet.{along, meet}
+use Rattle.qm_space.specs.inner.CommonDirection.{LiesAlong}
 use Rattle.qm_numbers.proofs.IntegerProducts.{linear}
 use Rattle.qm_numbers.proofs.Signs.{by_zero}
 use Rattle.qm_numbers.proofs.Ring.{number, variable, negated, ◌⊕◌, ◌⊖◌, ◌⊗◌, solved}

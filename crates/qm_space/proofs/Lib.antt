@@ -1,5 +1,6 @@
 pub mod PlaneSymbols
 pub mod Planes
+pub mod CommonLines
 pub mod Multiples
 pub mod SameSides
 pub mod CubeFaces
@@ -9,9 +10,11 @@ pub mod Cubes
 pub mod Lines
 pub mod PlanesThroughPoints
 pub mod Sizes
+pub mod Cuboids
 pub mod Directions
 pub mod Exchange
 pub mod Books
 pub mod Openness
 pub mod Proportional
+pub mod ClosedCells
 pub mod Crossings

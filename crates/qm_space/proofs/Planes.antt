@@ -49,6 +49,18 @@ scaled_compares k h p l = ap (λ v. int_cmp v (pos 0)) (value_scaled k h p) ∙ 
 pub times_compares : (h : Plane) (k : ℤ) (p : Point) → pos 0 <ℤ k → int_cmp (value h (point_times k p)) (pos 0) ≡ int_cmp (value h p) (pos 0)
 times_compares h k p l = ap (λ v. int_cmp v (pos 0)) (value_times h k p) ∙ factor_compares k (value h p) l
 
+-- a plane's numbers are its values at four points
+pub value_at_units : (h : Plane) → (value h (record { x = pos 1; y = pos 0; z = pos 0; w = pos 0 }) ≡ h.nx) × (value h (record { x = pos 0; y = pos 1; z = pos 0; w = pos 0 }) ≡ h.ny)
+    × (value h (record { x = pos 0; y = pos 0; z = pos 1; w = pos 0 }) ≡ h.nz) × (value h (record { x = pos 0; y = pos 0; z = pos 0; w = neg_ℤ (pos 1) }) ≡ h.d)
+unfolding value
+value_at_units h =
+    let k = plane_from 0 in let zero = number (pos 0) in let one = number (pos 1) in let zs = numbers_of_plane h [] in (
+      solved zs (symbol_value k (record { x = one; y = zero; z = zero; w = zero })) k.nx tt,
+      solved zs (symbol_value k (record { x = zero; y = one; z = zero; w = zero })) k.ny tt,
+      solved zs (symbol_value k (record { x = zero; y = zero; z = one; w = zero })) k.nz tt,
+      solved zs (symbol_value k (record { x = zero; y = zero; z = zero; w = number (neg_ℤ (pos 1)) })) k.d tt,
+    )
+
 -- ---- the point in which three planes meet
 
 -- a plane's value there is the determinant of the four planes

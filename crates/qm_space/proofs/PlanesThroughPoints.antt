@@ -10,7 +10,8 @@ use Rattle.qm_space.specs.Plane.{Plane, value, flipped, scaled}
 use Rattle.qm_space.specs.Reduced.{leads_positive, HasNormal}
 use Rattle.qm_space.specs.Turned.{turned}
 use Rattle.qm_space.specs.Line.{AreOnOneLine}
-use Rattle.qm_space.specs.ThreePoints.{outward_plane, HasOutwardSizes, common_factor, reduced, plane_through, IsPlaneThrough}
+use Rattle.qm_space.specs.inner.OutwardSizes.{HasOutwardSizes}
+use Rattle.qm_space.specs.ThreePoints.{outward_plane, common_factor, reduced, plane_through, IsPlaneThrough}
 use Rattle.qm_numbers.proofs.IntegerProducts.{linear, *ℤ_zero, zero_*ℤ, one_*ℤ}
 use Rattle.qm_numbers.proofs.Signs.{by_zero, zero_beside, zero_beside_positive, factor_compares, abs_product_bound}
 use Rattle.qm_numbers.proofs.Ring.{variable, number, ◌⊕◌, ◌⊖◌, ◌⊗◌, solved}

@@ -1,5 +1,5 @@
 -- Multiples of planes, the sign with which a plane leads, and planes in lowest terms.
-use Rattle.std.proofs.Common.{◌≡◌, ℕ, suc, zero, ◌*◌, ◌≤◌, ◌<◌, Bool, true, false, not, IsTrue, ℤ, pos, negsuc, ◌+ℤ◌, ◌*ℤ◌, neg_ℤ, ◌<ℤ◌, [], ◌∷◌, ap, sym, subst, refl, ◌∙◌, arith, unsigned_abs, int_div, true≢false, eq-zero-or-pos, ⊎_elim, mul-one}
+use Rattle.std.proofs.Common.{◌≡◌, ℕ, suc, zero, ◌*◌, ◌≤◌, ◌<◌, Bool, true, false, not, IsTrue, ℤ, pos, negsuc, ◌+ℤ◌, ◌*ℤ◌, neg_ℤ, ◌<ℤ◌, [], ◌∷◌, ap, sym, subst, refl, ◌∙◌, arith, unsigned_abs, int_div, true≢false, eq-zero-or-pos, ◌⊎◌, inl, inr, ⊎_elim, mul-one}
 use Rattle.std.specs.Int.{◌∣◌}
 use Rattle.std.proofs.lemmas.Int.{ints}
 use Rattle.std.proofs.lemmas.Nat.Gcd.{dvd_trans}
@@ -273,3 +273,33 @@ multiples_equal i j g h x y e k l s t =
 pub multiple_is_same : (k : ℤ) (g h : Plane) → (k ≡ pos 0 → ⊥) → g ≡ scaled k h → IsLowest g → IsLowest h → IsTrue (leads_positive g) → IsTrue (leads_positive h) → g ≡ h
 multiple_is_same k g h n e l m s t =
     (multiples_equal (pos 1) k g h (λ z. absurd (omega (arith, ints))) n (same_plane (scaled (pos 1) g) g (one_*ℤ g.nx) (one_*ℤ g.ny) (one_*ℤ g.nz) (one_*ℤ g.d) ∙ e) l m s t).0
+
+-- ---- planes in lowest terms are equal up to their sides where multiples of them are
+
+-- of a multiple, the other side's is a multiple too
+scaled_other : (k : ℤ) (h : Plane) → scaled k h ≡ scaled (neg_ℤ k) (flipped h)
+scaled_other k h = sym (flipped_twice (scaled k h)) ∙ ap flipped (sym (scaled_flipped k h)) ∙ sym (scaled_neg k (flipped h))
+
+flip_both : (g h : Plane) → flipped g ≡ flipped h → g ≡ h
+flip_both g h e = sym (flipped_twice g) ∙ ap flipped e ∙ flipped_twice h
+
+leads_when_flipped : (h : Plane) → IsReduced h → leads_positive h ≡ false → IsTrue (leads_positive (flipped h))
+leads_when_flipped h r e = leads_flipped h r.normal ∙ ap not e
+
+pub multiples_same_plane : (i j : ℤ) (g h : Plane) → (i ≡ pos 0 → ⊥) → (j ≡ pos 0 → ⊥) → scaled i g ≡ scaled j h → IsReduced g → IsReduced h → (g ≡ h) ⊎ (g ≡ flipped h)
+multiples_same_plane i j g h x y e r s = by_leads (leads_positive g) (leads_positive h) refl refl
+  where
+    lowest : (p : Plane) → IsReduced p → IsLowest p
+    lowest p q = q.lowest
+
+    other : neg_ℤ j ≡ pos 0 → ⊥
+    other z = y (omega (arith, linear))
+
+    by_leads : (a b : Bool) → leads_positive g ≡ a → leads_positive h ≡ b → (g ≡ h) ⊎ (g ≡ flipped h)
+    by_leads true true l m = inl (multiples_equal i j g h x y e (lowest g r) (lowest h s) l m).0
+    by_leads true false l m =
+        inr (multiples_equal i (neg_ℤ j) g (flipped h) x other (e ∙ scaled_other j h) (lowest g r) (lowest (flipped h) (flipped_is_reduced h s)) l (leads_when_flipped h s m)).0
+    by_leads false true l m =
+        inr (sym (flipped_twice g) ∙ ap flipped (multiples_equal i (neg_ℤ j) (flipped g) h x other (scaled_flipped i g ∙ ap flipped e ∙ sym (scaled_neg j h)) (lowest (flipped g) (flipped_is_reduced g r)) (lowest h s) (leads_when_flipped g r l) m).0)
+    by_leads false false l m =
+        inl (flip_both g h (multiples_equal i j (flipped g) (flipped h) x y (scaled_flipped i g ∙ ap flipped e ∙ sym (scaled_flipped j h)) (lowest (flipped g) (flipped_is_reduced g r)) (lowest (flipped h) (flipped_is_reduced h s)) (leads_when_flipped g r l) (leads_when_flipped h s m)).0)

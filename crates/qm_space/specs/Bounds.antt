@@ -1,15 +1,16 @@
-use Rattle.std.specs.Prelude.{ℕ, ◌*◌, ◌^◌, ℤ, pos}
+use Rattle.std.specs.Prelude.{ℕ, ◌*◌, ◌^◌, ℤ, unsigned_abs}
+use Rattle.qm_space.specs.declared.bounds.TheConstants.{WORLD_EXTENT}
 
 -- Each bound of the world and of its planes, by what it bounds. What code holds in numbers of 32, 64 and 128 bits
 -- follows from these.
 
--- the world is the open cube in which each coordinate lies strictly between this number and its opposite
-abbrev pub world_extent : ℕ
-world_extent = 4096
-
--- the same as an integer
+-- the world is the open cube in which each coordinate lies strictly between this number, 4096, and its opposite
 abbrev pub extent : ℤ
-extent = pos world_extent
+extent = WORLD_EXTENT
+
+-- the same as a natural number
+abbrev pub world_extent : ℕ
+world_extent = unsigned_abs WORLD_EXTENT
 
 -- a coordinate of a corner that code rounds
 abbrev pub rounded_bound : ℕ

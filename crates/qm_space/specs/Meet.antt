@@ -1,7 +1,7 @@
-use Rattle.std.specs.Prelude.{◌≡◌, ◌≤◌, pos, unsigned_abs}
+use Rattle.std.specs.Prelude.{◌≤◌, unsigned_abs}
 use Rattle.qm_space.specs.Bounds.{meet_bound, meet_weight_bound}
 use Rattle.qm_space.specs.Point.{Point}
-use Rattle.qm_space.specs.Plane.{Plane, IsOn}
+use Rattle.qm_space.specs.Plane.{Plane}
 use Rattle.qm_space.specs.Determinant.{determinant}
 use Rattle.qm_space.specs.Vector.{cross, normal_of}
 
@@ -24,11 +24,3 @@ pub record HasMeetSizes (p : Point) : Type 0 where
   pub y_small : unsigned_abs p.y ≤ meet_bound
   pub z_small : unsigned_abs p.z ≤ meet_bound
   pub w_small : unsigned_abs p.w ≤ meet_weight_bound
-
--- a direction, not of length 0, that lies in three planes
-pub record LiesAlong (v : Point) (a b c : Plane) : Type 0 where
-  pub weight : v.w ≡ pos 0
-  pub some : (v.x ≡ pos 0 → v.y ≡ pos 0 → v.z ≡ pos 0 → ⊥)
-  pub first : IsOn a v
-  pub second : IsOn b v
-  pub third : IsOn c v

@@ -1,6 +1,5 @@
-use Rattle.std.specs.Prelude.{ℕ, ◌≤◌, pos, ◌+ℤ◌, ◌*ℤ◌, Bool, IsTrue, unsigned_abs, int_div}
+use Rattle.std.specs.Prelude.{ℕ, pos, ◌+ℤ◌, ◌*ℤ◌, Bool, IsTrue, unsigned_abs, int_div}
 use Rattle.qm_numbers.specs.Gcd.{gcd}
-use Rattle.qm_space.specs.Bounds.{normal_bound, outward_distance_bound}
 use Rattle.qm_space.specs.Point.{Point}
 use Rattle.qm_space.specs.Plane.{Plane}
 use Rattle.qm_space.specs.Multiple.{IsPositiveMultiple}
@@ -15,13 +14,6 @@ unfoldable pub outward_plane : Point → Point → Point → Plane
 outward_plane p0 p1 p2 =
     let n = cross (step_between p1 p0) (step_between p1 p2) in
     record { nx = n.x; ny = n.y; nz = n.z; d = ((n.x *ℤ p1.x) +ℤ (n.y *ℤ p1.y)) +ℤ (n.z *ℤ p1.z) }
-
--- the sizes that the outward plane has where the three points lie in the closed cube
-pub record HasOutwardSizes (h : Plane) : Type 0 where
-  pub nx_small : unsigned_abs h.nx ≤ normal_bound
-  pub ny_small : unsigned_abs h.ny ≤ normal_bound
-  pub nz_small : unsigned_abs h.nz ≤ normal_bound
-  pub d_small : unsigned_abs h.d ≤ outward_distance_bound
 
 -- the greatest number that divides all four numbers of a plane
 unfoldable pub common_factor : Plane → ℕ

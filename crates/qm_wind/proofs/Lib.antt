@@ -1,6 +1,7 @@
-pub mod KeptCorners
+pub mod Polygons
 pub mod Arcs
 pub mod Surveys
 pub mod Clips
 pub mod WallsAcross
 pub mod Worlds
+pub mod Beside

@@ -1,3 +1,5 @@
 pub mod Clipped
+pub mod Lying
+pub mod Split
 pub mod Entered
 pub mod inner

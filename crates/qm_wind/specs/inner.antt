@@ -1,3 +1,4 @@
-pub mod KeptCorners
 pub mod Surveyed
+pub mod Finding
+pub mod Held
 pub mod Across

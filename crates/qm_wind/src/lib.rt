@@ -3,12 +3,17 @@
 #![tactic(auto)]
 
 mod circle;
+mod found;
+mod halves;
 pub mod laws;
+mod lies;
 mod pane;
 mod polygon;
 mod survey;
 mod walls;
 mod winding;
 
+pub use halves::Halves;
+pub use lies::Lies;
 pub use pane::Pane;
 pub use winding::{Clip, Side, Winding};

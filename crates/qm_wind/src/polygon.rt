@@ -1,13 +1,14 @@
-ghost use Rattle.std.specs.Prelude.{◌≡◌, ◌<◌, true, length, IfOk, MatchOption};
+ghost use Rattle.std.specs.Prelude.{◌≡◌, ◌<◌, length, IfOk, MatchOption};
 ghost use Rattle.qm_convex.specs.Winding.{corner_at, IsConvex};
 ghost use Rattle.qm_convex.specs.inner.Square.{square};
 ghost use Rattle.qm_convex.specs.Cut.{IsPartInFront};
 ghost use Rattle.qm_convex.specs.inner.FrontRun.{IsFrontRun, cut};
 ghost use Rattle.qm_convex.specs.Sides.{HasCornerBehind, HasNoneInFront};
-ghost use Rattle.qm_wind.specs.inner.Surveyed.{IsSurvey};
+ghost use Rattle.qm_wind.specs.inner.Surveyed.{IsRun, IsSurvey};
+ghost use Rattle.qm_wind.specs.inner.Finding.{HasCornersAcross};
 
-use crate::circle::{add_arc, item, place_after, steps_between};
-use crate::survey::Survey;
+use crate::circle::{add_arc, next_place, steps_between};
+use crate::survey::{Run, Survey};
 use crate::walls::mirrored;
 use qm_geom::{Corner, Plane};
 use smallvec::SmallVec;
@@ -15,23 +16,21 @@ use std::alloc::{AllocError, Global};
 use std::marker::Model;
 
 /// A convex polygon on a plane, wherever it lies: one plane for each edge, with the polygon on its
-/// front, and the corners beside them.
+/// front.
 #[derive(Drop)]
 pub(crate) struct Polygon {
     plane: Plane,
     edges: SmallVec<Plane, 8>,
-    corners: SmallVec<Corner, 8>,
 }
 
 impl Model for Polygon {
-    ghost use Rattle.qm_convex.specs.Winding.{Winding};
-    ghost use Rattle.qm_wind.specs.inner.KeptCorners.{HasKeptCorners};
+    ghost use Rattle.qm_convex.specs.Winding.{Winding, IsConvex};
 
     ghost Value = { Winding };
 
     ghost view = { λ w. record { plane = w.plane; edges = w.edges.items } };
 
-    ghost invariant = { λ w. HasKeptCorners (record { plane = w.plane; edges = w.edges.items }) w.corners.items };
+    ghost invariant = { λ w. IsConvex (record { plane = w.plane; edges = w.edges.items }) };
 }
 
 impl Polygon {
@@ -47,7 +46,7 @@ impl Polygon {
         requires { i < length self.now.edges }
         ensures { result ≡ corner_at self.now i }
     {
-        item(self.corners.as_slice(), i)
+        corner(&self.plane, self.edges.as_slice(), i)
     }
 
     /// The plane on which it lies.
@@ -61,15 +60,11 @@ impl Polygon {
     pub(crate) fn copy(&self) -> Result<Polygon, AllocError>
         ensures { IfOk result (λ w. w ≡ self.now) }
     {
-        let alloc = *self.edges.allocator();
-        let mut edges = SmallVec::new(alloc);
+        let mut edges = SmallVec::new(*self.edges.allocator());
         edges.extend_from_slice(self.edges.as_slice())?;
-        let mut corners = SmallVec::new(alloc);
-        corners.extend_from_slice(self.corners.as_slice())?;
         Ok(Polygon {
             plane: self.plane,
             edges,
-            corners,
         })
     }
 
@@ -77,22 +72,17 @@ impl Polygon {
     pub(crate) fn survey(&self, plane: &Plane) -> Survey
         ensures { IsSurvey self.now plane.now result }
     {
-        Survey::of(self.corners.as_slice(), plane)
+        Survey::of(&self.plane, self.edges.as_slice(), plane)
     }
 
-    /// The part in front of a plane, for a polygon with corners on both sides.
-    pub(crate) fn part_in_front_of(
-        &self,
-        plane: &Plane,
-        survey: &Survey,
-    ) -> Result<Polygon, AllocError>
-        requires surveyed { IsSurvey self.now plane.now survey.now }
-        requires front { survey.now.some_in_front ≡ true }
-        requires behind { survey.now.some_behind ≡ true }
+    /// The part in front of a plane, by the run of the corners there, where some are on both sides.
+    pub(crate) fn part_in_front_of(&self, plane: &Plane, run: &Run) -> Result<Polygon, AllocError>
+        requires run { IsRun self.now plane.now run.now }
+        requires across { HasCornersAcross self.now plane.now }
         ensures { IfOk result (λ w. IsPartInFront w self.now plane.now) }
     {
-        let count = steps_between(self.edges.len(), survey.start, survey.end);
-        self.cut(plane, survey.start, count)
+        let count = steps_between(self.edges.len(), run.start, run.end);
+        self.cut(plane, run.start, count)
     }
 
     /// The part in front of the plane, by the run of the corners there.
@@ -102,23 +92,12 @@ impl Polygon {
         ensures { IfOk result (λ w. w ≡ cut self.now plane.now start count) }
     {
         let _ = &plane.nx;
-        let alloc = *self.edges.allocator();
-        let mut edges = SmallVec::new(alloc);
+        let mut edges = SmallVec::new(*self.edges.allocator());
         add_arc(&mut edges, self.edges.as_slice(), start, count + 1)?;
-        let mut corners = SmallVec::new(alloc);
-        add_arc(&mut corners, self.corners.as_slice(), start, count)?;
-        let last = item(
-            self.edges.as_slice(),
-            place_after(self.edges.len(), start, count),
-        );
-        let first = item(self.edges.as_slice(), start);
         edges.push(*plane)?;
-        corners.push(Corner::turning(&self.plane, &last, plane))?;
-        corners.push(Corner::turning(&self.plane, plane, &first))?;
         Ok(Polygon {
             plane: self.plane,
             edges,
-            corners,
         })
     }
 
@@ -129,13 +108,13 @@ impl Polygon {
     {
         let _ = &self.plane;
         let survey = self.survey(plane);
-        if !survey.some_in_front {
+        if !survey.front.some {
             return Ok(None);
         }
-        if !survey.some_behind {
+        if !survey.back.some {
             return Ok(Some(self));
         }
-        Ok(Some(self.part_in_front_of(plane, &survey)?))
+        Ok(Some(self.part_in_front_of(plane, &survey.front)?))
     }
 
     /// The part of a plane between two walls and these mirrored.
@@ -151,24 +130,23 @@ impl Polygon {
         let _ = &plane.nx;
         let _ = &first.nx;
         let _ = &second.nx;
-        let third = mirrored(first);
-        let fourth = mirrored(second);
-        let _ = &third.nx;
-        let _ = &fourth.nx;
-        let edges = SmallVec::from_array(alloc, [*first, *second, third, fourth])?;
-        let corners = SmallVec::from_array(
+        let edges = SmallVec::from_array(
             alloc,
-            [
-                Corner::turning(plane, first, second),
-                Corner::turning(plane, second, &third),
-                Corner::turning(plane, &third, &fourth),
-                Corner::turning(plane, &fourth, first),
-            ],
+            [*first, *second, mirrored(first), mirrored(second)],
         )?;
         Ok(Polygon {
             plane: *plane,
             edges,
-            corners,
         })
     }
+}
+
+/// The corner at a place.
+fn corner(on: &Plane, edges: &[Plane], i: usize) -> Corner
+    requires convex { IsConvex (record { plane = on.now; edges = edges.now }) }
+    requires in_range { i < length edges.now }
+    ensures { result ≡ corner_at (record { plane = on.now; edges = edges.now }) i }
+{
+    let next = next_place(edges.len(), i);
+    Corner::turning(on, &edges[i], &edges[next])
 }

@@ -1,63 +1,99 @@
-ghost use Rattle.std.specs.Prelude.{◌≡◌, ◌<◌, length};
-ghost use Rattle.qm_convex.specs.Winding.{Winding, corners};
-ghost use Rattle.qm_wind.specs.inner.Surveyed.{noted, IsSurvey};
+ghost use Rattle.std.specs.Prelude.{◌≡◌, ◌<◌, pos, length};
+ghost use Rattle.std.specs.Ordering.{int_cmp};
+ghost use Rattle.qm_space.specs.Plane.{Plane, value};
+ghost use Rattle.qm_space.specs.CommonLine.{common_line};
+ghost use Rattle.qm_convex.specs.Winding.{corner_at, IsConvex};
+ghost use Rattle.qm_wind.specs.inner.Surveyed.{noted, begun, surveyed, IsSurvey};
 
-use qm_geom::{Corner, Plane};
+use crate::circle::next_place;
+use qm_geom::{Line, Plane};
 use std::cmp::Ordering;
 
-/// On which sides of a plane a winding's corners lie, and where its border comes to the plane's front
-/// and leaves it again.
+/// The corners of a winding on one side of a plane, which stand in one row of the circle.
 #[derive(Clone, Copy)]
-pub(crate) struct Survey {
-    pub(crate) some_in_front: bool,
-    pub(crate) some_behind: bool,
-    /// The first corner in front after one that isn't, if there is one.
+pub(crate) struct Run {
+    /// Whether there is one.
+    pub(crate) some: bool,
+    /// The first corner on that side after one that isn't, if there is one.
     pub(crate) start: usize,
-    /// The first corner that isn't in front after one that is, if there is one.
+    /// The first corner that isn't on that side after one that is, if there is one.
     pub(crate) end: usize,
 }
 
-impl Survey {
-    /// With the corner at a place, after the one before it.
-    fn noting(self, before: Ordering, here: Ordering, place: usize) -> Survey
-        ensures { result ≡ noted self before here place }
+impl Run {
+    /// With the corner at a place: whether the one before it was on that side, and whether it is.
+    fn noting(self, was: bool, is: bool, place: usize) -> Run
+        ensures { result ≡ noted self was is place }
     {
-        let was_in_front = before.is_gt();
-        let is_in_front = here.is_gt();
+        Run {
+            some: self.some || is,
+            start: if is && !was { place } else { self.start },
+            end: if was && !is { place } else { self.end },
+        }
+    }
+}
+
+/// The corners of a winding on both sides of a plane.
+#[derive(Clone, Copy)]
+pub(crate) struct Survey {
+    pub(crate) front: Run,
+    pub(crate) back: Run,
+}
+
+impl Survey {
+    /// Of the first corner alone.
+    fn beginning(first: Ordering) -> Survey
+        ensures { result ≡ begun first }
+    {
         Survey {
-            some_in_front: self.some_in_front || is_in_front,
-            some_behind: self.some_behind || here.is_lt(),
-            start: if is_in_front && !was_in_front {
-                place
-            } else {
-                self.start
+            front: Run {
+                some: first.is_gt(),
+                start: 0,
+                end: 0,
             },
-            end: if was_in_front && !is_in_front {
-                place
-            } else {
-                self.end
+            back: Run {
+                some: first.is_lt(),
+                start: 0,
+                end: 0,
             },
         }
     }
 
-    /// Of all corners of a winding, each measured once.
-    pub(crate) fn of(kept: &[Corner], plane: &Plane) -> Survey
-        requires { 0 < length kept.now }
-        ensures { (v : Winding) → kept.now ≡ corners v → IsSurvey v plane.now result }
+    /// With the corner at a place, after the one before it.
+    fn noting(self, before: Ordering, here: Ordering, place: usize) -> Survey
+        ensures { result ≡ surveyed self before here place }
     {
-        let first = kept[0].side(plane);
+        Survey {
+            front: self.front.noting(before.is_gt(), here.is_gt(), place),
+            back: self.back.noting(before.is_lt(), here.is_lt(), place),
+        }
+    }
+
+    /// Of all corners of a winding, each measured once.
+    pub(crate) fn of(on: &Plane, edges: &[Plane], plane: &Plane) -> Survey
+        requires { IsConvex (record { plane = on.now; edges = edges.now }) }
+        ensures { IsSurvey (record { plane = on.now; edges = edges.now }) plane.now result }
+    {
+        let line = Line::of(plane, on);
+        let first = side_of_corner(&line, edges, 0);
         let mut before = first;
-        let mut survey = Survey {
-            some_in_front: first.is_gt(),
-            some_behind: first.is_lt(),
-            start: 0,
-            end: 0,
-        };
-        for i in 1..kept.len() {
-            let here = kept[i].side(plane);
+        let mut survey = Survey::beginning(first);
+        for i in 1..edges.len() {
+            let here = side_of_corner(&line, edges, i);
             survey = survey.noting(before, here, i);
             before = here;
         }
         survey.noting(before, first, 0)
     }
+}
+
+/// The side of a plane on which the corner at a place lies, by the line in which the plane meets that of
+/// the winding.
+fn side_of_corner(line: &Line, edges: &[Plane], i: usize) -> Ordering
+    requires { i < length edges.now }
+    ensures { (g h : Plane) → line.now ≡ common_line g h →
+        result ≡ int_cmp (value g (corner_at (record { plane = h; edges = edges.now }) i)) (pos 0) }
+{
+    let next = next_place(edges.len(), i);
+    line.side_of_meeting(&edges[i], &edges[next])
 }

@@ -2,8 +2,11 @@ ghost use Rattle.std.specs.Prelude.{◌≡◌};
 ghost use Rattle.qm_space.specs.Cube.{mirrored, wall_x, wall_y, wall_z};
 ghost use Rattle.qm_wind.specs.inner.Across.{StandAcross};
 
-use qm_geom::Plane;
+use qm_geom::{Plane, WORLD_EXTENT};
 use std::cmp::Ordering;
+
+/// The distance of the walls whose normals lead along an axis.
+const WALL_DISTANCE: i64 = -(WORLD_EXTENT as i64);
 
 /// The three pairs of opposite faces of the world's cube, each seen from inside, in such an order that
 /// the normals of a plane and of the first two walls turn to the front.
@@ -33,7 +36,7 @@ fn wall_x() -> Plane
         nx: 1,
         ny: 0,
         nz: 0,
-        d: -4096,
+        d: WALL_DISTANCE,
     }
 }
 
@@ -44,7 +47,7 @@ fn wall_y() -> Plane
         nx: 0,
         ny: 1,
         nz: 0,
-        d: -4096,
+        d: WALL_DISTANCE,
     }
 }
 
@@ -55,7 +58,7 @@ fn wall_z() -> Plane
         nx: 0,
         ny: 0,
         nz: 1,
-        d: -4096,
+        d: WALL_DISTANCE,
     }
 }
 

@@ -1,15 +1,25 @@
-ghost use Rattle.std.specs.Prelude.{◌≡◌, ◌<◌, ◌≤◌, length, IfOk, MatchOption};
+ghost use Rattle.std.specs.Prelude.{◌≡◌, ◌<◌, ◌≤◌, ◌↔◌, length, IsTrue, IfOk, MatchOption};
 ghost use Rattle.qm_space.specs.Turned.{turned};
 ghost use Rattle.qm_geom.specs.Rounding.{HasSmallCoordinates};
 ghost use Rattle.qm_convex.specs.Winding.{corner_at};
 ghost use Rattle.qm_convex.specs.Vertex.{IsVertex, HasVerticesAsCorners};
-ghost use Rattle.qm_convex.specs.World.{MissesCube, IsWorldPart, IsInWorld};
+ghost use Rattle.qm_convex.specs.Cut.{IsPartInFront};
+ghost use Rattle.qm_convex.specs.Sides.{LiesIn};
+ghost use Rattle.qm_convex.specs.World.{MissesCube, IsWorldPart, IsInWorld, LiesWithin};
 ghost use Rattle.qm_space.specs.Cube.{IsInClosedCube};
 ghost use Rattle.qm_wind.specs.Clipped.{IsClip, is_front};
+ghost use Rattle.qm_wind.specs.Split.{IsSplit};
+ghost use Rattle.qm_wind.specs.Lying.{IsLying};
+ghost use Rattle.qm_wind.specs.inner.Surveyed.{IsRun};
+ghost use Rattle.qm_wind.specs.inner.Finding.{IsFound, HasCornersAcross};
 
+use crate::found::Found;
+use crate::halves::Halves;
+use crate::lies::Lies;
 use crate::polygon::Polygon;
+use crate::survey::Run;
 use crate::walls::{Walls, mirrored};
-use qm_geom::{Corner, Plane};
+use qm_geom::{Corner, Cuboid, Plane};
 use std::alloc::{AllocError, Global};
 use std::marker::Model;
 
@@ -21,21 +31,22 @@ pub enum Side {
 }
 
 /// A convex polygon on a plane, inside the world's cube: one plane for each edge, with the polygon on
-/// its front.
+/// its front. Beside it there is a cuboid that has all its points.
 #[derive(Drop)]
 pub struct Winding {
     polygon: Polygon,
+    cuboid: Cuboid,
 }
 
 impl Model for Winding {
     ghost use Rattle.qm_convex.specs.Winding.{Winding};
-    ghost use Rattle.qm_convex.specs.World.{IsInWorld};
+    ghost use Rattle.qm_wind.specs.inner.Held.{HasCuboid};
 
     ghost Value = { Winding };
 
     ghost view = { λ w. w.polygon };
 
-    ghost invariant = { λ w. IsInWorld w.polygon };
+    ghost invariant = { λ w. HasCuboid w.polygon w.cuboid };
 }
 
 /// What is left of a winding on one side of a plane.
@@ -60,7 +71,10 @@ impl Winding {
         };
         match near.kept_in_front_of(&mirrored(&walls.third))? {
             None => Ok(None),
-            Some(polygon) => Ok(Some(Winding { polygon })),
+            Some(polygon) => Ok(Some(Winding {
+                polygon,
+                cuboid: Cuboid::whole().tightened(plane).tightened(&plane.flipped()),
+            })),
         }
     }
 
@@ -79,15 +93,116 @@ impl Winding {
     fn in_front_of(&self, plane: &Plane) -> Result<Clip, AllocError>
         ensures { IfOk result (λ clip. IsClip clip self.now plane.now) }
     {
+        let _ = &self.polygon;
+        match self.found(plane) {
+            Found::Front => Ok(Clip::Whole),
+            Found::Back => Ok(Clip::Gone),
+            Found::On => Ok(Clip::Gone),
+            Found::Across(survey) => Ok(Clip::Cut(self.part(plane, &survey.front)?)),
+        }
+    }
+
+    /// The parts of the winding on both sides of a plane. Where it lies wholly on one side, it is that
+    /// part itself; where it lies in the plane, there is none.
+    pub fn split(self, plane: &Plane) -> Result<Halves, AllocError>
+        ensures { IfOk result (λ halves. IsSplit halves self plane.now) }
+    {
+        match self.found(plane) {
+            Found::Front => Ok(Halves {
+                front: Some(self),
+                back: None,
+            }),
+            Found::Back => Ok(Halves {
+                front: None,
+                back: Some(self),
+            }),
+            Found::On => Ok(Halves {
+                front: None,
+                back: None,
+            }),
+            Found::Across(survey) => Ok(Halves {
+                front: Some(self.part(plane, &survey.front)?),
+                back: Some(self.part(&plane.flipped(), &survey.back)?),
+            }),
+        }
+    }
+
+    /// Where the winding lies beside a plane.
+    pub fn lies(&self, plane: &Plane) -> Lies
+        ensures { IsLying result self.now plane.now }
+    {
+        let _ = &self.polygon;
+        match self.found(plane) {
+            Found::Front => Lies::Front,
+            Found::Back => Lies::Back,
+            Found::On => Lies::On,
+            Found::Across(_) => Lies::Across,
+        }
+    }
+
+    /// Where the winding lies beside a plane: by its cuboid, or by its corners where the plane cuts the
+    /// cuboid.
+    fn found(&self, plane: &Plane) -> Found
+        ensures { IsFound result self.now plane.now }
+    {
+        let least = self.cuboid.least_value(plane);
+        if least > 0 {
+            return Found::Front;
+        }
+        if least >= 0 {
+            return if self.is_on(plane) {
+                Found::On
+            } else {
+                Found::Front
+            };
+        }
+        let greatest = self.cuboid.greatest_value(plane);
+        if greatest < 0 {
+            return Found::Back;
+        }
+        if greatest <= 0 {
+            return if self.is_on(plane) {
+                Found::On
+            } else {
+                Found::Back
+            };
+        }
+        self.found_by_corners(plane)
+    }
+
+    /// Where the winding lies beside a plane, by its corners.
+    fn found_by_corners(&self, plane: &Plane) -> Found
+        ensures { IsFound result self.now plane.now }
+    {
         let survey = self.polygon.survey(plane);
-        if !survey.some_in_front {
-            return Ok(Clip::Gone);
+        match (survey.front.some, survey.back.some) {
+            (true, true) => Found::Across(survey),
+            (true, false) => Found::Front,
+            (false, true) => Found::Back,
+            (false, false) => Found::On,
         }
-        if !survey.some_behind {
-            return Ok(Clip::Whole);
-        }
-        let polygon = self.polygon.part_in_front_of(plane, &survey)?;
-        Ok(Clip::Cut(Winding { polygon }))
+    }
+
+    /// Whether the winding lies in a plane.
+    fn is_on(&self, plane: &Plane) -> bool
+        ensures { IsTrue result ↔ LiesIn self.now plane.now }
+    {
+        let own = self.polygon.plane();
+        let _ = &own.nx;
+        let _ = &plane.nx;
+        own == *plane || own == plane.flipped()
+    }
+
+    /// The part in front of a plane, by the run of the corners there, where some are on both sides.
+    fn part(&self, plane: &Plane, run: &Run) -> Result<Winding, AllocError>
+        requires run { IsRun self.now plane.now run.now }
+        requires across { HasCornersAcross self.now plane.now }
+        ensures { IfOk result (λ w. IsPartInFront w self.now plane.now) }
+    {
+        Ok(Winding {
+            polygon: self.polygon.part_in_front_of(plane, run)?,
+            cuboid: self.cuboid.tightened(plane),
+        })
     }
 
     /// The same winding once more.
@@ -96,7 +211,15 @@ impl Winding {
     {
         Ok(Winding {
             polygon: self.polygon.copy()?,
+            cuboid: self.cuboid,
         })
+    }
+
+    /// A cuboid that has all points of the winding. It may be larger than need be.
+    pub fn cuboid(&self) -> Cuboid
+        ensures { LiesWithin self.now result }
+    {
+        self.cuboid
     }
 
     /// How many corners it has, which are exactly its vertices: at least three, and no three neighbours

@@ -7,6 +7,7 @@
 mod planes;
 mod streams;
 mod tally;
+mod tree;
 
 use std::{env, io};
 use streams::Stream;
@@ -26,6 +27,7 @@ fn main(rt: HostRuntime) -> io::Result<()> {
         Stream::Octagons,
         Stream::Misses,
         Stream::Chains,
+        Stream::Tree,
     ] {
         if wanted.is_empty() || wanted == stream.name() {
             let Tally {

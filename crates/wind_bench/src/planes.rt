@@ -6,17 +6,17 @@ use std::alloc::{AllocError, Global};
 
 /// A stream of numbers that look random: a linear congruential generator of 64 bits.
 #[derive(Drop)]
-struct Numbers {
+pub(crate) struct Numbers {
     state: u64,
 }
 
 impl Numbers {
-    fn starting_at(start: u64) -> Numbers {
+    pub(crate) fn starting_at(start: u64) -> Numbers {
         Numbers { state: start }
     }
 
     /// The next number, of 31 bits.
-    fn next(&mut self) -> u32 {
+    pub(crate) fn next(&mut self) -> u32 {
         self.state = self
             .state
             .wrapping_mul(6364136223846793005)
@@ -37,7 +37,7 @@ impl Numbers {
     }
 
     /// A plane through three such points.
-    fn plane(&mut self, reach: u32) -> Plane
+    pub(crate) fn plane(&mut self, reach: u32) -> Plane
         requires { reach ≤ 4096 }
     {
         match Plane::through(self.point(reach), self.point(reach), self.point(reach)) {
@@ -65,4 +65,16 @@ pub(crate) fn planes(alloc: Global, count: usize, reach: u32) -> Result<Vec<Plan
         planes.push(numbers.plane(reach))?;
     }
     Ok(planes)
+}
+
+/// The plane through three points that are on no line.
+pub(crate) fn through(p0: [i32; 3], p1: [i32; 3], p2: [i32; 3]) -> Plane
+    requires p0_in_cube { AreCoordinates p0 }
+    requires p1_in_cube { AreCoordinates p1 }
+    requires p2_in_cube { AreCoordinates p2 }
+{
+    match Plane::through(p0, p1, p2) {
+        Ok((plane, _)) => plane,
+        Err(_) => Plane::default(),
+    }
 }

@@ -1,7 +1,6 @@
-ghost use Rattle.qm_space.specs.Point.{AreCoordinates};
-
-use crate::planes::planes;
+use crate::planes::{planes, through};
 use crate::tally::Tally;
+use crate::tree::Tree;
 use qm_geom::Plane;
 use qm_wind::{Clip, Side, Winding};
 use std::alloc::{AllocError, Global};
@@ -17,6 +16,8 @@ pub(crate) enum Stream {
     Misses,
     /// A square by one plane after another, until nothing is left of it.
     Chains,
+    /// The faces of 64 boxes down a tree of ten levels of planes, each eighth of which is slanted.
+    Tree,
 }
 
 impl Stream {
@@ -26,11 +27,20 @@ impl Stream {
             Stream::Octagons => "octagons",
             Stream::Misses => "misses",
             Stream::Chains => "chains",
+            Stream::Tree => "tree",
+        }
+    }
+
+    /// Runs so many rounds.
+    pub(crate) fn run(self, alloc: Global, rounds: u32) -> Result<Tally, AllocError> {
+        match self {
+            Stream::Tree => down_the_tree(alloc, rounds),
+            _ => self.clips(alloc, rounds),
         }
     }
 
     /// Clips so many rounds, in each of them by 1,024 planes on both sides.
-    pub(crate) fn run(self, alloc: Global, rounds: u32) -> Result<Tally, AllocError> {
+    fn clips(self, alloc: Global, rounds: u32) -> Result<Tally, AllocError> {
         let planes = planes(alloc, 1024, 4096)?;
         let mut tally = Tally::default();
         let Some(start) = self.start(alloc)? else {
@@ -51,11 +61,21 @@ impl Stream {
             return Ok(None);
         };
         match self {
-            Stream::Squares | Stream::Chains => Ok(Some(square)),
+            Stream::Squares | Stream::Chains | Stream::Tree => Ok(Some(square)),
             Stream::Octagons => cut_by(square, &slants()),
             Stream::Misses => cut_by(square, &near_corner()),
         }
     }
+}
+
+/// Pushes the faces down the tree, so many times.
+fn down_the_tree(alloc: Global, rounds: u32) -> Result<Tally, AllocError> {
+    let tree = Tree::new(alloc)?;
+    let mut tally = Tally::default();
+    for _ in 0..rounds {
+        tally = tree.push_down(alloc, tally)?;
+    }
+    Ok(tally)
 }
 
 /// Clips one winding by each plane, on both sides.
@@ -118,16 +138,4 @@ fn near_corner() -> [Plane; 2] {
         through([3968, 0, 0], [3968, 1, 0], [3968, 0, 1]).flipped(),
         through([0, 3968, 0], [1, 3968, 0], [0, 3968, 1]).flipped(),
     ]
-}
-
-/// The plane through three points that are on no line.
-fn through(p0: [i32; 3], p1: [i32; 3], p2: [i32; 3]) -> Plane
-    requires p0_in_cube { AreCoordinates p0 }
-    requires p1_in_cube { AreCoordinates p1 }
-    requires p2_in_cube { AreCoordinates p2 }
-{
-    match Plane::through(p0, p1, p2) {
-        Ok((plane, _)) => plane,
-        Err(_) => Plane::default(),
-    }
 }

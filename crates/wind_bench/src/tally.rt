@@ -12,15 +12,29 @@ pub(crate) struct Tally {
 impl Tally {
     /// With one more.
     pub(crate) fn with(self, clip: &Clip) -> Tally {
-        let mut tally = self;
         match clip {
-            Clip::Whole => tally.whole = tally.whole.wrapping_add(1),
-            Clip::Gone => tally.gone = tally.gone.wrapping_add(1),
-            Clip::Cut(part) => {
-                tally.cut = tally.cut.wrapping_add(1);
-                tally.corners = tally.corners.wrapping_add(part.len() as u64);
-            }
+            Clip::Whole => self.with_whole(),
+            Clip::Gone => self.with_gone(),
+            Clip::Cut(part) => self.with_cut(part.len() as u64),
         }
+    }
+
+    pub(crate) fn with_whole(self) -> Tally {
+        let mut tally = self;
+        tally.whole = tally.whole.wrapping_add(1);
+        tally
+    }
+
+    pub(crate) fn with_gone(self) -> Tally {
+        let mut tally = self;
+        tally.gone = tally.gone.wrapping_add(1);
+        tally
+    }
+
+    pub(crate) fn with_cut(self, corners: u64) -> Tally {
+        let mut tally = self;
+        tally.cut = tally.cut.wrapping_add(1);
+        tally.corners = tally.corners.wrapping_add(corners);
         tally
     }
 }

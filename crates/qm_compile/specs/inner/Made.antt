@@ -4,16 +4,14 @@ use Rattle.qm_grammar.specs.declared.fault.MapFault.{MapFault}
 use Rattle.qm_grammar.specs.declared.fault.MapFault.TheVariants.{Memory}
 use Rattle.qm_grammar.specs.Meaning.{IsMapText, IsFaultText}
 use Rattle.qm_compile.specs.declared.command.Command.{Command}
-use Rattle.qm_compile.specs.declared.command.Command.TheVariants.{Compile}
 use Rattle.qm_compile.specs.declared.made.Made.{Made}
-use Rattle.qm_compile.specs.declared.made.Made.TheVariants.{Product, Fault, NotBuilt}
-use Rattle.qm_compile.specs.Product.{IsProduct, HasNoOneBrush}
+use Rattle.qm_compile.specs.declared.made.Made.TheVariants.{Product, Fault}
+use Rattle.qm_compile.specs.Product.{IsProduct}
 
 -- what comes of a map
 abbrev pub ComesOfMap : Command → MapFile → Made → Type 0
 ComesOfMap command map (Product product) = IsProduct command map product.file.items (string_bytes product.summary)
 ComesOfMap command map (Fault found) = ⊥
-ComesOfMap command map NotBuilt = (command ≡ Compile) × HasNoOneBrush map
 
 -- what comes of a text: its fault, or what comes of the map that it means
 abbrev pub ComesOfText : Command → List ℕ → Made → Type 0

@@ -1,9 +1,9 @@
 use Rattle.std.specs.Prelude.{ℕ, List, string_bytes}
 use Rattle.qm_compile.specs.declared.outcome.Outcome.{Outcome}
-use Rattle.qm_compile.specs.declared.outcome.Outcome.TheVariants.{Done, Usage, ReadFault, MapFault, WriteFault, NotBuilt}
+use Rattle.qm_compile.specs.declared.outcome.Outcome.TheVariants.{Done, Usage, ReadFault, MapFault, WriteFault}
 use Rattle.qm_compile.specs.declared.status.Status.{Status}
 use Rattle.qm_compile.specs.declared.status.Status.TheVariants as status
-use Rattle.qm_compile.specs.Texts.{usage_text, read_fault_text, write_fault_text, not_built_text}
+use Rattle.qm_compile.specs.Texts.{usage_text, read_fault_text, write_fault_text}
 
 -- the status of what came of a command
 abbrev pub status_of : Outcome → Status
@@ -12,7 +12,6 @@ status_of Usage = status.Usage
 status_of ReadFault = status.ReadFault
 status_of (MapFault text) = status.MapFault
 status_of WriteFault = status.WriteFault
-status_of NotBuilt = status.NotBuilt
 
 -- the text that is printed of it
 abbrev pub text_of : Outcome → List ℕ
@@ -21,4 +20,3 @@ text_of Usage = usage_text
 text_of ReadFault = read_fault_text
 text_of (MapFault text) = string_bytes text
 text_of WriteFault = write_fault_text
-text_of NotBuilt = not_built_text

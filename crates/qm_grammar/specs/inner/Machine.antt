@@ -9,7 +9,7 @@ use Rattle.qm_decimal.specs.Computed.{read_at}
 use Rattle.qm_lex.specs.Lexeme.{Lexeme}
 use Rattle.qm_lex.specs.inner.Modes.{between, read}
 use Rattle.qm_space.specs.Point.{Point}
-use Rattle.qm_space.specs.Bounds.{extent}
+use Rattle.qm_space.specs.Bounds.{world_extent, extent}
 use Rattle.qm_space.specs.Plane.{Plane}
 use Rattle.qm_space.specs.ThreePoints.{outward_plane}
 use Rattle.qm_mapfile.specs.declared.entity.MapFile.{MapFile}
@@ -28,7 +28,7 @@ use Rattle.qm_grammar.specs.declared.refusal.Refusal.TheVariants as refusal
 use Rattle.qm_grammar.specs.declared.fault.MapFault.{MapFault}
 use Rattle.qm_grammar.specs.declared.fault.MapFault.TheVariants as fault
 use Rattle.qm_grammar.specs.Symbol.{Symbol, symbol_of, sort_of}
-use Rattle.qm_grammar.specs.Number.{millionths}
+use Rattle.qm_grammar.specs.Number.{parts_of_unit}
 use Rattle.qm_grammar.specs.Origin.{origin_key, value_of}
 use Rattle.qm_grammar.specs.Slots.{open_slots, standard_slots, valve_slots, points_of, face_of}
 use Rattle.qm_grammar.specs.Prefix.{Prefix, outside}
@@ -66,7 +66,7 @@ coordinate_of text = coordinate_of_answer (read_at text 0)
 -- one number of an origin, in millionths
 abbrev pub millionths_in_range : Fraction → Option ℤ
 millionths_in_range fraction =
-    if nat_lt (unsigned_abs fraction.numerator) (4096 * millionths) then Some fraction.numerator else None
+    if nat_lt (unsigned_abs fraction.numerator) (world_extent * parts_of_unit) then Some fraction.numerator else None
 
 abbrev pub millionths_of_answer : Result Fraction NumberFault → Option ℤ
 millionths_of_answer (Ok fraction) = millionths_in_range fraction
@@ -79,7 +79,7 @@ millionths_of text = millionths_of_answer (read_at text 6)
 abbrev pub point_of_words : List (List ℕ) → Option Point
 point_of_words (first ∷ second ∷ third ∷ []) =
     option_and_then (λ x. option_and_then (λ y. option_and_then (λ z.
-    Some (record { x = x; y = y; z = z; w = pos 1000000 })) (millionths_of third)) (millionths_of second)) (millionths_of first)
+    Some (record { x = x; y = y; z = z; w = pos parts_of_unit })) (millionths_of third)) (millionths_of second)) (millionths_of first)
 point_of_words _ = None
 
 -- the point that the value of an origin gives

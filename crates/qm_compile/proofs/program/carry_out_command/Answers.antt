@@ -1,9 +1,9 @@
-use Rattle.std.proofs.Common.{sym, subst, List, ℕ, Ok, Err}
+use Rattle.std.proofs.Common.{sym, subst, List, ℕ, Err}
 use Rattle.qm_shelf.specs.ShelfState.{shelf_state}
 use Rattle.qm_shelf.specs.ShelfChanges.{ReadFaultMeans}
 use Rattle.qm_shelf.specs.declared.shelf.ShelfFault.{ShelfFault}
 use Rattle.qm_compile.specs.declared.status.Status.TheVariants.{MapFault}
-use Rattle.qm_compile.specs.ComesOf.{ComesOf, read_fault, map_fault, not_built}
+use Rattle.qm_compile.specs.ComesOf.{ComesOf, read_fault, map_fault}
 use Rattle.qm_compile.specs.FaultText.{fault_text}
 use Rattle.qm_compile.proofs.Outcomes.{kept_unfinished, done_due, write_fault_due, cut_short}
 use Rattle.qm_compile.proofs.ReadMeanings.{text_means}
@@ -35,14 +35,6 @@ returns-in-Fault-clause-due g c =
     let meaning = text_means before c.args.map_name.now c.in-Ok.text.items (Err c.in-Fault.fault) told.bytes means in
     let due : ComesOf before after c.args.command c.args.map_name.now c.args.out_name.now MapFault (fault_text c.in-Fault.fault) = map_fault meaning told.kept told.ok in
     subst (λ (text : List ℕ). ComesOf before after c.args.command c.args.map_name.now c.args.out_name.now MapFault text) (sym c.in_ok-fault_text-in-Fault.ensures) due
-
-pub returns-in-NotBuilt-clause-due : goal.returns-in-NotBuilt-clause-due
-returns-in-NotBuilt-clause-due g c =
-    let before = shelf_state g.H.Shelf c.args.shelf.now in
-    let told = c.in-Ok.ensures in
-    let made = rw c.in-NotBuilt.is at c.in_ok-product.ensures in
-    let meaning = text_means before c.args.map_name.now c.in-Ok.text.items (Ok made.0) told.bytes made.1 in
-    not_built made.2.0 meaning made.2.1 told.kept told.ok
 
 pub returns-in-Ok-write_whole-clause-due : goal.returns-in-Ok-write_whole-clause-due
 returns-in-Ok-write_whole-clause-due g c =

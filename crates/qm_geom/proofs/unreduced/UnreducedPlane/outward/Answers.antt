@@ -1,6 +1,6 @@
 use Rattle.std.proofs.Common.{sym, subst}
 use Rattle.qm_space.specs.Point.{whole_point}
-use Rattle.qm_space.specs.ThreePoints.{HasOutwardSizes}
+use Rattle.qm_space.specs.inner.OutwardSizes.{HasOutwardSizes}
 use Rattle.qm_space.proofs.PlanesThroughPoints.{outward_sizes, whole_point_is_whole}
 use Rattle.qm_geom.proofs.Vectors.{outward_distance_fits, outward_kept}
 use Rattle.qm_geom.proofs.unreduced.UnreducedPlane.outward.Goals as goal

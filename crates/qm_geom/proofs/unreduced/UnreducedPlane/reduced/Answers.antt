@@ -1,7 +1,8 @@
 use Rattle.std.proofs.Common.{arith, sym, subst}
 use Rattle.std.proofs.lemmas.Int.{to_z-of_z}
 use Rattle.qm_space.specs.Reduced.{IsReduced}
-use Rattle.qm_space.specs.ThreePoints.{reduced, HasOutwardSizes}
+use Rattle.qm_space.specs.ThreePoints.{reduced}
+use Rattle.qm_space.specs.inner.OutwardSizes.{HasOutwardSizes}
 use Rattle.qm_space.proofs.ReducedPlanes.{reduced_is_reduced}
 use Rattle.qm_geom.proofs.unreduced.UnreducedPlane.reduced.Goals as goal
 

@@ -1,8 +1,8 @@
-use Rattle.std.proofs.Common.{◌≡◌, ◌-◌, int_cmp, pos}
-use Rattle.qm_space.specs.Plane.{value}
-use Rattle.qm_convex.specs.Winding.{Winding, corner_at, corners}
+use Rattle.std.proofs.Common.{◌-◌}
 use Rattle.qm_wind.specs.inner.Surveyed.{IsSurveyBelow}
+use Rattle.qm_wind.proofs.Surveys.{IsSideAt}
 use Rattle.qm_wind.proofs.survey.Survey.of.Given as goal
 
 abbrev pub invariant-loop-i : goal.invariant-loop-i
-invariant-loop-i l = (v : Winding) → l.kept ≡ corners v → IsSurveyBelow v l.plane l.i l.survey × (l.before ≡ int_cmp (value l.plane (corner_at v (l.i - 1))) (pos 0))
+invariant-loop-i l =
+    IsSurveyBelow (record { plane = l.on; edges = l.edges }) l.plane l.i l.survey × IsSideAt l.before (record { plane = l.on; edges = l.edges }) l.plane (l.i - 1)

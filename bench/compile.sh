@@ -1,0 +1,83 @@
+#!/usr/bin/env bash
+# Times `qmapc compile` on each map of a folder: `bench/compile.sh FOLDER [PEER]`. It builds what it times, and prints for
+# each map the milliseconds of processor time at the best of seven runs: of each phase, by differences of
+# crates/compile_bench, of the way up to the tree, and of the whole command, with the peak of memory in megabytes. PEER is
+# another program that compiles with the words `compile MAP OUT --fast` and, where QM_TIMES is set, prints lines
+# `time PHASE N ms  peak K KiB` on standard error; beside it stand its phases up to `build`, its peak there, and the ratios.
+set -euo pipefail
+cd "$(dirname "${BASH_SOURCE[0]}")/.."
+maps=$(cd "${1:?usage: bench/compile.sh FOLDER [PEER]}" && pwd)
+peer=${2:-}
+folder=$(mktemp -d)
+trap 'rm -rf "$folder"' EXIT
+
+(cd crates/compile_bench && rt run -- read data/cube.map) >"$folder/log" 2>&1 || {
+    cat "$folder/log" >&2
+    exit 1
+}
+cp samples/cube.map "$folder/"
+./qmapc compile "$folder/cube.map" "$folder/cube.tree" >/dev/null
+python3 - "$maps" "$folder/out.tree" crates/compile_bench/out/compile_bench crates/qmapc/out/qmapc "$peer" <<'END'
+import os, re, subprocess, sys
+
+maps, out, bench, program, peer = sys.argv[1:]
+RUNS = 7
+PHASES = ["read", "parse", "brushes", "build"]
+
+
+def measure(*words):
+    """The least milliseconds of processor time of some runs, and the megabytes at the peak of one."""
+    least = peak = float("inf")
+    for _ in range(RUNS):
+        child = os.fork()
+        if child == 0:
+            os.dup2(os.open(os.devnull, os.O_WRONLY), 1)
+            os.execv(words[0], words)
+        _, status, usage = os.wait4(child, 0)
+        if status != 0:
+            sys.exit(f"{' '.join(words)} failed")
+        least = min(least, 1000 * (usage.ru_utime + usage.ru_stime))
+        peak = min(peak, usage.ru_maxrss / 1024)
+    return least, peak
+
+
+def measure_peer(name):
+    """The least milliseconds of its phases up to the tree, and its megabytes there."""
+    least = peak = float("inf")
+    for _ in range(RUNS):
+        said = subprocess.run(
+            [peer, "compile", name, out, "--fast"],
+            env={**os.environ, "QM_TIMES": "1"},
+            stdout=subprocess.DEVNULL,
+            stderr=subprocess.PIPE,
+            text=True,
+        ).stderr
+        lines = re.findall(r"^time (\S+)\s+([\d.]+) ms\s+peak\s+(\d+) KiB", said, re.M)
+        total = 0.0
+        for phase, took, kilobytes in lines:
+            total += float(took)
+            if phase == "build":
+                peak = min(peak, int(kilobytes) / 1024)
+                break
+        least = min(least, total)
+    return least, peak
+
+
+heads = [*PHASES, "tree", "compile", "MB"] + (["peer", "MB", "ratio", "memory"] if peer else [])
+print(f"{'map':<28}" + "".join(f"{head:>10}" for head in heads))
+start, _ = measure(bench)
+for name in sorted(os.listdir(maps)):
+    if not name.endswith(".map"):
+        continue
+    path = os.path.join(maps, name)
+    until = [measure(bench, phase, path) for phase in PHASES]
+    times = [took for took, _ in until]
+    phases = [now - before for before, now in zip([start, *times], times)]
+    tree = times[-1] - start
+    whole, peak = measure(program, "compile", path, out)
+    row = [*phases, tree, whole, peak]
+    if peer:
+        its, its_peak = measure_peer(path)
+        row += [its, its_peak, tree / its, until[-1][1] / its_peak]
+    print(f"{name.removesuffix('.map'):<28}" + "".join(f"{value:>10.2f}" for value in row))
+END

@@ -1,0 +1,62 @@
+//! Goes the way of `qmapc compile` up to a named phase, and prints counts of what is there then, so that phases are timed
+//! as differences. `bench/compile.sh` times it.
+//!
+//! The words are a phase (`read`, `parse`, `brushes` or `build`) and the name of a map.
+#![tactic(auto)]
+
+ghost use Rattle.qm_grammar.specs.Valid.{IsValid};
+
+use qm_brush::brushes;
+use qm_build::build;
+use qm_geom::PlaneBook;
+use qm_grammar::TEXT_LIMIT;
+use qm_map::parse;
+use qm_mapfile::MapFile;
+use qm_shelf::{FolderShelf, read_whole};
+use std::rt::Files;
+use std::{env, io};
+
+fn main(rt: HostRuntime) -> io::Result<()> {
+    let mut words = env::args(&rt)?.skip(1);
+    match (words.next(), words.next()) {
+        (Some(phase), Some(name)) => run_up_to(&rt, phase.as_str(), name.as_str()),
+        _ => println!(rt; "usage: compile_bench read|parse|brushes|build MAP"),
+    }
+}
+
+/// Reads a map, and goes on to a phase.
+fn run_up_to<R: AllocGlobal + Files + Print>(rt: &R, phase: &str, name: &str) -> io::Result<()> {
+    let mut folder = FolderShelf::over(rt);
+    let Ok(text) = read_whole(rt.alloc(), &mut folder, name, TEXT_LIMIT) else {
+        return println!(rt; "not read");
+    };
+    if phase == "read" {
+        return println!(rt; "bytes {}", text.len());
+    }
+    let parsed = parse(rt.alloc(), &text);
+    drop(text);
+    match parsed {
+        Ok(map) => go_on(rt, phase, &map),
+        Err(_) => println!(rt; "no map"),
+    }
+}
+
+/// Goes on with a map to a phase.
+fn go_on<R: AllocGlobal + Print>(rt: &R, phase: &str, map: &MapFile) -> io::Result<()>
+    requires { IsValid map.now }
+{
+    if phase == "parse" {
+        return println!(rt; "entities {}", map.entities.len());
+    }
+    let mut book = PlaneBook::new(rt.alloc());
+    let list = brushes(rt.alloc(), map, &mut book)?;
+    let brushes = list.len();
+    let planes = book.len();
+    if phase == "brushes" {
+        return println!(rt; "brushes {brushes}, planes {planes}");
+    }
+    let tree = build(rt.alloc(), &list, &book)?;
+    let nodes = tree.nodes();
+    let leaves = tree.leaves();
+    println!(rt; "brushes {brushes}, planes {planes}, nodes {nodes}, leaves {leaves}")
+}

@@ -1,0 +1,142 @@
+-- A brush that is added to a list.
+use Rattle.std.proofs.Common.{◌≡◌, ℕ, ℤ, ◌-◌, Bool, true, false, List, [], ◌∷◌, ◌++◌, length, get_or, take, drop, map, All, inl, inr, refl, sym, ap, ◌∙◌, subst, arith}
+use Rattle.std.specs.List.{AllZip}
+use Rattle.std.specs.Bool.{MatchBool}
+use Rattle.std.proofs.lemmas.Bool.{cases_lt}
+use Rattle.std.proofs.lemmas.List.{take_all, take-append-le, drop-append-le, drop_at, map-append, length-append, length-drop, get_or_past}
+use Rattle.std.proofs.lemmas.List.Elements.{All-nil, All-head, All-tail, All-push}
+use Rattle.qm_space.specs.Point.{AreCoordinates, IsCoordinate, IsWholePoint}
+use Rattle.qm_space.specs.Plane.{Plane}
+use Rattle.qm_space.specs.Multiple.{IsPositiveMultiple}
+use Rattle.qm_space.specs.Turned.{turned}
+use Rattle.qm_space.specs.Book.{AreBookPlanes}
+use Rattle.qm_space.specs.Cell.{IsInCell}
+use Rattle.qm_space.proofs.PlanesThroughPoints.{whole_point_is_whole, plane_through_is, normal_off_line}
+use Rattle.qm_mapfile.specs.declared.face.Face.{Face}
+use Rattle.qm_mapfile.specs.declared.entity.Brush.{Brush}
+use Rattle.qm_mapfile.specs.Face.{face_point, face_outward}
+use Rattle.qm_grammar.specs.Valid.{IsValidFace}
+use Rattle.qm_solids.specs.declared.face.FaceRef.{FaceRef}
+use Rattle.qm_solids.specs.Solid.{Solid}
+use Rattle.qm_solids.specs.Holding.{IsFull}
+use Rattle.qm_solids.specs.Outward.{outward_planes, AreNumberedIn}
+use Rattle.qm_solids.specs.InBook.{BookSolid, solid_in}
+use Rattle.qm_brush.specs.declared.entry.Entry.{Entry}
+use Rattle.qm_brush.specs.inner.Entries.{faces_of_entry, solid_of_entry, solids_of_entries, IsWithin, AreWithin}
+use Rattle.qm_brush.specs.inner.Entered.{turned_outward, AreFacesEntered}
+use Rattle.qm_brush.specs.inner.Fullness.{solid_behind}
+use Rattle.qm_brush.specs.inner.Added.{IsAdded}
+
+-- ---- the planes of a face
+
+-- a point of a face is a whole point of the closed cube
+pub coordinates_at : (points : List (List ℤ)) (k : ℕ) → All AreCoordinates points → AreCoordinates (get_or points k [])
+coordinates_at points k coordinates = elim (cases_lt k (length points)) [
+  | inl within ↦ coordinates k [] within
+  | inr past ↦ subst AreCoordinates (sym (get_or_past points k [] past)) (All-nil IsCoordinate)
+]
+
+face_point_whole : (face : Face) (k : ℕ) → All AreCoordinates face.points → IsWholePoint (face_point face k)
+face_point_whole face k coordinates = whole_point_is_whole (get_or face.points k []) (coordinates_at face.points k coordinates)
+
+-- the outward plane of a valid face is a positive multiple of its plane in lowest terms, turned outward
+outward_multiple : (face : Face) → IsValidFace face → IsPositiveMultiple (face_outward face) (turned_outward face)
+outward_multiple face valid =
+    (plane_through_is (face_point face 0) (face_point face 1) (face_point face 2)
+    (face_point_whole face 0 valid.coordinates) (face_point_whole face 1 valid.coordinates) (face_point_whole face 2 valid.coordinates)
+    (normal_off_line (face_point face 0) (face_point face 1) (face_point face 2) refl refl refl valid.plane)).multiple
+
+outward_multiples : (faces : List Face) → All IsValidFace faces → AllZip IsPositiveMultiple (map face_outward faces) (map turned_outward faces)
+outward_multiples [] valid = tt
+outward_multiples (face ∷ faces) valid = (outward_multiple face (All-head IsValidFace face faces valid), outward_multiples faces (All-tail IsValidFace face faces valid))
+
+-- ---- fullness
+
+-- solids behind the same planes are full together
+full_with_planes : (solid other : Solid) → solid.outward ≡ other.outward → IsFull solid → IsFull other
+full_with_planes solid other same full = record {
+  within = full.within;
+  in_cube = full.in_cube;
+  inside = subst (λ (planes : List Plane). IsInCell (map (turned false) planes) full.within) same full.inside;
+}
+
+pub flag_with_planes : (flag : Bool) (solid other : Solid) → solid.outward ≡ other.outward → MatchBool flag (IsFull solid) (IsFull solid → ⊥) → MatchBool flag (IsFull other) (IsFull other → ⊥)
+flag_with_planes true solid other same full = full_with_planes solid other same full
+flag_with_planes false solid other same flat = λ full. flat (full_with_planes other solid (sym same) full)
+
+-- ---- entries
+
+-- the brushes of a list whose faces are followed by more
+faces_before : (faces more : List FaceRef) (entry : Entry) → IsWithin faces entry → faces_of_entry (faces ++ more) entry ≡ faces_of_entry faces entry
+faces_before faces more entry within =
+    let ordered = within.ordered in
+    let bounded = within.bounded in
+    ap (λ (those : List FaceRef). take (entry.end - entry.start) those) (drop-append-le entry.start faces more (omega arith))
+    ∙ take-append-le (entry.end - entry.start) (drop entry.start faces) more (let n = length-drop entry.start faces in omega arith)
+
+abbrev with_faces : Entry → List FaceRef → BookSolid
+with_faces entry its = record { contents = entry.contents; full = entry.full; faces = its }
+
+solids_before : (faces more : List FaceRef) (entries : List Entry) → AreWithin faces entries → solids_of_entries (faces ++ more) entries ≡ solids_of_entries faces entries
+solids_before faces more [] within = refl
+solids_before faces more (entry ∷ entries) within =
+    let first = ap (with_faces entry) (faces_before faces more entry (All-head (IsWithin faces) entry entries within)) in
+    let rest = solids_before faces more entries (All-tail (IsWithin faces) entry entries within) in
+    ap (λ (s : BookSolid). s ∷ solids_of_entries (faces ++ more) entries) first ∙ ap (λ (those : List BookSolid). solid_of_entry faces entry ∷ those) rest
+
+-- the list stays one where faces follow
+pub longer_within : (faces after more : List FaceRef) (entries : List Entry) → after ≡ faces ++ more → AreWithin faces entries → AreWithin after entries
+longer_within faces after more entries added within = λ k d there.
+    let its = within k d there in
+    let ordered = its.ordered in
+    let bounded = its.bounded in
+    let n = ap (λ (those : List FaceRef). length those) added in
+    let m = length-append faces more in
+    record { ordered = ordered; bounded = omega arith }
+
+-- the faces that follow are those of an entry that begins there
+faces_after : (faces more : List FaceRef) (entry : Entry) → entry.start ≡ length faces → entry.end ≡ length (faces ++ more) → faces_of_entry (faces ++ more) entry ≡ more
+faces_after faces more entry starts ends =
+    ap (λ (those : List FaceRef). take (entry.end - entry.start) those) (drop_at faces more entry.start (sym starts))
+    ∙ take_all (entry.end - entry.start) more (let n = length-append faces more in omega arith)
+
+-- ---- the brush that is added
+
+module _ (brush : Brush) (faces after : List FaceRef) (entries : List Entry) (entry : Entry) (old new : List Plane) (valid : All IsValidFace brush.faces) (entered : AreFacesEntered brush.faces faces after old new) (starts : entry.start ≡ length faces) (ends : entry.end ≡ length after) where
+  its_faces : faces_of_entry after entry ≡ entered.its
+  its_faces =
+      ap (λ (those : List FaceRef). faces_of_entry those entry) entered.added
+      ∙ faces_after faces entered.its entry starts (ends ∙ ap (λ (those : List FaceRef). length those) entered.added)
+
+  pub its_numbered : AreNumberedIn new (faces_of_entry after entry)
+  its_numbered = subst (AreNumberedIn new) (sym its_faces) entered.numbered
+
+  its_outward : outward_planes new (faces_of_entry after entry) ≡ map turned_outward brush.faces
+  its_outward = ap (outward_planes new) its_faces ∙ entered.outward
+
+  pub one_more_within : AreWithin faces entries → AreWithin after (entries ++ entry ∷ [])
+  one_more_within within =
+      let n = ap (λ (those : List FaceRef). length those) entered.added in
+      let m = length-append faces entered.its in
+      All-push (IsWithin after) entries entry (longer_within faces after entered.its entries entered.added within) (record { ordered = omega arith; bounded = omega arith })
+
+  pub brush_added : AreWithin faces entries → AreBookPlanes new →
+      MatchBool entry.full (IsFull (solid_behind new (faces_of_entry after entry))) (IsFull (solid_behind new (faces_of_entry after entry)) → ⊥) →
+      IsAdded brush entry.contents (solids_of_entries faces entries) (solids_of_entries after (entries ++ entry ∷ [])) old new
+  brush_added within book full = record {
+    its = solid_of_entry after entry;
+    added =
+        map-append (solid_of_entry after) entries (entry ∷ [])
+        ∙ ap (λ (those : List BookSolid). those ++ solid_of_entry after entry ∷ [])
+        (ap (λ (refs : List FaceRef). solids_of_entries refs entries) entered.added ∙ solids_before faces entered.its entries within);
+    kept = record {
+      numbered = its_numbered;
+      flag = flag_with_planes entry.full (solid_behind new (faces_of_entry after entry)) (solid_in new (solid_of_entry after entry)) refl full;
+    };
+    alike = record {
+      same_contents = refl;
+      multiples = subst (λ (planes : List Plane). AllZip IsPositiveMultiple (map face_outward brush.faces) planes) (sym its_outward) (outward_multiples brush.faces valid);
+    };
+    planes = book;
+    entered = entered.entered;
+  }

@@ -1,0 +1,5 @@
+pub mod Entries
+pub mod Entered
+pub mod Added
+pub mod FaceParts
+pub mod Fullness

@@ -1,0 +1,5 @@
+pub mod DefinedTrees
+pub mod LeastPlanes
+pub mod Walks
+pub mod Visits
+pub mod Weights

@@ -1,0 +1,223 @@
+ghost use Rattle.std.specs.Prelude.{◌≡◌, ◌≤◌, ◌*◌, ◌^◌, ℤ, pos, negsuc, neg_ℤ, ◌*ℤ◌, ◌≤ℤ◌, ◌⊎◌, unsigned_abs};
+ghost use Rattle.qm_space.specs.Bounds.{normal_bound, distance_bound};
+ghost use Rattle.qm_space.specs.Point.{Point, IsCoordinate};
+ghost use Rattle.qm_space.specs.Plane.{value};
+ghost use Rattle.qm_space.specs.Cuboid.{IsInSpan, IsInCuboid, whole_span, whole_cuboid, least_product, greatest_product, least_value, greatest_value, IsTightened, IsTightenedSpan};
+
+use crate::plane::Plane;
+use std::marker::Model;
+
+/// The coordinates of the world lie strictly between this number and its opposite.
+pub const WORLD_EXTENT: i32 = 4096;
+
+/// From one whole coordinate of the closed cube to another, both included.
+#[derive(Clone, Copy)]
+pub struct Span {
+    low: i32,
+    high: i32,
+}
+
+impl Model for Span {
+    ghost use Rattle.qm_space.specs.Cuboid.{Span, IsCoordinateSpan};
+
+    ghost Value = { Span };
+
+    ghost view = { λ s. record { low = s.low; high = s.high } };
+
+    ghost invariant = { λ s. IsCoordinateSpan (record { low = s.low; high = s.high }) };
+
+    ghost inverse = { λ s. record { low = s.low; high = s.high } };
+}
+
+impl Span {
+    /// All coordinates of the closed cube.
+    pub fn whole() -> Span
+        ensures { result ≡ whole_span }
+    {
+        Span {
+            low: -WORLD_EXTENT,
+            high: WORLD_EXTENT,
+        }
+    }
+
+    /// What is, times a component, at least a distance, where the component is 1 or -1; else the span.
+    fn tightened(self, component: i32, distance: i64) -> Span
+        requires component_small { unsigned_abs component ≤ normal_bound }
+        requires distance_small { unsigned_abs distance ≤ distance_bound }
+        ensures { IsTightenedSpan result self component distance }
+    {
+        if component == 1 {
+            return self.from(distance);
+        }
+        if component == -1 {
+            return self.up_to(-distance);
+        }
+        self
+    }
+
+    /// The numbers of the span from a number on; only its high end where that is above them all.
+    fn from(self, least: i64) -> Span
+        ensures { IsTightenedSpan result self (pos 1) least }
+    {
+        Span {
+            low: self.low_from(least),
+            high: self.high,
+        }
+    }
+
+    fn low_from(&self, least: i64) -> i32
+        ensures coordinate { IsCoordinate result }
+        ensures bound { (result ≤ℤ self.now.low) ⊎ (result ≤ℤ least) }
+    {
+        if least <= i64::from(self.low) {
+            return self.low;
+        }
+        if least < i64::from(self.high) {
+            return least as i32;
+        }
+        self.high
+    }
+
+    /// The numbers of the span up to a number; only its low end where that is below them all.
+    fn up_to(self, greatest: i64) -> Span
+        ensures { IsTightenedSpan result self (negsuc 0) (neg_ℤ greatest) }
+    {
+        Span {
+            low: self.low,
+            high: self.high_up_to(greatest),
+        }
+    }
+
+    fn high_up_to(&self, greatest: i64) -> i32
+        ensures coordinate { IsCoordinate result }
+        ensures bound { (self.now.high ≤ℤ result) ⊎ (greatest ≤ℤ result) }
+    {
+        if greatest >= i64::from(self.high) {
+            return self.high;
+        }
+        if greatest > i64::from(self.low) {
+            return greatest as i32;
+        }
+        self.low
+    }
+
+    /// The least product of a component and a number of the span.
+    #[tactic(auto, unfolding(qm_space::specs::Cuboid::least_product))]
+    fn least_product(&self, component: i32) -> i64
+        requires { unsigned_abs component ≤ normal_bound }
+        ensures exact { result ≡ least_product component self.now }
+        ensures size { unsigned_abs result ≤ 2 ^ 38 }
+    {
+        if component < 0 {
+            times(component, self.high)
+        } else {
+            times(component, self.low)
+        }
+    }
+
+    /// The greatest product of a component and a number of the span.
+    #[tactic(auto, unfolding(qm_space::specs::Cuboid::greatest_product))]
+    fn greatest_product(&self, component: i32) -> i64
+        requires { unsigned_abs component ≤ normal_bound }
+        ensures exact { result ≡ greatest_product component self.now }
+        ensures size { unsigned_abs result ≤ 2 ^ 38 }
+    {
+        if component < 0 {
+            times(component, self.low)
+        } else {
+            times(component, self.high)
+        }
+    }
+}
+
+/// A component of a normal times a coordinate.
+fn times(component: i32, coordinate: i32) -> i64
+    requires component_small { unsigned_abs component ≤ normal_bound }
+    requires coordinate_in_cube { IsCoordinate coordinate }
+    ensures exact { result ≡ component *ℤ coordinate }
+    ensures size { unsigned_abs result ≤ 2 ^ 38 }
+{
+    i64::from(component) * i64::from(coordinate)
+}
+
+/// A span across each axis: of something in the closed cube, all its points lie in it.
+#[derive(Clone, Copy)]
+pub struct Cuboid {
+    pub x: Span,
+    pub y: Span,
+    pub z: Span,
+}
+
+impl Model for Cuboid {
+    ghost use Rattle.qm_space.specs.Cuboid.{Cuboid};
+
+    ghost Value = { Cuboid };
+
+    ghost view = { λ c. record { x = c.x; y = c.y; z = c.z } };
+
+    ghost inverse = { λ c. record { x = c.x; y = c.y; z = c.z } };
+}
+
+impl Cuboid {
+    /// The closed cube.
+    pub fn whole() -> Cuboid
+        ensures { result ≡ whole_cuboid }
+    {
+        Cuboid {
+            x: Span::whole(),
+            y: Span::whole(),
+            z: Span::whole(),
+        }
+    }
+
+    /// The least value of a plane at a point of the cuboid, for points of `w = 1`.
+    pub fn least_value(&self, plane: &Plane) -> i64
+        ensures exact { result ≡ least_value plane.now self.now }
+        ensures bound { (p : Point) → IsInCuboid self.now p → (result *ℤ p.w) ≤ℤ value plane.now p }
+    {
+        let of_x = self.x.least_product(plane.nx);
+        let of_y = self.y.least_product(plane.ny);
+        let of_z = self.z.least_product(plane.nz);
+        of_x + of_y + of_z - plane.d
+    }
+
+    /// The greatest one.
+    pub fn greatest_value(&self, plane: &Plane) -> i64
+        ensures exact { result ≡ greatest_value plane.now self.now }
+        ensures bound { (p : Point) → IsInCuboid self.now p → value plane.now p ≤ℤ (result *ℤ p.w) }
+    {
+        let of_x = self.x.greatest_product(plane.nx);
+        let of_y = self.y.greatest_product(plane.ny);
+        let of_z = self.z.greatest_product(plane.nz);
+        of_x + of_y + of_z - plane.d
+    }
+
+    /// A cuboid that has all of this one that is not behind a plane: tightened where the plane stands
+    /// across an axis at a whole number, else as it is.
+    pub fn tightened(self, plane: &Plane) -> Cuboid
+        ensures { IsTightened result self plane.now }
+    {
+        if plane.ny == 0 && plane.nz == 0 {
+            return Cuboid {
+                x: self.x.tightened(plane.nx, plane.d),
+                y: self.y,
+                z: self.z,
+            };
+        }
+        if plane.nx == 0 && plane.nz == 0 {
+            return Cuboid {
+                x: self.x,
+                y: self.y.tightened(plane.ny, plane.d),
+                z: self.z,
+            };
+        }
+        if plane.nx == 0 && plane.ny == 0 {
+            return Cuboid {
+                x: self.x,
+                y: self.y,
+                z: self.z.tightened(plane.nz, plane.d),
+            };
+        }
+        self
+    }
+}

@@ -1,0 +1,117 @@
+-- A plane's values at the points of a cuboid.
+use Rattle.std.specs.Prelude.{int_lt}
+use Rattle.std.proofs.Common.{◌≡◌, ◌≤◌, ◌^◌, ℤ, pos, negsuc, neg_ℤ, ◌+ℤ◌, ◌-ℤ◌, ◌*ℤ◌, ◌≤ℤ◌, ◌<ℤ◌, ap, sym, ◌∙◌, subst, arith, unsigned_abs, ◌⊎◌, ⊎_elim, cond}
+use Rattle.std.proofs.lemmas.Int.{ints}
+use Rattle.std.proofs.Math.IntN.{*ℤ_comm}
+use Rattle.qm_space.specs.Bounds.{extent, normal_bound}
+use Rattle.qm_space.specs.Point.{Point, IsCoordinate, IsInCube}
+use Rattle.qm_space.specs.Plane.{Plane, value}
+use Rattle.qm_space.specs.Cuboid.{Span, Cuboid, IsInSpan, IsInCuboid, whole_span, whole_cuboid, least_product, greatest_product, least_value, greatest_value, IsTightened, IsTightenedSpan}
+use Rattle.qm_numbers.proofs.IntegerProducts.{linear, *ℤ_assoc, one_*ℤ, zero_*ℤ, +ℤ-*ℤ, -ℤ-*ℤ, neg-*ℤ}
+use Rattle.qm_numbers.proofs.Signs.{side_test, times_at_most, abs_product_bound}
+use Rattle.qm_space.proofs.PlanesThroughPoints.{coordinate_small}
+
+-- ---- products with the numbers of a span
+
+-- a factor that is not positive turns the order
+times_turned : (n a b : ℤ) → n ≤ℤ pos 0 → a ≤ℤ b → (n *ℤ b) ≤ℤ (n *ℤ a)
+times_turned n a b h k =
+    let p = times_at_most (pos 0 -ℤ n) a b (omega (arith, linear)) k in
+    let e = -ℤ-*ℤ (pos 0) n a in let f = -ℤ-*ℤ (pos 0) n b in
+    omega (arith, ints, linear)
+
+-- a case of the sign of n, for a choice by it
+by_test : (P : ℤ → Type 0) (n a b : ℤ) → (n <ℤ pos 0 → P a) → (pos 0 ≤ℤ n → P b) → P (cond (int_lt n (pos 0)) a b)
+by_test P n a b l g = ⊎_elim
+    (λ t. subst (λ c. P (cond c a b)) (sym t.0) (l t.1))
+    (λ t. subst (λ c. P (cond c a b)) (sym t.0) (g t.1))
+    (side_test n)
+
+pub least_product_bound : (n : ℤ) (span : Span) (c w : ℤ) → IsInSpan span c w → (least_product n span *ℤ w) ≤ℤ (n *ℤ c)
+unfolding least_product
+least_product_bound n span c w s = by_test (λ z. (z *ℤ w) ≤ℤ (n *ℤ c)) n (n *ℤ span.high) (n *ℤ span.low)
+    (λ l. let p = times_turned n c (span.high *ℤ w) (omega (arith, linear)) s.below in let e = *ℤ_assoc n span.high w in omega (arith, linear))
+    (λ g. let p = times_at_most n (span.low *ℤ w) c g s.above in let e = *ℤ_assoc n span.low w in omega (arith, linear))
+
+pub greatest_product_bound : (n : ℤ) (span : Span) (c w : ℤ) → IsInSpan span c w → (n *ℤ c) ≤ℤ (greatest_product n span *ℤ w)
+unfolding greatest_product
+greatest_product_bound n span c w s = by_test (λ z. (n *ℤ c) ≤ℤ (z *ℤ w)) n (n *ℤ span.low) (n *ℤ span.high)
+    (λ l. let p = times_turned n (span.low *ℤ w) c (omega (arith, linear)) s.above in let e = *ℤ_assoc n span.low w in omega (arith, linear))
+    (λ g. let p = times_at_most n c (span.high *ℤ w) g s.below in let e = *ℤ_assoc n span.high w in omega (arith, linear))
+
+-- ---- the least and the greatest value
+
+-- a sum of three numbers less a fourth, times w
+sum_times : (a b c d w : ℤ) → (((a +ℤ b) +ℤ c) -ℤ d) *ℤ w ≡ (((a *ℤ w) +ℤ (b *ℤ w)) +ℤ (c *ℤ w)) -ℤ (d *ℤ w)
+sum_times a b c d w =
+    let e = -ℤ-*ℤ ((a +ℤ b) +ℤ c) d w in let f = +ℤ-*ℤ (a +ℤ b) c w in let g = +ℤ-*ℤ a b w in
+    omega (arith, linear)
+
+pub least_value_bound : (h : Plane) (c : Cuboid) (p : Point) → IsInCuboid c p → (least_value h c *ℤ p.w) ≤ℤ value h p
+unfolding least_value value
+least_value_bound h c p i =
+    let e = sum_times (least_product h.nx c.x) (least_product h.ny c.y) (least_product h.nz c.z) h.d p.w in
+    let x = least_product_bound h.nx c.x p.x p.w i.x in
+    let y = least_product_bound h.ny c.y p.y p.w i.y in
+    let z = least_product_bound h.nz c.z p.z p.w i.z in
+    omega (arith, linear)
+
+pub greatest_value_bound : (h : Plane) (c : Cuboid) (p : Point) → IsInCuboid c p → value h p ≤ℤ (greatest_value h c *ℤ p.w)
+unfolding greatest_value value
+greatest_value_bound h c p i =
+    let e = sum_times (greatest_product h.nx c.x) (greatest_product h.ny c.y) (greatest_product h.nz c.z) h.d p.w in
+    let x = greatest_product_bound h.nx c.x p.x p.w i.x in
+    let y = greatest_product_bound h.ny c.y p.y p.w i.y in
+    let z = greatest_product_bound h.nz c.z p.z p.w i.z in
+    omega (arith, linear)
+
+-- ---- the closed cube
+
+pub cube_in_whole : (p : Point) → IsInCube p → IsInCuboid whole_cuboid p
+cube_in_whole p c = record { x = within p.x c.x.above c.x.below; y = within p.y c.y.above c.y.below; z = within p.z c.z.above c.z.below }
+  where
+    within : (x : ℤ) → neg_ℤ (extent *ℤ p.w) <ℤ x → x <ℤ (extent *ℤ p.w) → IsInSpan whole_span x p.w
+    within x a b = let e = neg-*ℤ extent p.w in record { above = omega (arith, linear); below = omega (arith, linear) }
+
+-- ---- sizes
+
+pub product_small : (n c : ℤ) → unsigned_abs n ≤ normal_bound → IsCoordinate c → unsigned_abs (n *ℤ c) ≤ 2 ^ 38
+product_small n c h k = let p = abs_product_bound n c normal_bound 4096 h (coordinate_small c k) in omega arith
+
+-- ---- spans and cuboids that are tightened
+
+-- a span from a number on, as the code chooses its low end
+pub from_kept : (span : Span) (least low : ℤ) → (low ≤ℤ span.low) ⊎ (low ≤ℤ least) → IsTightenedSpan (record { low = low; high = span.high }) span (pos 1) least
+from_kept span least low h c w pw s l = ⊎_elim
+    (λ k. let p = times_at_most w low span.low pw k in let e = *ℤ_comm w low in let f = *ℤ_comm w span.low in let a = s.above in record { above = omega (arith, linear); below = s.below })
+    (λ k. let p = times_at_most w low least pw k in let e = *ℤ_comm w low in let f = *ℤ_comm w least in let o = one_*ℤ c in record { above = omega (arith, linear); below = s.below })
+    h
+
+pub up_to_kept : (span : Span) (greatest high : ℤ) → (span.high ≤ℤ high) ⊎ (greatest ≤ℤ high) → IsTightenedSpan (record { low = span.low; high = high }) span (negsuc 0) (neg_ℤ greatest)
+up_to_kept span greatest high h c w pw s l = ⊎_elim
+    (λ k. let p = times_at_most w span.high high pw k in let e = *ℤ_comm w high in let f = *ℤ_comm w span.high in let a = s.below in record { above = s.above; below = omega (arith, linear) })
+    (λ k. let p = times_at_most w greatest high pw k in let e = *ℤ_comm w high in let f = *ℤ_comm w greatest in let n = neg-*ℤ greatest w in let o = neg-*ℤ (pos 1) c in let q = one_*ℤ c in record { above = s.above; below = omega (arith, linear) })
+    h
+
+-- a value whose two other components are 0
+alone_x : (h : Plane) (p : Point) → h.ny ≡ pos 0 → h.nz ≡ pos 0 → value h p ≡ (h.nx *ℤ p.x) -ℤ (h.d *ℤ p.w)
+unfolding value
+alone_x h p y z = let a = ap (λ n. n *ℤ p.y) y ∙ zero_*ℤ p.y in let b = ap (λ n. n *ℤ p.z) z ∙ zero_*ℤ p.z in omega (arith, linear)
+
+alone_y : (h : Plane) (p : Point) → h.nx ≡ pos 0 → h.nz ≡ pos 0 → value h p ≡ (h.ny *ℤ p.y) -ℤ (h.d *ℤ p.w)
+unfolding value
+alone_y h p x z = let a = ap (λ n. n *ℤ p.x) x ∙ zero_*ℤ p.x in let b = ap (λ n. n *ℤ p.z) z ∙ zero_*ℤ p.z in omega (arith, linear)
+
+alone_z : (h : Plane) (p : Point) → h.nx ≡ pos 0 → h.ny ≡ pos 0 → value h p ≡ (h.nz *ℤ p.z) -ℤ (h.d *ℤ p.w)
+unfolding value
+alone_z h p x y = let a = ap (λ n. n *ℤ p.x) x ∙ zero_*ℤ p.x in let b = ap (λ n. n *ℤ p.y) y ∙ zero_*ℤ p.y in omega (arith, linear)
+
+-- the span across the axis on which a plane stands tightens a cuboid
+pub tightened_x : (c : Cuboid) (h : Plane) (t : Span) → h.ny ≡ pos 0 → h.nz ≡ pos 0 → IsTightenedSpan t c.x h.nx h.d → IsTightened (record { x = t; y = c.y; z = c.z }) c h
+tightened_x c h t y z k p w i l = let e = alone_x h p y z in record { x = k p.x p.w w i.x (omega (arith, linear)); y = i.y; z = i.z }
+
+pub tightened_y : (c : Cuboid) (h : Plane) (t : Span) → h.nx ≡ pos 0 → h.nz ≡ pos 0 → IsTightenedSpan t c.y h.ny h.d → IsTightened (record { x = c.x; y = t; z = c.z }) c h
+tightened_y c h t x z k p w i l = let e = alone_y h p x z in record { x = i.x; y = k p.y p.w w i.y (omega (arith, linear)); z = i.z }
+
+pub tightened_z : (c : Cuboid) (h : Plane) (t : Span) → h.nx ≡ pos 0 → h.ny ≡ pos 0 → IsTightenedSpan t c.z h.nz h.d → IsTightened (record { x = c.x; y = c.y; z = t }) c h
+tightened_z c h t x y k p w i l = let e = alone_z h p x y in record { x = i.x; y = i.y; z = k p.z p.w w i.z (omega (arith, linear)) }

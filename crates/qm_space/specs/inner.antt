@@ -1,0 +1,2 @@
+pub mod CommonDirection
+pub mod OutwardSizes

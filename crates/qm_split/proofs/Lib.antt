@@ -1,0 +1,12 @@
+pub mod Taken
+pub mod ListedItems
+pub mod SidesOfPlanes
+pub mod PartedPieces
+pub mod KeptParts
+pub mod Gatherings
+pub mod SplitGatherings
+pub mod RankOrder
+pub mod KnownFragments
+pub mod SectionsOfCells
+pub mod FacesInCube
+pub mod MadeFragments

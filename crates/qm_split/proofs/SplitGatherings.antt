@@ -1,0 +1,60 @@
+-- What is known of a side of a cell while its contenders are cut one after another.
+use Rattle.std.proofs.Common.{◌≡◌, ⊎_elim, ◌+◌, ◌<◌, ◌≤◌, Option, List, [], ◌∷◌, ◌++◌, length, map, All, Contains, sym, subst, arith}
+use Rattle.std.proofs.lemmas.List.{map-append}
+use Rattle.std.proofs.lemmas.List.Elements.{All-contains, Contains-push, Contains-push_cases}
+use Rattle.qm_lists.proofs.Elements.{All-first_part}
+use Rattle.qm_space.specs.Plane.{Plane}
+use Rattle.qm_convex.specs.Winding.{Winding}
+use Rattle.qm_contents.specs.declared.contents.Contents.{Contents}
+use Rattle.qm_solids.specs.Solid.{Solid}
+use Rattle.qm_split.specs.declared.contender.Contender.{Contender}
+use Rattle.qm_split.specs.declared.contender.Part.{Part}
+use Rattle.qm_split.specs.declared.gathering.Gathering.{Gathering}
+use Rattle.qm_split.specs.Pieces.{solid_of, IsContender}
+use Rattle.qm_split.specs.CellFragments.{pieces_of}
+use Rattle.qm_split.specs.inner.Parts.{IsSection, IsPartIn, part_count, HasPieceIn, IsShortened}
+use Rattle.qm_split.specs.inner.Gathered.{IsGathered, HasContenderIn, HasFewer}
+use Rattle.qm_split.proofs.ListedItems.{none_listed}
+use Rattle.qm_split.proofs.Gatherings.{pieces_of-push}
+
+-- what is gathered in front of the plane g of a cell that the plane h parts
+abbrev pub IsGatheredSide : Option Contents → Plane → Plane → Winding → List Contender → Gathering → Type 0
+IsGatheredSide before h g w done gathering =
+    (book cell : List Plane) → All (IsContender book cell) done → IsSection cell h w → IsGathered book (cell ++ g ∷ []) before (map solid_of done) gathering
+
+-- what one contender is there
+abbrev pub IsPartOfSide : Plane → Plane → Winding → Contender → Part → Type 0
+IsPartOfSide h g w contender part =
+    (book cell : List Plane) → IsContender book cell contender → IsSection cell h w → IsPartIn book (cell ++ g ∷ []) (solid_of contender) part
+
+abbrev pub IsAddedTo : Gathering → Part → Gathering → Type 0
+IsAddedTo old part new =
+    (book cell : List Plane) (before : Option Contents) (done : List Solid) (solid : Solid) →
+    IsGathered book cell before done old → IsPartIn book cell solid part → IsGathered book cell before (done ++ solid ∷ []) new
+
+module _ (before : Option Contents) (h g : Plane) (w : Winding) where
+  pub side_begins : (gathering : Gathering) → ((book cell : List Plane) → IsGathered book cell before [] gathering) → IsGatheredSide before h g w [] gathering
+  side_begins gathering are book cell all section = are book (cell ++ g ∷ [])
+
+  pub side_more : (done : List Contender) (contender : Contender) (part : Part) (old new : Gathering) → IsGatheredSide before h g w done old → IsPartOfSide h g w contender part → IsAddedTo old part new →
+      IsGatheredSide before h g w (done ++ contender ∷ []) new
+  side_more done contender part old new are is added book cell all section =
+      subst (λ (ss : List Solid). IsGathered book (cell ++ g ∷ []) before ss new) (sym (map-append solid_of done (contender ∷ [])))
+      (added book (cell ++ g ∷ []) before (map solid_of done) (solid_of contender)
+      (are book cell (All-first_part (IsContender book cell) done (contender ∷ []) all) section)
+      (is book cell (All-contains (IsContender book cell) (done ++ contender ∷ []) contender all (Contains-push done contender)) section))
+
+-- ---- how many pieces
+
+pub fewer_begins : (h : Plane) (gathering : Gathering) → pieces_of gathering.contenders.items ≡ 0 → HasFewer [] h gathering
+fewer_begins h gathering none = record { no_more = omega arith; fewer = λ has. absurd (none_listed has.contender has.listed) }
+
+pub fewer_more : (done : List Contender) (h : Plane) (contender : Contender) (part : Part) (old new : Gathering) → HasFewer done h old → IsShortened contender h part →
+    pieces_of new.contenders.items ≤ pieces_of old.contenders.items + part_count part → HasFewer (done ++ contender ∷ []) h new
+fewer_more done h contender part old new are short count = record {
+  no_more = let p = pieces_of-push done contender in let a = are.no_more in let s = short.no_more in omega arith;
+  fewer = λ has. let p = pieces_of-push done contender in let a = are.no_more in let s = short.no_more in ⊎_elim
+      (λ earlier. let f = are.fewer (record { contender = has.contender; listed = earlier; piece = has.piece }) in omega arith)
+      (λ same. let f = short.fewer (subst (λ (q : Contender). HasPieceIn q.pieces.items h) (sym same) has.piece) in omega arith)
+      (Contains-push_cases done contender has.contender has.listed);
+}

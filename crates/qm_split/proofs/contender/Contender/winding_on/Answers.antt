@@ -1,0 +1,12 @@
+use Rattle.std.proofs.Common.{refl, sym, ◌∙◌}
+use Rattle.qm_split.proofs.ListedItems.{listed_read}
+use Rattle.qm_split.proofs.SidesOfPlanes.{same_by_test}
+use Rattle.qm_split.proofs.contender.Contender.winding_on.Goals as goal
+
+pub returns-then-eq : goal.returns-then-eq
+returns-then-eq c = record {
+  piece = c.piece-item.result;
+  listed = listed_read c.deref-piece-items.result.now c.loop-piece.piece-index c.piece-item.result c.loop-piece-test.true c.piece-item.is c.args.self.now.pieces.items c.deref-piece-items.ensures.value;
+  is = refl;
+  on = sym c.plane.ensures ∙ same_by_test c.plane.result c.args.plane.now c.eq.result c.eq.ensures c.if-eq.true;
+}

@@ -1,0 +1,36 @@
+use Rattle.std.proofs.Common.{Option, List, [], ◌∷◌, ◌++◌, false, take, get_or, Contains, sym, subst}
+use Rattle.std.specs.Option.{MatchOption}
+use Rattle.qm_space.specs.Plane.{Plane}
+use Rattle.qm_space.proofs.Books.{plane_at_from}
+use Rattle.qm_convex.specs.Winding.{Winding}
+use Rattle.qm_convex.specs.World.{MissesCube, IsWorldPart}
+use Rattle.std.proofs.lemmas.List.{get_or_default}
+use Rattle.qm_solids.specs.declared.face.FaceRef.{FaceRef}
+use Rattle.qm_split.specs.inner.FacePieces.{IsFacePiece, HasNoFacePoint}
+use Rattle.qm_split.proofs.ListedItems.{taken_next, listed_of_taken}
+use Rattle.qm_split.proofs.FacesInCube.{face_begins, point_of_fewer}
+use Rattle.qm_split.proofs.in_cube.face_in_cube.Goals as goal
+
+pub loop-face-init : goal.loop-face-init
+loop-face-init c =
+    face_begins c.args.book.now c.args.number c.in-Some.whole
+    (subst (λ (h : Plane). IsWorldPart c.in-Some.whole h) (sym (plane_at_from c.args.book.now c.args.number c.plane.result c.plane.ensures.value))
+    (subst (λ (o : Option Winding). MatchOption o (MissesCube c.plane.result) (λ w. IsWorldPart w c.plane.result)) c.in-Some.is c.in_ok-whole.ensures))
+
+pub loop-face-preserved : goal.loop-face-preserved
+loop-face-preserved c =
+    let face = get_or c.args.faces.now c.loop-face.face-index (record { plane = 0; out_is_front = false }) in
+    subst (λ (fs : List FaceRef). IsFacePiece c.args.book.now c.args.number fs c.in-Some-2.kept)
+    (sym (taken_next c.args.faces.now c.loop-face.face-index face c.loop-face-test.true (get_or_default c.args.faces.now c.loop-face.face-index _ face c.loop-face-test.true)))
+    (subst (λ (o : Option Winding). MatchOption o (HasNoFacePoint c.args.book.now c.args.number (take c.loop-face.face-index c.args.faces.now ++ face ∷ [])) (IsFacePiece c.args.book.now c.args.number (take c.loop-face.face-index c.args.faces.now ++ face ∷ [])))
+    c.in-Some-2.is (c.in_ok-kept.ensures (take c.loop-face.face-index c.args.faces.now) c.loop-face.invariant))
+
+pub returns-in-None-2 : goal.returns-in-None-2
+returns-in-None-2 c = λ x at.
+    let face = get_or c.args.faces.now c.loop-face.face-index (record { plane = 0; out_is_front = false }) in
+    let read = get_or_default c.args.faces.now c.loop-face.face-index (record { plane = 0; out_is_front = false }) face c.loop-face-test.true in
+    subst (λ (o : Option Winding). MatchOption o (HasNoFacePoint c.args.book.now c.args.number (take c.loop-face.face-index c.args.faces.now ++ face ∷ [])) (IsFacePiece c.args.book.now c.args.number (take c.loop-face.face-index c.args.faces.now ++ face ∷ [])))
+    c.in-None-2.is (c.in_ok-kept.ensures (take c.loop-face.face-index c.args.faces.now) c.loop-face.invariant) x
+    (point_of_fewer c.args.book.now c.args.number c.args.faces.now (take c.loop-face.face-index c.args.faces.now ++ face ∷ []) x
+    (λ f listed. listed_of_taken c.args.faces.now c.loop-face.face-index face c.loop-face-test.true read f
+    (subst (λ (fs : List FaceRef). Contains fs f) (sym (taken_next c.args.faces.now c.loop-face.face-index face c.loop-face-test.true read)) listed)) at)

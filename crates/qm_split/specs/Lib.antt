@@ -1,0 +1,4 @@
+pub mod Pieces
+pub mod CellFragments
+pub mod SplitCounts
+pub mod inner

@@ -1,0 +1,46 @@
+use Rattle.std.specs.Prelude.{◌≡◌, ◌↔◌, List, All, Contains, Some, None, slice_get}
+use Rattle.qm_space.specs.Point.{Point}
+use Rattle.qm_space.specs.Plane.{Plane}
+use Rattle.qm_space.specs.Reduced.{IsReduced}
+use Rattle.qm_convex.specs.Winding.{IsInRegion, IsConvex}
+use Rattle.qm_solids.specs.Solid.{Solid}
+use Rattle.qm_solids.specs.Holding.{IsFull}
+use Rattle.qm_solids.specs.Candidates.{LiesOn, IsOnFace}
+use Rattle.qm_split.specs.declared.piece.Piece.{Piece}
+use Rattle.qm_split.specs.declared.contender.Contender.{Contender}
+use Rattle.qm_split.specs.inner.Ranked.{IsLesser}
+
+-- What is kept of one solid in a cell.
+
+-- the solid that a contender stands for
+abbrev pub solid_of : Contender → Solid
+solid_of contender = record { contents = contender.contents; outward = contender.outward.items }
+
+-- the piece is what the cell has of a face of the solid, on the plane of a number in the book
+pub record IsPiece (book cell : List Plane) (solid : Solid) (piece : Piece) : Type 0 where
+  pub numbered : slice_get book piece.number ≡ Some piece.winding.plane
+  pub face : Plane
+  pub has_face : Contains solid.outward face
+  pub lies_on : LiesOn face piece.winding.plane
+  pub convex : IsConvex piece.winding
+  pub points : (x : Point) → IsInRegion piece.winding x ↔ IsOnFace solid cell piece.winding.plane x
+
+-- the piece has a point on a face
+pub record HasPointOfFace (face : Plane) (x : Point) (pieces : List Piece) : Type 0 where
+  pub piece : Piece
+  pub listed : Contains pieces piece
+  pub lies_on : LiesOn face piece.winding.plane
+  pub has : IsInRegion piece.winding x
+
+-- the pieces are what the cell has of the solid's faces
+pub record ArePieces (book cell : List Plane) (solid : Solid) (pieces : List Piece) : Type 0 where
+  pub sound : All (IsPiece book cell solid) pieces
+  pub complete : (face : Plane) (x : Point) → Contains solid.outward face → IsOnFace solid cell face x → HasPointOfFace face x pieces
+
+-- a full solid with the pieces that the cell has of its faces, at least one, and where the first of them
+-- comes among candidates
+pub record IsContender (book cell : List Plane) (contender : Contender) : Type 0 where
+  pub full : IsFull (solid_of contender)
+  pub reduced : All IsReduced contender.outward.items
+  pub first : IsLesser None contender.pieces.items (Some contender.least)
+  pub pieces : ArePieces book cell (solid_of contender) contender.pieces.items

@@ -1,0 +1,7 @@
+pub mod Ranks
+pub mod Ranked
+pub mod PieceParts
+pub mod FacePieces
+pub mod Parts
+pub mod Gathered
+pub mod Taking

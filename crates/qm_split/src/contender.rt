@@ -1,0 +1,194 @@
+ghost use Rattle.std.specs.Prelude.{◌≡◌, true, List, ◌++◌, ◌∷◌, [], length, None, IfOk, IfSome, All};
+ghost use Rattle.std.specs.Bool.{MatchBool};
+ghost use Rattle.qm_space.specs.Plane.{Plane, flipped};
+ghost use Rattle.qm_space.specs.Reduced.{IsReduced};
+ghost use Rattle.qm_convex.specs.Winding.{IsConvex};
+ghost use Rattle.qm_split.specs.Pieces.{solid_of, IsContender};
+ghost use Rattle.qm_split.specs.inner.PieceParts.{IsLyingPiece};
+ghost use Rattle.qm_split.specs.inner.Parts.{IsSection, IsPartIn, IsFoundPart, IsAhead, IsNotAhead, HasAhead, part_count, IsShortened};
+ghost use Rattle.qm_split.specs.inner.Ranked.{IsLesser, IsWindingOf};
+
+use crate::piece::{Piece, split_pieces};
+use crate::rank::{Rank, first_of};
+use qm_contents::Contents;
+use qm_geom::Plane;
+use qm_wind::{Lies, Winding};
+use std::alloc::AllocError;
+
+/// A full solid that has a part of a face in a cell.
+#[derive(Drop)]
+pub(crate) struct Contender {
+    pub(crate) contents: Contents,
+    /// The rank of the piece that comes first.
+    pub(crate) least: Rank,
+    pub(crate) outward: Vec<Plane>,
+    pub(crate) pieces: Vec<Piece>,
+}
+
+/// What a full solid is to a cell: one that has a part of a face in it, one that contains it, or one that lies outside it.
+#[derive(Drop)]
+pub(crate) enum Part {
+    Kept(Contender),
+    Containing(Contents),
+    Outside,
+}
+
+/// What a contender of a cell is to what the cell has in front of a plane, and behind it.
+#[derive(Drop)]
+pub(crate) struct Parts {
+    pub(crate) front: Part,
+    pub(crate) back: Part,
+}
+
+impl Contender {
+    /// For a plane, and a winding that lies on it in the cell. A contender that lies wholly on one side is moved.
+    pub(crate) fn split(self, plane: &Plane, section: &Winding) -> Result<Parts, AllocError>
+        ensures front { IfOk result (λ parts. (book cell : List Plane) →
+            IsContender book cell self → IsSection cell plane.now section.now →
+            IsPartIn book (cell ++ plane.now ∷ []) (solid_of self) parts.front) }
+        ensures back { IfOk result (λ parts. (book cell : List Plane) →
+            IsContender book cell self → IsSection cell plane.now section.now →
+            IsPartIn book (cell ++ flipped plane.now ∷ []) (solid_of self) parts.back) }
+        ensures front_count { IfOk result (λ parts. IsShortened self plane.now parts.front) }
+        ensures back_count { IfOk result (λ parts. IsShortened self plane.now parts.back) }
+    {
+        if all_lie(&self.pieces, plane, Lies::Front) {
+            let back = lost_part(self.contents, &self.outward, section, &plane.flipped());
+            return Ok(Parts {
+                front: Part::Kept(self),
+                back,
+            });
+        }
+        if all_lie(&self.pieces, plane, Lies::Back) {
+            let front = lost_part(self.contents, &self.outward, section, plane);
+            return Ok(Parts {
+                front,
+                back: Part::Kept(self),
+            });
+        }
+        self.parted(plane, section)
+    }
+
+    /// For a plane that may part its pieces.
+    fn parted(self, plane: &Plane, section: &Winding) -> Result<Parts, AllocError>
+        ensures front { IfOk result (λ parts. (book cell : List Plane) →
+            IsContender book cell self → IsSection cell plane.now section.now →
+            IsPartIn book (cell ++ plane.now ∷ []) (solid_of self) parts.front) }
+        ensures back { IfOk result (λ parts. (book cell : List Plane) →
+            IsContender book cell self → IsSection cell plane.now section.now →
+            IsPartIn book (cell ++ flipped plane.now ∷ []) (solid_of self) parts.back) }
+        ensures front_count { IfOk result (λ parts. IsShortened self plane.now parts.front) }
+        ensures back_count { IfOk result (λ parts. IsShortened self plane.now parts.back) }
+    {
+        let Contender {
+            contents,
+            outward,
+            pieces,
+            ..
+        } = self;
+        let lists = split_pieces(pieces, plane)?;
+        let copy = Vec::from_slice(*outward.allocator(), &outward)?;
+        let front = part_in_front(contents, copy, lists.front, section, plane);
+        let back = part_in_front(contents, outward, lists.back, section, &plane.flipped());
+        Ok(Parts { front, back })
+    }
+
+    /// The winding of a piece on a plane, if there is one.
+    pub(crate) fn winding_on(&self, plane: &Plane) -> Option<&Winding>
+        ensures { IfSome result (λ w. IsWindingOf self.now.pieces.items plane.now w.now) }
+    {
+        for piece in &self.pieces {
+            if piece.winding.plane() == *plane {
+                return Some(&piece.winding);
+            }
+        }
+        None
+    }
+}
+
+/// Whether each of some pieces lies in the same way beside a plane.
+fn all_lie(pieces: &[Piece], plane: &Plane, lies: Lies) -> bool
+    ensures { result ≡ true → All (IsLyingPiece lies plane.now) pieces.now }
+{
+    for piece in pieces {
+        if piece.lies(plane) != lies {
+            return false;
+        }
+    }
+    true
+}
+
+/// What a full solid is to what a cell has in front of a plane, by its pieces there, and by a winding that lies on the plane
+/// in the cell.
+fn part_in_front(
+    contents: Contents,
+    outward: Vec<Plane>,
+    pieces: Vec<Piece>,
+    section: &Winding,
+    plane: &Plane,
+) -> Part
+    ensures part { IsFoundPart (record { contents = contents; outward = outward.items }) section.now pieces.items result plane.now }
+    ensures count { part_count result ≡ length pieces.items }
+{
+    match least_of(&pieces) {
+        Some(least) => Part::Kept(Contender {
+            contents,
+            least,
+            outward,
+            pieces,
+        }),
+        None => lost_part(contents, &outward, section, plane),
+    }
+}
+
+/// What a full solid without pieces in front of a plane is to what a cell has there.
+fn lost_part(contents: Contents, outward: &[Plane], section: &Winding, plane: &Plane) -> Part
+    ensures part { IsFoundPart (record { contents = contents; outward = outward.now }) section.now [] result plane.now }
+    ensures count { part_count result ≡ 0 }
+{
+    if is_inside(outward, section, plane) {
+        Part::Containing(contents)
+    } else {
+        Part::Outside
+    }
+}
+
+/// The rank of the piece that comes first, if there is one.
+pub(crate) fn least_of(pieces: &[Piece]) -> Option<Rank>
+    ensures { IsLesser None pieces.now result }
+{
+    let mut least = None;
+    for piece in pieces {
+        least = Some(first_of(least, piece.rank()));
+    }
+    least
+}
+
+/// Whether what is in front of a plane near a winding on it lies behind all planes. A plane does not lie behind itself.
+fn is_inside(outward: &[Plane], section: &Winding, plane: &Plane) -> bool
+    ensures answer { IsConvex section.now →
+        MatchBool result (All (IsNotAhead section.now plane.now) outward.now) (HasAhead outward.now section.now plane.now) }
+    ensures reduced { IsReduced plane.now }
+{
+    let _ = &plane.nx;
+    for face in outward {
+        if is_ahead(face, section, plane) {
+            return false;
+        }
+    }
+    true
+}
+
+/// Whether some of a winding is in front of a face's plane, or the face's plane is the other one.
+fn is_ahead(face: &Plane, section: &Winding, plane: &Plane) -> bool
+    ensures { IsConvex section.now →
+        MatchBool result (IsAhead section.now plane.now face.now) (IsNotAhead section.now plane.now face.now) }
+{
+    if *face == *plane {
+        return true;
+    }
+    match section.lies(face) {
+        Lies::Front | Lies::Across => true,
+        Lies::Back | Lies::On => false,
+    }
+}

@@ -1,0 +1,121 @@
+ghost use Rattle.std.specs.Prelude.{◌≡◌, ℕ, ◌<◌, ◌++◌, ◌∷◌, List, [], IfOk, MatchOption};
+ghost use Rattle.qm_space.specs.Plane.{Plane};
+ghost use Rattle.qm_space.specs.Book.{plane_at};
+ghost use Rattle.qm_solids.specs.Solid.{Solid};
+ghost use Rattle.qm_solids.specs.Cells.{CellHasContents};
+ghost use Rattle.qm_solids.specs.Least.{IsLeastCandidate};
+ghost use Rattle.qm_solids.specs.InBook.{solids_in, IsBookOf};
+ghost use Rattle.qm_solid_tree.specs.Division.{HasNoCandidate, front_of, back_of};
+ghost use Rattle.qm_split.specs.CellFragments.{AreFragmentsOf, cell_of, piece_count, HasPointOn};
+ghost use Rattle.qm_split.specs.SplitCounts.{IsCandidatePlane};
+ghost use Rattle.qm_split.specs.inner.Parts.{IsSection};
+
+use crate::gathering::Gathering;
+use crate::in_cube::part_in_cube;
+use crate::section::section_of_cell;
+use qm_brush::BrushList;
+use qm_contents::Contents;
+use qm_geom::{Plane, PlaneBook};
+use qm_wind::Winding;
+use std::alloc::{AllocError, Global};
+
+/// The faces of full brushes inside one cell, with the strongest of the brushes that contain the cell.
+#[derive(Drop)]
+pub struct Fragments {
+    cell: Vec<Plane>,
+    gathering: Gathering,
+}
+
+/// What a cell has in front of a plane, and behind it.
+#[derive(Drop)]
+pub struct CellHalves {
+    pub front: Fragments,
+    pub back: Fragments,
+}
+
+impl Fragments {
+    /// Of the whole cube. The book is the one that was filled with the brushes' planes.
+    pub fn of(alloc: Global, list: &BrushList, book: &PlaneBook) -> Result<Fragments, AllocError>
+        requires filled { IsBookOf book.now list.now }
+        ensures { IfOk result (AreFragmentsOf (solids_in book.now list.now) book.now []) }
+    {
+        let _planes = book.len();
+        let gathering = Gathering::in_cube(alloc, list, book)?;
+        Ok(Fragments {
+            cell: Vec::new(alloc),
+            gathering,
+        })
+    }
+
+    /// The number of the plane that parts the cell next. `None` exactly where no plane of the book is a candidate in the
+    /// cell.
+    pub fn least_candidate(&self) -> Option<u32>
+        ensures { (solids : List Solid) (book cell : List Plane) → AreFragmentsOf solids book cell self.now →
+            MatchOption result (HasNoCandidate solids book cell) (λ n. IsLeastCandidate solids book cell n (plane_at book n)) }
+    {
+        let least = self.gathering.least()?;
+        Some(least.number)
+    }
+
+    /// What the cell has in front of a plane and behind it, for a plane that has a point of the cell. Where the plane is a
+    /// candidate in the cell, both halves have fewer pieces.
+    pub fn split(self, plane: &Plane) -> Result<CellHalves, AllocError>
+        requires point { HasPointOn (cell_of self) plane.now }
+        ensures front { IfOk result (λ halves. (solids : List Solid) (book cell : List Plane) →
+            AreFragmentsOf solids book cell self → AreFragmentsOf solids book (front_of cell plane.now) halves.front) }
+        ensures back { IfOk result (λ halves. (solids : List Solid) (book cell : List Plane) →
+            AreFragmentsOf solids book cell self → AreFragmentsOf solids book (back_of cell plane.now) halves.back) }
+        ensures front_count { IfOk result (λ halves. IsCandidatePlane self plane.now → piece_count halves.front < piece_count self) }
+        ensures back_count { IfOk result (λ halves. IsCandidatePlane self plane.now → piece_count halves.back < piece_count self) }
+    {
+        let _ = &plane.nx;
+        let section = self.section(plane)?;
+        let Fragments { cell, gathering } = self;
+        let halves = gathering.split(plane, &section)?;
+        let behind = longer(&cell, plane.flipped())?;
+        let mut before = cell;
+        before.push(*plane)?;
+        Ok(CellHalves {
+            front: Fragments {
+                cell: before,
+                gathering: halves.front,
+            },
+            back: Fragments {
+                cell: behind,
+                gathering: halves.back,
+            },
+        })
+    }
+
+    /// A winding on a plane in the cell.
+    fn section(&self, plane: &Plane) -> Result<Winding, AllocError>
+        requires { HasPointOn (cell_of self.now) plane.now }
+        ensures { IfOk result (λ w. (solids : List Solid) (book cell : List Plane) →
+            AreFragmentsOf solids book cell self.now → IsSection cell plane.now w) }
+    {
+        match self.gathering.winding_on(plane) {
+            Some(winding) => winding.copy(),
+            None => section_of_cell(*self.cell.allocator(), &self.cell, plane),
+        }
+    }
+
+    /// What fills the cell: the contents of the strongest brush that contains it, else empty.
+    pub fn contents(&self) -> Contents
+        ensures { (solids : List Solid) (book cell : List Plane) → AreFragmentsOf solids book cell self.now → CellHasContents solids cell result }
+    {
+        match self.gathering.strongest {
+            Some(contents) => contents,
+            None => Contents::Empty,
+        }
+    }
+}
+
+/// Planes with one more.
+fn longer(planes: &Vec<Plane>, plane: Plane) -> Result<Vec<Plane>, AllocError>
+    ensures { IfOk result (λ more. more.items ≡ planes.now.items ++ plane ∷ []) }
+{
+    let mut more = Vec::with_capacity(*planes.allocator(), planes.len() + 1)?;
+    more.extend_from_slice(planes)?;
+    more.push(plane)?;
+    Ok(more)
+}

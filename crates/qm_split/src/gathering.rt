@@ -1,0 +1,185 @@
+ghost use Rattle.std.specs.Prelude.{◌≡◌, ◌↔◌, ◌+◌, ◌<◌, ◌≤◌, length, None, IfSome, List, ◌++◌, ◌∷◌, [], map, Option, IfOk, OnOk, IsTrue, All};
+ghost use Rattle.qm_space.specs.Plane.{Plane, flipped};
+ghost use Rattle.qm_solids.specs.Solid.{Solid};
+ghost use Rattle.qm_contents.specs.declared.contents.Contents.{Contents};
+ghost use Rattle.qm_solids.specs.InBook.{solid_at, solid_in, solids_in, IsBookOf};
+ghost use Rattle.qm_split.specs.Pieces.{solid_of, IsContender};
+ghost use Rattle.qm_split.specs.CellFragments.{pieces_of, IsReached};
+ghost use Rattle.qm_split.specs.inner.Parts.{IsSection, IsPartIn, part_count};
+ghost use Rattle.qm_split.specs.inner.Gathered.{IsGathered, HasFewer, Keeps, Raises, is_stronger_than};
+ghost use Rattle.qm_split.specs.inner.Ranked.{IsLeastRank, IsWindingOfSome};
+
+use crate::contender::{Contender, Part};
+use crate::in_cube::part_in_cube;
+use crate::rank::{Rank, first_of};
+use qm_brush::BrushList;
+use qm_contents::{Contents, stronger};
+use qm_geom::{Plane, PlaneBook};
+use qm_wind::Winding;
+use std::alloc::{AllocError, Global};
+
+/// What is known of a cell while solids are looked at one after another: the strongest contents of those that contain it,
+/// and the stronger ones that have a part of a face in it.
+#[derive(Drop)]
+pub(crate) struct Gathering {
+    pub(crate) strongest: Option<Contents>,
+    pub(crate) contenders: Vec<Contender>,
+}
+
+/// What is known of what a cell has in front of a plane, and behind it.
+#[derive(Drop)]
+pub(crate) struct Gatherings {
+    pub(crate) front: Gathering,
+    pub(crate) back: Gathering,
+}
+
+impl Gathering {
+    /// Before the first solid, where some contents are known.
+    pub(crate) fn new(alloc: Global, strongest: Option<Contents>) -> Gathering
+        ensures gathered { (book cell : List Plane) → IsGathered book cell strongest [] result }
+        ensures count { pieces_of result.contenders.items ≡ 0 }
+    {
+        Gathering {
+            strongest,
+            contenders: Vec::new(alloc),
+        }
+    }
+
+    /// With one solid more, by what it is to the cell.
+    pub(crate) fn add(&mut self, part: Part) -> Result<(), AllocError>
+        ensures gathered { OnOk result ((book cell : List Plane) (before : Option Contents) (done : List Solid) (solid : Solid) →
+            IsGathered book cell before done self.old → IsPartIn book cell solid part →
+            IsGathered book cell before (done ++ solid ∷ []) self.new) }
+        ensures count { OnOk result (pieces_of self.new.contenders.items ≤ pieces_of self.old.contenders.items + part_count part) }
+    {
+        match part {
+            Part::Kept(contender) => self.keep(contender),
+            Part::Containing(contents) => {
+                self.raise(contents);
+                Ok(())
+            }
+            Part::Outside => Ok(()),
+        }
+    }
+
+    /// Keeps a solid that has a part of a face in the cell, unless contents as strong are known.
+    fn keep(&mut self, contender: Contender) -> Result<(), AllocError>
+        ensures { OnOk result (Keeps self.old contender self.new) }
+    {
+        if !is_reached(self.strongest, contender.contents) {
+            self.contenders.push(contender)?;
+        }
+        Ok(())
+    }
+
+    /// Notes contents that fill the cell, and gives up solids that are not stronger.
+    fn raise(&mut self, contents: Contents)
+        ensures { Raises self.old contents self.new }
+    {
+        if !is_reached(self.strongest, contents) {
+            self.strongest = Some(contents);
+            self.contenders
+                .retain(|contender| is_stronger_than(contents, contender));
+        }
+    }
+
+    /// For the whole cube, of the brushes of a list.
+    pub(crate) fn in_cube(
+        alloc: Global,
+        list: &BrushList,
+        book: &PlaneBook,
+    ) -> Result<Gathering, AllocError>
+        requires filled { IsBookOf book.now list.now }
+        ensures { IfOk result (IsGathered book.now [] None (solids_in book.now list.now)) }
+    {
+        let mut gathering = Gathering::new(alloc, None);
+        for i in 0..list.len() {
+            gathering.add(brush_in_cube(alloc, list, i, book)?)?;
+        }
+        Ok(gathering)
+    }
+
+    /// The rank of the piece that comes first.
+    pub(crate) fn least(&self) -> Option<Rank>
+        ensures { (book cell : List Plane) → All (IsContender book cell) self.now.contenders.items → IsLeastRank self.now.contenders.items result }
+    {
+        let mut least = None;
+        for contender in &self.contenders {
+            least = Some(first_of(least, contender.least));
+        }
+        least
+    }
+
+    /// The winding of a piece on a plane, if it is the plane of the piece that comes first.
+    pub(crate) fn winding_on(&self, plane: &Plane) -> Option<&Winding>
+        ensures { IfSome result (λ w. IsWindingOfSome self.now.contenders.items plane.now w.now) }
+    {
+        let least = self.least()?;
+        for contender in &self.contenders {
+            if contender.least.number == least.number {
+                return contender.winding_on(plane);
+            }
+        }
+        None
+    }
+
+    /// For a plane, and a winding that lies on it in the cell.
+    pub(crate) fn split(self, plane: &Plane, section: &Winding) -> Result<Gatherings, AllocError>
+        ensures front { IfOk result (λ halves. (book cell : List Plane) →
+            All (IsContender book cell) self.contenders.items → IsSection cell plane.now section.now →
+            IsGathered book (cell ++ plane.now ∷ []) self.strongest (map solid_of self.contenders.items) halves.front) }
+        ensures back { IfOk result (λ halves. (book cell : List Plane) →
+            All (IsContender book cell) self.contenders.items → IsSection cell plane.now section.now →
+            IsGathered book (cell ++ flipped plane.now ∷ []) self.strongest (map solid_of self.contenders.items) halves.back) }
+        ensures front_count { IfOk result (λ halves. HasFewer self.contenders.items plane.now halves.front) }
+        ensures back_count { IfOk result (λ halves. HasFewer self.contenders.items plane.now halves.back) }
+    {
+        let alloc = *self.contenders.allocator();
+        let Gathering {
+            strongest,
+            contenders,
+        } = self;
+        let mut front = Gathering::new(alloc, strongest);
+        let mut back = Gathering::new(alloc, strongest);
+        for contender in contenders {
+            let parts = contender.split(plane, section)?;
+            front.add(parts.front)?;
+            back.add(parts.back)?;
+        }
+        Ok(Gatherings { front, back })
+    }
+}
+
+/// What a brush of a list is to the cube.
+fn brush_in_cube(
+    alloc: Global,
+    list: &BrushList,
+    i: u64,
+    book: &PlaneBook,
+) -> Result<Part, AllocError>
+    requires filled { IsBookOf book.now list.now }
+    requires in_range { i < length list.now }
+    ensures { IfOk result (IsPartIn book.now [] (solid_in book.now (solid_at list.now i))) }
+{
+    if !list.full(i) {
+        return Ok(Part::Outside);
+    }
+    part_in_cube(alloc, list.contents(i), list.faces(i), book)
+}
+
+/// Whether contents are known that are at least as strong.
+fn is_reached(strongest: Option<Contents>, contents: Contents) -> bool
+    ensures { IsTrue result ↔ IsReached strongest contents }
+{
+    match strongest {
+        None => false,
+        Some(known) => stronger(contents, known) == known,
+    }
+}
+
+/// Whether a contender is stronger than contents.
+fn is_stronger_than(contents: Contents, contender: &Contender) -> bool
+    ensures { result ≡ is_stronger_than contents contender.now }
+{
+    stronger(contender.contents, contents) != contents
+}

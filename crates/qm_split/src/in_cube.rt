@@ -1,0 +1,143 @@
+ghost use Rattle.std.specs.Prelude.{◌≡◌, ◌<◌, not, ◌++◌, ◌∷◌, List, [], length, IfOk, OnOk, Contains, MatchOption};
+ghost use Rattle.qm_contents.specs.declared.contents.Contents.{Contents};
+ghost use Rattle.qm_solids.specs.declared.face.FaceRef.{FaceRef};
+ghost use Rattle.qm_solids.specs.Holding.{IsFull};
+ghost use Rattle.qm_solids.specs.Outward.{outward_of, outward_planes, AreNumberedIn};
+ghost use Rattle.qm_wind.specs.Clipped.{is_front};
+ghost use Rattle.qm_split.specs.Pieces.{ArePieces};
+ghost use Rattle.qm_split.specs.inner.Parts.{IsPartIn};
+ghost use Rattle.qm_split.specs.inner.FacePieces.{solid_behind, IsFacePiece, HasNoFacePoint};
+
+use crate::contender::{Contender, Part, least_of};
+use crate::piece::{Piece, numbered, push_some};
+use crate::section::kept;
+use qm_contents::Contents;
+use qm_geom::{Plane, PlaneBook};
+use qm_solids::FaceRef;
+use qm_wind::{Side, Winding};
+use std::alloc::{AllocError, Global};
+
+/// What a full solid is to the cube, by its faces.
+pub(crate) fn part_in_cube(
+    alloc: Global,
+    contents: Contents,
+    faces: &[FaceRef],
+    book: &PlaneBook,
+) -> Result<Part, AllocError>
+    requires numbered { AreNumberedIn book.now faces.now }
+    requires full { IsFull (solid_behind book.now faces.now contents) }
+    ensures { IfOk result (IsPartIn book.now [] (solid_behind book.now faces.now contents)) }
+{
+    let _planes = book.len();
+    let pieces = pieces_in_cube(alloc, faces, book)?;
+    let Some(least) = least_of(&pieces) else {
+        return Ok(Part::Containing(contents));
+    };
+    let outward = outward_planes(alloc, faces, book)?;
+    Ok(Part::Kept(Contender {
+        contents,
+        least,
+        outward,
+        pieces,
+    }))
+}
+
+/// The outward planes of faces.
+fn outward_planes(
+    alloc: Global,
+    faces: &[FaceRef],
+    book: &PlaneBook,
+) -> Result<Vec<Plane>, AllocError>
+    requires numbered { AreNumberedIn book.now faces.now }
+    ensures { IfOk result (λ planes. planes.items ≡ outward_planes book.now faces.now) }
+{
+    let mut planes = Vec::with_capacity(alloc, faces.len())?;
+    for face in faces {
+        planes.push(outward_of(face, book))?;
+    }
+    Ok(planes)
+}
+
+/// The outward plane of a face.
+fn outward_of(face: &FaceRef, book: &PlaneBook) -> Plane
+    requires numbered { face.now.plane < length book.now }
+    ensures { result ≡ outward_of book.now face.now }
+{
+    let plane = book.plane(face.plane);
+    if face.out_is_front {
+        plane
+    } else {
+        plane.flipped()
+    }
+}
+
+/// What the cube has of faces of a solid.
+fn pieces_in_cube(
+    alloc: Global,
+    faces: &[FaceRef],
+    book: &PlaneBook,
+) -> Result<Vec<Piece>, AllocError>
+    requires numbered { AreNumberedIn book.now faces.now }
+    ensures { IfOk result (λ pieces. (contents : Contents) → IsFull (solid_behind book.now faces.now contents) →
+        ArePieces book.now [] (solid_behind book.now faces.now contents) pieces.items) }
+{
+    let _planes = book.len();
+    let mut pieces = Vec::new(alloc);
+    for face in faces {
+        let winding = face_in_cube(alloc, face.plane, faces, book)?;
+        push_some(&mut pieces, numbered(face.plane, winding))?;
+    }
+    Ok(pieces)
+}
+
+/// What the cube has of the plane of a number behind those faces that lie on other planes.
+fn face_in_cube(
+    alloc: Global,
+    number: u32,
+    faces: &[FaceRef],
+    book: &PlaneBook,
+) -> Result<Option<Winding>, AllocError>
+    requires numbered { AreNumberedIn book.now faces.now }
+    requires number { number < length book.now }
+    ensures { IfOk result (λ part. MatchOption part (HasNoFacePoint book.now number faces.now) (IsFacePiece book.now number faces.now)) }
+{
+    let mut left = match Winding::on(alloc, &book.plane(number))? {
+        Some(whole) => whole,
+        None => return Ok(None),
+    };
+    for face in faces {
+        left = match behind(left, number, face, book)? {
+            Some(kept) => kept,
+            None => return Ok(None),
+        };
+    }
+    Ok(Some(left))
+}
+
+/// What is left of a winding on the plane of a number behind a face, if the face lies on another plane.
+fn behind(
+    winding: Winding,
+    number: u32,
+    face: &FaceRef,
+    book: &PlaneBook,
+) -> Result<Option<Winding>, AllocError>
+    requires numbered { face.now.plane < length book.now }
+    ensures { IfOk result (λ part. (done : List FaceRef) → IsFacePiece book.now number done winding →
+        MatchOption part (HasNoFacePoint book.now number (done ++ face.now ∷ [])) (IsFacePiece book.now number (done ++ face.now ∷ []))) }
+{
+    if face.plane == number {
+        return Ok(Some(winding));
+    }
+    kept(winding, &book.plane(face.plane), inner_side(face))
+}
+
+/// The side of a face's plane on which its solid lies.
+fn inner_side(face: &FaceRef) -> Side
+    ensures { is_front result ≡ not face.now.out_is_front }
+{
+    if face.out_is_front {
+        Side::Back
+    } else {
+        Side::Front
+    }
+}

@@ -1,0 +1,98 @@
+ghost use Rattle.std.specs.Prelude.{◌≡◌, Contains, IfOk, IsOk, OnOk, Option, Some, option_to_list, ◌++◌};
+ghost use Rattle.qm_space.specs.Plane.{flipped};
+ghost use Rattle.qm_split.specs.inner.PieceParts.{IsPartOf, AreFront, IsNumberedPiece, IsLyingPiece};
+ghost use Rattle.qm_split.specs.inner.Ranked.{IsRankOf};
+
+use crate::rank::{Rank, is_axial};
+use qm_geom::Plane;
+use qm_wind::{Lies, Winding};
+use std::alloc::AllocError;
+
+/// What a cell has of a face of a solid, on the plane of a number.
+#[derive(Drop)]
+pub(crate) struct Piece {
+    pub(crate) number: u32,
+    pub(crate) winding: Winding,
+}
+
+/// What a piece has in front of a plane, and behind it.
+#[derive(Drop)]
+pub(crate) struct PieceParts {
+    front: Option<Piece>,
+    back: Option<Piece>,
+}
+
+/// What pieces have in front of a plane, and behind it.
+#[derive(Drop)]
+pub(crate) struct PieceLists {
+    pub(crate) front: Vec<Piece>,
+    pub(crate) back: Vec<Piece>,
+}
+
+impl Piece {
+    /// Where its plane comes among candidates.
+    pub(crate) fn rank(&self) -> Rank
+        ensures { IsRankOf self.now result }
+    {
+        Rank {
+            axial: is_axial(&self.winding.plane()),
+            number: self.number,
+        }
+    }
+
+    /// Where it lies beside a plane.
+    pub(crate) fn lies(&self, plane: &Plane) -> Lies
+        ensures { IsLyingPiece result plane.now self.now }
+    {
+        let _corners = self.winding.len();
+        self.winding.lies(plane)
+    }
+
+    fn split(self, plane: &Plane) -> Result<PieceParts, AllocError>
+        ensures front { IfOk result (λ parts. IsPartOf self plane.now parts.front) }
+        ensures back { IfOk result (λ parts. IsPartOf self (flipped plane.now) parts.back) }
+    {
+        let Piece { number, winding } = self;
+        let halves = winding.split(plane)?;
+        Ok(PieceParts {
+            front: numbered(number, halves.front),
+            back: numbered(number, halves.back),
+        })
+    }
+}
+
+/// The piece of a number, if there is a winding.
+pub(crate) fn numbered(number: u32, winding: Option<Winding>) -> Option<Piece>
+    ensures { IsNumberedPiece number winding result }
+{
+    match winding {
+        Some(winding) => Some(Piece { number, winding }),
+        None => None,
+    }
+}
+
+/// What pieces have in front of a plane, and behind it.
+pub(crate) fn split_pieces(pieces: Vec<Piece>, plane: &Plane) -> Result<PieceLists, AllocError>
+    ensures front { IfOk result (λ lists. AreFront pieces.items plane.now lists.front.items) }
+    ensures back { IfOk result (λ lists. AreFront pieces.items (flipped plane.now) lists.back.items) }
+{
+    let alloc = *pieces.allocator();
+    let mut front = Vec::with_capacity(alloc, pieces.len())?;
+    let mut back = Vec::with_capacity(alloc, pieces.len())?;
+    for piece in pieces {
+        let parts = piece.split(plane)?;
+        push_some(&mut front, parts.front)?;
+        push_some(&mut back, parts.back)?;
+    }
+    Ok(PieceLists { front, back })
+}
+
+/// Adds a piece, if there is one.
+pub(crate) fn push_some(pieces: &mut Vec<Piece>, piece: Option<Piece>) -> Result<(), AllocError>
+    ensures { OnOk result (pieces.new.items ≡ pieces.old.items ++ option_to_list piece) }
+{
+    if let Some(piece) = piece {
+        pieces.push(piece)?;
+    }
+    Ok(())
+}
