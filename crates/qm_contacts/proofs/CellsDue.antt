@@ -1,12 +1,11 @@
 -- Going through all cells of numbered nodes by a stack: what is due at a leaf and at a node, and that all contacts are found.
-use Rattle.std.proofs.Common.{◌≡◌, ℕ, zero, suc, ◌+◌, ◌<◌, Bool, true, false, List, [], ◌∷◌, ◌++◌, length, map, Some, sym, ap, ◌∙◌, subst, arith, ◌↔◌}
-use Rattle.std.specs.Prelude.{slice_get, option_map}
-use Rattle.std.proofs.lemmas.List.{append_assoc, append-nil, length-append}
-use Rattle.std.proofs.lemmas.Option.{slice_get-map, slice_get_within}
+use Rattle.std.proofs.Common.{◌≡◌, ℕ, zero, suc, ◌+◌, ◌<◌, Bool, true, false, List, [], ◌∷◌, ◌++◌, length, Some, sym, ap, ◌∙◌, subst, arith, ◌↔◌}
+use Rattle.std.specs.Prelude.{slice_get}
+use Rattle.std.proofs.lemmas.List.{append-nil, length-append}
+use Rattle.std.proofs.lemmas.Option.{slice_get_within}
 use Rattle.qm_lists.specs.WorkList.{IsIn}
 use Rattle.qm_lists.specs.inner.Stack.{ComesTo}
 use Rattle.qm_lists.proofs.WorkLists.{place_within}
-use Rattle.qm_lists.proofs.Places.{slice_get-append_old, slice_get-append_past}
 use Rattle.qm_space.specs.Point.{Point}
 use Rattle.qm_space.specs.Plane.{Plane, IsOn}
 use Rattle.qm_space.specs.Cell.{IsInCell}
@@ -16,9 +15,9 @@ use Rattle.qm_partition.specs.Partition.{Partition, node}
 use Rattle.qm_partition.specs.Tree.{Tree}
 use Rattle.qm_partition.specs.Counting.{leaf_count}
 use Rattle.qm_partition.specs.Numbering.{nodes_after, leaves_after, child_of}
-use Rattle.qm_partition.specs.Ways.{Way, after_step, ways, HasPoints}
+use Rattle.qm_partition.specs.Ways.{Way, ways, HasPoints}
 use Rattle.qm_partition.proofs.Counts.{leaf_count-node, leaves_after-count}
-use Rattle.qm_partition.proofs.Cells.{length-ways, to_front-count}
+use Rattle.qm_partition.proofs.Cells.{length-ways}
 use Rattle.qm_contacts.specs.Meeting.{leaves_below, then_step, meetings_at, meetings_below}
 use Rattle.qm_contacts.specs.Touching.{Touching, AreTouchings, none}
 use Rattle.qm_contacts.specs.Outside.{TouchesOutside}
@@ -28,6 +27,7 @@ use Rattle.qm_contacts.specs.inner.Pieces.{walled_cell}
 use Rattle.qm_contacts.specs.inner.Due.{DueCell, DueCellBelow, ComesToTouchings, AreOutside, ComesToOutside}
 use Rattle.qm_contacts.proofs.Pieces.{touchings_append}
 use Rattle.qm_contacts.proofs.Descent.{points_in_front, points_behind, points_at_root, section_point}
+use Rattle.qm_contacts.proofs.WaysBelow.{ways_in_front, ways_behind}
 use Rattle.qm_contacts.proofs.PushedDown.{StandsFor, root_stands, IsLeafPart, IsNodePart}
 
 -- what is known of a cell that is due
@@ -36,24 +36,6 @@ pub record IsDueCell (tree : Tree) (entry : DueCellBelow) : Type 0 where
   pub facets : AreCellFacets tree.planes entry.above entry.due.on_walls entry.due.on_steps
   pub points : HasPointsBelow tree.planes entry.above entry.part
   pub ways_below : (i : ℕ) (way : Way) → slice_get (ways entry.part) i ≡ Some way → slice_get (ways tree.shape) (entry.k + i) ≡ Some (entry.above ++ way)
-
-module _ (whole : Partition) (above : Way) (p : ℕ) (front back : Partition) (k : ℕ) (have : (i : ℕ) (way : Way) → slice_get (ways (node p front back)) i ≡ Some way → slice_get (ways whole) (k + i) ≡ Some (above ++ way)) where
-  abbrev to_front : List Way
-  to_front = map (after_step p true) (ways front)
-
-  abbrev to_back : List Way
-  to_back = map (after_step p false) (ways back)
-
-  pub ways_in_front : (i : ℕ) (way : Way) → slice_get (ways front) i ≡ Some way → slice_get (ways whole) (k + i) ≡ Some (then_step above p true ++ way)
-  ways_in_front i way at =
-      let its = slice_get-map (after_step p true) (ways front) i ∙ ap (option_map (after_step p true)) at in
-      have i (after_step p true way) (slice_get-append_old to_front to_back (after_step p true way) i its) ∙ ap Some (sym (append_assoc above (record { plane = p; front = true } ∷ []) way))
-
-  pub ways_behind : (i : ℕ) (way : Way) → slice_get (ways back) i ≡ Some way → slice_get (ways whole) (leaves_after front k + i) ≡ Some (then_step above p false ++ way)
-  ways_behind i way at =
-      let its = slice_get-append_past to_front to_back i ∙ slice_get-map (after_step p false) (ways back) i ∙ ap (option_map (after_step p false)) at in
-      let place : leaves_after front k + i ≡ k + (length to_front + i) = omega (arith, leaves_after-count front k, to_front-count p front) in
-      ap (slice_get (ways whole)) place ∙ have (length to_front + i) (after_step p false way) its ∙ ap Some (sym (append_assoc above (record { plane = p; front = false } ∷ []) way))
 
 -- ---- at a leaf
 
