@@ -6,6 +6,7 @@ pub mod Contacts
 pub mod Crossing
 pub mod NumberedLeaves
 pub mod Portals
+pub mod PortalChain
 pub mod Reached
 pub mod Leak
 pub mod Filled

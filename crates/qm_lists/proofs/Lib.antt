@@ -11,3 +11,4 @@ pub mod WorkLists
 pub mod Mapped
 pub mod EachPair
 pub mod Spreads
+pub mod Stacks
