@@ -41,7 +41,7 @@ pub(crate) struct Parts {
 }
 
 impl Contender {
-    /// For a plane, and a winding that lies on it in the cell. A contender that lies wholly on one side is moved.
+    /// For a plane, and a winding that lies on it in the cell. Where the cuboids of all pieces lie on one side, it is moved.
     pub(crate) fn split(self, plane: &Plane, section: &Winding) -> Result<Parts, AllocError>
         ensures front { IfOk result (λ parts. (book cell : List Plane) →
             IsContender book cell self → IsSection cell plane.now section.now →
@@ -106,12 +106,12 @@ impl Contender {
     }
 }
 
-/// Whether each of some pieces lies in the same way beside a plane.
+/// Whether each of some pieces lies in the same way beside a plane, where their cuboids tell.
 fn all_lie(pieces: &[Piece], plane: &Plane, lies: Lies) -> bool
     ensures { result ≡ true → All (IsLyingPiece lies plane.now) pieces.now }
 {
     for piece in pieces {
-        if piece.lies(plane) != lies {
+        if !piece.surely_lies(plane, lies) {
             return false;
         }
     }

@@ -1,4 +1,4 @@
-ghost use Rattle.std.specs.Prelude.{◌≡◌, Contains, IfOk, IsOk, OnOk, Option, Some, option_to_list, ◌++◌};
+ghost use Rattle.std.specs.Prelude.{◌≡◌, true, Contains, IfOk, IsOk, OnOk, Option, Some, option_to_list, ◌++◌};
 ghost use Rattle.qm_space.specs.Plane.{flipped};
 ghost use Rattle.qm_split.specs.inner.PieceParts.{IsPartOf, AreFront, IsNumberedPiece, IsLyingPiece};
 ghost use Rattle.qm_split.specs.inner.Ranked.{IsRankOf};
@@ -40,8 +40,19 @@ impl Piece {
         }
     }
 
+    /// Whether it lies in such a way beside a plane, where its cuboid tells: the plane goes through that of any other.
+    pub(crate) fn surely_lies(&self, plane: &Plane, lies: Lies) -> bool
+        ensures { result ≡ true → IsLyingPiece lies plane.now self.now }
+    {
+        let cuboid = self.winding.cuboid();
+        if cuboid.least_value(plane) < 0 && cuboid.greatest_value(plane) > 0 {
+            return false;
+        }
+        self.lies(plane) == lies
+    }
+
     /// Where it lies beside a plane.
-    pub(crate) fn lies(&self, plane: &Plane) -> Lies
+    fn lies(&self, plane: &Plane) -> Lies
         ensures { IsLyingPiece result plane.now self.now }
     {
         let _corners = self.winding.len();

@@ -8,6 +8,8 @@ mod built;
 #[cfg(test)]
 mod cube;
 #[cfg(test)]
+mod fragments;
+#[cfg(test)]
 mod joined;
 #[cfg(test)]
 mod long;
