@@ -127,3 +127,30 @@ some_ascend planes all touchings (apart {meeting = first} {meetings = rest} neve
 
 pub touchings_ascend : (tree : Tree) (touchings : List Touching) → AreTouchings tree.planes (meetings tree) touchings → EachPair ComesBefore touchings
 touchings_ascend tree touchings are = some_ascend tree.planes (meetings tree) touchings are (meetings_ascend tree.shape 0 0 [])
+
+-- ---- neighbours
+
+-- both numbers are there, in order
+pub pair_order : (tree : Tree) (touchings : List Touching) (found : Touching) → AreTouchings tree.planes (meetings tree) touchings → Contains touchings found → found.front < found.back
+pair_order tree touchings found are listed =
+    let m = meeting_of_touching tree.planes (meetings tree) touchings found are listed in
+    let Between = IsBetween 0 (nodes_after tree.shape 0) 0 (leaves_after tree.shape 0) in
+    let is = All-contains Between (meetings tree) m.0 (meetings_between tree.shape 0 0 []) m.1 in
+    omega (arith, is.leaf_order, m.2.front, m.2.back)
+
+-- the pair has the leaf a, and b is its other one
+abbrev pub IsOther : Touching → ℕ → ℕ → Type 0
+IsOther found a b = IsPair found a b ⊎ IsPair found b a
+
+-- in two pairs that have a leaf its others are different: so each neighbour comes once
+pub others_differ : (s t : Touching) (k a b : ℕ) → ComesBefore s t → s.front < s.back → t.front < t.back → IsOther s k a → IsOther t k b → a ≡ b → ⊥
+others_differ s t k a b before s_order t_order of_s of_t same = ⊎_elim
+    (λ p. ⊎_elim
+    (λ q. before.apart (p.front ∙ sym q.front) (p.back ∙ same ∙ sym q.back))
+    (λ q. absurd (omega (arith, p.front, p.back, q.front, q.back, s_order, t_order, same)))
+    of_t)
+    (λ p. ⊎_elim
+    (λ q. absurd (omega (arith, p.front, p.back, q.front, q.back, s_order, t_order, same)))
+    (λ q. before.apart (p.front ∙ same ∙ sym q.front) (p.back ∙ sym q.back))
+    of_t)
+    of_s
