@@ -18,16 +18,17 @@ trap 'rm -rf "$folder"' EXIT
 cp samples/cube.map "$folder/"
 ./qmapc compile "$folder/cube.map" "$folder/cube.tree" >/dev/null
 python3 - "$maps" "$folder/out.tree" crates/compile_bench/out/compile_bench crates/qmapc/out/qmapc "$peer" <<'END'
-import os, re, subprocess, sys
+import os, re, shutil, subprocess, sys
 
 maps, out, bench, program, peer = sys.argv[1:]
 RUNS = 7
 PHASES = ["read", "parse", "brushes", "build"]
+TIME = shutil.which("time") or sys.exit("the command `time` is not on the PATH")
 
 
 def measure(*words):
-    """The least milliseconds of processor time of some runs, and the megabytes at the peak of one."""
-    least = peak = float("inf")
+    """The least milliseconds of processor time of some runs."""
+    least = float("inf")
     for _ in range(RUNS):
         child = os.fork()
         if child == 0:
@@ -37,8 +38,15 @@ def measure(*words):
         if status != 0:
             sys.exit(f"{' '.join(words)} failed")
         least = min(least, 1000 * (usage.ru_utime + usage.ru_stime))
-        peak = min(peak, usage.ru_maxrss / 1024)
-    return least, peak
+    return least
+
+
+def peak(*words):
+    """The megabytes at the peak of a run. The command `time` asks, since a child of Python has had Python's memory."""
+    said = subprocess.run(
+        [TIME, "-f", "%M", *words], stdout=subprocess.DEVNULL, stderr=subprocess.PIPE, text=True
+    ).stderr
+    return int(said.split()[-1]) / 1024
 
 
 def measure_peer(name):
@@ -65,19 +73,17 @@ def measure_peer(name):
 
 heads = [*PHASES, "tree", "compile", "MB"] + (["peer", "MB", "ratio", "memory"] if peer else [])
 print(f"{'map':<28}" + "".join(f"{head:>10}" for head in heads))
-start, _ = measure(bench)
+start = measure(bench)
 for name in sorted(os.listdir(maps)):
     if not name.endswith(".map"):
         continue
     path = os.path.join(maps, name)
-    until = [measure(bench, phase, path) for phase in PHASES]
-    times = [took for took, _ in until]
+    times = [measure(bench, phase, path) for phase in PHASES]
     phases = [now - before for before, now in zip([start, *times], times)]
     tree = times[-1] - start
-    whole, peak = measure(program, "compile", path, out)
-    row = [*phases, tree, whole, peak]
+    row = [*phases, tree, measure(program, "compile", path, out), peak(program, "compile", path, out)]
     if peer:
         its, its_peak = measure_peer(path)
-        row += [its, its_peak, tree / its, until[-1][1] / its_peak]
+        row += [its, its_peak, tree / its, peak(bench, "build", path) / its_peak]
     print(f"{name.removesuffix('.map'):<28}" + "".join(f"{value:>10.2f}" for value in row))
 END

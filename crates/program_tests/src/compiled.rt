@@ -1,4 +1,4 @@
-use super::boxes::{BoxRow, world};
+use super::boxes::{BoxRow, put_box, world};
 use super::cube::{END, FIRST, OTHERS, joined};
 use super::cube_file::CUBE_FILE;
 use super::empty_file::{EMPTY_FILE, EMPTY_SUMMARY};
@@ -28,29 +28,29 @@ const OPPOSED: &str = "{\n( 0 0 0 ) ( 0 1 0 ) ( 0 0 1 ) stone 0 0 0 1 1\n\
 const APART: &str = "{\n( 0 0 0 ) ( 0 1 0 ) ( 1 0 0 ) stone 0 0 0 1 1\n\
     ( 0 0 128 ) ( 1 0 128 ) ( 0 1 128 ) stone 0 0 0 1 1\n}\n";
 
-const CUBE: BoxRow = ("stone", [0, 0, 0], [64, 64, 64]);
+const CUBE: BoxRow = ([0, 0, 0], [64, 64, 64]);
 
 const WALLS: [BoxRow; 5] = [
-    ("stone", [-80, -80, -16], [80, 80, 0]),
-    ("stone", [-80, -80, 96], [80, 80, 112]),
-    ("stone", [-80, -80, 0], [80, -64, 96]),
-    ("stone", [-80, 64, 0], [80, 80, 96]),
-    ("stone", [-80, -64, 0], [-64, 64, 96]),
+    ([-80, -80, -16], [80, 80, 0]),
+    ([-80, -80, 96], [80, 80, 112]),
+    ([-80, -80, 0], [80, -64, 96]),
+    ([-80, 64, 0], [80, 80, 96]),
+    ([-80, -64, 0], [-64, 64, 96]),
 ];
 
 const ROUND_A_CORNER: [BoxRow; 12] = [
-    ("stone", [-144, -80, -16], [112, 192, 0]),
-    ("stone", [-144, -80, 96], [112, 192, 112]),
-    ("stone", [-144, -80, 0], [112, -64, 96]),
-    ("stone", [-144, -64, 0], [-128, 192, 96]),
-    ("stone", [96, -64, 0], [112, 192, 96]),
-    ("stone", [-128, 64, 0], [-16, 192, 96]),
-    ("stone", [-16, 64, 0], [0, 192, 96]),
-    ("stone", [0, 176, 0], [96, 192, 96]),
-    ("stone", [0, 64, 64], [96, 80, 96]),
-    ("stone", [-16, -64, 64], [0, 64, 96]),
-    ("stone", [-16, -32, 0], [0, 0, 64]),
-    ("stone", [32, 64, 0], [96, 80, 64]),
+    ([-144, -80, -16], [112, 192, 0]),
+    ([-144, -80, 96], [112, 192, 112]),
+    ([-144, -80, 0], [112, -64, 96]),
+    ([-144, -64, 0], [-128, 192, 96]),
+    ([96, -64, 0], [112, 192, 96]),
+    ([-128, 64, 0], [-16, 192, 96]),
+    ([-16, 64, 0], [0, 192, 96]),
+    ([0, 176, 0], [96, 192, 96]),
+    ([0, 64, 64], [96, 80, 96]),
+    ([-16, -64, 64], [0, 64, 96]),
+    ([-16, -32, 0], [0, 64, 64]),
+    ([32, 64, 0], [96, 80, 64]),
 ];
 
 /// Texts that mean the cube, and a world without brushes.
@@ -112,7 +112,16 @@ fn names_give_contents(rt: HostRuntime) -> Result<(), Fail> {
     }
     for name in ["clip", "CLIP"] {
         let text = named_cube(rt.alloc(), name)?;
-        assert!(rt; gives(&rt, "compile", &text, 0, EMPTY_SUMMARY, Some(EMPTY_FILE.as_slice()))?);
+        assert!(rt;
+            gives(
+                &rt,
+                "compile",
+                &text,
+                0,
+                EMPTY_SUMMARY,
+                Some(EMPTY_FILE.as_slice())
+            )?
+        );
     }
     Ok(())
 }
@@ -126,27 +135,27 @@ fn counts<R: AllocGlobal + Threads + Sync>(
     length: usize,
 ) -> Result<bool, AllocError> {
     let [brushes, flat, planes, nodes, leaves] = counts;
-    let printed = format!(in rt.alloc(); "brushes {brushes}\nflat {flat}\nplanes {planes}\nnodes {nodes}\nleaves {leaves}\n")?;
+    let printed = format!(in rt.alloc();
+        "brushes {brushes}\nflat {flat}\nplanes {planes}\nnodes {nodes}\nleaves {leaves}\n"
+    )?;
     let mut outside = Outside::new(rt.alloc(), text.as_bytes())?;
     let says = outside.says(rt, &["compile", "map", "out"], 0, &printed);
-    let is_long = outside.shelf.get("out").is_some_and(|file| file.len() == length);
+    let is_long = outside
+        .shelf
+        .get("out")
+        .is_some_and(|file| file.len() == length);
     Ok(says && is_long)
 }
 
-/// A box that ends at the wall of the cube, flat brushes, solids that share a face, and water round stone in both
-/// orders.
+/// A box that ends at the wall of the cube, flat brushes, and solids that share a face.
 #[test]
 fn counts_what_boxes_give(rt: HostRuntime) -> Result<(), Fail> {
-    let wall = ("stone", [0, 0, 0], [4096, 64, 64]);
-    let above = ("stone", [0, 0, 64], [64, 64, 128]);
-    let water = ("*water1", [0, 0, 0], [64, 64, 64]);
-    let stone = ("stone", [16, 16, 16], [48, 48, 48]);
+    let wall = ([0, 0, 0], [4096, 64, 64]);
+    let above = ([0, 0, 64], [64, 64, 128]);
     let rows = [
         ("", [wall, wall], [2, 0, 6, 5, 6], 291),
         (APART, [CUBE, above], [3, 1, 7, 6, 7], 336),
         (OPPOSED, [CUBE, CUBE], [3, 1, 6, 6, 7], 316),
-        ("", [water, stone], [2, 0, 12, 12, 13], 586),
-        ("", [stone, water], [2, 0, 12, 24, 25], 886),
     ];
     for (brushes, boxes, wanted, length) in rows {
         let text = world(rt.alloc(), brushes, &boxes)?;
@@ -157,23 +166,36 @@ fn counts_what_boxes_give(rt: HostRuntime) -> Result<(), Fail> {
     Ok(())
 }
 
+/// Water round stone, in both orders.
+#[test]
+fn counts_what_two_contents_give(rt: HostRuntime) -> Result<(), Fail> {
+    let mut water_first = String::new(rt.alloc());
+    put_box(&mut water_first, "*water1", [0, 0, 0], [64, 64, 64])?;
+    put_box(&mut water_first, "stone", [16, 16, 16], [48, 48, 48])?;
+    let mut stone_first = String::new(rt.alloc());
+    put_box(&mut stone_first, "stone", [16, 16, 16], [48, 48, 48])?;
+    put_box(&mut stone_first, "*water1", [0, 0, 0], [64, 64, 64])?;
+    let text = world(rt.alloc(), &water_first, &[])?;
+    assert!(rt; counts(&rt, &text, [2, 0, 12, 12, 13], 586)?);
+    let text = world(rt.alloc(), &stone_first, &[])?;
+    assert!(rt; counts(&rt, &text, [2, 0, 12, 24, 25], 886)?);
+    Ok(())
+}
+
 /// A room, as boxes and as an editor writes it, the room with a hole in a wall, and three rooms round a corner.
 #[test]
 fn counts_what_rooms_give(rt: HostRuntime) -> Result<(), Fail> {
     let mut room = Vec::from_slice(rt.alloc(), &WALLS)?;
-    room.push(("stone", [64, -64, 0], [80, 64, 96]))?;
+    room.push(([64, -64, 0], [80, 64, 96]))?;
     let mut hole = Vec::from_slice(rt.alloc(), &WALLS)?;
-    hole.push(("stone", [64, -64, 0], [80, 0, 96]))?;
-    hole.push(("stone", [64, 1, 0], [80, 64, 96]))?;
-    let rows = [
-        (room.as_slice(), [6, 0, 12, 12, 13], 586),
-        (hole.as_slice(), [7, 0, 14, 14, 15], 676),
-        (ROUND_A_CORNER.as_slice(), [12, 0, 19, 22, 23], 976),
-    ];
-    for (boxes, wanted, length) in rows {
-        let text = world(rt.alloc(), "", boxes)?;
-        assert!(rt; counts(&rt, &text, wanted, length)?);
-    }
+    hole.push(([64, -64, 0], [80, 0, 96]))?;
+    hole.push(([64, 1, 0], [80, 64, 96]))?;
+    let room = world(rt.alloc(), "", &room)?;
+    let hole = world(rt.alloc(), "", &hole)?;
+    let corner = world(rt.alloc(), "", &ROUND_A_CORNER)?;
+    assert!(rt; counts(&rt, &room, [6, 0, 12, 12, 13], 586)?);
+    assert!(rt; counts(&rt, &hole, [7, 0, 14, 14, 15], 676)?);
+    assert!(rt; counts(&rt, &corner, [12, 0, 19, 22, 23], 976)?);
     assert!(rt; counts(&rt, ROOM, [6, 0, 12, 12, 13], 586)?);
     Ok(())
 }

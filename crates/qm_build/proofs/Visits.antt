@@ -57,9 +57,9 @@ module _ (solids : List Solid) (book : List Plane) where
         under_way pending' (reverse pending) walk' (ap (λ (p : List Fragments). reverse p) waits) (record { are = way.are.1; completes = rw wrote completes })
     visited_ready pending' walk' (is_node {n = n} {h = h} {front = front} {back = back} least in_front fewer behind less waits wrote) way =
         let parts : (s t : Partition) → Divides solids book (cell_of front) s → Divides solids book (cell_of back) t → Divides solids book (cell_of fragments) (node n s t) =
-          λ s t its others. divided least
-          (subst (λ (c : List Plane). Divides solids book c s) in_front.cell_is its)
-          (subst (λ (c : List Plane). Divides solids book c t) behind.cell_is others) in
+        λ s t its others. divided least
+        (subst (λ (c : List Plane). Divides solids book c s) in_front.cell_is its)
+        (subst (λ (c : List Plane). Divides solids book c t) behind.cell_is others) in
         let completes = completes_node (Divides solids book) [] (cell_of fragments) (cell_of front) (cell_of back) n parts (map cell_of (reverse pending)) walk way.completes in
         let order = ap (λ (p : List Fragments). reverse p) waits ∙ next_first (pending ++ back ∷ []) front ∙ ap (λ (p : List Fragments). front ∷ p) (next_first pending back) in
         under_way pending' (front ∷ back ∷ reverse pending) walk' order (record {

@@ -5,7 +5,7 @@ use Rattle.qm_numbers.proofs.Bits.{kept_32, kept_64, kept_128}
 use Rattle.qm_space.specs.Bounds.{normal_bound, distance_bound}
 use Rattle.qm_space.specs.Plane.{Plane}
 use Rattle.qm_space.specs.Reduced.{IsReduced}
-use Rattle.qm_space.specs.CommonLine.{CommonLine, common_line}
+use Rattle.qm_space.specs.CommonLine.{common_line}
 use Rattle.qm_geom.specs.declared.vector.Vector.{Vector}
 use Rattle.qm_geom.specs.inner.Vectors.{normal_of, cross}
 

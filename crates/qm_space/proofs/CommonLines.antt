@@ -1,5 +1,5 @@
 -- The value of a plane where three others meet, by the lines in which they meet two by two.
-use Rattle.std.proofs.Common.{◌≡◌, [], ℤ}
+use Rattle.std.proofs.Common.{◌≡◌, []}
 use Rattle.qm_space.specs.Plane.{Plane, value}
 use Rattle.qm_space.specs.Determinant.{determinant}
 use Rattle.qm_space.specs.Meet.{meet}

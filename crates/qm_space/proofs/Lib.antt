@@ -2,6 +2,8 @@ pub mod PlaneSymbols
 pub mod Planes
 pub mod CommonLines
 pub mod Multiples
+pub mod SameSides
+pub mod CubeFaces
 pub mod ReducedPlanes
 pub mod TurnedPlanes
 pub mod Cubes

@@ -1,4 +1,4 @@
-use Rattle.std.specs.Prelude.{ℕ, ◌≤◌, ◌^◌, ℤ, ◌+ℤ◌, ◌-ℤ◌, ◌*ℤ◌, unsigned_abs}
+use Rattle.std.specs.Prelude.{◌≤◌, ◌^◌, ℤ, ◌+ℤ◌, ◌-ℤ◌, ◌*ℤ◌, unsigned_abs}
 use Rattle.qm_space.specs.Plane.{Plane}
 
 -- a line by six numbers: its direction, and its moment about the origin

@@ -13,5 +13,5 @@ pub mod ThreePoints
 pub mod Turned
 pub mod Cell
 pub mod Cube
-pub mod inner
 pub mod Cuboid
+pub mod inner

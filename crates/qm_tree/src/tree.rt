@@ -49,7 +49,7 @@ impl Model for Tree {
 }
 
 impl Tree {
-    /// The tree of planes, nodes and leaves.
+    /// The tree of planes, nodes and leaves. `NotNumbered` exactly where no tree has these.
     pub fn of(
         alloc: Global,
         planes: Vec<Plane>,
@@ -72,7 +72,8 @@ impl Tree {
         })
     }
 
-    /// The tree of visits, in which siblings that are leaves of equal contents have become one leaf, from the leaves up.
+    /// The tree of the visits of a walk, in which siblings that are leaves of equal contents have become one leaf, from the
+    /// leaves up.
     pub fn joined_of(
         alloc: Global,
         planes: Vec<Plane>,
@@ -155,6 +156,7 @@ impl Tree {
     /// The number of the leaf to which a point is led: at each node to the front where the point is not behind the plane.
     pub fn leaf_at(&self, at: &Point) -> u64
         ensures value { result ≡ leaf_at self.now.planes self.now.shape at.now }
+        ensures within { result < leaf_count self.now.shape }
     {
         let mut child = self.root();
         loop {

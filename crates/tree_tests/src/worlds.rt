@@ -55,7 +55,10 @@ pub fn world_of_boxes(
     text.push_str(brushes)?;
     for (texture, [west, south, bottom], [east, north, top]) in boxes {
         text.push_str("{\n")?;
-        for (side, at) in [west, east, south, north, bottom, top].into_iter().enumerate() {
+        for (side, at) in [west, east, south, north, bottom, top]
+            .into_iter()
+            .enumerate()
+        {
             put_face(&mut text, texture, points_across(side as u64, *at))?;
         }
         text.push_str("}\n")?;

@@ -9,7 +9,7 @@ loop-i-preserved c =
     let i = c.loop-i.i in
     let within : i < length list = omega (arith, c.loop-i-test.true, c.len-i-end.ensures) in
     elim c.if-not-full.branch [
-      then-not-full w ↦
+      | then-not-full w ↦
           let flat = flat_count-flat list i within (sym c.full.ensures ∙ w.if-not-full.true) in
           record { counted = omega (arith, flat, c.loop-i.invariant.counted, w.count-is); few = omega (arith, c.loop-i.invariant.few, w.count-is) }
       | else-not-full w ↦

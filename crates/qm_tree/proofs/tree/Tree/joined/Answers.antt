@@ -1,7 +1,7 @@
 use Rattle.std.proofs.Common.{sym, ap}
 use Rattle.qm_partition.specs.Tree.{Tree}
 use Rattle.qm_partition.proofs.JoinedLeaves.{joined_keeps_contents}
-use Rattle.qm_partition.proofs.CoarserPartitions.{joined_has_points}
+use Rattle.qm_partition.proofs.JoinedCells.{joined_has_points}
 use Rattle.qm_tree.proofs.tree.Tree.joined.Goals as goal
 
 pub returns-clause-value : goal.returns-clause-value
