@@ -32,13 +32,13 @@ seconds() { # seconds PROGRAM STREAM: the least processor time of five runs
 }
 
 printf '%-10s' stream
-printf '%12s' "${programs[@]}"
+printf '%14s' "${programs[@]}"
 printf '   million windings a second\n'
 for stream in squares octagons misses chains tree; do
     printf '%-10s' "$stream"
     for program in "${programs[@]}"; do
         time=$(seconds "$program" "$stream")
-        awk -v time="$time" '{ printf "%12.2f", ($3 + $5 + $7) / time / 1000000 }' "$folder/counts.$program"
+        awk -v time="$time" '{ printf "%14.2f", ($3 + $5 + $7) / time / 1000000 }' "$folder/counts.$program"
         cmp -s "$folder/counts.proved" "$folder/counts.$program" || printf ' (other counts)'
     done
     printf '\n'

@@ -1,5 +1,5 @@
 /// The tree file of the cube, worked out by hand from the table of the format.
-pub const CUBE_FILE: [u8; 316] = [
+pub static CUBE_FILE: [u8; 316] = [
     // magic QMTREE01
     0x51, 0x4D, 0x54, 0x52, 0x45, 0x45, 0x30, 0x31,
     // planes 6

@@ -1,85 +1,79 @@
 use super::cube::{END, FIRST, OTHERS, joined};
 use super::cube_file::CUBE_FILE;
-use super::outside::Outside;
-use super::printed::{READ_FAULT, SUMMARY, UNEXPECTED, USAGE, WRITE_FAULT};
+use super::outside::{Answer, Outside, fails_at};
+use super::printed::{COUNTS, READ_FAULT, SUMMARY, UNEXPECTED, USAGE, WRITE_FAULT};
+use std::alloc::AllocError;
 use std::test::Fail;
+use std::thread::Threads;
+
+const UNREAD: Answer = (5, READ_FAULT, [1, 0, 0]);
+
+const UNWRITTEN: Answer = (6, WRITE_FAULT, [0, 1, 0]);
 
 /// The calls of the shelf are a read of the text, a read that finds its end, the creation of the file that
-/// is made and the addition of its bytes.
+/// is made and the addition of its bytes. A row has what is answered where one fails, and what `out` then holds.
+static FAULTS_OF_THE_SHELF: [(u64, Answer, &[u8]); 4] = [
+    (0, UNREAD, b"old"),
+    (1, UNREAD, b"old"),
+    (2, UNWRITTEN, b"old"),
+    (3, UNWRITTEN, b""),
+];
+
 #[test]
 fn answers_each_fault_of_the_shelf(rt: HostRuntime) -> Result<(), Fail> {
     let cube = joined(rt.alloc(), [FIRST, OTHERS, END])?;
-    let old = b"old".as_slice();
-    let empty = b"".as_slice();
-    let none = b"{ }".as_slice();
-    let tree = CUBE_FILE.as_slice();
-    let counts = "entities 1\nbrushes 0\n";
-    let rows = [
-        ("compile", cube.as_slice(), 0, 5, READ_FAULT, old, [1, 0, 0]),
-        ("compile", cube.as_slice(), 1, 5, READ_FAULT, old, [1, 0, 0]),
-        (
-            "compile",
-            cube.as_slice(),
-            2,
-            6,
-            WRITE_FAULT,
-            old,
-            [0, 1, 0],
-        ),
-        (
-            "compile",
-            cube.as_slice(),
-            3,
-            6,
-            WRITE_FAULT,
-            empty,
-            [0, 1, 0],
-        ),
-        ("compile", cube.as_slice(), 4, 0, SUMMARY, tree, [0, 0, 0]),
-        ("format", none, 0, 5, READ_FAULT, old, [1, 0, 0]),
-        ("format", none, 1, 5, READ_FAULT, old, [1, 0, 0]),
-        ("format", none, 2, 6, WRITE_FAULT, old, [0, 1, 0]),
-        ("format", none, 3, 6, WRITE_FAULT, empty, [0, 1, 0]),
-        (
-            "format",
-            none,
-            4,
-            0,
-            counts,
-            b"{\n}\n".as_slice(),
-            [0, 0, 0],
-        ),
-    ];
-    for (verb, text, call, status, printed, out, faults) in rows {
-        let mut outside = Outside::new(rt.alloc(), text)?;
-        outside.shelf.put("out", old)?;
-        outside.shelf.fail_call(call)?;
-        assert!(rt; outside.says(&rt, &[verb, "map", "out"], status, printed));
-        assert!(rt; outside.holds(Some(out), text, faults));
+    let mut right = true;
+    for &(call, answer, out) in &FAULTS_OF_THE_SHELF {
+        right &= fails_at(&rt, "compile", &cube, call, answer, out)?;
+        right &= fails_at(&rt, "format", b"{ }", call, answer, out)?;
     }
+    right &= fails_at(&rt, "compile", &cube, 4, (0, SUMMARY, [0; 3]), &CUBE_FILE)?;
+    right &= fails_at(&rt, "format", b"{ }", 4, (0, COUNTS, [0; 3]), b"{\n}\n")?;
+    assert!(rt; right);
     Ok(())
 }
 
-/// What comes of a command is printed in one write.
+/// What comes of a command is printed in one write. A row has the name that is read, the write that fails, what is
+/// answered, and whether the tree file is then there.
+static FAULTS_OF_THE_SINK: [(&str, u64, Answer, bool); 8] = [
+    ("map", 0, (6, "", [0, 0, 1]), true),
+    ("map", 1, (0, SUMMARY, [0, 0, 0]), true),
+    ("-map", 0, (6, "", [0, 0, 1]), false),
+    ("-map", 1, (2, USAGE, [0, 0, 0]), false),
+    ("other", 0, (6, "", [0, 0, 1]), false),
+    ("other", 1, (4, UNEXPECTED, [0, 0, 0]), false),
+    ("absent", 0, (6, "", [1, 0, 1]), false),
+    ("absent", 1, (5, READ_FAULT, [1, 0, 0]), false),
+];
+
+/// Whether a run over a sink of which this write fails gives this answer, and `out` then holds these bytes.
+fn prints_at<R: AllocGlobal + Threads + Sync>(
+    rt: &R,
+    name: &str,
+    text: &[u8],
+    write: u64,
+    answer: Answer,
+    out: Option<&[u8]>,
+) -> Result<bool, AllocError> {
+    let (status, printed, faults) = answer;
+    let mut outside = Outside::new(rt.alloc(), text)?;
+    outside.sink.fail_call(write)?;
+    let says = outside.says(rt, &["compile", name, "out"], status, printed);
+    Ok(says && outside.holds(out, text, faults))
+}
+
 #[test]
 fn answers_each_fault_of_the_sink(rt: HostRuntime) -> Result<(), Fail> {
     let text = joined(rt.alloc(), [FIRST, OTHERS, END])?;
-    let tree = Some(CUBE_FILE.as_slice());
-    let rows = [
-        ("map", 0, 6, "", tree, [0, 0, 1]),
-        ("map", 1, 0, SUMMARY, tree, [0, 0, 0]),
-        ("-map", 0, 6, "", None, [0, 0, 1]),
-        ("-map", 1, 2, USAGE, None, [0, 0, 0]),
-        ("other", 0, 6, "", None, [0, 0, 1]),
-        ("other", 1, 4, UNEXPECTED, None, [0, 0, 0]),
-        ("absent", 0, 6, "", None, [1, 0, 1]),
-        ("absent", 1, 5, READ_FAULT, None, [1, 0, 0]),
-    ];
-    for (name, write, status, printed, out, faults) in rows {
-        let mut outside = Outside::new(rt.alloc(), &text)?;
-        outside.sink.fail_call(write)?;
-        assert!(rt; outside.says(&rt, &["compile", name, "out"], status, printed));
-        assert!(rt; outside.holds(out, &text, faults));
+    let mut right = true;
+    for &(name, write, answer, is_made) in &FAULTS_OF_THE_SINK {
+        let out = if is_made {
+            Some(CUBE_FILE.as_slice())
+        } else {
+            None
+        };
+        right &= prints_at(&rt, name, &text, write, answer, out)?;
     }
+    assert!(rt; right);
     Ok(())
 }

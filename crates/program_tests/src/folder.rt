@@ -26,51 +26,67 @@ pub fn reads<R: Files>(
     count.is_ok_and(|count| count == wanted.len()) && into == expected
 }
 
-/// A real file is created over old bytes, grows in pieces, and is read from several places on, in order and
-/// out of order, with small and large buffers; what is added later is read too.
+/// Places to read from, out of order too, the room of the buffer, and what is read.
+static READS: [(u64, usize, &str); 11] = [
+    (0, 4, "one "),
+    (4, 4, "two "),
+    (8, 32, "three"),
+    (13, 32, ""),
+    (5, 3, "wo "),
+    (5, 3, "wo "),
+    (8, 3, "thr"),
+    (0, 32, "one two three"),
+    (40, 4, ""),
+    (0, 0, ""),
+    (0, 8, "one two "),
+];
+
+/// Whether a file grows in pieces, and is read from each place; what is added later is read too.
+fn grows<R: Files>(shelf: &mut FolderShelf<'_, R>, name: &str) -> bool {
+    let mut right = shelf.append(name, b"one ").is_ok() && shelf.append(name, b"two three").is_ok();
+    for &(at, room, wanted) in &READS {
+        right = right && reads(shelf, name, at, room, wanted);
+    }
+    right && shelf.append(name, b" four").is_ok() && reads(shelf, name, 8, 32, "three four")
+}
+
+/// A real file is created over old bytes, grows, and is emptied again.
 #[test]
 fn the_folder_reads_creates_and_appends(rt: HostRuntime) -> Result<(), Fail> {
     let name = "program_tests_file.txt";
-    let rows = [
-        (0, 4, "one "),
-        (4, 4, "two "),
-        (8, 32, "three"),
-        (13, 32, ""),
-        (5, 3, "wo "),
-        (5, 3, "wo "),
-        (8, 3, "thr"),
-        (0, 32, "one two three"),
-        (40, 4, ""),
-        (0, 0, ""),
-        (0, 8, "one two "),
-    ];
     fs::write(&rt, name, b"old bytes, more than there will be")?;
     let mut shelf = FolderShelf::over(&rt);
     let created = shelf.create(name).is_ok() && fs::read(&rt, name)?.is_empty();
-    let first = shelf.append(name, b"one ").is_ok() && shelf.append(name, b"two three").is_ok();
-    let mut right = true;
-    for (at, room, wanted) in rows {
-        right = right && reads(&mut shelf, name, at, room, wanted);
-    }
-    let more = shelf.append(name, b" four").is_ok() && reads(&mut shelf, name, 8, 32, "three four");
+    let grown = grows(&mut shelf, name);
     let emptied = shelf.create(name).is_ok() && reads(&mut shelf, name, 18, 32, "");
     fs::remove_file(&rt, name)?;
-    assert!(rt; created && first && right && more && emptied);
+    assert!(rt; created && grown && emptied);
     Ok(())
+}
+
+static ABSENT: [&str; 5] = ["program_tests_absent.txt", "/", "/dev/null/x", "", "a\0b"];
+
+static NEVER_MADE: [&str; 4] = ["/", "/dev/null/x", "", "a\0b"];
+
+/// Whether reading and appending are faults under each name that is not there, and making a file under each that no
+/// file can have.
+fn refuses<R: Files>(shelf: &mut FolderShelf<'_, R>) -> bool {
+    let mut right = true;
+    for name in &ABSENT {
+        right &= shelf.read(name, 0, &mut [0; 4]).is_err() && shelf.append(name, b"x").is_err();
+    }
+    for name in &NEVER_MADE {
+        right &= shelf.create(name).is_err();
+    }
+    right
 }
 
 /// A name that is not there, a folder and a name below a file are faults.
 #[test]
 fn the_folder_answers_faults(rt: HostRuntime) -> Result<(), Fail> {
     let mut shelf = FolderShelf::over(&rt);
-    for name in ["program_tests_absent.txt", "/", "/dev/null/x", "", "a\0b"] {
-        assert!(rt; shelf.read(name, 0, &mut [0; 4]).is_err());
-        assert!(rt; shelf.append(name, b"x").is_err());
-    }
-    for name in ["/", "/dev/null/x", "", "a\0b"] {
-        assert!(rt; shelf.create(name).is_err());
-    }
-    assert!(rt; TermSink::over(&rt).write(b"printed\n").is_ok());
+    let refused = refuses(&mut shelf);
+    assert!(rt; refused && TermSink::over(&rt).write(b"printed\n").is_ok());
     Ok(())
 }
 

@@ -2,6 +2,7 @@ use super::outside::gives;
 use super::room::{PRINTED_ROOM, ROOM};
 use std::alloc::{AllocError, Global};
 use std::test::Fail;
+use std::thread::Threads;
 
 /// A text whose lines end with two bytes, as an editor writes them.
 fn with_returns(alloc: Global, text: &str) -> Result<Vec<u8>, AllocError> {
@@ -40,37 +41,48 @@ fn formats_a_room_and_canonical_texts(rt: HostRuntime) -> Result<(), Fail> {
     Ok(())
 }
 
+/// The name of a texture in a text, and how it is printed.
+static NAMES: [(&str, &str); 8] = [
+    ("\"a b\"", "\"a b\""),
+    ("\"\"", "\"\""),
+    ("\"{\"", "\"{\""),
+    ("\"//x\"", "\"//x\""),
+    ("\"/x\"", "/x"),
+    ("a\"b//c", "a\"b//c"),
+    ("\u{e9}*", "\u{e9}*"),
+    ("\"plain\"", "plain"),
+];
+
+/// Whether a face with this name is printed with that one.
+fn prints_name<R: AllocGlobal + Threads + Sync>(
+    rt: &R,
+    name: &str,
+    printed: &str,
+) -> Result<bool, AllocError> {
+    let text = format!(in rt.alloc();
+        "{{ {{ ( -0 +1 2. ) ( 0 1 0 ) ( 0 0 1 ) {name} 0 0 0 1 1 }} }}"
+    )?;
+    let file = format!(in rt.alloc();
+        "{{\n{{\n( 0 1 2 ) ( 0 1 0 ) ( 0 0 1 ) {printed} 0 0 0 1 1\n}}\n}}\n"
+    )?;
+    let counts = "entities 1\nbrushes 1\n";
+    gives(
+        rt,
+        "format",
+        text.as_bytes(),
+        0,
+        counts,
+        Some(file.as_bytes()),
+    )
+}
+
 /// A texture stands between quotes only where it would not be read as one word.
 #[test]
 fn formats_odd_textures(rt: HostRuntime) -> Result<(), Fail> {
-    let rows = [
-        ("\"a b\"", "\"a b\""),
-        ("\"\"", "\"\""),
-        ("\"{\"", "\"{\""),
-        ("\"//x\"", "\"//x\""),
-        ("\"/x\"", "/x"),
-        ("a\"b//c", "a\"b//c"),
-        ("\u{e9}*", "\u{e9}*"),
-        ("\"plain\"", "plain"),
-    ];
-    for (name, printed) in rows {
-        let text = format!(in rt.alloc();
-            "{{ {{ ( -0 +1 2. ) ( 0 1 0 ) ( 0 0 1 ) {name} 0 0 0 1 1 }} }}"
-        )?;
-        let file = format!(in rt.alloc();
-            "{{\n{{\n( 0 1 2 ) ( 0 1 0 ) ( 0 0 1 ) {printed} 0 0 0 1 1\n}}\n}}\n"
-        )?;
-        let out = Some(file.as_bytes());
-        assert!(rt;
-            gives(
-                &rt,
-                "format",
-                text.as_bytes(),
-                0,
-                "entities 1\nbrushes 1\n",
-                out
-            )?
-        );
+    let mut right = true;
+    for &(name, printed) in &NAMES {
+        right &= prints_name(&rt, name, printed)?;
     }
+    assert!(rt; right);
     Ok(())
 }

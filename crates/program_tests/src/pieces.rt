@@ -1,9 +1,11 @@
-use super::outside::Outside;
-use super::printed::READ_FAULT;
+use super::outside::{Answer, fails_at};
+use super::printed::{COUNTS, READ_FAULT};
 use qm_shelf::{FolderShelf, ShelfFault, read_whole, write_whole};
 use std::alloc::{AllocError, Global};
 use std::fs;
 use std::test::Fail;
+
+const UNREAD: Answer = (5, READ_FAULT, [1, 0, 0]);
 
 /// An empty entity after so many spaces.
 fn after_spaces(alloc: Global, count: usize) -> Result<Vec<u8>, AllocError> {
@@ -14,28 +16,25 @@ fn after_spaces(alloc: Global, count: usize) -> Result<Vec<u8>, AllocError> {
 }
 
 /// A text of 100,003 bytes is read in two pieces and a read that finds its end, and one of 200,003 bytes in
-/// four pieces. A fault of any of these reads is one of the text.
+/// four pieces. A row has the spaces before the text's end, the call that fails, what is answered, and what `out` then
+/// holds: a fault of any of these reads is one of the text.
+static READS: [(usize, u64, Answer, &[u8]); 6] = [
+    (100_000, 0, UNREAD, b"old"),
+    (100_000, 1, UNREAD, b"old"),
+    (100_000, 2, UNREAD, b"old"),
+    (100_000, 5, (0, COUNTS, [0; 3]), b"{\n}\n"),
+    (200_000, 4, UNREAD, b"old"),
+    (200_000, 7, (0, COUNTS, [0; 3]), b"{\n}\n"),
+];
+
 #[test]
 fn reads_a_text_in_pieces(rt: HostRuntime) -> Result<(), Fail> {
-    let counts = "entities 1\nbrushes 0\n";
-    let old = b"old".as_slice();
-    let file = b"{\n}\n".as_slice();
-    let rows = [
-        (100_000, 0, 5, READ_FAULT, old, [1, 0, 0]),
-        (100_000, 1, 5, READ_FAULT, old, [1, 0, 0]),
-        (100_000, 2, 5, READ_FAULT, old, [1, 0, 0]),
-        (100_000, 5, 0, counts, file, [0, 0, 0]),
-        (200_000, 4, 5, READ_FAULT, old, [1, 0, 0]),
-        (200_000, 7, 0, counts, file, [0, 0, 0]),
-    ];
-    for (spaces, call, status, printed, out, faults) in rows {
+    let mut right = true;
+    for &(spaces, call, answer, out) in &READS {
         let text = after_spaces(rt.alloc(), spaces)?;
-        let mut outside = Outside::new(rt.alloc(), &text)?;
-        outside.shelf.put("out", old)?;
-        outside.shelf.fail_call(call)?;
-        assert!(rt; outside.says(&rt, &["format", "map", "out"], status, printed));
-        assert!(rt; outside.holds(Some(out), &text, faults));
+        right &= fails_at(&rt, "format", &text, call, answer, out)?;
     }
+    assert!(rt; right);
     Ok(())
 }
 

@@ -10,3 +10,6 @@ pub const READ_FAULT: &str = "read fault\n";
 pub const WRITE_FAULT: &str = "write fault\n";
 
 pub const UNEXPECTED: &str = "map fault 3 at line 1: unexpected\n";
+
+/// What `format` prints of an empty entity.
+pub const COUNTS: &str = "entities 1\nbrushes 0\n";

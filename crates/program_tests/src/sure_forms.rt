@@ -1,35 +1,66 @@
 use super::empty_file::{EMPTY_FILE, EMPTY_SUMMARY};
-use super::printed::UNEXPECTED;
+use super::printed::{COUNTS, UNEXPECTED};
 use qm_compile::run;
 use qm_shelf::{SureShelf, SureSink};
 use std::test::Fail;
+use std::thread::Threads;
+
+/// What a name holds afterwards.
+#[derive(Clone, Copy)]
+enum Holds {
+    /// The canonical text of an empty entity.
+    Text,
+    /// The tree of a world without brushes.
+    Tree,
+}
+
+static ROWS: [(&str, &str, u8, &str, Holds); 4] = [
+    ("format", "empty", 0, COUNTS, Holds::Text),
+    ("compile", "open", 4, UNEXPECTED, Holds::Text),
+    ("compile", "empty", 0, EMPTY_SUMMARY, Holds::Tree),
+    (
+        "compile",
+        "absent",
+        4,
+        "map fault 11 at line 1: no entity\n",
+        Holds::Tree,
+    ),
+];
+
+/// Whether a run on these words ends so and prints this.
+fn says<R: AllocGlobal + Threads + Sync>(
+    rt: &R,
+    shelf: &mut SureShelf,
+    words: &[&str],
+    status: u8,
+    printed: &str,
+) -> bool {
+    let mut sink = SureSink::new(rt.alloc());
+    let answer = run(rt, rt.alloc(), words, shelf, &mut sink);
+    answer.number() == status && sink.bytes() == printed.as_bytes()
+}
+
+/// Whether `out` holds this.
+fn holds(shelf: &SureShelf, what: Holds) -> bool {
+    let bytes = match what {
+        Holds::Text => b"{\n}\n".as_slice(),
+        Holds::Tree => EMPTY_FILE.as_slice(),
+    };
+    shelf.get("out") == Some(bytes)
+}
 
 /// Over forms that never fail, what comes of a text is due to the text alone; a name that is not held reads
 /// as an empty text.
 #[test]
 fn runs_over_forms_that_never_fail(rt: HostRuntime) -> Result<(), Fail> {
-    let text = b"{\n}\n".as_slice();
-    let tree = EMPTY_FILE.as_slice();
-    let rows = [
-        ("format", "empty", 0, "entities 1\nbrushes 0\n", text),
-        ("compile", "open", 4, UNEXPECTED, text),
-        ("compile", "empty", 0, EMPTY_SUMMARY, tree),
-        (
-            "compile",
-            "absent",
-            4,
-            "map fault 11 at line 1: no entity\n",
-            tree,
-        ),
-    ];
     let mut shelf = SureShelf::new(rt.alloc());
     shelf.put("empty", b"{ }")?;
     shelf.put("open", b"{ { x")?;
-    for (verb, name, status, printed, out) in rows {
-        let mut sink = SureSink::new(rt.alloc());
-        let answer = run(&rt, rt.alloc(), &[verb, name, "out"], &mut shelf, &mut sink);
-        assert!(rt; answer.number() == status && sink.bytes() == printed.as_bytes());
-        assert!(rt; shelf.get("out") == Some(out));
+    let mut right = true;
+    for &(verb, name, status, printed, out) in &ROWS {
+        right &= says(&rt, &mut shelf, &[verb, name, "out"], status, printed);
+        right &= holds(&shelf, out);
     }
+    assert!(rt; right);
     Ok(())
 }

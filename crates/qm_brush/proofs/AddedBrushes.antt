@@ -1,5 +1,5 @@
 -- A brush that is added to a list.
-use Rattle.std.proofs.Common.{◌≡◌, ℕ, ◌-◌, Bool, true, false, List, [], ◌∷◌, ◌++◌, length, get_or, take, drop, map, All, inl, inr, refl, sym, ap, ◌∙◌, subst, arith}
+use Rattle.std.proofs.Common.{◌≡◌, ℕ, ℤ, ◌-◌, Bool, true, false, List, [], ◌∷◌, ◌++◌, length, get_or, take, drop, map, All, inl, inr, refl, sym, ap, ◌∙◌, subst, arith}
 use Rattle.std.specs.List.{AllZip}
 use Rattle.std.specs.Bool.{MatchBool}
 use Rattle.std.proofs.lemmas.Bool.{cases_lt}
@@ -30,11 +30,14 @@ use Rattle.qm_brush.specs.inner.Added.{IsAdded}
 -- ---- the planes of a face
 
 -- a point of a face is a whole point of the closed cube
-face_point_whole : (face : Face) (k : ℕ) → All AreCoordinates face.points → IsWholePoint (face_point face k)
-face_point_whole face k coordinates = whole_point_is_whole (get_or face.points k []) (elim (cases_lt k (length face.points)) [
+pub coordinates_at : (points : List (List ℤ)) (k : ℕ) → All AreCoordinates points → AreCoordinates (get_or points k [])
+coordinates_at points k coordinates = elim (cases_lt k (length points)) [
   | inl within ↦ coordinates k [] within
-  | inr past ↦ subst AreCoordinates (sym (get_or_past face.points k [] past)) (All-nil IsCoordinate)
-])
+  | inr past ↦ subst AreCoordinates (sym (get_or_past points k [] past)) (All-nil IsCoordinate)
+]
+
+face_point_whole : (face : Face) (k : ℕ) → All AreCoordinates face.points → IsWholePoint (face_point face k)
+face_point_whole face k coordinates = whole_point_is_whole (get_or face.points k []) (coordinates_at face.points k coordinates)
 
 -- the outward plane of a valid face is a positive multiple of its plane in lowest terms, turned outward
 outward_multiple : (face : Face) → IsValidFace face → IsPositiveMultiple (face_outward face) (turned_outward face)
@@ -81,6 +84,16 @@ solids_before faces more (entry ∷ entries) within =
     let rest = solids_before faces more entries (All-tail (IsWithin faces) entry entries within) in
     ap (λ (s : BookSolid). s ∷ solids_of_entries (faces ++ more) entries) first ∙ ap (λ (those : List BookSolid). solid_of_entry faces entry ∷ those) rest
 
+-- the list stays one where faces follow
+pub longer_within : (faces after more : List FaceRef) (entries : List Entry) → after ≡ faces ++ more → AreWithin faces entries → AreWithin after entries
+longer_within faces after more entries added within = λ k d there.
+    let its = within k d there in
+    let ordered = its.ordered in
+    let bounded = its.bounded in
+    let n = ap (λ (those : List FaceRef). length those) added in
+    let m = length-append faces more in
+    record { ordered = ordered; bounded = omega arith }
+
 -- the faces that follow are those of an entry that begins there
 faces_after : (faces more : List FaceRef) (entry : Entry) → entry.start ≡ length faces → entry.end ≡ length (faces ++ more) → faces_of_entry (faces ++ more) entry ≡ more
 faces_after faces more entry starts ends =
@@ -101,21 +114,11 @@ module _ (brush : Brush) (faces after : List FaceRef) (entries : List Entry) (en
   its_outward : outward_planes new (faces_of_entry after entry) ≡ map turned_outward brush.faces
   its_outward = ap (outward_planes new) its_faces ∙ entered.outward
 
-  -- the list stays one
-  pub still_within : AreWithin faces entries → AreWithin after entries
-  still_within within = λ k d there.
-      let its = within k d there in
-      let ordered = its.ordered in
-      let bounded = its.bounded in
-      let n = ap (λ (those : List FaceRef). length those) entered.added in
-      let m = length-append faces entered.its in
-      record { ordered = ordered; bounded = omega arith }
-
   pub one_more_within : AreWithin faces entries → AreWithin after (entries ++ entry ∷ [])
   one_more_within within =
       let n = ap (λ (those : List FaceRef). length those) entered.added in
       let m = length-append faces entered.its in
-      All-push (IsWithin after) entries entry (still_within within) (record { ordered = omega arith; bounded = omega arith })
+      All-push (IsWithin after) entries entry (longer_within faces after entered.its entries entered.added within) (record { ordered = omega arith; bounded = omega arith })
 
   pub brush_added : AreWithin faces entries → AreBookPlanes new →
       MatchBool entry.full (IsFull (solid_behind new (faces_of_entry after entry))) (IsFull (solid_behind new (faces_of_entry after entry)) → ⊥) →

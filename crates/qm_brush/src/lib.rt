@@ -13,4 +13,3 @@ pub use brush_list::BrushList;
 pub use listing::brushes;
 pub use qm_contents::Contents;
 pub use qm_solids::FaceRef;
-pub use world::{contents_of_brush, world_brushes};

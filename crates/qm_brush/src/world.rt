@@ -5,7 +5,7 @@ use qm_contents::{Contents, of_texture};
 use qm_mapfile::{Brush, MapFile};
 
 /// The brushes of the world, the map's first entity.
-pub fn world_brushes(map: &MapFile) -> &[Brush]
+pub(crate) fn world_brushes(map: &MapFile) -> &[Brush]
     ensures { result.now ≡ world_brushes map.now }
 {
     match map.entities.as_slice() {
@@ -15,7 +15,7 @@ pub fn world_brushes(map: &MapFile) -> &[Brush]
 }
 
 /// The contents of a brush, which the texture's name on its first face gives; `None` for clip.
-pub fn contents_of_brush(brush: &Brush) -> Option<Contents>
+pub(crate) fn contents_of_brush(brush: &Brush) -> Option<Contents>
     ensures { result ≡ contents_of_brush brush.now }
 {
     of_texture(first_texture(brush))

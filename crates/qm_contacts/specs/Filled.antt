@@ -1,5 +1,7 @@
-use Rattle.std.specs.Prelude.{ℕ, List, Contains}
+use Rattle.std.specs.Prelude.{◌≡◌, ℕ, Bool, List, length, Contains, ◌↔◌}
+use Rattle.qm_lists.specs.WorkList.{IsIn}
 use Rattle.qm_partition.specs.Tree.{Tree}
+use Rattle.qm_partition.specs.Counting.{leaf_count}
 use Rattle.qm_contacts.specs.Reached.{IsReached}
 use Rattle.qm_contacts.specs.Leak.{Origin, TakesPart, Leaks}
 
@@ -18,3 +20,9 @@ pub record IsSealed (tree : Tree) (origins : List Origin) : Type 0 where
 pub record IsToBeFilled (tree : Tree) (origins : List Origin) (k : ℕ) : Type 0 where
   pub sealed : IsSealed tree origins
   pub reached : IsReached tree k
+
+-- the map is sealed, and a row has exactly the leaves that are to be filled
+pub record IsFilledRow (tree : Tree) (origins : List Origin) (row : List Bool) : Type 0 where
+  pub sealed : IsSealed tree origins
+  pub one_each : length row ≡ leaf_count tree.shape
+  pub filled : (k : ℕ) → IsIn row k ↔ IsToBeFilled tree origins k

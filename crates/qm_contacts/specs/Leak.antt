@@ -47,3 +47,10 @@ IsNotAfter (n ∷ numbers) (m ∷ others) = (n < m) ⊎ ((n ≡ m) × IsNotAfter
 pub record IsTrail (tree : Tree) (k : ℕ) (trail : List ℕ) : Type 0 where
   pub way_out : IsWayOut tree k trail
   pub least : (other : List ℕ) → IsWayOut tree k other → (length trail < length other) ⊎ ((length trail ≡ length other) × IsNotAfter trail other)
+
+-- the leak: the first entity that leaks, and its trail
+pub record IsLeak (tree : Tree) (origins : List Origin) (entity : ℕ) (trail : List ℕ) : Type 0 where
+  pub origin : Origin
+  pub first : IsFirstLeak tree origins origin
+  pub entity_is : entity ≡ origin.entity
+  pub trail_is : IsTrail tree (leaf_of tree origin) trail

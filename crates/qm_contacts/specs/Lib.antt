@@ -2,8 +2,12 @@ pub mod Meeting
 pub mod Contact
 pub mod Outside
 pub mod Touching
+pub mod Contacts
+pub mod Crossing
 pub mod NumberedLeaves
 pub mod Portals
+pub mod PortalChain
 pub mod Reached
 pub mod Leak
 pub mod Filled
+pub mod inner

@@ -1,7 +1,6 @@
 use Rattle.std.specs.Prelude.{ℕ, ◌==◌, ◌&&◌, Bool, true, false, List, [], ◌∷◌, take, filter, flat_map, count_by, slice_index_or}
 use Rattle.qm_space.specs.Plane.{Plane}
 use Rattle.qm_space.specs.Turned.{turned}
-use Rattle.qm_space.specs.Book.{plane_at}
 use Rattle.qm_convex.specs.Winding.{Winding}
 use Rattle.qm_contents.specs.declared.contents.Contents.TheVariants.{Solid}
 use Rattle.qm_contents.specs.Precedence.{strength}
@@ -31,24 +30,22 @@ number_of tree k = count_by is_numbered (take k (leaves_of tree.shape))
 -- both leaves are numbered, and their contents are equal; no two kinds of contents are equally strong
 abbrev pub is_passage : Tree → Touching → Bool
 is_passage tree found =
-    let front = leaf_record tree found.meeting.front.leaf in
-    let back = leaf_record tree found.meeting.back.leaf in
+    let front = leaf_record tree found.front in
+    let back = leaf_record tree found.back in
     is_numbered front && (strength front.contents == strength back.contents)
 
+-- the portal to the one side of the polygon's plane
 abbrev pub portal : Tree → Touching → Bool → ℕ → ℕ → Portal
 portal tree found to_front from to = record {
   winding = found.winding;
-  into = turned to_front (plane_at tree.planes found.meeting.plane);
+  into = turned to_front found.winding.plane;
   from = number_of tree from;
   to = number_of tree to;
 }
 
 -- the portal from the leaf in front to the leaf behind, and the one back
 abbrev pub both_ways : Tree → Touching → List Portal
-both_ways tree found =
-    let front = found.meeting.front.leaf in
-    let back = found.meeting.back.leaf in
-    portal tree found false front back ∷ portal tree found true back front ∷ []
+both_ways tree found = portal tree found false found.front found.back ∷ portal tree found true found.back found.front ∷ []
 
 -- the portals of a tree, in the order of its touching pairs
 abbrev pub portals_of : Tree → List Touching → List Portal

@@ -13,3 +13,7 @@ pub mod Rows
 pub mod Runs
 pub mod OwnPlane
 pub mod Within
+pub mod ImpliedPlanes
+pub mod Facets
+pub mod CubeFacets
+pub mod CubeSquares

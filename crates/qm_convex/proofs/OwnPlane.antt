@@ -1,16 +1,16 @@
 -- A winding lies in no plane but its own, turned to either side.
-use Rattle.std.proofs.Common.{refl, ◌≡◌, ℕ, zero, suc, ◌+◌, ◌<◌, ◌≤◌, ℤ, pos, neg_ℤ, ◌+ℤ◌, ◌*ℤ◌, ◌<ℤ◌, ◌≤ℤ◌, length, ap, sym, ◌∙◌, subst, arith, ◌⊎◌, ⊎_elim}
+use Rattle.std.proofs.Common.{refl, ◌≡◌, ℕ, ◌<◌, ℤ, pos, neg_ℤ, ◌+ℤ◌, ◌*ℤ◌, ◌<ℤ◌, ◌≤ℤ◌, length, ap, sym, ◌∙◌, arith, ◌⊎◌, ⊎_elim}
 use Rattle.std.proofs.Math.IntN.{*ℤ_comm}
 use Rattle.qm_numbers.proofs.IntegerProducts.{linear, *ℤ_zero, zero_*ℤ}
-use Rattle.qm_numbers.proofs.Signs.{by_sign, zero_beside}
+use Rattle.qm_numbers.proofs.Signs.{zero_beside}
 use Rattle.qm_space.specs.Point.{Point}
-use Rattle.qm_space.specs.Plane.{Plane, value, IsOn, flipped, scaled}
+use Rattle.qm_space.specs.Plane.{Plane, value, flipped, scaled}
 use Rattle.qm_space.specs.Meet.{meet}
 use Rattle.qm_space.specs.Reduced.{IsReduced}
 use Rattle.qm_space.proofs.Planes.{value_flipped, value_by_meet, value_at_units}
 use Rattle.qm_space.proofs.ReducedPlanes.{same_plane, multiples_same_plane}
-use Rattle.qm_convex.specs.Winding.{Winding, next_place, edge_at, corner_at, IsConvex, IsInRegion}
-use Rattle.qm_convex.specs.Sides.{HasNoneInFront, IsWhollyInFront, LiesIn, HasCornersOn, HasCornerInFront, HasNoCornerInFront}
+use Rattle.qm_convex.specs.Winding.{Winding, next_place, edge_at, corner_at, IsConvex}
+use Rattle.qm_convex.specs.Sides.{HasNoneInFront, IsWhollyInFront, LiesIn, HasCornersOn}
 use Rattle.qm_convex.proofs.Places.{next_below, next_other, next_next_other, place_before}
 use Rattle.qm_convex.proofs.Corners.{corner_on_plane, corner_on_edge, corner_on_next, far_corner_in_front}
 use Rattle.qm_convex.proofs.Central.{none_in_front, wholly_in_front, lies_in, by_corner_in_front}

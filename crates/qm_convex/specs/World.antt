@@ -2,6 +2,7 @@ use Rattle.std.specs.Prelude.{◌≡◌, ◌↔◌}
 use Rattle.qm_space.specs.Point.{Point, IsInCube}
 use Rattle.qm_space.specs.Plane.{Plane, IsOn}
 use Rattle.qm_space.specs.Cuboid.{Cuboid, IsInCuboid}
+use Rattle.qm_space.specs.Cube.{IsOnCubeFace}
 use Rattle.qm_convex.specs.Winding.{Winding, IsInRegion, IsConvex}
 
 -- no point of the world's cube is on the plane
@@ -22,3 +23,9 @@ pub record IsInWorld (v : Winding) : Type 0 where
 -- each point of the winding lies in the cuboid
 abbrev pub LiesWithin : Winding → Cuboid → Type 0
 LiesWithin v c = (p : Point) → IsInRegion v p → IsInCuboid c p
+
+-- the winding is the cube's face on a wall, seen from inside
+pub record IsCubeFace (w : Winding) (wall : Plane) : Type 0 where
+  pub convex : IsConvex w
+  pub plane : w.plane ≡ wall
+  pub points : (p : Point) → IsInRegion w p ↔ IsOnCubeFace wall p

@@ -1,2 +1,3 @@
 pub mod FrontRun
 pub mod Square
+pub mod Facets

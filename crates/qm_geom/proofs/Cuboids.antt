@@ -1,5 +1,5 @@
 -- A cuboid tightened by a plane across an axis, as the code keeps the plane's numbers.
-use Rattle.std.proofs.Common.{◌≡◌, ℤ, pos, ap, sym, subst, lit≤, to_z, of_z, w32, w64}
+use Rattle.std.proofs.Common.{◌≡◌, ℤ, pos, subst, lit≤, to_z, of_z, w32, w64}
 use Rattle.qm_numbers.proofs.Bits.{same_from_bits_32, kept_32, kept_64}
 use Rattle.qm_space.specs.Bounds.{normal_bound, distance_bound}
 use Rattle.qm_space.specs.Plane.{Plane}

@@ -8,3 +8,4 @@ pub mod Vectors
 pub mod Wide
 pub mod EnteredPlanes
 pub mod Cuboids
+pub mod Lines

@@ -1,8 +1,9 @@
 -- What holds of each element of a list holds of each element of its parts.
-use Rattle.std.proofs.Common.{List, [], ◌∷◌, ◌++◌, length, map, refl, subst}
-use Rattle.std.specs.List.{All, AllByRecursion}
+use Rattle.std.proofs.Common.{◌≡◌, ℕ, zero, suc, List, [], ◌∷◌, ◌++◌, length, map, slice_get, Some, refl, ap, subst, arith, ◌⊎◌, inl, inr}
+use Rattle.std.specs.List.{All, AllByRecursion, Contains}
 use Rattle.std.proofs.lemmas.List.{take_at, drop_at}
 use Rattle.std.proofs.lemmas.List.Elements.{All-take, All-drop, All-nil, All-cons, All-head, All-tail}
+use Rattle.std.proofs.lemmas.Option.{slice_get_within, get_or_from_slice_get}
 
 pub All-first_part : {X : Type 0} (P : X → Type 0) (xs ys : List X) → All P (xs ++ ys) → All P xs
 All-first_part P xs ys all = subst (All P) (take_at xs ys (length xs) refl) (All-take P (length xs) (xs ++ ys) all)
@@ -24,3 +25,33 @@ pub All-from_map : {X Y : Type 0} (P : X → Type 0) (f : Y → X) (ys : List Y)
 All-from_map P f [] all = All-nil (λ y. P (f y))
 All-from_map P f (y ∷ ys) all =
     All-cons (λ y. P (f y)) y ys (All-head P (f y) (map f ys) all) (All-from_map P f ys (All-tail P (f y) (map f ys) all))
+
+-- what stands at a place is an element
+pub Contains-at : {X : Type 0} (xs : List X) (i : ℕ) (x : X) → slice_get xs i ≡ Some x → Contains xs x
+Contains-at xs i x at = (i, slice_get_within xs i x at, get_or_from_slice_get xs i x x at)
+
+-- ---- the elements of a list with one element before it
+
+pub Contains-first : {X : Type 0} (x : X) (xs : List X) → Contains (x ∷ xs) x
+Contains-first x xs = (0, omega arith, refl)
+
+pub Contains-later : {X : Type 0} (x y : X) (xs : List X) → Contains xs y → Contains (x ∷ xs) y
+Contains-later x y xs (k, within, is) = (suc k, omega arith, is)
+
+pub Contains-cons_cases : {X : Type 0} (x y : X) (xs : List X) → Contains (x ∷ xs) y → (x ≡ y) ⊎ Contains xs y
+Contains-cons_cases x y xs (zero, within, is) = inl is
+Contains-cons_cases x y xs (suc k, within, is) = inr (k, omega arith, is)
+
+-- ---- the elements that a function gives
+
+pub Contains-map : {X Y : Type 0} (f : X → Y) (xs : List X) (x : X) → Contains xs x → Contains (map f xs) (f x)
+Contains-map f [] x (k, within, is) = absurd (omega arith)
+Contains-map f (first ∷ xs) x (zero, within, is) = (0, omega arith, ap f is)
+Contains-map f (first ∷ xs) x (suc k, within, is) = Contains-later (f first) (f x) (map f xs) (Contains-map f xs x (k, omega arith, is))
+
+pub Contains-map_from : {X Y : Type 0} (f : X → Y) (xs : List X) (y : Y) → Contains (map f xs) y → (x : X) × Contains xs x × (f x ≡ y)
+Contains-map_from f [] y (k, within, is) = absurd (omega arith)
+Contains-map_from f (first ∷ xs) y (zero, within, is) = (first, Contains-first first xs, is)
+Contains-map_from f (first ∷ xs) y (suc k, within, is) =
+    let found = Contains-map_from f xs y (k, omega arith, is) in
+    (found.0, Contains-later first found.0 xs found.1, found.2)

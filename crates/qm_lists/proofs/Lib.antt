@@ -9,3 +9,6 @@ pub mod Reversed
 pub mod SmallGraph
 pub mod WorkLists
 pub mod Mapped
+pub mod EachPair
+pub mod Spreads
+pub mod Stacks

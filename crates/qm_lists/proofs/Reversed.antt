@@ -1,6 +1,6 @@
 -- Lists read from their end, as stacks whose last element is the first to be taken.
-use Rattle.std.proofs.Common.{◌≡◌, ◌+◌, ◌-◌, List, [], ◌∷◌, ◌++◌, length, take, drop, reverse, refl, sym, ap, ◌∙◌, arith, length-append}
-use Rattle.std.proofs.lemmas.List.{append_assoc, reverse-append, reverse-reverse}
+use Rattle.std.proofs.Common.{◌≡◌, ◌-◌, List, [], ◌∷◌, ◌++◌, length, take, reverse, ap, ◌∙◌, arith, length-append}
+use Rattle.std.proofs.lemmas.List.{append_assoc, reverse-append}
 use Rattle.std.proofs.Math.Seq.{take-append_seam}
 
 module _ {X : Type 0} where

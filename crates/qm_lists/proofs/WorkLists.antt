@@ -4,16 +4,13 @@ use Rattle.std.specs.List.{Contains, IsDistinct}
 use Rattle.std.proofs.lemmas.Bool.{cases_eq, cases_Bool, eqb-true}
 use Rattle.std.proofs.lemmas.Map.Steps.{length-le_from_distinct_below}
 use Rattle.std.proofs.lemmas.Map.Views.{Contains-from_any}
-use Rattle.std.proofs.lemmas.Option.{slice_get_within, get_or_from_slice_get, slice_get-get_or}
+use Rattle.std.proofs.lemmas.Option.{slice_get_within, slice_get-get_or}
 use Rattle.std.proofs.lemmas.List.Elements.{Contains-append_left, Contains-append_right, Contains-append_cases}
 use Rattle.qm_lists.specs.Reach.{Reach, start, onward}
 use Rattle.qm_lists.specs.WorkList.{IsIn, IsFlood, PassesOn}
+use Rattle.qm_lists.proofs.Elements.{Contains-at}
 use Rattle.qm_lists.proofs.Places.{slice_get-append_within}
 use Rattle.qm_lists.proofs.Reached.{least}
-
--- a place that stands in a list is an element of it
-contains_at : (found : List ℕ) (i place : ℕ) → slice_get found i ≡ Some place → Contains found place
-contains_at found i place at = (i, slice_get_within found i place at, get_or_from_slice_get found i place place at)
 
 -- a row with what begins, whose places are listed once, is a flood that has passed nothing
 pub flood_begins : (begins : ℕ → Type 0) (goes : ℕ → ℕ → Type 0) (row : List Bool) (found : List ℕ) → ((place : ℕ) → begins place ↔ IsIn row place) → ((place : ℕ) → IsIn row place ↔ Contains found place) → IsDistinct eqb found → IsFlood begins goes row found 0
@@ -38,7 +35,7 @@ flood_passes begins goes old_row new_row old_found new_found passed from flood a
 }
   where
     behind : (place : ℕ) → Contains step.gained place → Reach begins goes place
-    behind place gained = onward (flood.reached from (flood.only from (contains_at old_found passed from at))) (step.gained_behind place gained)
+    behind place gained = onward (flood.reached from (flood.only from (Contains-at old_found passed from at))) (step.gained_behind place gained)
 
     in_either : (place : ℕ) → IsIn new_row place → IsIn old_row place ⊎ Contains step.gained place
     in_either place is =

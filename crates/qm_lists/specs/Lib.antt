@@ -1,3 +1,4 @@
 pub mod Reach
 pub mod WorkList
 pub mod Limit
+pub mod inner

@@ -4,7 +4,7 @@ use mir.Syntax.{Width, w128}
 use Rattle.std.proofs.lemmas.Int.{ints, to_z-of_z, to_z_pos, quot_fits, fits_signed_from_abs}
 use Rattle.std.proofs.Math.Nat.{div-le_self}
 use Rattle.qm_numbers.proofs.Signs.{abs_sum, abs_difference, abs_product, abs_product_bound}
-use Rattle.qm_numbers.proofs.Bits.{kept_128}
+use Rattle.qm_numbers.proofs.Bits.{kept_32, kept_128}
 use Rattle.qm_numbers.proofs.Roundings.{twice_is}
 
 -- a number as the code keeps it
@@ -203,3 +203,36 @@ doubled_kept b k = rw (kept_128 b _ k (lit≤ tt), twice_is b) (twice b k)
 pub three_less_one_kept : (a b c d : ℤ) → unsigned_abs a ≤ 2 ^ 60 → unsigned_abs b ≤ 2 ^ 60 → unsigned_abs c ≤ 2 ^ 60 → unsigned_abs d ≤ 2 ^ 60 →
     kept w64 (kept w64 (kept w64 (kept w64 a +ℤ kept w64 b) +ℤ kept w64 c) -ℤ kept w64 d) ≡ ((a +ℤ b) +ℤ c) -ℤ d
 three_less_one_kept a b c d h i j k = omega (arith, ints)
+
+-- ---- two numbers of 128 bits
+
+pub small_sum_fits : (a b : ℤ) (n : ℕ) → unsigned_abs a ≤ n → unsigned_abs b ≤ n → 2 * n ≤ 2 ^ 127 - 1 → FitsSigned w128 (kept w128 a +ℤ kept w128 b)
+small_sum_fits a b n h k l =
+    let s = abs_sum a b in
+    sum_fits w128 a b (fits_128 a n h (omega arith)) (fits_128 b n k (omega arith)) (fits_128 (a +ℤ b) (2 * n) (omega arith) l)
+
+pub small_sum_is : (a b : ℤ) (n : ℕ) → unsigned_abs a ≤ n → unsigned_abs b ≤ n → 2 * n ≤ 2 ^ 127 - 1 → kept w128 (kept w128 a +ℤ kept w128 b) ≡ a +ℤ b
+small_sum_is a b n h k l =
+    let s = abs_sum a b in
+    sum_kept w128 a b (fits_128 a n h (omega arith)) (fits_128 b n k (omega arith)) (fits_128 (a +ℤ b) (2 * n) (omega arith) l)
+
+-- ---- products of a number of 32 bits, made one of 64 bits, and one of 64 bits
+
+mixed_32 : (p a : ℤ) → p ≡ kept w32 a → unsigned_abs a ≤ 2 ^ 26 → kept w64 p ≡ a
+mixed_32 p a e h = answered w64 a p (fits_64 a (2 ^ 26) h (lit≤ tt)) (e ∙ kept_32 a (2 ^ 26) h (lit≤ tt))
+
+mixed_64 : (b : ℤ) → unsigned_abs b ≤ 2 ^ 44 → kept w64 b ≡ b
+mixed_64 b h = to_z-of_z w64 b (fits_64 b (2 ^ 44) h (lit≤ tt))
+
+pub mixed_first : (r p a b : ℤ) → p ≡ kept w32 a → unsigned_abs a ≤ 2 ^ 26 → unsigned_abs b ≤ 2 ^ 44 → r ≡ kept w64 p *ℤ kept w64 b → r ≡ a *ℤ b
+mixed_first r p a b e h k f = f ∙ (λ i. mixed_32 p a e h i *ℤ mixed_64 b k i)
+
+pub mixed_second : (r p a b : ℤ) → p ≡ kept w32 a → unsigned_abs a ≤ 2 ^ 26 → unsigned_abs b ≤ 2 ^ 44 → r ≡ kept w64 b *ℤ kept w64 p → r ≡ b *ℤ a
+mixed_second r p a b e h k f = f ∙ (λ i. mixed_64 b k i *ℤ mixed_32 p a e h i)
+
+pub mixed_size : (a b : ℤ) → unsigned_abs a ≤ 2 ^ 26 → unsigned_abs b ≤ 2 ^ 44 → (unsigned_abs (a *ℤ b) ≤ 2 ^ 70) × (unsigned_abs (b *ℤ a) ≤ 2 ^ 70)
+mixed_size a b h k = (abs_product_bound a b (2 ^ 26) (2 ^ 44) h k, abs_product_bound b a (2 ^ 44) (2 ^ 26) k h)
+
+pub mixed_apart_size : (a b c d : ℤ) → unsigned_abs a ≤ 2 ^ 26 → unsigned_abs b ≤ 2 ^ 44 → unsigned_abs c ≤ 2 ^ 44 → unsigned_abs d ≤ 2 ^ 26 → unsigned_abs ((a *ℤ b) -ℤ (c *ℤ d)) ≤ 2 ^ 71
+mixed_apart_size a b c d h k l m =
+    let x = (mixed_size a b h k).0 in let y = (mixed_size d c m l).1 in let s = abs_difference (a *ℤ b) (c *ℤ d) in omega arith

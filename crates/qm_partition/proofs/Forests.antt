@@ -1,19 +1,20 @@
 -- Partitions one behind another, numbered on through all of them: which children are due, and which nodes and leaves and
 -- visits are theirs.
-use Rattle.std.proofs.Common.{◌≡◌, ◌<◌, ◌≤◌, ℕ, zero, suc, ◌+◌, List, [], ◌∷◌, ◌++◌, length, drop, Some, refl, sym, ap, subst, ◌∙◌, ◌↔◌, arith, add-one}
-use Rattle.std.specs.Prelude.{slice_get}
+use Rattle.std.proofs.Common.{◌≡◌, ◌<◌, ℕ, ◌+◌, List, [], ◌∷◌, ◌++◌, length, Some, refl, sym, ap, ap₂, subst, ◌∙◌, arith}
 use Rattle.std.proofs.lemmas.List.{append_assoc, append-nil}
 use Rattle.qm_partition.specs.declared.node.Node.{Node as NodeRecord}
 use Rattle.qm_partition.specs.declared.node.Leaf.{Leaf as LeafRecord}
 use Rattle.qm_partition.specs.declared.node.Child.{Child}
 use Rattle.qm_partition.specs.declared.node.Child.TheVariants.{Node, Leaf}
 use Rattle.qm_partition.specs.declared.visit.Visit.{Visit}
+use Rattle.qm_partition.specs.declared.visit.Visit.TheVariants as visit
 use Rattle.qm_partition.specs.Partition.{Partition, leaf, node}
 use Rattle.qm_partition.specs.Counting.{leaves_of}
 use Rattle.qm_partition.specs.Numbering.{nodes_after, leaves_after, child_of, nodes_of, AreNumbered}
 use Rattle.qm_partition.specs.Visits.{visits}
+use Rattle.qm_partition.specs.inner.Grown.{grown_by}
 use Rattle.qm_partition.specs.inner.RootChild.{root_child}
-use Rattle.qm_partition.proofs.PlacedParts.{top_node}
+use Rattle.qm_partition.proofs.PlacedParts.{top_node, top_node_is}
 
 -- their children, where their nodes are numbered from n on and their leaves from k on
 abbrev pub forest_children : List Partition → ℕ → ℕ → List Child
@@ -88,7 +89,12 @@ module _ (due : List Child) (n k : ℕ) (nodes : List NodeRecord) where
 
 module _ (due : List Child) (n k : ℕ) (leaves : List LeafRecord) where
   module _ (here : NodeRecord) (nodes : List NodeRecord) where
-    of_two : (forest : List Partition) → here.front ∷ here.back ∷ due ≡ forest_children forest (n + 1) k → nodes ≡ forest_nodes forest (n + 1) k → leaves ≡ forest_leaves forest → Fits (Node n ∷ due) n k (here ∷ nodes) leaves
+    -- partitions with a node in front of them, which takes the first two as its sides
+    pub record WithNode (forest : List Partition) : Type 0 where
+      pub fit : Fits (Node n ∷ due) n k (here ∷ nodes) leaves
+      pub grown_is : grown_by (visit.Node here.plane) (Some forest) ≡ Some fit.forest
+
+    of_two : (forest : List Partition) → here.front ∷ here.back ∷ due ≡ forest_children forest (n + 1) k → nodes ≡ forest_nodes forest (n + 1) k → leaves ≡ forest_leaves forest → WithNode forest
     of_two [] children nodes_are leaves_are = absurd cc
     of_two (front ∷ []) children nodes_are leaves_are = absurd (let e : here.back ∷ due ≡ [] = cc in cc)
     of_two (front ∷ (back ∷ rest)) children nodes_are leaves_are =
@@ -98,20 +104,23 @@ module _ (due : List Child) (n k : ℕ) (leaves : List LeafRecord) where
         let front_is : here.front ≡ child_of front (n + 1) k = cc in
         let back_is : here.back ≡ child_of back n_back k_back = cc in
         let due_is : due ≡ forest_children rest (nodes_after back n_back) (leaves_after back k_back) = cc in
-        let here_is : here ≡ top_node here.plane front back n k =
-        ap (λ (child : Child). record { plane = here.plane; front = child; back = here.back }) front_is
-        ∙ ap (λ (child : Child). record { plane = here.plane; front = child_of front (n + 1) k; back = child }) back_is in
+        let nodes_so : nodes ≡ (nodes_of front (n + 1) k ++ nodes_of back n_back k_back) ++ rest_nodes =
+        nodes_are ∙ sym (append_assoc (nodes_of front (n + 1) k) (nodes_of back n_back k_back) rest_nodes) in
         record {
-          forest = node here.plane front back ∷ rest;
-          children_are = ap (λ (all : List Child). Node n ∷ all) due_is;
-          nodes_are =
-              ap (λ (m : NodeRecord). m ∷ nodes) here_is
-              ∙ ap (λ (all : List NodeRecord). top_node here.plane front back n k ∷ all) (nodes_are ∙ sym (append_assoc (nodes_of front (n + 1) k) (nodes_of back n_back k_back) rest_nodes));
-          leaves_are = leaves_are ∙ sym (append_assoc (leaves_of front) (leaves_of back) (forest_leaves rest));
+          fit = record {
+            forest = node here.plane front back ∷ rest;
+            children_are = ap (λ (all : List Child). Node n ∷ all) due_is;
+            nodes_are = ap₂ (λ (m : NodeRecord) (all : List NodeRecord). m ∷ all) (top_node_is here front back n k front_is back_is) nodes_so;
+            leaves_are = leaves_are ∙ sym (append_assoc (leaves_of front) (leaves_of back) (forest_leaves rest));
+          };
+          grown_is = refl;
         }
 
+    pub with_node : (fit : Fits (here.front ∷ here.back ∷ due) (n + 1) k nodes leaves) → WithNode fit.forest
+    with_node fit = of_two fit.forest fit.children_are fit.nodes_are fit.leaves_are
+
     pub fits_node : Fits (here.front ∷ here.back ∷ due) (n + 1) k nodes leaves → Fits (Node n ∷ due) n k (here ∷ nodes) leaves
-    fits_node fit = of_two fit.forest fit.children_are fit.nodes_are fit.leaves_are
+    fits_node fit = (with_node fit).fit
 
   -- what fits where a node is due begins with that node
   record BeginsWithNode (j : ℕ) (nodes : List NodeRecord) : Type 0 where

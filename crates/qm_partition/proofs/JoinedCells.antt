@@ -1,9 +1,10 @@
 -- Where joining leaves a node and where it leaves a leaf: a joined leaf stands for a part all of whose leaves have its
 -- contents, and its cell has the cell of each of them.
 use Rattle.std.proofs.Common.{◌≡◌, ℕ, Bool, true, false, if◌then◌else◌, inl, inr, ◌⊎◌, List, [], ◌++◌, All, map, refl, sym, ◌∙◌, subst}
-use Rattle.std.proofs.lemmas.List.Elements.{All-nil, All-cons, All-head, All-tail, All-append, All-weaker, All-map}
+use Rattle.std.proofs.lemmas.List.Elements.{All-nil, All-cons, All-head, All-tail, All-append, All-weaker, All-map, All-contains}
+use Rattle.qm_lists.proofs.Pairs.{All-from_contains}
 use Rattle.qm_lists.proofs.Elements.{All-first_part, All-last_part, All-from_map}
-use Rattle.qm_space.specs.Point.{Point}
+use Rattle.qm_space.specs.Point.{Point, IsInCube}
 use Rattle.qm_space.specs.Plane.{Plane, IsInFront}
 use Rattle.qm_space.specs.Cell.{IsInCell}
 use Rattle.qm_space.specs.Turned.{turned}
@@ -12,7 +13,7 @@ use Rattle.qm_contents.specs.declared.contents.Contents.{Contents}
 use Rattle.qm_partition.specs.declared.node.Leaf.{Leaf}
 use Rattle.qm_partition.specs.Partition.{Partition, leaf, node}
 use Rattle.qm_partition.specs.Counting.{leaves_of, node_planes}
-use Rattle.qm_partition.specs.Ways.{Way, after_step, ways, cell_of}
+use Rattle.qm_partition.specs.Ways.{Way, after_step, ways, cell_of, HasPoints}
 use Rattle.qm_partition.specs.Joining.{are_equal, joined_node, joined}
 use Rattle.qm_partition.proofs.JoinedLeaves.{are_equal-contents}
 
@@ -120,6 +121,15 @@ joined_have_points planes Has (node n front back) each = elim (joined_node_is n 
       let backs = steps_on planes Has n false (ways (joined back)) (joined_have_points planes (HasBehindStep planes Has n false) back (steps_off planes Has n false (ways back) (All-last_part (HasPointWith planes Has) to_front to_back each))) in
       subst (λ (s : Partition). All (HasPointWith planes Has) (ways s)) (sym stays) (All-append (HasPointWith planes Has) (map (after_step n true) (ways (joined front))) (map (after_step n false) (ways (joined back))) fronts backs)
 ]
+
+-- so each leaf of the joined partition has a point of the cube, where each leaf of the partition has
+pub joined_has_points : (planes : List Plane) (shape : Partition) → HasPoints (record { planes = planes; shape = shape }) → HasPoints (record { planes = planes; shape = joined shape })
+joined_has_points planes shape points = λ way among.
+    let Has : Way → Type 0 = HasPointWith planes IsInCube in
+    let each : All Has (ways shape) =
+    All-from_contains Has (ways shape) (λ way among. let at = points way among in record { point = at.0; has = at.1.in_cube; in_cell = at.1.in_cell }) in
+    let at : Has way = All-contains Has (ways (joined shape)) way (joined_have_points planes IsInCube shape each) among in
+    (at.point, record { in_cube = at.has; in_cell = at.in_cell })
 
 -- ---- the names of planes
 

@@ -1,19 +1,19 @@
--- What joining keeps: what holds of each leaf, and of the plane of each node.
-use Rattle.std.proofs.Common.{◌≡◌, ◌<◌, length, ℕ, Bool, true, false, if◌then◌else◌, List, [], ◌∷◌, ◌++◌, All, Some, refl, sym, ap, ◌∙◌}
+-- What joining keeps: what holds of each leaf, and that the tree is well made.
+use Rattle.std.proofs.Common.{◌≡◌, ◌<◌, length, ℕ, Bool, true, false, if◌then◌else◌, List, [], ◌∷◌, ◌++◌, All, Some, sym, ap, ◌∙◌}
 use Rattle.std.proofs.lemmas.List.{append-nil}
-use Rattle.std.proofs.lemmas.List.Elements.{All-nil, All-cons, All-head, All-tail, All-append}
+use Rattle.std.proofs.lemmas.List.Elements.{All-append}
 use Rattle.qm_lists.proofs.Elements.{All-first_part, All-last_part}
 use Rattle.qm_space.specs.Plane.{Plane}
 use Rattle.qm_partition.specs.declared.node.Leaf.{Leaf as LeafRecord}
 use Rattle.qm_partition.specs.declared.visit.Visit.{Visit}
 use Rattle.qm_partition.specs.Partition.{Partition, leaf, node}
-use Rattle.qm_partition.specs.Tree.{Tree}
-use Rattle.qm_partition.specs.Counting.{leaves_of, node_planes}
+use Rattle.qm_partition.specs.Counting.{leaves_of}
 use Rattle.qm_partition.specs.Joining.{are_equal, joined_node, joined}
 use Rattle.qm_partition.specs.Visits.{visits}
 use Rattle.qm_partition.specs.WellMade.{IsSolidIfFilled, IsWellMade}
 use Rattle.qm_partition.specs.inner.Grown.{grown_from, grown_from-visits}
 use Rattle.qm_partition.specs.inner.JoinedWalk.{joined_from}
+use Rattle.qm_partition.proofs.JoinedCells.{joined_node_planes}
 use Rattle.qm_partition.proofs.JoinedWalks.{joined_from-visits}
 
 module _ (P : LeafRecord → Type 0) where
@@ -34,32 +34,12 @@ module _ (P : LeafRecord → Type 0) where
       (leaves_of-joined front (All-first_part P (leaves_of front) (leaves_of back) each))
       (leaves_of-joined back (All-last_part P (leaves_of front) (leaves_of back) each))
 
-module _ (P : ℕ → Type 0) where
-  none_or_one : (n : ℕ) (a b : LeafRecord) (test : Bool) → P n → All P (node_planes (if test then leaf a else node n (leaf a) (leaf b)))
-  none_or_one n a b true of_n = All-nil P
-  none_or_one n a b false of_n = All-cons P n [] of_n (All-nil P)
-
-  planes_of_joined_node : (n : ℕ) (front back : Partition) → P n → All P (node_planes front) → All P (node_planes back) → All P (node_planes (joined_node n front back))
-  planes_of_joined_node n (leaf a) (leaf b) of_n in_front behind = none_or_one n a b (are_equal a b) of_n
-  planes_of_joined_node n (leaf a) (node m front back) of_n in_front behind = All-cons P n (node_planes (node m front back)) of_n behind
-  planes_of_joined_node n (node m front back) beyond of_n in_front behind =
-      All-cons P n (node_planes (node m front back) ++ node_planes beyond) of_n (All-append P (node_planes (node m front back)) (node_planes beyond) in_front behind)
-
-  -- each node of the joined partition is on a plane of the partition's nodes
-  pub node_planes-joined : (shape : Partition) → All P (node_planes shape) → All P (node_planes (joined shape))
-  node_planes-joined (leaf found) each = each
-  node_planes-joined (node n front back) each =
-      let below = All-tail P n (node_planes front ++ node_planes back) each in
-      planes_of_joined_node n (joined front) (joined back) (All-head P n (node_planes front ++ node_planes back) each)
-      (node_planes-joined front (All-first_part P (node_planes front) (node_planes back) below))
-      (node_planes-joined back (All-last_part P (node_planes front) (node_planes back) below))
-
 pub joined_well_made : (planes : List Plane) (shape : Partition) → IsWellMade (record { planes = planes; shape = shape }) → IsWellMade (record { planes = planes; shape = joined shape })
 joined_well_made planes shape well =
     record {
       few = well.few;
       leads = well.leads;
-      names = node_planes-joined (λ n. n < length planes) shape well.names;
+      names = joined_node_planes (λ n. n < length planes) shape well.names;
       solid = leaves_of-joined IsSolidIfFilled shape well.solid;
     }
 

@@ -4,6 +4,7 @@ pub mod LeafNumbers
 pub mod Cells
 pub mod JoinedLeaves
 pub mod JoinedCells
+pub mod MarkedLeaves
 pub mod OneNumbering
 pub mod Samples
 pub mod PlacedParts
@@ -17,5 +18,3 @@ pub mod FoundWays
 pub mod NumberingWalks
 pub mod JoinedParts
 pub mod Walking
-pub mod PartsBelow
-pub mod CoarserPartitions

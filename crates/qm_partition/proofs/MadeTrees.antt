@@ -1,5 +1,5 @@
 -- The tree of parts: it is well made if and only if its parts are, and it is the only one of these parts.
-use Rattle.std.proofs.Common.{◌≡◌, ◌<◌, ℕ, ◌+◌, List, ◌∷◌, ◌++◌, length, All, ◌↔◌, refl, sym, subst, ◌∙◌}
+use Rattle.std.proofs.Common.{◌≡◌, ◌<◌, ℕ, ◌+◌, List, ◌++◌, length, All, refl, sym, subst}
 use Rattle.std.proofs.lemmas.List.Elements.{All-nil, All-cons, All-head, All-tail, All-append}
 use Rattle.qm_lists.proofs.Elements.{All-first_part, All-last_part}
 use Rattle.qm_space.specs.Plane.{Plane}
@@ -9,7 +9,7 @@ use Rattle.qm_partition.specs.Partition.{Partition, leaf, node}
 use Rattle.qm_partition.specs.Tree.{Tree}
 use Rattle.qm_partition.specs.Counting.{node_planes}
 use Rattle.qm_partition.specs.Numbering.{nodes_after, leaves_after, nodes_of, AreNumbered}
-use Rattle.qm_partition.specs.Arrays.{partition_of, tree_of}
+use Rattle.qm_partition.specs.Arrays.{tree_of}
 use Rattle.qm_partition.specs.WellMade.{IsSolidIfFilled, IsWellMade, IsMadeOf}
 use Rattle.qm_partition.specs.inner.Parts.{AreParts}
 use Rattle.qm_partition.proofs.PlacedParts.{top_node}

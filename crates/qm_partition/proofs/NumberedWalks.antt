@@ -1,5 +1,5 @@
 -- Testing whether nodes are numbered: the children that are due stand on a stack, and two counters say what comes next.
-use Rattle.std.proofs.Common.{◌≡◌, ◌<◌, ◌≤◌, ℕ, suc, ◌+◌, ◌-◌, false, List, [], ◌∷◌, ◌++◌, length, drop, reverse, get_or, refl, sym, ap, subst, ◌∙◌, ◌↔◌, arith, add-one, length-drop, drop-cons}
+use Rattle.std.proofs.Common.{◌≡◌, ◌<◌, ◌≤◌, ℕ, ◌+◌, false, List, [], ◌∷◌, ◌++◌, length, drop, reverse, get_or, ap, ◌∙◌, ◌↔◌, arith, add-one, length-drop, drop-cons}
 use Rattle.qm_lists.proofs.Reversed.{reverse-push}
 use Rattle.std.proofs.Math.Seq.{drop-length}
 use Rattle.qm_partition.specs.declared.node.Node.{Node as NodeRecord}
@@ -32,9 +32,10 @@ module _ (nodes : List NodeRecord) (leaves : ℕ) where
               let some : LeafRecord = record { contents = Empty; filled = false } in
               let found = get_or all k some in
               let rest : drop k all ≡ found ∷ drop (k + 1) all = rw add-one (drop-cons all k some (omega arith)) in
-              let before = rw (reverse-push due (Leaf k), rest) at (walked.same all long) in
-              (λ fit. before.0 (fits_leaf (reverse due) n k (drop n nodes) found (drop (k + 1) all) fit),
-              λ whole. leaf_taken (reverse due) n k (drop n nodes) found (drop (k + 1) all) (before.1 whole));
+              let before = rw (reverse-push due (Leaf k), rest) at (walked.same all long) in (
+                λ fit. before.0 (fits_leaf (reverse due) n k (drop n nodes) found (drop (k + 1) all) fit),
+                λ whole. leaf_taken (reverse due) n k (drop n nodes) found (drop (k + 1) all) (before.1 whole),
+              );
         }
 
     -- a leaf of a numbered whole that is due is the next one
@@ -55,9 +56,10 @@ module _ (nodes : List NodeRecord) (leaves : ℕ) where
               let before = rw (reverse-push due (Node n), rest) at (walked.same all long) in
               let pushed : reverse ((due ++ here.back ∷ []) ++ here.front ∷ []) ≡ here.front ∷ (here.back ∷ reverse due) =
               reverse-push (due ++ here.back ∷ []) here.front ∙ ap (λ (rest : List Child). here.front ∷ rest) (reverse-push due here.back) in
-              rw pushed
-              (λ fit. before.0 (fits_node (reverse due) n k (drop k all) here (drop (n + 1) nodes) fit),
-              λ whole. node_taken (reverse due) n k (drop k all) here (drop (n + 1) nodes) (before.1 whole));
+              rw pushed (
+                λ fit. before.0 (fits_node (reverse due) n k (drop k all) here (drop (n + 1) nodes) fit),
+                λ whole. node_taken (reverse due) n k (drop k all) here (drop (n + 1) nodes) (before.1 whole),
+              );
         }
 
     -- a node of a numbered whole that is due is the next one

@@ -1,6 +1,6 @@
 -- Numbering the visits of a walk from the last one to the first: the children that wait for their node stand on a stack, and
 -- two counters go down.
-use Rattle.std.proofs.Common.{◌≡◌, ◌<◌, ◌≤◌, ℕ, zero, suc, ◌+◌, ◌-◌, ◌*◌, List, [], ◌∷◌, ◌++◌, length, take, drop, reverse, get_or, Option, Some, None, refl, sym, ap, subst, ◌∙◌, arith, add-one, drop-cons}
+use Rattle.std.proofs.Common.{◌≡◌, ◌<◌, ◌≤◌, ℕ, suc, ◌+◌, ◌-◌, ◌*◌, List, [], ◌∷◌, ◌++◌, length, take, drop, reverse, get_or, Option, Some, None, refl, sym, ap, subst, ◌∙◌, arith, add-one, drop-cons}
 use Rattle.std.proofs.lemmas.List.{append_assoc, append-nil, reverse-append, take-append-drop, length-reverse, drop_all, take_all}
 use Rattle.std.proofs.Math.Seq.{take-suc}
 use Rattle.qm_lists.proofs.Reversed.{reverse-push, reverse-cons}
@@ -12,12 +12,11 @@ use Rattle.qm_partition.specs.declared.visit.Visit.{Visit}
 use Rattle.qm_partition.specs.declared.visit.Visit.TheVariants as visit
 use Rattle.qm_partition.specs.Partition.{Partition, leaf, node}
 use Rattle.qm_partition.specs.Counting.{leaves_of, node_count, leaf_count}
-use Rattle.qm_partition.specs.Numbering.{nodes_after, leaves_after, child_of, nodes_of, AreNumbered}
+use Rattle.qm_partition.specs.Numbering.{nodes_after, leaves_after, nodes_of, AreNumbered}
 use Rattle.qm_partition.specs.Visits.{visits}
 use Rattle.qm_partition.specs.inner.Grown.{grown_by, grown_from, grown_from-append, grown_from-visits}
 use Rattle.qm_partition.proofs.Counts.{leaf_count-node, one_leaf_more}
-use Rattle.qm_partition.proofs.PlacedParts.{top_node}
-use Rattle.qm_partition.proofs.Forests.{forest_children, forest_nodes, forest_leaves}
+use Rattle.qm_partition.proofs.Forests.{forest_children, forest_nodes, forest_leaves, Fits, with_node}
 
 -- ---- how many nodes and leaves are visited
 
@@ -86,55 +85,41 @@ counted walk shape is =
 
 -- the partitions of the visits so far, whose children wait, with their nodes and leaves
 pub record IsNumberedSoFar (done : List Visit) (waiting : List Child) (nodes : List NodeRecord) (leaves : List LeafRecord) (n k : ℕ) : Type 0 where
-  pub forest : List Partition
-  pub grown_is : grown_from done (Some []) ≡ Some forest
-  pub children_are : reverse waiting ≡ forest_children forest n k
-  pub nodes_are : reverse nodes ≡ forest_nodes forest n k
-  pub leaves_are : reverse leaves ≡ forest_leaves forest
+  pub fit : Fits (reverse waiting) n k (reverse nodes) (reverse leaves)
+  pub grown_is : grown_from done (Some []) ≡ Some fit.forest
 
 pub none_so_far : (n k : ℕ) → IsNumberedSoFar [] [] [] [] n k
-none_so_far n k = record { forest = []; grown_is = refl; children_are = refl; nodes_are = refl; leaves_are = refl }
+none_so_far n k = record { fit = record { forest = []; children_are = refl; nodes_are = refl; leaves_are = refl }; grown_is = refl }
 
-pub leaf_so_far : (done : List Visit) (waiting : List Child) (nodes : List NodeRecord) (leaves : List LeafRecord) (n k : ℕ) (found : LeafRecord) → IsNumberedSoFar done waiting nodes leaves n (k + 1) → IsNumberedSoFar (visit.Leaf found ∷ done) (waiting ++ Leaf k ∷ []) nodes (leaves ++ found ∷ []) n k
-leaf_so_far done waiting nodes leaves n k found so_far =
-    record {
-      forest = leaf found ∷ so_far.forest;
-      grown_is = ap (grown_by (visit.Leaf found)) so_far.grown_is;
-      children_are = reverse-push waiting (Leaf k) ∙ ap (λ (rest : List Child). Leaf k ∷ rest) so_far.children_are;
-      nodes_are = so_far.nodes_are;
-      leaves_are = reverse-push leaves found ∙ ap (λ (rest : List LeafRecord). found ∷ rest) so_far.leaves_are;
-    }
+module _ (done : List Visit) (waiting : List Child) (nodes : List NodeRecord) (leaves : List LeafRecord) (n k : ℕ) where
+  pub leaf_so_far : (found : LeafRecord) → IsNumberedSoFar done waiting nodes leaves n (k + 1) → IsNumberedSoFar (visit.Leaf found ∷ done) (waiting ++ Leaf k ∷ []) nodes (leaves ++ found ∷ []) n k
+  leaf_so_far found so_far =
+      record {
+        fit = record {
+          forest = leaf found ∷ so_far.fit.forest;
+          children_are = reverse-push waiting (Leaf k) ∙ ap (λ (rest : List Child). Leaf k ∷ rest) so_far.fit.children_are;
+          nodes_are = so_far.fit.nodes_are;
+          leaves_are = reverse-push leaves found ∙ ap (λ (rest : List LeafRecord). found ∷ rest) so_far.fit.leaves_are;
+        };
+        grown_is = ap (grown_by (visit.Leaf found)) so_far.grown_is;
+      }
 
-node_of_two : (done : List Visit) (waiting : List Child) (nodes : List NodeRecord) (leaves : List LeafRecord) (n k p : ℕ) (front_child back_child : Child) (forest : List Partition) → grown_from done (Some []) ≡ Some forest → front_child ∷ (back_child ∷ reverse waiting) ≡ forest_children forest (n + 1) k → reverse nodes ≡ forest_nodes forest (n + 1) k → reverse leaves ≡ forest_leaves forest → IsNumberedSoFar (visit.Node p ∷ done) (waiting ++ Node n ∷ []) (nodes ++ record { plane = p; front = front_child; back = back_child } ∷ []) leaves n k
-node_of_two done waiting nodes leaves n k p front_child back_child [] grown children nodes_are leaves_are = absurd cc
-node_of_two done waiting nodes leaves n k p front_child back_child (front ∷ []) grown children nodes_are leaves_are =
-    absurd (let e : back_child ∷ reverse waiting ≡ [] = cc in cc)
-node_of_two done waiting nodes leaves n k p front_child back_child (front ∷ (back ∷ rest)) grown children nodes_are leaves_are =
-    let n_back = nodes_after front (n + 1) in
-    let k_back = leaves_after front k in
-    let rest_nodes = forest_nodes rest (nodes_after back n_back) (leaves_after back k_back) in
-    let front_is : front_child ≡ child_of front (n + 1) k = cc in
-    let back_is : back_child ≡ child_of back n_back k_back = cc in
-    let waiting_is : reverse waiting ≡ forest_children rest (nodes_after back n_back) (leaves_after back k_back) = cc in
-    let here : NodeRecord = record { plane = p; front = front_child; back = back_child } in
-    let here_is : here ≡ top_node p front back n k =
-    ap (λ (child : Child). record { plane = p; front = child; back = back_child }) front_is
-    ∙ ap (λ (child : Child). record { plane = p; front = child_of front (n + 1) k; back = child }) back_is in
-    record {
-      forest = node p front back ∷ rest;
-      grown_is = ap (grown_by (visit.Node p)) grown;
-      children_are = reverse-push waiting (Node n) ∙ ap (λ (all : List Child). Node n ∷ all) waiting_is;
-      nodes_are =
-          reverse-push nodes here
-          ∙ ap (λ (m : NodeRecord). m ∷ reverse nodes) here_is
-          ∙ ap (λ (all : List NodeRecord). top_node p front back n k ∷ all) (nodes_are ∙ sym (append_assoc (nodes_of front (n + 1) k) (nodes_of back n_back k_back) rest_nodes));
-      leaves_are = leaves_are ∙ sym (append_assoc (leaves_of front) (leaves_of back) (forest_leaves rest));
-    }
-
-pub node_so_far : (done : List Visit) (waiting : List Child) (nodes : List NodeRecord) (leaves : List LeafRecord) (n k p : ℕ) (front_child back_child : Child) → IsNumberedSoFar done ((waiting ++ back_child ∷ []) ++ front_child ∷ []) nodes leaves (n + 1) k → IsNumberedSoFar (visit.Node p ∷ done) (waiting ++ Node n ∷ []) (nodes ++ record { plane = p; front = front_child; back = back_child } ∷ []) leaves n k
-node_so_far done waiting nodes leaves n k p front_child back_child so_far =
-    let stack = reverse-push (waiting ++ back_child ∷ []) front_child ∙ ap (λ (all : List Child). front_child ∷ all) (reverse-push waiting back_child) in
-    node_of_two done waiting nodes leaves n k p front_child back_child so_far.forest so_far.grown_is (sym stack ∙ so_far.children_are) so_far.nodes_are so_far.leaves_are
+  pub node_so_far : (here : NodeRecord) → IsNumberedSoFar done ((waiting ++ here.back ∷ []) ++ here.front ∷ []) nodes leaves (n + 1) k → IsNumberedSoFar (visit.Node here.plane ∷ done) (waiting ++ Node n ∷ []) (nodes ++ here ∷ []) leaves n k
+  node_so_far here so_far =
+      let before = so_far.fit in
+      let stack = reverse-push (waiting ++ here.back ∷ []) here.front ∙ ap (λ (all : List Child). here.front ∷ all) (reverse-push waiting here.back) in
+      let two : Fits (here.front ∷ here.back ∷ reverse waiting) (n + 1) k (reverse nodes) (reverse leaves) =
+      record { forest = before.forest; children_are = sym stack ∙ before.children_are; nodes_are = before.nodes_are; leaves_are = before.leaves_are } in
+      let after = with_node (reverse waiting) n k (reverse leaves) here (reverse nodes) two in
+      record {
+        fit = record {
+          forest = after.fit.forest;
+          children_are = reverse-push waiting (Node n) ∙ after.fit.children_are;
+          nodes_are = reverse-push nodes here ∙ after.fit.nodes_are;
+          leaves_are = after.fit.leaves_are;
+        };
+        grown_is = ap (grown_by (visit.Node here.plane)) so_far.grown_is ∙ after.grown_is;
+      }
 
 -- where all is visited, the nodes and leaves are those of the partition
 all_of_one : (shape : Partition) (forest : List Partition) (nodes : List NodeRecord) (leaves : List LeafRecord) → Some forest ≡ Some (shape ∷ []) → reverse nodes ≡ forest_nodes forest 0 0 → reverse leaves ≡ forest_leaves forest → AreNumbered shape (reverse nodes) (reverse leaves)
@@ -147,7 +132,7 @@ all_of_one shape forest nodes leaves one nodes_are leaves_are =
 
 pub all_so_far : (shape : Partition) (waiting : List Child) (nodes : List NodeRecord) (leaves : List LeafRecord) → IsNumberedSoFar (visits shape) waiting nodes leaves 0 0 → AreNumbered shape (reverse nodes) (reverse leaves)
 all_so_far shape waiting nodes leaves so_far =
-    all_of_one shape so_far.forest nodes leaves (sym so_far.grown_is ∙ grown_from-visits shape []) so_far.nodes_are so_far.leaves_are
+    all_of_one shape so_far.fit.forest nodes leaves (sym so_far.grown_is ∙ grown_from-visits shape []) so_far.fit.nodes_are so_far.fit.leaves_are
 
 -- ---- place by place
 
@@ -226,12 +211,12 @@ module _ (walk : List Visit) (i : ℕ) (some : Visit) (within : i < length walk)
         let left = reverse (drop (i + 1) walk) in
         let done = reverse (take i walk) in
         let parts : reverse walk ≡ left ++ (visit.Node p ∷ done) = all_is ∙ ap (λ (visit : Visit). left ++ (visit ∷ done)) is in
-        let grown : grown_from left (grown_by (visit.Node p) (Some so_far.forest)) ≡ Some (shape ∷ []) =
+        let grown : grown_from left (grown_by (visit.Node p) (Some so_far.fit.forest)) ≡ Some (shape ∷ []) =
         ap (λ (forest : Option (List Partition)). grown_from left (grown_by (visit.Node p) forest)) (sym so_far.grown_is)
         ∙ sym (grown_from-append left (visit.Node p ∷ done) (Some []))
         ∙ ap (λ (all : List Visit). grown_from all (Some [])) (sym parts ∙ whole)
         ∙ grown_from-visits shape [] in
-        omega (arith, two_are_grown left p so_far.forest shape grown, length-forest_children so_far.forest n k, ap length so_far.children_are, length-reverse waiting)
+        omega (arith, two_are_grown left p so_far.fit.forest shape grown, length-forest_children so_far.fit.forest n k, ap length so_far.fit.children_are, length-reverse waiting)
 
   module _ (waiting : List Child) (nodes : List NodeRecord) (leaves : List LeafRecord) (n k : ℕ) where
     pub numbering_node : (p : ℕ) (front back : Child) → IsNumbering walk i ((waiting ++ back ∷ []) ++ front ∷ []) nodes leaves n k → here ≡ visit.Node p → IsNumbering walk (i + 1) (waiting ++ Node (n - 1) ∷ []) (nodes ++ record { plane = p; front = front; back = back } ∷ []) leaves (n - 1) k
@@ -241,7 +226,7 @@ module _ (walk : List Visit) (i : ℕ) (some : Visit) (within : i < length walk)
         let same : n ≡ (n - 1) + 1 = omega (arith, left) in
         let before = subst (λ (j : ℕ). IsNumberedSoFar (reverse (take i walk)) ((waiting ++ back ∷ []) ++ front ∷ []) nodes leaves j k) same numbering.so_far in
         record {
-          so_far = rw (done_is, is) (node_so_far (reverse (take i walk)) waiting nodes leaves (n - 1) k p front back before);
+          so_far = rw (done_is, is) (node_so_far (reverse (take i walk)) waiting nodes leaves (n - 1) k (record { plane = p; front = front; back = back }) before);
           nodes_left = omega (arith, left);
           leaves_left = numbering.leaves_left ∙ ap leaf_visits rest;
         }

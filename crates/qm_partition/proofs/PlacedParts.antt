@@ -1,5 +1,5 @@
 -- Where a part of a partition stands among its numbered nodes, and what is below a child of it.
-use Rattle.std.proofs.Common.{◌≡◌, ◌<◌, ◌≤◌, ℕ, zero, suc, ◌+◌, ◌-◌, pos, Bool, true, false, if◌then◌else◌, List, ◌∷◌, ◌++◌, length, Some, All, inl, inr, refl, sym, ap, subst, ◌∙◌, arith, add_assoc, add-zero, zero-add, one-add}
+use Rattle.std.proofs.Common.{◌≡◌, ◌<◌, ◌≤◌, ℕ, zero, suc, ◌+◌, ◌-◌, pos, Bool, true, false, if◌then◌else◌, List, ◌++◌, length, Some, All, inl, inr, refl, sym, ap, ap₂, subst, ◌∙◌, arith, add_assoc, add-zero, zero-add, one-add}
 use Rattle.std.specs.Prelude.{slice_get, int_lt}
 use Rattle.std.proofs.lemmas.List.Elements.{All-head, All-tail}
 use Rattle.std.proofs.lemmas.Option.{slice_get_within}
@@ -21,6 +21,9 @@ use Rattle.qm_partition.proofs.Counts.{leaf_count-node, nodes_after-count, leave
 -- the node of a partition that is not a leaf, numbered n, where its leaves are numbered from k on
 abbrev pub top_node : ℕ → Partition → Partition → ℕ → ℕ → NodeRecord
 top_node p front back n k = record { plane = p; front = child_of front (n + 1) k; back = child_of back (nodes_after front (n + 1)) (leaves_after front k) }
+
+pub top_node_is : (here : NodeRecord) (front back : Partition) (n k : ℕ) → here.front ≡ child_of front (n + 1) k → here.back ≡ child_of back (nodes_after front (n + 1)) (leaves_after front k) → here ≡ top_node here.plane front back n k
+top_node_is here front back n k in_front behind = ap₂ (λ (a : Child) (b : Child). record { plane = here.plane; front = a; back = b }) in_front behind
 
 -- the nodes of the part, numbered from n on, stand at their numbers; its leaves, numbered from k on, are some of the whole
 pub record IsPart (whole part : Partition) (n k : ℕ) : Type 0 where
@@ -167,7 +170,7 @@ module _ (planes : List Plane) (whole : Partition) (x : Point) where
 pub child_towards_later : (planes : List Plane) (whole : Partition) (x : Point) (j : ℕ) (here : NodeRecord) → slice_get (nodes_of whole 0 0) j ≡ Some here → nodes_from (node_count whole) (child_towards planes here x) < nodes_from (node_count whole) (Node j)
 child_towards_later planes whole x j here at =
     either (int_lt (node_value planes here.plane x) (pos 0)) (sides_come_later whole j here at)
-    where
-      either : (b : Bool) → (nodes_from (node_count whole) here.front < nodes_from (node_count whole) (Node j)) × (nodes_from (node_count whole) here.back < nodes_from (node_count whole) (Node j)) → nodes_from (node_count whole) (if b then here.back else here.front) < nodes_from (node_count whole) (Node j)
-      either true later = later.1
-      either false later = later.0
+  where
+    either : (b : Bool) → (nodes_from (node_count whole) here.front < nodes_from (node_count whole) (Node j)) × (nodes_from (node_count whole) here.back < nodes_from (node_count whole) (Node j)) → nodes_from (node_count whole) (if b then here.back else here.front) < nodes_from (node_count whole) (Node j)
+    either true later = later.1
+    either false later = later.0

@@ -5,7 +5,6 @@ use Rattle.std.specs.Ordering.{is_lt}
 use Rattle.qm_space.specs.Point.{Point}
 use Rattle.qm_space.specs.Plane.{Plane, value}
 use Rattle.qm_space.proofs.Books.{plane_at_from}
-use Rattle.qm_partition.specs.declared.node.Child.{Child}
 use Rattle.qm_partition.specs.declared.node.Node.{Node}
 use Rattle.qm_partition.specs.LeafOfPoint.{node_value}
 use Rattle.qm_partition.specs.inner.ChildTowards.{child_towards}

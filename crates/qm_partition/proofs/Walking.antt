@@ -110,7 +110,7 @@ module _ (whole : Partition) where
             parts_are = (
               part_front whole p front back n k parts.0,
               leaves_front (leaves_of whole) p front back k parts.1,
-              (part_back whole p front back n k parts.0, leaves_back (leaves_of whole) p front back k parts.1, parts.2)
+              (part_back whole p front back n k parts.0, leaves_back (leaves_of whole) p front back k parts.1, parts.2),
             );
             visits_are =
                 visit_more (visit.Node p) walk ((visits front ++ visits back) ++ forest_visits forest) are

@@ -1,4 +1,4 @@
-use Rattle.std.specs.Prelude.{ℕ, Bool, false, List, [], ◌∷◌, slice_index_or}
+use Rattle.std.specs.Prelude.{ℕ, false, List, [], ◌∷◌, slice_index_or}
 use Rattle.qm_contents.specs.declared.contents.Contents.TheVariants.{Empty}
 use Rattle.qm_space.specs.Plane.{Plane}
 use Rattle.qm_partition.specs.declared.node.Node.{Node as NodeRecord}

@@ -9,3 +9,4 @@ pub mod Visits
 pub mod WellMade
 pub mod Arrays
 pub mod inner
+pub mod Marked

@@ -25,7 +25,8 @@ use Rattle.qm_solids.specs.Holding.{IsInside, IsFull}
 use Rattle.qm_solids.specs.Cells.{ContainsCell}
 use Rattle.qm_solids.specs.Uniform.{MeetsNoFace, LiesOutside}
 use Rattle.qm_solids.proofs.Insides.{behind_all, inside_of_behind}
-use Rattle.qm_solids.proofs.PlanesInCommon.{same_sides_itself, reduced_same_sides, by_lies_on, by_sides, same_in_front, same_behind}
+use Rattle.qm_solids.proofs.PlanesInCommon.{reduced_same_sides, by_lies_on, by_sides}
+use Rattle.qm_space.proofs.SameSides.{same_sides_itself, same_in_front, same_behind}
 use Rattle.qm_solids.proofs.UniformCells.{contains_throughout, outside_throughout}
 
 -- ---- both sides have points

@@ -20,7 +20,8 @@ use Rattle.qm_space.proofs.TurnedPlanes.{turned_other}
 use Rattle.qm_space.proofs.Openness.{ahead, ahead_in_front}
 use Rattle.qm_solids.specs.Candidates.{LiesOn, IsOnFace}
 use Rattle.qm_solids.proofs.FlatSolids.{AreOpposed}
-use Rattle.qm_solids.proofs.PlanesInCommon.{turned_lies_on, lies_on_from_turned, one_number, same_sides_itself, same_sides_lies_on, same_behind}
+use Rattle.qm_solids.proofs.PlanesInCommon.{turned_lies_on, lies_on_from_turned, one_number, same_sides_lies_on}
+use Rattle.qm_space.proofs.SameSides.{same_sides_itself, same_behind}
 
 -- no plane with a normal has its own sides exchanged
 not_both_sides : (h : Plane) → HasNormal h → HasSameSides h (flipped h) → ⊥

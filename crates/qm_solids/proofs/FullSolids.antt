@@ -16,7 +16,8 @@ use Rattle.qm_solids.specs.Candidates.{IsOnFace}
 use Rattle.qm_solids.specs.Uniform.{MeetsNoFace}
 use Rattle.qm_solids.proofs.Insides.{inside_of_behind}
 use Rattle.qm_solids.proofs.FlatSolids.{AreOpposed, HasOpposedPlanes}
-use Rattle.qm_solids.proofs.PlanesInCommon.{by_lies_on, lies_on_points, by_sides, same_behind}
+use Rattle.qm_solids.proofs.PlanesInCommon.{by_lies_on, lies_on_points, by_sides}
+use Rattle.qm_space.proofs.SameSides.{same_behind}
 use Rattle.qm_solids.proofs.UniformCells.{inside_throughout}
 
 -- ---- by a face

@@ -1,16 +1,15 @@
 -- Planes that have the same points, and those of them that have the same points on each side.
 use Rattle.std.proofs.Common.{◌≡◌, ◌⊎◌, inl, inr, ℕ, Bool, true, false, not, ℤ, pos, negsuc, neg_ℤ, ◌+ℤ◌, ◌*ℤ◌, List, Some, ◌↔◌, refl, ap, sym, ◌∙◌, subst, arith}
-use Rattle.std.proofs.lemmas.Int.{ints}
 use Rattle.std.specs.Prelude.{slice_get, IsTrue}
 use Rattle.qm_space.specs.Point.{Point}
-use Rattle.qm_space.specs.Plane.{Plane, value, IsBehind, IsOn, IsInFront, flipped, scaled}
+use Rattle.qm_space.specs.Plane.{Plane, value, IsOn, flipped, scaled}
 use Rattle.qm_space.specs.Reduced.{leads_positive, IsReduced}
 use Rattle.qm_space.specs.Turned.{turned}
 use Rattle.qm_space.specs.Multiple.{HasSameSides}
 use Rattle.qm_space.specs.Book.{AreBookPlanes}
 use Rattle.std.proofs.Math.IntN.{*ℤ_comm}
 use Rattle.qm_numbers.proofs.IntegerProducts.{linear, *ℤ-neg, *ℤ_zero, zero_*ℤ, one_*ℤ, +ℤ-*ℤ}
-use Rattle.qm_numbers.proofs.Signs.{zero_beside, zero_beside_positive, by_sign, product_positive, positive_times_negative, positive_beside, negative_beside}
+use Rattle.qm_numbers.proofs.Signs.{zero_beside, zero_beside_positive, by_sign}
 use Rattle.qm_space.proofs.Planes.{value_scaled}
 use Rattle.qm_space.proofs.ReducedPlanes.{same_plane, flipped_is_scaled, scaled_scaled, flipped_twice, leads_flipped, multiples_equal, scaled_neg, scaled_flipped}
 use Rattle.qm_space.proofs.TurnedPlanes.{turned_is_reduced}
@@ -131,9 +130,6 @@ one_number book m n a h are at_m at_n l =
 
 -- ---- the same sides
 
-pub same_sides_itself : (h : Plane) → HasSameSides h h
-same_sides_itself h = record { times = pos 1; factor = pos 1; some_times = omega (arith, ints); some_factor = omega (arith, ints); multiple = refl }
-
 pub same_sides_lies_on : (a h : Plane) → HasSameSides a h → LiesOn a h
 same_sides_lies_on a h same = record {
   times = same.times;
@@ -178,20 +174,3 @@ by_sides a h l same opposite = by_sign l.times
 
     turned_factor : scaled l.factor h ≡ scaled (neg_ℤ l.factor) (flipped h)
     turned_factor = sym (flipped_twice (scaled l.factor h)) ∙ ap (λ (p : Plane). flipped p) (sym (scaled_neg l.factor h)) ∙ sym (scaled_flipped (neg_ℤ l.factor) h)
-
--- what is in front of the one is in front of the other, and what is behind is behind
-module _ (a h : Plane) (x : Point) (same : HasSameSides a h) where
-  both_values : same.times *ℤ value a x ≡ same.factor *ℤ value h x
-  both_values = sym (value_scaled same.times a x) ∙ ap (λ (p : Plane). value p x) same.multiple ∙ value_scaled same.factor h x
-
-  pub same_in_front : IsInFront h x → IsInFront a x
-  same_in_front front =
-      let e = both_values in
-      let p = product_positive same.factor (value h x) same.some_factor front in
-      positive_beside same.times (value a x) same.some_times (omega (arith, linear))
-
-  pub same_behind : IsBehind h x → IsBehind a x
-  same_behind behind =
-      let e = both_values in
-      let p = positive_times_negative same.factor (value h x) same.some_factor behind in
-      negative_beside same.times (value a x) same.some_times (omega (arith, linear))

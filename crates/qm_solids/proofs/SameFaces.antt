@@ -19,7 +19,8 @@ use Rattle.qm_solids.specs.Cells.{ContainsCell, CellHasContents}
 use Rattle.qm_solids.specs.Candidates.{LiesOn, IsOnFace, IsOutdone, IsCandidate}
 use Rattle.qm_solids.specs.Least.{IsNumberedCandidate, IsLeastCandidate}
 use Rattle.qm_solids.proofs.Insides.{behind_all, inside_of_behind}
-use Rattle.qm_solids.proofs.PlanesInCommon.{one_scaled, lies_on_through, lies_on_back, same_sides_lies_on, same_in_front, same_behind}
+use Rattle.qm_space.proofs.SameSides.{same_in_front, same_behind}
+use Rattle.qm_solids.proofs.PlanesInCommon.{one_scaled, lies_on_through, lies_on_back, same_sides_lies_on}
 use Rattle.qm_solids.specs.Alike.{IsAlike}
 
 -- ---- planes of the same sides

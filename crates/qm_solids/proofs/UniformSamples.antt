@@ -23,7 +23,8 @@ use Rattle.qm_solids.specs.Uniform.{MeetsNoFace, LiesOutside}
 use Rattle.qm_contents.specs.declared.contents.Contents.TheVariants as contents
 use Rattle.qm_solids.proofs.Insides.{inside_of_behind, behind_all}
 use Rattle.qm_solids.proofs.FlatSolids.{AreOpposed, HasOpposedPlanes}
-use Rattle.qm_solids.proofs.PlanesInCommon.{lies_on_itself, lies_on_back, lies_on_through, same_face, reduced_lies_on, reduced_same_sides, one_number, same_sides_itself}
+use Rattle.qm_solids.proofs.PlanesInCommon.{lies_on_itself, lies_on_back, lies_on_through, same_face, reduced_lies_on, reduced_same_sides, one_number}
+use Rattle.qm_space.proofs.SameSides.{same_sides_itself}
 use Rattle.qm_solids.proofs.UniformCells.{contains_throughout, outside_throughout}
 use Rattle.qm_solids.proofs.FullSolids.{middle_of_cube, full_by_face, full_by_middle}
 use Rattle.qm_solids.proofs.BookFaces.{on_face_by_numbers, behind_other_numbers, same_number_and_side, opposed_numbers, opposed_by_sides_of_one}

@@ -1,6 +1,9 @@
 pub mod PlaneSymbols
 pub mod Planes
+pub mod CommonLines
 pub mod Multiples
+pub mod SameSides
+pub mod CubeFaces
 pub mod ReducedPlanes
 pub mod TurnedPlanes
 pub mod Cubes

@@ -1,7 +1,7 @@
-use Rattle.std.specs.Prelude.{ℤ, pos, neg_ℤ, ◌*ℤ◌, ◌<ℤ◌, ◌≤ℤ◌, List, [], ◌∷◌}
+use Rattle.std.specs.Prelude.{◌≢◌, ℤ, pos, neg_ℤ, ◌*ℤ◌, ◌<ℤ◌, ◌≤ℤ◌, List, [], ◌∷◌, All}
 use Rattle.qm_space.specs.Bounds.{extent}
 use Rattle.qm_space.specs.Point.{Point}
-use Rattle.qm_space.specs.Plane.{Plane}
+use Rattle.qm_space.specs.Plane.{Plane, IsOn, IsInFront}
 
 -- The world's cube by its six walls, and the cube together with them.
 
@@ -34,3 +34,9 @@ pub record IsInClosedCube (p : Point) : Type 0 where
   pub x : IsUpToExtent p.x p.w
   pub y : IsUpToExtent p.y p.w
   pub z : IsUpToExtent p.z p.w
+
+-- a point strictly inside the cube's face on a wall: on the wall, and in front of the other walls
+pub record IsOnCubeFace (wall : Plane) (x : Point) : Type 0 where
+  pub weight : pos 0 <ℤ x.w
+  pub on : IsOn wall x
+  pub inside : All (λ other. other ≢ wall → IsInFront other x) cube_walls

@@ -5,6 +5,7 @@ pub mod Multiple
 pub mod Determinant
 pub mod Vector
 pub mod Meet
+pub mod CommonLine
 pub mod Reduced
 pub mod Book
 pub mod Line
@@ -12,5 +13,5 @@ pub mod ThreePoints
 pub mod Turned
 pub mod Cell
 pub mod Cube
-pub mod inner
 pub mod Cuboid
+pub mod inner

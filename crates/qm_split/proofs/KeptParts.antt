@@ -1,5 +1,5 @@
 -- What a solid is to what a cell has in front of a plane.
-use Rattle.std.proofs.Common.{◌≡◌, ◌<◌, List, [], ◌∷◌, ◌++◌, length, All, Contains, sym, subst, ◌⊎◌, arith}
+use Rattle.std.proofs.Common.{◌≡◌, Some, None, List, [], ◌∷◌, ◌++◌, length, All, Contains, refl, sym, subst, ◌⊎◌, arith}
 use Rattle.std.proofs.lemmas.List.Elements.{All-contains}
 use Rattle.qm_space.specs.Plane.{Plane, flipped}
 use Rattle.qm_space.specs.Reduced.{IsReduced}
@@ -13,20 +13,24 @@ use Rattle.qm_solids.specs.Uniform.{LiesOutside}
 use Rattle.qm_solid_tree.proofs.PartedCells.{IsPartOn, contains_front, outside_front}
 use Rattle.qm_split.specs.declared.piece.Piece.{Piece}
 use Rattle.qm_split.specs.declared.contender.Contender.{Contender}
+use Rattle.qm_wind.specs.declared.lies.Lies.TheVariants.{Front, Back}
 use Rattle.qm_split.specs.declared.contender.Part.{Part}
+use Rattle.qm_split.specs.declared.contender.Part.TheVariants.{Kept}
 use Rattle.qm_split.specs.Pieces.{solid_of, ArePieces, IsContender}
-use Rattle.qm_split.specs.inner.PieceParts.{AreFront}
-use Rattle.qm_split.specs.inner.Parts.{IsPartIn, IsSection, IsAhead, IsNotAhead, HasAhead, part_count, HasPieceIn, IsShortened}
-use Rattle.qm_split.proofs.PartedPieces.{meets_no_face, pieces_in_front}
+use Rattle.qm_split.specs.inner.PieceParts.{AreFront, IsLyingPiece}
+use Rattle.qm_split.specs.inner.Ranked.{IsLesser}
+use Rattle.qm_split.specs.inner.Parts.{IsPartIn, IsSection, IsFoundPart, IsAhead, IsNotAhead, HasAhead, part_count, HasPieceIn, IsShortened}
+use Rattle.qm_split.proofs.SidesOfPlanes.{none_of_behind, none_of_ahead}
+use Rattle.qm_split.proofs.PartedPieces.{meets_no_face, pieces_in_front, all_in_front, none_in_front}
 
 -- a contender that stands for a full solid, with the pieces of that solid
 pub kept_contender : (book cell : List Plane) (contender : Contender) (solid : Solid) → solid_of contender ≡ solid → IsFull solid → All IsReduced solid.outward →
-    0 < length contender.pieces.items → ArePieces book cell solid contender.pieces.items → IsContender book cell contender × (solid_of contender ≡ solid)
-kept_contender book cell contender solid same full reduced some pieces = (
+    IsLesser None contender.pieces.items (Some contender.least) → ArePieces book cell solid contender.pieces.items → IsContender book cell contender × (solid_of contender ≡ solid)
+kept_contender book cell contender solid same full reduced first pieces = (
   record {
     full = subst IsFull (sym same) full;
     reduced = subst (λ (s : Solid). All IsReduced s.outward) (sym same) reduced;
-    some = some;
+    first = first;
     pieces = subst (λ (s : Solid). ArePieces book cell s contender.pieces.items) (sym same) pieces;
   },
   same,
@@ -62,11 +66,6 @@ pub section_flipped : (cell : List Plane) (g : Plane) (w : Winding) → IsSectio
 section_flipped cell g w section =
     record { convex = section.convex; on = λ x r. (flipped_on g x).1 (section.on x r); in_cube = section.in_cube; in_cell = section.in_cell }
 
--- what code finds of a solid, by its pieces in front of a plane
-abbrev pub IsFoundPart : Solid → Winding → List Piece → Part → Plane → Type 0
-IsFoundPart solid w pieces part g =
-    (book cell : List Plane) → IsFull solid → All IsReduced solid.outward → IsSection cell g w → ArePieces book (cell ++ g ∷ []) solid pieces → IsPartIn book (cell ++ g ∷ []) solid part
-
 module _ (contender : Contender) (w : Winding) (qs : List Piece) (part : Part) (h : Plane) where
   pub part_ahead : AreFront contender.pieces.items h qs → IsFoundPart (solid_of contender) w qs part h →
       (book cell : List Plane) → IsContender book cell contender → IsSection cell h w → IsPartIn book (cell ++ h ∷ []) (solid_of contender) part
@@ -78,3 +77,25 @@ module _ (contender : Contender) (w : Winding) (qs : List Piece) (part : Part) (
   part_behind f same are found book cell contends section =
       subst (IsFoundPart (solid_of contender) w qs part) same found book cell contends.full contends.reduced (section_flipped cell h w section)
       (pieces_in_front book cell (solid_of contender) contender.pieces.items qs (flipped h) contends.pieces are)
+
+-- ---- a contender that lies wholly on one side
+
+module _ (contender : Contender) (h : Plane) where
+  pub moved_ahead : All (IsLyingPiece Front h) contender.pieces.items → AreFront contender.pieces.items h contender.pieces.items
+  moved_ahead all = all_in_front contender.pieces.items h (λ p among. let is = All-contains (IsLyingPiece Front h) contender.pieces.items p all among in (is.convex, is.lying))
+
+  pub moved_behind : All (IsLyingPiece Back h) contender.pieces.items → AreFront contender.pieces.items (flipped h) contender.pieces.items
+  moved_behind all = all_in_front contender.pieces.items (flipped h) (λ p among. let is = All-contains (IsLyingPiece Back h) contender.pieces.items p all among in (is.convex, is.lying))
+
+  pub lost_ahead : All (IsLyingPiece Back h) contender.pieces.items → AreFront contender.pieces.items h []
+  lost_ahead all = none_in_front contender.pieces.items h (λ p among. none_of_behind p.winding h (All-contains (IsLyingPiece Back h) contender.pieces.items p all among).lying)
+
+  pub lost_behind : All (IsLyingPiece Front h) contender.pieces.items → AreFront contender.pieces.items (flipped h) []
+  lost_behind all = none_in_front contender.pieces.items (flipped h) (λ p among. none_of_ahead p.winding h (All-contains (IsLyingPiece Front h) contender.pieces.items p all among).lying)
+
+  -- a contender whose pieces are all in front of the plane g is one there
+  pub kept_whole : (g : Plane) → AreFront contender.pieces.items g contender.pieces.items → (w : Winding) (book cell : List Plane) → IsContender book cell contender → IsSection cell h w →
+      IsPartIn book (cell ++ g ∷ []) (solid_of contender) (Kept contender)
+  kept_whole g are w book cell contends section =
+      kept_contender book (cell ++ g ∷ []) contender (solid_of contender) refl contends.full contends.reduced contends.first
+      (pieces_in_front book cell (solid_of contender) contender.pieces.items contender.pieces.items g contends.pieces are)

@@ -1,7 +1,7 @@
 -- What fragments of solids in a cell tell of it: which contents fill it, which planes are candidates, and which comes first.
 use Rattle.std.proofs.Common.{◌≡◌, ◌⊎◌, inl, inr, ⊎_elim, ℕ, zero, suc, ◌<◌, ◌≤◌, Bool, true, false, true≢false, ℤ, pos, negsuc, ◌≤ℤ◌, Option, Some, None, List, [], ◌∷◌, ◌++◌, length, map, All, Contains, get_or, refl, sym, ◌∙◌, ap, subst, arith}
 use Rattle.std.specs.Prelude.{slice_get}
-use Rattle.std.proofs.lemmas.List.Elements.{All-contains, Contains-get_or}
+use Rattle.std.proofs.lemmas.List.Elements.{All-contains, All-weaker, Contains-get_or}
 use Rattle.qm_space.specs.Point.{Point, IsInCube}
 use Rattle.qm_space.specs.Plane.{Plane, value, IsOn, IsBehind, IsNotInFront}
 use Rattle.qm_space.specs.Book.{plane_at}
@@ -32,15 +32,16 @@ use Rattle.qm_split.specs.Pieces.{solid_of, IsPiece, IsContender}
 use Rattle.qm_split.specs.CellFragments.{IsReached, IsAccounted, IsKeptContender, AreFragmentsOf}
 use Rattle.qm_split.specs.inner.Ranks.{IsBefore, IsNotAfter}
 use Rattle.qm_split.specs.inner.Ranked.{IsRankOf, IsLeastRank}
-use Rattle.qm_split.proofs.ListedItems.{first_listed, listed_from_map}
+use Rattle.qm_split.proofs.ListedItems.{listed_from_map}
+use Rattle.qm_split.proofs.RankOrder.{first_one}
 use Rattle.qm_split.proofs.Gatherings.{reached_less}
 
 -- a contender does not contain its cell, since a point of the cell is on a face of it
 pub contender_does_not_contain : (book cell : List Plane) (contender : Contender) → IsContender book cell contender → ContainsCell (solid_of contender) cell → ⊥
 contender_does_not_contain book cell contender contends contains =
-    let first = first_listed contender.pieces.items contends.some in
-    let piece = first.0 in
-    let is = All-contains (IsPiece book cell (solid_of contender)) contender.pieces.items piece contends.pieces.sound first.1 in
+    let first = first_one contender.pieces.items contender.least contends.first in
+    let piece = first.piece in
+    let is = All-contains (IsPiece book cell (solid_of contender)) contender.pieces.items piece contends.pieces.sound first.listed in
     let at = has_a_point piece.winding is.convex in
     let on_face = (is.points at.0).0 at.1 in
     let on = (lies_on_points is.face piece.winding.plane at.0 is.lies_on).1 on_face.on in
@@ -75,6 +76,9 @@ module _ (solids : List Solid) (book cell : List Plane) (fragments : Fragments) 
 
   pub kept_one : (q : Contender) → Contains contenders q → IsKeptContender solids book cell strongest q
   kept_one q among = All-contains (IsKeptContender solids book cell strongest) contenders q are.kept among
+
+  pub all_contend : All (IsContender book cell) contenders
+  all_contend = All-weaker (IsKeptContender solids book cell strongest) (IsContender book cell) (λ q kept. kept.contends) contenders are.kept
 
   -- ---- contents
 

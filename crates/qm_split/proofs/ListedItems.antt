@@ -1,5 +1,6 @@
 -- What is listed in a list, in what a function makes of it, and in what a test leaves of it.
-use Rattle.std.proofs.Common.{◌≡◌, ◌⊎◌, inl, inr, ⊎_elim, ℕ, zero, suc, ◌<◌, Bool, true, false, true≢false, List, [], ◌∷◌, length, map, take, drop, ◌+◌, ◌++◌, All, Contains, get_or, refl, sym, ◌∙◌, ap, subst, arith}
+use Rattle.std.proofs.Common.{◌≡◌, ◌⊎◌, inl, inr, ⊎_elim, ℕ, zero, suc, ◌<◌, Bool, true, false, Option, Some, None, List, [], ◌∷◌, length, map, take, drop, ◌+◌, ◌++◌, All, Contains, get_or, refl, sym, ◌∙◌, ap, subst, arith}
+use Rattle.std.specs.Option.{IfSome}
 use Rattle.std.specs.List.{filter}
 use Rattle.std.proofs.lemmas.List.{take_more, drop_more, take-append-drop}
 use Rattle.std.proofs.lemmas.List.Elements.{Contains-get_or, Contains-append_left}
@@ -24,11 +25,6 @@ listed_cases x y xs among = by among.0 among.1 among.2
     by : (k : ℕ) → k < length (x ∷ xs) → get_or (x ∷ xs) k y ≡ y → (x ≡ y) ⊎ Contains xs y
     by zero within same = inl same
     by (suc k) within same = inr (k, omega arith, same)
-
--- a list that has an item has a first one
-pub first_listed : {X : Type 0} (xs : List X) → 0 < length xs → (x : X) × Contains xs x
-first_listed [] some = absurd (omega arith)
-first_listed (x ∷ xs) some = (x, listed_here x xs)
 
 module _ {X Y : Type 0} (f : X → Y) where
   pub listed_map : (xs : List X) (x : X) → Contains xs x → Contains (map f xs) (f x)
@@ -73,3 +69,13 @@ module _ {X : Type 0} (xs : List X) (k : ℕ) (x : X) (within : k < length xs) (
 
   pub listed_of_taken : (y : X) → Contains (take (k + 1) xs) y → Contains xs y
   listed_of_taken y among = subst (λ (ys : List X). Contains ys y) (take-append-drop (k + 1) xs) (Contains-append_left (take (k + 1) xs) (drop (k + 1) xs) y among)
+
+-- ---- options
+
+pub none_if_not_some : {X : Type 0} (o : Option X) → ((x : X) → o ≡ Some x → ⊥) → o ≡ None
+none_if_not_some None never = refl
+none_if_not_some (Some x) never = absurd (never x refl)
+
+pub some_weaker : {X : Type 0} (o : Option X) (P Q : X → Type 0) → ((x : X) → P x → Q x) → IfSome o P → IfSome o Q
+some_weaker None P Q weaker is = tt
+some_weaker (Some x) P Q weaker is = weaker x is

@@ -79,9 +79,6 @@ module _ (solids : List Solid) (book cell : List Plane) (fragments : Fragments) 
   abbrev contenders : List Contender
   contenders = fragments.gathering.contenders.items
 
-  pub all_contend : All (IsContender book cell) contenders
-  all_contend = All-weaker (IsKeptContender solids book cell before) (IsContender book cell) (λ q kept. kept.contends) contenders are.kept
-
   listed_solid : (solid : Solid) → Contains (map solid_of contenders) solid → Contains solids solid
   listed_solid solid among =
       let at = listed_from_map solid_of contenders solid among in

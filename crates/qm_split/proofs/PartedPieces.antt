@@ -8,8 +8,8 @@ use Rattle.qm_space.specs.Point.{Point}
 use Rattle.qm_space.specs.Plane.{Plane, IsOn, IsBehind, IsInFront}
 use Rattle.qm_space.specs.Cell.{IsInCell}
 use Rattle.qm_numbers.proofs.IntegerProducts.{linear}
-use Rattle.qm_convex.specs.Winding.{IsInRegion}
-use Rattle.qm_convex.specs.Sides.{HasNoneInFront}
+use Rattle.qm_convex.specs.Winding.{IsInRegion, IsConvex}
+use Rattle.qm_convex.specs.Sides.{HasNoneInFront, IsWhollyInFront}
 use Rattle.qm_convex.specs.Cut.{IsPartInFront}
 use Rattle.qm_convex.proofs.Central.{has_a_point}
 use Rattle.qm_solids.specs.Solid.{Solid}
@@ -69,6 +69,34 @@ module _ (ps qs : List Piece) (g : Plane) (are : AreFront ps g qs) (p : Piece) w
   pub front_more : (part : Option Piece) → IsPartOf p g part → AreFront (ps ++ p ∷ []) g (qs ++ option_to_list part)
   front_more None none = subst (λ (rs : List Piece). AreFront (ps ++ p ∷ []) g rs) (sym (append-nil qs)) (front_gone none)
   front_more (Some q) is = front_kept q is
+
+-- ---- all on one side
+
+front_itself : (p : Piece) (g : Plane) → IsConvex p.winding → IsWhollyInFront p.winding g → IsFrontPiece p g p
+front_itself p g convex whole = record { number = refl; part = record { convex = convex; plane = refl; points = λ x. ((λ r. (r, whole x r)), (λ both. both.0)) } }
+
+-- pieces that are all in front are what they have there
+pub all_in_front : (ps : List Piece) (g : Plane) → ((p : Piece) → Contains ps p → IsConvex p.winding × IsWhollyInFront p.winding g) → AreFront ps g ps
+all_in_front ps g whole = record {
+  each = λ q among. let w = whole q among in record { piece = q; listed = among; is = front_itself q g w.0 w.1 };
+  all = λ p among. let w = whole p among in inr (record { piece = p; listed = among; is = front_itself p g w.0 w.1 });
+  no_more = omega arith;
+  fewer = λ p among none.
+      let w = whole p among in
+      let at = has_a_point p.winding w.0 in
+      let not = none at.0 at.1 in
+      let front = w.1 at.0 at.1 in
+      absurd (omega (arith, linear));
+}
+
+-- and pieces that have nothing there have none
+pub none_in_front : (ps : List Piece) (g : Plane) → ((p : Piece) → Contains ps p → HasNoneInFront p.winding g) → AreFront ps g []
+none_in_front ps g none = record {
+  each = λ q among. absurd (none_listed q among);
+  all = λ p among. inl (none p among);
+  no_more = omega arith;
+  fewer = λ p among gone. omega (arith, among.1);
+}
 
 -- ---- the pieces of a cell
 

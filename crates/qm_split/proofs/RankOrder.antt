@@ -1,13 +1,16 @@
 -- The order of ranks, and the first of the ranks of pieces.
-use Rattle.std.proofs.Common.{◌≡◌, ◌⊎◌, inl, inr, ⊎_elim, ◌<◌, ◌≤◌, Bool, true, false, true≢false, Option, Some, None, List, [], ◌∷◌, ◌++◌, Contains, ◌↔◌, refl, sym, ◌∙◌, ap, subst, arith, ℕ}
-use Rattle.std.proofs.lemmas.List.Elements.{Contains-push, Contains-push_cases, Contains-append_left}
+use Rattle.std.proofs.Common.{◌≡◌, ◌⊎◌, inl, inr, ⊎_elim, ◌<◌, ◌≤◌, Bool, true, false, true≢false, Option, Some, None, List, [], ◌∷◌, ◌++◌, All, Contains, ◌↔◌, refl, sym, ◌∙◌, ap, subst, arith, ℕ}
+use Rattle.std.proofs.lemmas.List.Elements.{All-contains, Contains-push, Contains-push_cases, Contains-append_left}
+use Rattle.qm_lists.proofs.Elements.{All-first_part}
+use Rattle.qm_space.specs.Plane.{Plane}
 use Rattle.qm_solids.specs.Least.{IsAxial}
 use Rattle.qm_split.specs.declared.rank.Rank.{Rank}
 use Rattle.qm_split.specs.declared.piece.Piece.{Piece}
 use Rattle.qm_split.specs.declared.contender.Contender.{Contender}
+use Rattle.qm_split.specs.Pieces.{IsContender}
 use Rattle.qm_split.specs.inner.Ranks.{IsBefore, IsNotAfter, IsFirstOf}
 use Rattle.qm_split.specs.inner.Ranked.{IsRankOf, IsRankOfOne, IsAfterNone, IsLesser, IsRankOfSome, IsLeastRank}
-use Rattle.qm_split.proofs.ListedItems.{none_listed}
+use Rattle.qm_split.proofs.ListedItems.{none_listed, listed_here}
 
 -- ---- the order
 
@@ -99,6 +102,25 @@ module _ (before : Option Rank) (pieces : List Piece) (piece : Piece) (rank : Ra
   lesser_more None first are is_first = subst (λ (r : Rank). IsLesser before (pieces ++ piece ∷ []) (Some r)) (sym is_first) (lesser_after_none are)
   lesser_more (Some least) first are is_first = lesser_after_some least first are is_first
 
+-- the first of a rank and of pieces whose first is known
+pub lesser_joined : (before : Option Rank) (pieces : List Piece) (own first : Rank) → IsLesser None pieces (Some own) → IsFirstOf before own first → IsLesser before pieces (Some first)
+lesser_joined None pieces own first are is_first = subst (λ (r : Rank). IsLesser None pieces (Some r)) (sym is_first) are
+lesser_joined (Some least) pieces own first are is_first = (
+  ⊎_elim
+      (λ same. inl (ap (λ (r : Rank). Some r) (sym same)))
+      (λ same. inr (subst (IsRankOfOne pieces) (sym same) (⊎_elim (λ none. no_rank own none) (λ one. one) are.0)))
+      is_first.0,
+  (λ r same. subst (IsNotAfter first) (same_rank least r same) is_first.1),
+  (λ piece other among of_other. not_after_through first own other is_first.2 (are.2 piece other among of_other)),
+)
+
+pub first_one : (pieces : List Piece) (own : Rank) → IsLesser None pieces (Some own) → IsRankOfOne pieces own
+first_one pieces own are = ⊎_elim (λ none. no_rank own none) (λ one. one) are.0
+
+pub no_pieces : (pieces : List Piece) → IsLesser None pieces None → pieces ≡ []
+no_pieces [] none = refl
+no_pieces (piece ∷ pieces) none = absurd (none.1 piece (listed_here piece pieces))
+
 -- ---- the first of all
 
 pub least_begins : IsLeastRank [] None
@@ -128,3 +150,16 @@ module _ (done : List Contender) (contender : Contender) where
         is.0,
     after_none_of_next first (λ q among piece other among_pieces of_other. not_after_through first least other (is.1 least refl) (are.1 q among piece other among_pieces of_other)) is.2,
   )
+
+-- ---- contenders that know the rank of their first piece
+
+abbrev pub AreLeastRank : List Contender → Option Rank → Type 0
+AreLeastRank done least = (book cell : List Plane) → All (IsContender book cell) done → IsLeastRank done least
+
+pub least_rank_begins : AreLeastRank [] None
+least_rank_begins book cell all = least_begins
+
+pub least_rank_more : (done : List Contender) (contender : Contender) (least : Option Rank) (first : Rank) → AreLeastRank done least → IsFirstOf least contender.least first → AreLeastRank (done ++ contender ∷ []) (Some first)
+least_rank_more done contender least first are is_first book cell all =
+    least_more done contender least (Some first) (are book cell (All-first_part (IsContender book cell) done (contender ∷ []) all))
+    (lesser_joined least contender.pieces.items contender.least first (All-contains (IsContender book cell) (done ++ contender ∷ []) contender all (Contains-push done contender)).first is_first)

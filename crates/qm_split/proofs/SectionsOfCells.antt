@@ -7,11 +7,15 @@ use Rattle.qm_space.specs.Point.{Point, IsInCube}
 use Rattle.qm_space.specs.Plane.{Plane, IsOn, IsInFront}
 use Rattle.qm_space.specs.Cell.{IsInCell}
 use Rattle.qm_convex.specs.Winding.{Winding, IsConvex, IsInRegion}
-use Rattle.qm_convex.specs.Sides.{HasNoneInFront}
+use Rattle.qm_convex.specs.Sides.{HasNoneInFront, IsWhollyInFront}
 use Rattle.qm_convex.specs.Cut.{IsPartInFront, IsPartWithin}
 use Rattle.qm_convex.specs.World.{MissesCube, IsWorldPart}
 use Rattle.qm_split.specs.CellFragments.{HasPointOn}
 use Rattle.qm_split.specs.inner.Parts.{IsSection, HasNoneWithin}
+
+-- a winding wholly in front of a plane is what it has there
+pub part_itself : (w : Winding) (g : Plane) → IsConvex w → IsWhollyInFront w g → IsPartInFront w w g
+part_itself w g convex whole = record { convex = convex; plane = refl; points = λ x. ((λ r. (r, whole x r)), (λ both. both.0)) }
 
 pub within_none : (w : Winding) → IsConvex w → IsPartWithin w w []
 within_none w convex = record { convex = convex; plane = refl; points = λ x. ((λ r. (r, All-nil (λ h. IsInFront h x))), (λ both. both.0)) }

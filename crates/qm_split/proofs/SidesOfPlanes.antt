@@ -19,6 +19,9 @@ some_of_whole w g convex whole = let at = has_a_point w convex in (at.0, at.1, w
 pub none_of_behind : (w : Winding) (g : Plane) → IsWhollyInFront w (flipped g) → HasNoneInFront w g
 none_of_behind w g behind x r = let e = value_flipped g x in let b = behind x r in omega (arith, linear)
 
+pub none_of_ahead : (w : Winding) (g : Plane) → IsWhollyInFront w g → HasNoneInFront w (flipped g)
+none_of_ahead w g ahead x r = let e = value_flipped g x in let f = ahead x r in omega (arith, linear)
+
 pub none_of_lying : (w : Winding) (g : Plane) → LiesIn w g → HasNoneInFront w g
 none_of_lying w g lies x r = let on = lies x r in omega (arith, linear)
 

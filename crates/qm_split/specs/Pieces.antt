@@ -1,4 +1,4 @@
-use Rattle.std.specs.Prelude.{◌≡◌, ◌↔◌, ℕ, ◌<◌, List, length, All, Contains, Some, slice_get}
+use Rattle.std.specs.Prelude.{◌≡◌, ◌↔◌, List, All, Contains, Some, None, slice_get}
 use Rattle.qm_space.specs.Point.{Point}
 use Rattle.qm_space.specs.Plane.{Plane}
 use Rattle.qm_space.specs.Reduced.{IsReduced}
@@ -8,6 +8,7 @@ use Rattle.qm_solids.specs.Holding.{IsFull}
 use Rattle.qm_solids.specs.Candidates.{LiesOn, IsOnFace}
 use Rattle.qm_split.specs.declared.piece.Piece.{Piece}
 use Rattle.qm_split.specs.declared.contender.Contender.{Contender}
+use Rattle.qm_split.specs.inner.Ranked.{IsLesser}
 
 -- What is kept of one solid in a cell.
 
@@ -36,9 +37,10 @@ pub record ArePieces (book cell : List Plane) (solid : Solid) (pieces : List Pie
   pub sound : All (IsPiece book cell solid) pieces
   pub complete : (face : Plane) (x : Point) → Contains solid.outward face → IsOnFace solid cell face x → HasPointOfFace face x pieces
 
--- a full solid with the pieces that the cell has of its faces, at least one
+-- a full solid with the pieces that the cell has of its faces, at least one, and where the first of them
+-- comes among candidates
 pub record IsContender (book cell : List Plane) (contender : Contender) : Type 0 where
   pub full : IsFull (solid_of contender)
   pub reduced : All IsReduced contender.outward.items
-  pub some : 0 < length contender.pieces.items
+  pub first : IsLesser None contender.pieces.items (Some contender.least)
   pub pieces : ArePieces book cell (solid_of contender) contender.pieces.items

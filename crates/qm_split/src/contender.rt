@@ -1,11 +1,11 @@
-ghost use Rattle.std.specs.Prelude.{◌≡◌, List, ◌++◌, ◌∷◌, [], length, IfOk, IfSome, All};
+ghost use Rattle.std.specs.Prelude.{◌≡◌, true, List, ◌++◌, ◌∷◌, [], length, None, IfOk, IfSome, All};
 ghost use Rattle.std.specs.Bool.{MatchBool};
 ghost use Rattle.qm_space.specs.Plane.{Plane, flipped};
 ghost use Rattle.qm_space.specs.Reduced.{IsReduced};
 ghost use Rattle.qm_convex.specs.Winding.{IsConvex};
-ghost use Rattle.qm_solids.specs.Holding.{IsFull};
-ghost use Rattle.qm_split.specs.Pieces.{solid_of, ArePieces, IsContender};
-ghost use Rattle.qm_split.specs.inner.Parts.{IsSection, IsPartIn, IsAhead, IsNotAhead, HasAhead, part_count, IsShortened};
+ghost use Rattle.qm_split.specs.Pieces.{solid_of, IsContender};
+ghost use Rattle.qm_split.specs.inner.PieceParts.{IsLyingPiece};
+ghost use Rattle.qm_split.specs.inner.Parts.{IsSection, IsPartIn, IsFoundPart, IsAhead, IsNotAhead, HasAhead, part_count, IsShortened};
 ghost use Rattle.qm_split.specs.inner.Ranked.{IsLesser, IsWindingOf};
 
 use crate::piece::{Piece, split_pieces};
@@ -13,14 +13,15 @@ use crate::rank::{Rank, first_of};
 use qm_contents::Contents;
 use qm_geom::Plane;
 use qm_wind::{Lies, Winding};
-use smallvec::SmallVec;
 use std::alloc::AllocError;
 
 /// A full solid that has a part of a face in a cell.
 #[derive(Drop)]
 pub(crate) struct Contender {
     pub(crate) contents: Contents,
-    pub(crate) outward: SmallVec<Plane, 8>,
+    /// The rank of the piece that comes first.
+    pub(crate) least: Rank,
+    pub(crate) outward: Vec<Plane>,
     pub(crate) pieces: Vec<Piece>,
 }
 
@@ -40,8 +41,36 @@ pub(crate) struct Parts {
 }
 
 impl Contender {
-    /// For a plane, and a winding that lies on it in the cell.
+    /// For a plane, and a winding that lies on it in the cell. Where the cuboids of all pieces lie on one side, it is moved.
     pub(crate) fn split(self, plane: &Plane, section: &Winding) -> Result<Parts, AllocError>
+        ensures front { IfOk result (λ parts. (book cell : List Plane) →
+            IsContender book cell self → IsSection cell plane.now section.now →
+            IsPartIn book (cell ++ plane.now ∷ []) (solid_of self) parts.front) }
+        ensures back { IfOk result (λ parts. (book cell : List Plane) →
+            IsContender book cell self → IsSection cell plane.now section.now →
+            IsPartIn book (cell ++ flipped plane.now ∷ []) (solid_of self) parts.back) }
+        ensures front_count { IfOk result (λ parts. IsShortened self plane.now parts.front) }
+        ensures back_count { IfOk result (λ parts. IsShortened self plane.now parts.back) }
+    {
+        if all_lie(&self.pieces, plane, Lies::Front) {
+            let back = lost_part(self.contents, &self.outward, section, &plane.flipped());
+            return Ok(Parts {
+                front: Part::Kept(self),
+                back,
+            });
+        }
+        if all_lie(&self.pieces, plane, Lies::Back) {
+            let front = lost_part(self.contents, &self.outward, section, plane);
+            return Ok(Parts {
+                front,
+                back: Part::Kept(self),
+            });
+        }
+        self.parted(plane, section)
+    }
+
+    /// For a plane that may part its pieces.
+    fn parted(self, plane: &Plane, section: &Winding) -> Result<Parts, AllocError>
         ensures front { IfOk result (λ parts. (book cell : List Plane) →
             IsContender book cell self → IsSection cell plane.now section.now →
             IsPartIn book (cell ++ plane.now ∷ []) (solid_of self) parts.front) }
@@ -55,22 +84,13 @@ impl Contender {
             contents,
             outward,
             pieces,
+            ..
         } = self;
         let lists = split_pieces(pieces, plane)?;
-        let front = part_in_front(contents, &outward, lists.front, section, plane)?;
-        let back = part_in_front(contents, &outward, lists.back, section, &plane.flipped())?;
+        let copy = Vec::from_slice(*outward.allocator(), &outward)?;
+        let front = part_in_front(contents, copy, lists.front, section, plane);
+        let back = part_in_front(contents, outward, lists.back, section, &plane.flipped());
         Ok(Parts { front, back })
-    }
-
-    /// The rank that comes first, of one and those of the pieces.
-    pub(crate) fn lesser(&self, before: Option<Rank>) -> Option<Rank>
-        ensures { IsLesser before self.now.pieces.items result }
-    {
-        let mut least = before;
-        for piece in &self.pieces {
-            least = Some(first_of(least, piece.rank()));
-        }
-        least
     }
 
     /// The winding of a piece on a plane, if there is one.
@@ -86,34 +106,62 @@ impl Contender {
     }
 }
 
+/// Whether each of some pieces lies in the same way beside a plane, where their cuboids tell.
+fn all_lie(pieces: &[Piece], plane: &Plane, lies: Lies) -> bool
+    ensures { result ≡ true → All (IsLyingPiece lies plane.now) pieces.now }
+{
+    for piece in pieces {
+        if !piece.surely_lies(plane, lies) {
+            return false;
+        }
+    }
+    true
+}
+
 /// What a full solid is to what a cell has in front of a plane, by its pieces there, and by a winding that lies on the plane
 /// in the cell.
 fn part_in_front(
     contents: Contents,
-    outward: &SmallVec<Plane, 8>,
+    outward: Vec<Plane>,
     pieces: Vec<Piece>,
     section: &Winding,
     plane: &Plane,
-) -> Result<Part, AllocError>
-    ensures part { IfOk result (λ part. (book cell : List Plane) →
-        IsFull (record { contents = contents; outward = outward.now.items }) → All IsReduced outward.now.items →
-        IsSection cell plane.now section.now →
-        ArePieces book (cell ++ plane.now ∷ []) (record { contents = contents; outward = outward.now.items }) pieces.items →
-        IsPartIn book (cell ++ plane.now ∷ []) (record { contents = contents; outward = outward.now.items }) part) }
-    ensures count { IfOk result (λ part. part_count part ≡ length pieces.items) }
+) -> Part
+    ensures part { IsFoundPart (record { contents = contents; outward = outward.items }) section.now pieces.items result plane.now }
+    ensures count { part_count result ≡ length pieces.items }
 {
-    if !pieces.is_empty() {
-        let outward = SmallVec::from_slice(*outward.allocator(), outward.as_slice())?;
-        return Ok(Part::Kept(Contender {
+    match least_of(&pieces) {
+        Some(least) => Part::Kept(Contender {
             contents,
+            least,
             outward,
             pieces,
-        }));
+        }),
+        None => lost_part(contents, &outward, section, plane),
     }
-    if is_inside(outward.as_slice(), section, plane) {
-        return Ok(Part::Containing(contents));
+}
+
+/// What a full solid without pieces in front of a plane is to what a cell has there.
+fn lost_part(contents: Contents, outward: &[Plane], section: &Winding, plane: &Plane) -> Part
+    ensures part { IsFoundPart (record { contents = contents; outward = outward.now }) section.now [] result plane.now }
+    ensures count { part_count result ≡ 0 }
+{
+    if is_inside(outward, section, plane) {
+        Part::Containing(contents)
+    } else {
+        Part::Outside
     }
-    Ok(Part::Outside)
+}
+
+/// The rank of the piece that comes first, if there is one.
+pub(crate) fn least_of(pieces: &[Piece]) -> Option<Rank>
+    ensures { IsLesser None pieces.now result }
+{
+    let mut least = None;
+    for piece in pieces {
+        least = Some(first_of(least, piece.rank()));
+    }
+    least
 }
 
 /// Whether what is in front of a plane near a winding on it lies behind all planes. A plane does not lie behind itself.

@@ -11,7 +11,7 @@ ghost use Rattle.qm_split.specs.inner.Ranked.{IsLeastRank, IsWindingOfSome};
 
 use crate::contender::{Contender, Part};
 use crate::in_cube::part_in_cube;
-use crate::rank::Rank;
+use crate::rank::{Rank, first_of};
 use qm_brush::BrushList;
 use qm_contents::{Contents, stronger};
 use qm_geom::{Plane, PlaneBook};
@@ -101,22 +101,23 @@ impl Gathering {
 
     /// The rank of the piece that comes first.
     pub(crate) fn least(&self) -> Option<Rank>
-        ensures { IsLeastRank self.now.contenders.items result }
+        ensures { (book cell : List Plane) → All (IsContender book cell) self.now.contenders.items → IsLeastRank self.now.contenders.items result }
     {
         let mut least = None;
         for contender in &self.contenders {
-            least = contender.lesser(least);
+            least = Some(first_of(least, contender.least));
         }
         least
     }
 
-    /// The winding of a piece on a plane, if there is one.
+    /// The winding of a piece on a plane, if it is the plane of the piece that comes first.
     pub(crate) fn winding_on(&self, plane: &Plane) -> Option<&Winding>
         ensures { IfSome result (λ w. IsWindingOfSome self.now.contenders.items plane.now w.now) }
     {
+        let least = self.least()?;
         for contender in &self.contenders {
-            if let Some(winding) = contender.winding_on(plane) {
-                return Some(winding);
+            if contender.least.number == least.number {
+                return contender.winding_on(plane);
             }
         }
         None

@@ -8,14 +8,13 @@ ghost use Rattle.qm_split.specs.Pieces.{ArePieces};
 ghost use Rattle.qm_split.specs.inner.Parts.{IsPartIn};
 ghost use Rattle.qm_split.specs.inner.FacePieces.{solid_behind, IsFacePiece, HasNoFacePoint};
 
-use crate::contender::{Contender, Part};
+use crate::contender::{Contender, Part, least_of};
 use crate::piece::{Piece, numbered, push_some};
 use crate::section::kept;
 use qm_contents::Contents;
 use qm_geom::{Plane, PlaneBook};
 use qm_solids::FaceRef;
 use qm_wind::{Side, Winding};
-use smallvec::SmallVec;
 use std::alloc::{AllocError, Global};
 
 /// What a full solid is to the cube, by its faces.
@@ -31,12 +30,13 @@ pub(crate) fn part_in_cube(
 {
     let _planes = book.len();
     let pieces = pieces_in_cube(alloc, faces, book)?;
-    if pieces.is_empty() {
+    let Some(least) = least_of(&pieces) else {
         return Ok(Part::Containing(contents));
-    }
+    };
     let outward = outward_planes(alloc, faces, book)?;
     Ok(Part::Kept(Contender {
         contents,
+        least,
         outward,
         pieces,
     }))
@@ -47,11 +47,11 @@ fn outward_planes(
     alloc: Global,
     faces: &[FaceRef],
     book: &PlaneBook,
-) -> Result<SmallVec<Plane, 8>, AllocError>
+) -> Result<Vec<Plane>, AllocError>
     requires numbered { AreNumberedIn book.now faces.now }
     ensures { IfOk result (λ planes. planes.items ≡ outward_planes book.now faces.now) }
 {
-    let mut planes = SmallVec::new(alloc);
+    let mut planes = Vec::with_capacity(alloc, faces.len())?;
     for face in faces {
         planes.push(outward_of(face, book))?;
     }

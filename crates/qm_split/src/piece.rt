@@ -1,11 +1,11 @@
-ghost use Rattle.std.specs.Prelude.{◌≡◌, Contains, IfOk, IsOk, OnOk, Option, Some, option_to_list, ◌++◌};
+ghost use Rattle.std.specs.Prelude.{◌≡◌, true, Contains, IfOk, IsOk, OnOk, Option, Some, option_to_list, ◌++◌};
 ghost use Rattle.qm_space.specs.Plane.{flipped};
-ghost use Rattle.qm_split.specs.inner.PieceParts.{IsPartOf, AreFront, IsNumberedPiece};
+ghost use Rattle.qm_split.specs.inner.PieceParts.{IsPartOf, AreFront, IsNumberedPiece, IsLyingPiece};
 ghost use Rattle.qm_split.specs.inner.Ranked.{IsRankOf};
 
 use crate::rank::{Rank, is_axial};
 use qm_geom::Plane;
-use qm_wind::Winding;
+use qm_wind::{Lies, Winding};
 use std::alloc::AllocError;
 
 /// What a cell has of a face of a solid, on the plane of a number.
@@ -40,6 +40,25 @@ impl Piece {
         }
     }
 
+    /// Whether it lies in such a way beside a plane, where its cuboid tells: the plane goes through that of any other.
+    pub(crate) fn surely_lies(&self, plane: &Plane, lies: Lies) -> bool
+        ensures { result ≡ true → IsLyingPiece lies plane.now self.now }
+    {
+        let cuboid = self.winding.cuboid();
+        if cuboid.least_value(plane) < 0 && cuboid.greatest_value(plane) > 0 {
+            return false;
+        }
+        self.lies(plane) == lies
+    }
+
+    /// Where it lies beside a plane.
+    fn lies(&self, plane: &Plane) -> Lies
+        ensures { IsLyingPiece result plane.now self.now }
+    {
+        let _corners = self.winding.len();
+        self.winding.lies(plane)
+    }
+
     fn split(self, plane: &Plane) -> Result<PieceParts, AllocError>
         ensures front { IfOk result (λ parts. IsPartOf self plane.now parts.front) }
         ensures back { IfOk result (λ parts. IsPartOf self (flipped plane.now) parts.back) }
@@ -69,8 +88,8 @@ pub(crate) fn split_pieces(pieces: Vec<Piece>, plane: &Plane) -> Result<PieceLis
     ensures back { IfOk result (λ lists. AreFront pieces.items (flipped plane.now) lists.back.items) }
 {
     let alloc = *pieces.allocator();
-    let mut front = Vec::new(alloc);
-    let mut back = Vec::new(alloc);
+    let mut front = Vec::with_capacity(alloc, pieces.len())?;
+    let mut back = Vec::with_capacity(alloc, pieces.len())?;
     for piece in pieces {
         let parts = piece.split(plane)?;
         push_some(&mut front, parts.front)?;

@@ -55,9 +55,10 @@ pub(crate) fn kept(
     ensures { IfOk result (λ part.
         MatchOption part (HasNoneInFront winding (turned (is_front side) plane.now)) (λ w. IsPartInFront w winding (turned (is_front side) plane.now))) }
 {
-    let halves = winding.split(plane)?;
-    match side {
-        Side::Front => Ok(halves.front),
-        Side::Back => Ok(halves.back),
+    let _corners = winding.len();
+    match winding.clip(plane, side)? {
+        Clip::Whole => Ok(Some(winding)),
+        Clip::Gone => Ok(None),
+        Clip::Cut(part) => Ok(Some(part)),
     }
 }

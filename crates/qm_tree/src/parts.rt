@@ -48,5 +48,7 @@ fn all_name_planes(nodes: &[Node], planes: usize) -> bool
 fn all_solid_if_filled(leaves: &[Leaf]) -> bool
     ensures { IsTrue result ↔ All IsSolidIfFilled leaves.now }
 {
-    leaves.iter().all(|leaf| !leaf.filled || leaf.contents == Contents::Solid)
+    leaves
+        .iter()
+        .all(|leaf| !leaf.filled || leaf.contents == Contents::Solid)
 }

@@ -1,14 +1,15 @@
-ghost use Rattle.std.specs.Prelude.{◌≡◌, ◌<◌, List, length, Some, slice_get, IfOk};
-ghost use Rattle.qm_space.specs.Plane.{Plane};
+ghost use Rattle.std.specs.Prelude.{◌≡◌, ◌<◌, length, Some, slice_get, IfOk, IsTrue};
+ghost use Rattle.qm_space.specs.Point.{Point as SpacePoint};
+ghost use Rattle.qm_space.specs.Reduced.{leads_positive, IsReduced};
 ghost use Rattle.qm_partition.specs.declared.node.Node.{Node as NodeRecord};
 ghost use Rattle.qm_partition.specs.Partition.{Partition};
 ghost use Rattle.qm_partition.specs.Tree.{Tree};
 ghost use Rattle.qm_partition.specs.Counting.{leaves_of, leaf_count, node_count};
 ghost use Rattle.qm_partition.specs.Numbering.{child_of, nodes_of};
-ghost use Rattle.qm_partition.specs.LeafOfPoint.{leaf_at};
+ghost use Rattle.qm_partition.specs.LeafOfPoint.{leaf_record_at, leaf_at};
 ghost use Rattle.qm_partition.specs.inner.ChildTowards.{child_towards};
 ghost use Rattle.qm_partition.specs.inner.LeavesInFront.{leaves_in_front, ComesBehind};
-ghost use Rattle.qm_partition.specs.Ways.{ways};
+ghost use Rattle.qm_partition.specs.Ways.{ways, HasPoints};
 ghost use Rattle.qm_partition.specs.Visits.{visits};
 ghost use Rattle.qm_partition.specs.Joining.{joined};
 ghost use Rattle.qm_partition.specs.WellMade.{IsWellMade, IsMadeOf};
@@ -48,7 +49,7 @@ impl Model for Tree {
 }
 
 impl Tree {
-    /// The tree of planes, nodes and leaves.
+    /// The tree of planes, nodes and leaves. `NotNumbered` exactly where no tree has these.
     pub fn of(
         alloc: Global,
         planes: Vec<Plane>,
@@ -71,7 +72,8 @@ impl Tree {
         })
     }
 
-    /// The tree of visits, in which siblings that are leaves of equal contents have become one leaf, from the leaves up.
+    /// The tree of the visits of a walk, in which siblings that are leaves of equal contents have become one leaf, from the
+    /// leaves up.
     pub fn joined_of(
         alloc: Global,
         planes: Vec<Plane>,
@@ -90,13 +92,16 @@ impl Tree {
     }
 
     /// The tree in which siblings that are leaves of equal contents have become one leaf, from the leaves up. Nodes and
-    /// leaves are numbered anew.
+    /// leaves are numbered anew. Each point has the contents that it had, and where each leaf had a point, each has one.
     pub fn joined(self, alloc: Global) -> Result<Tree, AllocError>
-        ensures { IfOk result (λ tree. tree ≡ record { planes = self.planes; shape = joined self.shape }) }
+        ensures value { IfOk result (λ tree. tree ≡ record { planes = self.planes; shape = joined self.shape }) }
+        ensures contents { IfOk result (λ tree. (x : SpacePoint) → (leaf_record_at tree.planes tree.shape x).contents ≡ (leaf_record_at self.planes self.shape x).contents) }
+        ensures points { HasPoints self → IfOk result (λ tree. HasPoints tree) }
     {
         let walk = self.walk(alloc)?;
         let Tree { planes, .. } = self;
-        Tree::joined_of(alloc, planes, walk)
+        let tree = Tree::joined_of(alloc, planes, walk)?;
+        Ok(tree)
     }
 
     /// The visits of a walk through all nodes and leaves.
@@ -151,6 +156,7 @@ impl Tree {
     /// The number of the leaf to which a point is led: at each node to the front where the point is not behind the plane.
     pub fn leaf_at(&self, at: &Point) -> u64
         ensures value { result ≡ leaf_at self.now.planes self.now.shape at.now }
+        ensures within { result < leaf_count self.now.shape }
     {
         let mut child = self.root();
         loop {
@@ -196,9 +202,14 @@ impl Tree {
     /// The plane of a number.
     pub fn plane(&self, n: u32) -> Plane
         requires { n < length self.now.planes }
-        ensures { slice_get self.now.planes n ≡ Some result }
+        ensures value { slice_get self.now.planes n ≡ Some result }
+        ensures leads { IsTrue (leads_positive result) }
+        ensures reduced { IsReduced result }
     {
-        self.planes[n as usize]
+        let plane = self.planes[n as usize];
+        // Each plane is in lowest terms, as its fields show.
+        let _ = &plane.nx;
+        plane
     }
 
     /// How many nodes there are.

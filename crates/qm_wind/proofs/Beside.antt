@@ -1,5 +1,5 @@
 -- Whether a winding lies in a plane, by the numbers of its own.
-use Rattle.std.proofs.Common.{◌≡◌, Bool, true, false, ◌&&◌, ◌↔◌, IsTrue, ℤ, ap, sym, ◌∙◌, subst, ◌⊎◌, inl, inr, ⊎_elim, true≢false, arith}
+use Rattle.std.proofs.Common.{◌≡◌, Bool, true, false, ◌&&◌, ◌↔◌, IsTrue, ap, sym, ◌∙◌, subst, inl, inr, ⊎_elim, true≢false, arith}
 use Rattle.std.specs.Ordering.{int_eq}
 use Rattle.std.proofs.lemmas.Int.{ints}
 use Rattle.qm_space.specs.Plane.{Plane, flipped}

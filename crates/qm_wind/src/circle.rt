@@ -1,16 +1,9 @@
-ghost use Rattle.std.specs.Prelude.{◌≡◌, ◌<◌, ◌≤◌, ◌++◌, take, length, slice_index_or, OnOk};
+ghost use Rattle.std.specs.Prelude.{◌≡◌, ◌<◌, ◌≤◌, ◌++◌, take, length, OnOk};
+ghost use Rattle.qm_convex.specs.Winding.{next_place};
 ghost use Rattle.qm_convex.specs.Rotation.{rotated_list, place_after};
 
 use smallvec::SmallVec;
 use std::alloc::AllocError;
-
-/// The item at a place.
-pub(crate) fn item<T: Copy>(items: &[T], i: usize) -> T
-    requires { i < length items.now }
-    ensures { (d : T) → result ≡ slice_index_or items.now i d }
-{
-    items[i]
-}
 
 /// Adds so many items in a row from a place on, of items in a circle.
 pub(crate) fn add_arc<T: Copy + Default + Drop>(
@@ -31,18 +24,13 @@ pub(crate) fn add_arc<T: Copy + Default + Drop>(
     list.extend_from_slice(&items[..count - before_end])
 }
 
-/// The place so many steps after a place, of places in a circle.
-pub(crate) fn place_after(places: usize, place: usize, steps: usize) -> usize
-    requires place_in_range { place < places }
-    requires steps_in_range { steps < places }
-    ensures { result ≡ place_after places place steps }
+/// The place after a place, of places in a circle.
+pub(crate) fn next_place(places: usize, place: usize) -> usize
+    requires { place < places }
+    ensures value { result ≡ next_place places place }
+    ensures below { result < places }
 {
-    let before_end = places - place;
-    if steps < before_end {
-        place + steps
-    } else {
-        steps - before_end
-    }
+    if place + 1 == places { 0 } else { place + 1 }
 }
 
 /// How many steps lead from one place to another, of places in a circle.

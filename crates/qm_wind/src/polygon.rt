@@ -7,8 +7,8 @@ ghost use Rattle.qm_convex.specs.Sides.{HasCornerBehind, HasNoneInFront};
 ghost use Rattle.qm_wind.specs.inner.Surveyed.{IsRun, IsSurvey};
 ghost use Rattle.qm_wind.specs.inner.Finding.{HasCornersAcross};
 
-use crate::circle::{add_arc, steps_between};
-use crate::survey::{Run, Survey, corner};
+use crate::circle::{add_arc, next_place, steps_between};
+use crate::survey::{Run, Survey};
 use crate::walls::mirrored;
 use qm_geom::{Corner, Plane};
 use smallvec::SmallVec;
@@ -139,4 +139,14 @@ impl Polygon {
             edges,
         })
     }
+}
+
+/// The corner at a place.
+fn corner(on: &Plane, edges: &[Plane], i: usize) -> Corner
+    requires convex { IsConvex (record { plane = on.now; edges = edges.now }) }
+    requires in_range { i < length edges.now }
+    ensures { result ≡ corner_at (record { plane = on.now; edges = edges.now }) i }
+{
+    let next = next_place(edges.len(), i);
+    Corner::turning(on, &edges[i], &edges[next])
 }

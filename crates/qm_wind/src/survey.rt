@@ -1,10 +1,12 @@
 ghost use Rattle.std.specs.Prelude.{◌≡◌, ◌<◌, pos, length};
 ghost use Rattle.std.specs.Ordering.{int_cmp};
-ghost use Rattle.qm_space.specs.Plane.{value};
-ghost use Rattle.qm_convex.specs.Winding.{corner_at, IsConvex, next_place};
+ghost use Rattle.qm_space.specs.Plane.{Plane, value};
+ghost use Rattle.qm_space.specs.CommonLine.{common_line};
+ghost use Rattle.qm_convex.specs.Winding.{corner_at, IsConvex};
 ghost use Rattle.qm_wind.specs.inner.Surveyed.{noted, begun, surveyed, IsSurvey};
 
-use qm_geom::{Corner, Plane};
+use crate::circle::next_place;
+use qm_geom::{Line, Plane};
 use std::cmp::Ordering;
 
 /// The corners of a winding on one side of a plane, which stand in one row of the circle.
@@ -72,11 +74,12 @@ impl Survey {
         requires { IsConvex (record { plane = on.now; edges = edges.now }) }
         ensures { IsSurvey (record { plane = on.now; edges = edges.now }) plane.now result }
     {
-        let first = side_of_corner(on, edges, 0, plane);
+        let line = Line::of(plane, on);
+        let first = side_of_corner(&line, edges, 0);
         let mut before = first;
         let mut survey = Survey::beginning(first);
         for i in 1..edges.len() {
-            let here = side_of_corner(on, edges, i, plane);
+            let here = side_of_corner(&line, edges, i);
             survey = survey.noting(before, here, i);
             before = here;
         }
@@ -84,30 +87,13 @@ impl Survey {
     }
 }
 
-/// The side of a plane on which the corner at a place lies.
-fn side_of_corner(on: &Plane, edges: &[Plane], i: usize, plane: &Plane) -> Ordering
-    requires convex { IsConvex (record { plane = on.now; edges = edges.now }) }
-    requires in_range { i < length edges.now }
-    ensures { result ≡ int_cmp (value plane.now (corner_at (record { plane = on.now; edges = edges.now }) i)) (pos 0) }
-{
-    corner(on, edges, i).side(plane)
-}
-
-/// The corner at a place.
-pub(crate) fn corner(on: &Plane, edges: &[Plane], i: usize) -> Corner
-    requires convex { IsConvex (record { plane = on.now; edges = edges.now }) }
-    requires in_range { i < length edges.now }
-    ensures { result ≡ corner_at (record { plane = on.now; edges = edges.now }) i }
+/// The side of a plane on which the corner at a place lies, by the line in which the plane meets that of
+/// the winding.
+fn side_of_corner(line: &Line, edges: &[Plane], i: usize) -> Ordering
+    requires { i < length edges.now }
+    ensures { (g h : Plane) → line.now ≡ common_line g h →
+        result ≡ int_cmp (value g (corner_at (record { plane = h; edges = edges.now }) i)) (pos 0) }
 {
     let next = next_place(edges.len(), i);
-    Corner::turning(on, &edges[i], &edges[next])
-}
-
-/// The place after a place, of places in a circle.
-fn next_place(places: usize, place: usize) -> usize
-    requires { place < places }
-    ensures value { result ≡ next_place places place }
-    ensures below { result < places }
-{
-    if place + 1 == places { 0 } else { place + 1 }
+    line.side_of_meeting(&edges[i], &edges[next])
 }

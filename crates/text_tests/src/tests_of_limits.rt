@@ -18,27 +18,24 @@ fn fault_of(
     parse(alloc, &text).err()
 }
 
+static ABOUT_THE_LIMIT: [(&[u8], u8, &[u8], MapFault); 7] = [
+    (b"", b' ', b"", MapFault::NoEntity { line: 1 }),
+    (b"", b' ', b"\n", MapFault::TextTooLong { line: 1 }),
+    (b"}", b' ', b" ", MapFault::Unexpected { line: 1 }),
+    (b"\n", b'}', b"\n", MapFault::Unexpected { line: 2 }),
+    (b"\n", b'}', b"}", MapFault::TextTooLong { line: 2 }),
+    (b"{ \"", b'\n', b"", MapFault::UnclosedQuote { line: 1 }),
+    (
+        b"{ \"",
+        b'\n',
+        b"a",
+        MapFault::TextTooLong { line: 67_108_862 },
+    ),
+];
+
 #[test]
 fn texts_about_the_limit(rt: HostRuntime) {
-    for (start, filling, last, fault) in [
-        (
-            b"".as_slice(),
-            b' ',
-            b"".as_slice(),
-            MapFault::NoEntity { line: 1 },
-        ),
-        (b"", b' ', b"\n", MapFault::TextTooLong { line: 1 }),
-        (b"}", b' ', b" ", MapFault::Unexpected { line: 1 }),
-        (b"\n", b'}', b"\n", MapFault::Unexpected { line: 2 }),
-        (b"\n", b'}', b"}", MapFault::TextTooLong { line: 2 }),
-        (b"{ \"", b'\n', b"", MapFault::UnclosedQuote { line: 1 }),
-        (
-            b"{ \"",
-            b'\n',
-            b"a",
-            MapFault::TextTooLong { line: 67_108_862 },
-        ),
-    ] {
+    for &(start, filling, last, fault) in &ABOUT_THE_LIMIT {
         assert!(rt; fault_of(rt.alloc(), start, filling, LIMIT, last) == Some(fault));
     }
 }

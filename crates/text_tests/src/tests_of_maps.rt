@@ -55,21 +55,19 @@ fn has_words(
     Some(is_texture && words.len() == count && words.get(at)?.as_slice() == word)
 }
 
+static FACES: [([usize; 4], &[u8], &[u8]); 4] = [
+    ([0, 0, 11, 3], b"{fence_\xff", b"-32.5"),
+    ([0, 0, 11, 10], b"{fence_\xff", b"1.25"),
+    ([1, 0, 5, 2], b"with a blank, and long", b"90"),
+    ([1, 1, 5, 4], b"*water", b"1"),
+];
+
 #[test]
 fn the_faces_of_a_room(rt: HostRuntime) {
     let Ok(map) = parse(rt.alloc(), ROOM) else {
         panic!(rt; "no map");
     };
-    for (where_it_is, texture, word) in [
-        (
-            [0, 0, 11, 3],
-            b"{fence_\xff".as_slice(),
-            b"-32.5".as_slice(),
-        ),
-        ([0, 0, 11, 10], b"{fence_\xff", b"1.25"),
-        ([1, 0, 5, 2], b"with a blank, and long", b"90"),
-        ([1, 1, 5, 4], b"*water", b"1"),
-    ] {
+    for &(where_it_is, texture, word) in &FACES {
         assert!(rt; has_words(&map, where_it_is, texture, word) == Some(true));
     }
 }
@@ -86,16 +84,18 @@ fn has_pair(map: &MapFile, entity: usize, pair: usize, key: &[u8], value: &[u8])
     Some(pair.key.as_slice() == key && pair.value.as_slice() == value)
 }
 
+static PAIRS: [(usize, usize, &[u8], &[u8]); 3] = [
+    (0, 0, b"mapversion", b"220"),
+    (0, 1, b"message", b"two\r\nlines"),
+    (1, 0, b"classname", b"func_door"),
+];
+
 #[test]
 fn the_pairs_of_a_room(rt: HostRuntime) {
     let Ok(map) = parse(rt.alloc(), ROOM) else {
         panic!(rt; "no map");
     };
-    for (entity, pair, key, value) in [
-        (0, 0, b"mapversion".as_slice(), b"220".as_slice()),
-        (0, 1, b"message", b"two\r\nlines"),
-        (1, 0, b"classname", b"func_door"),
-    ] {
+    for &(entity, pair, key, value) in &PAIRS {
         assert!(rt; has_pair(&map, entity, pair, key, value) == Some(true));
     }
 }
@@ -106,23 +106,25 @@ fn first_points(alloc: Global, text: &[u8]) -> Option<[[i32; 3]; 3]> {
     Some(face_at(&map, 0, 0)?.points)
 }
 
+static NUMBERS: [(&[u8], [[i32; 3]; 3]); 4] = [
+    (ROOM, [[-64, -64, -16], [-64, -63, -16], [-64, -64, -15]]),
+    (
+        b"{ { ( 4096 -4096 0 ) ( 4096 4096 0 ) ( 4096 0 4096 ) a 0 0 0 1 1 } }",
+        [[4096, -4096, 0], [4096, 4096, 0], [4096, 0, 4096]],
+    ),
+    (
+        b"{ { ( +64 64. 64.000 ) ( -0 .0 00064 ) ( 0 0 1 ) a 0 0 0 1 1 } }",
+        [[64, 64, 64], [0, 0, 64], [0, 0, 1]],
+    ),
+    (
+        b"{ \"\"\"\" { ( 0 0 0 ) ( 0 1 0 ) ( 0 0 1 ) \"{\" b\"c [d e//f 0 1 } } // x",
+        [[0, 0, 0], [0, 1, 0], [0, 0, 1]],
+    ),
+];
+
 #[test]
 fn numbers_that_are_read(rt: HostRuntime) {
-    for (text, points) in [
-        (ROOM, [[-64, -64, -16], [-64, -63, -16], [-64, -64, -15]]),
-        (
-            b"{ { ( 4096 -4096 0 ) ( 4096 4096 0 ) ( 4096 0 4096 ) a 0 0 0 1 1 } }",
-            [[4096, -4096, 0], [4096, 4096, 0], [4096, 0, 4096]],
-        ),
-        (
-            b"{ { ( +64 64. 64.000 ) ( -0 .0 00064 ) ( 0 0 1 ) a 0 0 0 1 1 } }",
-            [[64, 64, 64], [0, 0, 64], [0, 0, 1]],
-        ),
-        (
-            b"{ \"\"\"\" { ( 0 0 0 ) ( 0 1 0 ) ( 0 0 1 ) \"{\" b\"c [d e//f 0 1 } } // x",
-            [[0, 0, 0], [0, 1, 0], [0, 0, 1]],
-        ),
-    ] {
+    for &(text, points) in &NUMBERS {
         assert!(rt; first_points(rt.alloc(), text) == Some(points));
     }
 }

@@ -14,16 +14,17 @@ fn printed(alloc: Global, numerator: i128, denominator: i128) -> Result<Vec<u8>,
     Ok(out)
 }
 
+static PRINTED: [(i128, i128, &[u8]); 5] = [
+    (1, 3, b"0.333333"),
+    (-2, 3, b"-0.666667"),
+    (5, 1, b"5"),
+    (1, 2_000_000, b"0.000001"),
+    (-1, 10_000_000, b"0.000000"),
+];
+
 #[test]
 fn fractions_are_printed(rt: HostRuntime) -> Result<(), Fail> {
-    let rows = [
-        (1, 3, b"0.333333".as_slice()),
-        (-2, 3, b"-0.666667"),
-        (5, 1, b"5"),
-        (1, 2_000_000, b"0.000001"),
-        (-1, 10_000_000, b"0.000000"),
-    ];
-    for (numerator, denominator, text) in rows {
+    for &(numerator, denominator, text) in &PRINTED {
         let shown = printed(rt.alloc(), numerator, denominator)?;
         assert!(rt; shown.as_slice() == text);
     }
@@ -40,18 +41,19 @@ fn millionths(text: &[u8]) -> Result<i64, u8> {
     }
 }
 
+static READ: [(&[u8], Result<i64, u8>); 6] = [
+    (b"+3.25", Ok(3_250_000)),
+    (b"-.5", Ok(-500_000)),
+    (b"1000000000.", Ok(1_000_000_000_000_000)),
+    (b"1e3", Err(b'f')),
+    (b"0.0000001", Err(b'd')),
+    (b"-1000000001", Err(b'l')),
+];
+
 #[test]
 fn numbers_are_read(rt: HostRuntime) {
-    let rows = [
-        (b"+3.25".as_slice(), Ok(3_250_000)),
-        (b"-.5", Ok(-500_000)),
-        (b"1000000000.", Ok(1_000_000_000_000_000)),
-        (b"1e3", Err(b'f')),
-        (b"0.0000001", Err(b'd')),
-        (b"-1000000001", Err(b'l')),
-    ];
     assert!(rt;
-        rows.iter()
+        READ.iter()
             .all(|(text, answer)| millionths(text) == *answer)
     );
 }

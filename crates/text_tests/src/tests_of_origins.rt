@@ -10,18 +10,20 @@ fn has_bad_origin(alloc: Global, text: &[u8]) -> bool {
     }
 }
 
+static NO_POINT: [&[u8]; 8] = [
+    b"{ } { \"origin\" \"1 2 3 4\" }",
+    b"{ } { \"origin\" \"\" }",
+    b"{ } { \"origin\" \"4096 0 0\" }",
+    b"{ } { \"origin\" \"0 -4096 0\" }",
+    b"{ } { \"origin\" \"0 0 0.0000001\" }",
+    b"{ } { \"origin\" \"0 0 x\" \"origin\" \"0 0 0\" }",
+    b"{ } { \"origin\" \"0 0 0\" } { \"a\" \"b\" \"origin\" \"x\" }",
+    b"{ } { \"origin\" \"a\nb\" }",
+];
+
 #[test]
 fn origins_that_give_no_point(rt: HostRuntime) {
-    for text in [
-        b"{ } { \"origin\" \"1 2 3 4\" }".as_slice(),
-        b"{ } { \"origin\" \"\" }",
-        b"{ } { \"origin\" \"4096 0 0\" }",
-        b"{ } { \"origin\" \"0 -4096 0\" }",
-        b"{ } { \"origin\" \"0 0 0.0000001\" }",
-        b"{ } { \"origin\" \"0 0 x\" \"origin\" \"0 0 0\" }",
-        b"{ } { \"origin\" \"0 0 0\" } { \"a\" \"b\" \"origin\" \"x\" }",
-        b"{ } { \"origin\" \"a\nb\" }",
-    ] {
+    for text in &NO_POINT {
         assert!(rt; has_bad_origin(rt.alloc(), text));
     }
 }
@@ -32,18 +34,20 @@ fn second_point(alloc: Global, text: &[u8]) -> Option<Point> {
     map.entities.as_slice().get(1)?.origin()
 }
 
+static POINTS: [(&[u8], [i64; 3]); 2] = [
+    (
+        b"{ } { \"classname\" \"light\" \"origin\" \" 1 -2.5 0.000001\" \"origin\" \"x\" }",
+        [1_000_000, -2_500_000, 1],
+    ),
+    (
+        b"{ \"origin\" \"x\" } { \"Origin\" \"x\" \"origin \" \"y\" \"origin\" \"\t-4095.999999 0.5\n1. \" }",
+        [-4_095_999_999, 500_000, 1_000_000],
+    ),
+];
+
 #[test]
 fn the_point_of_the_first_origin(rt: HostRuntime) {
-    for (text, [x, y, z]) in [
-        (
-            b"{ } { \"classname\" \"light\" \"origin\" \" 1 -2.5 0.000001\" \"origin\" \"x\" }".as_slice(),
-            [1_000_000, -2_500_000, 1],
-        ),
-        (
-            b"{ \"origin\" \"x\" } { \"Origin\" \"x\" \"origin \" \"y\" \"origin\" \"\t-4095.999999 0.5\n1. \" }",
-            [-4_095_999_999, 500_000, 1_000_000],
-        ),
-    ] {
+    for &(text, [x, y, z]) in &POINTS {
         let point = Point {
             x,
             y,

@@ -23,27 +23,28 @@ fn a_map_is_printed_behind_what_was_there(rt: HostRuntime) -> Result<(), Fail> {
     Ok(())
 }
 
+static TEXTURES: [(&[u8], &[u8]); 4] = [
+    (
+        b"{ { ( 0 0 0 ) ( 0 1 0 ) ( 0 0 1 ) \"\" 0 0 0 1 1 } }",
+        b"\"\"",
+    ),
+    (
+        b"{ { ( 0 0 0 ) ( 0 1 0 ) ( 0 0 1 ) \"{\" 0 0 0 1 1 } }",
+        b"\"{\"",
+    ),
+    (
+        b"{ { ( 0 0 0 ) ( 0 1 0 ) ( 0 0 1 ) \"//x\" 0 0 0 1 1 } }",
+        b"\"//x\"",
+    ),
+    (
+        b"{ { ( 0 0 0 ) ( 0 1 0 ) ( 0 0 1 ) \"/x\" 0 0 0 1 1 } }",
+        b"/x",
+    ),
+];
+
 #[test]
 fn a_texture_stands_between_quotes_where_it_has_to(rt: HostRuntime) -> Result<(), Fail> {
-    let rows = [
-        (
-            b"{ { ( 0 0 0 ) ( 0 1 0 ) ( 0 0 1 ) \"\" 0 0 0 1 1 } }".as_slice(),
-            b"\"\"".as_slice(),
-        ),
-        (
-            b"{ { ( 0 0 0 ) ( 0 1 0 ) ( 0 0 1 ) \"{\" 0 0 0 1 1 } }",
-            b"\"{\"",
-        ),
-        (
-            b"{ { ( 0 0 0 ) ( 0 1 0 ) ( 0 0 1 ) \"//x\" 0 0 0 1 1 } }",
-            b"\"//x\"",
-        ),
-        (
-            b"{ { ( 0 0 0 ) ( 0 1 0 ) ( 0 0 1 ) \"/x\" 0 0 0 1 1 } }",
-            b"/x",
-        ),
-    ];
-    for (text, name) in rows {
+    for &(text, name) in &TEXTURES {
         let out = printed_behind(rt.alloc(), b"", text)?;
         assert!(rt; out.get(34..34 + name.len()) == Some(name));
     }

@@ -1,10 +1,14 @@
-//! Tests of trees, by the calls that `qm_tree` offers.
+//! Tests of trees and of the brushes that they are built from, by the calls that these crates offer.
 #![tactic(auto)]
 
+#[cfg(test)]
+mod brushes;
 #[cfg(test)]
 mod built;
 #[cfg(test)]
 mod cube;
+#[cfg(test)]
+mod fragments;
 #[cfg(test)]
 mod joined;
 #[cfg(test)]

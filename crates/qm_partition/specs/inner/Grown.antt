@@ -1,4 +1,4 @@
-use Rattle.std.specs.Prelude.{◌≡◌, ℕ, List, [], ◌∷◌, ◌++◌, Option, Some, None, refl}
+use Rattle.std.specs.Prelude.{◌≡◌, List, [], ◌∷◌, ◌++◌, Option, Some, None, refl}
 use Rattle.std.proofs.Common.{ap, ◌∙◌}
 use Rattle.qm_partition.specs.declared.visit.Visit.{Visit}
 use Rattle.qm_partition.specs.declared.visit.Visit.TheVariants.{Node, Leaf}

@@ -1,17 +1,19 @@
 use Rattle.std.specs.Prelude.{◌≡◌, ◌≢◌, ◌⊎◌, ℕ, ◌<◌, ◌≤◌, List, ◌++◌, ◌∷◌, [], length, All, Contains}
 use Rattle.qm_space.specs.Point.{Point, IsInCube}
 use Rattle.qm_space.specs.Plane.{Plane, IsOn}
+use Rattle.qm_space.specs.Reduced.{IsReduced}
 use Rattle.qm_space.specs.Cell.{IsInCell}
 use Rattle.qm_convex.specs.Winding.{Winding, IsInRegion, IsConvex}
 use Rattle.qm_convex.specs.Sides.{HasNoneInFront, HasSomeInFront, LiesIn}
 use Rattle.qm_solids.specs.Solid.{Solid}
+use Rattle.qm_solids.specs.Holding.{IsFull}
 use Rattle.qm_solids.specs.Cells.{ContainsCell}
 use Rattle.qm_solids.specs.Uniform.{LiesOutside}
 use Rattle.qm_split.specs.declared.piece.Piece.{Piece}
 use Rattle.qm_split.specs.declared.contender.Contender.{Contender}
 use Rattle.qm_split.specs.declared.contender.Part.{Part}
 use Rattle.qm_split.specs.declared.contender.Part.TheVariants.{Kept, Containing, Outside}
-use Rattle.qm_split.specs.Pieces.{solid_of, IsContender}
+use Rattle.qm_split.specs.Pieces.{solid_of, ArePieces, IsContender}
 
 -- What a solid is to a cell.
 
@@ -32,6 +34,12 @@ pub record IsSection (cell : List Plane) (h : Plane) (w : Winding) : Type 0 wher
   pub on : (x : Point) → IsInRegion w x → IsOn h x
   pub in_cube : (x : Point) → IsInRegion w x → IsInCube x
   pub in_cell : (x : Point) → IsInRegion w x → IsInCell cell x
+
+-- what a full solid with these pieces in front of a plane is to what a cell has there
+abbrev pub IsFoundPart : Solid → Winding → List Piece → Part → Plane → Type 0
+IsFoundPart solid w pieces part g =
+    (book cell : List Plane) → IsFull solid → All IsReduced solid.outward → IsSection cell g w →
+    ArePieces book (cell ++ g ∷ []) solid pieces → IsPartIn book (cell ++ g ∷ []) solid part
 
 -- the plane o, outward of a solid, shows that the winding w or what is in front of the plane g is not inside the solid
 abbrev pub IsAhead : Winding → Plane → Plane → Type 0

@@ -1,8 +1,10 @@
 use Rattle.std.specs.Prelude.{◌≡◌, ◌⊎◌, ◌<◌, ◌≤◌, List, length, Contains, Option, Some, None, MatchOption, ℕ}
 use Rattle.qm_space.specs.Plane.{Plane}
-use Rattle.qm_convex.specs.Winding.{Winding}
+use Rattle.qm_convex.specs.Winding.{Winding, IsConvex}
 use Rattle.qm_convex.specs.Sides.{HasNoneInFront}
 use Rattle.qm_convex.specs.Cut.{IsPartInFront}
+use Rattle.qm_wind.specs.declared.lies.Lies.{Lies}
+use Rattle.qm_wind.specs.Lying.{IsLying}
 use Rattle.qm_split.specs.declared.piece.Piece.{Piece}
 
 -- What pieces have in front of a plane.
@@ -39,3 +41,8 @@ pub record AreFront (ps : List Piece) (g : Plane) (qs : List Piece) : Type 0 whe
 abbrev pub IsNumberedPiece : ℕ → Option Winding → Option Piece → Type 0
 IsNumberedPiece n None piece = piece ≡ None
 IsNumberedPiece n (Some winding) piece = piece ≡ Some (record { number = n; winding = winding })
+
+-- how the piece lies beside a plane
+pub record IsLyingPiece (lies : Lies) (g : Plane) (p : Piece) : Type 0 where
+  pub convex : IsConvex p.winding
+  pub lying : IsLying lies p.winding g

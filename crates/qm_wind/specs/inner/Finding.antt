@@ -1,5 +1,3 @@
-use Rattle.std.specs.Prelude.{◌≡◌, true}
-use Rattle.qm_space.specs.Cuboid.{Cuboid}
 use Rattle.qm_space.specs.Plane.{Plane, flipped}
 use Rattle.qm_convex.specs.Winding.{Winding}
 use Rattle.qm_convex.specs.Sides.{HasCornerInFront, IsWhollyInFront, LiesIn}

@@ -1,9 +1,10 @@
-use Rattle.std.proofs.Common.{sym, subst, arith}
+use Rattle.std.proofs.Common.{sym, ◌∙◌, subst, arith}
 use Rattle.qm_space.specs.Plane.{Plane}
+use Rattle.qm_grammar.specs.Valid.{IsValidFace}
 use Rattle.qm_brush.specs.Planes.{plane_of_face}
 use Rattle.qm_brush.specs.inner.Entered.{AreFirstEntered}
 use Rattle.std.specs.Prelude.{List, map}
-use Rattle.qm_brush.proofs.EnteredFaces.{on_error, none_entered, next_entered, length-entered_faces, first_entered}
+use Rattle.qm_brush.proofs.EnteredFaces.{on_error, none_entered, next_entered, all_entered, length-entered_faces, first_entered}
 use Rattle.qm_brush.proofs.entering.enter_faces.Goals as goal
 
 pub loop-face-init : goal.loop-face-init
@@ -26,3 +27,21 @@ returns-in_err-enter_face-clause-err c =
     on_error c.from_residual.result
     (subst (λ (book : List Plane). AreFirstEntered c.args.book.now (map plane_of_face c.args.faces.now) book) (sym c.in_err-enter_face.ensures.same_book)
     (first_entered c.args.faces.now c.loop-face.face-index c.args.into.now.items c.loop-face.into.items c.args.book.now c.loop-face.book c.loop-face.invariant))
+
+pub returns-clause-ok : goal.returns-clause-ok
+returns-clause-ok c =
+    all_entered c.args.faces.now c.loop-face.face-index c.args.into.now.items c.loop-face.into.items c.args.book.now c.loop-face.book c.loop-face.invariant c.loop-face-test.false
+
+pub returns-clause-longer : goal.returns-clause-longer
+returns-clause-longer c = (c.loop-face.invariant.its, c.loop-face.invariant.added)
+
+pub returns-in_err-enter_face-clause-longer : goal.returns-in_err-enter_face-clause-longer
+returns-in_err-enter_face-clause-longer c = (c.loop-face.invariant.its, c.in_err-enter_face.ensures.same_faces ∙ c.loop-face.invariant.added)
+
+pub enter_face-requires-clause-coordinates : goal.enter_face-requires-clause-coordinates
+enter_face-requires-clause-coordinates c =
+    (subst IsValidFace (sym c.face-item.is) (c.requires.valid c.loop-face.face-index c.face-item.result c.loop-face-test.true)).coordinates
+
+pub enter_face-requires-clause-plane : goal.enter_face-requires-clause-plane
+enter_face-requires-clause-plane c =
+    (subst IsValidFace (sym c.face-item.is) (c.requires.valid c.loop-face.face-index c.face-item.result c.loop-face-test.true)).plane

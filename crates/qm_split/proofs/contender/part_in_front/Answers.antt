@@ -1,25 +1,23 @@
-use Rattle.std.proofs.Common.{◌≡◌, List, [], ◌∷◌, ◌++◌, All, refl, subst, arith}
-use Rattle.std.proofs.lemmas.Grind.{common_steps}
-use Rattle.std.proofs.lemmas.List.{nil_from_length}
+use Rattle.std.proofs.Common.{◌≡◌, [], List, Some, None, refl, sym, ap, ◌∙◌, subst, length}
 use Rattle.qm_space.specs.Plane.{Plane}
 use Rattle.qm_split.specs.declared.piece.Piece.{Piece}
-use Rattle.qm_split.specs.Pieces.{ArePieces}
-use Rattle.qm_split.specs.inner.Parts.{IsNotAhead, HasAhead}
-use Rattle.qm_split.proofs.KeptParts.{contains_beyond, outside_beyond}
+use Rattle.qm_split.specs.inner.Parts.{IsFoundPart}
+use Rattle.qm_split.specs.inner.Ranked.{IsLesser}
+use Rattle.qm_split.proofs.RankOrder.{no_pieces}
+use Rattle.qm_split.proofs.KeptParts.{kept_contender}
 use Rattle.qm_split.proofs.contender.part_in_front.Goals as goal
 
-pub returns-then-is_inside-clause-part : goal.returns-then-is_inside-clause-part
-returns-then-is_inside-clause-part c = λ book cell full reduced section pieces.
-    let none : c.args.pieces.items ≡ [] = nil_from_length c.args.pieces.items (grind (arith, common_steps)) in (
-      refl,
-      contains_beyond book cell (record { contents = c.args.contents; outward = c.args.outward.now.items }) c.args.section.now c.args.plane.now c.is_inside.ensures.reduced full reduced section
-          (subst (λ (ps : List Piece). ArePieces book (cell ++ c.args.plane.now ∷ []) (record { contents = c.args.contents; outward = c.args.outward.now.items }) ps) none pieces)
-          (subst (λ (os : List Plane). All (IsNotAhead c.args.section.now c.args.plane.now) os) c.as_slice-2.ensures (c.if-is_inside.ensures.answer section.convex)),
-    )
+pub returns-in-Some-clause-part : goal.returns-in-Some-clause-part
+returns-in-Some-clause-part c = λ book cell full reduced section pieces.
+    kept_contender book _ _ _ refl full reduced (subst (λ (ps : List Piece). IsLesser None ps (Some c.in-Some.least)) c.deref.ensures.value c.in-Some.ensures) pieces
 
-pub returns-clause-part : goal.returns-clause-part
-returns-clause-part c = λ book cell full reduced section pieces.
-    let none : c.args.pieces.items ≡ [] = nil_from_length c.args.pieces.items (grind (arith, common_steps)) in
-    outside_beyond book cell (record { contents = c.args.contents; outward = c.args.outward.now.items }) c.args.section.now c.args.plane.now c.is_inside.ensures.reduced full reduced section
-    (subst (λ (ps : List Piece). ArePieces book (cell ++ c.args.plane.now ∷ []) (record { contents = c.args.contents; outward = c.args.outward.now.items }) ps) none pieces)
-    (subst (λ (os : List Plane). HasAhead os c.args.section.now c.args.plane.now) c.as_slice-2.ensures (c.if-is_inside.ensures.answer section.convex))
+pub returns-in-None-clause-part : goal.returns-in-None-clause-part
+returns-in-None-clause-part c =
+    let none = no_pieces c.args.pieces.items (subst (λ (ps : List Piece). IsLesser None ps None) c.deref.ensures.value c.in-None.ensures) in
+    subst (λ (ps : List Piece). IsFoundPart (record { contents = c.args.contents; outward = c.args.outward.items }) c.args.section.now ps c.lost_part.result c.args.plane.now) (sym none)
+    (subst (λ (os : List Plane). IsFoundPart (record { contents = c.args.contents; outward = os }) c.args.section.now [] c.lost_part.result c.args.plane.now) c.deref-in-None.ensures.value c.lost_part.ensures.part)
+
+pub returns-in-None-clause-count : goal.returns-in-None-clause-count
+returns-in-None-clause-count c =
+    let none = no_pieces c.args.pieces.items (subst (λ (ps : List Piece). IsLesser None ps None) c.deref.ensures.value c.in-None.ensures) in
+    c.lost_part.ensures.count ∙ sym (ap length none)

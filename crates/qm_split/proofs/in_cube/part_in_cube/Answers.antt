@@ -1,18 +1,22 @@
-use Rattle.std.proofs.Common.{◌≡◌, List, [], refl, ap, subst, arith}
-use Rattle.std.proofs.lemmas.Grind.{common_steps}
-use Rattle.std.proofs.lemmas.List.{nil_from_length}
+use Rattle.std.proofs.Common.{List, Option, Some, None, [], refl, ap, subst}
 use Rattle.qm_space.specs.Plane.{Plane}
 use Rattle.qm_solids.specs.Solid.{Solid}
 use Rattle.qm_split.specs.declared.piece.Piece.{Piece}
+use Rattle.qm_split.specs.declared.rank.Rank.{Rank}
 use Rattle.qm_split.specs.Pieces.{ArePieces}
+use Rattle.qm_split.specs.inner.Ranked.{IsLesser}
 use Rattle.qm_split.specs.inner.FacePieces.{solid_behind}
+use Rattle.qm_split.proofs.ListedItems.{none_if_not_some}
+use Rattle.qm_split.proofs.RankOrder.{no_pieces}
 use Rattle.qm_split.proofs.KeptParts.{kept_contender}
 use Rattle.qm_split.proofs.FacesInCube.{outward_reduced, contains_cube}
 use Rattle.qm_split.proofs.in_cube.part_in_cube.Goals as goal
 
-pub returns-then-is_empty : goal.returns-then-is_empty
-returns-then-is_empty c =
-    let none : c.in_ok-pieces.pieces.items ≡ [] = nil_from_length c.in_ok-pieces.pieces.items (grind (arith, common_steps)) in (
+pub returns-in_default : goal.returns-in_default
+returns-in_default c =
+    let none = no_pieces c.in_ok-pieces.pieces.items
+    (subst (λ (ps : List Piece). IsLesser None ps None) c.deref.ensures.value
+    (subst (λ (o : Option Rank). IsLesser None c.deref.result.now o) (none_if_not_some c.least_of.result c.in_default.not-Some) c.least_of.ensures)) in (
       refl,
       contains_cube c.args.book.now (solid_behind c.args.book.now c.args.faces.now c.args.contents) c.requires.full
           (subst (λ (ps : List Piece). ArePieces c.args.book.now [] (solid_behind c.args.book.now c.args.faces.now c.args.contents) ps) none (c.in_ok-pieces.ensures c.args.contents c.requires.full)),
@@ -22,4 +26,5 @@ pub returns : goal.returns
 returns c =
     kept_contender c.args.book.now [] _ (solid_behind c.args.book.now c.args.faces.now c.args.contents)
     (ap (λ (os : List Plane). let s : Solid = record { contents = c.args.contents; outward = os } in s) c.in_ok-outward.ensures)
-    c.requires.full (outward_reduced c.args.book.now c.args.faces.now c.len-planes.ensures.planes c.requires.numbered) (grind (arith, common_steps)) (c.in_ok-pieces.ensures c.args.contents c.requires.full)
+    c.requires.full (outward_reduced c.args.book.now c.args.faces.now c.len-planes.ensures.planes c.requires.numbered)
+    (subst (λ (ps : List Piece). IsLesser None ps (Some c.in-Some.least)) c.deref.ensures.value c.in-Some.ensures) (c.in_ok-pieces.ensures c.args.contents c.requires.full)

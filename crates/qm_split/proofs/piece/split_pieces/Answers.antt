@@ -10,8 +10,8 @@ use Rattle.qm_split.proofs.piece.split_pieces.Goals as goal
 pub loop-piece-init : goal.loop-piece-init
 loop-piece-init c = record {
   taken = taken_none _ _ _ refl (grind (arith, common_steps));
-  front = subst (λ (qs : List Piece). AreFront [] c.args.plane.now qs) (sym c.new-front.ensures.items) (front_of_none c.args.plane.now);
-  back = subst (λ (qs : List Piece). AreFront [] (flipped c.args.plane.now) qs) (sym c.new-back.ensures.items) (front_of_none (flipped c.args.plane.now));
+  front = subst (λ (qs : List Piece). AreFront [] c.args.plane.now qs) (sym c.in_ok-front.ensures.items) (front_of_none c.args.plane.now);
+  back = subst (λ (qs : List Piece). AreFront [] (flipped c.args.plane.now) qs) (sym c.in_ok-back.ensures.items) (front_of_none (flipped c.args.plane.now));
 }
 
 pub loop-piece-preserved : goal.loop-piece-preserved

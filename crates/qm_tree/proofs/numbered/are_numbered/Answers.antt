@@ -1,7 +1,6 @@
-use Rattle.std.proofs.Common.{◌≡◌, ◌<◌, ◌≤◌, ℕ, List, [], ◌∷◌, ◌++◌, length, Bool, true, false, refl, sym, ap, subst, ◌∙◌, IsTrue, get_or, eq-eqb, arith}
+use Rattle.std.proofs.Common.{◌≡◌, List, [], ◌∷◌, ◌++◌, ap, subst, ◌∙◌, get_or, eq-eqb, arith}
 use Rattle.std.proofs.lemmas.List.{nil_from_length}
 use Rattle.std.proofs.lemmas.Bool.Decides.{nat_tests}
-use Rattle.qm_partition.specs.declared.node.Leaf.{Leaf as LeafRecord}
 use Rattle.qm_partition.specs.declared.node.Child.{Child}
 use Rattle.qm_partition.specs.declared.node.Child.TheVariants.{Node, Leaf}
 use Rattle.qm_partition.proofs.NumberedWalks.{IsWalked, walk_begins, walk_leaf, walk_node, leaf_is_next, node_is_next, all_have_come, whole_is_numbered}
@@ -18,10 +17,12 @@ returns-then-leaf-next_leaf c = λ all long.
     let nodes = c.args.nodes.now in
     let rest = c.pop.new.self.items in
     let popped = c.in-Some.ensures.items ∙ ap (λ (child : Child). rest ++ child ∷ []) c.in-Leaf.is in
-    let walked = subst (λ (due : List Child). IsWalked nodes c.args.leaves due c.loop-child.next_node c.loop-child.next_leaf) popped c.loop-child.invariant in
-    (λ yes. absurd cc, λ whole.
-    let next = leaf_is_next nodes c.args.leaves rest c.loop-child.next_node c.loop-child.next_leaf c.in-Leaf.leaf walked all long whole in
-    absurd (grind (arith, next.0, next.1, c.then-leaf-next_leaf.either)))
+    let walked = subst (λ (due : List Child). IsWalked nodes c.args.leaves due c.loop-child.next_node c.loop-child.next_leaf) popped c.loop-child.invariant in (
+      λ yes. absurd cc,
+      λ whole.
+          let next = leaf_is_next nodes c.args.leaves rest c.loop-child.next_node c.loop-child.next_leaf c.in-Leaf.leaf walked all long whole in
+          absurd (grind (arith, next.0, next.1, c.then-leaf-next_leaf.either)),
+    )
 
 pub loop-child-preserved-in-Leaf : goal.loop-child-preserved-in-Leaf
 loop-child-preserved-in-Leaf c =
@@ -37,10 +38,12 @@ returns-then-n-next_node c = λ all long.
     let nodes = c.args.nodes.now in
     let rest = c.pop.new.self.items in
     let popped = c.in-Some.ensures.items ∙ ap (λ (child : Child). rest ++ child ∷ []) c.in-Node.is in
-    let walked = subst (λ (due : List Child). IsWalked nodes c.args.leaves due c.loop-child.next_node c.loop-child.next_leaf) popped c.loop-child.invariant in
-    (λ yes. absurd cc, λ whole.
-    let next = node_is_next nodes c.args.leaves rest c.loop-child.next_node c.loop-child.next_leaf c.in-Node.n walked all long whole in
-    absurd (grind (arith, next.0, next.1, c.then-n-next_node.either)))
+    let walked = subst (λ (due : List Child). IsWalked nodes c.args.leaves due c.loop-child.next_node c.loop-child.next_leaf) popped c.loop-child.invariant in (
+      λ yes. absurd cc,
+      λ whole.
+          let next = node_is_next nodes c.args.leaves rest c.loop-child.next_node c.loop-child.next_leaf c.in-Node.n walked all long whole in
+          absurd (grind (arith, next.0, next.1, c.then-n-next_node.either)),
+    )
 
 pub loop-child-preserved : goal.loop-child-preserved
 loop-child-preserved c =
@@ -67,10 +70,12 @@ returns c = λ all long.
     let k = c.loop-child.next_leaf in
     let walked = walked_all c in
     elim c.if-next_node-nodes.branch [
-      | then-next_node-nodes w ↦
-          (λ yes. whole_is_numbered nodes leaves n k walked w.if-next_node-nodes.true (grind (arith, nat_tests, w.result-is, yes)) all long,
-          λ whole. let come = all_have_come nodes leaves n k walked all long whole in w.result-is ∙ eq-eqb k leaves come.1)
-      | else-next_node-nodes w ↦
-          (λ yes. absurd (grind (arith, nat_tests, w.result-is, yes, w.if-next_node-nodes.false)),
-          λ whole. let come = all_have_come nodes leaves n k walked all long whole in absurd (w.if-next_node-nodes.false come.0))
+      | then-next_node-nodes w ↦ (
+        λ yes. whole_is_numbered nodes leaves n k walked w.if-next_node-nodes.true (grind (arith, nat_tests, w.result-is, yes)) all long,
+        λ whole. let come = all_have_come nodes leaves n k walked all long whole in w.result-is ∙ eq-eqb k leaves come.1,
+      )
+      | else-next_node-nodes w ↦ (
+        λ yes. absurd (grind (arith, nat_tests, w.result-is, yes, w.if-next_node-nodes.false)),
+        λ whole. let come = all_have_come nodes leaves n k walked all long whole in absurd (w.if-next_node-nodes.false come.0),
+      )
     ]

@@ -1,4 +1,4 @@
-use Rattle.std.proofs.Common.{◌≡◌, ◌+◌, ◌/◌, ◌≤◌, ◌<◌, length, arith}
+use Rattle.std.proofs.Common.{◌+◌, ◌/◌, length, arith}
 use Rattle.qm_partition.proofs.NumberingWalks.{counted, numbering_begins, numbering_leaf, two_wait, numbering_ends}
 use Rattle.qm_tree.proofs.TakenChildren.{numbering_takes}
 use Rattle.qm_tree.proofs.numbering.numbered_parts.Goals as goal

@@ -1,4 +1,4 @@
-use Rattle.std.proofs.Common.{ℤ, ◌-ℤ◌, ◌+ℤ◌, ◌*ℤ◌, ◌≤ℤ◌, ◌≤◌, ◌∙◌, ap₂, sym, subst, arith, unsigned_abs, lit≤}
+use Rattle.std.proofs.Common.{ℤ, ◌-ℤ◌, ◌+ℤ◌, ◌*ℤ◌, ◌≤ℤ◌, ◌∙◌, ap₂, sym, subst, arith, lit≤}
 use Rattle.qm_numbers.proofs.Bits.{kept_32}
 use Rattle.qm_space.specs.Bounds.{normal_bound}
 use Rattle.qm_numbers.proofs.Kept.{three_less_one_kept}

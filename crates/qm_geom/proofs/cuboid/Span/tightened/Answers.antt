@@ -1,5 +1,5 @@
 use Rattle.std.proofs.Common.{ℤ, ◌∙◌, ap, sym, subst, pos, negsuc, neg_ℤ, lit≤, w64, arith}
-use Rattle.std.proofs.lemmas.Int.{ints, to_z-of_z}
+use Rattle.std.proofs.lemmas.Int.{to_z-of_z}
 use Rattle.qm_numbers.proofs.Bits.{same_from_bits_32, negated_64}
 use Rattle.qm_numbers.proofs.IntegerProducts.{linear}
 use Rattle.qm_space.specs.Bounds.{normal_bound, distance_bound}

@@ -2,7 +2,8 @@ use Rattle.std.proofs.Common.{true, false, List, [], ◌∷◌, ◌++◌, ◌∙
 use Rattle.qm_space.specs.Plane.{Plane, flipped}
 use Rattle.qm_space.specs.Reduced.{IsReduced}
 use Rattle.qm_split.specs.CellFragments.{cell_of}
-use Rattle.qm_split.proofs.MadeFragments.{all_contend, contender_in_candidate, half_fragments, point_aside}
+use Rattle.qm_split.proofs.KnownFragments.{all_contend}
+use Rattle.qm_split.proofs.MadeFragments.{contender_in_candidate, half_fragments, point_aside}
 use Rattle.qm_split.proofs.fragments.Fragments.split.Goals as goal
 
 pub returns-clause-front : goal.returns-clause-front

@@ -1,5 +1,4 @@
-use Rattle.std.proofs.Common.{◌≡◌, reverse, sym, ap, ◌∙◌}
-use Rattle.qm_partition.specs.Tree.{Tree}
+use Rattle.std.proofs.Common.{◌≡◌, reverse, ap, ◌∙◌}
 use Rattle.qm_partition.specs.Partition.{Partition}
 use Rattle.qm_partition.specs.Joining.{joined}
 use Rattle.qm_partition.specs.Visits.{visits}

@@ -2,7 +2,7 @@ use Rattle.std.proofs.Common.{◌≡◌, ◌<◌, ◌≤◌, ◌-◌, true, fals
 use Rattle.std.proofs.lemmas.Bool.Decides.{nat_tests}
 use Rattle.qm_partition.specs.inner.LeavesInFront.{leaves_in_front}
 use Rattle.qm_partition.proofs.PlacedParts.{sides_come_later}
-use Rattle.qm_partition.proofs.FoundWays.{IsAtNode, on_way_begins, on_way_ends, is_at_node, back_comes_behind, goes_front, goes_back}
+use Rattle.qm_partition.proofs.FoundWays.{on_way_begins, on_way_ends, is_at_node, back_comes_behind, goes_front, goes_back}
 use Rattle.qm_tree.proofs.tree.Tree.path.Goals as goal
 
 pub loop-child-init : goal.loop-child-init

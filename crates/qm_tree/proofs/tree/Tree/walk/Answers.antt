@@ -1,4 +1,4 @@
-use Rattle.std.proofs.Common.{◌≡◌, List, [], ◌∷◌, ◌++◌, length, sym, ap, subst, ◌∙◌, arith}
+use Rattle.std.proofs.Common.{◌≡◌, List, [], ◌∷◌, ◌++◌, ap, subst, ◌∙◌, arith}
 use Rattle.std.proofs.lemmas.List.{nil_from_length}
 use Rattle.qm_partition.specs.declared.node.Child.{Child}
 use Rattle.qm_partition.proofs.Walking.{IsWalking, walking_begins, leaf_walked, leaf_walked_within, node_walked, node_walked_within, walked_at_most, all_walked}

@@ -1,4 +1,4 @@
-use Rattle.std.proofs.Common.{◌∙◌, ◌+◌, ◌++◌, [], ◌∷◌, take, sym, ap, ap₂, subst}
+use Rattle.std.proofs.Common.{◌∙◌, ◌+◌, ◌++◌, [], ◌∷◌, take, sym, ap₂, subst}
 use Rattle.qm_convex.specs.Winding.{IsConvex}
 use Rattle.qm_convex.specs.Rotation.{rotated_list}
 use Rattle.qm_convex.proofs.Cutting.{cut_convex}

@@ -1,4 +1,4 @@
-use Rattle.std.proofs.Common.{◌∙◌, sym, subst}
+use Rattle.std.proofs.Common.{sym, subst}
 use Rattle.qm_convex.specs.Winding.{IsConvex}
 use Rattle.qm_wind.proofs.Polygons.{square_view}
 use Rattle.qm_wind.proofs.polygon.Polygon.square.Goals as goal

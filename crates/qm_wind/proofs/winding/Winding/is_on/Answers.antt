@@ -1,5 +1,4 @@
-use Rattle.std.proofs.Common.{◌∙◌, ap, sym, subst}
-use Rattle.qm_space.specs.Plane.{flipped}
+use Rattle.std.proofs.Common.{◌∙◌, ap, subst}
 use Rattle.qm_space.specs.Reduced.{IsReduced}
 use Rattle.qm_convex.specs.Winding.{IsConvex}
 use Rattle.qm_wind.proofs.Beside.{is_same, on_by_first, on_by_second}

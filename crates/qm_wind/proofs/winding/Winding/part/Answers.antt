@@ -1,5 +1,3 @@
-use Rattle.std.proofs.Common.{subst, sym}
-use Rattle.qm_convex.specs.Cut.{IsPartInFront}
 use Rattle.qm_convex.proofs.Squares.{part_in_world}
 use Rattle.qm_convex.proofs.Within.{part_within}
 use Rattle.qm_wind.proofs.winding.Winding.part.Goals as goal

@@ -1,0 +1,70 @@
+use Rattle.std.specs.Prelude.{◌≡◌, ℕ, ◌+◌, Bool, true, Option, Some, None, List, [], ◌∷◌, length, ◌↔◌}
+use Rattle.qm_space.specs.Plane.{Plane}
+use Rattle.qm_convex.specs.Winding.{Winding}
+use Rattle.qm_convex.specs.inner.Facets.{Facet}
+use Rattle.qm_partition.specs.declared.node.Child.{Child}
+use Rattle.qm_partition.specs.Partition.{Partition}
+use Rattle.qm_partition.specs.Tree.{Tree}
+use Rattle.qm_partition.specs.Counting.{leaf_count}
+use Rattle.qm_partition.specs.Ways.{Way}
+use Rattle.qm_contacts.specs.Meeting.{leaves_below, meetings_below}
+use Rattle.qm_contacts.specs.Touching.{Touching, AreTouchings}
+use Rattle.qm_contacts.specs.Outside.{TouchesOutside}
+use Rattle.qm_contacts.specs.inner.Pieces.{Piece, ArePieces}
+
+-- What is due where a polygon is pushed down numbered nodes: polygons, each with the child to which it came.
+
+pub record DuePolygon : Type 0 where
+  pub child : Child
+  pub winding : Winding
+
+-- the same, with the part of the tree for which the child stands: its nodes are numbered from n on, its leaves from k on
+pub record DueBelow : Type 0 where
+  pub due : DuePolygon
+  pub part : Partition
+  pub n : ℕ
+  pub k : ℕ
+
+abbrev pub due_of : DueBelow → DuePolygon
+due_of entry = entry.due
+
+-- what it comes to: the pieces of its polygon in the leaves of its part
+abbrev pub ComesToPieces : List Plane → DueBelow → List Piece → Type 0
+ComesToPieces planes entry pieces = ArePieces planes entry.due.winding (leaves_below entry.part entry.k) pieces
+
+-- what is due of one half of a polygon, if there is one
+abbrev pub half_due : Option Winding → Child → Partition → ℕ → ℕ → List DueBelow
+half_due None child part n k = []
+half_due (Some winding) child part n k = record { due = record { child = child; winding = winding }; part = part; n = n; k = k } ∷ []
+
+-- What is due where all cells of numbered nodes are gone through: children, each with the facets of its cell.
+
+pub record DueCell : Type 0 where
+  pub child : Child
+  pub on_walls : List Facet
+  pub on_steps : List Facet
+
+-- the same, with the part of the tree for which the child stands, and the way that leads to it
+pub record DueCellBelow : Type 0 where
+  pub due : DueCell
+  pub part : Partition
+  pub n : ℕ
+  pub k : ℕ
+  pub above : Way
+
+abbrev pub cell_due_of : DueCellBelow → DueCell
+cell_due_of entry = entry.due
+
+-- what it comes to: the touching pairs of its part
+abbrev pub ComesToTouchings : List Plane → DueCellBelow → List Touching → Type 0
+ComesToTouchings planes entry touchings = AreTouchings planes (meetings_below entry.part entry.n entry.k entry.above) touchings
+
+-- for leaves from k on, whether each touches the outside
+abbrev pub AreOutside : Tree → ℕ → List Bool → Type 0
+AreOutside tree k [] = Unit {0}
+AreOutside tree k (outside ∷ row) = ((outside ≡ true) ↔ TouchesOutside tree k) × AreOutside tree (k + 1) row
+
+-- and which leaves of its part touch the outside
+pub record ComesToOutside (tree : Tree) (entry : DueCellBelow) (row : List Bool) : Type 0 where
+  pub one_each : length row ≡ leaf_count entry.part
+  pub are : AreOutside tree entry.k row
