@@ -171,12 +171,29 @@ fn is_inside(outward: &[Plane], section: &Winding, plane: &Plane) -> bool
     ensures reduced { IsReduced plane.now }
 {
     let _ = &plane.nx;
+    if has_surely_ahead(outward, section, plane) {
+        return false;
+    }
     for face in outward {
         if is_ahead(face, section, plane) {
             return false;
         }
     }
     true
+}
+
+/// Whether some plane is known to have the winding in front, where its cuboid tells: mostly one does, and no corner is
+/// looked at.
+fn has_surely_ahead(outward: &[Plane], section: &Winding, plane: &Plane) -> bool
+    ensures { IsConvex section.now → result ≡ true → HasAhead outward.now section.now plane.now }
+{
+    let cuboid = section.cuboid();
+    for face in outward {
+        if cuboid.least_value(face) > 0 && is_ahead(face, section, plane) {
+            return true;
+        }
+    }
+    false
 }
 
 /// Whether some of a winding is in front of a face's plane, or the face's plane is the other one.
