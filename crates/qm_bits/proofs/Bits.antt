@@ -6,7 +6,7 @@ use Rattle.std.specs.Simd.Lanes.{mask_l}
 use Rattle.std.proofs.lemmas.Nat.Bits.{bit_at_and, bit_at_or, bit_at-lt, bit_at-zero, bit_at_not, bit_at_set_same, bit_at_set_other, bit_at-trailing_zeros, same_from_bits_below}
 use Rattle.std.proofs.lemmas.Simd.{bit_mask_l, ones-mask_l, mask_l-lt}
 use Rattle.std.proofs.lemmas.List.FromFn.{get_or-map-range_with_len, length-map-range_with_len}
-use Rattle.qm_bits.specs.Places.{has_bit}
+use Rattle.qm_bits.specs.Word.{has_bit}
 
 -- a bit is 0 or 1
 both_bits : (a b : ℕ) → a < 2 → b < 2 → (min a b == 1) ≡ ((a == 1) && (b == 1))

@@ -3,7 +3,8 @@ use Rattle.std.proofs.Common.{◌≡◌, ◌≢◌, ℕ, ◌+◌, ◌*◌, ◌/�
 use Rattle.std.specs.Int.{div_ceil}
 use Rattle.std.proofs.lemmas.Bool.{cases_eq, cases_lt}
 use Rattle.std.proofs.lemmas.List.{length-set, get_or-set_same, get_or-set_other, get_or-replicate, length-replicate}
-use Rattle.qm_bits.specs.Places.{has_bit, IsWord, IsMasked, IsUnion}
+use Rattle.qm_bits.specs.Union.{IsUnion}
+use Rattle.qm_bits.specs.Word.{has_bit, IsWord, IsMasked}
 use Rattle.qm_bits.specs.inner.Rows.{is_set, row_of, IsRow}
 use Rattle.qm_bits.specs.inner.Words.{IsOr}
 use Rattle.qm_bits.proofs.Bits.{has_bit-and, has_bit-or, has_bit-set_same, has_bit-set_other}

@@ -2,7 +2,7 @@
 use Rattle.std.proofs.Common.{◌≡◌, ℕ, zero, suc, ◌+◌, ◌-◌, ◌*◌, ◌^◌, ◌<◌, ◌≤◌, Bool, false, cond, List, [], ◌∷◌, ◌++◌, map, length, get_or, count_ones, refl, ap, sym, ◌∙◌, arith}
 use Rattle.std.specs.List.{count_by, range_with_len}
 use Rattle.std.proofs.lemmas.List.Sums.{count_by-le-length, sum_by-append}
-use Rattle.qm_bits.specs.Places.{has_bit}
+use Rattle.qm_bits.specs.Word.{has_bit}
 use Rattle.qm_bits.specs.inner.Rows.{is_set, row_of, IsRow}
 use Rattle.qm_bits.specs.inner.Words.{ones_of}
 use Rattle.qm_bits.proofs.Bits.{count_ones-bits}

@@ -4,7 +4,7 @@ use Rattle.std.proofs.lemmas.Bool.{cases_lt}
 use Rattle.std.proofs.lemmas.List.{ext_get_or, get_or_past, get_or-set_same, get_or-set_other, get_or-replicate, length-replicate, get_or_default}
 use Rattle.std.proofs.lemmas.Nat.Bits.{shr_and_one}
 use Rattle.std.proofs.lemmas.List.FromFn.{get_or-map-range_with_len, length-map-range_with_len}
-use Rattle.qm_bits.specs.Places.{has_bit}
+use Rattle.qm_bits.specs.Word.{has_bit}
 use Rattle.qm_bits.specs.inner.Rows.{is_set, row_of, IsRow}
 use Rattle.qm_bits.proofs.Bits.{has_bit-zero}
 

@@ -1,2 +1,4 @@
-pub mod Places
+pub mod Word
+pub mod Union
+pub mod Unseen
 pub mod inner

@@ -1,6 +1,8 @@
 ghost use Rattle.std.specs.Prelude.{◌≡◌, ◌<◌, ◌*◌, ◌↔◌, length, replicate, slice_index_or, slice_set, true, false, IfOk};
 ghost use Rattle.std.specs.List.{count_by};
-ghost use Rattle.qm_bits.specs.Places.{IsWord, IsMasked, IsUnion, HasNew};
+ghost use Rattle.qm_bits.specs.Union.{IsUnion};
+ghost use Rattle.qm_bits.specs.Unseen.{HasUnseen};
+ghost use Rattle.qm_bits.specs.Word.{IsMasked, IsWord};
 
 use crate::words;
 use std::alloc::{AllocError, Global};
@@ -93,7 +95,7 @@ impl BitRow {
     /// Whether some place is set here and clear in `seen`.
     pub fn has_new(&self, seen: &BitRow) -> bool
         requires { length seen.now ≡ length self.now }
-        ensures { (result ≡ true) ↔ HasNew self.now seen.now }
+        ensures { (result ≡ true) ↔ HasUnseen self.now seen.now }
     {
         words::have_new(&self.words, &seen.words)
     }

@@ -1,7 +1,7 @@
 //! The words of rows, one beside another.
 
 ghost use Rattle.std.specs.Prelude.{◌≡◌, ◌<◌, ◌*◌, ◌↔◌, ◌^◌, length, true};
-ghost use Rattle.qm_bits.specs.inner.Words.{ones_of, IsOr, HaveNew};
+ghost use Rattle.qm_bits.specs.inner.Words.{ones_of, IsOr, HaveUnseen};
 
 /// How many bits of the words are set.
 pub(crate) fn count(words: &[u64]) -> u64
@@ -28,7 +28,7 @@ pub(crate) fn set_all(words: &mut [u64], other: &[u64])
 /// Whether some bit is set in the words and clear in those of `seen`.
 pub(crate) fn have_new(words: &[u64], seen: &[u64]) -> bool
     requires { length seen.now ≡ length words.now }
-    ensures { (result ≡ true) ↔ HaveNew words.now seen.now }
+    ensures { (result ≡ true) ↔ HaveUnseen words.now seen.now }
 {
     for i in 0..words.len() {
         if words[i] & !seen[i] != 0 {

@@ -20,9 +20,9 @@ pub record IsOrBelow (count : ℕ) (old other new : List ℕ) : Type 0 where
   pub left : (k : ℕ) → count ≤ k → slice_index_or new k 0 ≡ slice_index_or old k 0
 
 -- some place is set in the words and clear in those that were seen
-abbrev pub HaveNew : List ℕ → List ℕ → Type 0
-HaveNew words seen = (place : ℕ) × (is_set words place ≡ true) × (is_set seen place ≡ false)
+abbrev pub HaveUnseen : List ℕ → List ℕ → Type 0
+HaveUnseen words seen = (place : ℕ) × (is_set words place ≡ true) × (is_set seen place ≡ false)
 
 -- the first words have no bit that is clear in those that were seen
-abbrev pub NoneIsNew : ℕ → List ℕ → List ℕ → Type 0
-NoneIsNew count words seen = (k : ℕ) → k < count → bit_and (slice_index_or words k 0) (bit_not w64 (slice_index_or seen k 0)) ≡ 0
+abbrev pub NoneIsUnseen : ℕ → List ℕ → List ℕ → Type 0
+NoneIsUnseen count words seen = (k : ℕ) → k < count → bit_and (slice_index_or words k 0) (bit_not w64 (slice_index_or seen k 0)) ≡ 0

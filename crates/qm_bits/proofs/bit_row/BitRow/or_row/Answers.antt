@@ -1,6 +1,6 @@
 use Rattle.std.proofs.Common.{◌≡◌, ℕ, List, length, take, drop, ◌++◌, subst, ap, sym, ◌∙◌}
 use Rattle.std.proofs.lemmas.List.{with_items_is}
-use Rattle.qm_bits.specs.Places.{IsUnion}
+use Rattle.qm_bits.specs.Union.{IsUnion}
 use Rattle.qm_bits.specs.inner.Rows.{row_of}
 use Rattle.qm_bits.specs.inner.Words.{IsOr}
 use Rattle.qm_bits.proofs.Rows.{same_counts}
