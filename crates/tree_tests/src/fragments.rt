@@ -77,8 +77,18 @@ fn parts_of_cells(rt: HostRuntime) -> Result<(), Fail> {
     let stone = (None, Contents::Solid);
     let rows = [
         (CUBE, "", 0, [empty(Some(0)), empty(Some(1)), empty(None)]),
-        (CUBE, SLANTED, 6, [empty(Some(0)), empty(Some(1)), empty(Some(0))]),
-        (SLANTED, CUBE, 0, [empty(Some(1)), empty(Some(2)), empty(Some(1))]),
+        (
+            CUBE,
+            SLANTED,
+            6,
+            [empty(Some(0)), empty(Some(1)), empty(Some(0))],
+        ),
+        (
+            SLANTED,
+            CUBE,
+            0,
+            [empty(Some(1)), empty(Some(2)), empty(Some(1))],
+        ),
         (HALF, MIDDLE, 1, [empty(Some(0)), stone, empty(Some(0))]),
         (CUBE, HALF, 0, [empty(Some(0)), stone, empty(Some(6))]),
         (HALF, CUBE, 1, [empty(Some(0)), stone, empty(Some(0))]),
