@@ -5,25 +5,25 @@ use qm_shelf::{SureShelf, SureSink};
 use std::test::Fail;
 use std::thread::Threads;
 
-/// What a name holds afterwards.
+/// What `out` holds afterwards.
 #[derive(Clone, Copy)]
-enum Holds {
+enum Written {
     /// The canonical text of an empty entity.
     Text,
     /// The tree of a world without brushes.
     Tree,
 }
 
-static ROWS: [(&str, &str, u8, &str, Holds); 4] = [
-    ("format", "empty", 0, COUNTS, Holds::Text),
-    ("compile", "open", 4, UNEXPECTED, Holds::Text),
-    ("compile", "empty", 0, EMPTY_SUMMARY, Holds::Tree),
+static ROWS: [(&str, &str, u8, &str, Written); 4] = [
+    ("format", "empty", 0, COUNTS, Written::Text),
+    ("compile", "open", 4, UNEXPECTED, Written::Text),
+    ("compile", "empty", 0, EMPTY_SUMMARY, Written::Tree),
     (
         "compile",
         "absent",
         4,
         "map fault 11 at line 1: no entity\n",
-        Holds::Tree,
+        Written::Tree,
     ),
 ];
 
@@ -41,10 +41,10 @@ fn says<R: AllocGlobal + Threads + Sync>(
 }
 
 /// Whether `out` holds this.
-fn holds(shelf: &SureShelf, what: Holds) -> bool {
+fn has_written(shelf: &SureShelf, what: Written) -> bool {
     let bytes = match what {
-        Holds::Text => b"{\n}\n".as_slice(),
-        Holds::Tree => EMPTY_FILE.as_slice(),
+        Written::Text => b"{\n}\n".as_slice(),
+        Written::Tree => EMPTY_FILE.as_slice(),
     };
     shelf.get("out") == Some(bytes)
 }
@@ -59,7 +59,7 @@ fn runs_over_forms_that_never_fail(rt: HostRuntime) -> Result<(), Fail> {
     let mut right = true;
     for &(verb, name, status, printed, out) in &ROWS {
         right &= says(&rt, &mut shelf, &[verb, name, "out"], status, printed);
-        right &= holds(&shelf, out);
+        right &= has_written(&shelf, out);
     }
     assert!(rt; right);
     Ok(())

@@ -1,8 +1,9 @@
 //! Trees that are built of worlds, beside what the brushes of the worlds hold.
 
+ghost use Rattle.std.specs.Prelude.{IfSome};
 ghost use Rattle.qm_solids.specs.InBook.{IsBookOf};
 
-use crate::worlds::{Numbers, random_world, world_of_boxes};
+use crate::worlds::{Numbers, put_box, random_world};
 use qm_brush::{BrushList, brushes};
 use qm_build::build;
 use qm_contents::Contents;
@@ -10,7 +11,7 @@ use qm_contents::Contents::{Solid, Water};
 use qm_geom::{PlaneBook, Point};
 use qm_map::parse;
 use qm_tree::Tree;
-use std::alloc::Global;
+use std::alloc::{AllocError, Global};
 use std::cmp::Ordering;
 use std::test::Fail;
 
@@ -20,11 +21,12 @@ struct Built {
     book: PlaneBook,
     list: BrushList,
     tree: Tree,
-    ghost filled: { IsBookOf book list },
 }
 
 impl Built {
-    fn of(alloc: Global, text: &str) -> Option<Built> {
+    fn of(alloc: Global, text: &str) -> Option<Built>
+        ensures { IfSome result (λ built. IsBookOf built.book built.list) }
+    {
         let Ok(map) = parse(alloc, text.as_bytes()) else {
             return None;
         };
@@ -56,13 +58,17 @@ impl Built {
     }
 
     /// Whether the tree gives a point what the brushes hold there, or the point is on a node plane.
-    fn agrees(&self, at: &Point) -> bool {
+    fn agrees(&self, at: &Point) -> bool
+        requires { IsBookOf self.now.book self.now.list }
+    {
         let contents = self.list.contents_at(at, &self.book);
         self.leads_to(at, contents) || !self.is_off_node_planes(at)
     }
 
     /// Whether these contents are those of the point, by the brushes and by the tree, and it is on no node plane.
-    fn gives(&self, at: &Point, contents: Contents) -> bool {
+    fn gives(&self, at: &Point, contents: Contents) -> bool
+        requires { IsBookOf self.now.book self.now.list }
+    {
         let by_brushes = self.list.contents_at(at, &self.book) == contents;
         by_brushes && self.leads_to(at, contents) && self.is_off_node_planes(at)
     }
@@ -77,16 +83,18 @@ fn random_point(numbers: &mut Numbers) -> Point {
     Point { x, y, z, w }
 }
 
-/// Whether a world is built, and its tree and its brushes agree at many points.
-fn agree(built: Option<&Built>, numbers: &mut Numbers) -> bool {
-    let Some(built) = built else {
-        return false;
+/// Whether a random world is built, and its tree and its brushes agree at many points.
+fn agree_in_world(alloc: Global, numbers: &mut Numbers) -> Result<bool, AllocError> {
+    let text = random_world(alloc, numbers)?;
+    let Some(built) = Built::of(alloc, &text) else {
+        return Ok(false);
     };
-    let mut all = true;
     for _ in 0..50 {
-        all = all && built.agrees(&random_point(numbers));
+        if !built.agrees(&random_point(numbers)) {
+            return Ok(false);
+        }
     }
-    all
+    Ok(true)
 }
 
 /// In many random worlds, the tree gives points off its node planes what the brushes hold.
@@ -94,9 +102,7 @@ fn agree(built: Option<&Built>, numbers: &mut Numbers) -> bool {
 fn random_worlds_are_built(rt: HostRuntime) -> Result<(), Fail> {
     let mut numbers = Numbers::new();
     for _ in 0..200 {
-        let text = random_world(rt.alloc(), &mut numbers)?;
-        let built = Built::of(rt.alloc(), &text);
-        assert!(rt; agree(built.as_ref(), &mut numbers));
+        assert!(rt; agree_in_world(rt.alloc(), &mut numbers)?);
     }
     Ok(())
 }
@@ -105,24 +111,50 @@ fn random_worlds_are_built(rt: HostRuntime) -> Result<(), Fail> {
 const APART: &str = "{\n( 0 0 0 ) ( 0 1 0 ) ( 1 0 0 ) stone 0 0 0 1 1\n\
     ( 0 0 128 ) ( 1 0 128 ) ( 0 1 128 ) stone 0 0 0 1 1\n}\n";
 
+/// Whether a world is built, and its tree and its brushes give a point these contents.
+fn is_built(alloc: Global, text: &str, [x, y, z]: [i64; 3], contents: Contents) -> bool {
+    let Some(built) = Built::of(alloc, text) else {
+        return false;
+    };
+    built.gives(&Point { x, y, z, w: 1 }, contents)
+}
+
+/// Two solids that share a face, behind the flat brush.
+fn shared_face(alloc: Global) -> Result<String, AllocError> {
+    let mut text = String::new(alloc);
+    text.push_str("{\n")?;
+    text.push_str(APART)?;
+    put_box(&mut text, "stone", [0, 0, 0], [64, 64, 64])?;
+    put_box(&mut text, "stone", [0, 0, 64], [64, 64, 128])?;
+    text.push_str("}\n")?;
+    Ok(text)
+}
+
+/// Water round stone.
+fn water_round_stone(alloc: Global, water_comes_first: bool) -> Result<String, AllocError> {
+    let mut text = String::new(alloc);
+    text.push_str("{\n")?;
+    if water_comes_first {
+        put_box(&mut text, "*water1", [0, 0, 0], [64, 64, 64])?;
+    }
+    put_box(&mut text, "stone", [16, 16, 16], [48, 48, 48])?;
+    if !water_comes_first {
+        put_box(&mut text, "*water1", [0, 0, 0], [64, 64, 64])?;
+    }
+    text.push_str("}\n")?;
+    Ok(text)
+}
+
 /// A point on a face that two solids share, and points in water round stone, whichever comes first.
 #[test]
 fn boxes_are_built(rt: HostRuntime) -> Result<(), Fail> {
-    let low = ("stone", [0, 0, 0], [64, 64, 64]);
-    let high = ("stone", [0, 0, 64], [64, 64, 128]);
-    let water = ("*water1", [0, 0, 0], [64, 64, 64]);
-    let stone = ("stone", [16, 16, 16], [48, 48, 48]);
-    let rows = [
-        (APART, [low, high], [32, 32, 64], Solid),
-        ("", [water, stone], [32, 32, 32], Solid),
-        ("", [water, stone], [8, 8, 8], Water),
-        ("", [stone, water], [32, 32, 32], Solid),
-        ("", [stone, water], [8, 8, 8], Water),
-    ];
-    for (brushes, boxes, [x, y, z], contents) in rows {
-        let text = world_of_boxes(rt.alloc(), brushes, &boxes)?;
-        let built = Built::of(rt.alloc(), &text);
-        assert!(rt; built.is_some_and(|built| built.gives(&Point { x, y, z, w: 1 }, contents)));
+    let alloc = rt.alloc();
+    let shared = shared_face(alloc)?;
+    assert!(rt; is_built(alloc, &shared, [32, 32, 64], Solid));
+    for water_comes_first in [true, false] {
+        let text = water_round_stone(alloc, water_comes_first)?;
+        assert!(rt; is_built(alloc, &text, [32, 32, 32], Solid));
+        assert!(rt; is_built(alloc, &text, [8, 8, 8], Water));
     }
     Ok(())
 }

@@ -18,4 +18,6 @@ mod parts;
 #[cfg(test)]
 mod refused;
 #[cfg(test)]
+mod rows;
+#[cfg(test)]
 mod worlds;

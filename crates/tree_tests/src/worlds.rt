@@ -1,4 +1,4 @@
-//! Worlds as MAP texts: boxes, and brushes made of numbers that look random.
+//! Parts of worlds as MAP texts: boxes, and brushes made of numbers that look random.
 
 use std::alloc::{AllocError, Global};
 
@@ -43,28 +43,23 @@ impl Numbers {
     }
 }
 
-/// A world of brushes that are given as text, and of boxes after them, each with a texture, a least corner and a
-/// greatest.
-pub fn world_of_boxes(
-    alloc: Global,
-    brushes: &str,
-    boxes: &[(&str, [i32; 3], [i32; 3])],
-) -> Result<String, AllocError> {
-    let mut text = String::new(alloc);
+/// Adds a box with a texture, between its least corner and its greatest.
+pub fn put_box(
+    text: &mut String,
+    texture: &str,
+    least: [i32; 3],
+    greatest: [i32; 3],
+) -> Result<(), AllocError> {
+    let [west, south, bottom] = least;
+    let [east, north, top] = greatest;
     text.push_str("{\n")?;
-    text.push_str(brushes)?;
-    for (texture, [west, south, bottom], [east, north, top]) in boxes {
-        text.push_str("{\n")?;
-        for (side, at) in [west, east, south, north, bottom, top]
-            .into_iter()
-            .enumerate()
-        {
-            put_face(&mut text, texture, points_across(side as u64, *at))?;
-        }
-        text.push_str("}\n")?;
-    }
-    text.push_str("}\n")?;
-    Ok(text)
+    put_face(text, texture, points_across(0, west))?;
+    put_face(text, texture, points_across(1, east))?;
+    put_face(text, texture, points_across(2, south))?;
+    put_face(text, texture, points_across(3, north))?;
+    put_face(text, texture, points_across(4, bottom))?;
+    put_face(text, texture, points_across(5, top))?;
+    text.push_str("}\n")
 }
 
 /// A world of up to six brushes: boxes, some without all their sides, some flat, some cut by a slanted plane.
@@ -84,7 +79,7 @@ fn put_random_brush(text: &mut String, numbers: &mut Numbers) -> Result<(), Allo
     text.push_str("{\n")?;
     for axis in 0..3 {
         let least = numbers.coordinate();
-        let greatest = least + 16 * numbers.below(4) as i32;
+        let greatest = least.saturating_add(16 * numbers.below(4) as i32);
         if is_box || numbers.below(3) > 0 {
             put_face(text, texture, points_across(2 * axis, least))?;
         }

@@ -1,0 +1,4 @@
+pub mod Word
+pub mod Union
+pub mod Unseen
+pub mod inner
