@@ -1,16 +1,16 @@
 -- What the cube has of the faces of a solid, by the numbers of their planes in a book.
-use Rattle.std.proofs.Common.{◌≡◌, ◌≢◌, ◌⊎◌, inl, inr, ⊎_elim, ℕ, ◌<◌, Bool, true, not, Option, Some, None, List, [], ◌∷◌, ◌++◌, length, map, All, Contains, option_to_list, append-nil, ◌↔◌, refl, sym, ◌∙◌, ap, subst, arith}
+use Rattle.std.proofs.Common.{◌≡◌, ◌≢◌, inl, inr, ⊎_elim, ℕ, ◌<◌, true, not, Option, Some, None, List, [], ◌∷◌, ◌++◌, length, All, Contains, option_to_list, append-nil, sym, ◌∙◌, ap, subst, arith}
 use Rattle.std.specs.Prelude.{slice_get}
 use Rattle.std.specs.Option.{MatchOption}
 use Rattle.std.proofs.lemmas.List.Elements.{All-nil, All-contains, Contains-push, Contains-push_cases, Contains-append_left}
 use Rattle.qm_numbers.proofs.IntegerProducts.{linear}
 use Rattle.qm_space.specs.Point.{Point}
-use Rattle.qm_space.specs.Plane.{Plane, IsOn, IsBehind, IsInFront}
+use Rattle.qm_space.specs.Plane.{Plane, IsBehind, IsInFront}
 use Rattle.qm_space.specs.Reduced.{IsReduced}
 use Rattle.qm_space.specs.Turned.{turned}
 use Rattle.qm_space.specs.Book.{plane_at, AreBookPlanes}
 use Rattle.qm_space.proofs.TurnedPlanes.{turned_other_in_front, turned_is_reduced}
-use Rattle.qm_convex.specs.Winding.{Winding, IsInRegion}
+use Rattle.qm_convex.specs.Winding.{Winding}
 use Rattle.qm_convex.specs.Sides.{HasNoneInFront}
 use Rattle.qm_convex.specs.Cut.{IsPartInFront}
 use Rattle.qm_convex.specs.World.{MissesCube, IsWorldPart}
@@ -22,12 +22,12 @@ use Rattle.qm_solids.specs.Holding.{IsFull}
 use Rattle.qm_solids.specs.Cells.{ContainsCell}
 use Rattle.qm_solids.specs.Candidates.{LiesOn, IsOnFace}
 use Rattle.qm_solids.proofs.UniformCells.{contains_throughout}
-use Rattle.qm_solids.proofs.PlanesInCommon.{turned_lies_on, same_face, lies_on_back}
+use Rattle.qm_solids.proofs.PlanesInCommon.{turned_lies_on, same_face}
 use Rattle.qm_solids.proofs.BookFaces.{stands_at, same_number}
 use Rattle.qm_split.specs.declared.piece.Piece.{Piece}
 use Rattle.qm_split.specs.Pieces.{IsPiece, HasPointOfFace, ArePieces}
 use Rattle.qm_split.specs.inner.PieceParts.{IsNumberedPiece}
-use Rattle.qm_split.specs.inner.FacePieces.{solid_behind, IsBehindOthers, IsFacePoint, IsFacePiece, HasNoFacePoint, IsPieceOfFace, HasPieceOfFace, HasFacePieces}
+use Rattle.qm_split.specs.inner.FacePieces.{solid_behind, IsFacePoint, IsFacePiece, HasNoFacePoint, IsPieceOfFace, HasPieceOfFace, HasFacePieces}
 use Rattle.qm_split.proofs.ListedItems.{none_listed, all_of_listed, listed_map, listed_from_map}
 use Rattle.qm_split.proofs.PartedPieces.{meets_no_face}
 

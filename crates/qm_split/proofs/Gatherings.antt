@@ -1,5 +1,5 @@
 -- What is known of a cell after one solid more.
-use Rattle.std.proofs.Common.{◌≡◌, ◌⊎◌, inl, inr, ⊎_elim, ◌+◌, ◌<◌, ◌≤◌, Bool, true, false, cond, if◌then◌else◌, nat_lt, Option, Some, None, List, [], ◌∷◌, ◌++◌, length, map, All, Contains, refl, sym, ap, ◌∙◌, subst, arith}
+use Rattle.std.proofs.Common.{◌≡◌, ◌⊎◌, inl, inr, ⊎_elim, ◌+◌, ◌<◌, ◌≤◌, Bool, true, false, nat_lt, Option, Some, None, List, [], ◌∷◌, ◌++◌, length, map, All, Contains, refl, sym, ap, ◌∙◌, subst, arith}
 use Rattle.std.specs.List.{filter}
 use Rattle.std.proofs.lemmas.Bool.Decides.{nat_tests}
 use Rattle.std.proofs.lemmas.List.{map-append}
@@ -15,7 +15,7 @@ use Rattle.qm_split.specs.declared.contender.Contender.{Contender}
 use Rattle.qm_split.specs.declared.gathering.Gathering.{Gathering}
 use Rattle.qm_split.specs.Pieces.{solid_of, IsContender}
 use Rattle.qm_split.specs.CellFragments.{pieces_of, IsReached, IsAccounted, IsKeptContender}
-use Rattle.qm_split.specs.inner.Gathered.{IsRaisedBy, IsGathered, is_stronger_than, Keeps, Raises}
+use Rattle.qm_split.specs.inner.Gathered.{IsGathered, is_stronger_than, Keeps, Raises}
 use Rattle.qm_split.specs.inner.Gathered.Keeps.{passed, gained}
 use Rattle.qm_split.specs.inner.Gathered.Raises.{known, risen}
 use Rattle.qm_split.proofs.ListedItems.{none_listed, all_of_listed, listed_map, listed_from_map, listed_filter, by_test}

@@ -1,5 +1,5 @@
 -- What a solid is to what a cell has in front of a plane.
-use Rattle.std.proofs.Common.{◌≡◌, Some, None, List, [], ◌∷◌, ◌++◌, length, All, Contains, refl, sym, subst, ◌⊎◌, arith}
+use Rattle.std.proofs.Common.{◌≡◌, Some, None, List, [], ◌∷◌, ◌++◌, length, All, refl, sym, subst, arith}
 use Rattle.std.proofs.lemmas.List.Elements.{All-contains}
 use Rattle.qm_space.specs.Plane.{Plane, flipped}
 use Rattle.qm_space.specs.Reduced.{IsReduced}
@@ -19,7 +19,7 @@ use Rattle.qm_split.specs.declared.contender.Part.TheVariants.{Kept}
 use Rattle.qm_split.specs.Pieces.{solid_of, ArePieces, IsContender}
 use Rattle.qm_split.specs.inner.PieceParts.{AreFront, IsLyingPiece}
 use Rattle.qm_split.specs.inner.Ranked.{IsLesser}
-use Rattle.qm_split.specs.inner.Parts.{IsPartIn, IsSection, IsFoundPart, IsAhead, IsNotAhead, HasAhead, part_count, HasPieceIn, IsShortened}
+use Rattle.qm_split.specs.inner.Parts.{IsPartIn, IsSection, IsFoundPart, IsNotAhead, HasAhead, part_count, IsShortened}
 use Rattle.qm_split.proofs.SidesOfPlanes.{none_of_behind, none_of_ahead}
 use Rattle.qm_split.proofs.PartedPieces.{meets_no_face, pieces_in_front, all_in_front, none_in_front}
 

@@ -1,25 +1,21 @@
 -- What fragments of solids in a cell tell of it: which contents fill it, which planes are candidates, and which comes first.
-use Rattle.std.proofs.Common.{◌≡◌, ◌⊎◌, inl, inr, ⊎_elim, ℕ, zero, suc, ◌<◌, ◌≤◌, Bool, true, false, true≢false, ℤ, pos, negsuc, ◌≤ℤ◌, Option, Some, None, List, [], ◌∷◌, ◌++◌, length, map, All, Contains, get_or, refl, sym, ◌∙◌, ap, subst, arith}
+use Rattle.std.proofs.Common.{◌≡◌, ◌⊎◌, inl, inr, ⊎_elim, ℕ, zero, suc, ◌<◌, ◌≤◌, Bool, true, false, true≢false, ℤ, pos, negsuc, Option, Some, None, List, map, All, Contains, get_or, refl, sym, ◌∙◌, ap, subst, arith}
 use Rattle.std.specs.Prelude.{slice_get}
 use Rattle.std.proofs.lemmas.List.Elements.{All-contains, All-weaker, Contains-get_or}
-use Rattle.qm_space.specs.Point.{Point, IsInCube}
-use Rattle.qm_space.specs.Plane.{Plane, value, IsOn, IsBehind, IsNotInFront}
+use Rattle.qm_space.specs.Point.{Point}
+use Rattle.qm_space.specs.Plane.{Plane, value, IsBehind, IsNotInFront}
 use Rattle.qm_space.specs.Book.{plane_at}
-use Rattle.qm_space.specs.Cell.{IsInCell}
 use Rattle.qm_space.proofs.Books.{plane_at_from}
 use Rattle.qm_numbers.proofs.IntegerProducts.{linear}
 use Rattle.qm_numbers.proofs.Signs.{by_least}
-use Rattle.qm_convex.specs.Winding.{IsInRegion}
 use Rattle.qm_convex.proofs.Central.{has_a_point}
 use Rattle.qm_contents.specs.declared.contents.Contents.{Contents}
 use Rattle.qm_contents.specs.declared.contents.Contents.TheVariants.{Empty}
-use Rattle.qm_contents.specs.Precedence.{strength, IsAtMost}
 use Rattle.qm_solids.specs.Solid.{Solid}
 use Rattle.qm_solids.specs.Holding.{IsFull, Holds}
 use Rattle.qm_solids.specs.Cells.{ContainsCell, CellHasContents}
 use Rattle.qm_solids.specs.Candidates.{LiesOn, IsOnFace, IsOutdone, IsCandidate}
 use Rattle.qm_solids.specs.Least.{IsAxial, IsNumberedCandidate, ComesFirst, IsLeastCandidate}
-use Rattle.qm_solids.specs.Uniform.{LiesOutside}
 use Rattle.qm_solids.proofs.Insides.{behind_all}
 use Rattle.qm_solids.proofs.CellLaws.{holds_points_of_cell}
 use Rattle.qm_solids.proofs.PlanesInCommon.{lies_on_back, lies_on_through, lies_on_points, same_face, one_number}
@@ -29,8 +25,8 @@ use Rattle.qm_split.specs.declared.contender.Contender.{Contender}
 use Rattle.qm_split.specs.declared.fragments.Fragments.{Fragments}
 use Rattle.qm_split.specs.declared.rank.Rank.{Rank}
 use Rattle.qm_split.specs.Pieces.{solid_of, IsPiece, IsContender}
-use Rattle.qm_split.specs.CellFragments.{IsReached, IsAccounted, IsKeptContender, AreFragmentsOf}
-use Rattle.qm_split.specs.inner.Ranks.{IsBefore, IsNotAfter}
+use Rattle.qm_split.specs.CellFragments.{IsReached, IsKeptContender, AreFragmentsOf}
+use Rattle.qm_split.specs.inner.Ranks.{IsNotAfter}
 use Rattle.qm_split.specs.inner.Ranked.{IsRankOf, IsLeastRank}
 use Rattle.qm_split.proofs.ListedItems.{listed_from_map}
 use Rattle.qm_split.proofs.RankOrder.{first_one}

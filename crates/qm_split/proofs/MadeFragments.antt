@@ -1,8 +1,7 @@
 -- Fragments of the whole cube, and of both sides of a cell that a plane parts.
-use Rattle.std.proofs.Common.{◌≡◌, ◌⊎◌, inl, inr, ⊎_elim, ℕ, ◌+◌, ◌<◌, ◌≤◌, Bool, true, false, Option, Some, None, List, [], ◌∷◌, ◌++◌, length, map, All, Contains, take, get_or, refl, sym, ◌∙◌, ap, subst, arith}
-use Rattle.std.specs.Bool.{MatchBool}
+use Rattle.std.proofs.Common.{◌≡◌, inl, inr, ⊎_elim, ℕ, ◌+◌, ◌<◌, Bool, true, false, Option, None, List, [], ◌∷◌, ◌++◌, length, map, Contains, take, sym, ◌∙◌, ap, subst}
 use Rattle.std.proofs.lemmas.Bool.{MatchBool-at_true, MatchBool-at_false}
-use Rattle.std.proofs.lemmas.List.{map-append, take_more, get_or_default}
+use Rattle.std.proofs.lemmas.List.{map-append, take_more}
 use Rattle.std.proofs.lemmas.List.Elements.{All-contains, All-weaker, All-nil, Contains-get_or}
 use Rattle.qm_lists.proofs.Elements.{All-first_part}
 use Rattle.qm_space.specs.Point.{Point}
@@ -10,7 +9,7 @@ use Rattle.qm_space.specs.Plane.{Plane, IsOn, IsInFront}
 use Rattle.qm_space.specs.Reduced.{HasNormal}
 use Rattle.qm_space.specs.Cell.{IsInCell}
 use Rattle.qm_space.specs.Book.{AreBookPlanes}
-use Rattle.qm_convex.specs.Winding.{Winding, IsInRegion}
+use Rattle.qm_convex.specs.Winding.{Winding}
 use Rattle.qm_contents.specs.declared.contents.Contents.{Contents}
 use Rattle.qm_solids.specs.Solid.{Solid}
 use Rattle.qm_solids.specs.Holding.{IsFull}
@@ -22,12 +21,10 @@ use Rattle.qm_solids.specs.InBook.{BookSolid, solid_at, solid_in, solids_in, IsK
 use Rattle.qm_solids.proofs.FullSolids.{middle_of_cube, middle_in_cube}
 use Rattle.qm_solid_tree.proofs.PartedCells.{both_sides}
 use Rattle.qm_space.specs.Turned.{turned}
-use Rattle.qm_split.specs.declared.piece.Piece.{Piece}
 use Rattle.qm_split.specs.declared.contender.Contender.{Contender}
-use Rattle.qm_split.specs.declared.gathering.Gathering.{Gathering}
 use Rattle.qm_split.specs.declared.fragments.Fragments.{Fragments}
-use Rattle.qm_split.specs.Pieces.{solid_of, IsPiece, IsContender}
-use Rattle.qm_split.specs.CellFragments.{cell_of, HasPointOn, HasPoint, IsReached, AreOfSomeSolid, IsAccounted, IsKeptContender, AreFragmentsOf}
+use Rattle.qm_split.specs.Pieces.{solid_of, IsPiece}
+use Rattle.qm_split.specs.CellFragments.{cell_of, HasPointOn, HasPoint, AreOfSomeSolid, IsKeptContender, AreFragmentsOf}
 use Rattle.qm_split.specs.inner.Parts.{IsSection}
 use Rattle.qm_split.specs.inner.Gathered.{IsGathered, HasContenderIn}
 use Rattle.qm_split.specs.inner.Ranked.{IsWindingOfSome}

@@ -1,14 +1,14 @@
 -- What pieces have in front of a plane: step by step along a list, and for all pieces that a cell has of a solid.
-use Rattle.std.proofs.Common.{◌≡◌, ◌⊎◌, inl, inr, ⊎_elim, ◌+◌, ◌<◌, ◌≤◌, Option, Some, None, List, [], ◌∷◌, ◌++◌, length, Contains, All, get_or, option_to_list, refl, sym, ap, ◌∙◌, subst, append-nil, arith, zero, suc, ◌↔◌}
+use Rattle.std.proofs.Common.{inl, inr, ⊎_elim, Option, Some, None, List, [], ◌∷◌, ◌++◌, Contains, option_to_list, refl, sym, ap, ◌∙◌, subst, append-nil, arith}
 use Rattle.std.specs.Prelude.{slice_get}
 use Rattle.std.proofs.lemmas.List.{length_push}
 use Rattle.std.proofs.lemmas.List.Elements.{All-contains, All-push, Contains-push, Contains-push_cases, Contains-append_left}
 use Rattle.qm_lists.proofs.Elements.{All-first_part, All-last_part}
 use Rattle.qm_space.specs.Point.{Point}
-use Rattle.qm_space.specs.Plane.{Plane, IsOn, IsBehind, IsInFront}
+use Rattle.qm_space.specs.Plane.{Plane, IsInFront}
 use Rattle.qm_space.specs.Cell.{IsInCell}
 use Rattle.qm_numbers.proofs.IntegerProducts.{linear}
-use Rattle.qm_convex.specs.Winding.{Winding, IsInRegion, IsConvex}
+use Rattle.qm_convex.specs.Winding.{Winding, IsConvex}
 use Rattle.qm_convex.specs.Sides.{HasNoneInFront, IsWhollyInFront}
 use Rattle.qm_convex.specs.Cut.{IsPartInFront}
 use Rattle.qm_convex.proofs.Central.{has_a_point}
@@ -19,7 +19,7 @@ use Rattle.qm_solids.specs.Uniform.{MeetsNoFace}
 use Rattle.qm_split.specs.declared.piece.Piece.{Piece}
 use Rattle.qm_split.specs.Pieces.{IsPiece, HasPointOfFace, ArePieces}
 use Rattle.qm_split.proofs.ListedItems.{none_listed, all_of_listed}
-use Rattle.qm_split.specs.inner.PieceParts.{IsFrontPiece, IsPartOf, IsNumberedPiece, ComesOf, GoesTo, AreFront}
+use Rattle.qm_split.specs.inner.PieceParts.{IsFrontPiece, IsPartOf, IsNumberedPiece, AreFront}
 
 -- ---- along a list
 

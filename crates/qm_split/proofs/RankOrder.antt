@@ -1,15 +1,14 @@
 -- The order of ranks, and the first of the ranks of pieces.
-use Rattle.std.proofs.Common.{◌≡◌, ◌⊎◌, inl, inr, ⊎_elim, ◌<◌, ◌≤◌, Bool, true, false, true≢false, Option, Some, None, List, [], ◌∷◌, ◌++◌, All, Contains, ◌↔◌, refl, sym, ◌∙◌, ap, subst, arith, ℕ}
+use Rattle.std.proofs.Common.{◌≡◌, ◌⊎◌, inl, inr, ⊎_elim, ◌<◌, Bool, true, false, true≢false, Option, Some, None, List, [], ◌∷◌, ◌++◌, All, Contains, refl, sym, ◌∙◌, ap, subst, arith, ℕ}
 use Rattle.std.proofs.lemmas.List.Elements.{All-contains, Contains-push, Contains-push_cases, Contains-append_left}
 use Rattle.qm_lists.proofs.Elements.{All-first_part}
 use Rattle.qm_space.specs.Plane.{Plane}
-use Rattle.qm_solids.specs.Least.{IsAxial}
 use Rattle.qm_split.specs.declared.rank.Rank.{Rank}
 use Rattle.qm_split.specs.declared.piece.Piece.{Piece}
 use Rattle.qm_split.specs.declared.contender.Contender.{Contender}
 use Rattle.qm_split.specs.Pieces.{IsContender}
-use Rattle.qm_split.specs.inner.Ranks.{IsBefore, IsNotAfter, IsFirstOf}
-use Rattle.qm_split.specs.inner.Ranked.{IsRankOf, IsRankOfOne, IsAfterNone, IsLesser, IsRankOfSome, IsLeastRank}
+use Rattle.qm_split.specs.inner.Ranks.{IsNotAfter, IsFirstOf}
+use Rattle.qm_split.specs.inner.Ranked.{IsRankOf, IsRankOfOne, IsAfterNone, IsLesser, IsLeastRank}
 use Rattle.qm_split.proofs.ListedItems.{none_listed, listed_here}
 
 -- ---- the order

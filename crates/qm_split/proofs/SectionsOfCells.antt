@@ -1,12 +1,10 @@
 -- What a cell has of a plane.
-use Rattle.std.proofs.Common.{◌≡◌, ℕ, ◌+◌, ◌<◌, List, [], ◌∷◌, ◌++◌, length, take, get_or, All, ◌↔◌, refl, sym, ◌∙◌, ap, subst, arith}
+use Rattle.std.proofs.Common.{List, [], ◌∷◌, ◌++◌, refl, ◌∙◌, arith}
 use Rattle.std.proofs.lemmas.List.Elements.{All-nil, All-push}
 use Rattle.qm_lists.proofs.Elements.{All-first_part, All-last_part}
 use Rattle.qm_numbers.proofs.IntegerProducts.{linear}
-use Rattle.qm_space.specs.Point.{Point, IsInCube}
-use Rattle.qm_space.specs.Plane.{Plane, IsOn, IsInFront}
-use Rattle.qm_space.specs.Cell.{IsInCell}
-use Rattle.qm_convex.specs.Winding.{Winding, IsConvex, IsInRegion}
+use Rattle.qm_space.specs.Plane.{Plane, IsInFront}
+use Rattle.qm_convex.specs.Winding.{Winding, IsConvex}
 use Rattle.qm_convex.specs.Sides.{HasNoneInFront, IsWhollyInFront}
 use Rattle.qm_convex.specs.Cut.{IsPartInFront, IsPartWithin}
 use Rattle.qm_convex.specs.World.{MissesCube, IsWorldPart}

@@ -1,5 +1,5 @@
 -- What is known of a side of a cell while its contenders are cut one after another.
-use Rattle.std.proofs.Common.{◌≡◌, ⊎_elim, ◌+◌, ◌<◌, ◌≤◌, Option, List, [], ◌∷◌, ◌++◌, length, map, All, Contains, sym, subst, arith}
+use Rattle.std.proofs.Common.{◌≡◌, ⊎_elim, ◌+◌, ◌≤◌, Option, List, [], ◌∷◌, ◌++◌, map, All, sym, subst, arith}
 use Rattle.std.proofs.lemmas.List.{map-append}
 use Rattle.std.proofs.lemmas.List.Elements.{All-contains, Contains-push, Contains-push_cases}
 use Rattle.qm_lists.proofs.Elements.{All-first_part}
@@ -13,7 +13,7 @@ use Rattle.qm_split.specs.declared.gathering.Gathering.{Gathering}
 use Rattle.qm_split.specs.Pieces.{solid_of, IsContender}
 use Rattle.qm_split.specs.CellFragments.{pieces_of}
 use Rattle.qm_split.specs.inner.Parts.{IsSection, IsPartIn, part_count, HasPieceIn, IsShortened}
-use Rattle.qm_split.specs.inner.Gathered.{IsGathered, HasContenderIn, HasFewer}
+use Rattle.qm_split.specs.inner.Gathered.{IsGathered, HasFewer}
 use Rattle.qm_split.proofs.ListedItems.{none_listed}
 use Rattle.qm_split.proofs.Gatherings.{pieces_of-push}
 

@@ -10,7 +10,6 @@ use Rattle.qm_solids.specs.Holding.{IsFull}
 use Rattle.qm_solids.specs.Cells.{ContainsCell}
 use Rattle.qm_solids.specs.Uniform.{LiesOutside}
 use Rattle.qm_split.specs.declared.contender.Contender.{Contender}
-use Rattle.qm_split.specs.declared.gathering.Gathering.{Gathering}
 use Rattle.qm_split.specs.declared.fragments.Fragments.{Fragments}
 use Rattle.qm_split.specs.Pieces.{solid_of, IsContender}
 

@@ -1,4 +1,4 @@
-use Rattle.std.specs.Prelude.{◌≡◌, ◌⊎◌, ◌<◌, ◌≤◌, Bool, nat_lt, List, [], ◌∷◌, ◌++◌, Option, Some, length, map, filter, All, Contains}
+use Rattle.std.specs.Prelude.{◌≡◌, ◌⊎◌, ◌<◌, ◌≤◌, Bool, nat_lt, List, [], ◌∷◌, ◌++◌, Option, Some, filter, All, Contains}
 use Rattle.qm_space.specs.Plane.{Plane}
 use Rattle.qm_contents.specs.declared.contents.Contents.{Contents}
 use Rattle.qm_contents.specs.Precedence.{strength}
@@ -7,7 +7,6 @@ use Rattle.qm_solids.specs.Holding.{IsFull}
 use Rattle.qm_solids.specs.Cells.{ContainsCell}
 use Rattle.qm_split.specs.declared.contender.Contender.{Contender}
 use Rattle.qm_split.specs.declared.gathering.Gathering.{Gathering}
-use Rattle.qm_split.specs.Pieces.{solid_of, IsContender}
 use Rattle.qm_split.specs.CellFragments.{pieces_of, IsReached, IsAccounted, IsKeptContender}
 use Rattle.qm_split.specs.inner.Parts.{HasPieceIn}
 

@@ -1,4 +1,4 @@
-use Rattle.std.proofs.Common.{◌≡◌, [], List, Some, None, refl, sym, ap, ◌∙◌, subst, length}
+use Rattle.std.proofs.Common.{[], List, Some, None, refl, sym, ap, ◌∙◌, subst, length}
 use Rattle.qm_space.specs.Plane.{Plane}
 use Rattle.qm_split.specs.declared.piece.Piece.{Piece}
 use Rattle.qm_split.specs.inner.Parts.{IsFoundPart}

@@ -1,4 +1,4 @@
-use Rattle.std.proofs.Common.{List, [], ◌∷◌, ◌++◌, false, take, get_or, sym, ◌∙◌, subst}
+use Rattle.std.proofs.Common.{List, [], ◌∷◌, ◌++◌, false, take, get_or, sym, subst}
 use Rattle.std.proofs.lemmas.List.{get_or_default, take_all}
 use Rattle.qm_solids.specs.declared.face.FaceRef.{FaceRef}
 use Rattle.qm_split.specs.declared.piece.Piece.{Piece}

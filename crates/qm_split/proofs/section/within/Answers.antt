@@ -1,6 +1,5 @@
 use Rattle.std.proofs.Common.{List, Option, take, drop, ◌+◌, sym, subst}
 use Rattle.std.specs.Option.{MatchOption}
-use Rattle.qm_space.specs.Point.{Point}
 use Rattle.qm_space.specs.Plane.{Plane}
 use Rattle.qm_space.specs.Cell.{IsInCell}
 use Rattle.qm_convex.specs.Winding.{Winding}

@@ -1,4 +1,4 @@
-use Rattle.std.proofs.Common.{true, false, List, [], ◌∷◌, ◌++◌, ◌∙◌, ap, subst}
+use Rattle.std.proofs.Common.{true, false, [], ◌∷◌, ◌++◌, ◌∙◌, ap, subst}
 use Rattle.qm_space.specs.Plane.{Plane, flipped}
 use Rattle.qm_space.specs.Reduced.{IsReduced}
 use Rattle.qm_split.specs.CellFragments.{cell_of}
