@@ -17,15 +17,6 @@ use Rattle.qm_lists.proofs.Cases.{by_cases}
 
 -- ---- the order of planes
 
-plane_cmp_total : IsTotalOrder plane_cmp
-plane_cmp_total =
-    then_total (on_total (λ (h : Plane). h.nx) int_cmp_total)
-    (then_total (on_total (λ (h : Plane). h.ny) int_cmp_total)
-    (then_total (on_total (λ (h : Plane). h.nz) int_cmp_total) (on_total (λ (h : Plane). h.d) int_cmp_total)))
-
-pub plane_cmp-itself : (h : Plane) → plane_cmp h h ≡ Equal
-plane_cmp-itself h = tied_itself plane_cmp_total h
-
 equal_parts : (o p : Ordering) → ordering_then o p ≡ Equal → (o ≡ Equal) × (p ≡ Equal)
 equal_parts Less p h = cc
 equal_parts Equal p h = (refl, h)
