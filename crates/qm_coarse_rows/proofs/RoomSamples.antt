@@ -25,41 +25,41 @@ use Rattle.qm_contacts.specs.Portals.{Portal, portals_of}
 use Rattle.qm_coarse_rows.specs.CoarseRow.{MayFollow, GoesOnFrom, IsInCoarseRow, IsCoarseRow}
 use Rattle.qm_coarse_rows.specs.LeafRow.{IsInLeafRow, IsLeafRow}
 
-abbrev at : ℤ → Plane
+abbrev pub at : ℤ → Plane
 at x = plane_of (pos 1) (pos 0) (pos 0) x
 
-abbrev empty : Leaf
+abbrev pub empty : Leaf
 empty = record { contents = Empty; filled = false }
 
 -- in front of x = 64 is leaf 0, between the planes leaf 1, behind x = 0 leaf 2
-abbrev rooms : Tree
+abbrev pub rooms : Tree
 rooms = record { planes = at (pos 64) ∷ at (pos 0) ∷ []; shape = node 0 (leaf empty) (node 1 (leaf empty) (leaf empty)) }
 
-abbrev door : ℤ → Winding
+abbrev pub door : ℤ → Winding
 door x = square (at x) wall_y wall_z
 
-abbrev touchings : List Touching
+abbrev pub touchings : List Touching
 touchings =
     record { node = 0; front = 0; back = 1; winding = door (pos 64) }
     ∷ record { node = 1; front = 1; back = 2; winding = door (pos 0) }
     ∷ []
 
-abbrev out : Portal
+abbrev pub out : Portal
 out = record { winding = door (pos 64); into = flipped (at (pos 64)); from = 0; to = 1 }
 
-abbrev in_again : Portal
+abbrev pub in_again : Portal
 in_again = record { winding = door (pos 64); into = at (pos 64); from = 1; to = 0 }
 
-abbrev on : Portal
+abbrev pub on : Portal
 on = record { winding = door (pos 0); into = flipped (at (pos 0)); from = 1; to = 2 }
 
-abbrev back : Portal
+abbrev pub back : Portal
 back = record { winding = door (pos 0); into = at (pos 0); from = 2; to = 1 }
 
-portals_row : portals_of rooms touchings ≡ out ∷ in_again ∷ on ∷ back ∷ []
+pub portals_row : portals_of rooms touchings ≡ out ∷ in_again ∷ on ∷ back ∷ []
 portals_row = refl
 
-abbrev portals : List Portal
+abbrev pub portals : List Portal
 portals = out ∷ in_again ∷ on ∷ back ∷ []
 
 -- ---- the row of the portal out of leaf 0
