@@ -1,2 +1,3 @@
 pub mod Betweenness
 pub mod RoomSights
+pub mod LeavesPassed
