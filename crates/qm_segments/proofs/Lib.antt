@@ -1,3 +1,6 @@
 pub mod Betweenness
 pub mod RoomSights
 pub mod LeavesPassed
+pub mod OffPlaces
+pub mod EndLeaves
+pub mod LeavesOnce
