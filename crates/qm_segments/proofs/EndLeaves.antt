@@ -20,6 +20,7 @@ use Rattle.qm_partition.specs.Ways.{Way, after_step, ways, turned_to, cell_of}
 use Rattle.qm_partition.proofs.Cells.{number_of_cell}
 use Rattle.qm_partition.proofs.NodePlanes.{IsOff, off_node_planes}
 use Rattle.qm_segments.specs.Passes.{IsWithinLeaf, Passes, within, onward}
+use Rattle.qm_segments.proofs.LeavesPassed.{NoneHasBoth, none_up_to, none_from}
 use Rattle.qm_segments.proofs.Betweenness.{front_up_to_end, front_from_start, nearer_between, farther_between}
 
 -- each step of a way names the plane of a node
@@ -89,15 +90,16 @@ module _ (tree : Tree) where
     pub end : Point
     pub inside : IsWithinLeaf tree start end k
     pub between : (x : Point) → IsBetween x start end → IsBetween x p q
+    pub none : (numbers : List ℕ) → NoneHasBoth tree numbers p q → NoneHasBoth tree numbers start end
 
   pub passed_part : (p q : Point) (first : ℕ) (rest : List ℕ) (k : ℕ) → Passes tree p q (first ∷ rest) → Contains (first ∷ rest) k → IsPassed p q k
   passed_part p q first rest k (within inside) there = ⊎_elim
-      (λ same. subst (IsPassed p q) same (record { start = p; end = q; inside = inside; between = λ x b. b }))
+      (λ same. subst (IsPassed p q) same (record { start = p; end = q; inside = inside; between = λ x b. b; none = λ numbers given. given }))
       (λ more. absurd (let range = more.1 in omega arith))
       (Contains-cons_cases first k [] there)
   passed_part p q first rest k (onward {m = m} {n = n} {rest = others} at inside apart more) there = ⊎_elim
-      (λ same. subst (IsPassed p q) same (record { start = p; end = m; inside = inside; between = λ x b. nearer_between p q m x at b }))
+      (λ same. subst (IsPassed p q) same (record { start = p; end = m; inside = inside; between = λ x b. nearer_between p q m x at b; none = λ numbers given. none_up_to tree numbers p m q at given }))
       (λ later.
       let part = passed_part m q n others k more later in
-      record { start = part.start; end = part.end; inside = part.inside; between = λ x b. farther_between p q m x at (part.between x b) })
+      record { start = part.start; end = part.end; inside = part.inside; between = λ x b. farther_between p q m x at (part.between x b); none = λ numbers given. part.none numbers (none_from tree numbers p m q at given) })
       (Contains-cons_cases first k (n ∷ others) there)

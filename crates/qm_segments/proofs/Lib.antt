@@ -4,3 +4,4 @@ pub mod LeavesPassed
 pub mod OffPlaces
 pub mod EndLeaves
 pub mod LeavesOnce
+pub mod GenericSegments
