@@ -5,3 +5,4 @@ pub mod OffPlaces
 pub mod EndLeaves
 pub mod LeavesOnce
 pub mod GenericSegments
+pub mod PortalsListed
