@@ -6,3 +6,4 @@ pub mod EndLeaves
 pub mod LeavesOnce
 pub mod GenericSegments
 pub mod PortalsListed
+pub mod CrossedPortals
