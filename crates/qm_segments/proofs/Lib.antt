@@ -7,3 +7,4 @@ pub mod LeavesOnce
 pub mod GenericSegments
 pub mod PortalsListed
 pub mod CrossedPortals
+pub mod SegmentLaw
