@@ -8,3 +8,4 @@ pub mod GenericSegments
 pub mod PortalsListed
 pub mod CrossedPortals
 pub mod SegmentLaw
+pub mod CoarseSight
