@@ -103,3 +103,13 @@ module _ (tree : Tree) where
       let part = passed_part m q n others k more later in
       record { start = part.start; end = part.end; inside = part.inside; between = λ x b. farther_between p q m x at (part.between x b); none = λ numbers given. part.none numbers (none_from tree numbers p m q at given) })
       (Contains-cons_cases first k (n ∷ others) there)
+
+  -- the part in the leaf where one begins
+  pub record Begins (p q : Point) (k : ℕ) : Type 0 where
+    pub to : Point
+    pub inside : IsWithinLeaf tree p to k
+    pub between : (x : Point) → IsBetween x p to → IsBetween x p q
+
+  pub begins : (p q : Point) (k : ℕ) (rest : List ℕ) → Passes tree p q (k ∷ rest) → Begins p q k
+  begins p q k rest (within inside) = record { to = q; inside = inside; between = λ x b. b }
+  begins p q k rest (onward {m = m} at inside apart more) = record { to = m; inside = inside; between = λ x b. nearer_between p q m x at b }

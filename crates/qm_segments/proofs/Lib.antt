@@ -9,3 +9,4 @@ pub mod PortalsListed
 pub mod CrossedPortals
 pub mod SegmentLaw
 pub mod CoarseSight
+pub mod UnfilledLeaves

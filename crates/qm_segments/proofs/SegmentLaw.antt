@@ -29,7 +29,7 @@ use Rattle.qm_segments.specs.Sight.{IsInSight}
 use Rattle.qm_segments.proofs.Betweenness.{sum_between, nearer_between, later_between, farther_between, behind_before, front_after}
 use Rattle.qm_segments.proofs.LeavesPassed.{NoneHasBoth, none_up_to, none_from}
 use Rattle.qm_segments.proofs.OffPlaces.{off_between}
-use Rattle.qm_segments.proofs.EndLeaves.{not_behind_at_start, not_behind_at_end, end_in_leaf, first_leaf}
+use Rattle.qm_segments.proofs.EndLeaves.{not_behind_at_start, not_behind_at_end, end_in_leaf, first_leaf, begins}
 use Rattle.qm_segments.proofs.LeavesOnce.{leaves_once}
 use Rattle.qm_segments.proofs.GenericSegments.{later_part, on_generic_in_cube, later_generic, later_clear, generic_none, generic_passes, passed_contents}
 use Rattle.qm_segments.proofs.PortalsListed.{HasLeaf, number_of_leaf}
@@ -53,16 +53,6 @@ module _ (tree : Tree) where
   numbers_differ [] leaves zip each = tt
   numbers_differ (n ∷ numbers) [] zip each = absurd zip
   numbers_differ (n ∷ numbers) (k ∷ leaves) zip each = (differs n k numbers leaves zip.0 zip.1 each.0, numbers_differ numbers leaves zip.1 each.1)
-
--- the leaf where a part begins
-record Begins (tree : Tree) (m q : Point) (n : ℕ) : Type 0 where
-  to : Point
-  inside : IsWithinLeaf tree m to n
-  between : (x : Point) → IsBetween x m to → IsBetween x m q
-
-begins : (tree : Tree) (m q : Point) (n : ℕ) (rest : List ℕ) → Passes tree m q (n ∷ rest) → Begins tree m q n
-begins tree m q n rest (within inside) = record { to = q; inside = inside; between = λ x b. b }
-begins tree m q n rest (onward {m = l} at inside apart more) = record { to = l; inside = inside; between = λ x b. nearer_between m q l x at b }
 
 module _ (tree : Tree) (have : HasPoints tree) (touchings : List Touching) (are : AreTouchings tree.planes (meetings tree) touchings) (s : Segment) (generic : IsGeneric tree s) (contents : Contents) (not_solid : contents ≢ Solid) (clear : IsClear (LeafHas tree) tree s contents) where
   abbrev portals : List Portal
