@@ -10,3 +10,5 @@ pub mod CrossedPortals
 pub mod SegmentLaw
 pub mod CoarseSight
 pub mod UnfilledLeaves
+pub mod MarkedSegments
+pub mod EndRows
