@@ -26,7 +26,9 @@ use Rattle.qm_segments.specs.Sight.{IsInSight}
 use Rattle.qm_segments.proofs.Betweenness.{between_in_front, behind_before, farther_between}
 use Rattle.qm_segments.proofs.GenericSegments.{generic_none}
 use Rattle.qm_segments.proofs.PortalsListed.{passage_of_portal, one_portal}
-use Rattle.qm_segments.proofs.SegmentLaw.{IsNumberOf, IsLed, led}
+use Rattle.qm_segments.proofs.SegmentLaw.{IsNumberOf, IsLed, led, numbers_differ}
+use Rattle.qm_segments.proofs.LeavesOnce.{leaves_once}
+use Rattle.qm_lists.proofs.EachPair.{EachPair}
 
 module _ (tree : Tree) (touchings : List Touching) (are : AreTouchings tree.planes (meetings tree) touchings) where
   -- ---- a listed portal
@@ -75,11 +77,12 @@ module _ (tree : Tree) (touchings : List Touching) (are : AreTouchings tree.plan
     pub goes_through : GoesThrough segment p at
     pub chain : List Portal
     pub goes : GoesBy (portals_of tree touchings) segment at p.to chain n
+    pub once : EachPair (λ a b. a ≢ b) (p.from ∷ p.to ∷ map (λ q. q.to) chain)
 
   module _ (have : HasPoints tree) (p : Portal) (p_there : Contains (portals_of tree touchings) p) (n : ℕ) (sight : IsInSight tree p n) where
-    from_chain : (first e : ℕ) (chain : List Portal) → first ≡ p.from → e ≡ n → GoesBy (portals_of tree touchings) sight.segment sight.segment.from first chain e → AllZip (IsNumberOf tree) (first ∷ map (λ q. q.to) chain) (sight.left ∷ sight.entered ∷ sight.rest) → IsSeenAlong p n
-    from_chain first e chain same last ends numbers = absurd numbers.1
-    from_chain first e chain same last (through {y = y} {q = q} {rest = rest} listed from b at more) numbers =
+    from_chain : (first e : ℕ) (chain : List Portal) → first ≡ p.from → e ≡ n → GoesBy (portals_of tree touchings) sight.segment sight.segment.from first chain e → AllZip (IsNumberOf tree) (first ∷ map (λ q. q.to) chain) (sight.left ∷ sight.entered ∷ sight.rest) → EachPair (λ a b. a ≢ b) (first ∷ map (λ q. q.to) chain) → IsSeenAlong p n
+    from_chain first e chain same last ends numbers once = absurd numbers.1
+    from_chain first e chain same last (through {y = y} {q = q} {rest = rest} listed from b at more) numbers once =
         let to : q.to ≡ p.to = sym (number_at_leaf tree q.to sight.entered numbers.1.0).3 ∙ (number_at_leaf tree p.to sight.entered sight.to_is).3 in
         let is : q ≡ p = one_portal tree touchings are q p listed p_there (from ∙ same) to in
         record {
@@ -88,6 +91,7 @@ module _ (tree : Tree) (touchings : List Touching) (are : AreTouchings tree.plan
           goes_through = subst (λ (r : Portal). GoesThrough sight.segment r y) is at;
           chain = rest;
           goes = subst (λ (m : ℕ). GoesBy (portals_of tree touchings) sight.segment y p.to rest m) last (subst (λ (m : ℕ). GoesBy (portals_of tree touchings) sight.segment y m rest e) to more);
+          once = subst (λ (m : ℕ). EachPair (λ a b. a ≢ b) (p.from ∷ m ∷ map (λ q. q.to) rest)) to (subst (λ (m : ℕ). EachPair (λ a b. a ≢ b) (m ∷ q.to ∷ map (λ q. q.to) rest)) same once);
         }
 
     pub seen_along : IsSeenAlong p n
@@ -98,6 +102,7 @@ module _ (tree : Tree) (touchings : List Touching) (are : AreTouchings tree.plan
         (number_at_leaf tree p.from sight.left sight.from_is).3
         (sym (number_at_leaf tree whole.to _ whole.to_is).3 ∙ (number_at_leaf tree n _ sight.last_is).3)
         whole.goes whole.numbers
+        (numbers_differ tree (number_of tree sight.left ∷ map (λ q. q.to) whole.chain) (sight.left ∷ sight.entered ∷ sight.rest) whole.numbers (leaves_once tree s.from s.to sight.left (sight.entered ∷ sight.rest) sight.passes))
 
     -- the coarse row of a portal holds all that is in sight of it
     pub coarse_holds_sight : IsInCoarseRow (portals_of tree touchings) p n

@@ -12,3 +12,4 @@ pub mod CoarseSight
 pub mod UnfilledLeaves
 pub mod MarkedSegments
 pub mod EndRows
+pub mod OpenChains
