@@ -1,11 +1,10 @@
 -- Worked rows: three empty leaves in a row, parted by the planes x = 64 and x = 0. What goes through the first portal goes
 -- on through the second; nothing turns back.
-use Rattle.std.proofs.Common.{◌≡◌, ℕ, zero, suc, ◌≤◌, ℤ, pos, true, false, Bool, List, [], ◌∷◌, Contains, length, Some, refl, sym, ap, ◌∙◌, subst, arith, inl, inr, ⊎_elim}
+use Rattle.std.proofs.Common.{◌≡◌, ◌<◌, ℕ, zero, suc, ℤ, pos, true, false, Bool, List, [], ◌∷◌, Contains, length, Some, refl, sym, ap, ◌∙◌, subst, arith, inl, inr, ⊎_elim}
 use Rattle.std.specs.Prelude.{slice_get}
 use Rattle.std.proofs.lemmas.Int.{ints}
 use Rattle.std.proofs.lemmas.List.{get_or_past}
 use Rattle.std.proofs.lemmas.List.Elements.{All-from_recursion, All-contains}
-use Rattle.qm_space.proofs.Planes.{flipped_on}
 use Rattle.qm_convex.proofs.Corners.{corner_on_plane}
 use Rattle.qm_lists.specs.Reach.{start, onward}
 use Rattle.qm_lists.specs.WorkList.{IsIn}
@@ -22,8 +21,11 @@ use Rattle.qm_partition.specs.Partition.{leaf, node}
 use Rattle.qm_partition.specs.Tree.{Tree}
 use Rattle.qm_contacts.specs.Touching.{Touching}
 use Rattle.qm_contacts.specs.Portals.{Portal, portals_of}
-use Rattle.qm_coarse_rows.specs.CoarseRow.{MayFollow, GoesOnFrom, IsInCoarseRow, IsCoarseRow}
-use Rattle.qm_coarse_rows.specs.LeafRow.{IsInLeafRow, IsLeafRow}
+use Rattle.qm_coarse_rows.specs.CoarseRow.{MayFollow, GoesOnFrom, IsInCoarseRow, IsCoarseRow, AreCoarseRows}
+use Rattle.qm_space.specs.Turned.{turned}
+use Rattle.qm_space.proofs.TurnedPlanes.{turned_on}
+use Rattle.qm_convex.specs.Sides.{HasCornerInFront}
+use Rattle.qm_coarse_rows.specs.LeafRow.{AreLeafRows, IsInLeafRow, IsLeafRow}
 
 abbrev pub at : ℤ → Plane
 at x = plane_of (pos 1) (pos 0) (pos 0) x
@@ -62,78 +64,145 @@ portals_row = refl
 abbrev pub portals : List Portal
 portals = out ∷ in_again ∷ on ∷ back ∷ []
 
--- ---- the row of the portal out of leaf 0
+-- ---- which portal may follow which
 
 on_follows : MayFollow out on
 unfolding corner_at next_place meet determinant value
 on_follows = record { ahead = (0, omega arith, omega (arith, ints)); behind = (0, omega arith, omega (arith, ints)) }
 
--- no corner of a door is in front of its own plane
-no_way_back : MayFollow out in_again → ⊥
-no_way_back follows =
-    let corner = corner_at (door (pos 64)) follows.ahead.0 in
-    let on_plane = corner_on_plane (door (pos 64)) follows.ahead.0 in
-    let on_flipped = (flipped_on (at (pos 64)) corner).1 on_plane in
-    let front = follows.ahead.2 in
-    absurd (omega (arith, ints, front, on_flipped))
+again_follows : MayFollow back in_again
+unfolding corner_at next_place meet determinant value
+again_follows = record { ahead = (0, omega arith, omega (arith, ints)); behind = (0, omega arith, omega (arith, ints)) }
 
-listed : (P : Portal → Type 0) → P out → P in_again → P on → P back → (q : Portal) → Contains portals q → P q
-listed P p_out p_in p_on p_back q there = All-contains P portals q (All-from_recursion P portals (p_out, (p_in, (p_on, (p_back, tt))))) there
+-- no corner of a door is in front of its own plane, to whichever side that is turned
+own_plane : (x : ℤ) (side : Bool) → HasCornerInFront (door x) (turned side (at x)) → ⊥
+own_plane x side front =
+    let corner = corner_at (door x) front.0 in
+    let on_plane = (turned_on side (at x) corner).1 (corner_on_plane (door x) front.0) in
+    let ahead = front.2 in
+    absurd (omega (arith, ints, ahead, on_plane))
 
--- it has the leaves 1 and 2
-out_row : IsCoarseRow portals 3 out (false ∷ true ∷ true ∷ [])
-out_row = record { one_each = refl; exactly = λ n. (there n, λ reached. back_from n (only n reached)) }
+-- ---- the rows of the four portals
+
+each_portal : (P : Portal → Type 0) → P out → P in_again → P on → P back → (q : Portal) → Contains portals q → P q
+each_portal P p_out p_in p_on p_back q there = All-contains P portals q (All-from_recursion P portals (p_out, (p_in, (p_on, (p_back, tt))))) there
+
+past : (row : List Bool) (k : ℕ) → length row ≡ 3 → IsIn row (suc (suc (suc k))) → ⊥
+past row k long is = absurd (let e = get_or_past row (suc (suc (suc k))) false (omega (arith, long)) in let f : false ≡ true = sym e ∙ is in cc)
+
+-- a row of three places that has the leaf that p enters and is closed, and has no more than it should
+row_of : (p : Portal) (row : List Bool) → length row ≡ 3 → IsIn row p.to → ((q : Portal) → Contains portals q → IsIn row q.from → MayFollow p q → IsIn row q.to) →
+    (IsIn row 0 → IsInCoarseRow portals p 0) → (IsIn row 1 → IsInCoarseRow portals p 1) → (IsIn row 2 → IsInCoarseRow portals p 2) → IsCoarseRow portals 3 p row
+row_of p row long begun closed zeroth first second = record { one_each = long; exactly = λ n. (there n, λ reached. back_from n reached) }
   where
-    there : (n : ℕ) → IsIn (false ∷ true ∷ true ∷ []) n → IsInCoarseRow portals out n
-    there zero is = absurd (let e : false ≡ true = is in cc)
-    there (suc zero) is = start refl
-    there (suc (suc zero)) is = onward (start refl) (record { portal = on; listed = (2, omega arith, refl); from = refl; to = refl; follows = on_follows })
-    there (suc (suc (suc n))) is = absurd (let e : false ≡ true = is in cc)
+    there : (n : ℕ) → IsIn row n → IsInCoarseRow portals p n
+    there zero is = zeroth is
+    there (suc zero) is = first is
+    there (suc (suc zero)) is = second is
+    there (suc (suc (suc n))) is = absurd (past row n long is)
 
-    only : (n : ℕ) → IsInCoarseRow portals out n → (1 ≤ n) × (n ≤ 2)
-    only n reached = least (λ m. m ≡ 1) (GoesOnFrom portals out) (λ m. (1 ≤ m) × (m ≤ 2))
-        (λ m is. (omega (arith, is), omega (arith, is)))
-        (λ from to within goes. subst (λ (m : ℕ). (1 ≤ m) × (m ≤ 2)) goes.to
-        (listed (λ q. MayFollow out q → (1 ≤ q.to) × (q.to ≤ 2))
-        (λ f. (omega arith, omega arith)) (λ f. absurd (no_way_back f)) (λ f. (omega arith, omega arith)) (λ f. (omega arith, omega arith))
-        goes.portal goes.listed goes.follows))
+    back_from : (n : ℕ) → IsInCoarseRow portals p n → IsIn row n
+    back_from n reached = least (λ m. m ≡ p.to) (GoesOnFrom portals p) (λ m. IsIn row m)
+        (λ m is. subst (λ (k : ℕ). IsIn row k) (sym is) begun)
+        (λ from to within goes. subst (λ (k : ℕ). IsIn row k) goes.to (closed goes.portal goes.listed (subst (λ (k : ℕ). IsIn row k) (sym goes.from) within) goes.follows))
         n reached
 
-    back_from : (n : ℕ) → (1 ≤ n) × (n ≤ 2) → IsIn (false ∷ true ∷ true ∷ []) n
-    back_from zero within = absurd (let low = within.0 in omega arith)
-    back_from (suc zero) within = refl
-    back_from (suc (suc zero)) within = refl
-    back_from (suc (suc (suc n))) within = absurd (let high = within.1 in omega arith)
+not_there : {P : Type 0} → false ≡ true → P
+not_there is = absurd cc
 
--- ---- the row of leaf 1
+-- out of leaf 0: the leaves 1 and 2
+out_row : IsCoarseRow portals 3 out (false ∷ true ∷ true ∷ [])
+out_row = row_of out (false ∷ true ∷ true ∷ []) refl refl
+    (each_portal (λ q. IsIn (false ∷ true ∷ true ∷ []) q.from → MayFollow out q → IsIn (false ∷ true ∷ true ∷ []) q.to)
+    (λ is f. not_there is) (λ is f. absurd (own_plane (pos 64) false f.ahead)) (λ is f. refl) (λ is f. refl))
+    (λ is. not_there is)
+    (λ is. start refl)
+    (λ is. onward (start refl) (record { portal = on; listed = (2, omega arith, refl); from = refl; to = refl; follows = on_follows }))
 
--- rows of the four portals
-abbrev rows : List (List Bool)
+-- back into leaf 0: that leaf alone
+in_row : IsCoarseRow portals 3 in_again (true ∷ false ∷ false ∷ [])
+in_row = row_of in_again (true ∷ false ∷ false ∷ []) refl refl
+    (each_portal (λ q. IsIn (true ∷ false ∷ false ∷ []) q.from → MayFollow in_again q → IsIn (true ∷ false ∷ false ∷ []) q.to)
+    (λ is f. absurd (own_plane (pos 64) true f.ahead)) (λ is f. not_there is) (λ is f. not_there is) (λ is f. not_there is))
+    (λ is. start refl) (λ is. not_there is) (λ is. not_there is)
+
+-- into leaf 2: that leaf alone
+on_row : IsCoarseRow portals 3 on (false ∷ false ∷ true ∷ [])
+on_row = row_of on (false ∷ false ∷ true ∷ []) refl refl
+    (each_portal (λ q. IsIn (false ∷ false ∷ true ∷ []) q.from → MayFollow on q → IsIn (false ∷ false ∷ true ∷ []) q.to)
+    (λ is f. not_there is) (λ is f. not_there is) (λ is f. not_there is) (λ is f. absurd (own_plane (pos 0) false f.ahead)))
+    (λ is. not_there is) (λ is. not_there is) (λ is. start refl)
+
+-- out of leaf 2: the leaves 1 and 0
+back_row : IsCoarseRow portals 3 back (true ∷ true ∷ false ∷ [])
+back_row = row_of back (true ∷ true ∷ false ∷ []) refl refl
+    (each_portal (λ q. IsIn (true ∷ true ∷ false ∷ []) q.from → MayFollow back q → IsIn (true ∷ true ∷ false ∷ []) q.to)
+    (λ is f. refl) (λ is f. refl) (λ is f. absurd (own_plane (pos 0) true f.ahead)) (λ is f. not_there is))
+    (λ is. onward (start refl) (record { portal = in_again; listed = (1, omega arith, refl); from = refl; to = refl; follows = again_follows }))
+    (λ is. start refl)
+    (λ is. not_there is)
+
+abbrev pub rows : List (List Bool)
 rows = (false ∷ true ∷ true ∷ []) ∷ (true ∷ false ∷ false ∷ []) ∷ (false ∷ false ∷ true ∷ []) ∷ (true ∷ true ∷ false ∷ []) ∷ []
 
--- two portals leave leaf 1, one to either side, so it has all three leaves
-middle_row : IsLeafRow portals rows 3 1 (true ∷ true ∷ true ∷ [])
-middle_row = record { one_each = refl; exactly = λ k. (there k, within k) }
+pub coarse_rows : AreCoarseRows portals 3 rows
+coarse_rows = (out_row, (in_row, (on_row, (back_row, tt))))
+
+-- ---- the rows of the three leaves
+
+-- no row has a place past the leaves
+no_place : (place : ℕ) (row : List Bool) (k : ℕ) → slice_get rows place ≡ Some row → IsIn row (suc (suc (suc k))) → ⊥
+no_place zero row k at is = past row k (let same : (false ∷ true ∷ true ∷ []) ≡ row = cc in ap length (sym same)) is
+no_place (suc zero) row k at is = past row k (let same : (true ∷ false ∷ false ∷ []) ≡ row = cc in ap length (sym same)) is
+no_place (suc (suc zero)) row k at is = past row k (let same : (false ∷ false ∷ true ∷ []) ≡ row = cc in ap length (sym same)) is
+no_place (suc (suc (suc zero))) row k at is = past row k (let same : (true ∷ true ∷ false ∷ []) ≡ row = cc in ap length (sym same)) is
+no_place (suc (suc (suc (suc place)))) row k at is = absurd cc
+
+-- all three leaves
+abbrev whole : List Bool
+whole = true ∷ true ∷ true ∷ []
+
+leaf_row : (n : ℕ) → n < 3 → IsInLeafRow portals rows n 0 → IsInLeafRow portals rows n 1 → IsInLeafRow portals rows n 2 → IsLeafRow portals rows 3 n whole
+leaf_row n less zeroth first second = record { one_each = refl; exactly = λ k. (there k, within k) }
   where
-    there : (k : ℕ) → IsIn (true ∷ true ∷ true ∷ []) k → IsInLeafRow portals rows 1 k
-    there zero is = inr (record { place = 1; portal = in_again; row = true ∷ false ∷ false ∷ []; portal_is = refl; row_is = refl; from = refl; seen = refl })
-    there (suc zero) is = inl refl
-    there (suc (suc zero)) is = inr (record { place = 2; portal = on; row = false ∷ false ∷ true ∷ []; portal_is = refl; row_is = refl; from = refl; seen = refl })
-    there (suc (suc (suc k))) is = absurd (let e : false ≡ true = is in cc)
+    there : (k : ℕ) → IsIn whole k → IsInLeafRow portals rows n k
+    there zero is = zeroth
+    there (suc zero) is = first
+    there (suc (suc zero)) is = second
+    there (suc (suc (suc k))) is = not_there is
 
-    none : (row : List Bool) (k : ℕ) → length row ≡ 3 → IsIn row (suc (suc (suc k))) → ⊥
-    none row k long is = absurd (let e = get_or_past row (suc (suc (suc k))) false (omega (arith, long)) in let f : false ≡ true = sym e ∙ is in cc)
-
-    -- no row has a place past the leaves
-    short : (place : ℕ) (row : List Bool) (k : ℕ) → slice_get rows place ≡ Some row → IsIn row (suc (suc (suc k))) → ⊥
-    short zero row k at is = none row k (let same : (false ∷ true ∷ true ∷ []) ≡ row = cc in ap length (sym same)) is
-    short (suc zero) row k at is = none row k (let same : (true ∷ false ∷ false ∷ []) ≡ row = cc in ap length (sym same)) is
-    short (suc (suc zero)) row k at is = none row k (let same : (false ∷ false ∷ true ∷ []) ≡ row = cc in ap length (sym same)) is
-    short (suc (suc (suc zero))) row k at is = none row k (let same : (true ∷ true ∷ false ∷ []) ≡ row = cc in ap length (sym same)) is
-    short (suc (suc (suc (suc place)))) row k at is = absurd cc
-
-    within : (k : ℕ) → IsInLeafRow portals rows 1 k → IsIn (true ∷ true ∷ true ∷ []) k
+    within : (k : ℕ) → IsInLeafRow portals rows n k → IsIn whole k
     within zero in_row = refl
     within (suc zero) in_row = refl
     within (suc (suc zero)) in_row = refl
-    within (suc (suc (suc k))) in_row = ⊎_elim (λ same. absurd (omega (arith, same))) (λ seen. absurd (short seen.place seen.row k seen.row_is seen.seen)) in_row
+    within (suc (suc (suc k))) in_row = ⊎_elim (λ same. absurd (omega (arith, same, less))) (λ seen. absurd (no_place seen.place seen.row k seen.row_is seen.seen)) in_row
+
+-- one portal leaves leaf 0, and shows the others; two leave leaf 1, one to either side; one leaves leaf 2
+first_row : IsLeafRow portals rows 3 0 whole
+first_row = leaf_row 0 (omega arith) (inl refl)
+    (inr (record { place = 0; portal = out; row = false ∷ true ∷ true ∷ []; portal_is = refl; row_is = refl; from = refl; seen = refl }))
+    (inr (record { place = 0; portal = out; row = false ∷ true ∷ true ∷ []; portal_is = refl; row_is = refl; from = refl; seen = refl }))
+
+middle_row : IsLeafRow portals rows 3 1 whole
+middle_row = leaf_row 1 (omega arith)
+    (inr (record { place = 1; portal = in_again; row = true ∷ false ∷ false ∷ []; portal_is = refl; row_is = refl; from = refl; seen = refl }))
+    (inl refl)
+    (inr (record { place = 2; portal = on; row = false ∷ false ∷ true ∷ []; portal_is = refl; row_is = refl; from = refl; seen = refl }))
+
+last_row : IsLeafRow portals rows 3 2 whole
+last_row = leaf_row 2 (omega arith)
+    (inr (record { place = 3; portal = back; row = true ∷ true ∷ false ∷ []; portal_is = refl; row_is = refl; from = refl; seen = refl }))
+    (inr (record { place = 3; portal = back; row = true ∷ true ∷ false ∷ []; portal_is = refl; row_is = refl; from = refl; seen = refl }))
+    (inl refl)
+
+abbrev pub leaf_rows : List (List Bool)
+leaf_rows = (true ∷ true ∷ true ∷ []) ∷ (true ∷ true ∷ true ∷ []) ∷ (true ∷ true ∷ true ∷ []) ∷ []
+
+pub are_leaf_rows : AreLeafRows portals rows 3 leaf_rows
+are_leaf_rows = record { one_each = refl; each = each }
+  where
+    each : (n : ℕ) (row : List Bool) → slice_get leaf_rows n ≡ Some row → IsLeafRow portals rows 3 n row
+    each zero row at = subst (IsLeafRow portals rows 3 0) (let same : whole ≡ row = cc in same) first_row
+    each (suc zero) row at = subst (IsLeafRow portals rows 3 1) (let same : whole ≡ row = cc in same) middle_row
+    each (suc (suc zero)) row at = subst (IsLeafRow portals rows 3 2) (let same : whole ≡ row = cc in same) last_row
+    each (suc (suc (suc n))) row at = absurd cc
