@@ -13,3 +13,4 @@ pub mod UnfilledLeaves
 pub mod MarkedSegments
 pub mod EndRows
 pub mod OpenChains
+pub mod RoomRows

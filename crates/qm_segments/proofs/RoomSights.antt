@@ -19,13 +19,13 @@ use Rattle.qm_segments.specs.Passes.{IsWithinLeaf, Passes, within, onward}
 use Rattle.qm_segments.specs.Sight.{IsInSight}
 use Rattle.qm_segments.proofs.Betweenness.{between_weight, between_in_front, between_in_front_first}
 
-abbrev place : ℤ → Point
+abbrev pub place : ℤ → Point
 place x = record { x = x; y = pos 5; z = pos 5; w = pos 1 }
 
-abbrev line : Segment
+abbrev pub line : Segment
 line = record { from = place (pos 100); to = place (neg_ℤ (pos 100)) }
 
-at_value : (d : ℤ) (p : Point) → value (at d) p ≡ p.x -ℤ (d *ℤ p.w)
+pub at_value : (d : ℤ) (p : Point) → value (at d) p ≡ p.x -ℤ (d *ℤ p.w)
 unfolding value
 at_value d p = let a = one_*ℤ p.x in let b = zero_*ℤ p.y in let c = zero_*ℤ p.z in omega (arith, linear)
 
@@ -48,7 +48,7 @@ not_both x weight near far =
     let m = product_positive (pos 64) x.w (omega (arith, ints)) weight in
     absurd (omega (arith, linear))
 
-generic : IsGeneric rooms line
+pub generic : IsGeneric rooms line
 unfolding node_value value
 generic = record {
   from_in_cube = record { weight = omega (arith, ints); x = record { above = omega (arith, ints); below = omega (arith, ints) }; y = record { above = omega (arith, ints); below = omega (arith, ints) }; z = record { above = omega (arith, ints); below = omega (arith, ints) } };
@@ -75,7 +75,7 @@ generic = record {
 
 -- ---- it is clear, since all rooms are empty
 
-clear : IsClear (LeafHas rooms) rooms line Empty
+pub clear : IsClear (LeafHas rooms) rooms line Empty
 clear x on_line off = any _ _
   where
     any : (b c : Bool) → (if b then (if c then empty else empty) else empty).contents ≡ Empty
@@ -126,7 +126,7 @@ passes = onward first_door in_first (λ e. omega (arith, e)) (onward second_door
 
 -- ---- so the last room is in sight of the first door
 
-sight_row : IsInSight rooms out 2
+pub sight_row : IsInSight rooms out 2
 unfolding node_value value
 sight_row = record {
   segment = line;
