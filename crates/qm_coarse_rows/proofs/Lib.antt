@@ -1,0 +1,2 @@
+pub mod PortalSides
+pub mod RoomSamples

@@ -1,0 +1,2 @@
+pub mod CoarseRow
+pub mod LeafRow

@@ -1,0 +1,16 @@
+pub mod Betweenness
+pub mod RoomSights
+pub mod LeavesPassed
+pub mod OffPlaces
+pub mod EndLeaves
+pub mod LeavesOnce
+pub mod GenericSegments
+pub mod PortalsListed
+pub mod CrossedPortals
+pub mod SegmentLaw
+pub mod CoarseSight
+pub mod UnfilledLeaves
+pub mod MarkedSegments
+pub mod EndRows
+pub mod OpenChains
+pub mod RoomRows

@@ -1,0 +1,37 @@
+use Rattle.std.specs.Prelude.{◌≡◌, ◌≢◌, ℕ, Bool, false, List, [], Some, slice_get, slice_index_or}
+use Rattle.qm_lists.specs.WorkList.{IsIn}
+use Rattle.qm_space.specs.Point.{Point}
+use Rattle.qm_contents.specs.declared.contents.Contents.{Contents}
+use Rattle.qm_contents.specs.declared.contents.Contents.TheVariants.{Solid}
+use Rattle.qm_partition.specs.Tree.{Tree}
+use Rattle.qm_partition.specs.LeafOfPoint.{leaf_at, leaf_record_at}
+use Rattle.qm_contacts.specs.NumberedLeaves.{numbered_leaves}
+use Rattle.qm_segments.specs.Segment.{Segment}
+use Rattle.qm_segments.specs.Generic.{IsGeneric}
+use Rattle.qm_segments.specs.Clear.{IsClear}
+
+-- What rows of leaves promise of segments.
+
+-- both leaves, by their places in the tree, are numbered, and the row of the one has the other
+pub record HasInRow (tree : Tree) (rows : List (List Bool)) (a b : ℕ) : Type 0 where
+  pub from : ℕ
+  pub to : ℕ
+  pub from_is : slice_get (numbered_leaves tree) from ≡ Some a
+  pub to_is : slice_get (numbered_leaves tree) to ≡ Some b
+  pub seen : IsIn (slice_index_or rows from []) to
+
+-- a segment that counts: generic, clear for contents that is not solid, and with its first leaf not filled
+pub record IsOpenSegment (has : Point → Contents → Type 0) (tree : Tree) (s : Segment) : Type 0 where
+  pub generic : IsGeneric tree s
+  pub contents : Contents
+  pub not_solid : contents ≢ Solid
+  pub clear : IsClear has tree s contents
+  pub not_filled : (leaf_record_at tree.planes tree.shape s.from).filled ≡ false
+
+-- of each such segment the rows of the first and the last leaf have each other
+pub record HoldsEnds (tree : Tree) (rows : List (List Bool)) (s : Segment) : Type 0 where
+  pub there : HasInRow tree rows (leaf_at tree.planes tree.shape s.from) (leaf_at tree.planes tree.shape s.to)
+  pub back : HasInRow tree rows (leaf_at tree.planes tree.shape s.to) (leaf_at tree.planes tree.shape s.from)
+
+abbrev pub HoldEndsOfSegments : (Point → Contents → Type 0) → Tree → List (List Bool) → Type 0
+HoldEndsOfSegments has tree rows = (s : Segment) → IsOpenSegment has tree s → HoldsEnds tree rows s
