@@ -1,7 +1,8 @@
 -- Each row has one spelling in runs, and no spelling begins another of the same width.
-use Rattle.std.proofs.Common.{◌≡◌, ◌<◌, ◌≤◌, ℕ, zero, suc, ◌+◌, ◌-◌, Bool, true, false, cond, eqb, List, [], ◌∷◌, ◌++◌, length, replicate, add-one, refl, sym, ap, subst, ◌∙◌, arith, inl, inr, ⊎_elim}
+use Rattle.std.proofs.Common.{◌≡◌, ◌≢◌, ◌<◌, ◌≤◌, Some, None, drop, ℕ, zero, suc, ◌+◌, ◌-◌, Bool, true, false, cond, eqb, List, [], ◌∷◌, ◌++◌, length, replicate, add-one, refl, sym, ap, subst, ◌∙◌, arith, inl, inr, ⊎_elim}
 use Rattle.std.proofs.lemmas.Bool.{cases_lt, cases_order, cases_eq, eq-eqb, ne_eqb}
 use Rattle.std.proofs.lemmas.List.{append_assoc, append_cancel_left, length-append, length-replicate, replicate-append-replicate}
+use Rattle.std.specs.List.{slice_get}
 use Rattle.qm_formats.specs.Runs.{BeginsNonzero, Spells, zero_before, runs_of}
 
 zero_through : (n : ℕ) (rest : List ℕ) → zero ∷ (replicate n zero ++ rest) ≡ replicate n zero ++ zero ∷ rest
@@ -90,3 +91,25 @@ runs_of-spelt bytes row h = one_spelling bytes (runs_of row) row h (spells_runs_
 pub runs_of-run : (n : ℕ) (rest : List ℕ) → 0 < n → n ≤ 255 → (n < 255 → BeginsNonzero rest) → runs_of (replicate n zero ++ rest) ≡ zero ∷ n ∷ runs_of rest
 runs_of-run n rest some small longest =
     sym (runs_of-spelt (zero ∷ n ∷ runs_of rest) (replicate n zero ++ rest) (rest, refl, some, small, longest, spells_runs_of rest))
+
+-- one step of writing a row: a byte that is not zero
+pub runs_of-byte : (row : List ℕ) (byte : ℕ) → slice_get row 0 ≡ Some byte → byte ≢ 0 → runs_of row ≡ byte ∷ runs_of (drop 1 row)
+unfolding runs_of
+runs_of-byte [] byte first other = absurd cc
+runs_of-byte (zero ∷ row) byte first other = absurd (let e : Some zero ≡ Some byte = first in other (cc))
+runs_of-byte (suc x ∷ row) byte first other = let e : Some (suc x) ≡ Some byte = first in cc
+
+-- or the zeros that it begins with
+pub runs_of-zeros : (row : List ℕ) (n : ℕ) → slice_get row 0 ≡ Some 0 → row ≡ replicate n zero ++ drop n row → n ≤ 255 → (n < 255 → BeginsNonzero (drop n row)) → runs_of row ≡ zero ∷ n ∷ runs_of (drop n row)
+runs_of-zeros row zero first is small longest = absurd (zero_first row first (longest (omega arith)))
+  where
+    zero_first : (row : List ℕ) → slice_get row 0 ≡ Some 0 → BeginsNonzero row → ⊥
+    zero_first [] first begins = cc
+    zero_first (zero ∷ row) first begins = begins
+    zero_first (suc x ∷ row) first begins = let e : Some (suc x) ≡ Some 0 = first in cc
+runs_of-zeros row (suc n) first is small longest = ap runs_of is ∙ runs_of-run (suc n) (drop (suc n) row) (omega arith) small longest
+
+pub runs_of-none : (row : List ℕ) → slice_get row 0 ≡ None → runs_of row ≡ []
+unfolding runs_of
+runs_of-none [] none = refl
+runs_of-none (x ∷ row) none = absurd (let e : Some x ≡ None = none in cc)

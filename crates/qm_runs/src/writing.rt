@@ -22,15 +22,15 @@ fn append_runs(row: &[u8], out: &mut Vec<u8>) -> Result<(), AllocError>
     ensures front { (more : List ℕ) × (out.new.items ≡ out.old.items ++ more) }
 {
     let mut rest = row;
-    while let [first, behind @ ..] = rest {
+    while let Some(first) = rest.first() {
         if *first != 0 {
             out.push(*first)?;
-            rest = behind;
+            rest = rest.split_at(1).1;
         } else {
             let count = run_length(rest);
             out.push(0)?;
             out.push(count as u8)?;
-            rest = &rest[count..];
+            rest = rest.split_at(count).1;
         }
     }
     Ok(())
