@@ -77,9 +77,12 @@ module _ {F X : Type 0} (layout : ℕ → Layout F X) where
   read_each k zero file at = got [] at
   read_each k (suc count) file at = answer_then ((layout k).read file at) (λ x next. answer_map (λ (xs : List X). x ∷ xs) (read_each (k + 1) count file next))
 
-  -- so many values one behind the other, each in the layout of its number, from 0 on
+  -- so many values one behind the other, each in the layout of its number, from k on
+  abbrev pub each_from : ℕ → ℕ → Layout F (List X)
+  each_from k count = record { bytes_of = bytes_of_each k; right = right_each k count; read = read_each k count }
+
   abbrev pub each : ℕ → Layout F (List X)
-  each count = record { bytes_of = bytes_of_each 0; right = right_each 0 count; read = read_each 0 count }
+  each count = each_from 0 count
 
 -- so many values one behind the other
 abbrev pub many : {F X : Type 0} → Layout F X → ℕ → Layout F (List X)
