@@ -3,7 +3,7 @@ use Rattle.std.proofs.Common.{◌≡◌, ◌<◌, ◌≤◌, ℕ, zero, suc, ◌
 use Rattle.std.specs.Prelude.{IsTrue}
 use Rattle.std.proofs.lemmas.Bool.{and_parts, and_from, cases_Bool}
 use Rattle.qm_formats.specs.Fields.{AreBytes}
-use Rattle.qm_formats.specs.Layout.{Answer, got, bad, Layout, answer_map, answer_then, seen_as, recast, tested, both, each_from, present}
+use Rattle.qm_formats.specs.Layout.{Answer, got, bad, Layout, answer_map, answer_then, seen_as, recast, tested, both, pair, each_from, present}
 use Rattle.qm_formats.specs.Exact.{StandsAt, IsFound, IsExact}
 use Rattle.qm_formats.proofs.Standing.{stands_nothing, stands_both, stands_first, stands_second}
 
@@ -93,6 +93,9 @@ both_exact first second exact exact_second =
           let other = (exact_second v.0).again file (at + length p) v.1 next (record { right = rights.1; stands = stands_second file at p q next found.stands }) in
           ap (λ (answer : _). answer_then answer (λ x mid. answer_map (λ y. (x, y)) ((second x).read file mid))) one ∙ ap (answer_map (λ y. (v.0, y))) other;
     }
+
+pub pair_exact : {F X Y : Type 0} (first : Layout F X) (second : Layout F Y) → IsExact first → IsExact second → IsExact (pair first second)
+pair_exact first second exact other = both_exact first (λ _. second) exact (λ _. other)
 
 module _ {F X : Type 0} (layout : ℕ → Layout F X) (exact : (k : ℕ) → IsExact (layout k)) where
   found_each : (k count : ℕ) (file : List ℕ) (at : ℕ) (xs : List X) (next : ℕ) → AreBytes file → at ≤ length file → (each_from layout k count).read file at ≡ got xs next → IsFound (each_from layout k count) file at xs next

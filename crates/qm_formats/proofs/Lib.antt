@@ -4,3 +4,8 @@ pub mod ReadParts
 pub mod Standing
 pub mod ExactParts
 pub mod ExactFields
+pub mod PackedRows
+pub mod ExactRows
+pub mod NumberedNodes
+pub mod ExactRecords
+pub mod ExactFile

@@ -11,9 +11,13 @@ use Rattle.qm_formats.specs.Runs.{in_runs}
 abbrev pub row_width : ℕ → ℕ
 row_width places = div_ceil places 8
 
--- the bytes of a row; `mask_l` is the number whose bits are those of a list, the lowest first
+-- byte k of a row: the number whose bits are the eight places from 8 * k on, the lowest first
+abbrev pub row_byte : List Bool → ℕ → ℕ
+row_byte row k = mask_l (take 8 (drop (8 * k) row))
+
+-- the bytes of a row
 unfoldable pub packed : List Bool → List ℕ
-packed row = map (λ k. mask_l (take 8 (drop (8 * k) row))) (range_with_len 0 (row_width (length row)))
+packed row = map (row_byte row) (range_with_len 0 (row_width (length row)))
 
 -- the first places of bytes
 unfoldable pub unpacked : ℕ → List ℕ → List Bool
