@@ -1,0 +1,23 @@
+use Rattle.std.specs.Prelude.{◌≡◌, ℕ, Result, Ok, Err}
+use Rattle.qm_formats.specs.Layout.{Answer, got, bad}
+use Rattle.qm_formats.specs.FileParts.{FileFaultKind, short, magic, counts, plane_form, node_order, leaf_form, row_form, trailing, too_long}
+use Rattle.qm_file.specs.declared.file_fault.FileFault.{FileFault}
+use Rattle.qm_file.specs.declared.file_fault.FileFault.TheVariants as faults
+
+-- a fault is the one that reading gives, unless memory ran out
+abbrev pub IsFault : {X : Type 0} → FileFault → Answer FileFaultKind X → Type 0
+IsFault (faults.Short offset) answer = answer ≡ bad short offset
+IsFault (faults.Magic offset) answer = answer ≡ bad magic offset
+IsFault (faults.Counts offset) answer = answer ≡ bad counts offset
+IsFault (faults.PlaneForm offset) answer = answer ≡ bad plane_form offset
+IsFault (faults.NodeOrder offset) answer = answer ≡ bad node_order offset
+IsFault (faults.LeafForm offset) answer = answer ≡ bad leaf_form offset
+IsFault (faults.RowForm offset) answer = answer ≡ bad row_form offset
+IsFault (faults.Trailing offset) answer = answer ≡ bad trailing offset
+IsFault (faults.TooLong offset) answer = answer ≡ bad too_long offset
+IsFault faults.Memory answer = Unit {0}
+
+-- what is answered, seen as the value of a layout with the place where it ends, is what reading gives, unless memory ran out
+abbrev pub Gives : {X Y : Type 0} → (X → Y) → (X → ℕ) → Result X FileFault → Answer FileFaultKind Y → Type 0
+Gives value next (Ok x) answer = answer ≡ got (value x) (next x)
+Gives value next (Err fault) answer = IsFault fault answer

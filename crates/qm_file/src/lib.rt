@@ -1,0 +1,13 @@
+//! Tree files, written and read: the bytes of a tree with or without the rows of its numbered leaves, and the tree of bytes or
+//! the first fault with its place.
+#![tactic(auto)]
+
+mod file_fault;
+mod reading;
+mod tree_file;
+mod writing;
+
+pub use file_fault::FileFault;
+pub use reading::decode;
+pub use tree_file::TreeFile;
+pub use writing::encode;

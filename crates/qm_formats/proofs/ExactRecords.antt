@@ -1,0 +1,86 @@
+-- The records of a tree file are read exactly.
+use Rattle.std.proofs.Common.{◌≡◌, ◌<◌, ◌≤◌, ℕ, zero, suc, Bool, true, false, cond, eqb, ltb, leb, ◌&&◌, ◌||◌, ℤ, pos, negsuc, List, refl, sym, ap, subst, ◌∙◌, arith}
+use Rattle.std.specs.Prelude.{IsTrue}
+use Rattle.std.proofs.lemmas.Bool.{and_parts, leb-true, ltb-true}
+use Rattle.std.specs.Int.{w8, w32, w64}
+use Rattle.qm_contents.specs.declared.contents.Contents.{Contents}
+use Rattle.qm_contents.specs.declared.contents.Contents.TheVariants.{Empty, Solid, Water, Slime, Lava, Sky}
+use Rattle.qm_contents.specs.Codes.{code_of}
+use Rattle.qm_contacts.specs.NumberedLeaves.{is_solid}
+use Rattle.qm_partition.specs.declared.node.Child.{Child}
+use Rattle.qm_partition.specs.declared.node.Child.TheVariants.{Node, Leaf}
+use Rattle.qm_partition.specs.declared.node.Leaf.{Leaf as LeafRecord}
+use Rattle.qm_formats.specs.Layout.{tested, pair}
+use Rattle.qm_formats.specs.Fields.{unsigned, signed}
+use Rattle.qm_formats.specs.Exact.{IsExact}
+use Rattle.qm_formats.specs.FileParts.{short, plane_form, leaf_form, is_plane, plane_layout, child_of_number, number_of_child, child_layout, node_layout, contents_of_code, is_code, is_leaf, leaf_layout}
+use Rattle.qm_formats.proofs.ExactParts.{recast_exact, tested_exact, pair_exact}
+use Rattle.qm_formats.proofs.ExactFields.{byte_exact, unsigned_32_exact, signed_32_exact, signed_64_exact}
+
+pub plane_exact : IsExact plane_layout
+unfolding plane_layout
+plane_exact =
+    let component = signed short w32 in
+    let exact = signed_32_exact short in
+    let two = pair_exact component (signed short w64) exact (signed_64_exact short) in
+    let three = pair_exact component (pair component (signed short w64)) exact two in
+    let four = pair_exact component (pair component (pair component (signed short w64))) exact three in
+    tested_exact is_plane plane_form (λ _ at. at) _ (recast_exact _ _ _ four (λ y right. refl) (λ h right. refl))
+
+child_number : (z : ℤ) → number_of_child (child_of_number z) ≡ z
+child_number (pos n) = refl
+child_number (negsuc k) = refl
+
+number_child : (child : Child) → child_of_number (number_of_child child) ≡ child
+number_child (Node n) = refl
+number_child (Leaf k) = refl
+
+pub child_exact : IsExact child_layout
+unfolding child_layout
+child_exact = recast_exact child_of_number number_of_child (signed short w64) (signed_64_exact short) (λ z right. child_number z) (λ child right. number_child child)
+
+pub node_exact : IsExact node_layout
+unfolding node_layout
+node_exact =
+    let children = pair_exact child_layout child_layout child_exact child_exact in
+    recast_exact _ _ _ (pair_exact (unsigned short w32) (pair child_layout child_layout) (unsigned_32_exact short) children) (λ y right. refl) (λ here right. refl)
+
+code_back : (code : ℤ) → is_code code ≡ true → code_of (contents_of_code code) ≡ code
+code_back (pos n) is = absurd cc
+code_back (negsuc zero) is = refl
+code_back (negsuc (suc zero)) is = refl
+code_back (negsuc (suc (suc zero))) is = refl
+code_back (negsuc (suc (suc (suc zero)))) is = refl
+code_back (negsuc (suc (suc (suc (suc zero))))) is = refl
+code_back (negsuc (suc (suc (suc (suc (suc zero)))))) is = refl
+code_back (negsuc (suc (suc (suc (suc (suc (suc n))))))) is = absurd (let e = ltb-true (suc (suc (suc (suc (suc (suc n)))))) 6 is in omega (arith, e))
+
+contents_back : (contents : Contents) → contents_of_code (code_of contents) ≡ contents
+contents_back Empty = refl
+contents_back Solid = refl
+contents_back Water = refl
+contents_back Slime = refl
+contents_back Lava = refl
+contents_back Sky = refl
+
+pub flag_number : (n : ℕ) → leb n 1 ≡ true → cond (eqb n 1) 1 0 ≡ n
+flag_number zero is = refl
+flag_number (suc zero) is = refl
+flag_number (suc (suc n)) is = absurd (let e = leb-true (suc (suc n)) 1 is in omega (arith, e))
+
+pub number_flag : (flag : Bool) → eqb (cond flag 1 0) 1 ≡ flag
+number_flag true = refl
+number_flag false = refl
+
+pub leaf_exact : IsExact leaf_layout
+unfolding leaf_layout is_leaf
+leaf_exact =
+    let fields = pair (signed short w32) (unsigned short w8) in
+    recast_exact _ _ _ (tested_exact is_leaf leaf_form (λ _ at. at) fields (pair_exact (signed short w32) (unsigned short w8) (signed_32_exact short) (byte_exact short))) (λ v right.
+        let tests = and_parts (is_code v.0) (leb v.1 1 && (eqb v.1 0 || is_solid (contents_of_code v.0))) (and_parts (fields.right v) (is_leaf v) right).1 in
+        let code = code_back v.0 tests.0 in
+        let flag = flag_number v.1 (and_parts (leb v.1 1) (eqb v.1 0 || is_solid (contents_of_code v.0)) tests.1).0 in
+        λ i. (code i, flag i)) (λ found right.
+        let contents = contents_back found.contents in
+        let filled = number_flag found.filled in
+        λ i. record { contents = contents i; filled = filled i })

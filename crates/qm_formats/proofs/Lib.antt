@@ -1,0 +1,11 @@
+pub mod Spellings
+pub mod ReadRows
+pub mod ReadParts
+pub mod Standing
+pub mod ExactParts
+pub mod ExactFields
+pub mod PackedRows
+pub mod ExactRows
+pub mod NumberedNodes
+pub mod ExactRecords
+pub mod ExactFile

@@ -1,0 +1,7 @@
+pub mod Layout
+pub mod Fields
+pub mod Exact
+pub mod Runs
+pub mod RowBits
+pub mod FileParts
+pub mod TreeFile

@@ -1,0 +1,5 @@
+use Rattle.qm_formats.proofs.ReadRows as rows
+use Rattle.qm_runs.proofs.laws.no_prefix.Goals as goal
+
+pub returns : goal.returns
+returns c = rows.no_prefix
