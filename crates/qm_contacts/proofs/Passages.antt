@@ -18,7 +18,8 @@ use Rattle.qm_contacts.specs.Touching.{Touching, AreTouchings}
 use Rattle.qm_contacts.specs.Portals.{leaf_record, is_passage}
 use Rattle.qm_contacts.specs.PortalChain.{IsPortalBetween}
 use Rattle.qm_contacts.proofs.Meetings.{IsBetween, meetings_between}
-use Rattle.qm_contacts.proofs.Touchings.{IsPair, pair_order, touch_listed, meeting_of_touching}
+use Rattle.qm_contacts.specs.inner.Others.{IsPair}
+use Rattle.qm_contacts.proofs.Touchings.{pair_order, touch_listed, meeting_of_touching}
 use Rattle.qm_contacts.proofs.FilledLeaves.{portal_back}
 
 both_from : (a b : Bool) → (a && b) ≡ true → (a ≡ true) × (b ≡ true)
