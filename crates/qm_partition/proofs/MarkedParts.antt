@@ -1,5 +1,5 @@
 -- The tree with marked leaves is well made, and its nodes and leaves are numbered as before.
-use Rattle.std.proofs.Common.{◌<◌, ℕ, ◌+◌, Bool, true, false, List, [], ◌∷◌, get_or, length, All, refl, sym, ap, ◌∙◌, subst}
+use Rattle.std.proofs.Common.{◌<◌, ℕ, ◌+◌, Bool, true, false, List, [], ◌∷◌, get_or, length, All, refl, sym, ap, ◌∙◌, Contains, subst}
 use Rattle.std.proofs.lemmas.List.Elements.{All-nil, All-cons, All-head, All-tail}
 use Rattle.qm_partition.specs.declared.node.Node.{Node as NodeRecord}
 use Rattle.qm_partition.specs.declared.node.Leaf.{Leaf as LeafRecord}
@@ -8,8 +8,9 @@ use Rattle.qm_partition.specs.Tree.{Tree}
 use Rattle.qm_partition.specs.Counting.{leaves_of}
 use Rattle.qm_partition.specs.Numbering.{AreNumbered}
 use Rattle.qm_partition.specs.WellMade.{IsSolidIfFilled, IsWellMade}
+use Rattle.qm_partition.specs.Ways.{Way, HasPoints}
 use Rattle.qm_partition.specs.Marked.{marked_leaf, marked, marked_tree}
-use Rattle.qm_partition.proofs.MarkedLeaves.{marked_nodes, marked_planes, marked_leaves, leaves_of_marked}
+use Rattle.qm_partition.proofs.MarkedLeaves.{marked_ways, marked_nodes, marked_planes, marked_leaves, leaves_of_marked}
 
 module _ (row : List Bool) where
   -- a marked leaf is solid
@@ -37,3 +38,7 @@ module _ (row : List Bool) where
     nodes_are = are.nodes_are ∙ sym (marked_nodes row shape 0 0 0);
     leaves_are = ap (λ (all : List LeafRecord). marked_leaves row all 0) are.leaves_are ∙ sym (leaves_of_marked row shape 0);
   }
+
+  -- and each leaf has the points that it had
+  pub marked_points : (tree : Tree) → HasPoints tree → HasPoints (marked_tree row tree)
+  marked_points tree have = λ way listed. have way (subst (λ (all : List Way). Contains all way) (marked_ways row tree.shape 0) listed)
