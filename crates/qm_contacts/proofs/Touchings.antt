@@ -13,6 +13,8 @@ use Rattle.qm_partition.specs.Numbering.{nodes_after, leaves_after}
 use Rattle.qm_contacts.specs.Meeting.{Meeting, meetings}
 use Rattle.qm_contacts.specs.Contact.{IsContact, TouchAcross, Touch}
 use Rattle.qm_contacts.specs.Touching.{Touching, IsTouching, AreTouchings, none, touching, apart}
+use Rattle.qm_contacts.specs.Contacts.{Contacts, AreContacts, AreNeighbours}
+use Rattle.qm_contacts.specs.inner.Others.{IsPair, IsOther, AreOthers}
 use Rattle.qm_contacts.proofs.Meetings.{IsBefore, IsBetween, meetings_between, meetings_ascend}
 
 -- a polygon of contact lies in the world
@@ -44,11 +46,6 @@ meeting_of_touching planes all touchings found (apart {meeting = first} {meeting
 
 -- ---- which leaves touch
 
--- the pair of these leaves, whichever is in front
-pub record IsPair (found : Touching) (a b : ℕ) : Type 0 where
-  pub front : found.front ≡ a
-  pub back : found.back ≡ b
-
 module _ (tree : Tree) (touchings : List Touching) (are : AreTouchings tree.planes (meetings tree) touchings) where
   across_listed : (a b : ℕ) → TouchAcross tree a b → (found : Touching) × Contains touchings found × IsPair found a b
   across_listed a b across =
@@ -69,7 +66,7 @@ module _ (tree : Tree) (touchings : List Touching) (are : AreTouchings tree.plan
       }
 
   -- leaves touch exactly where the list has their pair
-  pub touch_listed : (a b : ℕ) → Touch tree a b ↔ ((found : Touching) × Contains touchings found × (IsPair found a b ⊎ IsPair found b a))
+  pub touch_listed : (a b : ℕ) → Touch tree a b ↔ ((found : Touching) × Contains touchings found × IsOther found a b)
   touch_listed a b = (
     (λ touch. ⊎_elim
         (λ across. let found = across_listed a b across in (found.0, found.1, inl found.2))
@@ -139,10 +136,6 @@ pair_order tree touchings found are listed =
     let is = All-contains Between (meetings tree) m.0 (meetings_between tree.shape 0 0 []) m.1 in
     omega (arith, is.leaf_order, m.2.front, m.2.back)
 
--- the pair has the leaf a, and b is its other one
-abbrev pub IsOther : Touching → ℕ → ℕ → Type 0
-IsOther found a b = IsPair found a b ⊎ IsPair found b a
-
 -- in two pairs that have a leaf its others are different: so each neighbour comes once
 pub others_differ : (s t : Touching) (k a b : ℕ) → ComesBefore s t → s.front < s.back → t.front < t.back → IsOther s k a → IsOther t k b → a ≡ b → ⊥
 others_differ s t k a b before s_order t_order of_s of_t same = ⊎_elim
@@ -155,3 +148,13 @@ others_differ s t k a b before s_order t_order of_s of_t same = ⊎_elim
     (λ q. before.apart (p.front ∙ same ∙ sym q.front) (p.back ∙ sym q.back))
     of_t)
     of_s
+
+-- the others of a leaf are its neighbours
+pub others_are_neighbours : (tree : Tree) (contacts : Contacts) (k : ℕ) (others : List ℕ) → AreContacts tree contacts → AreOthers contacts.touchings k others → AreNeighbours tree k others
+others_are_neighbours tree contacts k others are is = record {
+  ascending = is.ascending;
+  touch = λ other.
+      let listed = touch_listed tree contacts.touchings are.touching k other in
+      let paired = is.paired other in
+      ((λ there. listed.1 (paired.0 there)), (λ touch. paired.1 (listed.0 touch)));
+}
