@@ -106,8 +106,8 @@ module _ (tree : Tree) (steps : List ℕ) (are : AreSteps (Begins tree) (GoesOn 
   leaks_by_steps origin = (
     (λ leaks. (are.reached (leaf_of tree origin)).1 leaks.reached),
     (λ some.
-    let reached = (are.reached (leaf_of tree origin)).0 some in
-    record { takes_part = passable_not_solid tree origin (reached_passable tree (leaf_of tree origin) reached); reached = reached }),
+        let reached = (are.reached (leaf_of tree origin)).0 some in
+        record { takes_part = passable_not_solid tree origin (reached_passable tree (leaf_of tree origin) reached); reached = reached }),
   )
 
   -- the first of the entities whose leaf has steps

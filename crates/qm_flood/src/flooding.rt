@@ -1,15 +1,16 @@
-ghost use Rattle.std.specs.Prelude.{IfOk, Contains, IsTrue, ◌↔◌};
+ghost use Rattle.std.specs.Prelude.{IfOk, IsTrue, ◌↔◌};
+ghost use Rattle.std.specs.List.{Any};
 ghost use Rattle.qm_contacts.specs.Contacts.{AreContacts};
-ghost use Rattle.qm_contacts.specs.Leak.{Origin as OriginRecord, TakesPart, AreInOrder};
+ghost use Rattle.qm_contacts.specs.Leak.{TakesPart, AreInOrder};
 ghost use Rattle.qm_flood.specs.Found.{IsFound};
 
 use crate::answer::Flood;
 use crate::filling::filled_row;
 use crate::leaking::first_leak;
 use crate::origin::Origin;
+use crate::passable::is_solid;
 use crate::spreading::steps_from_outside;
 use crate::trail::trail_of;
-use qm_contents::Contents;
 use qm_portal::TouchList;
 use qm_tree::Tree;
 use std::alloc::{AllocError, Global};
@@ -25,7 +26,7 @@ pub fn flood(
     requires in_order { AreInOrder origins.now }
     ensures { IfOk result (λ flood. IsFound tree.now origins.now flood) }
 {
-    if !origins.iter().any(|origin| takes_part(tree, origin)) {
+    if !any_takes_part(tree, origins) {
         return Ok(Flood::NoEntity);
     }
     let steps = steps_from_outside(alloc, touches, tree)?;
@@ -38,9 +39,16 @@ pub fn flood(
     }
 }
 
+/// Whether some entity does not stand in solid.
+fn any_takes_part(tree: &Tree, origins: &[Origin]) -> bool
+    ensures { IsTrue result ↔ Any (λ origin. TakesPart tree.now origin) origins.now }
+{
+    origins.iter().any(|origin| takes_part(tree, origin))
+}
+
 /// Whether an entity does not stand in solid.
 fn takes_part(tree: &Tree, origin: &Origin) -> bool
     ensures { IsTrue result ↔ TakesPart tree.now origin.now }
 {
-    tree.leaf(tree.leaf_at(&origin.point)).contents != Contents::Solid
+    !is_solid(tree.leaf(tree.leaf_at(&origin.point)).contents)
 }

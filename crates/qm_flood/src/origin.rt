@@ -14,4 +14,6 @@ impl Model for Origin {
     ghost Value = { Origin };
 
     ghost view = { λ origin. record { entity = origin.entity; point = origin.point } };
+
+    ghost inverse = { λ origin. record { entity = origin.entity; point = origin.point } };
 }

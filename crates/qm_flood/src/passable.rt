@@ -1,5 +1,6 @@
 ghost use Rattle.std.specs.Prelude.{◌≡◌, ◌<◌, IsTrue, ◌↔◌};
 ghost use Rattle.qm_partition.specs.Counting.{leaf_count};
+ghost use Rattle.qm_contacts.specs.NumberedLeaves.{is_solid};
 ghost use Rattle.qm_contacts.specs.Reached.{is_passable, IsPassable};
 
 use qm_contents::Contents;
@@ -19,5 +20,14 @@ fn is_passable(contents: Contents) -> bool
     match contents {
         Contents::Solid | Contents::Sky => false,
         _ => true,
+    }
+}
+
+pub(crate) fn is_solid(contents: Contents) -> bool
+    ensures { result ≡ is_solid contents }
+{
+    match contents {
+        Contents::Solid => true,
+        _ => false,
     }
 }

@@ -1,10 +1,10 @@
 //! The steps of all leaves, found breadth first from the outside.
 
-ghost use Rattle.std.specs.Prelude.{◌≡◌, ◌<◌, ◌+◌, All, length, slice_index_or, IfOk, OnOk, IsTrue, ◌↔◌};
+ghost use Rattle.std.specs.Prelude.{◌≡◌, ◌<◌, ◌+◌, [], All, length, slice_index_or, IfOk, OnOk, IsTrue, ◌↔◌};
 ghost use Rattle.qm_partition.specs.Counting.{leaf_count};
 ghost use Rattle.qm_contacts.specs.Contacts.{AreContacts};
 ghost use Rattle.qm_contacts.specs.Reached.{Begins};
-ghost use Rattle.qm_flood.specs.inner.Spreading.{IsSpreading, AreLeafSteps, GoesToOneOf};
+ghost use Rattle.qm_flood.specs.inner.Spreading.{IsSpreading, AreLeafSteps, CanGoOn, GoesOnToOneOf};
 ghost use Rattle.qm_lists.specs.inner.Steps.{SpreadsOn};
 
 use crate::passable::is_passable_leaf;
@@ -46,13 +46,23 @@ fn begin(
     ensures { OnOk result (IsSpreading tree.now steps.new.items found.new.items 0) }
 {
     for leaf in 0..tree.leaves() {
-        let begins = touches.outside(leaf) && is_passable_leaf(tree, leaf);
-        steps.push(u64::from(begins))?;
-        if begins {
+        if begins(touches, tree, leaf) {
+            steps.push(1)?;
             found.push(leaf)?;
+        } else {
+            steps.push(0)?;
         }
     }
     Ok(())
+}
+
+/// Whether the outside begins with a leaf: it touches it, and the leaf can be passed.
+fn begins(touches: &TouchList, tree: &Tree, leaf: u64) -> bool
+    requires contacts { AreContacts tree.now touches.now }
+    requires within { leaf < leaf_count tree.now.shape }
+    ensures { IsTrue result ↔ Begins tree.now leaf }
+{
+    touches.outside(leaf) && is_passable_leaf(tree, leaf)
 }
 
 /// Passes the leaf at a place of those found: the leaves to which it goes, and that have no steps yet, get one more.
@@ -70,4 +80,26 @@ fn pass(
 {
     let leaf = found[passed];
     go_on(tree, leaf, touches.neighbours(leaf), steps, found)
+}
+
+/// Goes on from a leaf to those of others that can be passed and have no steps: they get one more than it has.
+fn go_on(
+    tree: &Tree,
+    leaf: u64,
+    others: &[u64],
+    steps: &mut Vec<u64>,
+    found: &mut Vec<u64>,
+) -> Result<(), AllocError>
+    requires within { All (λ other. other < leaf_count tree.now.shape) others.now }
+    requires from { CanGoOn tree.now leaf steps.old.items found.old.items }
+    ensures { OnOk result (GoesOnToOneOf tree.now others.now leaf steps.old.items steps.new.items found.old.items found.new.items) }
+{
+    let count = steps[leaf as usize] + 1;
+    for other in others {
+        if steps[*other as usize] == 0 && is_passable_leaf(tree, *other) {
+            steps[*other as usize] = count;
+            found.push(*other)?;
+        }
+    }
+    Ok(())
 }
