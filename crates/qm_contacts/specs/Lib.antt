@@ -7,6 +7,7 @@ pub mod Crossing
 pub mod NumberedLeaves
 pub mod Portals
 pub mod PortalChain
+pub mod World
 pub mod Reached
 pub mod Leak
 pub mod Filled

@@ -5,6 +5,7 @@ pub mod Cells
 pub mod JoinedLeaves
 pub mod JoinedCells
 pub mod MarkedLeaves
+pub mod MarkedParts
 pub mod OneNumbering
 pub mod Samples
 pub mod PlacedParts

@@ -10,7 +10,7 @@ use Rattle.qm_partition.specs.Counting.{leaves_of, leaf_count, node_planes}
 use Rattle.qm_partition.specs.Numbering.{nodes_after, leaves_after, child_of, nodes_of}
 use Rattle.qm_partition.specs.LeafOfPoint.{node_value, leaf_record_at, leaf_at}
 use Rattle.qm_partition.specs.Ways.{after_step, ways}
-use Rattle.qm_partition.specs.Marked.{marked_leaf, marked}
+use Rattle.qm_partition.specs.Marked.{filled_leaf, marked_leaf, marked}
 use Rattle.qm_partition.proofs.Counts.{leaves_after-count}
 
 module _ (row : List Bool) where
@@ -69,7 +69,7 @@ module _ (row : List Bool) where
       ∙ ap (λ (m : ℕ). marked_leaves (leaves_of front) k ++ marked_leaves (leaves_of back) m) (leaves_after-count front k)
       ∙ sym (marked_leaves-append (leaves_of front) (leaves_of back) k)
 
-  length-marked_leaves : (all : List Leaf) (k : ℕ) → length (marked_leaves all k) ≡ length all
+  pub length-marked_leaves : (all : List Leaf) (k : ℕ) → length (marked_leaves all k) ≡ length all
   length-marked_leaves [] k = refl
   length-marked_leaves (found ∷ all) k = ap suc (length-marked_leaves all (k + 1))
 
@@ -89,6 +89,18 @@ module _ (row : List Bool) where
     where
       none_more : 0 + i ≡ i
       none_more = omega arith
+
+  -- the same, where past the last place a leaf is marked whatever the row says
+  pub marked_at : (all : List Leaf) (k i : ℕ) → get_or (marked_leaves all k) i filled_leaf ≡ marked_leaf (get_or row (k + i) false) (get_or all i filled_leaf)
+  marked_at [] k i = filled_either_way (get_or row (k + i) false)
+    where
+      filled_either_way : (mark : Bool) → filled_leaf ≡ marked_leaf mark filled_leaf
+      filled_either_way true = refl
+      filled_either_way false = refl
+  marked_at (found ∷ all) k zero = ap (λ (m : ℕ). marked_leaf (get_or row m false) found) {x = k} {y = k + 0} (omega arith)
+  marked_at (found ∷ all) k (suc i) =
+      let more : (k + 1) + i ≡ k + suc i = omega arith in
+      marked_at all (k + 1) i ∙ ap (λ (m : ℕ). marked_leaf (get_or row m false) (get_or all i filled_leaf)) more
 
   -- ---- the leaf of a point
 

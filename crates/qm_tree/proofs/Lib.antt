@@ -1,1 +1,2 @@
 pub mod TakenChildren
+pub mod Filled

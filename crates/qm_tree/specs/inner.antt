@@ -1,1 +1,2 @@
 pub mod TakesTwo
+pub mod MarkedBelow

@@ -1,6 +1,7 @@
 //! The tree of a map: planes, nodes and leaves, numbered front first, with the leaf of a point and the way to a leaf.
 #![tactic(auto)]
 
+mod filling;
 mod joining;
 mod not_a_tree;
 mod numbered;

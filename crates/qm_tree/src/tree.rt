@@ -12,14 +12,17 @@ ghost use Rattle.qm_partition.specs.inner.LeavesInFront.{leaves_in_front, ComesB
 ghost use Rattle.qm_partition.specs.Ways.{ways, HasPoints};
 ghost use Rattle.qm_partition.specs.Visits.{visits};
 ghost use Rattle.qm_partition.specs.Joining.{joined};
+ghost use Rattle.qm_partition.specs.Marked.{marked_tree};
 ghost use Rattle.qm_partition.specs.WellMade.{IsWellMade, IsMadeOf};
 
+use crate::filling::mark_filled;
 use crate::joining::joined_backwards;
 use crate::not_a_tree::NotATree;
 use crate::numbered::are_numbered;
 use crate::numbering::numbered_parts;
 use crate::parts::are_parts;
 use crate::way::Way;
+use qm_bits::BitRow;
 use qm_geom::{Plane, Point};
 use qm_partition::{Child, Leaf, Node, Step, Visit};
 use std::alloc::{AllocError, Global};
@@ -102,6 +105,38 @@ impl Tree {
         let Tree { planes, .. } = self;
         let tree = Tree::joined_of(alloc, planes, walk)?;
         Ok(tree)
+    }
+
+    /// The tree whose leaves of a row are marked as filled, and so are solid. All else stays as it was.
+    pub fn with_filled(self, filled: &BitRow) -> Tree
+        requires { length filled.now ≡ leaf_count self.shape }
+        ensures { result ≡ marked_tree filled.now self }
+    {
+        let Tree {
+            planes,
+            nodes,
+            mut leaves,
+        } = self;
+        mark_filled(&mut leaves, filled);
+        Tree {
+            planes,
+            nodes,
+            leaves,
+        }
+    }
+
+    /// The same tree once more.
+    pub fn copy(&self, alloc: Global) -> Result<Tree, AllocError>
+        ensures { IfOk result (λ tree. tree ≡ self.now) }
+    {
+        let planes = self.planes.to_vec(alloc)?;
+        let nodes = self.nodes.to_vec(alloc)?;
+        let leaves = self.leaves.to_vec(alloc)?;
+        Ok(Tree {
+            planes,
+            nodes,
+            leaves,
+        })
     }
 
     /// The visits of a walk through all nodes and leaves.
