@@ -6,3 +6,4 @@ pub mod MadeTexts
 pub mod Outcomes
 pub mod ReadMeanings
 pub mod Reported
+pub mod Origins

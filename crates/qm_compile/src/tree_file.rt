@@ -63,7 +63,7 @@ fn put_header(
 }
 
 /// How many leaves are not solid.
-fn count_numbered(leaves: &[Leaf]) -> usize
+pub(crate) fn count_numbered(leaves: &[Leaf]) -> usize
     ensures { result ≡ count_by is_numbered leaves.now }
 {
     leaves

@@ -1,8 +1,8 @@
 -- What the steps of leaves tell: the nearest of the leaves that a leaf touches, who leaks, and which leaves are filled.
-use Rattle.std.proofs.Common.{◌≡◌, ◌≢◌, ℕ, ◌+◌, ◌<◌, ◌≤◌, Bool, true, List, [], take, length, get_or, Some, inl, ⊎_elim, sym, ap, ◌∙◌, subst, arith, ◌↔◌}
+use Rattle.std.proofs.Common.{◌≡◌, ◌≢◌, ℕ, ◌+◌, ◌<◌, ◌≤◌, Bool, true, false, List, [], take, replicate, length, get_or, Some, inl, ⊎_elim, sym, ap, ◌∙◌, subst, arith, ◌↔◌}
 use Rattle.std.specs.List.{All, Contains}
 use Rattle.std.proofs.lemmas.Bool.{cases_eq, cases_lt}
-use Rattle.std.proofs.lemmas.List.{get_or_default, get_or-take, length-take}
+use Rattle.std.proofs.lemmas.List.{get_or_default, get_or_past, get_or-take, length-take, get_or-replicate, length-replicate}
 use Rattle.std.proofs.lemmas.List.Elements.{All-contains, All-get_or}
 use Rattle.std.proofs.lemmas.List.Kept.{AllPairs-from_increasing}
 use Rattle.std.proofs.lemmas.Option.{slice_get_within}
@@ -23,7 +23,7 @@ use Rattle.qm_contacts.specs.Contact.{TouchAcross, Touch}
 use Rattle.qm_contacts.specs.Contacts.{AreNeighbours}
 use Rattle.qm_contacts.specs.Reached.{is_passable, IsPassable, Begins, GoesOn}
 use Rattle.qm_contacts.specs.Leak.{Origin, leaf_of, TakesPart, Leaks, AreInOrder, IsFirstLeak}
-use Rattle.qm_contacts.specs.Filled.{IsSealed, IsFilledRow}
+use Rattle.qm_contacts.specs.Filled.{NoneTakesPart, IsSealed, IsFilledRow}
 use Rattle.qm_contacts.specs.inner.Descends.{IsNearest}
 use Rattle.qm_contacts.proofs.Meetings.{IsBetween, meetings_between}
 use Rattle.qm_contacts.proofs.Trails.{reached_passable, next_down}
@@ -155,3 +155,19 @@ module _ (tree : Tree) (steps : List ℕ) (are : AreSteps (Begins tree) (GoesOn 
       (λ fill. (has k).1 ((are.reached k).1 fill.reached)),
     );
   }
+
+-- where no entity takes part no leaf is to be filled
+pub none_filled : (tree : Tree) (origins : List Origin) (count : ℕ) → count ≡ leaf_count tree.shape → NoneTakesPart tree origins → IsFilledRow tree origins (replicate count false)
+none_filled tree origins count is none = record {
+  one_each = length-replicate count false ∙ is;
+  filled = λ k. (
+    (λ set. absurd (let e : true ≡ false = sym set ∙ clear k in cc)),
+    (λ fill. absurd (none fill.sealed.inside fill.sealed.listed fill.sealed.takes_part)),
+  );
+}
+  where
+    clear : (k : ℕ) → get_or (replicate count false) k false ≡ false
+    clear k = ⊎_elim
+        (λ within. get_or-replicate count k false false within)
+        (λ past. let long = length-replicate count false in get_or_past (replicate count false) k false (omega (arith, past, long)))
+        (cases_lt k count)
