@@ -3,6 +3,7 @@
 #![tactic(auto)]
 
 mod finding;
+pub mod laws;
 mod leaving;
 mod making;
 mod numbers;
