@@ -1,11 +1,12 @@
 -- Numbered leaves by their numbers.
-use Rattle.std.proofs.Common.{◌≡◌, ℕ, zero, suc, ◌+◌, Bool, true, false, List, [], ◌∷◌, take, slice_get, Some, cond, refl, sym, ap, ◌∙◌, arith}
+use Rattle.std.proofs.Common.{◌≡◌, ℕ, zero, suc, ◌+◌, Bool, true, false, List, [], ◌∷◌, take, slice_get, Some, Contains, ◌<◌, cond, refl, sym, ap, ◌∙◌, arith}
 use Rattle.std.specs.Prelude.{count_by}
 use Rattle.std.proofs.lemmas.List.Sums.{sum_by-cons}
+use Rattle.std.proofs.lemmas.Option.{slice_get-get_or, slice_get_within}
 use Rattle.qm_lists.proofs.Cases.{by_cases}
 use Rattle.qm_partition.specs.declared.node.Leaf.{Leaf}
 use Rattle.qm_partition.specs.Tree.{Tree}
-use Rattle.qm_partition.specs.Counting.{leaves_of}
+use Rattle.qm_partition.specs.Counting.{leaves_of, leaf_count}
 use Rattle.qm_contacts.specs.NumberedLeaves.{is_numbered, numbered_from, numbered_leaves}
 use Rattle.qm_contacts.specs.Portals.{number_of}
 
@@ -15,16 +16,16 @@ module _ (first : Leaf) (all : List Leaf) where
   count_one : count_by is_numbered (first ∷ all) ≡ cond (is_numbered first) 1 0 + count_by is_numbered all
   count_one = sum_by-cons (λ found. cond (is_numbered found) 1 0) first all
 
-  count_yes : is_numbered first ≡ true → count_by is_numbered (first ∷ all) ≡ suc (count_by is_numbered all)
+  pub count_yes : is_numbered first ≡ true → count_by is_numbered (first ∷ all) ≡ suc (count_by is_numbered all)
   count_yes test = count_one ∙ ap (λ (b : Bool). cond b 1 0 + count_by is_numbered all) test ∙ omega arith
 
-  count_no : is_numbered first ≡ false → count_by is_numbered (first ∷ all) ≡ count_by is_numbered all
+  pub count_no : is_numbered first ≡ false → count_by is_numbered (first ∷ all) ≡ count_by is_numbered all
   count_no test = count_one ∙ ap (λ (b : Bool). cond b 1 0 + count_by is_numbered all) test ∙ omega arith
 
-  from_yes : (j : ℕ) → is_numbered first ≡ true → numbered_from (first ∷ all) j ≡ j ∷ numbered_from all (j + 1)
+  pub from_yes : (j : ℕ) → is_numbered first ≡ true → numbered_from (first ∷ all) j ≡ j ∷ numbered_from all (j + 1)
   from_yes j test = rw test refl
 
-  from_no : (j : ℕ) → is_numbered first ≡ false → numbered_from (first ∷ all) j ≡ numbered_from all (j + 1)
+  pub from_no : (j : ℕ) → is_numbered first ≡ false → numbered_from (first ∷ all) j ≡ numbered_from all (j + 1)
   from_no j test = rw test refl
 
 at_its_number : (all : List Leaf) (j i : ℕ) (found : Leaf) → slice_get all i ≡ Some found → is_numbered found ≡ true → slice_get (numbered_from all j) (count_by is_numbered (take i all)) ≡ Some (j + i)
@@ -83,3 +84,16 @@ number_at_leaf tree n k at =
     let is = from_its_number (leaves_of tree.shape) 0 n k at in
     let same : k ≡ is.i = omega (arith, is.place) in
     (is.found, ap (slice_get (leaves_of tree.shape)) same ∙ is.leaf_is, is.numbered, ap (number_of tree) same ∙ sym is.number)
+
+pub leaf_within : (tree : Tree) (n k : ℕ) → slice_get (numbered_leaves tree) n ≡ Some k → k < leaf_count tree.shape
+leaf_within tree n k at = let is = number_at_leaf tree n k at in slice_get_within (leaves_of tree.shape) k is.0 is.1
+
+-- a leaf that is not numbered is not in the list
+pub not_listed : (tree : Tree) (k : ℕ) (found : Leaf) → slice_get (leaves_of tree.shape) k ≡ Some found → is_numbered found ≡ false → Contains (numbered_leaves tree) k → ⊥
+not_listed tree k found at not_numbered listed =
+    let there = slice_get-get_or (numbered_leaves tree) listed.0 k listed.1 ∙ ap Some listed.2 in
+    let is = number_at_leaf tree listed.0 k there in
+    let e : Some found ≡ Some is.0 = sym at ∙ is.1 in
+    let same : found ≡ is.0 = cc in
+    let both : false ≡ true = sym not_numbered ∙ ap is_numbered same ∙ is.2 in
+    absurd cc

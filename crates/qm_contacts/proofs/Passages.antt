@@ -28,7 +28,7 @@ both_from false b test = absurd (let e : false ≡ true = test in cc)
 
 module _ (tree : Tree) (touchings : List Touching) (are : AreTouchings tree.planes (meetings tree) touchings) where
   -- both leaves of a pair are there
-  leaves_there : (found : Touching) → Contains touchings found → (found.front < found.back) × (found.back < leaf_count tree.shape)
+  pub leaves_there : (found : Touching) → Contains touchings found → (found.front < found.back) × (found.back < leaf_count tree.shape)
   leaves_there found listed =
       let m = meeting_of_touching tree.planes (meetings tree) touchings found are listed in
       let Between = IsBetween 0 (nodes_after tree.shape 0) 0 (leaves_after tree.shape 0) in

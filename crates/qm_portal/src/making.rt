@@ -1,0 +1,25 @@
+//! The world of a tree and its contacts.
+
+ghost use Rattle.std.specs.Prelude.{◌≡◌, IfOk};
+ghost use Rattle.qm_contacts.specs.Contacts.{AreContacts};
+ghost use Rattle.qm_contacts.specs.Portals.{portals_of};
+
+use crate::leaving::Leaving;
+use crate::numbers::Numbers;
+use crate::passages::portals;
+use crate::touch_list::TouchList;
+use crate::worlds::World;
+use qm_tree::Tree;
+use std::alloc::{AllocError, Global};
+
+/// The tree with the portals between its numbered leaves, by its contacts. Marking leaves as filled changes no contact, so
+/// these may be found before.
+pub fn world(alloc: Global, tree: &Tree, touches: &TouchList) -> Result<World, AllocError>
+    requires { AreContacts tree.now touches.now }
+    ensures { IfOk result (λ world. world ≡ record { tree = tree.now; portals = portals_of tree.now touches.now.touchings }) }
+{
+    let numbers = Numbers::of(alloc, tree.all_leaves())?;
+    let portals = portals(alloc, tree, &numbers.before, touches.pairs())?;
+    let leaving = Leaving::of(alloc, &portals, numbers.numbered.len())?;
+    Ok(World::of(tree.copy(alloc)?, numbers, portals, leaving))
+}
