@@ -11,7 +11,7 @@ ghost use Rattle.qm_compile.specs.Texts.{line, leak_text};
 use crate::count_lines::put_count_line;
 use crate::tree_file::count_numbered;
 use qm_partition::Leaf;
-use qm_portal::TouchList;
+use qm_portal::{TouchList, world};
 use qm_tree::Tree;
 use std::alloc::{AllocError, Global};
 
@@ -62,7 +62,8 @@ pub fn portal_count(alloc: Global, tree: &Tree, contacts: TouchList) -> Result<u
     requires { AreContacts tree.now contacts }
     ensures { IfOk result (λ count. HasPassages tree.now count) }
 {
-    Err(AllocError)
+    let world = world(alloc, tree, &contacts)?;
+    Ok(world.portals() / 2)
 }
 
 /// A line of the entity that leaks, and one of the leaves of its trail.

@@ -1,4 +1,3 @@
-use Rattle.std.proofs.Common.{◌≡◌, sym, ap, ◌∙◌, subst, arith}
 use Rattle.qm_contacts.proofs.MarkedTrees.{marked_contacts}
 use Rattle.qm_compile.proofs.compile.finish.Goals as goal
 

@@ -1,4 +1,4 @@
-use Rattle.std.proofs.Common.{◌≡◌, ◌<◌, ◌≤◌, length, get_or, List, sym, ap, ◌∙◌, subst, arith}
+use Rattle.std.proofs.Common.{◌≡◌, ◌<◌, length, get_or, List, sym, ap, ◌∙◌, arith}
 use Rattle.qm_mapfile.specs.declared.entity.Entity.{Entity}
 use Rattle.qm_compile.proofs.Origins.{one_more_stands, none_more_stands, all_gathered, good_origin_at}
 use Rattle.qm_compile.proofs.entity_origins.origins_of.Goals as goal
