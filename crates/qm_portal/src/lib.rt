@@ -1,9 +1,10 @@
 //! The contacts of a tree's leaves: which of them touch one another, through which polygon, and which touch the outside.
 #![tactic(auto)]
 
-mod finding;
-mod touch_list;
+mod cell;
+mod facet;
+mod pairs;
+mod piece;
+mod pushing;
 mod touching;
-
-pub use finding::touches;
-pub use touch_list::TouchList;
+mod walk;
