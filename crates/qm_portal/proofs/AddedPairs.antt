@@ -1,6 +1,7 @@
 -- The touching pairs at a node, one leaf in front after another.
-use Rattle.std.proofs.Common.{◌≡◌, ℕ, List, [], ◌∷◌, ◌++◌, map, refl, sym, ap, ◌∙◌, subst}
-use Rattle.std.proofs.lemmas.List.{append_assoc, append-nil}
+use Rattle.std.proofs.Common.{◌≡◌, ◌≤◌, ℕ, ◌-◌, List, length, take, [], ◌∷◌, ◌++◌, map, refl, sym, ap, ◌∙◌, subst, arith}
+use Rattle.std.specs.List.{slice_range}
+use Rattle.std.proofs.lemmas.List.{append_assoc, append-nil, take_all}
 use Rattle.qm_space.specs.Plane.{Plane}
 use Rattle.qm_partition.specs.declared.node.Child.{Child}
 use Rattle.qm_partition.specs.Partition.{Partition}
@@ -40,3 +41,7 @@ moved_all f pairs old items left none is = sym (append-nil pairs) ∙ ap (λ ps.
 
 pub row_added : (tree : Tree) (n : ℕ) (back : Child) (front : Piece) (pieces : List Piece) (old new : List Touching) → new ≡ old ++ map (touching_at n front.leaf) pieces → HasPieces tree back front.winding pieces → IsRowAdded tree n back front old new
 row_added tree n back front pieces old new added have = record { pieces = pieces; added = added; have = have }
+
+-- all of a list
+pub whole_range : {X : Type 0} (xs : List X) (n : ℕ) → length xs ≤ n → slice_range xs 0 n ≡ xs
+whole_range xs n enough = let same : n - 0 ≡ n = omega arith in ap (λ m. take m xs) same ∙ take_all n xs enough

@@ -3,8 +3,13 @@
 
 mod cell;
 mod facet;
+mod finding;
 mod pairs;
 mod piece;
 mod pushing;
+mod touch_list;
 mod touching;
 mod walk;
+
+pub use finding::touches;
+pub use touch_list::TouchList;
