@@ -5,3 +5,4 @@ pub mod MadeTexts
 pub mod Outcomes
 pub mod ReadMeanings
 pub mod Reported
+pub mod Origins

@@ -10,8 +10,9 @@ use Rattle.qm_mapfile.specs.declared.entity.MapFile.{MapFile}
 use Rattle.qm_grammar.specs.Faults.{text_limit}
 use Rattle.qm_grammar.specs.Meaning.{IsMapText}
 use Rattle.qm_compile.specs.declared.command.Command.{Command}
-use Rattle.qm_compile.specs.declared.status.Status.TheVariants.{Done, WriteFault}
-use Rattle.qm_compile.specs.ComesOf.{ComesOf, HoldsPart, IsUnfinished, IsDone, IsCutShort, write_fault, done}
+use Rattle.qm_compile.specs.declared.status.Status.{Status}
+use Rattle.qm_compile.specs.declared.status.Status.TheVariants.{WriteFault}
+use Rattle.qm_compile.specs.ComesOf.{ComesOf, HoldsPart, IsUnfinished, IsWritten, IsCutShort, write_fault, written}
 use Rattle.qm_compile.specs.Product.{IsProduct}
 use Rattle.qm_compile.specs.TextMeans.{TextMeans}
 use Rattle.qm_compile.specs.Texts.{write_fault_text}
@@ -26,7 +27,7 @@ kept_unfinished before after command map_name out_name kept = record {
   part = λ tells. inl (kept out_name);
 }
 
-module _ (before between after : ShelfState) (command : Command) (map_name out_name text file summary bytes : List ℕ) (read : IsReadFrom before map_name text_limit text) (kept : IsKept before between) (map : MapFile) (means : IsMapText text map) (made : IsProduct command map file summary) (same : bytes ≡ file) (others : IsKeptElsewhere between after out_name) (no_fault : MetNoFault before between) where
+module _ (before between after : ShelfState) (command : Command) (map_name out_name text file bytes : List ℕ) (status : Status) (due : List ℕ) (read : IsReadFrom before map_name text_limit text) (kept : IsKept before between) (map : MapFile) (means : IsMapText text map) (made : IsProduct command map file status due) (same : bytes ≡ file) (others : IsKeptElsewhere between after out_name) (no_fault : MetNoFault before between) where
   its_meaning : TextMeans before map_name (Ok map)
   its_meaning = text_means before map_name text (Ok map) read means
 
@@ -34,7 +35,7 @@ module _ (before between after : ShelfState) (command : Command) (map_name out_n
   part_written : HoldsUnfinished between after out_name bytes → HoldsTheSame before after out_name ⊎ HoldsPart before after command map_name out_name
   part_written (inl nothing) = inl (nothing ∙ kept out_name)
   part_written (inr part) =
-      inr (map, file, summary, its_meaning, made, (part.0, part.1 ∙ ap (λ (b : List ℕ). Some (take part.0 b)) same))
+      inr (map, file, status, due, its_meaning, made, (part.0, part.1 ∙ ap (λ (b : List ℕ). Some (take part.0 b)) same))
 
   -- writing the file stopped on the way
   stopped_writing : (IsTrue before.tells → HoldsUnfinished between after out_name bytes) → IsUnfinished before after command map_name out_name
@@ -44,7 +45,7 @@ module _ (before between after : ShelfState) (command : Command) (map_name out_n
   }
 
   -- the file was written whole
-  all_written : (IsTrue before.tells → HoldsExactly after out_name bytes) → IsDone before after command map_name out_name summary
+  all_written : (IsTrue before.tells → HoldsExactly after out_name bytes) → IsWritten before after command map_name out_name status due
   all_written wrote = record {
     others = λ name other. others name other ∙ kept name;
     map = map;
@@ -54,8 +55,8 @@ module _ (before between after : ShelfState) (command : Command) (map_name out_n
     holds = λ tells. wrote tells ∙ ap (λ (b : List ℕ). Some b) same;
   }
 
-  pub done_due : (IsTrue before.tells → HoldsExactly after out_name bytes) → MetNoFault between after → ComesOf before after command map_name out_name Done summary
-  done_due wrote none = done (all_written wrote) (no_fault_twice before between after no_fault none)
+  pub written_due : (IsTrue before.tells → HoldsExactly after out_name bytes) → MetNoFault between after → ComesOf before after command map_name out_name status due
+  written_due wrote none = written (all_written wrote) (no_fault_twice before between after no_fault none)
 
   -- what the fault of the write means, as the fault of the command
   fault_since : (fault its : ShelfFault) → fault ≡ its → WriteFaultMeans between after out_name fault → WriteFaultMeans before after out_name its

@@ -1,7 +1,7 @@
 use Rattle.std.proofs.Common.{◌≡◌, ℕ, List, sym, subst, inl, inr}
 use Rattle.qm_shelf.specs.Outside.{Outside}
 use Rattle.qm_compile.specs.declared.outcome.Outcome.{Outcome}
-use Rattle.qm_compile.specs.declared.outcome.Outcome.TheVariants.{Done, Usage, ReadFault, MapFault, WriteFault}
+use Rattle.qm_compile.specs.declared.outcome.Outcome.TheVariants.{Done, Usage, Leak, ReadFault, MapFault, WriteFault}
 use Rattle.qm_compile.specs.declared.status.Status.{Status}
 use Rattle.qm_compile.specs.declared.status.Status.TheVariants as status
 use Rattle.qm_compile.specs.inner.Outcome.{status_of}
@@ -14,6 +14,7 @@ module _ (words : List (List ℕ)) (before after : Outside) where
   unfolding Answers
   answers_due (Done summary) reports = reports
   answers_due Usage reports = reports
+  answers_due (Leak text) reports = reports
   answers_due ReadFault reports = reports
   answers_due (MapFault text) reports = reports
   answers_due WriteFault reports = inl reports

@@ -7,7 +7,7 @@ use Rattle.qm_grammar.specs.declared.fault.MapFault.{MapFault}
 use Rattle.qm_compile.specs.declared.command.Command.{Command}
 use Rattle.qm_compile.specs.declared.status.Status.{Status}
 use Rattle.qm_compile.specs.declared.status.Status.TheVariants as status
-use Rattle.qm_compile.specs.declared.status.Status.TheVariants.{Done, ReadFault, WriteFault}
+use Rattle.qm_compile.specs.declared.status.Status.TheVariants.{ReadFault, WriteFault}
 use Rattle.qm_compile.specs.FaultText.{fault_text}
 use Rattle.qm_compile.specs.Product.{IsProduct}
 use Rattle.qm_compile.specs.TextMeans.{TextMeans}
@@ -18,22 +18,22 @@ use Rattle.qm_compile.specs.Texts.{read_fault_text, write_fault_text}
 -- the file OUT has some of the first bytes of the file that the command makes of the map that is meant
 abbrev pub HoldsPart : ShelfState → ShelfState → Command → List ℕ → List ℕ → Type 0
 HoldsPart before after command map_name out_name =
-    (map : MapFile) × (file : List ℕ) × (summary : List ℕ) × TextMeans before map_name (Ok map) × IsProduct command map file summary
-    × HoldsPrefix after out_name file
+    (map : MapFile) × (file : List ℕ) × (status : Status) × (text : List ℕ) × TextMeans before map_name (Ok map)
+    × IsProduct command map file status text × HoldsPrefix after out_name file
 
 -- writing OUT was not begun or not ended: it is as it was or has a part of the file, and every other file is as it was
 pub record IsUnfinished (before after : ShelfState) (command : Command) (map_name out_name : List ℕ) : Type 0 where
   pub others : IsKeptElsewhere before after out_name
   pub part : IsTrue before.tells → HoldsTheSame before after out_name ⊎ HoldsPart before after command map_name out_name
 
--- the file OUT is the one that the command makes of the map that is meant, with this summary, and every other file is as
--- it was
-pub record IsDone (before after : ShelfState) (command : Command) (map_name out_name summary : List ℕ) : Type 0 where
+-- the file OUT is the one that the command makes of the map that is meant, with which this status and this text are due,
+-- and every other file is as it was
+pub record IsWritten (before after : ShelfState) (command : Command) (map_name out_name : List ℕ) (status : Status) (text : List ℕ) : Type 0 where
   pub others : IsKeptElsewhere before after out_name
   pub map : MapFile
   pub is_meant : TextMeans before map_name (Ok map)
   pub file : List ℕ
-  pub is_made : IsProduct command map file summary
+  pub is_made : IsProduct command map file status text
   pub holds : IsTrue before.tells → HoldsExactly after out_name file
 
 -- memory ran out on the way: no call of the shelf failed, and OUT may be unfinished
@@ -56,7 +56,7 @@ pub data ComesOf (before after : ShelfState) (command : Command) (map_name out_n
       {map : MapFile} → TextMeans before map_name (Ok map) →
       FailedToWrite before after out_name → IsUnfinished before after command map_name out_name →
       ComesOf before after command map_name out_name WriteFault write_fault_text
-  -- OUT is the file of the map
-  done :
-      {summary : List ℕ} → IsDone before after command map_name out_name summary → MetNoFault before after →
-      ComesOf before after command map_name out_name Done summary
+  -- OUT is the file that is made of the map
+  written :
+      {status : Status} {text : List ℕ} → IsWritten before after command map_name out_name status text → MetNoFault before after →
+      ComesOf before after command map_name out_name status text

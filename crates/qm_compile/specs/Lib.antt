@@ -1,6 +1,9 @@
+pub mod Built
 pub mod ComesOf
 pub mod Command
 pub mod FaultText
+pub mod Marked
+pub mod Origins
 pub mod Product
 pub mod Run
 pub mod StatusNumber

@@ -6,7 +6,7 @@ use Rattle.qm_shelf.specs.ShelfChanges.{IsKept, MetNoFault}
 use Rattle.qm_compile.specs.declared.command.Command.{Command}
 use Rattle.qm_compile.specs.declared.status.Status.{Status}
 use Rattle.qm_compile.specs.declared.status.Status.TheVariants as status
-use Rattle.qm_compile.specs.declared.status.Status.TheVariants.{Done, Usage, ReadFault, WriteFault, Memory}
+use Rattle.qm_compile.specs.declared.status.Status.TheVariants.{Done, Usage, Leak, ReadFault, WriteFault, Memory}
 use Rattle.qm_compile.specs.Command.{IsCommand}
 use Rattle.qm_compile.specs.ComesOf.{ComesOf, IsCutShort}
 use Rattle.qm_compile.specs.Texts.{usage_text}
@@ -52,6 +52,7 @@ RunsOut words before after =
 unfoldable pub Answers : List (List ℕ) → Outside → Outside → Status → Type 0
 Answers words before after Done = Reports words before after Done
 Answers words before after Usage = Reports words before after Usage
+Answers words before after Leak = Reports words before after Leak
 Answers words before after ReadFault = Reports words before after ReadFault
 Answers words before after status.MapFault = Reports words before after status.MapFault
 Answers words before after WriteFault = Reports words before after WriteFault ⊎ FailsToReport words before after

@@ -1,4 +1,4 @@
-use Rattle.std.specs.Prelude.{ℕ, List, [], ◌∷◌, ◌++◌, codes}
+use Rattle.std.specs.Prelude.{ℕ, List, [], ◌∷◌, ◌++◌, flat_map, codes}
 use Rattle.std.specs.Fmt.{decimal}
 
 -- The texts that the program prints; each line ends with the byte 10.
@@ -18,3 +18,8 @@ write_fault_text = line (codes "write fault")
 -- a line of a name and a count
 abbrev pub count_line : List ℕ → ℕ → List ℕ
 count_line name count = line (name ++ (32 ∷ decimal count))
+
+-- a line of an entity, by its number in the map, and one of the leaves of its trail, each after a space
+unfoldable pub leak_text : ℕ → List ℕ → List ℕ
+leak_text entity trail =
+    line (codes "leak: entity " ++ decimal entity) ++ line (codes "trail:" ++ flat_map (λ leaf. 32 ∷ decimal leaf) trail)

@@ -1,8 +1,6 @@
-use Rattle.std.specs.Prelude.{ℕ, ℤ, negsuc, Bool, true, false, not, if◌then◌else◌, List, [], ◌∷◌, ◌++◌, length, flat_map, count_by, codes, pos}
+use Rattle.std.specs.Prelude.{ℕ, ℤ, negsuc, if◌then◌else◌, List, [], ◌∷◌, ◌++◌, length, flat_map, count_by, codes, pos}
 use Rattle.std.specs.Int.{w32, w64, to_le_bytes, cast_unsigned}
 use Rattle.qm_space.specs.Plane.{Plane}
-use Rattle.qm_contents.specs.declared.contents.Contents.{Contents}
-use Rattle.qm_contents.specs.declared.contents.Contents.TheVariants.{Solid}
 use Rattle.qm_contents.specs.Codes.{code_of}
 use Rattle.qm_partition.specs.declared.node.Leaf.{Leaf as LeafRecord}
 use Rattle.qm_partition.specs.declared.node.Node.{Node as NodeRecord}
@@ -11,6 +9,7 @@ use Rattle.qm_partition.specs.declared.node.Child.TheVariants.{Node, Leaf}
 use Rattle.qm_partition.specs.Tree.{Tree}
 use Rattle.qm_partition.specs.Counting.{leaves_of}
 use Rattle.qm_partition.specs.Numbering.{nodes_of}
+use Rattle.qm_contacts.specs.NumberedLeaves.{is_numbered}
 
 -- All numbers are little-endian; signed ones are in two's complement.
 
@@ -43,14 +42,6 @@ node_bytes n = to_le_bytes w32 n.plane ++ (child_bytes n.front ++ child_bytes n.
 unfoldable pub leaf_bytes : LeafRecord → List ℕ
 leaf_bytes found = to_le_bytes w32 (cast_unsigned w32 (code_of found.contents)) ++ ((if found.filled then 1 else 0) ∷ [])
 
-abbrev pub is_solid : Contents → Bool
-is_solid Solid = true
-is_solid _ = false
-
--- leaves that are not solid are numbered
-abbrev pub is_open : LeafRecord → Bool
-is_open found = not (is_solid found.contents)
-
 -- the magic bytes, the four counts, and a byte that says that no rows follow
 unfoldable pub header_bytes : ℕ → ℕ → ℕ → ℕ → List ℕ
 header_bytes planes nodes leaves numbered =
@@ -59,7 +50,7 @@ header_bytes planes nodes leaves numbered =
 -- a file of these planes, nodes and leaves, without rows
 unfoldable pub file_bytes : List Plane → List NodeRecord → List LeafRecord → List ℕ
 file_bytes planes nodes leaves =
-    header_bytes (length planes) (length nodes) (length leaves) (count_by is_open leaves)
+    header_bytes (length planes) (length nodes) (length leaves) (count_by is_numbered leaves)
     ++ (flat_map plane_bytes planes ++ (flat_map node_bytes nodes ++ flat_map leaf_bytes leaves))
 
 -- the tree file of a tree, whose nodes and leaves are numbered front first

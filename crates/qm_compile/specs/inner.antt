@@ -1,3 +1,5 @@
+pub mod Counted
+pub mod Finished
 pub mod FlatCount
 pub mod Made
 pub mod Outcome

@@ -1,70 +1,83 @@
 //! From a map to the bytes of its tree file.
 
-ghost use Rattle.std.specs.Prelude.{◌≡◌, ◌++◌, length, IfOk, OnOk, string_bytes};
+ghost use Rattle.std.specs.Prelude.{◌≡◌, length, IfOk};
 ghost use Rattle.qm_grammar.specs.Valid.{IsValid};
+ghost use Rattle.qm_partition.specs.Counting.{leaf_count};
+ghost use Rattle.qm_contacts.specs.Contacts.{AreContacts};
 ghost use Rattle.qm_compile.specs.declared.command.Command.TheVariants.{Compile};
 ghost use Rattle.qm_compile.specs.Product.{IsProduct};
-ghost use Rattle.qm_compile.specs.Summary.{compile_summary, tree_counts};
-ghost use Rattle.qm_compile.specs.inner.FlatCount.{flat_count};
+ghost use Rattle.qm_compile.specs.inner.Finished.{IsFinished, IsLeakProduct};
+ghost use Rattle.qm_compile.specs.inner.Outcome.{status_of, text_of};
 
-use crate::count_lines::put_count_line;
+use crate::building::{Built, build_map};
+use crate::compile_summary::{leak_text, portal_count, summary};
+use crate::entity_origins::origins_of;
 use crate::made::Product;
+use crate::outcome::Outcome;
 use crate::tree_file::encode;
-use qm_brush::{BrushList, brushes};
-use qm_build::build;
-use qm_geom::PlaneBook;
+use qm_bits::BitRow;
+use qm_flood::{Flood, flood};
 use qm_mapfile::MapFile;
+use qm_portal::{TouchList, touches};
 use qm_tree::Tree;
 use std::alloc::{AllocError, Global};
 
-/// Compiles a map to the file of its tree, with its summary.
+/// Compiles a map to the file of its tree. Where an entity leaks it is the tree as it was built; else leaves that no
+/// entity reaches are filled.
 pub fn compile(alloc: Global, map: &MapFile) -> Result<Product, AllocError>
     requires { IsValid map.now }
     ensures { IfOk result
-        (λ product. IsProduct Compile map.now product.file.items (string_bytes product.summary)) }
+        (λ product. IsProduct Compile map.now product.file.items (status_of product.outcome) (text_of product.outcome)) }
 {
-    let mut book = PlaneBook::new(alloc);
-    let list = brushes(alloc, map, &mut book)?;
-    let tree = build(alloc, &list, &book)?;
-    let summary = summary(alloc, &list, &tree)?;
-    drop(list);
-    drop(book);
-    let file = encode(alloc, &tree)?;
-    Ok(Product { file, summary })
-}
-
-/// A line for each count.
-#[tactic(auto, unfolding(crate::specs::Summary::compile_summary))]
-fn summary(alloc: Global, list: &BrushList, tree: &Tree) -> Result<String, AllocError>
-    ensures { IfOk result
-        (λ text. string_bytes text ≡ compile_summary (length list.now) (flat_count list.now) tree.now) }
-{
-    let mut text = String::new(alloc);
-    put_count_line(&mut text, "brushes", list.len())?;
-    put_count_line(&mut text, "flat", count_flat(list))?;
-    put_tree_counts(&mut text, tree)?;
-    Ok(text)
-}
-
-/// How many brushes of a list are flat.
-fn count_flat(list: &BrushList) -> u64
-    ensures { result ≡ flat_count list.now }
-{
-    let mut count = 0;
-    for i in 0..list.len() {
-        if !list.full(i) {
-            count += 1;
+    let built = build_map(alloc, map)?;
+    let origins = origins_of(alloc, map)?;
+    let contacts = touches(alloc, &built.tree)?;
+    match flood(alloc, &contacts, &built.tree, &origins)? {
+        Flood::Sealed(filled) => finish(alloc, "sealed", built, contacts, &filled),
+        Flood::NoEntity => {
+            let filled = BitRow::with_len(alloc, built.tree.leaves())?;
+            finish(alloc, "no entity", built, contacts, &filled)
         }
+        Flood::Leak { entity, trail } => leaking(alloc, &built.tree, entity, trail.as_slice()),
     }
-    count
 }
 
-/// Adds the lines of a tree's planes, nodes and leaves.
-#[tactic(auto, unfolding(crate::specs::Summary::tree_counts))]
-fn put_tree_counts(text: &mut String, tree: &Tree) -> Result<(), AllocError>
-    ensures { OnOk result (string_bytes text.new ≡ string_bytes text.old ++ tree_counts tree.now) }
+/// The file of the tree in which these leaves are filled, with its summary.
+fn finish(
+    alloc: Global,
+    verdict: &str,
+    built: Built,
+    contacts: TouchList,
+    filled: &BitRow,
+) -> Result<Product, AllocError>
+    requires contacts { AreContacts built.tree contacts }
+    requires one_each { length filled.now ≡ leaf_count built.tree.shape }
+    ensures { IfOk result (λ product. IsFinished verdict.now built.tree built.brushes built.flat filled.now
+        product.file.items product.outcome) }
 {
-    put_count_line(text, "planes", u64::from(tree.planes()))?;
-    put_count_line(text, "nodes", tree.nodes())?;
-    put_count_line(text, "leaves", tree.leaves())
+    let Built {
+        tree,
+        brushes,
+        flat,
+    } = built;
+    let tree = tree.with_filled(filled);
+    let portals = portal_count(alloc, &tree, contacts)?;
+    let summary = summary(alloc, verdict, brushes, flat, &tree, portals)?;
+    let file = encode(alloc, &tree)?;
+    Ok(Product {
+        file,
+        outcome: Outcome::Done(summary),
+    })
+}
+
+/// The file of the tree as it was built, with the leak.
+fn leaking(alloc: Global, tree: &Tree, entity: u64, trail: &[u64]) -> Result<Product, AllocError>
+    ensures { IfOk result (λ product. IsLeakProduct tree.now entity trail.now product.file.items product.outcome) }
+{
+    let text = leak_text(alloc, entity, trail)?;
+    let file = encode(alloc, tree)?;
+    Ok(Product {
+        file,
+        outcome: Outcome::Leak(text),
+    })
 }

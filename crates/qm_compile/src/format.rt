@@ -5,9 +5,11 @@ ghost use Rattle.qm_grammar.specs.Valid.{IsValid};
 ghost use Rattle.qm_compile.specs.declared.command.Command.TheVariants.{Format};
 ghost use Rattle.qm_compile.specs.Product.{IsProduct};
 ghost use Rattle.qm_compile.specs.Summary.{brush_count, format_summary};
+ghost use Rattle.qm_compile.specs.inner.Outcome.{status_of, text_of};
 
 use crate::count_lines::put_count_line;
 use crate::made::Product;
+use crate::outcome::Outcome;
 use qm_mapfile::MapFile;
 use qm_mapout::print;
 use std::alloc::{AllocError, Global};
@@ -16,12 +18,15 @@ use std::alloc::{AllocError, Global};
 pub fn format(alloc: Global, map: &MapFile) -> Result<Product, AllocError>
     requires { IsValid map.now }
     ensures { IfOk result
-        (λ product. IsProduct Format map.now product.file.items (string_bytes product.summary)) }
+        (λ product. IsProduct Format map.now product.file.items (status_of product.outcome) (text_of product.outcome)) }
 {
     let summary = summary(alloc, map)?;
     let mut file = Vec::new(alloc);
     print(alloc, map, &mut file)?;
-    Ok(Product { file, summary })
+    Ok(Product {
+        file,
+        outcome: Outcome::Done(summary),
+    })
 }
 
 /// A line for each count.

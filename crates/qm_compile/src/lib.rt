@@ -1,9 +1,12 @@
-//! Compiles a map to a tree, and does all that the program does.
+//! Compiles a map to a tree, looks for leaks, and does all that the program does.
 #![tactic(auto)]
 
+mod building;
 mod command;
 mod compile;
+mod compile_summary;
 mod count_lines;
+mod entity_origins;
 mod fault_text;
 mod format;
 mod made;

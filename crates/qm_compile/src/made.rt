@@ -1,10 +1,11 @@
+use crate::outcome::Outcome;
 use qm_map::MapFault;
 
-/// A file, and the summary that is printed of it.
+/// A file, and what comes of the command once it is written.
 #[derive(Drop)]
 pub struct Product {
     pub file: Vec<u8>,
-    pub summary: String,
+    pub outcome: Outcome,
 }
 
 /// What comes of a text.

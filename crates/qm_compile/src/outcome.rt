@@ -8,6 +8,8 @@ pub enum Outcome {
     /// The file is written; the text is its summary.
     Done(String),
     Usage,
+    /// The file is written, and an entity leaks; the text names it and its trail.
+    Leak(String),
     ReadFault,
     /// The text of the map has a fault; the text is the line that says which.
     MapFault(String),
@@ -24,6 +26,7 @@ impl Outcome {
         match self {
             Outcome::Done(_) => Status::Done,
             Outcome::Usage => Status::Usage,
+            Outcome::Leak(_) => Status::Leak,
             Outcome::ReadFault => Status::ReadFault,
             Outcome::MapFault(_) => Status::MapFault,
             Outcome::WriteFault => Status::WriteFault,
@@ -36,7 +39,7 @@ impl Outcome {
         ensures { result.now ≡ text_of self.now }
     {
         match self {
-            Outcome::Done(summary) => summary.as_bytes(),
+            Outcome::Done(text) | Outcome::Leak(text) => text.as_bytes(),
             Outcome::Usage =>
                 b"usage: qmapc compile MAP OUT [--prt FILE] [--threads N] [--fast] | inspect TREE QUERY.. | format MAP OUT | demo N NUMBER\n",
             Outcome::ReadFault => b"read fault\n",

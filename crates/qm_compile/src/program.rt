@@ -80,7 +80,7 @@ fn carry_out_command<H: Shelf>(
         Made::Fault(fault) => return Ok(Outcome::MapFault(fault_text(alloc, fault)?)),
     };
     match write_whole(shelf, out_name, &product.file) {
-        Ok(()) => Ok(Outcome::Done(product.summary)),
+        Ok(()) => Ok(product.outcome),
         Err(ShelfFault::Failed) => Ok(Outcome::WriteFault),
         Err(ShelfFault::Memory) => Err(AllocError),
     }

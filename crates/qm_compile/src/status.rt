@@ -7,6 +7,8 @@ pub enum Status {
     Done,
     /// The words are no command of the program.
     Usage,
+    /// An entity of the map leaks. The file is written, and the leak is printed.
+    Leak,
     /// The text of the map has a fault, which is printed.
     MapFault,
     /// Reading the map failed.
@@ -27,6 +29,7 @@ impl Status {
         match self {
             Status::Done => 0,
             Status::Usage => 2,
+            Status::Leak => 3,
             Status::MapFault => 4,
             Status::ReadFault => 5,
             Status::WriteFault => 6,

@@ -1,7 +1,8 @@
 //! The bytes of a tree file. All numbers are little-endian.
 
 ghost use Rattle.std.specs.Prelude.{◌≡◌, ◌++◌, IfOk, OnOk, length, count_by};
-ghost use Rattle.qm_compile.specs.TreeFile.{count_bytes, component_bytes, distance_bytes, plane_bytes, child_bytes, node_bytes, leaf_bytes, header_bytes, file_of, is_open};
+ghost use Rattle.qm_compile.specs.TreeFile.{count_bytes, component_bytes, distance_bytes, plane_bytes, child_bytes, node_bytes, leaf_bytes, header_bytes, file_of};
+ghost use Rattle.qm_contacts.specs.NumberedLeaves.{is_numbered};
 
 use qm_contents::{Contents, code};
 use qm_geom::Plane;
@@ -50,20 +51,20 @@ fn put_header(
     nodes: usize,
     leaves: &[Leaf],
 ) -> Result<(), AllocError>
-    ensures { OnOk result (bytes.new.items ≡ bytes.old.items ++ header_bytes planes nodes (length leaves.now) (count_by is_open leaves.now)) }
+    ensures { OnOk result (bytes.new.items ≡ bytes.old.items ++ header_bytes planes nodes (length leaves.now) (count_by is_numbered leaves.now)) }
 {
     bytes.extend_from_slice(b"QMTREE01")?;
     put_count(bytes, planes)?;
     put_count(bytes, nodes)?;
     put_count(bytes, leaves.len())?;
-    put_count(bytes, count_open(leaves))?;
+    put_count(bytes, count_numbered(leaves))?;
     bytes.push(0)?;
     Ok(())
 }
 
 /// How many leaves are not solid.
-fn count_open(leaves: &[Leaf]) -> usize
-    ensures { result ≡ count_by is_open leaves.now }
+pub(crate) fn count_numbered(leaves: &[Leaf]) -> usize
+    ensures { result ≡ count_by is_numbered leaves.now }
 {
     leaves
         .iter()

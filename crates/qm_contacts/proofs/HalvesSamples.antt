@@ -206,7 +206,7 @@ sealed_row = record {
 }
 
 filled_row : IsFilledRow (halves Sky) (origin 1 (pos 64) ∷ []) (false ∷ true ∷ [])
-filled_row = record { sealed = sealed_row; one_each = refl; filled = λ k. (there k, λ fill. back k fill.reached) }
+filled_row = record { one_each = refl; filled = λ k. (there k, λ fill. back k fill.reached) }
   where
     there : (k : ℕ) → IsIn (false ∷ true ∷ []) k → IsToBeFilled (halves Sky) (origin 1 (pos 64) ∷ []) k
     there zero is = absurd (let e : false ≡ true = is in cc)

@@ -3,7 +3,7 @@ use Rattle.std.proofs.Common.{◌≡◌, ℕ, ◌+◌, Bool, true, false, List, 
 use Rattle.qm_partition.specs.Partition.{Partition, leaf, node}
 use Rattle.qm_partition.specs.Tree.{Tree}
 use Rattle.qm_partition.specs.Numbering.{nodes_after, leaves_after}
-use Rattle.qm_partition.specs.Ways.{Way, ways}
+use Rattle.qm_partition.specs.Ways.{Way}
 use Rattle.qm_partition.specs.Marked.{marked, marked_tree}
 use Rattle.qm_partition.proofs.MarkedLeaves.{marked_nodes_after, marked_leaves_after, marked_ways, marked_count}
 use Rattle.qm_contacts.specs.Meeting.{Meeting, seen_from, leaves_below, meetings_at, then_step, meetings_below, meetings}

@@ -1,5 +1,5 @@
 -- The list of portals: one touching pair after another, and what holds of each portal.
-use Rattle.std.proofs.Common.{◌≡◌, ◌<◌, ℕ, suc, ◌+◌, true, false, List, [], ◌∷◌, ◌++◌, length, filter, flat_map, All, Contains, get_or, take, Some, slice_get, refl, ap, sym, ◌∙◌, subst, arith}
+use Rattle.std.proofs.Common.{◌≡◌, ℕ, suc, ◌+◌, true, false, List, [], ◌∷◌, ◌++◌, length, filter, flat_map, All, Contains, get_or, take, Some, slice_get, refl, ap, sym, ◌∙◌, subst, arith}
 use Rattle.std.proofs.lemmas.Grind.{flat_map-append}
 use Rattle.std.proofs.lemmas.List.{append_assoc, append-nil, get_or_default}
 use Rattle.std.proofs.lemmas.List.Concat.{flat_map-cons}
@@ -9,9 +9,8 @@ use Rattle.qm_lists.proofs.Cases.{by_cases}
 use Rattle.qm_lists.proofs.Elements.{Contains-first, Contains-later}
 use Rattle.qm_lists.proofs.Places.{take_next}
 use Rattle.qm_space.specs.Point.{Point}
-use Rattle.qm_space.specs.Plane.{Plane, IsInFront, IsBehind}
+use Rattle.qm_space.specs.Plane.{Plane, IsInFront}
 use Rattle.qm_space.specs.Turned.{turned}
-use Rattle.qm_space.specs.Book.{plane_at}
 use Rattle.qm_space.proofs.Planes.{flipped_behind, flipped_in_front}
 use Rattle.qm_partition.specs.Tree.{Tree}
 use Rattle.qm_contacts.specs.Meeting.{Meeting, meetings}
@@ -127,8 +126,7 @@ module _ (tree : Tree) where
         let is = passage_is_portal tree touchings are found listed test in
         let m = meeting_of_touching tree.planes (meetings tree) touchings found are listed in
         let front_at = number_from found.front found.back is in
-        let back_at = number_to found.front found.back is in
-        (
+        let back_at = number_to found.front found.back is in (
           record {
             entered = λ x inside. behind found m.0 x m.1 m.2 back_at inside;
             left = λ x inside. (flipped_behind found.winding.plane x).1 (in_front found m.0 x m.1 m.2 front_at inside);

@@ -41,23 +41,24 @@ module _ (tree : Tree) (steps : List ℕ) (are : AreSteps (Begins tree) (GoesOn 
   -- the way that descends has just as many
   descends_length : (k : ℕ) (trail : List ℕ) → Descends tree steps k trail → length trail ≡ steps_of steps k
   descends_length k trail (at_exit one) = sym one
-  descends_length k trail (down {next = next} {rest = rest} some is touch least more) = let same = descends_length next (next ∷ rest) more in omega (arith, same, is)
+  descends_length k trail (down {next = next} {rest = rest} near more) = let same = descends_length next (next ∷ rest) more in let is = near.one_less in omega (arith, same, is)
 
   descends_out : (k : ℕ) (trail : List ℕ) → Descends tree steps k trail → IsWayOut tree k trail
   descends_out k trail (at_exit one) = out ((are.reached k).0 (omega (arith, one))) ((are.first k).0 one).outside
-  descends_out k trail (down {next = next} {rest = rest} some is touch least more) = on ((are.reached k).0 (omega (arith, is))) touch (descends_out next (next ∷ rest) more)
+  descends_out k trail (down {next = next} {rest = rest} near more) = let is = near.one_less in on ((are.reached k).0 (omega (arith, is))) near.touch (descends_out next (next ∷ rest) more)
 
   -- and comes first of the ways of its length
   descends_first : (k : ℕ) (trail other : List ℕ) → Descends tree steps k trail → IsWayOut tree k other → length trail ≡ length other → IsNotAfter trail other
   descends_first k trail other (at_exit one) (out reached outside) same = inr (refl, tt)
   descends_first k trail other (at_exit one) (on reached touch way) same = absurd (omega (arith, same))
-  descends_first k trail other (down some is touch least more) (out reached outside) same = absurd (omega (arith, same))
-  descends_first k trail other (down {next = next} {rest = rest} some is touch least more) (on {b = b} {rest = others} reached touch_b way) same =
+  descends_first k trail other (down near more) (out reached outside) same = absurd (omega (arith, same))
+  descends_first k trail other (down {next = next} {rest = rest} near more) (on {b = b} {rest = others} reached touch_b way) same =
       let long = descends_length next (next ∷ rest) more in
       let less = no_shorter b (b ∷ others) way in
       let one = one_more k b reached (first_reached b (b ∷ others) way) touch_b in
+      let is = near.one_less in
       let b_steps : steps_of steps b ≡ steps_of steps next = omega (arith, long, less, one, same, is) in
-      let at_most = least b touch_b b_steps in
+      let at_most = near.least b touch_b b_steps in
       inr (
         refl,
         ⊎_elim

@@ -21,8 +21,7 @@ pub record IsToBeFilled (tree : Tree) (origins : List Origin) (k : ℕ) : Type 0
   pub sealed : IsSealed tree origins
   pub reached : IsReached tree k
 
--- the map is sealed, and a row has exactly the leaves that are to be filled
+-- a row has exactly the leaves that are to be filled
 pub record IsFilledRow (tree : Tree) (origins : List Origin) (row : List Bool) : Type 0 where
-  pub sealed : IsSealed tree origins
   pub one_each : length row ≡ leaf_count tree.shape
   pub filled : (k : ℕ) → IsIn row k ↔ IsToBeFilled tree origins k

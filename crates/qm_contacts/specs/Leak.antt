@@ -1,4 +1,5 @@
 use Rattle.std.specs.Prelude.{◌≡◌, ◌<◌, ◌≤◌, ◌⊎◌, ℕ, List, [], ◌∷◌, length, Contains}
+use Rattle.std.specs.List.{AllPairs}
 use Rattle.qm_contents.specs.declared.contents.Contents.TheVariants.{Solid}
 use Rattle.qm_space.specs.Point.{Point}
 use Rattle.qm_partition.specs.Tree.{Tree}
@@ -13,6 +14,10 @@ use Rattle.qm_contacts.specs.Reached.{IsReached}
 pub record Origin : Type 0 where
   pub entity : ℕ
   pub point : Point
+
+-- the entities stand in the order of their numbers, each once
+abbrev pub AreInOrder : List Origin → Type 0
+AreInOrder origins = AllPairs (λ first second. first.entity < second.entity) origins
 
 abbrev pub leaf_of : Tree → Origin → ℕ
 leaf_of tree origin = leaf_at tree.planes tree.shape origin.point

@@ -1,4 +1,4 @@
-use Rattle.std.specs.Prelude.{ℕ, ◌==◌, ◌&&◌, Bool, true, false, List, [], ◌∷◌, take, filter, flat_map, count_by, slice_index_or}
+use Rattle.std.specs.Prelude.{◌≡◌, ℕ, ◌==◌, ◌&&◌, Bool, true, false, List, [], ◌∷◌, take, filter, flat_map, count_by, slice_index_or}
 use Rattle.qm_space.specs.Plane.{Plane}
 use Rattle.qm_space.specs.Turned.{turned}
 use Rattle.qm_convex.specs.Winding.{Winding}
@@ -8,7 +8,8 @@ use Rattle.qm_partition.specs.declared.node.Leaf.{Leaf}
 use Rattle.qm_partition.specs.Tree.{Tree}
 use Rattle.qm_partition.specs.Counting.{leaves_of}
 use Rattle.qm_contacts.specs.NumberedLeaves.{is_numbered}
-use Rattle.qm_contacts.specs.Touching.{Touching}
+use Rattle.qm_contacts.specs.Meeting.{meetings}
+use Rattle.qm_contacts.specs.Touching.{Touching, AreTouchings}
 
 -- Through a portal one goes from one numbered leaf to another of equal contents.
 
@@ -50,3 +51,9 @@ both_ways tree found = portal tree found false found.front found.back ∷ portal
 -- the portals of a tree, in the order of its touching pairs
 abbrev pub portals_of : Tree → List Touching → List Portal
 portals_of tree touchings = flat_map (both_ways tree) (filter (is_passage tree) touchings)
+
+-- a tree has so many passages
+pub record HasPassages (tree : Tree) (count : ℕ) : Type 0 where
+  pub touchings : List Touching
+  pub are_touchings : AreTouchings tree.planes (meetings tree) touchings
+  pub counted : count ≡ count_by (is_passage tree) touchings

@@ -13,3 +13,6 @@ pub mod EachPair
 pub mod Spreads
 pub mod Stacks
 pub mod Taken
+pub mod SpreadSteps
+pub mod KeptStacks
+pub mod TakenItems

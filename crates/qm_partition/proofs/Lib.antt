@@ -19,3 +19,4 @@ pub mod FoundWays
 pub mod NumberingWalks
 pub mod JoinedParts
 pub mod Walking
+pub mod FilledLeaves

@@ -9,3 +9,4 @@ pub mod BookSolids
 pub mod Building
 pub mod Samples
 pub mod PartedSamples
+pub mod FilledTrees

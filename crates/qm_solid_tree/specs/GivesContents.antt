@@ -1,4 +1,4 @@
-use Rattle.std.specs.Prelude.{List, All}
+use Rattle.std.specs.Prelude.{◌⊎◌, IsTrue, List, All}
 use Rattle.qm_space.specs.Point.{Point, IsInCube}
 use Rattle.qm_space.specs.Reduced.{HasNormal}
 use Rattle.qm_solids.specs.Solid.{Solid}
@@ -13,3 +13,10 @@ pub record GivesContents (tree : Tree) (solids : List Solid) : Type 0 where
   pub normals : All HasNormal tree.planes
   pub gives : (x : Point) → IsInCube x → IsOffNodePlanes tree.planes tree.shape x →
       HasContents solids x (leaf_record_at tree.planes tree.shape x).contents
+
+-- the same, but a point may also be led to a filled leaf
+pub record GivesContentsOrIsFilled (tree : Tree) (solids : List Solid) : Type 0 where
+  pub named : NamesItsPlanes tree
+  pub normals : All HasNormal tree.planes
+  pub gives : (x : Point) → IsInCube x → IsOffNodePlanes tree.planes tree.shape x →
+      IsTrue (leaf_record_at tree.planes tree.shape x).filled ⊎ HasContents solids x (leaf_record_at tree.planes tree.shape x).contents

@@ -1,6 +1,6 @@
 use Rattle.std.specs.Prelude.{ℕ, List, string_bytes}
 use Rattle.qm_compile.specs.declared.outcome.Outcome.{Outcome}
-use Rattle.qm_compile.specs.declared.outcome.Outcome.TheVariants.{Done, Usage, ReadFault, MapFault, WriteFault}
+use Rattle.qm_compile.specs.declared.outcome.Outcome.TheVariants.{Done, Usage, Leak, ReadFault, MapFault, WriteFault}
 use Rattle.qm_compile.specs.declared.status.Status.{Status}
 use Rattle.qm_compile.specs.declared.status.Status.TheVariants as status
 use Rattle.qm_compile.specs.Texts.{usage_text, read_fault_text, write_fault_text}
@@ -9,6 +9,7 @@ use Rattle.qm_compile.specs.Texts.{usage_text, read_fault_text, write_fault_text
 abbrev pub status_of : Outcome → Status
 status_of (Done summary) = status.Done
 status_of Usage = status.Usage
+status_of (Leak text) = status.Leak
 status_of ReadFault = status.ReadFault
 status_of (MapFault text) = status.MapFault
 status_of WriteFault = status.WriteFault
@@ -17,6 +18,7 @@ status_of WriteFault = status.WriteFault
 abbrev pub text_of : Outcome → List ℕ
 text_of (Done summary) = string_bytes summary
 text_of Usage = usage_text
+text_of (Leak text) = string_bytes text
 text_of ReadFault = read_fault_text
 text_of (MapFault text) = string_bytes text
 text_of WriteFault = write_fault_text

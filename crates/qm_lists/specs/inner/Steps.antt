@@ -1,4 +1,4 @@
-use Rattle.std.specs.Prelude.{◌≡◌, ℕ, ◌+◌, ◌<◌, ◌≤◌, ◌++◌, eqb, List, Some, slice_get, slice_index_or, ◌↔◌, ◌⊎◌}
+use Rattle.std.specs.Prelude.{◌≡◌, ℕ, ◌+◌, ◌<◌, ◌≤◌, ◌++◌, eqb, List, Some, length, slice_get, slice_index_or, ◌↔◌, ◌⊎◌}
 use Rattle.std.specs.List.{Contains, IsDistinct}
 use Rattle.qm_lists.specs.Reach.{Reach}
 
@@ -26,6 +26,13 @@ pub record IsSpread (begins : ℕ → Type 0) (goes : ℕ → ℕ → Type 0) (s
   pub ascends : (i j from to : ℕ) → i ≤ j → slice_get found i ≡ Some from → slice_get found j ≡ Some to → steps_of steps from ≤ steps_of steps to
   pub near : (next place : ℕ) → slice_get found passed ≡ Some next → Contains found place → steps_of steps place ≤ steps_of steps next + 1
   pub low : (i place : ℕ) → slice_get found i ≡ Some place → steps_of steps place ≤ i + 1
+  pub once : IsDistinct eqb found
+
+-- the first places of all, up to a number, are gone through: those of them that begin are found, with one step
+pub record IsBegun (begins : ℕ → Type 0) (steps found : List ℕ) : Type 0 where
+  pub small : (place : ℕ) → steps_of steps place ≤ 1
+  pub starts : (place : ℕ) → place < length steps → begins place ↔ (0 < steps_of steps place)
+  pub lists : (place : ℕ) → (0 < steps_of steps place) ↔ Contains found place
   pub once : IsDistinct eqb found
 
 -- what passing a place does: places to which it goes, and that had no steps, get one more than it has

@@ -1,13 +1,36 @@
 use Rattle.std.proofs.Common.{List, subst}
-use Rattle.qm_space.specs.Plane.{Plane}
-use Rattle.qm_geom.specs.Planes.{AreEntered}
-use Rattle.qm_brush.specs.Planes.{drawn_planes}
-use Rattle.qm_compile.proofs.CompiledMap.{compiled_map}
+use Rattle.std.proofs.lemmas.Result.{IfOk-weaker}
+use Rattle.qm_contacts.specs.Leak.{Origin}
+use Rattle.qm_flood.specs.Found.{IsFound}
+use Rattle.qm_compile.proofs.Origins.{origins_in_order}
+use Rattle.qm_compile.proofs.CompiledMap.{leaking_map, sealed_map, empty_map}
 use Rattle.qm_compile.proofs.compile.compile.Goals as goal
 
-pub returns : goal.returns
-returns c =
-    let made = c.in_ok-list.ensures in
-    let built = c.in_ok-tree.ensures in
-    let entered = subst (λ (book : List Plane). AreEntered book (drawn_planes c.args.map.now) c.brushes.new.book) c.new-book.ensures made.entered in
-    compiled_map c.args.map.now c.brushes.new.book c.in_ok-list.list made.solids made.book c.in_ok-tree.tree _ _ entered built.tree built.contents built.points c.in_ok-file.ensures c.in_ok-summary.ensures
+pub flood-requires-clause-in_order : goal.flood-requires-clause-in_order
+flood-requires-clause-in_order c = rw c.deref.ensures.value (origins_in_order c.args.map.now c.in_ok-origins.origins.items c.in_ok-origins.ensures)
+
+pub returns-in-Sealed : goal.returns-in-Sealed
+returns-in-Sealed c =
+    let built = c.in_ok-built.built in
+    let found = rw c.in-Sealed.is at (subst (λ (origins : List Origin). IsFound built.tree origins c.in_ok-filled.field-0) c.deref.ensures.value c.in_ok-filled.ensures) in
+    IfOk-weaker c.finish.result _ _
+    (λ product made. sealed_map c.args.map.now built.tree built.brushes built.flat c.in_ok-built.ensures c.in_ok-origins.origins.items c.in_ok-origins.ensures product.file.items product.outcome
+    c.in-Sealed.filled found.0 found.1 made) c.finish.ensures
+
+pub returns-in_ok-filled-in-NoEntity : goal.returns-in_ok-filled-in-NoEntity
+returns-in_ok-filled-in-NoEntity c =
+    let built = c.in_ok-built.built in
+    let found = rw c.in-NoEntity.is at (subst (λ (origins : List Origin). IsFound built.tree origins c.in_ok-filled.field-0) c.deref.ensures.value c.in_ok-filled.ensures) in
+    let finished = rw c.in_ok-filled-in-NoEntity.ensures at c.finish-in-NoEntity.ensures in
+    IfOk-weaker c.finish-in-NoEntity.result _ _
+    (λ product made. empty_map c.args.map.now built.tree built.brushes built.flat c.in_ok-built.ensures c.in_ok-origins.origins.items c.in_ok-origins.ensures product.file.items product.outcome
+    c.leaves.result c.leaves.ensures found made) finished
+
+pub returns-in-Leak : goal.returns-in-Leak
+returns-in-Leak c =
+    let built = c.in_ok-built.built in
+    let found = rw c.in-Leak.is at (subst (λ (origins : List Origin). IsFound built.tree origins c.in_ok-filled.field-0) c.deref.ensures.value c.in_ok-filled.ensures) in
+    let made_of = rw c.as_slice.ensures at c.leaking.ensures in
+    IfOk-weaker c.leaking.result _ _
+    (λ product made. leaking_map c.args.map.now built.tree built.brushes built.flat c.in_ok-built.ensures c.in_ok-origins.origins.items c.in_ok-origins.ensures product.file.items product.outcome
+    c.in-Leak.entity c.in-Leak.trail found made) made_of

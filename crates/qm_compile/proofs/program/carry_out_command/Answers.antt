@@ -5,7 +5,7 @@ use Rattle.qm_shelf.specs.declared.shelf.ShelfFault.{ShelfFault}
 use Rattle.qm_compile.specs.declared.status.Status.TheVariants.{MapFault}
 use Rattle.qm_compile.specs.ComesOf.{ComesOf, read_fault, map_fault}
 use Rattle.qm_compile.specs.FaultText.{fault_text}
-use Rattle.qm_compile.proofs.Outcomes.{kept_unfinished, done_due, write_fault_due, cut_short}
+use Rattle.qm_compile.proofs.Outcomes.{kept_unfinished, written_due, write_fault_due, cut_short}
 use Rattle.qm_compile.proofs.ReadMeanings.{text_means}
 use Rattle.qm_compile.proofs.program.carry_out_command.Goals as goal
 
@@ -44,7 +44,7 @@ returns-in-Ok-write_whole-clause-due g c =
     let read = c.in-Ok.ensures in
     let made = rw c.in-Product.is at c.in_ok-product.ensures in
     let wrote = c.in-Ok-write_whole.ensures in
-    done_due before between after c.args.command c.args.map_name.now c.args.out_name.now c.in-Ok.text.items _ _ c.deref.result.now read.bytes read.kept made.0 made.1 made.2 c.deref.ensures.value wrote.kept_elsewhere read.ok wrote.whole wrote.ok
+    written_due before between after c.args.command c.args.map_name.now c.args.out_name.now c.in-Ok.text.items _ c.deref.result.now _ _ read.bytes read.kept made.0 made.1 made.2 c.deref.ensures.value wrote.kept_elsewhere read.ok wrote.whole wrote.ok
 
 pub returns-in-Err-Failed-write_whole-clause-due : goal.returns-in-Err-Failed-write_whole-clause-due
 returns-in-Err-Failed-write_whole-clause-due g c =
@@ -54,7 +54,7 @@ returns-in-Err-Failed-write_whole-clause-due g c =
     let read = c.in-Ok.ensures in
     let made = rw c.in-Product.is at c.in_ok-product.ensures in
     let wrote = c.in-Err-Failed-write_whole.ensures in
-    write_fault_due before between after c.args.command c.args.map_name.now c.args.out_name.now c.in-Ok.text.items _ _ c.deref.result.now read.bytes read.kept made.0 made.1 made.2 c.deref.ensures.value wrote.kept_elsewhere read.ok wrote.unfinished c.in-Err-Failed-write_whole.field-0 c.in-Err-Failed-write_whole.field-0-is wrote.err
+    write_fault_due before between after c.args.command c.args.map_name.now c.args.out_name.now c.in-Ok.text.items _ c.deref.result.now _ _ read.bytes read.kept made.0 made.1 made.2 c.deref.ensures.value wrote.kept_elsewhere read.ok wrote.unfinished c.in-Err-Failed-write_whole.field-0 c.in-Err-Failed-write_whole.field-0-is wrote.err
 
 pub returns-clause-memory : goal.returns-clause-memory
 returns-clause-memory g c =
@@ -64,4 +64,4 @@ returns-clause-memory g c =
     let read = c.in-Ok.ensures in
     let made = rw c.in-Product.is at c.in_ok-product.ensures in
     let wrote = c.in-Err-Memory-write_whole.ensures in
-    cut_short before between after c.args.command c.args.map_name.now c.args.out_name.now c.in-Ok.text.items _ _ c.deref.result.now read.bytes read.kept made.0 made.1 made.2 c.deref.ensures.value wrote.kept_elsewhere read.ok wrote.unfinished c.in-Err-Memory-write_whole.field-0 c.in-Err-Memory-write_whole.field-0-is wrote.err
+    cut_short before between after c.args.command c.args.map_name.now c.args.out_name.now c.in-Ok.text.items _ c.deref.result.now _ _ read.bytes read.kept made.0 made.1 made.2 c.deref.ensures.value wrote.kept_elsewhere read.ok wrote.unfinished c.in-Err-Memory-write_whole.field-0 c.in-Err-Memory-write_whole.field-0-is wrote.err

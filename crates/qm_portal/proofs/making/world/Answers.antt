@@ -3,7 +3,6 @@ use Rattle.std.proofs.lemmas.List.Elements.{All-weaker}
 use Rattle.qm_partition.specs.Tree.{Tree}
 use Rattle.qm_partition.specs.declared.node.Leaf.{Leaf}
 use Rattle.qm_partition.specs.Counting.{leaves_of}
-use Rattle.qm_contacts.specs.Touching.{Touching}
 use Rattle.qm_contacts.specs.NumberedLeaves.{numbered_from, numbered_leaves}
 use Rattle.qm_contacts.specs.Portals.{Portal, portals_of}
 use Rattle.qm_contacts.specs.inner.LeafNumbers.{AreNumbersOf}

@@ -1,4 +1,4 @@
-use Rattle.std.proofs.Common.{◌≡◌, ℕ, true, false, List, [], ◌∷◌, ◌++◌, get_or, ap, ◌∙◌}
+use Rattle.std.proofs.Common.{◌≡◌, true, false, List, [], ◌∷◌, ◌++◌, get_or, ap, ◌∙◌}
 use Rattle.qm_space.specs.Turned.{turned}
 use Rattle.qm_contacts.specs.Touching.{Touching}
 use Rattle.qm_contacts.specs.Portals.{Portal, number_of}

@@ -1,7 +1,5 @@
-use Rattle.std.proofs.Common.{◌≡◌, ℕ, length, refl, sym, ap, ◌∙◌, take}
-use Rattle.std.proofs.Math.Seq.{take-length}
+use Rattle.std.proofs.Common.{length, refl, sym, ◌∙◌}
 use Rattle.std.proofs.lemmas.Option.{slice_get_read}
-use Rattle.qm_contacts.specs.Portals.{portals_of}
 use Rattle.qm_contacts.proofs.PortalLists.{portals_next_passage, portals_next_wall}
 use Rattle.qm_portal.proofs.passages.portals.Goals as goal
 use Rattle.qm_portal.proofs.passages.portals.Goals.{then-is_passage+in_ok-add_both_ways, else-is_passage}

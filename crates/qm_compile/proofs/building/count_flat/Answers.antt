@@ -1,7 +1,7 @@
 use Rattle.std.proofs.Common.{◌<◌, length, sym, ◌∙◌, arith}
 use Rattle.qm_compile.proofs.FlatSoFar.{flat_count-full, flat_count-flat, flat_count-all}
-use Rattle.qm_compile.proofs.compile.count_flat.Goals as goal
-use Rattle.qm_compile.proofs.compile.count_flat.Goals.{then-not-full, else-not-full}
+use Rattle.qm_compile.proofs.building.count_flat.Goals as goal
+use Rattle.qm_compile.proofs.building.count_flat.Goals.{then-not-full, else-not-full}
 
 pub loop-i-preserved : goal.loop-i-preserved
 loop-i-preserved c =

@@ -1,6 +1,6 @@
 use Rattle.std.proofs.Common.{◌≡◌, ◌≤◌, take}
 use Rattle.qm_compile.specs.inner.FlatCount.{flat_count}
-use Rattle.qm_compile.proofs.compile.count_flat.Given as goal
+use Rattle.qm_compile.proofs.building.count_flat.Given as goal
 
 -- the flat ones of the brushes so far are counted
 abbrev pub invariant-loop-i : goal.invariant-loop-i

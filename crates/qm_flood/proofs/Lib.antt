@@ -1,0 +1,4 @@
+pub mod Beginning
+pub mod GoingDown
+pub mod GoingOn
+pub mod TakingPart
