@@ -1,6 +1,6 @@
 //! The portals of touching pairs.
 
-ghost use Rattle.std.specs.Prelude.{◌≡◌, ◌++◌, All, IfOk, OnOk};
+ghost use Rattle.std.specs.Prelude.{◌≡◌, ◌++◌, All, count_by, IfOk, OnOk};
 ghost use Rattle.qm_space.specs.Turned.{turned};
 ghost use Rattle.qm_wind.specs.Clipped.{is_front};
 ghost use Rattle.qm_partition.specs.Counting.{leaves_of};
@@ -26,13 +26,27 @@ pub(crate) fn portals(
     requires leaves { All (HasItsLeaves tree.now) pairs.now }
     ensures { IfOk result (λ portals. portals.items ≡ portals_of tree.now pairs.now) }
 {
-    let mut portals = Vec::new(alloc);
+    let mut portals = Vec::with_capacity(alloc, 2 * count_passages(tree, pairs))?;
     for pair in pairs {
         if is_passage(tree, pair) {
             add_both_ways(&mut portals, tree, before, pair)?;
         }
     }
     Ok(portals)
+}
+
+/// How many of the pairs are passages.
+fn count_passages(tree: &Tree, pairs: &[Touching]) -> usize
+    requires { All (HasItsLeaves tree.now) pairs.now }
+    ensures { result ≡ count_by (is_passage tree.now) pairs.now }
+{
+    let mut count = 0;
+    for pair in pairs {
+        if is_passage(tree, pair) {
+            count += 1;
+        }
+    }
+    count
 }
 
 /// Whether both leaves of a pair are numbered, and of equal contents.
