@@ -1,4 +1,4 @@
-use Rattle.std.proofs.Common.{rules, ◌≡◌, ◌<◌, ◌+◌, ◌-◌, ◌^◌, ℕ, Some, ◌∙◌, None, length, refl, sym, subst, arith}
+use Rattle.std.proofs.Common.{◌≡◌, ◌<◌, ◌+◌, ◌-◌, ◌^◌, ℕ, Some, ◌∙◌, None, length, refl, sym, subst, arith}
 use Rattle.std.specs.BTreeMap.{get, Updates}
 use Rattle.qm_space.specs.Reduced.{IsReduced}
 use Rattle.qm_geom.specs.Planes.{was_there, is_gained, plane_cmp}
