@@ -1,6 +1,5 @@
-use Rattle.std.proofs.Common.{◌≡◌, ◌∙◌, sym, add-one, ℕ, take, ap, ◌+◌, ◌≤◌, List, [], ◌∷◌, ◌++◌, length, arith, length-append, slice_get, Some}
+use Rattle.std.proofs.Common.{◌≡◌, ℕ, ◌+◌, ◌≤◌, List, [], ◌∷◌, length, arith, length-append, slice_get, Some}
 use Rattle.qm_space.specs.Plane.{Plane}
-use Rattle.qm_space.specs.Book.{AreDistinct}
 use Rattle.qm_geom.specs.Planes.{Enters, was_there, is_gained}
 use Rattle.qm_lists.proofs.Places.{slice_get-push_old, slice_get-push_last}
 

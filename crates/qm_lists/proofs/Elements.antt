@@ -1,8 +1,8 @@
 -- What holds of each element of a list holds of each element of its parts.
-use Rattle.std.proofs.Common.{◌≡◌, Bool, true, ℕ, zero, suc, List, [], ◌∷◌, ◌++◌, length, map, take, drop, get_or, slice_get, Some, refl, ap, subst, ◌∙◌, arith, ◌⊎◌, ⊎_elim, inl, inr}
+use Rattle.std.proofs.Common.{◌≡◌, Bool, true, ℕ, zero, suc, List, [], ◌∷◌, ◌++◌, length, map, take, drop, slice_get, Some, refl, ap, subst, ◌∙◌, arith, ◌⊎◌, ⊎_elim, inl, inr}
 use Rattle.std.specs.List.{All, AllByRecursion, Contains, filter}
 use Rattle.std.proofs.lemmas.List.{take_at, drop_at, take-append-drop}
-use Rattle.std.proofs.lemmas.List.Elements.{All-take, All-drop, All-nil, All-cons, All-head, All-tail, Contains-get_or, Contains-append_left}
+use Rattle.std.proofs.lemmas.List.Elements.{All-take, All-drop, All-nil, All-cons, All-head, All-tail, Contains-append_left}
 use Rattle.std.proofs.lemmas.Option.{slice_get_within, get_or_from_slice_get}
 use Rattle.qm_lists.proofs.Cases.{by_cases}
 
@@ -26,10 +26,6 @@ pub All-from_map : {X Y : Type 0} (P : X → Type 0) (f : Y → X) (ys : List Y)
 All-from_map P f [] all = All-nil (λ y. P (f y))
 All-from_map P f (y ∷ ys) all =
     All-cons (λ y. P (f y)) y ys (All-head P (f y) (map f ys) all) (All-from_map P f ys (All-tail P (f y) (map f ys) all))
-
--- what holds of each that is an element
-pub All-from_each : {X : Type 0} (P : X → Type 0) (xs : List X) → ((x : X) → Contains xs x → P x) → All P xs
-All-from_each P xs each = λ k d within. each (get_or xs k d) (Contains-get_or xs k d within)
 
 -- an empty list has no element
 pub Contains-nil : {X : Type 0} (x : X) → Contains [] x → ⊥

@@ -17,14 +17,11 @@ use Rattle.qm_solids.specs.Cells.{ContainsCell, CellHasContents}
 use Rattle.qm_solids.specs.Candidates.{LiesOn, IsOnFace, IsOutdone, IsCandidate}
 use Rattle.qm_solids.specs.Least.{IsNumberedCandidate, IsLeastCandidate}
 use Rattle.qm_solids.proofs.Insides.{behind_all, inside_of_behind}
-use Rattle.qm_space.proofs.SameSides.{same_behind}
+use Rattle.qm_space.proofs.SameSides.{same_sides_back, same_behind}
 use Rattle.qm_solids.proofs.PlanesInCommon.{one_scaled, lies_on_through, lies_on_back, same_sides_lies_on}
 use Rattle.qm_solids.specs.Alike.{IsAlike}
 
 -- ---- planes of the same sides
-
-pub same_sides_back : (a h : Plane) → HasSameSides a h → HasSameSides h a
-same_sides_back a h same = record { times = same.factor; factor = same.times; some_times = same.some_factor; some_factor = same.some_times; multiple = sym same.multiple }
 
 -- a positive multiple has the same sides
 pub multiple_has_same_sides : (a h : Plane) → IsPositiveMultiple a h → HasSameSides a h
