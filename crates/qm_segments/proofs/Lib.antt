@@ -14,3 +14,4 @@ pub mod MarkedSegments
 pub mod EndRows
 pub mod OpenChains
 pub mod RoomRows
+pub mod FilledRows

@@ -1,14 +1,13 @@
 -- Open chains, over any notion of a step: their ends lie in the coarse row where each step looks ahead, and they reach all
 -- that is in sight where the steps let segments through.
-use Rattle.std.proofs.Common.{◌≡◌, ◌≢◌, ℕ, Bool, List, [], ◌∷◌, All, map, Contains, refl, sym, ap, ◌∙◌, subst, arith, ⊎_elim}
-use Rattle.std.proofs.lemmas.List.Elements.{All-nil, All-cons, All-head, All-tail, All-contains}
+use Rattle.std.proofs.Common.{◌≡◌, ◌≢◌, ℕ, List, [], ◌∷◌, All, map, Contains, refl, sym, ◌∙◌, subst, arith, ⊎_elim}
+use Rattle.std.proofs.lemmas.List.Elements.{All-head, All-tail, All-contains}
 use Rattle.qm_lists.specs.Reach.{start, onward}
 use Rattle.qm_lists.proofs.EachPair.{EachPair}
 use Rattle.qm_lists.proofs.Elements.{Contains-first, Contains-later, Contains-cons_cases}
 use Rattle.qm_lists.proofs.Pairs.{All-from_contains}
 use Rattle.qm_space.specs.Point.{Point}
-use Rattle.qm_space.specs.Plane.{Plane, IsBehind}
-use Rattle.qm_space.specs.Line.{IsBetween}
+use Rattle.qm_space.specs.Plane.{Plane}
 use Rattle.qm_convex.specs.Winding.{Winding, IsInRegion, IsConvex}
 use Rattle.qm_convex.specs.Sides.{HasSomeInFront}
 use Rattle.qm_partition.specs.Tree.{Tree}
@@ -19,11 +18,10 @@ use Rattle.qm_contacts.specs.Portals.{Portal, portals_of}
 use Rattle.qm_coarse_rows.specs.CoarseRow.{MayFollow, IsInCoarseRow}
 use Rattle.qm_coarse_rows.proofs.PortalSides.{HasSomeBehind, follows_by_points}
 use Rattle.qm_segments.specs.Segment.{Segment}
-use Rattle.qm_segments.specs.GoesThrough.{GoesThrough}
 use Rattle.qm_segments.specs.GoesBy.{GoesBy, ends, through}
 use Rattle.qm_segments.specs.Sight.{IsInSight}
 use Rattle.qm_segments.specs.OpenChain.{leaves_met, IsOpenChain, alone, longer, IsInBound, LetSegmentsThrough}
-use Rattle.qm_segments.proofs.CoarseSight.{IsSeenAlong, seen_along}
+use Rattle.qm_segments.proofs.CoarseSight.{seen_along}
 
 module _ {State : Type 0} (begins : Portal → State → Type 0) (goes : State → Portal → State → Type 0) (portals : List Portal) where
   -- ---- the bound lies in the coarse row

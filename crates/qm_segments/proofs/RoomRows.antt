@@ -1,26 +1,25 @@
 -- Worked rows: the three rooms with all that the laws ask for, so that none of them is empty: the last room is in the
 -- coarse row of the first door, and the rows of the first and the last room have each other.
-use Rattle.std.proofs.Common.{◌≡◌, ℕ, ℤ, pos, neg_ℤ, ◌+ℤ◌, ◌-ℤ◌, ◌*ℤ◌, ◌<ℤ◌, Bool, true, false, List, [], ◌∷◌, All, Contains, refl, sym, ap, ◌∙◌, subst, arith, ◌↔◌}
+use Rattle.std.proofs.Common.{◌≡◌, ℤ, pos, neg_ℤ, ◌+ℤ◌, ◌-ℤ◌, ◌*ℤ◌, ◌<ℤ◌, true, false, [], ◌∷◌, refl, sym, ◌∙◌, arith, ◌↔◌}
 use Rattle.std.proofs.lemmas.Int.{ints}
 use Rattle.std.proofs.lemmas.List.Elements.{All-from_recursion, All-contains, All-nil}
 use Rattle.qm_space.specs.Point.{Point, IsInCube}
-use Rattle.qm_space.specs.Plane.{Plane, value, IsOn, IsInFront, flipped}
+use Rattle.qm_space.specs.Plane.{value, IsOn, IsInFront, flipped}
 use Rattle.qm_space.specs.Cube.{wall_y, wall_z}
 use Rattle.qm_space.proofs.Planes.{value_flipped}
 use Rattle.qm_numbers.proofs.IntegerProducts.{linear, neg-*ℤ, +ℤ-*ℤ, -ℤ-*ℤ}
 use Rattle.qm_numbers.proofs.Signs.{product_positive}
-use Rattle.qm_convex.specs.Winding.{Winding, IsInRegion}
+use Rattle.qm_convex.specs.Winding.{IsInRegion}
 use Rattle.qm_convex.proofs.Squares.{square_convex, square_region, turn_y_z, between_y, between_z}
 use Rattle.qm_contents.specs.declared.contents.Contents.TheVariants.{Empty}
 use Rattle.qm_partition.specs.LeafOfPoint.{node_value}
-use Rattle.qm_partition.specs.Ways.{Way, ways, cell_of, IsInLeaf, HasPoints}
+use Rattle.qm_partition.specs.Ways.{ways, IsInLeaf, HasPoints}
 use Rattle.qm_contacts.specs.Meeting.{Meeting, meeting_at, meetings}
-use Rattle.qm_contacts.specs.Contact.{IsContact}
-use Rattle.qm_contacts.specs.Touching.{Touching, IsTouching, AreApart, AreTouchings, none, touching, apart}
+use Rattle.qm_contacts.specs.Touching.{IsTouching, AreApart, AreTouchings, none, touching, apart}
 use Rattle.qm_coarse_rows.specs.CoarseRow.{IsInCoarseRow}
 use Rattle.qm_coarse_rows.proofs.RoomSamples.{at, rooms, door, touchings, portals, out, rows, coarse_rows, leaf_rows, are_leaf_rows}
 use Rattle.qm_segments.specs.Clear.{LeafHas}
-use Rattle.qm_segments.specs.Ends.{HasInRow, IsOpenSegment, HoldsEnds, HoldEndsOfSegments}
+use Rattle.qm_segments.specs.Ends.{HasInRow, HoldEndsOfSegments}
 use Rattle.qm_segments.proofs.CoarseSight.{coarse_holds_sight}
 use Rattle.qm_segments.proofs.EndRows.{coarse_rows_hold_ends}
 use Rattle.qm_segments.proofs.RoomSights.{place, line, at_value, generic, clear, sight_row}

@@ -1,12 +1,11 @@
 -- The law of segments: a generic segment in leaves of one contents that is not solid goes by portals, enters no leaf twice,
 -- and has its last leaf in sight of each of these portals.
-use Rattle.std.proofs.Common.{◌≡◌, ◌≢◌, ℕ, List, [], ◌∷◌, All, map, Contains, Some, slice_get, refl, sym, ap, ◌∙◌, subst, inr}
+use Rattle.std.proofs.Common.{◌≡◌, ◌≢◌, ℕ, List, [], ◌∷◌, All, map, Contains, Some, slice_get, sym, ap, ◌∙◌, subst, inr}
 use Rattle.std.specs.List.{AllZip}
 use Rattle.std.proofs.lemmas.List.Elements.{All-nil, All-cons, All-head, All-tail}
 use Rattle.qm_lists.proofs.EachPair.{EachPair}
 use Rattle.qm_lists.proofs.Elements.{Contains-first, Contains-later}
 use Rattle.qm_space.specs.Point.{Point, point_sum}
-use Rattle.qm_space.specs.Plane.{Plane, IsOn, IsInFront}
 use Rattle.qm_space.specs.Line.{IsBetween}
 use Rattle.qm_contents.specs.declared.contents.Contents.{Contents}
 use Rattle.qm_contents.specs.declared.contents.Contents.TheVariants.{Solid}
@@ -32,8 +31,8 @@ use Rattle.qm_segments.proofs.OffPlaces.{off_between}
 use Rattle.qm_segments.proofs.EndLeaves.{not_behind_at_start, not_behind_at_end, end_in_leaf, first_leaf, begins}
 use Rattle.qm_segments.proofs.LeavesOnce.{leaves_once}
 use Rattle.qm_segments.proofs.GenericSegments.{later_part, on_generic_in_cube, later_generic, later_clear, generic_none, generic_passes, passed_contents}
-use Rattle.qm_segments.proofs.PortalsListed.{HasLeaf, number_of_leaf}
-use Rattle.qm_segments.proofs.CrossedPortals.{IsBesideLeaf, IsPortalAt, crossed_portal}
+use Rattle.qm_segments.proofs.PortalsListed.{number_of_leaf}
+use Rattle.qm_segments.proofs.CrossedPortals.{IsPortalAt, crossed_portal}
 
 -- a leaf by its number
 abbrev pub IsNumberOf : Tree → ℕ → ℕ → Type 0
