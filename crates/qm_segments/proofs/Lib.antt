@@ -7,6 +7,7 @@ pub mod LeavesOnce
 pub mod GenericSegments
 pub mod PortalsListed
 pub mod CrossedPortals
+pub mod EnteredLeaves
 pub mod SegmentLaw
 pub mod CoarseSight
 pub mod UnfilledLeaves
