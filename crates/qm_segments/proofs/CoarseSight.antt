@@ -25,7 +25,7 @@ use Rattle.qm_segments.specs.Sight.{IsInSight}
 use Rattle.qm_segments.proofs.Betweenness.{between_in_front, behind_before, farther_between}
 use Rattle.qm_segments.proofs.GenericSegments.{generic_none}
 use Rattle.qm_segments.proofs.PortalsListed.{passage_of_portal, one_portal}
-use Rattle.qm_segments.proofs.EnteredLeaves.{IsNumberOf}
+use Rattle.qm_segments.specs.LeafNumber.{IsNumberOf}
 use Rattle.qm_segments.proofs.SegmentLaw.{led, numbers_differ}
 use Rattle.qm_segments.proofs.LeavesOnce.{leaves_once}
 use Rattle.qm_lists.proofs.EachPair.{EachPair}

@@ -17,6 +17,7 @@ use Rattle.qm_contacts.specs.Touching.{Touching, AreTouchings}
 use Rattle.qm_contacts.specs.NumberedLeaves.{numbered_leaves}
 use Rattle.qm_contacts.specs.Portals.{Portal, number_of, portals_of}
 use Rattle.qm_contacts.proofs.Numbers.{number_at_leaf}
+use Rattle.qm_segments.specs.LeafNumber.{IsNumberOf}
 use Rattle.qm_segments.specs.Segment.{Segment}
 use Rattle.qm_segments.specs.Generic.{IsGeneric}
 use Rattle.qm_segments.specs.Clear.{IsClear, LeafHas}
@@ -34,10 +35,6 @@ use Rattle.qm_segments.proofs.PortalsListed.{number_of_leaf}
 use Rattle.qm_segments.proofs.CrossedPortals.{IsPortalAt, crossed_portal}
 
 
--- a leaf by its number
-abbrev pub IsNumberOf : Tree → ℕ → ℕ → Type 0
-IsNumberOf tree n k = slice_get (numbered_leaves tree) n ≡ Some k
-
 -- from x on the segment is within the leaf k up to m, and from there on it passes the leaf n and others
 pub record EntersNext (tree : Tree) (s : Segment) (x m : Point) (k n : ℕ) (rest : List ℕ) : Type 0 where
   pub at : IsBetween m x s.to
@@ -46,6 +43,10 @@ pub record EntersNext (tree : Tree) (s : Segment) (x m : Point) (k n : ℕ) (res
   pub more : Passes tree m s.to (n ∷ rest)
   pub none : NoneHasBoth tree (node_planes tree.shape) x s.to
   pub near : (y : Point) → IsBetween y x s.to → IsBetween y s.from s.to
+
+-- two leaves and more, taken apart
+pub enters_next : (tree : Tree) (s : Segment) (x : Point) (k n : ℕ) (rest : List ℕ) → NoneHasBoth tree (node_planes tree.shape) x s.to → ((y : Point) → IsBetween y x s.to → IsBetween y s.from s.to) → Passes tree x s.to (k ∷ n ∷ rest) → (m : Point) × EntersNext tree s x m k n rest
+enters_next tree s x k n rest none near (onward {m = m} at inside apart more) = (m, record { at = at; inside = inside; apart = apart; more = more; none = none; near = near })
 
 module _ (tree : Tree) (have : HasPoints tree) (touchings : List Touching) (are : AreTouchings tree.planes (meetings tree) touchings) (s : Segment) (generic : IsGeneric tree s) (contents : Contents) (not_solid : contents ≢ Solid) (clear : IsClear (LeafHas tree) tree s contents) (x m : Point) (k n : ℕ) (rest : List ℕ) (enters : EntersNext tree s x m k n rest) where
   -- there is a portal there

@@ -14,5 +14,6 @@ pub mod UnfilledLeaves
 pub mod MarkedSegments
 pub mod EndRows
 pub mod OpenChains
+pub mod AheadLaws
 pub mod RoomRows
 pub mod FilledRows

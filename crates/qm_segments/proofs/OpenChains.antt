@@ -7,6 +7,7 @@ use Rattle.qm_lists.proofs.EachPair.{EachPair}
 use Rattle.qm_lists.proofs.Elements.{Contains-first, Contains-later, Contains-cons_cases}
 use Rattle.qm_lists.proofs.Pairs.{All-from_contains}
 use Rattle.qm_space.specs.Point.{Point}
+use Rattle.qm_space.specs.Line.{IsBetween}
 use Rattle.qm_space.specs.Plane.{Plane}
 use Rattle.qm_convex.specs.Winding.{Winding, IsInRegion, IsConvex}
 use Rattle.qm_convex.specs.Sides.{HasSomeInFront}
@@ -18,9 +19,11 @@ use Rattle.qm_contacts.specs.Portals.{Portal, portals_of}
 use Rattle.qm_coarse_rows.specs.CoarseRow.{MayFollow, IsInCoarseRow}
 use Rattle.qm_coarse_rows.proofs.PortalSides.{HasSomeBehind, follows_by_points}
 use Rattle.qm_segments.specs.Segment.{Segment}
+use Rattle.qm_segments.specs.GoesThrough.{GoesThrough}
 use Rattle.qm_segments.specs.GoesBy.{GoesBy, ends, through}
 use Rattle.qm_segments.specs.Sight.{IsInSight}
-use Rattle.qm_segments.specs.OpenChain.{leaves_met, IsOpenChain, alone, longer, IsInBound, LetSegmentsThrough}
+use Rattle.qm_segments.specs.OpenChain.{leaves_met, IsOpenChain, alone, longer, IsInBound}
+use Rattle.qm_segments.specs.Steps.{LetSegmentsThrough, LeadOnOrBlock}
 use Rattle.qm_segments.proofs.CoarseSight.{seen_along}
 
 module _ {State : Type 0} (begins : Portal → State → Type 0) (goes : State → Portal → State → Type 0) (portals : List Portal) where
@@ -63,7 +66,11 @@ module _ {State : Type 0} (begins : Portal → State → Type 0) (goes : State �
 
 -- ---- the bound has all that is in sight
 
-module _ {State : Type 0} (begins : Portal → State → Type 0) (goes : State → Portal → State → Type 0) (tree : Tree) (touchings : List Touching) (meets : Segment → Point → State → Type 0) (lets : LetSegmentsThrough begins goes (portals_of tree touchings) meets) where
+module _ {State : Type 0} (begins : Portal → State → Type 0) (goes : State → Portal → State → Type 0) (blocks : State → Portal → Type 0) (tree : Tree) (touchings : List Touching) (meets : Segment → Point → State → Type 0) (lets : LetSegmentsThrough begins goes blocks (portals_of tree touchings) meets) (lead : LeadOnOrBlock begins goes blocks (portals_of tree touchings)) where
+  -- a step along a segment leads on
+  next_state : (s : Segment) (q : Portal) (state : State) (x y : Point) → meets s x state → Contains (portals_of tree touchings) q → GoesThrough s q y → IsBetween y x s.to → (next : State) × goes state q next
+  next_state s q state x y met listed at between = ⊎_elim (λ leads. leads) (λ blocked. absurd (lets.not_blocked s q state x y met listed at between blocked)) (lead.go_on state q listed)
+
   -- a chain that a segment goes along stays open
   along : (s : Segment) (p last : Portal) (before : List Portal) (state : State) (x : Point) (m n : ℕ) (chain : List Portal) →
       IsOpenChain begins goes (portals_of tree touchings) p (last ∷ before) state → meets s x state → last.to ≡ m →
@@ -71,11 +78,11 @@ module _ {State : Type 0} (begins : Portal → State → Type 0) (goes : State �
       GoesBy (portals_of tree touchings) s x m chain n → IsInBound begins goes (portals_of tree touchings) p n
   along s p last before state x m n chain is_open met at_leaf new once ends = record { last = last; before = before; state = state; open_chain = is_open; ends = at_leaf }
   along s p last before state x m n chain is_open met at_leaf new once (through {y = y} {q = q} {rest = rest} listed from between at more) =
-      let step = lets.gone_on s q state x y met listed at between in
+      let step = next_state s q state x y met listed at between in
       let entered = map (λ r. r.to) rest in
       along s p q (last ∷ before) step.0 y q.to n rest
       (longer is_open listed (from ∙ sym at_leaf) (All-head (λ k. Contains (leaves_met p (last ∷ before)) k → ⊥) q.to entered new) step.1)
-      step.2 refl
+      (lets.gone_on s q state step.0 x y met listed at between step.1) refl
       (All-from_contains (λ k. Contains (leaves_met p (q ∷ last ∷ before)) k → ⊥) entered (λ k there. not_met k
       (All-contains (λ k. Contains (leaves_met p (last ∷ before)) k → ⊥) entered k (All-tail (λ k. Contains (leaves_met p (last ∷ before)) k → ⊥) q.to entered new) there)
       (All-contains (λ k. q.to ≢ k) entered k once.0 there)))
@@ -93,9 +100,9 @@ module _ {State : Type 0} (begins : Portal → State → Type 0) (goes : State �
   pub bound_has_sight : (have : HasPoints tree) (are : AreTouchings tree.planes (meetings tree) touchings) (p : Portal) (n : ℕ) → Contains (portals_of tree touchings) p → IsInSight tree p n → IsInBound begins goes (portals_of tree touchings) p n
   bound_has_sight have are p n there sight =
       let seen = seen_along tree touchings are have p there n sight in
-      let begun = lets.begun seen.segment p seen.at there seen.goes_through in
+      let begun = lead.begin_all p there in
       let entered = map (λ q. q.to) seen.chain in
-      along seen.segment p p [] begun.0 seen.at p.to n seen.chain (alone begun.1) begun.2 refl
+      along seen.segment p p [] begun.0 seen.at p.to n seen.chain (alone begun.1) (lets.begun seen.segment p begun.0 seen.at there seen.goes_through begun.1) refl
       (All-from_contains (λ k. Contains (leaves_met p (p ∷ [])) k → ⊥) entered (λ k in_chain met. ⊎_elim
       (λ first. All-contains (λ m. p.from ≢ m) (p.to ∷ entered) k seen.once.0 (Contains-later p.to k entered in_chain) first)
       (λ later. ⊎_elim

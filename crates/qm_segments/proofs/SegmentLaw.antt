@@ -32,7 +32,8 @@ use Rattle.qm_segments.proofs.EndLeaves.{not_behind_at_start, not_behind_at_end,
 use Rattle.qm_segments.proofs.LeavesOnce.{leaves_once}
 use Rattle.qm_segments.proofs.GenericSegments.{later_part, on_generic_in_cube, later_generic, later_clear, generic_none, generic_passes, passed_contents}
 use Rattle.qm_segments.proofs.PortalsListed.{number_of_leaf}
-use Rattle.qm_segments.proofs.EnteredLeaves.{IsNumberOf, EntersNext, portal_entered, goes_through_entered, next_in_sight}
+use Rattle.qm_segments.specs.LeafNumber.{IsNumberOf}
+use Rattle.qm_segments.proofs.EnteredLeaves.{EntersNext, portal_entered, goes_through_entered, next_in_sight}
 
 -- numbers of different leaves are different
 module _ (tree : Tree) where
