@@ -15,5 +15,6 @@ pub mod MarkedSegments
 pub mod EndRows
 pub mod OpenChains
 pub mod AheadLaws
+pub mod CutPaths
 pub mod RoomRows
 pub mod FilledRows
