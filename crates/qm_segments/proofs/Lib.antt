@@ -16,5 +16,6 @@ pub mod EndRows
 pub mod OpenChains
 pub mod AheadLaws
 pub mod CutPaths
+pub mod ViaLaws
 pub mod RoomRows
 pub mod FilledRows
