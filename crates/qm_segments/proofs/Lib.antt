@@ -17,5 +17,6 @@ pub mod OpenChains
 pub mod AheadLaws
 pub mod CutPaths
 pub mod ViaLaws
+pub mod CrossedWays
 pub mod RoomRows
 pub mod FilledRows

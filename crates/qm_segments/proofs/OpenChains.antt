@@ -97,17 +97,22 @@ module _ {State : Type 0} (begins : Portal → State → Type 0) (goes : State �
           (Contains-cons_cases q.to k (map (λ r. r.to) (last ∷ before)) later))
           (Contains-cons_cases p.from k (q.to ∷ map (λ r. r.to) (last ∷ before)) there)
 
-  pub bound_has_sight : (have : HasPoints tree) (are : AreTouchings tree.planes (meetings tree) touchings) (p : Portal) (n : ℕ) → Contains (portals_of tree touchings) p → IsInSight tree p n → IsInBound begins goes (portals_of tree touchings) p n
-  bound_has_sight have are p n there sight =
-      let seen = seen_along tree touchings are have p there n sight in
+  -- the portals by which a segment goes, where it enters no leaf twice, are an open chain
+  pub goes_by_in_bound : (s : Segment) (p : Portal) (x : Point) (n : ℕ) (chain : List Portal) → Contains (portals_of tree touchings) p → GoesThrough s p x → GoesBy (portals_of tree touchings) s x p.to chain n → EachPair (λ a b. a ≢ b) (p.from ∷ p.to ∷ map (λ q. q.to) chain) → IsInBound begins goes (portals_of tree touchings) p n
+  goes_by_in_bound s p x n chain there at goes_by once =
       let begun = lead.begin_all p there in
-      let entered = map (λ q. q.to) seen.chain in
-      along seen.segment p p [] begun.0 seen.at p.to n seen.chain (alone begun.1) (lets.begun seen.segment p begun.0 seen.at there seen.goes_through begun.1) refl
+      let entered = map (λ q. q.to) chain in
+      along s p p [] begun.0 x p.to n chain (alone begun.1) (lets.begun s p begun.0 x there at begun.1) refl
       (All-from_contains (λ k. Contains (leaves_met p (p ∷ [])) k → ⊥) entered (λ k in_chain met. ⊎_elim
-      (λ first. All-contains (λ m. p.from ≢ m) (p.to ∷ entered) k seen.once.0 (Contains-later p.to k entered in_chain) first)
+      (λ first. All-contains (λ m. p.from ≢ m) (p.to ∷ entered) k once.0 (Contains-later p.to k entered in_chain) first)
       (λ later. ⊎_elim
-      (λ same. All-contains (λ m. p.to ≢ m) entered k seen.once.1.0 in_chain same)
+      (λ same. All-contains (λ m. p.to ≢ m) entered k once.1.0 in_chain same)
       (λ none. let range = none.1 in absurd (omega arith))
       (Contains-cons_cases p.to k [] later))
       (Contains-cons_cases p.from k (p.to ∷ []) met)))
-      seen.once.1.1 seen.goes
+      once.1.1 goes_by
+
+  pub bound_has_sight : (have : HasPoints tree) (are : AreTouchings tree.planes (meetings tree) touchings) (p : Portal) (n : ℕ) → Contains (portals_of tree touchings) p → IsInSight tree p n → IsInBound begins goes (portals_of tree touchings) p n
+  bound_has_sight have are p n there sight =
+      let seen = seen_along tree touchings are have p there n sight in
+      goes_by_in_bound seen.segment p seen.at n seen.chain there seen.goes_through seen.goes seen.once
