@@ -1,6 +1,6 @@
 -- What is ahead of a chain: from the start on, and after each step, until the leaf is reached; and a route to it, over
 -- portals that the segment goes through.
-use Rattle.std.proofs.Common.{◌≡◌, ◌≢◌, ℕ, List, [], ◌∷◌, ◌++◌, All, Contains, Some, slice_get, refl, sym, ap, ◌∙◌, subst, arith, ◌⊎◌, inl, inr, ⊎_elim}
+use Rattle.std.proofs.Common.{◌≡◌, ◌≢◌, ℕ, List, [], ◌∷◌, ◌++◌, Contains, Some, refl, sym, ap, ◌∙◌, subst, arith, ◌⊎◌, inl, inr, ⊎_elim}
 use Rattle.std.proofs.lemmas.List.{append_assoc}
 use Rattle.std.proofs.lemmas.List.Elements.{All-contains}
 use Rattle.qm_lists.proofs.Elements.{Contains-first, Contains-later, Contains-cons_cases}
@@ -8,12 +8,10 @@ use Rattle.qm_space.specs.Point.{Point}
 use Rattle.qm_space.specs.Line.{IsBetween}
 use Rattle.qm_partition.specs.Tree.{Tree}
 use Rattle.qm_partition.specs.Counting.{node_planes}
-use Rattle.qm_partition.specs.LeafOfPoint.{leaf_at}
 use Rattle.qm_partition.specs.Ways.{HasPoints}
 use Rattle.qm_contacts.specs.Meeting.{meetings}
 use Rattle.qm_contacts.specs.Touching.{Touching, AreTouchings}
-use Rattle.qm_contacts.specs.NumberedLeaves.{numbered_leaves}
-use Rattle.qm_contacts.specs.Portals.{Portal, portals_of, number_of}
+use Rattle.qm_contacts.specs.Portals.{Portal, portals_of}
 use Rattle.qm_contacts.proofs.Numbers.{number_at_leaf}
 use Rattle.qm_segments.specs.Segment.{Segment}
 use Rattle.qm_segments.specs.LeafNumber.{IsNumberOf}
@@ -26,12 +24,10 @@ use Rattle.qm_segments.specs.Ahead.{IsAhead}
 use Rattle.qm_segments.specs.Route.{Route, arrived, over}
 use Rattle.qm_segments.proofs.Betweenness.{farther_between}
 use Rattle.qm_segments.proofs.LeavesPassed.{NoneHasBoth, none_from}
-use Rattle.qm_segments.proofs.OffPlaces.{none_from_off}
 use Rattle.qm_segments.proofs.EndLeaves.{end_in_leaf}
 use Rattle.qm_segments.proofs.LeavesOnce.{leaves_once}
 use Rattle.qm_segments.proofs.GenericSegments.{generic_none}
 use Rattle.qm_segments.proofs.PortalsListed.{one_portal}
-use Rattle.qm_segments.proofs.CrossedPortals.{IsPortalAt}
 use Rattle.qm_segments.proofs.EnteredLeaves.{EntersNext, enters_next, portal_entered, goes_through_entered}
 
 -- a leaf has one number, and a number one leaf

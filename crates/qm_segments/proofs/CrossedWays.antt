@@ -1,7 +1,5 @@
 -- A segment that goes through portals of a way goes through them in their order: so it goes by them.
-use Rattle.std.proofs.Common.{◌≡◌, ◌≢◌, ℕ, ℤ, pos, neg_ℤ, ◌+ℤ◌, ◌-ℤ◌, ◌*ℤ◌, ◌<ℤ◌, Bool, true, false, List, [], ◌∷◌, ◌++◌, All, map, Contains, Some, slice_get, refl, sym, ap, ◌∙◌, subst, arith, ◌⊎◌, inl, inr, ⊎_elim}
-use Rattle.std.proofs.lemmas.Int.{ints}
-use Rattle.std.proofs.lemmas.List.{map-append}
+use Rattle.std.proofs.Common.{◌≡◌, ◌≢◌, ℕ, ℤ, pos, ◌+ℤ◌, ◌-ℤ◌, ◌*ℤ◌, ◌<ℤ◌, true, false, List, [], ◌∷◌, ◌++◌, map, Contains, Some, slice_get, sym, ap, ◌∙◌, subst, arith, ⊎_elim}
 use Rattle.std.proofs.lemmas.List.Elements.{All-contains, Contains-append_right, Contains-append_cases}
 use Rattle.qm_lists.proofs.EachPair.{EachPair}
 use Rattle.qm_lists.proofs.Elements.{Contains-first, Contains-cons_cases, Contains-map}
@@ -9,7 +7,6 @@ use Rattle.qm_space.specs.Point.{Point, point_sum, point_times}
 use Rattle.qm_space.specs.Plane.{Plane, value, IsOn, IsInFront, IsBehind, flipped}
 use Rattle.qm_space.specs.Line.{IsBetween}
 use Rattle.qm_space.specs.Cell.{IsInCell}
-use Rattle.qm_space.specs.Book.{plane_at}
 use Rattle.std.proofs.Math.IntN.{*ℤ_comm}
 use Rattle.qm_numbers.proofs.IntegerProducts.{linear, *ℤ_zero}
 use Rattle.qm_numbers.proofs.Signs.{product_positive, positive_beside, positive_times_negative}
@@ -37,7 +34,7 @@ use Rattle.qm_segments.specs.GoesThrough.{GoesThrough}
 use Rattle.qm_segments.specs.GoesBy.{GoesBy, ends, through}
 use Rattle.qm_segments.specs.CrossesWay.{CrossesWay, crossed, crosses}
 use Rattle.qm_segments.proofs.Betweenness.{between_value}
-use Rattle.qm_segments.proofs.PortalsListed.{IsOfPassage, passage_of_portal, to_back, to_front}
+use Rattle.qm_segments.proofs.PortalsListed.{passage_of_portal, to_back, to_front}
 use Rattle.qm_segments.specs.OpenChain.{IsInBound}
 use Rattle.qm_segments.specs.Steps.{LetSegmentsThrough, LeadOnOrBlock}
 use Rattle.qm_segments.proofs.CoarseSight.{portal_on}

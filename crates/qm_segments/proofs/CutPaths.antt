@@ -1,5 +1,5 @@
 -- The leaves that one passes, cut in two at a place in one of them, and read from the other end.
-use Rattle.std.proofs.Common.{◌≡◌, ◌≢◌, ℕ, List, [], ◌∷◌, ◌++◌, All, Contains, reverse, refl, sym, ap, ◌∙◌, subst, arith, ⊎_elim}
+use Rattle.std.proofs.Common.{◌≡◌, ◌≢◌, ℕ, List, [], ◌∷◌, ◌++◌, Contains, reverse, refl, sym, ap, ◌∙◌, subst, arith, ⊎_elim}
 use Rattle.std.proofs.lemmas.List.Elements.{All-contains, Contains-append_cases}
 use Rattle.qm_lists.proofs.Elements.{Contains-first, Contains-later, Contains-cons_cases}
 use Rattle.qm_lists.proofs.Reversed.{reverse-cons}
@@ -7,8 +7,7 @@ use Rattle.qm_space.specs.Point.{Point}
 use Rattle.qm_space.specs.Line.{IsBetween}
 use Rattle.qm_partition.specs.Tree.{Tree}
 use Rattle.qm_partition.specs.Counting.{node_planes}
-use Rattle.qm_partition.specs.LeafOfPoint.{leaf_at, IsOffNodePlanes}
-use Rattle.qm_segments.specs.Segment.{Segment, turned_round}
+use Rattle.qm_partition.specs.LeafOfPoint.{IsOffNodePlanes}
 use Rattle.qm_segments.specs.Passes.{IsWithinLeaf, Passes, within, onward}
 use Rattle.qm_segments.proofs.Betweenness.{between_turned, nearer_between, later_between, farther_between, earlier_between}
 use Rattle.qm_segments.proofs.LeavesPassed.{NoneHasBoth, none_up_to, none_from, passes_on}

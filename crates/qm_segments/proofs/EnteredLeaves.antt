@@ -1,8 +1,5 @@
 -- Where a segment enters the next leaf it goes through a portal, of which its last leaf is in sight.
-use Rattle.std.proofs.Common.{◌≡◌, ◌≢◌, ℕ, List, [], ◌∷◌, All, map, Contains, Some, slice_get, sym, ap, ◌∙◌, subst, inr}
-use Rattle.std.specs.List.{AllZip}
-use Rattle.std.proofs.lemmas.List.Elements.{All-nil, All-cons, All-head, All-tail}
-use Rattle.qm_lists.proofs.EachPair.{EachPair}
+use Rattle.std.proofs.Common.{◌≢◌, ℕ, List, ◌∷◌, Contains, inr}
 use Rattle.qm_lists.proofs.Elements.{Contains-first, Contains-later}
 use Rattle.qm_space.specs.Point.{Point, point_sum}
 use Rattle.qm_space.specs.Line.{IsBetween}
@@ -14,26 +11,20 @@ use Rattle.qm_partition.specs.LeafOfPoint.{leaf_at}
 use Rattle.qm_partition.specs.Ways.{HasPoints}
 use Rattle.qm_contacts.specs.Meeting.{meetings}
 use Rattle.qm_contacts.specs.Touching.{Touching, AreTouchings}
-use Rattle.qm_contacts.specs.NumberedLeaves.{numbered_leaves}
-use Rattle.qm_contacts.specs.Portals.{Portal, number_of, portals_of}
-use Rattle.qm_contacts.proofs.Numbers.{number_at_leaf}
+use Rattle.qm_contacts.specs.Portals.{Portal}
 use Rattle.qm_segments.specs.LeafNumber.{IsNumberOf}
 use Rattle.qm_segments.specs.Segment.{Segment}
 use Rattle.qm_segments.specs.Generic.{IsGeneric}
 use Rattle.qm_segments.specs.Clear.{IsClear, LeafHas}
-use Rattle.qm_segments.specs.Passes.{IsWithinLeaf, Passes, within, onward}
+use Rattle.qm_segments.specs.Passes.{IsWithinLeaf, Passes, onward}
 use Rattle.qm_segments.specs.GoesThrough.{GoesThrough}
-use Rattle.qm_segments.specs.GoesBy.{GoesBy, ends, through}
 use Rattle.qm_segments.specs.Sight.{IsInSight}
 use Rattle.qm_segments.proofs.Betweenness.{sum_between, nearer_between, later_between, farther_between, behind_before, front_after}
-use Rattle.qm_segments.proofs.LeavesPassed.{NoneHasBoth, none_up_to, none_from}
+use Rattle.qm_segments.proofs.LeavesPassed.{NoneHasBoth, none_up_to}
 use Rattle.qm_segments.proofs.OffPlaces.{off_between}
-use Rattle.qm_segments.proofs.EndLeaves.{not_behind_at_start, not_behind_at_end, end_in_leaf, first_leaf, begins}
-use Rattle.qm_segments.proofs.LeavesOnce.{leaves_once}
-use Rattle.qm_segments.proofs.GenericSegments.{later_part, on_generic_in_cube, later_generic, later_clear, generic_none, generic_passes, passed_contents}
-use Rattle.qm_segments.proofs.PortalsListed.{number_of_leaf}
+use Rattle.qm_segments.proofs.EndLeaves.{not_behind_at_start, not_behind_at_end, begins}
+use Rattle.qm_segments.proofs.GenericSegments.{later_part, on_generic_in_cube, later_generic, later_clear, passed_contents}
 use Rattle.qm_segments.proofs.CrossedPortals.{IsPortalAt, crossed_portal}
-
 
 -- from x on the segment is within the leaf k up to m, and from there on it passes the leaf n and others
 pub record EntersNext (tree : Tree) (s : Segment) (x m : Point) (k n : ℕ) (rest : List ℕ) : Type 0 where

@@ -1,11 +1,11 @@
 -- The law of segments: a generic segment in leaves of one contents that is not solid goes by portals, enters no leaf twice,
 -- and has its last leaf in sight of each of these portals.
-use Rattle.std.proofs.Common.{◌≡◌, ◌≢◌, ℕ, List, [], ◌∷◌, All, map, Contains, Some, slice_get, sym, ap, ◌∙◌, subst, inr}
+use Rattle.std.proofs.Common.{◌≡◌, ◌≢◌, ℕ, List, [], ◌∷◌, All, map, Some, slice_get, sym, ap, ◌∙◌, subst, inr}
 use Rattle.std.specs.List.{AllZip}
 use Rattle.std.proofs.lemmas.List.Elements.{All-nil, All-cons, All-head, All-tail}
 use Rattle.qm_lists.proofs.EachPair.{EachPair}
-use Rattle.qm_lists.proofs.Elements.{Contains-first, Contains-later}
-use Rattle.qm_space.specs.Point.{Point, point_sum}
+use Rattle.qm_lists.proofs.Elements.{Contains-first}
+use Rattle.qm_space.specs.Point.{Point}
 use Rattle.qm_space.specs.Line.{IsBetween}
 use Rattle.qm_contents.specs.declared.contents.Contents.{Contents}
 use Rattle.qm_contents.specs.declared.contents.Contents.TheVariants.{Solid}
@@ -21,16 +21,14 @@ use Rattle.qm_contacts.proofs.Numbers.{number_at_leaf}
 use Rattle.qm_segments.specs.Segment.{Segment}
 use Rattle.qm_segments.specs.Generic.{IsGeneric}
 use Rattle.qm_segments.specs.Clear.{IsClear, LeafHas}
-use Rattle.qm_segments.specs.Passes.{IsWithinLeaf, Passes, within, onward}
-use Rattle.qm_segments.specs.GoesThrough.{GoesThrough}
+use Rattle.qm_segments.specs.Passes.{Passes, within, onward}
 use Rattle.qm_segments.specs.GoesBy.{GoesBy, ends, through}
 use Rattle.qm_segments.specs.Sight.{IsInSight}
-use Rattle.qm_segments.proofs.Betweenness.{sum_between, nearer_between, later_between, farther_between, behind_before, front_after}
-use Rattle.qm_segments.proofs.LeavesPassed.{NoneHasBoth, none_up_to, none_from}
-use Rattle.qm_segments.proofs.OffPlaces.{off_between}
-use Rattle.qm_segments.proofs.EndLeaves.{not_behind_at_start, not_behind_at_end, end_in_leaf, first_leaf, begins}
+use Rattle.qm_segments.proofs.Betweenness.{farther_between}
+use Rattle.qm_segments.proofs.LeavesPassed.{NoneHasBoth, none_from}
+use Rattle.qm_segments.proofs.EndLeaves.{end_in_leaf, first_leaf}
 use Rattle.qm_segments.proofs.LeavesOnce.{leaves_once}
-use Rattle.qm_segments.proofs.GenericSegments.{later_part, on_generic_in_cube, later_generic, later_clear, generic_none, generic_passes, passed_contents}
+use Rattle.qm_segments.proofs.GenericSegments.{generic_none, generic_passes, passed_contents}
 use Rattle.qm_segments.proofs.PortalsListed.{number_of_leaf}
 use Rattle.qm_segments.specs.LeafNumber.{IsNumberOf}
 use Rattle.qm_segments.proofs.EnteredLeaves.{EntersNext, portal_entered, goes_through_entered, next_in_sight}

@@ -1,16 +1,16 @@
 -- What is seen via a portal: it is in sight of that portal; the leaf that this one leaves is in sight of the first; from the
 -- other end the first leaves are in sight; and the step from the first portal straight to it does not block.
-use Rattle.std.proofs.Common.{◌≡◌, ◌≢◌, ℕ, List, [], ◌∷◌, ◌++◌, All, Contains, Some, reverse, refl, sym, ap, ◌∙◌, subst, arith, ◌⊎◌, inl, inr, ⊎_elim}
-use Rattle.std.proofs.lemmas.List.{append_assoc, reverse-append}
+use Rattle.std.proofs.Common.{◌≡◌, ◌≢◌, ℕ, List, [], ◌∷◌, ◌++◌, Contains, Some, reverse, sym, ap, ◌∙◌, subst, arith, ⊎_elim}
+use Rattle.std.proofs.lemmas.List.{append_assoc}
 use Rattle.std.proofs.lemmas.List.Elements.{All-contains, Contains-append_right}
-use Rattle.qm_lists.proofs.Elements.{Contains-first, Contains-later, Contains-cons_cases}
+use Rattle.qm_lists.proofs.Elements.{Contains-later, Contains-cons_cases}
 use Rattle.qm_lists.proofs.Reversed.{reverse-push}
 use Rattle.qm_space.specs.Point.{Point}
 use Rattle.qm_space.specs.Line.{IsBetween}
 use Rattle.qm_contents.specs.declared.contents.Contents.{Contents}
 use Rattle.qm_partition.specs.Tree.{Tree}
 use Rattle.qm_partition.specs.Counting.{node_planes}
-use Rattle.qm_partition.specs.LeafOfPoint.{leaf_at, IsOffNodePlanes}
+use Rattle.qm_partition.specs.LeafOfPoint.{IsOffNodePlanes}
 use Rattle.qm_partition.specs.Ways.{HasPoints}
 use Rattle.qm_contacts.specs.Meeting.{meetings}
 use Rattle.qm_contacts.specs.Touching.{Touching, AreTouchings}
@@ -32,7 +32,7 @@ use Rattle.qm_segments.proofs.LeavesOnce.{leaves_once}
 use Rattle.qm_segments.proofs.GenericSegments.{later_part, later_generic, later_clear, turned_generic, turned_clear, generic_none}
 use Rattle.qm_segments.proofs.PortalsListed.{one_portal}
 use Rattle.qm_segments.proofs.EnteredLeaves.{EntersNext, enters_next}
-use Rattle.qm_segments.proofs.AheadLaws.{same_number, same_place, IsEntered, entered_through}
+use Rattle.qm_segments.proofs.AheadLaws.{same_number, same_place, entered_through}
 use Rattle.qm_segments.proofs.CutPaths.{IsCut, cut, IsReadBack, read_back}
 
 -- ---- the earlier part of a segment
@@ -116,9 +116,6 @@ module _ (tree : Tree) where
     -- ---- from the other end
 
     -- at a place in the leaf that q enters
-    up_to_left : List ℕ
-    up_to_left = (via.sight.left ∷ via.before) ++ via.left ∷ []
-
     at_entered : IsCut tree via.sight.segment.from via.sight.segment.to ((via.sight.left ∷ via.before) ++ via.left ∷ []) via.entered via.after
     at_entered = cut tree via.sight.segment.from via.sight.segment.to ((via.sight.left ∷ via.before) ++ via.left ∷ []) via.entered via.after via.sight.left (via.sight.entered ∷ via.sight.rest) none via.sight.passes
         (all_are ∙ sym (append_assoc (via.sight.left ∷ via.before) (via.left ∷ []) (via.entered ∷ via.after)))
@@ -126,6 +123,34 @@ module _ (tree : Tree) where
     -- the last two come first
     turned_list : (before : List ℕ) → reverse ((before ++ via.left ∷ []) ++ via.entered ∷ []) ≡ via.entered ∷ via.left ∷ reverse before
     turned_list before = reverse-push (before ++ via.left ∷ []) via.entered ∙ ap (λ (all : List ℕ). via.entered ∷ all) (reverse-push before via.left)
+
+    -- the part up to there
+    abbrev up_to_entered : Segment
+    up_to_entered = earlier_part s at_entered.place
+
+    up_to_generic : IsGeneric tree up_to_entered
+    up_to_generic = earlier_generic s at_entered.place via.sight.generic at_entered.between at_entered.off
+
+    up_to_clear : IsClear (LeafHas tree) tree up_to_entered via.sight.contents
+    up_to_clear = earlier_clear (LeafHas tree) s at_entered.place via.sight.contents at_entered.between via.sight.clear
+
+    -- and of that the part from a place in the leaf that p enters on
+    abbrev alike : (tail : List ℕ) × (via.before ++ via.left ∷ [] ≡ via.sight.entered ∷ tail)
+    alike = begins_alike via.sight.entered via.sight.rest via.before via.left (via.entered ∷ via.after) via.leaves_are
+
+    abbrev second_tail : List ℕ
+    second_tail = alike.0 ++ via.entered ∷ []
+
+    second_leaves : (via.before ++ via.left ∷ []) ++ via.entered ∷ [] ≡ via.sight.entered ∷ second_tail
+    second_leaves = ap (λ (all : List ℕ). all ++ via.entered ∷ []) alike.1
+
+    from_second : IsCut tree via.sight.segment.from at_entered.place (via.sight.left ∷ []) via.sight.entered second_tail
+    from_second = cut tree s.from at_entered.place (via.sight.left ∷ []) via.sight.entered second_tail at_entered.first at_entered.others
+        (none_up_to tree (node_planes tree.shape) s.from at_entered.place s.to at_entered.between none) at_entered.earlier
+        (at_entered.earlier_is ∙ ap (λ (all : List ℕ). via.sight.left ∷ all) second_leaves)
+
+    second_back : IsReadBack tree from_second.place at_entered.place (via.sight.entered ∷ second_tail)
+    second_back = read_back tree from_second.place at_entered.place via.sight.entered second_tail from_second.later
 
     module _ (back : Portal) (from : back.from ≡ q.to) (to : back.to ≡ q.from) where
       -- the leaf that p leaves is in sight of the portal back
@@ -149,31 +174,20 @@ module _ (tree : Tree) where
 
       -- and so is the one that p enters
       pub second_in_sight_back : IsInSight tree back p.to
-      second_in_sight_back =
-          let alike = begins_alike via.sight.entered via.sight.rest via.before via.left (via.entered ∷ via.after) via.leaves_are in
-          let tail = alike.0 ++ via.entered ∷ [] in
-          let from_second : (via.before ++ via.left ∷ []) ++ via.entered ∷ [] ≡ via.sight.entered ∷ tail = ap (λ (all : List ℕ). all ++ via.entered ∷ []) alike.1 in
-          let part = cut tree s.from at_entered.place (via.sight.left ∷ []) via.sight.entered tail at_entered.first at_entered.others
-              (none_up_to tree (node_planes tree.shape) s.from at_entered.place s.to at_entered.between none) at_entered.earlier
-              (at_entered.earlier_is ∙ ap (λ (all : List ℕ). via.sight.left ∷ all) from_second) in
-          let way_back = read_back tree part.place at_entered.place via.sight.entered tail part.later in
-          let whole = earlier_part s at_entered.place in
-          let whole_generic = earlier_generic s at_entered.place via.sight.generic at_entered.between at_entered.off in
-          let whole_clear = earlier_clear (LeafHas tree) s at_entered.place via.sight.contents at_entered.between via.sight.clear in
-          record {
-            segment = turned_round (later_part whole part.place);
-            generic = turned_generic tree (later_part whole part.place) (later_generic tree whole part.place whole_generic part.between part.off);
-            contents = via.sight.contents;
-            not_solid = via.sight.not_solid;
-            clear = turned_clear tree (LeafHas tree) (later_part whole part.place) via.sight.contents (later_clear tree (LeafHas tree) whole part.place via.sight.contents part.between whole_clear);
-            left = via.entered;
-            entered = via.left;
-            rest = reverse via.before;
-            passes = subst (λ (all : List ℕ). Passes tree at_entered.place part.place all) (way_back.leaves_are ∙ ap reverse (sym from_second) ∙ turned_list via.before) way_back.passes;
-            from_is = subst (λ (i : ℕ). IsNumberOf tree i via.entered) (sym from) via.entered_is;
-            to_is = subst (λ (i : ℕ). IsNumberOf tree i via.left) (sym to) via.left_is;
-            last_is = via.sight.to_is ∙ ap Some (sym (first_leaf tree part.place at_entered.place via.sight.entered tail part.off part.later));
-          }
+      second_in_sight_back = record {
+        segment = turned_round (later_part up_to_entered from_second.place);
+        generic = turned_generic tree (later_part up_to_entered from_second.place) (later_generic tree up_to_entered from_second.place up_to_generic from_second.between from_second.off);
+        contents = via.sight.contents;
+        not_solid = via.sight.not_solid;
+        clear = turned_clear tree (LeafHas tree) (later_part up_to_entered from_second.place) via.sight.contents (later_clear tree (LeafHas tree) up_to_entered from_second.place via.sight.contents from_second.between up_to_clear);
+        left = via.entered;
+        entered = via.left;
+        rest = reverse via.before;
+        passes = subst (λ (all : List ℕ). Passes tree at_entered.place from_second.place all) {x = second_back.first ∷ second_back.others} (second_back.leaves_are ∙ ap reverse (sym second_leaves) ∙ turned_list via.before) second_back.passes;
+        from_is = subst (λ (i : ℕ). IsNumberOf tree i via.entered) (sym from) via.entered_is;
+        to_is = subst (λ (i : ℕ). IsNumberOf tree i via.left) (sym to) via.left_is;
+        last_is = via.sight.to_is ∙ ap Some (sym (first_leaf tree from_second.place at_entered.place via.sight.entered second_tail from_second.off from_second.later));
+      }
 
 -- ---- a step from the first portal straight to the other
 

@@ -1,4 +1,4 @@
-use Rattle.std.specs.Prelude.{ℕ, List, Contains, ◌⊎◌}
+use Rattle.std.specs.Prelude.{List, Contains, ◌⊎◌}
 use Rattle.qm_space.specs.Point.{Point}
 use Rattle.qm_space.specs.Line.{IsBetween}
 use Rattle.qm_contacts.specs.Portals.{Portal}
