@@ -58,7 +58,7 @@ module _ (tree : Tree) (touchings : List Touching) (are : AreTouchings tree.plan
       let on_p = portal_on p x p_there p_at.inside in
       let on_q = portal_on q y q_there q_at.inside in
       (follows_by_points p q (portal_convex p p_there) (portal_convex q q_there)).1
-      ((y, q_at.inside, between_in_front p.into y x s.to b (omega (arith, linear, on_p)) p_at.ahead), (x, p_at.inside, behind_before q.into y x s.to b on_q q_at.ahead))
+      ((y, q_at.inside, between_in_front p.into y x s.to b (omega (arith, linear, on_p)) p_at.in_front), (x, p_at.inside, behind_before q.into y x s.to b on_q q_at.in_front))
 
   -- all leaves that it enters after the portal p are in p's coarse row
   pub coarse_along : (s : Segment) (p : Portal) (x : Point) → Contains (portals_of tree touchings) p → GoesThrough s p x → (y : Point) (n e : ℕ) (chain : List Portal) → ((z : Point) → IsBetween z y s.to → IsBetween z x s.to) → IsInCoarseRow (portals_of tree touchings) p n → GoesBy (portals_of tree touchings) s y n chain e → IsInCoarseRow (portals_of tree touchings) p e

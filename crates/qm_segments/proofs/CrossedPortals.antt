@@ -126,7 +126,7 @@ module _ (tree : Tree) where
       pub to_is : slice_get (numbered_leaves tree) portal.to ≡ Some n
       pub convex : IsConvex portal.winding
       pub inside : IsInRegion portal.winding x
-      pub ahead : (way : Way) (y : Point) → slice_get (ways tree.shape) n ≡ Some way → IsInCell (cell_of tree.planes way) y → IsInFront portal.into y
+      pub in_front : (way : Way) (y : Point) → slice_get (ways tree.shape) n ≡ Some way → IsInCell (cell_of tree.planes way) y → IsInFront portal.into y
       pub on : IsOn portal.into x
 
     -- both ways at a contact
@@ -153,7 +153,7 @@ module _ (tree : Tree) where
               to_is = back_number;
               convex = is.convex;
               inside = inside;
-              ahead = λ way y at in_cell. subst (λ (h : Plane). IsInFront (flipped h) y) (sym is.plane) (leaf_behind tree contact.0 way y contact.1 (ap (slice_get (ways tree.shape)) contact.3 ∙ at) in_cell);
+              in_front = λ way y at in_cell. subst (λ (h : Plane). IsInFront (flipped h) y) (sym is.plane) (leaf_behind tree contact.0 way y contact.1 (ap (slice_get (ways tree.shape)) contact.3 ∙ at) in_cell);
               on = let z = inside.on in omega (arith, linear);
             },
             record {
@@ -163,7 +163,7 @@ module _ (tree : Tree) where
               to_is = front_number;
               convex = is.convex;
               inside = inside;
-              ahead = λ way y at in_cell. subst (λ (h : Plane). IsInFront h y) (sym is.plane) (leaf_in_front tree contact.0 way y contact.1 (ap (slice_get (ways tree.shape)) contact.2 ∙ at) in_cell);
+              in_front = λ way y at in_cell. subst (λ (h : Plane). IsInFront h y) (sym is.plane) (leaf_in_front tree contact.0 way y contact.1 (ap (slice_get (ways tree.shape)) contact.2 ∙ at) in_cell);
               on = inside.on;
             },
           )

@@ -193,8 +193,8 @@ module _ (tree : Tree) (touchings : List Touching) (are : AreTouchings tree.plan
         (λ more. ⊎_elim
         (λ same_step.
         let turned : p.into ≡ flipped q.into = sym one.entered_plane ∙ ap (turned_to tree.planes) same_step ∙ other.left_plane in
-        let down = (flipped_in_front q.into s.to).0 (subst (λ (h : Plane). IsInFront h s.to) turned p_at.ahead) in
-        let up = q_at.ahead in
+        let down = (flipped_in_front q.into s.to).0 (subst (λ (h : Plane). IsInFront h s.to) turned p_at.in_front) in
+        let up = q_at.in_front in
         absurd (omega (arith, linear)))
         (λ rest. (flipped_in_front q.into x).0 (beside one.rest_entered one.entered_in rest))
         (Contains-cons_cases one.step_entered other.step_left one.rest_entered more))
@@ -202,7 +202,7 @@ module _ (tree : Tree) (touchings : List Touching) (are : AreTouchings tree.plan
 
     -- a segment that goes through both goes through the later one later
     pub goes_through_later : IsBetween y x s.to
-    goes_through_later = comes_later q.into s.from s.to x y p_at.between q_at.between behind_next (portal_on tree touchings are q y q_listed q_at.inside) q_at.ahead
+    goes_through_later = comes_later q.into s.from s.to x y p_at.between q_at.between behind_next (portal_on tree touchings are q y q_listed q_at.inside) q_at.in_front
 
   -- so it goes by the portals of a way
   pub goes_by_crossed : (s : Segment) (p : Portal) (x : Point) (e : ℕ) (chain : List Portal) → Contains (portals_of tree touchings) p → GoesThrough s p x → CrossesWay (portals_of tree touchings) s p.to chain e → GoesBy (portals_of tree touchings) s x p.to chain e

@@ -62,10 +62,10 @@ module _ (tree : Tree) (have : HasPoints tree) (touchings : List Touching) (are 
       let first = begins tree m s.to n rest enters.more in
       let y = point_sum m first.to in
       let on_way = sum_between m first.to in
-      let front = p.ahead first.inside.way y first.inside.way_is (first.inside.inside y on_way) in
-      let ahead = front_after p.portal.into y m s.to (first.between y on_way) p.on front in
+      let front = p.in_front first.inside.way y first.inside.way_is (first.inside.inside y on_way) in
+      let front_end = front_after p.portal.into y m s.to (first.between y on_way) p.on front in
       let between = enters.near m enters.at in
-      record { between = between; inside = p.inside; behind = behind_before p.portal.into m s.from s.to between p.on ahead; ahead = ahead }
+      record { between = between; inside = p.inside; behind = behind_before p.portal.into m s.from s.to between p.on front_end; in_front = front_end }
 
 -- from a place in the leaf before it on, the segment shows its last leaf from a portal between the two leaves
 module _ (tree : Tree) (s : Segment) (generic : IsGeneric tree s) (contents : Contents) (not_solid : contents ≢ Solid) (clear : IsClear (LeafHas tree) tree s contents) (x m : Point) (k n : ℕ) (rest : List ℕ) (enters : EntersNext tree s x m k n rest) where

@@ -1,4 +1,4 @@
--- Open chains, over any notion of a step: their ends lie in the coarse row where each step looks ahead, and they reach all
+-- Open chains, over any notion of a step: their ends lie in the coarse row where each step looks forward, and they reach all
 -- that is in sight where the steps let segments through.
 use Rattle.std.proofs.Common.{◌≡◌, ◌≢◌, ℕ, List, [], ◌∷◌, All, map, Contains, refl, sym, ◌∙◌, subst, arith, ⊎_elim}
 use Rattle.std.proofs.lemmas.List.Elements.{All-head, All-tail, All-contains}
@@ -46,7 +46,7 @@ module _ {State : Type 0} (begins : Portal → State → Type 0) (goes : State �
     pub begun : (p : Portal) (state : State) → begins p state → (into state ≡ p.into) × ((x : Point) → IsInRegion (source state) x → IsInRegion p.winding x)
     pub kept : (state next : State) (q : Portal) → goes state q next → (into next ≡ into state) × ((x : Point) → IsInRegion (source next) x → IsInRegion (source state) x)
     pub behind : (state next : State) (q : Portal) → goes state q next → HasSomeBehind (source state) q.into
-    pub ahead : (state next : State) (q : Portal) → goes state q next → HasSomeInFront q.winding (into state)
+    pub in_front : (state next : State) (q : Portal) → goes state q next → HasSomeInFront q.winding (into state)
 
   module _ (source : State → Winding) (into : State → Plane) (narrows : NarrowsSource source into) (p : Portal) where
     within_first : (chain : List Portal) (state : State) → IsOpenChain begins goes portals p chain state → (into state ≡ p.into) × ((x : Point) → IsInRegion (source state) x → IsInRegion p.winding x)
@@ -60,9 +60,9 @@ module _ {State : Type 0} (begins : Portal → State → Type 0) (goes : State �
     pub narrowed_bound_in_coarse : IsConvex p.winding → ((q : Portal) → Contains portals q → IsConvex q.winding) → (n : ℕ) → IsInBound begins goes portals p n → IsInCoarseRow portals p n
     narrowed_bound_in_coarse p_convex convex = bound_in_coarse p (λ q chain state next is_open listed step.
         let within = within_first chain state is_open in
-        let ahead = narrows.ahead state next q step in
+        let before = narrows.in_front state next q step in
         let behind = narrows.behind state next q step in
-        (follows_by_points p q p_convex (convex q listed)).1 (subst (HasSomeInFront q.winding) within.0 ahead, (behind.0, within.1 behind.0 behind.1, behind.2)))
+        (follows_by_points p q p_convex (convex q listed)).1 (subst (HasSomeInFront q.winding) within.0 before, (behind.0, within.1 behind.0 behind.1, behind.2)))
 
 -- ---- the bound has all that is in sight
 
