@@ -24,6 +24,6 @@ some_behind v g c = (
 -- behind its own
 pub follows_by_points : (p q : Portal) → IsConvex p.winding → IsConvex q.winding → MayFollow p q ↔ (HasSomeInFront q.winding p.into × HasSomeBehind p.winding q.into)
 follows_by_points p q p_convex q_convex = (
-  (λ follows. ((some_in_front q.winding p.into q_convex).1 follows.ahead, (some_behind p.winding q.into p_convex).1 follows.behind)),
-  (λ points. record { ahead = (some_in_front q.winding p.into q_convex).0 points.0; behind = (some_behind p.winding q.into p_convex).0 points.1 }),
+  (λ follows. ((some_in_front q.winding p.into q_convex).1 follows.in_front, (some_behind p.winding q.into p_convex).1 follows.behind)),
+  (λ points. record { in_front = (some_in_front q.winding p.into q_convex).0 points.0; behind = (some_behind p.winding q.into p_convex).0 points.1 }),
 )

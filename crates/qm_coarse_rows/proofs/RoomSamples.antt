@@ -68,19 +68,19 @@ portals = out ∷ in_again ∷ on ∷ back ∷ []
 
 on_follows : MayFollow out on
 unfolding corner_at next_place meet determinant value
-on_follows = record { ahead = (0, omega arith, omega (arith, ints)); behind = (0, omega arith, omega (arith, ints)) }
+on_follows = record { in_front = (0, omega arith, omega (arith, ints)); behind = (0, omega arith, omega (arith, ints)) }
 
 again_follows : MayFollow back in_again
 unfolding corner_at next_place meet determinant value
-again_follows = record { ahead = (0, omega arith, omega (arith, ints)); behind = (0, omega arith, omega (arith, ints)) }
+again_follows = record { in_front = (0, omega arith, omega (arith, ints)); behind = (0, omega arith, omega (arith, ints)) }
 
 -- no corner of a door is in front of its own plane, to whichever side that is turned
 own_plane : (x : ℤ) (side : Bool) → HasCornerInFront (door x) (turned side (at x)) → ⊥
 own_plane x side front =
     let corner = corner_at (door x) front.0 in
     let on_plane = (turned_on side (at x) corner).1 (corner_on_plane (door x) front.0) in
-    let ahead = front.2 in
-    absurd (omega (arith, ints, ahead, on_plane))
+    let before = front.2 in
+    absurd (omega (arith, ints, before, on_plane))
 
 -- ---- the rows of the four portals
 
@@ -114,7 +114,7 @@ not_there is = absurd cc
 out_row : IsCoarseRow portals 3 out (false ∷ true ∷ true ∷ [])
 out_row = row_of out (false ∷ true ∷ true ∷ []) refl refl
     (each_portal (λ q. IsIn (false ∷ true ∷ true ∷ []) q.from → MayFollow out q → IsIn (false ∷ true ∷ true ∷ []) q.to)
-    (λ is f. not_there is) (λ is f. absurd (own_plane (pos 64) false f.ahead)) (λ is f. refl) (λ is f. refl))
+    (λ is f. not_there is) (λ is f. absurd (own_plane (pos 64) false f.in_front)) (λ is f. refl) (λ is f. refl))
     (λ is. not_there is)
     (λ is. start refl)
     (λ is. onward (start refl) (record { portal = on; listed = (2, omega arith, refl); from = refl; to = refl; follows = on_follows }))
@@ -123,21 +123,21 @@ out_row = row_of out (false ∷ true ∷ true ∷ []) refl refl
 in_row : IsCoarseRow portals 3 in_again (true ∷ false ∷ false ∷ [])
 in_row = row_of in_again (true ∷ false ∷ false ∷ []) refl refl
     (each_portal (λ q. IsIn (true ∷ false ∷ false ∷ []) q.from → MayFollow in_again q → IsIn (true ∷ false ∷ false ∷ []) q.to)
-    (λ is f. absurd (own_plane (pos 64) true f.ahead)) (λ is f. not_there is) (λ is f. not_there is) (λ is f. not_there is))
+    (λ is f. absurd (own_plane (pos 64) true f.in_front)) (λ is f. not_there is) (λ is f. not_there is) (λ is f. not_there is))
     (λ is. start refl) (λ is. not_there is) (λ is. not_there is)
 
 -- into leaf 2: that leaf alone
 on_row : IsCoarseRow portals 3 on (false ∷ false ∷ true ∷ [])
 on_row = row_of on (false ∷ false ∷ true ∷ []) refl refl
     (each_portal (λ q. IsIn (false ∷ false ∷ true ∷ []) q.from → MayFollow on q → IsIn (false ∷ false ∷ true ∷ []) q.to)
-    (λ is f. not_there is) (λ is f. not_there is) (λ is f. not_there is) (λ is f. absurd (own_plane (pos 0) false f.ahead)))
+    (λ is f. not_there is) (λ is f. not_there is) (λ is f. not_there is) (λ is f. absurd (own_plane (pos 0) false f.in_front)))
     (λ is. not_there is) (λ is. not_there is) (λ is. start refl)
 
 -- out of leaf 2: the leaves 1 and 0
 back_row : IsCoarseRow portals 3 back (true ∷ true ∷ false ∷ [])
 back_row = row_of back (true ∷ true ∷ false ∷ []) refl refl
     (each_portal (λ q. IsIn (true ∷ true ∷ false ∷ []) q.from → MayFollow back q → IsIn (true ∷ true ∷ false ∷ []) q.to)
-    (λ is f. refl) (λ is f. refl) (λ is f. absurd (own_plane (pos 0) true f.ahead)) (λ is f. not_there is))
+    (λ is f. refl) (λ is f. refl) (λ is f. absurd (own_plane (pos 0) true f.in_front)) (λ is f. not_there is))
     (λ is. onward (start refl) (record { portal = in_again; listed = (1, omega arith, refl); from = refl; to = refl; follows = again_follows }))
     (λ is. start refl)
     (λ is. not_there is)

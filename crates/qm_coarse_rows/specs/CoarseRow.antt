@@ -10,7 +10,7 @@ use Rattle.qm_contacts.specs.Portals.{Portal}
 -- a line that goes through the portal p may go through the portal q after it: q has a corner strictly in front of p's
 -- turned plane, and p has a corner strictly behind q's turned plane
 pub record MayFollow (p q : Portal) : Type 0 where
-  pub ahead : HasCornerInFront q.winding p.into
+  pub in_front : HasCornerInFront q.winding p.into
   pub behind : HasCornerBehind p.winding q.into
 
 -- one of the portals that may follow p leads from the leaf a to the leaf b

@@ -1,19 +1,18 @@
 -- Coarse rows hold all that is in sight.
-use Rattle.std.proofs.Common.{◌≡◌, ◌≢◌, ℕ, Bool, true, false, List, [], ◌∷◌, map, Contains, Some, refl, sym, ap, ◌∙◌, subst, ⊎_elim}
+use Rattle.std.proofs.Common.{◌≡◌, ◌≢◌, ℕ, true, false, List, ◌∷◌, map, Contains, refl, sym, ◌∙◌, subst, ⊎_elim}
 use Rattle.std.specs.List.{AllZip}
 use Rattle.qm_lists.specs.Reach.{start, onward}
 use Rattle.qm_space.specs.Point.{Point}
-use Rattle.qm_space.specs.Plane.{Plane, value, IsOn, IsInFront}
+use Rattle.qm_space.specs.Plane.{IsOn}
 use Rattle.qm_space.specs.Line.{IsBetween}
 use Rattle.qm_space.proofs.TurnedPlanes.{turned_on}
 use Rattle.qm_numbers.proofs.IntegerProducts.{linear}
 use Rattle.std.proofs.Common.{arith}
-use Rattle.qm_contents.specs.declared.contents.Contents.{Contents}
-use Rattle.qm_convex.specs.Winding.{Winding, IsInRegion, IsConvex}
+use Rattle.qm_convex.specs.Winding.{IsInRegion, IsConvex}
 use Rattle.qm_partition.specs.Tree.{Tree}
 use Rattle.qm_partition.specs.Ways.{HasPoints}
 use Rattle.qm_contacts.specs.Meeting.{meetings}
-use Rattle.qm_contacts.specs.Touching.{Touching, IsTouching, AreTouchings}
+use Rattle.qm_contacts.specs.Touching.{Touching, AreTouchings}
 use Rattle.qm_contacts.specs.Portals.{Portal, number_of, portals_of}
 use Rattle.qm_contacts.proofs.Touchings.{meeting_of_touching}
 use Rattle.qm_contacts.proofs.Numbers.{number_at_leaf}
@@ -26,7 +25,8 @@ use Rattle.qm_segments.specs.Sight.{IsInSight}
 use Rattle.qm_segments.proofs.Betweenness.{between_in_front, behind_before, farther_between}
 use Rattle.qm_segments.proofs.GenericSegments.{generic_none}
 use Rattle.qm_segments.proofs.PortalsListed.{passage_of_portal, one_portal}
-use Rattle.qm_segments.proofs.SegmentLaw.{IsNumberOf, IsLed, led, numbers_differ}
+use Rattle.qm_segments.specs.LeafNumber.{IsNumberOf}
+use Rattle.qm_segments.proofs.SegmentLaw.{led, numbers_differ}
 use Rattle.qm_segments.proofs.LeavesOnce.{leaves_once}
 use Rattle.qm_lists.proofs.EachPair.{EachPair}
 
@@ -58,7 +58,7 @@ module _ (tree : Tree) (touchings : List Touching) (are : AreTouchings tree.plan
       let on_p = portal_on p x p_there p_at.inside in
       let on_q = portal_on q y q_there q_at.inside in
       (follows_by_points p q (portal_convex p p_there) (portal_convex q q_there)).1
-      ((y, q_at.inside, between_in_front p.into y x s.to b (omega (arith, linear, on_p)) p_at.ahead), (x, p_at.inside, behind_before q.into y x s.to b on_q q_at.ahead))
+      ((y, q_at.inside, between_in_front p.into y x s.to b (omega (arith, linear, on_p)) p_at.in_front), (x, p_at.inside, behind_before q.into y x s.to b on_q q_at.in_front))
 
   -- all leaves that it enters after the portal p are in p's coarse row
   pub coarse_along : (s : Segment) (p : Portal) (x : Point) → Contains (portals_of tree touchings) p → GoesThrough s p x → (y : Point) (n e : ℕ) (chain : List Portal) → ((z : Point) → IsBetween z y s.to → IsBetween z x s.to) → IsInCoarseRow (portals_of tree touchings) p n → GoesBy (portals_of tree touchings) s y n chain e → IsInCoarseRow (portals_of tree touchings) p e

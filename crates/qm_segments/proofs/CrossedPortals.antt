@@ -1,24 +1,22 @@
 -- From leaf to leaf one comes through a contact of the two, and so, where they have the same contents, through the portal
 -- between them.
-use Rattle.std.proofs.Common.{◌≡◌, ◌≢◌, ℕ, ◌<◌, pos, Bool, true, false, List, [], ◌∷◌, ◌++◌, All, map, Contains, length, Some, slice_get, refl, sym, ap, ◌∙◌, subst, arith, ◌⊎◌, inl, inr, ⊎_elim}
+use Rattle.std.proofs.Common.{◌≡◌, ◌≢◌, ℕ, ◌<◌, true, false, List, ◌∷◌, ◌++◌, All, Contains, Some, slice_get, refl, sym, ap, ◌∙◌, subst, arith, ◌⊎◌, inl, inr, ⊎_elim}
 use Rattle.std.proofs.lemmas.Bool.{cases_lt}
 use Rattle.std.proofs.lemmas.List.{map-append}
 use Rattle.std.proofs.lemmas.Option.{slice_get_within}
 use Rattle.std.proofs.lemmas.List.Elements.{All-head, All-tail, Contains-append_left, Contains-append_right, Contains-append_cases}
 use Rattle.qm_lists.proofs.Elements.{Contains-first, Contains-later, All-first_part, All-last_part}
 use Rattle.qm_space.specs.Point.{Point, IsInCube}
-use Rattle.qm_space.specs.Plane.{Plane, value, IsOn, IsInFront, IsNotBehind, flipped}
-use Rattle.qm_space.specs.Turned.{turned}
+use Rattle.qm_space.specs.Plane.{Plane, IsOn, IsInFront, IsNotBehind, flipped}
 use Rattle.qm_space.specs.Cell.{IsInCell}
 use Rattle.qm_space.specs.Book.{plane_at}
 use Rattle.qm_numbers.proofs.IntegerProducts.{linear}
 use Rattle.qm_space.proofs.Planes.{value_flipped}
 use Rattle.qm_contents.specs.declared.contents.Contents.{Contents}
 use Rattle.qm_contents.specs.declared.contents.Contents.TheVariants.{Solid}
-use Rattle.qm_convex.specs.Winding.{Winding, IsInRegion, IsConvex}
+use Rattle.qm_convex.specs.Winding.{IsInRegion, IsConvex}
 use Rattle.qm_partition.specs.declared.step.Step.{Step}
 use Rattle.qm_partition.specs.Tree.{Tree}
-use Rattle.qm_partition.specs.Counting.{leaf_count}
 use Rattle.qm_partition.specs.Ways.{Way, ways, turned_to, cell_of, HasPoints}
 use Rattle.qm_partition.proofs.Cells.{length-ways}
 use Rattle.qm_contacts.specs.Meeting.{Meeting, meetings}
@@ -102,14 +100,17 @@ module _ (tree : Tree) where
                 above = of_front.0;
                 in_front = of_front.2;
                 behind = of_back.2;
-                only = λ step there on_step. one (plane_at tree.planes step.plane) (plane_at tree.planes m.plane)
-                    (step.plane, ⊎_elim
-                    (λ above. way_names_nodes tree.shape f beside_front.way step beside_front.way_is (in_way m.above m.front.way beside_front.way front_step x front_is step (inl above)))
-                    (λ more. ⊎_elim
-                    (λ in_front. way_names_nodes tree.shape f beside_front.way step beside_front.way_is (in_way m.above m.front.way beside_front.way front_step x front_is step (inr (Contains-later front_step step m.front.way in_front))))
-                    (λ behind. way_names_nodes tree.shape b beside_back.way step beside_back.way_is (in_way m.above m.back.way beside_back.way back_step x back_is step (inr (Contains-later back_step step m.back.way behind))))
-                    (Contains-append_cases m.front.way m.back.way step more))
-                    (Contains-append_cases m.above (m.front.way ++ m.back.way) step there), refl)
+                only = λ step there on_step. one (plane_at tree.planes step.plane) (plane_at tree.planes m.plane) (
+                  step.plane,
+                  ⊎_elim
+                      (λ above. way_names_nodes tree.shape f beside_front.way step beside_front.way_is (in_way m.above m.front.way beside_front.way front_step x front_is step (inl above)))
+                      (λ more. ⊎_elim
+                      (λ in_front. way_names_nodes tree.shape f beside_front.way step beside_front.way_is (in_way m.above m.front.way beside_front.way front_step x front_is step (inr (Contains-later front_step step m.front.way in_front))))
+                      (λ behind. way_names_nodes tree.shape b beside_back.way step beside_back.way_is (in_way m.above m.back.way beside_back.way back_step x back_is step (inr (Contains-later back_step step m.back.way behind))))
+                      (Contains-append_cases m.front.way m.back.way step more))
+                      (Contains-append_cases m.above (m.front.way ++ m.back.way) step there),
+                  refl,
+                )
                     (m.plane, named, refl) on_step on;
               });
             }
@@ -125,7 +126,7 @@ module _ (tree : Tree) where
       pub to_is : slice_get (numbered_leaves tree) portal.to ≡ Some n
       pub convex : IsConvex portal.winding
       pub inside : IsInRegion portal.winding x
-      pub ahead : (way : Way) (y : Point) → slice_get (ways tree.shape) n ≡ Some way → IsInCell (cell_of tree.planes way) y → IsInFront portal.into y
+      pub in_front : (way : Way) (y : Point) → slice_get (ways tree.shape) n ≡ Some way → IsInCell (cell_of tree.planes way) y → IsInFront portal.into y
       pub on : IsOn portal.into x
 
     -- both ways at a contact
@@ -144,8 +145,7 @@ module _ (tree : Tree) where
           let front_number = number_of_leaf tree contents t.front not_solid (subst (HasLeaf tree contents) (sym front) has_front) ∙ ap Some front in
           let back_number = number_of_leaf tree contents t.back not_solid (subst (HasLeaf tree contents) (sym back) has_back) ∙ ap Some back in
           let inside = (is.points x).1 contact.4 in
-          let e = value_flipped t.winding.plane x in
-          (
+          let e = value_flipped t.winding.plane x in (
             record {
               portal = to_back tree t;
               listed = to_back_listed tree touchings t listed passage;
@@ -153,7 +153,7 @@ module _ (tree : Tree) where
               to_is = back_number;
               convex = is.convex;
               inside = inside;
-              ahead = λ way y at in_cell. subst (λ (h : Plane). IsInFront (flipped h) y) (sym is.plane) (leaf_behind tree contact.0 way y contact.1 (ap (slice_get (ways tree.shape)) contact.3 ∙ at) in_cell);
+              in_front = λ way y at in_cell. subst (λ (h : Plane). IsInFront (flipped h) y) (sym is.plane) (leaf_behind tree contact.0 way y contact.1 (ap (slice_get (ways tree.shape)) contact.3 ∙ at) in_cell);
               on = let z = inside.on in omega (arith, linear);
             },
             record {
@@ -163,7 +163,7 @@ module _ (tree : Tree) where
               to_is = front_number;
               convex = is.convex;
               inside = inside;
-              ahead = λ way y at in_cell. subst (λ (h : Plane). IsInFront h y) (sym is.plane) (leaf_in_front tree contact.0 way y contact.1 (ap (slice_get (ways tree.shape)) contact.2 ∙ at) in_cell);
+              in_front = λ way y at in_cell. subst (λ (h : Plane). IsInFront h y) (sym is.plane) (leaf_in_front tree contact.0 way y contact.1 (ap (slice_get (ways tree.shape)) contact.2 ∙ at) in_cell);
               on = inside.on;
             },
           )

@@ -1,10 +1,10 @@
 -- The first and the last leaf that one passes are those of the two ends.
-use Rattle.std.proofs.Common.{◌≡◌, ◌≢◌, ℕ, zero, suc, ◌+◌, pos, Bool, true, false, List, [], ◌∷◌, ◌++◌, All, map, get_or, Contains, slice_get, Some, refl, sym, ap, ◌∙◌, subst, arith, ⊎_elim}
+use Rattle.std.proofs.Common.{◌≡◌, ℕ, zero, suc, Bool, true, false, List, [], ◌∷◌, ◌++◌, All, map, get_or, Contains, slice_get, Some, sym, ap, subst, arith, ⊎_elim}
 use Rattle.std.proofs.lemmas.List.Elements.{All-contains, Contains-get_or, Contains-append_left, Contains-append_right}
-use Rattle.qm_lists.proofs.Elements.{Contains-at, Contains-first, Contains-later, Contains-cons_cases, Contains-map_from}
+use Rattle.qm_lists.proofs.Elements.{Contains-first, Contains-later, Contains-cons_cases, Contains-map_from}
 use Rattle.qm_lists.proofs.Places.{slice_get-append_cases, slice_get-map_from}
 use Rattle.qm_space.specs.Point.{Point}
-use Rattle.qm_space.specs.Plane.{Plane, value, IsOn, IsInFront, IsNotBehind}
+use Rattle.qm_space.specs.Plane.{Plane, value, IsOn, IsNotBehind}
 use Rattle.qm_space.specs.Line.{IsBetween}
 use Rattle.qm_space.specs.Cell.{IsInCell}
 use Rattle.qm_space.specs.Book.{plane_at}

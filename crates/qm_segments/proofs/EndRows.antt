@@ -1,8 +1,8 @@
 -- Rows of leaves over sound rows of portals hold both ends of each clear generic segment; coarse rows are sound.
-use Rattle.std.proofs.Common.{◌≡◌, ◌≢◌, ℕ, zero, suc, Bool, true, false, List, [], ◌∷◌, length, get_or, Contains, Some, slice_get, refl, sym, ap, ◌∙◌, subst, arith, inl, inr}
-use Rattle.std.specs.Prelude.{All, slice_index_or}
+use Rattle.std.proofs.Common.{◌≡◌, ◌≢◌, ℕ, zero, suc, Bool, List, [], ◌∷◌, length, get_or, Contains, Some, slice_get, refl, ap, ◌∙◌, subst, arith, inl, inr}
+use Rattle.std.specs.Prelude.{All}
 use Rattle.std.specs.List.{AllZip}
-use Rattle.std.proofs.lemmas.Option.{slice_get_within, slice_get-get_or, get_or_from_slice_get}
+use Rattle.std.proofs.lemmas.Option.{slice_get_within, slice_get-get_or}
 use Rattle.std.proofs.lemmas.List.Elements.{All-head}
 use Rattle.qm_lists.specs.WorkList.{IsIn}
 use Rattle.qm_lists.proofs.Elements.{Contains-first, Contains-later}
@@ -19,15 +19,15 @@ use Rattle.qm_contacts.specs.NumberedLeaves.{numbered_leaves}
 use Rattle.qm_contacts.specs.Portals.{Portal, portals_of}
 use Rattle.qm_contacts.specs.PortalChain.{IsPortalBetween}
 use Rattle.qm_coarse_rows.specs.CoarseRow.{IsCoarseRow, AreCoarseRows}
-use Rattle.qm_coarse_rows.specs.LeafRow.{IsInLeafRow, IsLeafRow, AreLeafRows}
+use Rattle.qm_coarse_rows.specs.LeafRow.{IsInLeafRow, AreLeafRows}
 use Rattle.qm_segments.specs.Segment.{Segment, turned_round}
 use Rattle.qm_segments.specs.Generic.{IsGeneric}
 use Rattle.qm_segments.specs.Clear.{IsClear, LeafHas}
 use Rattle.qm_segments.specs.GoesBy.{GoesBy, ends, through}
 use Rattle.qm_segments.specs.Sight.{IsInSight, IsSoundRow, AreSoundRows}
-use Rattle.qm_segments.specs.Ends.{HasInRow, IsOpenSegment, HoldsEnds, HoldEndsOfSegments}
+use Rattle.qm_segments.specs.Ends.{HasInRow, HoldsEnds, HoldEndsOfSegments}
 use Rattle.qm_segments.proofs.GenericSegments.{turned_generic, turned_clear}
-use Rattle.qm_segments.proofs.SegmentLaw.{IsNumberOf, segment_law}
+use Rattle.qm_segments.proofs.SegmentLaw.{segment_law}
 use Rattle.qm_segments.proofs.CoarseSight.{coarse_holds_sight}
 use Rattle.qm_segments.proofs.MarkedSegments.{marked_points, marked_touchings, marked_clear}
 

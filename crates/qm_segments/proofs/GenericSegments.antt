@@ -1,18 +1,16 @@
 -- Generic and clear segments: they pass leaves, and what is turned round or is a later part of one is one too.
-use Rattle.std.proofs.Common.{◌≡◌, ℕ, pos, List, ◌∷◌, Contains, Some, slice_get, refl, sym, ap, ◌∙◌, subst, ◌⊎◌, inl, inr, ⊎_elim}
-use Rattle.std.proofs.lemmas.Option.{get_or_from_slice_get}
+use Rattle.std.proofs.Common.{◌≡◌, ℕ, List, ◌∷◌, Contains, Some, slice_get, sym, ap, ◌∙◌, subst, inl, inr, ⊎_elim}
 use Rattle.qm_space.specs.Point.{Point, IsInCube}
-use Rattle.qm_space.specs.Plane.{Plane, IsOn}
 use Rattle.qm_space.specs.Line.{IsBetween}
 use Rattle.qm_contents.specs.declared.contents.Contents.{Contents}
 use Rattle.qm_partition.specs.declared.node.Leaf.{Leaf}
 use Rattle.qm_partition.specs.Tree.{Tree}
 use Rattle.qm_partition.specs.Counting.{node_planes, leaves_of}
-use Rattle.qm_partition.specs.LeafOfPoint.{leaf_at, leaf_record_at, IsOffNodePlanes}
+use Rattle.qm_partition.specs.LeafOfPoint.{leaf_record_at, IsOffNodePlanes}
 use Rattle.qm_partition.proofs.Cells.{number_of_cell}
 use Rattle.qm_partition.proofs.LeafNumbers.{leaf_of_number}
 use Rattle.qm_segments.specs.Segment.{Segment, turned_round, IsOnSegment}
-use Rattle.qm_segments.specs.Generic.{IsNodePlane, IsGeneric}
+use Rattle.qm_segments.specs.Generic.{IsGeneric}
 use Rattle.qm_segments.specs.Clear.{IsClear, LeafHas}
 use Rattle.qm_segments.specs.Passes.{Passes}
 use Rattle.qm_segments.proofs.Betweenness.{between_turned, farther_between, between_in_cube}

@@ -1,5 +1,5 @@
 -- Cells are convex, so that no leaf is passed twice.
-use Rattle.std.proofs.Common.{◌≡◌, ◌≢◌, ℕ, List, [], ◌∷◌, Contains, Some, slice_get, sym, ◌∙◌, subst, arith, ⊎_elim}
+use Rattle.std.proofs.Common.{◌≡◌, ◌≢◌, ℕ, List, ◌∷◌, Contains, Some, sym, ◌∙◌, subst, arith, ⊎_elim}
 use Rattle.std.proofs.lemmas.List.Elements.{All-nil}
 use Rattle.qm_lists.proofs.EachPair.{EachPair}
 use Rattle.qm_lists.proofs.Pairs.{All-from_contains}
@@ -8,7 +8,7 @@ use Rattle.qm_space.specs.Point.{Point, point_sum}
 use Rattle.qm_space.specs.Line.{IsBetween}
 use Rattle.qm_space.specs.Cell.{IsInCell}
 use Rattle.qm_partition.specs.Tree.{Tree}
-use Rattle.qm_partition.specs.Ways.{Way, ways, cell_of}
+use Rattle.qm_partition.specs.Ways.{Way, cell_of}
 use Rattle.qm_partition.proofs.Cells.{cells_are_apart}
 use Rattle.qm_segments.specs.Passes.{IsWithinLeaf, Passes, within, onward}
 use Rattle.qm_segments.proofs.Betweenness.{sum_between, nearer_between, later_between, farther_between, earlier_between, between_in_cell}

@@ -1,11 +1,11 @@
 -- Between two points that no node plane has both, one passes leaves in order.
-use Rattle.std.proofs.Common.{◌≡◌, ◌≢◌, ℕ, ◌+◌, ◌<◌, ◌≤◌, ℤ, pos, neg_ℤ, ◌+ℤ◌, ◌*ℤ◌, Bool, true, false, not, List, [], ◌∷◌, ◌++◌, All, map, Contains, slice_get, Some, refl, sym, ap, ◌∙◌, subst, arith, ⊎_elim}
+use Rattle.std.proofs.Common.{◌≡◌, ◌≢◌, ℕ, ◌+◌, ◌<◌, ◌≤◌, ℤ, pos, neg_ℤ, ◌+ℤ◌, ◌*ℤ◌, Bool, true, false, not, List, [], ◌∷◌, ◌++◌, Contains, slice_get, Some, refl, sym, ap, ◌∙◌, subst, arith, ⊎_elim}
 use Rattle.std.proofs.lemmas.Int.{ints}
 use Rattle.std.proofs.lemmas.List.{append-nil, map-append}
-use Rattle.std.proofs.lemmas.List.Elements.{All-nil, All-cons, All-head, All-tail, All-append, All-contains, All-weaker, Contains-append_left, Contains-append_right, Contains-append_cases}
+use Rattle.std.proofs.lemmas.List.Elements.{All-nil, All-cons, All-append, Contains-append_left, Contains-append_right, Contains-append_cases}
 use Rattle.qm_lists.proofs.Elements.{Contains-first, Contains-later, Contains-cons_cases}
 use Rattle.qm_space.specs.Point.{Point, point_sum, point_times}
-use Rattle.qm_space.specs.Plane.{Plane, value, IsOn, IsInFront, IsBehind, IsNotBehind, flipped}
+use Rattle.qm_space.specs.Plane.{Plane, value, IsOn, IsInFront, IsBehind, flipped}
 use Rattle.qm_space.specs.Line.{IsBetween}
 use Rattle.qm_space.specs.Turned.{turned}
 use Rattle.qm_space.specs.Cell.{IsInCell}
@@ -23,7 +23,7 @@ use Rattle.qm_partition.specs.Ways.{Way, ways, turned_to, cell_of}
 use Rattle.qm_partition.proofs.Counts.{leaves_after-count}
 use Rattle.qm_contacts.specs.Meeting.{then_step}
 use Rattle.qm_contacts.proofs.WaysBelow.{ways_in_front, ways_behind}
-use Rattle.qm_segments.specs.Passes.{IsWithinLeaf, Passes, within, onward}
+use Rattle.qm_segments.specs.Passes.{Passes, within, onward}
 use Rattle.qm_segments.proofs.Betweenness.{between_turned, nearer_between, later_between, farther_between, between_in_front, between_in_front_first, on_after}
 
 -- ---- one part of the way after another
@@ -46,7 +46,7 @@ crossing_between g p q front behind = record {
   some_p = omega (arith, ints);
   some_q = omega (arith, linear);
   some_r = front;
-  sum = same_point (point_times (pos 1) (through g p q)) (point_sum (point_times (neg_ℤ (value g q)) p) (point_times (value g p) q)) 
+  sum = same_point (point_times (pos 1) (through g p q)) (point_sum (point_times (neg_ℤ (value g q)) p) (point_times (value g p) q))
       (one (value g p *ℤ q.x) (neg_ℤ (value g q) *ℤ p.x)) (one (value g p *ℤ q.y) (neg_ℤ (value g q) *ℤ p.y)) (one (value g p *ℤ q.z) (neg_ℤ (value g q) *ℤ p.z)) (one (value g p *ℤ q.w) (neg_ℤ (value g q) *ℤ p.w));
 }
   where

@@ -7,10 +7,16 @@ pub mod LeavesOnce
 pub mod GenericSegments
 pub mod PortalsListed
 pub mod CrossedPortals
+pub mod EnteredLeaves
 pub mod SegmentLaw
 pub mod CoarseSight
 pub mod UnfilledLeaves
 pub mod MarkedSegments
 pub mod EndRows
 pub mod OpenChains
+pub mod AheadLaws
+pub mod CutPaths
+pub mod ViaLaws
+pub mod CrossedWays
 pub mod RoomRows
+pub mod FilledRows

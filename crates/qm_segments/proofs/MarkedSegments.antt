@@ -1,6 +1,6 @@
 -- Segments of a tree whose leaves are marked: what is generic stays so, and what is clear for the contents of a map, and
 -- begins in a leaf that is not filled, is clear for those of the marked leaves.
-use Rattle.std.proofs.Common.{◌≡◌, ◌≢◌, ℕ, ◌+◌, Bool, true, false, List, get_or, Contains, Some, slice_get, refl, sym, ap, ◌∙◌, subst, arith, ⊎_elim, ◌↔◌}
+use Rattle.std.proofs.Common.{◌≡◌, ◌≢◌, ℕ, ◌+◌, Bool, true, false, List, get_or, Contains, sym, ap, ◌∙◌, subst, arith, ⊎_elim, ◌↔◌}
 use Rattle.std.specs.Prelude.{All}
 use Rattle.qm_lists.specs.WorkList.{IsIn}
 use Rattle.qm_lists.proofs.Cases.{by_cases}
@@ -12,15 +12,15 @@ use Rattle.qm_partition.specs.Tree.{Tree}
 use Rattle.qm_partition.specs.Counting.{node_planes}
 use Rattle.qm_partition.specs.LeafOfPoint.{leaf_at, leaf_record_at, IsOffNodePlanes}
 use Rattle.qm_partition.specs.Marked.{marked_leaf, filled_leaf, marked_tree}
-use Rattle.qm_partition.specs.Ways.{Way, ways, IsInLeaf, HasPoints}
-use Rattle.qm_partition.proofs.MarkedLeaves.{marked_planes, marked_ways, marked_leaf_number, marked_leaf_of_point}
+use Rattle.qm_partition.specs.Ways.{Way, HasPoints}
+use Rattle.qm_partition.proofs.MarkedLeaves.{marked_planes, marked_ways, marked_leaf_of_point}
 use Rattle.qm_partition.proofs.NodePlanes.{IsOff, off_node_planes}
 use Rattle.qm_contacts.specs.Meeting.{Meeting, meetings}
 use Rattle.qm_contacts.specs.Touching.{Touching, AreTouchings}
 use Rattle.qm_contacts.specs.PortalChain.{IsPortalBetween}
 use Rattle.qm_contacts.proofs.MarkedTrees.{marked_meetings}
 use Rattle.qm_segments.specs.Segment.{Segment, IsOnSegment}
-use Rattle.qm_segments.specs.Generic.{IsNodePlane, IsGeneric}
+use Rattle.qm_segments.specs.Generic.{IsGeneric}
 use Rattle.qm_segments.specs.Clear.{IsClear, LeafHas}
 use Rattle.qm_segments.proofs.Betweenness.{between_in_cube}
 use Rattle.qm_segments.proofs.UnfilledLeaves.{none_marked_on}

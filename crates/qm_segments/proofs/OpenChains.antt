@@ -1,14 +1,14 @@
--- Open chains, over any notion of a step: their ends lie in the coarse row where each step looks ahead, and they reach all
+-- Open chains, over any notion of a step: their ends lie in the coarse row where each step looks forward, and they reach all
 -- that is in sight where the steps let segments through.
-use Rattle.std.proofs.Common.{◌≡◌, ◌≢◌, ℕ, Bool, List, [], ◌∷◌, All, map, Contains, refl, sym, ap, ◌∙◌, subst, arith, ⊎_elim}
-use Rattle.std.proofs.lemmas.List.Elements.{All-nil, All-cons, All-head, All-tail, All-contains}
+use Rattle.std.proofs.Common.{◌≡◌, ◌≢◌, ℕ, List, [], ◌∷◌, All, map, Contains, refl, sym, ◌∙◌, subst, arith, ⊎_elim}
+use Rattle.std.proofs.lemmas.List.Elements.{All-head, All-tail, All-contains}
 use Rattle.qm_lists.specs.Reach.{start, onward}
 use Rattle.qm_lists.proofs.EachPair.{EachPair}
 use Rattle.qm_lists.proofs.Elements.{Contains-first, Contains-later, Contains-cons_cases}
 use Rattle.qm_lists.proofs.Pairs.{All-from_contains}
 use Rattle.qm_space.specs.Point.{Point}
-use Rattle.qm_space.specs.Plane.{Plane, IsBehind}
 use Rattle.qm_space.specs.Line.{IsBetween}
+use Rattle.qm_space.specs.Plane.{Plane}
 use Rattle.qm_convex.specs.Winding.{Winding, IsInRegion, IsConvex}
 use Rattle.qm_convex.specs.Sides.{HasSomeInFront}
 use Rattle.qm_partition.specs.Tree.{Tree}
@@ -22,8 +22,9 @@ use Rattle.qm_segments.specs.Segment.{Segment}
 use Rattle.qm_segments.specs.GoesThrough.{GoesThrough}
 use Rattle.qm_segments.specs.GoesBy.{GoesBy, ends, through}
 use Rattle.qm_segments.specs.Sight.{IsInSight}
-use Rattle.qm_segments.specs.OpenChain.{leaves_met, IsOpenChain, alone, longer, IsInBound, LetSegmentsThrough}
-use Rattle.qm_segments.proofs.CoarseSight.{IsSeenAlong, seen_along}
+use Rattle.qm_segments.specs.OpenChain.{leaves_met, IsOpenChain, alone, longer, IsInBound}
+use Rattle.qm_segments.specs.Steps.{LetSegmentsThrough, LeadOnOrBlock}
+use Rattle.qm_segments.proofs.CoarseSight.{seen_along}
 
 module _ {State : Type 0} (begins : Portal → State → Type 0) (goes : State → Portal → State → Type 0) (portals : List Portal) where
   -- ---- the bound lies in the coarse row
@@ -45,7 +46,7 @@ module _ {State : Type 0} (begins : Portal → State → Type 0) (goes : State �
     pub begun : (p : Portal) (state : State) → begins p state → (into state ≡ p.into) × ((x : Point) → IsInRegion (source state) x → IsInRegion p.winding x)
     pub kept : (state next : State) (q : Portal) → goes state q next → (into next ≡ into state) × ((x : Point) → IsInRegion (source next) x → IsInRegion (source state) x)
     pub behind : (state next : State) (q : Portal) → goes state q next → HasSomeBehind (source state) q.into
-    pub ahead : (state next : State) (q : Portal) → goes state q next → HasSomeInFront q.winding (into state)
+    pub in_front : (state next : State) (q : Portal) → goes state q next → HasSomeInFront q.winding (into state)
 
   module _ (source : State → Winding) (into : State → Plane) (narrows : NarrowsSource source into) (p : Portal) where
     within_first : (chain : List Portal) (state : State) → IsOpenChain begins goes portals p chain state → (into state ≡ p.into) × ((x : Point) → IsInRegion (source state) x → IsInRegion p.winding x)
@@ -59,13 +60,17 @@ module _ {State : Type 0} (begins : Portal → State → Type 0) (goes : State �
     pub narrowed_bound_in_coarse : IsConvex p.winding → ((q : Portal) → Contains portals q → IsConvex q.winding) → (n : ℕ) → IsInBound begins goes portals p n → IsInCoarseRow portals p n
     narrowed_bound_in_coarse p_convex convex = bound_in_coarse p (λ q chain state next is_open listed step.
         let within = within_first chain state is_open in
-        let ahead = narrows.ahead state next q step in
+        let before = narrows.in_front state next q step in
         let behind = narrows.behind state next q step in
-        (follows_by_points p q p_convex (convex q listed)).1 (subst (HasSomeInFront q.winding) within.0 ahead, (behind.0, within.1 behind.0 behind.1, behind.2)))
+        (follows_by_points p q p_convex (convex q listed)).1 (subst (HasSomeInFront q.winding) within.0 before, (behind.0, within.1 behind.0 behind.1, behind.2)))
 
 -- ---- the bound has all that is in sight
 
-module _ {State : Type 0} (begins : Portal → State → Type 0) (goes : State → Portal → State → Type 0) (tree : Tree) (touchings : List Touching) (meets : Segment → Point → State → Type 0) (lets : LetSegmentsThrough begins goes (portals_of tree touchings) meets) where
+module _ {State : Type 0} (begins : Portal → State → Type 0) (goes : State → Portal → State → Type 0) (blocks : State → Portal → Type 0) (tree : Tree) (touchings : List Touching) (meets : Segment → Point → State → Type 0) (lets : LetSegmentsThrough begins goes blocks (portals_of tree touchings) meets) (lead : LeadOnOrBlock begins goes blocks (portals_of tree touchings)) where
+  -- a step along a segment leads on
+  next_state : (s : Segment) (q : Portal) (state : State) (x y : Point) → meets s x state → Contains (portals_of tree touchings) q → GoesThrough s q y → IsBetween y x s.to → (next : State) × goes state q next
+  next_state s q state x y met listed at between = ⊎_elim (λ leads. leads) (λ blocked. absurd (lets.not_blocked s q state x y met listed at between blocked)) (lead.go_on state q listed)
+
   -- a chain that a segment goes along stays open
   along : (s : Segment) (p last : Portal) (before : List Portal) (state : State) (x : Point) (m n : ℕ) (chain : List Portal) →
       IsOpenChain begins goes (portals_of tree touchings) p (last ∷ before) state → meets s x state → last.to ≡ m →
@@ -73,11 +78,11 @@ module _ {State : Type 0} (begins : Portal → State → Type 0) (goes : State �
       GoesBy (portals_of tree touchings) s x m chain n → IsInBound begins goes (portals_of tree touchings) p n
   along s p last before state x m n chain is_open met at_leaf new once ends = record { last = last; before = before; state = state; open_chain = is_open; ends = at_leaf }
   along s p last before state x m n chain is_open met at_leaf new once (through {y = y} {q = q} {rest = rest} listed from between at more) =
-      let step = lets.gone_on s q state x y met listed at between in
+      let step = next_state s q state x y met listed at between in
       let entered = map (λ r. r.to) rest in
       along s p q (last ∷ before) step.0 y q.to n rest
       (longer is_open listed (from ∙ sym at_leaf) (All-head (λ k. Contains (leaves_met p (last ∷ before)) k → ⊥) q.to entered new) step.1)
-      step.2 refl
+      (lets.gone_on s q state step.0 x y met listed at between step.1) refl
       (All-from_contains (λ k. Contains (leaves_met p (q ∷ last ∷ before)) k → ⊥) entered (λ k there. not_met k
       (All-contains (λ k. Contains (leaves_met p (last ∷ before)) k → ⊥) entered k (All-tail (λ k. Contains (leaves_met p (last ∷ before)) k → ⊥) q.to entered new) there)
       (All-contains (λ k. q.to ≢ k) entered k once.0 there)))
@@ -92,17 +97,22 @@ module _ {State : Type 0} (begins : Portal → State → Type 0) (goes : State �
           (Contains-cons_cases q.to k (map (λ r. r.to) (last ∷ before)) later))
           (Contains-cons_cases p.from k (q.to ∷ map (λ r. r.to) (last ∷ before)) there)
 
-  pub bound_has_sight : (have : HasPoints tree) (are : AreTouchings tree.planes (meetings tree) touchings) (p : Portal) (n : ℕ) → Contains (portals_of tree touchings) p → IsInSight tree p n → IsInBound begins goes (portals_of tree touchings) p n
-  bound_has_sight have are p n there sight =
-      let seen = seen_along tree touchings are have p there n sight in
-      let begun = lets.begun seen.segment p seen.at there seen.goes_through in
-      let entered = map (λ q. q.to) seen.chain in
-      along seen.segment p p [] begun.0 seen.at p.to n seen.chain (alone begun.1) begun.2 refl
+  -- the portals by which a segment goes, where it enters no leaf twice, are an open chain
+  pub goes_by_in_bound : (s : Segment) (p : Portal) (x : Point) (n : ℕ) (chain : List Portal) → Contains (portals_of tree touchings) p → GoesThrough s p x → GoesBy (portals_of tree touchings) s x p.to chain n → EachPair (λ a b. a ≢ b) (p.from ∷ p.to ∷ map (λ q. q.to) chain) → IsInBound begins goes (portals_of tree touchings) p n
+  goes_by_in_bound s p x n chain there at goes_by once =
+      let begun = lead.begin_all p there in
+      let entered = map (λ q. q.to) chain in
+      along s p p [] begun.0 x p.to n chain (alone begun.1) (lets.begun s p begun.0 x there at begun.1) refl
       (All-from_contains (λ k. Contains (leaves_met p (p ∷ [])) k → ⊥) entered (λ k in_chain met. ⊎_elim
-      (λ first. All-contains (λ m. p.from ≢ m) (p.to ∷ entered) k seen.once.0 (Contains-later p.to k entered in_chain) first)
+      (λ first. All-contains (λ m. p.from ≢ m) (p.to ∷ entered) k once.0 (Contains-later p.to k entered in_chain) first)
       (λ later. ⊎_elim
-      (λ same. All-contains (λ m. p.to ≢ m) entered k seen.once.1.0 in_chain same)
+      (λ same. All-contains (λ m. p.to ≢ m) entered k once.1.0 in_chain same)
       (λ none. let range = none.1 in absurd (omega arith))
       (Contains-cons_cases p.to k [] later))
       (Contains-cons_cases p.from k (p.to ∷ []) met)))
-      seen.once.1.1 seen.goes
+      once.1.1 goes_by
+
+  pub bound_has_sight : (have : HasPoints tree) (are : AreTouchings tree.planes (meetings tree) touchings) (p : Portal) (n : ℕ) → Contains (portals_of tree touchings) p → IsInSight tree p n → IsInBound begins goes (portals_of tree touchings) p n
+  bound_has_sight have are p n there sight =
+      let seen = seen_along tree touchings are have p there n sight in
+      goes_by_in_bound seen.segment p seen.at n seen.chain there seen.goes_through seen.goes seen.once

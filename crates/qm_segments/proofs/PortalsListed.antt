@@ -1,5 +1,5 @@
 -- The list of portals: it has both of each passage, and from leaf to leaf only one.
-use Rattle.std.proofs.Common.{◌≡◌, ◌≢◌, ℕ, ◌<◌, ◌&&◌, eqb, Bool, true, false, not, List, [], ◌∷◌, Contains, filter, flat_map, Some, slice_get, cond, refl, sym, ap, ◌∙◌, subst, arith, ◌⊎◌, inl, inr, ⊎_elim}
+use Rattle.std.proofs.Common.{◌≡◌, ◌≢◌, ℕ, ◌&&◌, eqb, Bool, true, false, not, List, [], ◌∷◌, Contains, filter, flat_map, Some, slice_get, cond, refl, sym, ap, ◌∙◌, subst, arith, ◌⊎◌, inl, inr, ⊎_elim}
 use Rattle.std.proofs.lemmas.Bool.{eq-eqb}
 use Rattle.std.proofs.lemmas.Option.{get_or_from_slice_get}
 use Rattle.std.proofs.lemmas.List.Concat.{flat_map-cons}
@@ -14,7 +14,7 @@ use Rattle.qm_partition.specs.declared.node.Leaf.{Leaf}
 use Rattle.qm_partition.specs.Tree.{Tree}
 use Rattle.qm_partition.specs.Counting.{leaves_of}
 use Rattle.qm_contacts.specs.Meeting.{meetings}
-use Rattle.qm_contacts.specs.NumberedLeaves.{is_solid, is_numbered, numbered_leaves}
+use Rattle.qm_contacts.specs.NumberedLeaves.{is_solid, numbered_leaves}
 use Rattle.qm_contacts.specs.Touching.{Touching, AreTouchings}
 use Rattle.qm_contacts.specs.Portals.{Portal, leaf_record, number_of, is_passage, portal, both_ways, portals_of}
 use Rattle.qm_contacts.specs.PortalChain.{IsPortalBetween}

@@ -1,26 +1,33 @@
 -- Worked rows: the three rooms with all that the laws ask for, so that none of them is empty: the last room is in the
 -- coarse row of the first door, and the rows of the first and the last room have each other.
-use Rattle.std.proofs.Common.{◌≡◌, ℕ, ℤ, pos, neg_ℤ, ◌+ℤ◌, ◌-ℤ◌, ◌*ℤ◌, ◌<ℤ◌, Bool, true, false, List, [], ◌∷◌, All, Contains, refl, sym, ap, ◌∙◌, subst, arith, ◌↔◌}
+use Rattle.std.proofs.Common.{◌≡◌, ℤ, pos, neg_ℤ, ◌+ℤ◌, ◌-ℤ◌, ◌*ℤ◌, ◌<ℤ◌, true, false, [], ◌∷◌, refl, sym, ◌∙◌, arith, inl, ◌↔◌}
 use Rattle.std.proofs.lemmas.Int.{ints}
 use Rattle.std.proofs.lemmas.List.Elements.{All-from_recursion, All-contains, All-nil}
 use Rattle.qm_space.specs.Point.{Point, IsInCube}
-use Rattle.qm_space.specs.Plane.{Plane, value, IsOn, IsInFront, flipped}
+use Rattle.qm_space.specs.Plane.{value, IsOn, IsInFront, flipped}
 use Rattle.qm_space.specs.Cube.{wall_y, wall_z}
 use Rattle.qm_space.proofs.Planes.{value_flipped}
 use Rattle.qm_numbers.proofs.IntegerProducts.{linear, neg-*ℤ, +ℤ-*ℤ, -ℤ-*ℤ}
 use Rattle.qm_numbers.proofs.Signs.{product_positive}
-use Rattle.qm_convex.specs.Winding.{Winding, IsInRegion}
+use Rattle.qm_convex.specs.Winding.{IsInRegion}
 use Rattle.qm_convex.proofs.Squares.{square_convex, square_region, turn_y_z, between_y, between_z}
 use Rattle.qm_contents.specs.declared.contents.Contents.TheVariants.{Empty}
 use Rattle.qm_partition.specs.LeafOfPoint.{node_value}
-use Rattle.qm_partition.specs.Ways.{Way, ways, cell_of, IsInLeaf, HasPoints}
+use Rattle.qm_partition.specs.Ways.{ways, IsInLeaf, HasPoints}
 use Rattle.qm_contacts.specs.Meeting.{Meeting, meeting_at, meetings}
-use Rattle.qm_contacts.specs.Contact.{IsContact}
-use Rattle.qm_contacts.specs.Touching.{Touching, IsTouching, AreApart, AreTouchings, none, touching, apart}
+use Rattle.qm_contacts.specs.Touching.{IsTouching, AreApart, AreTouchings, none, touching, apart}
 use Rattle.qm_coarse_rows.specs.CoarseRow.{IsInCoarseRow}
-use Rattle.qm_coarse_rows.proofs.RoomSamples.{at, rooms, door, touchings, portals, out, rows, coarse_rows, leaf_rows, are_leaf_rows}
+use Rattle.qm_coarse_rows.proofs.RoomSamples.{at, rooms, door, touchings, portals, out, on, back, rows, coarse_rows, leaf_rows, are_leaf_rows}
 use Rattle.qm_segments.specs.Clear.{LeafHas}
-use Rattle.qm_segments.specs.Ends.{HasInRow, IsOpenSegment, HoldsEnds, HoldEndsOfSegments}
+use Rattle.qm_segments.specs.Ends.{HasInRow, HoldEndsOfSegments}
+use Rattle.qm_segments.specs.Sight.{IsInSight}
+use Rattle.qm_segments.specs.SeenVia.{IsSeenVia}
+use Rattle.qm_segments.specs.OpenChain.{IsInBound}
+use Rattle.qm_segments.specs.Steps.{LetSegmentsThrough, LeadOnOrBlock}
+use Rattle.qm_segments.specs.Ahead.{IsAhead}
+use Rattle.qm_segments.proofs.OpenChains.{bound_has_sight}
+use Rattle.qm_segments.proofs.AheadLaws.{start_ahead}
+use Rattle.qm_segments.proofs.ViaLaws.{first_in_sight_back}
 use Rattle.qm_segments.proofs.CoarseSight.{coarse_holds_sight}
 use Rattle.qm_segments.proofs.EndRows.{coarse_rows_hold_ends}
 use Rattle.qm_segments.proofs.RoomSights.{place, line, at_value, generic, clear, sight_row}
@@ -154,3 +161,29 @@ unfolding node_value value
 ends_by_law =
     let holds = rows_by_law line (record { generic = generic; contents = Empty; not_solid = λ e. cc; clear = clear; not_filled = refl }) in
     (holds.there, holds.back)
+
+-- ---- steps of which none blocks
+
+abbrev Any : Type 0
+Any = Unit {0}
+
+lets_row : LetSegmentsThrough {State = Any} (λ p state. Any) (λ state q next. Any) (λ state q. ⊥) portals (λ s x state. Any)
+lets_row = record { begun = λ s p state x listed at begun. tt; not_blocked = λ s q state x y met listed at between blocked. blocked; gone_on = λ s q state next x y met listed at between step. tt }
+
+lead_row : LeadOnOrBlock {State = Any} (λ p state. Any) (λ state q next. Any) (λ state q. ⊥) portals
+lead_row = record { begin_all = λ p listed. (tt, tt); go_on = λ state q listed. inl (tt, tt) }
+
+-- then the last room is in the bound of the first door, and ahead at its start
+bound_by_law : IsInBound {State = Any} (λ p state. Any) (λ state q next. Any) portals out 2
+bound_by_law = bound_has_sight (λ p state. Any) (λ state q next. Any) (λ state q. ⊥) rooms touchings (λ s x state. Any) lets_row lead_row have_points are_touchings out 2 (0, omega arith, refl) sight_row
+
+ahead_by_law : IsAhead {State = Any} (λ s x state. Any) rooms out tt 1 (1 ∷ 0 ∷ []) 2
+ahead_by_law = start_ahead rooms have_points touchings are_touchings (λ p state. Any) (λ state q next. Any) (λ state q. ⊥) (λ s x state. Any) lets_row out (0, omega arith, refl) 2 tt tt sight_row
+
+-- it is seen via the second door, so the first room is in sight of that door the other way
+via_row : IsSeenVia rooms out on 2
+unfolding sight_row
+via_row = record { sight = sight_row; before = []; left = 1; entered = 2; after = []; leaves_are = refl; left_is = refl; entered_is = refl }
+
+back_by_law : IsInSight rooms back 0
+back_by_law = first_in_sight_back rooms out on 2 via_row back refl refl

@@ -121,12 +121,12 @@ first_door = record { times_p = pos 200; times_q = pos 164; times_r = pos 36; so
 second_door : IsBetween (place (pos 0)) (place (pos 64)) line.to
 second_door = record { times_p = pos 164; times_q = pos 100; times_r = pos 64; some_p = omega (arith, ints); some_q = omega (arith, ints); some_r = omega (arith, ints); sum = refl }
 
-passes : Passes rooms line.from line.to (0 ∷ 1 ∷ 2 ∷ [])
+pub passes : Passes rooms line.from line.to (0 ∷ 1 ∷ 2 ∷ [])
 passes = onward first_door in_first (λ e. omega (arith, e)) (onward second_door in_middle (λ e. omega (arith, e)) (within in_last))
 
 -- ---- so the last room is in sight of the first door
 
-pub sight_row : IsInSight rooms out 2
+unfoldable pub sight_row : IsInSight rooms out 2
 unfolding node_value value
 sight_row = record {
   segment = line;

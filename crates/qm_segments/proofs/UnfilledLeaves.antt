@@ -1,34 +1,28 @@
 -- A leaf cannot change its filling along a clear segment: where the first leaf is not marked, none that it passes is.
-use Rattle.std.proofs.Common.{◌≡◌, ◌≢◌, ℕ, ◌<◌, pos, Bool, true, false, not, List, [], ◌∷◌, All, get_or, Contains, Some, slice_get, refl, sym, ap, ◌∙◌, subst, arith, ◌⊎◌, inl, inr, ⊎_elim, ◌↔◌}
+use Rattle.std.proofs.Common.{◌≢◌, ℕ, not, List, [], ◌∷◌, Contains, sym, ap, ◌∙◌, subst, arith, inl, inr, ⊎_elim}
 use Rattle.std.proofs.lemmas.Bool.{cases_lt}
-use Rattle.qm_lists.specs.WorkList.{IsIn}
-use Rattle.qm_lists.proofs.Cases.{by_cases}
 use Rattle.qm_lists.proofs.Elements.{Contains-first, Contains-later, Contains-cons_cases}
 use Rattle.qm_space.specs.Point.{Point, IsInCube}
 use Rattle.qm_space.specs.Line.{IsBetween}
 use Rattle.qm_contents.specs.declared.contents.Contents.{Contents}
 use Rattle.qm_contents.specs.declared.contents.Contents.TheVariants.{Solid}
-use Rattle.qm_partition.specs.declared.node.Leaf.{Leaf}
 use Rattle.qm_partition.specs.Tree.{Tree}
 use Rattle.qm_partition.specs.Counting.{node_planes}
-use Rattle.qm_partition.specs.LeafOfPoint.{leaf_at, leaf_record_at, IsOffNodePlanes}
-use Rattle.qm_partition.specs.Marked.{marked_leaf, filled_leaf, marked_tree}
+use Rattle.qm_partition.specs.LeafOfPoint.{leaf_at, IsOffNodePlanes}
 use Rattle.qm_partition.specs.Ways.{HasPoints}
-use Rattle.qm_partition.proofs.MarkedLeaves.{marked_planes, marked_leaf_number, marked_leaf_of_point}
-use Rattle.qm_partition.proofs.NodePlanes.{IsOff, off_node_planes}
 use Rattle.qm_contacts.specs.Contact.{Touch}
 use Rattle.qm_contacts.specs.NumberedLeaves.{is_solid}
 use Rattle.qm_contacts.specs.PortalChain.{IsPortalBetween}
 use Rattle.qm_contacts.proofs.FilledLeaves.{portal_back}
 use Rattle.qm_segments.specs.Segment.{Segment, IsOnSegment}
-use Rattle.qm_segments.specs.Generic.{IsNodePlane, IsGeneric}
+use Rattle.qm_segments.specs.Generic.{IsGeneric}
 use Rattle.qm_segments.specs.Clear.{IsClear, LeafHas}
 use Rattle.qm_segments.specs.Passes.{IsWithinLeaf, Passes, within, onward}
-use Rattle.qm_segments.proofs.Betweenness.{between_turned, nearer_between, farther_between, between_in_cube}
+use Rattle.qm_segments.proofs.Betweenness.{nearer_between, farther_between}
 use Rattle.qm_segments.proofs.LeavesPassed.{NoneHasBoth, none_from, none_up_to, passes_leaves}
 use Rattle.qm_segments.proofs.EndLeaves.{not_behind_at_start, not_behind_at_end, first_leaf, last_leaf_listed, begins}
 use Rattle.qm_segments.proofs.GenericSegments.{on_generic_in_cube, generic_none, passed_contents}
-use Rattle.qm_segments.proofs.PortalsListed.{HasLeaf, numbered_from_contents}
+use Rattle.qm_segments.proofs.PortalsListed.{numbered_from_contents}
 use Rattle.qm_segments.proofs.CrossedPortals.{IsBesideLeaf, IsOnOnePlane, crossing_contact}
 
 -- ---- leaves that follow each other touch

@@ -1,14 +1,14 @@
-use Rattle.std.specs.Prelude.{◌≡◌, ◌≢◌, ℕ, Bool, false, List, [], Some, slice_get, slice_index_or}
+use Rattle.std.specs.Prelude.{◌≡◌, ◌≢◌, ℕ, Bool, false, List, [], slice_index_or}
 use Rattle.qm_lists.specs.WorkList.{IsIn}
 use Rattle.qm_space.specs.Point.{Point}
 use Rattle.qm_contents.specs.declared.contents.Contents.{Contents}
 use Rattle.qm_contents.specs.declared.contents.Contents.TheVariants.{Solid}
 use Rattle.qm_partition.specs.Tree.{Tree}
 use Rattle.qm_partition.specs.LeafOfPoint.{leaf_at, leaf_record_at}
-use Rattle.qm_contacts.specs.NumberedLeaves.{numbered_leaves}
 use Rattle.qm_segments.specs.Segment.{Segment}
 use Rattle.qm_segments.specs.Generic.{IsGeneric}
 use Rattle.qm_segments.specs.Clear.{IsClear}
+use Rattle.qm_segments.specs.LeafNumber.{IsNumberOf}
 
 -- What rows of leaves promise of segments.
 
@@ -16,8 +16,8 @@ use Rattle.qm_segments.specs.Clear.{IsClear}
 pub record HasInRow (tree : Tree) (rows : List (List Bool)) (a b : ℕ) : Type 0 where
   pub from : ℕ
   pub to : ℕ
-  pub from_is : slice_get (numbered_leaves tree) from ≡ Some a
-  pub to_is : slice_get (numbered_leaves tree) to ≡ Some b
+  pub from_is : IsNumberOf tree from a
+  pub to_is : IsNumberOf tree to b
   pub seen : IsIn (slice_index_or rows from []) to
 
 -- a segment that counts: generic, clear for contents that is not solid, and with its first leaf not filled

@@ -11,4 +11,4 @@ pub record GoesThrough (s : Segment) (portal : Portal) (x : Point) : Type 0 wher
   pub between : IsBetween x s.from s.to
   pub inside : IsInRegion portal.winding x
   pub behind : IsBehind portal.into s.from
-  pub ahead : IsInFront portal.into s.to
+  pub in_front : IsInFront portal.into s.to

@@ -4,6 +4,12 @@ pub mod Clear
 pub mod Passes
 pub mod GoesThrough
 pub mod GoesBy
+pub mod CrossesWay
+pub mod LeafNumber
 pub mod Sight
+pub mod SeenVia
 pub mod OpenChain
+pub mod Steps
+pub mod Ahead
+pub mod Route
 pub mod Ends

@@ -1,9 +1,5 @@
 use Rattle.std.specs.Prelude.{◌≡◌, ℕ, List, [], ◌∷◌, map, Contains}
-use Rattle.qm_space.specs.Point.{Point}
-use Rattle.qm_space.specs.Line.{IsBetween}
 use Rattle.qm_contacts.specs.Portals.{Portal}
-use Rattle.qm_segments.specs.Segment.{Segment}
-use Rattle.qm_segments.specs.GoesThrough.{GoesThrough}
 
 -- Chains of portals that are open, over any notion of a step: in which states a chain begins with a portal, and to which
 -- states it goes on from a state through a further portal. Where it goes on to none, the step blocks.
@@ -28,10 +24,3 @@ pub record IsInBound {State : Type 0} (begins : Portal → State → Type 0) (go
   pub state : State
   pub open_chain : IsOpenChain begins goes portals p (last ∷ before) state
   pub ends : last.to ≡ n
-
--- the steps let segments through, where this says that a segment meets the windings of a state, the last of them at a point:
--- a segment that goes through a portal meets some state in which a chain begins with it; and one that meets a state, and
--- further on goes through a portal, meets some state to which the chain goes on
-pub record LetSegmentsThrough {State : Type 0} (begins : Portal → State → Type 0) (goes : State → Portal → State → Type 0) (portals : List Portal) (meets : Segment → Point → State → Type 0) : Type 0 where
-  pub begun : (s : Segment) (p : Portal) (x : Point) → Contains portals p → GoesThrough s p x → (state : State) × begins p state × meets s x state
-  pub gone_on : (s : Segment) (q : Portal) (state : State) (x y : Point) → meets s x state → Contains portals q → GoesThrough s q y → IsBetween y x s.to → (next : State) × goes state q next × meets s y next

@@ -1,0 +1,193 @@
+-- What is ahead of a chain: from the start on, and after each step, until the leaf is reached; and a route to it, over
+-- portals that the segment goes through.
+use Rattle.std.proofs.Common.{◌≡◌, ◌≢◌, ℕ, List, [], ◌∷◌, ◌++◌, Contains, Some, refl, sym, ap, ◌∙◌, subst, arith, ◌⊎◌, inl, inr, ⊎_elim}
+use Rattle.std.proofs.lemmas.List.{append_assoc}
+use Rattle.std.proofs.lemmas.List.Elements.{All-contains}
+use Rattle.qm_lists.proofs.Elements.{Contains-first, Contains-later, Contains-cons_cases}
+use Rattle.qm_space.specs.Point.{Point}
+use Rattle.qm_space.specs.Line.{IsBetween}
+use Rattle.qm_partition.specs.Tree.{Tree}
+use Rattle.qm_partition.specs.Counting.{node_planes}
+use Rattle.qm_partition.specs.Ways.{HasPoints}
+use Rattle.qm_contacts.specs.Meeting.{meetings}
+use Rattle.qm_contacts.specs.Touching.{Touching, AreTouchings}
+use Rattle.qm_contacts.specs.Portals.{Portal, portals_of}
+use Rattle.qm_contacts.proofs.Numbers.{number_at_leaf}
+use Rattle.qm_segments.specs.Segment.{Segment}
+use Rattle.qm_segments.specs.LeafNumber.{IsNumberOf}
+use Rattle.qm_segments.specs.Passes.{IsWithinLeaf, Passes, within, onward}
+use Rattle.qm_segments.specs.GoesThrough.{GoesThrough}
+use Rattle.qm_segments.specs.Sight.{IsInSight}
+use Rattle.qm_segments.specs.SeenVia.{IsSeenVia}
+use Rattle.qm_segments.specs.Steps.{LetSegmentsThrough}
+use Rattle.qm_segments.specs.Ahead.{IsAhead}
+use Rattle.qm_segments.specs.Route.{Route, arrived, over}
+use Rattle.qm_segments.proofs.Betweenness.{farther_between}
+use Rattle.qm_segments.proofs.LeavesPassed.{NoneHasBoth, none_from}
+use Rattle.qm_segments.proofs.EndLeaves.{end_in_leaf}
+use Rattle.qm_segments.proofs.LeavesOnce.{leaves_once}
+use Rattle.qm_segments.proofs.GenericSegments.{generic_none}
+use Rattle.qm_segments.proofs.PortalsListed.{one_portal}
+use Rattle.qm_segments.proofs.EnteredLeaves.{EntersNext, enters_next, portal_entered, goes_through_entered}
+
+-- a leaf has one number, and a number one leaf
+pub same_number : (tree : Tree) (n m k : ℕ) → IsNumberOf tree n k → IsNumberOf tree m k → n ≡ m
+same_number tree n m k first second = sym (number_at_leaf tree n k first).3 ∙ (number_at_leaf tree m k second).3
+
+pub same_place : (tree : Tree) (n k j : ℕ) → IsNumberOf tree n k → IsNumberOf tree n j → k ≡ j
+same_place tree n k j first second = let e : Some k ≡ Some j = sym first ∙ second in cc
+
+module _ (tree : Tree) (have : HasPoints tree) (touchings : List Touching) (are : AreTouchings tree.planes (meetings tree) touchings) where
+  -- the portal through which a segment that shows a leaf enters its next leaf
+  pub record IsEntered (s : Segment) (m : Point) (k n : ℕ) : Type 0 where
+    pub portal : Portal
+    pub listed : Contains (portals_of tree touchings) portal
+    pub from_is : IsNumberOf tree portal.from k
+    pub to_is : IsNumberOf tree portal.to n
+    pub through : GoesThrough s portal m
+
+  pub entered_through : (p : Portal) (e : ℕ) (sight : IsInSight tree p e) (x m : Point) (k n : ℕ) (rest : List ℕ) → EntersNext tree sight.segment x m k n rest → IsEntered sight.segment m k n
+  entered_through p e sight x m k n rest enters =
+      let found = portal_entered tree have touchings are sight.segment sight.generic sight.contents sight.not_solid sight.clear x m k n rest enters in
+      record {
+        portal = found.portal;
+        listed = found.listed;
+        from_is = found.from_is;
+        to_is = found.to_is;
+        through = goes_through_entered tree have touchings are sight.segment sight.generic sight.contents sight.not_solid sight.clear x m k n rest enters found;
+      }
+
+  module _ {State : Type 0} (begins : Portal → State → Type 0) (goes : State → Portal → State → Type 0) (blocks : State → Portal → Type 0) (meets : Segment → Point → State → Type 0) (lets : LetSegmentsThrough begins goes blocks (portals_of tree touchings) meets) where
+    -- ---- at the start
+
+    module _ (p : Portal) (listed : Contains (portals_of tree touchings) p) (k : ℕ) (state : State) (begun : begins p state) where
+      -- the leaf that p leaves and the one that it enters are met before
+      first_ahead : (sight : IsInSight tree p k) (m : Point) → EntersNext tree sight.segment sight.segment.from m sight.left sight.entered sight.rest → IsAhead meets tree p state p.to (p.to ∷ p.from ∷ []) k
+      first_ahead sight m enters =
+          let entered = entered_through p k sight sight.segment.from m sight.left sight.entered sight.rest enters in
+          let same = one_portal tree touchings are entered.portal p entered.listed listed (same_number tree entered.portal.from p.from sight.left entered.from_is sight.from_is) (same_number tree entered.portal.to p.to sight.entered entered.to_is sight.to_is) in
+          let through = subst (λ (q : Portal). GoesThrough sight.segment q m) same entered.through in
+          let once = leaves_once tree sight.segment.from sight.segment.to sight.left (sight.entered ∷ sight.rest) (onward enters.at enters.inside enters.apart enters.more) in
+          record {
+            sight = sight;
+            at = m;
+            between = enters.at;
+            met = lets.begun sight.segment p state m listed through begun;
+            before = [];
+            here = sight.entered;
+            rest = sight.rest;
+            leaves_are = refl;
+            passes = enters.more;
+            here_is = sight.to_is;
+            not_again = λ n j there number met. ⊎_elim
+                (λ is_to. All-contains (λ b. sight.entered ≢ b) sight.rest j once.1.0 there (same_place tree n sight.entered j (subst (λ (i : ℕ). IsNumberOf tree i sight.entered) is_to sight.to_is) number))
+                (λ later. ⊎_elim
+                (λ is_from. All-contains (λ b. sight.left ≢ b) (sight.entered ∷ sight.rest) j once.0 (Contains-later sight.entered j sight.rest there) (same_place tree n sight.left j (subst (λ (i : ℕ). IsNumberOf tree i sight.left) is_from sight.from_is) number))
+                (λ none. let range = none.1 in omega arith)
+                (Contains-cons_cases p.from n [] later))
+                (Contains-cons_cases p.to n (p.from ∷ []) met);
+          }
+
+      pub start_ahead : IsInSight tree p k → IsAhead meets tree p state p.to (p.to ∷ p.from ∷ []) k
+      start_ahead sight =
+          let parts = enters_next tree sight.segment sight.segment.from sight.left sight.entered sight.rest (generic_none tree sight.segment sight.generic) (λ y b. b) sight.passes in
+          first_ahead sight parts.0 parts.1
+
+    -- ---- after each step
+
+    -- the portal to take: it leaves the leaf, and leads to one that was not met before; the leaf that is ahead is seen via it;
+    -- the step there does not block, and after it the leaf is ahead again
+    pub record IsNext (p : Portal) (state : State) (n : ℕ) (met_before : List ℕ) (k : ℕ) : Type 0 where
+      pub portal : Portal
+      pub listed : Contains (portals_of tree touchings) portal
+      pub from : portal.from ≡ n
+      pub new : Contains met_before portal.to → ⊥
+      pub via : IsSeenVia tree p portal k
+      pub not_blocked : blocks state portal → ⊥
+      pub ahead : (next : State) → goes state portal next → IsAhead meets tree p next portal.to (portal.to ∷ met_before) k
+
+    module _ (p : Portal) (state : State) (n : ℕ) (met_before : List ℕ) (k : ℕ) where
+      -- the way on from the place at which the state was met
+      module _ (ahead : IsAhead meets tree p state n met_before k) where
+        near_end : (y : Point) → IsBetween y ahead.at ahead.sight.segment.to → IsBetween y ahead.sight.segment.from ahead.sight.segment.to
+        near_end y b = farther_between ahead.sight.segment.from ahead.sight.segment.to ahead.at y ahead.between b
+
+        none_on : NoneHasBoth tree (node_planes tree.shape) ahead.at ahead.sight.segment.to
+        none_on = none_from tree (node_planes tree.shape) ahead.sight.segment.from ahead.at ahead.sight.segment.to ahead.between (generic_none tree ahead.sight.segment ahead.sight.generic)
+
+        -- the last leaf
+        there_already : IsWithinLeaf tree ahead.at ahead.sight.segment.to ahead.here → n ≡ k
+        there_already inside =
+            let last = end_in_leaf tree ahead.at ahead.sight.segment.to ahead.here ahead.sight.generic.to_off inside in
+            same_number tree n k ahead.here ahead.here_is (ahead.sight.last_is ∙ ap Some last)
+
+      one_on : (sight : IsInSight tree p k) (at m : Point) (before : List ℕ) (here other : ℕ) (rest : List ℕ) → IsBetween at sight.segment.from sight.segment.to → meets sight.segment at state → sight.entered ∷ sight.rest ≡ before ++ here ∷ other ∷ rest → IsNumberOf tree n here → ((i j : ℕ) → Contains (other ∷ rest) j → IsNumberOf tree i j → Contains met_before i → ⊥) → EntersNext tree sight.segment at m here other rest → IsNext p state n met_before k
+      one_on sight at m before here other rest between met leaves_are here_is not_again enters =
+          let entered = entered_through p k sight at m here other rest enters in
+          let once = leaves_once tree m sight.segment.to other rest enters.more in
+          record {
+            portal = entered.portal;
+            listed = entered.listed;
+            from = same_number tree entered.portal.from n here entered.from_is here_is;
+            new = not_again entered.portal.to other (Contains-first other rest) entered.to_is;
+            via = record { sight = sight; before = before; left = here; entered = other; after = rest; leaves_are = leaves_are; left_is = entered.from_is; entered_is = entered.to_is };
+            not_blocked = lets.not_blocked sight.segment entered.portal state at m met entered.listed entered.through enters.at;
+            ahead = λ next step. record {
+              sight = sight;
+              at = m;
+              between = enters.near m enters.at;
+              met = lets.gone_on sight.segment entered.portal state next at m met entered.listed entered.through enters.at step;
+              before = before ++ here ∷ [];
+              here = other;
+              rest = rest;
+              leaves_are = leaves_are ∙ sym (append_assoc before (here ∷ []) (other ∷ rest));
+              passes = enters.more;
+              here_is = entered.to_is;
+              not_again = λ i j there number in_met. ⊎_elim
+                  (λ is_to. All-contains (λ b. other ≢ b) rest j once.0 there (same_place tree i other j (subst (λ (h : ℕ). IsNumberOf tree h other) is_to entered.to_is) number))
+                  (λ later. not_again i j (Contains-later other j rest there) number later)
+                  (Contains-cons_cases entered.portal.to i met_before in_met);
+            };
+          }
+
+      -- it is reached, or there is a portal to take
+      pub next_ahead : IsAhead meets tree p state n met_before k → (n ≡ k) ⊎ IsNext p state n met_before k
+      next_ahead ahead = by_rest ahead.rest ahead.passes ahead.leaves_are ahead.not_again
+        where
+          by_rest : (rest : List ℕ) → Passes tree ahead.at ahead.sight.segment.to (ahead.here ∷ rest) → ahead.sight.entered ∷ ahead.sight.rest ≡ ahead.before ++ ahead.here ∷ rest → ((i j : ℕ) → Contains rest j → IsNumberOf tree i j → Contains met_before i → ⊥) → (n ≡ k) ⊎ IsNext p state n met_before k
+          by_rest [] (within inside) leaves_are not_again = inl (there_already ahead inside)
+          by_rest (other ∷ rest) passes leaves_are not_again =
+              let parts = enters_next tree ahead.sight.segment ahead.at ahead.here other rest (none_on ahead) (near_end ahead) passes in
+              inr (one_on ahead.sight ahead.at parts.0 ahead.before ahead.here other rest ahead.between ahead.met leaves_are ahead.here_is not_again parts.1)
+
+      -- ---- a route
+
+      -- what the state lets pass, where that is all that a segment goes through that has met it
+      module _ (may_pass : State → Portal → Type 0) (lets_pass : (s : Segment) (q : Portal) (x y : Point) → meets s x state → Contains (portals_of tree touchings) q → GoesThrough s q y → IsBetween y x s.to → may_pass state q) where
+        pub record IsOnRoute (q : Portal) : Type 0 where
+          pub passed : may_pass state q
+          pub via : IsSeenVia tree p q k
+          pub new : Contains met_before q.to → ⊥
+
+        route : (sight : IsInSight tree p k) (at : Point) → meets sight.segment at state → (x : Point) (i : ℕ) (before : List ℕ) (here : ℕ) (rest : List ℕ) → sight.entered ∷ sight.rest ≡ before ++ here ∷ rest → IsNumberOf tree i here → ((i j : ℕ) → Contains rest j → IsNumberOf tree i j → Contains met_before i → ⊥) → NoneHasBoth tree (node_planes tree.shape) x sight.segment.to → ((y : Point) → IsBetween y x sight.segment.to → IsBetween y sight.segment.from sight.segment.to × IsBetween y at sight.segment.to) → Passes tree x sight.segment.to (here ∷ rest) → Route (portals_of tree touchings) IsOnRoute i k
+        route sight at met x i before here rest leaves_are here_is not_again none near (within inside) =
+            let last = end_in_leaf tree x sight.segment.to here sight.generic.to_off inside in
+            subst (Route (portals_of tree touchings) IsOnRoute i) (same_number tree i k here here_is (sight.last_is ∙ ap Some last)) arrived
+        route sight at met x i before here rest leaves_are here_is not_again none near (onward {m = m} {n = other} {rest = others} on inside apart more) =
+            let enters : EntersNext tree sight.segment x m here other others = record { at = on; inside = inside; apart = apart; more = more; none = none; near = λ y b. (near y b).0 } in
+            let entered = entered_through p k sight x m here other others enters in
+            over entered.listed (same_number tree entered.portal.from i here entered.from_is here_is)
+            (record {
+              passed = lets_pass sight.segment entered.portal at m met entered.listed entered.through (near m on).1;
+              via = record { sight = sight; before = before; left = here; entered = other; after = others; leaves_are = leaves_are; left_is = entered.from_is; entered_is = entered.to_is };
+              new = not_again entered.portal.to other (Contains-first other others) entered.to_is;
+            })
+            (route sight at met m entered.portal.to (before ++ here ∷ []) other others (leaves_are ∙ sym (append_assoc before (here ∷ []) (other ∷ others))) entered.to_is
+            (λ a j there. not_again a j (Contains-later other j others there))
+            (none_from tree (node_planes tree.shape) x m sight.segment.to on none)
+            (λ y b. near y (farther_between x sight.segment.to m y on b)) more)
+
+        -- over portals that the state lets pass, via which the leaf is seen, and which lead to no leaf met before
+        pub route_ahead : IsAhead meets tree p state n met_before k → Route (portals_of tree touchings) IsOnRoute n k
+        route_ahead ahead =
+            route ahead.sight ahead.at ahead.met ahead.at n ahead.before ahead.here ahead.rest ahead.leaves_are ahead.here_is ahead.not_again (none_on ahead) (λ y b. (near_end ahead y b, b)) ahead.passes

@@ -1,0 +1,24 @@
+use Rattle.std.specs.Prelude.{◌≡◌, ℕ, List, ◌∷◌, ◌++◌, Contains}
+use Rattle.qm_space.specs.Point.{Point}
+use Rattle.qm_space.specs.Line.{IsBetween}
+use Rattle.qm_partition.specs.Tree.{Tree}
+use Rattle.qm_contacts.specs.Portals.{Portal}
+use Rattle.qm_segments.specs.Segment.{Segment}
+use Rattle.qm_segments.specs.LeafNumber.{IsNumberOf}
+use Rattle.qm_segments.specs.Passes.{Passes}
+use Rattle.qm_segments.specs.Sight.{IsInSight}
+
+-- the leaf of number k is ahead: some segment that shows it from the portal p has met the state, is in the leaf of number n
+-- from there on, and enters none of the leaves met before any more
+pub record IsAhead {State : Type 0} (meets : Segment → Point → State → Type 0) (tree : Tree) (p : Portal) (state : State) (n : ℕ) (met_before : List ℕ) (k : ℕ) : Type 0 where
+  pub sight : IsInSight tree p k
+  pub at : Point
+  pub between : IsBetween at sight.segment.from sight.segment.to
+  pub met : meets sight.segment at state
+  pub before : List ℕ
+  pub here : ℕ
+  pub rest : List ℕ
+  pub leaves_are : sight.entered ∷ sight.rest ≡ before ++ here ∷ rest
+  pub passes : Passes tree at sight.segment.to (here ∷ rest)
+  pub here_is : IsNumberOf tree n here
+  pub not_again : (m j : ℕ) → Contains rest j → IsNumberOf tree m j → Contains met_before m → ⊥
