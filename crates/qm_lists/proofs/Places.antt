@@ -70,3 +70,16 @@ module _ {X : Type 0} (xs : List X) (k : ℕ) (x : X) (within : k < length xs) (
   -- the list is what stands before it, itself, and what stands behind it
   pub parted-read : xs ≡ take k xs ++ x ∷ drop (k + 1) xs
   parted-read = sym (take-append-drop k xs) ∙ ap (λ (r : List X). take k xs ++ r) (drop_more xs k x within ∙ ap (λ (y : X). y ∷ drop (k + 1) xs) (sym read))
+
+-- ---- the first elements
+
+-- the first i elements, and the one behind them
+pub take_next : {X : Type 0} (xs : List X) (i : ℕ) (x : X) → slice_get xs i ≡ Some x → take (suc i) xs ≡ take i xs ++ x ∷ []
+take_next [] i x at = cc
+take_next (y ∷ ys) zero x at = cc
+take_next (y ∷ ys) (suc i) x at = ap (λ zs. y ∷ zs) (take_next ys i x at)
+
+pub length-take_at : {X : Type 0} (xs : List X) (i : ℕ) (x : X) → slice_get xs i ≡ Some x → length (take i xs) ≡ i
+length-take_at [] i x at = cc
+length-take_at (y ∷ ys) zero x at = refl
+length-take_at (y ∷ ys) (suc i) x at = ap suc (length-take_at ys i x at)
