@@ -3,7 +3,7 @@ use Rattle.std.proofs.Common.{◌≡◌, ℕ, ◌+◌, ◌<◌, Option, Some, No
 use Rattle.std.specs.Option.{MatchOption}
 use Rattle.std.proofs.lemmas.List.{map-append}
 use Rattle.std.proofs.lemmas.List.Elements.{All-head, All-append}
-use Rattle.qm_lists.proofs.TakenItems.{taken_next, parted_at}
+use Rattle.qm_lists.proofs.Places.{take-read, parted-read}
 use Rattle.qm_lists.proofs.Elements.{All-first_part, All-last_part}
 use Rattle.qm_space.specs.Point.{Point}
 use Rattle.qm_space.specs.Plane.{Plane, IsInFront}
@@ -71,7 +71,7 @@ module _ (planes : List Plane) (due : DueCell) (h : Plane) (crosses : CrossesCel
 
 module _ (winding left_so_far : Winding) (facets : List Facet) (i : ℕ) (next : Facet) (within : i < length facets) (read : next ≡ get_or facets i next) (so_far : IsPartWithin left_so_far winding (map inward_of (take i facets))) where
   inward_planes : map inward_of facets ≡ map inward_of (take i facets) ++ next.inward ∷ map inward_of (drop (i + 1) facets)
-  inward_planes = ap (map inward_of) (parted_at facets i next within read) ∙ map-append inward_of (take i facets) (next ∷ drop (i + 1) facets)
+  inward_planes = ap (map inward_of) (parted-read facets i next within read) ∙ map-append inward_of (take i facets) (next ∷ drop (i + 1) facets)
 
   -- some of it is before the next facet
   pub some_before_next : HasPointBefore winding facets → HasSomeInFront left_so_far next.inward
@@ -86,5 +86,5 @@ module _ (winding left_so_far : Winding) (facets : List Facet) (i : ℕ) (next :
   -- and once it is cut, the part before one facet more is left
   pub within_next : (part : Winding) → IsPartInFront part left_so_far next.inward → IsPartWithin part winding (map inward_of (take (i + 1) facets))
   within_next part is =
-      subst (IsPartWithin part winding) (sym (ap (map inward_of) (taken_next facets i next within read) ∙ map-append inward_of (take i facets) (next ∷ [])))
+      subst (IsPartWithin part winding) (sym (ap (map inward_of) (take-read facets i next within read) ∙ map-append inward_of (take i facets) (next ∷ [])))
       (within_one_more part left_so_far winding (map inward_of (take i facets)) next.inward so_far is)
