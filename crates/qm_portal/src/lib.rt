@@ -4,6 +4,8 @@
 mod cell;
 mod facet;
 mod finding;
+mod links;
+mod neighbours;
 mod pairs;
 mod piece;
 mod pushing;
