@@ -101,7 +101,7 @@ has_bytes() { # has_bytes NAME BYTES
 
 compiles_a_room() {
     run_program compile room.map room.tree
-    ended 0 'brushes 6\nflat 0\nplanes 12\nnodes 12\nleaves 13\n' && has_bytes room.tree 586 || return 1
+    ended 0 'sealed\nbrushes 6\nflat 0\nplanes 12\nnodes 12\nleaves 13\nnumbered 1\nfilled 6\nportals 0\n' && has_bytes room.tree 586 || return 1
     # a world of two brushes, one within the other
     {
         echo '{'
@@ -112,11 +112,15 @@ compiles_a_room() {
     run_program format two.map two.out
     [[ $status == 0 && $(<"$folder/printed") == $'entities 1\nbrushes 2' ]] || return 1
     run_program compile two.map two.tree
-    ended 0 'brushes 2\nflat 0\nplanes 9\nnodes 6\nleaves 7\n' && has_bytes two.tree 376 || return 1
+    ended 0 'no entity\nbrushes 2\nflat 0\nplanes 9\nnodes 6\nleaves 7\nnumbered 6\nfilled 0\nportals 12\n' && has_bytes two.tree 376 || return 1
     # a world without brushes
     echo '{ }' >"$folder/bare.map"
     run_program compile bare.map bare.tree
-    ended 0 'brushes 0\nflat 0\nplanes 0\nnodes 0\nleaves 1\n' && has_bytes bare.tree 46
+    ended 0 'no entity\nbrushes 0\nflat 0\nplanes 0\nnodes 0\nleaves 1\nnumbered 1\nfilled 0\nportals 0\n' && has_bytes bare.tree 46 || return 1
+    # an entity in the open
+    echo '{ } { "origin" "0 0 0" }' >"$folder/open.map"
+    run_program compile open.map open.tree
+    ended 3 'leak: entity 1\ntrail: 0\n' && cmp "$folder/bare.tree" "$folder/open.tree"
 }
 
 formats_a_room_once_and_again() {

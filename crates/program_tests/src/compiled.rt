@@ -4,7 +4,7 @@ use super::cube_file::CUBE_FILE;
 use super::empty_file::{EMPTY_FILE, EMPTY_SUMMARY};
 use super::outside::{Outside, gives};
 use super::printed::SUMMARY;
-use super::room::ROOM;
+use super::rooms::{CORNER_ROOMS, HOLE_ROOM, SEALED_ROOM};
 use std::alloc::{AllocError, Global};
 use std::test::Fail;
 use std::thread::Threads;
@@ -30,29 +30,6 @@ const APART: &str = "{\n( 0 0 0 ) ( 0 1 0 ) ( 1 0 0 ) stone 0 0 0 1 1\n\
     ( 0 0 128 ) ( 1 0 128 ) ( 0 1 128 ) stone 0 0 0 1 1\n}\n";
 
 const CUBE: BoxRow = ([0, 0, 0], [64, 64, 64]);
-
-const WALLS: [BoxRow; 5] = [
-    ([-80, -80, -16], [80, 80, 0]),
-    ([-80, -80, 96], [80, 80, 112]),
-    ([-80, -80, 0], [80, -64, 96]),
-    ([-80, 64, 0], [80, 80, 96]),
-    ([-80, -64, 0], [-64, 64, 96]),
-];
-
-const ROUND_A_CORNER: [BoxRow; 12] = [
-    ([-144, -80, -16], [112, 192, 0]),
-    ([-144, -80, 96], [112, 192, 112]),
-    ([-144, -80, 0], [112, -64, 96]),
-    ([-144, -64, 0], [-128, 192, 96]),
-    ([96, -64, 0], [112, 192, 96]),
-    ([-128, 64, 0], [-16, 192, 96]),
-    ([-16, 64, 0], [0, 192, 96]),
-    ([0, 176, 0], [96, 192, 96]),
-    ([0, 64, 64], [96, 80, 96]),
-    ([-16, -64, 64], [0, 64, 96]),
-    ([-16, -32, 0], [0, 64, 64]),
-    ([32, 64, 0], [96, 80, 64]),
-];
 
 /// Texts that mean the cube, and a world without brushes.
 #[test]
@@ -109,7 +86,10 @@ fn names_give_contents(rt: HostRuntime) -> Result<(), Fail> {
     for (name, numbered, code) in rows {
         let text = named_cube(rt.alloc(), name)?;
         let file = cube_file_of(rt.alloc(), numbered, code)?;
-        assert!(rt; gives(&rt, "compile", &text, 0, SUMMARY, Some(file.as_slice()))?);
+        let printed = format!(in rt.alloc();
+            "no entity\nbrushes 1\nflat 0\nplanes 6\nnodes 6\nleaves 7\nnumbered {numbered}\nfilled 0\nportals 12\n"
+        )?;
+        assert!(rt; gives(&rt, "compile", &text, 0, &printed, Some(file.as_slice()))?);
     }
     for name in ["clip", "CLIP"] {
         let text = named_cube(rt.alloc(), name)?;
@@ -127,25 +107,21 @@ fn names_give_contents(rt: HostRuntime) -> Result<(), Fail> {
     Ok(())
 }
 
-/// Whether a text compiles with these counts of brushes, flat ones, planes, nodes and leaves, to a file of this
-/// length.
+/// Whether a text without entities compiles with these counts of brushes, flat ones, planes, nodes, leaves, numbered leaves
+/// and portals, to a file of this length.
 fn counts<R: AllocGlobal + Threads + Sync>(
     rt: &R,
     text: &str,
-    counts: [u64; 5],
+    counts: [u64; 7],
     length: usize,
 ) -> Result<bool, AllocError> {
-    let [brushes, flat, planes, nodes, leaves] = counts;
+    let [brushes, flat, planes, nodes, leaves, numbered, portals] = counts;
     let printed = format!(in rt.alloc();
-        "brushes {brushes}\nflat {flat}\nplanes {planes}\nnodes {nodes}\nleaves {leaves}\n"
+        "no entity\nbrushes {brushes}\nflat {flat}\nplanes {planes}\nnodes {nodes}\nleaves {leaves}\nnumbered {numbered}\nfilled 0\nportals {portals}\n"
     )?;
     let mut outside = Outside::new(rt.alloc(), text.as_bytes())?;
     let says = outside.says(rt, &["compile", "map", "out"], 0, &printed);
-    let is_long = outside
-        .shelf
-        .get("out")
-        .is_some_and(|file| file.len() == length);
-    Ok(says && is_long)
+    Ok(says && outside.has_long_out(length))
 }
 
 /// A box that ends at the wall of the cube, flat brushes, and solids that share a face.
@@ -154,16 +130,16 @@ fn counts_what_boxes_give(rt: HostRuntime) -> Result<(), Fail> {
     let wall = ([0, 0, 0], [4096, 64, 64]);
     let above = ([0, 0, 64], [64, 64, 128]);
     let rows = [
-        ("", [wall, wall], [2, 0, 6, 5, 6], 291),
-        (APART, [CUBE, above], [3, 1, 7, 6, 7], 336),
-        (OPPOSED, [CUBE, CUBE], [3, 1, 6, 6, 7], 316),
+        ("", [wall, wall], [2, 0, 6, 5, 6, 5, 8], 291),
+        (APART, [CUBE, above], [3, 1, 7, 6, 7, 6, 12], 336),
+        (OPPOSED, [CUBE, CUBE], [3, 1, 6, 6, 7, 6, 12], 316),
     ];
     for (brushes, boxes, wanted, length) in rows {
         let text = world(rt.alloc(), brushes, &boxes)?;
         assert!(rt; counts(&rt, &text, wanted, length)?);
     }
     let flat = world(rt.alloc(), OPPOSED, &[])?;
-    assert!(rt; counts(&rt, &flat, [1, 1, 1, 0, 1], 66)?);
+    assert!(rt; counts(&rt, &flat, [1, 1, 1, 0, 1, 1, 0], 66)?);
     Ok(())
 }
 
@@ -177,26 +153,20 @@ fn counts_what_two_contents_give(rt: HostRuntime) -> Result<(), Fail> {
     put_box(&mut stone_first, "stone", [16, 16, 16], [48, 48, 48])?;
     put_box(&mut stone_first, "*water1", [0, 0, 0], [64, 64, 64])?;
     let text = world(rt.alloc(), &water_first, &[])?;
-    assert!(rt; counts(&rt, &text, [2, 0, 12, 12, 13], 586)?);
+    assert!(rt; counts(&rt, &text, [2, 0, 12, 12, 13, 12, 24], 586)?);
     let text = world(rt.alloc(), &stone_first, &[])?;
-    assert!(rt; counts(&rt, &text, [2, 0, 12, 24, 25], 886)?);
+    assert!(rt; counts(&rt, &text, [2, 0, 12, 24, 25, 24, 52], 886)?);
     Ok(())
 }
 
-/// A room, as boxes and as an editor writes it, the room with a hole in a wall, and three rooms round a corner.
+/// A room, the room with a hole in a wall, and three rooms round a corner, each without an entity.
 #[test]
 fn counts_what_rooms_give(rt: HostRuntime) -> Result<(), Fail> {
-    let mut room = Vec::from_slice(rt.alloc(), &WALLS)?;
-    room.push(([64, -64, 0], [80, 64, 96]))?;
-    let mut hole = Vec::from_slice(rt.alloc(), &WALLS)?;
-    hole.push(([64, -64, 0], [80, 0, 96]))?;
-    hole.push(([64, 1, 0], [80, 64, 96]))?;
-    let room = world(rt.alloc(), "", &room)?;
-    let hole = world(rt.alloc(), "", &hole)?;
-    let corner = world(rt.alloc(), "", &ROUND_A_CORNER)?;
-    assert!(rt; counts(&rt, &room, [6, 0, 12, 12, 13], 586)?);
-    assert!(rt; counts(&rt, &hole, [7, 0, 14, 14, 15], 676)?);
-    assert!(rt; counts(&rt, &corner, [12, 0, 19, 22, 23], 976)?);
-    assert!(rt; counts(&rt, ROOM, [6, 0, 12, 12, 13], 586)?);
+    let room = world(rt.alloc(), "", &SEALED_ROOM)?;
+    let hole = world(rt.alloc(), "", &HOLE_ROOM)?;
+    let corner = world(rt.alloc(), "", &CORNER_ROOMS)?;
+    assert!(rt; counts(&rt, &room, [6, 0, 12, 12, 13, 7, 12], 586)?);
+    assert!(rt; counts(&rt, &hole, [7, 0, 14, 14, 15, 8, 14], 676)?);
+    assert!(rt; counts(&rt, &corner, [12, 0, 19, 22, 23, 11, 16], 976)?);
     Ok(())
 }

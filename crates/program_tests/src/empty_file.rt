@@ -10,4 +10,5 @@ pub const EMPTY_FILE: [u8; 46] = [
     0xFF, 0xFF, 0xFF, 0xFF, 0x00,
 ];
 
-pub const EMPTY_SUMMARY: &str = "brushes 0\nflat 0\nplanes 0\nnodes 0\nleaves 1\n";
+pub const EMPTY_SUMMARY: &str =
+    "no entity\nbrushes 0\nflat 0\nplanes 0\nnodes 0\nleaves 1\nnumbered 1\nfilled 0\nportals 0\n";

@@ -19,6 +19,8 @@ mod folder;
 #[cfg(test)]
 mod formatted;
 #[cfg(test)]
+mod leaks;
+#[cfg(test)]
 mod map_faults;
 #[cfg(test)]
 mod outside;
@@ -30,6 +32,8 @@ mod pipe;
 mod printed;
 #[cfg(test)]
 mod room;
+#[cfg(test)]
+mod rooms;
 #[cfg(test)]
 mod sure_forms;
 #[cfg(test)]

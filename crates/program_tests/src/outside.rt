@@ -33,6 +33,13 @@ impl Outside {
         answer.number() == status && self.sink.bytes() == printed.as_bytes()
     }
 
+    /// Whether `out` holds so many bytes.
+    pub fn has_long_out(&self, length: usize) -> bool {
+        self.shelf
+            .get("out")
+            .is_some_and(|file| file.len() == length)
+    }
+
     /// Whether `out` holds these bytes, `map` this text and the other file what it held, and so many reads,
     /// writes and prints failed.
     pub fn holds(&self, out: Option<&[u8]>, text: &[u8], faults: [u64; 3]) -> bool {

@@ -20,4 +20,6 @@ mod refused;
 #[cfg(test)]
 mod rows;
 #[cfg(test)]
+mod trails;
+#[cfg(test)]
 mod worlds;
