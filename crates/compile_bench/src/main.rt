@@ -56,6 +56,10 @@ fn go_on<R: AllocGlobal + Print>(rt: &R, phase: &str, map: &MapFile) -> io::Resu
         return println!(rt; "brushes {brushes}, planes {planes}");
     }
     let tree = build(rt.alloc(), &list, &book)?;
+    if phase == "touches" {
+        let contacts = qm_portal::touches(rt.alloc(), &tree)?;
+        return println!(rt; "pairs {}", contacts.count());
+    }
     let nodes = tree.nodes();
     let leaves = tree.leaves();
     println!(rt; "brushes {brushes}, planes {planes}, nodes {nodes}, leaves {leaves}")

@@ -1,7 +1,7 @@
 -- A visit leaves less to do.
-use Rattle.std.proofs.Common.{◌≡◌, ℕ, zero, suc, ◌+◌, ◌*◌, ◌<◌, ◌≤◌, ◌^◌, List, [], ◌∷◌, ◌++◌, refl, ap, ◌∙◌, arith}
+use Rattle.std.proofs.Common.{◌≡◌, ℕ, ◌+◌, ◌<◌, ◌^◌, List, [], ◌∷◌, ◌++◌, refl, ap, ◌∙◌, arith}
 use Rattle.std.specs.Prelude.{reverse}
-use Rattle.std.proofs.Math.Nat.{pow-suc, one-le-pow, pow-le-pow_right}
+use Rattle.qm_numbers.proofs.Powers.{some_power, two_powers}
 use Rattle.qm_space.specs.Plane.{Plane}
 use Rattle.qm_solids.specs.Solid.{Solid}
 use Rattle.qm_partition.specs.declared.visit.Visit.{Visit}
@@ -10,20 +10,6 @@ use Rattle.qm_split.specs.CellFragments.{piece_count}
 use Rattle.qm_build.specs.inner.UnderWay.{weight}
 use Rattle.qm_build.specs.inner.Visited.{IsVisited, is_leaf, is_node}
 use Rattle.qm_build.proofs.Visits.{next_first}
-
-some_power : (n : ℕ) → 0 < 3 ^ n
-some_power n = omega (arith, one-le-pow n 3 (omega arith))
-
-higher : (k n : ℕ) → k ≤ n → 3 ^ k ≤ 3 ^ n
-higher k n no_more = let three : 0 < 3 = omega arith in pow-le-pow_right three no_more
-
-two_sides : (j k n : ℕ) → j < n → k < n → 3 ^ j + 3 ^ k < 3 ^ n
-two_sides j k zero less fewer = absurd (omega arith)
-two_sides j k (suc n) less fewer =
-    let front : 3 ^ j ≤ 3 ^ n = higher _ n (omega arith) in
-    let back : 3 ^ k ≤ 3 ^ n = higher _ n (omega arith) in
-    let more : 3 ^ suc n ≡ 3 ^ n * 3 = pow-suc 3 n in
-    omega (arith, front, back, more, some_power n)
 
 weight_first : (pending before : List Fragments) (next : Fragments) → before ≡ pending ++ next ∷ [] → weight (reverse before) ≡ 3 ^ piece_count next + weight (reverse pending)
 weight_first pending before next is = ap (λ (p : List Fragments). weight (reverse p)) is ∙ ap weight (next_first pending next)
@@ -34,4 +20,4 @@ less_to_do solids book fragments before pending walk pending' walk' is (is_leaf 
 less_to_do solids book fragments before pending walk pending' walk' is (is_node {front = front} {back = back} least in_front fewer behind less waits wrote) =
     let last = weight_first (pending ++ back ∷ []) pending' front waits in
     let first = weight_first pending (pending ++ back ∷ []) back refl in
-    omega (arith, weight_first pending before fragments is, last, first, two_sides (piece_count front) (piece_count back) (piece_count fragments) fewer less)
+    omega (arith, weight_first pending before fragments is, last, first, two_powers (piece_count front) (piece_count back) (piece_count fragments) fewer less)

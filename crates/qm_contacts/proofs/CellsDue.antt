@@ -24,18 +24,11 @@ use Rattle.qm_contacts.specs.Outside.{TouchesOutside}
 use Rattle.qm_contacts.specs.Contacts.{Contacts, AreContacts}
 use Rattle.qm_contacts.specs.inner.Descent.{HasPointsBelow, AreCellFacets}
 use Rattle.qm_contacts.specs.inner.Pieces.{walled_cell}
-use Rattle.qm_contacts.specs.inner.Due.{DueCell, DueCellBelow, ComesToTouchings, AreOutside, ComesToOutside}
+use Rattle.qm_contacts.specs.inner.Due.{DueCell, DueCellBelow, IsDueCell, ComesToTouchings, AreOutside, ComesToOutside}
 use Rattle.qm_contacts.proofs.Pieces.{touchings_append}
 use Rattle.qm_contacts.proofs.Descent.{points_in_front, points_behind, points_at_root, section_point}
 use Rattle.qm_contacts.proofs.WaysBelow.{ways_in_front, ways_behind}
-use Rattle.qm_contacts.proofs.PushedDown.{StandsFor, root_stands, IsLeafPart, IsNodePart}
-
--- what is known of a cell that is due
-pub record IsDueCell (tree : Tree) (entry : DueCellBelow) : Type 0 where
-  pub stands : StandsFor tree.shape entry.due.child entry.part entry.n entry.k
-  pub facets : AreCellFacets tree.planes entry.above entry.due.on_walls entry.due.on_steps
-  pub points : HasPointsBelow tree.planes entry.above entry.part
-  pub ways_below : (i : ℕ) (way : Way) → slice_get (ways entry.part) i ≡ Some way → slice_get (ways tree.shape) (entry.k + i) ≡ Some (entry.above ++ way)
+use Rattle.qm_contacts.proofs.PushedDown.{root_stands, IsLeafPart, IsNodePart}
 
 -- ---- at a leaf
 

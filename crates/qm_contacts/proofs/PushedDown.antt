@@ -1,5 +1,5 @@
 -- Pushing a polygon down numbered nodes by a stack: what is due at a leaf and at a node.
-use Rattle.std.proofs.Common.{◌≡◌, ℕ, ◌+◌, Bool, true, false, Option, Some, None, List, [], ◌∷◌, ◌++◌, map, refl, sym, ap, ◌∙◌, subst}
+use Rattle.std.proofs.Common.{◌≡◌, ℕ, ◌+◌, ◌<◌, Bool, true, false, Option, Some, None, List, [], ◌∷◌, ◌++◌, map, refl, sym, ap, ◌∙◌, subst, arith}
 use Rattle.std.specs.Prelude.{slice_get}
 use Rattle.std.specs.Option.{MatchOption}
 use Rattle.qm_lists.specs.inner.Stack.{ComesTo}
@@ -15,17 +15,14 @@ use Rattle.qm_partition.specs.declared.node.Leaf.{Leaf as LeafRecord}
 use Rattle.qm_partition.specs.declared.node.Child.{Child}
 use Rattle.qm_partition.specs.declared.node.Child.TheVariants.{Node, Leaf}
 use Rattle.qm_partition.specs.Partition.{Partition, leaf, node}
+use Rattle.qm_partition.specs.Counting.{node_count}
 use Rattle.qm_partition.specs.Numbering.{nodes_after, leaves_after, child_of, nodes_of}
-use Rattle.qm_partition.proofs.PlacedParts.{top_node, IsPart, whole_part, part_node, part_front, part_back}
+use Rattle.qm_partition.specs.inner.PlacedPart.{IsPart}
+use Rattle.qm_partition.proofs.PlacedParts.{top_node, whole_part, part_node, part_front, part_back}
 use Rattle.qm_contacts.specs.Meeting.{seen_from, leaves_below}
 use Rattle.qm_contacts.specs.inner.Pieces.{Piece, ArePieces}
-use Rattle.qm_contacts.specs.inner.Due.{DueBelow, ComesToPieces, half_due}
+use Rattle.qm_contacts.specs.inner.Due.{StandsFor, DueBelow, ComesToPieces, half_due}
 use Rattle.qm_contacts.proofs.Pieces.{pieces_append, piece_at_leaf, seen_through, none_seen}
-
--- a child stands for a part of a partition
-pub record StandsFor (whole : Partition) (child : Child) (part : Partition) (n k : ℕ) : Type 0 where
-  pub is_part : IsPart whole part n k
-  pub child_is : child ≡ child_of part n k
 
 pub root_stands : (whole : Partition) → StandsFor whole (child_of whole 0 0) whole 0 0
 root_stands whole = record { is_part = whole_part whole; child_is = refl }
@@ -69,6 +66,14 @@ node_by_part whole (node p front back) n k j here is_part is at =
 
 pub node_part : (whole : Partition) (child : Child) (part : Partition) (n k j : ℕ) (here : NodeRecord) → StandsFor whole child part n k → child ≡ Node j → slice_get (nodes_of whole 0 0) j ≡ Some here → (j ≡ n) × IsNodePart whole part n k here
 node_part whole child part n k j here stands is at = node_by_part whole part n k j here stands.is_part (sym is ∙ stands.child_is) at
+
+-- the number of a node is one of the tree's
+pub node_within : (whole part : Partition) (n k j : ℕ) → StandsFor whole (Node j) part n k → j < node_count whole
+node_within whole (leaf found) n k j stands = let is = stands.child_is in absurd cc
+node_within whole (node p front back) n k j stands =
+    let is = stands.child_is in
+    let same : j ≡ n = cc in
+    omega (arith, same, stands.is_part.nodes_in)
 
 -- ---- the pieces of a polygon
 

@@ -14,9 +14,9 @@ use Rattle.qm_convex.specs.Winding.{Winding, IsInRegion, IsConvex}
 use Rattle.qm_convex.specs.Cut.{IsPartInFront, IsPartWithin}
 use Rattle.qm_convex.specs.Sides.{HasNoneInFront, HasSomeInFront}
 use Rattle.qm_convex.specs.World.{IsWorldPart}
-use Rattle.qm_convex.specs.inner.Facets.{IsOnFacet, HasNoFacet, Facet, IsFacet, AreFacetsOn, AreFacets, none, facet, hidden, AreCut, left, gone, IsSection}
+use Rattle.qm_convex.specs.inner.Facets.{IsOnFacet, HasNoFacet, Facet, IsFacet, AreFacetsOn, AreFacets, none, facet, hidden, AreCut, left, gone, IsSection, inward_of}
 use Rattle.qm_convex.proofs.Central.{has_a_point}
-use Rattle.qm_convex.proofs.ImpliedPlanes.{beside_of_cell, inward_of, facets_from_cell, cell_from_facets}
+use Rattle.qm_convex.proofs.ImpliedPlanes.{beside_of_cell, facets_from_cell, cell_from_facets}
 
 -- facets of one cell on planes of two lists
 pub facets_append : (cell first second : List Plane) (facets others : List Facet) → AreFacetsOn cell first facets → AreFacetsOn cell second others → AreFacetsOn cell (first ++ second) (facets ++ others)

@@ -13,7 +13,7 @@ use Rattle.qm_space.proofs.SameSides.{same_sides_itself, same_in_front}
 use Rattle.qm_space.proofs.Openness.{moved, value_moved, reach, each_within_reach, moved_in_front}
 use Rattle.qm_space.proofs.Proportional.{by_proportional}
 use Rattle.qm_space.proofs.Crossings.{through, crossing_on, crossing_weight, crossing_in_cell}
-use Rattle.qm_convex.specs.inner.Facets.{Facet, AreFacetsOn, AreFacets, none, facet, hidden}
+use Rattle.qm_convex.specs.inner.Facets.{Facet, AreFacetsOn, AreFacets, none, facet, hidden, inward_of}
 
 -- each of these planes has the sides of q, or the point in front of it
 abbrev pub IsBeside : List Plane → Plane → Point → Type 0
@@ -147,9 +147,6 @@ enough kept (h ∷ rest) some c weight in_kept in_left (leave never keeps) x w k
         (All-cons (λ g. HasSameSides g q ⊎ IsInFront g y) h rest (beside_implied kept rest c weight in_kept behind h q ahead front front_of y v on beside_kept beside_rest) beside_rest)
 
 -- ---- the facets of a cell
-
-abbrev pub inward_of : Facet → Plane
-inward_of found = found.inward
 
 keeps_facets : (cell planes : List Plane) (facets : List Facet) → AreFacetsOn cell planes facets → Keeps (NoFacet [] cell) planes (map inward_of facets)
 keeps_facets cell planes facets none = nothing

@@ -7,7 +7,7 @@ use Rattle.qm_space.specs.Point.{Point}
 use Rattle.qm_space.specs.Plane.{Plane, value, flipped}
 use Rattle.qm_space.specs.Cuboid.{Cuboid, whole_cuboid, least_value, greatest_value, IsTightened}
 use Rattle.qm_space.proofs.Planes.{value_flipped}
-use Rattle.qm_space.proofs.Cuboids.{least_value_bound, greatest_value_bound, cube_in_whole}
+use Rattle.qm_space.proofs.Cuboids.{least_value_bound, greatest_value_bound, closed_cube_in_whole}
 use Rattle.qm_convex.specs.Winding.{Winding, IsInRegion}
 use Rattle.qm_convex.specs.Sides.{HasNoneInFront, IsWhollyInFront, LiesIn}
 use Rattle.qm_convex.specs.Cut.{IsPartInFront}
@@ -45,7 +45,7 @@ module _ (v : Winding) (c : Cuboid) (g : Plane) (w : LiesWithin v c) where
 -- ---- cuboids of windings
 
 pub world_within : (v : Winding) → IsInWorld v → LiesWithin v whole_cuboid
-world_within v i p r = cube_in_whole p (i.inside p r)
+world_within v i p r = closed_cube_in_whole p (i.inside p r)
 
 weight_not_negative : (v : Winding) (p : Point) → IsInRegion v p → pos 0 ≤ℤ p.w
 weight_not_negative v p r = let k = r.weight in omega (arith, linear)
@@ -60,9 +60,9 @@ part_within w v g c t l part k p r =
 pub on_within : (v : Winding) (g : Plane) (c t : Cuboid) → LiesWithin v c → LiesIn v g → IsTightened t c g → LiesWithin v t
 on_within v g c t l on k p r = k p (weight_not_negative v p r) (l p r) (let f = on p r in omega (arith, linear))
 
--- so the part of a plane in the cube lies within what both sides leave of the closed cube
-pub world_part_within : (w : Winding) (h : Plane) (t u : Cuboid) → IsInWorld w → w.plane ≡ h → IsTightened t whole_cuboid h → IsTightened u t (flipped h) → LiesWithin w u
-world_part_within w h t u i e k l = on_within w (flipped h) t u (on_within w h whole_cuboid t (world_within w i) on k) turned l
+-- so one in the world lies within what both sides of its plane leave of the closed cube
+pub world_within_own : (w : Winding) (h : Plane) (t u : Cuboid) → IsInWorld w → w.plane ≡ h → IsTightened t whole_cuboid h → IsTightened u t (flipped h) → LiesWithin w u
+world_within_own w h t u i e k l = on_within w (flipped h) t u (on_within w h whole_cuboid t (world_within w i) on k) turned l
   where
     on : LiesIn w h
     on p r = ap (λ (g : Plane). value g p) (sym e) ∙ r.on

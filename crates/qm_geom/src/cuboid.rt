@@ -5,10 +5,8 @@ ghost use Rattle.qm_space.specs.Plane.{value};
 ghost use Rattle.qm_space.specs.Cuboid.{IsInSpan, IsInCuboid, whole_span, whole_cuboid, least_product, greatest_product, least_value, greatest_value, IsTightened, IsTightenedSpan};
 
 use crate::plane::Plane;
+use qm_space::WORLD_EXTENT;
 use std::marker::Model;
-
-/// The coordinates of the world lie strictly between this number and its opposite.
-pub const WORLD_EXTENT: i32 = 4096;
 
 /// From one whole coordinate of the closed cube to another, both included.
 #[derive(Clone, Copy)]

@@ -12,3 +12,6 @@ pub mod Mapped
 pub mod EachPair
 pub mod Spreads
 pub mod Stacks
+pub mod KeptStacks
+pub mod Taken
+pub mod TakenItems

@@ -6,3 +6,4 @@ pub mod Ratios
 pub mod Bits
 pub mod Roundings
 pub mod Kept
+pub mod Powers

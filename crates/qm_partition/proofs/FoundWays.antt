@@ -15,7 +15,8 @@ use Rattle.qm_partition.specs.Ways.{Way, after_step, ways}
 use Rattle.qm_partition.specs.inner.LeavesInFront.{leaves_in_front, ComesBehind}
 use Rattle.qm_partition.proofs.Counts.{leaf_count-node, nodes_after-count, leaves_after-count, one_leaf_more}
 use Rattle.qm_partition.proofs.Cells.{to_front-count}
-use Rattle.qm_partition.proofs.PlacedParts.{top_node, IsPart, whole_part, part_node, part_front, part_back}
+use Rattle.qm_partition.specs.inner.PlacedPart.{IsPart}
+use Rattle.qm_partition.proofs.PlacedParts.{top_node, whole_part, part_node, part_front, part_back}
 
 leaves_in_front-part : (front back : Partition) (n k : ℕ) → leaves_in_front (child_of back (nodes_after front (n + 1)) (leaves_after front k)) n k ≡ leaf_count front
 leaves_in_front-part front (leaf found) n k = omega (arith, leaves_after-count front k)

@@ -14,6 +14,7 @@ use Rattle.qm_partition.specs.Partition.{Partition, leaf, node}
 use Rattle.qm_partition.specs.Counting.{leaf_count, node_count, node_planes}
 use Rattle.qm_partition.specs.Numbering.{nodes_after, leaves_after, child_of, nodes_of}
 use Rattle.qm_partition.specs.LeafOfPoint.{node_value, leaf_at}
+use Rattle.qm_partition.specs.inner.PlacedPart.{IsPart, nodes_from}
 use Rattle.qm_partition.specs.inner.ChildTowards.{child_towards}
 use Rattle.qm_numbers.proofs.Signs.{side_test}
 use Rattle.qm_partition.proofs.Counts.{leaf_count-node, nodes_after-count, leaves_after-count, length-nodes_of}
@@ -24,12 +25,6 @@ top_node p front back n k = record { plane = p; front = child_of front (n + 1) k
 
 pub top_node_is : (here : NodeRecord) (front back : Partition) (n k : ℕ) → here.front ≡ child_of front (n + 1) k → here.back ≡ child_of back (nodes_after front (n + 1)) (leaves_after front k) → here ≡ top_node here.plane front back n k
 top_node_is here front back n k in_front behind = ap₂ (λ (a : Child) (b : Child). record { plane = here.plane; front = a; back = b }) in_front behind
-
--- the nodes of the part, numbered from n on, stand at their numbers; its leaves, numbered from k on, are some of the whole
-pub record IsPart (whole part : Partition) (n k : ℕ) : Type 0 where
-  pub nodes_at : (i : ℕ) (m : NodeRecord) → slice_get (nodes_of part n k) i ≡ Some m → slice_get (nodes_of whole 0 0) (n + i) ≡ Some m
-  pub nodes_in : n + node_count part ≤ node_count whole
-  pub leaves_in : k + leaf_count part ≤ leaf_count whole
 
 pub whole_part : (whole : Partition) → IsPart whole whole 0 0
 whole_part whole = record { nodes_at = λ i m at. rw zero-add at; nodes_in = omega arith; leaves_in = omega arith }
@@ -79,11 +74,6 @@ each_node_plane P (node p front back) n k (suc i) m each at =
       | inl here ↦ each_node_plane P front (n + 1) k i m (All-first_part P (node_planes front) (node_planes back) below) here
       | inr there ↦ each_node_plane P back n_back k_back there.0 m (All-last_part P (node_planes front) (node_planes back) below) there.2
     ]
-
--- the number of a node, by which a child comes behind all that come before it; leaves come last
-abbrev pub nodes_from : ℕ → Child → ℕ
-nodes_from count (Leaf k) = 0
-nodes_from count (Node n) = suc count - n
 
 child_comes_later : (shape : Partition) (n k j count : ℕ) → j < n → j < suc count → nodes_from count (child_of shape n k) < nodes_from count (Node j)
 child_comes_later (leaf found) n k j count later within = omega arith

@@ -15,7 +15,8 @@ use Rattle.qm_partition.specs.Counting.{leaves_of, node_count, leaf_count}
 use Rattle.qm_partition.specs.Numbering.{nodes_after, leaves_after, child_of, nodes_of}
 use Rattle.qm_partition.specs.Visits.{visits}
 use Rattle.qm_partition.proofs.Counts.{length-nodes_of}
-use Rattle.qm_partition.proofs.PlacedParts.{top_node, IsPart, whole_part, part_node, part_front, part_back}
+use Rattle.qm_partition.specs.inner.PlacedPart.{IsPart}
+use Rattle.qm_partition.proofs.PlacedParts.{top_node, whole_part, part_node, part_front, part_back}
 use Rattle.qm_partition.proofs.OwnArrays.{AreLeavesAt, leaves_front, leaves_back}
 use Rattle.qm_partition.proofs.Forests.{forest_children, forest_visits}
 

@@ -5,3 +5,4 @@ pub mod JoinedWalk
 pub mod RootChild
 pub mod Parts
 pub mod LeavesInFront
+pub mod PlacedPart

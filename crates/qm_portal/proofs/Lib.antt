@@ -1,0 +1,4 @@
+pub mod PushedPolygons
+pub mod CutFacets
+pub mod AddedPairs
+pub mod VisitedCells

@@ -2,15 +2,21 @@
 //! the portals between leaves of equal contents.
 #![tactic(auto)]
 
+mod cell;
+mod facet;
 mod finding;
 pub mod laws;
 mod leaving;
 mod making;
 mod numbers;
+mod pairs;
 mod passages;
+mod piece;
 mod portal;
+mod pushing;
 mod touch_list;
 mod touching;
+mod walk;
 mod worlds;
 
 pub use finding::touches;

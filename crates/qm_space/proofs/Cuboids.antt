@@ -4,7 +4,8 @@ use Rattle.std.proofs.Common.{◌≡◌, ◌≤◌, ◌^◌, ℤ, pos, negsuc, n
 use Rattle.std.proofs.lemmas.Int.{ints}
 use Rattle.std.proofs.Math.IntN.{*ℤ_comm}
 use Rattle.qm_space.specs.Bounds.{extent, normal_bound}
-use Rattle.qm_space.specs.Point.{Point, IsCoordinate, IsInCube}
+use Rattle.qm_space.specs.Point.{Point, IsCoordinate}
+use Rattle.qm_space.specs.Cube.{IsInClosedCube}
 use Rattle.qm_space.specs.Plane.{Plane, value}
 use Rattle.qm_space.specs.Cuboid.{Span, Cuboid, IsInSpan, IsInCuboid, whole_span, whole_cuboid, least_product, greatest_product, least_value, greatest_value, IsTightened, IsTightenedSpan}
 use Rattle.qm_numbers.proofs.IntegerProducts.{linear, *ℤ_assoc, one_*ℤ, zero_*ℤ, +ℤ-*ℤ, -ℤ-*ℤ, neg-*ℤ}
@@ -67,10 +68,10 @@ greatest_value_bound h c p i =
 
 -- ---- the closed cube
 
-pub cube_in_whole : (p : Point) → IsInCube p → IsInCuboid whole_cuboid p
-cube_in_whole p c = record { x = within p.x c.x.above c.x.below; y = within p.y c.y.above c.y.below; z = within p.z c.z.above c.z.below }
+pub closed_cube_in_whole : (p : Point) → IsInClosedCube p → IsInCuboid whole_cuboid p
+closed_cube_in_whole p c = record { x = within p.x c.x.above c.x.below; y = within p.y c.y.above c.y.below; z = within p.z c.z.above c.z.below }
   where
-    within : (x : ℤ) → neg_ℤ (extent *ℤ p.w) <ℤ x → x <ℤ (extent *ℤ p.w) → IsInSpan whole_span x p.w
+    within : (x : ℤ) → neg_ℤ (extent *ℤ p.w) ≤ℤ x → x ≤ℤ (extent *ℤ p.w) → IsInSpan whole_span x p.w
     within x a b = let e = neg-*ℤ extent p.w in record { above = omega (arith, linear); below = omega (arith, linear) }
 
 -- ---- sizes

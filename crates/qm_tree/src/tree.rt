@@ -203,7 +203,7 @@ impl Tree {
     }
 
     /// The child that a walk begins with.
-    fn root(&self) -> Child
+    pub fn root(&self) -> Child
         ensures { result ≡ child_of self.now.shape 0 0 }
     {
         if self.nodes.is_empty() {

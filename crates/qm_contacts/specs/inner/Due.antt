@@ -1,4 +1,4 @@
-use Rattle.std.specs.Prelude.{◌≡◌, ℕ, ◌+◌, Bool, true, Option, Some, None, List, [], ◌∷◌, length, ◌↔◌}
+use Rattle.std.specs.Prelude.{◌≡◌, ℕ, ◌+◌, Bool, true, Option, Some, None, List, [], ◌∷◌, ◌++◌, length, slice_get, ◌↔◌}
 use Rattle.qm_space.specs.Plane.{Plane}
 use Rattle.qm_convex.specs.Winding.{Winding}
 use Rattle.qm_convex.specs.inner.Facets.{Facet}
@@ -6,11 +6,19 @@ use Rattle.qm_partition.specs.declared.node.Child.{Child}
 use Rattle.qm_partition.specs.Partition.{Partition}
 use Rattle.qm_partition.specs.Tree.{Tree}
 use Rattle.qm_partition.specs.Counting.{leaf_count}
-use Rattle.qm_partition.specs.Ways.{Way}
+use Rattle.qm_partition.specs.Numbering.{child_of}
+use Rattle.qm_partition.specs.Ways.{Way, ways}
+use Rattle.qm_partition.specs.inner.PlacedPart.{IsPart}
 use Rattle.qm_contacts.specs.Meeting.{leaves_below, meetings_below}
 use Rattle.qm_contacts.specs.Touching.{Touching, AreTouchings}
 use Rattle.qm_contacts.specs.Outside.{TouchesOutside}
 use Rattle.qm_contacts.specs.inner.Pieces.{Piece, ArePieces}
+use Rattle.qm_contacts.specs.inner.Descent.{HasPointsBelow, AreCellFacets}
+
+-- a child stands for a part of a partition
+pub record StandsFor (whole : Partition) (child : Child) (part : Partition) (n k : ℕ) : Type 0 where
+  pub is_part : IsPart whole part n k
+  pub child_is : child ≡ child_of part n k
 
 -- What is due where a polygon is pushed down numbered nodes: polygons, each with the child to which it came.
 
@@ -54,6 +62,13 @@ pub record DueCellBelow : Type 0 where
 
 abbrev pub cell_due_of : DueCellBelow → DueCell
 cell_due_of entry = entry.due
+
+-- what is known of a cell that is due
+pub record IsDueCell (tree : Tree) (entry : DueCellBelow) : Type 0 where
+  pub stands : StandsFor tree.shape entry.due.child entry.part entry.n entry.k
+  pub facets : AreCellFacets tree.planes entry.above entry.due.on_walls entry.due.on_steps
+  pub points : HasPointsBelow tree.planes entry.above entry.part
+  pub ways_below : (i : ℕ) (way : Way) → slice_get (ways entry.part) i ≡ Some way → slice_get (ways tree.shape) (entry.k + i) ≡ Some (entry.above ++ way)
 
 -- what it comes to: the touching pairs of its part
 abbrev pub ComesToTouchings : List Plane → DueCellBelow → List Touching → Type 0

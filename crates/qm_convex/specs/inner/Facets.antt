@@ -20,6 +20,9 @@ pub record Facet : Type 0 where
   pub inward : Plane
   pub winding : Winding
 
+abbrev pub inward_of : Facet → Plane
+inward_of found = found.inward
+
 -- a polygon that is seen from inside, as a facet
 abbrev pub facing_in : Winding → Facet
 facing_in face = record { inward = face.plane; winding = face }

@@ -3,7 +3,7 @@ use Rattle.std.proofs.lemmas.List.{take_all}
 use Rattle.std.proofs.lemmas.List.Elements.{All-push}
 use Rattle.qm_split.specs.declared.piece.Piece.{Piece}
 use Rattle.qm_split.specs.inner.PieceParts.{IsLyingPiece}
-use Rattle.qm_split.proofs.ListedItems.{taken_next}
+use Rattle.qm_lists.proofs.TakenItems.{taken_next}
 use Rattle.qm_split.proofs.contender.all_lie.Goals as goal
 
 pub loop-piece-preserved : goal.loop-piece-preserved

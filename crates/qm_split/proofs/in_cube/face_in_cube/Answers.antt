@@ -7,7 +7,7 @@ use Rattle.qm_convex.specs.World.{MissesCube, IsWorldPart}
 use Rattle.std.proofs.lemmas.List.{get_or_default}
 use Rattle.qm_solids.specs.declared.face.FaceRef.{FaceRef}
 use Rattle.qm_split.specs.inner.FacePieces.{IsFacePiece, HasNoFacePoint}
-use Rattle.qm_split.proofs.ListedItems.{taken_next, listed_of_taken}
+use Rattle.qm_lists.proofs.TakenItems.{taken_next, listed_of_taken}
 use Rattle.qm_split.proofs.FacesInCube.{face_begins, point_of_fewer}
 use Rattle.qm_split.proofs.in_cube.face_in_cube.Goals as goal
 

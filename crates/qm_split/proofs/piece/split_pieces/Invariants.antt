@@ -1,7 +1,7 @@
 use Rattle.std.specs.Vec.Iter.{into_iter_items, into_iter_len}
 use Rattle.qm_space.specs.Plane.{flipped}
 use Rattle.qm_split.specs.inner.PieceParts.{AreFront}
-use Rattle.qm_split.specs.inner.Taking.{IsTaken}
+use Rattle.qm_lists.specs.inner.Taking.{IsTaken}
 use Rattle.qm_split.proofs.piece.split_pieces.Given as goal
 
 abbrev pub invariant-loop-piece : goal.invariant-loop-piece

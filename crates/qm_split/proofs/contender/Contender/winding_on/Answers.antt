@@ -1,6 +1,6 @@
 use Rattle.std.proofs.Common.{sym, ap, ◌∙◌}
 use Rattle.qm_convex.specs.Winding.{Winding}
-use Rattle.qm_split.proofs.ListedItems.{listed_read}
+use Rattle.qm_lists.proofs.TakenItems.{listed_read}
 use Rattle.qm_split.proofs.SidesOfPlanes.{same_by_test}
 use Rattle.qm_split.proofs.contender.Contender.winding_on.Goals as goal
 

@@ -4,7 +4,7 @@ use Rattle.qm_space.specs.Plane.{Plane, flipped}
 use Rattle.qm_split.specs.Pieces.{solid_of, IsContender}
 use Rattle.qm_split.specs.inner.Parts.{IsSection}
 use Rattle.qm_split.specs.inner.Gathered.{IsGathered, HasFewer}
-use Rattle.qm_split.specs.inner.Taking.{IsTaken}
+use Rattle.qm_lists.specs.inner.Taking.{IsTaken}
 use Rattle.qm_split.proofs.gathering.Gathering.split.Given as goal
 
 abbrev pub invariant-loop-contender : goal.invariant-loop-contender

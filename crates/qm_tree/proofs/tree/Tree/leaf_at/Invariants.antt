@@ -1,5 +1,6 @@
 use Rattle.qm_partition.specs.Counting.{node_count}
-use Rattle.qm_partition.proofs.PlacedParts.{LeadsOn, nodes_from}
+use Rattle.qm_partition.specs.inner.PlacedPart.{nodes_from}
+use Rattle.qm_partition.proofs.PlacedParts.{LeadsOn}
 use Rattle.qm_tree.proofs.tree.Tree.leaf_at.Given as goal
 
 -- the child is what the point is led to

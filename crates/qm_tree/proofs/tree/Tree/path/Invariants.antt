@@ -1,5 +1,5 @@
 use Rattle.qm_partition.specs.Counting.{node_count}
-use Rattle.qm_partition.proofs.PlacedParts.{nodes_from}
+use Rattle.qm_partition.specs.inner.PlacedPart.{nodes_from}
 use Rattle.qm_partition.proofs.FoundWays.{IsOnTheWay}
 use Rattle.qm_tree.proofs.tree.Tree.path.Given as goal
 

@@ -1,7 +1,7 @@
 -- A list from whose front items are taken one by one.
 use Rattle.std.proofs.Common.{◌≡◌, ◌+◌, ℕ, List, [], ◌∷◌, ◌++◌, length, sym, ap, ◌∙◌, append_assoc, append-nil, arith}
 use Rattle.std.proofs.lemmas.List.{nil_from_length}
-use Rattle.qm_split.specs.inner.Taking.{IsTaken}
+use Rattle.qm_lists.specs.inner.Taking.{IsTaken}
 
 pub taken_none : {X : Type 0} (all rest : List X) (n : ℕ) → rest ≡ all → n ≡ length rest → IsTaken [] all rest n
 taken_none all rest n same count = record { parts = same; count = count }

@@ -1,0 +1,35 @@
+use Rattle.std.proofs.Common.{List, ◌∷◌, [], ◌++◌, refl, sym, ◌∙◌, subst, arith}
+use Rattle.std.proofs.lemmas.Grind.{common_steps}
+use Rattle.qm_lists.proofs.Taken.{taken_none, taken_more, taken_all}
+use Rattle.qm_space.specs.Plane.{flipped}
+use Rattle.qm_convex.specs.inner.Facets.{Facet, AreCut, none}
+use Rattle.qm_portal.proofs.CutFacets.{cut_more}
+use Rattle.qm_portal.proofs.facet.split_facets.Goals as goal
+
+pub loop-facet-init : goal.loop-facet-init
+loop-facet-init c = record {
+  taken = taken_none _ _ _ refl (grind (arith, common_steps));
+  front = subst (λ (fs : List Facet). AreCut c.args.plane.now [] fs) (sym c.in_ok-front.ensures.items) none;
+  back = subst (λ (fs : List Facet). AreCut (flipped c.args.plane.now) [] fs) (sym c.in_ok-back.ensures.items) none;
+}
+
+pub loop-facet-preserved : goal.loop-facet-preserved
+loop-facet-preserved c = record {
+  taken = taken_more _ _ _ _ _ _ c.in-Some.facet c.loop-facet.invariant.taken c.in-Some.ensures.steps.0 c.in-Some.ensures.steps.1;
+  front = subst (λ (f : Facet). AreCut c.args.plane.now (c.loop-facet.yielded ++ f ∷ []) c.push_left.new.facets.items) c.facet.view_is
+      (subst (λ (fs : List Facet). AreCut c.args.plane.now (c.loop-facet.yielded ++ record { inward = c.facet.inside.inward; winding = c.facet.inside.winding } ∷ []) fs) (sym c.in_ok-push_left.ensures)
+      (cut_more c.args.plane.now c.loop-facet.yielded c.loop-facet.front.items c.facet.inside.inward c.facet.inside.winding c.in_ok-halves.halves.front c.loop-facet.invariant.front c.in_ok-halves.ensures.front));
+  back = subst (λ (f : Facet). AreCut (flipped c.args.plane.now) (c.loop-facet.yielded ++ f ∷ []) c.push_left-in-loop-facet.new.facets.items) c.facet.view_is
+      (subst (λ (fs : List Facet). AreCut (flipped c.args.plane.now) (c.loop-facet.yielded ++ record { inward = c.facet.inside.inward; winding = c.facet.inside.winding } ∷ []) fs) (sym c.in_ok-push_left-2.ensures)
+      (cut_more (flipped c.args.plane.now) c.loop-facet.yielded c.loop-facet.back.items c.facet.inside.inward c.facet.inside.winding c.in_ok-halves.halves.back c.loop-facet.invariant.back c.in_ok-halves.ensures.back));
+}
+
+pub returns-clause-front : goal.returns-clause-front
+returns-clause-front c =
+    subst (λ (fs : List Facet). AreCut c.args.plane.now fs c.loop-facet.front.items)
+    (taken_all _ _ _ _ c.loop-facet.invariant.taken c.in-None.ensures.steps.0 ∙ c.into_iter-facet-iterator.ensures.into_iter_gives.0) c.loop-facet.invariant.front
+
+pub returns-clause-back : goal.returns-clause-back
+returns-clause-back c =
+    subst (λ (fs : List Facet). AreCut (flipped c.args.plane.now) fs c.loop-facet.back.items)
+    (taken_all _ _ _ _ c.loop-facet.invariant.taken c.in-None.ensures.steps.0 ∙ c.into_iter-facet-iterator.ensures.into_iter_gives.0) c.loop-facet.invariant.back

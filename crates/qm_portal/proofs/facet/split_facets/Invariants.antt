@@ -1,0 +1,12 @@
+use Rattle.std.specs.Vec.Iter.{into_iter_items, into_iter_len}
+use Rattle.qm_lists.specs.inner.Taking.{IsTaken}
+use Rattle.qm_space.specs.Plane.{flipped}
+use Rattle.qm_convex.specs.inner.Facets.{AreCut}
+use Rattle.qm_portal.proofs.facet.split_facets.Given as goal
+
+abbrev pub invariant-loop-facet : goal.invariant-loop-facet
+invariant-loop-facet l = record {
+  taken : IsTaken l.yielded (into_iter_items l.initial.facet-iterator) (into_iter_items l.facet-iterator) (into_iter_len l.facet-iterator);
+  front : AreCut l.plane l.yielded l.front.items;
+  back : AreCut (flipped l.plane) l.yielded l.back.items;
+}

@@ -1,0 +1,9 @@
+use Rattle.std.proofs.Common.{ap, sym, ◌∙◌, ◌++◌, ◌∷◌, [], Bool}
+use Rattle.qm_contacts.specs.inner.Due.{DueCell}
+use Rattle.qm_portal.proofs.VisitedCells.{visited_leaf}
+use Rattle.qm_portal.proofs.walk.visit.Goals as goal
+
+pub returns-in_ok-push-in-Leaf : goal.returns-in_ok-push-in-Leaf
+returns-in_ok-push-in-Leaf c =
+    visited_leaf c.args.tree.now c.args.cell c.in-Leaf.field-0 (sym (ap (λ (d : DueCell). d.child) c.cell.view_is) ∙ c.in-Leaf.is) c.args.due.now.items c.args.pairs.now.items c.args.outside.now.items c.push.new.self.items
+    (c.in_ok-push-in-Leaf.ensures.items ∙ ap (λ (b : Bool). c.args.outside.now.items ++ b ∷ []) c.has_walls.ensures)

@@ -1,0 +1,99 @@
+//! The pairs of leaves that touch at a node.
+
+ghost use Rattle.std.specs.Prelude.{◌≡◌, ◌++◌, [], map, OnOk};
+ghost use Rattle.qm_contacts.specs.inner.Pieces.{touching_at};
+ghost use Rattle.qm_portal.specs.inner.Pushes.{IsChildOf};
+ghost use Rattle.qm_portal.specs.inner.Walks.{IsRowAdded, AreRowsAdded, ArePairsAdded};
+
+use crate::piece::{DuePolygon, Piece};
+use crate::pushing::push_down;
+use crate::touching::Touching;
+use qm_tree::{Child, Node, Tree};
+use qm_wind::Winding;
+use std::alloc::AllocError;
+
+/// Adds the pairs that touch at a node: the section is pushed down its front, and each piece down its back.
+pub(crate) fn add_pairs(
+    tree: &Tree,
+    n: u64,
+    node: &Node,
+    section: Winding,
+    pairs: &mut Vec<Touching>,
+) -> Result<(), AllocError>
+    requires front { IsChildOf tree.now node.now.front }
+    requires back { IsChildOf tree.now node.now.back }
+    ensures { OnOk result (ArePairsAdded tree.now n node.now section pairs.old.items pairs.new.items) }
+{
+    let mut fronts = Vec::new(*pairs.allocator());
+    let polygon = DuePolygon {
+        child: node.front,
+        winding: section,
+    };
+    push_down(tree, polygon, &mut fronts)?;
+    add_rows(tree, n, node.back, fronts, pairs)?;
+    Ok(())
+}
+
+/// Adds the pairs of all leaves in front of a node that have a piece of its section.
+fn add_rows(
+    tree: &Tree,
+    n: u64,
+    back: Child,
+    fronts: Vec<Piece>,
+    pairs: &mut Vec<Touching>,
+) -> Result<(), AllocError>
+    requires { IsChildOf tree.now back }
+    ensures { OnOk result (AreRowsAdded tree.now n back fronts.items pairs.old.items pairs.new.items) }
+{
+    let mut pieces = Vec::new(*pairs.allocator());
+    for front in fronts {
+        add_row(tree, n, back, front, &mut pieces, pairs)?;
+    }
+    Ok(())
+}
+
+/// Adds the pairs of one leaf in front of a node.
+fn add_row(
+    tree: &Tree,
+    n: u64,
+    back: Child,
+    front: Piece,
+    pieces: &mut Vec<Piece>,
+    pairs: &mut Vec<Touching>,
+) -> Result<(), AllocError>
+    requires child { IsChildOf tree.now back }
+    requires none { pieces.old.items ≡ [] }
+    ensures row { OnOk result (IsRowAdded tree.now n back front pairs.old.items pairs.new.items) }
+    ensures none { OnOk result (pieces.new.items ≡ []) }
+{
+    let Piece { leaf, winding } = front;
+    let polygon = DuePolygon {
+        child: back,
+        winding,
+    };
+    push_down(tree, polygon, pieces)?;
+    move_pieces(n, leaf, pieces, pairs)?;
+    Ok(())
+}
+
+/// Moves the pieces behind a node of a leaf in front to the pairs.
+fn move_pieces(
+    n: u64,
+    front: u64,
+    pieces: &mut Vec<Piece>,
+    pairs: &mut Vec<Touching>,
+) -> Result<(), AllocError>
+    ensures pairs { OnOk result (pairs.new.items ≡ pairs.old.items ++ map (touching_at n front) pieces.old.items) }
+    ensures none { OnOk result (pieces.new.items ≡ []) }
+{
+    for piece in pieces.drain(..) {
+        let Piece { leaf, winding } = piece;
+        pairs.push(Touching {
+            node: n,
+            front,
+            back: leaf,
+            winding,
+        })?;
+    }
+    Ok(())
+}

@@ -1,0 +1,33 @@
+use qm_partition::Child;
+use qm_wind::Winding;
+use std::marker::Model;
+
+/// What a leaf has of a polygon.
+#[derive(Drop)]
+pub(crate) struct Piece {
+    pub(crate) leaf: u64,
+    pub(crate) winding: Winding,
+}
+
+impl Model for Piece {
+    ghost use Rattle.qm_contacts.specs.inner.Pieces.{Piece};
+
+    ghost Value = { Piece };
+
+    ghost view = { λ piece. record { leaf = piece.leaf; winding = piece.winding } };
+}
+
+/// A polygon on its way down a tree, with the child to which it came.
+#[derive(Drop)]
+pub(crate) struct DuePolygon {
+    pub(crate) child: Child,
+    pub(crate) winding: Winding,
+}
+
+impl Model for DuePolygon {
+    ghost use Rattle.qm_contacts.specs.inner.Due.{DuePolygon};
+
+    ghost Value = { DuePolygon };
+
+    ghost view = { λ due. record { child = due.child; winding = due.winding } };
+}
