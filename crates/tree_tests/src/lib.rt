@@ -16,6 +16,8 @@ mod long;
 #[cfg(test)]
 mod parts;
 #[cfg(test)]
+mod portals;
+#[cfg(test)]
 mod refused;
 #[cfg(test)]
 mod rows;
