@@ -121,7 +121,7 @@ right_parts header planes nodes leaves rows right_header right =
       has_rows = right_option_there (each (own_row header.numbered) header.numbered) header.has_rows rows behind_leaves.1;
     }
 
-own_tree : (tree : Tree) → tree_of tree.planes (nodes_of tree.shape 0 0) (leaves_of tree.shape) ≡ tree
+pub own_tree : (tree : Tree) → tree_of tree.planes (nodes_of tree.shape 0 0) (leaves_of tree.shape) ≡ tree
 own_tree tree =
     let own = partition_of-numbered tree.shape (nodes_of tree.shape 0 0) (leaves_of tree.shape) (record { nodes_are = refl; leaves_are = refl }) in
     λ i. record { planes = tree.planes; shape = own i }
