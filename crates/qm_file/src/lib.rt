@@ -2,8 +2,12 @@
 //! the first fault with its place.
 #![tactic(auto)]
 
+mod field_bytes;
+mod field_reading;
 mod file_fault;
 mod reading;
+mod record_bytes;
+mod row_bytes;
 mod tree_file;
 mod writing;
 

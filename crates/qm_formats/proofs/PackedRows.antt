@@ -6,9 +6,8 @@ use Rattle.std.specs.Simd.Lanes.{mask_l}
 use Rattle.std.proofs.lemmas.Bool.{cases_lt, lt-ltb, ltb-true, eq-eqb}
 use Rattle.std.proofs.lemmas.List.{ext_get_or, get_or-take, get_or-drop, get_or_past, length-take, length-drop}
 use Rattle.std.proofs.lemmas.List.FromFn.{get_or-map-range_with_len, length-map-range_with_len}
-use Rattle.std.proofs.Math.Nat.{div-eq_of_lt}
 use Rattle.std.proofs.lemmas.Nat.{pow_pos, pow_below}
-use Rattle.std.proofs.lemmas.Nat.Bits.{same_from_bits_below, bit_at-lt}
+use Rattle.std.proofs.lemmas.Nat.Bits.{same_from_bits_below, bit_at-lt, bit_at_above}
 use Rattle.std.proofs.lemmas.Simd.{bit_mask_l, mask_l-lt}
 use Rattle.qm_formats.specs.Fields.{AreBytes}
 use Rattle.qm_formats.specs.RowBits.{row_width, row_byte, packed, unpacked, is_clear_past}
@@ -69,7 +68,7 @@ bit_test : (b : Bool) → eqb (cond b 1 0) 1 ≡ b
 bit_test true = refl
 bit_test false = refl
 
-test_bit : (n i : ℕ) → cond (eqb (bit_at n i) 1) 1 0 ≡ bit_at n i
+pub test_bit : (n i : ℕ) → cond (eqb (bit_at n i) 1) 1 0 ≡ bit_at n i
 test_bit n i = number (bit_at n i) (bit_at-lt n i)
   where
     number : (bit : ℕ) → bit < 2 → cond (eqb bit 1) 1 0 ≡ bit
@@ -97,12 +96,6 @@ unpacked-packed row =
         ∙ bit_test (get_or row (8 * (i / 8) + i % 8) false)
         ∙ ap (λ (k : ℕ). get_or row k false) place)
 
--- a bit from which on a number has none is 0
-high_bit : (n k i : ℕ) → n < 2 ^ k → k ≤ i → bit_at n i ≡ 0
-high_bit n k i small high =
-    let none : n / 2 ^ i ≡ 0 = div-eq_of_lt (omega (arith, small, pow_le k i high)) in
-    ap (λ (q : ℕ). q % 2) none
-
 -- the bits of bytes that have none past the places
 same_bit : (places : ℕ) (bytes : List ℕ) (k j : ℕ) → j < 8 → k < row_width places → get_or bytes (places / 8) 0 < 2 ^ (places % 8) → cond (get_or (unpacked places bytes) (8 * k + j) false) 1 0 ≡ bit_at (get_or bytes k 0) j
 same_bit places bytes k j below few clear_past =
@@ -118,7 +111,7 @@ same_bit places bytes k j below few clear_past =
         let last : places / 8 ≡ k = omega arith in
         let high : places % 8 ≤ j = omega arith in
         ap (λ (b : Bool). cond b 1 0) (get_or_past (unpacked places bytes) (8 * k + j) false (omega (arith, length-unpacked places bytes, more)))
-        ∙ sym (high_bit (get_or bytes k 0) (places % 8) j (subst (λ (n : ℕ). get_or bytes n 0 < 2 ^ (places % 8)) last clear_past) high)
+        ∙ sym (bit_at_above (get_or bytes k 0) (places % 8) j (subst (λ (n : ℕ). get_or bytes n 0 < 2 ^ (places % 8)) last clear_past) high)
     ]
 
 pub packed-unpacked : (places : ℕ) (bytes : List ℕ) → length bytes ≡ row_width places → AreBytes bytes → is_clear_past places bytes ≡ true → packed (unpacked places bytes) ≡ bytes
