@@ -1,2 +1,4 @@
 pub mod RowWords
 pub mod WrittenFile
+pub mod Faults
+pub mod ReadLists

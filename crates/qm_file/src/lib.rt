@@ -7,6 +7,7 @@ mod field_reading;
 mod file_fault;
 mod reading;
 mod record_bytes;
+mod record_reading;
 mod row_bytes;
 mod tree_file;
 mod writing;
