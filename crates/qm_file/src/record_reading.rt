@@ -41,6 +41,7 @@ pub(crate) fn read_all<R: Record>(
     requires { at ≤ length bytes.now }
     ensures gives { Gives (λ read. read.0.items) (λ read. read.1) result ((many R.layout count).read bytes.now at) }
     ensures within { IfOk result (λ read. read.1 ≤ length bytes.now) }
+    ensures counted { IfOk result (λ read. length read.0.items ≡ count) }
 {
     let mut records = Vec::new(alloc);
     let mut next = at;

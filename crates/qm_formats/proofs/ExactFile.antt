@@ -89,15 +89,15 @@ header_leaves header right =
     eqb-true header.leaves (header.nodes + 1) (and_parts ((unsigned short w64).right header.leaves) (eqb header.leaves (header.nodes + 1)) behind_leaves.0).1
 
 -- what parts that can stand in a file are
-record AreParts (header : Header) (planes : List Plane) (nodes : List NodeRecord) (leaves : List LeafRecord) (rows : Option (List (List Bool))) : Type 0 where
-  plane_count : length planes ≡ header.planes
-  node_count : length nodes ≡ header.nodes
-  leaf_count : length leaves ≡ header.leaves
-  numbered : AreNumbered (partition_of nodes leaves) nodes leaves
-  numbered_count : count_by is_numbered leaves ≡ header.numbered
-  has_rows : is_some rows ≡ header.has_rows
+pub record AreCounted (header : Header) (planes : List Plane) (nodes : List NodeRecord) (leaves : List LeafRecord) (rows : Option (List (List Bool))) : Type 0 where
+  pub plane_count : length planes ≡ header.planes
+  pub node_count : length nodes ≡ header.nodes
+  pub leaf_count : length leaves ≡ header.leaves
+  pub numbered : AreNumbered (partition_of nodes leaves) nodes leaves
+  pub numbered_count : count_by is_numbered leaves ≡ header.numbered
+  pub has_rows : is_some rows ≡ header.has_rows
 
-right_parts : (header : Header) (planes : List Plane) (nodes : List NodeRecord) (leaves : List LeafRecord) (rows : Option (List (List Bool))) → header_layout.right header ≡ true → (parts_layout header).right (planes, (nodes, (leaves, rows))) ≡ true → AreParts header planes nodes leaves rows
+pub right_parts : (header : Header) (planes : List Plane) (nodes : List NodeRecord) (leaves : List LeafRecord) (rows : Option (List (List Bool))) → header_layout.right header ≡ true → (parts_layout header).right (planes, (nodes, (leaves, rows))) ≡ true → AreCounted header planes nodes leaves rows
 unfolding parts_layout planes_layout nodes_layout leaves_layout rows_layout are_ordered
 right_parts header planes nodes leaves rows right_header right =
     let of_planes = (planes_layout header).right planes in

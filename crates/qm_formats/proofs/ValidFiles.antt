@@ -28,7 +28,7 @@ use Rattle.qm_formats.specs.TreeFile.{Header, count_layout, flag_layout, header_
 use Rattle.qm_formats.proofs.NumberedNodes.{numbered-test}
 use Rattle.qm_formats.proofs.RightParts.{right_each_at, right_each_from, reduced_plane, plane_of_reduced, right_plane, plane_right, node_right, leaf_right, right_leaf, row_right, right_row}
 use Rattle.qm_formats.proofs.ChildNumbers.{HasBelow, IsBelow, children_below}
-use Rattle.qm_formats.proofs.ExactFile.{right_each_length, own_tree}
+use Rattle.qm_formats.proofs.ExactFile.{right_each_length, right_parts, own_tree}
 
 -- a test that each element passes
 list_all-passed : {X : Type 0} (test : X → Bool) (xs : List X) → list_all test xs ≡ true → All (λ x. test x ≡ true) xs
@@ -80,20 +80,20 @@ rows_right numbered (Some rows) are =
         let own = ap (λ (row : List Bool). get_or row i false) same ∙ are.own i (omega (arith, within, are.one_each)) in
         subst (λ (k : ℕ). (own_row numbered k).right (get_or rows i d) ≡ true) place (row_right numbered i (get_or rows i d) (are.places i d within) own))
 
-pub right_valid : (file : FileContent) → file_layout.right file ≡ true → IsValid file
-unfolding file_layout parts_layout planes_layout nodes_layout leaves_layout rows_layout are_ordered
-right_valid file right =
-    let header = header_of file in
-    let shape = file.0.shape in
-    let planes = file.0.planes in
-    let nodes = nodes_of shape 0 0 in
-    let leaves = leaves_of shape in
+-- parts that can stand in a file are those of a tree, whose planes are in lowest terms
+record AreOfTree (planes : List Plane) (nodes : List NodeRecord) (leaves : List LeafRecord) : Type 0 where
+  made : IsMadeOf (tree_of planes nodes leaves) planes nodes leaves
+  reduced : All IsReduced planes
+
+of_tree : (header : Header) (planes : List Plane) (nodes : List NodeRecord) (leaves : List LeafRecord) (rows : Option (List (List Bool))) → header_layout.right header ≡ true → (parts_layout header).right (planes, (nodes, (leaves, rows))) ≡ true → AreOfTree planes nodes leaves
+unfolding parts_layout planes_layout nodes_layout leaves_layout rows_layout are_ordered
+of_tree header planes nodes leaves rows right_header right =
+    let counted = right_parts header planes nodes leaves rows right_header right in
     let of_planes = (planes_layout header).right planes in
     let of_nodes = (nodes_layout header).right nodes in
     let of_leaves = (leaves_layout header).right leaves in
-    let of_rows = (rows_layout header).right file.1 in
-    let both = and_parts (header_layout.right header) (of_planes && (of_nodes && (of_leaves && of_rows))) right in
-    let behind_planes = and_parts of_planes (of_nodes && (of_leaves && of_rows)) both.1 in
+    let of_rows = (rows_layout header).right rows in
+    let behind_planes = and_parts of_planes (of_nodes && (of_leaves && of_rows)) right in
     let behind_nodes = and_parts of_nodes (of_leaves && of_rows) behind_planes.1 in
     let behind_leaves = and_parts of_leaves of_rows behind_nodes.1 in
     let each_plane = right_each_at (λ _. plane_layout) 0 header.planes planes behind_planes.0 in
@@ -101,16 +101,36 @@ right_valid file right =
     let test_nodes = and_parts ((many node_layout header.nodes).right nodes) (are_ordered header.planes nodes) behind_nodes.0 in
     let named = list_all-passed (λ here. ltb here.plane header.planes) nodes (and_parts (list_all (λ here. ltb here.plane header.planes) nodes) (are_numbered nodes) test_nodes.1).0 in
     let parts : AreParts planes nodes leaves = record {
-      few = header_planes header both.0;
+      few = omega (arith, header_planes header right_header, counted.plane_count);
       leads = λ k d within. (reduced_plane (get_or planes k d) (right_plane (get_or planes k d) (each_plane k d within))).1;
-      named = λ k d within. ltb-true (get_or nodes k d).plane (length planes) (named k d within);
+      named = λ k d within. omega (arith, ltb-true (get_or nodes k d).plane header.planes (named k d within), counted.plane_count);
       solid = λ k d within. right_leaf (get_or leaves k d) (each_leaf k d within);
     } in
-    let made = made_of_parts planes nodes leaves parts (shape, record { nodes_are = refl; leaves_are = refl }) in
     record {
-      well_made = subst IsWellMade (own_tree file.0) made.well_made;
+      made = made_of_parts planes nodes leaves parts (partition_of nodes leaves, counted.numbered);
       reduced = λ k d within. (reduced_plane (get_or planes k d) (right_plane (get_or planes k d) (each_plane k d within))).0;
-      rows = rows_valid header.numbered file.1 header.has_rows behind_leaves.1;
+    }
+
+pub made_of_right : (header : Header) (planes : List Plane) (nodes : List NodeRecord) (leaves : List LeafRecord) (rows : Option (List (List Bool))) → header_layout.right header ≡ true → (parts_layout header).right (planes, (nodes, (leaves, rows))) ≡ true → IsMadeOf (tree_of planes nodes leaves) planes nodes leaves
+made_of_right header planes nodes leaves rows right_header right = (of_tree header planes nodes leaves rows right_header right).made
+
+pub right_valid : (file : FileContent) → file_layout.right file ≡ true → IsValid file
+unfolding file_layout parts_layout rows_layout
+right_valid file right =
+    let header = header_of file in
+    let nodes = nodes_of file.0.shape 0 0 in
+    let leaves = leaves_of file.0.shape in
+    let of_planes = (planes_layout header).right file.0.planes in
+    let of_nodes = (nodes_layout header).right nodes in
+    let of_leaves = (leaves_layout header).right leaves in
+    let of_rows = (rows_layout header).right file.1 in
+    let both = and_parts (header_layout.right header) (of_planes && (of_nodes && (of_leaves && of_rows))) right in
+    let tree = of_tree header file.0.planes nodes leaves file.1 both.0 both.1 in
+    let rows = (and_parts of_leaves of_rows (and_parts of_nodes (of_leaves && of_rows) (and_parts of_planes (of_nodes && (of_leaves && of_rows)) both.1).1).1).1 in
+    record {
+      well_made = subst IsWellMade (own_tree file.0) tree.made.well_made;
+      reduced = tree.reduced;
+      rows = rows_valid header.numbered file.1 header.has_rows rows;
     }
 
 -- ---- what is valid and not too long is right

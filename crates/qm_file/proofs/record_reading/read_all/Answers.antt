@@ -1,3 +1,5 @@
+use Rattle.std.proofs.Common.{ℕ, ◌+◌, length, ap, ◌∙◌}
+use Rattle.std.proofs.lemmas.List.{length_push}
 use Rattle.std.proofs.lemmas.Result.{err_from_is_err_and}
 use Rattle.qm_file.proofs.ReadLists.{one_more, one_fault}
 use Rattle.qm_file.proofs.record_reading.read_all.Goals as goal
@@ -11,4 +13,5 @@ pub loop-preserved : goal.loop-preserved
 loop-preserved g c = record {
   whole = one_more (λ _. g.R.Record.layout) _ c.loop.records.items c.loop.counter c.args.count c.args.bytes.now c.loop.next c.in_ok-record.record c.in_ok-record.after _ c.loop-test.true c.loop.invariant.whole c.in_ok-record.ensures.gives c.in_ok-push.ensures.items;
   within = c.in_ok-record.ensures.within;
+  counted = ap length c.in_ok-push.ensures.items ∙ length_push c.loop.records.items c.in_ok-record.record ∙ ap (λ (n : ℕ). n + 1) c.loop.invariant.counted;
 }

@@ -7,4 +7,5 @@ abbrev pub invariant-loop : goal.invariant-loop
 invariant-loop g l = record {
   whole : (many g.R.Record.layout l.count).read l.bytes l.at ≡ answer_map (λ xs. l.records.items ++ xs) (read_each (λ _. g.R.Record.layout) l.counter (l.count - l.counter) l.bytes l.next);
   within : l.next ≤ length l.bytes;
+  counted : length l.records.items ≡ l.counter;
 }
