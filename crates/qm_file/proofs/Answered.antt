@@ -1,18 +1,18 @@
 -- What an answer says of the bytes, where it is the one that reading gives.
-use Rattle.std.proofs.Common.{◌≡◌, ◌≤◌, ℕ, Bool, List, length, Option, Result, Ok, Err, refl, sym, ap, subst, ◌∙◌, arith}
+use Rattle.std.proofs.Common.{◌≡◌, ◌≤◌, ℕ, Bool, List, length, Option, Result, Ok, Err, refl, sym, ◌∙◌, arith}
 use Rattle.std.specs.Prelude.{IfOk, MatchResult}
 use Rattle.qm_space.specs.Plane.{Plane}
 use Rattle.qm_partition.specs.declared.node.Node.{Node}
 use Rattle.qm_partition.specs.declared.node.Leaf.{Leaf}
 use Rattle.qm_partition.specs.Arrays.{tree_of}
 use Rattle.qm_partition.specs.WellMade.{IsMadeOf}
-use Rattle.qm_formats.specs.Layout.{Answer, got, bad}
+use Rattle.qm_formats.specs.Layout.{Answer, got}
 use Rattle.qm_formats.specs.Fields.{AreBytes}
 use Rattle.qm_formats.specs.FileParts.{FileFaultKind}
 use Rattle.qm_formats.specs.TreeFile.{Header, header_layout, parts_layout, FileContent, file_bytes, file_limit, read_file, IsValid}
 use Rattle.qm_formats.proofs.ExactFile.{header_exact, parts_exact}
 use Rattle.qm_formats.proofs.ValidFiles.{made_of_right}
-use Rattle.qm_formats.proofs.WholeFile.{IsFileOf, read_file_found, read_file_again}
+use Rattle.qm_formats.proofs.WholeFile.{read_file_found, read_file_again}
 use Rattle.qm_file.specs.declared.file_fault.FileFault.{FileFault}
 use Rattle.qm_file.specs.declared.file_fault.FileFault.TheVariants as faults
 use Rattle.qm_file.specs.Answers.{IsFault, Gives}

@@ -1,7 +1,7 @@
 -- A fault of a part is the fault of what begins with it.
-use Rattle.std.proofs.Common.{◌≡◌, ℕ, Bool, true, false, cond, Result, Ok, Err, refl, ap, ◌∙◌}
-use Rattle.qm_formats.specs.Layout.{Answer, got, bad, answer_map, answer_then}
-use Rattle.qm_formats.specs.FileParts.{FileFaultKind, short, magic, counts, plane_form, node_order, leaf_form, row_form, trailing, too_long}
+use Rattle.std.proofs.Common.{ℕ, ap}
+use Rattle.qm_formats.specs.Layout.{Answer, answer_map, answer_then}
+use Rattle.qm_formats.specs.FileParts.{FileFaultKind}
 use Rattle.qm_file.specs.declared.file_fault.FileFault.{FileFault}
 use Rattle.qm_file.specs.declared.file_fault.FileFault.TheVariants as faults
 use Rattle.qm_file.specs.Answers.{IsFault}

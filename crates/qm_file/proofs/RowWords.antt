@@ -1,9 +1,9 @@
 -- The bytes of the words of a row are the bytes of the row.
-use Rattle.std.proofs.Common.{◌≡◌, ◌<◌, ◌≤◌, ℕ, zero, suc, ◌+◌, ◌-◌, ◌*◌, ◌/◌, ◌%◌, ◌^◌, Bool, false, cond, eqb, List, length, get_or, refl, sym, ap, subst, ◌∙◌, arith, w64}
+use Rattle.std.proofs.Common.{◌≡◌, ◌<◌, ℕ, zero, suc, ◌+◌, ◌*◌, ◌/◌, ◌%◌, ◌^◌, Bool, false, cond, List, get_or, refl, sym, ap, ◌∙◌, arith, w64}
 use Rattle.std.specs.Int.{bit_at, to_le_bytes}
 use Rattle.std.proofs.lemmas.Nat.{shr-shr, shr_split, mod_below}
 use Rattle.std.proofs.lemmas.Nat.Bits.{same_from_bits_below, bit_at_cat_low}
-use Rattle.qm_bits.specs.Word.{has_bit, IsWord}
+use Rattle.qm_bits.specs.Word.{IsWord}
 use Rattle.qm_formats.specs.RowBits.{row_byte}
 use Rattle.qm_formats.proofs.PackedRows.{row_byte-bit, row_byte-byte, test_bit}
 
@@ -34,10 +34,10 @@ word_byte row place word is =
     let byte = word / 2 ^ (8 * j) % 2 ^ 8 in
     le_byte word j within
     ∙ same_from_bits_below 8 byte (row_byte row place) (mod_below (word / 2 ^ (8 * j)) (2 ^ 8) (omega arith)) (row_byte-byte row place) (λ i below.
-        let bit : 8 * j + i < 64 = omega arith in
-        let there : 64 * k + (8 * j + i) ≡ 8 * place + i = omega arith in
-        low_bits word (8 * j) i below
-        ∙ sym (test_bit word (8 * j + i))
-        ∙ ap (λ (b : Bool). cond b 1 0) (is (8 * j + i) bit)
-        ∙ ap (λ (n : ℕ). cond (get_or row n false) 1 0) there
-        ∙ sym (row_byte-bit row place i below))
+    let bit : 8 * j + i < 64 = omega arith in
+    let there : 64 * k + (8 * j + i) ≡ 8 * place + i = omega arith in
+    low_bits word (8 * j) i below
+    ∙ sym (test_bit word (8 * j + i))
+    ∙ ap (λ (b : Bool). cond b 1 0) (is (8 * j + i) bit)
+    ∙ ap (λ (n : ℕ). cond (get_or row n false) 1 0) there
+    ∙ sym (row_byte-bit row place i below))

@@ -1,8 +1,7 @@
 -- Setting the places of a row one by one.
 use Rattle.std.proofs.Common.{◌≡◌, ◌≢◌, ◌<◌, ◌≤◌, ℕ, ◌+◌, ◌/◌, ◌%◌, ◌^◌, Bool, true, false, eqb, ltb, List, length, get_or, set, bit_and, refl, sym, ap, subst, ◌∙◌, arith, inl, inr}
-use Rattle.std.specs.Int.{bit_at}
 use Rattle.std.proofs.Math.Nat.{div-eq_of_lt}
-use Rattle.std.proofs.lemmas.Bool.{cases_lt, cases_order, lt-ltb, le-ltb, eq-eqb, ne_eqb}
+use Rattle.std.proofs.lemmas.Bool.{cases_lt, lt-ltb, le-ltb, eq-eqb, ne_eqb}
 use Rattle.std.proofs.lemmas.List.{ext_get_or, get_or-set_same, get_or-set_other, length-set}
 use Rattle.std.proofs.lemmas.Nat.{le-div, pow_pos}
 use Rattle.std.proofs.lemmas.Nat.Bits.{shr_and_one}
@@ -55,6 +54,6 @@ shifted_out byte k =
     elim (cases_lt byte (2 ^ k)) [
       | inl less ↦ eq-eqb (byte / 2 ^ k) 0 (div-eq_of_lt less) ∙ sym (lt-ltb byte (2 ^ k) less)
       | inr more ↦
-        let some = le-div 1 byte (2 ^ k) (pow_pos k) (omega (arith, more)) in
-        ne_eqb (byte / 2 ^ k) 0 (λ none. absurd (omega (arith, some, none))) ∙ sym (le-ltb byte (2 ^ k) more)
+          let some = le-div 1 byte (2 ^ k) (pow_pos k) (omega (arith, more)) in
+          ne_eqb (byte / 2 ^ k) 0 (λ none. absurd (omega (arith, some, none))) ∙ sym (le-ltb byte (2 ^ k) more)
     ]

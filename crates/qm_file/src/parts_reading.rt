@@ -42,12 +42,7 @@ pub(crate) fn nodes_at(
 
 /// Whether nodes name planes of so many, and are numbered as those of a tree with so many leaves.
 #[tactic(auto, unfolding(qm_formats::specs::TreeFile::are_ordered))]
-fn are_ordered(
-    alloc: Global,
-    nodes: &[Node],
-    planes: u64,
-    leaves: u64,
-) -> Result<bool, AllocError>
+fn are_ordered(alloc: Global, nodes: &[Node], planes: u64, leaves: u64) -> Result<bool, AllocError>
     requires { leaves ≡ length nodes.now + 1 }
     ensures { IfOk result (λ ordered. ordered ≡ are_ordered planes nodes.now) }
 {

@@ -25,11 +25,7 @@ pub(crate) fn put_rows(
 }
 
 /// Appends each row in runs.
-fn append_rows(
-    alloc: Global,
-    bytes: &mut Vec<u8>,
-    rows: &[BitRow],
-) -> Result<(), AllocError>
+fn append_rows(alloc: Global, bytes: &mut Vec<u8>, rows: &[BitRow]) -> Result<(), AllocError>
     ensures { OnOk result (bytes.new.items ≡ bytes.old.items ++ flat_map (λ row. runs_of (packed row)) rows.now) }
 {
     let mut row_bytes = Vec::new(alloc);

@@ -81,12 +81,7 @@ fn own_row_at(
 
 /// A row of so many places, and where it ends.
 #[tactic(auto, unfolding(qm_formats::specs::RowBits::row_bits))]
-fn row_at(
-    alloc: Global,
-    bytes: &[u8],
-    at: usize,
-    places: u64,
-) -> Result<(BitRow, usize), FileFault>
+fn row_at(alloc: Global, bytes: &[u8], at: usize, places: u64) -> Result<(BitRow, usize), FileFault>
     requires { at ≤ length bytes.now }
     ensures gives { Gives (λ read. read.0) (λ read. read.1) result ((row_bits short row_form places).read bytes.now at) }
     ensures within { IfOk result (λ read. read.1 ≤ length bytes.now) }

@@ -1,5 +1,5 @@
 -- The numbers of children lie below the counts of nodes and leaves.
-use Rattle.std.proofs.Common.{◌≡◌, ◌<◌, ◌≤◌, ℕ, zero, suc, ◌+◌, List, [], ◌∷◌, ◌++◌, length, All, arith}
+use Rattle.std.proofs.Common.{◌<◌, ◌≤◌, ℕ, ◌+◌, ◌++◌, All, arith}
 use Rattle.std.proofs.lemmas.List.Elements.{All-nil, All-cons, All-append}
 use Rattle.qm_partition.specs.declared.node.Child.{Child}
 use Rattle.qm_partition.specs.declared.node.Child.TheVariants.{Node, Leaf}

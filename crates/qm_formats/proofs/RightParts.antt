@@ -1,15 +1,15 @@
 -- Which planes, nodes, leaves and rows can stand in a tree file.
-use Rattle.std.proofs.Common.{◌≡◌, ◌<◌, ◌≤◌, ℕ, zero, suc, ◌+◌, ◌^◌, Bool, true, false, cond, eqb, ltb, leb, ◌&&◌, ℤ, pos, negsuc, List, [], ◌∷◌, length, All, get_or, refl, sym, ap, subst, ◌∙◌, arith}
+use Rattle.std.proofs.Common.{◌≡◌, ◌<◌, ℕ, zero, suc, ◌+◌, ◌^◌, Bool, true, false, eqb, ltb, leb, ◌&&◌, ℤ, pos, negsuc, List, [], ◌∷◌, length, get_or, refl, subst, arith}
 use Rattle.std.specs.Prelude.{IsTrue, unsigned_abs}
 use Rattle.std.specs.Int.{◌∣◌, Width, w32, w64}
 use mir.Val.{hbits}
 use Rattle.std.proofs.Math.Nat.{eq-one_of_dvd-one}
-use Rattle.std.proofs.lemmas.Bool.{and_parts, and_from, lt-ltb, ltb-true, le-leb, leb-true, eq-eqb, eqb-true}
+use Rattle.std.proofs.lemmas.Bool.{and_parts, and_from, lt-ltb, le-leb, leb-true, eq-eqb, eqb-true}
 use Rattle.qm_space.specs.Plane.{Plane}
 use Rattle.qm_space.specs.Bounds.{normal_bound, distance_bound}
 use Rattle.qm_space.specs.Reduced.{leads_positive, IsReduced}
 use Rattle.qm_space.specs.ThreePoints.{common_factor}
-use Rattle.qm_space.proofs.ReducedPlanes.{leading_has_normal, Divides, common_factor_divides, divides_common_factor}
+use Rattle.qm_space.proofs.ReducedPlanes.{leading_has_normal, common_factor_divides, divides_common_factor}
 use Rattle.qm_contents.specs.declared.contents.Contents.{Contents}
 use Rattle.qm_contents.specs.declared.contents.Contents.TheVariants.{Empty, Solid, Water, Slime, Lava, Sky}
 use Rattle.qm_partition.specs.declared.node.Child.{Child}
@@ -20,7 +20,7 @@ use Rattle.qm_partition.specs.WellMade.{IsSolidIfFilled}
 use Rattle.qm_formats.specs.Layout.{Layout, right_each}
 use Rattle.qm_formats.specs.Fields.{signed, unsigned, fits_signed}
 use Rattle.qm_formats.specs.RowBits.{row_bits}
-use Rattle.qm_formats.specs.FileParts.{is_plane, plane_layout, number_of_child, child_layout, node_layout, is_leaf, leaf_layout}
+use Rattle.qm_formats.specs.FileParts.{is_plane, plane_layout, child_layout, node_layout, is_leaf, leaf_layout}
 use Rattle.qm_formats.specs.TreeFile.{own_row}
 use Rattle.qm_formats.proofs.ChildNumbers.{IsBelow, HasBelow}
 
@@ -48,8 +48,8 @@ module _ {F X : Type 0} (layout : ℕ → Layout F X) where
       let place : k + 0 ≡ k = omega arith in
       and_from ((layout k).right x) (right_each layout (k + 1) count xs) (subst (λ (n : ℕ). (layout n).right x ≡ true) place (each 0 x (omega arith)))
       (right_each_from (k + 1) count xs (omega (arith, long)) (λ i d within.
-          let later : k + suc i ≡ (k + 1) + i = omega arith in
-          subst (λ (n : ℕ). (layout n).right (get_or xs i d) ≡ true) later (each (suc i) d (omega (arith, within)))))
+      let later : k + suc i ≡ (k + 1) + i = omega arith in
+      subst (λ (n : ℕ). (layout n).right (get_or xs i d) ≡ true) later (each (suc i) d (omega (arith, within)))))
 
 -- ---- planes
 

@@ -1,33 +1,31 @@
 -- A file of at most the limit can be written and read again exactly where it is valid.
-use Rattle.std.proofs.Common.{◌≡◌, ◌<◌, ◌≤◌, ℕ, zero, suc, ◌+◌, ◌^◌, Bool, true, false, cond, eqb, ltb, leb, ◌&&◌, List, [], ◌∷◌, ◌++◌, length, All, Option, Some, None, codes, get_or, refl, sym, ap, subst, ◌∙◌, arith}
-use Rattle.std.specs.Prelude.{IsTrue, IfSome, is_some, count_by}
-use Rattle.std.specs.Int.{w8, w32, w64}
+use Rattle.std.proofs.Common.{◌≡◌, ◌<◌, ◌≤◌, ℕ, ◌+◌, ◌^◌, Bool, true, false, cond, eqb, ltb, leb, ◌&&◌, List, [], ◌∷◌, ◌++◌, length, All, Option, Some, None, codes, get_or, refl, ap, subst, ◌∙◌, arith}
+use Rattle.std.specs.Prelude.{IfSome, is_some, count_by}
+use Rattle.std.specs.Int.{w64}
 use Rattle.std.specs.List.{list_all}
-use Rattle.std.proofs.lemmas.Bool.{and_parts, and_from, lt-ltb, ltb-true, le-leb, eq-eqb, eqb-true}
+use Rattle.std.proofs.lemmas.Bool.{and_parts, and_from, lt-ltb, ltb-true, le-leb, eq-eqb}
 use Rattle.std.proofs.lemmas.List.{length-append, get_or_default}
 use Rattle.std.proofs.lemmas.List.Sums.{count_by-le-length}
 use Rattle.std.proofs.lemmas.List.Elements.{All-nil, All-cons, All-head, All-tail}
 use Rattle.qm_space.specs.Plane.{Plane}
-use Rattle.qm_space.specs.Reduced.{leads_positive, IsReduced}
+use Rattle.qm_space.specs.Reduced.{IsReduced}
 use Rattle.qm_partition.specs.declared.node.Node.{Node as NodeRecord}
 use Rattle.qm_partition.specs.declared.node.Leaf.{Leaf as LeafRecord}
-use Rattle.qm_partition.specs.Partition.{Partition}
-use Rattle.qm_partition.specs.Tree.{Tree}
-use Rattle.qm_partition.specs.Counting.{leaves_of, leaf_count, node_count}
+use Rattle.qm_partition.specs.Counting.{leaves_of}
 use Rattle.qm_partition.specs.Numbering.{nodes_of, AreNumbered}
 use Rattle.qm_partition.specs.Arrays.{partition_of, tree_of}
-use Rattle.qm_partition.specs.WellMade.{IsSolidIfFilled, IsWellMade, IsMadeOf}
+use Rattle.qm_partition.specs.WellMade.{IsWellMade, IsMadeOf}
 use Rattle.qm_partition.specs.inner.Parts.{AreParts}
 use Rattle.qm_partition.proofs.Counts.{one_leaf_more, length-nodes_of}
 use Rattle.qm_partition.proofs.MadeTrees.{made_of_parts, parts_of_made}
 use Rattle.qm_contacts.specs.NumberedLeaves.{is_numbered}
-use Rattle.qm_formats.specs.Layout.{Layout, bytes_of_each, right_each, right_option, many, each, pair}
+use Rattle.qm_formats.specs.Layout.{Layout, bytes_of_each, right_option, many, each, pair}
 use Rattle.qm_formats.specs.Fields.{unsigned, signed, fixed, raw}
-use Rattle.qm_formats.specs.FileParts.{short, magic, is_plane, plane_layout, node_layout, leaf_layout, is_leaf, child_layout}
+use Rattle.qm_formats.specs.FileParts.{short, magic, plane_layout, node_layout, leaf_layout}
 use Rattle.qm_formats.specs.TreeFile.{Header, count_layout, flag_layout, header_layout, are_numbered, are_ordered, own_row, planes_layout, nodes_layout, leaves_layout, rows_layout, parts_layout, FileContent, header_of, file_layout, file_bytes, file_limit, AreRows, IsValid}
 use Rattle.qm_formats.proofs.NumberedNodes.{numbered-test}
-use Rattle.qm_formats.proofs.RightParts.{right_each_at, right_each_from, reduced_plane, plane_of_reduced, right_plane, plane_right, node_right, leaf_right, right_leaf, row_right, right_row}
-use Rattle.qm_formats.proofs.ChildNumbers.{HasBelow, IsBelow, children_below}
+use Rattle.qm_formats.proofs.RightParts.{right_each_at, right_each_from, reduced_plane, right_plane, plane_right, node_right, leaf_right, right_leaf, row_right, right_row}
+use Rattle.qm_formats.proofs.ChildNumbers.{children_below}
 use Rattle.qm_formats.proofs.ExactFile.{right_each_length, right_parts, own_tree}
 
 -- a test that each element passes
@@ -75,10 +73,10 @@ rows_right : (numbered : ℕ) (rows : Option (List (List Bool))) → IfSome rows
 rows_right numbered None are = refl
 rows_right numbered (Some rows) are =
     right_each_from (own_row numbered) 0 numbered rows are.one_each (λ i d within.
-        let place : i ≡ 0 + i = omega arith in
-        let same : get_or rows i d ≡ get_or rows i [] = get_or_default rows i d [] within in
-        let own = ap (λ (row : List Bool). get_or row i false) same ∙ are.own i (omega (arith, within, are.one_each)) in
-        subst (λ (k : ℕ). (own_row numbered k).right (get_or rows i d) ≡ true) place (row_right numbered i (get_or rows i d) (are.places i d within) own))
+    let place : i ≡ 0 + i = omega arith in
+    let same : get_or rows i d ≡ get_or rows i [] = get_or_default rows i d [] within in
+    let own = ap (λ (row : List Bool). get_or row i false) same ∙ are.own i (omega (arith, within, are.one_each)) in
+    subst (λ (k : ℕ). (own_row numbered k).right (get_or rows i d) ≡ true) place (row_right numbered i (get_or rows i d) (are.places i d within) own))
 
 -- parts that can stand in a file are those of a tree, whose planes are in lowest terms
 record AreOfTree (planes : List Plane) (nodes : List NodeRecord) (leaves : List LeafRecord) : Type 0 where

@@ -1,4 +1,4 @@
-use Rattle.std.proofs.Common.{sym, ◌∙◌}
+use Rattle.std.proofs.Common.{sym}
 use Rattle.qm_formats.specs.TreeFile.{are_ordered}
 use Rattle.qm_file.proofs.NumberedTest.{ordered_answer}
 use Rattle.qm_file.proofs.parts_reading.are_ordered.Goals as goal

@@ -1,4 +1,4 @@
-use Rattle.std.proofs.Common.{◌≡◌, ◌≤◌, ◌-◌, List, ◌++◌, length}
+use Rattle.std.proofs.Common.{◌≡◌, ◌≤◌, ◌-◌, ◌++◌, length}
 use Rattle.qm_formats.specs.Layout.{answer_map, many, read_each}
 use Rattle.qm_file.proofs.record_reading.read_all.Given as goal
 

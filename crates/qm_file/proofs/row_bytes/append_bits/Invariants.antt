@@ -1,4 +1,4 @@
-use Rattle.std.proofs.Common.{◌≡◌, ℕ, ◌++◌, List, map}
+use Rattle.std.proofs.Common.{◌≡◌, ◌++◌, map}
 use Rattle.std.specs.List.{range_with_len}
 use Rattle.qm_formats.specs.RowBits.{row_byte}
 use Rattle.qm_file.proofs.row_bytes.append_bits.Given as goal

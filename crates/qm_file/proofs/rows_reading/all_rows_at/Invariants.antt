@@ -1,4 +1,4 @@
-use Rattle.std.proofs.Common.{◌≤◌, List, Bool, length}
+use Rattle.std.proofs.Common.{◌≤◌, length}
 use Rattle.qm_formats.specs.Layout.{each}
 use Rattle.qm_formats.specs.TreeFile.{own_row}
 use Rattle.qm_file.proofs.ReadLists.{IsReadSoFar}
