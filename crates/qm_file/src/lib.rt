@@ -2,8 +2,16 @@
 //! the first fault with its place.
 #![tactic(auto)]
 
+mod field_bytes;
+mod field_reading;
 mod file_fault;
+mod header_reading;
+mod parts_reading;
 mod reading;
+mod record_bytes;
+mod record_reading;
+mod row_bytes;
+mod rows_reading;
 mod tree_file;
 mod writing;
 

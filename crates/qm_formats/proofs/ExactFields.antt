@@ -1,16 +1,15 @@
 -- The fields of a file are read exactly.
 use Rattle.std.proofs.Common.{◌≡◌, ◌<◌, ◌≤◌, ℕ, zero, suc, ◌+◌, ◌-◌, ◌/◌, ◌%◌, ◌^◌, Bool, true, false, cond, ltb, eqb, ◌&&◌, ℤ, pos, negsuc, List, [], ◌∷◌, ◌++◌, length, take, drop, get_or, refl, sym, ap, subst, ◌∙◌, arith, inl, inr, w8, w32, w64}
-use Rattle.std.specs.Prelude.{IsTrue}
-use Rattle.std.specs.Int.{Width, byte_len, to_le_bytes, from_le_bytes, cast_signed, cast_unsigned, byte_at, bytes_low_first}
-use mir.Val.{bits, hbits, SFits}
+use Rattle.std.specs.Int.{Width, byte_len, to_le_bytes, from_le_bytes, cast_signed, cast_unsigned, bytes_low_first}
+use mir.Val.{bits, hbits}
 use Rattle.std.proofs.lemmas.Bool.{and_parts, and_from, cases_lt, lt-ltb, le-ltb, ltb-true, eq-eqb, eqb-true}
-use Rattle.std.proofs.lemmas.List.{append_assoc, length-take, length-drop, take-append-drop, drop-drop, take_at, get_or-take, get_or-drop, get_or_past, length-take-le}
+use Rattle.std.proofs.lemmas.List.{length-take, length-drop, take-append-drop, drop-drop, take_at, get_or-take, get_or-drop, get_or_past}
 use Rattle.std.proofs.lemmas.Nat.{le_bytes_4, le_bytes_8, from_le_bytes-to_le_bytes_4, from_le_bytes-to_le_bytes_8, mod_below}
-use Rattle.std.proofs.lemmas.Int.{to_z-of_z, of_z-to_z, ints}
+use Rattle.std.proofs.lemmas.Int.{to_z-of_z, of_z-to_z}
 use Rattle.qm_formats.specs.Fields.{AreBytes, are_bytes, raw, unsigned, signed, fits_signed, first_difference, fixed}
 use Rattle.qm_formats.specs.Layout.{got, bad, tested}
 use Rattle.qm_formats.specs.Exact.{StandsAt, IsFound, IsExact}
-use Rattle.qm_formats.proofs.ExactParts.{chosen_got, seen_as_exact, tested_exact}
+use Rattle.qm_formats.proofs.ExactParts.{seen_as_exact, tested_exact}
 
 pub are_bytes-from : (bytes : List ℕ) → AreBytes bytes → are_bytes bytes ≡ true
 are_bytes-from [] are = refl
@@ -44,15 +43,15 @@ module _ {F : Type 0} (short : F) (count : ℕ) where
       elim (cases_lt (length file) (at + count)) [
         | inl less ↦ absurd (let e = sym (ap (λ (b : Bool). cond b (bad short (length file)) (got (take count (drop at file)) (at + count))) (lt-ltb (length file) (at + count) less)) ∙ is in cc)
         | inr within ↦
-          let e = sym (ap (λ (b : Bool). cond b (bad short (length file)) (got (take count (drop at file)) (at + count))) (le-ltb (length file) (at + count) within)) ∙ is in
-          let value : take count (drop at file) ≡ x = cc in
-          let place : at + count ≡ next = cc in
-          let long : length (take count (drop at file)) ≡ count = omega (arith, length-take count (drop at file), length-drop at file, within) in
-          let found : IsFound (raw short count) file at (take count (drop at file)) (at + count) = record {
-            right = and_from (eqb (length (take count (drop at file))) count) (are_bytes (take count (drop at file))) (eq-eqb (length (take count (drop at file))) count long) (are_bytes-from (take count (drop at file)) (bytes_of_part file at count are));
-            stands = part_stands file at count within;
-          } in
-          subst (λ (n : ℕ). IsFound (raw short count) file at x n) place (subst (λ (v : List ℕ). IsFound (raw short count) file at v (at + count)) value found)
+            let e = sym (ap (λ (b : Bool). cond b (bad short (length file)) (got (take count (drop at file)) (at + count))) (le-ltb (length file) (at + count) within)) ∙ is in
+            let value : take count (drop at file) ≡ x = cc in
+            let place : at + count ≡ next = cc in
+            let long : length (take count (drop at file)) ≡ count = omega (arith, length-take count (drop at file), length-drop at file, within) in
+            let found : IsFound (raw short count) file at (take count (drop at file)) (at + count) = record {
+              right = and_from (eqb (length (take count (drop at file))) count) (are_bytes (take count (drop at file))) (eq-eqb (length (take count (drop at file))) count long) (are_bytes-from (take count (drop at file)) (bytes_of_part file at count are));
+              stands = part_stands file at count within;
+            } in
+            subst (λ (n : ℕ). IsFound (raw short count) file at x n) place (subst (λ (v : List ℕ). IsFound (raw short count) file at v (at + count)) value found)
       ]
 
   again_raw : (file : List ℕ) (at : ℕ) (x : List ℕ) (next : ℕ) → IsFound (raw short count) file at x next → cond (ltb (length file) (at + count)) (bad short (length file)) (got (take count (drop at file)) (at + count)) ≡ got x next
@@ -121,10 +120,10 @@ unsigned_of : {F : Type 0} (short : F) (width : Width) → IsWidth width → IsE
 unfolding unsigned raw
 unsigned_of short width is =
     seen_as_exact (from_le_bytes width) (to_le_bytes width) (λ n. ltb n (2 ^ bits width)) (raw short (byte_len width)) (raw_exact short (byte_len width)) (λ bytes right.
-        let both = and_parts (eqb (length bytes) (byte_len width)) (are_bytes bytes) right in
-        let are = bytes-are bytes both.1 in
-        (is.bytes bytes (eqb-true (length bytes) (byte_len width) both.0) are, lt-ltb (from_le_bytes width bytes) (2 ^ bits width) (is.bound bytes are))) (λ n right.
-        (is.number n (ltb-true n (2 ^ bits width) right), and_from (eqb (length (to_le_bytes width n)) (byte_len width)) (are_bytes (to_le_bytes width n)) (eq-eqb (length (to_le_bytes width n)) (byte_len width) (is.long n)) (low_first_bytes 0 (byte_len width) n)))
+    let both = and_parts (eqb (length bytes) (byte_len width)) (are_bytes bytes) right in
+    let are = bytes-are bytes both.1 in
+    (is.bytes bytes (eqb-true (length bytes) (byte_len width) both.0) are, lt-ltb (from_le_bytes width bytes) (2 ^ bits width) (is.bound bytes are))) (λ n right.
+    (is.number n (ltb-true n (2 ^ bits width) right), and_from (eqb (length (to_le_bytes width n)) (byte_len width)) (are_bytes (to_le_bytes width n)) (eq-eqb (length (to_le_bytes width n)) (byte_len width) (is.long n)) (low_first_bytes 0 (byte_len width) n)))
 
 pub byte_exact : {F : Type 0} (short : F) → IsExact (unsigned short w8)
 byte_exact short = unsigned_of short w8 is_w8
@@ -140,7 +139,7 @@ fits_cast width n is small =
     elim (cases_lt n (2 ^ hbits width)) [
       | inl less ↦ subst (λ (z : ℤ). fits_signed width z ≡ true) (sym (ap (λ (b : Bool). cond b (pos n) (negsuc (2 ^ bits width - suc n))) (lt-ltb n (2 ^ hbits width) less))) (lt-ltb n (2 ^ hbits width) less)
       | inr more ↦
-        subst (λ (z : ℤ). fits_signed width z ≡ true) (sym (ap (λ (b : Bool). cond b (pos n) (negsuc (2 ^ bits width - suc n))) (le-ltb n (2 ^ hbits width) more))) (lt-ltb (2 ^ bits width - suc n) (2 ^ hbits width) (omega (arith, is.half)))
+          subst (λ (z : ℤ). fits_signed width z ≡ true) (sym (ap (λ (b : Bool). cond b (pos n) (negsuc (2 ^ bits width - suc n))) (le-ltb n (2 ^ hbits width) more))) (lt-ltb (2 ^ bits width - suc n) (2 ^ hbits width) (omega (arith, is.half)))
     ]
 
 fits_both : (width : Width) (z : ℤ) → IsWidth width → fits_signed width z ≡ true → (cast_signed width (cast_unsigned width z) ≡ z) × (cast_unsigned width z < 2 ^ bits width)
@@ -155,10 +154,10 @@ signed_of : {F : Type 0} (short : F) (width : Width) → IsWidth width → IsExa
 unfolding signed unsigned
 signed_of short width is =
     seen_as_exact (cast_signed width) (cast_unsigned width) (fits_signed width) (unsigned short width) (unsigned_of short width is) (λ n right.
-        let small = ltb-true n (2 ^ bits width) right in
-        (of_z-to_z width n small, fits_cast width n is small)) (λ z right.
-        let both = fits_both width z is right in
-        (both.0, lt-ltb (cast_unsigned width z) (2 ^ bits width) both.1))
+    let small = ltb-true n (2 ^ bits width) right in
+    (of_z-to_z width n small, fits_cast width n is small)) (λ z right.
+    let both = fits_both width z is right in
+    (both.0, lt-ltb (cast_unsigned width z) (2 ^ bits width) both.1))
 
 pub signed_32_exact : {F : Type 0} (short : F) → IsExact (signed short w32)
 signed_32_exact short = signed_of short w32 is_w32
@@ -187,10 +186,10 @@ pub fixed_exact : {F : Type 0} (short other : F) (bytes : List ℕ) → are_byte
 unfolding fixed raw
 fixed_exact short other bytes are =
     seen_as_exact (λ _. tt) (λ _. bytes) (λ _. true) (tested same other place (raw short (length bytes))) (tested_exact same other place (raw short (length bytes)) (raw_exact short (length bytes))) (λ found right.
-        let both = and_parts ((eqb (length found) (length bytes)) && are_bytes found) (same found) right in
-        let long = eqb-true (length found) (length bytes) (and_parts (eqb (length found) (length bytes)) (are_bytes found) both.0).0 in
-        (no_difference bytes found (eqb-true (first_difference bytes found) (length bytes) both.1) (sym long), refl)) (λ _ _.
-        (refl, and_from ((eqb (length bytes) (length bytes)) && are_bytes bytes) (same bytes) (and_from (eqb (length bytes) (length bytes)) (are_bytes bytes) (eq-eqb (length bytes) (length bytes) refl) are) (eq-eqb (first_difference bytes bytes) (length bytes) (own_difference bytes))))
+    let both = and_parts ((eqb (length found) (length bytes)) && are_bytes found) (same found) right in
+    let long = eqb-true (length found) (length bytes) (and_parts (eqb (length found) (length bytes)) (are_bytes found) both.0).0 in
+    (no_difference bytes found (eqb-true (first_difference bytes found) (length bytes) both.1) (sym long), refl)) (λ _ _.
+    (refl, and_from ((eqb (length bytes) (length bytes)) && are_bytes bytes) (same bytes) (and_from (eqb (length bytes) (length bytes)) (are_bytes bytes) (eq-eqb (length bytes) (length bytes) refl) are) (eq-eqb (first_difference bytes bytes) (length bytes) (own_difference bytes))))
   where
     same : List ℕ → Bool
     same found = eqb (first_difference bytes found) (length bytes)

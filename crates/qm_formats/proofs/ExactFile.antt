@@ -1,6 +1,6 @@
 -- A tree file is read exactly.
-use Rattle.std.proofs.Common.{◌≡◌, ◌<◌, ◌≤◌, ℕ, zero, suc, ◌+◌, ◌^◌, Bool, true, false, cond, eqb, ltb, leb, ◌&&◌, List, [], ◌∷◌, length, Option, Some, None, codes, get_or, refl, sym, ap, subst, ◌∙◌, arith}
-use Rattle.std.specs.Prelude.{IsTrue, is_some, count_by}
+use Rattle.std.proofs.Common.{◌≡◌, ℕ, zero, suc, ◌+◌, ◌^◌, Bool, true, false, eqb, ltb, leb, ◌&&◌, List, [], ◌∷◌, length, Option, Some, None, codes, refl, sym, ap, ◌∙◌, arith}
+use Rattle.std.specs.Prelude.{is_some, count_by}
 use Rattle.std.proofs.lemmas.Bool.{and_parts, eqb-true}
 use Rattle.std.specs.Int.{w8, w64}
 use Rattle.std.specs.List.{list_all}
@@ -13,11 +13,11 @@ use Rattle.qm_partition.specs.Numbering.{nodes_of, AreNumbered}
 use Rattle.qm_partition.specs.Arrays.{partition_of, tree_of}
 use Rattle.qm_partition.proofs.OwnArrays.{partition_of-numbered}
 use Rattle.qm_contacts.specs.NumberedLeaves.{is_numbered}
-use Rattle.qm_formats.specs.Layout.{Layout, right_each, right_option, recast, tested, both, pair, each, many, present}
+use Rattle.qm_formats.specs.Layout.{Layout, right_each, right_option, pair, each, many}
 use Rattle.qm_formats.specs.Fields.{unsigned, fixed}
 use Rattle.qm_formats.specs.Exact.{IsExact}
-use Rattle.qm_formats.specs.FileParts.{FileFaultKind, short, magic, counts, node_order, plane_layout, node_layout, leaf_layout}
-use Rattle.qm_formats.specs.TreeFile.{Header, count_layout, flag_layout, header_layout, are_numbered, are_ordered, own_row, planes_layout, nodes_layout, leaves_layout, rows_layout, parts_layout, FileContent, header_of, file_layout}
+use Rattle.qm_formats.specs.FileParts.{short, magic, counts, node_order, plane_layout, node_layout, leaf_layout}
+use Rattle.qm_formats.specs.TreeFile.{Header, count_layout, flag_layout, header_layout, are_numbered, are_ordered, own_row, planes_layout, nodes_layout, leaves_layout, rows_layout, parts_layout, file_layout}
 use Rattle.qm_formats.proofs.ExactParts.{recast_exact, tested_exact, both_exact, pair_exact, each_exact, present_exact}
 use Rattle.qm_formats.proofs.ExactFields.{byte_exact, unsigned_64_exact, fixed_exact}
 use Rattle.qm_formats.proofs.ExactRecords.{plane_exact, node_exact, leaf_exact, flag_number, number_flag}
@@ -38,8 +38,8 @@ header_exact =
     pair_exact _ _ (fixed_exact short magic (codes "QMTREE01") refl) (
     pair_exact _ _ (count_exact (λ planes. ltb planes (2 ^ 32))) (
     both_exact _ _ (unsigned_64_exact short) (λ nodes.
-        both_exact _ _ (count_exact (λ leaves. eqb leaves (nodes + 1))) (λ leaves.
-            pair_exact _ _ (count_exact (λ numbered. leb numbered leaves)) flag_exact))))) (λ y right. refl) (λ h right. refl)
+    both_exact _ _ (count_exact (λ leaves. eqb leaves (nodes + 1))) (λ leaves.
+    pair_exact _ _ (count_exact (λ numbered. leb numbered leaves)) flag_exact))))) (λ y right. refl) (λ h right. refl)
 
 pub planes_exact : (header : Header) → IsExact (planes_layout header)
 unfolding planes_layout
@@ -89,15 +89,15 @@ header_leaves header right =
     eqb-true header.leaves (header.nodes + 1) (and_parts ((unsigned short w64).right header.leaves) (eqb header.leaves (header.nodes + 1)) behind_leaves.0).1
 
 -- what parts that can stand in a file are
-record AreParts (header : Header) (planes : List Plane) (nodes : List NodeRecord) (leaves : List LeafRecord) (rows : Option (List (List Bool))) : Type 0 where
-  plane_count : length planes ≡ header.planes
-  node_count : length nodes ≡ header.nodes
-  leaf_count : length leaves ≡ header.leaves
-  numbered : AreNumbered (partition_of nodes leaves) nodes leaves
-  numbered_count : count_by is_numbered leaves ≡ header.numbered
-  has_rows : is_some rows ≡ header.has_rows
+pub record AreCounted (header : Header) (planes : List Plane) (nodes : List NodeRecord) (leaves : List LeafRecord) (rows : Option (List (List Bool))) : Type 0 where
+  pub plane_count : length planes ≡ header.planes
+  pub node_count : length nodes ≡ header.nodes
+  pub leaf_count : length leaves ≡ header.leaves
+  pub numbered : AreNumbered (partition_of nodes leaves) nodes leaves
+  pub numbered_count : count_by is_numbered leaves ≡ header.numbered
+  pub has_rows : is_some rows ≡ header.has_rows
 
-right_parts : (header : Header) (planes : List Plane) (nodes : List NodeRecord) (leaves : List LeafRecord) (rows : Option (List (List Bool))) → header_layout.right header ≡ true → (parts_layout header).right (planes, (nodes, (leaves, rows))) ≡ true → AreParts header planes nodes leaves rows
+pub right_parts : (header : Header) (planes : List Plane) (nodes : List NodeRecord) (leaves : List LeafRecord) (rows : Option (List (List Bool))) → header_layout.right header ≡ true → (parts_layout header).right (planes, (nodes, (leaves, rows))) ≡ true → AreCounted header planes nodes leaves rows
 unfolding parts_layout planes_layout nodes_layout leaves_layout rows_layout are_ordered
 right_parts header planes nodes leaves rows right_header right =
     let of_planes = (planes_layout header).right planes in
@@ -121,7 +121,7 @@ right_parts header planes nodes leaves rows right_header right =
       has_rows = right_option_there (each (own_row header.numbered) header.numbered) header.has_rows rows behind_leaves.1;
     }
 
-own_tree : (tree : Tree) → tree_of tree.planes (nodes_of tree.shape 0 0) (leaves_of tree.shape) ≡ tree
+pub own_tree : (tree : Tree) → tree_of tree.planes (nodes_of tree.shape 0 0) (leaves_of tree.shape) ≡ tree
 own_tree tree =
     let own = partition_of-numbered tree.shape (nodes_of tree.shape 0 0) (leaves_of tree.shape) (record { nodes_are = refl; leaves_are = refl }) in
     λ i. record { planes = tree.planes; shape = own i }
@@ -130,13 +130,13 @@ pub file_exact : IsExact file_layout
 unfolding file_layout
 file_exact =
     recast_exact _ _ _ (both_exact header_layout parts_layout header_exact parts_exact) (λ v right.
-        let both = and_parts (header_layout.right v.0) ((parts_layout v.0).right v.1) right in
-        let are = right_parts v.0 v.1.0 v.1.1.0 v.1.1.1.0 v.1.1.1.1 both.0 both.1 in
-        let nodes = sym are.numbered.nodes_are in
-        let leaves = sym are.numbered.leaves_are in
-        let node_count = ap length nodes ∙ are.node_count in
-        let leaf_count = ap length leaves ∙ are.leaf_count in
-        let numbered = ap (count_by is_numbered) leaves ∙ are.numbered_count in
-        λ i. (record { planes = are.plane_count i; nodes = node_count i; leaves = leaf_count i; numbered = numbered i; has_rows = are.has_rows i }, (v.1.0, (nodes i, (leaves i, v.1.1.1.1))))) (λ file right.
-        let own = own_tree file.0 in
-        λ i. (own i, file.1))
+    let both = and_parts (header_layout.right v.0) ((parts_layout v.0).right v.1) right in
+    let are = right_parts v.0 v.1.0 v.1.1.0 v.1.1.1.0 v.1.1.1.1 both.0 both.1 in
+    let nodes = sym are.numbered.nodes_are in
+    let leaves = sym are.numbered.leaves_are in
+    let node_count = ap length nodes ∙ are.node_count in
+    let leaf_count = ap length leaves ∙ are.leaf_count in
+    let numbered = ap (count_by is_numbered) leaves ∙ are.numbered_count in
+    λ i. (record { planes = are.plane_count i; nodes = node_count i; leaves = leaf_count i; numbered = numbered i; has_rows = are.has_rows i }, (v.1.0, (nodes i, (leaves i, v.1.1.1.1))))) (λ file right.
+    let own = own_tree file.0 in
+    λ i. (own i, file.1))

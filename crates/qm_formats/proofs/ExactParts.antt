@@ -1,7 +1,7 @@
 -- What layouts are made of is exact where their parts are.
-use Rattle.std.proofs.Common.{◌≡◌, ◌<◌, ◌≤◌, ℕ, zero, suc, ◌+◌, Bool, true, false, cond, ◌&&◌, List, [], ◌∷◌, ◌++◌, length, Option, Some, None, refl, sym, ap, subst, ◌∙◌, arith}
+use Rattle.std.proofs.Common.{◌≡◌, ◌≤◌, ℕ, zero, suc, ◌+◌, Bool, true, false, cond, List, [], ◌∷◌, length, Option, Some, None, refl, sym, ap, subst, ◌∙◌, arith}
 use Rattle.std.specs.Prelude.{IsTrue}
-use Rattle.std.proofs.lemmas.Bool.{and_parts, and_from, cases_Bool}
+use Rattle.std.proofs.lemmas.Bool.{and_parts, and_from}
 use Rattle.qm_formats.specs.Fields.{AreBytes}
 use Rattle.qm_formats.specs.Layout.{Answer, got, bad, Layout, answer_map, answer_then, seen_as, recast, tested, both, pair, each_from, present}
 use Rattle.qm_formats.specs.Exact.{StandsAt, IsFound, IsExact}
@@ -109,10 +109,10 @@ module _ {F X : Type 0} (layout : ℕ → Layout F X) (exact : (k : ℕ) → IsE
       let front = (exact k).found file at one.0 one.1 are within one.2 in
       let behind = found_each (k + 1) count file one.1 other.0 next are front.stands.within other.1 in
       found_as (each_from layout k (suc count)) file at (one.0 ∷ other.0) xs next next other.2 refl (
-        record {
-          right = and_from ((layout k).right one.0) ((each_from layout (k + 1) count).right other.0) front.right behind.right;
-          stands = stands_both file at ((layout k).bytes_of one.0) one.1 ((each_from layout (k + 1) count).bytes_of other.0) next front.stands behind.stands;
-        }
+      record {
+        right = and_from ((layout k).right one.0) ((each_from layout (k + 1) count).right other.0) front.right behind.right;
+        stands = stands_both file at ((layout k).bytes_of one.0) one.1 ((each_from layout (k + 1) count).bytes_of other.0) next front.stands behind.stands;
+      }
       )
 
   again_each : (k count : ℕ) (file : List ℕ) (at : ℕ) (xs : List X) (next : ℕ) → IsFound (each_from layout k count) file at xs next → (each_from layout k count).read file at ≡ got xs next

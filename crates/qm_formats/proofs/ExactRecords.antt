@@ -1,6 +1,5 @@
 -- The records of a tree file are read exactly.
-use Rattle.std.proofs.Common.{◌≡◌, ◌<◌, ◌≤◌, ℕ, zero, suc, Bool, true, false, cond, eqb, ltb, leb, ◌&&◌, ◌||◌, ℤ, pos, negsuc, List, refl, sym, ap, subst, ◌∙◌, arith}
-use Rattle.std.specs.Prelude.{IsTrue}
+use Rattle.std.proofs.Common.{◌≡◌, ℕ, zero, suc, Bool, true, false, cond, eqb, leb, ◌&&◌, ◌||◌, ℤ, pos, negsuc, refl, arith}
 use Rattle.std.proofs.lemmas.Bool.{and_parts, leb-true, ltb-true}
 use Rattle.std.specs.Int.{w8, w32, w64}
 use Rattle.qm_contents.specs.declared.contents.Contents.{Contents}
@@ -9,8 +8,7 @@ use Rattle.qm_contents.specs.Codes.{code_of}
 use Rattle.qm_contacts.specs.NumberedLeaves.{is_solid}
 use Rattle.qm_partition.specs.declared.node.Child.{Child}
 use Rattle.qm_partition.specs.declared.node.Child.TheVariants.{Node, Leaf}
-use Rattle.qm_partition.specs.declared.node.Leaf.{Leaf as LeafRecord}
-use Rattle.qm_formats.specs.Layout.{tested, pair}
+use Rattle.qm_formats.specs.Layout.{pair}
 use Rattle.qm_formats.specs.Fields.{unsigned, signed}
 use Rattle.qm_formats.specs.Exact.{IsExact}
 use Rattle.qm_formats.specs.FileParts.{short, plane_form, leaf_form, is_plane, plane_layout, child_of_number, number_of_child, child_layout, node_layout, contents_of_code, is_code, is_leaf, leaf_layout}
@@ -77,10 +75,10 @@ unfolding leaf_layout is_leaf
 leaf_exact =
     let fields = pair (signed short w32) (unsigned short w8) in
     recast_exact _ _ _ (tested_exact is_leaf leaf_form (λ _ at. at) fields (pair_exact (signed short w32) (unsigned short w8) (signed_32_exact short) (byte_exact short))) (λ v right.
-        let tests = and_parts (is_code v.0) (leb v.1 1 && (eqb v.1 0 || is_solid (contents_of_code v.0))) (and_parts (fields.right v) (is_leaf v) right).1 in
-        let code = code_back v.0 tests.0 in
-        let flag = flag_number v.1 (and_parts (leb v.1 1) (eqb v.1 0 || is_solid (contents_of_code v.0)) tests.1).0 in
-        λ i. (code i, flag i)) (λ found right.
-        let contents = contents_back found.contents in
-        let filled = number_flag found.filled in
-        λ i. record { contents = contents i; filled = filled i })
+    let tests = and_parts (is_code v.0) (leb v.1 1 && (eqb v.1 0 || is_solid (contents_of_code v.0))) (and_parts (fields.right v) (is_leaf v) right).1 in
+    let code = code_back v.0 tests.0 in
+    let flag = flag_number v.1 (and_parts (leb v.1 1) (eqb v.1 0 || is_solid (contents_of_code v.0)) tests.1).0 in
+    λ i. (code i, flag i)) (λ found right.
+    let contents = contents_back found.contents in
+    let filled = number_flag found.filled in
+    λ i. record { contents = contents i; filled = filled i })

@@ -1,9 +1,9 @@
 -- Rows of bits in runs are read exactly.
-use Rattle.std.proofs.Common.{◌≡◌, ◌<◌, ◌≤◌, ℕ, zero, suc, ◌+◌, Bool, true, false, cond, eqb, ltb, ◌&&◌, List, [], ◌∷◌, ◌++◌, length, take, drop, get_or, replicate, Result, Ok, Err, refl, sym, ap, subst, ◌∙◌, arith}
-use Rattle.std.proofs.lemmas.Bool.{and_parts, and_from, lt-ltb, ltb-true, eq-eqb, eqb-true}
+use Rattle.std.proofs.Common.{◌≡◌, ◌≤◌, ℕ, zero, suc, ◌+◌, true, false, eqb, ltb, ◌&&◌, List, [], ◌∷◌, ◌++◌, length, take, drop, get_or, replicate, Result, Ok, Err, refl, sym, ap, subst, ◌∙◌, arith}
+use Rattle.std.proofs.lemmas.Bool.{and_parts, and_from, lt-ltb, eq-eqb, eqb-true}
 use Rattle.std.proofs.lemmas.List.{length-drop, get_or-drop}
 use Rattle.qm_formats.specs.Fields.{AreBytes, are_bytes}
-use Rattle.qm_formats.specs.Layout.{Answer, got, bad}
+use Rattle.qm_formats.specs.Layout.{got}
 use Rattle.qm_formats.specs.Exact.{StandsAt, IsFound, IsExact}
 use Rattle.qm_formats.specs.Runs.{Spells, RunFaultKind, short, zero_count, split_run, overrun, read_runs, runs_of, row_answer, in_runs}
 use Rattle.qm_formats.specs.RowBits.{row_width, packed, unpacked, is_clear_past, row_bits}
@@ -70,15 +70,14 @@ module _ {F : Type 0} (end form : F) (places : ℕ) where
   row_bits_exact =
       let bytes = in_runs end form (row_width places) in
       seen_as_exact (unpacked places) packed (λ row. eqb (length row) places) _ (tested_exact (is_clear_past places) form (λ _ at. at) bytes (in_runs_exact end form (row_width places))) (λ row right.
-          let both = and_parts (eqb (length row) (row_width places) && are_bytes row) (is_clear_past places row) right in
-          let first = and_parts (eqb (length row) (row_width places)) (are_bytes row) both.0 in
-          (packed-unpacked places row (eqb-true (length row) (row_width places) first.0) (bytes-are row first.1) both.1, eq-eqb (length (unpacked places row)) places (length-unpacked places row))) (λ row right.
-          let long = eqb-true (length row) places right in
-          let wide : length (packed row) ≡ row_width places = length-packed row ∙ ap row_width long in
-          (
-            ap (λ (n : ℕ). unpacked n (packed row)) (sym long) ∙ unpacked-packed row,
-            and_from (eqb (length (packed row)) (row_width places) && are_bytes (packed row)) (is_clear_past places (packed row)) (and_from (eqb (length (packed row)) (row_width places)) (are_bytes (packed row)) (eq-eqb (length (packed row)) (row_width places) wide) (are_bytes-from (packed row) (packed-bytes row))) (subst (λ (n : ℕ). is_clear_past n (packed row) ≡ true) long (packed-clear row)),
-          ))
+      let both = and_parts (eqb (length row) (row_width places) && are_bytes row) (is_clear_past places row) right in
+      let first = and_parts (eqb (length row) (row_width places)) (are_bytes row) both.0 in
+      (packed-unpacked places row (eqb-true (length row) (row_width places) first.0) (bytes-are row first.1) both.1, eq-eqb (length (unpacked places row)) places (length-unpacked places row))) (λ row right.
+      let long = eqb-true (length row) places right in
+      let wide : length (packed row) ≡ row_width places = length-packed row ∙ ap row_width long in (
+        ap (λ (n : ℕ). unpacked n (packed row)) (sym long) ∙ unpacked-packed row,
+        and_from (eqb (length (packed row)) (row_width places) && are_bytes (packed row)) (is_clear_past places (packed row)) (and_from (eqb (length (packed row)) (row_width places)) (are_bytes (packed row)) (eq-eqb (length (packed row)) (row_width places) wide) (are_bytes-from (packed row) (packed-bytes row))) (subst (λ (n : ℕ). is_clear_past n (packed row) ≡ true) long (packed-clear row)),
+      ))
 
 pub own_row_exact : (places k : ℕ) → IsExact (own_row places k)
 unfolding own_row

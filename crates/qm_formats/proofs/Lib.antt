@@ -9,3 +9,7 @@ pub mod ExactRows
 pub mod NumberedNodes
 pub mod ExactRecords
 pub mod ExactFile
+pub mod RightParts
+pub mod ChildNumbers
+pub mod ValidFiles
+pub mod WholeFile

@@ -1,9 +1,9 @@
 -- A row is read exactly where its spelling stands.
-use Rattle.std.proofs.Common.{◌≡◌, ◌<◌, ◌≤◌, ℕ, zero, suc, ◌+◌, ◌-◌, Bool, true, false, cond, ltb, List, [], ◌∷◌, ◌++◌, length, take, replicate, Result, Ok, Err, get_or, IsTrue, refl, sym, ap, subst, ◌∙◌, arith, add-one, inl, inr}
-use Rattle.std.proofs.lemmas.Bool.{cases_lt, cases_Bool, lt-ltb, le-ltb, ltb-true}
-use Rattle.std.proofs.lemmas.List.{append_assoc, length-append, length-replicate}
+use Rattle.std.proofs.Common.{◌≡◌, ◌<◌, ◌≤◌, ℕ, zero, suc, ◌+◌, ◌-◌, Bool, true, false, cond, ltb, List, [], ◌∷◌, ◌++◌, length, take, replicate, Result, Ok, Err, refl, sym, ap, subst, ◌∙◌, arith, inl, inr}
+use Rattle.std.proofs.lemmas.Bool.{cases_lt, lt-ltb, le-ltb, ltb-true}
+use Rattle.std.proofs.lemmas.List.{length-append, length-replicate}
 use Rattle.qm_formats.specs.Fields.{AreBytes}
-use Rattle.qm_formats.specs.Runs.{BeginsNonzero, Spells, RunFaultKind, short, zero_count, split_run, overrun, read_behind, read_due, read_runs}
+use Rattle.qm_formats.specs.Runs.{BeginsNonzero, Spells, RunFaultKind, overrun, read_behind, read_due, read_runs}
 use Rattle.qm_formats.proofs.Spellings.{one_spelling}
 
 -- a row of that width is spelt by the first bytes

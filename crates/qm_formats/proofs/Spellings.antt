@@ -1,7 +1,7 @@
 -- Each row has one spelling in runs, and no spelling begins another of the same width.
-use Rattle.std.proofs.Common.{◌≡◌, ◌≢◌, ◌<◌, ◌≤◌, Some, None, drop, ℕ, zero, suc, ◌+◌, ◌-◌, Bool, true, false, cond, eqb, List, [], ◌∷◌, ◌++◌, length, replicate, add-one, refl, sym, ap, subst, ◌∙◌, arith, inl, inr, ⊎_elim}
-use Rattle.std.proofs.lemmas.Bool.{cases_lt, cases_order, cases_eq, eq-eqb, ne_eqb}
-use Rattle.std.proofs.lemmas.List.{append_assoc, append_cancel_left, length-append, length-replicate, replicate-append-replicate}
+use Rattle.std.proofs.Common.{◌≡◌, ◌≢◌, ◌<◌, ◌≤◌, Some, None, drop, ℕ, zero, suc, ◌+◌, Bool, cond, List, [], ◌∷◌, ◌++◌, replicate, add-one, refl, sym, ap, subst, ◌∙◌, arith, inl, inr}
+use Rattle.std.proofs.lemmas.Bool.{cases_order, cases_eq, eq-eqb, ne_eqb}
+use Rattle.std.proofs.lemmas.List.{append_cancel_left}
 use Rattle.std.specs.List.{slice_get}
 use Rattle.qm_formats.specs.Runs.{BeginsNonzero, Spells, zero_before, runs_of}
 
@@ -17,13 +17,13 @@ spells_zero_before (zero ∷ []) row h = absurd h
 spells_zero_before (zero ∷ count ∷ bytes) row h =
     elim (cases_eq count 255) [
       | inl full ↦
-        let behind : Spells (zero ∷ count ∷ zero_before bytes) (zero ∷ row) =
-        (zero ∷ h.0, ap (λ (xs : List ℕ). zero ∷ xs) h.1 ∙ zero_through count h.0, h.2, h.3, λ less. absurd (omega (arith, less, full)), spells_zero_before bytes h.0 h.5) in
-        subst (λ (b : Bool). Spells (cond b (zero ∷ count ∷ zero_before bytes) (zero ∷ (count + 1) ∷ bytes)) (zero ∷ row)) (sym (eq-eqb count 255 full)) behind
+          let behind : Spells (zero ∷ count ∷ zero_before bytes) (zero ∷ row) =
+          (zero ∷ h.0, ap (λ (xs : List ℕ). zero ∷ xs) h.1 ∙ zero_through count h.0, h.2, h.3, λ less. absurd (omega (arith, less, full)), spells_zero_before bytes h.0 h.5) in
+          subst (λ (b : Bool). Spells (cond b (zero ∷ count ∷ zero_before bytes) (zero ∷ (count + 1) ∷ bytes)) (zero ∷ row)) (sym (eq-eqb count 255 full)) behind
       | inr other ↦
-        let longer : Spells (zero ∷ (count + 1) ∷ bytes) (zero ∷ row) =
-        (h.0, ap (λ (xs : List ℕ). zero ∷ xs) h.1 ∙ sym (ap (λ (n : ℕ). replicate n zero ++ h.0) (add-one count)), omega arith, omega (arith, h.3, other), λ less. h.4 (omega arith), h.5) in
-        subst (λ (b : Bool). Spells (cond b (zero ∷ count ∷ zero_before bytes) (zero ∷ (count + 1) ∷ bytes)) (zero ∷ row)) (sym (ne_eqb count 255 other)) longer
+          let longer : Spells (zero ∷ (count + 1) ∷ bytes) (zero ∷ row) =
+          (h.0, ap (λ (xs : List ℕ). zero ∷ xs) h.1 ∙ sym (ap (λ (n : ℕ). replicate n zero ++ h.0) (add-one count)), omega arith, omega (arith, h.3, other), λ less. h.4 (omega arith), h.5) in
+          subst (λ (b : Bool). Spells (cond b (zero ∷ count ∷ zero_before bytes) (zero ∷ (count + 1) ∷ bytes)) (zero ∷ row)) (sym (ne_eqb count 255 other)) longer
     ]
 
 pub spells_runs_of : (row : List ℕ) → Spells (runs_of row) row

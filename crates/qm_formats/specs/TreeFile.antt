@@ -1,4 +1,4 @@
-use Rattle.std.specs.Prelude.{◌≡◌, ◌<◌, ◌^◌, ℕ, ◌+◌, Bool, true, false, ◌&&◌, ◌==◌, nat_lt, nat_le, List, [], ◌∷◌, length, replicate, slice_index_or, Option, Some, None, is_some, codes, count_by, if◌then◌else◌, IsTrue, All, IfSome}
+use Rattle.std.specs.Prelude.{◌≡◌, ◌<◌, ◌^◌, ℕ, ◌+◌, Bool, true, false, ◌&&◌, ◌==◌, nat_lt, nat_le, List, [], ◌∷◌, length, replicate, slice_index_or, Option, is_some, codes, count_by, if◌then◌else◌, All, IfSome}
 use Rattle.std.specs.Int.{w8, w64}
 use Rattle.std.specs.List.{list_all}
 use Rattle.qm_space.specs.Plane.{Plane}
@@ -45,8 +45,8 @@ header_layout =
     (pair (fixed short magic (codes "QMTREE01"))
     (pair (count_layout (λ planes. nat_lt planes (2 ^ 32)))
     (both (unsigned short w64) (λ nodes.
-        both (count_layout (λ leaves. leaves == nodes + 1)) (λ leaves.
-            pair (count_layout (λ numbered. nat_le numbered leaves)) flag_layout)))))
+    both (count_layout (λ leaves. leaves == nodes + 1)) (λ leaves.
+    pair (count_layout (λ numbered. nat_le numbered leaves)) flag_layout)))))
 
 abbrev pub same_child : Child → Child → Bool
 same_child (Node n) (Node m) = n == m

@@ -2,7 +2,7 @@ ghost use Rattle.std.specs.Prelude.{◌≡◌, ◌≤◌, ◌+◌};
 ghost use Rattle.qm_numbers.specs.Gcd.{gcd};
 
 /// The greatest common divisor, by Euclid's remainders; where one number is 0, it is the other.
-pub(crate) fn common_divisor(first: u64, second: u64) -> u64
+pub fn common_divisor(first: u64, second: u64) -> u64
     ensures value { result ≡ gcd first second }
     ensures size { result ≤ first + second }
 {

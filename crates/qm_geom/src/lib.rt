@@ -19,6 +19,7 @@ mod vector;
 pub use corner::Corner;
 pub use cuboid::{Cuboid, Span};
 pub use distance::least_distance;
+pub use factor::common_divisor;
 pub use line::Line;
 pub use one_line::are_on_one_line;
 pub use plane::{NoNormal, Plane};

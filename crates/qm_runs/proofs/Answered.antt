@@ -1,8 +1,8 @@
 -- What an answer says of the bytes, where it is the one that reading gives.
-use Rattle.std.proofs.Common.{◌≡◌, ◌≤◌, ℕ, List, ◌++◌, length, take, Result, Ok, Err, refl, sym, ap, subst, ◌∙◌, arith}
+use Rattle.std.proofs.Common.{◌≡◌, ◌≤◌, ℕ, List, ◌++◌, length, take, Result, Ok, Err, refl, sym, ap, ◌∙◌}
 use Rattle.std.specs.Prelude.{IfOk, MatchResult}
 use Rattle.qm_formats.specs.Fields.{AreBytes}
-use Rattle.qm_formats.specs.Runs.{Spells, read_runs, RunFaultKind}
+use Rattle.qm_formats.specs.Runs.{Spells, read_runs}
 use Rattle.qm_formats.proofs.ReadRows.{read_runs_again, read_runs_found}
 use Rattle.qm_runs.specs.Answers.{IsRunFault}
 use Rattle.qm_runs.specs.declared.run_fault.RunFault.{RunFault}

@@ -1,4 +1,4 @@
-use Rattle.std.proofs.Common.{◌≡◌, ◌≤◌, ℕ, zero, ◌-◌, Bool, length, get_or, replicate, drop, ltb, sym, subst, ap, ◌∙◌, arith}
+use Rattle.std.proofs.Common.{◌≡◌, ℕ, zero, ◌-◌, Bool, length, get_or, replicate, drop, ltb, sym, ap, ◌∙◌, arith}
 use Rattle.std.proofs.lemmas.List.{length-replicate}
 use Rattle.qm_formats.specs.Runs.{read_behind, read_due}
 use Rattle.qm_formats.proofs.ReadParts.{run_first}

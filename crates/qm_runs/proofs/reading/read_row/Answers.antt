@@ -1,6 +1,5 @@
-use Rattle.std.proofs.Common.{List, ℕ, arith, subst, sym}
+use Rattle.std.proofs.Common.{arith}
 use Rattle.qm_formats.proofs.ReadParts.{read_runs-due}
-use Rattle.qm_runs.proofs.reading.read_row.Invariants.{IsReadSoFar}
 use Rattle.qm_runs.proofs.reading.read_row.Goals as goal
 
 pub loop-rest-init : goal.loop-rest-init

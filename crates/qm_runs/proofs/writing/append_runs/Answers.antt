@@ -1,7 +1,6 @@
-use Rattle.std.proofs.Common.{◌≡◌, ℕ, zero, List, [], ◌∷◌, ◌++◌, Some, None, ap, sym, subst, ◌∙◌, append_assoc}
-use Rattle.std.specs.List.{slice_get}
+use Rattle.std.proofs.Common.{Some, ap, sym, ◌∙◌, append_assoc}
 use Rattle.qm_formats.proofs.Spellings.{runs_of-byte, runs_of-zeros, runs_of-none}
-use Rattle.qm_runs.proofs.Written.{IsWritten, written_part, written_all}
+use Rattle.qm_runs.proofs.Written.{written_part, written_all}
 use Rattle.qm_runs.proofs.writing.append_runs.Goals as goal
 
 pub loop-first-preserved-then-first-ne0 : goal.loop-first-preserved-then-first-ne0

@@ -1,0 +1,40 @@
+-- Values that are read one behind the other.
+use Rattle.std.proofs.Common.{◌≡◌, ◌<◌, ℕ, suc, ◌+◌, ◌-◌, List, [], ◌∷◌, ◌++◌, refl, sym, ap, subst, ◌∙◌, append_assoc, arith}
+use Rattle.qm_formats.specs.Layout.{Answer, got, bad, Layout, answer_map, answer_then, read_each}
+use Rattle.qm_formats.specs.FileParts.{FileFaultKind}
+use Rattle.qm_file.specs.declared.file_fault.FileFault.{FileFault}
+use Rattle.qm_file.specs.Answers.{IsFault}
+use Rattle.qm_file.proofs.Faults.{fault_map, fault_then}
+
+map_behind : {F X : Type 0} (items : List X) (x : X) (answer : Answer F (List X)) → answer_map (λ (xs : List X). items ++ xs) (answer_map (λ (xs : List X). x ∷ xs) answer) ≡ answer_map (λ (xs : List X). (items ++ x ∷ []) ++ xs) answer
+map_behind items x (got xs next) = ap (λ (ys : List _). got ys next) (sym (append_assoc items (x ∷ []) xs))
+map_behind items x (bad fault place) = refl
+
+pub map_nothing : {F X : Type 0} (answer : Answer F (List X)) → answer_map (λ (xs : List X). [] ++ xs) answer ≡ answer
+map_nothing (got xs next) = refl
+map_nothing (bad fault place) = refl
+
+module _ {X : Type 0} (layout : ℕ → Layout FileFaultKind X) (whole : Answer FileFaultKind (List X)) (items : List X) (counter count : ℕ) (file : List ℕ) (next : ℕ) where
+  abbrev pub IsReadSoFar : Type 0
+  IsReadSoFar = whole ≡ answer_map (λ (xs : List X). items ++ xs) (read_each layout counter (count - counter) file next)
+
+  one_due : counter < count → count - counter ≡ suc (count - (counter + 1))
+  one_due less = omega arith
+
+  due : counter < count → IsReadSoFar → whole ≡ answer_map (λ (xs : List X). items ++ xs) (read_each layout counter (suc (count - (counter + 1))) file next)
+  due less so_far = so_far ∙ ap (λ (n : ℕ). answer_map (λ (xs : List X). items ++ xs) (read_each layout counter n file next)) (one_due less)
+
+  pub one_more : (x : X) (after : ℕ) (more : List X) → counter < count → IsReadSoFar → (layout counter).read file next ≡ got x after → more ≡ items ++ x ∷ [] → whole ≡ answer_map (λ (xs : List X). more ++ xs) (read_each layout (counter + 1) (count - (counter + 1)) file after)
+  one_more x after more less so_far read pushed =
+      let rest = count - (counter + 1) in
+      due less so_far
+      ∙ ap (λ (answer : Answer FileFaultKind X). answer_map (λ (xs : List X). items ++ xs) (answer_then answer (λ y mid. answer_map (λ (ys : List X). y ∷ ys) (read_each layout (counter + 1) rest file mid)))) read
+      ∙ map_behind items x (read_each layout (counter + 1) rest file after)
+      ∙ ap (λ (all : List X). answer_map (λ (xs : List X). all ++ xs) (read_each layout (counter + 1) rest file after)) (sym pushed)
+
+  pub one_fault : (fault : FileFault) → counter < count → IsReadSoFar → IsFault fault ((layout counter).read file next) → IsFault fault whole
+  one_fault fault less so_far is =
+      let rest = count - (counter + 1) in
+      let each = read_each layout counter (suc rest) file next in
+      let behind = fault_then (λ y mid. answer_map (λ (ys : List X). y ∷ ys) (read_each layout (counter + 1) rest file mid)) fault ((layout counter).read file next) is in
+      subst (λ (answer : Answer FileFaultKind (List X)). IsFault fault answer) (sym (due less so_far)) (fault_map (λ (xs : List X). items ++ xs) fault each behind)

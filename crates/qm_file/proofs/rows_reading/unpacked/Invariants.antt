@@ -1,0 +1,5 @@
+use Rattle.qm_file.proofs.Unpacking.{IsUnpacked}
+use Rattle.qm_file.proofs.rows_reading.unpacked.Given as goal
+
+abbrev pub invariant-loop-i : goal.invariant-loop-i
+invariant-loop-i l = IsUnpacked l.places l.packed l.row l.i

@@ -1,0 +1,3 @@
+pub mod RowsBytes
+pub mod SeenHeader
+pub mod SeenParts

@@ -1,0 +1,6 @@
+use Rattle.qm_formats.specs.TreeFile.{Header}
+use Rattle.qm_file.specs.declared.header_reading.Header.{Header as ReadHeader}
+
+-- a header that was read, as the layouts know it
+abbrev pub seen_header : ReadHeader → Header
+seen_header read = record { planes = read.planes; nodes = read.nodes; leaves = read.leaves; numbered = read.numbered; has_rows = read.has_rows }

@@ -1,0 +1,80 @@
+//! Single fields, read at a place. Each answers its value and where it ends.
+
+ghost use Rattle.std.specs.Prelude.{◌≡◌, ◌≤◌, length, IfOk, codes};
+ghost use Rattle.std.specs.Int.{w8, w32, w64};
+ghost use Rattle.qm_formats.specs.Fields.{signed, unsigned, fixed};
+ghost use Rattle.qm_formats.specs.FileParts.{short, magic};
+ghost use Rattle.qm_file.specs.Answers.{IsFault, Gives};
+
+use crate::file_fault::FileFault;
+
+/// The fault of bytes that end too early.
+pub(crate) fn short(bytes: &[u8]) -> FileFault
+    ensures { result ≡ FileFault.Short (length bytes.now) }
+{
+    FileFault::Short {
+        offset: bytes.len() as u64,
+    }
+}
+
+#[tactic(auto, unfolding(qm_formats::specs::Fields::unsigned, qm_formats::specs::Fields::raw))]
+pub(crate) fn u8_at(bytes: &[u8], at: usize) -> Result<(u8, usize), FileFault>
+    requires { at ≤ length bytes.now }
+    ensures gives { Gives (λ read. read.0) (λ read. read.1) result ((unsigned short w8).read bytes.now at) }
+    ensures within { IfOk result (λ read. read.1 ≤ length bytes.now) }
+{
+    if bytes.len() - at < 1 {
+        return Err(short(bytes));
+    }
+    Ok((bytes[at], at + 1))
+}
+
+#[tactic(auto, unfolding(qm_formats::specs::Fields::unsigned, qm_formats::specs::Fields::raw))]
+pub(crate) fn u32_at(bytes: &[u8], at: usize) -> Result<(u32, usize), FileFault>
+    requires { at ≤ length bytes.now }
+    ensures gives { Gives (λ read. read.0) (λ read. read.1) result ((unsigned short w32).read bytes.now at) }
+    ensures within { IfOk result (λ read. read.1 ≤ length bytes.now) }
+{
+    if bytes.len() - at < 4 {
+        return Err(short(bytes));
+    }
+    let (part, _) = bytes.split_at(at).1.split_at(4);
+    let number = u32::from_le_bytes([part[0], part[1], part[2], part[3]]);
+    Ok((number, at + 4))
+}
+
+#[tactic(auto, unfolding(qm_formats::specs::Fields::unsigned, qm_formats::specs::Fields::raw))]
+pub(crate) fn u64_at(bytes: &[u8], at: usize) -> Result<(u64, usize), FileFault>
+    requires { at ≤ length bytes.now }
+    ensures gives { Gives (λ read. read.0) (λ read. read.1) result ((unsigned short w64).read bytes.now at) }
+    ensures within { IfOk result (λ read. read.1 ≤ length bytes.now) }
+{
+    if bytes.len() - at < 8 {
+        return Err(short(bytes));
+    }
+    let (part, _) = bytes.split_at(at).1.split_at(8);
+    let number = u64::from_le_bytes([
+        part[0], part[1], part[2], part[3], part[4], part[5], part[6], part[7],
+    ]);
+    Ok((number, at + 8))
+}
+
+#[tactic(auto, unfolding(qm_formats::specs::Fields::signed))]
+pub(crate) fn i32_at(bytes: &[u8], at: usize) -> Result<(i32, usize), FileFault>
+    requires { at ≤ length bytes.now }
+    ensures gives { Gives (λ read. read.0) (λ read. read.1) result ((signed short w32).read bytes.now at) }
+    ensures within { IfOk result (λ read. read.1 ≤ length bytes.now) }
+{
+    let (number, next) = u32_at(bytes, at)?;
+    Ok((number.cast_signed(), next))
+}
+
+#[tactic(auto, unfolding(qm_formats::specs::Fields::signed))]
+pub(crate) fn i64_at(bytes: &[u8], at: usize) -> Result<(i64, usize), FileFault>
+    requires { at ≤ length bytes.now }
+    ensures gives { Gives (λ read. read.0) (λ read. read.1) result ((signed short w64).read bytes.now at) }
+    ensures within { IfOk result (λ read. read.1 ≤ length bytes.now) }
+{
+    let (number, next) = u64_at(bytes, at)?;
+    Ok((number.cast_signed(), next))
+}

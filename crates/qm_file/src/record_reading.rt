@@ -1,0 +1,187 @@
+//! Planes, nodes and leaves, read at a place, and lists of them.
+
+ghost use Rattle.std.specs.Prelude.{◌≡◌, ◌≤◌, ◌==◌, ◌&&◌, true, false, nat_le, unsigned_abs, length, IfOk, MatchOption};
+ghost use Rattle.qm_space.specs.Bounds.{normal_bound, distance_bound};
+ghost use Rattle.qm_space.specs.Plane.{plane_of};
+ghost use Rattle.qm_space.specs.Reduced.{sign_decides};
+ghost use Rattle.qm_space.specs.ThreePoints.{common_factor};
+ghost use Rattle.qm_formats.specs.Layout.{Layout, many};
+ghost use Rattle.qm_formats.specs.FileParts.{FileFaultKind, is_plane, plane_layout, child_layout, node_layout, contents_of_code, is_leaf, leaf_layout};
+ghost use Rattle.qm_file.specs.Answers.{IsFault, Gives};
+
+use crate::field_reading::{i32_at, i64_at, u8_at, u32_at};
+use crate::file_fault::FileFault;
+use qm_contents::{Contents, of_code};
+use qm_geom::{Plane, common_divisor};
+use qm_partition::{Child, Leaf, Node};
+use std::alloc::Global;
+
+/// How the records of a type are read. A record is checked when all its bytes are there.
+pub(crate) trait Record {
+    /// What is read.
+    type Value: Drop;
+
+    /// How it stands in a file.
+    ghost layout: { Layout FileFaultKind Self.Value };
+
+    /// The record at a place, and where it ends.
+    fn read_at(bytes: &[u8], at: usize) -> Result<(Self::Value, usize), FileFault>
+        requires { at ≤ length bytes.now }
+        ensures gives { Gives (λ read. read.0) (λ read. read.1) result (layout.read bytes.now at) }
+        ensures within { IfOk result (λ read. read.1 ≤ length bytes.now) };
+}
+
+/// So many records one behind the other, from a place on, and where they end. No room is made before the bytes are there.
+pub(crate) fn read_all<R: Record>(
+    alloc: Global,
+    bytes: &[u8],
+    at: usize,
+    count: u64,
+) -> Result<(Vec<R::Value>, usize), FileFault>
+    requires { at ≤ length bytes.now }
+    ensures gives { Gives (λ read. read.0.items) (λ read. read.1) result ((many R.layout count).read bytes.now at) }
+    ensures within { IfOk result (λ read. read.1 ≤ length bytes.now) }
+    ensures counted { IfOk result (λ read. length read.0.items ≡ count) }
+{
+    let mut records = Vec::new(alloc);
+    let mut next = at;
+    for _ in 0..count {
+        let (record, after) = R::read_at(bytes, next)?;
+        records.push(record)?;
+        next = after;
+    }
+    Ok((records, next))
+}
+
+/// Planes in lowest terms, that lead with a positive component and are not too large.
+pub(crate) struct PlaneRecord;
+
+impl Record for PlaneRecord {
+    type Value = Plane;
+
+    ghost layout = { plane_layout };
+
+    #[tactic(auto, unfolding(qm_formats::specs::FileParts::plane_layout))]
+    fn read_at(bytes: &[u8], at: usize) -> Result<(Plane, usize), FileFault> {
+        let (nx, next) = i32_at(bytes, at)?;
+        let (ny, next) = i32_at(bytes, next)?;
+        let (nz, next) = i32_at(bytes, next)?;
+        let (d, next) = i64_at(bytes, next)?;
+        if !is_plane(nx, ny, nz, d) {
+            return Err(FileFault::PlaneForm { offset: at as u64 });
+        }
+        Ok((Plane { nx, ny, nz, d }, next))
+    }
+}
+
+/// The most of a component of a normal, and of a distance.
+const NORMAL_BOUND: u32 = 1 << 26;
+
+const DISTANCE_BOUND: u64 = 1 << 44;
+
+/// Whether four numbers are those of a plane in lowest terms that leads with a positive component and is not too large.
+#[tactic(auto, unfolding(qm_formats::specs::FileParts::is_plane))]
+fn is_plane(nx: i32, ny: i32, nz: i32, d: i64) -> bool
+    ensures { result ≡ is_plane (plane_of nx ny nz d) }
+{
+    leads_positive(nx, ny, nz) && common_factor(nx, ny, nz, d) == 1 && are_small(nx, ny, nz, d)
+}
+
+/// Whether four numbers are within the bounds of a plane's.
+fn are_small(nx: i32, ny: i32, nz: i32, d: i64) -> bool
+    ensures { result ≡ (nat_le (unsigned_abs nx) normal_bound && (nat_le (unsigned_abs ny) normal_bound && (nat_le (unsigned_abs nz) normal_bound && nat_le (unsigned_abs d) distance_bound))) }
+{
+    nx.unsigned_abs() <= NORMAL_BOUND
+        && ny.unsigned_abs() <= NORMAL_BOUND
+        && nz.unsigned_abs() <= NORMAL_BOUND
+        && d.unsigned_abs() <= DISTANCE_BOUND
+}
+
+/// Whether the first of three numbers that is not 0 is positive.
+fn leads_positive(nx: i32, ny: i32, nz: i32) -> bool
+    ensures { result ≡ sign_decides nx (sign_decides ny (sign_decides nz false)) }
+{
+    if nx != 0 {
+        nx > 0
+    } else if ny != 0 {
+        ny > 0
+    } else {
+        nz > 0
+    }
+}
+
+/// The greatest number that divides all four.
+#[tactic(auto, unfolding(qm_space::specs::ThreePoints::common_factor))]
+fn common_factor(nx: i32, ny: i32, nz: i32, d: i64) -> u64
+    ensures { result ≡ common_factor (plane_of nx ny nz d) }
+{
+    let of_two = common_divisor(u64::from(nx.unsigned_abs()), u64::from(ny.unsigned_abs()));
+    let of_three = common_divisor(of_two, u64::from(nz.unsigned_abs()));
+    common_divisor(of_three, d.unsigned_abs())
+}
+
+/// Nodes, whose children are numbers of nodes or of leaves.
+pub(crate) struct NodeRecord;
+
+impl Record for NodeRecord {
+    type Value = Node;
+
+    ghost layout = { node_layout };
+
+    #[tactic(auto, unfolding(qm_formats::specs::FileParts::node_layout))]
+    fn read_at(bytes: &[u8], at: usize) -> Result<(Node, usize), FileFault> {
+        let (plane, next) = u32_at(bytes, at)?;
+        let (front, next) = child_at(bytes, next)?;
+        let (back, next) = child_at(bytes, next)?;
+        Ok((Node { plane, front, back }, next))
+    }
+}
+
+/// A child: the number of a node, or -(1 + the number of a leaf).
+#[tactic(auto, unfolding(qm_formats::specs::FileParts::child_layout))]
+fn child_at(bytes: &[u8], at: usize) -> Result<(Child, usize), FileFault>
+    requires { at ≤ length bytes.now }
+    ensures gives { Gives (λ read. read.0) (λ read. read.1) result (child_layout.read bytes.now at) }
+    ensures within { IfOk result (λ read. read.1 ≤ length bytes.now) }
+{
+    let (number, next) = i64_at(bytes, at)?;
+    if number < 0 {
+        Ok((Child::Leaf((-(number + 1)) as u64), next))
+    } else {
+        Ok((Child::Node(number as u64), next))
+    }
+}
+
+/// Leaves, filled ones solid.
+pub(crate) struct LeafRecord;
+
+impl Record for LeafRecord {
+    type Value = Leaf;
+
+    ghost layout = { leaf_layout };
+
+    #[tactic(auto, unfolding(qm_formats::specs::FileParts::leaf_layout, qm_formats::specs::FileParts::is_leaf))]
+    fn read_at(bytes: &[u8], at: usize) -> Result<(Leaf, usize), FileFault> {
+        let (code, next) = i32_at(bytes, at)?;
+        let (filled, next) = u8_at(bytes, next)?;
+        match leaf_of(code, filled) {
+            Some(leaf) => Ok((leaf, next)),
+            None => Err(FileFault::LeafForm { offset: at as u64 }),
+        }
+    }
+}
+
+/// The leaf of a code of contents and a flag.
+#[tactic(auto, unfolding(qm_formats::specs::FileParts::is_leaf))]
+fn leaf_of(code: i32, filled: u8) -> Option<Leaf>
+    ensures { MatchOption result (is_leaf (code, filled) ≡ false) (λ leaf. (is_leaf (code, filled) ≡ true) × (leaf ≡ record { contents = contents_of_code code; filled = filled == 1 })) }
+{
+    let contents = of_code(code)?;
+    if filled > 1 || (filled == 1 && contents != Contents::Solid) {
+        return None;
+    }
+    Some(Leaf {
+        contents,
+        filled: filled == 1,
+    })
+}

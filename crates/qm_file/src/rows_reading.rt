@@ -1,0 +1,155 @@
+//! Rows of visibility, read at a place.
+
+ghost use Rattle.std.specs.Prelude.{◌≡◌, ◌<◌, ◌≤◌, ℕ, List, Result, length, IfOk};
+ghost use Rattle.qm_formats.specs.Layout.{each, present};
+ghost use Rattle.qm_formats.specs.Runs.{RunFaultKind, in_runs, row_answer};
+ghost use Rattle.qm_formats.specs.RowBits.{row_width, unpacked, is_clear_past, row_bits};
+ghost use Rattle.qm_formats.specs.FileParts.{short, row_form};
+ghost use Rattle.qm_formats.specs.TreeFile.{own_row, rows_layout};
+ghost use Rattle.qm_runs.specs.Answers.{IsRunFault};
+ghost use Rattle.qm_file.specs.Answers.{IsFault, Gives};
+ghost use Rattle.qm_file.specs.inner.SeenHeader.{seen_header};
+
+use crate::field_reading::short;
+use crate::file_fault::FileFault;
+use crate::header_reading::Header;
+use qm_bits::BitRow;
+use qm_lists::Items;
+use qm_runs::RunFault;
+use std::alloc::{AllocError, Global};
+
+/// The rows of a file of this header where they are there, and where they end.
+#[tactic(auto, unfolding(qm_formats::specs::TreeFile::rows_layout))]
+pub(crate) fn rows_at(
+    alloc: Global,
+    bytes: &[u8],
+    at: usize,
+    header: &Header,
+) -> Result<(Option<Items<BitRow>>, usize), FileFault>
+    requires { at ≤ length bytes.now }
+    ensures gives { Gives (λ read. read.0) (λ read. read.1) result ((rows_layout (seen_header header.now)).read bytes.now at) }
+    ensures within { IfOk result (λ read. read.1 ≤ length bytes.now) }
+{
+    if !header.has_rows {
+        return Ok((None, at));
+    }
+    let (rows, next) = all_rows_at(alloc, bytes, at, header.numbered)?;
+    Ok((Some(Items::from_vec(rows)), next))
+}
+
+/// A row for each of so many leaves, with a place for each, and where they end.
+fn all_rows_at(
+    alloc: Global,
+    bytes: &[u8],
+    at: usize,
+    numbered: u64,
+) -> Result<(Vec<BitRow>, usize), FileFault>
+    requires { at ≤ length bytes.now }
+    ensures gives { Gives (λ read. read.0.items) (λ read. read.1) result ((each (own_row numbered) numbered).read bytes.now at) }
+    ensures within { IfOk result (λ read. read.1 ≤ length bytes.now) }
+{
+    let mut rows = Vec::new(alloc);
+    let mut next = at;
+    for k in 0..numbered {
+        let (row, after) = own_row_at(alloc, bytes, next, numbered, k)?;
+        rows.push(row)?;
+        next = after;
+    }
+    Ok((rows, next))
+}
+
+/// A row of so many places in which place `k` is set, and where it ends.
+#[tactic(auto, unfolding(qm_formats::specs::TreeFile::own_row))]
+fn own_row_at(
+    alloc: Global,
+    bytes: &[u8],
+    at: usize,
+    places: u64,
+    k: u64,
+) -> Result<(BitRow, usize), FileFault>
+    requires within { at ≤ length bytes.now }
+    requires own { k < places }
+    ensures gives { Gives (λ read. read.0) (λ read. read.1) result ((own_row places k).read bytes.now at) }
+    ensures within { IfOk result (λ read. read.1 ≤ length bytes.now) }
+{
+    let (row, next) = row_at(alloc, bytes, at, places)?;
+    if !row.get(k) {
+        return Err(FileFault::RowForm { offset: at as u64 });
+    }
+    Ok((row, next))
+}
+
+/// A row of so many places, and where it ends.
+#[tactic(auto, unfolding(qm_formats::specs::RowBits::row_bits))]
+fn row_at(alloc: Global, bytes: &[u8], at: usize, places: u64) -> Result<(BitRow, usize), FileFault>
+    requires { at ≤ length bytes.now }
+    ensures gives { Gives (λ read. read.0) (λ read. read.1) result ((row_bits short row_form places).read bytes.now at) }
+    ensures within { IfOk result (λ read. read.1 ≤ length bytes.now) }
+    ensures places { IfOk result (λ read. length read.0 ≡ places) }
+{
+    let (packed, next) = packed_row_at(alloc, bytes, at, places)?;
+    if !is_clear_past(places, &packed) {
+        return Err(FileFault::RowForm { offset: at as u64 });
+    }
+    let row = unpacked(alloc, places, &packed)?;
+    Ok((row, next))
+}
+
+/// The bytes of a row of so many places, and where its runs end.
+#[tactic(auto, unfolding(qm_formats::specs::Runs::in_runs))]
+fn packed_row_at(
+    alloc: Global,
+    bytes: &[u8],
+    at: usize,
+    places: u64,
+) -> Result<(Vec<u8>, usize), FileFault>
+    requires { at ≤ length bytes.now }
+    ensures gives { Gives (λ read. read.0.items) (λ read. read.1) result ((in_runs short row_form (row_width places)).read bytes.now at) }
+    ensures within { IfOk result (λ read. read.1 ≤ length bytes.now) }
+    ensures width { IfOk result (λ read. length read.0.items ≡ row_width places) }
+{
+    let rest = bytes.split_at(at).1;
+    match qm_runs::decode(alloc, rest, places.div_ceil(8) as usize) {
+        Ok((packed, used)) => Ok((packed, at + used)),
+        Err(fault) => Err(row_fault(bytes, at, fault)),
+    }
+}
+
+/// The fault of a row at a place whose runs have a fault.
+fn row_fault(bytes: &[u8], at: usize, fault: RunFault) -> FileFault
+    ensures { (read : Result (List ℕ × ℕ) RunFaultKind) → IsRunFault fault read → IsFault result (row_answer short row_form bytes.now at read) }
+{
+    match fault {
+        RunFault::Short => short(bytes),
+        RunFault::ZeroCount | RunFault::SplitRun | RunFault::Overrun => {
+            FileFault::RowForm { offset: at as u64 }
+        }
+        RunFault::Memory => FileFault::Memory,
+    }
+}
+
+/// Whether no bit past the places is set.
+#[tactic(auto, unfolding(qm_formats::specs::RowBits::is_clear_past))]
+fn is_clear_past(places: u64, packed: &[u8]) -> bool
+    requires { length packed.now ≡ row_width places }
+    ensures { result ≡ is_clear_past places packed.now }
+{
+    if places % 8 == 0 {
+        return true;
+    }
+    packed[(places / 8) as usize] >> (places % 8) == 0
+}
+
+/// The row of so many places whose bits stand in these bytes.
+fn unpacked(alloc: Global, places: u64, packed: &[u8]) -> Result<BitRow, AllocError>
+    requires { length packed.now ≡ row_width places }
+    ensures { IfOk result (λ row. row ≡ unpacked places packed.now) }
+{
+    let mut row = BitRow::with_len(alloc, places)?;
+    for i in 0..places {
+        if (packed[(i / 8) as usize] >> (i % 8)) & 1 == 1 {
+            row.set(i);
+        }
+    }
+    Ok(row)
+}

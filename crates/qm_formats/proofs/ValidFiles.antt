@@ -1,0 +1,223 @@
+-- A file of at most the limit can be written and read again exactly where it is valid.
+use Rattle.std.proofs.Common.{◌≡◌, ◌<◌, ◌≤◌, ℕ, ◌+◌, ◌^◌, Bool, true, false, cond, eqb, ltb, leb, ◌&&◌, List, [], ◌∷◌, ◌++◌, length, All, Option, Some, None, codes, get_or, refl, ap, subst, ◌∙◌, arith}
+use Rattle.std.specs.Prelude.{IfSome, is_some, count_by}
+use Rattle.std.specs.Int.{w64}
+use Rattle.std.specs.List.{list_all}
+use Rattle.std.proofs.lemmas.Bool.{and_parts, and_from, lt-ltb, ltb-true, le-leb, eq-eqb}
+use Rattle.std.proofs.lemmas.List.{length-append, get_or_default}
+use Rattle.std.proofs.lemmas.List.Sums.{count_by-le-length}
+use Rattle.std.proofs.lemmas.List.Elements.{All-nil, All-cons, All-head, All-tail}
+use Rattle.qm_space.specs.Plane.{Plane}
+use Rattle.qm_space.specs.Reduced.{IsReduced}
+use Rattle.qm_partition.specs.declared.node.Node.{Node as NodeRecord}
+use Rattle.qm_partition.specs.declared.node.Leaf.{Leaf as LeafRecord}
+use Rattle.qm_partition.specs.Counting.{leaves_of}
+use Rattle.qm_partition.specs.Numbering.{nodes_of, AreNumbered}
+use Rattle.qm_partition.specs.Arrays.{partition_of, tree_of}
+use Rattle.qm_partition.specs.WellMade.{IsWellMade, IsMadeOf}
+use Rattle.qm_partition.specs.inner.Parts.{AreParts}
+use Rattle.qm_partition.proofs.Counts.{one_leaf_more, length-nodes_of}
+use Rattle.qm_partition.proofs.MadeTrees.{made_of_parts, parts_of_made}
+use Rattle.qm_contacts.specs.NumberedLeaves.{is_numbered}
+use Rattle.qm_formats.specs.Layout.{Layout, bytes_of_each, right_option, many, each, pair}
+use Rattle.qm_formats.specs.Fields.{unsigned, signed, fixed, raw}
+use Rattle.qm_formats.specs.FileParts.{short, magic, plane_layout, node_layout, leaf_layout}
+use Rattle.qm_formats.specs.TreeFile.{Header, count_layout, flag_layout, header_layout, are_numbered, are_ordered, own_row, planes_layout, nodes_layout, leaves_layout, rows_layout, parts_layout, FileContent, header_of, file_layout, file_bytes, file_limit, AreRows, IsValid}
+use Rattle.qm_formats.proofs.NumberedNodes.{numbered-test}
+use Rattle.qm_formats.proofs.RightParts.{right_each_at, right_each_from, reduced_plane, right_plane, plane_right, node_right, leaf_right, right_leaf, row_right, right_row}
+use Rattle.qm_formats.proofs.ChildNumbers.{children_below}
+use Rattle.qm_formats.proofs.ExactFile.{right_each_length, right_parts, own_tree}
+
+-- a test that each element passes
+list_all-passed : {X : Type 0} (test : X → Bool) (xs : List X) → list_all test xs ≡ true → All (λ x. test x ≡ true) xs
+list_all-passed test [] is = All-nil (λ x. test x ≡ true)
+list_all-passed test (x ∷ xs) is =
+    let both = and_parts (test x) (list_all test xs) is in
+    All-cons (λ x. test x ≡ true) x xs both.0 (list_all-passed test xs both.1)
+
+list_all-from : {X : Type 0} (test : X → Bool) (xs : List X) → All (λ x. test x ≡ true) xs → list_all test xs ≡ true
+list_all-from test [] each = refl
+list_all-from test (x ∷ xs) each =
+    let P : _ → Type 0 = λ y. test y ≡ true in
+    and_from (test x) (list_all test xs) (All-head P x xs each) (list_all-from test xs (All-tail P x xs each))
+
+-- ---- what is right is valid
+
+header_planes : (header : Header) → header_layout.right header ≡ true → header.planes < 2 ^ 32
+unfolding header_layout unsigned
+header_planes header right =
+    let numbered = (pair (count_layout (λ numbered. leb numbered header.leaves)) flag_layout).right (header.numbered, header.has_rows) in
+    let leaves = (count_layout (λ leaves. eqb leaves (header.nodes + 1))).right header.leaves in
+    let nodes = (unsigned short w64).right header.nodes in
+    let planes = (count_layout (λ planes. ltb planes (2 ^ 32))).right header.planes in
+    let behind_magic = and_parts ((fixed short magic (codes "QMTREE01")).right tt) (planes && (nodes && (leaves && numbered))) right in
+    let behind_planes = and_parts planes (nodes && (leaves && numbered)) behind_magic.1 in
+    ltb-true header.planes (2 ^ 32) (and_parts ((unsigned short w64).right header.planes) (ltb header.planes (2 ^ 32)) behind_planes.0).1
+
+-- the rows of an option
+rows_valid : (numbered : ℕ) (rows : Option (List (List Bool))) (has_rows : Bool) → right_option (each (own_row numbered) numbered) has_rows rows ≡ true → IfSome rows (AreRows numbered)
+rows_valid numbered None has_rows right = tt
+rows_valid numbered (Some rows) true right =
+    let long = right_each_length (own_row numbered) 0 numbered rows right in
+    let at = right_each_at (own_row numbered) 0 numbered rows right in
+    record {
+      one_each = long;
+      places = λ k d within. (right_row numbered (0 + k) (get_or rows k d) (at k d within)).0;
+      own = λ k within.
+          let place : 0 + k ≡ k = omega arith in
+          subst (λ (i : ℕ). get_or (get_or rows k []) i false ≡ true) place (right_row numbered (0 + k) (get_or rows k []) (at k [] (omega (arith, long, within)))).1;
+    }
+rows_valid numbered (Some rows) false right = absurd cc
+
+rows_right : (numbered : ℕ) (rows : Option (List (List Bool))) → IfSome rows (AreRows numbered) → right_option (each (own_row numbered) numbered) (is_some rows) rows ≡ true
+rows_right numbered None are = refl
+rows_right numbered (Some rows) are =
+    right_each_from (own_row numbered) 0 numbered rows are.one_each (λ i d within.
+    let place : i ≡ 0 + i = omega arith in
+    let same : get_or rows i d ≡ get_or rows i [] = get_or_default rows i d [] within in
+    let own = ap (λ (row : List Bool). get_or row i false) same ∙ are.own i (omega (arith, within, are.one_each)) in
+    subst (λ (k : ℕ). (own_row numbered k).right (get_or rows i d) ≡ true) place (row_right numbered i (get_or rows i d) (are.places i d within) own))
+
+-- parts that can stand in a file are those of a tree, whose planes are in lowest terms
+record AreOfTree (planes : List Plane) (nodes : List NodeRecord) (leaves : List LeafRecord) : Type 0 where
+  made : IsMadeOf (tree_of planes nodes leaves) planes nodes leaves
+  reduced : All IsReduced planes
+
+of_tree : (header : Header) (planes : List Plane) (nodes : List NodeRecord) (leaves : List LeafRecord) (rows : Option (List (List Bool))) → header_layout.right header ≡ true → (parts_layout header).right (planes, (nodes, (leaves, rows))) ≡ true → AreOfTree planes nodes leaves
+unfolding parts_layout planes_layout nodes_layout leaves_layout rows_layout are_ordered
+of_tree header planes nodes leaves rows right_header right =
+    let counted = right_parts header planes nodes leaves rows right_header right in
+    let of_planes = (planes_layout header).right planes in
+    let of_nodes = (nodes_layout header).right nodes in
+    let of_leaves = (leaves_layout header).right leaves in
+    let of_rows = (rows_layout header).right rows in
+    let behind_planes = and_parts of_planes (of_nodes && (of_leaves && of_rows)) right in
+    let behind_nodes = and_parts of_nodes (of_leaves && of_rows) behind_planes.1 in
+    let behind_leaves = and_parts of_leaves of_rows behind_nodes.1 in
+    let each_plane = right_each_at (λ _. plane_layout) 0 header.planes planes behind_planes.0 in
+    let each_leaf = right_each_at (λ _. leaf_layout) 0 header.leaves leaves (and_parts ((many leaf_layout header.leaves).right leaves) (eqb (count_by is_numbered leaves) header.numbered) behind_leaves.0).0 in
+    let test_nodes = and_parts ((many node_layout header.nodes).right nodes) (are_ordered header.planes nodes) behind_nodes.0 in
+    let named = list_all-passed (λ here. ltb here.plane header.planes) nodes (and_parts (list_all (λ here. ltb here.plane header.planes) nodes) (are_numbered nodes) test_nodes.1).0 in
+    let parts : AreParts planes nodes leaves = record {
+      few = omega (arith, header_planes header right_header, counted.plane_count);
+      leads = λ k d within. (reduced_plane (get_or planes k d) (right_plane (get_or planes k d) (each_plane k d within))).1;
+      named = λ k d within. omega (arith, ltb-true (get_or nodes k d).plane header.planes (named k d within), counted.plane_count);
+      solid = λ k d within. right_leaf (get_or leaves k d) (each_leaf k d within);
+    } in
+    record {
+      made = made_of_parts planes nodes leaves parts (partition_of nodes leaves, counted.numbered);
+      reduced = λ k d within. (reduced_plane (get_or planes k d) (right_plane (get_or planes k d) (each_plane k d within))).0;
+    }
+
+pub made_of_right : (header : Header) (planes : List Plane) (nodes : List NodeRecord) (leaves : List LeafRecord) (rows : Option (List (List Bool))) → header_layout.right header ≡ true → (parts_layout header).right (planes, (nodes, (leaves, rows))) ≡ true → IsMadeOf (tree_of planes nodes leaves) planes nodes leaves
+made_of_right header planes nodes leaves rows right_header right = (of_tree header planes nodes leaves rows right_header right).made
+
+pub right_valid : (file : FileContent) → file_layout.right file ≡ true → IsValid file
+unfolding file_layout parts_layout rows_layout
+right_valid file right =
+    let header = header_of file in
+    let nodes = nodes_of file.0.shape 0 0 in
+    let leaves = leaves_of file.0.shape in
+    let of_planes = (planes_layout header).right file.0.planes in
+    let of_nodes = (nodes_layout header).right nodes in
+    let of_leaves = (leaves_layout header).right leaves in
+    let of_rows = (rows_layout header).right file.1 in
+    let both = and_parts (header_layout.right header) (of_planes && (of_nodes && (of_leaves && of_rows))) right in
+    let tree = of_tree header file.0.planes nodes leaves file.1 both.0 both.1 in
+    let rows = (and_parts of_leaves of_rows (and_parts of_nodes (of_leaves && of_rows) (and_parts of_planes (of_nodes && (of_leaves && of_rows)) both.1).1).1).1 in
+    record {
+      well_made = subst IsWellMade (own_tree file.0) tree.made.well_made;
+      reduced = tree.reduced;
+      rows = rows_valid header.numbered file.1 header.has_rows rows;
+    }
+
+-- ---- what is valid and not too long is right
+
+module _ {F X : Type 0} (layout : ℕ → Layout F X) (some : (k : ℕ) (x : X) → 0 < length ((layout k).bytes_of x)) where
+  -- there are no more values than bytes
+  values_at_most : (k : ℕ) (xs : List X) → length xs ≤ length (bytes_of_each layout k xs)
+  values_at_most k [] = omega arith
+  values_at_most k (x ∷ xs) = omega (arith, some k x, values_at_most (k + 1) xs, length-append ((layout k).bytes_of x) (bytes_of_each layout (k + 1) xs))
+
+node_bytes : (k : ℕ) (here : NodeRecord) → 0 < length (node_layout.bytes_of here)
+unfolding node_layout unsigned raw
+node_bytes k here = omega arith
+
+leaf_bytes : (k : ℕ) (found : LeafRecord) → 0 < length (leaf_layout.bytes_of found)
+unfolding leaf_layout signed unsigned raw
+leaf_bytes k found = omega arith
+
+-- there are no more nodes and leaves than bytes
+counts_at_most : (file : FileContent) → (length (nodes_of file.0.shape 0 0) ≤ length (file_bytes file)) × (length (leaves_of file.0.shape) ≤ length (file_bytes file))
+unfolding file_bytes file_layout parts_layout planes_layout nodes_layout leaves_layout
+counts_at_most file =
+    let header = header_of file in
+    let nodes = nodes_of file.0.shape 0 0 in
+    let leaves = leaves_of file.0.shape in
+    let p = header_layout.bytes_of header in
+    let q = (planes_layout header).bytes_of file.0.planes in
+    let r = bytes_of_each (λ _. node_layout) 0 nodes in
+    let s = bytes_of_each (λ _. leaf_layout) 0 leaves in
+    let t = (rows_layout header).bytes_of file.1 in
+    let whole = length-append p (q ++ (r ++ (s ++ t))) in
+    let behind_header = length-append q (r ++ (s ++ t)) in
+    let behind_planes = length-append r (s ++ t) in
+    let behind_nodes = length-append s t in
+    let few_nodes = values_at_most (λ _. node_layout) node_bytes 0 nodes in
+    let few_leaves = values_at_most (λ _. leaf_layout) leaf_bytes 0 leaves in
+    (omega arith, omega arith)
+
+flag_right : (flag : Bool) → ((ltb (cond flag 1 0) 256) && (leb (cond flag 1 0) 1)) ≡ true
+flag_right true = refl
+flag_right false = refl
+
+header_right : (header : Header) → header.planes < 2 ^ 32 → header.nodes < 2 ^ 62 → header.leaves ≡ header.nodes + 1 → header.numbered ≤ header.leaves → header_layout.right header ≡ true
+unfolding header_layout unsigned fixed
+header_right header planes nodes leaves numbered =
+    let of_planes = (ltb header.planes (2 ^ 64)) && (ltb header.planes (2 ^ 32)) in
+    let of_nodes = ltb header.nodes (2 ^ 64) in
+    let of_leaves = (ltb header.leaves (2 ^ 64)) && (eqb header.leaves (header.nodes + 1)) in
+    let of_numbered = (ltb header.numbered (2 ^ 64)) && (leb header.numbered header.leaves) in
+    let of_flag = (ltb (cond header.has_rows 1 0) 256) && (leb (cond header.has_rows 1 0) 1) in
+    and_from of_planes (of_nodes && (of_leaves && (of_numbered && of_flag)))
+    (and_from (ltb header.planes (2 ^ 64)) (ltb header.planes (2 ^ 32)) (lt-ltb header.planes (2 ^ 64) (omega (arith, planes))) (lt-ltb header.planes (2 ^ 32) planes))
+    (and_from of_nodes (of_leaves && (of_numbered && of_flag)) (lt-ltb header.nodes (2 ^ 64) (omega (arith, nodes)))
+    (and_from of_leaves (of_numbered && of_flag)
+    (and_from (ltb header.leaves (2 ^ 64)) (eqb header.leaves (header.nodes + 1)) (lt-ltb header.leaves (2 ^ 64) (omega (arith, nodes, leaves))) (eq-eqb header.leaves (header.nodes + 1) leaves))
+    (and_from of_numbered of_flag
+    (and_from (ltb header.numbered (2 ^ 64)) (leb header.numbered header.leaves) (lt-ltb header.numbered (2 ^ 64) (omega (arith, nodes, leaves, numbered))) (le-leb header.numbered header.leaves numbered))
+    (flag_right header.has_rows))))
+
+pub valid_right : (file : FileContent) → IsValid file → length (file_bytes file) ≤ file_limit → file_layout.right file ≡ true
+unfolding file_layout parts_layout planes_layout nodes_layout leaves_layout rows_layout are_ordered
+valid_right file valid small =
+    let header = header_of file in
+    let shape = file.0.shape in
+    let planes = file.0.planes in
+    let nodes = nodes_of shape 0 0 in
+    let leaves = leaves_of shape in
+    let numbered : AreNumbered shape nodes leaves = record { nodes_are = refl; leaves_are = refl } in
+    let parts = parts_of_made planes nodes leaves file.0 (record { planes_are = refl; numbered = numbered; well_made = valid.well_made }) in
+    let few = counts_at_most file in
+    let count = length-nodes_of shape 0 0 in
+    let more = one_leaf_more shape in
+    let below = children_below (2 ^ 63) (2 ^ 63) shape 0 0 (omega (arith, few.0, count, small)) (omega (arith, few.1, small)) in
+    let of_planes = (planes_layout header).right planes in
+    let of_nodes = (nodes_layout header).right nodes in
+    let of_leaves = (leaves_layout header).right leaves in
+    let of_rows = (rows_layout header).right file.1 in
+    and_from (header_layout.right header) (of_planes && (of_nodes && (of_leaves && of_rows)))
+    (header_right header parts.few (omega (arith, few.0, small)) (omega (arith, count, more)) (count_by-le-length is_numbered leaves))
+    (and_from of_planes (of_nodes && (of_leaves && of_rows))
+    (right_each_from (λ _. plane_layout) 0 header.planes planes refl (λ i d within. plane_right (get_or planes i d) (valid.reduced i d within) (parts.leads i d within)))
+    (and_from of_nodes (of_leaves && of_rows)
+    (and_from ((many node_layout header.nodes).right nodes) (are_ordered header.planes nodes)
+    (right_each_from (λ _. node_layout) 0 header.nodes nodes refl (λ i d within. node_right (get_or nodes i d) (omega (arith, parts.named i d within, parts.few)) (below i d within)))
+    (and_from (list_all (λ here. ltb here.plane header.planes) nodes) (are_numbered nodes)
+    (list_all-from (λ here. ltb here.plane header.planes) nodes (λ i d within. lt-ltb (get_or nodes i d).plane header.planes (parts.named i d within)))
+    (numbered-test nodes leaves shape numbered)))
+    (and_from of_leaves of_rows
+    (and_from ((many leaf_layout header.leaves).right leaves) (eqb (count_by is_numbered leaves) header.numbered)
+    (right_each_from (λ _. leaf_layout) 0 header.leaves leaves refl (λ i d within. leaf_right (get_or leaves i d) (parts.solid i d within)))
+    (eq-eqb (count_by is_numbered leaves) header.numbered refl))
+    (rows_right header.numbered file.1 valid.rows))))
