@@ -1,16 +1,18 @@
 -- Spans and cuboids that are tightened, as the code keeps their numbers.
-use Rattle.std.proofs.Common.{◌≡◌, ◌≤◌, ◌^◌, ◌∙◌, ℤ, pos, negsuc, neg_ℤ, ◌-ℤ◌, ◌*ℤ◌, ◌≤ℤ◌, ◌<ℤ◌, w32, w64, ap, sym, subst, arith, lit≤, unsigned_abs}
+use Rattle.std.proofs.Common.{◌≡◌, ◌≤◌, ◌^◌, ◌∙◌, ℤ, pos, negsuc, neg_ℤ, ◌+ℤ◌, ◌-ℤ◌, ◌*ℤ◌, ◌≤ℤ◌, ◌<ℤ◌, w32, w64, ap, sym, subst, arith, lit≤, unsigned_abs}
 use Rattle.std.proofs.lemmas.Int.{ints}
 use Rattle.std.proofs.Math.IntN.{*ℤ_comm}
 use Rattle.qm_numbers.specs.Rounding.{IsRoundedDown}
 use Rattle.qm_numbers.proofs.IntegerProducts.{linear, one_*ℤ, neg-*ℤ}
 use Rattle.qm_numbers.proofs.Bits.{kept_32, kept_64, negated_64}
-use Rattle.qm_numbers.proofs.Kept.{kept}
+use Rattle.qm_numbers.proofs.Kept.{kept, three_less_one_kept}
+use Rattle.qm_numbers.proofs.Signs.{abs_sum, abs_difference}
 use Rattle.qm_space.specs.Bounds.{normal_bound, distance_bound}
 use Rattle.qm_space.specs.Plane.{Plane}
-use Rattle.qm_space.specs.Reduced.{IsReduced}
-use Rattle.qm_space.specs.Cuboid.{Span, Cuboid, greatest_product, IsTightened, IsTightenedSpan}
-use Rattle.qm_space.proofs.Cuboids.{tightened_multiple, tightened_cuboid}
+use Rattle.qm_space.specs.Cuboid.{Span, IsTightenedSpan, IsTightenedBetween}
+use Rattle.qm_space.proofs.Cuboids.{tightened_multiple}
+use Rattle.qm_geom.specs.declared.cuboid.Products.{Products}
+use Rattle.qm_geom.specs.inner.Products.{AreSmall}
 
 -- a component as the code widens it
 widened : (f n : ℤ) → unsigned_abs n ≤ normal_bound → f ≡ kept w32 n → f ≡ n
@@ -43,13 +45,39 @@ module _ (t span : Span) (n least q f : ℤ) (n_small : unsigned_abs n ≤ norma
       turned : neg_ℤ n *ℤ negsuc 0 ≡ n
       turned = let e = *ℤ_comm (neg_ℤ n) (negsuc 0) in let g = neg-*ℤ (pos 1) (neg_ℤ n) in let o = one_*ℤ (neg_ℤ n) in omega (arith, linear)
 
--- what two axes leave of a distance
-left_kept : (d a b : ℤ) → unsigned_abs d ≤ distance_bound → unsigned_abs a ≤ 2 ^ 38 → unsigned_abs b ≤ 2 ^ 38 → kept w64 (kept w64 (kept w64 d -ℤ kept w64 a) -ℤ kept w64 b) ≡ (d -ℤ a) -ℤ b
-left_kept d a b h k l = omega (arith, ints)
+-- ---- sums of products
 
--- a span by one axis of a plane
-module _ (t s : Span) (n d a b a' b' : ℤ) (n_small : unsigned_abs n ≤ normal_bound) (d_small : unsigned_abs d ≤ distance_bound) (a_small : unsigned_abs a ≤ 2 ^ 38) (b_small : unsigned_abs b ≤ 2 ^ 38) (same_a : a ≡ a') (same_b : b ≡ b') where
-  pub across_axis : IsTightenedSpan t s (kept w32 n) (kept w64 (kept w64 (kept w64 d -ℤ kept w64 a) -ℤ kept w64 b)) → IsTightenedSpan t s n ((d -ℤ a') -ℤ b')
-  across_axis k =
-      subst (λ (z : ℤ). IsTightenedSpan t s n z) (left_kept d a b d_small a_small b_small ∙ (λ i. (d -ℤ same_a i) -ℤ same_b i))
-      (subst (λ (m : ℤ). IsTightenedSpan t s m (kept w64 (kept w64 (kept w64 d -ℤ kept w64 a) -ℤ kept w64 b))) (kept_32 n normal_bound n_small (lit≤ tt)) k)
+module _ (g h : Plane) (r : ℤ) (r_small : unsigned_abs r ≤ 2 ^ 45) (d_small : unsigned_abs g.d ≤ distance_bound) (same : g ≡ h) where
+  distance_is : kept w64 g.d ≡ h.d
+  distance_is = kept_64 g.d distance_bound d_small (lit≤ tt) ∙ ap (λ (p : Plane). p.d) same
+
+  pub value_is : (p q : Products) → p ≡ q → r ≡ ((p.of_x +ℤ p.of_y) +ℤ p.of_z) -ℤ kept w64 g.d → kept w64 r ≡ ((q.of_x +ℤ q.of_y) +ℤ q.of_z) -ℤ h.d
+  value_is p q e f =
+      kept_64 r (2 ^ 45) r_small (lit≤ tt) ∙ f ∙ (λ i. (((e i).of_x +ℤ (e i).of_y) +ℤ (e i).of_z) -ℤ distance_is i)
+
+  pub left_is : (a b a' b' : ℤ) → a ≡ a' → b ≡ b' → r ≡ (kept w64 g.d -ℤ a) -ℤ b → kept w64 r ≡ (h.d -ℤ a') -ℤ b'
+  left_is a b a' b' e f k = kept_64 r (2 ^ 45) r_small (lit≤ tt) ∙ k ∙ (λ i. (distance_is i -ℤ e i) -ℤ f i)
+
+pub less_kept : (p : Products) (d : ℤ) → AreSmall p → unsigned_abs d ≤ distance_bound →
+    kept w64 (kept w64 (kept w64 (kept w64 p.of_x +ℤ kept w64 p.of_y) +ℤ kept w64 p.of_z) -ℤ kept w64 d) ≡ ((p.of_x +ℤ p.of_y) +ℤ p.of_z) -ℤ d
+less_kept p d s h =
+    let x = s.of_x in let y = s.of_y in let z = s.of_z in
+    three_less_one_kept p.of_x p.of_y p.of_z d (omega arith) (omega arith) (omega arith) (omega arith)
+
+pub less_small : (p : Products) (d : ℤ) → AreSmall p → unsigned_abs d ≤ distance_bound → unsigned_abs (((p.of_x +ℤ p.of_y) +ℤ p.of_z) -ℤ d) ≤ 2 ^ 45
+less_small p d s h =
+    let x = s.of_x in let y = s.of_y in let z = s.of_z in
+    let a = abs_sum p.of_x p.of_y in let b = abs_sum (p.of_x +ℤ p.of_y) p.of_z in let c = abs_difference ((p.of_x +ℤ p.of_y) +ℤ p.of_z) d in
+    omega arith
+
+-- ---- spans by the numbers of a plane
+
+pub tightened_same : (t s s' : Span) (n n' z z' : ℤ) → s ≡ s' → n ≡ n' → z ≡ z' → IsTightenedSpan t s n z → IsTightenedSpan t s' n' z'
+tightened_same t s s' n n' z z' e f g k =
+    subst (λ (u : Span). IsTightenedSpan t u n' z') e (subst (λ (m : ℤ). IsTightenedSpan t s m z') f (subst (λ (y : ℤ). IsTightenedSpan t s n y) g k))
+
+pub between_same : (t s s' : Span) (n n' z z' y y' : ℤ) → s ≡ s' → n ≡ n' → z ≡ z' → y ≡ y' → IsTightenedBetween t s n z y → IsTightenedBetween t s' n' z' y'
+between_same t s s' n n' z z' y y' e f g h k =
+    subst (λ (u : Span). IsTightenedBetween t u n' z' y') e
+    (subst (λ (m : ℤ). IsTightenedBetween t s m z' y') f
+    (subst (λ (x : ℤ). IsTightenedBetween t s n x y') g (subst (λ (x : ℤ). IsTightenedBetween t s n z x) h k)))

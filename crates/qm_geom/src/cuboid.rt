@@ -1,9 +1,10 @@
-ghost use Rattle.std.specs.Prelude.{◌≡◌, ◌≤◌, ◌*◌, ◌^◌, ℤ, pos, negsuc, neg_ℤ, ◌*ℤ◌, ◌≤ℤ◌, ◌<ℤ◌, ◌⊎◌, unsigned_abs};
+ghost use Rattle.std.specs.Prelude.{◌≡◌, ◌≤◌, ◌*◌, ◌^◌, ℤ, pos, negsuc, neg_ℤ, ◌+ℤ◌, ◌-ℤ◌, ◌*ℤ◌, ◌≤ℤ◌, ◌<ℤ◌, ◌⊎◌, unsigned_abs};
 ghost use Rattle.qm_numbers.specs.Rounding.{IsRoundedDown};
 ghost use Rattle.qm_space.specs.Bounds.{normal_bound, distance_bound};
 ghost use Rattle.qm_space.specs.Point.{Point, IsCoordinate};
 ghost use Rattle.qm_space.specs.Plane.{value};
-ghost use Rattle.qm_space.specs.Cuboid.{IsInSpan, IsInCuboid, whole_span, whole_cuboid, least_product, greatest_product, least_value, greatest_value, IsTightened, IsTightenedOn, IsTightenedSpan};
+ghost use Rattle.qm_space.specs.Cuboid.{IsInSpan, IsInCuboid, whole_span, whole_cuboid, least_product, greatest_product, least_value, greatest_value, IsTightened, IsTightenedOn, IsTightenedSpan, IsTightenedBetween};
+ghost use Rattle.qm_geom.specs.inner.Products.{AreSmall, least_products, greatest_products};
 
 use crate::plane::Plane;
 use qm_space::WORLD_EXTENT;
@@ -56,6 +57,17 @@ impl Span {
             return self.up_to(-rounded_down(least, -i64::from(component)));
         }
         self
+    }
+
+    /// What is, times a component, from one number to another, rounded outward.
+    fn tightened_between(self, component: i32, least: i64, greatest: i64) -> Span
+        requires component_small { unsigned_abs component ≤ normal_bound }
+        requires least_small { unsigned_abs least ≤ 2 ^ 45 }
+        requires greatest_small { unsigned_abs greatest ≤ 2 ^ 45 }
+        ensures { IsTightenedBetween result self component least greatest }
+    {
+        self.tightened(component, least)
+            .tightened(-component, -greatest)
     }
 
     /// The numbers of the span from a number on; only its high end where that is above them all.
@@ -188,10 +200,7 @@ impl Cuboid {
         ensures exact { result ≡ least_value plane.now self.now }
         ensures bound { (p : Point) → IsInCuboid self.now p → (result *ℤ p.w) ≤ℤ value plane.now p }
     {
-        let of_x = self.x.least_product(plane.nx);
-        let of_y = self.y.least_product(plane.ny);
-        let of_z = self.z.least_product(plane.nz);
-        of_x + of_y + of_z - plane.d
+        self.least_products(plane).less(plane.d)
     }
 
     /// The greatest one.
@@ -199,10 +208,7 @@ impl Cuboid {
         ensures exact { result ≡ greatest_value plane.now self.now }
         ensures bound { (p : Point) → IsInCuboid self.now p → value plane.now p ≤ℤ (result *ℤ p.w) }
     {
-        let of_x = self.x.greatest_product(plane.nx);
-        let of_y = self.y.greatest_product(plane.ny);
-        let of_z = self.z.greatest_product(plane.nz);
-        of_x + of_y + of_z - plane.d
+        self.greatest_products(plane).less(plane.d)
     }
 
     /// A cuboid that has all of this one that is not behind a plane: across each axis by what the two
@@ -210,13 +216,11 @@ impl Cuboid {
     pub fn tightened(self, plane: &Plane) -> Cuboid
         ensures { IsTightened result self plane.now }
     {
-        let of_x = self.x.greatest_product(plane.nx);
-        let of_y = self.y.greatest_product(plane.ny);
-        let of_z = self.z.greatest_product(plane.nz);
+        let greatest = self.greatest_products(plane);
         Cuboid {
-            x: self.x.tightened(plane.nx, plane.d - of_y - of_z),
-            y: self.y.tightened(plane.ny, plane.d - of_z - of_x),
-            z: self.z.tightened(plane.nz, plane.d - of_x - of_y),
+            x: self.x.tightened(plane.nx, greatest.left_x(plane.d)),
+            y: self.y.tightened(plane.ny, greatest.left_y(plane.d)),
+            z: self.z.tightened(plane.nz, greatest.left_z(plane.d)),
         }
     }
 
@@ -224,6 +228,82 @@ impl Cuboid {
     pub fn tightened_on(self, plane: &Plane) -> Cuboid
         ensures { IsTightenedOn result self plane.now }
     {
-        self.tightened(plane).tightened(&plane.flipped())
+        let least = self.least_products(plane);
+        let greatest = self.greatest_products(plane);
+        Cuboid {
+            x: self.x.tightened_between(plane.nx, greatest.left_x(plane.d), least.left_x(plane.d)),
+            y: self.y.tightened_between(plane.ny, greatest.left_y(plane.d), least.left_y(plane.d)),
+            z: self.z.tightened_between(plane.nz, greatest.left_z(plane.d), least.left_z(plane.d)),
+        }
+    }
+
+    fn least_products(&self, plane: &Plane) -> Products
+        ensures exact { result ≡ least_products plane.now self.now }
+        ensures size { AreSmall result }
+    {
+        Products {
+            of_x: self.x.least_product(plane.nx),
+            of_y: self.y.least_product(plane.ny),
+            of_z: self.z.least_product(plane.nz),
+        }
+    }
+
+    fn greatest_products(&self, plane: &Plane) -> Products
+        ensures exact { result ≡ greatest_products plane.now self.now }
+        ensures size { AreSmall result }
+    {
+        Products {
+            of_x: self.x.greatest_product(plane.nx),
+            of_y: self.y.greatest_product(plane.ny),
+            of_z: self.z.greatest_product(plane.nz),
+        }
+    }
+}
+
+/// For each axis a component of a normal times a coordinate.
+#[derive(Clone, Copy)]
+struct Products {
+    of_x: i64,
+    of_y: i64,
+    of_z: i64,
+}
+
+impl Products {
+    /// Their sum less a distance.
+    fn less(self, distance: i64) -> i64
+        requires small { AreSmall self }
+        requires distance_small { unsigned_abs distance ≤ distance_bound }
+        ensures exact { result ≡ ((self.of_x +ℤ self.of_y) +ℤ self.of_z) -ℤ distance }
+        ensures size { unsigned_abs result ≤ 2 ^ 45 }
+    {
+        self.of_x + self.of_y + self.of_z - distance
+    }
+
+    /// What those of the two other axes leave of a distance.
+    fn left_x(self, distance: i64) -> i64
+        requires small { AreSmall self }
+        requires distance_small { unsigned_abs distance ≤ distance_bound }
+        ensures exact { result ≡ (distance -ℤ self.of_y) -ℤ self.of_z }
+        ensures size { unsigned_abs result ≤ 2 ^ 45 }
+    {
+        distance - self.of_y - self.of_z
+    }
+
+    fn left_y(self, distance: i64) -> i64
+        requires small { AreSmall self }
+        requires distance_small { unsigned_abs distance ≤ distance_bound }
+        ensures exact { result ≡ (distance -ℤ self.of_z) -ℤ self.of_x }
+        ensures size { unsigned_abs result ≤ 2 ^ 45 }
+    {
+        distance - self.of_z - self.of_x
+    }
+
+    fn left_z(self, distance: i64) -> i64
+        requires small { AreSmall self }
+        requires distance_small { unsigned_abs distance ≤ distance_bound }
+        ensures exact { result ≡ (distance -ℤ self.of_x) -ℤ self.of_y }
+        ensures size { unsigned_abs result ≤ 2 ^ 45 }
+    {
+        distance - self.of_x - self.of_y
     }
 }
