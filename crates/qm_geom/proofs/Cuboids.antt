@@ -1,18 +1,19 @@
 -- Spans and cuboids that are tightened, as the code keeps their numbers.
-use Rattle.std.proofs.Common.{◌≡◌, ◌≤◌, ◌^◌, ◌∙◌, ℤ, pos, negsuc, neg_ℤ, ◌+ℤ◌, ◌-ℤ◌, ◌*ℤ◌, ◌≤ℤ◌, ◌<ℤ◌, w32, w64, ap, sym, subst, arith, lit≤, unsigned_abs}
+use Rattle.std.proofs.Common.{◌≡◌, ◌≤◌, ◌^◌, ◌∙◌, ℤ, pos, negsuc, neg_ℤ, ◌+ℤ◌, ◌-ℤ◌, ◌*ℤ◌, ◌<ℤ◌, w32, w64, ap, subst, arith, lit≤, unsigned_abs}
 use Rattle.std.proofs.lemmas.Int.{ints}
 use Rattle.std.proofs.Math.IntN.{*ℤ_comm}
 use Rattle.qm_numbers.specs.Rounding.{IsRoundedDown}
 use Rattle.qm_numbers.proofs.IntegerProducts.{linear, one_*ℤ, neg-*ℤ}
 use Rattle.qm_numbers.proofs.Bits.{kept_32, kept_64, negated_64}
-use Rattle.qm_numbers.proofs.Kept.{kept, three_less_one_kept}
+use Rattle.qm_numbers.proofs.Kept.{kept, three_less_one_kept, one_less_two_kept}
 use Rattle.qm_numbers.proofs.Signs.{abs_sum, abs_difference}
 use Rattle.qm_space.specs.Bounds.{normal_bound, distance_bound}
 use Rattle.qm_space.specs.Plane.{Plane}
 use Rattle.qm_space.specs.Cuboid.{Span, IsTightenedSpan, IsTightenedBetween}
 use Rattle.qm_space.proofs.Cuboids.{tightened_multiple}
-use Rattle.qm_geom.specs.declared.cuboid.Products.{Products}
-use Rattle.qm_geom.specs.inner.Products.{AreSmall}
+use Rattle.qm_geom.specs.declared.vector.Vector.{Vector}
+use Rattle.qm_geom.specs.inner.Vectors.{IsWithin}
+use Rattle.qm_geom.specs.inner.Products.{sum_less, left_of}
 
 -- a component as the code widens it
 widened : (f n : ℤ) → unsigned_abs n ≤ normal_bound → f ≡ kept w32 n → f ≡ n
@@ -47,28 +48,47 @@ module _ (t span : Span) (n least q f : ℤ) (n_small : unsigned_abs n ≤ norma
 
 -- ---- sums of products
 
-module _ (g h : Plane) (r : ℤ) (r_small : unsigned_abs r ≤ 2 ^ 45) (d_small : unsigned_abs g.d ≤ distance_bound) (same : g ≡ h) where
-  distance_is : kept w64 g.d ≡ h.d
-  distance_is = kept_64 g.d distance_bound d_small (lit≤ tt) ∙ ap (λ (p : Plane). p.d) same
+distance_is : (g h : Plane) → unsigned_abs g.d ≤ distance_bound → g ≡ h → kept w64 g.d ≡ h.d
+distance_is g h small same = kept_64 g.d distance_bound small (lit≤ tt) ∙ ap (λ (p : Plane). p.d) same
 
-  pub value_is : (p q : Products) → p ≡ q → r ≡ ((p.of_x +ℤ p.of_y) +ℤ p.of_z) -ℤ kept w64 g.d → kept w64 r ≡ ((q.of_x +ℤ q.of_y) +ℤ q.of_z) -ℤ h.d
-  value_is p q e f =
-      kept_64 r (2 ^ 45) r_small (lit≤ tt) ∙ f ∙ (λ i. (((e i).of_x +ℤ (e i).of_y) +ℤ (e i).of_z) -ℤ distance_is i)
+pub value_is : (g h : Plane) (r : ℤ) (p q : Vector) → unsigned_abs r ≤ 2 ^ 45 → unsigned_abs g.d ≤ distance_bound → g ≡ h → p ≡ q → r ≡ sum_less p (kept w64 g.d) → kept w64 r ≡ sum_less q h.d
+value_is g h r p q r_small d_small same e f =
+    kept_64 r (2 ^ 45) r_small (lit≤ tt) ∙ f ∙ (λ i. sum_less (e i) (distance_is g h d_small same i))
 
-  pub left_is : (a b a' b' : ℤ) → a ≡ a' → b ≡ b' → r ≡ (kept w64 g.d -ℤ a) -ℤ b → kept w64 r ≡ (h.d -ℤ a') -ℤ b'
-  left_is a b a' b' e f k = kept_64 r (2 ^ 45) r_small (lit≤ tt) ∙ k ∙ (λ i. (distance_is i -ℤ e i) -ℤ f i)
+pub left_is : (g h : Plane) (r p q : Vector) → unsigned_abs g.d ≤ distance_bound → g ≡ h → p ≡ q → r ≡ left_of p (kept w64 g.d) → r ≡ left_of q h.d
+left_is g h r p q d_small same e f = f ∙ (λ i. left_of (e i) (distance_is g h d_small same i))
 
-pub less_kept : (p : Products) (d : ℤ) → AreSmall p → unsigned_abs d ≤ distance_bound →
-    kept w64 (kept w64 (kept w64 (kept w64 p.of_x +ℤ kept w64 p.of_y) +ℤ kept w64 p.of_z) -ℤ kept w64 d) ≡ ((p.of_x +ℤ p.of_y) +ℤ p.of_z) -ℤ d
-less_kept p d s h =
-    let x = s.of_x in let y = s.of_y in let z = s.of_z in
-    three_less_one_kept p.of_x p.of_y p.of_z d (omega arith) (omega arith) (omega arith) (omega arith)
+pub sum_less_kept : (p : Vector) (d : ℤ) → IsWithin p (2 ^ 38) → unsigned_abs d ≤ distance_bound →
+    kept w64 (kept w64 (kept w64 (kept w64 p.x +ℤ kept w64 p.y) +ℤ kept w64 p.z) -ℤ kept w64 d) ≡ sum_less p d
+sum_less_kept p d s h =
+    let x = s.x_small in let y = s.y_small in let z = s.z_small in
+    three_less_one_kept p.x p.y p.z d (omega arith) (omega arith) (omega arith) (omega arith)
 
-pub less_small : (p : Products) (d : ℤ) → AreSmall p → unsigned_abs d ≤ distance_bound → unsigned_abs (((p.of_x +ℤ p.of_y) +ℤ p.of_z) -ℤ d) ≤ 2 ^ 45
-less_small p d s h =
-    let x = s.of_x in let y = s.of_y in let z = s.of_z in
-    let a = abs_sum p.of_x p.of_y in let b = abs_sum (p.of_x +ℤ p.of_y) p.of_z in let c = abs_difference ((p.of_x +ℤ p.of_y) +ℤ p.of_z) d in
+pub sum_less_small : (p : Vector) (d : ℤ) → IsWithin p (2 ^ 38) → unsigned_abs d ≤ distance_bound → unsigned_abs (sum_less p d) ≤ 2 ^ 45
+sum_less_small p d s h =
+    let x = s.x_small in let y = s.y_small in let z = s.z_small in
+    let a = abs_sum p.x p.y in let b = abs_sum (p.x +ℤ p.y) p.z in let c = abs_difference ((p.x +ℤ p.y) +ℤ p.z) d in
     omega arith
+
+one_left_small : (d a b : ℤ) → unsigned_abs d ≤ distance_bound → unsigned_abs a ≤ 2 ^ 38 → unsigned_abs b ≤ 2 ^ 38 → unsigned_abs ((d -ℤ a) -ℤ b) ≤ 2 ^ 45
+one_left_small d a b h k l = let s = abs_difference d a in let t = abs_difference (d -ℤ a) b in omega arith
+
+pub left_kept : (p : Vector) (d : ℤ) → IsWithin p (2 ^ 38) → unsigned_abs d ≤ distance_bound →
+    record { x = kept w64 (kept w64 (kept w64 d -ℤ kept w64 p.y) -ℤ kept w64 p.z); y = kept w64 (kept w64 (kept w64 d -ℤ kept w64 p.z) -ℤ kept w64 p.x); z = kept w64 (kept w64 (kept w64 d -ℤ kept w64 p.x) -ℤ kept w64 p.y) } ≡ left_of p d
+left_kept p d s h =
+    let x = s.x_small in let y = s.y_small in let z = s.z_small in
+    λ i. record {
+      x = one_less_two_kept d p.y p.z (omega arith) (omega arith) (omega arith) i;
+      y = one_less_two_kept d p.z p.x (omega arith) (omega arith) (omega arith) i;
+      z = one_less_two_kept d p.x p.y (omega arith) (omega arith) (omega arith) i;
+    }
+
+pub left_small : (p : Vector) (d : ℤ) → IsWithin p (2 ^ 38) → unsigned_abs d ≤ distance_bound → IsWithin (left_of p d) (2 ^ 45)
+left_small p d s h = record {
+  x_small = one_left_small d p.y p.z h s.y_small s.z_small;
+  y_small = one_left_small d p.z p.x h s.z_small s.x_small;
+  z_small = one_left_small d p.x p.y h s.x_small s.y_small;
+}
 
 -- ---- spans by the numbers of a plane
 

@@ -1,12 +1,14 @@
-ghost use Rattle.std.specs.Prelude.{◌≡◌, ◌≤◌, ◌*◌, ◌^◌, ℤ, pos, negsuc, neg_ℤ, ◌+ℤ◌, ◌-ℤ◌, ◌*ℤ◌, ◌≤ℤ◌, ◌<ℤ◌, ◌⊎◌, unsigned_abs};
+ghost use Rattle.std.specs.Prelude.{◌≡◌, ◌≤◌, ◌*◌, ◌^◌, ℤ, pos, negsuc, neg_ℤ, ◌*ℤ◌, ◌≤ℤ◌, ◌<ℤ◌, ◌⊎◌, unsigned_abs};
 ghost use Rattle.qm_numbers.specs.Rounding.{IsRoundedDown};
 ghost use Rattle.qm_space.specs.Bounds.{normal_bound, distance_bound};
 ghost use Rattle.qm_space.specs.Point.{Point, IsCoordinate};
 ghost use Rattle.qm_space.specs.Plane.{value};
 ghost use Rattle.qm_space.specs.Cuboid.{IsInSpan, IsInCuboid, whole_span, whole_cuboid, least_product, greatest_product, least_value, greatest_value, IsTightened, IsTightenedOn, IsTightenedSpan, IsTightenedBetween};
-ghost use Rattle.qm_geom.specs.inner.Products.{AreSmall, least_products, greatest_products};
+ghost use Rattle.qm_geom.specs.inner.Vectors.{IsWithin};
+ghost use Rattle.qm_geom.specs.inner.Products.{least_products, greatest_products, sum_less, left_of};
 
 use crate::plane::Plane;
+use crate::vector::Vector;
 use qm_space::WORLD_EXTENT;
 use std::marker::Model;
 
@@ -200,7 +202,7 @@ impl Cuboid {
         ensures exact { result ≡ least_value plane.now self.now }
         ensures bound { (p : Point) → IsInCuboid self.now p → (result *ℤ p.w) ≤ℤ value plane.now p }
     {
-        self.least_products(plane).less(plane.d)
+        sum_less(self.least_products(plane), plane.d)
     }
 
     /// The greatest one.
@@ -208,7 +210,7 @@ impl Cuboid {
         ensures exact { result ≡ greatest_value plane.now self.now }
         ensures bound { (p : Point) → IsInCuboid self.now p → value plane.now p ≤ℤ (result *ℤ p.w) }
     {
-        self.greatest_products(plane).less(plane.d)
+        sum_less(self.greatest_products(plane), plane.d)
     }
 
     /// A cuboid that has all of this one that is not behind a plane: across each axis by what the two
@@ -216,11 +218,11 @@ impl Cuboid {
     pub fn tightened(self, plane: &Plane) -> Cuboid
         ensures { IsTightened result self plane.now }
     {
-        let greatest = self.greatest_products(plane);
+        let least = left_of(self.greatest_products(plane), plane.d);
         Cuboid {
-            x: self.x.tightened(plane.nx, greatest.left_x(plane.d)),
-            y: self.y.tightened(plane.ny, greatest.left_y(plane.d)),
-            z: self.z.tightened(plane.nz, greatest.left_z(plane.d)),
+            x: self.x.tightened(plane.nx, least.x),
+            y: self.y.tightened(plane.ny, least.y),
+            z: self.z.tightened(plane.nz, least.z),
         }
     }
 
@@ -228,82 +230,58 @@ impl Cuboid {
     pub fn tightened_on(self, plane: &Plane) -> Cuboid
         ensures { IsTightenedOn result self plane.now }
     {
-        let least = self.least_products(plane);
-        let greatest = self.greatest_products(plane);
+        let least = left_of(self.greatest_products(plane), plane.d);
+        let greatest = left_of(self.least_products(plane), plane.d);
         Cuboid {
-            x: self.x.tightened_between(plane.nx, greatest.left_x(plane.d), least.left_x(plane.d)),
-            y: self.y.tightened_between(plane.ny, greatest.left_y(plane.d), least.left_y(plane.d)),
-            z: self.z.tightened_between(plane.nz, greatest.left_z(plane.d), least.left_z(plane.d)),
+            x: self.x.tightened_between(plane.nx, least.x, greatest.x),
+            y: self.y.tightened_between(plane.ny, least.y, greatest.y),
+            z: self.z.tightened_between(plane.nz, least.z, greatest.z),
         }
     }
 
-    fn least_products(&self, plane: &Plane) -> Products
+    fn least_products(&self, plane: &Plane) -> Vector
         ensures exact { result ≡ least_products plane.now self.now }
-        ensures size { AreSmall result }
+        ensures size { IsWithin result (2 ^ 38) }
     {
-        Products {
-            of_x: self.x.least_product(plane.nx),
-            of_y: self.y.least_product(plane.ny),
-            of_z: self.z.least_product(plane.nz),
+        Vector {
+            x: self.x.least_product(plane.nx),
+            y: self.y.least_product(plane.ny),
+            z: self.z.least_product(plane.nz),
         }
     }
 
-    fn greatest_products(&self, plane: &Plane) -> Products
+    fn greatest_products(&self, plane: &Plane) -> Vector
         ensures exact { result ≡ greatest_products plane.now self.now }
-        ensures size { AreSmall result }
+        ensures size { IsWithin result (2 ^ 38) }
     {
-        Products {
-            of_x: self.x.greatest_product(plane.nx),
-            of_y: self.y.greatest_product(plane.ny),
-            of_z: self.z.greatest_product(plane.nz),
+        Vector {
+            x: self.x.greatest_product(plane.nx),
+            y: self.y.greatest_product(plane.ny),
+            z: self.z.greatest_product(plane.nz),
         }
     }
 }
 
-/// For each axis a component of a normal times a coordinate.
-#[derive(Clone, Copy)]
-struct Products {
-    of_x: i64,
-    of_y: i64,
-    of_z: i64,
+/// The sum of three products, one for each axis, less a distance.
+fn sum_less(products: Vector, distance: i64) -> i64
+    requires products_small { IsWithin products (2 ^ 38) }
+    requires distance_small { unsigned_abs distance ≤ distance_bound }
+    ensures exact { result ≡ sum_less products distance }
+    ensures size { unsigned_abs result ≤ 2 ^ 45 }
+{
+    products.x + products.y + products.z - distance
 }
 
-impl Products {
-    /// Their sum less a distance.
-    fn less(self, distance: i64) -> i64
-        requires small { AreSmall self }
-        requires distance_small { unsigned_abs distance ≤ distance_bound }
-        ensures exact { result ≡ ((self.of_x +ℤ self.of_y) +ℤ self.of_z) -ℤ distance }
-        ensures size { unsigned_abs result ≤ 2 ^ 45 }
-    {
-        self.of_x + self.of_y + self.of_z - distance
-    }
-
-    /// What those of the two other axes leave of a distance.
-    fn left_x(self, distance: i64) -> i64
-        requires small { AreSmall self }
-        requires distance_small { unsigned_abs distance ≤ distance_bound }
-        ensures exact { result ≡ (distance -ℤ self.of_y) -ℤ self.of_z }
-        ensures size { unsigned_abs result ≤ 2 ^ 45 }
-    {
-        distance - self.of_y - self.of_z
-    }
-
-    fn left_y(self, distance: i64) -> i64
-        requires small { AreSmall self }
-        requires distance_small { unsigned_abs distance ≤ distance_bound }
-        ensures exact { result ≡ (distance -ℤ self.of_z) -ℤ self.of_x }
-        ensures size { unsigned_abs result ≤ 2 ^ 45 }
-    {
-        distance - self.of_z - self.of_x
-    }
-
-    fn left_z(self, distance: i64) -> i64
-        requires small { AreSmall self }
-        requires distance_small { unsigned_abs distance ≤ distance_bound }
-        ensures exact { result ≡ (distance -ℤ self.of_x) -ℤ self.of_y }
-        ensures size { unsigned_abs result ≤ 2 ^ 45 }
-    {
-        distance - self.of_x - self.of_y
+/// What the products of the two other axes leave of a distance, for each axis.
+fn left_of(products: Vector, distance: i64) -> Vector
+    requires products_small { IsWithin products (2 ^ 38) }
+    requires distance_small { unsigned_abs distance ≤ distance_bound }
+    ensures exact { result ≡ left_of products distance }
+    ensures size { IsWithin result (2 ^ 45) }
+{
+    Vector {
+        x: distance - products.y - products.z,
+        y: distance - products.z - products.x,
+        z: distance - products.x - products.y,
     }
 }

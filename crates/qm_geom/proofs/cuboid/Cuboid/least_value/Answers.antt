@@ -2,12 +2,15 @@ use Rattle.std.proofs.Common.{ℤ, ◌*ℤ◌, ◌≤ℤ◌, sym, subst}
 use Rattle.qm_space.specs.Plane.{value}
 use Rattle.qm_space.specs.Cuboid.{least_value}
 use Rattle.qm_space.proofs.Cuboids.{least_value_bound}
+use Rattle.qm_geom.specs.inner.Products.{least_products}
 use Rattle.qm_geom.proofs.Cuboids.{value_is}
 use Rattle.qm_geom.proofs.cuboid.Cuboid.least_value.Goals as goal
 
 pub returns-clause-exact : goal.returns-clause-exact
 unfolding least_value
-returns-clause-exact c = value_is _ c.args.plane.now c.less.result c.less.ensures.size c.plane.invariant.d_small c.plane.view_is c.least_products.result _ c.least_products.ensures.exact c.less.ensures.exact
+returns-clause-exact c =
+    value_is _ c.args.plane.now c.sum_less.result c.least_products.result (least_products c.args.plane.now c.args.self.now)
+    c.sum_less.ensures.size c.plane.invariant.d_small c.plane.view_is c.least_products.ensures.exact c.sum_less.ensures.exact
 
 pub returns-clause-bound : goal.returns-clause-bound
 returns-clause-bound c = λ p i.

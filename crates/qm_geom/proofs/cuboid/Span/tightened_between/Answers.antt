@@ -1,5 +1,4 @@
-use Rattle.std.proofs.Common.{◌^◌, neg_ℤ, w64, lit≤, refl}
-use Rattle.std.proofs.lemmas.Int.{to_z-of_z}
+use Rattle.std.proofs.Common.{◌^◌, lit≤, refl}
 use Rattle.qm_numbers.proofs.Bits.{kept_32, kept_64, negated_32, negated_64}
 use Rattle.qm_space.specs.Bounds.{normal_bound}
 use Rattle.qm_space.proofs.Cuboids.{tightened_between}
