@@ -1,10 +1,14 @@
-ghost use Rattle.std.specs.Prelude.{◌≡◌, ◌≤◌, ◌*◌, ◌^◌, ℤ, pos, negsuc, neg_ℤ, ◌*ℤ◌, ◌≤ℤ◌, ◌⊎◌, unsigned_abs};
+ghost use Rattle.std.specs.Prelude.{◌≡◌, ◌≤◌, ◌*◌, ◌^◌, ℤ, pos, negsuc, neg_ℤ, ◌*ℤ◌, ◌≤ℤ◌, ◌<ℤ◌, ◌⊎◌, unsigned_abs};
+ghost use Rattle.qm_numbers.specs.Rounding.{IsRoundedDown};
 ghost use Rattle.qm_space.specs.Bounds.{normal_bound, distance_bound};
 ghost use Rattle.qm_space.specs.Point.{Point, IsCoordinate};
 ghost use Rattle.qm_space.specs.Plane.{value};
-ghost use Rattle.qm_space.specs.Cuboid.{IsInSpan, IsInCuboid, whole_span, whole_cuboid, least_product, greatest_product, least_value, greatest_value, IsTightened, IsTightenedSpan};
+ghost use Rattle.qm_space.specs.Cuboid.{IsInSpan, IsInCuboid, whole_span, whole_cuboid, least_product, greatest_product, least_value, greatest_value, IsTightened, IsTightenedOn, IsTightenedSpan, IsTightenedBetween};
+ghost use Rattle.qm_geom.specs.inner.Vectors.{IsWithin};
+ghost use Rattle.qm_geom.specs.inner.Products.{least_products, greatest_products, sum_less, left_of};
 
 use crate::plane::Plane;
+use crate::vector::Vector;
 use qm_space::WORLD_EXTENT;
 use std::marker::Model;
 
@@ -38,19 +42,34 @@ impl Span {
         }
     }
 
-    /// What is, times a component, at least a distance, where the component is 1 or -1; else the span.
-    fn tightened(self, component: i32, distance: i64) -> Span
+    /// What is, times a component, at least a number, rounded outward. The span itself where that is all
+    /// of it.
+    fn tightened(self, component: i32, least: i64) -> Span
         requires component_small { unsigned_abs component ≤ normal_bound }
-        requires distance_small { unsigned_abs distance ≤ distance_bound }
-        ensures { IsTightenedSpan result self component distance }
+        requires least_small { unsigned_abs least ≤ 2 ^ 45 }
+        ensures { IsTightenedSpan result self component least }
     {
-        if component == 1 {
-            return self.from(distance);
+        if self.least_product(component) >= least {
+            return self;
         }
-        if component == -1 {
-            return self.up_to(-distance);
+        if component > 0 {
+            return self.from(rounded_down(least, i64::from(component)));
+        }
+        if component < 0 {
+            return self.up_to(-rounded_down(least, -i64::from(component)));
         }
         self
+    }
+
+    /// What is, times a component, from one number to another, rounded outward.
+    fn tightened_between(self, component: i32, least: i64, greatest: i64) -> Span
+        requires component_small { unsigned_abs component ≤ normal_bound }
+        requires least_small { unsigned_abs least ≤ 2 ^ 45 }
+        requires greatest_small { unsigned_abs greatest ≤ 2 ^ 45 }
+        ensures { IsTightenedBetween result self component least greatest }
+    {
+        self.tightened(component, least)
+            .tightened(-component, -greatest)
     }
 
     /// The numbers of the span from a number on; only its high end where that is above them all.
@@ -138,6 +157,16 @@ fn times(component: i32, coordinate: i32) -> i64
     i64::from(component) * i64::from(coordinate)
 }
 
+/// The greatest whole number that is, times a factor, at most a number.
+fn rounded_down(number: i64, factor: i64) -> i64
+    requires factor_positive { pos 0 <ℤ factor }
+    requires number_small { unsigned_abs number ≤ 2 ^ 45 }
+    ensures exact { IsRoundedDown number factor result }
+    ensures size { unsigned_abs result ≤ 2 ^ 45 }
+{
+    number.div_euclid(factor)
+}
+
 /// A span across each axis: of something in the closed cube, all its points lie in it.
 #[derive(Clone, Copy)]
 pub struct Cuboid {
@@ -173,10 +202,7 @@ impl Cuboid {
         ensures exact { result ≡ least_value plane.now self.now }
         ensures bound { (p : Point) → IsInCuboid self.now p → (result *ℤ p.w) ≤ℤ value plane.now p }
     {
-        let of_x = self.x.least_product(plane.nx);
-        let of_y = self.y.least_product(plane.ny);
-        let of_z = self.z.least_product(plane.nz);
-        of_x + of_y + of_z - plane.d
+        sum_less(self.least_products(plane), plane.d)
     }
 
     /// The greatest one.
@@ -184,38 +210,78 @@ impl Cuboid {
         ensures exact { result ≡ greatest_value plane.now self.now }
         ensures bound { (p : Point) → IsInCuboid self.now p → value plane.now p ≤ℤ (result *ℤ p.w) }
     {
-        let of_x = self.x.greatest_product(plane.nx);
-        let of_y = self.y.greatest_product(plane.ny);
-        let of_z = self.z.greatest_product(plane.nz);
-        of_x + of_y + of_z - plane.d
+        sum_less(self.greatest_products(plane), plane.d)
     }
 
-    /// A cuboid that has all of this one that is not behind a plane: tightened where the plane stands
-    /// across an axis at a whole number, else as it is.
+    /// A cuboid that has all of this one that is not behind a plane: across each axis by what the two
+    /// others leave of the distance.
     pub fn tightened(self, plane: &Plane) -> Cuboid
         ensures { IsTightened result self plane.now }
     {
-        if plane.ny == 0 && plane.nz == 0 {
-            return Cuboid {
-                x: self.x.tightened(plane.nx, plane.d),
-                y: self.y,
-                z: self.z,
-            };
+        let least = left_of(self.greatest_products(plane), plane.d);
+        Cuboid {
+            x: self.x.tightened(plane.nx, least.x),
+            y: self.y.tightened(plane.ny, least.y),
+            z: self.z.tightened(plane.nz, least.z),
         }
-        if plane.nx == 0 && plane.nz == 0 {
-            return Cuboid {
-                x: self.x,
-                y: self.y.tightened(plane.ny, plane.d),
-                z: self.z,
-            };
+    }
+
+    /// A cuboid that has all of this one that is on a plane.
+    pub fn tightened_on(self, plane: &Plane) -> Cuboid
+        ensures { IsTightenedOn result self plane.now }
+    {
+        let least = left_of(self.greatest_products(plane), plane.d);
+        let greatest = left_of(self.least_products(plane), plane.d);
+        Cuboid {
+            x: self.x.tightened_between(plane.nx, least.x, greatest.x),
+            y: self.y.tightened_between(plane.ny, least.y, greatest.y),
+            z: self.z.tightened_between(plane.nz, least.z, greatest.z),
         }
-        if plane.nx == 0 && plane.ny == 0 {
-            return Cuboid {
-                x: self.x,
-                y: self.y,
-                z: self.z.tightened(plane.nz, plane.d),
-            };
+    }
+
+    fn least_products(&self, plane: &Plane) -> Vector
+        ensures exact { result ≡ least_products plane.now self.now }
+        ensures size { IsWithin result (2 ^ 38) }
+    {
+        Vector {
+            x: self.x.least_product(plane.nx),
+            y: self.y.least_product(plane.ny),
+            z: self.z.least_product(plane.nz),
         }
-        self
+    }
+
+    fn greatest_products(&self, plane: &Plane) -> Vector
+        ensures exact { result ≡ greatest_products plane.now self.now }
+        ensures size { IsWithin result (2 ^ 38) }
+    {
+        Vector {
+            x: self.x.greatest_product(plane.nx),
+            y: self.y.greatest_product(plane.ny),
+            z: self.z.greatest_product(plane.nz),
+        }
+    }
+}
+
+/// The sum of three products, one for each axis, less a distance.
+fn sum_less(products: Vector, distance: i64) -> i64
+    requires products_small { IsWithin products (2 ^ 38) }
+    requires distance_small { unsigned_abs distance ≤ distance_bound }
+    ensures exact { result ≡ sum_less products distance }
+    ensures size { unsigned_abs result ≤ 2 ^ 45 }
+{
+    products.x + products.y + products.z - distance
+}
+
+/// What the products of the two other axes leave of a distance, for each axis.
+fn left_of(products: Vector, distance: i64) -> Vector
+    requires products_small { IsWithin products (2 ^ 38) }
+    requires distance_small { unsigned_abs distance ≤ distance_bound }
+    ensures exact { result ≡ left_of products distance }
+    ensures size { IsWithin result (2 ^ 45) }
+{
+    Vector {
+        x: distance - products.y - products.z,
+        y: distance - products.z - products.x,
+        z: distance - products.x - products.y,
     }
 }

@@ -83,9 +83,7 @@ impl Winding {
         let plane = polygon.plane();
         Winding {
             polygon,
-            cuboid: Cuboid::whole()
-                .tightened(&plane)
-                .tightened(&plane.flipped()),
+            cuboid: Cuboid::whole().tightened_on(&plane),
         }
     }
 
@@ -212,7 +210,7 @@ impl Winding {
     {
         Ok(Winding {
             polygon: self.polygon.part_in_front_of(plane, run)?,
-            cuboid: self.cuboid.tightened(plane),
+            cuboid: self.cuboid.tightened(plane).tightened_on(&self.polygon.plane()),
         })
     }
 

@@ -1,14 +1,28 @@
-use Rattle.qm_geom.proofs.Cuboids.{tightened_across_x, tightened_across_y, tightened_across_z}
+use Rattle.std.proofs.Common.{◌≡◌, ◌^◌, ◌∙◌, ap, lit≤}
+use Rattle.qm_numbers.proofs.Bits.{kept_32, kept_64}
+use Rattle.qm_space.specs.Bounds.{normal_bound}
+use Rattle.qm_space.specs.Plane.{Plane}
+use Rattle.qm_space.specs.Cuboid.{Cuboid}
+use Rattle.qm_space.proofs.Cuboids.{tightened_cuboid}
+use Rattle.qm_geom.specs.declared.vector.Vector.{Vector}
+use Rattle.qm_geom.specs.inner.Products.{greatest_products, left_of}
+use Rattle.qm_geom.proofs.Cuboids.{left_is, tightened_same}
 use Rattle.qm_geom.proofs.cuboid.Cuboid.tightened.Goals as goal
 
-pub returns-then-plane-eq0-2 : goal.returns-then-plane-eq0-2
-returns-then-plane-eq0-2 c =
-    tightened_across_x _ c.args.self _ c.args.plane.now c.tightened.result c.self.view_is c.plane.view_is c.plane.invariant c.if-plane-eq0.true c.if-plane-eq0-2.true c.tightened.ensures
+least_is : (c : goal.After-tightened-3) → c.left_of-least.result ≡ left_of (greatest_products c.args.plane.now c.args.self) c.args.plane.now.d
+least_is c =
+    left_is _ c.args.plane.now c.left_of-least.result c.greatest_products.result (greatest_products c.args.plane.now c.args.self)
+    c.plane.invariant.d_small c.plane.view_is c.greatest_products.ensures.exact c.left_of-least.ensures.exact
 
-pub returns-then-plane-eq0-4 : goal.returns-then-plane-eq0-4
-returns-then-plane-eq0-4 c =
-    tightened_across_y _ c.args.self _ c.args.plane.now c.tightened-then-plane-eq0-4.result c.self.view_is c.plane.view_is c.plane.invariant c.if-plane-eq0-3.true c.if-plane-eq0-4.true c.tightened-then-plane-eq0-4.ensures
-
-pub returns-then-plane-eq0-6 : goal.returns-then-plane-eq0-6
-returns-then-plane-eq0-6 c =
-    tightened_across_z _ c.args.self _ c.args.plane.now c.tightened-then-plane-eq0-6.result c.self.view_is c.plane.view_is c.plane.invariant c.if-plane-eq0-5.true c.if-plane-eq0-6.true c.tightened-then-plane-eq0-6.ensures
+pub returns : goal.returns
+returns c =
+    tightened_cuboid c.args.self c.args.plane.now _ _ _
+    (tightened_same _ _ c.args.self.x _ c.args.plane.now.nx _ _ (ap (λ (u : Cuboid). u.x) c.self.view_is) (kept_32 _ normal_bound c.plane.invariant.nx_small (lit≤ tt) ∙ ap (λ (g : Plane). g.nx) c.plane.view_is)
+    (kept_64 c.left_of-least.result.x (2 ^ 45) c.left_of-least.ensures.size.x_small (lit≤ tt) ∙ ap (λ (v : Vector). v.x) (least_is c))
+    c.tightened.ensures)
+    (tightened_same _ _ c.args.self.y _ c.args.plane.now.ny _ _ (ap (λ (u : Cuboid). u.y) c.self.view_is) (kept_32 _ normal_bound c.plane.invariant.ny_small (lit≤ tt) ∙ ap (λ (g : Plane). g.ny) c.plane.view_is)
+    (kept_64 c.left_of-least.result.y (2 ^ 45) c.left_of-least.ensures.size.y_small (lit≤ tt) ∙ ap (λ (v : Vector). v.y) (least_is c))
+    c.tightened-2.ensures)
+    (tightened_same _ _ c.args.self.z _ c.args.plane.now.nz _ _ (ap (λ (u : Cuboid). u.z) c.self.view_is) (kept_32 _ normal_bound c.plane.invariant.nz_small (lit≤ tt) ∙ ap (λ (g : Plane). g.nz) c.plane.view_is)
+    (kept_64 c.left_of-least.result.z (2 ^ 45) c.left_of-least.ensures.size.z_small (lit≤ tt) ∙ ap (λ (v : Vector). v.z) (least_is c))
+    c.tightened-3.ensures)
