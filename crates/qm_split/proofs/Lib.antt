@@ -10,3 +10,5 @@ pub mod KnownFragments
 pub mod SectionsOfCells
 pub mod FacesInCube
 pub mod MadeFragments
+pub mod HeldCuboids
+pub mod BesidePieces

@@ -6,6 +6,7 @@ use Rattle.std.proofs.lemmas.List.Elements.{All-contains, All-push, Contains-pus
 use Rattle.qm_lists.proofs.Elements.{All-first_part, All-last_part}
 use Rattle.qm_space.specs.Point.{Point}
 use Rattle.qm_space.specs.Plane.{Plane, IsInFront}
+use Rattle.qm_space.specs.Reduced.{IsReduced}
 use Rattle.qm_space.specs.Cell.{IsInCell}
 use Rattle.qm_numbers.proofs.IntegerProducts.{linear}
 use Rattle.qm_convex.specs.Winding.{Winding, IsConvex}
@@ -130,6 +131,7 @@ module _ (book cell : List Plane) (solid : Solid) (ps qs : List Piece) (g : Plan
     has_face = is.has_face;
     lies_on = subst (λ (h : Plane). LiesOn is.face h) (sym part.part.plane) is.lies_on;
     convex = part.part.convex;
+    reduced = subst IsReduced (sym part.part.plane) is.reduced;
     points = λ x. (
       (λ r. let both = (part.part.points x).0 r in
           subst (λ (h : Plane). IsOnFace solid beyond h x) (sym part.part.plane) (face_beyond p.winding.value.plane x ((is.points x).0 both.0) both.1)),

@@ -6,13 +6,13 @@ ghost use Rattle.qm_solids.specs.Outward.{outward_of, outward_planes, AreNumbere
 ghost use Rattle.qm_wind.specs.Clipped.{is_front};
 ghost use Rattle.qm_split.specs.Pieces.{ArePieces};
 ghost use Rattle.qm_split.specs.inner.Parts.{IsPartIn};
-ghost use Rattle.qm_split.specs.inner.FacePieces.{solid_behind, IsFacePiece, HasNoFacePoint};
+ghost use Rattle.qm_split.specs.inner.FacePieces.{solid_behind, IsFacePiece, HasNoFacePoint, HasAllBehind};
 
-use crate::contender::{Contender, Part, least_of};
+use crate::contender::{Body, Contender, Part, least_of};
 use crate::piece::{Piece, numbered, push_some};
 use crate::section::kept;
 use qm_contents::Contents;
-use qm_geom::{Plane, PlaneBook};
+use qm_geom::{Cuboid, Plane, PlaneBook};
 use qm_solids::FaceRef;
 use qm_wind::{Side, Winding};
 use std::alloc::{AllocError, Global};
@@ -34,11 +34,19 @@ pub(crate) fn part_in_cube(
         return Ok(Part::Containing(contents));
     };
     let outward = outward_planes(alloc, faces, book)?;
+    let cuboid = cuboid_behind(&outward);
+    let body = Box::new(
+        alloc,
+        Body {
+            cuboid,
+            outward,
+            pieces,
+        },
+    )?;
     Ok(Part::Kept(Contender {
         contents,
         least,
-        outward,
-        pieces,
+        body,
     }))
 }
 
@@ -56,6 +64,17 @@ fn outward_planes(
         planes.push(outward_of(face, book))?;
     }
     Ok(planes)
+}
+
+/// A cuboid that has all of the cube that is in front of none of these planes.
+fn cuboid_behind(outward: &[Plane]) -> Cuboid
+    ensures { HasAllBehind result outward.now }
+{
+    let mut cuboid = Cuboid::whole();
+    for face in outward {
+        cuboid = cuboid.tightened(&face.flipped());
+    }
+    cuboid
 }
 
 /// The outward plane of a face.

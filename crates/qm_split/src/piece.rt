@@ -1,6 +1,6 @@
 ghost use Rattle.std.specs.Prelude.{◌≡◌, true, Contains, IfOk, IsOk, OnOk, Option, Some, option_to_list, ◌++◌};
 ghost use Rattle.qm_space.specs.Plane.{flipped};
-ghost use Rattle.qm_split.specs.inner.PieceParts.{IsPartOf, AreFront, IsNumberedPiece, IsLyingPiece};
+ghost use Rattle.qm_split.specs.inner.PieceParts.{IsPartOf, AreFront, IsNumberedPiece, IsLyingPiece, is_on};
 ghost use Rattle.qm_split.specs.inner.Ranked.{IsRankOf};
 
 use crate::rank::{Rank, is_axial};
@@ -38,6 +38,14 @@ impl Piece {
             axial: is_axial(&self.winding.plane()),
             number: self.number,
         }
+    }
+
+    /// Whether it lies in a plane.
+    pub(crate) fn is_on(&self, plane: &Plane) -> bool
+        ensures { result ≡ is_on plane.now self.now }
+    {
+        let own = self.winding.plane();
+        own == *plane || own == plane.flipped()
     }
 
     /// Whether it lies in such a way beside a plane, where its cuboid tells: the plane goes through that of any other.

@@ -14,6 +14,6 @@ invariant-loop-contender l = record {
       IsGathered book (cell ++ l.plane ∷ []) l.fn.self.strongest (map solid_of l.yielded) l.front;
   back : (book cell : List Plane) → All (IsContender book cell) l.yielded → IsSection cell l.plane l.section →
       IsGathered book (cell ++ flipped l.plane ∷ []) l.fn.self.strongest (map solid_of l.yielded) l.back;
-  front_count : HasFewer l.yielded l.plane l.front;
-  back_count : HasFewer l.yielded l.plane l.back;
+  front_count : (book cell : List Plane) → All (IsContender book cell) l.yielded → HasFewer l.yielded l.plane l.front;
+  back_count : (book cell : List Plane) → All (IsContender book cell) l.yielded → HasFewer l.yielded l.plane l.back;
 }
