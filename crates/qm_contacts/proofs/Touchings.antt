@@ -5,6 +5,7 @@ use Rattle.qm_lists.proofs.Elements.{Contains-first, Contains-later, Contains-co
 use Rattle.qm_lists.proofs.EachPair.{EachPair}
 use Rattle.qm_space.specs.Point.{Point}
 use Rattle.qm_space.specs.Plane.{Plane}
+use Rattle.qm_space.proofs.Cubes.{cube_in_closed}
 use Rattle.qm_convex.specs.World.{IsInWorld}
 use Rattle.qm_convex.proofs.Central.{has_a_point}
 use Rattle.qm_partition.specs.Tree.{Tree}
@@ -16,7 +17,7 @@ use Rattle.qm_contacts.proofs.Meetings.{IsBefore, IsBetween, meetings_between, m
 
 -- a polygon of contact lies in the world
 pub touching_in_world : (planes : List Plane) (meeting : Meeting) (found : Touching) → IsTouching planes meeting found → IsInWorld found.winding
-touching_in_world planes meeting found is = record { convex = is.convex; inside = λ x r. ((is.points x).0 r).in_cube }
+touching_in_world planes meeting found is = record { convex = is.convex; inside = λ x r. cube_in_closed x ((is.points x).0 r).in_cube }
 
 -- a meeting with a contact is in the list
 pub touching_of_meeting : (planes : List Plane) (all : List Meeting) (touchings : List Touching) (meeting : Meeting) (x : Point) → AreTouchings planes all touchings → Contains all meeting → IsContact planes meeting x → (found : Touching) × Contains touchings found × IsTouching planes meeting found

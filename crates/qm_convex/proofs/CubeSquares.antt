@@ -1,5 +1,5 @@
 -- The cube's faces as squares: the part of each wall between the walls across the two other axes.
-use Rattle.std.proofs.Common.{◌≡◌, pos, ◌<ℤ◌, List, [], ◌∷◌, All, refl, ap, arith}
+use Rattle.std.proofs.Common.{◌≡◌, pos, ◌<ℤ◌, List, [], ◌∷◌, All, refl, sym, ap, subst, arith}
 use Rattle.std.specs.List.{AllZip}
 use Rattle.std.proofs.lemmas.Int.{ints}
 use Rattle.std.proofs.lemmas.List.Elements.{All-from_recursion}
@@ -69,3 +69,10 @@ cube_faces = square wall_x wall_y wall_z ∷ square wall_y wall_z wall_x ∷ squ
 
 pub are_cube_faces : AllZip IsCubeFace cube_faces cube_walls
 are_cube_faces = (near_x, (near_y, (near_z, (far_x, (far_y, (far_z, tt))))))
+
+-- planes that are a wall and two others give its face
+pub face_of_same : (h a b wall first second : Plane) → h ≡ wall → a ≡ first → b ≡ second → IsCubeFace (square wall first second) wall → IsCubeFace (square h a b) h
+face_of_same h a b wall first second eh ea eb is =
+    subst (λ (p : Plane). IsCubeFace (square p a b) p) (sym eh)
+    (subst (λ (p : Plane). IsCubeFace (square wall p b) wall) (sym ea)
+    (subst (λ (p : Plane). IsCubeFace (square wall first p) wall) (sym eb) is))

@@ -3,7 +3,7 @@ use Rattle.std.proofs.Common.{◌≡◌, ℕ, zero, suc, ◌<◌, pos, neg_ℤ, 
 use Rattle.std.specs.List.{All}
 use Rattle.std.proofs.lemmas.List.Elements.{All-from_recursion}
 use Rattle.qm_space.specs.Point.{Point, IsWithinExtent, IsInCube}
-use Rattle.qm_space.specs.Plane.{Plane, value, IsOn, IsInFront}
+use Rattle.qm_space.specs.Plane.{Plane, value, flipped, IsOn, IsInFront, IsNotBehind}
 use Rattle.qm_space.specs.Determinant.{determinant}
 use Rattle.qm_space.specs.Meet.{meet}
 use Rattle.qm_numbers.proofs.IntegerProducts.{linear}
@@ -13,12 +13,14 @@ use Rattle.qm_space.proofs.PlaneSymbols.{plane_from, numbers_of_plane, symbol_me
 use Rattle.qm_convex.specs.Winding.{Winding, next_place, edge_at, corner_at, corners, IsConvex, IsInRegion}
 use Rattle.qm_convex.specs.Cut.{IsPartInFront}
 use Rattle.qm_convex.specs.Sides.{HasNoneInFront}
-use Rattle.qm_convex.specs.World.{MissesCube, IsWorldPart, IsInWorld}
+use Rattle.qm_convex.specs.World.{MissesCube, IsWorldPart, IsInWorld, IsCubeFace}
 use Rattle.qm_convex.specs.inner.Square.{IsBetweenMirrored, square, AreWalls}
 use Rattle.qm_space.specs.Cube.{mirrored, wall_x, wall_y, wall_z, cube_walls, IsInClosedCube}
-use Rattle.qm_space.proofs.Cubes.{symbol_mirrored, symbol_wall_x, symbol_wall_y, symbol_wall_z, mirrored_sum, x_low, x_high, y_low, y_high, z_low, z_high, cube_is_cell, closed_from_walls}
+use Rattle.qm_space.proofs.Cubes.{symbol_mirrored, symbol_wall_x, symbol_wall_y, symbol_wall_z, mirrored_sum, x_low, x_high, y_low, y_high, z_low, z_high, closed_from_walls, walls_from_closed, cube_in_closed}
+use Rattle.qm_space.proofs.CubeFaces.{face_in_closed}
+use Rattle.qm_space.proofs.Planes.{value_flipped}
 use Rattle.qm_convex.proofs.Corners.{corner_on_edge, corner_on_next}
-use Rattle.qm_convex.proofs.Central.{wholly_in_front}
+use Rattle.qm_convex.proofs.Central.{none_in_front}
 
 -- ---- mirrored planes
 
@@ -212,10 +214,13 @@ module _ (h a b c : Plane) (walls : AreWalls a b c) where
           let s = (walls p).0 i in
           (y.points p).1 ((x.points p).1 ((square_region h a b p).1 (s.0, on, s.1, s.2), s.3.near), s.3.far)
 
--- ---- windings inside the cube
+-- ---- windings in the cube or on its walls
 
 pub world_part_in_world : (w : Winding) (h : Plane) → IsWorldPart w h → IsInWorld w
-world_part_in_world w h x = record { convex = x.convex; inside = λ p r. ((x.points p).0 r).1 }
+world_part_in_world w h x = record { convex = x.convex; inside = λ p r. cube_in_closed p ((x.points p).0 r).1 }
+
+pub face_in_world : (w : Winding) (wall : Plane) → IsCubeFace w wall → IsInWorld w
+face_in_world w wall x = record { convex = x.convex; inside = λ p r. face_in_closed wall p ((x.points p).0 r) }
 
 pub part_in_world : (w v : Winding) (g : Plane) → IsInWorld v → IsPartInFront w v g → IsInWorld w
 part_in_world w v g i x = record { convex = x.convex; inside = λ p r. i.inside p ((x.points p).0 r).0 }
@@ -224,4 +229,10 @@ part_in_world w v g i x = record { convex = x.convex; inside = λ p r. i.inside 
 pub corner_in_closed_cube : (v : Winding) → IsInWorld v → (i : ℕ) → i < length v.edges → IsInClosedCube (corner_at v i)
 corner_in_closed_cube v world i h =
     closed_from_walls (corner_at v i) (world.convex.weight i h)
-    (λ k d l. ((wholly_in_front v (slice_index_or cube_walls k d) world.convex).0 (λ p r. (cube_is_cell p).0 (world.inside p r) k d l)).0 i h)
+    (λ k d l. not_behind (slice_index_or cube_walls k d) (λ p r. walls_from_closed p (world.inside p r) k d l))
+  where
+    not_behind : (g : Plane) → ((p : Point) → IsInRegion v p → IsNotBehind g p) → IsNotBehind g (corner_at v i)
+    not_behind g none =
+        let m = (none_in_front v (flipped g) world.convex).0 (λ p r. let e = value_flipped g p in let n = none p r in omega (arith, linear)) i h in
+        let e = value_flipped g (corner_at v i) in
+        omega (arith, linear)

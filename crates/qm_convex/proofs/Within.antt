@@ -5,9 +5,9 @@ use Rattle.qm_numbers.proofs.IntegerProducts.{linear}
 use Rattle.qm_numbers.proofs.Signs.{product_positive, product_not_negative, product_not_positive, negative_times_positive}
 use Rattle.qm_space.specs.Point.{Point}
 use Rattle.qm_space.specs.Plane.{Plane, value, flipped}
-use Rattle.qm_space.specs.Cuboid.{Cuboid, whole_cuboid, least_value, greatest_value, IsTightened}
+use Rattle.qm_space.specs.Cuboid.{Cuboid, whole_cuboid, least_value, greatest_value, IsTightened, IsTightenedOn}
 use Rattle.qm_space.proofs.Planes.{value_flipped}
-use Rattle.qm_space.proofs.Cuboids.{least_value_bound, greatest_value_bound, cube_in_whole}
+use Rattle.qm_space.proofs.Cuboids.{least_value_bound, greatest_value_bound, closed_cube_in_whole}
 use Rattle.qm_convex.specs.Winding.{Winding, IsInRegion}
 use Rattle.qm_convex.specs.Sides.{HasNoneInFront, IsWhollyInFront, LiesIn}
 use Rattle.qm_convex.specs.Cut.{IsPartInFront}
@@ -45,7 +45,7 @@ module _ (v : Winding) (c : Cuboid) (g : Plane) (w : LiesWithin v c) where
 -- ---- cuboids of windings
 
 pub world_within : (v : Winding) → IsInWorld v → LiesWithin v whole_cuboid
-world_within v i p r = cube_in_whole p (i.inside p r)
+world_within v i p r = closed_cube_in_whole p (i.inside p r)
 
 weight_not_negative : (v : Winding) (p : Point) → IsInRegion v p → pos 0 ≤ℤ p.w
 weight_not_negative v p r = let k = r.weight in omega (arith, linear)
@@ -56,16 +56,6 @@ part_within w v g c t l part k p r =
     let s = (part.points p).0 r in
     k p (weight_not_negative w p r) (l p s.0) (let f = s.1 in omega (arith, linear))
 
--- and a winding within what is left on either side of a plane in which it lies
-pub on_within : (v : Winding) (g : Plane) (c t : Cuboid) → LiesWithin v c → LiesIn v g → IsTightened t c g → LiesWithin v t
-on_within v g c t l on k p r = k p (weight_not_negative v p r) (l p r) (let f = on p r in omega (arith, linear))
-
--- so the part of a plane in the cube lies within what both sides leave of the closed cube
-pub world_part_within : (w : Winding) (h : Plane) (t u : Cuboid) → IsInWorld w → w.plane ≡ h → IsTightened t whole_cuboid h → IsTightened u t (flipped h) → LiesWithin w u
-world_part_within w h t u i e k l = on_within w (flipped h) t u (on_within w h whole_cuboid t (world_within w i) on k) turned l
-  where
-    on : LiesIn w h
-    on p r = ap (λ (g : Plane). value g p) (sym e) ∙ r.on
-
-    turned : LiesIn w (flipped h)
-    turned p r = let f = on p r in let m = value_flipped h p in omega (arith, linear)
+-- and a winding within what is left of it on its plane
+pub own_within : (v : Winding) (h : Plane) (c t : Cuboid) → LiesWithin v c → v.plane ≡ h → IsTightenedOn t c h → LiesWithin v t
+own_within v h c t l e k p r = k p (weight_not_negative v p r) (l p r) (ap (λ (g : Plane). value g p) (sym e) ∙ r.on)

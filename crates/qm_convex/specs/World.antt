@@ -2,7 +2,7 @@ use Rattle.std.specs.Prelude.{◌≡◌, ◌↔◌}
 use Rattle.qm_space.specs.Point.{Point, IsInCube}
 use Rattle.qm_space.specs.Plane.{Plane, IsOn}
 use Rattle.qm_space.specs.Cuboid.{Cuboid, IsInCuboid}
-use Rattle.qm_space.specs.Cube.{IsOnCubeFace}
+use Rattle.qm_space.specs.Cube.{IsInClosedCube, IsOnCubeFace}
 use Rattle.qm_convex.specs.Winding.{Winding, IsInRegion, IsConvex}
 
 -- no point of the world's cube is on the plane
@@ -15,10 +15,10 @@ pub record IsWorldPart (w : Winding) (h : Plane) : Type 0 where
   pub plane : w.plane ≡ h
   pub points : (p : Point) → IsInRegion w p ↔ (IsOn h p × IsInCube p)
 
--- a convex polygon inside the world's cube
+-- a convex polygon in the world's cube or on its walls
 pub record IsInWorld (v : Winding) : Type 0 where
   pub convex : IsConvex v
-  pub inside : (p : Point) → IsInRegion v p → IsInCube p
+  pub inside : (p : Point) → IsInRegion v p → IsInClosedCube p
 
 -- each point of the winding lies in the cuboid
 abbrev pub LiesWithin : Winding → Cuboid → Type 0

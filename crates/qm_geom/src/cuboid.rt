@@ -1,14 +1,13 @@
-ghost use Rattle.std.specs.Prelude.{◌≡◌, ◌≤◌, ◌*◌, ◌^◌, ℤ, pos, negsuc, neg_ℤ, ◌*ℤ◌, ◌≤ℤ◌, ◌⊎◌, unsigned_abs};
+ghost use Rattle.std.specs.Prelude.{◌≡◌, ◌≤◌, ◌*◌, ◌^◌, ℤ, pos, negsuc, neg_ℤ, ◌*ℤ◌, ◌≤ℤ◌, ◌<ℤ◌, ◌⊎◌, unsigned_abs};
+ghost use Rattle.qm_numbers.specs.Rounding.{IsRoundedDown};
 ghost use Rattle.qm_space.specs.Bounds.{normal_bound, distance_bound};
 ghost use Rattle.qm_space.specs.Point.{Point, IsCoordinate};
 ghost use Rattle.qm_space.specs.Plane.{value};
-ghost use Rattle.qm_space.specs.Cuboid.{IsInSpan, IsInCuboid, whole_span, whole_cuboid, least_product, greatest_product, least_value, greatest_value, IsTightened, IsTightenedSpan};
+ghost use Rattle.qm_space.specs.Cuboid.{IsInSpan, IsInCuboid, whole_span, whole_cuboid, least_product, greatest_product, least_value, greatest_value, IsTightened, IsTightenedOn, IsTightenedSpan};
 
 use crate::plane::Plane;
+use qm_space::WORLD_EXTENT;
 use std::marker::Model;
-
-/// The coordinates of the world lie strictly between this number and its opposite.
-pub const WORLD_EXTENT: i32 = 4096;
 
 /// From one whole coordinate of the closed cube to another, both included.
 #[derive(Clone, Copy)]
@@ -40,17 +39,21 @@ impl Span {
         }
     }
 
-    /// What is, times a component, at least a distance, where the component is 1 or -1; else the span.
-    fn tightened(self, component: i32, distance: i64) -> Span
+    /// What is, times a component, at least a number, rounded outward. The span itself where that is all
+    /// of it.
+    fn tightened(self, component: i32, least: i64) -> Span
         requires component_small { unsigned_abs component ≤ normal_bound }
-        requires distance_small { unsigned_abs distance ≤ distance_bound }
-        ensures { IsTightenedSpan result self component distance }
+        requires least_small { unsigned_abs least ≤ 2 ^ 45 }
+        ensures { IsTightenedSpan result self component least }
     {
-        if component == 1 {
-            return self.from(distance);
+        if self.least_product(component) >= least {
+            return self;
         }
-        if component == -1 {
-            return self.up_to(-distance);
+        if component > 0 {
+            return self.from(rounded_down(least, i64::from(component)));
+        }
+        if component < 0 {
+            return self.up_to(-rounded_down(least, -i64::from(component)));
         }
         self
     }
@@ -140,6 +143,16 @@ fn times(component: i32, coordinate: i32) -> i64
     i64::from(component) * i64::from(coordinate)
 }
 
+/// The greatest whole number that is, times a factor, at most a number.
+fn rounded_down(number: i64, factor: i64) -> i64
+    requires factor_positive { pos 0 <ℤ factor }
+    requires number_small { unsigned_abs number ≤ 2 ^ 45 }
+    ensures exact { IsRoundedDown number factor result }
+    ensures size { unsigned_abs result ≤ 2 ^ 45 }
+{
+    number.div_euclid(factor)
+}
+
 /// A span across each axis: of something in the closed cube, all its points lie in it.
 #[derive(Clone, Copy)]
 pub struct Cuboid {
@@ -192,32 +205,25 @@ impl Cuboid {
         of_x + of_y + of_z - plane.d
     }
 
-    /// A cuboid that has all of this one that is not behind a plane: tightened where the plane stands
-    /// across an axis at a whole number, else as it is.
+    /// A cuboid that has all of this one that is not behind a plane: across each axis by what the two
+    /// others leave of the distance.
     pub fn tightened(self, plane: &Plane) -> Cuboid
         ensures { IsTightened result self plane.now }
     {
-        if plane.ny == 0 && plane.nz == 0 {
-            return Cuboid {
-                x: self.x.tightened(plane.nx, plane.d),
-                y: self.y,
-                z: self.z,
-            };
+        let of_x = self.x.greatest_product(plane.nx);
+        let of_y = self.y.greatest_product(plane.ny);
+        let of_z = self.z.greatest_product(plane.nz);
+        Cuboid {
+            x: self.x.tightened(plane.nx, plane.d - of_y - of_z),
+            y: self.y.tightened(plane.ny, plane.d - of_z - of_x),
+            z: self.z.tightened(plane.nz, plane.d - of_x - of_y),
         }
-        if plane.nx == 0 && plane.nz == 0 {
-            return Cuboid {
-                x: self.x,
-                y: self.y.tightened(plane.ny, plane.d),
-                z: self.z,
-            };
-        }
-        if plane.nx == 0 && plane.ny == 0 {
-            return Cuboid {
-                x: self.x,
-                y: self.y,
-                z: self.z.tightened(plane.nz, plane.d),
-            };
-        }
-        self
+    }
+
+    /// A cuboid that has all of this one that is on a plane.
+    pub fn tightened_on(self, plane: &Plane) -> Cuboid
+        ensures { IsTightenedOn result self plane.now }
+    {
+        self.tightened(plane).tightened(&plane.flipped())
     }
 }

@@ -17,7 +17,7 @@ mod unreduced;
 mod vector;
 
 pub use corner::Corner;
-pub use cuboid::{Cuboid, Span, WORLD_EXTENT};
+pub use cuboid::{Cuboid, Span};
 pub use distance::least_distance;
 pub use line::Line;
 pub use one_line::are_on_one_line;

@@ -1,14 +1,16 @@
--- Two walls of the cube with the same sides are one wall.
-use Rattle.std.proofs.Common.{◌≡◌, ℤ, pos, neg_ℤ, ◌-ℤ◌, ◌*ℤ◌, ◌<ℤ◌, List, [], ◌∷◌, All, Contains, refl, sym, ap, ◌∙◌, arith, subst}
+-- Two walls of the cube with the same sides are one wall; its faces lie in the closed cube.
+use Rattle.std.proofs.Common.{◌≡◌, ℤ, pos, neg_ℤ, ◌-ℤ◌, ◌*ℤ◌, ◌<ℤ◌, ◌≤ℤ◌, get_or, All, Contains, refl, sym, ap, ◌∙◌, arith}
 use Rattle.std.proofs.lemmas.Int.{ints}
 use Rattle.std.proofs.lemmas.List.Elements.{All-from_recursion, All-contains}
 use Rattle.qm_space.specs.Bounds.{extent}
-use Rattle.qm_space.specs.Plane.{Plane, scaled}
+use Rattle.qm_space.specs.Point.{Point}
+use Rattle.qm_space.specs.Plane.{Plane, value, scaled}
 use Rattle.qm_space.specs.Multiple.{HasSameSides}
-use Rattle.qm_space.specs.Cube.{cube_walls}
-use Rattle.qm_numbers.proofs.IntegerProducts.{linear, *ℤ-neg}
+use Rattle.qm_space.specs.Cube.{cube_walls, IsInClosedCube, IsOnCubeFace}
+use Rattle.qm_numbers.proofs.IntegerProducts.{linear}
 use Rattle.qm_numbers.proofs.Signs.{by_zero, cancel_equal}
 use Rattle.qm_space.proofs.ReducedPlanes.{same_plane}
+use Rattle.qm_space.proofs.Cubes.{closed_from_walls}
 
 -- integers, and planes, are equal or not
 by_equal : {P : Type 0} (a b : ℤ) → (a ≡ b → P) → ((a ≡ b → ⊥) → P) → P
@@ -50,3 +52,12 @@ same_at_distance g h same at_g at_h = same_plane g h (number g.nx h.nx (ap (λ (
 pub one_wall : (g h : Plane) → Contains cube_walls g → Contains cube_walls h → HasSameSides g h → g ≡ h
 one_wall g h is_g is_h same =
     same_at_distance g h same (All-contains (λ p. p.d ≡ neg_ℤ extent) cube_walls g at_one_distance is_g) (All-contains (λ p. p.d ≡ neg_ℤ extent) cube_walls h at_one_distance is_h)
+
+-- a face lies in the closed cube
+pub face_in_closed : (wall : Plane) (x : Point) → IsOnCubeFace wall x → IsInClosedCube x
+face_in_closed wall x face = closed_from_walls x face.weight (λ place d there. beside (get_or cube_walls place d) (face.inside place d there))
+  where
+    beside : (g : Plane) → ((g ≡ wall → ⊥) → pos 0 <ℤ value g x) → pos 0 ≤ℤ value g x
+    beside g front = by_same_plane g wall
+        (λ e. let on = ap (λ (h : Plane). value h x) e ∙ face.on in omega (arith, linear, on))
+        (λ other. let f = front other in omega (arith, linear, f))

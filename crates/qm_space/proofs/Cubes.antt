@@ -108,6 +108,25 @@ closed_from_walls p w a =
       z = record { above = omega (arith, linear); below = omega (arith, linear) };
     }
 
+-- and the closed cube has no point behind a wall
+pub walls_from_closed : (p : Point) → IsInClosedCube p → All (λ h. pos 0 ≤ℤ value h p) cube_walls
+walls_from_closed p c =
+    let xl = x_low p in let xh = x_high p in let yl = y_low p in let yh = y_high p in let zl = z_low p in let zh = z_high p in
+    let xa = c.x.above in let xb = c.x.below in let ya = c.y.above in let yb = c.y.below in let za = c.z.above in let zb = c.z.below in
+    All-from_recursion (λ h. pos 0 ≤ℤ value h p) cube_walls
+    (omega (arith, linear), (omega (arith, linear), (omega (arith, linear), (omega (arith, linear), (omega (arith, linear), (omega (arith, linear), tt))))))
+
+-- the cube is in the closed cube
+pub cube_in_closed : (p : Point) → IsInCube p → IsInClosedCube p
+cube_in_closed p c =
+    let xa = c.x.above in let xb = c.x.below in let ya = c.y.above in let yb = c.y.below in let za = c.z.above in let zb = c.z.below in
+    record {
+      weight = c.weight;
+      x = record { above = omega (arith, linear); below = omega (arith, linear) };
+      y = record { above = omega (arith, linear); below = omega (arith, linear) };
+      z = record { above = omega (arith, linear); below = omega (arith, linear) };
+    }
+
 -- the origin is in front of each wall
 origin_row : IsInCell cube_walls (record { x = pos 0; y = pos 0; z = pos 0; w = pos 1 })
 origin_row = (cube_is_cell (record { x = pos 0; y = pos 0; z = pos 0; w = pos 1 })).0 record {

@@ -4,11 +4,13 @@ use Rattle.std.proofs.Common.{◌≡◌, ◌≤◌, ◌^◌, ℤ, pos, negsuc, n
 use Rattle.std.proofs.lemmas.Int.{ints}
 use Rattle.std.proofs.Math.IntN.{*ℤ_comm}
 use Rattle.qm_space.specs.Bounds.{extent, normal_bound}
-use Rattle.qm_space.specs.Point.{Point, IsCoordinate, IsInCube}
-use Rattle.qm_space.specs.Plane.{Plane, value}
-use Rattle.qm_space.specs.Cuboid.{Span, Cuboid, IsInSpan, IsInCuboid, whole_span, whole_cuboid, least_product, greatest_product, least_value, greatest_value, IsTightened, IsTightenedSpan}
+use Rattle.qm_space.specs.Point.{Point, IsCoordinate}
+use Rattle.qm_space.specs.Cube.{IsInClosedCube}
+use Rattle.qm_space.specs.Plane.{Plane, value, flipped}
+use Rattle.qm_space.specs.Cuboid.{Span, Cuboid, IsInSpan, IsInCuboid, whole_span, whole_cuboid, least_product, greatest_product, least_value, greatest_value, IsTightened, IsTightenedOn, IsTightenedSpan}
 use Rattle.qm_numbers.proofs.IntegerProducts.{linear, *ℤ_assoc, one_*ℤ, zero_*ℤ, +ℤ-*ℤ, -ℤ-*ℤ, neg-*ℤ}
-use Rattle.qm_numbers.proofs.Signs.{side_test, times_at_most, abs_product_bound}
+use Rattle.qm_numbers.proofs.Signs.{side_test, times_at_most, cancel_at_most, abs_product_bound}
+use Rattle.qm_space.proofs.Planes.{value_flipped}
 use Rattle.qm_space.proofs.PlanesThroughPoints.{coordinate_small}
 
 -- ---- products with the numbers of a span
@@ -67,10 +69,10 @@ greatest_value_bound h c p i =
 
 -- ---- the closed cube
 
-pub cube_in_whole : (p : Point) → IsInCube p → IsInCuboid whole_cuboid p
-cube_in_whole p c = record { x = within p.x c.x.above c.x.below; y = within p.y c.y.above c.y.below; z = within p.z c.z.above c.z.below }
+pub closed_cube_in_whole : (p : Point) → IsInClosedCube p → IsInCuboid whole_cuboid p
+closed_cube_in_whole p c = record { x = within p.x c.x.above c.x.below; y = within p.y c.y.above c.y.below; z = within p.z c.z.above c.z.below }
   where
-    within : (x : ℤ) → neg_ℤ (extent *ℤ p.w) <ℤ x → x <ℤ (extent *ℤ p.w) → IsInSpan whole_span x p.w
+    within : (x : ℤ) → neg_ℤ (extent *ℤ p.w) ≤ℤ x → x ≤ℤ (extent *ℤ p.w) → IsInSpan whole_span x p.w
     within x a b = let e = neg-*ℤ extent p.w in record { above = omega (arith, linear); below = omega (arith, linear) }
 
 -- ---- sizes
@@ -93,25 +95,36 @@ up_to_kept span greatest high h c w pw s l = ⊎_elim
     (λ k. let p = times_at_most w greatest high pw k in let e = *ℤ_comm w high in let f = *ℤ_comm w greatest in let n = neg-*ℤ greatest w in let o = neg-*ℤ (pos 1) c in let q = one_*ℤ c in record { above = s.above; below = omega (arith, linear) })
     h
 
--- a value whose two other components are 0
-alone_x : (h : Plane) (p : Point) → h.ny ≡ pos 0 → h.nz ≡ pos 0 → value h p ≡ (h.nx *ℤ p.x) -ℤ (h.d *ℤ p.w)
+-- what both sides of a plane leave of a cuboid has all of it that is on the plane
+pub tightened_twice : (t u c : Cuboid) (h g : Plane) → IsTightened t c h → g ≡ flipped h → IsTightened u t g → IsTightenedOn u c h
+tightened_twice t u c h g k e l p w i on =
+    let n = ap (λ (f : Plane). value f p) e ∙ value_flipped h p in
+    l p w (k p w i (omega (arith, linear, on))) (omega (arith, linear, n, on))
+
+-- a span tightened by a unit is tightened by a multiple of it, where the number times that is at most another
+pub tightened_multiple : (t span : Span) (u m q least : ℤ) → pos 0 <ℤ m → (q *ℤ m) ≤ℤ least → IsTightenedSpan t span u q → IsTightenedSpan t span (m *ℤ u) least
+tightened_multiple t span u m q least p h k c w pw s l =
+    let a = times_at_most w (q *ℤ m) least pw h in
+    let e = *ℤ_comm w (q *ℤ m) in let f = *ℤ_comm w least in
+    let g = *ℤ_assoc q m w in let i = ap (λ (n : ℤ). q *ℤ n) (*ℤ_comm m w) in
+    let j = *ℤ_assoc q w m in let n = *ℤ_comm m (q *ℤ w) in let o = *ℤ_assoc m u c in
+    k c w pw s (cancel_at_most m (q *ℤ w) (u *ℤ c) p (omega (arith, linear)))
+
+-- a cuboid by a plane: across each axis by what the two others leave of the distance
+left_times : (d a b w : ℤ) → ((d -ℤ a) -ℤ b) *ℤ w ≡ ((d *ℤ w) -ℤ (a *ℤ w)) -ℤ (b *ℤ w)
+left_times d a b w = let e = -ℤ-*ℤ (d -ℤ a) b w in let f = -ℤ-*ℤ d a w in omega (arith, linear)
+
+pub tightened_cuboid : (c : Cuboid) (h : Plane) (x y z : Span) →
+    IsTightenedSpan x c.x h.nx ((h.d -ℤ greatest_product h.ny c.y) -ℤ greatest_product h.nz c.z) →
+    IsTightenedSpan y c.y h.ny ((h.d -ℤ greatest_product h.nz c.z) -ℤ greatest_product h.nx c.x) →
+    IsTightenedSpan z c.z h.nz ((h.d -ℤ greatest_product h.nx c.x) -ℤ greatest_product h.ny c.y) →
+    IsTightened (record { x = x; y = y; z = z }) c h
 unfolding value
-alone_x h p y z = let a = ap (λ n. n *ℤ p.y) y ∙ zero_*ℤ p.y in let b = ap (λ n. n *ℤ p.z) z ∙ zero_*ℤ p.z in omega (arith, linear)
-
-alone_y : (h : Plane) (p : Point) → h.nx ≡ pos 0 → h.nz ≡ pos 0 → value h p ≡ (h.ny *ℤ p.y) -ℤ (h.d *ℤ p.w)
-unfolding value
-alone_y h p x z = let a = ap (λ n. n *ℤ p.x) x ∙ zero_*ℤ p.x in let b = ap (λ n. n *ℤ p.z) z ∙ zero_*ℤ p.z in omega (arith, linear)
-
-alone_z : (h : Plane) (p : Point) → h.nx ≡ pos 0 → h.ny ≡ pos 0 → value h p ≡ (h.nz *ℤ p.z) -ℤ (h.d *ℤ p.w)
-unfolding value
-alone_z h p x y = let a = ap (λ n. n *ℤ p.x) x ∙ zero_*ℤ p.x in let b = ap (λ n. n *ℤ p.y) y ∙ zero_*ℤ p.y in omega (arith, linear)
-
--- the span across the axis on which a plane stands tightens a cuboid
-pub tightened_x : (c : Cuboid) (h : Plane) (t : Span) → h.ny ≡ pos 0 → h.nz ≡ pos 0 → IsTightenedSpan t c.x h.nx h.d → IsTightened (record { x = t; y = c.y; z = c.z }) c h
-tightened_x c h t y z k p w i l = let e = alone_x h p y z in record { x = k p.x p.w w i.x (omega (arith, linear)); y = i.y; z = i.z }
-
-pub tightened_y : (c : Cuboid) (h : Plane) (t : Span) → h.nx ≡ pos 0 → h.nz ≡ pos 0 → IsTightenedSpan t c.y h.ny h.d → IsTightened (record { x = c.x; y = t; z = c.z }) c h
-tightened_y c h t x z k p w i l = let e = alone_y h p x z in record { x = i.x; y = k p.y p.w w i.y (omega (arith, linear)); z = i.z }
-
-pub tightened_z : (c : Cuboid) (h : Plane) (t : Span) → h.nx ≡ pos 0 → h.ny ≡ pos 0 → IsTightenedSpan t c.z h.nz h.d → IsTightened (record { x = c.x; y = c.y; z = t }) c h
-tightened_z c h t x y k p w i l = let e = alone_z h p x y in record { x = i.x; y = i.y; z = k p.z p.w w i.z (omega (arith, linear)) }
+tightened_cuboid c h x y z of_x of_y of_z p w i l =
+    let a = greatest_product_bound h.nx c.x p.x p.w i.x in
+    let b = greatest_product_bound h.ny c.y p.y p.w i.y in
+    let d = greatest_product_bound h.nz c.z p.z p.w i.z in
+    let e = left_times h.d (greatest_product h.ny c.y) (greatest_product h.nz c.z) p.w in
+    let f = left_times h.d (greatest_product h.nz c.z) (greatest_product h.nx c.x) p.w in
+    let g = left_times h.d (greatest_product h.nx c.x) (greatest_product h.ny c.y) p.w in
+    record { x = of_x p.x p.w w i.x (omega (arith, linear)); y = of_y p.y p.w w i.y (omega (arith, linear)); z = of_z p.z p.w w i.z (omega (arith, linear)) }

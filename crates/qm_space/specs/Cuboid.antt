@@ -1,7 +1,7 @@
 use Rattle.std.specs.Prelude.{ℤ, pos, neg_ℤ, ◌+ℤ◌, ◌-ℤ◌, ◌*ℤ◌, ◌≤ℤ◌, int_lt, if◌then◌else◌}
 use Rattle.qm_space.specs.Bounds.{extent}
 use Rattle.qm_space.specs.Point.{Point, IsCoordinate}
-use Rattle.qm_space.specs.Plane.{Plane, IsNotBehind}
+use Rattle.qm_space.specs.Plane.{Plane, IsOn, IsNotBehind}
 
 -- from one whole number to another, both included
 pub record Span : Type 0 where
@@ -54,6 +54,10 @@ greatest_value h c = ((greatest_product h.nx c.x +ℤ greatest_product h.ny c.y)
 -- the cuboid t has all of the cuboid c that is not behind a plane
 abbrev pub IsTightened : Cuboid → Cuboid → Plane → Type 0
 IsTightened t c h = (p : Point) → pos 0 ≤ℤ p.w → IsInCuboid c p → IsNotBehind h p → IsInCuboid t p
+
+-- the cuboid t has all of the cuboid c that is on a plane
+abbrev pub IsTightenedOn : Cuboid → Cuboid → Plane → Type 0
+IsTightenedOn t c h = (p : Point) → pos 0 ≤ℤ p.w → IsInCuboid c p → IsOn h p → IsInCuboid t p
 
 -- the span t has all of a span that is, times a number n, at least d
 abbrev pub IsTightenedSpan : Span → Span → ℤ → ℤ → Type 0

@@ -5,3 +5,4 @@ pub mod Clips
 pub mod WallsAcross
 pub mod Worlds
 pub mod Beside
+pub mod SixFaces

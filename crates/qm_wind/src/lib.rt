@@ -3,6 +3,7 @@
 #![tactic(auto)]
 
 mod circle;
+mod faces;
 mod found;
 mod halves;
 pub mod laws;

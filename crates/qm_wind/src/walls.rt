@@ -2,7 +2,8 @@ ghost use Rattle.std.specs.Prelude.{◌≡◌};
 ghost use Rattle.qm_space.specs.Cube.{mirrored, wall_x, wall_y, wall_z};
 ghost use Rattle.qm_wind.specs.inner.Across.{StandAcross};
 
-use qm_geom::{Plane, WORLD_EXTENT};
+use qm_geom::Plane;
+use qm_space::WORLD_EXTENT;
 use std::cmp::Ordering;
 
 /// The distance of the walls whose normals lead along an axis.
@@ -29,7 +30,7 @@ pub(crate) fn mirrored(wall: &Plane) -> Plane
     }
 }
 
-fn wall_x() -> Plane
+pub(crate) fn wall_x() -> Plane
     ensures { result ≡ wall_x }
 {
     Plane {
@@ -40,7 +41,7 @@ fn wall_x() -> Plane
     }
 }
 
-fn wall_y() -> Plane
+pub(crate) fn wall_y() -> Plane
     ensures { result ≡ wall_y }
 {
     Plane {
@@ -51,7 +52,7 @@ fn wall_y() -> Plane
     }
 }
 
-fn wall_z() -> Plane
+pub(crate) fn wall_z() -> Plane
     ensures { result ≡ wall_z }
 {
     Plane {

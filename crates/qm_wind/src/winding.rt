@@ -30,8 +30,8 @@ pub enum Side {
     Back,
 }
 
-/// A convex polygon on a plane, inside the world's cube: one plane for each edge, with the polygon on
-/// its front. Beside it there is a cuboid that has all its points.
+/// A convex polygon on a plane, in the world's cube or on its walls: one plane for each edge, with the
+/// polygon on its front. Beside it there is a cuboid that has all its points.
 #[derive(Drop)]
 pub struct Winding {
     polygon: Polygon,
@@ -71,10 +71,19 @@ impl Winding {
         };
         match near.kept_in_front_of(&mirrored(&walls.third))? {
             None => Ok(None),
-            Some(polygon) => Ok(Some(Winding {
-                polygon,
-                cuboid: Cuboid::whole().tightened(plane).tightened(&plane.flipped()),
-            })),
+            Some(polygon) => Ok(Some(Winding::in_world(polygon))),
+        }
+    }
+
+    /// A polygon in the closed cube as a winding.
+    pub(crate) fn in_world(polygon: Polygon) -> Winding
+        requires { IsInWorld polygon }
+        ensures { result ≡ polygon }
+    {
+        let plane = polygon.plane();
+        Winding {
+            polygon,
+            cuboid: Cuboid::whole().tightened_on(&plane),
         }
     }
 
@@ -201,7 +210,7 @@ impl Winding {
     {
         Ok(Winding {
             polygon: self.polygon.part_in_front_of(plane, run)?,
-            cuboid: self.cuboid.tightened(plane),
+            cuboid: self.cuboid.tightened(plane).tightened_on(&self.polygon.plane()),
         })
     }
 
