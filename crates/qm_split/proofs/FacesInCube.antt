@@ -8,14 +8,15 @@ use Rattle.qm_space.specs.Point.{Point}
 use Rattle.qm_lists.proofs.Elements.{All-first_part, All-last_part}
 use Rattle.qm_space.specs.Plane.{Plane, flipped, IsBehind, IsInFront, IsNotInFront}
 use Rattle.qm_space.specs.Cuboid.{Cuboid, whole_cuboid, IsInCuboid, IsTightened}
-use Rattle.qm_space.proofs.Cuboids.{cube_in_whole}
+use Rattle.qm_space.proofs.Cubes.{cube_in_closed}
+use Rattle.qm_space.proofs.Cuboids.{closed_cube_in_whole}
 use Rattle.qm_space.proofs.Planes.{value_flipped}
 use Rattle.qm_space.specs.Reduced.{IsReduced}
 use Rattle.qm_space.specs.Turned.{turned}
 use Rattle.qm_space.specs.Book.{plane_at, AreBookPlanes}
 use Rattle.qm_space.proofs.TurnedPlanes.{turned_other_in_front, turned_is_reduced}
 use Rattle.qm_convex.specs.Winding.{Winding}
-use Rattle.qm_convex.specs.Sides.{HasNoneInFront}
+use Rattle.qm_convex.specs.Sides.{HasNoneInFront, IsWhollyInFront}
 use Rattle.qm_convex.specs.Cut.{IsPartInFront}
 use Rattle.qm_convex.specs.World.{MissesCube, IsWorldPart}
 use Rattle.qm_contents.specs.declared.contents.Contents.{Contents}
@@ -34,6 +35,7 @@ use Rattle.qm_split.specs.inner.PieceParts.{IsNumberedPiece}
 use Rattle.qm_split.specs.inner.FacePieces.{solid_behind, IsFacePoint, IsFacePiece, HasNoFacePoint, IsPieceOfFace, HasPieceOfFace, HasFacePieces, HasAllBehind}
 use Rattle.qm_split.proofs.ListedItems.{none_listed, all_of_listed, listed_map, listed_from_map}
 use Rattle.qm_split.proofs.PartedPieces.{meets_no_face}
+use Rattle.qm_split.proofs.SectionsOfCells.{part_itself}
 
 -- ---- the winding of one face
 
@@ -80,13 +82,13 @@ module _ (book : List Plane) (number : ℕ) (done : List FaceRef) (face : FaceRe
     behind_inner : (x : Point) → IsBehind (outward_of book face) x → IsInFront inner x
     behind_inner x behind = subst (λ (h : Plane). IsInFront h x) (sym turns) ((turned_other_in_front face.out_is_front (plane_at book face.plane) x).1 behind)
 
-    face_gone : HasNoneInFront w inner → HasNoFacePoint book number (done ++ face ∷ [])
+    pub face_gone : HasNoneInFront w inner → HasNoFacePoint book number (done ++ face ∷ [])
     face_gone none x at =
         let not = none x ((is.points x).1 (point_of_fewer book number (done ++ face ∷ []) done x earlier at)) in
         let front = behind_inner x (at.behind face (Contains-push done face) apart) in
         absurd (omega (arith, linear))
 
-    face_kept : (kept : Winding) → IsPartInFront kept w inner → IsFacePiece book number (done ++ face ∷ []) kept
+    pub face_kept : (kept : Winding) → IsPartInFront kept w inner → IsFacePiece book number (done ++ face ∷ []) kept
     face_kept kept part = record {
       convex = part.convex;
       plane = part.plane ∙ is.plane;
@@ -100,10 +102,9 @@ module _ (book : List Plane) (number : ℕ) (done : List FaceRef) (face : FaceRe
       );
     }
 
-    pub face_more : (kept : Option Winding) → MatchOption kept (HasNoneInFront w inner) (λ k. IsPartInFront k w inner) →
-        MatchOption kept (HasNoFacePoint book number (done ++ face ∷ [])) (IsFacePiece book number (done ++ face ∷ []))
-    face_more None none = face_gone none
-    face_more (Some kept) part = face_kept kept part
+    -- it is all kept where it is wholly in front
+    pub face_whole : IsWhollyInFront w inner → IsFacePiece book number (done ++ face ∷ []) w
+    face_whole whole = face_kept w (part_itself w inner is.convex whole)
 
 -- ---- the pieces of all faces
 
@@ -227,7 +228,7 @@ contains_cube book solid full are = contains_throughout solid [] (meets_no_face 
 
 -- a cuboid that has all of the cube behind the outward planes has what the solid holds of it
 pub all_in_whole : (cuboid : Cuboid) → cuboid ≡ whole_cuboid → HasAllBehind cuboid []
-all_in_whole cuboid same x in_cube none = subst (λ (c : Cuboid). IsInCuboid c x) (sym same) (cube_in_whole x in_cube)
+all_in_whole cuboid same x in_cube none = subst (λ (c : Cuboid). IsInCuboid c x) (sym same) (closed_cube_in_whole x (cube_in_closed x in_cube))
 
 pub all_in_tightened : (outward : List Plane) (o : Plane) (cuboid t : Cuboid) → HasAllBehind cuboid outward → IsTightened t cuboid (flipped o) → HasAllBehind t (outward ++ o ∷ [])
 all_in_tightened outward o cuboid t all tight x in_cube none =

@@ -1,4 +1,5 @@
 ghost use Rattle.std.specs.Prelude.{◌≡◌, ◌<◌, not, ◌++◌, ◌∷◌, List, [], length, IfOk, OnOk, Contains, MatchOption};
+ghost use Rattle.std.specs.Bool.{MatchBool};
 ghost use Rattle.qm_contents.specs.declared.contents.Contents.{Contents};
 ghost use Rattle.qm_solids.specs.declared.face.FaceRef.{FaceRef};
 ghost use Rattle.qm_solids.specs.Holding.{IsFull};
@@ -10,11 +11,10 @@ ghost use Rattle.qm_split.specs.inner.FacePieces.{solid_behind, IsFacePiece, Has
 
 use crate::contender::{Body, Contender, Part, least_of};
 use crate::piece::{Piece, numbered, push_some};
-use crate::section::kept;
 use qm_contents::Contents;
 use qm_geom::{Cuboid, Plane, PlaneBook};
 use qm_solids::FaceRef;
-use qm_wind::{Side, Winding};
+use qm_wind::{Clip, Side, Winding};
 use std::alloc::{AllocError, Global};
 
 /// What a full solid is to the cube, by its faces.
@@ -125,29 +125,36 @@ fn face_in_cube(
         None => return Ok(None),
     };
     for face in faces {
-        left = match behind(left, number, face, book)? {
-            Some(kept) => kept,
-            None => return Ok(None),
-        };
+        if !keep_behind(&mut left, number, face, book)? {
+            return Ok(None);
+        }
     }
     Ok(Some(left))
 }
 
-/// What is left of a winding on the plane of a number behind a face, if the face lies on another plane.
-fn behind(
-    winding: Winding,
+/// Cuts a winding on the plane of a number down to what is behind a face, if the face lies on another plane, and says
+/// whether anything is.
+fn keep_behind(
+    left: &mut Winding,
     number: u32,
     face: &FaceRef,
     book: &PlaneBook,
-) -> Result<Option<Winding>, AllocError>
+) -> Result<bool, AllocError>
     requires numbered { face.now.plane < length book.now }
-    ensures { IfOk result (λ part. (done : List FaceRef) → IsFacePiece book.now number done winding →
-        MatchOption part (HasNoFacePoint book.now number (done ++ face.now ∷ [])) (IsFacePiece book.now number (done ++ face.now ∷ []))) }
+    ensures { IfOk result (λ some. (done : List FaceRef) → IsFacePiece book.now number done left.old →
+        MatchBool some (IsFacePiece book.now number (done ++ face.now ∷ []) left.new) (HasNoFacePoint book.now number (done ++ face.now ∷ []))) }
 {
     if face.plane == number {
-        return Ok(Some(winding));
+        return Ok(true);
     }
-    kept(winding, &book.plane(face.plane), inner_side(face))
+    match left.clip(&book.plane(face.plane), inner_side(face))? {
+        Clip::Whole => Ok(true),
+        Clip::Gone => Ok(false),
+        Clip::Cut(part) => {
+            *left = part;
+            Ok(true)
+        }
+    }
 }
 
 /// The side of a face's plane on which its solid lies.

@@ -50,8 +50,3 @@ is_same g h = int_eq g.nx h.nx && (int_eq g.ny h.ny && (int_eq g.nz h.nz && int_
 -- whether the piece's plane is a plane, turned to either side
 abbrev pub is_on : Plane → Piece → Bool
 is_on g p = is_same p.winding.value.plane g || is_same p.winding.value.plane (flipped g)
-
--- how the piece lies beside a plane
-pub record IsLyingPiece (lies : Lies) (g : Plane) (p : Piece) : Type 0 where
-  pub convex : IsConvex p.winding.value
-  pub lying : IsLying lies p.winding.value g
