@@ -3,9 +3,12 @@ ghost use Rattle.qm_numbers.specs.Rounding.{IsRoundedDown};
 ghost use Rattle.qm_space.specs.Bounds.{normal_bound, distance_bound};
 ghost use Rattle.qm_space.specs.Point.{Point, IsCoordinate};
 ghost use Rattle.qm_space.specs.Plane.{value};
-ghost use Rattle.qm_space.specs.Cuboid.{IsInSpan, IsInCuboid, whole_span, whole_cuboid, least_product, greatest_product, least_value, greatest_value, IsTightened, IsTightenedOn, IsTightenedSpan};
+ghost use Rattle.qm_space.specs.Cuboid.{IsInSpan, IsInCuboid, whole_span, whole_cuboid, least_product, greatest_product, least_value, greatest_value, IsTightened, IsTightenedOn, IsTightenedSpan, IsTightenedBetween};
+ghost use Rattle.qm_geom.specs.inner.Vectors.{IsWithin};
+ghost use Rattle.qm_geom.specs.inner.Products.{least_products, greatest_products, sum_less, left_of};
 
 use crate::plane::Plane;
+use crate::vector::Vector;
 use qm_space::WORLD_EXTENT;
 use std::marker::Model;
 
@@ -56,6 +59,17 @@ impl Span {
             return self.up_to(-rounded_down(least, -i64::from(component)));
         }
         self
+    }
+
+    /// What is, times a component, from one number to another, rounded outward.
+    fn tightened_between(self, component: i32, least: i64, greatest: i64) -> Span
+        requires component_small { unsigned_abs component ≤ normal_bound }
+        requires least_small { unsigned_abs least ≤ 2 ^ 45 }
+        requires greatest_small { unsigned_abs greatest ≤ 2 ^ 45 }
+        ensures { IsTightenedBetween result self component least greatest }
+    {
+        self.tightened(component, least)
+            .tightened(-component, -greatest)
     }
 
     /// The numbers of the span from a number on; only its high end where that is above them all.
@@ -188,10 +202,7 @@ impl Cuboid {
         ensures exact { result ≡ least_value plane.now self.now }
         ensures bound { (p : Point) → IsInCuboid self.now p → (result *ℤ p.w) ≤ℤ value plane.now p }
     {
-        let of_x = self.x.least_product(plane.nx);
-        let of_y = self.y.least_product(plane.ny);
-        let of_z = self.z.least_product(plane.nz);
-        of_x + of_y + of_z - plane.d
+        sum_less(self.least_products(plane), plane.d)
     }
 
     /// The greatest one.
@@ -199,10 +210,7 @@ impl Cuboid {
         ensures exact { result ≡ greatest_value plane.now self.now }
         ensures bound { (p : Point) → IsInCuboid self.now p → value plane.now p ≤ℤ (result *ℤ p.w) }
     {
-        let of_x = self.x.greatest_product(plane.nx);
-        let of_y = self.y.greatest_product(plane.ny);
-        let of_z = self.z.greatest_product(plane.nz);
-        of_x + of_y + of_z - plane.d
+        sum_less(self.greatest_products(plane), plane.d)
     }
 
     /// A cuboid that has all of this one that is not behind a plane: across each axis by what the two
@@ -210,13 +218,11 @@ impl Cuboid {
     pub fn tightened(self, plane: &Plane) -> Cuboid
         ensures { IsTightened result self plane.now }
     {
-        let of_x = self.x.greatest_product(plane.nx);
-        let of_y = self.y.greatest_product(plane.ny);
-        let of_z = self.z.greatest_product(plane.nz);
+        let least = left_of(self.greatest_products(plane), plane.d);
         Cuboid {
-            x: self.x.tightened(plane.nx, plane.d - of_y - of_z),
-            y: self.y.tightened(plane.ny, plane.d - of_z - of_x),
-            z: self.z.tightened(plane.nz, plane.d - of_x - of_y),
+            x: self.x.tightened(plane.nx, least.x),
+            y: self.y.tightened(plane.ny, least.y),
+            z: self.z.tightened(plane.nz, least.z),
         }
     }
 
@@ -224,6 +230,58 @@ impl Cuboid {
     pub fn tightened_on(self, plane: &Plane) -> Cuboid
         ensures { IsTightenedOn result self plane.now }
     {
-        self.tightened(plane).tightened(&plane.flipped())
+        let least = left_of(self.greatest_products(plane), plane.d);
+        let greatest = left_of(self.least_products(plane), plane.d);
+        Cuboid {
+            x: self.x.tightened_between(plane.nx, least.x, greatest.x),
+            y: self.y.tightened_between(plane.ny, least.y, greatest.y),
+            z: self.z.tightened_between(plane.nz, least.z, greatest.z),
+        }
+    }
+
+    fn least_products(&self, plane: &Plane) -> Vector
+        ensures exact { result ≡ least_products plane.now self.now }
+        ensures size { IsWithin result (2 ^ 38) }
+    {
+        Vector {
+            x: self.x.least_product(plane.nx),
+            y: self.y.least_product(plane.ny),
+            z: self.z.least_product(plane.nz),
+        }
+    }
+
+    fn greatest_products(&self, plane: &Plane) -> Vector
+        ensures exact { result ≡ greatest_products plane.now self.now }
+        ensures size { IsWithin result (2 ^ 38) }
+    {
+        Vector {
+            x: self.x.greatest_product(plane.nx),
+            y: self.y.greatest_product(plane.ny),
+            z: self.z.greatest_product(plane.nz),
+        }
+    }
+}
+
+/// The sum of three products, one for each axis, less a distance.
+fn sum_less(products: Vector, distance: i64) -> i64
+    requires products_small { IsWithin products (2 ^ 38) }
+    requires distance_small { unsigned_abs distance ≤ distance_bound }
+    ensures exact { result ≡ sum_less products distance }
+    ensures size { unsigned_abs result ≤ 2 ^ 45 }
+{
+    products.x + products.y + products.z - distance
+}
+
+/// What the products of the two other axes leave of a distance, for each axis.
+fn left_of(products: Vector, distance: i64) -> Vector
+    requires products_small { IsWithin products (2 ^ 38) }
+    requires distance_small { unsigned_abs distance ≤ distance_bound }
+    ensures exact { result ≡ left_of products distance }
+    ensures size { IsWithin result (2 ^ 45) }
+{
+    Vector {
+        x: distance - products.y - products.z,
+        y: distance - products.z - products.x,
+        z: distance - products.x - products.y,
     }
 }

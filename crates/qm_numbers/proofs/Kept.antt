@@ -204,6 +204,9 @@ pub three_less_one_kept : (a b c d : ℤ) → unsigned_abs a ≤ 2 ^ 60 → unsi
     kept w64 (kept w64 (kept w64 (kept w64 a +ℤ kept w64 b) +ℤ kept w64 c) -ℤ kept w64 d) ≡ ((a +ℤ b) +ℤ c) -ℤ d
 three_less_one_kept a b c d h i j k = omega (arith, ints)
 
+pub one_less_two_kept : (d a b : ℤ) → unsigned_abs d ≤ 2 ^ 60 → unsigned_abs a ≤ 2 ^ 60 → unsigned_abs b ≤ 2 ^ 60 → kept w64 (kept w64 (kept w64 d -ℤ kept w64 a) -ℤ kept w64 b) ≡ (d -ℤ a) -ℤ b
+one_less_two_kept d a b h k l = omega (arith, ints)
+
 -- ---- two numbers of 128 bits
 
 pub small_sum_fits : (a b : ℤ) (n : ℕ) → unsigned_abs a ≤ n → unsigned_abs b ≤ n → 2 * n ≤ 2 ^ 127 - 1 → FitsSigned w128 (kept w128 a +ℤ kept w128 b)
@@ -236,3 +239,11 @@ mixed_size a b h k = (abs_product_bound a b (2 ^ 26) (2 ^ 44) h k, abs_product_b
 pub mixed_apart_size : (a b c d : ℤ) → unsigned_abs a ≤ 2 ^ 26 → unsigned_abs b ≤ 2 ^ 44 → unsigned_abs c ≤ 2 ^ 44 → unsigned_abs d ≤ 2 ^ 26 → unsigned_abs ((a *ℤ b) -ℤ (c *ℤ d)) ≤ 2 ^ 71
 mixed_apart_size a b c d h k l m =
     let x = (mixed_size a b h k).0 in let y = (mixed_size d c m l).1 in let s = abs_difference (a *ℤ b) (c *ℤ d) in omega arith
+
+-- ---- products of two numbers of 32 bits, each made one of 64 bits
+
+pub narrow_fits : (p q a b : ℤ) → p ≡ kept w32 a → q ≡ kept w32 b → unsigned_abs a ≤ 2 ^ 26 → unsigned_abs b ≤ 2 ^ 26 → FitsSigned w64 (kept w64 p *ℤ kept w64 q)
+narrow_fits p q a b e f h k = rw (mixed_32 p a e h, mixed_32 q b f k) (part_fits a b h k)
+
+pub narrow_is : (p q a b : ℤ) → p ≡ kept w32 a → q ≡ kept w32 b → unsigned_abs a ≤ 2 ^ 26 → unsigned_abs b ≤ 2 ^ 26 → kept w64 (kept w64 p *ℤ kept w64 q) ≡ a *ℤ b
+narrow_is p q a b e f h k = rw (mixed_32 p a e h, mixed_32 q b f k) (to_z-of_z w64 (a *ℤ b) (part_fits a b h k))

@@ -6,11 +6,10 @@ use Rattle.std.proofs.Math.IntN.{*ℤ_comm}
 use Rattle.qm_space.specs.Bounds.{extent, normal_bound}
 use Rattle.qm_space.specs.Point.{Point, IsCoordinate}
 use Rattle.qm_space.specs.Cube.{IsInClosedCube}
-use Rattle.qm_space.specs.Plane.{Plane, value, flipped}
-use Rattle.qm_space.specs.Cuboid.{Span, Cuboid, IsInSpan, IsInCuboid, whole_span, whole_cuboid, least_product, greatest_product, least_value, greatest_value, IsTightened, IsTightenedOn, IsTightenedSpan}
+use Rattle.qm_space.specs.Plane.{Plane, value}
+use Rattle.qm_space.specs.Cuboid.{Span, Cuboid, IsInSpan, IsInCuboid, whole_span, whole_cuboid, least_product, greatest_product, least_value, greatest_value, IsTightened, IsTightenedOn, IsTightenedSpan, IsTightenedBetween}
 use Rattle.qm_numbers.proofs.IntegerProducts.{linear, *ℤ_assoc, one_*ℤ, zero_*ℤ, +ℤ-*ℤ, -ℤ-*ℤ, neg-*ℤ}
 use Rattle.qm_numbers.proofs.Signs.{side_test, times_at_most, cancel_at_most, abs_product_bound}
-use Rattle.qm_space.proofs.Planes.{value_flipped}
 use Rattle.qm_space.proofs.PlanesThroughPoints.{coordinate_small}
 
 -- ---- products with the numbers of a span
@@ -95,12 +94,6 @@ up_to_kept span greatest high h c w pw s l = ⊎_elim
     (λ k. let p = times_at_most w greatest high pw k in let e = *ℤ_comm w high in let f = *ℤ_comm w greatest in let n = neg-*ℤ greatest w in let o = neg-*ℤ (pos 1) c in let q = one_*ℤ c in record { above = s.above; below = omega (arith, linear) })
     h
 
--- what both sides of a plane leave of a cuboid has all of it that is on the plane
-pub tightened_twice : (t u c : Cuboid) (h g : Plane) → IsTightened t c h → g ≡ flipped h → IsTightened u t g → IsTightenedOn u c h
-tightened_twice t u c h g k e l p w i on =
-    let n = ap (λ (f : Plane). value f p) e ∙ value_flipped h p in
-    l p w (k p w i (omega (arith, linear, on))) (omega (arith, linear, n, on))
-
 -- a span tightened by a unit is tightened by a multiple of it, where the number times that is at most another
 pub tightened_multiple : (t span : Span) (u m q least : ℤ) → pos 0 <ℤ m → (q *ℤ m) ≤ℤ least → IsTightenedSpan t span u q → IsTightenedSpan t span (m *ℤ u) least
 tightened_multiple t span u m q least p h k c w pw s l =
@@ -128,3 +121,35 @@ tightened_cuboid c h x y z of_x of_y of_z p w i l =
     let f = left_times h.d (greatest_product h.nz c.z) (greatest_product h.nx c.x) p.w in
     let g = left_times h.d (greatest_product h.nx c.x) (greatest_product h.ny c.y) p.w in
     record { x = of_x p.x p.w w i.x (omega (arith, linear)); y = of_y p.y p.w w i.y (omega (arith, linear)); z = of_z p.z p.w w i.z (omega (arith, linear)) }
+
+-- a span by both ends
+pub tightened_between : (t u span : Span) (n d e : ℤ) → IsTightenedSpan t span n d → IsTightenedSpan u t (neg_ℤ n) (neg_ℤ e) → IsTightenedBetween u span n d e
+tightened_between t u span n d e k l c w pw s low high =
+    let f = neg-*ℤ e w in let g = neg-*ℤ n c in
+    l c w pw (k c w pw s low) (omega (arith, linear))
+
+-- and a cuboid on a plane
+pub tightened_cuboid_on : (c : Cuboid) (h : Plane) (x y z : Span) →
+    IsTightenedBetween x c.x h.nx ((h.d -ℤ greatest_product h.ny c.y) -ℤ greatest_product h.nz c.z) ((h.d -ℤ least_product h.ny c.y) -ℤ least_product h.nz c.z) →
+    IsTightenedBetween y c.y h.ny ((h.d -ℤ greatest_product h.nz c.z) -ℤ greatest_product h.nx c.x) ((h.d -ℤ least_product h.nz c.z) -ℤ least_product h.nx c.x) →
+    IsTightenedBetween z c.z h.nz ((h.d -ℤ greatest_product h.nx c.x) -ℤ greatest_product h.ny c.y) ((h.d -ℤ least_product h.nx c.x) -ℤ least_product h.ny c.y) →
+    IsTightenedOn (record { x = x; y = y; z = z }) c h
+unfolding value
+tightened_cuboid_on c h x y z of_x of_y of_z p w i l =
+    let a = greatest_product_bound h.nx c.x p.x p.w i.x in
+    let b = greatest_product_bound h.ny c.y p.y p.w i.y in
+    let d = greatest_product_bound h.nz c.z p.z p.w i.z in
+    let a' = least_product_bound h.nx c.x p.x p.w i.x in
+    let b' = least_product_bound h.ny c.y p.y p.w i.y in
+    let d' = least_product_bound h.nz c.z p.z p.w i.z in
+    let e = left_times h.d (greatest_product h.ny c.y) (greatest_product h.nz c.z) p.w in
+    let f = left_times h.d (greatest_product h.nz c.z) (greatest_product h.nx c.x) p.w in
+    let g = left_times h.d (greatest_product h.nx c.x) (greatest_product h.ny c.y) p.w in
+    let e' = left_times h.d (least_product h.ny c.y) (least_product h.nz c.z) p.w in
+    let f' = left_times h.d (least_product h.nz c.z) (least_product h.nx c.x) p.w in
+    let g' = left_times h.d (least_product h.nx c.x) (least_product h.ny c.y) p.w in
+    record {
+      x = of_x p.x p.w w i.x (omega (arith, linear, l)) (omega (arith, linear, l));
+      y = of_y p.y p.w w i.y (omega (arith, linear, l)) (omega (arith, linear, l));
+      z = of_z p.z p.w w i.z (omega (arith, linear, l)) (omega (arith, linear, l));
+    }

@@ -62,3 +62,7 @@ IsTightenedOn t c h = (p : Point) → pos 0 ≤ℤ p.w → IsInCuboid c p → Is
 -- the span t has all of a span that is, times a number n, at least d
 abbrev pub IsTightenedSpan : Span → Span → ℤ → ℤ → Type 0
 IsTightenedSpan t span n d = (c w : ℤ) → pos 0 ≤ℤ w → IsInSpan span c w → (d *ℤ w) ≤ℤ (n *ℤ c) → IsInSpan t c w
+
+-- the span t has all of a span that is, times a number n, from d to e
+abbrev pub IsTightenedBetween : Span → Span → ℤ → ℤ → ℤ → Type 0
+IsTightenedBetween t span n d e = (c w : ℤ) → pos 0 ≤ℤ w → IsInSpan span c w → (d *ℤ w) ≤ℤ (n *ℤ c) → (n *ℤ c) ≤ℤ (e *ℤ w) → IsInSpan t c w

@@ -1,29 +1,28 @@
-use Rattle.std.proofs.Common.{◌≡◌, ◌∙◌, ℤ, ap, ap₂, subst, lit≤}
-use Rattle.qm_numbers.proofs.Bits.{kept_32}
+use Rattle.std.proofs.Common.{◌≡◌, ◌^◌, ◌∙◌, ap, lit≤}
+use Rattle.qm_numbers.proofs.Bits.{kept_32, kept_64}
 use Rattle.qm_space.specs.Bounds.{normal_bound}
 use Rattle.qm_space.specs.Plane.{Plane}
-use Rattle.qm_space.specs.Cuboid.{Cuboid, greatest_product, IsTightened}
+use Rattle.qm_space.specs.Cuboid.{Cuboid}
 use Rattle.qm_space.proofs.Cuboids.{tightened_cuboid}
-use Rattle.qm_geom.proofs.Cuboids.{across_axis}
+use Rattle.qm_geom.specs.declared.vector.Vector.{Vector}
+use Rattle.qm_geom.specs.inner.Products.{greatest_products, left_of}
+use Rattle.qm_geom.proofs.Cuboids.{left_is, tightened_same}
 use Rattle.qm_geom.proofs.cuboid.Cuboid.tightened.Goals as goal
 
-of_x_is : (c : goal.After-tightened-3) → c.greatest_product-of_x.result ≡ greatest_product c.plane.inside.nx c.self.inside.x
-of_x_is c = c.greatest_product-of_x.ensures.exact ∙ ap (λ (n : ℤ). greatest_product n c.self.inside.x) (kept_32 c.plane.inside.nx normal_bound c.plane.invariant.nx_small (lit≤ tt))
-
-of_y_is : (c : goal.After-tightened-3) → c.greatest_product-of_y.result ≡ greatest_product c.plane.inside.ny c.self.inside.y
-of_y_is c = c.greatest_product-of_y.ensures.exact ∙ ap (λ (n : ℤ). greatest_product n c.self.inside.y) (kept_32 c.plane.inside.ny normal_bound c.plane.invariant.ny_small (lit≤ tt))
-
-of_z_is : (c : goal.After-tightened-3) → c.greatest_product-of_z.result ≡ greatest_product c.plane.inside.nz c.self.inside.z
-of_z_is c = c.greatest_product-of_z.ensures.exact ∙ ap (λ (n : ℤ). greatest_product n c.self.inside.z) (kept_32 c.plane.inside.nz normal_bound c.plane.invariant.nz_small (lit≤ tt))
+least_is : (c : goal.After-tightened-3) → c.left_of-least.result ≡ left_of (greatest_products c.args.plane.now c.args.self) c.args.plane.now.d
+least_is c =
+    left_is _ c.args.plane.now c.left_of-least.result c.greatest_products.result (greatest_products c.args.plane.now c.args.self)
+    c.plane.invariant.d_small c.plane.view_is c.greatest_products.ensures.exact c.left_of-least.ensures.exact
 
 pub returns : goal.returns
 returns c =
-    let before : Cuboid = record { x = c.self.inside.x; y = c.self.inside.y; z = c.self.inside.z } in
-    let h : Plane = record { nx = c.plane.inside.nx; ny = c.plane.inside.ny; nz = c.plane.inside.nz; d = c.plane.inside.d } in let r = c.plane.invariant in
-    let x = c.greatest_product-of_x in let y = c.greatest_product-of_y in let z = c.greatest_product-of_z in
-    subst (λ (u : Cuboid). IsTightened (record { x = c.tightened.result; y = c.tightened-2.result; z = c.tightened-3.result }) u c.args.plane.now) c.self.view_is
-    (subst (λ (g : Plane). IsTightened (record { x = c.tightened.result; y = c.tightened-2.result; z = c.tightened-3.result }) before g) c.plane.view_is
-    (tightened_cuboid before h c.tightened.result c.tightened-2.result c.tightened-3.result
-    (across_axis _ _ h.nx h.d y.result z.result _ _ r.nx_small r.d_small y.ensures.size z.ensures.size (of_y_is c) (of_z_is c) c.tightened.ensures)
-    (across_axis _ _ h.ny h.d z.result x.result _ _ r.ny_small r.d_small z.ensures.size x.ensures.size (of_z_is c) (of_x_is c) c.tightened-2.ensures)
-    (across_axis _ _ h.nz h.d x.result y.result _ _ r.nz_small r.d_small x.ensures.size y.ensures.size (of_x_is c) (of_y_is c) c.tightened-3.ensures)))
+    tightened_cuboid c.args.self c.args.plane.now _ _ _
+    (tightened_same _ _ c.args.self.x _ c.args.plane.now.nx _ _ (ap (λ (u : Cuboid). u.x) c.self.view_is) (kept_32 _ normal_bound c.plane.invariant.nx_small (lit≤ tt) ∙ ap (λ (g : Plane). g.nx) c.plane.view_is)
+    (kept_64 c.left_of-least.result.x (2 ^ 45) c.left_of-least.ensures.size.x_small (lit≤ tt) ∙ ap (λ (v : Vector). v.x) (least_is c))
+    c.tightened.ensures)
+    (tightened_same _ _ c.args.self.y _ c.args.plane.now.ny _ _ (ap (λ (u : Cuboid). u.y) c.self.view_is) (kept_32 _ normal_bound c.plane.invariant.ny_small (lit≤ tt) ∙ ap (λ (g : Plane). g.ny) c.plane.view_is)
+    (kept_64 c.left_of-least.result.y (2 ^ 45) c.left_of-least.ensures.size.y_small (lit≤ tt) ∙ ap (λ (v : Vector). v.y) (least_is c))
+    c.tightened-2.ensures)
+    (tightened_same _ _ c.args.self.z _ c.args.plane.now.nz _ _ (ap (λ (u : Cuboid). u.z) c.self.view_is) (kept_32 _ normal_bound c.plane.invariant.nz_small (lit≤ tt) ∙ ap (λ (g : Plane). g.nz) c.plane.view_is)
+    (kept_64 c.left_of-least.result.z (2 ^ 45) c.left_of-least.ensures.size.z_small (lit≤ tt) ∙ ap (λ (v : Vector). v.z) (least_is c))
+    c.tightened-3.ensures)

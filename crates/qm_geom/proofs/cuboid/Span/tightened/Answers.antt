@@ -1,4 +1,4 @@
-use Rattle.std.proofs.Common.{pos, ◌<ℤ◌, arith}
+use Rattle.std.proofs.Common.{arith}
 use Rattle.std.proofs.lemmas.Int.{ints}
 use Rattle.qm_geom.proofs.Cuboids.{from_quotient, up_to_quotient}
 use Rattle.qm_geom.proofs.cuboid.Span.tightened.Goals as goal
