@@ -1,4 +1,4 @@
-use super::boxes::{BoxRow, put_box, world};
+use super::boxes::{BoxRow, world};
 use super::cube::{END, FIRST, OTHERS, joined};
 use super::cube_file::CUBE_FILE;
 use super::empty_file::{EMPTY_FILE, EMPTY_SUMMARY};
@@ -8,6 +8,7 @@ use super::room::ROOM;
 use std::alloc::{AllocError, Global};
 use std::test::Fail;
 use std::thread::Threads;
+use test_texts::put_box;
 
 /// The end of the cube, with a face on its first plane once more.
 const AGAIN: &str = "( 0 7 9 ) ( 0 8 9 ) ( 0 7 10 ) stone 0 0 0 1 1\n}\n}\n";

@@ -1,5 +1,4 @@
 pub mod ValidBrushes
-pub mod DrawnSolids
 pub mod EntryLists
 pub mod EnteredFaces
 pub mod AddedBrushes

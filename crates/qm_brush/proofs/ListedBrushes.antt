@@ -115,9 +115,6 @@ module _ (brushes : List Brush) (i : ℕ) (list : List BookSolid) (old mid : Lis
       subst (λ (bs : List Brush). AreAdded bs after old new) (sym (take_more brushes i brush within ∙ ap (λ (b : Brush). take i brushes ++ b ∷ []) (sym is)))
       (one_more_added (take i brushes) brush list after old mid new those (contents_of_brush brush) refl this)
 
-  pub all_added : length brushes ≤ i → AreAdded brushes list old mid
-  all_added past = subst (λ (bs : List Brush). AreAdded bs list old mid) (take_all i brushes past) those
-
   -- the book has room for the faces of another brush
   pub length-added : length mid ≤ length old + sum_by (λ brush. length brush.faces) brushes
   length-added =

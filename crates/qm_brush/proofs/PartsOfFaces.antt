@@ -37,14 +37,6 @@ pub wholly_kept : (v : Winding) (g : Plane) → IsConvex v → IsWhollyInFront v
 wholly_kept v g convex wholly = record { convex = convex; plane = refl; points = λ p. ((λ inside. (inside, wholly p inside)), (λ both. both.0)) }
 
 module _ (planes : List Plane) (face other : FaceRef) (before after : Winding) where
-  -- a face on the same plane, and not turned against this one, takes nothing
-  pub same_plane_keeps : other.plane ≡ face.plane → other.out_is_front ≡ face.out_is_front → after ≡ before → IsConvex before → IsNarrowed planes face other before after
-  same_plane_keeps one flag same convex = record {
-    convex = subst IsConvex (sym same) convex;
-    points = λ x. rw same ((λ inside. (inside, λ apart. absurd (apart one))), (λ both. both.0));
-    not_apart = λ apart. apart.apart flag;
-  }
-
   -- one on another plane leaves what is behind it
   pub behind_keeps : (other.plane ≡ face.plane → ⊥) → IsPartInFront after before (inward_of planes other) → IsNarrowed planes face other before after
   behind_keeps apart part = record {

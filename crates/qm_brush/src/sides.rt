@@ -55,8 +55,8 @@ fn outer_side(face: &FaceRef, at: &Point, planes: &[Plane]) -> Ordering
     }
 }
 
-/// The side of a face's plane that is inside.
-pub(crate) fn inner_side(face: &FaceRef) -> Side
+/// The side of a face's plane on which its solid lies.
+pub fn inner_side(face: &FaceRef) -> Side
     ensures { is_front result ≡ not face.now.out_is_front }
 {
     if face.out_is_front {

@@ -1,5 +1,4 @@
 pub mod BrushCounts
-pub mod CommandWords
 pub mod CompiledMap
 pub mod FlatSoFar
 pub mod MadeTexts

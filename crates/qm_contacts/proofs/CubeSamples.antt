@@ -18,6 +18,7 @@ use Rattle.qm_contacts.specs.Meeting.{Meeting, meeting_at, meetings}
 use Rattle.qm_contacts.specs.Contact.{IsContact, TouchAcross}
 use Rattle.qm_contacts.specs.Touching.{AreApart}
 use Rattle.qm_contacts.specs.Outside.{TouchesOutside}
+use Rattle.qm_lists.proofs.Cases.{both_yes}
 
 abbrev at : ℤ → ℤ → ℤ → Point
 at x y z = record { x = x; y = y; z = z; w = pos 1 }
@@ -44,10 +45,6 @@ zero_from (pos zero) test = refl
 zero_from (pos (suc n)) test = absurd cc
 zero_from (negsuc n) test = absurd cc
 
-both_from : (a b : Bool) → (a && b) ≡ true → (a ≡ true) × (b ≡ true)
-both_from true b test = (refl, test)
-both_from false b test = absurd (let e : false ≡ true = test in cc)
-
 abbrev is_in_cell : List Plane → Point → Bool
 is_in_cell [] x = true
 is_in_cell (h ∷ cell) x = is_above (value h x) && is_in_cell cell x
@@ -55,7 +52,7 @@ is_in_cell (h ∷ cell) x = is_above (value h x) && is_in_cell cell x
 in_cell_from : (cell : List Plane) (x : Point) → is_in_cell cell x ≡ true → IsInCell cell x
 in_cell_from [] x test = All-nil (λ h. IsInFront h x)
 in_cell_from (h ∷ cell) x test =
-    let both = both_from (is_above (value h x)) (is_in_cell cell x) test in
+    let both = both_yes (is_above (value h x)) (is_in_cell cell x) test in
     All-cons (λ g. IsInFront g x) h cell (above_from (value h x) both.0) (in_cell_from cell x both.1)
 
 -- whether a point is a contact of a meeting of the tree
@@ -70,10 +67,10 @@ contact_from m x test =
     let above_test = is_in_cell (cell_of cube_tree.planes m.above) x in
     let front_test = is_in_cell (cell_of cube_tree.planes m.front.way) x in
     let back_test = is_in_cell (cell_of cube_tree.planes m.back.way) x in
-    let first = both_from (is_in_cell cube_walls x) (on_test && (above_test && (front_test && back_test))) test in
-    let second = both_from on_test (above_test && (front_test && back_test)) first.1 in
-    let third = both_from above_test (front_test && back_test) second.1 in
-    let fourth = both_from front_test back_test third.1 in
+    let first = both_yes (is_in_cell cube_walls x) (on_test && (above_test && (front_test && back_test))) test in
+    let second = both_yes on_test (above_test && (front_test && back_test)) first.1 in
+    let third = both_yes above_test (front_test && back_test) second.1 in
+    let fourth = both_yes front_test back_test third.1 in
     record {
       in_cube = (cube_is_cell x).1 (in_cell_from cube_walls x first.0);
       on = zero_from (value (plane_at cube_tree.planes m.plane) x) second.0;
@@ -188,7 +185,7 @@ beside_from place [] wall x is test = All-nil (λ g. (g ≡ wall → ⊥) → Is
 beside_from zero (h ∷ rest) wall x is test =
     All-cons (λ g. (g ≡ wall → ⊥) → IsInFront g x) h rest (λ other. absurd (other is)) (All-weaker (λ g. IsInFront g x) (λ g. (g ≡ wall → ⊥) → IsInFront g x) (λ g front other. front) rest (in_cell_from rest x test))
 beside_from (suc place) (h ∷ rest) wall x is test =
-    let both = both_from (is_above (value h x)) (is_beside place rest x) test in
+    let both = both_yes (is_above (value h x)) (is_beside place rest x) test in
     All-cons (λ g. (g ≡ wall → ⊥) → IsInFront g x) h rest (λ other. above_from (value h x) both.0) (beside_from place rest wall x is both.1)
 
 -- whether a point on a wall shows that the leaf at the end of a way touches the outside
@@ -197,8 +194,8 @@ is_outside place wall way x = is_zero (value wall x) && (is_beside place cube_wa
 
 beyond : (k place : ℕ) (way : Way) (wall : Plane) (x : Point) → slice_get (ways cube_tree.shape) k ≡ Some way → place < 6 → get_or cube_walls place wall ≡ wall → pos 0 <ℤ x.w → is_outside place wall way x ≡ true → TouchesOutside cube_tree k
 beyond k place way wall x way_is within is weight test =
-    let first = both_from (is_zero (value wall x)) (is_beside place cube_walls x && is_in_cell (cell_of cube_tree.planes way) x) test in
-    let second = both_from (is_beside place cube_walls x) (is_in_cell (cell_of cube_tree.planes way) x) first.1 in
+    let first = both_yes (is_zero (value wall x)) (is_beside place cube_walls x && is_in_cell (cell_of cube_tree.planes way) x) test in
+    let second = both_yes (is_beside place cube_walls x) (is_in_cell (cell_of cube_tree.planes way) x) first.1 in
     record {
       way = way;
       way_is = way_is;

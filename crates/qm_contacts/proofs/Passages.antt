@@ -1,5 +1,5 @@
 -- A portal leads from leaf to leaf exactly where the list of touching pairs has their pair as a passage.
-use Rattle.std.proofs.Common.{◌≡◌, ℕ, ◌<◌, ◌&&◌, eqb, Bool, true, false, List, [], Contains, refl, ap, ◌∙◌, arith, ◌⊎◌, inl, ⊎_elim}
+use Rattle.std.proofs.Common.{◌≡◌, ℕ, ◌<◌, ◌&&◌, eqb, true, false, List, [], Contains, refl, ap, ◌∙◌, arith, ◌⊎◌, inl, ⊎_elim}
 use Rattle.std.proofs.lemmas.Bool.{eqb-true, eq-eqb}
 use Rattle.std.proofs.lemmas.Option.{slice_get-get_or, get_or_from_slice_get}
 use Rattle.std.proofs.lemmas.List.Elements.{All-contains}
@@ -20,10 +20,7 @@ use Rattle.qm_contacts.specs.PortalChain.{IsPortalBetween}
 use Rattle.qm_contacts.proofs.Meetings.{IsBetween, meetings_between}
 use Rattle.qm_contacts.proofs.Touchings.{IsPair, pair_order, touch_listed, meeting_of_touching}
 use Rattle.qm_contacts.proofs.FilledLeaves.{portal_back}
-
-both_from : (a b : Bool) → (a && b) ≡ true → (a ≡ true) × (b ≡ true)
-both_from true b test = (refl, test)
-both_from false b test = absurd (let e : false ≡ true = test in cc)
+use Rattle.qm_lists.proofs.Cases.{both_yes}
 
 module _ (tree : Tree) (touchings : List Touching) (are : AreTouchings tree.planes (meetings tree) touchings) where
   -- both leaves of a pair are there
@@ -40,7 +37,7 @@ module _ (tree : Tree) (touchings : List Touching) (are : AreTouchings tree.plan
       let there = leaves_there found listed in
       let front = leaf_record tree found.front in
       let back = leaf_record tree found.back in
-      let tests = both_from (is_numbered front) (eqb (strength front.contents) (strength back.contents)) test in
+      let tests = both_yes (is_numbered front) (eqb (strength front.contents) (strength back.contents)) test in
       let same = eqb-true (strength front.contents) (strength back.contents) tests.1 in
       record {
         touch = (touch_listed tree touchings are found.front found.back).1 (found, listed, inl (record { front = refl; back = refl }));

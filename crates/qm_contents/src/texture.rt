@@ -34,7 +34,7 @@ fn begins(name: &[u8], prefix: &[u8]) -> bool
     ensures { result ≡ begins name.now prefix.now }
 {
     match name.get(..prefix.len()) {
-        Some(front) => front.eq_ignore_ascii_case(prefix),
+        Some(first) => first.eq_ignore_ascii_case(prefix),
         None => false,
     }
 }

@@ -1,10 +1,8 @@
 -- A text spells one number at most: its digits end where no digit stands, and its sign is no digit.
-use Rattle.std.proofs.Common.{◌≡◌, ◌<◌, ◌≤◌, ℕ, suc, zero, List, [], ◌∷◌, ◌++◌, length, get_or, take, drop, refl, sym, ◌∙◌, ap, subst, inl, inr, arith}
+use Rattle.std.proofs.Common.{◌≡◌, ◌<◌, ℕ, suc, zero, List, [], ◌∷◌, ◌++◌, length, get_or, take, drop, refl, sym, ◌∙◌, ap, subst, inl, inr, arith}
 use Rattle.std.specs.Char.{digit_value}
-use Rattle.std.specs.Int.{IsInRange}
 use Rattle.std.specs.List.{All}
 use Rattle.std.specs.Str.Parse.{AllDigits}
-use Rattle.std.proofs.lemmas.Str.{digit_value_digit}
 use Rattle.std.proofs.lemmas.Str.Parse.{digit_from_value}
 use Rattle.qm_decimal.specs.Number.{Sign, missing, plus, minus, sign_text, IsTail, IsUnsigned, Number, Spells}
 
@@ -36,15 +34,6 @@ zeros_digits (x ∷ ds) h =
     let digit : digit_value x < 10 = subst (λ (y : ℕ). digit_value y < 10) (sym first) (omega arith) in
     let rest : All (λ (byte : ℕ). byte ≡ 48) ds = λ k d l. h (suc k) d (omega arith) in
     (digit, zeros_digits ds rest)
-
--- digits between `0` and `9`, by place
-pub digits_by_place : (ds : List ℕ) → All (λ byte. (48 ≤ byte) × (byte ≤ 57)) ds → AllDigits 10 ds
-digits_by_place [] h = tt
-digits_by_place (x ∷ ds) h =
-    let first = h 0 0 (omega arith) in
-    let rest : All (λ (byte : ℕ). (48 ≤ byte) × (byte ≤ 57)) ds = λ k d l. h (suc k) d (omega arith) in
-    let range : IsInRange 48 57 x = first in
-    (let value = digit_value_digit x range in omega arith, digits_by_place ds rest)
 
 -- the text begins with no digit
 abbrev pub NoDigitAhead : List ℕ → Type 0

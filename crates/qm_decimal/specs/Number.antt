@@ -1,7 +1,7 @@
 use Rattle.std.specs.Prelude.{◌≡◌, ◌<◌, ◌⊎◌, ℕ, ◌+◌, List, [], ◌∷◌, ◌++◌, length, ℤ, pos, neg_ℤ}
 use Rattle.std.specs.Str.Parse.{digits_value, AllDigits}
 
--- what may stand in front of a number's digits
+-- what may stand before a number's digits
 pub data Sign : Type 0 where
   missing : Sign
   plus : Sign
@@ -13,7 +13,7 @@ sign_text missing = []
 sign_text plus = 43 ∷ []
 sign_text minus = 45 ∷ []
 
--- n with the sign in front
+-- n with the sign before it
 abbrev pub signed : Sign → ℕ → ℤ
 signed missing n = pos n
 signed plus n = pos n

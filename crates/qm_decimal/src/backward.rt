@@ -39,7 +39,7 @@ impl Backward {
         &self.bytes[self.start..]
     }
 
-    /// Puts a byte in front.
+    /// Puts a byte before the text.
     pub fn put(&mut self, byte: u8)
         requires { length self.old < 40 }
         ensures { self.new ≡ byte ∷ self.old }
@@ -48,7 +48,7 @@ impl Backward {
         self.bytes[self.start] = byte;
     }
 
-    /// Puts the last six digits of a number in front.
+    /// Puts the last six digits of a number before the text.
     pub fn put_six_digits(&mut self, mut n: u128)
         requires { length self.old ≤ 34 }
         ensures { self.new ≡ last_digits 6 n ++ self.old }
@@ -59,7 +59,7 @@ impl Backward {
         }
     }
 
-    /// Puts a number in front.
+    /// Puts a number before the text.
     pub fn put_decimal(&mut self, mut n: u128)
         requires short { length self.old ≤ 9 }
         requires small { n < 10 ^ 31 }
@@ -73,7 +73,7 @@ impl Backward {
         self.put(b'0' + n as u8);
     }
 
-    /// Puts a minus sign in front, where the number is negative and what is shown of it is not 0.
+    /// Puts a minus sign before the text, where the number is negative and what is shown of it is not 0.
     pub fn put_sign(&mut self, is_negative: bool, shown: u128)
         requires { length self.old < 40 }
         ensures { self.new ≡ shown_sign is_negative shown ++ self.old }

@@ -1,13 +1,37 @@
 -- The line in which two planes meet, as the code computes it.
-use Rattle.std.proofs.Common.{◌≡◌, ◌≤◌, ◌^◌, ◌∙◌, ℤ, ◌-ℤ◌, ◌*ℤ◌, to_z, of_z, w32, w64, ap₂, lit≤, unsigned_abs}
+use Rattle.std.proofs.Common.{◌≡◌, ◌≤◌, ◌^◌, ◌∙◌, ℤ, ◌-ℤ◌, ◌*ℤ◌, to_z, of_z, w32, w64, ap₂, sym, subst, lit≤, unsigned_abs}
 use mir.Syntax.{w128}
 use Rattle.qm_numbers.proofs.Bits.{kept_32, kept_64, kept_128}
 use Rattle.qm_space.specs.Bounds.{normal_bound, distance_bound}
 use Rattle.qm_space.specs.Plane.{Plane}
 use Rattle.qm_space.specs.Reduced.{IsReduced}
-use Rattle.qm_space.specs.CommonLine.{common_line}
+use Rattle.qm_space.specs.CommonLine.{common_line, HasLineSizes}
 use Rattle.qm_geom.specs.declared.vector.Vector.{Vector}
-use Rattle.qm_geom.specs.inner.Vectors.{normal_of, cross}
+use Rattle.qm_geom.specs.inner.Vectors.{normal_of, cross, IsWithin}
+
+-- ---- sizes
+
+pub component_small : (z : ℤ) → unsigned_abs z ≤ normal_bound → unsigned_abs (to_z w32 (of_z w32 z)) ≤ normal_bound
+component_small z h = subst (λ (n : ℤ). unsigned_abs n ≤ normal_bound) (sym (kept_32 z normal_bound h (lit≤ tt))) h
+
+pub distance_small : (z : ℤ) → unsigned_abs z ≤ distance_bound → unsigned_abs (to_z w64 (of_z w64 z)) ≤ distance_bound
+distance_small z h = subst (λ (n : ℤ). unsigned_abs n ≤ distance_bound) (sym (kept_64 z distance_bound h (lit≤ tt))) h
+
+moment_small : (z : ℤ) → unsigned_abs z ≤ 2 ^ 71 → unsigned_abs (to_z w128 (of_z w128 z)) ≤ 2 ^ 71
+moment_small z h = subst (λ (n : ℤ). unsigned_abs n ≤ 2 ^ 71) (sym (kept_128 z (2 ^ 71) h (lit≤ tt))) h
+
+pub line_sizes : (along : Vector) (x y z : ℤ) → IsWithin along (2 ^ 53) → unsigned_abs x ≤ 2 ^ 71 → unsigned_abs y ≤ 2 ^ 71 → unsigned_abs z ≤ 2 ^ 71 →
+    HasLineSizes (record { along_x = along.x; along_y = along.y; along_z = along.z; moment_x = to_z w128 (of_z w128 x); moment_y = to_z w128 (of_z w128 y); moment_z = to_z w128 (of_z w128 z) })
+line_sizes along x y z within hx hy hz = record {
+  along_x = within.x_small;
+  along_y = within.y_small;
+  along_z = within.z_small;
+  moment_x = moment_small x hx;
+  moment_y = moment_small y hy;
+  moment_z = moment_small z hz;
+}
+
+-- ---- the line
 
 -- one number of the moment
 moment_kept : (p m d n e : ℤ) → unsigned_abs m ≤ normal_bound → unsigned_abs d ≤ distance_bound → unsigned_abs n ≤ normal_bound → unsigned_abs e ≤ distance_bound → unsigned_abs p ≤ 2 ^ 71 →

@@ -3,8 +3,6 @@ use Rattle.std.specs.declared.cmp.Ordering.{Ordering}
 use Rattle.std.specs.declared.cmp.Ordering.TheVariants.{Less, Equal, Greater}
 use Rattle.std.specs.BTreeMap.{BTreeMap, get, Updates, IsUnchanged}
 use Rattle.std.specs.Ordering.{ordering_then, is_eq}
-use Rattle.std.specs.Cmp.{IsTotalOrder}
-use Rattle.std.proofs.lemmas.Cmp.{tied_itself, then_total, on_total, int_cmp_total}
 use Rattle.std.proofs.lemmas.Map.Lookups.{exact_signed}
 use Rattle.qm_space.specs.Plane.{Plane}
 use Rattle.qm_space.specs.Reduced.{leads_positive, IsReduced}
@@ -16,15 +14,6 @@ use Rattle.qm_lists.proofs.Places.{slice_get-push_old, slice_get-push_last, slic
 use Rattle.qm_lists.proofs.Cases.{by_cases}
 
 -- ---- the order of planes
-
-plane_cmp_total : IsTotalOrder plane_cmp
-plane_cmp_total =
-    then_total (on_total (λ (h : Plane). h.nx) int_cmp_total)
-    (then_total (on_total (λ (h : Plane). h.ny) int_cmp_total)
-    (then_total (on_total (λ (h : Plane). h.nz) int_cmp_total) (on_total (λ (h : Plane). h.d) int_cmp_total)))
-
-pub plane_cmp-itself : (h : Plane) → plane_cmp h h ≡ Equal
-plane_cmp-itself h = tied_itself plane_cmp_total h
 
 equal_parts : (o p : Ordering) → ordering_then o p ≡ Equal → (o ≡ Equal) × (p ≡ Equal)
 equal_parts Less p h = cc

@@ -26,7 +26,6 @@ use Rattle.qm_grammar.proofs.Numbers.{IsBadCoordinate, bad_coordinate}
 use Rattle.qm_grammar.proofs.Numbers.{no_number, fraction, too_large, outside}
 use Rattle.qm_grammar.proofs.OriginTexts.{some_origin}
 use Rattle.qm_grammar.proofs.FaceSteps.{mark_same, is_flat}
-use Rattle.qm_grammar.proofs.Runs.{same_err}
 use Rattle.qm_grammar.proofs.Refused.{step_in_context}
 
 -- ---- tokens of a sort that no context allows
@@ -132,7 +131,3 @@ module _ (prefix : Prefix) (symbol : Symbol) where
   refused_step reason (no_normal closes flat) = normal_refuses closes flat
   refused_step reason (no_faces closes) = faces_refuses closes
   refused_step reason (bad_origin at no_point) = origin_refuses at no_point
-
-  -- a token is refused for one reason at most
-  pub one_reason : (reason other : Refusal) → Refuses prefix symbol reason → Refuses prefix symbol other → reason ≡ other
-  one_reason reason other first second = same_err (step prefix symbol) reason other (refused_step reason first) (refused_step other second)

@@ -11,24 +11,24 @@ abbrev StopsAt : (ℕ → Type 0) → List ℕ → Type 0
 StopsAt P [] = Unit {0}
 StopsAt P (byte ∷ _) = P byte → ⊥
 
--- the longest front of bytes of a sort, and what follows
+-- the longest prefix of bytes of a sort, and what follows
 record Cut (P : ℕ → Type 0) (bytes : List ℕ) : Type 0 where
-  front : List ℕ
+  prefix : List ℕ
   after : List ℕ
-  joined : bytes ≡ front ++ after
-  all : All P front
+  joined : bytes ≡ prefix ++ after
+  all : All P prefix
   stops : StopsAt P after
 
 -- a byte that is or is not of the sort, before a list that is cut
 cut_more : (P : ℕ → Type 0) (byte : ℕ) (bytes : List ℕ) → Cut P bytes → P byte ⊎ (P byte → ⊥) → Cut P (byte ∷ bytes)
 cut_more P byte bytes rest decided =
     ⊎_elim
-    (λ is. record { front = byte ∷ rest.front; after = rest.after; joined = ap (λ bs. byte ∷ bs) rest.joined; all = All-cons P byte rest.front is rest.all; stops = rest.stops })
-    (λ is_not. record { front = []; after = byte ∷ bytes; joined = refl; all = All-nil P; stops = is_not })
+    (λ is. record { prefix = byte ∷ rest.prefix; after = rest.after; joined = ap (λ bs. byte ∷ bs) rest.joined; all = All-cons P byte rest.prefix is rest.all; stops = rest.stops })
+    (λ is_not. record { prefix = []; after = byte ∷ bytes; joined = refl; all = All-nil P; stops = is_not })
     decided
 
 cut : (P : ℕ → Type 0) → ((byte : ℕ) → P byte ⊎ (P byte → ⊥)) → (bytes : List ℕ) → Cut P bytes
-cut P decide [] = record { front = []; after = []; joined = refl; all = All-nil P; stops = tt }
+cut P decide [] = record { prefix = []; after = []; joined = refl; all = All-nil P; stops = tt }
 cut P decide (byte ∷ bytes) = cut_more P byte bytes (cut P decide bytes) (decide byte)
 
 -- whether a byte differs from another
@@ -52,23 +52,23 @@ record FirstPiece (text : List ℕ) : Type 0 where
   shorter : length after < length text
 
 -- a quote opens a token, or is not closed
-quote_from : (bytes front after : List ℕ) → bytes ≡ front ++ after → All (λ byte. byte ≡ 34 → ⊥) front → StopsAt (λ byte. byte ≡ 34 → ⊥) after → FirstPiece (34 ∷ bytes)
-quote_from bytes front [] joined all stops =
-    record { piece = unclosed front; after = []; joined = ap (λ bs. 34 ∷ bs) joined; is_piece = (all, refl); shorter = omega arith }
-quote_from bytes front (byte ∷ after) joined all stops =
+quote_from : (bytes prefix after : List ℕ) → bytes ≡ prefix ++ after → All (λ byte. byte ≡ 34 → ⊥) prefix → StopsAt (λ byte. byte ≡ 34 → ⊥) after → FirstPiece (34 ∷ bytes)
+quote_from bytes prefix [] joined all stops =
+    record { piece = unclosed prefix; after = []; joined = ap (λ bs. 34 ∷ bs) joined; is_piece = (all, refl); shorter = omega arith }
+quote_from bytes prefix (byte ∷ after) joined all stops =
     let is_quote = same 34 byte stops in
     record {
-      piece = quoted front;
+      piece = quoted prefix;
       after = after;
-      joined = ap (λ bs. 34 ∷ bs) (joined ∙ ap (λ b. front ++ b ∷ after) is_quote ∙ sym (append_assoc front (34 ∷ []) after));
+      joined = ap (λ bs. 34 ∷ bs) (joined ∙ ap (λ b. prefix ++ b ∷ after) is_quote ∙ sym (append_assoc prefix (34 ∷ []) after));
       is_piece = all;
-      shorter = omega (arith, ap length joined, length-append front (byte ∷ after));
+      shorter = omega (arith, ap length joined, length-append prefix (byte ∷ after));
     }
 
 quote_first : (bytes : List ℕ) → FirstPiece (34 ∷ bytes)
 quote_first bytes =
     let c = cut (λ byte. byte ≡ 34 → ⊥) (differs 34) bytes in
-    quote_from bytes c.front c.after c.joined c.all c.stops
+    quote_from bytes c.prefix c.after c.joined c.all c.stops
 
 -- what stops at a line end
 ends_line : (after : List ℕ) → StopsAt (λ byte. byte ≡ 10 → ⊥) after → EndsLine after
@@ -80,11 +80,11 @@ comment_first : (bytes : List ℕ) → FirstPiece (47 ∷ 47 ∷ bytes)
 comment_first bytes =
     let c = cut (λ byte. byte ≡ 10 → ⊥) (differs 10) bytes in
     record {
-      piece = comment c.front;
+      piece = comment c.prefix;
       after = c.after;
       joined = ap (λ bs. 47 ∷ 47 ∷ bs) c.joined;
       is_piece = (c.all, ends_line c.after c.stops);
-      shorter = omega (arith, ap length c.joined, length-append c.front c.after);
+      shorter = omega (arith, ap length c.joined, length-append c.prefix c.after);
     }
 
 second_slash : (bytes : List ℕ) → get_or bytes 0 0 ≡ 47 → FirstPiece (47 ∷ bytes)
@@ -97,20 +97,20 @@ ends_word [] stops = tt
 ends_word (byte ∷ after) stops = ⊎_elim (λ above. absurd (stops above)) (λ blank. blank) (cases_lt 32 byte)
 
 -- a first byte that opens a word, with what follows in it
-opens_word : (byte : ℕ) (bytes front after : List ℕ) → bytes ≡ front ++ after → (byte ≡ 34 → ⊥) → (byte ≡ 47 → get_or bytes 0 0 ≡ 47 → ⊥) → OpensWord (byte ∷ front)
+opens_word : (byte : ℕ) (bytes prefix after : List ℕ) → bytes ≡ prefix ++ after → (byte ≡ 34 → ⊥) → (byte ≡ 47 → get_or bytes 0 0 ≡ 47 → ⊥) → OpensWord (byte ∷ prefix)
 opens_word byte bytes [] after joined no_quote no_comment = no_quote
-opens_word byte bytes (second ∷ front) after joined no_quote no_comment =
+opens_word byte bytes (second ∷ prefix) after joined no_quote no_comment =
     (no_quote, λ is_slash follows. no_comment is_slash (ap (λ bs. get_or bs 0 0) joined ∙ follows))
 
 word_first : (byte : ℕ) (bytes : List ℕ) → 32 < byte → (byte ≡ 34 → ⊥) → (byte ≡ 47 → get_or bytes 0 0 ≡ 47 → ⊥) → FirstPiece (byte ∷ bytes)
 word_first byte bytes above no_quote no_comment =
     let c = cut (λ b. 32 < b) is_above bytes in
     record {
-      piece = word (byte ∷ c.front);
+      piece = word (byte ∷ c.prefix);
       after = c.after;
       joined = ap (λ bs. byte ∷ bs) c.joined;
-      is_piece = (opens_word byte bytes c.front c.after c.joined no_quote no_comment, All-cons (λ b. 32 < b) byte c.front above c.all, ends_word c.after c.stops);
-      shorter = omega (arith, ap length c.joined, length-append c.front c.after);
+      is_piece = (opens_word byte bytes c.prefix c.after c.joined no_quote no_comment, All-cons (λ b. 32 < b) byte c.prefix above c.all, ends_word c.after c.stops);
+      shorter = omega (arith, ap length c.joined, length-append c.prefix c.after);
     }
 
 -- a `/` opens a comment or a word

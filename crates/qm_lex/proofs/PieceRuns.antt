@@ -12,8 +12,8 @@ use Rattle.qm_lex.specs.Piece.{Piece, blank, comment, word, quoted, unclosed, En
 use Rattle.qm_lex.proofs.ByteSteps.{slash_begins, word_begins, same_line}
 
 -- the lines that end in two parts
-pub line_ends-append : (front back : List ℕ) → line_ends (front ++ back) ≡ line_ends front + line_ends back
-line_ends-append front back = sum_by-append (λ x. cond (x == 10) 1 0) front back
+pub line_ends-append : (prefix rest : List ℕ) → line_ends (prefix ++ rest) ≡ line_ends prefix + line_ends rest
+line_ends-append prefix rest = sum_by-append (λ x. cond (x == 10) 1 0) prefix rest
 
 -- the lines that end in the first byte and in the rest
 pub line_ends-cons : (byte : ℕ) (bytes : List ℕ) → line_ends (byte ∷ bytes) ≡ line_ends (byte ∷ []) + line_ends bytes

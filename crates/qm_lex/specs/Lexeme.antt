@@ -25,8 +25,8 @@ quote_length Quoted = 1
 abbrev pub line_ends : List ℕ → ℕ
 line_ends bytes = count_by (λ byte. byte == 10) bytes
 
--- the lexeme stands in the text at its place, its quotes too; its line is one more than the lines that end before
--- its first byte, or before its opening quote
+-- the lexeme's bytes are those of the text between its offsets, and its quotes stand around them in the text; its line
+-- is one more than the lines that end before its first byte, or before its opening quote
 pub record StandsIn (text : List ℕ) (lexeme : Lexeme) : Type 0 where
   pub ordered : lexeme.start ≤ lexeme.end
   pub opened_within : quote_length lexeme.kind ≤ lexeme.start

@@ -1,9 +1,10 @@
 -- What holds of each element of a list holds of each element of its parts.
-use Rattle.std.proofs.Common.{◌≡◌, ℕ, zero, suc, List, [], ◌∷◌, ◌++◌, length, map, slice_get, Some, refl, ap, subst, arith, ◌⊎◌, inl, inr}
-use Rattle.std.specs.List.{All, AllByRecursion, Contains}
-use Rattle.std.proofs.lemmas.List.{take_at, drop_at}
-use Rattle.std.proofs.lemmas.List.Elements.{All-take, All-drop, All-nil, All-cons, All-head, All-tail}
+use Rattle.std.proofs.Common.{◌≡◌, Bool, true, ℕ, zero, suc, List, [], ◌∷◌, ◌++◌, length, map, take, drop, slice_get, Some, refl, ap, subst, ◌∙◌, arith, ◌⊎◌, ⊎_elim, inl, inr}
+use Rattle.std.specs.List.{All, AllByRecursion, Contains, filter}
+use Rattle.std.proofs.lemmas.List.{take_at, drop_at, take-append-drop}
+use Rattle.std.proofs.lemmas.List.Elements.{All-take, All-drop, All-nil, All-cons, All-head, All-tail, Contains-append_left}
 use Rattle.std.proofs.lemmas.Option.{slice_get_within, get_or_from_slice_get}
+use Rattle.qm_lists.proofs.Cases.{by_cases}
 
 pub All-first_part : {X : Type 0} (P : X → Type 0) (xs ys : List X) → All P (xs ++ ys) → All P xs
 All-first_part P xs ys all = subst (All P) (take_at xs ys (length xs) refl) (All-take P (length xs) (xs ++ ys) all)
@@ -25,6 +26,10 @@ pub All-from_map : {X Y : Type 0} (P : X → Type 0) (f : Y → X) (ys : List Y)
 All-from_map P f [] all = All-nil (λ y. P (f y))
 All-from_map P f (y ∷ ys) all =
     All-cons (λ y. P (f y)) y ys (All-head P (f y) (map f ys) all) (All-from_map P f ys (All-tail P (f y) (map f ys) all))
+
+-- an empty list has no element
+pub Contains-nil : {X : Type 0} (x : X) → Contains [] x → ⊥
+Contains-nil x among = absurd (omega (arith, among.1))
 
 -- what stands at a place is an element
 pub Contains-at : {X : Type 0} (xs : List X) (i : ℕ) (x : X) → slice_get xs i ≡ Some x → Contains xs x
@@ -55,3 +60,18 @@ Contains-map_from f (first ∷ xs) y (zero, within, is) = (first, Contains-first
 Contains-map_from f (first ∷ xs) y (suc k, within, is) =
     let found = Contains-map_from f xs y (k, omega arith, is) in
     (found.0, Contains-later first found.0 xs found.1, found.2)
+
+-- ---- the elements that pass a test
+
+pub Contains-filter : {X : Type 0} (test : X → Bool) (xs : List X) (x : X) → Contains xs x → test x ≡ true → Contains (filter test xs) x
+Contains-filter test [] x among passes = absurd (Contains-nil x among)
+Contains-filter {X = X} test (first ∷ xs) x among passes = ⊎_elim
+    (λ same. let yes : test first ≡ true = ap test same ∙ passes in rw yes (subst (λ (y : X). Contains (first ∷ filter test xs) y) same (Contains-first first (filter test xs))))
+    (λ later. let rest = Contains-filter test xs x later passes in
+    by_cases (test first) (λ is. rw is (Contains-later first x (filter test xs) rest)) (λ is. rw is rest))
+    (Contains-cons_cases first x xs among)
+
+-- ---- first elements
+
+pub Contains-from_take : {X : Type 0} (n : ℕ) (xs : List X) (x : X) → Contains (take n xs) x → Contains xs x
+Contains-from_take {X = X} n xs x among = subst (λ (ys : List X). Contains ys x) (take-append-drop n xs) (Contains-append_left (take n xs) (drop n xs) x among)

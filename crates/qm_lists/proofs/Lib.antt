@@ -12,3 +12,4 @@ pub mod Mapped
 pub mod EachPair
 pub mod Spreads
 pub mod Stacks
+pub mod Taken

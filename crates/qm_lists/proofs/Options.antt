@@ -16,3 +16,8 @@ IsNone_from_is_none (Some a) e = absurd cc
 pub is_none_from_IsNone : {A : Type 0} (o : Option A) → IsNone o → is_none o ≡ true
 is_none_from_IsNone None e = refl
 is_none_from_IsNone (Some a) e = absurd cc
+
+-- an Option that is Some of nothing is None
+pub none_if_not_some : {A : Type 0} (o : Option A) → ((a : A) → o ≡ Some a → ⊥) → o ≡ None
+none_if_not_some None never = refl
+none_if_not_some (Some a) never = absurd (never a refl)

@@ -1,7 +1,8 @@
 -- What stands at the places of two lists, one behind the other, and of a list's first elements.
-use Rattle.std.proofs.Common.{◌≡◌, ℕ, zero, suc, ◌+◌, ◌<◌, List, [], ◌∷◌, ◌++◌, length, map, take, slice_get, Some, ◌⊎◌, inl, inr, refl, ap, ◌∙◌, arith}
+use Rattle.std.proofs.Common.{◌≡◌, ℕ, zero, suc, ◌+◌, ◌<◌, List, [], ◌∷◌, ◌++◌, length, map, take, drop, get_or, slice_get, Some, Contains, ◌⊎◌, inl, inr, refl, sym, ap, subst, ◌∙◌, arith}
+use Rattle.std.proofs.lemmas.List.{take_more, drop_more, take-append-drop}
 
--- a list in front of another keeps its places
+-- a list before another keeps its places
 pub slice_get-append_old : {X : Type 0} (xs ys : List X) (y : X) (n : ℕ) → slice_get xs n ≡ Some y → slice_get (xs ++ ys) n ≡ Some y
 slice_get-append_old [] ys y n h = cc
 slice_get-append_old (z ∷ zs) ys y zero h = h
@@ -55,21 +56,17 @@ slice_get-map_from f [] n y at = absurd cc
 slice_get-map_from f (first ∷ xs) zero y at = (first, refl, cc)
 slice_get-map_from f (first ∷ xs) (suc n) y at = slice_get-map_from f xs n y at
 
--- what stands at a place of the first i elements
-pub slice_get-take : {X : Type 0} (xs : List X) (i n : ℕ) (x : X) → slice_get (take i xs) n ≡ Some x → (n < i) × (slice_get xs n ≡ Some x)
-slice_get-take [] zero n x at = cc
-slice_get-take [] (suc i) n x at = cc
-slice_get-take (y ∷ ys) zero n x at = cc
-slice_get-take (y ∷ ys) (suc i) zero x at = (omega arith, at)
-slice_get-take (y ∷ ys) (suc i) (suc n) x at = let h = slice_get-take ys i n x at in (let l = h.0 in omega arith, h.1)
+-- ---- what code reads at a place
 
--- the first i elements, and the one behind them
-pub take_next : {X : Type 0} (xs : List X) (i : ℕ) (x : X) → slice_get xs i ≡ Some x → take (suc i) xs ≡ take i xs ++ x ∷ []
-take_next [] i x at = cc
-take_next (y ∷ ys) zero x at = cc
-take_next (y ∷ ys) (suc i) x at = ap (λ zs. y ∷ zs) (take_next ys i x at)
+module _ {X : Type 0} (xs : List X) (k : ℕ) (x : X) (within : k < length xs) (read : x ≡ get_or xs k x) where
+  -- it is an element of the list, by whatever name
+  pub Contains-read : (ys : List X) → xs ≡ ys → Contains ys x
+  Contains-read ys same = subst (λ (zs : List X). Contains zs x) same (k, within, sym read)
 
-pub length-take_at : {X : Type 0} (xs : List X) (i : ℕ) (x : X) → slice_get xs i ≡ Some x → length (take i xs) ≡ i
-length-take_at [] i x at = cc
-length-take_at (y ∷ ys) zero x at = refl
-length-take_at (y ∷ ys) (suc i) x at = ap suc (length-take_at ys i x at)
+  -- with it the elements before it are one more
+  pub take-read : take (k + 1) xs ≡ take k xs ++ x ∷ []
+  take-read = take_more xs k x within ∙ ap (λ (y : X). take k xs ++ y ∷ []) (sym read)
+
+  -- the list is what stands before it, itself, and what stands behind it
+  pub parted-read : xs ≡ take k xs ++ x ∷ drop (k + 1) xs
+  parted-read = sym (take-append-drop k xs) ∙ ap (λ (r : List X). take k xs ++ r) (drop_more xs k x within ∙ ap (λ (y : X). y ∷ drop (k + 1) xs) (sym read))

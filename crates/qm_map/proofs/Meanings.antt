@@ -31,14 +31,6 @@ begun text reading same left = record {
   unclosed = ap (λ (l : Lexing). l.unclosed_line) left;
 }
 
--- a token further
-pub advanced : (text : List ℕ) (prefix next : Prefix) (reading later : Reading) (lexeme : Lexeme) → IsUnderway text prefix reading → later.text ≡ reading.text → reading.left ≡ lexeme_then lexeme later.left → step prefix (symbol_of lexeme) ≡ Ok next → IsUnderway text next later
-advanced text prefix next reading later lexeme u same left led = record {
-  text_is = same ∙ u.text_is;
-  rest = u.rest ∙ ap (λ (l : Lexing). steps prefix l.lexemes) left ∙ steps_step prefix next lexeme later.left.lexemes led;
-  unclosed = u.unclosed ∙ ap (λ (l : Lexing). l.unclosed_line) left;
-}
-
 pub refused_is : (text : List ℕ) (prefix : Prefix) (reading : Reading) (rest : Lexing) (lexeme : Lexeme) (reason : Refusal) → IsUnderway text prefix reading → reading.left ≡ lexeme_then lexeme rest → step prefix (symbol_of lexeme) ≡ Err reason → meaning_of text ≡ Err (refused_at text reason lexeme)
 unfolding meaning_of
 refused_is text prefix reading rest lexeme reason u left refused =
@@ -59,7 +51,3 @@ ended_is text prefix reading u left = over_is text prefix reading None u left
 -- only a quote is left that is not closed
 pub unclosed_is : (text : List ℕ) (prefix : Prefix) (reading : Reading) (line : ℕ) → IsUnderway text prefix reading → reading.left ≡ unclosed_on line → meaning_of text ≡ ended text (Some line) (Ok prefix)
 unclosed_is text prefix reading line u left = over_is text prefix reading (Some line) u left
-
--- a token fewer is left
-pub fewer_left : (reading later : Reading) (lexeme : Lexeme) → reading.left ≡ lexeme_then lexeme later.left → length later.left.lexemes < length reading.left.lexemes
-fewer_left reading later lexeme left = let e = ap (λ (l : Lexing). length l.lexemes) left in omega arith

@@ -62,17 +62,3 @@ cut_at bytes (byte ∷ text) e =
 
 pub words_of-cut : (bytes text word rest : List ℕ) → text ≡ drop (prefix_len parts_words bytes) bytes → word ≡ take (prefix_len is_ink text) text → rest ≡ drop (prefix_len is_ink text) text → IsCut bytes word rest
 words_of-cut bytes text word rest t w r = rw (w, r) (cut_at bytes text (sym t))
-
--- a text has at most as many words as bytes
-length-lengthened : (byte : ℕ) (words : List Word) → length (lengthened byte words) ≤ length words + 1
-length-lengthened byte [] = omega arith
-length-lengthened byte (word ∷ words) = omega arith
-
-fewer : (byte : ℕ) (bytes : List ℕ) (blank gap : Bool) → parts_words byte ≡ blank → is_at_gap bytes ≡ gap → length (words_of bytes) ≤ length bytes → length (words_of (byte ∷ bytes)) ≤ length (byte ∷ bytes)
-fewer byte bytes true gap b g le = rw b (omega arith)
-fewer byte bytes false true b g le = rw (b, g) (omega arith)
-fewer byte bytes false false b g le = rw (b, g) (omega (arith, length-lengthened byte (words_of bytes)))
-
-pub length-words_of : (bytes : List ℕ) → length (words_of bytes) ≤ length bytes
-length-words_of [] = omega arith
-length-words_of (byte ∷ bytes) = fewer byte bytes (parts_words byte) (is_at_gap bytes) refl refl (length-words_of bytes)

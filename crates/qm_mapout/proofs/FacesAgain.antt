@@ -24,7 +24,7 @@ use Rattle.qm_grammar.specs.Valid.{IsNameText, HasNoQuote, HasWords, IsValidFace
 use Rattle.qm_lists.proofs.Elements.{AllByRecursion-append}
 use Rattle.qm_lists.proofs.Options.{none_from_is_some}
 use Rattle.qm_mapout.specs.Lines.{symbols_of_line}
-use Rattle.qm_mapout.specs.Printed.{word, quoted, number, open_parenthesis, close_parenthesis, open_bracket, close_bracket, point_symbols, needs_quotes, begins_comment, texture_symbol, axis_symbols, mapping_front, mapping_last, face_line}
+use Rattle.qm_mapout.specs.Printed.{word, quoted, number, open_parenthesis, close_parenthesis, open_bracket, close_bracket, point_symbols, needs_quotes, begins_comment, texture_symbol, axis_symbols, mapping_prefix, mapping_last, face_line}
 use Rattle.qm_mapout.proofs.Lexed.{IsWritable}
 use Rattle.qm_mapout.proofs.LinesLexed.{IsWritableLine}
 use Rattle.qm_mapout.proofs.Numbers.{number_text}
@@ -158,11 +158,11 @@ plain_by_test : (name : List ℕ) → needs_quotes name ≡ false → IsPlainNam
 unfolding needs_quotes
 plain_by_test name e =
     let blank : Bool = list_any (λ byte. nat_le byte 32) name in
-    let front = or_left (length name == 0 || blank || begins_comment name) (is_some (mark_of name)) e in
-    let shorter = or_left (length name == 0 || blank) (begins_comment name) front in
+    let earlier = or_left (length name == 0 || blank || begins_comment name) (is_some (mark_of name)) e in
+    let shorter = or_left (length name == 0 || blank) (begins_comment name) earlier in
     record {
       visible = no_blanks name (or_right (length name == 0) blank shorter);
-      no_comment = or_right (length name == 0 || blank) (begins_comment name) front;
+      no_comment = or_right (length name == 0 || blank) (begins_comment name) earlier;
       no_mark = none_from_is_some (mark_of name) (or_right (length name == 0 || blank || begins_comment name) (is_some (mark_of name)) e);
       some = λ h. elim (eqb_tells (length name) 0) [
         | inl same ↦ (let zero_test = same.0 in let no_zero = or_left (length name == 0) blank shorter in cc)
@@ -265,11 +265,11 @@ points_again (p ∷ q ∷ r ∷ t ∷ others) e triples coordinates = absurd (om
 record MappingAgain (mapping : Mapping) : Type 0 where
   form : Form
   texts : List (List ℕ)
-  stand : Stand (mapping_slots form) (mapping_front mapping ++ mapping_last mapping ∷ []) [] texts
+  stand : Stand (mapping_slots form) (mapping_prefix mapping ++ mapping_last mapping ∷ []) [] texts
   same : mapping_of texts ≡ mapping
 
 five_again : (a b c d e : List ℕ) → All IsNameText (a ∷ b ∷ c ∷ d ∷ e ∷ []) → MappingAgain (Standard (a ∷ b ∷ c ∷ d ∷ e ∷ []))
-unfolding mapping_front mapping_last
+unfolding mapping_prefix mapping_last
 five_again a b c d e names = record {
   form = standard;
   texts = a ∷ b ∷ c ∷ d ∷ e ∷ [];
@@ -281,7 +281,7 @@ five_again a b c d e names = record {
 
 eleven_again : (a b c d e f g h i j k : List ℕ) → All IsNameText (a ∷ b ∷ c ∷ d ∷ e ∷ f ∷ g ∷ h ∷ i ∷ j ∷ k ∷ []) →
     MappingAgain (Valve (a ∷ b ∷ c ∷ d ∷ e ∷ f ∷ g ∷ h ∷ i ∷ j ∷ k ∷ []))
-unfolding mapping_front mapping_last
+unfolding mapping_prefix mapping_last
 eleven_again a b c d e f g h i j k names = record {
   form = valve;
   texts = a ∷ b ∷ c ∷ d ∷ e ∷ f ∷ g ∷ h ∷ i ∷ j ∷ k ∷ [];
@@ -331,17 +331,17 @@ face_again face valid =
     let points = points_again face.points valid.three valid.triples valid.coordinates in
     let mapping = mapping_again face.mapping valid.count_of_words valid.words in
     let all = join points.stand (join (texture_stand face.texture valid.texture) mapping.stand) in
-    let front : List Symbol = flat_map point_symbols face.points in
-    let tail : List Symbol = texture_symbol face.texture ∷ mapping_front face.mapping in
+    let prefix : List Symbol = flat_map point_symbols face.points in
+    let tail : List Symbol = texture_symbol face.texture ∷ mapping_prefix face.mapping in
     let last : List Symbol = mapping_last face.mapping ∷ [] in
-    let same : (front ++ tail) ++ last ≡ front ++ (tail ++ last) = append_assoc front tail last in
+    let same : (prefix ++ tail) ++ last ≡ prefix ++ (tail ++ last) = append_assoc prefix tail last in
     record {
       spelled = record {
         form = mapping.form;
         numbers = points.numbers;
         texts = face.texture ∷ mapping.texts;
         filled =
-            (let P : List ℤ → Type 0 = λ ns. Fill (face_slots mapping.form) (front ++ (tail ++ last)) ns (face.texture ∷ mapping.texts) in
+            (let P : List ℤ → Type 0 = λ ns. Fill (face_slots mapping.form) (prefix ++ (tail ++ last)) ns (face.texture ∷ mapping.texts) in
             let Q : List Symbol → Type 0 = λ ss. Fill (face_slots mapping.form) ss points.numbers (face.texture ∷ mapping.texts) in
             subst Q (sym same) (subst P (append-nil points.numbers) all.fill));
         is_face =

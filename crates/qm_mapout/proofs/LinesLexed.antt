@@ -17,7 +17,7 @@ line_end_behind : Symbol → Gapped
 line_end_behind symbol = record { symbol = symbol; gap = 10 }
 
 gapped_line : Line → List Gapped
-gapped_line line = map space_behind line.front ++ line_end_behind line.last ∷ []
+gapped_line line = map space_behind line.prefix ++ line_end_behind line.last ∷ []
 
 gapped_lines : List Line → List Gapped
 gapped_lines lines = flat_map gapped_line lines
@@ -29,18 +29,18 @@ gapped_text-append (x ∷ xs) ys =
     ap (λ t. (spelling x.symbol ++ x.gap ∷ []) ++ t) (gapped_text-append xs ys)
     ∙ sym (append_assoc (spelling x.symbol ++ x.gap ∷ []) (gapped_text xs) (gapped_text ys))
 
-front_text : (front : List Symbol) → gapped_text (map space_behind front) ≡ flat_map spaced front
+prefix_text : (prefix : List Symbol) → gapped_text (map space_behind prefix) ≡ flat_map spaced prefix
 unfolding gapped_text space_behind
-front_text [] = refl
-front_text (symbol ∷ symbols) =
-    ap (λ t. spaced symbol ++ t) (front_text symbols) ∙ sym (flat_map-cons spaced symbol symbols)
+prefix_text [] = refl
+prefix_text (symbol ∷ symbols) =
+    ap (λ t. spaced symbol ++ t) (prefix_text symbols) ∙ sym (flat_map-cons spaced symbol symbols)
 
 line_gapped : (line : Line) → gapped_text (gapped_line line) ≡ line_text line
 unfolding gapped_line gapped_text line_end_behind line_text
 line_gapped line =
-    gapped_text-append (map space_behind line.front) (line_end_behind line.last ∷ [])
-    ∙ ap (λ t. t ++ ((spelling line.last ++ 10 ∷ []) ++ [])) (front_text line.front)
-    ∙ ap (λ t. flat_map spaced line.front ++ t) (append-nil (spelling line.last ++ 10 ∷ []))
+    gapped_text-append (map space_behind line.prefix) (line_end_behind line.last ∷ [])
+    ∙ ap (λ t. t ++ ((spelling line.last ++ 10 ∷ []) ++ [])) (prefix_text line.prefix)
+    ∙ ap (λ t. flat_map spaced line.prefix ++ t) (append-nil (spelling line.last ++ 10 ∷ []))
 
 lines_gapped : (lines : List Line) → gapped_text (gapped_lines lines) ≡ text_of lines
 unfolding gapped_lines gapped_text
@@ -52,16 +52,16 @@ lines_gapped (line ∷ lines) =
     ∙ ap (λ t. line_text line ++ t) (lines_gapped lines)
     ∙ sym (flat_map-cons line_text line lines)
 
-front_symbols : (front : List Symbol) → map (λ g. g.symbol) (map space_behind front) ≡ front
+prefix_symbols : (prefix : List Symbol) → map (λ g. g.symbol) (map space_behind prefix) ≡ prefix
 unfolding space_behind
-front_symbols [] = refl
-front_symbols (symbol ∷ symbols) = ap (λ ss. symbol ∷ ss) (front_symbols symbols)
+prefix_symbols [] = refl
+prefix_symbols (symbol ∷ symbols) = ap (λ ss. symbol ∷ ss) (prefix_symbols symbols)
 
 line_symbols : (line : Line) → map (λ g. g.symbol) (gapped_line line) ≡ symbols_of_line line
 unfolding gapped_line line_end_behind
 line_symbols line =
-    map-append (λ g. g.symbol) (map space_behind line.front) (line_end_behind line.last ∷ [])
-    ∙ ap (λ ss. ss ++ line.last ∷ []) (front_symbols line.front)
+    map-append (λ g. g.symbol) (map space_behind line.prefix) (line_end_behind line.last ∷ [])
+    ∙ ap (λ ss. ss ++ line.last ∷ []) (prefix_symbols line.prefix)
 
 lines_symbols : (lines : List Line) → map (λ g. g.symbol) (gapped_lines lines) ≡ symbols_of lines
 unfolding gapped_lines
@@ -73,16 +73,16 @@ lines_symbols (line ∷ lines) =
     ∙ ap (λ t. symbols_of_line line ++ t) (lines_symbols lines)
     ∙ sym (flat_map-cons symbols_of_line line lines)
 
-front_good : (front : List Symbol) → AllByRecursion IsWritable front → AllByRecursion IsGood (map space_behind front)
+prefix_good : (prefix : List Symbol) → AllByRecursion IsWritable prefix → AllByRecursion IsGood (map space_behind prefix)
 unfolding space_behind
-front_good [] all = tt
-front_good (symbol ∷ symbols) all = (record { writable = all.0; parts = lit≤ tt }, front_good symbols all.1)
+prefix_good [] all = tt
+prefix_good (symbol ∷ symbols) all = (record { writable = all.0; parts = lit≤ tt }, prefix_good symbols all.1)
 
 line_good : (line : Line) → AllByRecursion IsWritable (symbols_of_line line) → AllByRecursion IsGood (gapped_line line)
 unfolding gapped_line line_end_behind
 line_good line all =
-    let parts = AllByRecursion-parts IsWritable line.front (line.last ∷ []) all in
-    AllByRecursion-append IsGood (map space_behind line.front) (line_end_behind line.last ∷ []) (front_good line.front parts.0)
+    let parts = AllByRecursion-parts IsWritable line.prefix (line.last ∷ []) all in
+    AllByRecursion-append IsGood (map space_behind line.prefix) (line_end_behind line.last ∷ []) (prefix_good line.prefix parts.0)
     (record { writable = parts.1.0; parts = lit≤ tt }, tt)
 
 -- each token of the line can stand

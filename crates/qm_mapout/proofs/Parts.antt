@@ -10,7 +10,7 @@ use Rattle.qm_mapfile.specs.declared.entity.Entity.{Entity}
 use Rattle.qm_lists.proofs.FlatMaps.{flat_map-flat_map}
 use Rattle.qm_grammar.specs.Symbol.{Symbol}
 use Rattle.qm_mapout.specs.Lines.{Line, line_text, text_of, spaced, spelling}
-use Rattle.qm_mapout.specs.Printed.{brace_line, open_brace, close_brace, pair_line, face_line, brush_lines, entity_lines, number, open_parenthesis, close_parenthesis, point_symbols, texture_symbol, mapping_front, mapping_last}
+use Rattle.qm_mapout.specs.Printed.{brace_line, open_brace, close_brace, pair_line, face_line, brush_lines, entity_lines, number, open_parenthesis, close_parenthesis, point_symbols, texture_symbol, mapping_prefix, mapping_last}
 
 -- a line before others
 text_cons : (line : Line) (lines : List Line) → text_of (line ∷ lines) ≡ line_text line ++ text_of lines
@@ -72,7 +72,7 @@ point_put (a ∷ b ∷ c ∷ []) start first second third fourth three opens x y
     rw (z, y, x, opens) (simp append_assoc)
 
 -- three points, the texture and the mapping of a face
-pub face_put : (face : Face) (start first second third fourth : List ℕ) → length face.points ≡ 3 → first ≡ start ++ flat_map spaced (point_symbols (get_or face.points 0 [])) → second ≡ first ++ flat_map spaced (point_symbols (get_or face.points 1 [])) → third ≡ second ++ flat_map spaced (point_symbols (get_or face.points 2 [])) → fourth ≡ third ++ spaced (texture_symbol face.texture) → start ++ line_text (face_line face) ≡ fourth ++ (flat_map spaced (mapping_front face.mapping) ++ (spelling (mapping_last face.mapping) ++ 10 ∷ []))
+pub face_put : (face : Face) (start first second third fourth : List ℕ) → length face.points ≡ 3 → first ≡ start ++ flat_map spaced (point_symbols (get_or face.points 0 [])) → second ≡ first ++ flat_map spaced (point_symbols (get_or face.points 1 [])) → third ≡ second ++ flat_map spaced (point_symbols (get_or face.points 2 [])) → fourth ≡ third ++ spaced (texture_symbol face.texture) → start ++ line_text (face_line face) ≡ fourth ++ (flat_map spaced (mapping_prefix face.mapping) ++ (spelling (mapping_last face.mapping) ++ 10 ∷ []))
 unfolding face_line line_text
 face_put face start first second third fourth three a b c t =
     ap (λ s. start ++ s) (parts face.points three)
@@ -81,16 +81,16 @@ face_put face start first second third fourth three a b c t =
     rest : List ℕ
     rest = spelling (mapping_last face.mapping) ++ 10 ∷ []
 
-    front : List Symbol
-    front = mapping_front face.mapping
+    prefix : List Symbol
+    prefix = mapping_prefix face.mapping
 
-    tail : flat_map spaced (texture_symbol face.texture ∷ front) ≡ spaced (texture_symbol face.texture) ++ flat_map spaced front
-    tail = flat_map-cons spaced (texture_symbol face.texture) front
+    tail : flat_map spaced (texture_symbol face.texture ∷ prefix) ≡ spaced (texture_symbol face.texture) ++ flat_map spaced prefix
+    tail = flat_map-cons spaced (texture_symbol face.texture) prefix
 
-    parts : (points : List (List ℤ)) → length points ≡ 3 → flat_map spaced (flat_map point_symbols points ++ texture_symbol face.texture ∷ front) ++ rest ≡ (flat_map spaced (point_symbols (get_or points 0 [])) ++ (flat_map spaced (point_symbols (get_or points 1 [])) ++ (flat_map spaced (point_symbols (get_or points 2 [])) ++ (spaced (texture_symbol face.texture) ++ flat_map spaced front)))) ++ rest
+    parts : (points : List (List ℤ)) → length points ≡ 3 → flat_map spaced (flat_map point_symbols points ++ texture_symbol face.texture ∷ prefix) ++ rest ≡ (flat_map spaced (point_symbols (get_or points 0 [])) ++ (flat_map spaced (point_symbols (get_or points 1 [])) ++ (flat_map spaced (point_symbols (get_or points 2 [])) ++ (spaced (texture_symbol face.texture) ++ flat_map spaced prefix)))) ++ rest
     parts [] e = absurd (omega arith)
     parts (p ∷ []) e = absurd (omega arith)
     parts (p ∷ q ∷ []) e = absurd (omega arith)
     parts (p ∷ q ∷ r ∷ s ∷ more) e = absurd (omega arith)
     parts (p ∷ q ∷ r ∷ []) e =
-        rw (flat_map-append spaced (flat_map point_symbols (p ∷ q ∷ r ∷ [])) (texture_symbol face.texture ∷ front), tail, flat_map-flat_map spaced point_symbols (p ∷ q ∷ r ∷ [])) (simp (append_assoc, append-nil))
+        rw (flat_map-append spaced (flat_map point_symbols (p ∷ q ∷ r ∷ [])) (texture_symbol face.texture ∷ prefix), tail, flat_map-flat_map spaced point_symbols (p ∷ q ∷ r ∷ [])) (simp (append_assoc, append-nil))

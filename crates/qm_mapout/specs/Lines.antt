@@ -19,14 +19,14 @@ spaced symbol = spelling symbol ++ 32 ∷ []
 
 -- the tokens of a line: those before the last, and the last
 pub record Line : Type 0 where
-  pub front : List Symbol
+  pub prefix : List Symbol
   pub last : Symbol
 
 unfoldable pub line_text : Line → List ℕ
-line_text line = flat_map spaced line.front ++ (spelling line.last ++ 10 ∷ [])
+line_text line = flat_map spaced line.prefix ++ (spelling line.last ++ 10 ∷ [])
 
 abbrev pub symbols_of_line : Line → List Symbol
-symbols_of_line line = line.front ++ line.last ∷ []
+symbols_of_line line = line.prefix ++ line.last ∷ []
 
 -- the text of lines
 abbrev pub text_of : List Line → List ℕ

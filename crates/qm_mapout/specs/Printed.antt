@@ -64,9 +64,9 @@ abbrev pub axis_symbols : List (List ℕ) → List Symbol
 axis_symbols words = open_bracket ∷ (map word words ++ close_bracket ∷ [])
 
 -- the tokens of a mapping before its last: four words, or two axes of four words each and two words
-unfoldable pub mapping_front : Mapping → List Symbol
-mapping_front (Standard words) = map word (take 4 words)
-mapping_front (Valve words) =
+unfoldable pub mapping_prefix : Mapping → List Symbol
+mapping_prefix (Standard words) = map word (take 4 words)
+mapping_prefix (Valve words) =
     axis_symbols (take 4 words) ++ (axis_symbols (take 4 (drop 4 words)) ++ map word (take 2 (drop 8 words)))
 
 -- the last word of a mapping
@@ -77,16 +77,16 @@ mapping_last (Valve words) = word (slice_index_or words 10 [])
 -- three points, the texture and the mapping
 unfoldable pub face_line : Face → Line
 face_line face = record {
-  front = flat_map point_symbols face.points ++ texture_symbol face.texture ∷ mapping_front face.mapping;
+  prefix = flat_map point_symbols face.points ++ texture_symbol face.texture ∷ mapping_prefix face.mapping;
   last = mapping_last face.mapping;
 }
 
 abbrev pub brace_line : Symbol → Line
-brace_line brace = record { front = []; last = brace }
+brace_line brace = record { prefix = []; last = brace }
 
 -- a key and a value
 unfoldable pub pair_line : Pair → Line
-pair_line pair = record { front = quoted pair.key ∷ []; last = quoted pair.value }
+pair_line pair = record { prefix = quoted pair.key ∷ []; last = quoted pair.value }
 
 -- { faces }
 unfoldable pub brush_lines : Brush → List Line

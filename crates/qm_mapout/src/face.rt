@@ -5,7 +5,7 @@ ghost use Rattle.std.specs.List.{list_any};
 ghost use Rattle.qm_mapout.specs.Lines.{spaced, spelling, line_text};
 ghost use Rattle.qm_grammar.specs.Symbol.{mark_of};
 ghost use Rattle.qm_grammar.specs.Valid.{HasWords, IsValidFace};
-ghost use Rattle.qm_mapout.specs.Printed.{word, point_symbols, begins_comment, needs_quotes, texture_symbol, axis_symbols, mapping_front, mapping_last, face_line};
+ghost use Rattle.qm_mapout.specs.Printed.{word, point_symbols, begins_comment, needs_quotes, texture_symbol, axis_symbols, mapping_prefix, mapping_last, face_line};
 
 use crate::line::{put_last_word, put_number, put_quoted, put_word};
 use qm_lists::{Encoding, append_all};
@@ -104,10 +104,10 @@ fn put_axis(out: &mut Vec<u8>, words: &[Text]) -> Result<(), AllocError>
 }
 
 /// The mapping, which ends the line.
-#[tactic(auto, unfolding(crate::specs::Printed::mapping_front, crate::specs::Printed::mapping_last))]
+#[tactic(auto, unfolding(crate::specs::Printed::mapping_prefix, crate::specs::Printed::mapping_last))]
 fn put_mapping(out: &mut Vec<u8>, mapping: &Mapping) -> Result<(), AllocError>
     requires { HasWords mapping.now }
-    ensures { OnOk result (out.new.items ≡ out.old.items ++ (flat_map spaced (mapping_front mapping.now) ++ (spelling (mapping_last mapping.now) ++ 10 ∷ []))) }
+    ensures { OnOk result (out.new.items ≡ out.old.items ++ (flat_map spaced (mapping_prefix mapping.now) ++ (spelling (mapping_last mapping.now) ++ 10 ∷ []))) }
 {
     match mapping {
         Mapping::Standard(words) => {

@@ -9,7 +9,7 @@ use Rattle.qm_numbers.specs.Gcd.{gcd, gcd_within}
 use Rattle.qm_numbers.specs.FloorDivision.{floor_div}
 use Rattle.qm_numbers.specs.Rounding.{IsRoundedDown}
 use Rattle.qm_numbers.proofs.IntegerProducts.{linear, *ℤ_assoc, +ℤ-*ℤ, one_*ℤ, zero_*ℤ}
-use Rattle.qm_numbers.proofs.Signs.{abs_product, cancel_less}
+use Rattle.qm_numbers.proofs.Signs.{abs_product}
 use Rattle.qm_numbers.proofs.Ring.{variable, ◌⊕◌, ◌⊖◌, ◌⊗◌, solved}
 
 -- ---- the greatest common divisor
@@ -162,15 +162,6 @@ floor_div_is a b h =
     let f = floor_parts a b h in
     let e = +ℤ-*ℤ (floor_div a b) (pos 1) b in let o = one_*ℤ b in
     record { at_most = f.0; next = let l = f.1 in omega (arith, linear) }
-
--- no other number is the floor
-pub one_floor : (a b p q : ℤ) → pos 0 <ℤ b → IsRoundedDown a b p → IsRoundedDown a b q → p ≡ q
-one_floor a b p q h f g =
-    let s = *ℤ_comm b p in let t = *ℤ_comm b q in
-    let u = *ℤ_comm b (q +ℤ pos 1) in let w = *ℤ_comm b (p +ℤ pos 1) in
-    let l = cancel_less b p (q +ℤ pos 1) h (let x = f.at_most in let y = g.next in omega (arith, linear)) in
-    let m = cancel_less b q (p +ℤ pos 1) h (let x = g.at_most in let y = f.next in omega (arith, linear)) in
-    omega (arith, linear)
 
 -- worked rows
 gcd_row : gcd 12 18 ≡ 6

@@ -1,6 +1,6 @@
 -- The sign of an integer: three cases, the signs of products, and cancelling.
 use Rattle.std.specs.Prelude.{int_lt}
-use Rattle.std.proofs.Common.{◌≡◌, true, false, ℕ, suc, zero, ◌+◌, ◌*◌, ◌≤◌, ◌<◌, ℤ, pos, negsuc, ◌+ℤ◌, ◌-ℤ◌, ◌*ℤ◌, neg_ℤ, ◌≤ℤ◌, ◌<ℤ◌, ap, refl, sym, ◌∙◌, arith, unsigned_abs, int_cmp, Less, Equal, Greater, ◌⊎◌, inl, inr, mul-le-mul}
+use Rattle.std.proofs.Common.{◌≡◌, true, false, ℕ, suc, zero, ◌+◌, ◌*◌, ◌≤◌, ◌<◌, ℤ, pos, negsuc, ◌+ℤ◌, ◌-ℤ◌, ◌*ℤ◌, neg_ℤ, ◌≤ℤ◌, ◌<ℤ◌, ap, refl, ◌∙◌, arith, unsigned_abs, int_cmp, Less, Equal, Greater, ◌⊎◌, inl, inr, mul-le-mul}
 use Rattle.std.proofs.lemmas.Int.{ints, unsigned_abs-mul}
 use Rattle.std.proofs.Math.IntN.{*ℤ_comm}
 use Rattle.qm_numbers.proofs.IntegerProducts.{linear, *ℤ--ℤ, *ℤ-neg, neg-*ℤ, *ℤ_zero}
@@ -16,9 +16,6 @@ by_sign (negsuc k) n e p = n (omega (arith, ints))
 -- of two numbers one is the less, or they are equal
 pub by_order : {P : Type 0} (a b : ℤ) → (a <ℤ b → P) → (a ≡ b → P) → (b <ℤ a → P) → P
 by_order a b l e g = by_sign (a -ℤ b) (λ h. l (omega (arith, linear))) (λ h. e (omega (arith, linear))) (λ h. g (omega (arith, linear)))
-
-pub trichotomy : (a b : ℤ) → (a <ℤ b) ⊎ ((a ≡ b) ⊎ (b <ℤ a))
-trichotomy a b = by_order a b (λ h. inl h) (λ h. inr (inl h)) (λ h. inr (inr h))
 
 -- at least or less
 pub by_least : {P : Type 0} (a b : ℤ) → (a <ℤ b → P) → (b ≤ℤ a → P) → P
@@ -119,9 +116,6 @@ cancel_at_most k a b h l = let e = *ℤ--ℤ k b a in let p = not_negative_besid
 pub cancel_equal : (k a b : ℤ) → (k ≡ pos 0 → ⊥) → k *ℤ a ≡ k *ℤ b → a ≡ b
 cancel_equal k a b n l = let e = *ℤ--ℤ k a b in let p = zero_beside k (a -ℤ b) n (omega (arith, linear)) in omega (arith, linear)
 
-pub times_less : (k a b : ℤ) → pos 0 <ℤ k → a <ℤ b → (k *ℤ a) <ℤ (k *ℤ b)
-times_less k a b h l = let e = *ℤ--ℤ k b a in let p = product_positive k (b -ℤ a) h (omega (arith, linear)) in omega (arith, linear)
-
 pub times_at_most : (k a b : ℤ) → pos 0 ≤ℤ k → a ≤ℤ b → (k *ℤ a) ≤ℤ (k *ℤ b)
 times_at_most k a b h l = let e = *ℤ--ℤ k b a in let p = product_not_negative k (b -ℤ a) h (omega (arith, linear)) in omega (arith, linear)
 
@@ -172,10 +166,3 @@ greater_compares a b h = grind (arith, ints)
 
 pub equal_compares : (a b : ℤ) → int_cmp a b ≡ Equal → a ≡ b
 equal_compares a b h = grind (arith, ints)
-
--- a positive factor changes no comparison with 0
-pub factor_compares : (k v : ℤ) → pos 0 <ℤ k → int_cmp (k *ℤ v) (pos 0) ≡ int_cmp v (pos 0)
-factor_compares k v p = by_sign v
-    (λ h. compares_less (k *ℤ v) (pos 0) (positive_times_negative k v p h) ∙ sym (compares_less v (pos 0) h))
-    (λ h. compares_equal (k *ℤ v) (pos 0) (*ℤ_comm k v ∙ zero_factor k v h) ∙ sym (compares_equal v (pos 0) h))
-    (λ h. compares_greater (k *ℤ v) (pos 0) (product_positive k v p h) ∙ sym (compares_greater v (pos 0) h))

@@ -1,5 +1,5 @@
 -- What joining keeps: what holds of each leaf, and that the tree is well made.
-use Rattle.std.proofs.Common.{◌≡◌, ◌<◌, length, ℕ, Bool, true, false, if◌then◌else◌, List, [], ◌∷◌, ◌++◌, All, Some, sym, ap, ◌∙◌}
+use Rattle.std.proofs.Common.{◌≡◌, ◌<◌, length, ℕ, Bool, true, false, if◌then◌else◌, List, [], ◌∷◌, ◌++◌, All, sym, ap, ◌∙◌}
 use Rattle.std.proofs.lemmas.List.{append-nil}
 use Rattle.std.proofs.lemmas.List.Elements.{All-append}
 use Rattle.qm_lists.proofs.Elements.{All-first_part, All-last_part}
@@ -11,7 +11,6 @@ use Rattle.qm_partition.specs.Counting.{leaves_of}
 use Rattle.qm_partition.specs.Joining.{are_equal, joined_node, joined}
 use Rattle.qm_partition.specs.Visits.{visits}
 use Rattle.qm_partition.specs.WellMade.{IsSolidIfFilled, IsWellMade}
-use Rattle.qm_partition.specs.inner.Grown.{grown_from, grown_from-visits}
 use Rattle.qm_partition.specs.inner.JoinedWalk.{joined_from}
 use Rattle.qm_partition.proofs.JoinedCells.{joined_node_planes}
 use Rattle.qm_partition.proofs.JoinedWalks.{joined_from-visits}
@@ -44,12 +43,6 @@ joined_well_made planes shape well =
     }
 
 -- ---- by visits
-
--- visits are those of one partition
-pub one_of_visits : (s t : Partition) → visits s ≡ visits t → s ≡ t
-one_of_visits s t same =
-    let both : Some (s ∷ []) ≡ Some (t ∷ []) = sym (grown_from-visits s []) ∙ ap (λ (walk : List Visit). grown_from walk (Some [])) same ∙ grown_from-visits t [] in
-    cc
 
 pub joined_from-all : (shape : Partition) (walk : List Visit) → visits shape ≡ walk → joined_from walk [] ≡ visits (joined shape)
 joined_from-all shape walk is = ap (λ (walk : List Visit). joined_from walk []) (sym is) ∙ joined_from-visits shape [] ∙ append-nil (visits (joined shape))

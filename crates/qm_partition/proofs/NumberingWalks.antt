@@ -181,12 +181,6 @@ module _ (walk : List Visit) (i : ℕ) (some : Visit) (within : i < length walk)
       ∙ append_assoc (reverse (drop (i + 1) walk)) (here ∷ []) (reverse (take i walk))
 
   module _ (waiting : List Child) (nodes : List NodeRecord) (leaves : List LeafRecord) (n k : ℕ) where
-    -- a leaf that comes is one of those that are left
-    pub leaf_left : (found : LeafRecord) → IsNumbering walk i waiting nodes leaves n k → here ≡ visit.Leaf found → 0 < k
-    leaf_left found numbering is =
-        let left = numbering.leaves_left ∙ ap leaf_visits (rest_is ∙ ap (λ (visit : Visit). visit ∷ drop (i + 1) walk) is) in
-        omega (arith, left)
-
     pub numbering_leaf : (found : LeafRecord) → IsNumbering walk i waiting nodes leaves n k → here ≡ visit.Leaf found → IsNumbering walk (i + 1) (waiting ++ Leaf (k - 1) ∷ []) nodes (leaves ++ found ∷ []) n (k - 1)
     numbering_leaf found numbering is =
         let rest = rest_is ∙ ap (λ (visit : Visit). visit ∷ drop (i + 1) walk) is in
@@ -198,12 +192,6 @@ module _ (walk : List Visit) (i : ℕ) (some : Visit) (within : i < length walk)
           nodes_left = numbering.nodes_left ∙ ap node_visits rest;
           leaves_left = omega (arith, left);
         }
-
-    -- a node that comes is one of those that are left, and finds two children
-    pub node_left : (p : ℕ) → IsNumbering walk i waiting nodes leaves n k → here ≡ visit.Node p → 0 < n
-    node_left p numbering is =
-        let left = numbering.nodes_left ∙ ap node_visits (rest_is ∙ ap (λ (visit : Visit). visit ∷ drop (i + 1) walk) is) in
-        omega (arith, left)
 
     pub two_wait : (p : ℕ) (shape : Partition) → IsNumbering walk i waiting nodes leaves n k → here ≡ visit.Node p → reverse walk ≡ visits shape → 2 ≤ length waiting
     two_wait p shape numbering is whole =

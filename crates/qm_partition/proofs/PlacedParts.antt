@@ -129,9 +129,6 @@ pub record LeadsOn (planes : List Plane) (whole : Partition) (x : Point) (child 
   pub child_is : child ≡ child_of part n k
   pub number_is : leaf_at planes whole x ≡ k + leaf_at planes part x
 
-pub leads_on_first : (planes : List Plane) (whole : Partition) (x : Point) → LeadsOn planes whole x (child_of whole 0 0)
-leads_on_first planes whole x = record { part = whole; n = 0; k = 0; is_part = whole_part whole; child_is = refl; number_is = sym (zero-add _) }
-
 module _ (planes : List Plane) (whole : Partition) (x : Point) where
   next_of_part : (part : Partition) (n k j : ℕ) (here : NodeRecord) → IsPart whole part n k → Node j ≡ child_of part n k → leaf_at planes whole x ≡ k + leaf_at planes part x → slice_get (nodes_of whole 0 0) j ≡ Some here → LeadsOn planes whole x (child_towards planes here x)
   next_of_part (leaf found) n k j here part child number at = absurd cc
@@ -158,13 +155,6 @@ module _ (planes : List Plane) (whole : Partition) (x : Point) where
 
   pub leads_on_next : (j : ℕ) (here : NodeRecord) → LeadsOn planes whole x (Node j) → slice_get (nodes_of whole 0 0) j ≡ Some here → LeadsOn planes whole x (child_towards planes here x)
   leads_on_next j here led at = next_of_part led.part led.n led.k j here led.is_part led.child_is led.number_is at
-
-  leaf_of_part : (part : Partition) (n k j : ℕ) → Leaf j ≡ child_of part n k → leaf_at planes whole x ≡ k + leaf_at planes part x → leaf_at planes whole x ≡ j
-  leaf_of_part (leaf found) n k j child number = let same : j ≡ k = cc in omega (arith, number, same)
-  leaf_of_part (node p front back) n k j child number = absurd cc
-
-  pub leads_on_leaf : (j : ℕ) → LeadsOn planes whole x (Leaf j) → leaf_at planes whole x ≡ j
-  leads_on_leaf j led = leaf_of_part led.part led.n led.k j led.child_is led.number_is
 
 -- the child of a node on the point's side comes behind it
 pub child_towards_later : (planes : List Plane) (whole : Partition) (x : Point) (j : ℕ) (here : NodeRecord) → slice_get (nodes_of whole 0 0) j ≡ Some here → nodes_from (node_count whole) (child_towards planes here x) < nodes_from (node_count whole) (Node j)

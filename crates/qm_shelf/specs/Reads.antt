@@ -4,9 +4,9 @@ use Rattle.std.specs.Prelude.{ℕ, ◌≡◌, ◌<◌, ◌≤◌, List, [], ◌+
 abbrev pub bytes_of : Option (List ℕ) → List ℕ
 bytes_of file = unwrap_or file []
 
--- a read copied this many bytes of the file, from a place on, to the front of a buffer
+-- a read copied this many bytes of the file, from a place on, to the beginning of a buffer
 pub record IsRead (file : Option (List ℕ)) (place : ℕ) (before after : List ℕ) (count : ℕ) : Type 0 where
-  -- the front is bytes of the file, and the rest of the buffer stays
+  -- the beginning is bytes of the file, and the rest of the buffer stays
   pub copied : after ≡ take count (drop place (bytes_of file)) ++ drop count before
   -- so many bytes are there
   pub in_file : count ≤ length (drop place (bytes_of file))

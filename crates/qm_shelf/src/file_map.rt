@@ -44,7 +44,7 @@ pub fn append(files: &mut Files, name: &str, bytes: &[u8]) -> Result<(), AllocEr
     }
 }
 
-/// Copies bytes from a place on to the front of a buffer, as many as there are and as fit, and answers
+/// Copies bytes from a place on to the beginning of a buffer, as many as there are and as fit, and answers
 /// how many.
 pub fn copy_from(bytes: &[u8], place: usize, into: &mut [u8]) -> usize
     ensures read { IsRead (Some bytes.now) place into.old into.new result }

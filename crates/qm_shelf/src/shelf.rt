@@ -48,7 +48,7 @@ pub trait Shelf {
     /// How many faults creating a name or appending to it has met.
     ghost write_faults: { Self → List ℕ → ℕ };
 
-    /// Copies bytes of the file `name`, from place `at` on, to the front of `into`, and answers how
+    /// Copies bytes of the file `name`, from place `at` on, to the beginning of `into`, and answers how
     /// many: 0 only at or past the file's end, or where `into` is empty. The rest of `into` stays,
     /// and so does all of it after a fault. A name that is not held has no bytes.
     fn read(&mut self, name: &str, at: u64, into: &mut [u8]) -> Result<usize, ShelfFault>

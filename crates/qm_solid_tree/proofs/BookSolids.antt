@@ -1,4 +1,4 @@
--- Solids by their faces in a book: the book has their planes, so that what they define with it has all the laws.
+-- Solids by their faces in a book: the book has their planes, so that what they define with it has all laws of trees.
 use Rattle.std.proofs.Common.{◌≡◌, ℕ, ◌<◌, List, length, All, Some}
 use Rattle.std.specs.Prelude.{slice_get}
 use Rattle.std.proofs.lemmas.List.Elements.{All-contains, All-map, All-weaker}
@@ -10,13 +10,7 @@ use Rattle.qm_solids.specs.Outward.{outward_of}
 use Rattle.qm_solids.specs.InBook.{BookSolid, solid_in, solids_in, IsKeptIn, IsBookOf}
 use Rattle.qm_solids.specs.Candidates.{LiesOn}
 use Rattle.qm_solids.proofs.PlanesInCommon.{turned_lies_on}
-use Rattle.qm_partition.specs.Tree.{Tree}
-use Rattle.qm_partition.specs.Ways.{HasPoints}
 use Rattle.qm_solid_tree.specs.Division.{HasPlanesOf}
-use Rattle.qm_solid_tree.specs.TreeOf.{IsTreeOf}
-use Rattle.qm_solid_tree.specs.GivesContents.{GivesContents}
-use Rattle.qm_solid_tree.proofs.LeafPoints.{tree_has_points}
-use Rattle.qm_solid_tree.proofs.TreeLaws.{gives_contents}
 
 -- some plane of the book has the points of this one
 abbrev pub HasPlaneOf : List Plane → Plane → Type 0
@@ -39,12 +33,3 @@ book_has_planes book solids of =
     All-map (λ solid. All (HasPlaneOf book) solid.outward) (solid_in book) solids
     (All-weaker (IsKeptIn book) (λ solid. All (HasPlaneOf book) (solid_in book solid).outward) (has_planes_of_solid book) solids of.each) in
     λ solid face listed has. All-contains (HasPlaneOf book) solid.outward face (All-contains (λ solid. All (HasPlaneOf book) solid.outward) (solids_in book solids) solid each listed) has
-
--- ---- the tree
-
-module _ (book : List Plane) (solids : List BookSolid) (of : IsBookOf book solids) where
-  pub book_tree_has_points : (tree : Tree) → IsTreeOf (solids_in book solids) book tree → HasPoints tree
-  book_tree_has_points tree is = tree_has_points (solids_in book solids) book of.planes tree is
-
-  pub book_tree_gives_contents : (tree : Tree) → IsTreeOf (solids_in book solids) book tree → GivesContents tree (solids_in book solids)
-  book_tree_gives_contents tree is = gives_contents (solids_in book solids) book tree of.planes (book_has_planes book solids of) is

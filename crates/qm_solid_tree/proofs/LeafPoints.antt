@@ -8,7 +8,7 @@ use Rattle.qm_lists.proofs.Elements.{All-first_part, All-last_part}
 use Rattle.qm_space.specs.Point.{Point, IsInCube}
 use Rattle.qm_space.specs.Plane.{Plane, IsInFront}
 use Rattle.qm_space.specs.Turned.{turned}
-use Rattle.qm_space.specs.Cell.{IsInCell}
+use Rattle.qm_space.specs.Cell.{IsInCell, HasPoint}
 use Rattle.qm_space.specs.Book.{AreBookPlanes}
 use Rattle.qm_space.proofs.Books.{plane_at_from}
 use Rattle.qm_solids.specs.Solid.{Solid}
@@ -19,7 +19,7 @@ use Rattle.qm_partition.specs.Ways.{Way, after_step, ways, IsInLeaf, HasPoints}
 use Rattle.qm_partition.proofs.JoinedCells.{HasPointWith, HasBehindStep, steps_on, joined_have_points}
 use Rattle.qm_solid_tree.specs.Division.{Divides, undivided, divided}
 use Rattle.qm_solid_tree.specs.TreeOf.{IsTreeOf}
-use Rattle.qm_solid_tree.proofs.PartedCells.{HasPoint, side_of, both_sides}
+use Rattle.qm_solid_tree.proofs.PartedCells.{side_of, both_sides}
 
 -- a point of the cube and of the cell
 abbrev pub IsPointOf : List Plane → Point → Type 0

@@ -8,7 +8,7 @@ use Rattle.qm_space.specs.Point.{Point, point_times, IsInCube}
 use Rattle.qm_space.specs.Plane.{Plane, value, IsBehind, IsOn, IsInFront, IsNotInFront, flipped}
 use Rattle.qm_space.specs.Reduced.{HasNormal, IsReduced}
 use Rattle.qm_space.specs.Turned.{turned}
-use Rattle.qm_space.specs.Cell.{IsInCell}
+use Rattle.qm_space.specs.Cell.{IsInCell, HasPoint}
 use Rattle.qm_space.specs.Cube.{cube_walls}
 use Rattle.qm_space.specs.Multiple.{HasSameSides}
 use Rattle.qm_numbers.proofs.IntegerProducts.{linear, *ℤ_zero, zero_*ℤ}
@@ -34,12 +34,6 @@ use Rattle.qm_solids.proofs.UniformCells.{contains_throughout, outside_throughou
 -- the part of a cell on one side of a plane
 abbrev pub side_of : List Plane → Plane → Bool → List Plane
 side_of cell h side = cell ++ turned side h ∷ []
-
--- a point of the cell
-pub record HasPoint (cell : List Plane) : Type 0 where
-  pub point : Point
-  pub in_cube : IsInCube point
-  pub in_cell : IsInCell cell point
 
 -- from a point on the plane a little to the side; planes on whose sides the point lies keep it there
 module _ (cell : List Plane) (h : Plane) (side : Bool) (normal : HasNormal h) (others : List Plane) (x : Point) (in_cube : IsInCube x) (in_cell : IsInCell cell x) (on : IsOn h x) where

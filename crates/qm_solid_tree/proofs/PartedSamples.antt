@@ -22,7 +22,8 @@ use Rattle.qm_solids.specs.Uniform.{MeetsNoFace, LiesOutside}
 use Rattle.qm_solids.proofs.Samples.{ground, ground_is_full}
 use Rattle.qm_solids.proofs.FullSolids.{middle_of_cube, middle_in_cube}
 use Rattle.qm_solids.proofs.UniformSamples.{floor, floor_is_reduced, height, of_ground}
-use Rattle.qm_solid_tree.proofs.PartedCells.{side_of, HasPoint, both_sides, IsPartOn, SparesSide, contains_side, side_spared, contains_front, outside_front}
+use Rattle.qm_space.specs.Cell.{HasPoint}
+use Rattle.qm_solid_tree.proofs.PartedCells.{side_of, both_sides, IsPartOn, SparesSide, contains_side, side_spared, contains_front, outside_front}
 
 -- the triangle of the points of the floor with x and y above 0 and x + y below 4096
 abbrev triangle : Winding

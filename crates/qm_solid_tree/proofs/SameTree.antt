@@ -2,26 +2,16 @@
 -- those of others.
 use Rattle.std.proofs.Common.{List}
 use Rattle.std.specs.List.{AllZip}
-use Rattle.qm_lists.proofs.Pairs.{partner}
 use Rattle.qm_space.specs.Plane.{Plane}
-use Rattle.qm_space.specs.Multiple.{HasSameSides}
 use Rattle.qm_solids.specs.Solid.{Solid}
 use Rattle.qm_solids.specs.Alike.{IsAlike}
-use Rattle.qm_solids.proofs.PlanesInCommon.{lies_on_through, same_sides_lies_on}
-use Rattle.qm_solids.proofs.SameFaces.{HasSameFaces, HaveSameFaces, solids_back, alike_have_same_faces, cell_contents_kept, numbered_kept, least_kept}
+use Rattle.qm_solids.proofs.SameFaces.{HaveSameFaces, solids_back, alike_have_same_faces, cell_contents_kept, numbered_kept, least_kept}
 use Rattle.qm_partition.specs.Partition.{Partition}
 use Rattle.qm_partition.specs.Tree.{Tree}
-use Rattle.qm_solid_tree.specs.Division.{HasPlanesOf, HasNoCandidate, Divides, undivided, divided}
+use Rattle.qm_solid_tree.specs.Division.{HasNoCandidate, Divides, undivided, divided}
 use Rattle.qm_solid_tree.specs.TreeOf.{IsTreeOf}
 
 module _ (solids others : List Solid) (same : HaveSameFaces solids others) (book : List Plane) where
-  pub has_planes_kept : HasPlanesOf book solids → HasPlanesOf book others
-  has_planes_kept planes = λ other face listed has.
-      let at = partner HasSameFaces others solids other (solids_back solids others same) listed in
-      let its = partner HasSameSides other.outward at.0.outward face at.2.same_sides has in
-      let found = planes at.0 its.0 at.1 its.1 in
-      (found.0, found.1, found.2, lies_on_through face its.0 found.1 (same_sides_lies_on face its.0 its.2) found.3)
-
   pub no_candidate_kept : {cell : List Plane} → HasNoCandidate solids book cell → HasNoCandidate others book cell
   no_candidate_kept {cell} none = λ n h is. none n h (numbered_kept others solids book cell n h (solids_back solids others same) is)
 
@@ -36,14 +26,5 @@ module _ (solids others : List Solid) (same : HaveSameFaces solids others) (book
 
 -- solids that are alike, place by place, define the same tree
 module _ (solids others : List Solid) (alike : AllZip IsAlike solids others) (book : List Plane) where
-  pub tree_there : (tree : Tree) → IsTreeOf solids book tree → IsTreeOf others book tree
-  tree_there tree is = tree_kept solids others (alike_have_same_faces solids others alike) book tree is
-
   pub tree_back : (tree : Tree) → IsTreeOf others book tree → IsTreeOf solids book tree
   tree_back tree is = tree_kept others solids (solids_back solids others (alike_have_same_faces solids others alike)) book tree is
-
-  pub planes_there : HasPlanesOf book solids → HasPlanesOf book others
-  planes_there planes = has_planes_kept solids others (alike_have_same_faces solids others alike) book planes
-
-  pub planes_back : HasPlanesOf book others → HasPlanesOf book solids
-  planes_back planes = has_planes_kept others solids (solids_back solids others (alike_have_same_faces solids others alike)) book planes

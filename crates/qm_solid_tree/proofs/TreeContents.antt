@@ -11,7 +11,7 @@ use Rattle.qm_numbers.proofs.Signs.{side_test, above_zero}
 use Rattle.qm_space.specs.Point.{Point, IsInCube}
 use Rattle.qm_space.specs.Plane.{Plane, value, IsInFront, IsNotBehind, IsBehind}
 use Rattle.qm_space.specs.Turned.{turned}
-use Rattle.qm_space.specs.Cell.{IsInCell}
+use Rattle.qm_space.specs.Cell.{IsInCell, HasPoint}
 use Rattle.qm_space.specs.Cube.{cube_walls}
 use Rattle.qm_space.specs.Book.{AreBookPlanes}
 use Rattle.qm_space.proofs.Books.{plane_at_from}
@@ -36,7 +36,6 @@ use Rattle.qm_partition.specs.Tree.{Tree}
 use Rattle.qm_partition.proofs.JoinedCells.{joined_node_is, HasOnly, has_only}
 use Rattle.qm_solid_tree.specs.Division.{HasPlanesOf, HasNoCandidate, Divides, undivided, divided}
 use Rattle.qm_solid_tree.specs.TreeOf.{IsTreeOf}
-use Rattle.qm_solid_tree.proofs.PartedCells.{HasPoint}
 use Rattle.qm_solid_tree.proofs.LeafPoints.{least_parts}
 use Rattle.qm_solid_tree.proofs.UniformLeaves.{lies_outside}
 

@@ -76,21 +76,11 @@ module _ (solids others : List Solid) (alike : AllZip IsAlike solids others) (x 
       let pair = subst (λ (o : Solid). IsAlike (get_or solids k other) o) one.listed.2 (AllZip-get_or IsAlike solids others k other other alike within) in
       (get_or solids k other, record { listed = Contains-get_or solids k other within; has = holds_back (get_or solids k other) other pair x one.has }, pair.same_contents)
 
-  given_there : (contents : Contents) → AreGiven (λ s. Holds s x) solids contents → AreGiven (λ s. Holds s x) others contents
-  given_there contents (inl empty) = inl empty
-  given_there contents (inr by) = let at = one_there by.0 by.1 in inr (at.0, at.1, sym at.2 ∙ by.2)
-
-  -- solids that are alike, place by place, make the same of a point
-  pub same_contents : (contents : Contents) → HasContents solids x contents → HasContents others x contents
-  same_contents contents has = record {
-    given = given_there contents has.given;
-    strongest = λ other one. let at = one_back other one in subst (λ (c : Contents). IsAtMost c contents) at.2 (has.strongest at.0 at.1);
-  }
-
   given_back : (contents : Contents) → AreGiven (λ s. Holds s x) others contents → AreGiven (λ s. Holds s x) solids contents
   given_back contents (inl empty) = inl empty
   given_back contents (inr by) = let at = one_back by.0 by.1 in inr (at.0, at.1, at.2 ∙ by.2)
 
+  -- solids that are alike, place by place, make the same of a point
   pub same_contents_back : (contents : Contents) → HasContents others x contents → HasContents solids x contents
   same_contents_back contents has = record {
     given = given_back contents has.given;

@@ -9,7 +9,7 @@ use Rattle.qm_space.specs.Plane.{Plane}
 use Rattle.qm_solids.specs.Solid.{Solid}
 use Rattle.qm_solids.specs.Holding.{IsFull}
 use Rattle.qm_solids.specs.Flat.{IsFlat, HasFlat, none, one_full, one_flat}
-use Rattle.qm_solids.specs.InBook.{BookSolid, solid_in, solids_in, IsKeptIn, IsBookOf}
+use Rattle.qm_solids.specs.InBook.{BookSolid, solid_in, solids_in, IsKeptIn}
 use Rattle.qm_solids.specs.Alike.{IsAlike}
 use Rattle.qm_solids.proofs.AlikeSolids.{full_there, full_back}
 

@@ -9,7 +9,7 @@ use Rattle.qm_space.proofs.Planes.{value_scaled, flipped_behind}
 use Rattle.qm_space.proofs.Multiples.{multiple_behind}
 use Rattle.qm_numbers.proofs.Signs.{positive_times_negative}
 use Rattle.qm_solids.specs.Solid.{Solid}
-use Rattle.qm_solids.specs.Holding.{IsFull, Holds}
+use Rattle.qm_solids.specs.Holding.{IsFull}
 use Rattle.qm_solids.proofs.Insides.{behind_all}
 
 -- two planes through the same points that are turned against each other: a positive multiple of the one is a positive
@@ -42,7 +42,3 @@ opposed_is_flat solid has full =
     behind_one_alone has.one has.other full.within has.opposed
     (All-contains (λ h. IsBehind h full.within) solid.outward has.one behind has.has_one)
     (All-contains (λ h. IsBehind h full.within) solid.outward has.other behind has.has_other)
-
--- it holds no point
-pub opposed_holds_nothing : (solid : Solid) (x : Point) → HasOpposedPlanes solid → Holds solid x → ⊥
-opposed_holds_nothing solid x has holds = opposed_is_flat solid has holds.full

@@ -5,37 +5,27 @@ use Rattle.std.specs.List.{AllZip}
 use Rattle.std.proofs.lemmas.List.Elements.{All-contains}
 use Rattle.qm_lists.proofs.Pairs.{All-from_contains, partner, AllZip-back, AllZip-weaker}
 use Rattle.qm_numbers.proofs.IntegerProducts.{linear}
-use Rattle.qm_numbers.proofs.Signs.{by_least}
 use Rattle.qm_space.specs.Point.{Point}
-use Rattle.qm_space.specs.Plane.{Plane, value, IsBehind, IsNotInFront}
+use Rattle.qm_space.specs.Plane.{Plane, IsBehind}
 use Rattle.qm_space.specs.Multiple.{IsPositiveMultiple, HasSameSides}
 use Rattle.qm_contents.specs.declared.contents.Contents.{Contents}
 use Rattle.qm_contents.specs.Precedence.{IsAtMost}
 use Rattle.qm_solids.specs.Solid.{Solid}
-use Rattle.qm_solids.specs.Holding.{IsInside, IsFull, Holds}
+use Rattle.qm_solids.specs.Holding.{IsInside, IsFull}
 use Rattle.qm_solids.specs.Strongest.{IsOneThat, AreGiven, AreStrongest}
-use Rattle.qm_solids.specs.Contents.{HasContents}
 use Rattle.qm_solids.specs.Cells.{ContainsCell, CellHasContents}
 use Rattle.qm_solids.specs.Candidates.{LiesOn, IsOnFace, IsOutdone, IsCandidate}
 use Rattle.qm_solids.specs.Least.{IsNumberedCandidate, IsLeastCandidate}
 use Rattle.qm_solids.proofs.Insides.{behind_all, inside_of_behind}
-use Rattle.qm_space.proofs.SameSides.{same_in_front, same_behind}
+use Rattle.qm_space.proofs.SameSides.{same_sides_back, same_behind}
 use Rattle.qm_solids.proofs.PlanesInCommon.{one_scaled, lies_on_through, lies_on_back, same_sides_lies_on}
 use Rattle.qm_solids.specs.Alike.{IsAlike}
 
 -- ---- planes of the same sides
 
-pub same_sides_back : (a h : Plane) → HasSameSides a h → HasSameSides h a
-same_sides_back a h same = record { times = same.factor; factor = same.times; some_times = same.some_factor; some_factor = same.some_times; multiple = sym same.multiple }
-
 -- a positive multiple has the same sides
 pub multiple_has_same_sides : (a h : Plane) → IsPositiveMultiple a h → HasSameSides a h
 multiple_has_same_sides a h of = record { times = pos 1; factor = of.factor; some_times = omega (arith, linear); some_factor = of.positive; multiple = one_scaled a ∙ of.multiple }
-
-pub same_not_in_front : (a h : Plane) (x : Point) → HasSameSides a h → IsNotInFront a x → IsNotInFront h x
-same_not_in_front a h x same not = by_least (pos 0) (value h x)
-    (λ front. let ahead = same_in_front a h x same front in absurd (omega (arith, linear)))
-    (λ least. least)
 
 -- ---- solids
 
@@ -76,9 +66,6 @@ module _ (solid other : Solid) (same : HasSameFaces solid other) where
   pub full_kept : IsFull solid → IsFull other
   full_kept full = record { within = full.within; in_cube = full.in_cube; inside = inside_kept full.within full.inside }
 
-  pub holds_kept : (x : Point) → Holds solid x → Holds other x
-  holds_kept x holds = record { full = full_kept holds.full; not_in_front = of_each (λ h. IsNotInFront h x) (λ a g. same_not_in_front a g x) holds.not_in_front }
-
   pub contains_kept : (cell : List Plane) → ContainsCell solid cell → ContainsCell other cell
   contains_kept cell contains = record { full = full_kept contains.full; inside = λ x in_cube in_cell. inside_kept x (contains.inside x in_cube in_cell) }
 
@@ -115,9 +102,6 @@ strongest_kept Has kept solids others contents same are = record {
 }
 
 module _ (solids others : List Solid) (same : HaveSameFaces solids others) where
-  pub contents_kept : (x : Point) (contents : Contents) → HasContents solids x contents → HasContents others x contents
-  contents_kept x contents has = strongest_kept (λ solid. Holds solid x) (λ solid other faces. holds_kept solid other faces x) solids others contents same has
-
   pub cell_contents_kept : (cell : List Plane) (contents : Contents) → CellHasContents solids cell contents → CellHasContents others cell contents
   cell_contents_kept cell contents has = strongest_kept (λ solid. ContainsCell solid cell) (λ solid other faces. contains_kept solid other faces cell) solids others contents same has
 

@@ -1,24 +1,12 @@
 -- Exchange of planes between determinants, and what a point's values at planes say of the point.
-use Rattle.std.proofs.Common.{◌≡◌, ℤ, pos, neg_ℤ, ◌+ℤ◌, ◌*ℤ◌, ◌≤ℤ◌, ◌<ℤ◌, [], ◌∷◌, ap, ap₂, sym, ◌∙◌, arith}
+use Rattle.std.proofs.Common.{◌≡◌, ℤ, pos, neg_ℤ, ◌+ℤ◌, ◌*ℤ◌, [], ◌∷◌, ap, ap₂, sym, ◌∙◌}
 use Rattle.qm_space.specs.Point.{Point, point_sum, point_times}
 use Rattle.qm_space.specs.Plane.{Plane, value, IsOn}
 use Rattle.qm_space.specs.Determinant.{determinant, determinant_of_four}
 use Rattle.qm_space.specs.Meet.{meet}
-use Rattle.qm_numbers.proofs.IntegerProducts.{linear}
-use Rattle.qm_numbers.proofs.Signs.{product_not_negative, not_negative_beside}
 use Rattle.qm_numbers.proofs.Ring.{variable, number, negated, ◌⊕◌, ◌⊗◌, solved}
 use Rattle.qm_space.proofs.PlaneSymbols.{plane_from, point_from, numbers_of_plane, numbers_of_point, symbol_determinant_of_four, symbol_value, symbol_meet, symbol_sum, symbol_times}
 use Rattle.qm_space.proofs.Planes.{same_point, value_at_meet, meet_exchanged, value_times, value_sum}
-
--- the three ways to part four planes into two pairs, each pair beside the same two planes
-pub three_pairs : (p q a b c d : Plane) →
-    (determinant_of_four p q a b *ℤ determinant_of_four p q c d) +ℤ (determinant_of_four p q a d *ℤ determinant_of_four p q b c) ≡ determinant_of_four p q a c *ℤ determinant_of_four p q b d
-unfolding determinant_of_four determinant
-three_pairs p q a b c d =
-    let t = symbol_determinant_of_four (plane_from 0) (plane_from 4) in
-    let e = plane_from 8 in let f = plane_from 12 in let g = plane_from 16 in let h = plane_from 20 in
-    solved (numbers_of_plane p (numbers_of_plane q (numbers_of_plane a (numbers_of_plane b (numbers_of_plane c (numbers_of_plane d []))))))
-    (t e f ⊗ t g h ⊕ t e h ⊗ t f g) (t e g ⊗ t f h) tt
 
 -- ---- a point, from its values at four planes
 
@@ -73,12 +61,3 @@ value_on_line g h a e b p x y =
     sym (value_times g (value a (meet h e b)) p) ∙ ap (λ q. value g q) (point_on_line h a e b p x y)
     ∙ value_sum g (point_times (value a p) (meet h e b)) (point_times (value b p) (meet h a e))
     ∙ ap₂ (λ m n. m +ℤ n) (value_times g (value a p) (meet h e b)) (value_times g (value b p) (meet h a e))
-
--- a plane in front of which, or on which, both ends lie has no point between them behind it
-pub between_not_behind : (g h a e b : Plane) (p : Point) → IsOn h p → IsOn e p → pos 0 <ℤ value a (meet h e b) → pos 0 ≤ℤ value a p → pos 0 ≤ℤ value b p →
-    pos 0 ≤ℤ value g (meet h e b) → pos 0 ≤ℤ value g (meet h a e) → pos 0 ≤ℤ value g p
-between_not_behind g h a e b p x y f va vb l r =
-    let s = value_on_line g h a e b p x y in
-    let m = product_not_negative (value a p) (value g (meet h e b)) va l in
-    let n = product_not_negative (value b p) (value g (meet h a e)) vb r in
-    not_negative_beside (value a (meet h e b)) (value g p) f (omega (arith, linear))

@@ -46,19 +46,6 @@ symbol_meet a b c = record {
   w = symbol_determinant a.nx a.ny a.nz b.nx b.ny b.nz c.nx c.ny c.nz;
 }
 
-abbrev pub symbol_outward : PointSymbols → PointSymbols → PointSymbols → PlaneSymbols
-symbol_outward p q r =
-    let ax = p.x ⊖ q.x in
-    let ay = p.y ⊖ q.y in
-    let az = p.z ⊖ q.z in
-    let bx = r.x ⊖ q.x in
-    let by = r.y ⊖ q.y in
-    let bz = r.z ⊖ q.z in
-    let nx = ay ⊗ bz ⊖ az ⊗ by in
-    let ny = az ⊗ bx ⊖ ax ⊗ bz in
-    let nz = ax ⊗ by ⊖ ay ⊗ bx in
-    record { nx = nx; ny = ny; nz = nz; d = nx ⊗ q.x ⊕ ny ⊗ q.y ⊕ nz ⊗ q.z }
-
 abbrev pub symbol_determinant_of_four : PlaneSymbols → PlaneSymbols → PlaneSymbols → PlaneSymbols → Expression
 symbol_determinant_of_four h a b c =
     h.nx ⊗ symbol_determinant a.ny a.nz a.d b.ny b.nz b.d c.ny c.nz c.d

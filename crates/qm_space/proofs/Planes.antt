@@ -1,12 +1,11 @@
 -- The laws of a plane's value, and of the point in which three planes meet.
-use Rattle.std.proofs.Common.{refl, ◌≡◌, ℤ, pos, neg_ℤ, ◌+ℤ◌, ◌*ℤ◌, ◌<ℤ◌, ◌↔◌, [], ◌∷◌, ap, sym, ◌∙◌, arith, int_cmp}
+use Rattle.std.proofs.Common.{refl, ◌≡◌, ℤ, pos, neg_ℤ, ◌+ℤ◌, ◌*ℤ◌, ◌↔◌, [], ◌∷◌, ◌∙◌, arith}
 use Rattle.std.proofs.Math.IntN.{*ℤ_comm}
 use Rattle.qm_space.specs.Point.{Point, point_sum, point_times}
 use Rattle.qm_space.specs.Plane.{Plane, value, IsBehind, IsOn, IsInFront, flipped, scaled}
 use Rattle.qm_space.specs.Determinant.{determinant, determinant_of_four}
 use Rattle.qm_space.specs.Meet.{meet}
-use Rattle.qm_numbers.proofs.IntegerProducts.{linear, zero_*ℤ}
-use Rattle.qm_numbers.proofs.Signs.{zero_beside, factor_compares}
+use Rattle.qm_numbers.proofs.IntegerProducts.{linear}
 use Rattle.qm_numbers.proofs.Ring.{number, variable, negated, ◌⊕◌, ◌⊗◌, solved}
 use Rattle.qm_space.proofs.PlaneSymbols.{plane_from, point_from, numbers_of_plane, numbers_of_point, symbol_value, symbol_determinant, symbol_determinant_of_four, symbol_meet, symbol_scaled, symbol_flipped, symbol_sum, symbol_times}
 
@@ -41,13 +40,6 @@ flipped_on h p = let e = value_flipped h p in ((λ l. omega (arith, linear)), (�
 
 pub flipped_in_front : (h : Plane) (p : Point) → IsInFront (flipped h) p ↔ IsBehind h p
 flipped_in_front h p = let e = value_flipped h p in ((λ l. omega (arith, linear)), (λ l. omega (arith, linear)))
-
--- a positive multiple of a plane, or of a point, has the same sides
-pub scaled_compares : (k : ℤ) (h : Plane) (p : Point) → pos 0 <ℤ k → int_cmp (value (scaled k h) p) (pos 0) ≡ int_cmp (value h p) (pos 0)
-scaled_compares k h p l = ap (λ v. int_cmp v (pos 0)) (value_scaled k h p) ∙ factor_compares k (value h p) l
-
-pub times_compares : (h : Plane) (k : ℤ) (p : Point) → pos 0 <ℤ k → int_cmp (value h (point_times k p)) (pos 0) ≡ int_cmp (value h p) (pos 0)
-times_compares h k p l = ap (λ v. int_cmp v (pos 0)) (value_times h k p) ∙ factor_compares k (value h p) l
 
 -- a plane's numbers are its values at four points
 pub value_at_units : (h : Plane) → (value h (record { x = pos 1; y = pos 0; z = pos 0; w = pos 0 }) ≡ h.nx) × (value h (record { x = pos 0; y = pos 1; z = pos 0; w = pos 0 }) ≡ h.ny)
@@ -104,15 +96,6 @@ meet_exchanged a b c =
     (solved zs (symbol_meet q p r).x (one ⊗ (symbol_meet p q r).x) tt) (solved zs (symbol_meet q p r).y (one ⊗ (symbol_meet p q r).y) tt)
     (solved zs (symbol_meet q p r).z (one ⊗ (symbol_meet p q r).z) tt) (solved zs (symbol_meet q p r).w (one ⊗ (symbol_meet p q r).w) tt)
 
-pub meet_rotated : (a b c : Plane) → meet b c a ≡ meet a b c
-unfolding meet determinant
-meet_rotated a b c =
-    let p = plane_from 0 in let q = plane_from 4 in let r = plane_from 8 in
-    let zs = numbers_of_plane a (numbers_of_plane b (numbers_of_plane c [])) in
-    same_point (meet b c a) (meet a b c)
-    (solved zs (symbol_meet q r p).x (symbol_meet p q r).x tt) (solved zs (symbol_meet q r p).y (symbol_meet p q r).y tt)
-    (solved zs (symbol_meet q r p).z (symbol_meet p q r).z tt) (solved zs (symbol_meet q r p).w (symbol_meet p q r).w tt)
-
 -- ---- Cramer's rule at any point: what is over is the determinant with the planes' values for a column
 
 pub cramer_x : (a b c : Plane) (p : Point) → (meet a b c).w *ℤ p.x ≡ (p.w *ℤ (meet a b c).x) +ℤ determinant (value a p) a.ny a.nz (value b p) b.ny b.nz (value c p) c.ny c.nz
@@ -165,16 +148,6 @@ meet_only a b c p x y z =
     let ey = cramer_y a b c p in let dy = no_second_column (value a p) (value b p) (value c p) a.nx a.nz b.nx b.nz c.nx c.nz x y z in
     let ez = cramer_z a b c p in let dz = no_third_column (value a p) (value b p) (value c p) a.nx a.ny b.nx b.ny c.nx c.ny x y z in
     same_point (point_times m.w p) (point_times p.w m) (omega (arith, linear)) (omega (arith, linear)) (omega (arith, linear)) (*ℤ_comm m.w p.w)
-
--- where planes with a point in common have a meeting point of w 0, all its numbers are 0: Cramer's rule names no point
-pub meet_none : (a b c : Plane) (p : Point) → IsOn a p → IsOn b p → IsOn c p → (p.w ≡ pos 0 → ⊥) → (meet a b c).w ≡ pos 0 → meet a b c ≡ record { x = pos 0; y = pos 0; z = pos 0; w = pos 0 }
-meet_none a b c p x y z n e =
-    let s = meet_only a b c p x y z in let m = meet a b c in
-    same_point m (record { x = pos 0; y = pos 0; z = pos 0; w = pos 0 })
-    (part p.x m.x (ap (λ q. q.x) s)) (part p.y m.y (ap (λ q. q.y) s)) (part p.z m.z (ap (λ q. q.z) s)) e
-  where
-    part : (u v : ℤ) → (meet a b c).w *ℤ u ≡ p.w *ℤ v → v ≡ pos 0
-    part u v s = zero_beside p.w v n (sym s ∙ ap (λ t. t *ℤ u) e ∙ zero_*ℤ u)
 
 -- ---- a value at any point, times the w of a meeting point, is made of the values there of the three planes and of the fourth at the meeting point
 

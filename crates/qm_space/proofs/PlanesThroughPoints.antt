@@ -1,24 +1,21 @@
 -- The plane through three points: what it holds, how large its numbers are, that it is the only one, and
 -- that it has no normal exactly where the points lie on one line.
-use Rattle.std.proofs.Common.{◌≡◌, ℕ, suc, zero, ◌+◌, ◌*◌, ◌≤◌, Bool, true, false, not, ℤ, pos, ◌+ℤ◌, ◌-ℤ◌, ◌*ℤ◌, neg_ℤ, ◌<ℤ◌, List, [], ◌∷◌, slice_index_or, ap, ap₂, sym, subst, refl, ◌∙◌, arith, unsigned_abs, int_cmp}
+use Rattle.std.proofs.Common.{◌≡◌, ℕ, suc, zero, ◌+◌, ◌*◌, ◌≤◌, Bool, true, false, not, ℤ, pos, ◌+ℤ◌, ◌-ℤ◌, ◌*ℤ◌, neg_ℤ, ◌<ℤ◌, List, [], ◌∷◌, slice_index_or, ap, ap₂, sym, refl, ◌∙◌, arith, unsigned_abs}
 use Rattle.std.proofs.lemmas.Int.{ints}
 use Rattle.std.proofs.Math.IntN.{*ℤ_comm}
 use Rattle.qm_numbers.specs.Gcd.{gcd, gcd_within}
 use Rattle.qm_space.specs.Bounds.{world_extent, normal_bound, distance_bound, outward_distance_bound}
 use Rattle.qm_space.specs.Point.{Point, whole_point, IsCoordinate, AreCoordinates, IsWholePoint}
-use Rattle.qm_space.specs.Plane.{Plane, value, flipped, scaled}
+use Rattle.qm_space.specs.Plane.{Plane, flipped, scaled}
 use Rattle.qm_space.specs.Reduced.{leads_positive, HasNormal}
 use Rattle.qm_space.specs.Turned.{turned}
 use Rattle.qm_space.specs.Line.{AreOnOneLine}
 use Rattle.qm_space.specs.inner.OutwardSizes.{HasOutwardSizes}
 use Rattle.qm_space.specs.ThreePoints.{outward_plane, common_factor, reduced, plane_through, IsPlaneThrough}
-use Rattle.qm_numbers.proofs.IntegerProducts.{linear, *ℤ_zero, zero_*ℤ, one_*ℤ}
-use Rattle.qm_numbers.proofs.Signs.{by_zero, zero_beside, zero_beside_positive, factor_compares, abs_product_bound}
+use Rattle.qm_numbers.proofs.IntegerProducts.{linear, zero_*ℤ, one_*ℤ}
+use Rattle.qm_numbers.proofs.Signs.{by_zero, zero_beside, abs_product_bound}
 use Rattle.qm_numbers.proofs.Ring.{variable, number, ◌⊕◌, ◌⊖◌, ◌⊗◌, solved}
-use Rattle.qm_space.proofs.PlaneSymbols.{point_from, numbers_of_point, symbol_value, symbol_outward}
-use Rattle.qm_space.proofs.Planes.{value_scaled, value_flipped}
-use Rattle.qm_space.proofs.ReducedPlanes.{scaled_neg, scaled_flipped, scaled_has_normal, flipped_twice, flipped_has_normal, leads_flipped, common_factor_positive, reduced_back, reduced_leads, reduced_is_reduced, multiples_equal}
-use Rattle.qm_space.proofs.TurnedPlanes.{turned_on, turned_has_normal}
+use Rattle.qm_space.proofs.ReducedPlanes.{scaled_neg, scaled_flipped, flipped_twice, flipped_has_normal, leads_flipped, common_factor_positive, reduced_back, reduced_leads, reduced_is_reduced, multiples_equal}
 use Rattle.qm_space.proofs.Lines.{HaveStepsOnOneLine, steps_from_line, line_from_steps}
 
 -- ---- whole points
@@ -111,32 +108,6 @@ pub plane_through_is : (p0 p1 p2 : Point) → IsWholePoint p0 → IsWholePoint p
 unfolding plane_through
 plane_through_is p0 p1 p2 h0 h1 h2 n = taken_is p0 p1 p2 (outward_plane p0 p1 p2) (leads_positive (outward_plane p0 p1 p2)) refl refl n (outward_sizes p0 p1 p2 h0 h1 h2)
 
--- ---- the points on the outward plane
-
-no_weight : (d w : ℤ) → w ≡ pos 1 → d *ℤ (pos 1 -ℤ w) ≡ pos 0
-no_weight d w e = ap (λ t. d *ℤ (pos 1 -ℤ t)) e ∙ *ℤ_zero d
-
-pub outward_holds_first : (p0 p1 p2 : Point) → p0.w ≡ pos 1 → value (outward_plane p0 p1 p2) p0 ≡ pos 0
-unfolding value outward_plane
-outward_holds_first p0 p1 p2 e =
-    let p = point_from 0 in let q = point_from 4 in let r = point_from 8 in let h = symbol_outward p q r in
-    solved (numbers_of_point p0 (numbers_of_point p1 (numbers_of_point p2 []))) (symbol_value h p) (h.d ⊗ (number (pos 1) ⊖ p.w)) tt
-    ∙ no_weight _ p0.w e
-
-pub outward_holds_second : (p0 p1 p2 : Point) → p1.w ≡ pos 1 → value (outward_plane p0 p1 p2) p1 ≡ pos 0
-unfolding value outward_plane
-outward_holds_second p0 p1 p2 e =
-    let p = point_from 0 in let q = point_from 4 in let r = point_from 8 in let h = symbol_outward p q r in
-    solved (numbers_of_point p0 (numbers_of_point p1 (numbers_of_point p2 []))) (symbol_value h q) (h.d ⊗ (number (pos 1) ⊖ q.w)) tt
-    ∙ no_weight _ p1.w e
-
-pub outward_holds_third : (p0 p1 p2 : Point) → p2.w ≡ pos 1 → value (outward_plane p0 p1 p2) p2 ≡ pos 0
-unfolding value outward_plane
-outward_holds_third p0 p1 p2 e =
-    let p = point_from 0 in let q = point_from 4 in let r = point_from 8 in let h = symbol_outward p q r in
-    solved (numbers_of_point p0 (numbers_of_point p1 (numbers_of_point p2 []))) (symbol_value h r) (h.d ⊗ (number (pos 1) ⊖ r.w)) tt
-    ∙ no_weight _ p2.w e
-
 -- ---- three points on one line
 
 -- the outward plane has no normal
@@ -206,43 +177,6 @@ no_normal_one_line p0 p1 p2 w0 w1 w2 n = line_from_steps p0 p1 p2 w0 w1 w2 (no_n
 -- whole points that are on no line have an outward plane with a normal
 pub normal_off_line : (p0 p1 p2 : Point) → p0.w ≡ pos 1 → p1.w ≡ pos 1 → p2.w ≡ pos 1 → (AreOnOneLine p0 p1 p2 → ⊥) → HasNormal (outward_plane p0 p1 p2)
 normal_off_line p0 p1 p2 w0 w1 w2 n = λ x y z. n (no_normal_one_line p0 p1 p2 w0 w1 w2 (x, y, z))
-
--- ---- what it is to be the plane through three points
-
--- the outward value at any point is a positive multiple of the turned plane's value
-pub through_value : (p0 p1 p2 q : Point) (plane : Plane) (out_is_front : Bool) (h : IsPlaneThrough p0 p1 p2 plane out_is_front) → value (outward_plane p0 p1 p2) q ≡ h.multiple.factor *ℤ value (turned out_is_front plane) q
-through_value p0 p1 p2 q plane b h = ap (λ g. value g q) h.multiple.multiple ∙ value_scaled h.multiple.factor (turned b plane) q
-
--- so where the outward normal points to the front, both have one sign at each point
-pub through_front : (p0 p1 p2 q : Point) (plane : Plane) → IsPlaneThrough p0 p1 p2 plane true → int_cmp (value (outward_plane p0 p1 p2) q) (pos 0) ≡ int_cmp (value plane q) (pos 0)
-through_front p0 p1 p2 q plane h = ap (λ v. int_cmp v (pos 0)) (through_value p0 p1 p2 q plane true h) ∙ factor_compares h.multiple.factor (value plane q) h.multiple.positive
-
--- and where it points to the back, opposite signs
-pub through_back : (p0 p1 p2 q : Point) (plane : Plane) → IsPlaneThrough p0 p1 p2 plane false → int_cmp (value (outward_plane p0 p1 p2) q) (pos 0) ≡ int_cmp (neg_ℤ (value plane q)) (pos 0)
-through_back p0 p1 p2 q plane h =
-    ap (λ v. int_cmp v (pos 0)) (through_value p0 p1 p2 q plane false h ∙ ap (λ v. h.multiple.factor *ℤ v) (value_flipped plane q))
-    ∙ factor_compares h.multiple.factor (neg_ℤ (value plane q)) h.multiple.positive
-
--- where the outward plane holds a point, so does the plane, and the other way round
-pub through_holds : (p0 p1 p2 q : Point) (plane : Plane) (b : Bool) → IsPlaneThrough p0 p1 p2 plane b → value (outward_plane p0 p1 p2) q ≡ pos 0 → value plane q ≡ pos 0
-through_holds p0 p1 p2 q plane b h e =
-    (turned_on b plane q).0 (zero_beside_positive h.multiple.factor (value (turned b plane) q) h.multiple.positive (sym (through_value p0 p1 p2 q plane b h) ∙ e))
-
-pub outward_holds : (p0 p1 p2 q : Point) (plane : Plane) (b : Bool) → IsPlaneThrough p0 p1 p2 plane b → value plane q ≡ pos 0 → value (outward_plane p0 p1 p2) q ≡ pos 0
-outward_holds p0 p1 p2 q plane b h e =
-    through_value p0 p1 p2 q plane b h ∙ ap (λ v. h.multiple.factor *ℤ v) ((turned_on b plane q).1 e) ∙ *ℤ_zero h.multiple.factor
-
-above_zero : (k : ℤ) → pos 0 <ℤ k → k ≡ pos 0 → ⊥
-above_zero k p e = absurd (omega (arith, linear))
-
--- three points with a plane through them have an outward plane with a normal
-pub through_has_normal : (p0 p1 p2 : Point) (plane : Plane) (b : Bool) → IsPlaneThrough p0 p1 p2 plane b → HasNormal (outward_plane p0 p1 p2)
-through_has_normal p0 p1 p2 plane b h =
-    subst HasNormal (sym h.multiple.multiple) (scaled_has_normal h.multiple.factor (turned b plane) (above_zero h.multiple.factor h.multiple.positive) (turned_has_normal b plane (h.is_reduced).normal))
-
--- so they are on no line
-pub through_off_line : (p0 p1 p2 : Point) (plane : Plane) (b : Bool) → p0.w ≡ pos 1 → p1.w ≡ pos 1 → p2.w ≡ pos 1 → IsPlaneThrough p0 p1 p2 plane b → AreOnOneLine p0 p1 p2 → ⊥
-through_off_line p0 p1 p2 plane b w0 w1 w2 h l = let n = one_line_no_normal p0 p1 p2 w0 w1 w2 l in through_has_normal p0 p1 p2 plane b h n.0 n.1 n.2
 
 -- ---- there is at most one
 

@@ -10,8 +10,8 @@ use Rattle.qm_space.specs.Bounds.{normal_bound, distance_bound}
 use Rattle.qm_space.specs.Plane.{Plane, flipped, scaled}
 use Rattle.qm_space.specs.Reduced.{sign_decides, leads_positive, HasNormal, IsReduced}
 use Rattle.qm_space.specs.ThreePoints.{common_factor, reduced}
-use Rattle.qm_numbers.proofs.IntegerProducts.{linear, *ℤ_assoc, *ℤ_zero, *ℤ_one, one_*ℤ, neg-*ℤ, *ℤ-neg}
-use Rattle.qm_numbers.proofs.Signs.{abs_neg, by_sign, zero_beside, product_positive, positive_times_negative, negative_times_positive, negative_times_negative, abs_zero, cancel_equal, times_at_most, positive_beside}
+use Rattle.qm_numbers.proofs.IntegerProducts.{linear, *ℤ_assoc, *ℤ_zero, *ℤ_one, neg-*ℤ, *ℤ-neg}
+use Rattle.qm_numbers.proofs.Signs.{abs_neg, by_sign, product_positive, positive_times_negative, negative_times_positive, negative_times_negative, abs_zero, cancel_equal, times_at_most, positive_beside}
 use Rattle.qm_numbers.proofs.Divisors.{gcd_divides_left, gcd_divides_right, divides_gcd, exact_division, abs_exact_division, abs_division_at_most, lowest_combination}
 use Rattle.qm_numbers.proofs.Ring.{variable, ◌⊕◌, ◌⊗◌, solved}
 
@@ -37,9 +37,6 @@ flipped_twice h = same_plane (flipped (flipped h)) h (omega (arith, linear)) (om
 
 pub flipped_has_normal : (h : Plane) → HasNormal h → HasNormal (flipped h)
 flipped_has_normal h n = λ x y z. n (omega (arith, linear)) (omega (arith, linear)) (omega (arith, linear))
-
-pub scaled_has_normal : (k : ℤ) (h : Plane) → (k ≡ pos 0 → ⊥) → HasNormal h → HasNormal (scaled k h)
-scaled_has_normal k h n m = λ x y z. m (zero_beside k h.nx n x) (zero_beside k h.ny n y) (zero_beside k h.nz n z)
 
 -- ---- the first number that is not 0
 
@@ -268,11 +265,6 @@ multiples_equal i j g h x y e k l s t =
         (λ b. let q = factors_agree j i h g x (sym e) t s b in absurd (omega (arith, linear))))
         (λ a. absurd (x a))
         (λ a. let b = factors_agree i j g h y e s t a in positive_beside j m b (omega (arith, linear)))
-
--- a plane in lowest terms that leads positive is the only one of its multiples that is so
-pub multiple_is_same : (k : ℤ) (g h : Plane) → (k ≡ pos 0 → ⊥) → g ≡ scaled k h → IsLowest g → IsLowest h → IsTrue (leads_positive g) → IsTrue (leads_positive h) → g ≡ h
-multiple_is_same k g h n e l m s t =
-    (multiples_equal (pos 1) k g h (λ z. absurd (omega (arith, ints))) n (same_plane (scaled (pos 1) g) g (one_*ℤ g.nx) (one_*ℤ g.ny) (one_*ℤ g.nz) (one_*ℤ g.d) ∙ e) l m s t).0
 
 -- ---- planes in lowest terms are equal up to their sides where multiples of them are
 

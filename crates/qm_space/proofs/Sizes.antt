@@ -1,13 +1,12 @@
 -- How large values and meeting points are: each fits into 128 bits.
-use Rattle.std.proofs.Common.{ℕ, ◌+◌, ◌*◌, ◌≤◌, ℤ, ◌+ℤ◌, ◌-ℤ◌, ◌*ℤ◌, ap, arith, unsigned_abs}
-use Rattle.qm_space.specs.Bounds.{world_extent, normal_bound, distance_bound, meet_bound, meet_weight_bound, whole_value_bound, meet_value_bound}
-use Rattle.qm_space.specs.Point.{Point, IsWholePoint}
+use Rattle.std.proofs.Common.{ℕ, ◌+◌, ◌*◌, ◌≤◌, ℤ, ◌+ℤ◌, ◌-ℤ◌, ◌*ℤ◌, arith, unsigned_abs}
+use Rattle.qm_space.specs.Bounds.{normal_bound, distance_bound, meet_bound, meet_weight_bound, meet_value_bound}
+use Rattle.qm_space.specs.Point.{Point}
 use Rattle.qm_space.specs.Plane.{Plane, value}
 use Rattle.qm_space.specs.Determinant.{determinant}
 use Rattle.qm_space.specs.Meet.{meet, HasMeetSizes}
 use Rattle.qm_space.specs.Reduced.{IsReduced}
 use Rattle.qm_numbers.proofs.Signs.{abs_sum, abs_difference, abs_product_bound}
-use Rattle.qm_space.proofs.PlanesThroughPoints.{coordinate_small}
 
 -- a determinant whose columns have the bounds l, m and n
 pub determinant_small : (a1 a2 a3 b1 b2 b3 c1 c2 c3 : ℤ) (l m n : ℕ) →
@@ -55,13 +54,6 @@ value_small h p m n r kx ky kz kw =
     let s = abs_sum (h.nx *ℤ p.x) (h.ny *ℤ p.y) in
     let t = abs_sum ((h.nx *ℤ p.x) +ℤ (h.ny *ℤ p.y)) (h.nz *ℤ p.z) in
     let u = abs_difference (((h.nx *ℤ p.x) +ℤ (h.ny *ℤ p.y)) +ℤ (h.nz *ℤ p.z)) (h.d *ℤ p.w) in
-    omega arith
-
--- at a whole point of the closed cube
-pub value_at_whole_small : (h : Plane) (p : Point) → IsReduced h → IsWholePoint p → unsigned_abs (value h p) ≤ whole_value_bound
-value_at_whole_small h p r k =
-    let w : unsigned_abs p.w ≤ 1 = let e = ap unsigned_abs k.weight in omega arith in
-    let v = value_small h p world_extent 1 r (coordinate_small p.x k.x) (coordinate_small p.y k.y) (coordinate_small p.z k.z) w in
     omega arith
 
 -- at the point in which three reduced planes meet

@@ -36,10 +36,6 @@ meet_bound = 3 * 2 ^ 97
 abbrev pub meet_weight_bound : ℕ
 meet_weight_bound = 3 * 2 ^ 79
 
--- a plane's value at a whole point of the closed cube
-abbrev pub whole_value_bound : ℕ
-whole_value_bound = 2 ^ 45
-
 -- a plane's value at the point in which three planes meet
 abbrev pub meet_value_bound : ℕ
 meet_value_bound = 3 * 2 ^ 125

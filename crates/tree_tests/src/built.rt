@@ -3,7 +3,7 @@
 ghost use Rattle.std.specs.Prelude.{IfSome};
 ghost use Rattle.qm_solids.specs.InBook.{IsBookOf};
 
-use crate::worlds::{Numbers, put_box, random_world};
+use crate::worlds::{Numbers, random_world};
 use qm_brush::{BrushList, brushes};
 use qm_build::build;
 use qm_contents::Contents;
@@ -14,6 +14,7 @@ use qm_tree::Tree;
 use std::alloc::{AllocError, Global};
 use std::cmp::Ordering;
 use std::test::Fail;
+use test_texts::put_box;
 
 /// The brushes of a world, and the tree that is built of them.
 #[derive(Drop)]

@@ -1,6 +1,7 @@
-//! Parts of worlds as MAP texts: boxes, and brushes made of numbers that look random.
+//! Worlds as MAP texts, of brushes made of numbers that look random.
 
 use std::alloc::{AllocError, Global};
+use test_texts::{points_across, put_face};
 
 /// The names of textures, one for each kind of contents, and clip.
 const TEXTURES: [&str; 6] = ["stone", "*water", "*slime", "*lava", "sky", "clip"];
@@ -41,25 +42,6 @@ impl Numbers {
         let length = 16 * (self.below(4) as i32 + 1);
         if self.below(2) == 0 { length } else { -length }
     }
-}
-
-/// Adds a box with a texture, between its least corner and its greatest.
-pub fn put_box(
-    text: &mut String,
-    texture: &str,
-    least: [i32; 3],
-    greatest: [i32; 3],
-) -> Result<(), AllocError> {
-    let [west, south, bottom] = least;
-    let [east, north, top] = greatest;
-    text.push_str("{\n")?;
-    put_face(text, texture, points_across(0, west))?;
-    put_face(text, texture, points_across(1, east))?;
-    put_face(text, texture, points_across(2, south))?;
-    put_face(text, texture, points_across(3, north))?;
-    put_face(text, texture, points_across(4, bottom))?;
-    put_face(text, texture, points_across(5, top))?;
-    text.push_str("}\n")
 }
 
 /// A world of up to six brushes: boxes, some without all their sides, some flat, some cut by a slanted plane.
@@ -107,23 +89,4 @@ fn put_slanted_face(
     } else {
         put_face(text, texture, [first, third, second])
     }
-}
-
-/// Three points of a side of a box: the sides to the west, east, south, north, bottom and top.
-fn points_across(side: u64, at: i32) -> [[i32; 3]; 3] {
-    match side {
-        0 => [[at, 0, 0], [at, 1, 0], [at, 0, 1]],
-        1 => [[at, 0, 0], [at, 0, 1], [at, 1, 0]],
-        2 => [[0, at, 0], [0, at, 1], [1, at, 0]],
-        3 => [[0, at, 0], [1, at, 0], [0, at, 1]],
-        4 => [[0, 0, at], [1, 0, at], [0, 1, at]],
-        _ => [[0, 0, at], [0, 1, at], [1, 0, at]],
-    }
-}
-
-fn put_face(text: &mut String, texture: &str, points: [[i32; 3]; 3]) -> Result<(), AllocError> {
-    for [x, y, z] in points {
-        write!(text, "( {x} {y} {z} ) ")?;
-    }
-    writeln!(text, "{texture} 0 0 0 1 1")
 }

@@ -1,4 +1,4 @@
-use Rattle.std.proofs.Common.{rules, ◌≡◌, ◌<◌, ◌+◌, ◌-◌, ◌^◌, ℕ, Some, ◌∙◌, None, length, refl, sym, subst, arith}
+use Rattle.std.proofs.Common.{◌≡◌, ◌<◌, ◌+◌, ◌-◌, ◌^◌, ℕ, Some, ◌∙◌, None, length, refl, sym, subst, arith}
 use Rattle.std.specs.BTreeMap.{get, Updates}
 use Rattle.qm_space.specs.Reduced.{IsReduced}
 use Rattle.qm_geom.specs.Planes.{was_there, is_gained, plane_cmp}
@@ -13,19 +13,23 @@ returns-in-Some-clause-ok c =
 pub invariant_of-self-in_err-insert : goal.invariant_of-self-in_err-insert
 invariant_of-self-in_err-insert c = IsNumbered-same _ _ _ _ c.reserve.ensures.items c.in_err-insert.ensures.err c.self.invariant
 
+-- the plane is gained only where its number was not found
+absent : (c : goal.In_ok-push) → get plane_cmp c.self.inside.numbers c.args.plane ≡ None
+absent c = sym c.get.ensures.value ∙ (sym c.copied.ensures ∙ c.in_default.is)
+
+number : (c : goal.In_ok-push) → c.len-number.result ≡ length c.self.inside.planes.items
+number c = c.len-number.ensures ∙ c.self.inside.planes.ok.0
+
 pub invariant_of-self-2 : goal.invariant_of-self-2
 invariant_of-self-2 c =
-    let absent : get plane_cmp c.self.inside.numbers c.args.plane ≡ None = search rules in
-    let number : c.len-number.result ≡ length c.self.inside.planes.items = search rules in
     let room : length c.self.inside.planes.items + 1 < 2 ^ 32 = (let h : length c.self.inside.planes.items < 2 ^ 32 - 1 = rw c.self.view_is c.requires.room in omega arith) in
     rw (c.in_ok-push.ensures.items, c.reserve.ensures.items)
-    (IsNumbered-gained _ _ _ _ c.self.invariant (subst IsReduced c.plane.view_is c.plane.invariant) c.requires.leads absent
-    (subst (λ (k : ℕ). Updates plane_cmp c.self.inside.numbers c.insert.new.self c.args.plane (Some k)) number c.in_ok-insert.ensures.updates) room)
+    (IsNumbered-gained _ _ _ _ c.self.invariant (subst IsReduced c.plane.view_is c.plane.invariant) c.requires.leads (absent c)
+    (subst (λ (k : ℕ). Updates plane_cmp c.self.inside.numbers c.insert.new.self c.args.plane (Some k)) (number c) c.in_ok-insert.ensures.updates) room)
 
 pub returns-clause-ok : goal.returns-clause-ok
 returns-clause-ok c =
-    let absent : get plane_cmp c.self.inside.numbers c.args.plane ≡ None = search rules in
-    rw (← c.self.view_is, c.in_ok-push.ensures.items, c.reserve.ensures.items) (is_gained (absent_from _ _ _ c.self.invariant absent) refl (search rules))
+    rw (← c.self.view_is, c.in_ok-push.ensures.items, c.reserve.ensures.items) (is_gained (absent_from _ _ _ c.self.invariant (absent c)) refl (number c))
 
 pub returns-in-Some-clause-planes : goal.returns-in-Some-clause-planes
 returns-in-Some-clause-planes c = rw (← c.self.view_is) (AreBookPlanes-from _ _ c.self.invariant)

@@ -1,10 +1,35 @@
-use Rattle.std.proofs.Common.{arith, sym, subst}
+use Rattle.std.proofs.Common.{◌^◌, arith, sym, subst, lit≤}
 use Rattle.std.proofs.lemmas.Int.{to_z-of_z}
+use Rattle.qm_numbers.proofs.Kept.{small_kept}
 use Rattle.qm_space.specs.Reduced.{IsReduced}
 use Rattle.qm_space.specs.ThreePoints.{reduced}
 use Rattle.qm_space.specs.inner.OutwardSizes.{HasOutwardSizes}
 use Rattle.qm_space.proofs.ReducedPlanes.{reduced_is_reduced}
 use Rattle.qm_geom.proofs.unreduced.UnreducedPlane.reduced.Goals as goal
+
+pub component_quotient-requires : goal.component_quotient-requires
+component_quotient-requires c = record {
+  component_small = small_kept c.self.inside.nx (2 ^ 26) (lit≤ tt) c.self.invariant.nx_small;
+  factor_positive = c.common_factor-factor.ensures.positive c.requires;
+  factor_small = c.common_factor-factor.ensures.size;
+}
+
+pub component_quotient-requires-2 : goal.component_quotient-requires-2
+component_quotient-requires-2 c = record {
+  component_small = small_kept c.self.inside.ny (2 ^ 26) (lit≤ tt) c.self.invariant.ny_small;
+  factor_positive = c.common_factor-factor.ensures.positive c.requires;
+  factor_small = c.common_factor-factor.ensures.size;
+}
+
+pub component_quotient-requires-3 : goal.component_quotient-requires-3
+component_quotient-requires-3 c = record {
+  component_small = small_kept c.self.inside.nz (2 ^ 26) (lit≤ tt) c.self.invariant.nz_small;
+  factor_positive = c.common_factor-factor.ensures.positive c.requires;
+  factor_small = c.common_factor-factor.ensures.size;
+}
+
+pub quotient-requires : goal.quotient-requires
+quotient-requires c = record { factor_positive = c.common_factor-factor.ensures.positive c.requires; factor_small = c.common_factor-factor.ensures.size }
 
 pub returns : goal.returns
 unfolding reduced
