@@ -5,13 +5,18 @@ use Rattle.std.specs.Option.{MatchOption}
 use Rattle.std.proofs.lemmas.List.Elements.{All-nil, All-contains, Contains-push, Contains-push_cases, Contains-append_left}
 use Rattle.qm_numbers.proofs.IntegerProducts.{linear}
 use Rattle.qm_space.specs.Point.{Point}
-use Rattle.qm_space.specs.Plane.{Plane, IsBehind, IsInFront}
+use Rattle.qm_lists.proofs.Elements.{All-first_part, All-last_part}
+use Rattle.qm_space.specs.Plane.{Plane, flipped, IsBehind, IsInFront, IsNotInFront}
+use Rattle.qm_space.specs.Cuboid.{Cuboid, whole_cuboid, IsInCuboid, IsTightened}
+use Rattle.qm_space.proofs.Cubes.{cube_in_closed}
+use Rattle.qm_space.proofs.Cuboids.{closed_cube_in_whole}
+use Rattle.qm_space.proofs.Planes.{value_flipped}
 use Rattle.qm_space.specs.Reduced.{IsReduced}
 use Rattle.qm_space.specs.Turned.{turned}
 use Rattle.qm_space.specs.Book.{plane_at, AreBookPlanes}
 use Rattle.qm_space.proofs.TurnedPlanes.{turned_other_in_front, turned_is_reduced}
 use Rattle.qm_convex.specs.Winding.{Winding}
-use Rattle.qm_convex.specs.Sides.{HasNoneInFront}
+use Rattle.qm_convex.specs.Sides.{HasNoneInFront, IsWhollyInFront}
 use Rattle.qm_convex.specs.Cut.{IsPartInFront}
 use Rattle.qm_convex.specs.World.{MissesCube, IsWorldPart}
 use Rattle.qm_contents.specs.declared.contents.Contents.{Contents}
@@ -25,11 +30,12 @@ use Rattle.qm_solids.proofs.UniformCells.{contains_throughout}
 use Rattle.qm_solids.proofs.PlanesInCommon.{turned_lies_on, same_face}
 use Rattle.qm_solids.proofs.BookFaces.{stands_at, same_number}
 use Rattle.qm_split.specs.declared.piece.Piece.{Piece}
-use Rattle.qm_split.specs.Pieces.{IsPiece, HasPointOfFace, ArePieces}
+use Rattle.qm_split.specs.Pieces.{IsPiece, HasPointOfFace, ArePieces, IsHeldWithin}
 use Rattle.qm_split.specs.inner.PieceParts.{IsNumberedPiece}
-use Rattle.qm_split.specs.inner.FacePieces.{solid_behind, IsFacePoint, IsFacePiece, HasNoFacePoint, IsPieceOfFace, HasPieceOfFace, HasFacePieces}
+use Rattle.qm_split.specs.inner.FacePieces.{solid_behind, IsFacePoint, IsFacePiece, HasNoFacePoint, IsPieceOfFace, HasPieceOfFace, HasFacePieces, HasAllBehind}
 use Rattle.qm_split.proofs.ListedItems.{none_listed, all_of_listed, listed_map, listed_from_map}
 use Rattle.qm_split.proofs.PartedPieces.{meets_no_face}
+use Rattle.qm_split.proofs.SectionsOfCells.{part_itself}
 
 -- ---- the winding of one face
 
@@ -76,13 +82,13 @@ module _ (book : List Plane) (number : ℕ) (done : List FaceRef) (face : FaceRe
     behind_inner : (x : Point) → IsBehind (outward_of book face) x → IsInFront inner x
     behind_inner x behind = subst (λ (h : Plane). IsInFront h x) (sym turns) ((turned_other_in_front face.out_is_front (plane_at book face.plane) x).1 behind)
 
-    face_gone : HasNoneInFront w inner → HasNoFacePoint book number (done ++ face ∷ [])
+    pub face_gone : HasNoneInFront w inner → HasNoFacePoint book number (done ++ face ∷ [])
     face_gone none x at =
         let not = none x ((is.points x).1 (point_of_fewer book number (done ++ face ∷ []) done x earlier at)) in
         let front = behind_inner x (at.behind face (Contains-push done face) apart) in
         absurd (omega (arith, linear))
 
-    face_kept : (kept : Winding) → IsPartInFront kept w inner → IsFacePiece book number (done ++ face ∷ []) kept
+    pub face_kept : (kept : Winding) → IsPartInFront kept w inner → IsFacePiece book number (done ++ face ∷ []) kept
     face_kept kept part = record {
       convex = part.convex;
       plane = part.plane ∙ is.plane;
@@ -96,10 +102,9 @@ module _ (book : List Plane) (number : ℕ) (done : List FaceRef) (face : FaceRe
       );
     }
 
-    pub face_more : (kept : Option Winding) → MatchOption kept (HasNoneInFront w inner) (λ k. IsPartInFront k w inner) →
-        MatchOption kept (HasNoFacePoint book number (done ++ face ∷ [])) (IsFacePiece book number (done ++ face ∷ []))
-    face_more None none = face_gone none
-    face_more (Some kept) part = face_kept kept part
+    -- it is all kept where it is wholly in front
+    pub face_whole : IsWhollyInFront w inner → IsFacePiece book number (done ++ face ∷ []) w
+    face_whole whole = face_kept w (part_itself w inner is.convex whole)
 
 -- ---- the pieces of all faces
 
@@ -180,6 +185,7 @@ module _ (book : List Plane) (faces : List FaceRef) (contents : Contents) (plane
         has_face = listed_outward f e.listed;
         lies_on = subst (λ (h : Plane). LiesOn (outward_of book f) h) (sym is.plane) (lies_on_its_plane f);
         convex = is.convex;
+        reduced = subst IsReduced (sym is.plane) (planes.reduced f.plane (plane_at book f.plane) (stands_at book f.plane (within_book f e.listed)));
         points = λ x. (
           (λ r. subst (λ (h : Plane). IsOnFace solid [] h x) (sym is.plane) (on_face_of_point f x ((is.points x).0 r))),
           (λ on. (is.points x).1 (point_of_on_face f x e.listed (subst (λ (h : Plane). IsOnFace solid [] h x) is.plane on))),
@@ -219,3 +225,17 @@ outward_reduced book faces planes numbered = all_of_listed IsReduced (outward_pl
 -- a full solid without pieces contains the cube
 pub contains_cube : (book : List Plane) (solid : Solid) → IsFull solid → ArePieces book [] solid [] → ContainsCell solid []
 contains_cube book solid full are = contains_throughout solid [] (meets_no_face book [] solid are) full.within full.in_cube (All-nil (λ h. IsInFront h full.within)) full.inside
+
+-- a cuboid that has all of the cube behind the outward planes has what the solid holds of it
+pub all_in_whole : (cuboid : Cuboid) → cuboid ≡ whole_cuboid → HasAllBehind cuboid []
+all_in_whole cuboid same x in_cube none = subst (λ (c : Cuboid). IsInCuboid c x) (sym same) (closed_cube_in_whole x (cube_in_closed x in_cube))
+
+pub all_in_tightened : (outward : List Plane) (o : Plane) (cuboid t : Cuboid) → HasAllBehind cuboid outward → IsTightened t cuboid (flipped o) → HasAllBehind t (outward ++ o ∷ [])
+all_in_tightened outward o cuboid t all tight x in_cube none =
+    let k = in_cube.weight in
+    let e = value_flipped o x in
+    let behind = All-last_part (λ h. IsNotInFront h x) outward (o ∷ []) none 0 o (omega arith) in
+    tight x (omega (arith, linear)) (all x in_cube (All-first_part (λ h. IsNotInFront h x) outward (o ∷ []) none)) (omega (arith, linear))
+
+pub held_in_cube : (cuboid : Cuboid) (one : Solid) → HasAllBehind cuboid one.outward → IsHeldWithin cuboid one []
+held_in_cube cuboid one all x in_cube in_cell holds = all x in_cube holds.not_in_front

@@ -163,7 +163,7 @@ gathered_by_passing book cell before done solid gathering are outside =
 
 -- ---- how many pieces
 
-pub pieces_of-push : (qs : List Contender) (q : Contender) → pieces_of (qs ++ q ∷ []) ≡ pieces_of qs + length q.pieces.items
+pub pieces_of-push : (qs : List Contender) (q : Contender) → pieces_of (qs ++ q ∷ []) ≡ pieces_of qs + length q.body.value.pieces.items
 pieces_of-push [] q = omega arith
 pieces_of-push (r ∷ qs) q = let more = pieces_of-push qs q in omega arith
 
@@ -173,7 +173,7 @@ pieces_of-filter test (q ∷ qs) =
     let rest = pieces_of-filter test qs in
     by_test (test q) (λ is. rw is (omega arith)) (λ is. rw is (omega arith))
 
-pub count_by_keeping : (old new : Gathering) (contender : Contender) → Keeps old contender new → pieces_of new.contenders.items ≤ pieces_of old.contenders.items + length contender.pieces.items
+pub count_by_keeping : (old new : Gathering) (contender : Contender) → Keeps old contender new → pieces_of new.contenders.items ≤ pieces_of old.contenders.items + length contender.body.value.pieces.items
 count_by_keeping old new contender (passed reached same) = let e = ap (λ (g : Gathering). pieces_of g.contenders.items) same in omega arith
 count_by_keeping old new contender (gained stronger same all) = let e = ap pieces_of all in let p = pieces_of-push old.contenders.items contender in omega arith
 

@@ -1,18 +1,15 @@
 -- What fragments of solids in a cell tell of it: which contents fill it, which planes are candidates, and which comes first.
-use Rattle.std.proofs.Common.{◌≡◌, ◌⊎◌, inl, inr, ⊎_elim, ℕ, zero, suc, ◌<◌, ◌≤◌, Bool, true, false, true≢false, ℤ, pos, negsuc, Option, Some, None, List, map, All, Contains, get_or, refl, sym, ◌∙◌, ap, subst, arith}
+use Rattle.std.proofs.Common.{◌≡◌, ◌⊎◌, inl, inr, ⊎_elim, ℕ, zero, suc, ◌<◌, ◌≤◌, Bool, true, false, true≢false, ℤ, pos, negsuc, Option, Some, None, List, map, All, Contains, refl, sym, ◌∙◌, ap, subst, arith}
 use Rattle.std.specs.Prelude.{slice_get}
-use Rattle.std.proofs.lemmas.List.Elements.{All-contains, All-weaker, Contains-get_or}
-use Rattle.qm_space.specs.Point.{Point}
-use Rattle.qm_space.specs.Plane.{Plane, value, IsBehind, IsNotInFront}
+use Rattle.std.proofs.lemmas.List.Elements.{All-contains, All-weaker}
+use Rattle.qm_space.specs.Plane.{Plane, IsBehind}
 use Rattle.qm_space.specs.Book.{plane_at}
 use Rattle.qm_space.proofs.Books.{plane_at_from}
 use Rattle.qm_numbers.proofs.IntegerProducts.{linear}
-use Rattle.qm_numbers.proofs.Signs.{by_least}
 use Rattle.qm_convex.proofs.Central.{has_a_point}
 use Rattle.qm_contents.specs.declared.contents.Contents.{Contents}
 use Rattle.qm_contents.specs.declared.contents.Contents.TheVariants.{Empty}
 use Rattle.qm_solids.specs.Solid.{Solid}
-use Rattle.qm_solids.specs.Holding.{IsFull, Holds}
 use Rattle.qm_solids.specs.Cells.{ContainsCell, CellHasContents}
 use Rattle.qm_solids.specs.Candidates.{LiesOn, IsOnFace, IsOutdone, IsCandidate}
 use Rattle.qm_solids.specs.Least.{IsAxial, IsNumberedCandidate, ComesFirst, IsLeastCandidate}
@@ -31,31 +28,20 @@ use Rattle.qm_split.specs.inner.Ranked.{IsRankOf, IsLeastRank}
 use Rattle.qm_split.proofs.ListedItems.{listed_from_map}
 use Rattle.qm_split.proofs.RankOrder.{first_one}
 use Rattle.qm_split.proofs.Gatherings.{reached_less}
+use Rattle.qm_split.proofs.HeldCuboids.{holds_point_on_face}
 
 -- a contender does not contain its cell, since a point of the cell is on a face of it
 pub contender_does_not_contain : (book cell : List Plane) (contender : Contender) → IsContender book cell contender → ContainsCell (solid_of contender) cell → ⊥
 contender_does_not_contain book cell contender contends contains =
-    let first = first_one contender.pieces.items contender.least contends.first in
+    let first = first_one contender.body.value.pieces.items contender.least contends.first in
     let piece = first.piece in
-    let is = All-contains (IsPiece book cell (solid_of contender)) contender.pieces.items piece contends.pieces.sound first.listed in
+    let is = All-contains (IsPiece book cell (solid_of contender)) contender.body.value.pieces.items piece contends.pieces.sound first.listed in
     let at = has_a_point piece.winding.value is.convex in
     let on_face = (is.points at.0).0 at.1 in
     let on = (lies_on_points is.face piece.winding.value.plane at.0 is.lies_on).1 on_face.on in
     let inside = contains.inside at.0 on_face.in_cube on_face.in_cell in
-    let behind = All-contains (λ h. IsBehind h at.0) contender.outward.items is.face (behind_all contender.outward.items at.0 inside) is.has_face in
+    let behind = All-contains (λ h. IsBehind h at.0) contender.body.value.outward.items is.face (behind_all contender.body.value.outward.items at.0 inside) is.has_face in
     absurd (omega (arith, linear))
-
--- a full solid holds a point that is on a face of it
-holds_point_on_face : (solid : Solid) (cell : List Plane) (h : Plane) (x : Point) → IsFull solid → IsOnFace solid cell h x → Holds solid x
-holds_point_on_face solid cell h x full on_face = record {
-  full = full;
-  not_in_front = λ k d within. not_ahead (get_or solid.outward k d) (Contains-get_or solid.outward k d within);
-}
-  where
-    not_ahead : (o : Plane) → Contains solid.outward o → IsNotInFront o x
-    not_ahead o among = by_least (pos 0) (value o x)
-        (λ front. absurd (let behind = on_face.behind_others o among (λ lies. let on = (lies_on_points o h x lies).1 on_face.on in absurd (omega (arith, linear))) in omega (arith, linear)))
-        (λ not. not)
 
 no_contents : {P : Type 0} (c : Contents) (o : Option Contents) → o ≡ None → o ≡ Some c → P
 no_contents c o none some = let e : None ≡ Some c = sym none ∙ some in absurd cc
@@ -104,10 +90,10 @@ module _ (solids : List Solid) (book cell : List Plane) (fragments : Fragments) 
 
   -- ---- candidates
 
-  pub candidate_of_piece : (q : Contender) (p : Piece) → Contains contenders q → Contains q.pieces.items p → IsNumberedCandidate solids book cell p.number p.winding.value.plane
+  pub candidate_of_piece : (q : Contender) (p : Piece) → Contains contenders q → Contains q.body.value.pieces.items p → IsNumberedCandidate solids book cell p.number p.winding.value.plane
   candidate_of_piece q p among among_pieces =
       let kept = kept_one q among in
-      let is = All-contains (IsPiece book cell (solid_of q)) q.pieces.items p kept.contends.pieces.sound among_pieces in
+      let is = All-contains (IsPiece book cell (solid_of q)) q.body.value.pieces.items p kept.contends.pieces.sound among_pieces in
       let at = has_a_point p.winding.value is.convex in
       record {
         numbered = is.numbered;
@@ -129,7 +115,7 @@ module _ (solids : List Solid) (book cell : List Plane) (fragments : Fragments) 
     pub contender : Contender
     pub listed : Contains contenders contender
     pub piece : Piece
-    pub listed_piece : Contains contender.pieces.items piece
+    pub listed_piece : Contains contender.body.value.pieces.items piece
     pub number : n ≡ piece.number
     pub plane : h ≡ piece.winding.value.plane
 
@@ -148,9 +134,9 @@ module _ (solids : List Solid) (book cell : List Plane) (fragments : Fragments) 
       c : IsCandidate solids cell h
       c = is.candidate
 
-      by_piece : (q : Contender) (p : Piece) → Contains contenders q → Contains q.pieces.items p → LiesOn c.face p.winding.value.plane → HasCandidate n h
+      by_piece : (q : Contender) (p : Piece) → Contains contenders q → Contains q.body.value.pieces.items p → LiesOn c.face p.winding.value.plane → HasCandidate n h
       by_piece q p among among_pieces lies =
-          let piece = All-contains (IsPiece book cell (solid_of q)) q.pieces.items p (kept_one q among).contends.pieces.sound among_pieces in
+          let piece = All-contains (IsPiece book cell (solid_of q)) q.body.value.pieces.items p (kept_one q among).contends.pieces.sound among_pieces in
           let number = one_number book n p.number h p.winding.value.plane are.book_planes is.numbered piece.numbered (lies_on_through h c.face p.winding.value.plane (lies_on_back c.face h c.lies_on) lies) in
           record {
             contender = q;

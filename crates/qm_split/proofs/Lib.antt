@@ -1,3 +1,4 @@
+pub mod Taken
 pub mod ListedItems
 pub mod SidesOfPlanes
 pub mod PartedPieces
@@ -9,3 +10,5 @@ pub mod KnownFragments
 pub mod SectionsOfCells
 pub mod FacesInCube
 pub mod MadeFragments
+pub mod HeldCuboids
+pub mod BesidePieces

@@ -91,7 +91,7 @@ module _ (solids : List Solid) (book cell : List Plane) (fragments : Fragments) 
   })
     where
       is : IsPiece book cell (solid_of has.contender) has.one.piece
-      is = All-contains (IsPiece book cell (solid_of has.contender)) has.contender.pieces.items has.one.piece (kept_one solids book cell fragments are has.contender has.listed).contends.pieces.sound has.one.listed
+      is = All-contains (IsPiece book cell (solid_of has.contender)) has.contender.body.value.pieces.items has.one.piece (kept_one solids book cell fragments are has.contender has.listed).contends.pieces.sound has.one.listed
 
   -- a candidate has a piece in it
   pub contender_in_candidate : (n : ℕ) (h : Plane) → IsNumberedCandidate solids book cell n h → HasContenderIn contenders h

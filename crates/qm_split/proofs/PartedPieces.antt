@@ -1,11 +1,12 @@
 -- What pieces have in front of a plane: step by step along a list, and for all pieces that a cell has of a solid.
-use Rattle.std.proofs.Common.{inl, inr, ⊎_elim, Option, Some, None, List, [], ◌∷◌, ◌++◌, Contains, option_to_list, refl, sym, ap, ◌∙◌, subst, append-nil, arith}
+use Rattle.std.proofs.Common.{◌≡◌, inl, inr, ⊎_elim, Option, Some, None, List, [], ◌∷◌, ◌++◌, Contains, option_to_list, refl, sym, ap, ◌∙◌, subst, append-nil, arith}
 use Rattle.std.specs.Prelude.{slice_get}
 use Rattle.std.proofs.lemmas.List.{length_push}
 use Rattle.std.proofs.lemmas.List.Elements.{All-contains, All-push, Contains-push, Contains-push_cases, Contains-append_left}
 use Rattle.qm_lists.proofs.Elements.{All-first_part, All-last_part}
 use Rattle.qm_space.specs.Point.{Point}
 use Rattle.qm_space.specs.Plane.{Plane, IsInFront}
+use Rattle.qm_space.specs.Reduced.{IsReduced}
 use Rattle.qm_space.specs.Cell.{IsInCell}
 use Rattle.qm_numbers.proofs.IntegerProducts.{linear}
 use Rattle.qm_convex.specs.Winding.{Winding, IsConvex}
@@ -82,6 +83,13 @@ numbered_part p g (Some w) (Some q) front is = record { number = is.0; part = su
 pub front_itself : (p : Piece) (g : Plane) → IsConvex p.winding.value → IsWhollyInFront p.winding.value g → IsFrontPiece p g p
 front_itself p g convex whole = record { number = refl; part = record { convex = convex; plane = refl; points = λ x. ((λ r. (r, whole x r)), (λ both. both.0)) } }
 
+-- and so is a piece of the same winding
+pub whole_part : (p q : Piece) (g : Plane) → IsConvex p.winding.value → q.number ≡ p.number → (q.winding.value ≡ p.winding.value) × IsWhollyInFront p.winding.value g → IsFrontPiece p g q
+whole_part p q g convex number is = record {
+  number = number;
+  part = subst (λ (w : Winding). IsPartInFront w p.winding.value g) (sym is.0) (front_itself p g convex is.1).part;
+}
+
 -- pieces that are all in front are what they have there
 pub all_in_front : (ps : List Piece) (g : Plane) → ((p : Piece) → Contains ps p → IsConvex p.winding.value × IsWhollyInFront p.winding.value g) → AreFront ps g ps
 all_in_front ps g whole = record {
@@ -130,6 +138,7 @@ module _ (book cell : List Plane) (solid : Solid) (ps qs : List Piece) (g : Plan
     has_face = is.has_face;
     lies_on = subst (λ (h : Plane). LiesOn is.face h) (sym part.part.plane) is.lies_on;
     convex = part.part.convex;
+    reduced = subst IsReduced (sym part.part.plane) is.reduced;
     points = λ x. (
       (λ r. let both = (part.part.points x).0 r in
           subst (λ (h : Plane). IsOnFace solid beyond h x) (sym part.part.plane) (face_beyond p.winding.value.plane x ((is.points x).0 both.0) both.1)),

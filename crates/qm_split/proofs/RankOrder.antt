@@ -127,12 +127,12 @@ least_begins contender piece among among_pieces = none_listed contender among
 
 module _ (done : List Contender) (contender : Contender) where
   -- what is not after the first one so far, and after none of the new pieces
-  after_none_of_next : (first : Rank) → ((q : Contender) → Contains done q → IsAfterNone q.pieces.items first) → IsAfterNone contender.pieces.items first →
-      (q : Contender) → Contains (done ++ contender ∷ []) q → IsAfterNone q.pieces.items first
-  after_none_of_next first earlier own q among = ⊎_elim (λ before. earlier q before) (λ same. subst (λ (r : Contender). IsAfterNone r.pieces.items first) same own) (Contains-push_cases done contender q among)
+  after_none_of_next : (first : Rank) → ((q : Contender) → Contains done q → IsAfterNone q.body.value.pieces.items first) → IsAfterNone contender.body.value.pieces.items first →
+      (q : Contender) → Contains (done ++ contender ∷ []) q → IsAfterNone q.body.value.pieces.items first
+  after_none_of_next first earlier own q among = ⊎_elim (λ before. earlier q before) (λ same. subst (λ (r : Contender). IsAfterNone r.body.value.pieces.items first) same own) (Contains-push_cases done contender q among)
 
-  pub least_more : (least result : Option Rank) → IsLeastRank done least → IsLesser least contender.pieces.items result → IsLeastRank (done ++ contender ∷ []) result
-  least_more None None are is = λ q piece among among_pieces. ⊎_elim (λ before. are q piece before among_pieces) (λ same. is.1 piece (subst (λ (r : Contender). Contains r.pieces.items piece) (sym same) among_pieces)) (Contains-push_cases done contender q among)
+  pub least_more : (least result : Option Rank) → IsLeastRank done least → IsLesser least contender.body.value.pieces.items result → IsLeastRank (done ++ contender ∷ []) result
+  least_more None None are is = λ q piece among among_pieces. ⊎_elim (λ before. are q piece before among_pieces) (λ same. is.1 piece (subst (λ (r : Contender). Contains r.body.value.pieces.items piece) (sym same) among_pieces)) (Contains-push_cases done contender q among)
   least_more (Some least) None are is = no_rank least (sym is.0)
   least_more None (Some first) are is = (
     record { contender = contender; listed = Contains-push done contender; one = ⊎_elim (λ same. no_rank first same) (λ one. one) is.0 },
@@ -143,7 +143,7 @@ module _ (done : List Contender) (contender : Contender) where
         (λ same. record {
           contender = are.0.contender;
           listed = Contains-append_left done (contender ∷ []) are.0.contender are.0.listed;
-          one = subst (IsRankOfOne are.0.contender.pieces.items) (same_rank least first same) are.0.one;
+          one = subst (IsRankOfOne are.0.contender.body.value.pieces.items) (same_rank least first same) are.0.one;
         })
         (λ one. record { contender = contender; listed = Contains-push done contender; one = one })
         is.0,
@@ -161,4 +161,4 @@ least_rank_begins book cell all = least_begins
 pub least_rank_more : (done : List Contender) (contender : Contender) (least : Option Rank) (first : Rank) → AreLeastRank done least → IsFirstOf least contender.least first → AreLeastRank (done ++ contender ∷ []) (Some first)
 least_rank_more done contender least first are is_first book cell all =
     least_more done contender least (Some first) (are book cell (All-first_part (IsContender book cell) done (contender ∷ []) all))
-    (lesser_joined least contender.pieces.items contender.least first (All-contains (IsContender book cell) (done ++ contender ∷ []) contender all (Contains-push done contender)).first is_first)
+    (lesser_joined least contender.body.value.pieces.items contender.least first (All-contains (IsContender book cell) (done ++ contender ∷ []) contender all (Contains-push done contender)).first is_first)

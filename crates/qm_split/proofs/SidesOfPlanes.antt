@@ -1,6 +1,5 @@
 -- What lies in front of a plane wholly or not at all.
-use Rattle.std.proofs.Common.{◌≡◌, ◌≢◌, ◌⊎◌, inl, inr, Bool, true, false, true≢false, ◌&&◌, sym, ◌∙◌, subst, arith}
-use Rattle.std.specs.Ordering.{int_eq}
+use Rattle.std.proofs.Common.{◌≡◌, ◌≢◌, ◌⊎◌, inl, inr, Bool, true, false, true≢false, sym, ◌∙◌, subst, arith}
 use Rattle.std.proofs.lemmas.Int.{ints}
 use Rattle.qm_space.specs.Plane.{Plane, flipped}
 use Rattle.qm_numbers.proofs.IntegerProducts.{linear}
@@ -12,6 +11,7 @@ use Rattle.qm_convex.proofs.Central.{has_a_point}
 use Rattle.qm_wind.specs.declared.lies.Lies.{Lies}
 use Rattle.qm_wind.specs.declared.lies.Lies.TheVariants.{Front, Back, Across, On}
 use Rattle.qm_wind.specs.Lying.{IsLying}
+use Rattle.qm_split.specs.inner.PieceParts.{is_same}
 
 pub some_of_whole : (w : Winding) (g : Plane) → IsConvex w → IsWhollyInFront w g → HasSomeInFront w g
 some_of_whole w g convex whole = let at = has_a_point w convex in (at.0, at.1, whole at.0 at.1)
@@ -30,11 +30,7 @@ none_of_lying_flipped w g lies x r = let e = value_flipped g x in let on = lies 
 
 -- ---- by what code answers
 
--- what the comparison of two planes answers
-abbrev pub is_same : Plane → Plane → Bool
-is_same g h = int_eq g.nx h.nx && (int_eq g.ny h.ny && (int_eq g.nz h.nz && int_eq g.d h.d))
-
-test_by_same : (g h : Plane) → g ≡ h → is_same g h ≡ true
+pub test_by_same : (g h : Plane) → g ≡ h → is_same g h ≡ true
 test_by_same g h e = subst (λ (p : Plane). is_same g p ≡ true) e (grind (arith, ints))
 
 pub other_by_test : (g h : Plane) (b : Bool) → b ≡ is_same g h → b ≡ false → g ≢ h

@@ -46,15 +46,26 @@ module _ (before : Option Contents) (h g : Plane) (w : Winding) where
 
 -- ---- how many pieces
 
-pub fewer_begins : (h : Plane) (gathering : Gathering) → pieces_of gathering.contenders.items ≡ 0 → HasFewer [] h gathering
-fewer_begins h gathering none = record { no_more = omega arith; fewer = λ has. absurd (none_listed has.contender has.listed) }
+abbrev pub HasFewerOfSide : Plane → List Contender → Gathering → Type 0
+HasFewerOfSide h done gathering = (book cell : List Plane) → All (IsContender book cell) done → HasFewer done h gathering
 
-pub fewer_more : (done : List Contender) (h : Plane) (contender : Contender) (part : Part) (old new : Gathering) → HasFewer done h old → IsShortened contender h part →
+pub fewer_begins : (h : Plane) (gathering : Gathering) → pieces_of gathering.contenders.items ≡ 0 → HasFewerOfSide h [] gathering
+fewer_begins h gathering none book cell all = record { no_more = omega arith; fewer = λ has. absurd (none_listed has.contender has.listed) }
+
+fewer_then : (done : List Contender) (h : Plane) (contender : Contender) (part : Part) (old new : Gathering) → HasFewer done h old → IsShortened contender h part →
     pieces_of new.contenders.items ≤ pieces_of old.contenders.items + part_count part → HasFewer (done ++ contender ∷ []) h new
-fewer_more done h contender part old new are short count = record {
+fewer_then done h contender part old new are short count = record {
   no_more = let p = pieces_of-push done contender in let a = are.no_more in let s = short.no_more in omega arith;
   fewer = λ has. let p = pieces_of-push done contender in let a = are.no_more in let s = short.no_more in ⊎_elim
       (λ earlier. let f = are.fewer (record { contender = has.contender; listed = earlier; piece = has.piece }) in omega arith)
-      (λ same. let f = short.fewer (subst (λ (q : Contender). HasPieceIn q.pieces.items h) (sym same) has.piece) in omega arith)
+      (λ same. let f = short.fewer (subst (λ (q : Contender). HasPieceIn q.body.value.pieces.items h) (sym same) has.piece) in omega arith)
       (Contains-push_cases done contender has.contender has.listed);
 }
+
+pub fewer_more : (done : List Contender) (h : Plane) (contender : Contender) (part : Part) (old new : Gathering) → HasFewerOfSide h done old → ((book cell : List Plane) → IsContender book cell contender → IsShortened contender h part) →
+    pieces_of new.contenders.items ≤ pieces_of old.contenders.items + part_count part → HasFewerOfSide h (done ++ contender ∷ []) new
+fewer_more done h contender part old new are short count book cell all =
+    fewer_then done h contender part old new
+    (are book cell (All-first_part (IsContender book cell) done (contender ∷ []) all))
+    (short book cell (All-contains (IsContender book cell) (done ++ contender ∷ []) contender all (Contains-push done contender)))
+    count

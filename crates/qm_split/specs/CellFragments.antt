@@ -22,7 +22,7 @@ cell_of fragments = fragments.cell.items
 -- how many pieces some contenders have
 abbrev pub pieces_of : List Contender → ℕ
 pieces_of [] = 0
-pieces_of (contender ∷ contenders) = length contender.pieces.items + pieces_of contenders
+pieces_of (contender ∷ contenders) = length contender.body.value.pieces.items + pieces_of contenders
 
 abbrev pub piece_count : Fragments → ℕ
 piece_count fragments = pieces_of fragments.gathering.contenders.items

@@ -1,17 +1,17 @@
-ghost use Rattle.std.specs.Prelude.{◌≡◌, true, List, ◌++◌, ◌∷◌, [], length, None, IfOk, IfSome, All};
+ghost use Rattle.std.specs.Prelude.{◌≡◌, List, ◌++◌, ◌∷◌, [], length, None, All, true, IfOk, IfSome};
 ghost use Rattle.std.specs.Bool.{MatchBool};
 ghost use Rattle.qm_space.specs.Plane.{Plane, flipped};
 ghost use Rattle.qm_space.specs.Reduced.{IsReduced};
+ghost use Rattle.qm_space.specs.Cuboid.{Cuboid};
 ghost use Rattle.qm_convex.specs.Winding.{IsConvex};
 ghost use Rattle.qm_split.specs.Pieces.{solid_of, IsContender};
-ghost use Rattle.qm_split.specs.inner.PieceParts.{IsLyingPiece};
-ghost use Rattle.qm_split.specs.inner.Parts.{IsSection, IsPartIn, IsFoundPart, IsAhead, IsNotAhead, HasAhead, part_count, IsShortened};
+ghost use Rattle.qm_split.specs.inner.Parts.{IsSection, IsPartIn, IsFoundPart, HasNoneBehind, IsAhead, IsNotAhead, HasAhead, part_count, IsShortened};
 ghost use Rattle.qm_split.specs.inner.Ranked.{IsLesser, IsWindingOf};
 
 use crate::piece::{Piece, split_pieces};
 use crate::rank::{Rank, first_of};
 use qm_contents::Contents;
-use qm_geom::Plane;
+use qm_geom::{Cuboid, Plane};
 use qm_wind::{Lies, Winding};
 use std::alloc::AllocError;
 
@@ -21,6 +21,14 @@ pub(crate) struct Contender {
     pub(crate) contents: Contents,
     /// The rank of the piece that comes first.
     pub(crate) least: Rank,
+    pub(crate) body: Box<Body>,
+}
+
+/// What is kept of a solid in a cell, behind a pointer: a contender is moved at most planes.
+#[derive(Drop)]
+pub(crate) struct Body {
+    /// It has all that the solid has of the cell.
+    pub(crate) cuboid: Cuboid,
     pub(crate) outward: Vec<Plane>,
     pub(crate) pieces: Vec<Piece>,
 }
@@ -41,7 +49,7 @@ pub(crate) struct Parts {
 }
 
 impl Contender {
-    /// For a plane, and a winding that lies on it in the cell. Where the cuboids of all pieces lie on one side, it is moved.
+    /// For a plane, and a winding that lies on it in the cell. Where its cuboid lies on one side, it is moved.
     pub(crate) fn split(self, plane: &Plane, section: &Winding) -> Result<Parts, AllocError>
         ensures front { IfOk result (λ parts. (book cell : List Plane) →
             IsContender book cell self → IsSection cell plane.now section.now →
@@ -49,24 +57,49 @@ impl Contender {
         ensures back { IfOk result (λ parts. (book cell : List Plane) →
             IsContender book cell self → IsSection cell plane.now section.now →
             IsPartIn book (cell ++ flipped plane.now ∷ []) (solid_of self) parts.back) }
-        ensures front_count { IfOk result (λ parts. IsShortened self plane.now parts.front) }
-        ensures back_count { IfOk result (λ parts. IsShortened self plane.now parts.back) }
+        ensures front_count { IfOk result (λ parts. (book cell : List Plane) → IsContender book cell self → IsShortened self plane.now parts.front) }
+        ensures back_count { IfOk result (λ parts. (book cell : List Plane) → IsContender book cell self → IsShortened self plane.now parts.back) }
     {
-        if all_lie(&self.pieces, plane, Lies::Front) {
-            let back = lost_part(self.contents, &self.outward, section, &plane.flipped());
+        let least = self.body.cuboid.least_value(plane);
+        if least > 0 {
             return Ok(Parts {
                 front: Part::Kept(self),
-                back,
+                back: Part::Outside,
             });
         }
-        if all_lie(&self.pieces, plane, Lies::Back) {
-            let front = lost_part(self.contents, &self.outward, section, plane);
+        if least >= 0 {
             return Ok(Parts {
-                front,
+                front: self.left_beside(plane, section),
+                back: Part::Outside,
+            });
+        }
+        let greatest = self.body.cuboid.greatest_value(plane);
+        if greatest < 0 {
+            return Ok(Parts {
+                front: Part::Outside,
                 back: Part::Kept(self),
             });
         }
+        if greatest <= 0 {
+            return Ok(Parts {
+                front: Part::Outside,
+                back: self.left_beside(&plane.flipped(), section),
+            });
+        }
         self.parted(plane, section)
+    }
+
+    /// What is in front of a plane of a contender that has nothing behind it: all but what lies in the plane.
+    fn left_beside(self, plane: &Plane, section: &Winding) -> Part
+        ensures part { (book cell : List Plane) → IsContender book cell self → IsSection cell plane.now section.now → HasNoneBehind self plane.now →
+            IsPartIn book (cell ++ plane.now ∷ []) (solid_of self) result }
+        ensures count { (book cell : List Plane) → IsContender book cell self → HasNoneBehind self plane.now → IsShortened self plane.now result }
+    {
+        let _ = &plane.nx;
+        let Contender { contents, body, .. } = self;
+        let mut body = body;
+        body.pieces.retain(|piece| !piece.is_on(plane));
+        left_part(contents, body, section, plane)
     }
 
     /// For a plane that may part its pieces.
@@ -80,24 +113,38 @@ impl Contender {
         ensures front_count { IfOk result (λ parts. IsShortened self plane.now parts.front) }
         ensures back_count { IfOk result (λ parts. IsShortened self plane.now parts.back) }
     {
-        let Contender {
-            contents,
+        let Contender { contents, body, .. } = self;
+        let Body {
+            cuboid,
             outward,
             pieces,
-            ..
-        } = self;
+        } = Box::into_inner(body);
         let lists = split_pieces(pieces, plane)?;
-        let copy = Vec::from_slice(*outward.allocator(), &outward)?;
-        let front = part_in_front(contents, copy, lists.front, section, plane);
-        let back = part_in_front(contents, outward, lists.back, section, &plane.flipped());
+        let behind = plane.flipped();
+        let front = part_in_front(
+            contents,
+            &outward,
+            cuboid.tightened(plane),
+            lists.front,
+            section,
+            plane,
+        )?;
+        let back = part_in_front(
+            contents,
+            &outward,
+            cuboid.tightened(&behind),
+            lists.back,
+            section,
+            &behind,
+        )?;
         Ok(Parts { front, back })
     }
 
     /// The winding of a piece on a plane, if there is one.
     pub(crate) fn winding_on(&self, plane: &Plane) -> Option<&Winding>
-        ensures { IfSome result (λ w. IsWindingOf self.now.pieces.items plane.now w.now) }
+        ensures { IfSome result (λ w. IsWindingOf self.now.body.value.pieces.items plane.now w.now) }
     {
-        for piece in &self.pieces {
+        for piece in &self.body.pieces {
             if piece.winding.plane() == *plane {
                 return Some(&piece.winding);
             }
@@ -106,44 +153,59 @@ impl Contender {
     }
 }
 
-/// Whether each of some pieces lies in the same way beside a plane, where their cuboids tell.
-fn all_lie(pieces: &[Piece], plane: &Plane, lies: Lies) -> bool
-    ensures { result ≡ true → All (IsLyingPiece lies plane.now) pieces.now }
-{
-    for piece in pieces {
-        if !piece.surely_lies(plane, lies) {
-            return false;
-        }
-    }
-    true
-}
-
-/// What a full solid is to what a cell has in front of a plane, by its pieces there, and by a winding that lies on the plane
-/// in the cell.
+/// What a full solid is to what a cell has in front of a plane, by its pieces there, its cuboid there, and a winding that
+/// lies on the plane in the cell.
 fn part_in_front(
     contents: Contents,
-    outward: Vec<Plane>,
+    outward: &[Plane],
+    cuboid: Cuboid,
     pieces: Vec<Piece>,
     section: &Winding,
     plane: &Plane,
-) -> Part
-    ensures part { IsFoundPart (record { contents = contents; outward = outward.items }) section.now pieces.items result plane.now }
-    ensures count { part_count result ≡ length pieces.items }
+) -> Result<Part, AllocError>
+    ensures part { IfOk result (λ part. IsFoundPart (record { contents = contents; outward = outward.now }) section.now cuboid pieces.items part plane.now) }
+    ensures count { IfOk result (λ part. part_count part ≡ length pieces.items) }
 {
     match least_of(&pieces) {
+        Some(least) => {
+            let alloc = *pieces.allocator();
+            let outward = Vec::from_slice(alloc, outward)?;
+            let body = Box::new(
+                alloc,
+                Body {
+                    cuboid,
+                    outward,
+                    pieces,
+                },
+            )?;
+            Ok(Part::Kept(Contender {
+                contents,
+                least,
+                body,
+            }))
+        }
+        None => Ok(lost_part(contents, outward, section, plane)),
+    }
+}
+
+/// The same, by what is kept of it there.
+fn left_part(contents: Contents, body: Box<Body>, section: &Winding, plane: &Plane) -> Part
+    ensures part { IsFoundPart (record { contents = contents; outward = body.value.outward.items }) section.now body.value.cuboid body.value.pieces.items result plane.now }
+    ensures count { part_count result ≡ length body.value.pieces.items }
+{
+    match least_of(&body.pieces) {
         Some(least) => Part::Kept(Contender {
             contents,
             least,
-            outward,
-            pieces,
+            body,
         }),
-        None => lost_part(contents, &outward, section, plane),
+        None => lost_part(contents, &body.outward, section, plane),
     }
 }
 
 /// What a full solid without pieces in front of a plane is to what a cell has there.
 fn lost_part(contents: Contents, outward: &[Plane], section: &Winding, plane: &Plane) -> Part
-    ensures part { IsFoundPart (record { contents = contents; outward = outward.now }) section.now [] result plane.now }
+    ensures part { (cuboid : Cuboid) → IsFoundPart (record { contents = contents; outward = outward.now }) section.now cuboid [] result plane.now }
     ensures count { part_count result ≡ 0 }
 {
     if is_inside(outward, section, plane) {

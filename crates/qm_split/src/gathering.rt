@@ -131,8 +131,10 @@ impl Gathering {
         ensures back { IfOk result (λ halves. (book cell : List Plane) →
             All (IsContender book cell) self.contenders.items → IsSection cell plane.now section.now →
             IsGathered book (cell ++ flipped plane.now ∷ []) self.strongest (map solid_of self.contenders.items) halves.back) }
-        ensures front_count { IfOk result (λ halves. HasFewer self.contenders.items plane.now halves.front) }
-        ensures back_count { IfOk result (λ halves. HasFewer self.contenders.items plane.now halves.back) }
+        ensures front_count { IfOk result (λ halves. (book cell : List Plane) →
+            All (IsContender book cell) self.contenders.items → HasFewer self.contenders.items plane.now halves.front) }
+        ensures back_count { IfOk result (λ halves. (book cell : List Plane) →
+            All (IsContender book cell) self.contenders.items → HasFewer self.contenders.items plane.now halves.back) }
     {
         let alloc = *self.contenders.allocator();
         let Gathering {

@@ -1,4 +1,5 @@
 ghost use Rattle.std.specs.Prelude.{◌≡◌, ◌<◌, not, ◌++◌, ◌∷◌, List, [], length, IfOk, OnOk, Contains, MatchOption};
+ghost use Rattle.std.specs.Bool.{MatchBool};
 ghost use Rattle.qm_contents.specs.declared.contents.Contents.{Contents};
 ghost use Rattle.qm_solids.specs.declared.face.FaceRef.{FaceRef};
 ghost use Rattle.qm_solids.specs.Holding.{IsFull};
@@ -6,15 +7,14 @@ ghost use Rattle.qm_solids.specs.Outward.{outward_of, outward_planes, AreNumbere
 ghost use Rattle.qm_wind.specs.Clipped.{is_front};
 ghost use Rattle.qm_split.specs.Pieces.{ArePieces};
 ghost use Rattle.qm_split.specs.inner.Parts.{IsPartIn};
-ghost use Rattle.qm_split.specs.inner.FacePieces.{solid_behind, IsFacePiece, HasNoFacePoint};
+ghost use Rattle.qm_split.specs.inner.FacePieces.{solid_behind, IsFacePiece, HasNoFacePoint, HasAllBehind};
 
-use crate::contender::{Contender, Part, least_of};
+use crate::contender::{Body, Contender, Part, least_of};
 use crate::piece::{Piece, numbered, push_some};
-use crate::section::kept;
 use qm_contents::Contents;
-use qm_geom::{Plane, PlaneBook};
+use qm_geom::{Cuboid, Plane, PlaneBook};
 use qm_solids::FaceRef;
-use qm_wind::{Side, Winding};
+use qm_wind::{Clip, Side, Winding};
 use std::alloc::{AllocError, Global};
 
 /// What a full solid is to the cube, by its faces.
@@ -34,11 +34,19 @@ pub(crate) fn part_in_cube(
         return Ok(Part::Containing(contents));
     };
     let outward = outward_planes(alloc, faces, book)?;
+    let cuboid = cuboid_behind(&outward);
+    let body = Box::new(
+        alloc,
+        Body {
+            cuboid,
+            outward,
+            pieces,
+        },
+    )?;
     Ok(Part::Kept(Contender {
         contents,
         least,
-        outward,
-        pieces,
+        body,
     }))
 }
 
@@ -56,6 +64,17 @@ fn outward_planes(
         planes.push(outward_of(face, book))?;
     }
     Ok(planes)
+}
+
+/// A cuboid that has all of the cube that is in front of none of these planes.
+fn cuboid_behind(outward: &[Plane]) -> Cuboid
+    ensures { HasAllBehind result outward.now }
+{
+    let mut cuboid = Cuboid::whole();
+    for face in outward {
+        cuboid = cuboid.tightened(&face.flipped());
+    }
+    cuboid
 }
 
 /// The outward plane of a face.
@@ -106,29 +125,36 @@ fn face_in_cube(
         None => return Ok(None),
     };
     for face in faces {
-        left = match behind(left, number, face, book)? {
-            Some(kept) => kept,
-            None => return Ok(None),
-        };
+        if !keep_behind(&mut left, number, face, book)? {
+            return Ok(None);
+        }
     }
     Ok(Some(left))
 }
 
-/// What is left of a winding on the plane of a number behind a face, if the face lies on another plane.
-fn behind(
-    winding: Winding,
+/// Cuts a winding on the plane of a number down to what is behind a face, if the face lies on another plane, and says
+/// whether anything is.
+fn keep_behind(
+    left: &mut Winding,
     number: u32,
     face: &FaceRef,
     book: &PlaneBook,
-) -> Result<Option<Winding>, AllocError>
+) -> Result<bool, AllocError>
     requires numbered { face.now.plane < length book.now }
-    ensures { IfOk result (λ part. (done : List FaceRef) → IsFacePiece book.now number done winding →
-        MatchOption part (HasNoFacePoint book.now number (done ++ face.now ∷ [])) (IsFacePiece book.now number (done ++ face.now ∷ []))) }
+    ensures { IfOk result (λ some. (done : List FaceRef) → IsFacePiece book.now number done left.old →
+        MatchBool some (IsFacePiece book.now number (done ++ face.now ∷ []) left.new) (HasNoFacePoint book.now number (done ++ face.now ∷ []))) }
 {
     if face.plane == number {
-        return Ok(Some(winding));
+        return Ok(true);
     }
-    kept(winding, &book.plane(face.plane), inner_side(face))
+    match left.clip(&book.plane(face.plane), inner_side(face))? {
+        Clip::Whole => Ok(true),
+        Clip::Gone => Ok(false),
+        Clip::Cut(part) => {
+            *left = part;
+            Ok(true)
+        }
+    }
 }
 
 /// The side of a face's plane on which its solid lies.

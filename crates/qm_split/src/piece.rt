@@ -1,11 +1,11 @@
-ghost use Rattle.std.specs.Prelude.{◌≡◌, true, Contains, IfOk, IsOk, OnOk, Option, Some, option_to_list, ◌++◌};
+ghost use Rattle.std.specs.Prelude.{◌≡◌, Contains, IfOk, IsOk, OnOk, Option, Some, option_to_list, ◌++◌};
 ghost use Rattle.qm_space.specs.Plane.{flipped};
-ghost use Rattle.qm_split.specs.inner.PieceParts.{IsPartOf, AreFront, IsNumberedPiece, IsLyingPiece};
+ghost use Rattle.qm_split.specs.inner.PieceParts.{IsPartOf, AreFront, IsNumberedPiece, is_on};
 ghost use Rattle.qm_split.specs.inner.Ranked.{IsRankOf};
 
 use crate::rank::{Rank, is_axial};
 use qm_geom::Plane;
-use qm_wind::{Lies, Winding};
+use qm_wind::{Severed, Winding};
 use std::alloc::{AllocError, Global};
 
 /// What a cell has of a face of a solid, on the plane of a number.
@@ -40,48 +40,46 @@ impl Piece {
         }
     }
 
-    /// Whether it lies in such a way beside a plane, where its cuboid tells: the plane goes through that of any other.
-    pub(crate) fn surely_lies(&self, plane: &Plane, lies: Lies) -> bool
-        ensures { result ≡ true → IsLyingPiece lies plane.now self.now }
+    /// Whether it lies in a plane.
+    pub(crate) fn is_on(&self, plane: &Plane) -> bool
+        ensures { result ≡ is_on plane.now self.now }
     {
-        let cuboid = self.winding.cuboid();
-        if cuboid.least_value(plane) < 0 && cuboid.greatest_value(plane) > 0 {
-            return false;
-        }
-        self.lies(plane) == lies
+        let own = self.winding.plane();
+        own == *plane || own == plane.flipped()
     }
 
-    /// Where it lies beside a plane.
-    fn lies(&self, plane: &Plane) -> Lies
-        ensures { IsLyingPiece result plane.now self.now }
-    {
-        let _corners = self.winding.len();
-        self.winding.lies(plane)
-    }
-
-    /// What it has in front of a plane, and behind it. Where its cuboid lies on one side, it is moved.
+    /// What it has in front of a plane, and behind it. Only where it has both is its winding cut.
     fn split(self, alloc: Global, plane: &Plane) -> Result<PieceParts, AllocError>
         ensures front { IfOk result (λ parts. IsPartOf self plane.now parts.front) }
         ensures back { IfOk result (λ parts. IsPartOf self (flipped plane.now) parts.back) }
     {
-        if self.surely_lies(plane, Lies::Front) {
-            return Ok(PieceParts {
-                front: Some(self),
+        let _corners = self.winding.len();
+        let mut piece = self;
+        match piece.winding.sever(plane)? {
+            Severed::Front => Ok(PieceParts {
+                front: Some(piece),
                 back: None,
-            });
-        }
-        if self.surely_lies(plane, Lies::Back) {
-            return Ok(PieceParts {
+            }),
+            Severed::Back => Ok(PieceParts {
                 front: None,
-                back: Some(self),
-            });
+                back: Some(piece),
+            }),
+            Severed::On => Ok(PieceParts {
+                front: None,
+                back: None,
+            }),
+            Severed::Across(behind) => {
+                let winding = Box::new(alloc, behind)?;
+                let back = Piece {
+                    number: piece.number,
+                    winding,
+                };
+                Ok(PieceParts {
+                    front: Some(piece),
+                    back: Some(back),
+                })
+            }
         }
-        let Piece { number, winding } = self;
-        let halves = Box::into_inner(winding).split(plane)?;
-        Ok(PieceParts {
-            front: numbered(alloc, number, halves.front)?,
-            back: numbered(alloc, number, halves.back)?,
-        })
     }
 }
 

@@ -1,4 +1,4 @@
-ghost use Rattle.std.specs.Prelude.{◌≡◌, ◌<◌, ◌≤◌, ◌↔◌, length, IsTrue, IfOk, MatchOption};
+ghost use Rattle.std.specs.Prelude.{◌≡◌, ◌<◌, ◌≤◌, ◌↔◌, length, IsTrue, IfOk, OnErr, MatchOption};
 ghost use Rattle.qm_space.specs.Turned.{turned};
 ghost use Rattle.qm_geom.specs.Rounding.{HasSmallCoordinates};
 ghost use Rattle.qm_convex.specs.Winding.{corner_at};
@@ -8,6 +8,7 @@ ghost use Rattle.qm_convex.specs.Sides.{LiesIn};
 ghost use Rattle.qm_convex.specs.World.{MissesCube, IsWorldPart, IsInWorld, LiesWithin};
 ghost use Rattle.qm_space.specs.Cube.{IsInClosedCube};
 ghost use Rattle.qm_wind.specs.Clipped.{IsClip, is_front};
+ghost use Rattle.qm_wind.specs.Severing.{IsSevered};
 ghost use Rattle.qm_wind.specs.Split.{IsSplit};
 ghost use Rattle.qm_wind.specs.Lying.{IsLying};
 ghost use Rattle.qm_wind.specs.inner.Surveyed.{IsRun};
@@ -17,6 +18,7 @@ use crate::found::Found;
 use crate::halves::Halves;
 use crate::lies::Lies;
 use crate::polygon::Polygon;
+use crate::severed::Severed;
 use crate::survey::Run;
 use crate::walls::{Walls, mirrored};
 use qm_geom::{Corner, Cuboid, Plane};
@@ -136,6 +138,24 @@ impl Winding {
         }
     }
 
+    /// Cuts the winding down to its part in front of a plane where it has points on both sides, and hands out the part
+    /// behind; else it stays as it is. Where memory runs out, it stays as it was.
+    pub fn sever(&mut self, plane: &Plane) -> Result<Severed, AllocError>
+        ensures ok { IfOk result (λ severed. IsSevered severed self.old self.new plane.now) }
+        ensures err { OnErr result (self.new ≡ self.old) }
+    {
+        match self.found(plane) {
+            Found::Front => Ok(Severed::Front),
+            Found::Back => Ok(Severed::Back),
+            Found::On => Ok(Severed::On),
+            Found::Across(survey) => {
+                let behind = self.part(&plane.flipped(), &survey.back)?;
+                *self = self.part(plane, &survey.front)?;
+                Ok(Severed::Across(behind))
+            }
+        }
+    }
+
     /// Where the winding lies beside a plane.
     pub fn lies(&self, plane: &Plane) -> Lies
         ensures { IsLying result self.now plane.now }
@@ -210,7 +230,10 @@ impl Winding {
     {
         Ok(Winding {
             polygon: self.polygon.part_in_front_of(plane, run)?,
-            cuboid: self.cuboid.tightened(plane).tightened_on(&self.polygon.plane()),
+            cuboid: self
+                .cuboid
+                .tightened(plane)
+                .tightened_on(&self.polygon.plane()),
         })
     }
 

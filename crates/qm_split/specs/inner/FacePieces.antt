@@ -2,11 +2,13 @@ use Rattle.std.specs.Prelude.{◌≡◌, ◌≢◌, ◌↔◌, ◌⊎◌, ℕ, L
 use Rattle.qm_space.specs.Point.{Point, IsInCube}
 use Rattle.qm_space.specs.Plane.{Plane, IsOn, IsBehind}
 use Rattle.qm_space.specs.Book.{plane_at}
+use Rattle.qm_space.specs.Cuboid.{Cuboid, IsInCuboid}
 use Rattle.qm_contents.specs.declared.contents.Contents.{Contents}
 use Rattle.qm_convex.specs.Winding.{Winding, IsInRegion, IsConvex}
 use Rattle.qm_solids.specs.declared.face.FaceRef.{FaceRef}
 use Rattle.qm_solids.specs.Outward.{outward_of, outward_planes}
 use Rattle.qm_solids.specs.Solid.{Solid}
+use Rattle.qm_solids.specs.Holding.{IsInFrontOfNone}
 use Rattle.qm_split.specs.declared.piece.Piece.{Piece}
 
 -- Faces by the numbers of their planes in a book.
@@ -30,6 +32,10 @@ pub record IsFacePiece (book : List Plane) (number : ℕ) (faces : List FaceRef)
   pub convex : IsConvex w
   pub plane : w.plane ≡ plane_at book number
   pub points : (x : Point) → IsInRegion w x ↔ IsFacePoint book number faces x
+
+-- the cuboid has all points of the cube in front of none of the planes
+abbrev pub HasAllBehind : Cuboid → List Plane → Type 0
+HasAllBehind cuboid outward = (x : Point) → IsInCube x → IsInFrontOfNone outward x → IsInCuboid cuboid x
 
 -- there is no such point
 abbrev pub HasNoFacePoint : List Plane → ℕ → List FaceRef → Type 0

@@ -29,7 +29,7 @@ pub record IsGathered (book cell : List Plane) (before : Option Contents) (done 
 pub record HasContenderIn (contenders : List Contender) (h : Plane) : Type 0 where
   pub contender : Contender
   pub listed : Contains contenders contender
-  pub piece : HasPieceIn contender.pieces.items h
+  pub piece : HasPieceIn contender.body.value.pieces.items h
 
 -- the gathering has no more pieces than these contenders, and fewer where one has a piece in the plane
 pub record HasFewer (contenders : List Contender) (h : Plane) (gathering : Gathering) : Type 0 where

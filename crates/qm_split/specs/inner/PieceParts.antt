@@ -1,5 +1,6 @@
-use Rattle.std.specs.Prelude.{◌≡◌, ◌⊎◌, ◌<◌, ◌≤◌, List, length, Contains, Option, Some, None, IsSomeAnd, MatchOption, ℕ}
-use Rattle.qm_space.specs.Plane.{Plane}
+use Rattle.std.specs.Ordering.{int_eq}
+use Rattle.std.specs.Prelude.{◌≡◌, ◌⊎◌, ◌<◌, ◌≤◌, Bool, ◌&&◌, ◌||◌, List, length, Contains, Option, Some, None, IsSomeAnd, MatchOption, ℕ}
+use Rattle.qm_space.specs.Plane.{Plane, flipped}
 use Rattle.qm_convex.specs.Winding.{Winding, IsConvex}
 use Rattle.qm_convex.specs.Sides.{HasNoneInFront}
 use Rattle.qm_convex.specs.Cut.{IsPartInFront}
@@ -42,7 +43,10 @@ abbrev pub IsNumberedPiece : ℕ → Option Winding → Option Piece → Type 0
 IsNumberedPiece n None piece = piece ≡ None
 IsNumberedPiece n (Some winding) piece = IsSomeAnd piece (λ p. (p.number ≡ n) × (p.winding.value ≡ winding))
 
--- how the piece lies beside a plane
-pub record IsLyingPiece (lies : Lies) (g : Plane) (p : Piece) : Type 0 where
-  pub convex : IsConvex p.winding.value
-  pub lying : IsLying lies p.winding.value g
+-- whether two planes are the same
+abbrev pub is_same : Plane → Plane → Bool
+is_same g h = int_eq g.nx h.nx && (int_eq g.ny h.ny && (int_eq g.nz h.nz && int_eq g.d h.d))
+
+-- whether the piece's plane is a plane, turned to either side
+abbrev pub is_on : Plane → Piece → Bool
+is_on g p = is_same p.winding.value.plane g || is_same p.winding.value.plane (flipped g)

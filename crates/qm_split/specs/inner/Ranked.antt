@@ -34,13 +34,13 @@ IsLesser before pieces (Some first) =
 pub record IsRankOfSome (contenders : List Contender) (rank : Rank) : Type 0 where
   pub contender : Contender
   pub listed : Contains contenders contender
-  pub one : IsRankOfOne contender.pieces.items rank
+  pub one : IsRankOfOne contender.body.value.pieces.items rank
 
 -- the first of the ranks of all pieces, where there is a piece
 abbrev pub IsLeastRank : List Contender → Option Rank → Type 0
-IsLeastRank contenders None = (contender : Contender) (piece : Piece) → Contains contenders contender → Contains contender.pieces.items piece → ⊥
+IsLeastRank contenders None = (contender : Contender) (piece : Piece) → Contains contenders contender → Contains contender.body.value.pieces.items piece → ⊥
 IsLeastRank contenders (Some first) =
-    IsRankOfSome contenders first × ((contender : Contender) → Contains contenders contender → IsAfterNone contender.pieces.items first)
+    IsRankOfSome contenders first × ((contender : Contender) → Contains contenders contender → IsAfterNone contender.body.value.pieces.items first)
 
 -- the winding of one of the pieces, on a plane
 pub record IsWindingOf (pieces : List Piece) (h : Plane) (w : Winding) : Type 0 where
@@ -52,4 +52,4 @@ pub record IsWindingOf (pieces : List Piece) (h : Plane) (w : Winding) : Type 0 
 pub record IsWindingOfSome (contenders : List Contender) (h : Plane) (w : Winding) : Type 0 where
   pub contender : Contender
   pub listed : Contains contenders contender
-  pub one : IsWindingOf contender.pieces.items h w
+  pub one : IsWindingOf contender.body.value.pieces.items h w

@@ -2,7 +2,7 @@ use Rattle.std.proofs.Common.{List, Some, None, take, sym, subst}
 use Rattle.std.proofs.lemmas.List.{take_all}
 use Rattle.qm_split.specs.declared.piece.Piece.{Piece}
 use Rattle.qm_split.specs.inner.Ranked.{IsLesser}
-use Rattle.qm_lists.proofs.TakenItems.{taken_next}
+use Rattle.qm_split.proofs.ListedItems.{taken_next}
 use Rattle.qm_split.proofs.RankOrder.{lesser_begins, lesser_more}
 use Rattle.qm_split.proofs.contender.least_of.Goals as goal
 

@@ -1,5 +1,6 @@
 use Rattle.std.proofs.Common.{Option, List, [], ◌∷◌, ◌++◌, false, take, get_or, Contains, sym, subst}
 use Rattle.std.specs.Option.{MatchOption}
+use Rattle.std.proofs.lemmas.Bool.{MatchBool-at_true, MatchBool-at_false}
 use Rattle.qm_space.specs.Plane.{Plane}
 use Rattle.qm_space.proofs.Books.{plane_at_from}
 use Rattle.qm_convex.specs.Winding.{Winding}
@@ -7,7 +8,7 @@ use Rattle.qm_convex.specs.World.{MissesCube, IsWorldPart}
 use Rattle.std.proofs.lemmas.List.{get_or_default}
 use Rattle.qm_solids.specs.declared.face.FaceRef.{FaceRef}
 use Rattle.qm_split.specs.inner.FacePieces.{IsFacePiece, HasNoFacePoint}
-use Rattle.qm_lists.proofs.TakenItems.{taken_next, listed_of_taken}
+use Rattle.qm_split.proofs.ListedItems.{taken_next, listed_of_taken}
 use Rattle.qm_split.proofs.FacesInCube.{face_begins, point_of_fewer}
 use Rattle.qm_split.proofs.in_cube.face_in_cube.Goals as goal
 
@@ -20,17 +21,18 @@ loop-face-init c =
 pub loop-face-preserved : goal.loop-face-preserved
 loop-face-preserved c =
     let face = get_or c.args.faces.now c.loop-face.face-index (record { plane = 0; out_is_front = false }) in
-    subst (λ (fs : List FaceRef). IsFacePiece c.args.book.now c.args.number fs c.in-Some-2.kept)
+    subst (λ (fs : List FaceRef). IsFacePiece c.args.book.now c.args.number fs c.keep_behind.new.left)
     (sym (taken_next c.args.faces.now c.loop-face.face-index face c.loop-face-test.true (get_or_default c.args.faces.now c.loop-face.face-index _ face c.loop-face-test.true)))
-    (subst (λ (o : Option Winding). MatchOption o (HasNoFacePoint c.args.book.now c.args.number (take c.loop-face.face-index c.args.faces.now ++ face ∷ [])) (IsFacePiece c.args.book.now c.args.number (take c.loop-face.face-index c.args.faces.now ++ face ∷ [])))
-    c.in-Some-2.is (c.in_ok-kept.ensures (take c.loop-face.face-index c.args.faces.now) c.loop-face.invariant))
+    (MatchBool-at_true (IsFacePiece c.args.book.now c.args.number (take c.loop-face.face-index c.args.faces.now ++ face ∷ []) c.keep_behind.new.left)
+    (HasNoFacePoint c.args.book.now c.args.number (take c.loop-face.face-index c.args.faces.now ++ face ∷ [])) c.if-not-branch.false (c.in_ok-keep_behind.ensures (take c.loop-face.face-index c.args.faces.now) c.loop-face.invariant))
 
-pub returns-in-None-2 : goal.returns-in-None-2
-returns-in-None-2 c = λ x at.
+pub returns-then-not-branch : goal.returns-then-not-branch
+returns-then-not-branch c = λ x at.
     let face = get_or c.args.faces.now c.loop-face.face-index (record { plane = 0; out_is_front = false }) in
     let read = get_or_default c.args.faces.now c.loop-face.face-index (record { plane = 0; out_is_front = false }) face c.loop-face-test.true in
-    subst (λ (o : Option Winding). MatchOption o (HasNoFacePoint c.args.book.now c.args.number (take c.loop-face.face-index c.args.faces.now ++ face ∷ [])) (IsFacePiece c.args.book.now c.args.number (take c.loop-face.face-index c.args.faces.now ++ face ∷ [])))
-    c.in-None-2.is (c.in_ok-kept.ensures (take c.loop-face.face-index c.args.faces.now) c.loop-face.invariant) x
+    MatchBool-at_false (IsFacePiece c.args.book.now c.args.number (take c.loop-face.face-index c.args.faces.now ++ face ∷ []) c.keep_behind.new.left)
+    (HasNoFacePoint c.args.book.now c.args.number (take c.loop-face.face-index c.args.faces.now ++ face ∷ []))
+    c.if-not-branch.true (c.in_ok-keep_behind.ensures (take c.loop-face.face-index c.args.faces.now) c.loop-face.invariant) x
     (point_of_fewer c.args.book.now c.args.number c.args.faces.now (take c.loop-face.face-index c.args.faces.now ++ face ∷ []) x
     (λ f listed. listed_of_taken c.args.faces.now c.loop-face.face-index face c.loop-face-test.true read f
     (subst (λ (fs : List FaceRef). Contains fs f) (sym (taken_next c.args.faces.now c.loop-face.face-index face c.loop-face-test.true read)) listed)) at)

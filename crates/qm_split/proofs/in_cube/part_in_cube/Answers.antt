@@ -1,15 +1,16 @@
-use Rattle.std.proofs.Common.{List, Option, Some, None, [], refl, ap, subst}
+use Rattle.std.proofs.Common.{List, Option, Some, None, [], refl, sym, ap, ◌∙◌, subst}
 use Rattle.qm_space.specs.Plane.{Plane}
 use Rattle.qm_solids.specs.Solid.{Solid}
 use Rattle.qm_split.specs.declared.piece.Piece.{Piece}
+use Rattle.qm_split.specs.declared.contender.Body.{Body}
 use Rattle.qm_split.specs.declared.rank.Rank.{Rank}
-use Rattle.qm_split.specs.Pieces.{ArePieces}
+use Rattle.qm_split.specs.Pieces.{ArePieces, IsHeldWithin}
 use Rattle.qm_split.specs.inner.Ranked.{IsLesser}
-use Rattle.qm_split.specs.inner.FacePieces.{solid_behind}
+use Rattle.qm_split.specs.inner.FacePieces.{solid_behind, HasAllBehind}
 use Rattle.qm_split.proofs.ListedItems.{none_if_not_some}
 use Rattle.qm_split.proofs.RankOrder.{no_pieces}
 use Rattle.qm_split.proofs.KeptParts.{kept_contender}
-use Rattle.qm_split.proofs.FacesInCube.{outward_reduced, contains_cube}
+use Rattle.qm_split.proofs.FacesInCube.{outward_reduced, contains_cube, held_in_cube}
 use Rattle.qm_split.proofs.in_cube.part_in_cube.Goals as goal
 
 pub returns-in_default : goal.returns-in_default
@@ -24,7 +25,12 @@ returns-in_default c =
 
 pub returns : goal.returns
 returns c =
-    kept_contender c.args.book.now [] _ (solid_behind c.args.book.now c.args.faces.now c.args.contents)
-    (ap (λ (os : List Plane). let s : Solid = record { contents = c.args.contents; outward = os } in s) c.in_ok-outward.ensures)
+    let body = c.in_ok-body.ensures.ok in
+    let solid = solid_behind c.args.book.now c.args.faces.now c.args.contents in
+    kept_contender c.args.book.now [] _ solid
+    (ap (λ (os : List Plane). let s : Solid = record { contents = c.args.contents; outward = os } in s) (ap (λ (b : Body). b.outward.items) body ∙ c.in_ok-outward.ensures))
     c.requires.full (outward_reduced c.args.book.now c.args.faces.now c.len-planes.ensures.planes c.requires.numbered)
-    (subst (λ (ps : List Piece). IsLesser None ps (Some c.in-Some.least)) c.deref.ensures.value c.in-Some.ensures) (c.in_ok-pieces.ensures c.args.contents c.requires.full)
+    (subst (λ (b : Body). IsLesser None b.pieces.items (Some c.in-Some.least)) (sym body) (subst (λ (ps : List Piece). IsLesser None ps (Some c.in-Some.least)) c.deref.ensures.value c.in-Some.ensures))
+    (subst (λ (b : Body). ArePieces c.args.book.now [] (solid_behind c.args.book.now c.args.faces.now c.args.contents) b.pieces.items) (sym body) (c.in_ok-pieces.ensures c.args.contents c.requires.full))
+    (subst (λ (b : Body). IsHeldWithin b.cuboid (solid_behind c.args.book.now c.args.faces.now c.args.contents) []) (sym body)
+    (held_in_cube c.cuboid_behind-cuboid.result solid (subst (HasAllBehind c.cuboid_behind-cuboid.result) (c.deref-2.ensures.value ∙ c.in_ok-outward.ensures) c.cuboid_behind-cuboid.ensures)))

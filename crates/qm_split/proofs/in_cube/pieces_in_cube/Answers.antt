@@ -3,7 +3,7 @@ use Rattle.std.proofs.lemmas.List.{get_or_default, take_all}
 use Rattle.qm_solids.specs.declared.face.FaceRef.{FaceRef}
 use Rattle.qm_split.specs.declared.piece.Piece.{Piece}
 use Rattle.qm_split.specs.inner.FacePieces.{HasFacePieces}
-use Rattle.qm_lists.proofs.TakenItems.{taken_next}
+use Rattle.qm_split.proofs.ListedItems.{taken_next}
 use Rattle.qm_split.proofs.FacesInCube.{face_pieces_begin, face_pieces_more, pieces_in_cube}
 use Rattle.qm_split.proofs.in_cube.pieces_in_cube.Goals as goal
 

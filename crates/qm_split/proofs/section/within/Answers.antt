@@ -5,7 +5,7 @@ use Rattle.qm_space.specs.Cell.{IsInCell}
 use Rattle.qm_convex.specs.Winding.{Winding}
 use Rattle.qm_convex.specs.Sides.{HasNoneInFront}
 use Rattle.qm_convex.specs.Cut.{IsPartInFront, IsPartWithin}
-use Rattle.qm_lists.proofs.TakenItems.{taken_next, parted_at}
+use Rattle.qm_split.proofs.ListedItems.{taken_next, parted_at}
 use Rattle.qm_split.proofs.SectionsOfCells.{within_none, within_more, none_within}
 use Rattle.qm_split.proofs.section.within.Goals as goal
 

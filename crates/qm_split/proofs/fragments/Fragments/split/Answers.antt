@@ -19,7 +19,7 @@ returns-clause-back c = λ solids book cell are.
     (c.in_ok-halves.ensures.back book cell (all_contend solids book cell c.args.self are) (c.in_ok-section.ensures solids book cell are))
 
 pub returns-clause-front_count : goal.returns-clause-front_count
-returns-clause-front_count c = λ is. c.in_ok-halves.ensures.front_count.fewer (contender_in_candidate is.solids is.book is.cell c.args.self is.are is.number c.args.plane.now is.candidate)
+returns-clause-front_count c = λ is. (c.in_ok-halves.ensures.front_count is.book is.cell (all_contend is.solids is.book is.cell c.args.self is.are)).fewer (contender_in_candidate is.solids is.book is.cell c.args.self is.are is.number c.args.plane.now is.candidate)
 
 pub returns-clause-back_count : goal.returns-clause-back_count
-returns-clause-back_count c = λ is. c.in_ok-halves.ensures.back_count.fewer (contender_in_candidate is.solids is.book is.cell c.args.self is.are is.number c.args.plane.now is.candidate)
+returns-clause-back_count c = λ is. (c.in_ok-halves.ensures.back_count is.book is.cell (all_contend is.solids is.book is.cell c.args.self is.are)).fewer (contender_in_candidate is.solids is.book is.cell c.args.self is.are is.number c.args.plane.now is.candidate)

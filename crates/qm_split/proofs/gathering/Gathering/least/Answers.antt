@@ -1,7 +1,7 @@
 use Rattle.std.proofs.Common.{List, Some, take, sym, subst, ◌∙◌}
 use Rattle.std.proofs.lemmas.List.{take_all}
 use Rattle.qm_split.specs.declared.contender.Contender.{Contender}
-use Rattle.qm_lists.proofs.TakenItems.{taken_next}
+use Rattle.qm_split.proofs.ListedItems.{taken_next}
 use Rattle.qm_split.proofs.RankOrder.{AreLeastRank, least_rank_begins, least_rank_more}
 use Rattle.qm_split.proofs.gathering.Gathering.least.Goals as goal
 

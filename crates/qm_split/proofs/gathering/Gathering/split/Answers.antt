@@ -2,9 +2,8 @@ use Rattle.std.proofs.Common.{List, refl, ◌∙◌, subst, arith}
 use Rattle.std.proofs.lemmas.Grind.{common_steps}
 use Rattle.qm_space.specs.Plane.{flipped}
 use Rattle.qm_split.specs.declared.contender.Contender.{Contender}
-use Rattle.qm_lists.proofs.Taken.{taken_none, taken_more, taken_all}
-use Rattle.qm_split.proofs.SplitGatherings.{IsGatheredSide, side_begins, side_more, fewer_begins, fewer_more}
-use Rattle.qm_split.specs.inner.Gathered.{HasFewer}
+use Rattle.qm_split.proofs.Taken.{taken_none, taken_more, taken_all}
+use Rattle.qm_split.proofs.SplitGatherings.{IsGatheredSide, HasFewerOfSide, side_begins, side_more, fewer_begins, fewer_more}
 use Rattle.qm_split.proofs.gathering.Gathering.split.Goals as goal
 
 pub loop-contender-init : goal.loop-contender-init
@@ -41,10 +40,10 @@ returns-clause-back c =
 
 pub returns-clause-front_count : goal.returns-clause-front_count
 returns-clause-front_count c =
-    subst (λ (qs : List Contender). HasFewer qs c.args.plane.now c.loop-contender.front)
+    subst (λ (qs : List Contender). HasFewerOfSide c.args.plane.now qs c.loop-contender.front)
     (taken_all _ _ _ _ c.loop-contender.invariant.taken c.in-None.ensures.steps.0 ∙ c.into_iter-contender-iterator.ensures.into_iter_gives.0) c.loop-contender.invariant.front_count
 
 pub returns-clause-back_count : goal.returns-clause-back_count
 returns-clause-back_count c =
-    subst (λ (qs : List Contender). HasFewer qs c.args.plane.now c.loop-contender.back)
+    subst (λ (qs : List Contender). HasFewerOfSide c.args.plane.now qs c.loop-contender.back)
     (taken_all _ _ _ _ c.loop-contender.invariant.taken c.in-None.ensures.steps.0 ∙ c.into_iter-contender-iterator.ensures.into_iter_gives.0) c.loop-contender.invariant.back_count

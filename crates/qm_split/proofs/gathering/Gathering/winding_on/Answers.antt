@@ -1,5 +1,4 @@
-use Rattle.qm_lists.proofs.TakenItems.{listed_read}
-use Rattle.qm_split.proofs.ListedItems.{some_weaker}
+use Rattle.qm_split.proofs.ListedItems.{listed_read, some_weaker}
 use Rattle.qm_split.proofs.gathering.Gathering.winding_on.Goals as goal
 
 pub returns-then-contender-least : goal.returns-then-contender-least
