@@ -5,7 +5,7 @@ use Rattle.std.specs.Option.{MatchOption}
 use Rattle.std.proofs.lemmas.List.Elements.{All-nil, All-contains, Contains-push, Contains-push_cases, Contains-append_left}
 use Rattle.qm_numbers.proofs.IntegerProducts.{linear}
 use Rattle.qm_space.specs.Point.{Point}
-use Rattle.qm_lists.proofs.Elements.{All-first_part, All-last_part}
+use Rattle.qm_lists.proofs.Elements.{All-first_part, All-last_part, Contains-nil, Contains-map, Contains-map_from}
 use Rattle.qm_space.specs.Plane.{Plane, flipped, IsBehind, IsInFront, IsNotInFront}
 use Rattle.qm_space.specs.Cuboid.{Cuboid, whole_cuboid, IsInCuboid, IsTightened}
 use Rattle.qm_space.proofs.Cubes.{cube_in_closed}
@@ -33,7 +33,7 @@ use Rattle.qm_split.specs.declared.piece.Piece.{Piece}
 use Rattle.qm_split.specs.Pieces.{IsPiece, HasPointOfFace, ArePieces, IsHeldWithin}
 use Rattle.qm_split.specs.inner.PieceParts.{IsNumberedPiece}
 use Rattle.qm_split.specs.inner.FacePieces.{solid_behind, IsFacePoint, IsFacePiece, HasNoFacePoint, IsPieceOfFace, HasPieceOfFace, HasFacePieces, HasAllBehind}
-use Rattle.qm_split.proofs.ListedItems.{none_listed, all_of_listed, listed_map, listed_from_map}
+use Rattle.qm_split.proofs.ListedItems.{all_of_listed}
 use Rattle.qm_split.proofs.PartedPieces.{meets_no_face}
 use Rattle.qm_split.proofs.SectionsOfCells.{part_itself}
 
@@ -44,7 +44,7 @@ face_begins book number w part = record {
   convex = part.convex;
   plane = part.plane;
   points = λ x. (
-    (λ r. let both = (part.points x).0 r in record { in_cube = both.1; on = both.0; behind = λ face among. absurd (none_listed face among) }),
+    (λ r. let both = (part.points x).0 r in record { in_cube = both.1; on = both.0; behind = λ face among. absurd (Contains-nil face among) }),
     (λ at. (part.points x).1 (at.on, at.in_cube)),
   );
 }
@@ -109,7 +109,7 @@ module _ (book : List Plane) (number : ℕ) (done : List FaceRef) (face : FaceRe
 -- ---- the pieces of all faces
 
 pub face_pieces_begin : (book : List Plane) (faces : List FaceRef) → HasFacePieces book faces [] []
-face_pieces_begin book faces = record { each = λ p among. absurd (none_listed p among); all = λ face among. absurd (none_listed face among) }
+face_pieces_begin book faces = record { each = λ p among. absurd (Contains-nil p among); all = λ face among. absurd (Contains-nil face among) }
 
 module _ (book : List Plane) (faces done : List FaceRef) (face : FaceRef) (ps : List Piece) (are : HasFacePieces book faces done ps) where
   earlier_face : (f : FaceRef) → Contains done f → Contains (done ++ face ∷ []) f
@@ -150,7 +150,7 @@ module _ (book : List Plane) (faces : List FaceRef) (contents : Contents) (plane
   within_book f among = All-contains (λ (g : FaceRef). g.plane < length book) faces f numbered among
 
   listed_outward : (f : FaceRef) → Contains faces f → Contains solid.outward (outward_of book f)
-  listed_outward f among = listed_map (outward_of book) faces f among
+  listed_outward f among = Contains-map (outward_of book) faces f among
 
   lies_on_its_plane : (f : FaceRef) → LiesOn (outward_of book f) (plane_at book f.plane)
   lies_on_its_plane f = turned_lies_on f.out_is_front (plane_at book f.plane)
@@ -161,7 +161,7 @@ module _ (book : List Plane) (faces : List FaceRef) (contents : Contents) (plane
     in_cell = All-nil (λ h. IsInFront h x);
     on = at.on;
     behind_others = λ other among apart.
-        let r = listed_from_map (outward_of book) faces other among in
+        let r = Contains-map_from (outward_of book) faces other among in
         subst (λ (h : Plane). IsBehind h x) r.2 (at.behind r.0 r.1
         (λ same. apart (subst (λ (h : Plane). LiesOn h (plane_at book f.plane)) r.2 (subst (λ (n : ℕ). LiesOn (outward_of book r.0) (plane_at book n)) same (lies_on_its_plane r.0)))));
   }
@@ -194,7 +194,7 @@ module _ (book : List Plane) (faces : List FaceRef) (contents : Contents) (plane
 
   complete_at_face : (face : Plane) (x : Point) → Contains solid.outward face → IsOnFace solid [] face x → HasPointOfFace face x ps
   complete_at_face face x among on =
-      let r = listed_from_map (outward_of book) faces face among in
+      let r = Contains-map_from (outward_of book) faces face among in
       let lies = subst (λ (h : Plane). LiesOn h (plane_at book r.0.plane)) r.2 (lies_on_its_plane r.0) in
       let at = point_of_on_face r.0 x r.1 (same_face solid [] face (plane_at book r.0.plane) x lies on) in
       ⊎_elim
@@ -218,7 +218,7 @@ outward_reduced book faces planes numbered = all_of_listed IsReduced (outward_pl
   where
     one : (h : Plane) → Contains (outward_planes book faces) h → IsReduced h
     one h among =
-        let r = listed_from_map (outward_of book) faces h among in
+        let r = Contains-map_from (outward_of book) faces h among in
         let within = All-contains (λ (g : FaceRef). g.plane < length book) faces r.0 numbered r.1 in
         subst IsReduced r.2 (turned_is_reduced r.0.out_is_front (plane_at book r.0.plane) (planes.reduced r.0.plane (plane_at book r.0.plane) (stands_at book r.0.plane within)))
 

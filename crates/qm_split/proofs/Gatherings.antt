@@ -18,7 +18,9 @@ use Rattle.qm_split.specs.CellFragments.{pieces_of, IsReached, IsAccounted, IsKe
 use Rattle.qm_split.specs.inner.Gathered.{IsGathered, is_stronger_than, Keeps, Raises}
 use Rattle.qm_split.specs.inner.Gathered.Keeps.{passed, gained}
 use Rattle.qm_split.specs.inner.Gathered.Raises.{known, risen}
-use Rattle.qm_split.proofs.ListedItems.{none_listed, all_of_listed, listed_map, listed_from_map, listed_filter, by_test}
+use Rattle.qm_lists.proofs.Elements.{Contains-nil, Contains-map, Contains-map_from, Contains-filter}
+use Rattle.qm_lists.proofs.Cases.{by_cases}
+use Rattle.qm_split.proofs.ListedItems.{all_of_listed}
 
 -- ---- what is reached
 
@@ -41,7 +43,7 @@ no_solids book cell before gathering same none = record {
   no_weaker = λ c is. subst (λ (s : Option Contents). IsReached s c) (sym same) is;
   given = inl same;
   kept = subst (λ (qs : List Contender). All (IsKeptContender [] book cell gathering.strongest) qs) (sym none) (All-nil (IsKeptContender [] book cell gathering.strongest));
-  accounted = λ solid among full. absurd (none_listed solid among);
+  accounted = λ solid among full. absurd (Contains-nil solid among);
 }
 
 more_kept : (book cell : List Plane) (done : List Solid) (solid : Solid) (strongest : Option Contents) (contender : Contender) → IsKeptContender done book cell strongest contender → IsKeptContender (done ++ solid ∷ []) book cell strongest contender
@@ -99,9 +101,9 @@ not_stronger a b weaker = grind (arith, nat_tests)
 
 still_or_weaker : (contents : Contents) (qs : List Contender) (solid : Solid) → Contains (map solid_of qs) solid → IsReached (Some contents) solid.contents ⊎ Contains (map solid_of (filter (is_stronger_than contents) qs)) solid
 still_or_weaker contents qs solid among =
-    let at = listed_from_map solid_of qs solid among in
-    by_test (is_stronger_than contents at.0)
-    (λ stronger. inr (subst (λ (s : Solid). Contains (map solid_of (filter (is_stronger_than contents) qs)) s) at.2 (listed_map solid_of (filter (is_stronger_than contents) qs) at.0 (listed_filter (is_stronger_than contents) qs at.0 at.1 stronger))))
+    let at = Contains-map_from solid_of qs solid among in
+    by_cases (is_stronger_than contents at.0)
+    (λ stronger. inr (subst (λ (s : Solid). Contains (map solid_of (filter (is_stronger_than contents) qs)) s) at.2 (Contains-map solid_of (filter (is_stronger_than contents) qs) at.0 (Contains-filter (is_stronger_than contents) qs at.0 at.1 stronger))))
     (λ weaker. inl (subst (λ (s : Solid). IsReached (Some contents) s.contents) at.2 (not_stronger contents at.0.contents weaker)))
 
 module _ (book cell : List Plane) (before : Option Contents) (done : List Solid) (solid : Solid) (old new : Gathering) (are : IsGathered book cell before done old) where
@@ -171,7 +173,7 @@ pieces_of-filter : (test : Contender → Bool) (qs : List Contender) → pieces_
 pieces_of-filter test [] = omega arith
 pieces_of-filter test (q ∷ qs) =
     let rest = pieces_of-filter test qs in
-    by_test (test q) (λ is. rw is (omega arith)) (λ is. rw is (omega arith))
+    by_cases (test q) (λ is. rw is (omega arith)) (λ is. rw is (omega arith))
 
 pub count_by_keeping : (old new : Gathering) (contender : Contender) → Keeps old contender new → pieces_of new.contenders.items ≤ pieces_of old.contenders.items + length contender.body.value.pieces.items
 count_by_keeping old new contender (passed reached same) = let e = ap (λ (g : Gathering). pieces_of g.contenders.items) same in omega arith

@@ -25,7 +25,7 @@ use Rattle.qm_split.specs.Pieces.{solid_of, IsPiece, IsContender}
 use Rattle.qm_split.specs.CellFragments.{IsReached, IsKeptContender, AreFragmentsOf}
 use Rattle.qm_split.specs.inner.Ranks.{IsNotAfter}
 use Rattle.qm_split.specs.inner.Ranked.{IsRankOf, IsLeastRank}
-use Rattle.qm_split.proofs.ListedItems.{listed_from_map}
+use Rattle.qm_lists.proofs.Elements.{Contains-map_from}
 use Rattle.qm_split.proofs.RankOrder.{first_one}
 use Rattle.qm_split.proofs.Gatherings.{reached_less}
 use Rattle.qm_split.proofs.HeldCuboids.{holds_point_on_face}
@@ -69,7 +69,7 @@ module _ (solids : List Solid) (book cell : List Plane) (fragments : Fragments) 
       (λ reached. reached)
       (λ rest. ⊎_elim
       (λ stays.
-      let at = listed_from_map solid_of contenders solid stays in
+      let at = Contains-map_from solid_of contenders solid stays in
       absurd (contender_does_not_contain book cell at.0 (kept_one at.0 at.1).contends (subst (λ (s : Solid). ContainsCell s cell) (sym at.2) contains)))
       (λ outside. absurd (outside are.inner.point are.inner.in_cube are.inner.in_cell (holds_points_of_cell solid cell are.inner.point contains are.inner.in_cube are.inner.in_cell)))
       rest)
@@ -149,7 +149,7 @@ module _ (solids : List Solid) (book cell : List Plane) (fragments : Fragments) 
 
       found : Contains (map solid_of contenders) c.solid → HasCandidate n h
       found stays =
-          let at = listed_from_map solid_of contenders c.solid stays in
+          let at = Contains-map_from solid_of contenders c.solid stays in
           let has_face = subst (λ (s : Solid). Contains s.outward c.face) (sym at.2) c.has_face in
           let on_face = subst (λ (s : Solid). IsOnFace s cell c.face c.point) (sym at.2) (same_face c.solid cell h c.face c.point (lies_on_back c.face h c.lies_on) c.on_face) in
           let has = (kept_one at.0 at.1).contends.pieces.complete c.face c.point has_face on_face in

@@ -1,4 +1,3 @@
-pub mod Taken
 pub mod ListedItems
 pub mod SidesOfPlanes
 pub mod PartedPieces

@@ -3,11 +3,11 @@ use Rattle.std.proofs.Common.{◌≡◌, inl, inr, ⊎_elim, ℕ, ◌+◌, ◌<�
 use Rattle.std.proofs.lemmas.Bool.{MatchBool-at_true, MatchBool-at_false}
 use Rattle.std.proofs.lemmas.List.{map-append, take_more}
 use Rattle.std.proofs.lemmas.List.Elements.{All-contains, All-weaker, All-nil, Contains-get_or}
-use Rattle.qm_lists.proofs.Elements.{All-first_part}
+use Rattle.qm_lists.proofs.Elements.{All-first_part, Contains-map_from}
 use Rattle.qm_space.specs.Point.{Point}
 use Rattle.qm_space.specs.Plane.{Plane, IsOn, IsInFront}
 use Rattle.qm_space.specs.Reduced.{HasNormal}
-use Rattle.qm_space.specs.Cell.{IsInCell}
+use Rattle.qm_space.specs.Cell.{IsInCell, HasPoint}
 use Rattle.qm_space.specs.Book.{AreBookPlanes}
 use Rattle.qm_convex.specs.Winding.{Winding}
 use Rattle.qm_contents.specs.declared.contents.Contents.{Contents}
@@ -24,11 +24,10 @@ use Rattle.qm_space.specs.Turned.{turned}
 use Rattle.qm_split.specs.declared.contender.Contender.{Contender}
 use Rattle.qm_split.specs.declared.fragments.Fragments.{Fragments}
 use Rattle.qm_split.specs.Pieces.{solid_of, IsPiece}
-use Rattle.qm_split.specs.CellFragments.{cell_of, HasPointOn, HasPoint, AreOfSomeSolid, IsKeptContender, AreFragmentsOf}
+use Rattle.qm_split.specs.CellFragments.{cell_of, HasPointOn, AreOfSomeSolid, IsKeptContender, AreFragmentsOf}
 use Rattle.qm_split.specs.inner.Parts.{IsSection}
 use Rattle.qm_split.specs.inner.Gathered.{IsGathered, HasContenderIn}
 use Rattle.qm_split.specs.inner.Ranked.{IsWindingOfSome}
-use Rattle.qm_split.proofs.ListedItems.{listed_from_map}
 use Rattle.qm_split.proofs.KnownFragments.{kept_one, piece_of_candidate}
 
 -- ---- the whole cube
@@ -78,7 +77,7 @@ module _ (solids : List Solid) (book cell : List Plane) (fragments : Fragments) 
 
   listed_solid : (solid : Solid) → Contains (map solid_of contenders) solid → Contains solids solid
   listed_solid solid among =
-      let at = listed_from_map solid_of contenders solid among in
+      let at = Contains-map_from solid_of contenders solid among in
       subst (λ (s : Solid). Contains solids s) at.2 (kept_one solids book cell fragments are at.0 at.1).listed
 
   -- a piece on the plane

@@ -3,7 +3,7 @@ use Rattle.std.proofs.Common.{◌≡◌, inl, inr, ⊎_elim, Option, Some, None,
 use Rattle.std.specs.Prelude.{slice_get}
 use Rattle.std.proofs.lemmas.List.{length_push}
 use Rattle.std.proofs.lemmas.List.Elements.{All-contains, All-push, Contains-push, Contains-push_cases, Contains-append_left}
-use Rattle.qm_lists.proofs.Elements.{All-first_part, All-last_part}
+use Rattle.qm_lists.proofs.Elements.{All-first_part, All-last_part, Contains-nil}
 use Rattle.qm_space.specs.Point.{Point}
 use Rattle.qm_space.specs.Plane.{Plane, IsInFront}
 use Rattle.qm_space.specs.Reduced.{IsReduced}
@@ -19,17 +19,17 @@ use Rattle.qm_solids.specs.Candidates.{LiesOn, IsOnFace}
 use Rattle.qm_solids.specs.Uniform.{MeetsNoFace}
 use Rattle.qm_split.specs.declared.piece.Piece.{Piece}
 use Rattle.qm_split.specs.Pieces.{IsPiece, HasPointOfFace, ArePieces}
-use Rattle.qm_split.proofs.ListedItems.{none_listed, all_of_listed}
+use Rattle.qm_split.proofs.ListedItems.{all_of_listed}
 use Rattle.qm_split.specs.inner.PieceParts.{IsFrontPiece, IsPartOf, IsNumberedPiece, AreFront}
 
 -- ---- along a list
 
 pub front_of_none : (g : Plane) → AreFront [] g []
 front_of_none g = record {
-  each = λ q among. absurd (none_listed q among);
-  all = λ p among. absurd (none_listed p among);
+  each = λ q among. absurd (Contains-nil q among);
+  all = λ p among. absurd (Contains-nil p among);
   no_more = omega arith;
-  fewer = λ p among none. absurd (none_listed p among);
+  fewer = λ p among none. absurd (Contains-nil p among);
 }
 
 module _ (ps qs : List Piece) (g : Plane) (are : AreFront ps g qs) (p : Piece) where
@@ -107,7 +107,7 @@ all_in_front ps g whole = record {
 -- and pieces that have nothing there have none
 pub none_in_front : (ps : List Piece) (g : Plane) → ((p : Piece) → Contains ps p → HasNoneInFront p.winding.value g) → AreFront ps g []
 none_in_front ps g none = record {
-  each = λ q among. absurd (none_listed q among);
+  each = λ q among. absurd (Contains-nil q among);
   all = λ p among. inl (none p among);
   no_more = omega arith;
   fewer = λ p among gone. omega (arith, among.1);
@@ -171,4 +171,4 @@ module _ (book cell : List Plane) (solid : Solid) (ps qs : List Piece) (g : Plan
 
 -- a cell without pieces of a solid meets no face of it
 pub meets_no_face : (book cell : List Plane) (solid : Solid) → ArePieces book cell solid [] → MeetsNoFace solid cell
-meets_no_face book cell solid are face x has on = let found = are.complete face x has on in absurd (none_listed found.piece found.listed)
+meets_no_face book cell solid are face x has on = let found = are.complete face x has on in absurd (Contains-nil found.piece found.listed)

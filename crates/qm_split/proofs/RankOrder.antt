@@ -1,7 +1,7 @@
 -- The order of ranks, and the first of the ranks of pieces.
 use Rattle.std.proofs.Common.{◌≡◌, ◌⊎◌, inl, inr, ⊎_elim, ◌<◌, Bool, true, false, true≢false, Option, Some, None, List, [], ◌∷◌, ◌++◌, All, Contains, refl, sym, ◌∙◌, ap, subst, arith, ℕ}
 use Rattle.std.proofs.lemmas.List.Elements.{All-contains, Contains-push, Contains-push_cases, Contains-append_left}
-use Rattle.qm_lists.proofs.Elements.{All-first_part}
+use Rattle.qm_lists.proofs.Elements.{All-first_part, Contains-nil, Contains-first}
 use Rattle.qm_space.specs.Plane.{Plane}
 use Rattle.qm_split.specs.declared.rank.Rank.{Rank}
 use Rattle.qm_split.specs.declared.piece.Piece.{Piece}
@@ -9,7 +9,6 @@ use Rattle.qm_split.specs.declared.contender.Contender.{Contender}
 use Rattle.qm_split.specs.Pieces.{IsContender}
 use Rattle.qm_split.specs.inner.Ranks.{IsNotAfter, IsFirstOf}
 use Rattle.qm_split.specs.inner.Ranked.{IsRankOf, IsRankOfOne, IsAfterNone, IsLesser, IsLeastRank}
-use Rattle.qm_split.proofs.ListedItems.{none_listed, listed_here}
 
 -- ---- the order
 
@@ -63,11 +62,11 @@ same_rank : (a b : Rank) → Some a ≡ Some b → a ≡ b
 same_rank a b same = cc
 
 pub lesser_begins : (before : Option Rank) → IsLesser before [] before
-lesser_begins None = (refl, λ piece among. none_listed piece among)
+lesser_begins None = (refl, λ piece among. Contains-nil piece among)
 lesser_begins (Some first) = (
   inl refl,
   (λ rank same. subst (IsNotAfter first) (same_rank first rank same) (not_after_itself first)),
-  (λ piece other among is. absurd (none_listed piece among)),
+  (λ piece other among is. absurd (Contains-nil piece among)),
 )
 
 module _ (before : Option Rank) (pieces : List Piece) (piece : Piece) (rank : Rank) (is : IsRankOf piece rank) where
@@ -118,12 +117,12 @@ first_one pieces own are = ⊎_elim (λ none. no_rank own none) (λ one. one) ar
 
 pub no_pieces : (pieces : List Piece) → IsLesser None pieces None → pieces ≡ []
 no_pieces [] none = refl
-no_pieces (piece ∷ pieces) none = absurd (none.1 piece (listed_here piece pieces))
+no_pieces (piece ∷ pieces) none = absurd (none.1 piece (Contains-first piece pieces))
 
 -- ---- the first of all
 
 pub least_begins : IsLeastRank [] None
-least_begins contender piece among among_pieces = none_listed contender among
+least_begins contender piece among among_pieces = Contains-nil contender among
 
 module _ (done : List Contender) (contender : Contender) where
   -- what is not after the first one so far, and after none of the new pieces

@@ -2,7 +2,7 @@
 use Rattle.std.proofs.Common.{◌≡◌, ⊎_elim, ◌+◌, ◌≤◌, Option, List, [], ◌∷◌, ◌++◌, map, All, sym, subst, arith}
 use Rattle.std.proofs.lemmas.List.{map-append}
 use Rattle.std.proofs.lemmas.List.Elements.{All-contains, Contains-push, Contains-push_cases}
-use Rattle.qm_lists.proofs.Elements.{All-first_part}
+use Rattle.qm_lists.proofs.Elements.{All-first_part, Contains-nil}
 use Rattle.qm_space.specs.Plane.{Plane}
 use Rattle.qm_convex.specs.Winding.{Winding}
 use Rattle.qm_contents.specs.declared.contents.Contents.{Contents}
@@ -14,7 +14,6 @@ use Rattle.qm_split.specs.Pieces.{solid_of, IsContender}
 use Rattle.qm_split.specs.CellFragments.{pieces_of}
 use Rattle.qm_split.specs.inner.Parts.{IsSection, IsPartIn, part_count, HasPieceIn, IsShortened}
 use Rattle.qm_split.specs.inner.Gathered.{IsGathered, HasFewer}
-use Rattle.qm_split.proofs.ListedItems.{none_listed}
 use Rattle.qm_split.proofs.Gatherings.{pieces_of-push}
 
 -- what is gathered in front of the plane g of a cell that the plane h parts
@@ -50,7 +49,7 @@ abbrev pub HasFewerOfSide : Plane → List Contender → Gathering → Type 0
 HasFewerOfSide h done gathering = (book cell : List Plane) → All (IsContender book cell) done → HasFewer done h gathering
 
 pub fewer_begins : (h : Plane) (gathering : Gathering) → pieces_of gathering.contenders.items ≡ 0 → HasFewerOfSide h [] gathering
-fewer_begins h gathering none book cell all = record { no_more = omega arith; fewer = λ has. absurd (none_listed has.contender has.listed) }
+fewer_begins h gathering none book cell all = record { no_more = omega arith; fewer = λ has. absurd (Contains-nil has.contender has.listed) }
 
 fewer_then : (done : List Contender) (h : Plane) (contender : Contender) (part : Part) (old new : Gathering) → HasFewer done h old → IsShortened contender h part →
     pieces_of new.contenders.items ≤ pieces_of old.contenders.items + part_count part → HasFewer (done ++ contender ∷ []) h new

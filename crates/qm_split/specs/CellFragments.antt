@@ -1,7 +1,7 @@
 use Rattle.std.specs.Prelude.{◌≡◌, ◌⊎◌, ℕ, ◌+◌, List, [], ◌∷◌, length, map, All, Contains, Option, Some, None, IsSomeAnd}
 use Rattle.qm_space.specs.Point.{Point, IsInCube}
 use Rattle.qm_space.specs.Plane.{Plane, IsOn}
-use Rattle.qm_space.specs.Cell.{IsInCell}
+use Rattle.qm_space.specs.Cell.{IsInCell, HasPoint}
 use Rattle.qm_space.specs.Book.{AreBookPlanes}
 use Rattle.qm_contents.specs.declared.contents.Contents.{Contents}
 use Rattle.qm_contents.specs.Precedence.{IsAtMost}
@@ -33,12 +33,6 @@ pub record HasPointOn (cell : List Plane) (h : Plane) : Type 0 where
   pub in_cube : IsInCube point
   pub in_cell : IsInCell cell point
   pub on : IsOn h point
-
--- the cell has a point
-pub record HasPoint (cell : List Plane) : Type 0 where
-  pub point : Point
-  pub in_cube : IsInCube point
-  pub in_cell : IsInCell cell point
 
 -- contents are known that are at least as strong
 abbrev pub IsReached : Option Contents → Contents → Type 0

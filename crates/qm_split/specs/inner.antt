@@ -4,4 +4,3 @@ pub mod PieceParts
 pub mod FacePieces
 pub mod Parts
 pub mod Gathered
-pub mod Taking

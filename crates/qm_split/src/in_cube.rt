@@ -1,20 +1,20 @@
-ghost use Rattle.std.specs.Prelude.{◌≡◌, ◌<◌, not, ◌++◌, ◌∷◌, List, [], length, IfOk, OnOk, Contains, MatchOption};
+ghost use Rattle.std.specs.Prelude.{◌≡◌, ◌<◌, ◌++◌, ◌∷◌, List, [], length, IfOk, OnOk, Contains, MatchOption};
 ghost use Rattle.std.specs.Bool.{MatchBool};
 ghost use Rattle.qm_contents.specs.declared.contents.Contents.{Contents};
 ghost use Rattle.qm_solids.specs.declared.face.FaceRef.{FaceRef};
 ghost use Rattle.qm_solids.specs.Holding.{IsFull};
 ghost use Rattle.qm_solids.specs.Outward.{outward_of, outward_planes, AreNumberedIn};
-ghost use Rattle.qm_wind.specs.Clipped.{is_front};
 ghost use Rattle.qm_split.specs.Pieces.{ArePieces};
 ghost use Rattle.qm_split.specs.inner.Parts.{IsPartIn};
 ghost use Rattle.qm_split.specs.inner.FacePieces.{solid_behind, IsFacePiece, HasNoFacePoint, HasAllBehind};
 
 use crate::contender::{Body, Contender, Part, least_of};
 use crate::piece::{Piece, numbered, push_some};
+use qm_brush::inner_side;
 use qm_contents::Contents;
 use qm_geom::{Cuboid, Plane, PlaneBook};
 use qm_solids::FaceRef;
-use qm_wind::{Clip, Side, Winding};
+use qm_wind::{Clip, Winding};
 use std::alloc::{AllocError, Global};
 
 /// What a full solid is to the cube, by its faces.
@@ -154,16 +154,5 @@ fn keep_behind(
             *left = part;
             Ok(true)
         }
-    }
-}
-
-/// The side of a face's plane on which its solid lies.
-fn inner_side(face: &FaceRef) -> Side
-    ensures { is_front result ≡ not face.now.out_is_front }
-{
-    if face.out_is_front {
-        Side::Back
-    } else {
-        Side::Front
     }
 }

@@ -1,4 +1,4 @@
-use Rattle.std.proofs.Common.{Option, List, [], ◌∷◌, ◌++◌, false, take, get_or, Contains, sym, subst}
+use Rattle.std.proofs.Common.{Option, List, [], ◌+◌, ◌∷◌, ◌++◌, false, take, get_or, Contains, sym, subst}
 use Rattle.std.specs.Option.{MatchOption}
 use Rattle.std.proofs.lemmas.Bool.{MatchBool-at_true, MatchBool-at_false}
 use Rattle.qm_space.specs.Plane.{Plane}
@@ -8,7 +8,8 @@ use Rattle.qm_convex.specs.World.{MissesCube, IsWorldPart}
 use Rattle.std.proofs.lemmas.List.{get_or_default}
 use Rattle.qm_solids.specs.declared.face.FaceRef.{FaceRef}
 use Rattle.qm_split.specs.inner.FacePieces.{IsFacePiece, HasNoFacePoint}
-use Rattle.qm_split.proofs.ListedItems.{taken_next, listed_of_taken}
+use Rattle.qm_lists.proofs.Places.{take-read}
+use Rattle.qm_lists.proofs.Elements.{Contains-from_take}
 use Rattle.qm_split.proofs.FacesInCube.{face_begins, point_of_fewer}
 use Rattle.qm_split.proofs.in_cube.face_in_cube.Goals as goal
 
@@ -22,7 +23,7 @@ pub loop-face-preserved : goal.loop-face-preserved
 loop-face-preserved c =
     let face = get_or c.args.faces.now c.loop-face.face-index (record { plane = 0; out_is_front = false }) in
     subst (λ (fs : List FaceRef). IsFacePiece c.args.book.now c.args.number fs c.keep_behind.new.left)
-    (sym (taken_next c.args.faces.now c.loop-face.face-index face c.loop-face-test.true (get_or_default c.args.faces.now c.loop-face.face-index _ face c.loop-face-test.true)))
+    (sym (take-read c.args.faces.now c.loop-face.face-index face c.loop-face-test.true (get_or_default c.args.faces.now c.loop-face.face-index _ face c.loop-face-test.true)))
     (MatchBool-at_true (IsFacePiece c.args.book.now c.args.number (take c.loop-face.face-index c.args.faces.now ++ face ∷ []) c.keep_behind.new.left)
     (HasNoFacePoint c.args.book.now c.args.number (take c.loop-face.face-index c.args.faces.now ++ face ∷ [])) c.if-not-branch.false (c.in_ok-keep_behind.ensures (take c.loop-face.face-index c.args.faces.now) c.loop-face.invariant))
 
@@ -34,5 +35,5 @@ returns-then-not-branch c = λ x at.
     (HasNoFacePoint c.args.book.now c.args.number (take c.loop-face.face-index c.args.faces.now ++ face ∷ []))
     c.if-not-branch.true (c.in_ok-keep_behind.ensures (take c.loop-face.face-index c.args.faces.now) c.loop-face.invariant) x
     (point_of_fewer c.args.book.now c.args.number c.args.faces.now (take c.loop-face.face-index c.args.faces.now ++ face ∷ []) x
-    (λ f listed. listed_of_taken c.args.faces.now c.loop-face.face-index face c.loop-face-test.true read f
-    (subst (λ (fs : List FaceRef). Contains fs f) (sym (taken_next c.args.faces.now c.loop-face.face-index face c.loop-face-test.true read)) listed)) at)
+    (λ f listed. Contains-from_take (c.loop-face.face-index + 1) c.args.faces.now f
+    (subst (λ (fs : List FaceRef). Contains fs f) (sym (take-read c.args.faces.now c.loop-face.face-index face c.loop-face-test.true read)) listed)) at)

@@ -7,7 +7,7 @@ use Rattle.qm_split.specs.declared.rank.Rank.{Rank}
 use Rattle.qm_split.specs.Pieces.{ArePieces, IsHeldWithin}
 use Rattle.qm_split.specs.inner.Ranked.{IsLesser}
 use Rattle.qm_split.specs.inner.FacePieces.{solid_behind, HasAllBehind}
-use Rattle.qm_split.proofs.ListedItems.{none_if_not_some}
+use Rattle.qm_lists.proofs.Options.{none_if_not_some}
 use Rattle.qm_split.proofs.RankOrder.{no_pieces}
 use Rattle.qm_split.proofs.KeptParts.{kept_contender}
 use Rattle.qm_split.proofs.FacesInCube.{outward_reduced, contains_cube, held_in_cube}

@@ -3,7 +3,7 @@ use Rattle.std.proofs.lemmas.Grind.{common_steps}
 use Rattle.qm_space.specs.Plane.{flipped}
 use Rattle.qm_split.specs.declared.piece.Piece.{Piece}
 use Rattle.qm_split.specs.inner.PieceParts.{AreFront}
-use Rattle.qm_split.proofs.Taken.{taken_none, taken_more, taken_all}
+use Rattle.qm_lists.proofs.Taken.{taken_none, taken_more, taken_all}
 use Rattle.qm_split.proofs.PartedPieces.{front_of_none, front_more}
 use Rattle.qm_split.proofs.piece.split_pieces.Goals as goal
 

@@ -1,7 +1,7 @@
 use Rattle.std.proofs.Common.{List, Some, take, sym, subst, ◌∙◌}
 use Rattle.std.proofs.lemmas.List.{take_all}
 use Rattle.qm_split.specs.declared.contender.Contender.{Contender}
-use Rattle.qm_split.proofs.ListedItems.{taken_next}
+use Rattle.qm_lists.proofs.Places.{take-read}
 use Rattle.qm_split.proofs.RankOrder.{AreLeastRank, least_rank_begins, least_rank_more}
 use Rattle.qm_split.proofs.gathering.Gathering.least.Goals as goal
 
@@ -11,7 +11,7 @@ loop-contender-init c = least_rank_begins
 pub loop-contender-preserved : goal.loop-contender-preserved
 loop-contender-preserved c =
     subst (λ (qs : List Contender). AreLeastRank qs (Some c.first_of.result))
-    (sym (taken_next c.deref-contender-items.result.now c.loop-contender.contender-index c.contender-item.result c.loop-contender-test.true c.contender-item.is))
+    (sym (take-read c.deref-contender-items.result.now c.loop-contender.contender-index c.contender-item.result c.loop-contender-test.true c.contender-item.is))
     (least_rank_more (take c.loop-contender.contender-index c.deref-contender-items.result.now) c.contender-item.result c.loop-contender.least c.first_of.result c.loop-contender.invariant c.first_of.ensures)
 
 pub returns : goal.returns

@@ -2,7 +2,7 @@ use Rattle.std.proofs.Common.{List, refl, ◌∙◌, subst, arith}
 use Rattle.std.proofs.lemmas.Grind.{common_steps}
 use Rattle.qm_space.specs.Plane.{flipped}
 use Rattle.qm_split.specs.declared.contender.Contender.{Contender}
-use Rattle.qm_split.proofs.Taken.{taken_none, taken_more, taken_all}
+use Rattle.qm_lists.proofs.Taken.{taken_none, taken_more, taken_all}
 use Rattle.qm_split.proofs.SplitGatherings.{IsGatheredSide, HasFewerOfSide, side_begins, side_more, fewer_begins, fewer_more}
 use Rattle.qm_split.proofs.gathering.Gathering.split.Goals as goal
 

@@ -4,12 +4,12 @@ use Rattle.qm_space.specs.Plane.{Plane, flipped}
 use Rattle.qm_split.specs.Pieces.{solid_of, IsContender}
 use Rattle.qm_split.specs.inner.Parts.{IsSection}
 use Rattle.qm_split.specs.inner.Gathered.{IsGathered, HasFewer}
-use Rattle.qm_split.specs.inner.Taking.{IsTaken}
+use Rattle.qm_lists.specs.inner.Taking.{IsTakenFrom}
 use Rattle.qm_split.proofs.gathering.Gathering.split.Given as goal
 
 abbrev pub invariant-loop-contender : goal.invariant-loop-contender
 invariant-loop-contender l = record {
-  taken : IsTaken l.yielded (into_iter_items l.initial.contender-iterator) (into_iter_items l.contender-iterator) (into_iter_len l.contender-iterator);
+  taken : IsTakenFrom l.yielded (into_iter_items l.initial.contender-iterator) (into_iter_items l.contender-iterator) (into_iter_len l.contender-iterator);
   front : (book cell : List Plane) → All (IsContender book cell) l.yielded → IsSection cell l.plane l.section →
       IsGathered book (cell ++ l.plane ∷ []) l.fn.self.strongest (map solid_of l.yielded) l.front;
   back : (book cell : List Plane) → All (IsContender book cell) l.yielded → IsSection cell l.plane l.section →
