@@ -89,8 +89,8 @@ static ROWS: [Row; 15] = [
         room: Room::Hole,
         origins: &["0 0 24"],
         status: 0,
-        printed: "sealed\nbrushes 8\nflat 0\nplanes 14\nnodes 14\nleaves 15\nnumbered 2\nfilled 6\nportals 0\n",
-        length: 676,
+        printed: "sealed\nbrushes 8\nflat 0\nplanes 14\nnodes 38\nleaves 39\nnumbered 2\nfilled 24\nportals 0\n",
+        length: 1276,
     },
     // lava does not
     Row {
@@ -98,8 +98,8 @@ static ROWS: [Row; 15] = [
         room: Room::Hole,
         origins: &["0 0 24"],
         status: 3,
-        printed: "leak: entity 1\ntrail: 8 6 0\n",
-        length: 676,
+        printed: "leak: entity 1\ntrail: 29 11 0\n",
+        length: 1276,
     },
     Row {
         first: None,
