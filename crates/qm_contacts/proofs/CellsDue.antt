@@ -132,7 +132,7 @@ module _ (tree : Tree) (entry : DueCellBelow) (here : NodeRecord) (is : IsNodePa
 
 -- ---- the whole tree
 
-pub root_due : Tree → DueCell → DueCellBelow
+abbrev pub root_due : Tree → DueCell → DueCellBelow
 root_due tree cell = record { due = cell; part = tree.shape; n = 0; k = 0; above = [] }
 
 outside_at : (tree : Tree) (k i : ℕ) (row : List Bool) → AreOutside tree k row → i < length row → IsIn row i ↔ TouchesOutside tree (k + i)
@@ -144,7 +144,6 @@ outside_at tree k (suc i) (outside ∷ row) are within =
 
 -- all touching pairs and all leaves that touch the outside are all contacts
 pub all_contacts : (tree : Tree) (cell : DueCell) (contacts : Contacts) → ComesToTouchings tree.planes (root_due tree cell) contacts.touchings → ComesToOutside tree (root_due tree cell) contacts.outside → AreContacts tree contacts
-unfolding root_due
 all_contacts tree cell contacts touchings outside = record { touching = touchings; one_each = outside.one_each; outside = λ k. (there k, back k) }
   where
     at : (k : ℕ) → k < length contacts.outside → IsIn contacts.outside k ↔ TouchesOutside tree k
@@ -160,7 +159,6 @@ all_contacts tree cell contacts touchings outside = record { touching = touching
 
 -- what is known at the root
 pub root_known : (tree : Tree) (cell : DueCell) → HasPoints tree → cell.child ≡ child_of tree.shape 0 0 → AreCellFacets tree.planes [] cell.on_walls cell.on_steps → IsDueCell tree (root_due tree cell)
-unfolding root_due
 root_known tree cell have child facets = record {
   stands = record { is_part = (root_stands tree.shape).is_part; child_is = child };
   facets = facets;

@@ -1,6 +1,7 @@
 -- The list of touching pairs: which pairs it has, that it ascends, and that it has each pair once.
 use Rattle.std.proofs.Common.{◌≡◌, ℕ, ◌<◌, List, [], All, Contains, sym, ◌∙◌, subst, arith, ◌⊎◌, inl, inr, ⊎_elim, ◌↔◌}
-use Rattle.std.proofs.lemmas.List.Elements.{All-nil, All-cons, All-head, All-tail, All-contains}
+use Rattle.std.proofs.lemmas.List.Elements.{All-nil, All-cons, All-head, All-tail, All-contains, Contains-get_or}
+use Rattle.std.specs.Prelude.{slice_index_or}
 use Rattle.qm_lists.proofs.Elements.{Contains-first, Contains-later, Contains-cons_cases}
 use Rattle.qm_lists.proofs.EachPair.{EachPair}
 use Rattle.qm_space.specs.Point.{Point}
@@ -9,7 +10,9 @@ use Rattle.qm_space.proofs.Cubes.{cube_in_closed}
 use Rattle.qm_convex.specs.World.{IsInWorld}
 use Rattle.qm_convex.proofs.Central.{has_a_point}
 use Rattle.qm_partition.specs.Tree.{Tree}
+use Rattle.qm_partition.specs.Counting.{leaf_count}
 use Rattle.qm_partition.specs.Numbering.{nodes_after, leaves_after}
+use Rattle.qm_partition.proofs.Counts.{leaves_after-count}
 use Rattle.qm_contacts.specs.Meeting.{Meeting, meetings}
 use Rattle.qm_contacts.specs.Contact.{IsContact, TouchAcross, Touch}
 use Rattle.qm_contacts.specs.Touching.{Touching, IsTouching, AreTouchings, none, touching, apart}
@@ -158,3 +161,12 @@ others_are_neighbours tree contacts k others are is = record {
       let paired = is.paired other in
       ((λ there. listed.1 (paired.0 there)), (λ touch. paired.1 (listed.0 touch)));
 }
+
+-- the leaves of each pair are some of the tree's, the one in front the lesser
+pub pairs_within : (tree : Tree) (touchings : List Touching) → AreTouchings tree.planes (meetings tree) touchings → All (λ found. (found.front < found.back) × (found.back < leaf_count tree.shape)) touchings
+pairs_within tree touchings are k d within =
+    let found = slice_index_or touchings k d in
+    let m = meeting_of_touching tree.planes (meetings tree) touchings found are (Contains-get_or touchings k d within) in
+    let Between = IsBetween 0 (nodes_after tree.shape 0) 0 (leaves_after tree.shape 0) in
+    let is = All-contains Between (meetings tree) m.0 (meetings_between tree.shape 0 0 []) m.1 in
+    (omega (arith, is.leaf_order, m.2.front, m.2.back), omega (arith, is.leaf_high, m.2.back, leaves_after-count tree.shape 0))

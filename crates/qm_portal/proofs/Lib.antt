@@ -2,3 +2,5 @@ pub mod PushedPolygons
 pub mod CutFacets
 pub mod AddedPairs
 pub mod VisitedCells
+pub mod LinkedLeaves
+pub mod FilledRows

@@ -1,3 +1,4 @@
 pub mod Pushes
 pub mod Cells
 pub mod Walks
+pub mod Links

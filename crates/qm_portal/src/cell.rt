@@ -70,7 +70,9 @@ impl DueCell {
         ensures back { IfOk result (λ halves. IsHalf self (flipped plane.now) section.now node.now.back halves.back) }
     {
         let DueCell {
-            on_walls, on_steps, ..
+            on_walls,
+            on_steps,
+            ..
         } = self;
         let walls = split_facets(on_walls, plane)?;
         let mut steps = split_facets(on_steps, plane)?;

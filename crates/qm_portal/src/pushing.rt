@@ -72,12 +72,7 @@ fn parting_child(tree: &Tree, child: Child, winding: &Winding) -> Option<Child>
 }
 
 /// Parts a polygon at a node.
-fn part(
-    tree: &Tree,
-    n: u64,
-    winding: Winding,
-    due: &mut Vec<DuePolygon>,
-) -> Result<(), AllocError>
+fn part(tree: &Tree, n: u64, winding: Winding, due: &mut Vec<DuePolygon>) -> Result<(), AllocError>
     requires { MayBeDue tree.now (polygon_at winding (Node n)) }
     ensures { OnOk result (IsPushed tree.now (polygon_at winding (Node n)) due.old.items due.new.items [] []) }
 {

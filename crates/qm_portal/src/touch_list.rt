@@ -1,7 +1,9 @@
-ghost use Rattle.std.specs.Prelude.{◌≡◌, ◌<◌, length, slice_index_or, false, IfOk};
+ghost use Rattle.std.specs.Prelude.{◌≡◌, ◌<◌, length, slice_index_or, slice_set, false, IfOk};
 ghost use Rattle.qm_partition.specs.Tree.{Tree};
 ghost use Rattle.qm_contacts.specs.Contacts.{AreContacts, AreNeighbours};
 
+use crate::links::Rows;
+use crate::neighbours::neighbour_rows;
 use crate::touching::Touching;
 use qm_bits::BitRow;
 use std::alloc::{AllocError, Global};
@@ -13,10 +15,8 @@ use std::marker::Model;
 pub struct TouchList {
     pairs: Vec<Touching>,
     outside: BitRow,
-    /// Where the neighbours of each leaf begin, and where the last ones end.
-    begins: Vec<u64>,
-    /// The neighbours of all leaves, one leaf after another.
-    neighbours: Vec<u64>,
+    /// The neighbours of each leaf.
+    rows: Rows,
 }
 
 impl Model for TouchList {
@@ -28,21 +28,26 @@ impl Model for TouchList {
 
     ghost view = { λ list. record { touchings = list.pairs.items; outside = list.outside } };
 
-    ghost invariant = { λ list. AreOthersInRows list.pairs.items (length list.outside) list.begins.items list.neighbours.items };
+    ghost invariant = { λ list. AreOthersInRows list.pairs.items (length list.outside) list.rows.begins.items list.rows.all.items };
 }
 
 impl TouchList {
     /// The list of these contacts, which are all contacts of a tree.
     pub(crate) fn of(
-        _alloc: Global,
+        alloc: Global,
         pairs: Vec<Touching>,
         outside: &[bool],
     ) -> Result<TouchList, AllocError>
         requires { (tree : Tree) × AreContacts tree (record { touchings = pairs.items; outside = outside.now }) }
         ensures { IfOk result (λ list. list ≡ record { touchings = pairs.items; outside = outside.now }) }
     {
-        let _ = (pairs, outside);
-        Err(AllocError)
+        let rows = neighbour_rows(alloc, outside.len(), &pairs)?;
+        let outside = row_of(alloc, outside)?;
+        Ok(TouchList {
+            pairs,
+            outside,
+            rows,
+        })
     }
 
     /// How many leaves there are.
@@ -65,9 +70,7 @@ impl TouchList {
         requires { leaf < length self.now.outside }
         ensures { (tree : Tree) → AreContacts tree self.now → AreNeighbours tree leaf result.now }
     {
-        let first = self.begins[leaf as usize] as usize;
-        let end = self.begins[leaf as usize + 1] as usize;
-        &self.neighbours[first..end]
+        self.rows.row(leaf)
     }
 
     /// The touching pairs in order.
@@ -75,5 +78,27 @@ impl TouchList {
         ensures { result.now ≡ self.now.touchings }
     {
         &self.pairs
+    }
+}
+
+/// A row of truth values.
+fn row_of(alloc: Global, values: &[bool]) -> Result<BitRow, AllocError>
+    ensures { IfOk result (λ row. row ≡ values.now) }
+{
+    let mut row = BitRow::with_len(alloc, values.len() as u64)?;
+    for i in 0..values.len() {
+        put(&mut row, i as u64, values[i]);
+    }
+    Ok(row)
+}
+
+/// Puts a value at a place that is clear.
+fn put(row: &mut BitRow, i: u64, value: bool)
+    requires place { i < length row.old }
+    requires clear { slice_index_or row.old i false ≡ false }
+    ensures { row.new ≡ slice_set row.old i value }
+{
+    if value {
+        row.set(i);
     }
 }

@@ -19,11 +19,7 @@ pub(crate) struct Found {
 }
 
 /// What there is below a cell. The cells that are due stand on the heap, the next one last.
-pub(crate) fn found_below(
-    alloc: Global,
-    tree: &Tree,
-    cell: DueCell,
-) -> Result<Found, AllocError>
+pub(crate) fn found_below(alloc: Global, tree: &Tree, cell: DueCell) -> Result<Found, AllocError>
     requires { MayBeDueCell tree.now cell }
     ensures touchings { IfOk result (λ found. (entry : DueCellBelow) → cell_due_of entry ≡ cell → IsDueCell tree.now entry → ComesToTouchings tree.now.planes entry found.pairs.items) }
     ensures outside { IfOk result (λ found. (entry : DueCellBelow) → cell_due_of entry ≡ cell → IsDueCell tree.now entry → ComesToOutside tree.now entry found.outside.items) }
