@@ -135,7 +135,10 @@ fn tree(alloc: Global, boxes: &[BoxRow]) -> Option<Tree>
     let map = parse(alloc, text.as_bytes()).ok()?;
     let mut book = PlaneBook::new(alloc);
     let list = brushes(alloc, &map, &mut book).ok()?;
-    build(alloc, &list, &book).ok()
+    let Ok(tree) = build(alloc, &list, &book) else {
+        return None;
+    };
+    Some(tree)
 }
 
 /// A row of so many places, of which these are set.
@@ -151,7 +154,9 @@ fn row(alloc: Global, len: u64, places: &[u64]) -> Option<BitRow> {
 
 fn world_of(alloc: Global, sample: &Sample) -> Option<World> {
     let tree = tree(alloc, sample.boxes)?;
-    let contacts = touches(alloc, &tree).ok()?;
+    let Ok(contacts) = touches(alloc, &tree) else {
+        return None;
+    };
     let filled = row(alloc, tree.leaves(), sample.filled)?;
     if filled.len() != tree.leaves() {
         return None;
