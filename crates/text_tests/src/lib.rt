@@ -2,6 +2,8 @@
 #![tactic(auto)]
 
 #[cfg(test)]
+mod reading;
+#[cfg(test)]
 mod tests_of_contents;
 #[cfg(test)]
 mod tests_of_faults;

@@ -1,12 +1,14 @@
-use qm_map::{MapFault, parse};
-use std::alloc::Global;
+use crate::reading::read;
+use qm_map::MapFault;
+use std::alloc::{AllocError, Global};
+use std::test::Fail;
 
 /// Whether this is the fault of a text.
-fn is_fault(alloc: Global, text: &[u8], fault: MapFault) -> bool {
-    match parse(alloc, text) {
+fn is_fault(alloc: Global, text: &[u8], fault: MapFault) -> Result<bool, AllocError> {
+    Ok(match read(alloc, text)? {
         Ok(_) => false,
         Err(found) => found == fault,
-    }
+    })
 }
 
 static AT_THE_END: [(&[u8], MapFault); 10] = [
@@ -26,10 +28,11 @@ static AT_THE_END: [(&[u8], MapFault); 10] = [
 ];
 
 #[test]
-fn faults_at_the_end(rt: HostRuntime) {
+fn faults_at_the_end(rt: HostRuntime) -> Result<(), Fail> {
     for &(text, fault) in &AT_THE_END {
-        assert!(rt; is_fault(rt.alloc(), text, fault));
+        assert!(rt; is_fault(rt.alloc(), text, fault)?);
     }
+    Ok(())
 }
 
 static OF_ANOTHER_SORT: [(&[u8], u64); 22] = [
@@ -58,10 +61,11 @@ static OF_ANOTHER_SORT: [(&[u8], u64); 22] = [
 ];
 
 #[test]
-fn tokens_of_another_sort(rt: HostRuntime) {
+fn tokens_of_another_sort(rt: HostRuntime) -> Result<(), Fail> {
     for &(text, line) in &OF_ANOTHER_SORT {
-        assert!(rt; is_fault(rt.alloc(), text, MapFault::Unexpected { line }));
+        assert!(rt; is_fault(rt.alloc(), text, MapFault::Unexpected { line })?);
     }
+    Ok(())
 }
 
 static MAY_NOT_BE: [(&[u8], MapFault); 15] = [
@@ -104,8 +108,9 @@ static MAY_NOT_BE: [(&[u8], MapFault); 15] = [
 ];
 
 #[test]
-fn tokens_that_say_what_may_not_be(rt: HostRuntime) {
+fn tokens_that_say_what_may_not_be(rt: HostRuntime) -> Result<(), Fail> {
     for &(text, fault) in &MAY_NOT_BE {
-        assert!(rt; is_fault(rt.alloc(), text, fault));
+        assert!(rt; is_fault(rt.alloc(), text, fault)?);
     }
+    Ok(())
 }

@@ -1,5 +1,7 @@
-use qm_map::{MapFault, parse};
-use std::alloc::Global;
+use crate::reading::read;
+use qm_map::MapFault;
+use std::alloc::{AllocError, Global};
+use std::test::Fail;
 
 /// The most bytes that a text may have.
 const LIMIT: usize = 67_108_864;
@@ -11,11 +13,11 @@ fn fault_of(
     filling: u8,
     length: usize,
     last: &[u8],
-) -> Option<MapFault> {
-    let mut text = Vec::from_slice(alloc, start).ok()?;
-    text.resize(length, filling).ok()?;
-    text.extend_from_slice(last).ok()?;
-    parse(alloc, &text).err()
+) -> Result<Option<MapFault>, AllocError> {
+    let mut text = Vec::from_slice(alloc, start)?;
+    text.resize(length, filling)?;
+    text.extend_from_slice(last)?;
+    Ok(read(alloc, &text)?.err())
 }
 
 static ABOUT_THE_LIMIT: [(&[u8], u8, &[u8], MapFault); 7] = [
@@ -34,8 +36,9 @@ static ABOUT_THE_LIMIT: [(&[u8], u8, &[u8], MapFault); 7] = [
 ];
 
 #[test]
-fn texts_about_the_limit(rt: HostRuntime) {
+fn texts_about_the_limit(rt: HostRuntime) -> Result<(), Fail> {
     for &(start, filling, last, fault) in &ABOUT_THE_LIMIT {
-        assert!(rt; fault_of(rt.alloc(), start, filling, LIMIT, last) == Some(fault));
+        assert!(rt; fault_of(rt.alloc(), start, filling, LIMIT, last)? == Some(fault));
     }
+    Ok(())
 }

@@ -1,6 +1,7 @@
-use qm_map::parse;
+use crate::reading::read;
 use qm_mapfile::{Face, MapFile, Mapping, Text};
-use std::alloc::Global;
+use std::alloc::{AllocError, Global};
+use std::test::Fail;
 
 /// A world with one face, as an editor writes it, and a door.
 const ROOM: &[u8] = b"// Game: Quake\r
@@ -63,13 +64,14 @@ static FACES: [([usize; 4], &[u8], &[u8]); 4] = [
 ];
 
 #[test]
-fn the_faces_of_a_room(rt: HostRuntime) {
-    let Ok(map) = parse(rt.alloc(), ROOM) else {
+fn the_faces_of_a_room(rt: HostRuntime) -> Result<(), Fail> {
+    let Ok(map) = read(rt.alloc(), ROOM)? else {
         panic!(rt; "no map");
     };
     for &(where_it_is, texture, word) in &FACES {
         assert!(rt; has_words(&map, where_it_is, texture, word) == Some(true));
     }
+    Ok(())
 }
 
 /// Whether a pair of an entity has this key and this value.
@@ -91,19 +93,22 @@ static PAIRS: [(usize, usize, &[u8], &[u8]); 3] = [
 ];
 
 #[test]
-fn the_pairs_of_a_room(rt: HostRuntime) {
-    let Ok(map) = parse(rt.alloc(), ROOM) else {
+fn the_pairs_of_a_room(rt: HostRuntime) -> Result<(), Fail> {
+    let Ok(map) = read(rt.alloc(), ROOM)? else {
         panic!(rt; "no map");
     };
     for &(entity, pair, key, value) in &PAIRS {
         assert!(rt; has_pair(&map, entity, pair, key, value) == Some(true));
     }
+    Ok(())
 }
 
 /// The points of the first face of a text's first entity.
-fn first_points(alloc: Global, text: &[u8]) -> Option<[[i32; 3]; 3]> {
-    let map = parse(alloc, text).ok()?;
-    Some(face_at(&map, 0, 0)?.points)
+fn first_points(alloc: Global, text: &[u8]) -> Result<Option<[[i32; 3]; 3]>, AllocError> {
+    let Ok(map) = read(alloc, text)? else {
+        return Ok(None);
+    };
+    Ok(face_at(&map, 0, 0).map(|face| face.points))
 }
 
 static NUMBERS: [(&[u8], [[i32; 3]; 3]); 4] = [
@@ -123,8 +128,9 @@ static NUMBERS: [(&[u8], [[i32; 3]; 3]); 4] = [
 ];
 
 #[test]
-fn numbers_that_are_read(rt: HostRuntime) {
+fn numbers_that_are_read(rt: HostRuntime) -> Result<(), Fail> {
     for &(text, points) in &NUMBERS {
-        assert!(rt; first_points(rt.alloc(), text) == Some(points));
+        assert!(rt; first_points(rt.alloc(), text)? == Some(points));
     }
+    Ok(())
 }

@@ -1,13 +1,15 @@
+use crate::reading::read;
 use qm_geom::Point;
 use qm_map::{EntityOrigin, MapFault, parse};
-use std::alloc::Global;
+use std::alloc::{AllocError, Global};
+use std::test::Fail;
 
 /// Whether the text is refused for an origin on its first line.
-fn has_bad_origin(alloc: Global, text: &[u8]) -> bool {
-    match parse(alloc, text) {
+fn has_bad_origin(alloc: Global, text: &[u8]) -> Result<bool, AllocError> {
+    Ok(match read(alloc, text)? {
         Ok(_) => false,
         Err(found) => found == MapFault::BadOrigin { line: 1 },
-    }
+    })
 }
 
 static NO_POINT: [&[u8]; 8] = [
@@ -22,10 +24,11 @@ static NO_POINT: [&[u8]; 8] = [
 ];
 
 #[test]
-fn origins_that_give_no_point(rt: HostRuntime) {
+fn origins_that_give_no_point(rt: HostRuntime) -> Result<(), Fail> {
     for text in &NO_POINT {
-        assert!(rt; has_bad_origin(rt.alloc(), text));
+        assert!(rt; has_bad_origin(rt.alloc(), text)?);
     }
+    Ok(())
 }
 
 /// The point of the second entity of a text.

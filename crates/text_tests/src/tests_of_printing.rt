@@ -1,11 +1,11 @@
-use qm_map::parse;
+use crate::reading::read;
 use qm_mapout::print;
 use std::alloc::{AllocError, Global};
 use std::test::Fail;
 
 /// What a list holds after the map of a text is printed to it, or nothing where the text means no map.
 fn printed_behind(alloc: Global, old: &[u8], text: &[u8]) -> Result<Vec<u8>, AllocError> {
-    let Ok(map) = parse(alloc, text) else {
+    let Ok(map) = read(alloc, text)? else {
         return Ok(Vec::new(alloc));
     };
     let mut out = Vec::from_slice(alloc, old)?;

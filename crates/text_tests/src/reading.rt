@@ -1,0 +1,16 @@
+ghost use Rattle.std.specs.Prelude.{IfOk};
+ghost use Rattle.qm_grammar.specs.Valid.{IsValid};
+
+use qm_map::{MapFault, parse};
+use qm_mapfile::MapFile;
+use std::alloc::{AllocError, Global};
+
+/// What a text means, unless memory runs out: so a test tells want of memory from a wrong answer.
+pub(crate) fn read(alloc: Global, text: &[u8]) -> Result<Result<MapFile, MapFault>, AllocError>
+    ensures { IfOk result (λ meaning. IfOk meaning IsValid) }
+{
+    match parse(alloc, text) {
+        Err(MapFault::Memory) => Err(AllocError),
+        meaning => Ok(meaning),
+    }
+}
