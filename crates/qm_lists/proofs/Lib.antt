@@ -15,4 +15,3 @@ pub mod Stacks
 pub mod Taken
 pub mod SpreadSteps
 pub mod KeptStacks
-pub mod TakenItems
