@@ -210,7 +210,10 @@ impl Winding {
     {
         Ok(Winding {
             polygon: self.polygon.part_in_front_of(plane, run)?,
-            cuboid: self.cuboid.tightened(plane).tightened_on(&self.polygon.plane()),
+            cuboid: self
+                .cuboid
+                .tightened(plane)
+                .tightened_on(&self.polygon.plane()),
         })
     }
 
