@@ -4,6 +4,7 @@
 mod cell;
 mod facet;
 mod finding;
+pub mod laws;
 mod links;
 mod neighbours;
 mod pairs;
