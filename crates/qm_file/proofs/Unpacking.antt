@@ -1,10 +1,11 @@
 -- Setting the places of a row one by one.
-use Rattle.std.proofs.Common.{◌≡◌, ◌≢◌, ◌<◌, ◌≤◌, ℕ, ◌+◌, ◌/◌, ◌%◌, ◌^◌, Bool, true, false, eqb, ltb, List, length, get_or, set, bit_and, refl, sym, ap, subst, ◌∙◌, arith, inl, inr}
+use Rattle.std.proofs.Common.{◌≡◌, ◌≢◌, ◌<◌, ◌≤◌, ℕ, ◌+◌, ◌/◌, ◌%◌, ◌^◌, Bool, true, false, eqb, ltb, List, length, get_or, set, bit_and, refl, sym, ap, subst, ◌∙◌, arith, inl, inr, ◌-◌, min}
+use Rattle.std.specs.Int.{bit_at}
 use Rattle.std.proofs.Math.Nat.{div-eq_of_lt}
 use Rattle.std.proofs.lemmas.Bool.{cases_lt, lt-ltb, le-ltb, eq-eqb, ne_eqb}
 use Rattle.std.proofs.lemmas.List.{ext_get_or, get_or-set_same, get_or-set_other, length-set}
 use Rattle.std.proofs.lemmas.Nat.{le-div, pow_pos}
-use Rattle.std.proofs.lemmas.Nat.Bits.{shr_and_one}
+use Rattle.std.proofs.lemmas.Nat.Bits.{shr_and_one, bit_at-zero}
 use Rattle.qm_formats.specs.RowBits.{unpacked}
 use Rattle.qm_formats.proofs.PackedRows.{get_or-unpacked, length-unpacked}
 
@@ -40,6 +41,22 @@ module _ (places : ℕ) (packed : List ℕ) (row : List Bool) (i : ℕ) (so_far 
         done = λ k less. elim (cases_lt k i) [
           | inl before ↦ so_far.done k before
           | inr past ↦ let at : i ≡ k = omega arith in subst (λ (n : ℕ). get_or row n false ≡ get_or (unpacked places packed) n false) at (so_far.left i (omega arith) ∙ sym here)
+        ];
+        left = λ k more. so_far.left k (omega (arith, more));
+      }
+
+  -- where a byte is 0, all its places are clear
+  pub places_clear : get_or packed (i / 8) 0 ≡ 0 → i % 8 ≡ 0 → IsUnpacked places packed row (i + min (places - i) 8)
+  places_clear none first =
+      record {
+        long = so_far.long;
+        done = λ k less. elim (cases_lt k i) [
+          | inl before ↦ so_far.done k before
+          | inr past ↦ so_far.left k past ∙ sym (
+            let within : k < places = omega (arith, less) in
+            let byte : i / 8 ≡ k / 8 = omega (arith, less, first, past) in
+            let zero : get_or packed (k / 8) 0 ≡ 0 = ap (λ (n : ℕ). get_or packed n 0) (sym byte) ∙ none in
+            get_or-unpacked places packed k within ∙ ap (λ (n : ℕ). eqb (bit_at n (k % 8)) 1) zero ∙ ap (λ (n : ℕ). eqb n 1) (bit_at-zero (k % 8)))
         ];
         left = λ k more. so_far.left k (omega (arith, more));
       }

@@ -146,9 +146,16 @@ fn unpacked(alloc: Global, places: u64, packed: &[u8]) -> Result<BitRow, AllocEr
     ensures { IfOk result (λ row. row ≡ unpacked places packed.now) }
 {
     let mut row = BitRow::with_len(alloc, places)?;
-    for i in 0..places {
-        if (packed[(i / 8) as usize] >> (i % 8)) & 1 == 1 {
-            row.set(i);
+    let mut i = 0;
+    while i < places {
+        let byte = packed[(i / 8) as usize];
+        if byte == 0 && i % 8 == 0 {
+            i += (places - i).min(8);
+        } else {
+            if (byte >> (i % 8)) & 1 == 1 {
+                row.set(i);
+            }
+            i += 1;
         }
     }
     Ok(row)
