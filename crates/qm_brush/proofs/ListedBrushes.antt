@@ -3,7 +3,7 @@ use Rattle.std.proofs.Common.{◌≡◌, ℕ, ◌<◌, ◌≤◌, ◌+◌, Bool,
 use Rattle.std.specs.Prelude.{MatchOption, IsTrue, is_some, option_map, sum_by, flat_map}
 use Rattle.std.specs.List.{AllZip, filter_map, cons_option}
 use Rattle.std.proofs.lemmas.Grind.{flat_map-append}
-use Rattle.std.proofs.lemmas.List.{take_all, take_more, take_at, drop_more, append_assoc, append-nil, map-append, take-append-drop, length-append, length-map}
+use Rattle.std.proofs.lemmas.List.{take_more, take_at, drop_more, append_assoc, append-nil, map-append, take-append-drop, length-append, length-map}
 use Rattle.std.proofs.lemmas.List.Sums.{sum_by-cons, sum_by-take-le}
 use Rattle.std.proofs.lemmas.List.Elements.{AllZip-push, All-nil, All-push, All-head, All-tail, filter_map-append, filter-append}
 use Rattle.qm_space.specs.Plane.{Plane}

@@ -34,6 +34,6 @@ abbrev pub is_negative : ℤ → Bool
 is_negative (pos n) = false
 is_negative (negsuc n) = true
 
--- the same place, its four numbers turned where w is negative
+-- the same place, its four numbers negated where w is negative
 unfoldable pub with_positive_weight : Point → Point
 with_positive_weight p = if is_negative p.w then point_times (negsuc 0) p else p

@@ -64,7 +64,7 @@ impl Meeting {
         }
     }
 
-    /// The same place, its four numbers turned where `w` is negative.
+    /// The same place, its four numbers negated where `w` is negative.
     pub(crate) fn with_positive_weight(&self) -> Meeting
         ensures { result ≡ with_positive_weight self.now }
     {

@@ -1,4 +1,4 @@
--- What a word in a coordinate's place spells, as it is computed.
+-- What a word spells where a coordinate is due, as it is computed.
 use Rattle.std.proofs.Common.{◌≡◌, ℕ, Bool, true, false, ◌&&◌, ℤ, neg_ℤ, int_le, List, Result, Ok, Err, ap, refl, sym, subst, ◌∙◌, arith}
 use Rattle.std.proofs.lemmas.Bool.{and_parts, and_from, true_from_ne_false, false_from_ne_true, both_ways}
 use Rattle.std.proofs.lemmas.Int.{ints}
@@ -54,7 +54,7 @@ answer_whole text fraction n is numerator = subst (λ (f : Fraction). IsAnswer t
 in_range_ok : (fraction : Fraction) → IsCoordinate fraction.numerator → coordinate_in_range fraction ≡ Ok fraction.numerator
 in_range_ok fraction is = rw (is_within fraction.numerator is) refl
 
--- why a word in a coordinate's place is refused
+-- why a word is refused where a coordinate is due
 pub data IsBadCoordinate (text : List ℕ) : Refusal → Type 0 where
   no_number : IsNoNumber text → IsBadCoordinate text refusal.BadNumber
   fraction : IsTooFineText text 0 → IsBadCoordinate text refusal.Fraction

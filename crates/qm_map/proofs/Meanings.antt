@@ -1,5 +1,5 @@
 -- How far the reading of a text has come, and what it then means.
-use Rattle.std.proofs.Common.{◌≡◌, ◌<◌, ℕ, List, [], length, Option, Some, None, Ok, Err, ◌∙◌, ap, arith}
+use Rattle.std.proofs.Common.{◌≡◌, ℕ, List, [], Option, Some, None, Ok, Err, ◌∙◌, ap}
 use Rattle.qm_lex.specs.Lexeme.{Lexeme}
 use Rattle.qm_lex.specs.Lexing.{Lexing, IsLexingOf, nothing, lexeme_then, unclosed_on}
 use Rattle.qm_lex.specs.inner.Modes.{between, read}
@@ -10,7 +10,7 @@ use Rattle.qm_grammar.specs.declared.refusal.Refusal.{Refusal}
 use Rattle.qm_grammar.specs.Symbol.{symbol_of}
 use Rattle.qm_grammar.specs.Prefix.{Prefix, outside}
 use Rattle.qm_grammar.specs.inner.Machine.{step, steps, refused_at, ended, meaning_of}
-use Rattle.qm_grammar.proofs.Runs.{steps_step, steps_refused}
+use Rattle.qm_grammar.proofs.Runs.{steps_refused}
 
 -- the lexing that is read is one
 pub lexing_is : (text : List ℕ) (lexing : Lexing) → ((other : Lexing) → IsLexingOf text other → other ≡ lexing) → read between 0 1 text ≡ lexing

@@ -1,9 +1,9 @@
 -- Where the first word of a text stands, and how many words there are.
-use Rattle.std.proofs.Common.{◌≡◌, ℕ, ◌+◌, ◌≤◌, Bool, true, false, eqb, not, List, [], ◌∷◌, length, take, drop, refl, sym, ap, ◌∙◌, arith, one-add}
+use Rattle.std.proofs.Common.{◌≡◌, ℕ, Bool, true, false, eqb, not, List, [], ◌∷◌, length, take, drop, refl, sym, ap, ◌∙◌, arith, one-add}
 use Rattle.std.specs.List.{prefix_len}
 use Rattle.std.proofs.lemmas.Bool.{false≢true}
 use Rattle.std.proofs.lemmas.Bool.Decides.{nat_tests}
-use Rattle.qm_grammar.specs.Words.{Word, words_of, parts_words, is_at_gap, lengthened}
+use Rattle.qm_grammar.specs.Words.{words_of, parts_words, lengthened}
 
 -- whether a byte belongs to a word
 abbrev pub is_ink : ℕ → Bool

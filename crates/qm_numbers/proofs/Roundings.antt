@@ -77,8 +77,8 @@ nearest_is a b q x y r =
     let high : ((a +ℤ a) +ℤ b) <ℤ (((q *ℤ b) +ℤ (q *ℤ b)) +ℤ (b +ℤ b)) = omega (arith, linear) in
     record { near = half_near a b (q *ℤ b) x y low high; away = half_away a b (q *ℤ b) x y low high }
 
-pub nearest_turned : (a b q : ℤ) → IsNearest (neg_ℤ a) b q → IsNearest a b (neg_ℤ q)
-nearest_turned a b q r =
+pub nearest_negated : (a b q : ℤ) → IsNearest (neg_ℤ a) b q → IsNearest a b (neg_ℤ q)
+nearest_negated a b q r =
     let n = neg-*ℤ q b in
     let d : unsigned_abs (neg_ℤ a -ℤ (q *ℤ b)) ≡ unsigned_abs (a -ℤ (neg_ℤ q *ℤ b)) = rw n (apart a (q *ℤ b)) in
     let s : unsigned_abs (neg_ℤ q *ℤ b) ≡ unsigned_abs (q *ℤ b) = ap unsigned_abs n ∙ abs_neg (q *ℤ b) in
