@@ -73,6 +73,11 @@ cube_in_whole p c = record { x = within p.x c.x.above c.x.below; y = within p.y 
     within : (x : ℤ) → neg_ℤ (extent *ℤ p.w) <ℤ x → x <ℤ (extent *ℤ p.w) → IsInSpan whole_span x p.w
     within x a b = let e = neg-*ℤ extent p.w in record { above = omega (arith, linear); below = omega (arith, linear) }
 
+-- ---- sizes
+
+pub product_small : (n c : ℤ) → unsigned_abs n ≤ normal_bound → IsCoordinate c → unsigned_abs (n *ℤ c) ≤ 2 ^ 38
+product_small n c h k = let p = abs_product_bound n c normal_bound 4096 h (coordinate_small c k) in omega arith
+
 -- ---- spans and cuboids that are tightened
 
 -- a span from a number on, as the code chooses its low end
