@@ -177,6 +177,11 @@ agrees_with_a_slow_reader() {
     python3 .ci/compare_texts.py "$program"
 }
 
+reads_tree_files_as_a_slow_reader_does() {
+    [[ -x crates/file_faults/out/file_faults ]] || (cd crates/file_faults && rt run >/dev/null 2>&1) || return 1
+    python3 .ci/compare_files.py crates/file_faults/out/file_faults
+}
+
 counts_clips_as_fractions_do() {
     python3 bench/counts.py | cmp - crates/wind_bench/stdout
 }
@@ -195,4 +200,5 @@ check "status 7: too little memory" runs_out_of_memory
 check "a pipe as standard output gets each byte" prints_all_into_a_pipe
 check "a map that is a pipe is read" reads_a_map_that_is_a_pipe
 check "generated texts have the faults that a plain slow reader finds" agrees_with_a_slow_reader
+check "altered tree files have the faults that a plain slow reader finds" reads_tree_files_as_a_slow_reader_does
 check "the counts of clips are those of fractions without bound" counts_clips_as_fractions_do

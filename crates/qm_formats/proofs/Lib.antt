@@ -1,6 +1,7 @@
 pub mod Spellings
 pub mod ReadRows
 pub mod ReadParts
+pub mod FirstFaults
 pub mod Standing
 pub mod ExactParts
 pub mod ExactFields

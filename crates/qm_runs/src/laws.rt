@@ -1,7 +1,9 @@
 //! What holds of spellings, whatever is written or read.
 
-ghost use Rattle.std.specs.Prelude.{◌≡◌, ◌↔◌, List, ℕ, ◌++◌, length};
-ghost use Rattle.qm_formats.specs.Runs.{Spells, runs_of};
+ghost use Rattle.std.specs.Prelude.{◌≡◌, ◌↔◌, List, ℕ, ◌++◌, length, Err};
+ghost use Rattle.qm_formats.specs.Fields.{AreBytes};
+ghost use Rattle.qm_formats.specs.FirstWrong.{IsFaultOf};
+ghost use Rattle.qm_formats.specs.Runs.{RunFaultKind, Spells, runs_of, read_runs};
 
 /// The bytes that are written for a row are its one spelling.
 pub fn one_spelling()
@@ -11,4 +13,9 @@ pub fn one_spelling()
 /// No spelling of a row is the beginning of a spelling of another row of the same width.
 pub fn no_prefix()
     ensures { (a b x y row other : List ℕ) → Spells a row → Spells b other → length row ≡ length other → a ++ x ≡ b ++ y → (a ≡ b) × (row ≡ other) }
+{}
+
+/// A fault of reading tells the first byte that no spelling of a row of the width allows.
+pub fn first_fault()
+    ensures { (width : ℕ) (bytes : List ℕ) (fault : RunFaultKind) → AreBytes bytes → read_runs width bytes ≡ Err fault → IsFaultOf width bytes fault }
 {}

@@ -7,7 +7,7 @@ mod reading;
 mod run_fault;
 mod writing;
 
-pub use laws::{no_prefix, one_spelling};
+pub use laws::{first_fault, no_prefix, one_spelling};
 pub use reading::decode;
 pub use run_fault::RunFault;
 pub use writing::encode;
