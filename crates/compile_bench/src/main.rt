@@ -1,7 +1,7 @@
 //! Goes the way of `qmapc compile` up to a named phase, and prints counts of what is there then, so that phases are timed
 //! as differences. `bench/compile.sh` times it.
 //!
-//! The words are a phase (`read`, `parse`, `brushes` or `build`) and the name of a map.
+//! The words are a phase (`read`, `parse`, `brushes`, `build` or `touches`) and the name of a map.
 #![tactic(auto)]
 
 ghost use Rattle.qm_grammar.specs.Valid.{IsValid};
@@ -12,6 +12,7 @@ use qm_geom::PlaneBook;
 use qm_grammar::TEXT_LIMIT;
 use qm_map::parse;
 use qm_mapfile::MapFile;
+use qm_portal::touches;
 use qm_shelf::{FolderShelf, read_whole};
 use std::rt::Files;
 use std::{env, io};
@@ -20,7 +21,7 @@ fn main(rt: HostRuntime) -> io::Result<()> {
     let mut words = env::args(&rt)?.skip(1);
     match (words.next(), words.next()) {
         (Some(phase), Some(name)) => run_up_to(&rt, phase.as_str(), name.as_str()),
-        _ => println!(rt; "usage: compile_bench read|parse|brushes|build MAP"),
+        _ => println!(rt; "usage: compile_bench read|parse|brushes|build|touches MAP"),
     }
 }
 
@@ -56,11 +57,11 @@ fn go_on<R: AllocGlobal + Print>(rt: &R, phase: &str, map: &MapFile) -> io::Resu
         return println!(rt; "brushes {brushes}, planes {planes}");
     }
     let tree = build(rt.alloc(), &list, &book)?;
-    if phase == "touches" {
-        let contacts = qm_portal::touches(rt.alloc(), &tree)?;
-        return println!(rt; "pairs {}", contacts.count());
-    }
     let nodes = tree.nodes();
     let leaves = tree.leaves();
+    if phase == "touches" {
+        let contacts = touches(rt.alloc(), &tree)?;
+        return println!(rt; "nodes {nodes}, leaves {}", contacts.leaves());
+    }
     println!(rt; "brushes {brushes}, planes {planes}, nodes {nodes}, leaves {leaves}")
 }

@@ -1,11 +1,14 @@
 -- The node at which two leaves meet: that each two leaves have one, and that a crossing of its plane off the other planes
 -- is a contact.
-use Rattle.std.proofs.Common.{◌≡◌, ℕ, zero, suc, ◌+◌, ◌-◌, ◌<◌, ◌≤◌, Bool, true, false, not, List, [], ◌++◌, All, get_or, map, Contains, slice_get, Some, refl, sym, ap, subst, arith, ⊎_elim}
+use Rattle.std.proofs.Common.{◌≡◌, ℕ, zero, suc, ◌+◌, ◌-◌, ◌<◌, ◌≤◌, Bool, true, false, not, List, [], ◌++◌, All, get_or, map, Contains, slice_get, Some, refl, sym, ap, ◌∙◌, subst, arith, ◌⊎◌, inl, inr, ⊎_elim, length}
 use Rattle.std.proofs.lemmas.Bool.{cases_lt}
+use Rattle.std.proofs.lemmas.Bool.Decides.{eqb_tells}
+use Rattle.std.proofs.lemmas.List.{get_or_default}
 use Rattle.std.proofs.lemmas.Option.{slice_get-get_or}
 use Rattle.std.proofs.lemmas.List.Elements.{All-pop, All-contains, Contains-get_or, Contains-append_left, Contains-append_right, Contains-append_cases}
 use Rattle.qm_lists.proofs.Elements.{Contains-at, Contains-cons_cases, Contains-map, Contains-map_from}
 use Rattle.qm_lists.proofs.Places.{slice_get-append_cases, slice_get-map_from}
+use Rattle.qm_lists.proofs.EachPair.{EachPair, pairs_by_place}
 use Rattle.qm_space.specs.Point.{Point}
 use Rattle.qm_space.specs.Plane.{Plane, value, IsOn, IsInFront, IsBehind, IsNotBehind}
 use Rattle.qm_space.specs.Turned.{turned}
@@ -30,7 +33,7 @@ use Rattle.qm_contacts.specs.inner.Descent.{HasPointsBelow}
 use Rattle.qm_contacts.proofs.Pieces.{walled_split}
 use Rattle.qm_contacts.proofs.Descent.{walled-then_step, points_at_root, points_in_front, points_behind, cell_point, section_point}
 use Rattle.qm_contacts.proofs.LeavesBelow.{numbered, leaf_listed, leaf_from_list}
-use Rattle.qm_contacts.proofs.Meetings.{listed_at_node, from_node_list}
+use Rattle.qm_contacts.proofs.Meetings.{IsBefore, meetings_ascend, listed_at_node, from_node_list}
 
 -- ---- each two leaves have one
 
@@ -251,3 +254,28 @@ crossing_is_contact tree m x have listed crossing =
 -- and each two leaves have their meeting
 pub tree_leaves_meet : (tree : Tree) (a b : ℕ) → a < b → b < leaf_count tree.shape → (m : Meeting) × Contains (meetings tree) m × (m.front.leaf ≡ a) × (m.back.leaf ≡ b)
 tree_leaves_meet tree a b less within = let parts = leaves_meet tree.shape 0 0 [] a b less within in (parts.meeting, parts.listed, omega (arith, parts.front), omega (arith, parts.back))
+
+-- and only once
+once_listed : (all : List Meeting) (m l : Meeting) (i j : ℕ) → EachPair IsBefore all → i < length all → j < length all → get_or all i m ≡ m → get_or all j l ≡ l → m.front.leaf ≡ l.front.leaf → m.back.leaf ≡ l.back.leaf → m ≡ l
+once_listed all m l i j each of_m of_l is_m is_l fronts backs = ⊎_elim
+    (λ same. sym is_m ∙ get_or_default all i m l of_m ∙ ap (λ (k : ℕ). get_or all k l) same.1 ∙ is_l)
+    (λ other. absurd (never other.1))
+    (eqb_tells i j)
+  where
+    before : IsBefore m l → ⊥
+    before b = b.apart fronts backs
+
+    behind : IsBefore l m → ⊥
+    behind b = b.apart (sym fronts) (sym backs)
+
+    either : (i j : ℕ) → (i ≡ j → ⊥) → (i < j) ⊎ (j < i)
+    either i j other = ⊎_elim (λ less. inl less) (λ more. inr (lt_of_le-ne more (λ same. other (sym same)))) (cases_lt i j)
+
+    never : (i ≡ j → ⊥) → ⊥
+    never other = ⊎_elim
+        (λ less. before (subst (λ (x : Meeting). IsBefore x l) is_m (subst (IsBefore (get_or all i m)) (get_or_default all j m l of_l ∙ is_l) (pairs_by_place IsBefore all each i j m less of_l))))
+        (λ more. behind (subst (λ (x : Meeting). IsBefore x m) is_l (subst (IsBefore (get_or all j l)) (get_or_default all i l m of_m ∙ is_m) (pairs_by_place IsBefore all each j i l more of_m))))
+        (either i j other)
+
+pub one_meeting : (tree : Tree) (m l : Meeting) → Contains (meetings tree) m → Contains (meetings tree) l → m.front.leaf ≡ l.front.leaf → m.back.leaf ≡ l.back.leaf → m ≡ l
+one_meeting tree m l of_m of_l fronts backs = once_listed (meetings tree) m l of_m.0 of_l.0 (meetings_ascend tree.shape 0 0 []) of_m.1 of_l.1 of_m.2 of_l.2 fronts backs

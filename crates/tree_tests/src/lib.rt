@@ -6,6 +6,8 @@ mod brushes;
 #[cfg(test)]
 mod built;
 #[cfg(test)]
+mod contacts;
+#[cfg(test)]
 mod cube;
 #[cfg(test)]
 mod fragments;

@@ -1,0 +1,251 @@
+//! Contacts of the leaves of built trees, beside those that the cells of a grid show.
+
+ghost use Rattle.std.specs.Prelude.{◌<◌, IfSome};
+ghost use Rattle.qm_partition.specs.Ways.{HasPoints};
+
+use crate::worlds::{Numbers, put_box};
+use qm_brush::brushes;
+use qm_build::build;
+use qm_contents::Contents::Solid;
+use qm_geom::{PlaneBook, Point};
+use qm_map::parse;
+use qm_portal::{TouchList, touches};
+use qm_tree::Tree;
+use std::alloc::{AllocError, Global};
+use std::test::Fail;
+
+/// The tree that is built of a world.
+fn tree_of(alloc: Global, text: &str) -> Option<Tree>
+    ensures { IfSome result (λ tree. HasPoints tree) }
+{
+    let Ok(map) = parse(alloc, text.as_bytes()) else {
+        return None;
+    };
+    let mut book = PlaneBook::new(alloc);
+    let Ok(list) = brushes(alloc, &map, &mut book) else {
+        return None;
+    };
+    let Ok(tree) = build(alloc, &list, &book) else {
+        return None;
+    };
+    Some(tree)
+}
+
+/// A tree with its contacts.
+#[derive(Drop)]
+struct Touching {
+    tree: Tree,
+    contacts: TouchList,
+}
+
+impl Touching {
+    fn of(alloc: Global, text: &str) -> Option<Touching> {
+        let tree = tree_of(alloc, text)?;
+        let Ok(contacts) = touches(alloc, &tree) else {
+            return None;
+        };
+        Some(Touching { tree, contacts })
+    }
+
+    /// The leaf of a cell of the grid: its middle is 8 past a multiple of 16.
+    fn leaf_of(&self, cell: [u8; 3]) -> u64 {
+        let [x, y, z] = cell;
+        self.tree.leaf_at(&Point {
+            x: middle(x),
+            y: middle(y),
+            z: middle(z),
+            w: 1,
+        })
+    }
+
+    /// Whether two leaves are neighbours of one another.
+    fn touch(&self, a: u64, b: u64) -> bool {
+        let leaves = self.contacts.leaves();
+        a < leaves
+            && b < leaves
+            && self.contacts.neighbours(a).contains(&b)
+            && self.contacts.neighbours(b).contains(&a)
+    }
+
+    fn touches_outside(&self, leaf: u64) -> bool {
+        leaf < self.contacts.leaves() && self.contacts.outside(leaf)
+    }
+
+    /// How many neighbours all leaves have, and how many leaves touch the outside.
+    fn counts(&self) -> (usize, usize) {
+        let mut neighbours = 0usize;
+        let mut outside = 0usize;
+        for leaf in 0..self.contacts.leaves() {
+            neighbours = neighbours.saturating_add(self.contacts.neighbours(leaf).len());
+            if self.contacts.outside(leaf) {
+                outside = outside.saturating_add(1);
+            }
+        }
+        (neighbours, outside)
+    }
+}
+
+/// How many cells the grid has along each axis. The first and the last reach to the walls of the cube.
+const CELLS: u8 = 12;
+
+fn middle(cell: u8) -> i64 {
+    16 * i64::from(cell) - 88
+}
+
+/// What the cells of a grid show: each two leaves that have cells beside one another, and each leaf with a cell at a wall.
+#[derive(Drop)]
+struct Seen {
+    pairs: Vec<(u64, u64)>,
+    outside: Vec<u64>,
+}
+
+impl Seen {
+    fn of(alloc: Global, found: &Touching) -> Result<Seen, AllocError> {
+        let mut seen = Seen {
+            pairs: Vec::new(alloc),
+            outside: Vec::new(alloc),
+        };
+        for x in 0..CELLS {
+            for y in 0..CELLS {
+                seen.add_line(found, x, y)?;
+            }
+        }
+        Ok(seen)
+    }
+
+    /// Adds what a line of cells shows, and what lies beside each of its cells.
+    fn add_line(&mut self, found: &Touching, x: u8, y: u8) -> Result<(), AllocError> {
+        for z in 0..CELLS {
+            let leaf = found.leaf_of([x, y, z]);
+            if [x, y, z].contains(&0) || [x, y, z].contains(&(CELLS - 1)) {
+                self.add_outside(leaf)?;
+            }
+            self.add_pair(leaf, found.leaf_of([x.saturating_add(1), y, z]))?;
+            self.add_pair(leaf, found.leaf_of([x, y.saturating_add(1), z]))?;
+            self.add_pair(leaf, found.leaf_of([x, y, z.saturating_add(1)]))?;
+        }
+        Ok(())
+    }
+
+    fn add_outside(&mut self, leaf: u64) -> Result<(), AllocError> {
+        if !self.outside.contains(&leaf) {
+            self.outside.push(leaf)?;
+        }
+        Ok(())
+    }
+
+    fn add_pair(&mut self, a: u64, b: u64) -> Result<(), AllocError> {
+        let pair = if a < b { (a, b) } else { (b, a) };
+        if a != b && !self.pairs.contains(&pair) {
+            self.pairs.push(pair)?;
+        }
+        Ok(())
+    }
+}
+
+/// A world of boxes, some of which hold air, so that there are rooms.
+fn random_rooms(alloc: Global, numbers: &mut Numbers) -> Result<String, AllocError> {
+    let mut text = String::new(alloc);
+    text.push_str("{\n")?;
+    for _ in 0..=numbers.below(5) {
+        let least = [at(numbers, 5), at(numbers, 5), at(numbers, 5)];
+        let [x, y, z] = least;
+        let greatest = [
+            x.saturating_add(at(numbers, 4).saturating_add(80)),
+            y.saturating_add(at(numbers, 4).saturating_add(80)),
+            z.saturating_add(at(numbers, 4).saturating_add(80)),
+        ];
+        put_box(&mut text, "stone", least, greatest)?;
+    }
+    text.push_str("}\n")?;
+    Ok(text)
+}
+
+/// One of some multiples of 16, from -64 on.
+fn at(numbers: &mut Numbers, count: u8) -> i32
+    requires { 0 < count }
+{
+    16 * (numbers.below(u64::from(count)) as i32) - 64
+}
+
+/// Whether the contacts of a world are those that the grid shows.
+fn agree(alloc: Global, text: &str) -> Result<bool, AllocError> {
+    let Some(found) = Touching::of(alloc, text) else {
+        return Ok(false);
+    };
+    let seen = Seen::of(alloc, &found)?;
+    let (neighbours, outside) = found.counts();
+    Ok(neighbours == seen.pairs.len().saturating_mul(2)
+        && outside == seen.outside.len()
+        && seen.pairs.iter().all(|pair| found.touch(pair.0, pair.1))
+        && seen.outside.iter().all(|leaf| found.touches_outside(*leaf)))
+}
+
+/// In many random worlds of boxes, the contacts are those that the cells of a grid show.
+#[test]
+fn contacts_agree_with_grid(rt: HostRuntime) -> Result<(), Fail> {
+    let mut numbers = Numbers::new();
+    for _ in 0..40 {
+        let text = random_rooms(rt.alloc(), &mut numbers)?;
+        assert!(rt; agree(rt.alloc(), &text)?);
+    }
+    Ok(())
+}
+
+/// The walls of a room, which meet in edges alone.
+static WALLS: [([i32; 3], [i32; 3]); 6] = [
+    ([-16, 0, 0], [0, 64, 64]),
+    ([64, 0, 0], [80, 64, 64]),
+    ([0, -16, 0], [64, 0, 64]),
+    ([0, 64, 0], [64, 80, 64]),
+    ([0, 0, -16], [64, 64, 0]),
+    ([0, 0, 64], [64, 64, 80]),
+];
+
+/// A world with some of the walls.
+fn room(alloc: Global, walls: usize) -> Result<String, AllocError> {
+    let mut text = String::new(alloc);
+    text.push_str("{\n")?;
+    for (least, greatest) in WALLS.iter().take(walls) {
+        put_box(&mut text, "stone", *least, *greatest)?;
+    }
+    text.push_str("}\n")?;
+    Ok(text)
+}
+
+/// Whether the room with some of its walls has no neighbours but six solid leaves, and does not touch the outside.
+fn is_closed(alloc: Global, walls: usize) -> Result<bool, AllocError> {
+    let text = room(alloc, walls)?;
+    let Some(found) = Touching::of(alloc, &text) else {
+        return Ok(false);
+    };
+    let inside = found.leaf_of([7, 7, 7]);
+    if inside >= found.contacts.leaves() || found.contacts.outside(inside) {
+        return Ok(false);
+    }
+    let neighbours = found.contacts.neighbours(inside);
+    Ok(neighbours.len() == 6
+        && neighbours
+            .iter()
+            .all(|leaf| *leaf < found.tree.leaves() && found.tree.leaf(*leaf).contents == Solid))
+}
+
+/// Whether the seven leaves of one cube have eighteen contacts, and all but the stone touch the outside.
+fn cube_is_counted(alloc: Global) -> Result<bool, AllocError> {
+    let mut text = String::new(alloc);
+    text.push_str("{\n")?;
+    put_box(&mut text, "stone", [0, 0, 0], [64, 64, 64])?;
+    text.push_str("}\n")?;
+    let Some(found) = Touching::of(alloc, &text) else {
+        return Ok(false);
+    };
+    Ok(found.counts() == (36, 6))
+}
+
+/// A room that meets what is around it in edges alone is closed, it is not once a wall is gone; and one cube.
+#[test]
+fn rooms_and_cube(rt: HostRuntime) -> Result<(), Fail> {
+    let alloc = rt.alloc();
+    assert!(rt; is_closed(alloc, 6)? && !is_closed(alloc, 5)? && cube_is_counted(alloc)?);
+    Ok(())
+}
