@@ -1,23 +1,23 @@
 -- What facets leave on one side of a plane, one after another, and the section of a cell by its facets.
 use Rattle.std.proofs.Common.{◌≡◌, ℕ, ◌+◌, ◌<◌, Option, Some, None, List, [], ◌∷◌, ◌++◌, length, take, drop, get_or, map, sym, ◌∙◌, ap, subst}
 use Rattle.std.specs.Option.{MatchOption}
-use Rattle.std.proofs.lemmas.List.{map-append}
+use Rattle.std.proofs.lemmas.List.{map-append, append-nil}
 use Rattle.std.proofs.lemmas.List.Elements.{All-head, All-append}
 use Rattle.qm_lists.proofs.Places.{take-read, parted-read}
 use Rattle.qm_lists.proofs.Elements.{All-first_part, All-last_part}
 use Rattle.qm_space.specs.Point.{Point}
 use Rattle.qm_space.specs.Plane.{Plane, IsInFront}
 use Rattle.qm_space.specs.Cell.{IsInCell}
-use Rattle.qm_convex.specs.Winding.{Winding}
-use Rattle.qm_convex.specs.Sides.{HasNoneInFront, HasSomeInFront}
+use Rattle.qm_convex.specs.Winding.{Winding, IsConvex}
+use Rattle.qm_convex.specs.Sides.{HasNoneInFront, HasSomeInFront, IsWhollyInFront}
 use Rattle.qm_convex.specs.Cut.{IsPartInFront, IsPartWithin}
 use Rattle.qm_convex.specs.World.{IsWorldPart}
 use Rattle.qm_convex.specs.inner.Facets.{Facet, inward_of, AreCut, none, left, gone, IsSection}
-use Rattle.qm_convex.proofs.Cutting.{within_one_more}
+use Rattle.qm_convex.proofs.Cutting.{within_one_more, whole_is_part}
 use Rattle.qm_convex.proofs.ImpliedPlanes.{facets_from_cell}
 use Rattle.qm_convex.proofs.Facets.{section_by_facets}
 use Rattle.qm_contacts.specs.inner.Due.{DueCell}
-use Rattle.qm_portal.specs.inner.Cells.{left_facet, CrossesCell, HasPointBefore}
+use Rattle.qm_portal.specs.inner.Cells.{left_facet, IsLeftAdded, CrossesCell, HasPointBefore}
 
 -- one facet more
 pub cut_more : (h : Plane) (facets rest : List Facet) (inward : Plane) (winding : Winding) (half : Option Winding) → AreCut h facets rest → MatchOption half (HasNoneInFront winding h) (λ w. IsPartInFront w winding h) → AreCut h (facets ++ record { inward = inward; winding = winding } ∷ []) (rest ++ left_facet inward half)
@@ -88,3 +88,23 @@ module _ (winding left_so_far : Winding) (facets : List Facet) (i : ℕ) (next :
   within_next part is =
       subst (IsPartWithin part winding) (sym (ap (map inward_of) (take-read facets i next within read) ∙ map-append inward_of (take i facets) (next ∷ [])))
       (within_one_more part left_so_far winding (map inward_of (take i facets)) next.inward so_far is)
+
+-- ---- what is left of one facet
+
+pub cut_append : (h : Plane) (facets rest : List Facet) (found : Facet) (new : List Facet) → AreCut h facets rest → AreCut h (found ∷ []) new → AreCut h (facets ++ found ∷ []) (rest ++ new)
+cut_append h facets rest found new none is = is
+cut_append h facets rest found new (left part have) is = left part (cut_append h _ _ found new have is)
+cut_append h facets rest found new (gone never have) is = gone never (cut_append h _ _ found new have is)
+
+module _ (h : Plane) (found : Facet) (old new : List Facet) where
+  -- all of it
+  pub all_added : IsConvex found.winding → IsWhollyInFront found.winding h → new ≡ old ++ found ∷ [] → IsLeftAdded h found old new
+  all_added convex ahead is = record { left = found ∷ []; added = is; cut = left (whole_is_part found.winding h convex ahead) none }
+
+  -- or nothing
+  pub none_added : HasNoneInFront found.winding h → old ≡ new → IsLeftAdded h found old new
+  none_added never is = record { left = []; added = sym is ∙ sym (append-nil old); cut = gone never none }
+
+  -- or a part
+  pub half_added : (half : Option Winding) → MatchOption half (HasNoneInFront found.winding h) (λ w. IsPartInFront w found.winding h) → new ≡ old ++ left_facet found.inward half → IsLeftAdded h found old new
+  half_added half is added = record { left = left_facet found.inward half; added = added; cut = cut_more h [] [] found.inward found.winding half none is }

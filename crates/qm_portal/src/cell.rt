@@ -74,16 +74,13 @@ impl DueCell {
             on_steps,
             ..
         } = self;
+        let alloc = *on_walls.allocator();
         let walls = split_facets(on_walls, plane)?;
         let mut steps = split_facets(on_steps, plane)?;
-        steps.front.push(Facet {
-            inward: *plane,
-            winding: section.copy()?,
-        })?;
-        steps.back.push(Facet {
-            inward: plane.flipped(),
-            winding: section.copy()?,
-        })?;
+        let in_front = section.copy()?;
+        steps.front.push(Facet::of(alloc, *plane, in_front)?)?;
+        let behind = section.copy()?;
+        steps.back.push(Facet::of(alloc, plane.flipped(), behind)?)?;
         Ok(CellHalves {
             front: DueCell {
                 child: node.front,

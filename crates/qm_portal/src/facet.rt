@@ -5,18 +5,18 @@ ghost use Rattle.qm_space.specs.Plane.{flipped};
 ghost use Rattle.qm_convex.specs.inner.Facets.{inward_of, AreCut};
 ghost use Rattle.qm_convex.specs.Cut.{IsPartInFront, IsPartWithin};
 ghost use Rattle.qm_convex.specs.Sides.{HasSomeInFront};
-ghost use Rattle.qm_portal.specs.inner.Cells.{left_facet, HasPointBefore};
+ghost use Rattle.qm_portal.specs.inner.Cells.{left_facet, IsLeftAdded, HasPointBefore};
 
 use qm_geom::Plane;
-use qm_wind::{Clip, Side, Winding};
-use std::alloc::AllocError;
+use qm_wind::{Clip, Lies, Side, Winding};
+use std::alloc::{AllocError, Global};
 use std::marker::Model;
 
 /// What the border of a cell has on one of its planes, which is turned to the cell.
 #[derive(Drop)]
 pub(crate) struct Facet {
     pub(crate) inward: Plane,
-    pub(crate) winding: Winding,
+    pub(crate) winding: Box<Winding>,
 }
 
 impl Model for Facet {
@@ -24,7 +24,17 @@ impl Model for Facet {
 
     ghost Value = { Facet };
 
-    ghost view = { λ facet. record { inward = facet.inward; winding = facet.winding } };
+    ghost view = { λ facet. record { inward = facet.inward; winding = facet.winding.value } };
+}
+
+impl Facet {
+    /// A polygon as a facet on a plane that is turned to the cell.
+    pub(crate) fn of(alloc: Global, inward: Plane, winding: Winding) -> Result<Facet, AllocError>
+        ensures { IfOk result (λ facet. facet ≡ record { inward = inward; winding = winding }) }
+    {
+        let winding = Box::new(alloc, winding)?;
+        Ok(Facet { inward, winding })
+    }
 }
 
 /// What facets have in front of a plane, and behind it.
@@ -43,27 +53,69 @@ pub(crate) fn split_facets(facets: Vec<Facet>, plane: &Plane) -> Result<FacetLis
     let mut front = Vec::with_capacity(alloc, facets.len() + 1)?;
     let mut back = Vec::with_capacity(alloc, facets.len() + 1)?;
     for facet in facets {
-        let Facet { inward, winding } = facet;
-        let halves = winding.split(plane)?;
-        push_left(&mut front, &inward, halves.front)?;
-        push_left(&mut back, &inward, halves.back)?;
+        split_facet(alloc, facet, plane, &mut front, &mut back)?;
     }
     Ok(FacetLists { front, back })
 }
 
+/// Adds what a facet has in front of a plane, and behind it. Where it lies wholly on one side, it is moved.
+fn split_facet(
+    alloc: Global,
+    facet: Facet,
+    plane: &Plane,
+    front: &mut Vec<Facet>,
+    back: &mut Vec<Facet>,
+) -> Result<(), AllocError>
+    ensures front { OnOk result (IsLeftAdded plane.now facet front.old.items front.new.items) }
+    ensures back { OnOk result (IsLeftAdded (flipped plane.now) facet back.old.items back.new.items) }
+{
+    let _corners = facet.winding.len();
+    match facet.winding.lies(plane) {
+        Lies::Front => {
+            front.push(facet)?;
+            Ok(())
+        }
+        Lies::Back => {
+            back.push(facet)?;
+            Ok(())
+        }
+        Lies::On => Ok(()),
+        Lies::Across => {
+            part_facet(alloc, facet, plane, front, back)?;
+            Ok(())
+        }
+    }
+}
+
+/// Adds what a facet has in front of a plane, and behind it.
+fn part_facet(
+    alloc: Global,
+    facet: Facet,
+    plane: &Plane,
+    front: &mut Vec<Facet>,
+    back: &mut Vec<Facet>,
+) -> Result<(), AllocError>
+    ensures front { OnOk result (IsLeftAdded plane.now facet front.old.items front.new.items) }
+    ensures back { OnOk result (IsLeftAdded (flipped plane.now) facet back.old.items back.new.items) }
+{
+    let Facet { inward, winding } = facet;
+    let halves = Box::into_inner(winding).split(plane)?;
+    push_left(alloc, front, inward, halves.front)?;
+    push_left(alloc, back, inward, halves.back)?;
+    Ok(())
+}
+
 /// Adds what is left of a facet, if there is anything.
 fn push_left(
+    alloc: Global,
     facets: &mut Vec<Facet>,
-    inward: &Plane,
+    inward: Plane,
     left: Option<Winding>,
 ) -> Result<(), AllocError>
-    ensures { OnOk result (facets.new.items ≡ facets.old.items ++ left_facet inward.now left) }
+    ensures { OnOk result (facets.new.items ≡ facets.old.items ++ left_facet inward left) }
 {
     if let Some(winding) = left {
-        facets.push(Facet {
-            inward: *inward,
-            winding,
-        })?;
+        facets.push(Facet::of(alloc, inward, winding)?)?;
     }
     Ok(())
 }

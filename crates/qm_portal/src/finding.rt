@@ -41,12 +41,10 @@ fn cube_cell(alloc: Global, tree: &Tree) -> Result<DueCell, AllocError>
 fn facets_of(faces: Vec<Winding>) -> Result<Vec<Facet>, AllocError>
     ensures { IfOk result (λ facets. facets.items ≡ map facing_in faces.items) }
 {
-    let mut facets = Vec::with_capacity(*faces.allocator(), faces.len())?;
+    let alloc = *faces.allocator();
+    let mut facets = Vec::with_capacity(alloc, faces.len())?;
     for winding in faces {
-        facets.push(Facet {
-            inward: winding.plane(),
-            winding,
-        })?;
+        facets.push(Facet::of(alloc, winding.plane(), winding)?)?;
     }
     Ok(facets)
 }

@@ -13,6 +13,12 @@ abbrev pub left_facet : Plane → Option Winding → List Facet
 left_facet inward None = []
 left_facet inward (Some winding) = record { inward = inward; winding = winding } ∷ []
 
+-- what is left of a facet in front of a plane is added to others
+pub record IsLeftAdded (h : Plane) (facet : Facet) (old new : List Facet) : Type 0 where
+  pub left : List Facet
+  pub added : new ≡ old ++ left
+  pub cut : AreCut h (facet ∷ []) left
+
 -- these are the facets of the cell of some planes, inside the cube, and the plane has a point of it
 pub record CrossesCell (cell : List Plane) (due : DueCell) (h : Plane) : Type 0 where
   pub facets : AreFacets cell (due.on_walls ++ due.on_steps)

@@ -3,7 +3,7 @@ use Rattle.std.proofs.lemmas.Grind.{common_steps}
 use Rattle.qm_lists.proofs.Taken.{taken_none, taken_more, taken_all}
 use Rattle.qm_space.specs.Plane.{flipped}
 use Rattle.qm_convex.specs.inner.Facets.{Facet, AreCut, none}
-use Rattle.qm_portal.proofs.CutFacets.{cut_more}
+use Rattle.qm_portal.proofs.CutFacets.{cut_append}
 use Rattle.qm_portal.proofs.facet.split_facets.Goals as goal
 
 pub loop-facet-init : goal.loop-facet-init
@@ -14,15 +14,16 @@ loop-facet-init c = record {
 }
 
 pub loop-facet-preserved : goal.loop-facet-preserved
-loop-facet-preserved c = record {
-  taken = taken_more _ _ _ _ _ _ c.in-Some.facet c.loop-facet.invariant.taken c.in-Some.ensures.steps.0 c.in-Some.ensures.steps.1;
-  front = subst (λ (f : Facet). AreCut c.args.plane.now (c.loop-facet.yielded ++ f ∷ []) c.push_left.new.facets.items) c.facet.view_is
-      (subst (λ (fs : List Facet). AreCut c.args.plane.now (c.loop-facet.yielded ++ record { inward = c.facet.inside.inward; winding = c.facet.inside.winding } ∷ []) fs) (sym c.in_ok-push_left.ensures)
-      (cut_more c.args.plane.now c.loop-facet.yielded c.loop-facet.front.items c.facet.inside.inward c.facet.inside.winding c.in_ok-halves.halves.front c.loop-facet.invariant.front c.in_ok-halves.ensures.front));
-  back = subst (λ (f : Facet). AreCut (flipped c.args.plane.now) (c.loop-facet.yielded ++ f ∷ []) c.push_left-in-loop-facet.new.facets.items) c.facet.view_is
-      (subst (λ (fs : List Facet). AreCut (flipped c.args.plane.now) (c.loop-facet.yielded ++ record { inward = c.facet.inside.inward; winding = c.facet.inside.winding } ∷ []) fs) (sym c.in_ok-push_left-2.ensures)
-      (cut_more (flipped c.args.plane.now) c.loop-facet.yielded c.loop-facet.back.items c.facet.inside.inward c.facet.inside.winding c.in_ok-halves.halves.back c.loop-facet.invariant.back c.in_ok-halves.ensures.back));
-}
+loop-facet-preserved c =
+    let front = c.in_ok-split_facet.ensures.front in
+    let back = c.in_ok-split_facet.ensures.back in
+    record {
+      taken = taken_more _ _ _ _ _ _ c.in-Some.facet c.loop-facet.invariant.taken c.in-Some.ensures.steps.0 c.in-Some.ensures.steps.1;
+      front = subst (λ (fs : List Facet). AreCut c.args.plane.now (c.loop-facet.yielded ++ c.in-Some.facet ∷ []) fs) (sym front.added)
+          (cut_append c.args.plane.now c.loop-facet.yielded c.loop-facet.front.items c.in-Some.facet front.left c.loop-facet.invariant.front front.cut);
+      back = subst (λ (fs : List Facet). AreCut (flipped c.args.plane.now) (c.loop-facet.yielded ++ c.in-Some.facet ∷ []) fs) (sym back.added)
+          (cut_append (flipped c.args.plane.now) c.loop-facet.yielded c.loop-facet.back.items c.in-Some.facet back.left c.loop-facet.invariant.back back.cut);
+    }
 
 pub returns-clause-front : goal.returns-clause-front
 returns-clause-front c =
