@@ -175,10 +175,12 @@ fn agree(alloc: Global, text: &str) -> Result<bool, AllocError> {
     };
     let seen = Seen::of(alloc, &found)?;
     let (neighbours, outside) = found.counts();
-    Ok(neighbours == seen.pairs.len().saturating_mul(2)
-        && outside == seen.outside.len()
-        && seen.pairs.iter().all(|pair| found.touch(pair.0, pair.1))
-        && seen.outside.iter().all(|leaf| found.touches_outside(*leaf)))
+    Ok(
+        neighbours == seen.pairs.len().saturating_mul(2)
+            && outside == seen.outside.len()
+            && seen.pairs.iter().all(|pair| found.touch(pair.0, pair.1))
+            && seen.outside.iter().all(|leaf| found.touches_outside(*leaf)),
+    )
 }
 
 /// In many random worlds of boxes, the contacts are those that the cells of a grid show.
@@ -224,10 +226,11 @@ fn is_closed(alloc: Global, walls: usize) -> Result<bool, AllocError> {
         return Ok(false);
     }
     let neighbours = found.contacts.neighbours(inside);
-    Ok(neighbours.len() == 6
-        && neighbours
-            .iter()
-            .all(|leaf| *leaf < found.tree.leaves() && found.tree.leaf(*leaf).contents == Solid))
+    Ok(
+        neighbours.len() == 6
+            && neighbours.iter().all(|leaf| *leaf < found.tree.leaves()
+                && found.tree.leaf(*leaf).contents == Solid),
+    )
 }
 
 /// Whether the seven leaves of one cube have eighteen contacts, and all but the stone touch the outside.
