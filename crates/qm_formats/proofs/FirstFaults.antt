@@ -1,6 +1,6 @@
 -- A fault of reading a row tells the first byte that no spelling allows.
-use Rattle.std.proofs.Common.{◌≡◌, ◌<◌, ◌≤◌, ℕ, zero, suc, ◌+◌, ◌-◌, Bool, true, false, cond, ltb, List, [], ◌∷◌, ◌++◌, length, replicate, Result, Ok, Err, refl, sym, ap, subst, ◌∙◌, append_assoc, arith, inl, inr}
-use Rattle.std.proofs.lemmas.Bool.{cases_lt, lt-ltb, le-ltb, ltb-true}
+use Rattle.std.proofs.Common.{◌≡◌, ◌<◌, ◌≤◌, ℕ, zero, suc, ◌-◌, Bool, true, false, cond, ltb, List, [], ◌∷◌, ◌++◌, length, replicate, Result, Ok, Err, refl, sym, ap, subst, ◌∙◌, append_assoc, arith, inl, inr}
+use Rattle.std.proofs.lemmas.Bool.{cases_lt, lt-ltb, le-ltb}
 use Rattle.std.proofs.lemmas.List.{append-nil, length-append, length-replicate}
 use Rattle.qm_formats.specs.Fields.{AreBytes}
 use Rattle.qm_formats.specs.Runs.{BeginsNonzero, Spells, RunFaultKind, short, zero_count, split_run, overrun, read_behind, read_due, read_runs}
@@ -146,15 +146,15 @@ fault_due (suc due) false (zero ∷ zero ∷ bytes) fault are is =
 fault_due (suc due) false (zero ∷ suc count ∷ bytes) fault are is =
     elim (cases_lt due count) [
       | inl less ↦
-        let run = λ (rest : List ℕ). read_behind (replicate (suc count) zero) 2 (read_due (due - count) (ltb (suc count) 255) rest) in
-        let long = λ (rest : List ℕ). ap (λ (b : Bool). cond b (Err overrun) (run rest)) (lt-ltb due count less) in
-        same_fault (suc due) false (zero ∷ suc count ∷ bytes) overrun fault (sym (long bytes) ∙ is) (
-        record { whole = []; row = []; begun = zero ∷ []; byte = suc count; behind = bytes; spelt = refl; begins = λ _. tt; wrong = (refl, omega arith); stands = refl; goes_on = goes_on_zero due; anyway = long }
-      )
+          let run = λ (rest : List ℕ). read_behind (replicate (suc count) zero) 2 (read_due (due - count) (ltb (suc count) 255) rest) in
+          let long = λ (rest : List ℕ). ap (λ (b : Bool). cond b (Err overrun) (run rest)) (lt-ltb due count less) in
+          same_fault (suc due) false (zero ∷ suc count ∷ bytes) overrun fault (sym (long bytes) ∙ is) (
+          record { whole = []; row = []; begun = zero ∷ []; byte = suc count; behind = bytes; spelt = refl; begins = λ _. tt; wrong = (refl, omega arith); stands = refl; goes_on = goes_on_zero due; anyway = long }
+          )
       | inr fits ↦
-        let read = behind_fault (replicate (suc count) zero) 2 (read_due (due - count) (ltb (suc count) 255) bytes) fault (sym (run_read due count bytes fits) ∙ is) in
-        let small : suc count < 256 = are 1 in
-        fault_run due count bytes fault fits (omega (arith, small)) (fault_due (due - count) (ltb (suc count) 255) bytes fault (λ i. are (suc (suc i))) read)
+          let read = behind_fault (replicate (suc count) zero) 2 (read_due (due - count) (ltb (suc count) 255) bytes) fault (sym (run_read due count bytes fits) ∙ is) in
+          let small : suc count < 256 = are 1 in
+          fault_run due count bytes fault fits (omega (arith, small)) (fault_due (due - count) (ltb (suc count) 255) bytes fault (λ i. are (suc (suc i))) read)
     ]
 
 begins_with : (width : ℕ) (front : List ℕ) → GoesOn width false front → BeginsSpelling width front

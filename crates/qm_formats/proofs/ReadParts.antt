@@ -1,8 +1,7 @@
 -- What is read of a row, by what its bytes begin with.
-use Rattle.std.proofs.Common.{◌≡◌, ◌≢◌, ◌<◌, ◌≤◌, ℕ, zero, suc, ◌+◌, ◌-◌, Bool, true, false, cond, ltb, List, [], ◌∷◌, ◌++◌, length, drop, get_or, replicate, Result, Ok, Err, refl, sym, ap, ◌∙◌, arith}
-use Rattle.std.proofs.lemmas.Bool.{lt-ltb, le-ltb}
-use Rattle.std.proofs.lemmas.List.{append_assoc}
-use Rattle.qm_formats.specs.Runs.{RunFaultKind, short, zero_count, split_run, overrun, read_behind, read_due, read_runs}
+use Rattle.std.proofs.Common.{◌≡◌, ◌≢◌, ◌<◌, ◌≤◌, ℕ, zero, suc, ◌-◌, Bool, false, cond, ltb, List, [], ◌∷◌, length, drop, get_or, replicate, Result, Ok, Err, refl, sym, ap, ◌∙◌, arith}
+use Rattle.std.proofs.lemmas.Bool.{le-ltb}
+use Rattle.qm_formats.specs.Runs.{RunFaultKind, overrun, read_behind, read_due, read_runs}
 
 pub run_first : (due : ℕ) (bytes : List ℕ) → 0 < due → 1 < length bytes → get_or bytes 0 0 ≡ 0 → get_or bytes 1 0 ≢ 0 → get_or bytes 1 0 ≤ due → read_due due false bytes ≡ read_behind (replicate (get_or bytes 1 0) zero) 2 (read_due (due - get_or bytes 1 0) (ltb (get_or bytes 1 0) 255) (drop 2 bytes))
 run_first zero bytes some there first second fits = absurd (omega arith)
