@@ -10,10 +10,6 @@ map_behind : {F X : Type 0} (items : List X) (x : X) (answer : Answer F (List X)
 map_behind items x (got xs next) = ap (λ (ys : List _). got ys next) (sym (append_assoc items (x ∷ []) xs))
 map_behind items x (bad fault place) = refl
 
-pub map_nothing : {F X : Type 0} (answer : Answer F (List X)) → answer_map (λ (xs : List X). [] ++ xs) answer ≡ answer
-map_nothing (got xs next) = refl
-map_nothing (bad fault place) = refl
-
 module _ {X : Type 0} (layout : ℕ → Layout FileFaultKind X) (whole : Answer FileFaultKind (List X)) (items : List X) (counter count : ℕ) (file : List ℕ) (next : ℕ) where
   abbrev pub IsReadSoFar : Type 0
   IsReadSoFar = whole ≡ answer_map (λ (xs : List X). items ++ xs) (read_each layout counter (count - counter) file next)

@@ -6,6 +6,7 @@ mod field_bytes;
 mod field_reading;
 mod file_fault;
 mod header_reading;
+mod laws;
 mod parts_reading;
 mod reading;
 mod record_bytes;
@@ -16,6 +17,7 @@ mod tree_file;
 mod writing;
 
 pub use file_fault::FileFault;
+pub use laws::{exact_layout, one_content};
 pub use reading::decode;
 pub use tree_file::TreeFile;
 pub use writing::encode;
