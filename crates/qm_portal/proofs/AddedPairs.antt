@@ -1,15 +1,13 @@
 -- The touching pairs at a node, one leaf in front after another.
-use Rattle.std.proofs.Common.{◌≡◌, ◌≤◌, ℕ, ◌-◌, List, length, take, [], ◌∷◌, ◌++◌, map, refl, sym, ap, ◌∙◌, subst, arith}
+use Rattle.std.proofs.Common.{◌≡◌, ◌≤◌, ℕ, ◌-◌, List, length, take, [], ◌∷◌, ◌++◌, map, sym, ap, ◌∙◌, subst, arith}
 use Rattle.std.specs.List.{slice_range}
 use Rattle.std.proofs.lemmas.List.{append_assoc, append-nil, take_all}
 use Rattle.qm_space.specs.Plane.{Plane}
 use Rattle.qm_partition.specs.declared.node.Child.{Child}
-use Rattle.qm_partition.specs.Partition.{Partition}
 use Rattle.qm_partition.specs.Tree.{Tree}
 use Rattle.qm_contacts.specs.Meeting.{LeafBelow, leaves_below}
 use Rattle.qm_contacts.specs.Touching.{Touching}
 use Rattle.qm_contacts.specs.inner.Pieces.{Piece, ArePieces, touching_at, AreRows, no_rows, row}
-use Rattle.qm_contacts.specs.inner.Due.{StandsFor}
 use Rattle.qm_portal.specs.inner.Pushes.{HasPieces}
 use Rattle.qm_portal.specs.inner.Walks.{IsRowAdded, AreRowsAdded}
 

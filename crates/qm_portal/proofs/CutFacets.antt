@@ -5,7 +5,6 @@ use Rattle.std.proofs.lemmas.List.{map-append, append-nil}
 use Rattle.std.proofs.lemmas.List.Elements.{All-head, All-append}
 use Rattle.qm_lists.proofs.Places.{take-read, parted-read}
 use Rattle.qm_lists.proofs.Elements.{All-first_part, All-last_part}
-use Rattle.qm_space.specs.Point.{Point}
 use Rattle.qm_space.specs.Plane.{Plane, IsInFront}
 use Rattle.qm_space.specs.Cell.{IsInCell}
 use Rattle.qm_convex.specs.Winding.{Winding, IsConvex}

@@ -1,5 +1,5 @@
 -- A polygon that is due at a child: what is left of it there, and how much there is to do.
-use Rattle.std.proofs.Common.{◌≡◌, ◌≤◌, ◌<◌, ℕ, ◌+◌, ◌^◌, true, false, Option, Some, None, List, [], ◌∷◌, ◌++◌, map, refl, sym, ap, ◌∙◌, subst, arith}
+use Rattle.std.proofs.Common.{◌≡◌, ◌≤◌, ◌<◌, ℕ, ◌+◌, false, Option, Some, None, List, [], ◌∷◌, ◌++◌, map, refl, sym, ap, ◌∙◌, subst, arith}
 use Rattle.std.specs.Prelude.{slice_get, sum_by, All}
 use Rattle.std.specs.Option.{MatchOption}
 use Rattle.std.proofs.lemmas.List.{map-append, append-nil, append_assoc}
@@ -27,7 +27,7 @@ use Rattle.qm_partition.specs.inner.PlacedPart.{nodes_from}
 use Rattle.qm_partition.proofs.PlacedParts.{sides_come_later}
 use Rattle.qm_contacts.specs.inner.Pieces.{Piece}
 use Rattle.qm_contacts.specs.inner.Due.{StandsFor, DuePolygon, DueBelow, due_of, ComesToPieces, half_due}
-use Rattle.qm_contacts.proofs.PushedDown.{IsNodePart, IsLeafPart, node_part, leaf_part, node_within, piece_due_at_leaf, halves_due_at_node}
+use Rattle.qm_contacts.proofs.PushedDown.{IsNodePart, node_part, leaf_part, node_within, piece_due_at_leaf, halves_due_at_node}
 use Rattle.qm_wind.specs.Split.{IsSplit}
 use Rattle.qm_wind.specs.declared.halves.Halves.{Halves}
 use Rattle.qm_portal.specs.inner.Pushes.{IsChildOf, HasPieces, IsDue, polygon_at, weight_at, polygon_weight, LeavesPolygons, IsPushed, MayBeDue, IsPushing, ComesDown, half_at}

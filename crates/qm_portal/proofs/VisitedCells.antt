@@ -1,11 +1,10 @@
 -- What is found at a cell that is due, and what is left to do there.
-use Rattle.std.proofs.Common.{◌≡◌, ◌<◌, ℕ, ◌+◌, Bool, true, false, Some, List, [], ◌∷◌, ◌++◌, map, refl, sym, ap, ◌∙◌, subst, arith, ◌↔◌}
+use Rattle.std.proofs.Common.{◌≡◌, ◌<◌, ℕ, ◌+◌, Bool, true, false, Some, List, [], ◌∷◌, ◌++◌, refl, sym, ap, ◌∙◌, subst, arith, ◌↔◌}
 use Rattle.std.specs.Prelude.{slice_get, sum_by, All}
 use Rattle.std.proofs.lemmas.List.{append_assoc, append-nil}
 use Rattle.std.proofs.lemmas.List.Elements.{All-nil, All-cons}
-use Rattle.std.proofs.lemmas.List.Sums.{sum_by-append}
 use Rattle.qm_numbers.proofs.Powers.{some_power, two_powers}
-use Rattle.qm_lists.specs.inner.Stack.{ComesTo, IsLeft, IsUnderWay}
+use Rattle.qm_lists.specs.inner.Stack.{IsLeft, IsUnderWay}
 use Rattle.qm_lists.proofs.KeptStacks.{under_way_first, under_way_next, under_way_goes_on, under_way_smaller}
 use Rattle.qm_space.specs.Point.{Point}
 use Rattle.qm_space.specs.Plane.{Plane, IsOn, flipped}
@@ -13,23 +12,22 @@ use Rattle.qm_space.specs.Cell.{IsInCell}
 use Rattle.qm_space.specs.Turned.{turned}
 use Rattle.qm_space.specs.Book.{plane_at}
 use Rattle.qm_space.proofs.Books.{plane_at_from}
-use Rattle.qm_convex.specs.Winding.{Winding, IsConvex}
-use Rattle.qm_convex.specs.inner.Facets.{Facet, AreCut, IsSection}
+use Rattle.qm_convex.specs.Winding.{Winding}
+use Rattle.qm_convex.specs.inner.Facets.{Facet, IsSection}
 use Rattle.qm_partition.specs.declared.node.Node.{Node as NodeRecord}
 use Rattle.qm_partition.specs.declared.node.Child.{Child}
 use Rattle.qm_partition.specs.declared.node.Child.TheVariants.{Node, Leaf}
-use Rattle.qm_partition.specs.Partition.{Partition}
 use Rattle.qm_partition.specs.Tree.{Tree}
 use Rattle.qm_partition.specs.Counting.{node_count}
 use Rattle.qm_partition.specs.Numbering.{nodes_of, nodes_after, leaves_after}
 use Rattle.qm_partition.specs.Ways.{Way, ways}
 use Rattle.qm_partition.specs.inner.PlacedPart.{nodes_from}
 use Rattle.qm_partition.proofs.PlacedParts.{sides_come_later}
-use Rattle.qm_contacts.specs.Meeting.{leaves_below, then_step, meetings_at}
-use Rattle.qm_contacts.specs.Touching.{Touching, AreTouchings}
+use Rattle.qm_contacts.specs.Meeting.{leaves_below, then_step}
+use Rattle.qm_contacts.specs.Touching.{Touching}
 use Rattle.qm_contacts.specs.Outside.{TouchesOutside}
 use Rattle.qm_contacts.specs.inner.Descent.{AreCellFacets}
-use Rattle.qm_contacts.specs.inner.Pieces.{Piece, walled_cell, AreRows}
+use Rattle.qm_contacts.specs.inner.Pieces.{walled_cell, AreRows}
 use Rattle.qm_contacts.specs.inner.Due.{StandsFor, DueCell, DueCellBelow, IsDueCell, cell_due_of, ComesToTouchings, ComesToOutside}
 use Rattle.qm_contacts.proofs.Pieces.{walled_split, touchings_at_node}
 use Rattle.qm_contacts.proofs.Descent.{facets_below, all_facets, touches_outside, not_outside}

@@ -1,5 +1,5 @@
 -- A polygon is pushed down a tree from a child.
-use Rattle.std.specs.Prelude.{◌≡◌, ◌≤◌, ◌^◌, ℕ, Option, Some, None, List, [], ◌∷◌}
+use Rattle.std.specs.Prelude.{◌≤◌, ◌^◌, ℕ, Option, Some, None, List, [], ◌∷◌}
 use Rattle.qm_lists.specs.inner.Stack.{Leaves, IsTakenOff, StandsForKnown, IsUnderWay}
 use Rattle.qm_convex.specs.Winding.{Winding, IsConvex}
 use Rattle.qm_partition.specs.declared.node.Child.{Child}

@@ -1,6 +1,6 @@
 -- All cells of a tree are gone through, with what is found at each.
 use Rattle.std.specs.Prelude.{◌≡◌, ℕ, Bool, true, false, List, [], ◌∷◌, ◌++◌, map}
-use Rattle.qm_lists.specs.inner.Stack.{Leaves, IsTakenOff, StandsForKnown, IsUnderWay}
+use Rattle.qm_lists.specs.inner.Stack.{IsTakenOff, StandsForKnown, IsUnderWay}
 use Rattle.qm_convex.specs.Winding.{Winding}
 use Rattle.qm_convex.specs.inner.Facets.{Facet}
 use Rattle.qm_partition.specs.declared.node.Node.{Node}
@@ -11,8 +11,8 @@ use Rattle.qm_partition.specs.Numbering.{child_of}
 use Rattle.qm_contacts.specs.Meeting.{leaves_below}
 use Rattle.qm_contacts.specs.Touching.{Touching}
 use Rattle.qm_contacts.specs.inner.Descent.{AreCellFacets}
-use Rattle.qm_contacts.specs.inner.Pieces.{Piece, ArePieces, touching_at, AreRows}
-use Rattle.qm_contacts.specs.inner.Due.{StandsFor, DueCell, DueCellBelow, IsDueCell, cell_due_of, ComesToTouchings, ComesToOutside}
+use Rattle.qm_contacts.specs.inner.Pieces.{Piece, touching_at, AreRows}
+use Rattle.qm_contacts.specs.inner.Due.{StandsFor, DueCell, IsDueCell, cell_due_of, ComesToTouchings, ComesToOutside}
 use Rattle.qm_portal.specs.inner.Pushes.{HasPieces, weight_at}
 
 -- whether there is a facet

@@ -1,4 +1,4 @@
-use Rattle.std.proofs.Common.{◌≡◌, ap, ◌∙◌, subst, ◌++◌}
+use Rattle.std.proofs.Common.{ap, ◌∙◌, subst, ◌++◌}
 use Rattle.qm_space.specs.Plane.{Plane, flipped}
 use Rattle.qm_convex.specs.Winding.{Winding}
 use Rattle.qm_convex.specs.inner.Facets.{Facet}

@@ -1,4 +1,4 @@
-use Rattle.std.proofs.Common.{List, [], map, sym, ◌∙◌, subst}
+use Rattle.std.proofs.Common.{List, [], map, sym, subst}
 use Rattle.qm_convex.specs.inner.Facets.{Facet, facing_in}
 use Rattle.qm_contacts.specs.inner.Descent.{AreCellFacets}
 use Rattle.qm_contacts.proofs.Descent.{facets_at_root}

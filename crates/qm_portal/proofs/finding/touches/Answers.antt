@@ -1,5 +1,5 @@
 use Rattle.std.proofs.Common.{List, Bool, refl, sym, subst}
-use Rattle.qm_contacts.specs.Contacts.{Contacts, AreContacts}
+use Rattle.qm_contacts.specs.Contacts.{AreContacts}
 use Rattle.qm_contacts.specs.inner.Due.{IsDueCell}
 use Rattle.qm_contacts.proofs.CellsDue.{root_due, root_known, all_contacts}
 use Rattle.qm_portal.proofs.finding.touches.Goals as goal

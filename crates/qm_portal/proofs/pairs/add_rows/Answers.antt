@@ -1,4 +1,4 @@
-use Rattle.std.proofs.Common.{List, refl, sym, ◌∙◌, subst, arith}
+use Rattle.std.proofs.Common.{List, refl, ◌∙◌, subst, arith}
 use Rattle.std.proofs.lemmas.Grind.{common_steps}
 use Rattle.qm_lists.proofs.Taken.{taken_none, taken_more, taken_all}
 use Rattle.qm_contacts.specs.inner.Pieces.{Piece}

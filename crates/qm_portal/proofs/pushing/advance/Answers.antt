@@ -1,6 +1,6 @@
 use Rattle.std.proofs.Common.{sym, subst}
 use Rattle.qm_partition.specs.declared.node.Child.{Child}
-use Rattle.qm_partition.specs.declared.node.Child.TheVariants.{Node, Leaf}
+use Rattle.qm_partition.specs.declared.node.Child.TheVariants.{Node}
 use Rattle.qm_contacts.specs.inner.Due.{DuePolygon}
 use Rattle.qm_portal.specs.inner.Pushes.{ComesDown, IsPushed, MayBeDue}
 use Rattle.qm_portal.proofs.PushedPolygons.{due_further_down, pushed_nowhere, pushed_to_leaf, pushed_to_node}

@@ -1,4 +1,4 @@
-use Rattle.std.proofs.Common.{subst, arith}
+use Rattle.std.proofs.Common.{subst}
 use Rattle.qm_partition.specs.declared.node.Child.TheVariants.{Node}
 use Rattle.qm_partition.proofs.PlacedParts.{sides_come_later}
 use Rattle.qm_portal.specs.inner.Pushes.{ComesDown}

@@ -1,4 +1,4 @@
-use Rattle.std.proofs.Common.{◌≡◌, ◌≤◌, ◌<◌, ℕ, Bool, false, length}
+use Rattle.std.proofs.Common.{◌≡◌, ◌≤◌, ◌<◌, ℕ, false, length}
 use Rattle.std.specs.Prelude.{slice_index_or}
 use Rattle.qm_portal.proofs.touch_list.row_of.Given as goal
 

@@ -1,4 +1,4 @@
-use Rattle.std.proofs.Common.{◌≡◌, ℕ, ◌+◌, ◌<◌, List, length, sym, ap, subst, arith}
+use Rattle.std.proofs.Common.{◌<◌, List, length, sym, ap, subst, arith}
 use Rattle.qm_contacts.specs.Contacts.{Contacts, AreNeighbours}
 use Rattle.qm_contacts.specs.Touching.{Touching}
 use Rattle.qm_contacts.specs.inner.Others.{AreOthers, row_at}
