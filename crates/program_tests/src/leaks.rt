@@ -1,10 +1,11 @@
-use super::boxes::{BoxRow, put_box, world};
+use super::boxes::{BoxRow, world};
 use super::outside::Outside;
 use super::room::ROOM;
 use super::rooms::Room;
 use std::alloc::{AllocError, Global};
 use std::test::Fail;
 use std::thread::Threads;
+use test_texts::put_box;
 
 /// A world, and what comes of it.
 struct Row {

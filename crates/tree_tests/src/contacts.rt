@@ -3,7 +3,7 @@
 ghost use Rattle.std.specs.Prelude.{◌<◌, IfSome};
 ghost use Rattle.qm_partition.specs.Ways.{HasPoints};
 
-use crate::worlds::{Numbers, put_box};
+use crate::worlds::Numbers;
 use qm_brush::brushes;
 use qm_build::build;
 use qm_contents::Contents::Solid;
@@ -13,6 +13,7 @@ use qm_portal::{TouchList, touches};
 use qm_tree::Tree;
 use std::alloc::{AllocError, Global};
 use std::test::Fail;
+use test_texts::put_box;
 
 /// The tree that is built of a world.
 fn tree_of(alloc: Global, text: &str) -> Option<Tree>

@@ -3,7 +3,6 @@
 ghost use Rattle.std.specs.Prelude.{IfSome};
 ghost use Rattle.qm_partition.specs.Ways.{HasPoints};
 
-use crate::worlds::put_box;
 use qm_bits::BitRow;
 use qm_brush::brushes;
 use qm_build::build;
@@ -12,6 +11,7 @@ use qm_map::parse;
 use qm_portal::{World, touches, world};
 use qm_tree::Tree;
 use std::alloc::{AllocError, Global};
+use test_texts::put_box;
 
 /// A box of stone, by its least corner and its greatest.
 type BoxRow = ([i32; 3], [i32; 3]);
