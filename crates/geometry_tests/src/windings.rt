@@ -19,11 +19,20 @@ fn has_part(alloc: Global, points: [[i32; 3]; 3], places: &[[i32; 3]]) -> bool {
     }
 }
 
+/// Whether the cube has six faces of four corners.
+fn has_faces(alloc: Global) -> bool {
+    match Winding::faces(alloc) {
+        Ok(faces) => faces.len() == 6 && faces.iter().all(|face| face.len() == 4),
+        Err(_) => false,
+    }
+}
+
 #[test]
 fn parts_of_planes(rt: HostRuntime) {
     let alloc = rt.alloc();
     assert!(rt;
-        has_part(alloc, [[4096, 0, 0], [4096, 1, 0], [4096, 0, 1]], &[])
+        has_faces(alloc)
+            && has_part(alloc, [[4096, 0, 0], [4096, 1, 0], [4096, 0, 1]], &[])
             && has_part(
                 alloc,
                 [[0, 0, 0], [1, 0, 0], [0, 1, 0]],
