@@ -159,8 +159,8 @@ static ROWS: [Row; 15] = [
 /// The text of a row.
 fn text_of(alloc: Global, row: &Row) -> Result<String, AllocError> {
     let mut first = String::new(alloc);
-    if let Some((texture, (least, greatest))) = row.first {
-        put_box(&mut first, texture, least, greatest)?;
+    if let Some((texture, (least, greatest))) = &row.first {
+        put_box(&mut first, texture, *least, *greatest)?;
     }
     let mut text = world(alloc, &first, row.room.boxes())?;
     for origin in row.origins {
