@@ -53,10 +53,10 @@ module _ (places : ℕ) (packed : List ℕ) (row : List Bool) (i : ℕ) (so_far 
         done = λ k less. elim (cases_lt k i) [
           | inl before ↦ so_far.done k before
           | inr past ↦ so_far.left k past ∙ sym (
-            let within : k < places = omega (arith, less) in
-            let byte : i / 8 ≡ k / 8 = omega (arith, less, first, past) in
-            let zero : get_or packed (k / 8) 0 ≡ 0 = ap (λ (n : ℕ). get_or packed n 0) (sym byte) ∙ none in
-            get_or-unpacked places packed k within ∙ ap (λ (n : ℕ). eqb (bit_at n (k % 8)) 1) zero ∙ ap (λ (n : ℕ). eqb n 1) (bit_at-zero (k % 8)))
+              let within : k < places = omega (arith, less) in
+              let byte : i / 8 ≡ k / 8 = omega (arith, less, first, past) in
+              let zero : get_or packed (k / 8) 0 ≡ 0 = ap (λ (n : ℕ). get_or packed n 0) (sym byte) ∙ none in
+              get_or-unpacked places packed k within ∙ ap (λ (n : ℕ). eqb (bit_at n (k % 8)) 1) zero ∙ ap (λ (n : ℕ). eqb n 1) (bit_at-zero (k % 8)))
         ];
         left = λ k more. so_far.left k (omega (arith, more));
       }
