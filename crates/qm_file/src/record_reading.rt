@@ -1,12 +1,8 @@
 //! Planes, nodes and leaves, read at a place, and lists of them.
 
-ghost use Rattle.std.specs.Prelude.{◌≡◌, ◌≤◌, ◌==◌, ◌&&◌, true, false, nat_le, unsigned_abs, length, IfOk, MatchOption};
-ghost use Rattle.qm_space.specs.Bounds.{normal_bound, distance_bound};
-ghost use Rattle.qm_space.specs.Plane.{plane_of};
-ghost use Rattle.qm_space.specs.Reduced.{sign_decides};
-ghost use Rattle.qm_space.specs.ThreePoints.{common_factor};
+ghost use Rattle.std.specs.Prelude.{◌≡◌, ◌≤◌, ◌==◌, true, false, length, IfOk, MatchOption};
 ghost use Rattle.qm_formats.specs.Layout.{Layout, many};
-ghost use Rattle.qm_formats.specs.FileParts.{FileFaultKind, is_plane, plane_layout, child_layout, node_layout, contents_of_code, is_leaf, leaf_layout};
+ghost use Rattle.qm_formats.specs.FileParts.{FileFaultKind, plane_layout, child_layout, node_layout, contents_of_code, is_leaf, leaf_layout};
 ghost use Rattle.qm_file.specs.Answers.{IsFault, Gives};
 
 use crate::field_reading::{i32_at, i64_at, u8_at, u32_at};
