@@ -8,6 +8,7 @@ mod file_fault;
 mod header_reading;
 mod laws;
 mod parts_reading;
+mod plane_form;
 mod reading;
 mod record_bytes;
 mod record_reading;
@@ -17,7 +18,7 @@ mod tree_file;
 mod writing;
 
 pub use file_fault::FileFault;
-pub use laws::{exact_layout, one_content};
+pub use laws::{exact_layout, numbered_nodes, one_content, reduced_planes};
 pub use reading::decode;
 pub use tree_file::TreeFile;
 pub use writing::encode;

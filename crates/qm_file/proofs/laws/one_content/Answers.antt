@@ -1,5 +1,5 @@
-use Rattle.std.proofs.Common.{sym, subst, ◌∙◌, ◌≤◌, ℕ, List, refl, length}
-use Rattle.qm_formats.specs.TreeFile.{file_bytes, file_limit}
+use Rattle.std.proofs.Common.{sym, ◌∙◌, refl}
+use Rattle.qm_formats.specs.TreeFile.{file_bytes}
 use Rattle.qm_formats.proofs.WholeFile.{read_file_again}
 use Rattle.qm_file.proofs.laws.one_content.Goals as goal
 

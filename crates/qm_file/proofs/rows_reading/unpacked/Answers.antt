@@ -1,4 +1,3 @@
-use Rattle.std.proofs.Common.{◌/◌, get_or}
 use Rattle.qm_file.proofs.Unpacking.{place_set, place_clear, places_clear, all_unpacked}
 use Rattle.qm_file.proofs.rows_reading.unpacked.Goals as goal
 use Rattle.qm_file.proofs.rows_reading.unpacked.Goals.{then-byte-i-eq1, else-byte-i-eq1}
