@@ -6,11 +6,12 @@ mod entering;
 mod entry;
 mod fullness;
 mod listing;
+mod middle;
 mod sides;
 mod world;
 
 pub use brush_list::BrushList;
 pub use listing::brushes;
-pub use sides::inner_side;
 pub use qm_contents::Contents;
 pub use qm_solids::FaceRef;
+pub use sides::inner_side;
