@@ -1,7 +1,6 @@
 use Rattle.std.proofs.Common.{List, [], ◌∷◌, ◌++◌, take, get_or, false, sym, ap, ◌∙◌}
 use Rattle.std.proofs.lemmas.List.{map-append, get_or_default, take_all}
 use Rattle.qm_space.specs.Plane.{Plane}
-use Rattle.qm_solids.specs.declared.face.FaceRef.{FaceRef}
 use Rattle.qm_solids.specs.Outward.{outward_of, outward_planes}
 use Rattle.qm_lists.proofs.Places.{take-read}
 use Rattle.qm_split.proofs.in_cube.outward_planes.Goals as goal

@@ -1,10 +1,9 @@
-use Rattle.std.proofs.Common.{true, false, [], ◌∷◌, ◌++◌, ◌∙◌, sym, ap, map, subst}
+use Rattle.std.proofs.Common.{true, false, [], ◌∷◌, ◌++◌, sym, map, subst}
 use Rattle.std.proofs.lemmas.Result.{IfOk-weaker}
-use Rattle.qm_space.specs.Plane.{Plane, flipped}
+use Rattle.qm_space.specs.Plane.{flipped}
 use Rattle.qm_space.specs.Reduced.{IsReduced}
 use Rattle.qm_split.specs.CellFragments.{cell_of}
 use Rattle.qm_split.specs.Pieces.{solid_of}
-use Rattle.qm_split.specs.declared.gathering.Gathering.{Gathering}
 use Rattle.qm_split.specs.inner.Gathered.{IsGathered, HasFewer}
 use Rattle.qm_split.proofs.KnownFragments.{all_contend}
 use Rattle.qm_split.proofs.MadeFragments.{contender_in_candidate, half_fragments, point_aside}
