@@ -12,6 +12,7 @@ ghost use Rattle.qm_solids.specs.Holding.{IsFull};
 ghost use Rattle.qm_brush.specs.inner.FaceParts.{inward_of, IsNarrowing, IsPartOfFace};
 ghost use Rattle.qm_brush.specs.inner.Fullness.{solid_behind};
 
+use crate::middle::has_middle_inside;
 use crate::sides::{inner_side, is_inside};
 use qm_geom::{Plane, Point};
 use qm_solids::FaceRef;
@@ -37,8 +38,8 @@ const MIDDLE: Point = Point {
     w: 1,
 };
 
-/// Whether some point of the cube is strictly behind all these faces. It is so beside a point of a face; where the cube
-/// has no point of any face, all of it lies on one side of them.
+/// Whether some point of the cube is strictly behind all these faces. For most brushes a middle is such a point. It is
+/// also so beside a point of a face; where the cube has no point of any face, all of it lies on one side of them.
 pub(crate) fn is_full(
     alloc: Global,
     faces: &[FaceRef],
@@ -49,6 +50,9 @@ pub(crate) fn is_full(
     ensures { IfOk result (λ full. MatchBool full (IsFull (solid_behind planes.now faces.now))
         (IsFull (solid_behind planes.now faces.now) → ⊥)) }
 {
+    if has_middle_inside(faces, planes) {
+        return Ok(true);
+    }
     for face in faces {
         match part_of_face(alloc, face, faces, planes)? {
             FacePart::Opposed => return Ok(false),

@@ -6,6 +6,7 @@ mod entering;
 mod entry;
 mod fullness;
 mod listing;
+mod middle;
 mod sides;
 mod world;
 

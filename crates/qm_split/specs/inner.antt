@@ -4,3 +4,4 @@ pub mod PieceParts
 pub mod FacePieces
 pub mod Parts
 pub mod Gathered
+pub mod Halves

@@ -1,5 +1,5 @@
 ghost use Rattle.std.specs.Prelude.{◌≡◌, ℕ, ◌<◌, ◌++◌, ◌∷◌, List, [], IfOk, MatchOption};
-ghost use Rattle.qm_space.specs.Plane.{Plane};
+ghost use Rattle.qm_space.specs.Plane.{Plane, flipped};
 ghost use Rattle.qm_space.specs.Book.{plane_at};
 ghost use Rattle.qm_solids.specs.Solid.{Solid};
 ghost use Rattle.qm_solids.specs.Cells.{CellHasContents};
@@ -9,8 +9,9 @@ ghost use Rattle.qm_solid_tree.specs.Division.{HasNoCandidate, front_of, back_of
 ghost use Rattle.qm_split.specs.CellFragments.{AreFragmentsOf, cell_of, piece_count, HasPointOn};
 ghost use Rattle.qm_split.specs.SplitCounts.{IsCandidatePlane};
 ghost use Rattle.qm_split.specs.inner.Parts.{IsSection};
+ghost use Rattle.qm_split.specs.inner.Halves.{IsHalf};
 
-use crate::gathering::Gathering;
+use crate::gathering::{Gathering, Gatherings};
 use crate::in_cube::part_in_cube;
 use crate::section::section_of_cell;
 use qm_brush::BrushList;
@@ -72,19 +73,7 @@ impl Fragments {
         let section = self.section(plane)?;
         let Fragments { cell, gathering } = self;
         let halves = gathering.split(plane, &section)?;
-        let behind = longer(&cell, plane.flipped())?;
-        let mut before = cell;
-        before.push(*plane)?;
-        Ok(CellHalves {
-            front: Fragments {
-                cell: before,
-                gathering: halves.front,
-            },
-            back: Fragments {
-                cell: behind,
-                gathering: halves.back,
-            },
-        })
+        halves_of_cell(cell, plane, halves)
     }
 
     /// A winding on a plane in the cell.
@@ -108,6 +97,31 @@ impl Fragments {
             None => Contents::Empty,
         }
     }
+}
+
+/// Both halves of a cell that a plane parts, by what is known of them.
+fn halves_of_cell(
+    cell: Vec<Plane>,
+    plane: &Plane,
+    halves: Gatherings,
+) -> Result<CellHalves, AllocError>
+    ensures front { IfOk result (λ made. IsHalf cell.items plane.now halves.front made.front) }
+    ensures back { IfOk result (λ made. IsHalf cell.items (flipped plane.now) halves.back made.back) }
+{
+    let _ = &plane.nx;
+    let behind = longer(&cell, plane.flipped())?;
+    let mut before = cell;
+    before.push(*plane)?;
+    Ok(CellHalves {
+        front: Fragments {
+            cell: before,
+            gathering: halves.front,
+        },
+        back: Fragments {
+            cell: behind,
+            gathering: halves.back,
+        },
+    })
 }
 
 /// Planes with one more.

@@ -120,16 +120,37 @@ fn face_in_cube(
     requires number { number < length book.now }
     ensures { IfOk result (λ part. MatchOption part (HasNoFacePoint book.now number faces.now) (IsFacePiece book.now number faces.now)) }
 {
-    let mut left = match Winding::on(alloc, &book.plane(number))? {
-        Some(whole) => whole,
-        None => return Ok(None),
-    };
+    match Winding::on(alloc, &book.plane(number))? {
+        Some(whole) => {
+            let mut left = whole;
+            if keep_behind_all(&mut left, number, faces, book)? {
+                Ok(Some(left))
+            } else {
+                Ok(None)
+            }
+        }
+        None => Ok(None),
+    }
+}
+
+/// Cuts a winding on the plane of a number down to what is behind those faces that lie on other planes, and says whether
+/// anything is.
+fn keep_behind_all(
+    left: &mut Winding,
+    number: u32,
+    faces: &[FaceRef],
+    book: &PlaneBook,
+) -> Result<bool, AllocError>
+    requires numbered { AreNumberedIn book.now faces.now }
+    ensures { IfOk result (λ some. IsFacePiece book.now number [] left.old →
+        MatchBool some (IsFacePiece book.now number faces.now left.new) (HasNoFacePoint book.now number faces.now)) }
+{
     for face in faces {
-        if !keep_behind(&mut left, number, face, book)? {
-            return Ok(None);
+        if !keep_behind(left, number, face, book)? {
+            return Ok(false);
         }
     }
-    Ok(Some(left))
+    Ok(true)
 }
 
 /// Cuts a winding on the plane of a number down to what is behind a face, if the face lies on another plane, and says

@@ -1,11 +1,9 @@
 use Rattle.std.specs.Ordering.{int_eq}
 use Rattle.std.specs.Prelude.{◌≡◌, ◌⊎◌, ◌<◌, ◌≤◌, Bool, ◌&&◌, ◌||◌, List, length, Contains, Option, Some, None, IsSomeAnd, MatchOption, ℕ}
 use Rattle.qm_space.specs.Plane.{Plane, flipped}
-use Rattle.qm_convex.specs.Winding.{Winding, IsConvex}
+use Rattle.qm_convex.specs.Winding.{Winding}
 use Rattle.qm_convex.specs.Sides.{HasNoneInFront}
 use Rattle.qm_convex.specs.Cut.{IsPartInFront}
-use Rattle.qm_wind.specs.declared.lies.Lies.{Lies}
-use Rattle.qm_wind.specs.Lying.{IsLying}
 use Rattle.qm_split.specs.declared.piece.Piece.{Piece}
 
 -- What pieces have in front of a plane.

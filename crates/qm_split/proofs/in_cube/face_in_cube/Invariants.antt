@@ -1,6 +1,0 @@
-use Rattle.std.proofs.Common.{take}
-use Rattle.qm_split.specs.inner.FacePieces.{IsFacePiece}
-use Rattle.qm_split.proofs.in_cube.face_in_cube.Given as goal
-
-abbrev pub invariant-loop-face : goal.invariant-loop-face
-invariant-loop-face l = IsFacePiece l.book l.number (take l.face-index l.faces) l.left
