@@ -1,0 +1,3 @@
+pub mod SeparatorLaw
+pub mod StepLaw
+pub mod MayPassLaw

@@ -1,0 +1,9 @@
+pub mod WholePoints
+pub mod Candidate
+pub mod Separator
+pub mod Gains
+pub mod Part
+pub mod ChainState
+pub mod ChainStep
+pub mod MayPass
+pub mod Meets
