@@ -1,3 +1,4 @@
 pub mod SeparatorLaw
 pub mod StepLaw
 pub mod MayPassLaw
+pub mod PortalStepLaws

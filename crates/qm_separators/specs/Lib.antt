@@ -7,3 +7,4 @@ pub mod ChainState
 pub mod ChainStep
 pub mod MayPass
 pub mod Meets
+pub mod PortalSteps
