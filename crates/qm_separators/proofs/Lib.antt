@@ -2,3 +2,5 @@ pub mod SeparatorLaw
 pub mod StepLaw
 pub mod MayPassLaw
 pub mod PortalStepLaws
+pub mod Roundings
+pub mod WholePointLaws
