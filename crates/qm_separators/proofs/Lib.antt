@@ -4,3 +4,4 @@ pub mod MayPassLaw
 pub mod PortalStepLaws
 pub mod Roundings
 pub mod WholePointLaws
+pub mod Normals
