@@ -5,3 +5,4 @@ pub mod PortalStepLaws
 pub mod Roundings
 pub mod WholePointLaws
 pub mod Normals
+pub mod Distances
