@@ -6,3 +6,5 @@ pub mod Roundings
 pub mod WholePointLaws
 pub mod Normals
 pub mod Distances
+pub mod CornerLists
+pub mod ReducedSeparators
