@@ -8,3 +8,4 @@ pub mod Normals
 pub mod Distances
 pub mod CornerLists
 pub mod ReducedSeparators
+pub mod SameCorners
