@@ -9,3 +9,4 @@ pub mod Distances
 pub mod CornerLists
 pub mod ReducedSeparators
 pub mod SameCorners
+pub mod SameSeparators
