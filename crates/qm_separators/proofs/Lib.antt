@@ -10,3 +10,4 @@ pub mod CornerLists
 pub mod ReducedSeparators
 pub mod SameCorners
 pub mod SameSeparators
+pub mod SameSteps

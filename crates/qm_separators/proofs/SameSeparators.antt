@@ -1,5 +1,4 @@
--- Separators do not depend on how a winding is written: windings with the same points have the same ones. So a step that leads
--- on does not block.
+-- Separators do not depend on how a winding is written: windings with the same points have the same ones.
 use Rattle.std.proofs.Common.{◌≡◌, ℕ, ◌<◌, ℤ, pos, ◌<ℤ◌, ◌≤ℤ◌, List, [], ◌∷◌, length, get_or, Option, Some, None, slice_get, ap, sym, subst, ◌∙◌, arith, ◌⊎◌, inl, inr, ⊎_elim, ◌↔◌}
 use Rattle.std.specs.Prelude.{MatchOption}
 use Rattle.std.specs.List.{All, Any}
@@ -18,8 +17,6 @@ use Rattle.qm_separators.specs.WholePoints.{IsNearestPoint, IsAround}
 use Rattle.qm_separators.specs.Candidate.{HasNormalAcross}
 use Rattle.qm_separators.specs.Separator.{IsSeparator, IsSeparatorFrom}
 use Rattle.qm_separators.specs.Part.{HasSameRegion, IsPartBy, IsInFrontOfEach}
-use Rattle.qm_separators.specs.ChainState.{ChainState, IsChainState}
-use Rattle.qm_separators.specs.ChainStep.{IsCutByPlanes, LeadsTo, Blocks, target_behind, source_beyond, target_cut_away, source_cut_away}
 use Rattle.qm_separators.proofs.WholePointLaws.{nearest_of_place, around_of_place}
 use Rattle.qm_separators.proofs.Normals.{normal_swapped}
 use Rattle.qm_separators.proofs.CornerLists.{corner_of_slice, slice_of_corner, corner_of_contains, contains_corner}
