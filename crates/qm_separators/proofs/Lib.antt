@@ -11,3 +11,5 @@ pub mod ReducedSeparators
 pub mod SameCorners
 pub mod SameSeparators
 pub mod SameSteps
+pub mod ListedPlanes
+pub mod ListedSeparators
