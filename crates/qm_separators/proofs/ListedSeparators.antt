@@ -1,9 +1,10 @@
 -- The separators of two windings are finitely many: some list has exactly them.
 use Rattle.std.proofs.Common.{◌≡◌, ℕ, ◌<◌, ℤ, pos, ◌<ℤ◌, List, [], ◌∷◌, length, get_or, Option, Some, None, slice_get, refl, ap, sym, subst, ◌∙◌, arith, ◌⊎◌, inl, inr, ⊎_elim, ◌↔◌}
 use Rattle.qm_numbers.proofs.IntegerProducts.{linear}
+use Rattle.qm_numbers.proofs.Signs.{by_least}
 use Rattle.qm_numbers.proofs.Divisors.{one_floor}
 use Rattle.qm_space.specs.Point.{Point}
-use Rattle.qm_space.specs.Plane.{Plane, IsInFront, flipped}
+use Rattle.qm_space.specs.Plane.{Plane, value, IsInFront, flipped}
 use Rattle.qm_space.specs.Reduced.{HasNormal}
 use Rattle.qm_space.specs.Vector.{normal_of}
 use Rattle.qm_space.specs.ThreePoints.{outward_plane, reduced}
@@ -114,3 +115,95 @@ listed_nearest p Has some each =
     listed_alike (Has n.0) (λ h. (n : Point) × IsNearestPoint p n × Has n h)
     (λ h. ((λ has. (n.0, n.1, has)), (λ has. subst (λ q. Has q h) (nearest_alone p has.0 n.0 some has.1 n.1) has.2)))
     (each n.0 n.1.weight)
+
+-- ---- across two windings
+
+module _ (e o s : Winding) (e_convex : IsConvex e) (o_convex : IsConvex o) (s_convex : IsConvex s) where
+  abbrev next : ℕ → ℕ
+  next i = next_place (length e.edges) i
+
+  -- by the places of the edge and of the corner
+  abbrev IsAcrossAt : ℕ → ℕ → Plane → Type 0
+  IsAcrossAt i k h = (from : Point) × IsNearestPoint (corner_at e i) from × ((to : Point) × IsNearestPoint (corner_at e (next i)) to × ((at : Point) × IsAround (corner_at o k) at × (HasNormalOf at from to h × IsLeastFor (corners s) h)))
+
+  weights : (i : ℕ) (d : Point) → i < length (corners s) → pos 0 <ℤ (get_or (corners s) i d).w
+  weights i d h = let n = corners_length s in let below : i < length s.edges = omega arith in subst (λ (p : Point). pos 0 <ℤ p.w) (sym (corner_in_list s i d below)) (s_convex.weight i below)
+
+  listed_at : (i k : ℕ) → i < length e.edges → k < length o.edges → Listed (IsAcrossAt i k)
+  listed_at i k i_in k_in =
+      listed_nearest (corner_at e i) (λ from h. (to : Point) × IsNearestPoint (corner_at e (next i)) to × ((at : Point) × IsAround (corner_at o k) at × (HasNormalOf at from to h × IsLeastFor (corners s) h))) (e_convex.weight i i_in) (λ from weight.
+      listed_nearest (corner_at e (next i)) (λ to h. (at : Point) × IsAround (corner_at o k) at × (HasNormalOf at from to h × IsLeastFor (corners s) h)) (e_convex.weight (next i) (next_below (length e.edges) i i_in)) (λ to to_weight.
+      listed_around (corner_at o k) (λ at h. HasNormalOf at from to h × IsLeastFor (corners s) h) (o_convex.weight k k_in) (λ x y z.
+      listed_of_points (corners s) (let n = corners_length s in let enough = s_convex.enough in omega arith) weights (whole x y z) from to weight)))
+
+  listed_across : Listed (λ h. HasNormalAcross (corners e) (corners o) h × IsLeastFor (corners s) h)
+  listed_across = listed_alike (λ h. (i : ℕ) × (i < length e.edges) × ((k : ℕ) × (k < length o.edges) × IsAcrossAt i k h)) (λ h. HasNormalAcross (corners e) (corners o) h × IsLeastFor (corners s) h)
+      (λ h. (forth h, back h))
+      (listed_below (length e.edges) (λ i h. (k : ℕ) × (k < length o.edges) × IsAcrossAt i k h) (λ i i_in. listed_below (length o.edges) (λ k h. IsAcrossAt i k h) (λ k k_in. listed_at i k i_in k_in)))
+    where
+      forth : (h : Plane) → ((i : ℕ) × (i < length e.edges) × ((k : ℕ) × (k < length o.edges) × IsAcrossAt i k h)) → HasNormalAcross (corners e) (corners o) h × IsLeastFor (corners s) h
+      forth h (i, i_in, (k, k_in, (from, from_is, (to, to_is, (at, at_is, (normal, least)))))) = (
+        record {
+          place = i;
+          first = corner_at e i;
+          second = corner_at e (next i);
+          corner = corner_at o k;
+          first_is = slice_of_corner e i i_in;
+          second_is = ap (λ (n : ℕ). slice_get (corners e) (next_place n i)) (corners_length e) ∙ slice_of_corner e (next i) (next_below (length e.edges) i i_in);
+          corner_is = contains_corner o k k_in;
+          from = from;
+          to = to;
+          at = at;
+          from_is = from_is;
+          to_is = to_is;
+          at_is = at_is;
+          normal = normal;
+        },
+        least,
+      )
+
+      back : (h : Plane) → HasNormalAcross (corners e) (corners o) h × IsLeastFor (corners s) h → (i : ℕ) × (i < length e.edges) × ((k : ℕ) × (k < length o.edges) × IsAcrossAt i k h)
+      back h (is, least) =
+          let one = corner_of_slice e is.place is.first is.first_is in
+          let two = corner_of_slice e (next_place (length (corners e)) is.place) is.second is.second_is in
+          let three = corner_of_contains o is.corner is.corner_is in
+          let second : is.second ≡ corner_at e (next is.place) = two.1 ∙ ap (λ (n : ℕ). corner_at e (next_place n is.place)) (corners_length e) in
+          (is.place, one.0, (three.0, three.1, (is.from, subst (λ (p : Point). IsNearestPoint p is.from) one.1 is.from_is, (is.to, subst (λ (p : Point). IsNearestPoint p is.to) second is.to_is, (is.at, subst (λ (p : Point). IsAround p is.at) three.2 is.at_is, (is.normal, least))))))
+
+-- ---- the separators
+
+none_behind_or_some : (v : Winding) (h : Plane) → HasNoCornerBehind v h ⊎ HasCornerBehind v h
+none_behind_or_some v h = by_corner_in_front v (flipped h)
+    (λ some. inr (some.0, some.1, (flipped_in_front h (corner_at v some.0)).0 some.2))
+    (λ none. inl (λ i l. by_least (value h (corner_at v i)) (pos 0) (λ below. absurd (let f = (flipped_in_front h (corner_at v i)).1 below in let n = none i l in omega (arith, linear))) (λ not. not)))
+
+none_behind_decided : (v : Winding) (h : Plane) → HasNoCornerBehind v h ⊎ (HasNoCornerBehind v h → ⊥)
+none_behind_decided v h = ⊎_elim inl (λ some. inr (λ none. let n = none some.0 some.1 in let b = some.2 in omega (arith, linear))) (none_behind_or_some v h)
+
+strict_decided : (s p : Winding) (h : Plane) → (HasCornerBehind s h ⊎ HasCornerInFront p h) ⊎ (HasCornerBehind s h ⊎ HasCornerInFront p h → ⊥)
+strict_decided s p h = ⊎_elim
+    (λ none. by_corner_in_front p h
+    (λ some. inl (inr some))
+    (λ none_front. inr (λ e. ⊎_elim (λ b. let n = none b.0 b.1 in let l = b.2 in absurd (omega (arith, linear))) (λ f. let n = none_front f.0 f.1 in let l = f.2 in absurd (omega (arith, linear))) e)))
+    (λ some. inl (inl some))
+    (none_behind_or_some s h)
+
+pub listed_separators : (s p : Winding) → IsConvex s → IsConvex p → Listed (IsSeparator s p)
+listed_separators s p s_convex p_convex = listed_alike Found (IsSeparator s p)
+    (λ h. (
+      (λ is. record { candidate = ⊎_elim (λ c. inl c.0) (λ c. inr c.0) is.0.0; least = ⊎_elim (λ c. c.1) (λ c. c.1) is.0.0; in_front = is.0.1; strict = is.1 }),
+      (λ is. ((⊎_elim (λ c. inl (c, is.least)) (λ c. inr (c, is.least)) is.candidate, is.in_front), is.strict)),
+    ))
+    (listed_where (λ h. Candidate h × HasNoCornerBehind p h) (λ h. HasCornerBehind s h ⊎ HasCornerInFront p h)
+    (listed_where Candidate (HasNoCornerBehind p) (listed_either (λ h. HasNormalAcross (corners s) (corners p) h × IsLeastFor (corners s) h) (λ h. HasNormalAcross (corners p) (corners s) h × IsLeastFor (corners s) h) (listed_across s p s s_convex p_convex s_convex) (listed_across p s s p_convex s_convex s_convex)) (none_behind_decided p))
+    (strict_decided s p))
+  where
+    Candidate : Plane → Type 0
+    Candidate h = (HasNormalAcross (corners s) (corners p) h × IsLeastFor (corners s) h) ⊎ (HasNormalAcross (corners p) (corners s) h × IsLeastFor (corners s) h)
+
+    Found : Plane → Type 0
+    Found h = (Candidate h × HasNoCornerBehind p h) × (HasCornerBehind s h ⊎ HasCornerInFront p h)
+
+pub listed_from_pass : (pass : Option Winding) (v : Winding) → IsConvexPass pass → IsConvex v → Listed (IsSeparatorFrom pass v)
+listed_from_pass None v pass_convex convex = listed_none (IsSeparatorFrom None v) (λ h is. is)
+listed_from_pass (Some p) v pass_convex convex = listed_separators v p convex pass_convex
