@@ -13,3 +13,5 @@ pub mod SameSeparators
 pub mod SameSteps
 pub mod ListedPlanes
 pub mod ListedSeparators
+pub mod Parts
+pub mod StepsLead
