@@ -15,3 +15,4 @@ pub mod ListedPlanes
 pub mod ListedSeparators
 pub mod Parts
 pub mod StepsLead
+pub mod ChainLaws

@@ -1,9 +1,10 @@
-use Rattle.std.specs.Prelude.{◌≡◌, List, Contains}
+use Rattle.std.specs.Prelude.{◌≡◌, ℕ, List, Contains}
 use Rattle.qm_space.specs.Point.{Point}
 use Rattle.qm_convex.specs.Winding.{IsConvex}
 use Rattle.qm_convex.specs.Sides.{LiesIn}
 use Rattle.qm_contacts.specs.Portals.{Portal}
 use Rattle.qm_segments.specs.Segment.{Segment}
+use Rattle.qm_segments.specs.OpenChain.{IsInBound}
 use Rattle.qm_separators.specs.ChainState.{ChainState, first_state, IsChainState}
 use Rattle.qm_separators.specs.ChainStep.{LeadsTo, Blocks}
 use Rattle.qm_separators.specs.MayPass.{MayPass}
@@ -32,3 +33,7 @@ MeetsState s x state = IsChainState state × Meets s x state
 -- each portal's polygon is convex, and lies in its turned plane
 abbrev pub AreConvexPortals : List Portal → Type 0
 AreConvexPortals portals = (q : Portal) → Contains portals q → IsConvex q.winding × LiesIn q.winding q.into
+
+-- the bound of a portal: the leaves that the last portals of open chains from it enter, by these steps
+abbrev pub IsInChainBound : List Portal → Portal → ℕ → Type 0
+IsInChainBound portals p n = IsInBound BeginsWith GoesOn portals p n
