@@ -16,3 +16,4 @@ pub mod ListedSeparators
 pub mod Parts
 pub mod StepsLead
 pub mod ChainLaws
+pub mod Looks
