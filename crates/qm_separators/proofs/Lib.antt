@@ -17,3 +17,4 @@ pub mod Parts
 pub mod StepsLead
 pub mod ChainLaws
 pub mod Looks
+pub mod OneLook
