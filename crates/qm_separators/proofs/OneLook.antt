@@ -4,7 +4,7 @@ use Rattle.std.proofs.Common.{◌≡◌, ℕ, ◌+◌, ◌*◌, ◌≤◌, ◌<�
 use Rattle.std.proofs.lemmas.Int.{ints}
 use Rattle.std.proofs.Math.IntN.{*ℤ_comm}
 use Rattle.qm_numbers.proofs.IntegerProducts.{linear, *ℤ_zero, *ℤ-neg, neg-*ℤ, *ℤ-+ℤ}
-use Rattle.qm_numbers.proofs.Signs.{zero_beside, times_at_most, abs_product}
+use Rattle.qm_numbers.proofs.Signs.{by_sign, zero_beside, times_at_most, abs_product, abs_neg}
 use Rattle.qm_numbers.proofs.Ring.{variable, number, ◌⊕◌, ◌⊖◌, ◌⊗◌, solved}
 use Rattle.qm_space.specs.Point.{Point, point_times}
 use Rattle.qm_space.specs.Plane.{Plane, value, IsNotBehind, IsNotInFront, flipped}
@@ -13,6 +13,7 @@ use Rattle.qm_space.specs.ThreePoints.{outward_plane}
 use Rattle.qm_space.proofs.Planes.{value_flipped}
 use Rattle.qm_space.proofs.PlanesThroughPoints.{outward_holds_first}
 use Rattle.qm_convex.specs.Winding.{Winding, corner_at, corners, IsConvex}
+use Rattle.qm_separators.specs.WholePoints.{IsNearestPoint, IsAround}
 use Rattle.qm_separators.specs.Candidate.{HasNormalOf, HasNormalAcross}
 use Rattle.qm_separators.specs.Separator.{IsSeparator}
 use Rattle.qm_separators.proofs.SeparatorLaw.{none_in_front}
@@ -56,3 +57,86 @@ module _ (at from to : Point) (h : Plane) (is : HasNormalOf at from to h) (from_
 pub record PassesLook (s p : Winding) (out : Plane) : Type 0 where
   pub source : (i : ℕ) (b : Point) → i < length s.edges → IsBeside (corner_at s i) b → value out b ≤ℤ pos (2 * normal_size out)
   pub pass : (i : ℕ) (b : Point) → i < length p.edges → IsBeside (corner_at p i) b → neg_ℤ (pos (2 * normal_size out)) ≤ℤ value out b
+
+-- so many times a plane with values not far apart
+module _ (s p : Winding) (h out : Plane) (base : ℤ) (many : ℕ) (values : (b : Point) → b.w ≡ pos 1 → value out b ≡ pos many *ℤ (value h b -ℤ base)) (size : normal_size out ≡ many * normal_size h) (high : base ≤ℤ pos (normal_size h)) (low : neg_ℤ (pos (normal_size h)) ≤ℤ base) (s_convex : IsConvex s) (p_convex : IsConvex p) (s_sides : (i : ℕ) → i < length s.edges → IsNotInFront h (corner_at s i)) (p_sides : (i : ℕ) → i < length p.edges → IsNotBehind h (corner_at p i)) where
+  total : pos many *ℤ pos (2 * normal_size h) ≡ pos (2 * normal_size out)
+  total = let e : pos many *ℤ pos (2 * normal_size h) ≡ pos (many * (2 * normal_size h)) = refl in let f : many * (2 * normal_size h) ≡ 2 * normal_size out = omega arith in e ∙ ap pos f
+
+  passes_by_values : PassesLook s p out
+  passes_by_values = record {
+    source = λ i b l beside.
+        let v = beside_not_in_front h (corner_at s i) b (s_convex.weight i l) beside (s_sides i l) in
+        let m = times_at_most (pos many) (value h b -ℤ base) (pos (2 * normal_size h)) (omega (arith, ints)) (apart (value h b) base (normal_size h) v low) in
+        let e = values b beside.weight in let t = total in
+        omega (arith, linear);
+    pass = λ i b l beside.
+        let v = beside_not_behind h (corner_at p i) b (p_convex.weight i l) beside (p_sides i l) in
+        let m = times_at_most (pos many) (neg_ℤ (pos (2 * normal_size h))) (value h b -ℤ base) (omega (arith, ints)) (apart_low (value h b) base (normal_size h) v high) in
+        let e = values b beside.weight in let t = total in let n = *ℤ-neg (pos many) (pos (2 * normal_size h)) in
+        omega (arith, linear);
+  }
+    where
+      apart : (v b : ℤ) (n : ℕ) → v ≤ℤ pos n → neg_ℤ (pos n) ≤ℤ b → (v -ℤ b) ≤ℤ pos (2 * n)
+      apart v b n x y = omega (arith, ints)
+
+      apart_low : (v b : ℤ) (n : ℕ) → neg_ℤ (pos n) ≤ℤ v → b ≤ℤ pos n → neg_ℤ (pos (2 * n)) ≤ℤ (v -ℤ b)
+      apart_low v b n x y = omega (arith, ints)
+
+-- ---- of separators
+
+-- the plane through the three points, turned as the separator is
+pub data PassesTurned (s p : Winding) (out : Plane) (factor : ℤ) : Type 0 where
+  as_it_is : pos 0 <ℤ factor → PassesLook s p out → PassesTurned s p out factor
+  flipped_over : factor <ℤ pos 0 → PassesLook s p (flipped out) → PassesTurned s p out factor
+
+module _ (s p : Winding) (s_convex : IsConvex s) (p_convex : IsConvex p) (h : Plane) (sep : IsSeparator s p h) (at from to : Point) (is : HasNormalOf at from to h) (from_weight : from.w ≡ pos 1) (high : value h from ≤ℤ pos (normal_size h)) (low : neg_ℤ (pos (normal_size h)) ≤ℤ value h from) where
+  turned_look : PassesTurned s p (outward_plane at from to) is.factor
+  turned_look = by_sign is.factor
+      (λ below. flipped_over below (passes_by_values s p h (flipped out) (value h from) (unsigned_abs is.factor)
+      (λ b weight. value_flipped out b ∙ ap neg_ℤ (by_factor at from to h is from_weight b weight) ∙ turned is.factor (value h b -ℤ value h from) below)
+      (flipped_size out ∙ by_size at from to h is from_weight) high low s_convex p_convex (none_in_front s p h sep) sep.in_front))
+      (λ zero. absurd (is.some_factor zero))
+      (λ above. as_it_is above (passes_by_values s p h out (value h from) (unsigned_abs is.factor)
+      (λ b weight. by_factor at from to h is from_weight b weight ∙ ap (λ k. k *ℤ (value h b -ℤ value h from)) (itself is.factor above))
+      (by_size at from to h is from_weight) high low s_convex p_convex (none_in_front s p h sep) sep.in_front))
+    where
+      out : Plane
+      out = outward_plane at from to
+
+      itself : (k : ℤ) → pos 0 <ℤ k → k ≡ pos (unsigned_abs k)
+      itself k l = omega (arith, ints)
+
+      opposite : (k : ℤ) → k <ℤ pos 0 → neg_ℤ k ≡ pos (unsigned_abs k)
+      opposite k l = omega (arith, ints)
+
+      turned : (k v : ℤ) → k <ℤ pos 0 → neg_ℤ (k *ℤ v) ≡ pos (unsigned_abs k) *ℤ v
+      turned k v l = sym (neg-*ℤ k v) ∙ ap (λ z. z *ℤ v) (opposite k l)
+
+      flipped_size : (g : Plane) → normal_size (flipped g) ≡ normal_size g
+      flipped_size g = let x = abs_neg g.nx in let y = abs_neg g.ny in let z = abs_neg g.nz in omega arith
+
+module _ (s p : Winding) (s_convex : IsConvex s) (p_convex : IsConvex p) (h : Plane) (sep : IsSeparator s p h) where
+  -- a candidate of an edge of the source and a corner of the pass
+  pub look_by_source : (is : HasNormalAcross (corners s) (corners p) h) → PassesTurned s p (outward_plane is.at is.from is.to) is.normal.factor
+  look_by_source is =
+      let one = corner_of_slice s is.place is.first is.first_is in
+      let three = corner_of_contains p is.corner is.corner_is in
+      let near = nearest_beside (corner_at s is.place) is.from (subst (λ (q : Point). IsNearestPoint q is.from) one.1 is.from_is) in
+      let around = around_beside (corner_at p three.0) is.at (p_convex.weight three.0 three.1) (subst (λ (q : Point). IsAround q is.at) three.2 is.at_is) in
+      let high = beside_not_in_front h (corner_at s is.place) is.from (s_convex.weight is.place one.0) near (none_in_front s p h sep is.place one.0) in
+      let low = beside_not_behind h (corner_at p three.0) is.at (p_convex.weight three.0 three.1) around (sep.in_front three.0 three.1) in
+      let same = at_value is.at is.from is.to h is.normal is.from_is.weight is.at_is.weight in
+      turned_look s p s_convex p_convex h sep is.at is.from is.to is.normal is.from_is.weight high (omega (arith, linear))
+
+  -- and one of an edge of the pass and a corner of the source
+  pub look_by_pass : (is : HasNormalAcross (corners p) (corners s) h) → PassesTurned s p (outward_plane is.at is.from is.to) is.normal.factor
+  look_by_pass is =
+      let one = corner_of_slice p is.place is.first is.first_is in
+      let three = corner_of_contains s is.corner is.corner_is in
+      let near = nearest_beside (corner_at p is.place) is.from (subst (λ (q : Point). IsNearestPoint q is.from) one.1 is.from_is) in
+      let around = around_beside (corner_at s three.0) is.at (s_convex.weight three.0 three.1) (subst (λ (q : Point). IsAround q is.at) three.2 is.at_is) in
+      let low = beside_not_behind h (corner_at p is.place) is.from (p_convex.weight is.place one.0) near (sep.in_front is.place one.0) in
+      let high = beside_not_in_front h (corner_at s three.0) is.at (s_convex.weight three.0 three.1) around (none_in_front s p h sep three.0 three.1) in
+      let same = at_value is.at is.from is.to h is.normal is.from_is.weight is.at_is.weight in
+      turned_look s p s_convex p_convex h sep is.at is.from is.to is.normal is.from_is.weight (omega (arith, linear)) low
