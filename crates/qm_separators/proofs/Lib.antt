@@ -18,3 +18,4 @@ pub mod StepsLead
 pub mod ChainLaws
 pub mod Looks
 pub mod OneLook
+pub mod GroupLook

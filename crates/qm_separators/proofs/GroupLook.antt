@@ -1,0 +1,121 @@
+-- A group look: the same look for all whole points around a corner at once, by the one that is rounded down.
+use Rattle.std.proofs.Common.{◌≡◌, ℕ, ◌+◌, ◌*◌, ◌≤◌, ◌<◌, ℤ, pos, neg_ℤ, ◌+ℤ◌, ◌-ℤ◌, ◌*ℤ◌, ◌<ℤ◌, ◌≤ℤ◌, [], ◌∷◌, length, refl, ap, sym, subst, ◌∙◌, arith, unsigned_abs, ◌⊎◌, inl, inr, ⊎_elim}
+use Rattle.std.specs.Int.{int_max, int_min}
+use Rattle.std.proofs.lemmas.Int.{ints, clamps}
+use Rattle.std.proofs.Math.IntN.{*ℤ_comm}
+use Rattle.qm_numbers.specs.Rounding.{IsRoundedDown, IsRoundedUp}
+use Rattle.qm_numbers.proofs.IntegerProducts.{linear, *ℤ_zero, zero_*ℤ, one_*ℤ, +ℤ-*ℤ, -ℤ-*ℤ}
+use Rattle.qm_numbers.proofs.Signs.{by_order, by_least, times_at_most}
+use Rattle.qm_numbers.proofs.Divisors.{one_floor}
+use Rattle.qm_numbers.proofs.Ring.{variable, number, ◌⊕◌, ◌⊖◌, ◌⊗◌, solved}
+use Rattle.qm_space.specs.Point.{Point}
+use Rattle.qm_space.specs.Plane.{Plane, value, flipped}
+use Rattle.qm_space.specs.ThreePoints.{outward_plane}
+use Rattle.qm_space.proofs.PlaneSymbols.{point_from, numbers_of_point, symbol_value, symbol_outward}
+use Rattle.qm_convex.specs.Winding.{Winding, corner_at}
+use Rattle.qm_separators.specs.WholePoints.{IsWholeBy, IsAround, IsRoundedEitherWay}
+use Rattle.qm_separators.proofs.Looks.{normal_size, IsBeside}
+use Rattle.qm_separators.proofs.OneLook.{PassesLook}
+
+-- ---- what is rounded either way is what is rounded down, or one more
+
+-- 0 or 1
+pub data IsBit : ℤ → Type 0 where
+  none : {z : ℤ} → z ≡ pos 0 → IsBit z
+  one : {z : ℤ} → z ≡ pos 1 → IsBit z
+
+either_is_bit : (o u d q : ℤ) → pos 0 <ℤ u → IsRoundedDown o u d → IsRoundedEitherWay o u q → IsBit (q -ℤ d)
+either_is_bit o u d q h low either = ⊎_elim
+    (λ down. let e = one_floor o u q d h down low in none (omega (arith, linear)))
+    (λ up. by_order q d
+    (λ less. absurd (let a = up.at_least in let b = low.at_most in let m = gap u q d h less in omega (arith, linear)))
+    (λ same. none (omega (arith, linear)))
+    (λ more. by_order q (d +ℤ pos 1)
+    (λ less. absurd (omega (arith, linear)))
+    (λ same. one (omega (arith, linear)))
+    (λ much. absurd (let a = up.previous in let b = low.next in let m = at_most u (d +ℤ pos 1) (q -ℤ pos 1) h (omega (arith, linear)) in omega (arith, linear)))))
+    either
+  where
+    gap : (u q d : ℤ) → pos 0 <ℤ u → q <ℤ d → ((q *ℤ u) +ℤ u) ≤ℤ (d *ℤ u)
+    gap u q d h l =
+        let m = times_at_most u (q +ℤ pos 1) d (omega (arith, linear)) (omega (arith, linear)) in
+        let a = *ℤ_comm u (q +ℤ pos 1) in let b = *ℤ_comm u d in let c = +ℤ-*ℤ q (pos 1) u in let e = one_*ℤ u in
+        omega (arith, linear)
+
+    at_most : (u a b : ℤ) → pos 0 <ℤ u → a ≤ℤ b → (a *ℤ u) ≤ℤ (b *ℤ u)
+    at_most u a b h l = let m = times_at_most u a b (omega (arith, linear)) l in let x = *ℤ_comm u a in let y = *ℤ_comm u b in omega (arith, linear)
+
+-- ---- how far the values go apart
+
+-- how much the components of the normal can add, each taken or left
+abbrev pub rise : Plane → ℤ
+rise h = (int_max h.nx (pos 0) +ℤ int_max h.ny (pos 0)) +ℤ int_max h.nz (pos 0)
+
+abbrev pub fall : Plane → ℤ
+fall h = (int_min h.nx (pos 0) +ℤ int_min h.ny (pos 0)) +ℤ int_min h.nz (pos 0)
+
+-- the sum of the absolute values of the step from one point to another
+abbrev pub step_size : Point → Point → ℕ
+step_size from to = unsigned_abs (to.x -ℤ from.x) + unsigned_abs (to.y -ℤ from.y) + unsigned_abs (to.z -ℤ from.z)
+
+taken_or_left : (z n : ℤ) → IsBit z → (int_min n (pos 0) ≤ℤ (z *ℤ n)) × ((z *ℤ n) ≤ℤ int_max n (pos 0))
+taken_or_left z n (none e) = let f = ap (λ k. k *ℤ n) e ∙ zero_*ℤ n in bounds n (z *ℤ n) f
+  where
+    bounds : (n m : ℤ) → m ≡ pos 0 → (int_min n (pos 0) ≤ℤ m) × (m ≤ℤ int_max n (pos 0))
+    bounds n m f = (omega (arith, ints, clamps), omega (arith, ints, clamps))
+taken_or_left z n (one e) = let f = ap (λ k. k *ℤ n) e ∙ one_*ℤ n in bounds n (z *ℤ n) f
+  where
+    bounds : (n m : ℤ) → m ≡ n → (int_min n (pos 0) ≤ℤ m) × (m ≤ℤ int_max n (pos 0))
+    bounds n m f = (omega (arith, ints, clamps), omega (arith, ints, clamps))
+
+taken_size : (z n : ℤ) → IsBit z → unsigned_abs (z *ℤ n) ≤ unsigned_abs n
+taken_size z n (none e) = let f = ap (λ k. k *ℤ n) e ∙ zero_*ℤ n in size n (z *ℤ n) f
+  where
+    size : (n m : ℤ) → m ≡ pos 0 → unsigned_abs m ≤ unsigned_abs n
+    size n m f = omega (arith, ints)
+taken_size z n (one e) = let f = ap (λ k. k *ℤ n) e ∙ one_*ℤ n in size n (z *ℤ n) f
+  where
+    size : (n m : ℤ) → m ≡ n → unsigned_abs m ≤ unsigned_abs n
+    size n m f = omega (arith, ints)
+
+module _ (low at from to : Point) where
+  abbrev dx : ℤ
+  dx = at.x -ℤ low.x
+
+  abbrev dy : ℤ
+  dy = at.y -ℤ low.y
+
+  abbrev dz : ℤ
+  dz = at.z -ℤ low.z
+
+  -- at a whole point
+  moved_value : (b : Point) → b.w ≡ pos 1 → value (outward_plane at from to) b ≡ value (outward_plane low from to) b +ℤ (((dx *ℤ (outward_plane to from b).nx) +ℤ (dy *ℤ (outward_plane to from b).ny)) +ℤ (dz *ℤ (outward_plane to from b).nz))
+  unfolding value outward_plane
+  moved_value b weight =
+      let l = point_from 0 in let a = point_from 4 in let f = point_from 8 in let t = point_from 12 in let q = point_from 16 in
+      let o = symbol_outward t f q in
+      let zs = numbers_of_point low (numbers_of_point at (numbers_of_point from (numbers_of_point to (numbers_of_point b [])))) in
+      let more = (symbol_outward a f t).d ⊖ (symbol_outward l f t).d in
+      let e = solved zs (symbol_value (symbol_outward a f t) q) (symbol_value (symbol_outward l f t) q ⊕ (((a.x ⊖ l.x) ⊗ o.nx ⊕ (a.y ⊖ l.y) ⊗ o.ny) ⊕ (a.z ⊖ l.z) ⊗ o.nz) ⊕ more ⊗ (number (pos 1) ⊖ q.w)) tt in
+      e ∙ at_one _ _ b.w weight
+    where
+      at_one : (a m w : ℤ) → w ≡ pos 1 → a +ℤ (m *ℤ (pos 1 -ℤ w)) ≡ a
+      at_one a m w e = let f = ap (λ k. m *ℤ (pos 1 -ℤ k)) e ∙ *ℤ_zero m in omega (arith, linear)
+
+  moved_nx : (outward_plane at from to).nx ≡ (outward_plane low from to).nx +ℤ ((dy *ℤ (to.z -ℤ from.z)) -ℤ (dz *ℤ (to.y -ℤ from.y)))
+  unfolding outward_plane
+  moved_nx =
+      let l = point_from 0 in let a = point_from 4 in let f = point_from 8 in let t = point_from 12 in
+      solved (numbers_of_point low (numbers_of_point at (numbers_of_point from (numbers_of_point to [])))) (symbol_outward a f t).nx ((symbol_outward l f t).nx ⊕ ((a.y ⊖ l.y) ⊗ (t.z ⊖ f.z) ⊖ (a.z ⊖ l.z) ⊗ (t.y ⊖ f.y))) tt
+
+  moved_ny : (outward_plane at from to).ny ≡ (outward_plane low from to).ny +ℤ ((dz *ℤ (to.x -ℤ from.x)) -ℤ (dx *ℤ (to.z -ℤ from.z)))
+  unfolding outward_plane
+  moved_ny =
+      let l = point_from 0 in let a = point_from 4 in let f = point_from 8 in let t = point_from 12 in
+      solved (numbers_of_point low (numbers_of_point at (numbers_of_point from (numbers_of_point to [])))) (symbol_outward a f t).ny ((symbol_outward l f t).ny ⊕ ((a.z ⊖ l.z) ⊗ (t.x ⊖ f.x) ⊖ (a.x ⊖ l.x) ⊗ (t.z ⊖ f.z))) tt
+
+  moved_nz : (outward_plane at from to).nz ≡ (outward_plane low from to).nz +ℤ ((dx *ℤ (to.y -ℤ from.y)) -ℤ (dy *ℤ (to.x -ℤ from.x)))
+  unfolding outward_plane
+  moved_nz =
+      let l = point_from 0 in let a = point_from 4 in let f = point_from 8 in let t = point_from 12 in
+      solved (numbers_of_point low (numbers_of_point at (numbers_of_point from (numbers_of_point to [])))) (symbol_outward a f t).nz ((symbol_outward l f t).nz ⊕ ((a.x ⊖ l.x) ⊗ (t.y ⊖ f.y) ⊖ (a.y ⊖ l.y) ⊗ (t.x ⊖ f.x))) tt
