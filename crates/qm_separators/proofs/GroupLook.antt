@@ -4,13 +4,14 @@ use Rattle.std.specs.Int.{int_max, int_min}
 use Rattle.std.proofs.lemmas.Int.{ints, clamps}
 use Rattle.std.proofs.Math.IntN.{*ℤ_comm}
 use Rattle.qm_numbers.specs.Rounding.{IsRoundedDown, IsRoundedUp}
-use Rattle.qm_numbers.proofs.IntegerProducts.{linear, *ℤ_zero, zero_*ℤ, one_*ℤ, +ℤ-*ℤ, -ℤ-*ℤ}
-use Rattle.qm_numbers.proofs.Signs.{by_order, by_least, times_at_most}
+use Rattle.qm_numbers.proofs.IntegerProducts.{linear, *ℤ_zero, zero_*ℤ, one_*ℤ, *ℤ-neg, +ℤ-*ℤ, -ℤ-*ℤ}
+use Rattle.qm_numbers.proofs.Signs.{by_order, by_least, times_at_most, abs_neg}
 use Rattle.qm_numbers.proofs.Divisors.{one_floor}
 use Rattle.qm_numbers.proofs.Ring.{variable, number, ◌⊕◌, ◌⊖◌, ◌⊗◌, solved}
 use Rattle.qm_space.specs.Point.{Point}
 use Rattle.qm_space.specs.Plane.{Plane, value, flipped}
 use Rattle.qm_space.specs.ThreePoints.{outward_plane}
+use Rattle.qm_space.proofs.Planes.{value_flipped}
 use Rattle.qm_space.proofs.PlaneSymbols.{point_from, numbers_of_point, symbol_value, symbol_outward}
 use Rattle.qm_convex.specs.Winding.{Winding, corner_at}
 use Rattle.qm_separators.specs.WholePoints.{IsWholeBy, IsAround, IsRoundedEitherWay}
@@ -119,3 +120,76 @@ module _ (low at from to : Point) where
   moved_nz =
       let l = point_from 0 in let a = point_from 4 in let f = point_from 8 in let t = point_from 12 in
       solved (numbers_of_point low (numbers_of_point at (numbers_of_point from (numbers_of_point to [])))) (symbol_outward a f t).nz ((symbol_outward l f t).nz ⊕ ((a.x ⊖ l.x) ⊗ (t.y ⊖ f.y) ⊖ (a.y ⊖ l.y) ⊗ (t.x ⊖ f.x))) tt
+
+-- ---- the look
+
+-- the look of one plane, wide enough for all whole points around a corner; `turn` gives for each whole point how a step across
+-- each axis changes the value there, and `steps` is the size of the edge
+pub record PassesGroupLook (s p : Winding) (out : Plane) (turn : Point → Plane) (steps : ℕ) : Type 0 where
+  pub source : (i : ℕ) (b : Point) → i < length s.edges → IsBeside (corner_at s i) b → (value out b +ℤ fall (turn b)) ≤ℤ pos (2 * (normal_size out + 2 * steps))
+  pub pass : (i : ℕ) (b : Point) → i < length p.edges → IsBeside (corner_at p i) b → neg_ℤ (pos (2 * (normal_size out + 2 * steps))) ≤ℤ (value out b +ℤ rise (turn b))
+
+-- the values of one plane are those of another, moved by some of the steps
+module _ (s p : Winding) (out moved : Plane) (turn : Point → Plane) (steps : ℕ) (x y z : ℤ) (x_bit : IsBit x) (y_bit : IsBit y) (z_bit : IsBit z) (values : (b : Point) → b.w ≡ pos 1 → value moved b ≡ value out b +ℤ (((x *ℤ (turn b).nx) +ℤ (y *ℤ (turn b).ny)) +ℤ (z *ℤ (turn b).nz))) (size : normal_size moved ≤ normal_size out + 2 * steps) where
+  group_by_moved : PassesLook s p moved → PassesGroupLook s p out turn steps
+  group_by_moved is = record {
+    source = λ i b l beside.
+        let m = is.source i b l beside in let v = values b beside.weight in
+        let f = taken_or_left x (turn b).nx x_bit in let g = taken_or_left y (turn b).ny y_bit in let h = taken_or_left z (turn b).nz z_bit in
+        let f0 = f.0 in let g0 = g.0 in let h0 = h.0 in
+        let k = wider (normal_size moved) (normal_size out + 2 * steps) size in
+        omega (arith, linear);
+    pass = λ i b l beside.
+        let m = is.pass i b l beside in let v = values b beside.weight in
+        let f = taken_or_left x (turn b).nx x_bit in let g = taken_or_left y (turn b).ny y_bit in let h = taken_or_left z (turn b).nz z_bit in
+        let f1 = f.1 in let g1 = g.1 in let h1 = h.1 in
+        let k = wider (normal_size moved) (normal_size out + 2 * steps) size in
+        omega (arith, linear);
+  }
+    where
+      wider : (m n : ℕ) → m ≤ n → pos (2 * m) ≤ℤ pos (2 * n)
+      wider m n l = omega (arith, ints)
+
+module _ (low at from to c : Point) (weight : pos 0 <ℤ c.w) (low_is : IsWholeBy IsRoundedDown c low) (at_is : IsAround c at) where
+  x_is : IsBit (at.x -ℤ low.x)
+  x_is = either_is_bit c.x c.w low.x at.x weight low_is.x at_is.x
+
+  y_is : IsBit (at.y -ℤ low.y)
+  y_is = either_is_bit c.y c.w low.y at.y weight low_is.y at_is.y
+
+  z_is : IsBit (at.z -ℤ low.z)
+  z_is = either_is_bit c.z c.w low.z at.z weight low_is.z at_is.z
+
+  group_size : normal_size (outward_plane at from to) ≤ normal_size (outward_plane low from to) + 2 * step_size from to
+  group_size =
+      let x = ap unsigned_abs (moved_nx low at from to) in let y = ap unsigned_abs (moved_ny low at from to) in let z = ap unsigned_abs (moved_nz low at from to) in
+      let a = three (outward_plane low from to).nx ((at.y -ℤ low.y) *ℤ (to.z -ℤ from.z)) ((at.z -ℤ low.z) *ℤ (to.y -ℤ from.y)) in
+      let b = three (outward_plane low from to).ny ((at.z -ℤ low.z) *ℤ (to.x -ℤ from.x)) ((at.x -ℤ low.x) *ℤ (to.z -ℤ from.z)) in
+      let c = three (outward_plane low from to).nz ((at.x -ℤ low.x) *ℤ (to.y -ℤ from.y)) ((at.y -ℤ low.y) *ℤ (to.x -ℤ from.x)) in
+      let d = taken_size (at.y -ℤ low.y) (to.z -ℤ from.z) y_is in let e = taken_size (at.z -ℤ low.z) (to.y -ℤ from.y) z_is in
+      let f = taken_size (at.z -ℤ low.z) (to.x -ℤ from.x) z_is in let g = taken_size (at.x -ℤ low.x) (to.z -ℤ from.z) x_is in
+      let h = taken_size (at.x -ℤ low.x) (to.y -ℤ from.y) x_is in let i = taken_size (at.y -ℤ low.y) (to.x -ℤ from.x) y_is in
+      omega arith
+    where
+      three : (n a b : ℤ) → unsigned_abs (n +ℤ (a -ℤ b)) ≤ unsigned_abs n + unsigned_abs a + unsigned_abs b
+      three n a b = omega (arith, ints)
+
+  -- where the plane through one of them passes the look, the group does
+  pub group_look : (s p : Winding) → PassesLook s p (outward_plane at from to) → PassesGroupLook s p (outward_plane low from to) (λ b. outward_plane to from b) (step_size from to)
+  group_look s p is = group_by_moved s p (outward_plane low from to) (outward_plane at from to) (λ b. outward_plane to from b) (step_size from to) (at.x -ℤ low.x) (at.y -ℤ low.y) (at.z -ℤ low.z) x_is y_is z_is (moved_value low at from to) group_size is
+
+  -- and turned over
+  pub group_look_flipped : (s p : Winding) → PassesLook s p (flipped (outward_plane at from to)) → PassesGroupLook s p (flipped (outward_plane low from to)) (λ b. flipped (outward_plane to from b)) (step_size from to)
+  group_look_flipped s p is = group_by_moved s p (flipped (outward_plane low from to)) (flipped (outward_plane at from to)) (λ b. flipped (outward_plane to from b)) (step_size from to) (at.x -ℤ low.x) (at.y -ℤ low.y) (at.z -ℤ low.z) x_is y_is z_is turned flipped_size is
+    where
+      turned : (b : Point) → b.w ≡ pos 1 → value (flipped (outward_plane at from to)) b ≡ value (flipped (outward_plane low from to)) b +ℤ ((((at.x -ℤ low.x) *ℤ neg_ℤ (outward_plane to from b).nx) +ℤ ((at.y -ℤ low.y) *ℤ neg_ℤ (outward_plane to from b).ny)) +ℤ ((at.z -ℤ low.z) *ℤ neg_ℤ (outward_plane to from b).nz))
+      turned b whole =
+          let e = value_flipped (outward_plane at from to) b in let f = value_flipped (outward_plane low from to) b in let g = moved_value low at from to b whole in
+          let x = *ℤ-neg (at.x -ℤ low.x) (outward_plane to from b).nx in let y = *ℤ-neg (at.y -ℤ low.y) (outward_plane to from b).ny in let z = *ℤ-neg (at.z -ℤ low.z) (outward_plane to from b).nz in
+          omega (arith, linear)
+
+      same : (h : Plane) → normal_size (flipped h) ≡ normal_size h
+      same h = let x = abs_neg h.nx in let y = abs_neg h.ny in let z = abs_neg h.nz in omega arith
+
+      flipped_size : normal_size (flipped (outward_plane at from to)) ≤ normal_size (flipped (outward_plane low from to)) + 2 * step_size from to
+      flipped_size = let a = same (outward_plane at from to) in let b = same (outward_plane low from to) in let c = group_size in omega arith
