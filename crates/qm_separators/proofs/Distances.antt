@@ -1,6 +1,7 @@
 -- The least distance at which no corner is in front: there is one for each normal, it is one alone, and how large it can be.
 use Rattle.std.proofs.Common.{◌≡◌, ℕ, zero, suc, ◌+◌, ◌*◌, ◌≤◌, ◌<◌, ◌^◌, ℤ, pos, neg_ℤ, ◌+ℤ◌, ◌-ℤ◌, ◌*ℤ◌, ◌≤ℤ◌, ◌<ℤ◌, List, [], ◌∷◌, length, get_or, Some, slice_get, refl, ap, sym, subst, ◌∙◌, arith, unsigned_abs}
 use Rattle.std.specs.Int.{int_max}
+use Rattle.std.specs.List.{All, Any}
 use Rattle.std.proofs.lemmas.Int.{ints}
 use Rattle.std.proofs.lemmas.Option.{slice_get-get_or, get_or_from_slice_get}
 use Rattle.std.proofs.Math.IntN.{*ℤ_comm}
@@ -114,3 +115,32 @@ module _ (h : Plane) (corners : List Point) (some : 0 < length corners) (inside 
     where
       within : (d : ℤ) → d ≤ℤ pos outward_distance_bound → neg_ℤ (pos outward_distance_bound) ≤ℤ d → unsigned_abs d ≤ outward_distance_bound
       within d l k = omega (arith, ints)
+
+-- ---- a distance that is raised
+
+value_at_distance : (normal : List ℤ) (d : ℤ) (p : Point) → value (plane_at_distance normal d) p ≡ dot (vector_of normal) (step_to p) -ℤ (d *ℤ p.w)
+unfolding value dot
+value_at_distance normal d p = refl
+
+-- a corner that is not in front is not so at any greater distance
+pub not_in_front_raised : (normal : List ℤ) (p : Point) (d e : ℤ) → pos 0 <ℤ p.w → d ≤ℤ e → IsNotInFront (plane_at_distance normal d) p → IsNotInFront (plane_at_distance normal e) p
+not_in_front_raised normal p d e weight l not =
+    let a = value_at_distance normal d p in let b = value_at_distance normal e p in
+    let m = times_at_most p.w d e (omega (arith, linear)) l in
+    let x = *ℤ_comm p.w d in let y = *ℤ_comm p.w e in
+    omega (arith, linear)
+
+-- one that is in front is so at any lesser distance
+pub in_front_lowered : (normal : List ℤ) (p : Point) (d e : ℤ) → pos 0 <ℤ p.w → d ≤ℤ e → IsInFront (plane_at_distance normal e) p → IsInFront (plane_at_distance normal d) p
+in_front_lowered normal p d e weight l front =
+    let a = value_at_distance normal d p in let b = value_at_distance normal e p in
+    let m = times_at_most p.w d e (omega (arith, linear)) l in
+    let x = *ℤ_comm p.w d in let y = *ℤ_comm p.w e in
+    omega (arith, linear)
+
+-- so a distance is the least where no corner is in front there, and some corner is at the one before
+pub least_by_neighbours : (normal : List ℤ) (corners : List Point) (d : ℤ) → ((i : ℕ) (e : Point) → i < length corners → pos 0 <ℤ (get_or corners i e).w) → All (λ p. IsNotInFront (plane_at_distance normal d) p) corners → Any (λ p. IsInFront (plane_at_distance normal (d -ℤ pos 1)) p) corners → IsLeastDistance normal corners d
+least_by_neighbours normal corners d weights none some = record {
+  none_in_front = λ e l i x h. not_in_front_raised normal (get_or corners i x) d e (weights i x h) l (none i x h);
+  some_in_front = λ e l. (some.0, some.1, some.2, some.3, in_front_lowered normal some.1 e (d -ℤ pos 1) (subst (λ (p : Point). pos 0 <ℤ p.w) some.3 (weights some.0 some.1 some.2)) (omega (arith, linear)) some.4);
+}

@@ -16,7 +16,7 @@ use Rattle.qm_space.proofs.PlaneSymbols.{point_from, numbers_of_point, symbol_va
 use Rattle.qm_convex.specs.Winding.{Winding, corner_at}
 use Rattle.qm_separators.specs.WholePoints.{IsWholeBy, IsAround, IsRoundedEitherWay}
 use Rattle.qm_separators.proofs.Looks.{normal_size, IsBeside}
-use Rattle.qm_separators.proofs.OneLook.{PassesLook}
+use Rattle.qm_separators.proofs.OneLook.{PassesLook, PassesTurned, as_it_is, flipped_over}
 
 -- ---- what is rounded either way is what is rounded down, or one more
 
@@ -193,3 +193,15 @@ module _ (low at from to c : Point) (weight : pos 0 <ℤ c.w) (low_is : IsWholeB
 
       flipped_size : normal_size (flipped (outward_plane at from to)) ≤ normal_size (flipped (outward_plane low from to)) + 2 * step_size from to
       flipped_size = let a = same (outward_plane at from to) in let b = same (outward_plane low from to) in let c = group_size in omega arith
+
+-- ---- of separators
+
+-- the plane through the whole point that is rounded down from the corner, turned as a separator through one of those around it
+pub data PassesGroup (s p : Winding) (low from to : Point) : Type 0 where
+  group_as_it_is : PassesGroupLook s p (outward_plane low from to) (λ b. outward_plane to from b) (step_size from to) → PassesGroup s p low from to
+  group_flipped_over : PassesGroupLook s p (flipped (outward_plane low from to)) (λ b. flipped (outward_plane to from b)) (step_size from to) → PassesGroup s p low from to
+
+-- where a candidate passes the look, its group does
+pub group_passes : (s p : Winding) (low at from to c : Point) (factor : ℤ) → pos 0 <ℤ c.w → IsWholeBy IsRoundedDown c low → IsAround c at → PassesTurned s p (outward_plane at from to) factor → PassesGroup s p low from to
+group_passes s p low at from to c factor weight low_is at_is (as_it_is above look) = group_as_it_is (group_look low at from to c weight low_is at_is s p look)
+group_passes s p low at from to c factor weight low_is at_is (flipped_over below look) = group_flipped_over (group_look_flipped low at from to c weight low_is at_is s p look)

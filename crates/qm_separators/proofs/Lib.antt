@@ -19,3 +19,4 @@ pub mod ChainLaws
 pub mod Looks
 pub mod OneLook
 pub mod GroupLook
+pub mod GainedPlanes

@@ -9,7 +9,7 @@ use Rattle.qm_separators.specs.Gains.{HasExactly}
 abbrev pub Listed : (Plane → Type 0) → Type 0
 Listed Has = (planes : List Plane) × HasExactly Has planes
 
-no_element : (h : Plane) → Contains [] h → ⊥
+pub no_element : (h : Plane) → Contains [] h → ⊥
 no_element h c = let l = c.1 in omega arith
 
 pub listed_none : (Has : Plane → Type 0) → ((h : Plane) → Has h → ⊥) → Listed Has

@@ -19,7 +19,7 @@ use Rattle.qm_separators.specs.Separator.{IsSeparator, IsSeparatorFrom}
 use Rattle.qm_separators.specs.Part.{HasSameRegion, IsPartBy, IsInFrontOfEach}
 use Rattle.qm_separators.proofs.WholePointLaws.{nearest_of_place, around_of_place}
 use Rattle.qm_separators.proofs.Normals.{normal_swapped}
-use Rattle.qm_separators.proofs.CornerLists.{corner_of_slice, slice_of_corner, corner_of_contains, contains_corner}
+use Rattle.qm_separators.proofs.CornerLists.{corner_of_slice, slice_of_corner, corner_of_contains, contains_corner, all_corners, corners_all, any_corner, corner_any}
 use Rattle.qm_separators.proofs.SameCorners.{place_in_front, place_behind, place_not_behind, place_not_in_front, same_back, corner_too, first_too, second_too, neighbours_too}
 
 -- ---- the same candidates
@@ -125,18 +125,6 @@ module _ (v w : Winding) (v_convex : IsConvex v) (w_convex : IsConvex w) (same :
 
   pub in_front_too : (h : Plane) → HasCornerInFront v h → HasCornerInFront w h
   in_front_too h = some_too (λ p. IsInFront h p) (place_in_front h)
-
-  all_corners : (P : Point → Type 0) (u : Winding) → All P (corners u) → (i : ℕ) → i < length u.edges → P (corner_at u i)
-  all_corners P u all i h = subst P (corner_in_list u i (corner_at u i) h) (all i (corner_at u i) (let n = corners_length u in omega arith))
-
-  corners_all : (P : Point → Type 0) (u : Winding) → ((i : ℕ) → i < length u.edges → P (corner_at u i)) → All P (corners u)
-  corners_all P u all i d h = let n = corners_length u in let below : i < length u.edges = omega arith in subst P (sym (corner_in_list u i d below)) (all i below)
-
-  any_corner : (P : Point → Type 0) (u : Winding) → Any P (corners u) → (i : ℕ) × (i < length u.edges) × P (corner_at u i)
-  any_corner P u some = let n = corners_length u in let below : some.0 < length u.edges = (let l = some.2 in omega arith) in (some.0, below, subst P (sym some.3 ∙ corner_in_list u some.0 some.1 below) some.4)
-
-  corner_any : (P : Point → Type 0) (u : Winding) → ((i : ℕ) × (i < length u.edges) × P (corner_at u i)) → Any P (corners u)
-  corner_any P u some = (some.0, corner_at u some.0, (let n = corners_length u in let l = some.1 in omega arith), corner_in_list u some.0 (corner_at u some.0) some.1, some.2)
 
   pub least_too : (normal : List ℤ) (d : ℤ) → IsLeastDistance normal (corners v) d → IsLeastDistance normal (corners w) d
   least_too normal d is = record {
