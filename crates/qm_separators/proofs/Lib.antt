@@ -20,3 +20,4 @@ pub mod Looks
 pub mod OneLook
 pub mod GroupLook
 pub mod GainedPlanes
+pub mod DoorwaySamples

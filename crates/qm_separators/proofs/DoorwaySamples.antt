@@ -1,0 +1,106 @@
+-- Worked rows: two doorways one behind the other, their separators, and steps of a chain that goes through both.
+use Rattle.std.proofs.Common.{◌≡◌, ℕ, zero, suc, ◌<◌, ℤ, pos, neg_ℤ, ◌*◌, ◌≤◌, ◌+ℤ◌, ◌-ℤ◌, ◌*ℤ◌, ◌<ℤ◌, List, [], ◌∷◌, length, get_or, All, Contains, Option, Some, None, slice_get, refl, ap, sym, subst, ◌∙◌, arith, unsigned_abs, ◌⊎◌, inl, inr, ⊎_elim}
+use Rattle.std.specs.Int.{◌∣◌}
+use Rattle.std.proofs.lemmas.Int.{ints}
+use Rattle.std.proofs.lemmas.List.Elements.{All-from_recursion}
+use Rattle.std.proofs.Math.Nat.{eq-one_of_dvd-one}
+use Rattle.qm_numbers.specs.Rounding.{IsNearest, IsRoundedDown}
+use Rattle.qm_space.specs.Point.{Point, point_times}
+use Rattle.qm_space.specs.Plane.{Plane, plane_of, value, IsInFront, IsNotInFront, IsNotBehind}
+use Rattle.qm_space.specs.Meet.{meet}
+use Rattle.qm_space.specs.Determinant.{determinant}
+use Rattle.qm_space.specs.Vector.{normal_of}
+use Rattle.qm_space.specs.ThreePoints.{outward_plane}
+use Rattle.qm_convex.specs.Winding.{Winding, next_place, corner_at, corners, IsConvex, IsInRegion}
+use Rattle.qm_convex.specs.Sides.{HasNoCornerBehind}
+use Rattle.qm_convex.specs.inner.Square.{square}
+use Rattle.qm_convex.proofs.Squares.{square_convex, square_region}
+use Rattle.qm_coarse_rows.proofs.RoomSamples.{at}
+use Rattle.qm_separators.specs.WholePoints.{IsNearestPoint, IsAround}
+use Rattle.qm_separators.specs.Candidate.{HasLowestNormal, HasNormalOf, HasNormalAcross}
+use Rattle.qm_separators.specs.Separator.{IsSeparator}
+use Rattle.qm_separators.proofs.CornerLists.{all_corners, contains_corner}
+use Rattle.qm_separators.proofs.Distances.{least_by_neighbours}
+
+-- ---- a doorway: y and z between -16 and 16
+
+abbrev pub side_y : Plane
+side_y = plane_of (pos 0) (pos 1) (pos 0) (neg_ℤ (pos 16))
+
+abbrev pub side_z : Plane
+side_z = plane_of (pos 0) (pos 0) (pos 1) (neg_ℤ (pos 16))
+
+abbrev pub doorway : ℤ → Winding
+doorway x = square (at x) side_y side_z
+
+abbrev pub spot : ℤ → ℤ → ℤ → Point
+spot x y z = record { x = x; y = y; z = z; w = pos 1 }
+
+pub doorway_convex : (x : ℤ) → IsConvex (doorway x)
+unfolding meet determinant
+doorway_convex x = square_convex (at x) side_y side_z (omega (arith, ints)) (omega (arith, ints)) (omega (arith, ints))
+
+abbrev low : ℤ
+low = neg_ℤ (pos 16)
+
+abbrev high : ℤ
+high = pos 16
+
+near_corners : corners (doorway (pos 0)) ≡ spot (pos 0) low low ∷ spot (pos 0) high low ∷ spot (pos 0) high high ∷ spot (pos 0) low high ∷ []
+unfolding corner_at next_place meet determinant
+near_corners = refl
+
+far_corners : corners (doorway (pos 64)) ≡ spot (pos 64) low low ∷ spot (pos 64) high low ∷ spot (pos 64) high high ∷ spot (pos 64) low high ∷ []
+unfolding corner_at next_place meet determinant
+far_corners = refl
+
+-- ---- a whole point is the nearest to itself, and around itself
+
+whole_nearest : (n : ℤ) → IsNearest n (pos 1) n
+whole_nearest n = record { near = size; away = λ e. absurd (omega (arith, e, zero_size)) }
+  where
+    zero_size : unsigned_abs (n -ℤ (n *ℤ pos 1)) ≡ 0
+    zero_size = omega (arith, ints)
+
+    size : 2 * unsigned_abs (n -ℤ (n *ℤ pos 1)) ≤ unsigned_abs (pos 1)
+    size = omega (arith, zero_size)
+
+whole_down : (n : ℤ) → IsRoundedDown n (pos 1) n
+whole_down n = record { at_most = omega (arith, ints); next = omega (arith, ints) }
+
+pub nearest_itself : (x y z : ℤ) → IsNearestPoint (spot x y z) (spot x y z)
+nearest_itself x y z = record { x = whole_nearest x; y = whole_nearest y; z = whole_nearest z; weight = refl }
+
+pub around_itself : (x y z : ℤ) → IsAround (spot x y z) (spot x y z)
+around_itself x y z = record { x = inl (whole_down x); y = inl (whole_down y); z = inl (whole_down z); weight = refl }
+
+-- ---- the plane from the left side of the near doorway to the right side of the far one
+
+abbrev pub left_right : Plane
+left_right = plane_of (pos 1) (pos 2) (pos 0) (pos 32)
+
+left_right_lowest : HasLowestNormal left_right
+left_right_lowest k x y z = eq-one_of_dvd-one x
+
+left_right_normal : HasNormalOf (spot (pos 64) low low) (spot (pos 0) high low) (spot (pos 0) high high) left_right
+unfolding outward_plane
+left_right_normal = record { factor = neg_ℤ (pos 1024); some_factor = λ e. omega (arith, ints, e); multiple = refl; lowest = left_right_lowest }
+
+left_right_across : HasNormalAcross (corners (doorway (pos 0))) (corners (doorway (pos 64))) left_right
+unfolding next_place
+left_right_across = record {
+  place = 1;
+  first = spot (pos 0) high low;
+  second = spot (pos 0) high high;
+  corner = spot (pos 64) low low;
+  first_is = ap (λ (ps : List Point). slice_get ps 1) near_corners;
+  second_is = ap (λ (ps : List Point). slice_get ps (next_place (length ps) 1)) near_corners;
+  corner_is = subst (λ (ps : List Point). Contains ps (spot (pos 64) low low)) (sym far_corners) (0, omega arith, refl);
+  from = spot (pos 0) high low;
+  to = spot (pos 0) high high;
+  at = spot (pos 64) low low;
+  from_is = nearest_itself (pos 0) high low;
+  to_is = nearest_itself (pos 0) high high;
+  at_is = around_itself (pos 64) low low;
+  normal = left_right_normal;
+}
