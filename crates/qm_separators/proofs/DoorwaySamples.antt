@@ -104,3 +104,63 @@ left_right_across = record {
   at_is = around_itself (pos 64) low low;
   normal = left_right_normal;
 }
+
+module _ (h : Plane) (far_front : All (λ p. IsNotBehind h p) (spot (pos 64) low low ∷ spot (pos 64) high low ∷ spot (pos 64) high high ∷ spot (pos 64) low high ∷ [])) where
+  none_behind_far : HasNoCornerBehind (doorway (pos 64)) h
+  none_behind_far = all_corners (λ p. IsNotBehind h p) (doorway (pos 64)) (subst (λ (ps : List Point). All (λ p. IsNotBehind h p) ps) (sym far_corners) far_front)
+
+near_weights : (i : ℕ) (d : Point) → i < length (corners (doorway (pos 0))) → pos 0 <ℤ (get_or (corners (doorway (pos 0))) i d).w
+near_weights = subst (λ (ps : List Point). All (λ p. pos 0 <ℤ p.w) ps) (sym near_corners) (All-from_recursion (λ p. pos 0 <ℤ p.w) (spot (pos 0) low low ∷ spot (pos 0) high low ∷ spot (pos 0) high high ∷ spot (pos 0) low high ∷ []) (omega (arith, ints), (omega (arith, ints), (omega (arith, ints), (omega (arith, ints), tt)))))
+
+pub left_right_row : IsSeparator (doorway (pos 0)) (doorway (pos 64)) left_right
+unfolding value corner_at next_place meet determinant
+left_right_row = record {
+  candidate = inl left_right_across;
+  least = least_by_neighbours (pos 1 ∷ pos 2 ∷ pos 0 ∷ []) (corners (doorway (pos 0))) (pos 32) near_weights
+      (subst (λ (ps : List Point). All (λ p. IsNotInFront left_right p) ps) (sym near_corners) (All-from_recursion (λ p. IsNotInFront left_right p) (spot (pos 0) low low ∷ spot (pos 0) high low ∷ spot (pos 0) high high ∷ spot (pos 0) low high ∷ []) (omega (arith, ints), (omega (arith, ints), (omega (arith, ints), (omega (arith, ints), tt))))))
+      (1, spot (pos 0) high low, omega arith, refl, omega (arith, ints));
+  in_front = none_behind_far left_right (All-from_recursion (λ p. IsNotBehind left_right p) (spot (pos 64) low low ∷ spot (pos 64) high low ∷ spot (pos 64) high high ∷ spot (pos 64) low high ∷ []) (omega (arith, ints), (omega (arith, ints), (omega (arith, ints), (omega (arith, ints), tt)))));
+  strict = inl (0, omega arith, omega (arith, ints));
+}
+
+-- ---- and the one from the right side of the near doorway to the left side of the far one
+
+abbrev pub right_left : Plane
+right_left = plane_of (pos 1) (neg_ℤ (pos 2)) (pos 0) (pos 32)
+
+right_left_lowest : HasLowestNormal right_left
+right_left_lowest k x y z = eq-one_of_dvd-one x
+
+right_left_normal : HasNormalOf (spot (pos 64) high low) (spot (pos 0) low high) (spot (pos 0) low low) right_left
+unfolding outward_plane
+right_left_normal = record { factor = neg_ℤ (pos 1024); some_factor = λ e. omega (arith, ints, e); multiple = refl; lowest = right_left_lowest }
+
+right_left_across : HasNormalAcross (corners (doorway (pos 0))) (corners (doorway (pos 64))) right_left
+unfolding next_place
+right_left_across = record {
+  place = 3;
+  first = spot (pos 0) low high;
+  second = spot (pos 0) low low;
+  corner = spot (pos 64) high low;
+  first_is = ap (λ (ps : List Point). slice_get ps 3) near_corners;
+  second_is = ap (λ (ps : List Point). slice_get ps (next_place (length ps) 3)) near_corners;
+  corner_is = subst (λ (ps : List Point). Contains ps (spot (pos 64) high low)) (sym far_corners) (1, omega arith, refl);
+  from = spot (pos 0) low high;
+  to = spot (pos 0) low low;
+  at = spot (pos 64) high low;
+  from_is = nearest_itself (pos 0) low high;
+  to_is = nearest_itself (pos 0) low low;
+  at_is = around_itself (pos 64) high low;
+  normal = right_left_normal;
+}
+
+pub right_left_row : IsSeparator (doorway (pos 0)) (doorway (pos 64)) right_left
+unfolding value corner_at next_place meet determinant
+right_left_row = record {
+  candidate = inl right_left_across;
+  least = least_by_neighbours (pos 1 ∷ neg_ℤ (pos 2) ∷ pos 0 ∷ []) (corners (doorway (pos 0))) (pos 32) near_weights
+      (subst (λ (ps : List Point). All (λ p. IsNotInFront right_left p) ps) (sym near_corners) (All-from_recursion (λ p. IsNotInFront right_left p) (spot (pos 0) low low ∷ spot (pos 0) high low ∷ spot (pos 0) high high ∷ spot (pos 0) low high ∷ []) (omega (arith, ints), (omega (arith, ints), (omega (arith, ints), (omega (arith, ints), tt))))))
+      (0, spot (pos 0) low low, omega arith, refl, omega (arith, ints));
+  in_front = none_behind_far right_left (All-from_recursion (λ p. IsNotBehind right_left p) (spot (pos 64) low low ∷ spot (pos 64) high low ∷ spot (pos 64) high high ∷ spot (pos 64) low high ∷ []) (omega (arith, ints), (omega (arith, ints), (omega (arith, ints), (omega (arith, ints), tt)))));
+  strict = inl (1, omega arith, omega (arith, ints));
+}

@@ -21,3 +21,4 @@ pub mod OneLook
 pub mod GroupLook
 pub mod GainedPlanes
 pub mod DoorwaySamples
+pub mod StepSamples
