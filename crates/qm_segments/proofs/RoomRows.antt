@@ -123,7 +123,7 @@ never p c =
     let behind = c.behind 0 (at (pos 0)) (omega arith) in
     absurd (omega (arith, linear))
 
-are_touchings : AreTouchings rooms.planes (meetings rooms) touchings
+pub are_touchings : AreTouchings rooms.planes (meetings rooms) touchings
 are_touchings = touching is_first (apart never (touching is_second none))
 
 -- ---- each room has a point
@@ -136,7 +136,7 @@ in_cube x low high = record {
   z = record { above = omega (arith, ints); below = omega (arith, ints) };
 }
 
-have_points : HasPoints rooms
+pub have_points : HasPoints rooms
 unfolding value
 have_points way there = All-contains (λ way. (x : Point) × IsInLeaf rooms.planes way x) (ways rooms.shape) way
     (All-from_recursion (λ way. (x : Point) × IsInLeaf rooms.planes way x) (ways rooms.shape) (

@@ -22,3 +22,4 @@ pub mod GroupLook
 pub mod GainedPlanes
 pub mod DoorwaySamples
 pub mod StepSamples
+pub mod ChainRows

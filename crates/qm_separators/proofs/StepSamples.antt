@@ -12,7 +12,7 @@ use Rattle.qm_convex.specs.Winding.{Winding, IsConvex, IsInRegion}
 use Rattle.qm_convex.specs.Sides.{HasNoneInFront, IsWhollyInFront}
 use Rattle.qm_convex.specs.Cut.{IsPartInFront}
 use Rattle.qm_convex.specs.inner.Square.{square}
-use Rattle.qm_convex.proofs.Squares.{square_region}
+use Rattle.qm_convex.proofs.Squares.{square_region, square_convex, turn_y_z}
 use Rattle.qm_convex.proofs.Cutting.{whole_is_part}
 use Rattle.qm_space.specs.Cube.{wall_y, wall_z}
 use Rattle.qm_coarse_rows.proofs.RoomSamples.{at}
@@ -157,3 +157,13 @@ module _ (aside : Winding) (is : IsPartInFront aside (square (at (pos 128)) wall
   blocked_row = target_cut_away
       (record { far_is = whole_is_part aside (at (pos 0)) is.convex aside_in_front; near_is = whole_is_part (doorway (pos 0)) (flipped (at (pos 128))) (doorway_convex (pos 0)) (behind_doorway (pos 0) (pos 128) (omega (arith, ints))) })
       (λ p r all. beside_separator p r (all right_left right_left_row))
+
+-- there is such a part
+aside_row : (aside : Winding) × IsPartInFront aside (square (at (pos 128)) wall_y wall_z) (plane_of (pos 0) (pos 1) (pos 0) (pos 200))
+unfolding value
+aside_row = ⊎_elim (λ part. part)
+    (λ none. absurd (let l = none (spot (pos 128) (pos 300) (pos 0)) ((square_region (at (pos 128)) wall_y wall_z (spot (pos 128) (pos 300) (pos 0))).1 (omega (arith, ints), omega (arith, ints), record { near = omega (arith, ints); far = omega (arith, ints) }, record { near = omega (arith, ints); far = omega (arith, ints) })) in omega (arith, ints, l)))
+    (part_or_none (square (at (pos 128)) wall_y wall_z) (plane_of (pos 0) (pos 1) (pos 0) (pos 200)) (square_convex (at (pos 128)) wall_y wall_z (let e = turn_y_z (at (pos 128)) in omega (arith, ints)) (omega (arith, ints)) (omega (arith, ints))))
+
+blocked_there : Blocks through_two aside_row.0 (at (pos 128))
+blocked_there = blocked_row aside_row.0 aside_row.1
