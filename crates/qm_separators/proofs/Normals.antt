@@ -1,12 +1,13 @@
 -- The normal of three whole points in lowest terms: there is one, up to its sign, where they do not lie on one line.
-use Rattle.std.proofs.Common.{◌≡◌, ℕ, ◌*◌, ◌≤◌, ◌<◌, Bool, true, false, not, IsTrue, ℤ, pos, negsuc, neg_ℤ, ◌+ℤ◌, ◌-ℤ◌, ◌*ℤ◌, ◌<ℤ◌, [], ◌∷◌, refl, ap, sym, subst, ◌∙◌, arith, unsigned_abs, int_div, ◌⊎◌, inl, inr, ⊎_elim}
+use Rattle.std.proofs.Common.{◌≡◌, ℕ, ◌*◌, ◌≤◌, ◌<◌, Bool, true, false, not, IsTrue, ℤ, pos, negsuc, neg_ℤ, ◌+ℤ◌, ◌-ℤ◌, ◌*ℤ◌, ◌<ℤ◌, [], ◌∷◌, refl, ap, sym, subst, ◌∙◌, arith, unsigned_abs, int_div, ◌⊎◌, inl, inr, ⊎_elim, ◌↔◌}
 use Rattle.std.specs.Int.{◌∣◌}
 use Rattle.std.proofs.lemmas.Int.{ints}
-use Rattle.std.proofs.lemmas.Nat.Gcd.{dvd-zero}
+use Rattle.std.proofs.lemmas.Nat.Gcd.{dvd-zero, dvd_trans, dvd_antisymm}
 use Rattle.std.proofs.Math.Nat.{dvd-mul_right}
 use Rattle.qm_numbers.proofs.IntegerProducts.{linear, *ℤ_zero, neg-*ℤ-neg}
 use Rattle.qm_numbers.proofs.Signs.{abs_neg, abs_product, zero_beside, zero_beside_positive}
-use Rattle.qm_numbers.proofs.Divisors.{exact_division}
+use Rattle.qm_numbers.specs.Gcd.{gcd}
+use Rattle.qm_numbers.proofs.Divisors.{exact_division, gcd_divides_left, gcd_divides_right, divides_gcd}
 use Rattle.qm_numbers.proofs.Ring.{variable, number, negated, ◌⊕◌, ◌⊖◌, ◌⊗◌, solved}
 use Rattle.qm_space.specs.Point.{Point, point_times}
 use Rattle.qm_space.specs.Plane.{Plane, value, IsOn, flipped, scaled}
@@ -16,7 +17,7 @@ use Rattle.qm_space.specs.ThreePoints.{outward_plane, common_factor, reduced}
 use Rattle.qm_space.proofs.Planes.{same_point, value_scaled}
 use Rattle.qm_space.proofs.PlaneSymbols.{point_from, numbers_of_point, symbol_outward}
 use Rattle.qm_space.proofs.PlanesThroughPoints.{outward_holds_second, HasNoNormal}
-use Rattle.qm_space.proofs.ReducedPlanes.{same_plane, scaled_neg, scaled_flipped, flipped_twice, leads_flipped, IsLowest, multiples_equal, common_factor_positive, reduced_back, reduced_has_normal, reduced_lowest}
+use Rattle.qm_space.proofs.ReducedPlanes.{same_plane, scaled_neg, scaled_flipped, flipped_twice, leads_flipped, IsLowest, multiples_equal, common_factor_positive, reduced_back, common_factor_divides, divides_common_factor, reduced_lowest}
 use Rattle.qm_separators.specs.Candidate.{HasLowestNormal, HasNormalOf}
 
 -- ---- a plane through a whole point: what divides its normal divides its distance
@@ -194,3 +195,37 @@ normal_swapped at from to h is = record {
       where
         one : (k a : ℤ) → neg_ℤ (pos 1) *ℤ (k *ℤ a) ≡ neg_ℤ k *ℤ a
         one k a = let t = variable in solved (k ∷ a ∷ []) (negated (number (pos 1)) ⊗ (t 0 ⊗ t 1)) (negated (t 0) ⊗ t 1) tt
+
+-- ---- as code makes it
+
+-- the normals of three whole points are those of the plane through them in lowest terms, to either side
+pub normals_of_points : (at from to : Point) (h : Plane) → from.w ≡ pos 1 → HasNormal (outward_plane at from to) → HasNormalOf at from to h ↔ HasNormalLike h (reduced (outward_plane at from to))
+normals_of_points at from to h weight normal = (
+  (λ is. normal_alone at from to h (reduced (outward_plane at from to)) is (normal_of_points at from to (reduced (outward_plane at from to)) weight normal (alike refl))),
+  normal_of_points at from to h weight normal,
+)
+
+-- the greatest number that divides the normal divides the distance too: it alone brings the plane to lowest terms
+pub factor_of_normal : (at from to : Point) → from.w ≡ pos 1 → gcd (gcd (unsigned_abs (outward_plane at from to).nx) (unsigned_abs (outward_plane at from to).ny)) (unsigned_abs (outward_plane at from to).nz) ≡ common_factor (outward_plane at from to)
+factor_of_normal at from to weight = dvd_antisymm factor common
+  where
+    out : Plane
+    out = outward_plane at from to
+
+    k : ℕ
+    k = gcd (gcd (unsigned_abs out.nx) (unsigned_abs out.ny)) (unsigned_abs out.nz)
+
+    x : k ∣ unsigned_abs out.nx
+    x = dvd_trans k (gcd_divides_left (gcd (unsigned_abs out.nx) (unsigned_abs out.ny)) (unsigned_abs out.nz)) (gcd_divides_left (unsigned_abs out.nx) (unsigned_abs out.ny))
+
+    y : k ∣ unsigned_abs out.ny
+    y = dvd_trans k (gcd_divides_left (gcd (unsigned_abs out.nx) (unsigned_abs out.ny)) (unsigned_abs out.nz)) (gcd_divides_right (unsigned_abs out.nx) (unsigned_abs out.ny))
+
+    z : k ∣ unsigned_abs out.nz
+    z = gcd_divides_right (gcd (unsigned_abs out.nx) (unsigned_abs out.ny)) (unsigned_abs out.nz)
+
+    factor : k ∣ common_factor out
+    factor = divides_common_factor k out (record { nx = x; ny = y; nz = z; d = divides_distance k out from weight (outward_holds_second at from to weight) x y z })
+
+    common : common_factor out ∣ k
+    common = let c = common_factor_divides out in divides_gcd (gcd (unsigned_abs out.nx) (unsigned_abs out.ny)) (unsigned_abs out.nz) (common_factor out) (divides_gcd (unsigned_abs out.nx) (unsigned_abs out.ny) (common_factor out) c.nx c.ny) c.nz

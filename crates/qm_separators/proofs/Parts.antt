@@ -1,15 +1,18 @@
 -- Parts of windings by planes: each winding has one by the planes of a list, or no point of it is in front of them all.
-use Rattle.std.proofs.Common.{◌≡◌, ℕ, pos, List, [], ◌∷◌, Contains, refl, sym, subst, ◌∙◌, arith, ◌⊎◌, inl, inr, ⊎_elim, ◌↔◌}
+use Rattle.std.proofs.Common.{◌≡◌, ℕ, pos, Bool, List, [], ◌∷◌, Contains, refl, sym, subst, ◌∙◌, arith, ◌⊎◌, inl, inr, ⊎_elim, ◌↔◌}
 use Rattle.qm_lists.proofs.Elements.{Contains-first, Contains-later, Contains-cons_cases}
 use Rattle.qm_lists.proofs.Pairs.{All-from_contains}
 use Rattle.std.proofs.lemmas.List.Elements.{All-contains}
 use Rattle.qm_numbers.proofs.IntegerProducts.{linear}
 use Rattle.qm_space.specs.Point.{Point}
-use Rattle.qm_space.specs.Plane.{Plane, value, IsInFront, IsNotBehind, flipped}
+use Rattle.qm_space.specs.Plane.{Plane, value, IsOn, IsInFront, IsNotBehind, flipped}
 use Rattle.qm_space.proofs.Planes.{value_flipped, flipped_in_front}
 use Rattle.qm_convex.specs.Winding.{Winding, corner_at, IsConvex, IsInRegion}
-use Rattle.qm_convex.specs.Sides.{HasNoneInFront, HasCornerBehind, HasCornerInFront, HasNoCornerBehind}
+use Rattle.qm_convex.specs.Sides.{HasNoneInFront, LiesIn, HasCornerBehind, HasCornerInFront, HasNoCornerBehind}
 use Rattle.qm_convex.specs.Cut.{IsPartInFront, IsPartWithin}
+use Rattle.qm_convex.specs.World.{IsInWorld}
+use Rattle.qm_space.specs.Turned.{turned}
+use Rattle.qm_space.proofs.TurnedPlanes.{turned_on}
 use Rattle.qm_convex.proofs.Hull.{hull}
 use Rattle.qm_convex.proofs.Central.{by_corner_in_front, wholly_in_front}
 use Rattle.qm_convex.proofs.Cutting.{front_run, cut_is_part, whole_is_part}
@@ -103,3 +106,16 @@ part_without w v Some Has within left is = record {
     (λ s. (is.points p).1 (s.0, λ h some. s.1 h (within h some))),
   );
 }
+
+-- where a part by some of the planes has no point in front of one of the others, there is no part by all
+pub no_part_after : (w v : Winding) (g : Plane) (Some Has : Plane → Type 0) → ((h : Plane) → Some h → Has h) → Has g → IsPartBy w v Some → HasNoneInFront w g → HasNoPartBy v Has
+no_part_after w v g Some Has within there is none p r all =
+    let l = none p ((is.points p).1 (r, λ h some. all h (within h some))) in let f = all g there in omega (arith, linear)
+
+-- parts of a winding inside the world are inside it
+pub part_by_in_world : (w v : Winding) (Has : Plane → Type 0) → IsInWorld v → IsPartBy w v Has → IsInWorld w
+part_by_in_world w v Has world is = record { convex = is.convex; inside = λ p r. world.inside p ((is.points p).0 r).0 }
+
+-- a winding lies in its plane, turned to either side
+pub lies_in_turned : (v : Winding) (side : Bool) (into : Plane) → into ≡ turned side v.plane → LiesIn v into
+lies_in_turned v side into e p r = subst (λ (h : Plane). IsOn h p) (sym e) ((turned_on side v.plane p).1 r.on)

@@ -6,6 +6,7 @@ use Rattle.qm_numbers.proofs.IntegerProducts.{linear}
 use Rattle.qm_space.specs.Point.{Point}
 use Rattle.qm_space.specs.Plane.{Plane, IsInFront, flipped}
 use Rattle.qm_convex.specs.Winding.{Winding, IsConvex, IsInRegion}
+use Rattle.qm_convex.specs.Sides.{IsWhollyInFront}
 use Rattle.qm_convex.specs.Cut.{IsPartInFront}
 use Rattle.qm_convex.proofs.Central.{middle, middle_in_region}
 use Rattle.qm_separators.specs.Separator.{IsSeparatorFrom}
@@ -125,3 +126,11 @@ leads_to_one state target into next after valid leads also = next_too state stat
 -- a step does not both lead on and block
 pub leads_or_blocks : (state : ChainState) (target : Winding) (into : Plane) (next : ChainState) → IsChainState state → LeadsTo state target into next → Blocks state target into → ⊥
 leads_or_blocks state target into next valid leads blocks = leads_not_blocks state state target target into next valid valid (state_itself state) (same_itself target) leads blocks
+
+-- ---- separators that are kept
+
+-- where the first point of a step leaves the source whole, the separators of what it leaves are those of the source
+pub separators_kept : (state : ChainState) (near : Winding) (g : Plane) → IsChainState state → IsPartInFront near state.source g → IsWhollyInFront state.source g → (h : Plane) → IsSeparatorFrom state.pass state.source h ↔ IsSeparatorFrom state.pass near h
+separators_kept state near g valid is whole =
+    separators_alike state.pass state.pass state.source near (pass_itself state.pass) valid.pass_convex valid.pass_convex valid.source_convex is.convex
+    (λ p. ((λ r. (is.points p).1 (r, whole p r)), (λ r. ((is.points p).0 r).0)))

@@ -1,6 +1,6 @@
 -- Whole points near a point: the nearest is one alone, those around it are at most eight; they stay in the closed cube, and
 -- are the same for all ways in which a place is written.
-use Rattle.std.proofs.Common.{◌≡◌, ℕ, ◌*◌, ◌≤◌, ℤ, pos, neg_ℤ, ◌*ℤ◌, ◌<ℤ◌, ◌≤ℤ◌, refl, ap, sym, ◌∙◌, arith, unsigned_abs, ◌⊎◌, inl, inr, ⊎_elim}
+use Rattle.std.proofs.Common.{◌≡◌, ℕ, ◌*◌, ◌≤◌, ℤ, pos, neg_ℤ, ◌*ℤ◌, ◌<ℤ◌, ◌≤ℤ◌, List, refl, ap, sym, subst, ◌∙◌, ◌↔◌, arith, unsigned_abs, ◌⊎◌, inl, inr, ⊎_elim}
 use Rattle.std.proofs.lemmas.Int.{ints}
 use Rattle.std.proofs.Math.IntN.{*ℤ_comm}
 use Rattle.qm_numbers.specs.Rounding.{IsRoundedDown, IsRoundedUp, IsNearest}
@@ -8,9 +8,10 @@ use Rattle.qm_numbers.proofs.IntegerProducts.{linear}
 use Rattle.qm_numbers.proofs.Divisors.{one_floor}
 use Rattle.qm_numbers.proofs.Roundings.{down_small, up_small, nearest_small}
 use Rattle.qm_space.specs.Bounds.{extent, world_extent}
-use Rattle.qm_space.specs.Point.{Point, IsSamePlace, IsCoordinate, IsWholePoint}
+use Rattle.qm_space.specs.Point.{Point, whole_point, IsSamePlace, IsCoordinate, IsWholePoint}
 use Rattle.qm_space.specs.Cube.{IsUpToExtent, IsInClosedCube}
 use Rattle.qm_space.proofs.Planes.{same_point}
+use Rattle.qm_geom.specs.Rounding.{AreCoordinatesBy}
 use Rattle.qm_separators.specs.WholePoints.{IsRoundedEitherWay, IsWholeBy, IsNearestPoint, IsAround}
 use Rattle.qm_separators.proofs.Roundings.{one_up, one_nearest, down, up, nearest, either_too, nearest_too}
 
@@ -72,3 +73,29 @@ either_small a b q n h l r = ⊎_elim (down_small a b q n h l) (up_small a b q n
 
 pub around_in_cube : (p n : Point) → IsInClosedCube p → IsAround p n → IsWholePoint n
 around_in_cube = whole_in_cube IsRoundedEitherWay either_small
+
+-- ---- as code makes them
+
+-- the point of three whole numbers
+pub whole_by_coordinates : (Rule : ℤ → ℤ → ℤ → Type 0) (p : Point) (numbers : List ℤ) → AreCoordinatesBy Rule p numbers → IsWholeBy Rule p (whole_point numbers)
+whole_by_coordinates Rule p numbers are = record { x = are.of_x; y = are.of_y; z = are.of_z; weight = refl }
+
+-- each coordinate is the one's or the other's
+pub record IsMixOf (below above at : Point) : Type 0 where
+  pub x : (at.x ≡ below.x) ⊎ (at.x ≡ above.x)
+  pub y : (at.y ≡ below.y) ⊎ (at.y ≡ above.y)
+  pub z : (at.z ≡ below.z) ⊎ (at.z ≡ above.z)
+  pub weight : at.w ≡ pos 1
+
+-- the whole points around a point are those with coordinates of the one below and the one above
+pub around_is_mix : (p below above at : Point) → pos 0 <ℤ p.w → IsWholeBy IsRoundedDown p below → IsWholeBy IsRoundedUp p above → IsAround p at ↔ IsMixOf below above at
+around_is_mix p below above at h low high = (
+  (λ is. record { x = mixed p.x p.w below.x above.x at.x h low.x high.x is.x; y = mixed p.y p.w below.y above.y at.y h low.y high.y is.y; z = mixed p.z p.w below.z above.z at.z h low.z high.z is.z; weight = is.weight }),
+  (λ mix. record { x = rounded p.x p.w below.x above.x at.x low.x high.x mix.x; y = rounded p.y p.w below.y above.y at.y low.y high.y mix.y; z = rounded p.z p.w below.z above.z at.z low.z high.z mix.z; weight = mix.weight }),
+)
+  where
+    mixed : (o u d e q : ℤ) → pos 0 <ℤ u → IsRoundedDown o u d → IsRoundedUp o u e → IsRoundedEitherWay o u q → (q ≡ d) ⊎ (q ≡ e)
+    mixed o u d e q h down up either = ⊎_elim (λ r. inl (one_floor o u q d h r down)) (λ r. inr (one_up o u q e h r up)) either
+
+    rounded : (o u d e q : ℤ) → IsRoundedDown o u d → IsRoundedUp o u e → (q ≡ d) ⊎ (q ≡ e) → IsRoundedEitherWay o u q
+    rounded o u d e q down up either = ⊎_elim (λ same. inl (subst (IsRoundedDown o u) (sym same) down)) (λ same. inr (subst (IsRoundedUp o u) (sym same) up)) either
