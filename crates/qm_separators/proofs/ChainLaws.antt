@@ -3,7 +3,6 @@
 use Rattle.std.proofs.Common.{◌≡◌, ◌≢◌, ℕ, List, [], ◌∷◌, map, Contains, ◌⊎◌}
 use Rattle.qm_lists.proofs.EachPair.{EachPair}
 use Rattle.qm_space.specs.Point.{Point}
-use Rattle.qm_convex.specs.Winding.{IsConvex}
 use Rattle.qm_partition.specs.Tree.{Tree}
 use Rattle.qm_partition.specs.Ways.{HasPoints}
 use Rattle.qm_contacts.specs.Meeting.{meetings}

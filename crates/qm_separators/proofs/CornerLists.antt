@@ -1,8 +1,7 @@
 -- The list of a winding's corners, by their places.
-use Rattle.std.proofs.Common.{◌≡◌, ℕ, ◌<◌, length, get_or, Contains, Some, slice_get, ap, sym, subst, ◌∙◌, arith}
+use Rattle.std.proofs.Common.{◌≡◌, ℕ, ◌<◌, length, Contains, Some, slice_get, ap, sym, subst, ◌∙◌, arith}
 use Rattle.std.specs.List.{All, Any}
 use Rattle.std.proofs.lemmas.Option.{slice_get-get_or, get_or_from_slice_get, slice_get_within}
-use Rattle.std.proofs.lemmas.List.Elements.{Contains-get_or}
 use Rattle.qm_space.specs.Point.{Point}
 use Rattle.qm_convex.specs.Winding.{Winding, corner_at, corners}
 use Rattle.qm_convex.proofs.Corners.{corners_length, corner_in_list}

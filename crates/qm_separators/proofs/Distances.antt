@@ -1,17 +1,17 @@
 -- The least distance at which no corner is in front: there is one for each normal, it is one alone, and how large it can be.
-use Rattle.std.proofs.Common.{◌≡◌, ℕ, zero, suc, ◌+◌, ◌*◌, ◌≤◌, ◌<◌, ◌^◌, ℤ, pos, neg_ℤ, ◌+ℤ◌, ◌-ℤ◌, ◌*ℤ◌, ◌≤ℤ◌, ◌<ℤ◌, List, [], ◌∷◌, length, get_or, Some, slice_get, refl, ap, sym, subst, ◌∙◌, arith, unsigned_abs}
+use Rattle.std.proofs.Common.{◌≡◌, ℕ, zero, suc, ◌*◌, ◌≤◌, ◌<◌, ℤ, pos, neg_ℤ, ◌+ℤ◌, ◌-ℤ◌, ◌*ℤ◌, ◌≤ℤ◌, ◌<ℤ◌, List, [], ◌∷◌, length, get_or, refl, subst, arith, unsigned_abs}
 use Rattle.std.specs.Int.{int_max}
 use Rattle.std.specs.List.{All, Any}
 use Rattle.std.proofs.lemmas.Int.{ints}
 use Rattle.std.proofs.lemmas.Option.{slice_get-get_or, get_or_from_slice_get}
 use Rattle.std.proofs.Math.IntN.{*ℤ_comm}
-use Rattle.qm_numbers.proofs.IntegerProducts.{linear, +ℤ-*ℤ, -ℤ-*ℤ, one_*ℤ, neg-*ℤ}
-use Rattle.qm_numbers.proofs.Signs.{by_order, by_least, times_at_most, abs_sum, abs_product_bound, within_abs}
+use Rattle.qm_numbers.proofs.IntegerProducts.{linear, +ℤ-*ℤ, one_*ℤ, neg-*ℤ}
+use Rattle.qm_numbers.proofs.Signs.{by_order, by_least, times_at_most, abs_sum, abs_product_bound}
 use Rattle.qm_space.specs.Bounds.{world_extent, normal_bound, outward_distance_bound}
 use Rattle.qm_space.specs.Point.{Point}
 use Rattle.qm_space.specs.Plane.{Plane, value, IsNotInFront, IsInFront}
 use Rattle.qm_space.specs.Cube.{IsUpToExtent, IsInClosedCube}
-use Rattle.qm_geom.specs.LeastDistance.{plane_at_distance, IsComponent, IsLeastDistance}
+use Rattle.qm_geom.specs.LeastDistance.{plane_at_distance, IsLeastDistance}
 use Rattle.qm_geom.specs.inner.LeastDistanceOf.{IsLeastDistanceOf}
 use Rattle.qm_geom.specs.inner.Vectors.{vector_of, step_to, dot}
 use Rattle.qm_geom.proofs.LeastDistances.{up_is_least, IsLeastSoFar, so_far_begun, so_far_gained, so_far_ended}

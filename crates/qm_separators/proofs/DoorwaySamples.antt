@@ -1,25 +1,23 @@
 -- Worked rows: two doorways one behind the other, their separators, and steps of a chain that goes through both.
-use Rattle.std.proofs.Common.{◌≡◌, ℕ, zero, suc, ◌<◌, ℤ, pos, neg_ℤ, ◌*◌, ◌≤◌, ◌+ℤ◌, ◌-ℤ◌, ◌*ℤ◌, ◌<ℤ◌, List, [], ◌∷◌, length, get_or, All, Contains, Option, Some, None, slice_get, refl, ap, sym, subst, ◌∙◌, arith, unsigned_abs, ◌⊎◌, inl, inr, ⊎_elim}
-use Rattle.std.specs.Int.{◌∣◌}
+use Rattle.std.proofs.Common.{◌≡◌, ℕ, ◌<◌, ℤ, pos, neg_ℤ, ◌*◌, ◌≤◌, ◌-ℤ◌, ◌*ℤ◌, ◌<ℤ◌, List, [], ◌∷◌, length, get_or, All, Contains, slice_get, refl, ap, sym, subst, arith, unsigned_abs, inl}
 use Rattle.std.proofs.lemmas.Int.{ints}
 use Rattle.std.proofs.lemmas.List.Elements.{All-from_recursion}
 use Rattle.std.proofs.Math.Nat.{eq-one_of_dvd-one}
 use Rattle.qm_numbers.specs.Rounding.{IsNearest, IsRoundedDown}
-use Rattle.qm_space.specs.Point.{Point, point_times}
-use Rattle.qm_space.specs.Plane.{Plane, plane_of, value, IsInFront, IsNotInFront, IsNotBehind}
+use Rattle.qm_space.specs.Point.{Point}
+use Rattle.qm_space.specs.Plane.{Plane, plane_of, value, IsNotInFront, IsNotBehind}
 use Rattle.qm_space.specs.Meet.{meet}
 use Rattle.qm_space.specs.Determinant.{determinant}
-use Rattle.qm_space.specs.Vector.{normal_of}
 use Rattle.qm_space.specs.ThreePoints.{outward_plane}
-use Rattle.qm_convex.specs.Winding.{Winding, next_place, corner_at, corners, IsConvex, IsInRegion}
+use Rattle.qm_convex.specs.Winding.{Winding, next_place, corner_at, corners, IsConvex}
 use Rattle.qm_convex.specs.Sides.{HasNoCornerBehind}
 use Rattle.qm_convex.specs.inner.Square.{square}
-use Rattle.qm_convex.proofs.Squares.{square_convex, square_region}
+use Rattle.qm_convex.proofs.Squares.{square_convex}
 use Rattle.qm_coarse_rows.proofs.RoomSamples.{at}
 use Rattle.qm_separators.specs.WholePoints.{IsNearestPoint, IsAround}
 use Rattle.qm_separators.specs.Candidate.{HasLowestNormal, HasNormalOf, HasNormalAcross}
 use Rattle.qm_separators.specs.Separator.{IsSeparator}
-use Rattle.qm_separators.proofs.CornerLists.{all_corners, contains_corner}
+use Rattle.qm_separators.proofs.CornerLists.{all_corners}
 use Rattle.qm_separators.proofs.Distances.{least_by_neighbours}
 
 -- ---- a doorway: y and z between -16 and 16

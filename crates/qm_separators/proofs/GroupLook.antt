@@ -1,13 +1,13 @@
 -- A group look: the same look for all whole points around a corner at once, by the one that is rounded down.
-use Rattle.std.proofs.Common.{◌≡◌, ℕ, ◌+◌, ◌*◌, ◌≤◌, ◌<◌, ℤ, pos, neg_ℤ, ◌+ℤ◌, ◌-ℤ◌, ◌*ℤ◌, ◌<ℤ◌, ◌≤ℤ◌, [], ◌∷◌, length, refl, ap, sym, subst, ◌∙◌, arith, unsigned_abs, ◌⊎◌, inl, inr, ⊎_elim}
+use Rattle.std.proofs.Common.{◌≡◌, ℕ, ◌+◌, ◌*◌, ◌≤◌, ◌<◌, ℤ, pos, neg_ℤ, ◌+ℤ◌, ◌-ℤ◌, ◌*ℤ◌, ◌<ℤ◌, ◌≤ℤ◌, [], length, ap, ◌∙◌, arith, unsigned_abs, ⊎_elim}
 use Rattle.std.specs.Int.{int_max, int_min}
 use Rattle.std.proofs.lemmas.Int.{ints, clamps}
 use Rattle.std.proofs.Math.IntN.{*ℤ_comm}
-use Rattle.qm_numbers.specs.Rounding.{IsRoundedDown, IsRoundedUp}
-use Rattle.qm_numbers.proofs.IntegerProducts.{linear, *ℤ_zero, zero_*ℤ, one_*ℤ, *ℤ-neg, +ℤ-*ℤ, -ℤ-*ℤ}
-use Rattle.qm_numbers.proofs.Signs.{by_order, by_least, times_at_most, abs_neg}
+use Rattle.qm_numbers.specs.Rounding.{IsRoundedDown}
+use Rattle.qm_numbers.proofs.IntegerProducts.{linear, *ℤ_zero, zero_*ℤ, one_*ℤ, *ℤ-neg, +ℤ-*ℤ}
+use Rattle.qm_numbers.proofs.Signs.{by_order, times_at_most, abs_neg}
 use Rattle.qm_numbers.proofs.Divisors.{one_floor}
-use Rattle.qm_numbers.proofs.Ring.{variable, number, ◌⊕◌, ◌⊖◌, ◌⊗◌, solved}
+use Rattle.qm_numbers.proofs.Ring.{number, ◌⊕◌, ◌⊖◌, ◌⊗◌, solved}
 use Rattle.qm_space.specs.Point.{Point}
 use Rattle.qm_space.specs.Plane.{Plane, value, flipped}
 use Rattle.qm_space.specs.ThreePoints.{outward_plane}
@@ -22,18 +22,18 @@ use Rattle.qm_separators.proofs.OneLook.{PassesLook, PassesTurned, as_it_is, fli
 
 -- 0 or 1
 pub data IsBit : ℤ → Type 0 where
-  none : {z : ℤ} → z ≡ pos 0 → IsBit z
-  one : {z : ℤ} → z ≡ pos 1 → IsBit z
+  bit_zero : {z : ℤ} → z ≡ pos 0 → IsBit z
+  bit_one : {z : ℤ} → z ≡ pos 1 → IsBit z
 
 either_is_bit : (o u d q : ℤ) → pos 0 <ℤ u → IsRoundedDown o u d → IsRoundedEitherWay o u q → IsBit (q -ℤ d)
 either_is_bit o u d q h low either = ⊎_elim
-    (λ down. let e = one_floor o u q d h down low in none (omega (arith, linear)))
+    (λ down. let e = one_floor o u q d h down low in bit_zero (omega (arith, linear)))
     (λ up. by_order q d
     (λ less. absurd (let a = up.at_least in let b = low.at_most in let m = gap u q d h less in omega (arith, linear)))
-    (λ same. none (omega (arith, linear)))
+    (λ same. bit_zero (omega (arith, linear)))
     (λ more. by_order q (d +ℤ pos 1)
     (λ less. absurd (omega (arith, linear)))
-    (λ same. one (omega (arith, linear)))
+    (λ same. bit_one (omega (arith, linear)))
     (λ much. absurd (let a = up.previous in let b = low.next in let m = at_most u (d +ℤ pos 1) (q -ℤ pos 1) h (omega (arith, linear)) in omega (arith, linear)))))
     either
   where
@@ -60,21 +60,21 @@ abbrev pub step_size : Point → Point → ℕ
 step_size from to = unsigned_abs (to.x -ℤ from.x) + unsigned_abs (to.y -ℤ from.y) + unsigned_abs (to.z -ℤ from.z)
 
 taken_or_left : (z n : ℤ) → IsBit z → (int_min n (pos 0) ≤ℤ (z *ℤ n)) × ((z *ℤ n) ≤ℤ int_max n (pos 0))
-taken_or_left z n (none e) = let f = ap (λ k. k *ℤ n) e ∙ zero_*ℤ n in bounds n (z *ℤ n) f
+taken_or_left z n (bit_zero e) = let f = ap (λ k. k *ℤ n) e ∙ zero_*ℤ n in bounds n (z *ℤ n) f
   where
     bounds : (n m : ℤ) → m ≡ pos 0 → (int_min n (pos 0) ≤ℤ m) × (m ≤ℤ int_max n (pos 0))
     bounds n m f = (omega (arith, ints, clamps), omega (arith, ints, clamps))
-taken_or_left z n (one e) = let f = ap (λ k. k *ℤ n) e ∙ one_*ℤ n in bounds n (z *ℤ n) f
+taken_or_left z n (bit_one e) = let f = ap (λ k. k *ℤ n) e ∙ one_*ℤ n in bounds n (z *ℤ n) f
   where
     bounds : (n m : ℤ) → m ≡ n → (int_min n (pos 0) ≤ℤ m) × (m ≤ℤ int_max n (pos 0))
     bounds n m f = (omega (arith, ints, clamps), omega (arith, ints, clamps))
 
 taken_size : (z n : ℤ) → IsBit z → unsigned_abs (z *ℤ n) ≤ unsigned_abs n
-taken_size z n (none e) = let f = ap (λ k. k *ℤ n) e ∙ zero_*ℤ n in size n (z *ℤ n) f
+taken_size z n (bit_zero e) = let f = ap (λ k. k *ℤ n) e ∙ zero_*ℤ n in size n (z *ℤ n) f
   where
     size : (n m : ℤ) → m ≡ pos 0 → unsigned_abs m ≤ unsigned_abs n
     size n m f = omega (arith, ints)
-taken_size z n (one e) = let f = ap (λ k. k *ℤ n) e ∙ one_*ℤ n in size n (z *ℤ n) f
+taken_size z n (bit_one e) = let f = ap (λ k. k *ℤ n) e ∙ one_*ℤ n in size n (z *ℤ n) f
   where
     size : (n m : ℤ) → m ≡ n → unsigned_abs m ≤ unsigned_abs n
     size n m f = omega (arith, ints)
@@ -98,10 +98,10 @@ module _ (low at from to : Point) where
       let zs = numbers_of_point low (numbers_of_point at (numbers_of_point from (numbers_of_point to (numbers_of_point b [])))) in
       let more = (symbol_outward a f t).d ⊖ (symbol_outward l f t).d in
       let e = solved zs (symbol_value (symbol_outward a f t) q) (symbol_value (symbol_outward l f t) q ⊕ (((a.x ⊖ l.x) ⊗ o.nx ⊕ (a.y ⊖ l.y) ⊗ o.ny) ⊕ (a.z ⊖ l.z) ⊗ o.nz) ⊕ more ⊗ (number (pos 1) ⊖ q.w)) tt in
-      e ∙ at_one _ _ b.w weight
+      at_one (value (outward_plane at from to) b) (value (outward_plane low from to) b +ℤ (((dx *ℤ (outward_plane to from b).nx) +ℤ (dy *ℤ (outward_plane to from b).ny)) +ℤ (dz *ℤ (outward_plane to from b).nz))) ((outward_plane at from to).d -ℤ (outward_plane low from to).d) b.w weight e
     where
-      at_one : (a m w : ℤ) → w ≡ pos 1 → a +ℤ (m *ℤ (pos 1 -ℤ w)) ≡ a
-      at_one a m w e = let f = ap (λ k. m *ℤ (pos 1 -ℤ k)) e ∙ *ℤ_zero m in omega (arith, linear)
+      at_one : (v a m w : ℤ) → w ≡ pos 1 → v ≡ a +ℤ (m *ℤ (pos 1 -ℤ w)) → v ≡ a
+      at_one v a m w e is = let f = ap (λ k. m *ℤ (pos 1 -ℤ k)) e ∙ *ℤ_zero m in omega (arith, linear)
 
   moved_nx : (outward_plane at from to).nx ≡ (outward_plane low from to).nx +ℤ ((dy *ℤ (to.z -ℤ from.z)) -ℤ (dz *ℤ (to.y -ℤ from.y)))
   unfolding outward_plane

@@ -1,5 +1,5 @@
 -- Properties that some list of planes has exactly.
-use Rattle.std.proofs.Common.{◌≡◌, ℕ, zero, suc, ◌<◌, ℤ, pos, ◌<ℤ◌, List, [], ◌∷◌, ◌++◌, Contains, sym, subst, ◌∙◌, arith, ◌⊎◌, inl, inr, ⊎_elim, ◌↔◌}
+use Rattle.std.proofs.Common.{◌≡◌, ℕ, zero, suc, ◌<◌, List, [], ◌∷◌, ◌++◌, Contains, sym, subst, arith, ◌⊎◌, inl, inr, ⊎_elim, ◌↔◌}
 use Rattle.std.proofs.lemmas.Bool.{cases_eq}
 use Rattle.std.proofs.lemmas.List.Elements.{Contains-append_left, Contains-append_right, Contains-append_cases}
 use Rattle.qm_lists.proofs.Elements.{Contains-first, Contains-later, Contains-cons_cases}
@@ -22,10 +22,13 @@ pub listed_one : (g : Plane) → Listed (λ h. h ≡ g)
 listed_one g = (g ∷ [], λ h. ((λ c. ⊎_elim sym (λ more. absurd (no_element h more)) (Contains-cons_cases g h [] c)), (λ e. subst (Contains (g ∷ [])) (sym e) (Contains-first g []))))
 
 pub listed_either : (Has Having : Plane → Type 0) → Listed Has → Listed Having → Listed (λ h. Has h ⊎ Having h)
-listed_either Has Having l m = (l.0 ++ m.0, λ h. (
-  (λ c. ⊎_elim (λ d. inl ((l.1 h).0 d)) (λ d. inr ((m.1 h).0 d)) (Contains-append_cases l.0 m.0 h c)),
-  (λ e. ⊎_elim (λ has. Contains-append_left l.0 m.0 h ((l.1 h).1 has)) (λ having. Contains-append_right l.0 m.0 h ((m.1 h).1 having)) e),
-))
+listed_either Has Having l m = (
+  l.0 ++ m.0,
+  λ h. (
+    (λ c. ⊎_elim (λ d. inl ((l.1 h).0 d)) (λ d. inr ((m.1 h).0 d)) (Contains-append_cases l.0 m.0 h c)),
+    (λ e. ⊎_elim (λ has. Contains-append_left l.0 m.0 h ((l.1 h).1 has)) (λ having. Contains-append_right l.0 m.0 h ((m.1 h).1 having)) e),
+  ),
+)
 
 -- for one of the places below a number
 pub listed_below : (n : ℕ) (Has : ℕ → Plane → Type 0) → ((i : ℕ) → i < n → Listed (Has i)) → Listed (λ h. (i : ℕ) × (i < n) × Has i h)
@@ -42,16 +45,22 @@ abbrev Kept : (Plane → Type 0) → List Plane → Type 0
 Kept Has planes = (some : List Plane) × ((h : Plane) → Contains some h ↔ (Contains planes h × Has h))
 
 one_kept : (Has : Plane → Type 0) (g : Plane) (planes : List Plane) → Has g → Kept Has planes → Kept Has (g ∷ planes)
-one_kept Has g planes has rest = (g ∷ rest.0, λ h. (
-  (λ c. ⊎_elim (λ e. (subst (Contains (g ∷ planes)) e (Contains-first g planes), subst Has e has)) (λ more. let d = (rest.1 h).0 more in (Contains-later g h planes d.0, d.1)) (Contains-cons_cases g h rest.0 c)),
-  (λ c. ⊎_elim (λ e. subst (Contains (g ∷ rest.0)) e (Contains-first g rest.0)) (λ more. Contains-later g h rest.0 ((rest.1 h).1 (more, c.1))) (Contains-cons_cases g h planes c.0)),
-))
+one_kept Has g planes has rest = (
+  g ∷ rest.0,
+  λ h. (
+    (λ c. ⊎_elim (λ e. (subst (Contains (g ∷ planes)) e (Contains-first g planes), subst Has e has)) (λ more. let d = (rest.1 h).0 more in (Contains-later g h planes d.0, d.1)) (Contains-cons_cases g h rest.0 c)),
+    (λ c. ⊎_elim (λ e. subst (Contains (g ∷ rest.0)) e (Contains-first g rest.0)) (λ more. Contains-later g h rest.0 ((rest.1 h).1 (more, c.1))) (Contains-cons_cases g h planes c.0)),
+  ),
+)
 
 one_dropped : (Has : Plane → Type 0) (g : Plane) (planes : List Plane) → (Has g → ⊥) → Kept Has planes → Kept Has (g ∷ planes)
-one_dropped Has g planes not rest = (rest.0, λ h. (
-  (λ c. let d = (rest.1 h).0 c in (Contains-later g h planes d.0, d.1)),
-  (λ c. ⊎_elim (λ e. absurd (not (subst Has (sym e) c.1))) (λ more. (rest.1 h).1 (more, c.1)) (Contains-cons_cases g h planes c.0)),
-))
+one_dropped Has g planes not rest = (
+  rest.0,
+  λ h. (
+    (λ c. let d = (rest.1 h).0 c in (Contains-later g h planes d.0, d.1)),
+    (λ c. ⊎_elim (λ e. absurd (not (subst Has (sym e) c.1))) (λ more. (rest.1 h).1 (more, c.1)) (Contains-cons_cases g h planes c.0)),
+  ),
+)
 
 kept : (Has : Plane → Type 0) → ((h : Plane) → Has h ⊎ (Has h → ⊥)) → (planes : List Plane) → Kept Has planes
 kept Has decide [] = ([], λ h. ((λ c. absurd (no_element h c)), (λ c. absurd (no_element h c.0))))

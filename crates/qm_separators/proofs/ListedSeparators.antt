@@ -1,10 +1,10 @@
 -- The separators of two windings are finitely many: some list has exactly them.
-use Rattle.std.proofs.Common.{◌≡◌, ℕ, ◌<◌, ℤ, pos, ◌<ℤ◌, List, [], ◌∷◌, length, get_or, Option, Some, None, slice_get, refl, ap, sym, subst, ◌∙◌, arith, ◌⊎◌, inl, inr, ⊎_elim, ◌↔◌}
+use Rattle.std.proofs.Common.{◌≡◌, ℕ, ◌<◌, ℤ, pos, ◌<ℤ◌, List, [], ◌∷◌, length, get_or, Option, Some, None, slice_get, refl, ap, sym, subst, ◌∙◌, arith, ◌⊎◌, inl, inr, ⊎_elim}
 use Rattle.qm_numbers.proofs.IntegerProducts.{linear}
 use Rattle.qm_numbers.proofs.Signs.{by_least}
 use Rattle.qm_numbers.proofs.Divisors.{one_floor}
 use Rattle.qm_space.specs.Point.{Point}
-use Rattle.qm_space.specs.Plane.{Plane, value, IsInFront, flipped}
+use Rattle.qm_space.specs.Plane.{Plane, value, flipped}
 use Rattle.qm_space.specs.Reduced.{HasNormal}
 use Rattle.qm_space.specs.Vector.{normal_of}
 use Rattle.qm_space.specs.ThreePoints.{outward_plane, reduced}
@@ -64,11 +64,13 @@ module _ (cs : List Point) (some : 0 < length cs) (weights : (i : ℕ) (d : Poin
     where
       there : HasNormal (outward_plane at from to) → Listed (λ h. HasNormalOf at from to h × IsLeastFor cs h)
       there normal = listed_alike (λ h. (h ≡ at_least g) ⊎ (h ≡ at_least (flipped g))) (λ h. HasNormalOf at from to h × IsLeastFor cs h)
-          (λ h. ((λ e. ⊎_elim
-          (λ same. subst (λ (k : Plane). HasNormalOf at from to k × IsLeastFor cs k) (sym same) (normal_of_points at from to (at_least g) weight normal (alike (at_least_normal g)), at_least_is g))
-          (λ same. subst (λ (k : Plane). HasNormalOf at from to k × IsLeastFor cs k) (sym same) (normal_of_points at from to (at_least (flipped g)) weight normal (opposite (at_least_normal (flipped g))), at_least_is (flipped g)))
-          e),
-          (λ is. by_like h is.1 (normal_alone at from to h g is.0 (normal_of_points at from to g weight normal (alike refl))))))
+          (λ h. (
+            (λ e. ⊎_elim
+                (λ same. subst (λ (k : Plane). HasNormalOf at from to k × IsLeastFor cs k) (sym same) (normal_of_points at from to (at_least g) weight normal (alike (at_least_normal g)), at_least_is g))
+                (λ same. subst (λ (k : Plane). HasNormalOf at from to k × IsLeastFor cs k) (sym same) (normal_of_points at from to (at_least (flipped g)) weight normal (opposite (at_least_normal (flipped g))), at_least_is (flipped g)))
+                e),
+            (λ is. by_like h is.1 (normal_alone at from to h g is.0 (normal_of_points at from to g weight normal (alike refl)))),
+          ))
           (listed_either (λ h. h ≡ at_least g) (λ h. h ≡ at_least (flipped g)) (listed_one (at_least g)) (listed_one (at_least (flipped g))))
         where
           g : Plane

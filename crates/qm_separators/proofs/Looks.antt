@@ -1,18 +1,15 @@
 -- Cheap refusals: what a look at whole points says of a candidate, so that one that fails it is no separator.
-use Rattle.std.proofs.Common.{◌≡◌, ℕ, ◌+◌, ◌*◌, ◌≤◌, ◌<◌, ℤ, pos, negsuc, neg_ℤ, ◌+ℤ◌, ◌-ℤ◌, ◌*ℤ◌, ◌<ℤ◌, ◌≤ℤ◌, [], ◌∷◌, length, refl, ap, sym, subst, ◌∙◌, arith, unsigned_abs, ◌⊎◌, inl, inr, ⊎_elim}
+use Rattle.std.proofs.Common.{◌≡◌, ℕ, ◌+◌, ◌*◌, ◌≤◌, ℤ, pos, negsuc, neg_ℤ, ◌+ℤ◌, ◌-ℤ◌, ◌*ℤ◌, ◌<ℤ◌, ◌≤ℤ◌, [], refl, ap, sym, subst, ◌∙◌, arith, unsigned_abs, ⊎_elim}
 use Rattle.std.proofs.lemmas.Int.{ints}
 use Rattle.std.proofs.Math.IntN.{*ℤ_comm}
-use Rattle.qm_numbers.specs.Rounding.{IsRoundedDown, IsRoundedUp, IsNearest}
-use Rattle.qm_numbers.proofs.IntegerProducts.{linear, *ℤ_zero, *ℤ_one, *ℤ-neg, -ℤ-*ℤ, +ℤ-*ℤ, one_*ℤ}
-use Rattle.qm_numbers.proofs.Signs.{by_least, cancel_at_most, times_at_most, zero_beside, abs_sum, abs_product_bound, abs_product, within_abs}
-use Rattle.qm_numbers.proofs.Ring.{variable, number, ◌⊕◌, ◌⊖◌, ◌⊗◌, solved}
+use Rattle.qm_numbers.specs.Rounding.{IsNearest}
+use Rattle.qm_numbers.proofs.IntegerProducts.{linear, *ℤ_zero, *ℤ-neg, -ℤ-*ℤ, +ℤ-*ℤ, one_*ℤ}
+use Rattle.qm_numbers.proofs.Signs.{cancel_at_most, abs_sum, abs_product_bound, within_abs}
+use Rattle.qm_numbers.proofs.Ring.{number, ◌⊕◌, ◌⊖◌, ◌⊗◌, solved}
 use Rattle.qm_space.specs.Point.{Point}
 use Rattle.qm_space.specs.Plane.{Plane, value, IsNotBehind, IsNotInFront}
-use Rattle.qm_space.specs.ThreePoints.{outward_plane}
-use Rattle.qm_space.proofs.PlaneSymbols.{plane_from, point_from, numbers_of_plane, numbers_of_point, symbol_value, symbol_outward}
-use Rattle.qm_space.proofs.PlanesThroughPoints.{outward_holds_first}
-use Rattle.qm_separators.specs.WholePoints.{IsWholeBy, IsNearestPoint, IsAround, IsRoundedEitherWay}
-use Rattle.qm_separators.specs.Candidate.{HasNormalOf}
+use Rattle.qm_space.proofs.PlaneSymbols.{plane_from, point_from, numbers_of_plane, numbers_of_point, symbol_value}
+use Rattle.qm_separators.specs.WholePoints.{IsNearestPoint, IsAround, IsRoundedEitherWay}
 
 -- ---- a plane's values at a point and at a whole point beside it
 

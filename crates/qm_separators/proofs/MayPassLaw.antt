@@ -1,8 +1,8 @@
 -- What a segment passes that has met a state, the state may pass.
-use Rattle.std.proofs.Common.{Option, Some, None, arith}
+use Rattle.std.proofs.Common.{Option, Some, None}
 use Rattle.std.specs.Prelude.{MatchOption}
 use Rattle.qm_space.specs.Point.{Point}
-use Rattle.qm_space.specs.Plane.{Plane, IsInFront, IsBehind}
+use Rattle.qm_space.specs.Plane.{Plane, IsInFront}
 use Rattle.qm_space.specs.Line.{IsBetween}
 use Rattle.qm_convex.specs.Winding.{Winding, IsConvex, IsInRegion}
 use Rattle.qm_convex.specs.Sides.{LiesIn, HasCornerBehind}

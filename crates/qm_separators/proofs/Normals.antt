@@ -1,5 +1,5 @@
 -- The normal of three whole points in lowest terms: there is one, up to its sign, where they do not lie on one line.
-use Rattle.std.proofs.Common.{◌≡◌, ℕ, ◌*◌, ◌≤◌, ◌<◌, Bool, true, false, not, IsTrue, ℤ, pos, negsuc, neg_ℤ, ◌+ℤ◌, ◌-ℤ◌, ◌*ℤ◌, ◌<ℤ◌, [], ◌∷◌, refl, ap, sym, subst, ◌∙◌, arith, unsigned_abs, int_div, ◌⊎◌, inl, inr, ⊎_elim, ◌↔◌}
+use Rattle.std.proofs.Common.{◌≡◌, ℕ, ◌<◌, Bool, true, false, not, IsTrue, ℤ, pos, neg_ℤ, ◌+ℤ◌, ◌*ℤ◌, [], ◌∷◌, refl, ap, sym, subst, ◌∙◌, arith, unsigned_abs, int_div, ◌↔◌}
 use Rattle.std.specs.Int.{◌∣◌}
 use Rattle.std.proofs.lemmas.Int.{ints}
 use Rattle.std.proofs.lemmas.Nat.Gcd.{dvd-zero, dvd_trans, dvd_antisymm}
@@ -8,7 +8,7 @@ use Rattle.qm_numbers.proofs.IntegerProducts.{linear, *ℤ_zero, neg-*ℤ-neg}
 use Rattle.qm_numbers.proofs.Signs.{abs_neg, abs_product, zero_beside, zero_beside_positive}
 use Rattle.qm_numbers.specs.Gcd.{gcd}
 use Rattle.qm_numbers.proofs.Divisors.{exact_division, gcd_divides_left, gcd_divides_right, divides_gcd}
-use Rattle.qm_numbers.proofs.Ring.{variable, number, negated, ◌⊕◌, ◌⊖◌, ◌⊗◌, solved}
+use Rattle.qm_numbers.proofs.Ring.{variable, number, negated, ◌⊕◌, ◌⊗◌, solved}
 use Rattle.qm_space.specs.Point.{Point, point_times}
 use Rattle.qm_space.specs.Plane.{Plane, value, IsOn, flipped, scaled}
 use Rattle.qm_space.specs.Vector.{normal_of}
@@ -16,7 +16,7 @@ use Rattle.qm_space.specs.Reduced.{leads_positive, HasNormal}
 use Rattle.qm_space.specs.ThreePoints.{outward_plane, common_factor, reduced}
 use Rattle.qm_space.proofs.Planes.{same_point, value_scaled}
 use Rattle.qm_space.proofs.PlaneSymbols.{point_from, numbers_of_point, symbol_outward}
-use Rattle.qm_space.proofs.PlanesThroughPoints.{outward_holds_second, HasNoNormal}
+use Rattle.qm_space.proofs.PlanesThroughPoints.{outward_holds_second}
 use Rattle.qm_space.proofs.ReducedPlanes.{same_plane, scaled_neg, scaled_flipped, flipped_twice, leads_flipped, IsLowest, multiples_equal, common_factor_positive, reduced_back, common_factor_divides, divides_common_factor, reduced_lowest}
 use Rattle.qm_separators.specs.Candidate.{HasLowestNormal, HasNormalOf}
 

@@ -1,14 +1,12 @@
 -- One look: a whole point beside a corner of the pass, or of the source, bounds the plane through the three whole points of a
 -- separator. A candidate that passes such a bound by is no separator.
-use Rattle.std.proofs.Common.{◌≡◌, ℕ, ◌+◌, ◌*◌, ◌≤◌, ◌<◌, ℤ, pos, neg_ℤ, ◌+ℤ◌, ◌-ℤ◌, ◌*ℤ◌, ◌<ℤ◌, ◌≤ℤ◌, [], ◌∷◌, length, refl, ap, sym, subst, ◌∙◌, arith, unsigned_abs, ◌⊎◌, inl, inr, ⊎_elim}
+use Rattle.std.proofs.Common.{◌≡◌, ℕ, ◌*◌, ◌<◌, ℤ, pos, neg_ℤ, ◌+ℤ◌, ◌-ℤ◌, ◌*ℤ◌, ◌<ℤ◌, ◌≤ℤ◌, [], ◌∷◌, length, refl, ap, sym, subst, ◌∙◌, arith, unsigned_abs}
 use Rattle.std.proofs.lemmas.Int.{ints}
-use Rattle.std.proofs.Math.IntN.{*ℤ_comm}
-use Rattle.qm_numbers.proofs.IntegerProducts.{linear, *ℤ_zero, *ℤ-neg, neg-*ℤ, *ℤ-+ℤ}
+use Rattle.qm_numbers.proofs.IntegerProducts.{linear, *ℤ-neg, neg-*ℤ}
 use Rattle.qm_numbers.proofs.Signs.{by_sign, zero_beside, times_at_most, abs_product, abs_neg}
 use Rattle.qm_numbers.proofs.Ring.{variable, number, ◌⊕◌, ◌⊖◌, ◌⊗◌, solved}
-use Rattle.qm_space.specs.Point.{Point, point_times}
+use Rattle.qm_space.specs.Point.{Point}
 use Rattle.qm_space.specs.Plane.{Plane, value, IsNotBehind, IsNotInFront, flipped}
-use Rattle.qm_space.specs.Vector.{normal_of}
 use Rattle.qm_space.specs.ThreePoints.{outward_plane}
 use Rattle.qm_space.proofs.Planes.{value_flipped}
 use Rattle.qm_space.proofs.PlanesThroughPoints.{outward_holds_first}

@@ -1,14 +1,14 @@
 -- Parts of windings by planes: each winding has one by the planes of a list, or no point of it is in front of them all.
-use Rattle.std.proofs.Common.{◌≡◌, ℕ, pos, Bool, List, [], ◌∷◌, Contains, refl, sym, subst, ◌∙◌, arith, ◌⊎◌, inl, inr, ⊎_elim, ◌↔◌}
+use Rattle.std.proofs.Common.{◌≡◌, Bool, List, [], ◌∷◌, Contains, refl, sym, subst, ◌∙◌, arith, ◌⊎◌, inl, inr, ⊎_elim, ◌↔◌}
 use Rattle.qm_lists.proofs.Elements.{Contains-first, Contains-later, Contains-cons_cases}
 use Rattle.qm_lists.proofs.Pairs.{All-from_contains}
 use Rattle.std.proofs.lemmas.List.Elements.{All-contains}
 use Rattle.qm_numbers.proofs.IntegerProducts.{linear}
 use Rattle.qm_space.specs.Point.{Point}
-use Rattle.qm_space.specs.Plane.{Plane, value, IsOn, IsInFront, IsNotBehind, flipped}
+use Rattle.qm_space.specs.Plane.{Plane, IsOn, IsInFront, flipped}
 use Rattle.qm_space.proofs.Planes.{value_flipped, flipped_in_front}
 use Rattle.qm_convex.specs.Winding.{Winding, corner_at, IsConvex, IsInRegion}
-use Rattle.qm_convex.specs.Sides.{HasNoneInFront, LiesIn, HasCornerBehind, HasCornerInFront, HasNoCornerBehind}
+use Rattle.qm_convex.specs.Sides.{HasNoneInFront, LiesIn, HasCornerBehind}
 use Rattle.qm_convex.specs.Cut.{IsPartInFront, IsPartWithin}
 use Rattle.qm_convex.specs.World.{IsInWorld}
 use Rattle.qm_space.specs.Turned.{turned}
@@ -17,8 +17,8 @@ use Rattle.qm_convex.proofs.Hull.{hull}
 use Rattle.qm_convex.proofs.Central.{by_corner_in_front, wholly_in_front}
 use Rattle.qm_convex.proofs.Cutting.{front_run, cut_is_part, whole_is_part}
 use Rattle.qm_convex.specs.inner.FrontRun.{cut}
-use Rattle.qm_separators.specs.Gains.{Gains, HasExactly}
-use Rattle.qm_separators.specs.Part.{IsInFrontOfEach, IsPartBy, HasNoPartBy}
+use Rattle.qm_separators.specs.Gains.{HasExactly}
+use Rattle.qm_separators.specs.Part.{IsPartBy, HasNoPartBy}
 use Rattle.qm_separators.proofs.ListedPlanes.{Listed}
 
 -- ---- by one plane

@@ -1,9 +1,9 @@
 -- The step by separators lets segments through, and narrows the source: so the bound over it is defined, lies within coarse
 -- rows, and has all that is in sight.
-use Rattle.std.proofs.Common.{◌≡◌, List, ◌∷◌, Contains, Option, Some, refl, sym, ap, subst, arith}
+use Rattle.std.proofs.Common.{List, ◌∷◌, Contains, Option, refl, sym, ap, subst}
 use Rattle.std.specs.Prelude.{MatchOption}
 use Rattle.qm_space.specs.Point.{Point}
-use Rattle.qm_space.specs.Plane.{Plane, IsOn, flipped}
+use Rattle.qm_space.specs.Plane.{Plane, IsOn}
 use Rattle.qm_space.specs.Line.{IsBetween}
 use Rattle.qm_space.proofs.Planes.{flipped_in_front}
 use Rattle.qm_convex.specs.Winding.{Winding, IsConvex, IsInRegion}

@@ -1,6 +1,5 @@
 -- Separators of windings inside the world are planes in lowest terms, within the bounds of a book's planes.
-use Rattle.std.proofs.Common.{◌≡◌, ℕ, ◌+◌, ◌*◌, ◌≤◌, ◌<◌, ℤ, pos, neg_ℤ, ◌*ℤ◌, List, length, get_or, ap, sym, subst, ◌∙◌, arith, unsigned_abs, eq-zero-or-pos, ⊎_elim}
-use Rattle.std.proofs.lemmas.Int.{ints}
+use Rattle.std.proofs.Common.{◌≡◌, ℕ, ◌*◌, ◌≤◌, ◌<◌, ℤ, ◌*ℤ◌, List, length, get_or, ap, sym, subst, ◌∙◌, arith, unsigned_abs, eq-zero-or-pos, ⊎_elim}
 use Rattle.std.proofs.lemmas.Option.{get_or_from_slice_get, slice_get_within}
 use Rattle.std.proofs.Math.Nat.{mul-le-mul_right}
 use Rattle.qm_numbers.proofs.Signs.{abs_product, abs_zero}
@@ -10,7 +9,7 @@ use Rattle.qm_space.specs.Plane.{Plane}
 use Rattle.qm_space.specs.Cube.{IsInClosedCube}
 use Rattle.qm_space.specs.Reduced.{IsReduced}
 use Rattle.qm_space.proofs.PlanesThroughPoints.{outward_sizes}
-use Rattle.qm_convex.specs.Winding.{Winding, corner_at, corners, next_place}
+use Rattle.qm_convex.specs.Winding.{Winding, corners, next_place}
 use Rattle.qm_convex.specs.World.{IsInWorld}
 use Rattle.qm_convex.proofs.Corners.{corners_length, corner_in_list}
 use Rattle.qm_convex.proofs.Squares.{corner_in_closed_cube}
@@ -19,7 +18,6 @@ use Rattle.qm_separators.specs.Separator.{IsSeparator}
 use Rattle.qm_separators.proofs.WholePointLaws.{nearest_in_cube, around_in_cube}
 use Rattle.qm_separators.proofs.Normals.{lowest_has_normal}
 use Rattle.qm_separators.proofs.Distances.{distance_size}
-use Rattle.qm_separators.proofs.CornerLists.{corner_of_slice, corner_of_contains}
 
 -- ---- the normal
 

@@ -1,14 +1,13 @@
 -- The whole number near a fraction is one alone, and the same however the fraction is written.
-use Rattle.std.proofs.Common.{◌≡◌, ℕ, ◌+◌, ◌*◌, ◌≤◌, ◌<◌, ℤ, pos, neg_ℤ, ◌+ℤ◌, ◌-ℤ◌, ◌*ℤ◌, ◌≤ℤ◌, ◌<ℤ◌, ap, sym, subst, ◌∙◌, arith, unsigned_abs, inl, inr, ◌⊎◌, ⊎_elim}
+use Rattle.std.proofs.Common.{◌≡◌, ℕ, ◌*◌, ◌≤◌, ◌<◌, ℤ, pos, neg_ℤ, ◌+ℤ◌, ◌-ℤ◌, ◌*ℤ◌, ◌≤ℤ◌, ◌<ℤ◌, ap, sym, ◌∙◌, arith, unsigned_abs, inl, inr, ⊎_elim}
 use Rattle.std.specs.Int.{int_div_euclid}
 use Rattle.std.proofs.lemmas.Int.{ints}
 use Rattle.std.proofs.lemmas.Bool.{cases_lt}
 use Rattle.std.proofs.Math.Nat.{mul-le-mul_left, le_of_mul-le-mul_left}
 use Rattle.std.proofs.Math.IntN.{*ℤ_comm}
 use Rattle.qm_numbers.specs.Rounding.{IsRoundedDown, IsRoundedUp, IsNearest}
-use Rattle.qm_numbers.proofs.IntegerProducts.{linear, *ℤ_assoc, *ℤ-+ℤ, *ℤ--ℤ, +ℤ-*ℤ, -ℤ-*ℤ, neg-*ℤ, one_*ℤ}
+use Rattle.qm_numbers.proofs.IntegerProducts.{linear, *ℤ_assoc, +ℤ-*ℤ, -ℤ-*ℤ, neg-*ℤ, one_*ℤ}
 use Rattle.qm_numbers.proofs.Signs.{by_order, by_least, product_not_negative, times_at_most, times_less, cancel_less, cancel_at_most, abs_product}
-use Rattle.qm_numbers.proofs.Divisors.{one_floor}
 use Rattle.qm_numbers.proofs.Roundings.{down_is, up_from_down, nearest_is, nearest_turned}
 use Rattle.qm_separators.specs.WholePoints.{IsRoundedEitherWay}
 

@@ -1,22 +1,17 @@
 -- Separators do not depend on how a winding is written: windings with the same points have the same ones.
-use Rattle.std.proofs.Common.{◌≡◌, ℕ, ◌<◌, ℤ, pos, ◌<ℤ◌, ◌≤ℤ◌, List, [], ◌∷◌, length, get_or, Option, Some, None, slice_get, ap, sym, subst, ◌∙◌, arith, ◌⊎◌, inl, inr, ⊎_elim, ◌↔◌}
-use Rattle.std.specs.Prelude.{MatchOption}
-use Rattle.std.specs.List.{All, Any}
-use Rattle.std.proofs.lemmas.List.Elements.{All-from_get_or}
-use Rattle.qm_numbers.proofs.IntegerProducts.{linear}
+use Rattle.std.proofs.Common.{◌≡◌, ℕ, ◌<◌, ℤ, pos, ◌<ℤ◌, List, [], ◌∷◌, length, Some, slice_get, ap, sym, subst, ◌∙◌, inl, inr, ⊎_elim}
 use Rattle.qm_space.specs.Point.{Point, IsSamePlace}
-use Rattle.qm_space.specs.Plane.{Plane, IsInFront, IsBehind, IsNotBehind, IsNotInFront, flipped}
+use Rattle.qm_space.specs.Plane.{Plane, IsInFront, IsBehind, IsNotBehind, IsNotInFront}
 use Rattle.qm_geom.specs.LeastDistance.{plane_at_distance, IsLeastDistance}
-use Rattle.qm_convex.specs.Winding.{Winding, next_place, corner_at, corners, IsConvex, IsInRegion}
+use Rattle.qm_convex.specs.Winding.{Winding, next_place, corner_at, corners, IsConvex}
 use Rattle.qm_convex.specs.Sides.{HasNoCornerBehind, HasCornerBehind, HasCornerInFront}
 use Rattle.qm_convex.specs.Vertex.{IsSomeCorner}
 use Rattle.qm_convex.proofs.Places.{next_below}
-use Rattle.qm_convex.proofs.Corners.{corners_length, corner_in_list}
-use Rattle.qm_convex.proofs.Central.{middle, middle_in_region}
+use Rattle.qm_convex.proofs.Corners.{corners_length}
 use Rattle.qm_separators.specs.WholePoints.{IsNearestPoint, IsAround}
 use Rattle.qm_separators.specs.Candidate.{HasNormalAcross}
-use Rattle.qm_separators.specs.Separator.{IsSeparator, IsSeparatorFrom}
-use Rattle.qm_separators.specs.Part.{HasSameRegion, IsPartBy, IsInFrontOfEach}
+use Rattle.qm_separators.specs.Separator.{IsSeparator}
+use Rattle.qm_separators.specs.Part.{HasSameRegion}
 use Rattle.qm_separators.proofs.WholePointLaws.{nearest_of_place, around_of_place}
 use Rattle.qm_separators.proofs.Normals.{normal_swapped}
 use Rattle.qm_separators.proofs.CornerLists.{corner_of_slice, slice_of_corner, corner_of_contains, contains_corner, all_corners, corners_all, any_corner, corner_any}

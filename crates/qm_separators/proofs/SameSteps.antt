@@ -1,11 +1,9 @@
 -- Steps do not depend on how windings are written: from states with the same points they lead to states with the same points,
 -- and where one leads on, none blocks.
-use Rattle.std.proofs.Common.{◌≡◌, ℕ, pos, Option, Some, None, refl, sym, subst, ◌∙◌, arith, ◌↔◌}
-use Rattle.std.specs.Prelude.{MatchOption}
+use Rattle.std.proofs.Common.{◌≡◌, Option, Some, None, refl, sym, subst, ◌∙◌, arith, ◌↔◌}
 use Rattle.qm_numbers.proofs.IntegerProducts.{linear}
-use Rattle.qm_space.specs.Point.{Point}
 use Rattle.qm_space.specs.Plane.{Plane, IsInFront, flipped}
-use Rattle.qm_convex.specs.Winding.{Winding, IsConvex, IsInRegion}
+use Rattle.qm_convex.specs.Winding.{Winding, IsConvex}
 use Rattle.qm_convex.specs.Sides.{IsWhollyInFront}
 use Rattle.qm_convex.specs.Cut.{IsPartInFront}
 use Rattle.qm_convex.proofs.Central.{middle, middle_in_region}

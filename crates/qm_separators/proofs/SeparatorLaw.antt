@@ -1,7 +1,7 @@
 -- The law of a separator: what goes through the source and then through the pass goes on in front of it.
-use Rattle.std.proofs.Common.{ℕ, ◌<◌, ◌≤◌, length, subst, arith, inl, inr, ⊎_elim}
+use Rattle.std.proofs.Common.{subst, arith, inl, inr, ⊎_elim}
 use Rattle.qm_space.specs.Point.{Point}
-use Rattle.qm_space.specs.Plane.{Plane, value, IsInFront, IsNotInFront, IsNotBehind, flipped}
+use Rattle.qm_space.specs.Plane.{Plane, IsInFront, IsNotInFront, IsNotBehind, flipped}
 use Rattle.qm_space.specs.Line.{IsBetween}
 use Rattle.qm_numbers.proofs.IntegerProducts.{linear}
 use Rattle.qm_space.proofs.Planes.{value_flipped}

@@ -1,9 +1,9 @@
 -- The law of a step: a segment that has met a state and goes on through a portal meets all that the step leaves, so no
 -- step blocks it.
-use Rattle.std.proofs.Common.{◌≡◌, ℕ, pos, Option, Some, None, sym, subst, arith}
+use Rattle.std.proofs.Common.{◌≡◌, Option, Some, None, sym, subst, arith}
 use Rattle.std.specs.Prelude.{MatchOption}
 use Rattle.qm_space.specs.Point.{Point}
-use Rattle.qm_space.specs.Plane.{Plane, value, IsOn, IsInFront, IsBehind, flipped}
+use Rattle.qm_space.specs.Plane.{Plane, IsInFront, IsBehind}
 use Rattle.qm_space.specs.Line.{IsBetween}
 use Rattle.qm_numbers.proofs.IntegerProducts.{linear}
 use Rattle.qm_space.proofs.Planes.{flipped_in_front}

@@ -1,15 +1,14 @@
 -- Worked rows: a chain that goes from one doorway through the next and on to a third; and one that two separators block.
-use Rattle.std.proofs.Common.{◌≡◌, ℕ, ℤ, pos, neg_ℤ, ◌+ℤ◌, ◌-ℤ◌, ◌*ℤ◌, ◌<ℤ◌, [], ◌∷◌, Some, None, refl, sym, ◌∙◌, arith, inl, inr, ⊎_elim}
+use Rattle.std.proofs.Common.{◌≡◌, ℤ, pos, neg_ℤ, ◌+ℤ◌, ◌-ℤ◌, ◌*ℤ◌, ◌<ℤ◌, Some, None, refl, arith, ⊎_elim}
 use Rattle.std.proofs.lemmas.Int.{ints}
-use Rattle.std.proofs.lemmas.List.Elements.{All-from_recursion}
 use Rattle.qm_numbers.proofs.IntegerProducts.{linear, neg-*ℤ, -ℤ-*ℤ, one_*ℤ, zero_*ℤ}
 use Rattle.qm_numbers.proofs.Signs.{product_positive}
-use Rattle.qm_space.specs.Point.{Point, point_sum, point_times}
-use Rattle.qm_space.specs.Plane.{Plane, plane_of, value, IsOn, IsInFront, IsBehind, flipped}
+use Rattle.qm_space.specs.Point.{Point}
+use Rattle.qm_space.specs.Plane.{plane_of, value, IsInFront, flipped}
 use Rattle.qm_space.specs.Line.{IsBetween}
 use Rattle.qm_space.proofs.Planes.{value_flipped}
-use Rattle.qm_convex.specs.Winding.{Winding, IsConvex, IsInRegion}
-use Rattle.qm_convex.specs.Sides.{HasNoneInFront, IsWhollyInFront}
+use Rattle.qm_convex.specs.Winding.{Winding, IsInRegion}
+use Rattle.qm_convex.specs.Sides.{IsWhollyInFront}
 use Rattle.qm_convex.specs.Cut.{IsPartInFront}
 use Rattle.qm_convex.specs.inner.Square.{square}
 use Rattle.qm_convex.proofs.Squares.{square_region, square_convex, turn_y_z}
@@ -19,13 +18,12 @@ use Rattle.qm_coarse_rows.proofs.RoomSamples.{at}
 use Rattle.qm_segments.specs.Segment.{Segment}
 use Rattle.qm_segments.proofs.RoomSights.{at_value}
 use Rattle.qm_separators.specs.Separator.{IsSeparatorFrom}
-use Rattle.qm_separators.specs.Part.{IsInFrontOfEach, HasNoPartBy}
 use Rattle.qm_separators.specs.ChainState.{ChainState, first_state, IsChainState}
-use Rattle.qm_separators.specs.ChainStep.{IsCutByPlanes, LeadsTo, Blocks, target_behind, target_cut_away}
+use Rattle.qm_separators.specs.ChainStep.{LeadsTo, Blocks, target_behind, target_cut_away}
 use Rattle.qm_separators.specs.MayPass.{MayPass}
 use Rattle.qm_separators.specs.Meets.{Meets}
 use Rattle.qm_separators.proofs.Parts.{part_by_none, part_or_none}
-use Rattle.qm_separators.proofs.StepLaw.{not_blocked, meets_next}
+use Rattle.qm_separators.proofs.StepLaw.{not_blocked}
 use Rattle.qm_separators.proofs.StepsLead.{leads_on_or_blocks}
 use Rattle.qm_separators.proofs.MayPassLaw.{may_pass}
 use Rattle.qm_separators.proofs.DoorwaySamples.{side_y, side_z, doorway, spot, doorway_convex, right_left, right_left_row}

@@ -1,5 +1,5 @@
 -- Each step of an open chain leads on or blocks. So all that is asked of steps holds of the step by separators.
-use Rattle.std.proofs.Common.{◌≡◌, ℕ, List, Contains, Some, refl, ◌⊎◌, inl, inr, ⊎_elim}
+use Rattle.std.proofs.Common.{List, Some, refl, ◌⊎◌, inl, inr, ⊎_elim}
 use Rattle.qm_space.specs.Plane.{Plane, flipped}
 use Rattle.qm_convex.specs.Winding.{Winding, IsConvex}
 use Rattle.qm_contacts.specs.Portals.{Portal}

@@ -1,13 +1,12 @@
 -- Whole points near a point: the nearest is one alone, those around it are at most eight; they stay in the closed cube, and
 -- are the same for all ways in which a place is written.
-use Rattle.std.proofs.Common.{◌≡◌, ℕ, ◌*◌, ◌≤◌, ℤ, pos, neg_ℤ, ◌*ℤ◌, ◌<ℤ◌, ◌≤ℤ◌, List, refl, ap, sym, subst, ◌∙◌, ◌↔◌, arith, unsigned_abs, ◌⊎◌, inl, inr, ⊎_elim}
+use Rattle.std.proofs.Common.{◌≡◌, ℕ, ◌*◌, ◌≤◌, ℤ, pos, ◌*ℤ◌, ◌<ℤ◌, List, refl, ap, sym, subst, ◌∙◌, ◌↔◌, arith, unsigned_abs, ◌⊎◌, inl, inr, ⊎_elim}
 use Rattle.std.proofs.lemmas.Int.{ints}
 use Rattle.std.proofs.Math.IntN.{*ℤ_comm}
 use Rattle.qm_numbers.specs.Rounding.{IsRoundedDown, IsRoundedUp, IsNearest}
-use Rattle.qm_numbers.proofs.IntegerProducts.{linear}
 use Rattle.qm_numbers.proofs.Divisors.{one_floor}
 use Rattle.qm_numbers.proofs.Roundings.{down_small, up_small, nearest_small}
-use Rattle.qm_space.specs.Bounds.{extent, world_extent}
+use Rattle.qm_space.specs.Bounds.{world_extent}
 use Rattle.qm_space.specs.Point.{Point, whole_point, IsSamePlace, IsCoordinate, IsWholePoint}
 use Rattle.qm_space.specs.Cube.{IsUpToExtent, IsInClosedCube}
 use Rattle.qm_space.proofs.Planes.{same_point}
