@@ -15,7 +15,7 @@ use Rattle.qm_convex.specs.inner.Square.{square}
 use Rattle.qm_convex.proofs.Squares.{square_convex}
 use Rattle.qm_coarse_rows.proofs.RoomSamples.{at}
 use Rattle.qm_separators.specs.WholePoints.{IsNearestPoint, IsAround}
-use Rattle.qm_separators.specs.Candidate.{HasLowestNormal, HasNormalOf, HasNormalAcross}
+use Rattle.qm_separators.specs.Across.{HasLowestNormal, HasNormalOf, HasNormalAcross}
 use Rattle.qm_separators.specs.Separator.{IsSeparator}
 use Rattle.qm_separators.proofs.CornerLists.{all_corners}
 use Rattle.qm_separators.proofs.Distances.{least_by_neighbours}
@@ -113,7 +113,7 @@ near_weights = subst (λ (ps : List Point). All (λ p. pos 0 <ℤ p.w) ps) (sym 
 pub left_right_row : IsSeparator (doorway (pos 0)) (doorway (pos 64)) left_right
 unfolding value corner_at next_place meet determinant
 left_right_row = record {
-  candidate = inl left_right_across;
+  across = inl left_right_across;
   least = least_by_neighbours (pos 1 ∷ pos 2 ∷ pos 0 ∷ []) (corners (doorway (pos 0))) (pos 32) near_weights
       (subst (λ (ps : List Point). All (λ p. IsNotInFront left_right p) ps) (sym near_corners) (All-from_recursion (λ p. IsNotInFront left_right p) (spot (pos 0) low low ∷ spot (pos 0) high low ∷ spot (pos 0) high high ∷ spot (pos 0) low high ∷ []) (omega (arith, ints), (omega (arith, ints), (omega (arith, ints), (omega (arith, ints), tt))))))
       (1, spot (pos 0) high low, omega arith, refl, omega (arith, ints));
@@ -155,7 +155,7 @@ right_left_across = record {
 pub right_left_row : IsSeparator (doorway (pos 0)) (doorway (pos 64)) right_left
 unfolding value corner_at next_place meet determinant
 right_left_row = record {
-  candidate = inl right_left_across;
+  across = inl right_left_across;
   least = least_by_neighbours (pos 1 ∷ neg_ℤ (pos 2) ∷ pos 0 ∷ []) (corners (doorway (pos 0))) (pos 32) near_weights
       (subst (λ (ps : List Point). All (λ p. IsNotInFront right_left p) ps) (sym near_corners) (All-from_recursion (λ p. IsNotInFront right_left p) (spot (pos 0) low low ∷ spot (pos 0) high low ∷ spot (pos 0) high high ∷ spot (pos 0) low high ∷ []) (omega (arith, ints), (omega (arith, ints), (omega (arith, ints), (omega (arith, ints), tt))))))
       (0, spot (pos 0) low low, omega arith, refl, omega (arith, ints));

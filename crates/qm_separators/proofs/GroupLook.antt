@@ -16,7 +16,7 @@ use Rattle.qm_space.proofs.PlaneSymbols.{point_from, numbers_of_point, symbol_va
 use Rattle.qm_convex.specs.Winding.{Winding, corner_at}
 use Rattle.qm_separators.specs.WholePoints.{IsWholeBy, IsAround, IsRoundedEitherWay}
 use Rattle.qm_separators.proofs.Looks.{normal_size, IsBeside}
-use Rattle.qm_separators.proofs.OneLook.{PassesLook, PassesTurned, as_it_is, flipped_over}
+use Rattle.qm_separators.proofs.OneLook.{IsNotRefused, IsNotRefusedTurned, as_it_is, flipped_over}
 
 -- ---- what is rounded either way is what is rounded down, or one more
 
@@ -125,13 +125,13 @@ module _ (low at from to : Point) where
 
 -- the look of one plane, wide enough for all whole points around a corner; `turn` gives for each whole point how a step across
 -- each axis changes the value there, and `steps` is the size of the edge
-pub record PassesGroupLook (s p : Winding) (out : Plane) (turn : Point → Plane) (steps : ℕ) : Type 0 where
+pub record IsGroupNotRefused (s p : Winding) (out : Plane) (turn : Point → Plane) (steps : ℕ) : Type 0 where
   pub source : (i : ℕ) (b : Point) → i < length s.edges → IsBeside (corner_at s i) b → (value out b +ℤ fall (turn b)) ≤ℤ pos (2 * (normal_size out + 2 * steps))
   pub pass : (i : ℕ) (b : Point) → i < length p.edges → IsBeside (corner_at p i) b → neg_ℤ (pos (2 * (normal_size out + 2 * steps))) ≤ℤ (value out b +ℤ rise (turn b))
 
 -- the values of one plane are those of another, moved by some of the steps
 module _ (s p : Winding) (out moved : Plane) (turn : Point → Plane) (steps : ℕ) (x y z : ℤ) (x_bit : IsBit x) (y_bit : IsBit y) (z_bit : IsBit z) (values : (b : Point) → b.w ≡ pos 1 → value moved b ≡ value out b +ℤ (((x *ℤ (turn b).nx) +ℤ (y *ℤ (turn b).ny)) +ℤ (z *ℤ (turn b).nz))) (size : normal_size moved ≤ normal_size out + 2 * steps) where
-  group_by_moved : PassesLook s p moved → PassesGroupLook s p out turn steps
+  group_by_moved : IsNotRefused s p moved → IsGroupNotRefused s p out turn steps
   group_by_moved is = record {
     source = λ i b l beside.
         let m = is.source i b l beside in let v = values b beside.weight in
@@ -174,12 +174,12 @@ module _ (low at from to c : Point) (weight : pos 0 <ℤ c.w) (low_is : IsWholeB
       three : (n a b : ℤ) → unsigned_abs (n +ℤ (a -ℤ b)) ≤ unsigned_abs n + unsigned_abs a + unsigned_abs b
       three n a b = omega (arith, ints)
 
-  -- where the plane through one of them passes the look, the group does
-  pub group_look : (s p : Winding) → PassesLook s p (outward_plane at from to) → PassesGroupLook s p (outward_plane low from to) (λ b. outward_plane to from b) (step_size from to)
+  -- where the plane through one of them is not refused, the group is not
+  pub group_look : (s p : Winding) → IsNotRefused s p (outward_plane at from to) → IsGroupNotRefused s p (outward_plane low from to) (λ b. outward_plane to from b) (step_size from to)
   group_look s p is = group_by_moved s p (outward_plane low from to) (outward_plane at from to) (λ b. outward_plane to from b) (step_size from to) (at.x -ℤ low.x) (at.y -ℤ low.y) (at.z -ℤ low.z) x_is y_is z_is (moved_value low at from to) group_size is
 
   -- and turned over
-  pub group_look_flipped : (s p : Winding) → PassesLook s p (flipped (outward_plane at from to)) → PassesGroupLook s p (flipped (outward_plane low from to)) (λ b. flipped (outward_plane to from b)) (step_size from to)
+  pub group_look_flipped : (s p : Winding) → IsNotRefused s p (flipped (outward_plane at from to)) → IsGroupNotRefused s p (flipped (outward_plane low from to)) (λ b. flipped (outward_plane to from b)) (step_size from to)
   group_look_flipped s p is = group_by_moved s p (flipped (outward_plane low from to)) (flipped (outward_plane at from to)) (λ b. flipped (outward_plane to from b)) (step_size from to) (at.x -ℤ low.x) (at.y -ℤ low.y) (at.z -ℤ low.z) x_is y_is z_is turned flipped_size is
     where
       turned : (b : Point) → b.w ≡ pos 1 → value (flipped (outward_plane at from to)) b ≡ value (flipped (outward_plane low from to)) b +ℤ ((((at.x -ℤ low.x) *ℤ neg_ℤ (outward_plane to from b).nx) +ℤ ((at.y -ℤ low.y) *ℤ neg_ℤ (outward_plane to from b).ny)) +ℤ ((at.z -ℤ low.z) *ℤ neg_ℤ (outward_plane to from b).nz))
@@ -197,11 +197,11 @@ module _ (low at from to c : Point) (weight : pos 0 <ℤ c.w) (low_is : IsWholeB
 -- ---- of separators
 
 -- the plane through the whole point that is rounded down from the corner, turned as a separator through one of those around it
-pub data PassesGroup (s p : Winding) (low from to : Point) : Type 0 where
-  group_as_it_is : PassesGroupLook s p (outward_plane low from to) (λ b. outward_plane to from b) (step_size from to) → PassesGroup s p low from to
-  group_flipped_over : PassesGroupLook s p (flipped (outward_plane low from to)) (λ b. flipped (outward_plane to from b)) (step_size from to) → PassesGroup s p low from to
+pub data IsGroupLeft (s p : Winding) (low from to : Point) : Type 0 where
+  group_as_it_is : IsGroupNotRefused s p (outward_plane low from to) (λ b. outward_plane to from b) (step_size from to) → IsGroupLeft s p low from to
+  group_flipped_over : IsGroupNotRefused s p (flipped (outward_plane low from to)) (λ b. flipped (outward_plane to from b)) (step_size from to) → IsGroupLeft s p low from to
 
--- where a candidate passes the look, its group does
-pub group_passes : (s p : Winding) (low at from to c : Point) (factor : ℤ) → pos 0 <ℤ c.w → IsWholeBy IsRoundedDown c low → IsAround c at → PassesTurned s p (outward_plane at from to) factor → PassesGroup s p low from to
-group_passes s p low at from to c factor weight low_is at_is (as_it_is above look) = group_as_it_is (group_look low at from to c weight low_is at_is s p look)
-group_passes s p low at from to c factor weight low_is at_is (flipped_over below look) = group_flipped_over (group_look_flipped low at from to c weight low_is at_is s p look)
+-- where one of its planes is not refused, the group is not
+pub group_left : (s p : Winding) (low at from to c : Point) (factor : ℤ) → pos 0 <ℤ c.w → IsWholeBy IsRoundedDown c low → IsAround c at → IsNotRefusedTurned s p (outward_plane at from to) factor → IsGroupLeft s p low from to
+group_left s p low at from to c factor weight low_is at_is (as_it_is above look) = group_as_it_is (group_look low at from to c weight low_is at_is s p look)
+group_left s p low at from to c factor weight low_is at_is (flipped_over below look) = group_flipped_over (group_look_flipped low at from to c weight low_is at_is s p look)

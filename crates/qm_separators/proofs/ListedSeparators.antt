@@ -19,7 +19,7 @@ use Rattle.qm_convex.proofs.Corners.{corners_length, corner_in_list}
 use Rattle.qm_convex.proofs.Central.{by_corner_in_front}
 use Rattle.qm_numbers.specs.Rounding.{IsRoundedDown, IsRoundedUp}
 use Rattle.qm_separators.specs.WholePoints.{IsRoundedEitherWay, IsNearestPoint, IsAround}
-use Rattle.qm_separators.specs.Candidate.{HasNormalOf, HasNormalAcross}
+use Rattle.qm_separators.specs.Across.{HasNormalOf, HasNormalAcross}
 use Rattle.qm_separators.specs.Separator.{IsSeparator, IsSeparatorFrom}
 use Rattle.qm_separators.proofs.Roundings.{one_up, down, up}
 use Rattle.qm_separators.proofs.WholePointLaws.{nearest_alone, nearest_point}
@@ -193,18 +193,18 @@ strict_decided s p h = ⊎_elim
 pub listed_separators : (s p : Winding) → IsConvex s → IsConvex p → Listed (IsSeparator s p)
 listed_separators s p s_convex p_convex = listed_alike Found (IsSeparator s p)
     (λ h. (
-      (λ is. record { candidate = ⊎_elim (λ c. inl c.0) (λ c. inr c.0) is.0.0; least = ⊎_elim (λ c. c.1) (λ c. c.1) is.0.0; in_front = is.0.1; strict = is.1 }),
-      (λ is. ((⊎_elim (λ c. inl (c, is.least)) (λ c. inr (c, is.least)) is.candidate, is.in_front), is.strict)),
+      (λ is. record { across = ⊎_elim (λ c. inl c.0) (λ c. inr c.0) is.0.0; least = ⊎_elim (λ c. c.1) (λ c. c.1) is.0.0; in_front = is.0.1; strict = is.1 }),
+      (λ is. ((⊎_elim (λ c. inl (c, is.least)) (λ c. inr (c, is.least)) is.across, is.in_front), is.strict)),
     ))
-    (listed_where (λ h. Candidate h × HasNoCornerBehind p h) (λ h. HasCornerBehind s h ⊎ HasCornerInFront p h)
-    (listed_where Candidate (HasNoCornerBehind p) (listed_either (λ h. HasNormalAcross (corners s) (corners p) h × IsLeastFor (corners s) h) (λ h. HasNormalAcross (corners p) (corners s) h × IsLeastFor (corners s) h) (listed_across s p s s_convex p_convex s_convex) (listed_across p s s p_convex s_convex s_convex)) (none_behind_decided p))
+    (listed_where (λ h. IsAcrossBoth h × HasNoCornerBehind p h) (λ h. HasCornerBehind s h ⊎ HasCornerInFront p h)
+    (listed_where IsAcrossBoth (HasNoCornerBehind p) (listed_either (λ h. HasNormalAcross (corners s) (corners p) h × IsLeastFor (corners s) h) (λ h. HasNormalAcross (corners p) (corners s) h × IsLeastFor (corners s) h) (listed_across s p s s_convex p_convex s_convex) (listed_across p s s p_convex s_convex s_convex)) (none_behind_decided p))
     (strict_decided s p))
   where
-    Candidate : Plane → Type 0
-    Candidate h = (HasNormalAcross (corners s) (corners p) h × IsLeastFor (corners s) h) ⊎ (HasNormalAcross (corners p) (corners s) h × IsLeastFor (corners s) h)
+    IsAcrossBoth : Plane → Type 0
+    IsAcrossBoth h = (HasNormalAcross (corners s) (corners p) h × IsLeastFor (corners s) h) ⊎ (HasNormalAcross (corners p) (corners s) h × IsLeastFor (corners s) h)
 
     Found : Plane → Type 0
-    Found h = (Candidate h × HasNoCornerBehind p h) × (HasCornerBehind s h ⊎ HasCornerInFront p h)
+    Found h = (IsAcrossBoth h × HasNoCornerBehind p h) × (HasCornerBehind s h ⊎ HasCornerInFront p h)
 
 pub listed_from_pass : (pass : Option Winding) (v : Winding) → IsConvexPass pass → IsConvex v → Listed (IsSeparatorFrom pass v)
 listed_from_pass None v pass_convex convex = listed_none (IsSeparatorFrom None v) (λ h is. is)

@@ -1,4 +1,4 @@
--- Cheap refusals: what a look at whole points says of a candidate, so that one that fails it is no separator.
+-- What a plane is worth at whole points beside a point: how far it can be off the value there.
 use Rattle.std.proofs.Common.{◌≡◌, ℕ, ◌+◌, ◌*◌, ◌≤◌, ℤ, pos, negsuc, neg_ℤ, ◌+ℤ◌, ◌-ℤ◌, ◌*ℤ◌, ◌<ℤ◌, ◌≤ℤ◌, [], refl, ap, sym, subst, ◌∙◌, arith, unsigned_abs, ⊎_elim}
 use Rattle.std.proofs.lemmas.Int.{ints}
 use Rattle.std.proofs.Math.IntN.{*ℤ_comm}

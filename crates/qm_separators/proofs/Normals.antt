@@ -18,7 +18,7 @@ use Rattle.qm_space.proofs.Planes.{same_point, value_scaled}
 use Rattle.qm_space.proofs.PlaneSymbols.{point_from, numbers_of_point, symbol_outward}
 use Rattle.qm_space.proofs.PlanesThroughPoints.{outward_holds_second}
 use Rattle.qm_space.proofs.ReducedPlanes.{same_plane, scaled_neg, scaled_flipped, flipped_twice, leads_flipped, IsLowest, multiples_equal, common_factor_positive, reduced_back, common_factor_divides, divides_common_factor, reduced_lowest}
-use Rattle.qm_separators.specs.Candidate.{HasLowestNormal, HasNormalOf}
+use Rattle.qm_separators.specs.Across.{HasLowestNormal, HasNormalOf}
 
 -- ---- a plane through a whole point: what divides its normal divides its distance
 

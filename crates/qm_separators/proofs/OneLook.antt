@@ -1,5 +1,5 @@
 -- One look: a whole point beside a corner of the pass, or of the source, bounds the plane through the three whole points of a
--- separator. A candidate that passes such a bound by is no separator.
+-- separator. What is past such a bound is no separator.
 use Rattle.std.proofs.Common.{◌≡◌, ℕ, ◌*◌, ◌<◌, ℤ, pos, neg_ℤ, ◌+ℤ◌, ◌-ℤ◌, ◌*ℤ◌, ◌<ℤ◌, ◌≤ℤ◌, [], ◌∷◌, length, refl, ap, sym, subst, ◌∙◌, arith, unsigned_abs}
 use Rattle.std.proofs.lemmas.Int.{ints}
 use Rattle.qm_numbers.proofs.IntegerProducts.{linear, *ℤ-neg, neg-*ℤ}
@@ -12,7 +12,7 @@ use Rattle.qm_space.proofs.Planes.{value_flipped}
 use Rattle.qm_space.proofs.PlanesThroughPoints.{outward_holds_first}
 use Rattle.qm_convex.specs.Winding.{Winding, corner_at, corners, IsConvex}
 use Rattle.qm_separators.specs.WholePoints.{IsNearestPoint, IsAround}
-use Rattle.qm_separators.specs.Candidate.{HasNormalOf, HasNormalAcross}
+use Rattle.qm_separators.specs.Across.{HasNormalOf, HasNormalAcross}
 use Rattle.qm_separators.specs.Separator.{IsSeparator}
 use Rattle.qm_separators.proofs.SeparatorLaw.{none_in_front}
 use Rattle.qm_separators.proofs.CornerLists.{corner_of_slice, corner_of_contains}
@@ -52,7 +52,7 @@ module _ (at from to : Point) (h : Plane) (is : HasNormalOf at from to h) (from_
 
 -- whole points beside the corners of the source are not far in front of the plane, and those beside the corners of the pass
 -- not far behind
-pub record PassesLook (s p : Winding) (out : Plane) : Type 0 where
+pub record IsNotRefused (s p : Winding) (out : Plane) : Type 0 where
   pub source : (i : ℕ) (b : Point) → i < length s.edges → IsBeside (corner_at s i) b → value out b ≤ℤ pos (2 * normal_size out)
   pub pass : (i : ℕ) (b : Point) → i < length p.edges → IsBeside (corner_at p i) b → neg_ℤ (pos (2 * normal_size out)) ≤ℤ value out b
 
@@ -61,8 +61,8 @@ module _ (s p : Winding) (h out : Plane) (base : ℤ) (many : ℕ) (values : (b 
   total : pos many *ℤ pos (2 * normal_size h) ≡ pos (2 * normal_size out)
   total = let e : pos many *ℤ pos (2 * normal_size h) ≡ pos (many * (2 * normal_size h)) = refl in let f : many * (2 * normal_size h) ≡ 2 * normal_size out = omega arith in e ∙ ap pos f
 
-  passes_by_values : PassesLook s p out
-  passes_by_values = record {
+  not_refused_by_values : IsNotRefused s p out
+  not_refused_by_values = record {
     source = λ i b l beside.
         let v = beside_not_in_front h (corner_at s i) b (s_convex.weight i l) beside (s_sides i l) in
         let m = times_at_most (pos many) (value h b -ℤ base) (pos (2 * normal_size h)) (omega (arith, ints)) (apart (value h b) base (normal_size h) v low) in
@@ -84,18 +84,18 @@ module _ (s p : Winding) (h out : Plane) (base : ℤ) (many : ℕ) (values : (b 
 -- ---- of separators
 
 -- the plane through the three points, turned as the separator is
-pub data PassesTurned (s p : Winding) (out : Plane) (factor : ℤ) : Type 0 where
-  as_it_is : pos 0 <ℤ factor → PassesLook s p out → PassesTurned s p out factor
-  flipped_over : factor <ℤ pos 0 → PassesLook s p (flipped out) → PassesTurned s p out factor
+pub data IsNotRefusedTurned (s p : Winding) (out : Plane) (factor : ℤ) : Type 0 where
+  as_it_is : pos 0 <ℤ factor → IsNotRefused s p out → IsNotRefusedTurned s p out factor
+  flipped_over : factor <ℤ pos 0 → IsNotRefused s p (flipped out) → IsNotRefusedTurned s p out factor
 
 module _ (s p : Winding) (s_convex : IsConvex s) (p_convex : IsConvex p) (h : Plane) (sep : IsSeparator s p h) (at from to : Point) (is : HasNormalOf at from to h) (from_weight : from.w ≡ pos 1) (high : value h from ≤ℤ pos (normal_size h)) (low : neg_ℤ (pos (normal_size h)) ≤ℤ value h from) where
-  turned_look : PassesTurned s p (outward_plane at from to) is.factor
+  turned_look : IsNotRefusedTurned s p (outward_plane at from to) is.factor
   turned_look = by_sign is.factor
-      (λ below. flipped_over below (passes_by_values s p h (flipped out) (value h from) (unsigned_abs is.factor)
+      (λ below. flipped_over below (not_refused_by_values s p h (flipped out) (value h from) (unsigned_abs is.factor)
       (λ b weight. value_flipped out b ∙ ap neg_ℤ (by_factor at from to h is from_weight b weight) ∙ turned is.factor (value h b -ℤ value h from) below)
       (flipped_size out ∙ by_size at from to h is from_weight) high low s_convex p_convex (none_in_front s p h sep) sep.in_front))
       (λ zero. absurd (is.some_factor zero))
-      (λ above. as_it_is above (passes_by_values s p h out (value h from) (unsigned_abs is.factor)
+      (λ above. as_it_is above (not_refused_by_values s p h out (value h from) (unsigned_abs is.factor)
       (λ b weight. by_factor at from to h is from_weight b weight ∙ ap (λ k. k *ℤ (value h b -ℤ value h from)) (itself is.factor above))
       (by_size at from to h is from_weight) high low s_convex p_convex (none_in_front s p h sep) sep.in_front))
     where
@@ -115,8 +115,8 @@ module _ (s p : Winding) (s_convex : IsConvex s) (p_convex : IsConvex p) (h : Pl
       flipped_size g = let x = abs_neg g.nx in let y = abs_neg g.ny in let z = abs_neg g.nz in omega arith
 
 module _ (s p : Winding) (s_convex : IsConvex s) (p_convex : IsConvex p) (h : Plane) (sep : IsSeparator s p h) where
-  -- a candidate of an edge of the source and a corner of the pass
-  pub look_by_source : (is : HasNormalAcross (corners s) (corners p) h) → PassesTurned s p (outward_plane is.at is.from is.to) is.normal.factor
+  -- through an edge of the source and a corner of the pass
+  pub look_by_source : (is : HasNormalAcross (corners s) (corners p) h) → IsNotRefusedTurned s p (outward_plane is.at is.from is.to) is.normal.factor
   look_by_source is =
       let one = corner_of_slice s is.place is.first is.first_is in
       let three = corner_of_contains p is.corner is.corner_is in
@@ -127,8 +127,8 @@ module _ (s p : Winding) (s_convex : IsConvex s) (p_convex : IsConvex p) (h : Pl
       let same = at_value is.at is.from is.to h is.normal is.from_is.weight is.at_is.weight in
       turned_look s p s_convex p_convex h sep is.at is.from is.to is.normal is.from_is.weight high (omega (arith, linear))
 
-  -- and one of an edge of the pass and a corner of the source
-  pub look_by_pass : (is : HasNormalAcross (corners p) (corners s) h) → PassesTurned s p (outward_plane is.at is.from is.to) is.normal.factor
+  -- and through an edge of the pass and a corner of the source
+  pub look_by_pass : (is : HasNormalAcross (corners p) (corners s) h) → IsNotRefusedTurned s p (outward_plane is.at is.from is.to) is.normal.factor
   look_by_pass is =
       let one = corner_of_slice p is.place is.first is.first_is in
       let three = corner_of_contains s is.corner is.corner_is in

@@ -13,7 +13,7 @@ use Rattle.qm_convex.specs.Winding.{Winding, corners, next_place}
 use Rattle.qm_convex.specs.World.{IsInWorld}
 use Rattle.qm_convex.proofs.Corners.{corners_length, corner_in_list}
 use Rattle.qm_convex.proofs.Squares.{corner_in_closed_cube}
-use Rattle.qm_separators.specs.Candidate.{HasLowestNormal, HasNormalOf, HasNormalAcross}
+use Rattle.qm_separators.specs.Across.{HasLowestNormal, HasNormalOf, HasNormalAcross}
 use Rattle.qm_separators.specs.Separator.{IsSeparator}
 use Rattle.qm_separators.proofs.WholePointLaws.{nearest_in_cube, around_in_cube}
 use Rattle.qm_separators.proofs.Normals.{lowest_has_normal}
@@ -57,13 +57,13 @@ corners_in_cube v world i d h =
 
 -- ---- the plane
 
-pub candidate_lowest : (edges others : List Point) (h : Plane) → HasNormalAcross edges others h → HasLowestNormal h
-candidate_lowest edges others h is = is.normal.lowest
+pub across_lowest : (edges others : List Point) (h : Plane) → HasNormalAcross edges others h → HasLowestNormal h
+across_lowest edges others h is = is.normal.lowest
 
 pub separator_is_reduced : (s p : Winding) (h : Plane) → IsInWorld s → IsInWorld p → IsSeparator s p h → IsReduced h
 separator_is_reduced s p h s_in p_in is =
-    let lowest = ⊎_elim (candidate_lowest (corners s) (corners p) h) (candidate_lowest (corners p) (corners s) h) is.candidate in
-    let small = ⊎_elim (normal_across (corners s) (corners p) h (corners_in_cube s s_in) (corners_in_cube p p_in)) (normal_across (corners p) (corners s) h (corners_in_cube p p_in) (corners_in_cube s s_in)) is.candidate in
+    let lowest = ⊎_elim (across_lowest (corners s) (corners p) h) (across_lowest (corners p) (corners s) h) is.across in
+    let small = ⊎_elim (normal_across (corners s) (corners p) h (corners_in_cube s s_in) (corners_in_cube p p_in)) (normal_across (corners p) (corners s) h (corners_in_cube p p_in) (corners_in_cube s s_in)) is.across in
     let n = corners_length s in
     let enough = s_in.convex.enough in
     let size = distance_size h (corners s) (omega arith) (corners_in_cube s s_in) small.x small.y small.z is.least in

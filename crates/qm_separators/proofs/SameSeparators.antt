@@ -9,7 +9,7 @@ use Rattle.qm_convex.specs.Vertex.{IsSomeCorner}
 use Rattle.qm_convex.proofs.Places.{next_below}
 use Rattle.qm_convex.proofs.Corners.{corners_length}
 use Rattle.qm_separators.specs.WholePoints.{IsNearestPoint, IsAround}
-use Rattle.qm_separators.specs.Candidate.{HasNormalAcross}
+use Rattle.qm_separators.specs.Across.{HasNormalAcross}
 use Rattle.qm_separators.specs.Separator.{IsSeparator}
 use Rattle.qm_separators.specs.Part.{HasSameRegion}
 use Rattle.qm_separators.proofs.WholePointLaws.{nearest_of_place, around_of_place}
@@ -17,7 +17,7 @@ use Rattle.qm_separators.proofs.Normals.{normal_swapped}
 use Rattle.qm_separators.proofs.CornerLists.{corner_of_slice, slice_of_corner, corner_of_contains, contains_corner, all_corners, corners_all, any_corner, corner_any}
 use Rattle.qm_separators.proofs.SameCorners.{place_in_front, place_behind, place_not_behind, place_not_in_front, same_back, corner_too, first_too, second_too, neighbours_too}
 
--- ---- the same candidates
+-- ---- the same planes across both
 
 module _ (s t p q : Winding) (s_convex : IsConvex s) (t_convex : IsConvex t) (p_convex : IsConvex p) (q_convex : IsConvex q) (st : HasSameRegion s t) (pq : HasSameRegion p q) where
   pub across_too : (h : Plane) → HasNormalAcross (corners s) (corners p) h → HasNormalAcross (corners t) (corners q) h
@@ -131,7 +131,7 @@ module _ (v w : Winding) (v_convex : IsConvex v) (w_convex : IsConvex w) (same :
 
 pub separator_too : (s t p q : Winding) → IsConvex s → IsConvex t → IsConvex p → IsConvex q → HasSameRegion s t → HasSameRegion p q → (h : Plane) → IsSeparator s p h → IsSeparator t q h
 separator_too s t p q s_convex t_convex p_convex q_convex st pq h is = record {
-  candidate = ⊎_elim (λ c. inl (across_too s t p q s_convex t_convex p_convex q_convex st pq h c)) (λ c. inr (across_too p q s t p_convex q_convex s_convex t_convex pq st h c)) is.candidate;
+  across = ⊎_elim (λ c. inl (across_too s t p q s_convex t_convex p_convex q_convex st pq h c)) (λ c. inr (across_too p q s t p_convex q_convex s_convex t_convex pq st h c)) is.across;
   least = least_too s t s_convex t_convex st (h.nx ∷ h.ny ∷ h.nz ∷ []) h.d is.least;
   in_front = none_behind_too p q p_convex q_convex pq h is.in_front;
   strict = ⊎_elim (λ b. inl (behind_too s t s_convex t_convex st h b)) (λ f. inr (in_front_too p q p_convex q_convex pq h f)) is.strict;

@@ -1,5 +1,5 @@
 pub mod WholePoints
-pub mod Candidate
+pub mod Across
 pub mod Separator
 pub mod Gains
 pub mod Part

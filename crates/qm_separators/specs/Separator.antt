@@ -3,13 +3,13 @@ use Rattle.qm_space.specs.Plane.{Plane}
 use Rattle.qm_geom.specs.LeastDistance.{IsLeastDistance}
 use Rattle.qm_convex.specs.Winding.{Winding, corners}
 use Rattle.qm_convex.specs.Sides.{HasNoCornerBehind, HasCornerBehind, HasCornerInFront}
-use Rattle.qm_separators.specs.Candidate.{HasNormalAcross}
+use Rattle.qm_separators.specs.Across.{HasNormalAcross}
 
 -- The plane separates the source from the pass: it has the normal of an edge of one of the two and a corner of the other;
 -- its distance is the least at which no corner of the source is in front; no corner of the pass is behind; and some corner
 -- of one of the two is not on it.
 pub record IsSeparator (source pass : Winding) (h : Plane) : Type 0 where
-  pub candidate : HasNormalAcross (corners source) (corners pass) h ⊎ HasNormalAcross (corners pass) (corners source) h
+  pub across : HasNormalAcross (corners source) (corners pass) h ⊎ HasNormalAcross (corners pass) (corners source) h
   pub least : IsLeastDistance (h.nx ∷ h.ny ∷ h.nz ∷ []) (corners source) h.d
   pub in_front : HasNoCornerBehind pass h
   pub strict : HasCornerBehind source h ⊎ HasCornerInFront pass h
