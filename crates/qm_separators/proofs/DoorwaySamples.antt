@@ -1,5 +1,5 @@
 -- Worked rows: two doorways one behind the other, their separators, and steps of a chain that goes through both.
-use Rattle.std.proofs.Common.{◌≡◌, ℕ, ◌<◌, ℤ, pos, neg_ℤ, ◌*◌, ◌≤◌, ◌-ℤ◌, ◌*ℤ◌, ◌<ℤ◌, List, [], ◌∷◌, length, get_or, All, Contains, slice_get, refl, ap, sym, subst, arith, unsigned_abs, inl}
+use Rattle.std.proofs.Common.{◌≡◌, ℕ, ◌<◌, ℤ, pos, neg_ℤ, ◌*◌, ◌≤◌, ◌-ℤ◌, ◌*ℤ◌, ◌<ℤ◌, List, [], ◌∷◌, length, get_or, All, Contains, slice_get, refl, ap, sym, subst, arith, unsigned_abs, inl, inr}
 use Rattle.std.proofs.lemmas.Int.{ints}
 use Rattle.std.proofs.lemmas.List.Elements.{All-from_recursion}
 use Rattle.std.proofs.Math.Nat.{eq-one_of_dvd-one}
@@ -17,6 +17,9 @@ use Rattle.qm_coarse_rows.proofs.RoomSamples.{at}
 use Rattle.qm_separators.specs.WholePoints.{IsNearestPoint, IsAround}
 use Rattle.qm_separators.specs.Across.{HasLowestNormal, HasNormalOf, HasNormalAcross}
 use Rattle.qm_separators.specs.Separator.{IsSeparator}
+use Rattle.qm_separators.specs.Gains.{Gains}
+use Rattle.qm_separators.proofs.GainedPlanes.{gains_one}
+use Rattle.qm_separators.proofs.OneLook.{IsNotRefusedTurned, look_by_source}
 use Rattle.qm_separators.proofs.CornerLists.{all_corners}
 use Rattle.qm_separators.proofs.Distances.{least_by_neighbours}
 
@@ -162,3 +165,21 @@ right_left_row = record {
   in_front = none_behind_far right_left (All-from_recursion (λ p. IsNotBehind right_left p) (spot (pos 64) low low ∷ spot (pos 64) high low ∷ spot (pos 64) high high ∷ spot (pos 64) low high ∷ []) (omega (arith, ints), (omega (arith, ints), (omega (arith, ints), (omega (arith, ints), tt)))));
   strict = inl (1, omega arith, omega (arith, ints));
 }
+
+-- ---- the other definitions
+
+-- a half goes away from 0
+nearest_row : IsNearestPoint (record { x = pos 1; y = neg_ℤ (pos 1); z = pos 3; w = pos 2 }) (spot (pos 1) (neg_ℤ (pos 1)) (pos 2))
+nearest_row = record { x = record { near = omega arith; away = λ e. omega arith }; y = record { near = omega arith; away = λ e. omega arith }; z = record { near = omega arith; away = λ e. omega arith }; weight = refl }
+
+-- one of the eight around it: down, down and up
+around_row : IsAround (record { x = pos 1; y = neg_ℤ (pos 1); z = pos 3; w = pos 2 }) (spot (pos 0) (neg_ℤ (pos 1)) (pos 2))
+around_row = record { x = inl (record { at_most = omega (arith, ints); next = omega (arith, ints) }); y = inl (record { at_most = omega (arith, ints); next = omega (arith, ints) }); z = inr (record { at_least = omega (arith, ints); previous = omega (arith, ints) }); weight = refl }
+
+gains_row : Gains (λ h. h ≡ left_right) (right_left ∷ []) (right_left ∷ left_right ∷ [])
+gains_row = gains_one (right_left ∷ []) left_right
+
+-- no look refuses the separator
+not_refused_row : IsNotRefusedTurned (doorway (pos 0)) (doorway (pos 64)) (outward_plane (spot (pos 64) low low) (spot (pos 0) high low) (spot (pos 0) high high)) (neg_ℤ (pos 1024))
+unfolding left_right_across left_right_normal
+not_refused_row = look_by_source (doorway (pos 0)) (doorway (pos 64)) (doorway_convex (pos 0)) (doorway_convex (pos 64)) left_right left_right_row left_right_across
