@@ -23,3 +23,4 @@ pub mod GainedPlanes
 pub mod DoorwaySamples
 pub mod StepSamples
 pub mod ChainRows
+pub mod SignedLooks

@@ -77,7 +77,7 @@ like_lowest : (g h : Plane) → normal_of g ≡ normal_of h → HasLowestNormal 
 like_lowest g h e l k x y z = l k (subst (λ (n : ℤ). k ∣ unsigned_abs n) (ap (λ (p : Point). p.x) e) x) (subst (λ (n : ℤ). k ∣ unsigned_abs n) (ap (λ (p : Point). p.y) e) y) (subst (λ (n : ℤ). k ∣ unsigned_abs n) (ap (λ (p : Point). p.z) e) z)
 
 -- the factor by which a plane in lowest terms gives the plane back
-normal_back : (h : Plane) → normal_of h ≡ point_times (pos (common_factor h)) (normal_of (reduced h))
+pub normal_back : (h : Plane) → normal_of h ≡ point_times (pos (common_factor h)) (normal_of (reduced h))
 normal_back h =
     let e = reduced_back h in
     same_point (normal_of h) (point_times (pos (common_factor h)) (normal_of (reduced h))) (sym (ap (λ (g : Plane). g.nx) e)) (sym (ap (λ (g : Plane). g.ny) e)) (sym (ap (λ (g : Plane). g.nz) e)) (sym (*ℤ_zero (pos (common_factor h))))
