@@ -1,5 +1,5 @@
 -- A group look: the same look for all whole points around a corner at once, by the one that is rounded down.
-use Rattle.std.proofs.Common.{◌≡◌, ℕ, ◌+◌, ◌*◌, ◌≤◌, ◌<◌, ℤ, pos, neg_ℤ, ◌+ℤ◌, ◌-ℤ◌, ◌*ℤ◌, ◌<ℤ◌, ◌≤ℤ◌, [], length, ap, ◌∙◌, arith, unsigned_abs, ⊎_elim}
+use Rattle.std.proofs.Common.{◌≡◌, ℕ, ◌+◌, ◌*◌, ◌≤◌, ◌<◌, ℤ, pos, neg_ℤ, ◌+ℤ◌, ◌-ℤ◌, ◌*ℤ◌, ◌<ℤ◌, ◌≤ℤ◌, [], length, ap, sym, subst, ◌∙◌, arith, unsigned_abs, ⊎_elim}
 use Rattle.std.specs.Int.{int_max, int_min}
 use Rattle.std.proofs.lemmas.Int.{ints, clamps}
 use Rattle.std.proofs.Math.IntN.{*ℤ_comm}
@@ -13,10 +13,13 @@ use Rattle.qm_space.specs.Plane.{Plane, value, flipped}
 use Rattle.qm_space.specs.ThreePoints.{outward_plane}
 use Rattle.qm_space.proofs.Planes.{value_flipped}
 use Rattle.qm_space.proofs.PlaneSymbols.{point_from, numbers_of_point, symbol_value, symbol_outward}
-use Rattle.qm_convex.specs.Winding.{Winding, corner_at}
+use Rattle.qm_convex.specs.Winding.{Winding, corner_at, corners, IsConvex}
 use Rattle.qm_separators.specs.WholePoints.{IsWholeBy, IsAround, IsRoundedEitherWay}
 use Rattle.qm_separators.proofs.Looks.{normal_size, IsBeside}
-use Rattle.qm_separators.proofs.OneLook.{IsNotRefused, IsNotRefusedTurned, as_it_is, flipped_over}
+use Rattle.qm_separators.proofs.OneLook.{IsNotRefused, IsNotRefusedTurned, as_it_is, flipped_over, look_by_source, look_by_pass}
+use Rattle.qm_separators.specs.Across.{HasNormalAcross}
+use Rattle.qm_separators.specs.Separator.{IsSeparator}
+use Rattle.qm_separators.proofs.CornerLists.{corner_of_contains}
 
 -- ---- what is rounded either way is what is rounded down, or one more
 
@@ -205,3 +208,15 @@ pub data IsGroupLeft (s p : Winding) (low from to : Point) : Type 0 where
 pub group_left : (s p : Winding) (low at from to c : Point) (factor : ℤ) → pos 0 <ℤ c.w → IsWholeBy IsRoundedDown c low → IsAround c at → IsNotRefusedTurned s p (outward_plane at from to) factor → IsGroupLeft s p low from to
 group_left s p low at from to c factor weight low_is at_is (as_it_is above look) = group_as_it_is (group_look low at from to c weight low_is at_is s p look)
 group_left s p low at from to c factor weight low_is at_is (flipped_over below look) = group_flipped_over (group_look_flipped low at from to c weight low_is at_is s p look)
+
+module _ (s p : Winding) (s_convex : IsConvex s) (p_convex : IsConvex p) (h : Plane) (sep : IsSeparator s p h) (low : Point) where
+  -- a group that is refused, as it is and flipped over, has no separator
+  pub group_by_source : (is : HasNormalAcross (corners s) (corners p) h) → IsWholeBy IsRoundedDown is.corner low → IsGroupLeft s p low is.from is.to
+  group_by_source is low_is =
+      let c = corner_of_contains p is.corner is.corner_is in
+      group_left s p low is.at is.from is.to is.corner is.normal.factor (subst (λ (q : Point). pos 0 <ℤ q.w) (sym c.2) (p_convex.weight c.0 c.1)) low_is is.at_is (look_by_source s p s_convex p_convex h sep is)
+
+  pub group_by_pass : (is : HasNormalAcross (corners p) (corners s) h) → IsWholeBy IsRoundedDown is.corner low → IsGroupLeft s p low is.from is.to
+  group_by_pass is low_is =
+      let c = corner_of_contains s is.corner is.corner_is in
+      group_left s p low is.at is.from is.to is.corner is.normal.factor (subst (λ (q : Point). pos 0 <ℤ q.w) (sym c.2) (s_convex.weight c.0 c.1)) low_is is.at_is (look_by_pass s p s_convex p_convex h sep is)

@@ -24,3 +24,4 @@ pub mod DoorwaySamples
 pub mod StepSamples
 pub mod ChainRows
 pub mod SignedLooks
+pub mod Outlines
