@@ -13,6 +13,9 @@ use Rattle.qm_convex.specs.Winding.{Winding}
 use Rattle.qm_separators.specs.Across.{HasNormalOf}
 use Rattle.qm_separators.proofs.Normals.{normal_back, lowest_has_normal, normal_wants_points}
 use Rattle.qm_separators.proofs.OneLook.{IsNotRefused, IsNotRefusedTurned, as_it_is, flipped_over}
+use Rattle.qm_separators.proofs.GroupLook.{IsGroupNotRefused, step_size, group_look, group_look_flipped}
+use Rattle.qm_separators.specs.WholePoints.{IsWholeBy, IsAround}
+use Rattle.qm_numbers.specs.Rounding.{IsRoundedDown}
 
 module _ (at from to : Point) (h : Plane) (is : HasNormalOf at from to h) where
   -- a multiple of the normal by a positive number is none by 0 or less
@@ -63,3 +66,12 @@ module _ (s p : Winding) (at from to : Point) (h : Plane) (is : HasNormalOf at f
       by_look : IsNotRefusedTurned s p (outward_plane at from to) is.factor → IsNotRefused s p (flipped (outward_plane at from to))
       by_look (as_it_is above it) = let l = factor_opposite at from to h is e in absurd (omega (arith, linear))
       by_look (flipped_over below it) = it
+
+-- ---- for a group, by the sign
+
+module _ (s p : Winding) (low at from to c : Point) (h : Plane) (is : HasNormalOf at from to h) (weight : pos 0 <ℤ c.w) (low_is : IsWholeBy IsRoundedDown c low) (at_is : IsAround c at) (look : IsNotRefusedTurned s p (outward_plane at from to) is.factor) where
+  pub group_alike : normal_of h ≡ normal_of (reduced (outward_plane at from to)) → IsGroupNotRefused s p (outward_plane low from to) (λ b. outward_plane to from b) (step_size from to)
+  group_alike e = group_look low at from to c weight low_is at_is s p (not_refused_alike s p at from to h is look e)
+
+  pub group_opposite : normal_of h ≡ normal_of (flipped (reduced (outward_plane at from to))) → IsGroupNotRefused s p (flipped (outward_plane low from to)) (λ b. flipped (outward_plane to from b)) (step_size from to)
+  group_opposite e = group_look_flipped low at from to c weight low_is at_is s p (not_refused_opposite s p at from to h is look e)
