@@ -19,9 +19,10 @@ use Rattle.qm_separators.specs.Across.{HasLowestNormal, HasNormalOf, HasNormalAc
 use Rattle.qm_separators.specs.Separator.{IsSeparator}
 use Rattle.qm_separators.specs.Gains.{Gains}
 use Rattle.qm_separators.proofs.GainedPlanes.{gains_one}
-use Rattle.qm_separators.proofs.OneLook.{IsNotRefusedTurned, look_by_source}
+use Rattle.qm_separators.proofs.OneLook.{look_by_source}
 use Rattle.qm_separators.proofs.CornerLists.{all_corners}
 use Rattle.qm_separators.proofs.Distances.{least_by_neighbours}
+use Rattle.qm_separators.specs.inner.Look.{IsNotRefusedTurned}
 
 -- ---- a doorway: y and z between -16 and 16
 

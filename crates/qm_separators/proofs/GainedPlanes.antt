@@ -1,11 +1,12 @@
 -- Lists that gain planes, one call after another.
-use Rattle.std.proofs.Common.{◌≡◌, ℕ, suc, ◌<◌, List, [], ◌∷◌, ◌++◌, Contains, sym, subst, arith, ◌⊎◌, inl, inr, ⊎_elim, ◌↔◌}
+use Rattle.std.proofs.Common.{◌≡◌, ℕ, suc, List, [], ◌∷◌, ◌++◌, Contains, sym, subst, arith, ◌⊎◌, inl, inr, ⊎_elim, ◌↔◌}
 use Rattle.std.proofs.lemmas.Bool.{cases_eq}
 use Rattle.std.proofs.lemmas.List.Elements.{Contains-append_left, Contains-append_right, Contains-append_cases}
 use Rattle.qm_lists.proofs.Elements.{Contains-first, Contains-cons_cases}
 use Rattle.qm_space.specs.Plane.{Plane}
 use Rattle.qm_separators.specs.Gains.{Gains, HasExactly}
 use Rattle.qm_separators.proofs.ListedPlanes.{no_element}
+use Rattle.qm_separators.specs.inner.Below.{HasBelow}
 
 pub gains_none : (Has : Plane → Type 0) (old : List Plane) → ((h : Plane) → Has h → ⊥) → Gains Has old old
 gains_none Has old none h = (inl, (λ e. ⊎_elim (λ c. c) (λ has. absurd (none h has)) e))
@@ -33,9 +34,6 @@ gains_both Has Having old mid new first second h = (
 )
 
 -- ---- in a loop over places
-
-abbrev pub HasBelow : ℕ → (ℕ → Plane → Type 0) → Plane → Type 0
-HasBelow n Has h = (i : ℕ) × (i < n) × Has i h
 
 pub gains_at_first : (Has : ℕ → Plane → Type 0) (old : List Plane) → Gains (HasBelow 0 Has) old old
 gains_at_first Has old = gains_none (HasBelow 0 Has) old (λ h has. let l = has.1 in omega arith)

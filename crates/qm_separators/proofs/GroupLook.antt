@@ -1,5 +1,5 @@
 -- A group look: the same look for all whole points around a corner at once, by the one that is rounded down.
-use Rattle.std.proofs.Common.{◌≡◌, ℕ, ◌+◌, ◌*◌, ◌≤◌, ◌<◌, ℤ, pos, neg_ℤ, ◌+ℤ◌, ◌-ℤ◌, ◌*ℤ◌, ◌<ℤ◌, ◌≤ℤ◌, [], length, ap, sym, subst, ◌∙◌, arith, unsigned_abs, ⊎_elim}
+use Rattle.std.proofs.Common.{◌≡◌, ℕ, ◌+◌, ◌*◌, ◌≤◌, ℤ, pos, neg_ℤ, ◌+ℤ◌, ◌-ℤ◌, ◌*ℤ◌, ◌<ℤ◌, ◌≤ℤ◌, [], ap, sym, subst, ◌∙◌, arith, unsigned_abs, ⊎_elim}
 use Rattle.std.specs.Int.{int_max, int_min}
 use Rattle.std.proofs.lemmas.Int.{ints, clamps}
 use Rattle.std.proofs.Math.IntN.{*ℤ_comm}
@@ -13,13 +13,14 @@ use Rattle.qm_space.specs.Plane.{Plane, value, flipped}
 use Rattle.qm_space.specs.ThreePoints.{outward_plane}
 use Rattle.qm_space.proofs.Planes.{value_flipped}
 use Rattle.qm_space.proofs.PlaneSymbols.{point_from, numbers_of_point, symbol_value, symbol_outward}
-use Rattle.qm_convex.specs.Winding.{Winding, corner_at, corners, IsConvex}
+use Rattle.qm_convex.specs.Winding.{Winding, corners, IsConvex}
 use Rattle.qm_separators.specs.WholePoints.{IsWholeBy, IsAround, IsRoundedEitherWay}
-use Rattle.qm_separators.proofs.Looks.{normal_size, IsBeside}
-use Rattle.qm_separators.proofs.OneLook.{IsNotRefused, IsNotRefusedTurned, as_it_is, flipped_over, look_by_source, look_by_pass}
+use Rattle.qm_separators.proofs.OneLook.{look_by_source, look_by_pass}
 use Rattle.qm_separators.specs.Across.{HasNormalAcross}
 use Rattle.qm_separators.specs.Separator.{IsSeparator}
 use Rattle.qm_separators.proofs.CornerLists.{corner_of_contains}
+use Rattle.qm_separators.specs.inner.Look.{normal_size, IsNotRefused, IsNotRefusedTurned, as_it_is, flipped_over}
+use Rattle.qm_separators.specs.inner.GroupLook.{step_size, IsGroupNotRefused, IsGroupLeft, group_as_it_is, group_flipped_over}
 
 -- ---- what is rounded either way is what is rounded down, or one more
 
@@ -50,17 +51,6 @@ either_is_bit o u d q h low either = ⊎_elim
     at_most u a b h l = let m = times_at_most u a b (omega (arith, linear)) l in let x = *ℤ_comm u a in let y = *ℤ_comm u b in omega (arith, linear)
 
 -- ---- how far the values go apart
-
--- how much the components of the normal can add, each taken or left
-abbrev pub rise : Plane → ℤ
-rise h = (int_max h.nx (pos 0) +ℤ int_max h.ny (pos 0)) +ℤ int_max h.nz (pos 0)
-
-abbrev pub fall : Plane → ℤ
-fall h = (int_min h.nx (pos 0) +ℤ int_min h.ny (pos 0)) +ℤ int_min h.nz (pos 0)
-
--- the sum of the absolute values of the step from one point to another
-abbrev pub step_size : Point → Point → ℕ
-step_size from to = unsigned_abs (to.x -ℤ from.x) + unsigned_abs (to.y -ℤ from.y) + unsigned_abs (to.z -ℤ from.z)
 
 taken_or_left : (z n : ℤ) → IsBit z → (int_min n (pos 0) ≤ℤ (z *ℤ n)) × ((z *ℤ n) ≤ℤ int_max n (pos 0))
 taken_or_left z n (bit_zero e) = let f = ap (λ k. k *ℤ n) e ∙ zero_*ℤ n in bounds n (z *ℤ n) f
@@ -125,12 +115,6 @@ module _ (low at from to : Point) where
       solved (numbers_of_point low (numbers_of_point at (numbers_of_point from (numbers_of_point to [])))) (symbol_outward a f t).nz ((symbol_outward l f t).nz ⊕ ((a.x ⊖ l.x) ⊗ (t.y ⊖ f.y) ⊖ (a.y ⊖ l.y) ⊗ (t.x ⊖ f.x))) tt
 
 -- ---- the look
-
--- the look of one plane, wide enough for all whole points around a corner; `turn` gives for each whole point how a step across
--- each axis changes the value there, and `steps` is the size of the edge
-pub record IsGroupNotRefused (s p : Winding) (out : Plane) (turn : Point → Plane) (steps : ℕ) : Type 0 where
-  pub source : (i : ℕ) (b : Point) → i < length s.edges → IsBeside (corner_at s i) b → (value out b +ℤ fall (turn b)) ≤ℤ pos (2 * (normal_size out + 2 * steps))
-  pub pass : (i : ℕ) (b : Point) → i < length p.edges → IsBeside (corner_at p i) b → neg_ℤ (pos (2 * (normal_size out + 2 * steps))) ≤ℤ (value out b +ℤ rise (turn b))
 
 -- the values of one plane are those of another, moved by some of the steps
 module _ (s p : Winding) (out moved : Plane) (turn : Point → Plane) (steps : ℕ) (x y z : ℤ) (x_bit : IsBit x) (y_bit : IsBit y) (z_bit : IsBit z) (values : (b : Point) → b.w ≡ pos 1 → value moved b ≡ value out b +ℤ (((x *ℤ (turn b).nx) +ℤ (y *ℤ (turn b).ny)) +ℤ (z *ℤ (turn b).nz))) (size : normal_size moved ≤ normal_size out + 2 * steps) where
@@ -198,11 +182,6 @@ module _ (low at from to c : Point) (weight : pos 0 <ℤ c.w) (low_is : IsWholeB
       flipped_size = let a = same (outward_plane at from to) in let b = same (outward_plane low from to) in let c = group_size in omega arith
 
 -- ---- of separators
-
--- the plane through the whole point that is rounded down from the corner, turned as a separator through one of those around it
-pub data IsGroupLeft (s p : Winding) (low from to : Point) : Type 0 where
-  group_as_it_is : IsGroupNotRefused s p (outward_plane low from to) (λ b. outward_plane to from b) (step_size from to) → IsGroupLeft s p low from to
-  group_flipped_over : IsGroupNotRefused s p (flipped (outward_plane low from to)) (λ b. flipped (outward_plane to from b)) (step_size from to) → IsGroupLeft s p low from to
 
 -- where one of its planes is not refused, the group is not
 pub group_left : (s p : Winding) (low at from to c : Point) (factor : ℤ) → pos 0 <ℤ c.w → IsWholeBy IsRoundedDown c low → IsAround c at → IsNotRefusedTurned s p (outward_plane at from to) factor → IsGroupLeft s p low from to

@@ -23,11 +23,12 @@ use Rattle.qm_separators.specs.Across.{HasNormalOf, HasNormalAcross}
 use Rattle.qm_separators.specs.Separator.{IsSeparator, IsSeparatorFrom}
 use Rattle.qm_separators.proofs.Roundings.{one_up, down, up}
 use Rattle.qm_separators.proofs.WholePointLaws.{nearest_alone, nearest_point}
-use Rattle.qm_separators.proofs.Normals.{HasNormalLike, alike, opposite, normal_of_points, normal_alone, normal_wants_points}
+use Rattle.qm_separators.proofs.Normals.{normal_of_points, normal_alone, normal_wants_points}
 use Rattle.qm_separators.proofs.Distances.{distance_alone, least_distance}
 use Rattle.qm_separators.proofs.CornerLists.{corner_of_slice, slice_of_corner, corner_of_contains, contains_corner}
 use Rattle.qm_separators.proofs.StepLaw.{IsConvexPass}
 use Rattle.qm_separators.proofs.ListedPlanes.{Listed, listed_none, listed_alike, listed_one, listed_either, listed_below, listed_where}
+use Rattle.qm_separators.specs.inner.NormalLike.{HasNormalLike, alike, opposite}
 
 -- ---- of whole points
 

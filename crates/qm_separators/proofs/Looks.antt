@@ -1,5 +1,5 @@
 -- What a plane is worth at whole points beside a point: how far it can be off the value there.
-use Rattle.std.proofs.Common.{◌≡◌, ℕ, ◌+◌, ◌*◌, ◌≤◌, ℤ, pos, negsuc, neg_ℤ, ◌+ℤ◌, ◌-ℤ◌, ◌*ℤ◌, ◌<ℤ◌, ◌≤ℤ◌, [], refl, ap, sym, subst, ◌∙◌, arith, unsigned_abs, ⊎_elim}
+use Rattle.std.proofs.Common.{◌≡◌, ℕ, ◌*◌, ◌≤◌, ℤ, pos, negsuc, neg_ℤ, ◌+ℤ◌, ◌-ℤ◌, ◌*ℤ◌, ◌<ℤ◌, ◌≤ℤ◌, [], refl, ap, sym, subst, ◌∙◌, arith, unsigned_abs, ⊎_elim}
 use Rattle.std.proofs.lemmas.Int.{ints}
 use Rattle.std.proofs.Math.IntN.{*ℤ_comm}
 use Rattle.qm_numbers.specs.Rounding.{IsNearest}
@@ -10,19 +10,9 @@ use Rattle.qm_space.specs.Point.{Point}
 use Rattle.qm_space.specs.Plane.{Plane, value, IsNotBehind, IsNotInFront}
 use Rattle.qm_space.proofs.PlaneSymbols.{plane_from, point_from, numbers_of_plane, numbers_of_point, symbol_value}
 use Rattle.qm_separators.specs.WholePoints.{IsNearestPoint, IsAround, IsRoundedEitherWay}
+use Rattle.qm_separators.specs.inner.Look.{normal_size, IsBeside}
 
 -- ---- a plane's values at a point and at a whole point beside it
-
--- the sum of the absolute values of the normal's components
-abbrev pub normal_size : Plane → ℕ
-normal_size h = unsigned_abs h.nx + unsigned_abs h.ny + unsigned_abs h.nz
-
--- a whole point that is off the point by at most one across each axis
-pub record IsBeside (p whole : Point) : Type 0 where
-  pub x : unsigned_abs (p.x -ℤ (whole.x *ℤ p.w)) ≤ unsigned_abs p.w
-  pub y : unsigned_abs (p.y -ℤ (whole.y *ℤ p.w)) ≤ unsigned_abs p.w
-  pub z : unsigned_abs (p.z -ℤ (whole.z *ℤ p.w)) ≤ unsigned_abs p.w
-  pub weight : whole.w ≡ pos 1
 
 nearest_beside_number : (o u q : ℤ) → IsNearest o u q → unsigned_abs (o -ℤ (q *ℤ u)) ≤ unsigned_abs u
 nearest_beside_number o u q is = let n = is.near in omega arith

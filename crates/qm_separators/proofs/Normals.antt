@@ -19,6 +19,7 @@ use Rattle.qm_space.proofs.PlaneSymbols.{point_from, numbers_of_point, symbol_ou
 use Rattle.qm_space.proofs.PlanesThroughPoints.{outward_holds_second}
 use Rattle.qm_space.proofs.ReducedPlanes.{same_plane, scaled_neg, scaled_flipped, flipped_twice, leads_flipped, IsLowest, multiples_equal, common_factor_positive, reduced_back, common_factor_divides, divides_common_factor, reduced_lowest}
 use Rattle.qm_separators.specs.Across.{HasLowestNormal, HasNormalOf}
+use Rattle.qm_separators.specs.inner.NormalLike.{HasNormalLike, alike, opposite}
 
 -- ---- a plane through a whole point: what divides its normal divides its distance
 
@@ -61,11 +62,6 @@ outward_lowest_normal at from to weight normal k x y z =
         zero_of n v p e = zero_beside_positive (pos n) v (omega (arith, ints)) e
 
 -- ---- there is one
-
--- a plane with the normal of another, or with its opposite
-pub data HasNormalLike (g h : Plane) : Type 0 where
-  alike : normal_of g ≡ normal_of h → HasNormalLike g h
-  opposite : normal_of g ≡ normal_of (flipped h) → HasNormalLike g h
 
 times_one : (p : Point) → p.w ≡ pos 0 → point_times (pos 1) p ≡ p
 times_one p e = same_point (point_times (pos 1) p) p (omega (arith, ints)) (omega (arith, ints)) (omega (arith, ints)) (omega (arith, ints))

@@ -16,7 +16,8 @@ use Rattle.qm_separators.specs.Across.{HasNormalOf, HasNormalAcross}
 use Rattle.qm_separators.specs.Separator.{IsSeparator}
 use Rattle.qm_separators.proofs.SeparatorLaw.{none_in_front}
 use Rattle.qm_separators.proofs.CornerLists.{corner_of_slice, corner_of_contains}
-use Rattle.qm_separators.proofs.Looks.{normal_size, IsBeside, nearest_beside, around_beside, beside_not_behind, beside_not_in_front}
+use Rattle.qm_separators.proofs.Looks.{nearest_beside, around_beside, beside_not_behind, beside_not_in_front}
+use Rattle.qm_separators.specs.inner.Look.{normal_size, IsNotRefused, IsNotRefusedTurned, as_it_is, flipped_over}
 
 -- ---- the plane through the points, by the plane in lowest terms
 
@@ -50,12 +51,6 @@ module _ (at from to : Point) (h : Plane) (is : HasNormalOf at from to h) (from_
 
 -- ---- the look
 
--- whole points beside the corners of the source are not far in front of the plane, and those beside the corners of the pass
--- not far behind
-pub record IsNotRefused (s p : Winding) (out : Plane) : Type 0 where
-  pub source : (i : ℕ) (b : Point) → i < length s.edges → IsBeside (corner_at s i) b → value out b ≤ℤ pos (2 * normal_size out)
-  pub pass : (i : ℕ) (b : Point) → i < length p.edges → IsBeside (corner_at p i) b → neg_ℤ (pos (2 * normal_size out)) ≤ℤ value out b
-
 -- so many times a plane with values not far apart
 module _ (s p : Winding) (h out : Plane) (base : ℤ) (many : ℕ) (values : (b : Point) → b.w ≡ pos 1 → value out b ≡ pos many *ℤ (value h b -ℤ base)) (size : normal_size out ≡ many * normal_size h) (high : base ≤ℤ pos (normal_size h)) (low : neg_ℤ (pos (normal_size h)) ≤ℤ base) (s_convex : IsConvex s) (p_convex : IsConvex p) (s_sides : (i : ℕ) → i < length s.edges → IsNotInFront h (corner_at s i)) (p_sides : (i : ℕ) → i < length p.edges → IsNotBehind h (corner_at p i)) where
   total : pos many *ℤ pos (2 * normal_size h) ≡ pos (2 * normal_size out)
@@ -82,11 +77,6 @@ module _ (s p : Winding) (h out : Plane) (base : ℤ) (many : ℕ) (values : (b 
       apart_low v b n x y = omega (arith, ints)
 
 -- ---- of separators
-
--- the plane through the three points, turned as the separator is
-pub data IsNotRefusedTurned (s p : Winding) (out : Plane) (factor : ℤ) : Type 0 where
-  as_it_is : pos 0 <ℤ factor → IsNotRefused s p out → IsNotRefusedTurned s p out factor
-  flipped_over : factor <ℤ pos 0 → IsNotRefused s p (flipped out) → IsNotRefusedTurned s p out factor
 
 module _ (s p : Winding) (s_convex : IsConvex s) (p_convex : IsConvex p) (h : Plane) (sep : IsSeparator s p h) (at from to : Point) (is : HasNormalOf at from to h) (from_weight : from.w ≡ pos 1) (high : value h from ≤ℤ pos (normal_size h)) (low : neg_ℤ (pos (normal_size h)) ≤ℤ value h from) where
   turned_look : IsNotRefusedTurned s p (outward_plane at from to) is.factor

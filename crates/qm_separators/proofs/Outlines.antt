@@ -1,6 +1,5 @@
 -- Planes across two windings by their outlines: for each corner the nearest whole point, the one below and the one above.
-use Rattle.std.proofs.Common.{◌≡◌, ℕ, ◌<◌, pos, [], ◌∷◌, length, slice_get, ap, sym, subst, ◌∙◌, ◌↔◌}
-use Rattle.qm_numbers.specs.Rounding.{IsRoundedDown, IsRoundedUp}
+use Rattle.std.proofs.Common.{◌≡◌, ℕ, ◌<◌, [], ◌∷◌, length, slice_get, ap, subst, ◌∙◌, ◌↔◌}
 use Rattle.qm_space.specs.Point.{Point}
 use Rattle.qm_space.specs.Plane.{Plane}
 use Rattle.qm_space.specs.Vector.{normal_of}
@@ -9,27 +8,13 @@ use Rattle.qm_geom.specs.LeastDistance.{IsLeastDistance}
 use Rattle.qm_convex.specs.Winding.{Winding, next_place, corner_at, corners, IsConvex}
 use Rattle.qm_convex.proofs.Places.{next_below}
 use Rattle.qm_convex.proofs.Corners.{corners_length}
-use Rattle.qm_separators.specs.WholePoints.{IsWholeBy, IsNearestPoint, IsAround}
+use Rattle.qm_separators.specs.WholePoints.{IsNearestPoint, IsAround}
 use Rattle.qm_separators.specs.Across.{HasNormalOf, HasNormalAcross}
 use Rattle.qm_separators.specs.Separator.{IsSeparator}
-use Rattle.qm_separators.proofs.WholePointLaws.{nearest_alone, IsMixOf, around_is_mix}
+use Rattle.qm_separators.proofs.WholePointLaws.{nearest_alone, around_is_mix}
 use Rattle.qm_separators.proofs.Distances.{distance_alone}
 use Rattle.qm_separators.proofs.CornerLists.{corner_of_slice, slice_of_corner, corner_of_contains, contains_corner}
-
--- the nearest whole points of the corners of one winding
-abbrev pub AreNearest : Winding → (ℕ → Point) → Type 0
-AreNearest v near = (i : ℕ) → i < length v.edges → IsNearestPoint (corner_at v i) (near i)
-
--- the whole points below and above the corners
-pub record AreAround (v : Winding) (below above : ℕ → Point) : Type 0 where
-  pub low : (k : ℕ) → k < length v.edges → IsWholeBy IsRoundedDown (corner_at v k) (below k)
-  pub high : (k : ℕ) → k < length v.edges → IsWholeBy IsRoundedUp (corner_at v k) (above k)
-
--- along the edge of one place, through a whole point around the corner of another
-pub record HasNormalAt (v : Winding) (near below above : ℕ → Point) (i k : ℕ) (h : Plane) : Type 0 where
-  pub at : Point
-  pub mix : IsMixOf (below k) (above k) at
-  pub normal : HasNormalOf at (near i) (near (next_place (length v.edges) i)) h
+use Rattle.qm_separators.specs.inner.Outline.{AreNearest, AreAround, HasNormalAt}
 
 module _ (v w : Winding) (v_convex : IsConvex v) (w_convex : IsConvex w) (near below above : ℕ → Point) (nearest : AreNearest v near) (around : AreAround w below above) where
   -- over all edges and corners that is exactly to be across both
@@ -45,12 +30,19 @@ module _ (v w : Winding) (v_convex : IsConvex v) (w_convex : IsConvex w) (near b
           let second : is.second ≡ corner_at v next = two.1 ∙ ap (λ (n : ℕ). corner_at v (next_place n is.place)) (corners_length v) in
           let next_in = next_below (length v.edges) is.place one.0 in
           let from = nearest_alone (corner_at v is.place) is.from (near is.place) (v_convex.weight is.place one.0) (subst (λ (p : Point). IsNearestPoint p is.from) one.1 is.from_is) (nearest is.place one.0) in
-          let to = nearest_alone (corner_at v next) is.to (near next) (v_convex.weight next next_in) (subst (λ (p : Point). IsNearestPoint p is.to) second is.to_is) (nearest next next_in) in
-          (is.place, one.0, (three.0, three.1, record {
-            at = is.at;
-            mix = (around_is_mix (corner_at w three.0) (below three.0) (above three.0) is.at (w_convex.weight three.0 three.1) (around.low three.0 three.1) (around.high three.0 three.1)).0 (subst (λ (p : Point). IsAround p is.at) three.2 is.at_is);
-            normal = subst (λ (p : Point). HasNormalOf is.at (near is.place) p h) to (subst (λ (p : Point). HasNormalOf is.at p is.to h) from is.normal);
-          }))
+          let to = nearest_alone (corner_at v next) is.to (near next) (v_convex.weight next next_in) (subst (λ (p : Point). IsNearestPoint p is.to) second is.to_is) (nearest next next_in) in (
+            is.place,
+            one.0,
+            (
+              three.0,
+              three.1,
+              record {
+                at = is.at;
+                mix = (around_is_mix (corner_at w three.0) (below three.0) (above three.0) is.at (w_convex.weight three.0 three.1) (around.low three.0 three.1) (around.high three.0 three.1)).0 (subst (λ (p : Point). IsAround p is.at) three.2 is.at_is);
+                normal = subst (λ (p : Point). HasNormalOf is.at (near is.place) p h) to (subst (λ (p : Point). HasNormalOf is.at p is.to h) from is.normal);
+              },
+            ),
+          )
 
       back : (i : ℕ) × (i < length v.edges) × ((k : ℕ) × (k < length w.edges) × HasNormalAt v near below above i k h) → HasNormalAcross (corners v) (corners w) h
       back (i, i_in, (k, k_in, is)) =

@@ -12,10 +12,11 @@ use Rattle.qm_space.proofs.ReducedPlanes.{common_factor_positive}
 use Rattle.qm_convex.specs.Winding.{Winding}
 use Rattle.qm_separators.specs.Across.{HasNormalOf}
 use Rattle.qm_separators.proofs.Normals.{normal_back, lowest_has_normal, normal_wants_points}
-use Rattle.qm_separators.proofs.OneLook.{IsNotRefused, IsNotRefusedTurned, as_it_is, flipped_over}
-use Rattle.qm_separators.proofs.GroupLook.{IsGroupNotRefused, step_size, group_look, group_look_flipped}
+use Rattle.qm_separators.proofs.GroupLook.{group_look, group_look_flipped}
 use Rattle.qm_separators.specs.WholePoints.{IsWholeBy, IsAround}
 use Rattle.qm_numbers.specs.Rounding.{IsRoundedDown}
+use Rattle.qm_separators.specs.inner.Look.{IsNotRefused, IsNotRefusedTurned, as_it_is, flipped_over}
+use Rattle.qm_separators.specs.inner.GroupLook.{step_size, IsGroupNotRefused}
 
 module _ (at from to : Point) (h : Plane) (is : HasNormalOf at from to h) where
   -- a multiple of the normal by a positive number is none by 0 or less

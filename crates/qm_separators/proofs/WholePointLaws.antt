@@ -13,6 +13,7 @@ use Rattle.qm_space.proofs.Planes.{same_point}
 use Rattle.qm_geom.specs.Rounding.{AreCoordinatesBy}
 use Rattle.qm_separators.specs.WholePoints.{IsRoundedEitherWay, IsWholeBy, IsNearestPoint, IsAround}
 use Rattle.qm_separators.proofs.Roundings.{one_up, one_nearest, down, up, nearest, either_too, nearest_too}
+use Rattle.qm_separators.specs.inner.Outline.{IsMixOf}
 
 -- ---- one alone
 
@@ -78,13 +79,6 @@ around_in_cube = whole_in_cube IsRoundedEitherWay either_small
 -- the point of three whole numbers
 pub whole_by_coordinates : (Rule : ℤ → ℤ → ℤ → Type 0) (p : Point) (numbers : List ℤ) → AreCoordinatesBy Rule p numbers → IsWholeBy Rule p (whole_point numbers)
 whole_by_coordinates Rule p numbers are = record { x = are.of_x; y = are.of_y; z = are.of_z; weight = refl }
-
--- each coordinate is the one's or the other's
-pub record IsMixOf (below above at : Point) : Type 0 where
-  pub x : (at.x ≡ below.x) ⊎ (at.x ≡ above.x)
-  pub y : (at.y ≡ below.y) ⊎ (at.y ≡ above.y)
-  pub z : (at.z ≡ below.z) ⊎ (at.z ≡ above.z)
-  pub weight : at.w ≡ pos 1
 
 -- the whole points around a point are those with coordinates of the one below and the one above
 pub around_is_mix : (p below above at : Point) → pos 0 <ℤ p.w → IsWholeBy IsRoundedDown p below → IsWholeBy IsRoundedUp p above → IsAround p at ↔ IsMixOf below above at

@@ -8,3 +8,4 @@ pub mod ChainStep
 pub mod MayPass
 pub mod Meets
 pub mod PortalSteps
+pub mod inner
