@@ -1,5 +1,5 @@
 -- Each step of an open chain leads on or blocks. So all that is asked of steps holds of the step by separators.
-use Rattle.std.proofs.Common.{List, Some, refl, ◌⊎◌, inl, inr, ⊎_elim}
+use Rattle.std.proofs.Common.{List, Some, refl, ◌⊎◌, inl, inr, ⊎_elim, ◌↔◌}
 use Rattle.qm_space.specs.Plane.{Plane, flipped}
 use Rattle.qm_convex.specs.Winding.{Winding, IsConvex}
 use Rattle.qm_contacts.specs.Portals.{Portal}
@@ -10,6 +10,7 @@ use Rattle.qm_separators.specs.ChainStep.{IsCutByPlanes, LeadsTo, Blocks, target
 use Rattle.qm_separators.specs.PortalSteps.{BeginsWith, GoesOn, BlocksAt, AreConvexPortals}
 use Rattle.qm_separators.proofs.ListedSeparators.{listed_from_pass}
 use Rattle.qm_separators.proofs.Parts.{part_or_none, part_by_listed}
+use Rattle.qm_separators.proofs.SameSteps.{leads_or_blocks}
 use Rattle.qm_separators.proofs.PortalStepLaws.{open_chain_state, begins_all}
 
 module _ (state : ChainState) (target : Winding) (into : Plane) (valid : IsChainState state) (convex : IsConvex target) where
@@ -34,6 +35,13 @@ module _ (state : ChainState) (target : Winding) (into : Plane) (valid : IsChain
       (part_or_none state.source (flipped into) valid.source_convex))
       (λ none. inr (target_behind none))
       (part_or_none target state.into convex)
+
+  -- a step blocks exactly where it leads to no state
+  pub blocks_exactly : Blocks state target into ↔ ((next : ChainState) → LeadsTo state target into next → ⊥)
+  blocks_exactly = (
+    (λ blocks next leads. leads_or_blocks state target into next valid leads blocks),
+    (λ none. ⊎_elim (λ leads. absurd (none leads.0 leads.1)) (λ blocks. blocks) leads_on_or_blocks),
+  )
 
 pub lead_on_or_block : (portals : List Portal) → AreConvexPortals portals → LeadOnOrBlock BeginsWith GoesOn BlocksAt portals
 lead_on_or_block portals convex = record {
