@@ -1,13 +1,13 @@
 -- Points in line: what lies between two points, and a plane's values at three points in line.
-use Rattle.std.proofs.Common.{◌≡◌, ℤ, pos, neg_ℤ, ◌+ℤ◌, ◌*ℤ◌, ◌<ℤ◌, unsigned_abs, ◌+◌, get_or, List, [], ◌∷◌, sym, ap, ◌∙◌, arith}
+use Rattle.std.proofs.Common.{◌≡◌, ℤ, pos, neg_ℤ, ◌+ℤ◌, ◌*ℤ◌, ◌<ℤ◌, unsigned_abs, ◌+◌, get_or, List, [], ◌∷◌, sym, ap, ◌∙◌, arith, ◌⊎◌, ⊎_elim}
 use Rattle.std.proofs.lemmas.Int.{ints}
 use Rattle.qm_space.specs.Point.{Point, point_sum, point_times, IsInCube}
-use Rattle.qm_space.specs.Plane.{Plane, value, IsOn, IsInFront, IsBehind, IsNotBehind}
+use Rattle.qm_space.specs.Plane.{Plane, value, IsOn, IsInFront, IsBehind, IsNotBehind, IsNotInFront}
 use Rattle.qm_space.specs.Cell.{IsInCell}
 use Rattle.qm_space.specs.Cube.{cube_walls}
 use Rattle.qm_space.specs.Line.{IsBetween}
 use Rattle.qm_numbers.proofs.IntegerProducts.{linear, one_*ℤ, *ℤ_one, *ℤ_zero, *ℤ-neg}
-use Rattle.qm_numbers.proofs.Signs.{by_least, product_positive, product_not_negative, positive_beside, zero_beside_positive, times_at_most}
+use Rattle.qm_numbers.proofs.Signs.{by_least, product_positive, product_not_negative, product_not_positive, positive_times_negative, positive_beside, zero_beside_positive, times_at_most}
 use Rattle.qm_numbers.proofs.Ring.{variable, ◌⊕◌, ◌⊗◌, solved}
 use Rattle.qm_space.proofs.Planes.{value_sum, value_times, same_point}
 use Rattle.qm_space.proofs.Cubes.{cube_is_cell}
@@ -176,6 +176,18 @@ module _ (h : Plane) (x p q : Point) (b : IsBetween x p q) where
       let y = ap (λ v. b.times_q *ℤ v) on_p ∙ *ℤ_zero b.times_q in
       let z = ap (λ v. b.times_p *ℤ v) on_x ∙ *ℤ_zero b.times_p in
       zero_beside_positive b.times_r (value h q) b.some_r (omega (arith, linear))
+
+-- a plane with the first of three points in line not in front of it, and the second not behind it, one of them not on it,
+-- has the third in front of it
+pub beyond_in_front : (h : Plane) (x p q : Point) → IsBetween x p q → IsNotInFront h p → IsNotBehind h x → IsBehind h p ⊎ IsInFront h x → IsInFront h q
+beyond_in_front h x p q b first second strict =
+    let e = between_value h x p q b in
+    let m = product_not_positive b.times_q (value h p) (omega (arith, linear, b.some_q)) first in
+    let n = product_not_negative b.times_p (value h x) (omega (arith, linear, b.some_p)) second in
+    positive_beside b.times_r (value h q) b.some_r (⊎_elim
+    (λ behind. let l = positive_times_negative b.times_q (value h p) b.some_q behind in omega (arith, linear))
+    (λ front. let l = product_positive b.times_p (value h x) b.some_p front in omega (arith, linear))
+    strict)
 
 -- the same the other way round
 pub between_in_front_first : (h : Plane) (x p q : Point) → IsBetween x p q → IsInFront h p → IsNotBehind h q → IsInFront h x

@@ -1,4 +1,4 @@
--- Rows of leaves over sound rows of portals hold both ends of each clear generic segment; coarse rows are sound.
+-- Rows of leaves over sound rows of portals hold both ends of each line of sight; coarse rows are sound.
 use Rattle.std.proofs.Common.{◌≡◌, ◌≢◌, ℕ, zero, suc, Bool, List, [], ◌∷◌, length, get_or, Contains, Some, slice_get, refl, ap, ◌∙◌, subst, arith, inl, inr}
 use Rattle.std.specs.Prelude.{All}
 use Rattle.std.specs.List.{AllZip}
@@ -25,7 +25,7 @@ use Rattle.qm_segments.specs.Generic.{IsGeneric}
 use Rattle.qm_segments.specs.Clear.{IsClear, LeafHas}
 use Rattle.qm_segments.specs.GoesBy.{GoesBy, ends, through}
 use Rattle.qm_segments.specs.Sight.{IsInSight, IsSoundRow, AreSoundRows}
-use Rattle.qm_segments.specs.Ends.{HasInRow, HoldsEnds, HoldEndsOfSegments}
+use Rattle.qm_segments.specs.Ends.{HasInRow, HoldsEnds, HoldLinesOfSight}
 use Rattle.qm_segments.proofs.GenericSegments.{turned_generic, turned_clear}
 use Rattle.qm_segments.proofs.SegmentLaw.{segment_law}
 use Rattle.qm_segments.proofs.CoarseSight.{coarse_holds_sight}
@@ -86,13 +86,13 @@ module _ (tree : Tree) (have : HasPoints tree) (touchings : List Touching) (are 
 
 module _ (row : List Bool) (tree : Tree) (have : HasPoints tree) (closed : (a b : ℕ) → IsPortalBetween tree a b → IsIn row a → IsIn row b) (has : Point → Contents → Type 0) (gives : (x : Point) → IsInCube x → IsOffNodePlanes tree.planes tree.shape x → has x (leaf_record_at tree.planes tree.shape x).contents) (single : (x : Point) (c d : Contents) → has x c → has x d → c ≡ d) (touchings : List Touching) (are : AreTouchings tree.planes (meetings tree) touchings) where
   -- rows over sound ones hold the ends of segments
-  pub sound_rows_hold_ends : (rows leaf_rows : List (List Bool)) → AreSoundRows (marked_tree row tree) (portals_of (marked_tree row tree) touchings) rows → AreLeafRows (portals_of (marked_tree row tree) touchings) rows (length (numbered_leaves (marked_tree row tree))) leaf_rows → HoldEndsOfSegments has (marked_tree row tree) leaf_rows
+  pub sound_rows_hold_ends : (rows leaf_rows : List (List Bool)) → AreSoundRows (marked_tree row tree) (portals_of (marked_tree row tree) touchings) rows → AreLeafRows (portals_of (marked_tree row tree) touchings) rows (length (numbered_leaves (marked_tree row tree))) leaf_rows → HoldLinesOfSight has (marked_tree row tree) leaf_rows
   sound_rows_hold_ends rows leaf_rows sound leaf s is =
       has_both_ends (marked_tree row tree) (marked_points row tree have) touchings (marked_touchings row tree touchings are) rows leaf_rows sound leaf s is.contents is.generic is.not_solid
       (marked_clear row tree have closed has gives single s is.contents is.not_solid is.generic is.clear is.not_filled)
 
   -- and so do rows over coarse ones
-  pub coarse_rows_hold_ends : (rows leaf_rows : List (List Bool)) → AreCoarseRows (portals_of (marked_tree row tree) touchings) (length (numbered_leaves (marked_tree row tree))) rows → AreLeafRows (portals_of (marked_tree row tree) touchings) rows (length (numbered_leaves (marked_tree row tree))) leaf_rows → HoldEndsOfSegments has (marked_tree row tree) leaf_rows
+  pub coarse_rows_hold_ends : (rows leaf_rows : List (List Bool)) → AreCoarseRows (portals_of (marked_tree row tree) touchings) (length (numbered_leaves (marked_tree row tree))) rows → AreLeafRows (portals_of (marked_tree row tree) touchings) rows (length (numbered_leaves (marked_tree row tree))) leaf_rows → HoldLinesOfSight has (marked_tree row tree) leaf_rows
   coarse_rows_hold_ends rows leaf_rows coarse leaf =
       sound_rows_hold_ends rows leaf_rows
       (coarse_rows_sound (marked_tree row tree) (marked_points row tree have) touchings (marked_touchings row tree touchings are) (length (numbered_leaves (marked_tree row tree))) rows coarse)

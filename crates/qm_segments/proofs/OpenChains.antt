@@ -68,8 +68,8 @@ module _ {State : Type 0} (begins : Portal → State → Type 0) (goes : State �
 
 module _ {State : Type 0} (begins : Portal → State → Type 0) (goes : State → Portal → State → Type 0) (blocks : State → Portal → Type 0) (tree : Tree) (touchings : List Touching) (meets : Segment → Point → State → Type 0) (lets : LetSegmentsThrough begins goes blocks (portals_of tree touchings) meets) (lead : LeadOnOrBlock begins goes blocks (portals_of tree touchings)) where
   -- a step along a segment leads on
-  next_state : (s : Segment) (q : Portal) (state : State) (x y : Point) → meets s x state → Contains (portals_of tree touchings) q → GoesThrough s q y → IsBetween y x s.to → (next : State) × goes state q next
-  next_state s q state x y met listed at between = ⊎_elim (λ leads. leads) (λ blocked. absurd (lets.not_blocked s q state x y met listed at between blocked)) (lead.go_on state q listed)
+  next_state : (p : Portal) (chain : List Portal) (s : Segment) (q : Portal) (state : State) (x y : Point) → IsOpenChain begins goes (portals_of tree touchings) p chain state → meets s x state → Contains (portals_of tree touchings) q → GoesThrough s q y → IsBetween y x s.to → (next : State) × goes state q next
+  next_state p chain s q state x y is_open met listed at between = ⊎_elim (λ leads. leads) (λ blocked. absurd (lets.not_blocked s q state x y met listed at between blocked)) (lead.go_on p chain state q is_open listed)
 
   -- a chain that a segment goes along stays open
   along : (s : Segment) (p last : Portal) (before : List Portal) (state : State) (x : Point) (m n : ℕ) (chain : List Portal) →
@@ -78,7 +78,7 @@ module _ {State : Type 0} (begins : Portal → State → Type 0) (goes : State �
       GoesBy (portals_of tree touchings) s x m chain n → IsInBound begins goes (portals_of tree touchings) p n
   along s p last before state x m n chain is_open met at_leaf new once ends = record { last = last; before = before; state = state; open_chain = is_open; ends = at_leaf }
   along s p last before state x m n chain is_open met at_leaf new once (through {y = y} {q = q} {rest = rest} listed from between at more) =
-      let step = next_state s q state x y met listed at between in
+      let step = next_state p (last ∷ before) s q state x y is_open met listed at between in
       let entered = map (λ r. r.to) rest in
       along s p q (last ∷ before) step.0 y q.to n rest
       (longer is_open listed (from ∙ sym at_leaf) (All-head (λ k. Contains (leaves_met p (last ∷ before)) k → ⊥) q.to entered new) step.1)

@@ -19,7 +19,7 @@ use Rattle.qm_contacts.specs.Touching.{IsTouching, AreApart, AreTouchings, none,
 use Rattle.qm_coarse_rows.specs.CoarseRow.{IsInCoarseRow}
 use Rattle.qm_coarse_rows.proofs.RoomSamples.{at, rooms, door, touchings, portals, out, on, back, rows, coarse_rows, leaf_rows, are_leaf_rows}
 use Rattle.qm_segments.specs.Clear.{LeafHas}
-use Rattle.qm_segments.specs.Ends.{HasInRow, HoldEndsOfSegments}
+use Rattle.qm_segments.specs.Ends.{HasInRow, HoldLinesOfSight}
 use Rattle.qm_segments.specs.Sight.{IsInSight}
 use Rattle.qm_segments.specs.SeenVia.{IsSeenVia}
 use Rattle.qm_segments.specs.OpenChain.{IsInBound}
@@ -123,7 +123,7 @@ never p c =
     let behind = c.behind 0 (at (pos 0)) (omega arith) in
     absurd (omega (arith, linear))
 
-are_touchings : AreTouchings rooms.planes (meetings rooms) touchings
+pub are_touchings : AreTouchings rooms.planes (meetings rooms) touchings
 are_touchings = touching is_first (apart never (touching is_second none))
 
 -- ---- each room has a point
@@ -136,7 +136,7 @@ in_cube x low high = record {
   z = record { above = omega (arith, ints); below = omega (arith, ints) };
 }
 
-have_points : HasPoints rooms
+pub have_points : HasPoints rooms
 unfolding value
 have_points way there = All-contains (λ way. (x : Point) × IsInLeaf rooms.planes way x) (ways rooms.shape) way
     (All-from_recursion (λ way. (x : Point) × IsInLeaf rooms.planes way x) (ways rooms.shape) (
@@ -153,7 +153,7 @@ have_points way there = All-contains (λ way. (x : Point) × IsInLeaf rooms.plan
 coarse_row_by_law : IsInCoarseRow portals out 2
 coarse_row_by_law = coarse_holds_sight rooms touchings are_touchings have_points out (0, omega arith, refl) 2 sight_row
 
-rows_by_law : HoldEndsOfSegments (LeafHas rooms) rooms leaf_rows
+rows_by_law : HoldLinesOfSight (LeafHas rooms) rooms leaf_rows
 rows_by_law = coarse_rows_hold_ends [] rooms have_points (λ a b portal mark. absurd (let e : false ≡ true = mark in cc)) (LeafHas rooms) (λ x in_cube off. refl) (λ x c d is it. sym is ∙ it) touchings are_touchings rows leaf_rows coarse_rows are_leaf_rows
 
 ends_by_law : HasInRow rooms leaf_rows 0 2 × HasInRow rooms leaf_rows 2 0
@@ -171,7 +171,7 @@ lets_row : LetSegmentsThrough {State = Any} (λ p state. Any) (λ state q next. 
 lets_row = record { begun = λ s p state x listed at begun. tt; not_blocked = λ s q state x y met listed at between blocked. blocked; gone_on = λ s q state next x y met listed at between step. tt }
 
 lead_row : LeadOnOrBlock {State = Any} (λ p state. Any) (λ state q next. Any) (λ state q. ⊥) portals
-lead_row = record { begin_all = λ p listed. (tt, tt); go_on = λ state q listed. inl (tt, tt) }
+lead_row = record { begin_all = λ p listed. (tt, tt); go_on = λ p chain state q is_open listed. inl (tt, tt) }
 
 -- then the last room is in the bound of the first door, and ahead at its start
 bound_by_law : IsInBound {State = Any} (λ p state. Any) (λ state q next. Any) portals out 2

@@ -20,18 +20,19 @@ pub record HasInRow (tree : Tree) (rows : List (List Bool)) (a b : ℕ) : Type 0
   pub to_is : IsNumberOf tree to b
   pub seen : IsIn (slice_index_or rows from []) to
 
--- a segment that counts: generic, clear for contents that is not solid, and with its first leaf not filled
-pub record IsOpenSegment (has : Point → Contents → Type 0) (tree : Tree) (s : Segment) : Type 0 where
+-- a line of sight: a generic segment that is clear for contents that is not solid, and whose first leaf is not filled
+pub record IsLineOfSight (has : Point → Contents → Type 0) (tree : Tree) (s : Segment) : Type 0 where
   pub generic : IsGeneric tree s
   pub contents : Contents
   pub not_solid : contents ≢ Solid
   pub clear : IsClear has tree s contents
   pub not_filled : (leaf_record_at tree.planes tree.shape s.from).filled ≡ false
 
--- of each such segment the rows of the first and the last leaf have each other
+-- the rows of its first and its last leaf have each other
 pub record HoldsEnds (tree : Tree) (rows : List (List Bool)) (s : Segment) : Type 0 where
   pub there : HasInRow tree rows (leaf_at tree.planes tree.shape s.from) (leaf_at tree.planes tree.shape s.to)
   pub back : HasInRow tree rows (leaf_at tree.planes tree.shape s.to) (leaf_at tree.planes tree.shape s.from)
 
-abbrev pub HoldEndsOfSegments : (Point → Contents → Type 0) → Tree → List (List Bool) → Type 0
-HoldEndsOfSegments has tree rows = (s : Segment) → IsOpenSegment has tree s → HoldsEnds tree rows s
+-- the rows hold both ends of each line of sight
+abbrev pub HoldLinesOfSight : (Point → Contents → Type 0) → Tree → List (List Bool) → Type 0
+HoldLinesOfSight has tree rows = (s : Segment) → IsLineOfSight has tree s → HoldsEnds tree rows s

@@ -1,0 +1,11 @@
+pub mod WholePoints
+pub mod Across
+pub mod Separator
+pub mod Gains
+pub mod Part
+pub mod ChainState
+pub mod ChainStep
+pub mod MayPass
+pub mod Meets
+pub mod PortalSteps
+pub mod inner
