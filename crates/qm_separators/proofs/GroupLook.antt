@@ -6,13 +6,14 @@ use Rattle.std.proofs.Math.IntN.{*ℤ_comm}
 use Rattle.qm_numbers.specs.Rounding.{IsRoundedDown}
 use Rattle.qm_numbers.proofs.IntegerProducts.{linear, *ℤ_zero, zero_*ℤ, one_*ℤ, *ℤ-neg, +ℤ-*ℤ}
 use Rattle.qm_numbers.proofs.Signs.{by_order, times_at_most, abs_neg}
-use Rattle.qm_numbers.proofs.Divisors.{one_floor}
+use Rattle.qm_separators.proofs.Comparisons.{one_floor}
 use Rattle.qm_numbers.proofs.Ring.{number, ◌⊕◌, ◌⊖◌, ◌⊗◌, solved}
 use Rattle.qm_space.specs.Point.{Point}
 use Rattle.qm_space.specs.Plane.{Plane, value, flipped}
 use Rattle.qm_space.specs.ThreePoints.{outward_plane}
 use Rattle.qm_space.proofs.Planes.{value_flipped}
-use Rattle.qm_space.proofs.PlaneSymbols.{point_from, numbers_of_point, symbol_value, symbol_outward}
+use Rattle.qm_space.proofs.PlaneSymbols.{point_from, numbers_of_point, symbol_value}
+use Rattle.qm_separators.proofs.OutwardPlanes.{symbol_outward}
 use Rattle.qm_convex.specs.Winding.{Winding, corners, IsConvex}
 use Rattle.qm_separators.specs.WholePoints.{IsWholeBy, IsAround, IsRoundedEitherWay}
 use Rattle.qm_separators.proofs.OneLook.{look_by_source, look_by_pass}

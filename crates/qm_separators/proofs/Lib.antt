@@ -25,3 +25,5 @@ pub mod StepSamples
 pub mod ChainRows
 pub mod SignedLooks
 pub mod Outlines
+pub mod OutwardPlanes
+pub mod Comparisons

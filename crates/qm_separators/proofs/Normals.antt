@@ -4,7 +4,8 @@ use Rattle.std.specs.Int.{◌∣◌}
 use Rattle.std.proofs.lemmas.Int.{ints}
 use Rattle.std.proofs.lemmas.Nat.Gcd.{dvd-zero, dvd_trans, dvd_antisymm}
 use Rattle.std.proofs.Math.Nat.{dvd-mul_right}
-use Rattle.qm_numbers.proofs.IntegerProducts.{linear, *ℤ_zero, neg-*ℤ-neg}
+use Rattle.qm_numbers.proofs.IntegerProducts.{linear, *ℤ_zero}
+use Rattle.qm_separators.proofs.Comparisons.{neg-*ℤ-neg}
 use Rattle.qm_numbers.proofs.Signs.{abs_neg, abs_product, zero_beside, zero_beside_positive}
 use Rattle.qm_numbers.specs.Gcd.{gcd}
 use Rattle.qm_numbers.proofs.Divisors.{exact_division, gcd_divides_left, gcd_divides_right, divides_gcd}
@@ -15,8 +16,8 @@ use Rattle.qm_space.specs.Vector.{normal_of}
 use Rattle.qm_space.specs.Reduced.{leads_positive, HasNormal}
 use Rattle.qm_space.specs.ThreePoints.{outward_plane, common_factor, reduced}
 use Rattle.qm_space.proofs.Planes.{same_point, value_scaled}
-use Rattle.qm_space.proofs.PlaneSymbols.{point_from, numbers_of_point, symbol_outward}
-use Rattle.qm_space.proofs.PlanesThroughPoints.{outward_holds_second}
+use Rattle.qm_space.proofs.PlaneSymbols.{point_from, numbers_of_point}
+use Rattle.qm_separators.proofs.OutwardPlanes.{symbol_outward, outward_holds_second}
 use Rattle.qm_space.proofs.ReducedPlanes.{same_plane, scaled_neg, scaled_flipped, flipped_twice, leads_flipped, IsLowest, multiples_equal, common_factor_positive, reduced_back, common_factor_divides, divides_common_factor, reduced_lowest}
 use Rattle.qm_separators.specs.Across.{HasLowestNormal, HasNormalOf}
 use Rattle.qm_separators.specs.inner.NormalLike.{HasNormalLike, alike, opposite}

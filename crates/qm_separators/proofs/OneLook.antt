@@ -9,7 +9,7 @@ use Rattle.qm_space.specs.Point.{Point}
 use Rattle.qm_space.specs.Plane.{Plane, value, IsNotBehind, IsNotInFront, flipped}
 use Rattle.qm_space.specs.ThreePoints.{outward_plane}
 use Rattle.qm_space.proofs.Planes.{value_flipped}
-use Rattle.qm_space.proofs.PlanesThroughPoints.{outward_holds_first}
+use Rattle.qm_separators.proofs.OutwardPlanes.{outward_holds_first}
 use Rattle.qm_convex.specs.Winding.{Winding, corner_at, corners, IsConvex}
 use Rattle.qm_separators.specs.WholePoints.{IsNearestPoint, IsAround}
 use Rattle.qm_separators.specs.Across.{HasNormalOf, HasNormalAcross}

@@ -7,8 +7,9 @@ use Rattle.std.proofs.Math.Nat.{mul-le-mul_left, le_of_mul-le-mul_left}
 use Rattle.std.proofs.Math.IntN.{*ℤ_comm}
 use Rattle.qm_numbers.specs.Rounding.{IsRoundedDown, IsRoundedUp, IsNearest}
 use Rattle.qm_numbers.proofs.IntegerProducts.{linear, *ℤ_assoc, +ℤ-*ℤ, -ℤ-*ℤ, neg-*ℤ, one_*ℤ}
-use Rattle.qm_numbers.proofs.Signs.{by_order, by_least, product_not_negative, times_at_most, times_less, cancel_less, cancel_at_most, abs_product}
-use Rattle.qm_numbers.proofs.Roundings.{down_is, up_from_down, nearest_is, nearest_turned}
+use Rattle.qm_numbers.proofs.Signs.{by_order, by_least, product_not_negative, times_at_most, cancel_less, cancel_at_most, abs_product}
+use Rattle.qm_numbers.proofs.Roundings.{down_is, up_from_down, nearest_is, nearest_negated}
+use Rattle.qm_separators.proofs.Comparisons.{times_less}
 use Rattle.qm_separators.specs.WholePoints.{IsRoundedEitherWay}
 
 -- ---- one alone
@@ -58,7 +59,7 @@ up a b h = let d = down (neg_ℤ a) b h in (neg_ℤ d.0, up_from_down a b d.0 d.
 
 pub nearest : (a b : ℤ) → pos 0 <ℤ b → (q : ℤ) × IsNearest a b q
 nearest a b h = by_least a (pos 0)
-    (λ below. let d = of_positive (neg_ℤ a) (omega (arith, linear)) in (neg_ℤ d.0, nearest_turned a b d.0 d.1))
+    (λ below. let d = of_positive (neg_ℤ a) (omega (arith, linear)) in (neg_ℤ d.0, nearest_negated a b d.0 d.1))
     (λ not. of_positive a not)
   where
     of_positive : (c : ℤ) → pos 0 ≤ℤ c → (q : ℤ) × IsNearest c b q

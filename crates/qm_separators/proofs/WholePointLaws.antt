@@ -4,7 +4,7 @@ use Rattle.std.proofs.Common.{◌≡◌, ℕ, ◌*◌, ◌≤◌, ℤ, pos, ◌*
 use Rattle.std.proofs.lemmas.Int.{ints}
 use Rattle.std.proofs.Math.IntN.{*ℤ_comm}
 use Rattle.qm_numbers.specs.Rounding.{IsRoundedDown, IsRoundedUp, IsNearest}
-use Rattle.qm_numbers.proofs.Divisors.{one_floor}
+use Rattle.qm_separators.proofs.Comparisons.{one_floor}
 use Rattle.qm_numbers.proofs.Roundings.{down_small, up_small, nearest_small}
 use Rattle.qm_space.specs.Bounds.{world_extent}
 use Rattle.qm_space.specs.Point.{Point, whole_point, IsSamePlace, IsCoordinate, IsWholePoint}
