@@ -69,12 +69,7 @@ fn say_alterations<R: AllocGlobal + Print>(rt: &R, first: usize, bytes: &[u8]) -
 }
 
 /// Says what is read where some bits of one byte are changed.
-fn say_changed<R: AllocGlobal + Print>(
-    rt: &R,
-    bytes: &[u8],
-    at: usize,
-    mask: u8,
-) -> io::Result<()>
+fn say_changed<R: AllocGlobal + Print>(rt: &R, bytes: &[u8], at: usize, mask: u8) -> io::Result<()>
     requires { at < length bytes.now }
 {
     let mut changed = Vec::from_slice(rt.alloc(), bytes)?;
