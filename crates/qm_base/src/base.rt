@@ -1,7 +1,8 @@
-ghost use Rattle.std.specs.Prelude.{length, IfOk};
+ghost use Rattle.std.specs.Prelude.{◌≡◌, length, All, IfOk};
 ghost use Rattle.qm_contacts.specs.NumberedLeaves.{numbered_leaves};
 ghost use Rattle.qm_coarse_rows.specs.CoarseRow.{AreCoarseRows};
 
+use crate::flooding::coarse_row;
 use qm_bits::BitRow;
 use qm_lists::Items;
 use qm_portal::World;
@@ -9,7 +10,13 @@ use std::alloc::{AllocError, Global};
 
 /// The coarse rows of all portals of a world, in their order.
 pub fn base(alloc: Global, world: &World) -> Result<Items<BitRow>, AllocError>
-    ensures { IfOk result (λ rows. AreCoarseRows world.now.portals (length (numbered_leaves world.now.tree)) rows) }
+    ensures rows { IfOk result (λ rows. AreCoarseRows world.now.portals (length (numbered_leaves world.now.tree)) rows) }
+    ensures one_each { IfOk result (λ rows. length rows ≡ length world.now.portals) }
+    ensures wide { IfOk result (λ rows. All (λ row. length row ≡ length (numbered_leaves world.now.tree)) rows) }
 {
-    Err(AllocError)
+    let mut rows = Vec::new(alloc);
+    for p in 0..world.portals() {
+        rows.push(coarse_row(alloc, world, p)?)?;
+    }
+    Ok(Items::from_vec(rows))
 }

@@ -2,5 +2,8 @@
 #![tactic(auto)]
 
 mod base;
+mod flooding;
+mod following;
+mod sides;
 
 pub use base::base;
