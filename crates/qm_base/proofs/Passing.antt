@@ -3,7 +3,7 @@
 use Rattle.std.proofs.Common.{◌≡◌, ℕ, suc, ◌+◌, ◌-◌, ◌<◌, ◌≤◌, eqb, Bool, true, false, List, [], ◌∷◌, ◌++◌, length, take, get_or, set, replicate, slice_get, Some, ◌⊎◌, inl, inr, ⊎_elim, refl, sym, ap, ◌∙◌, subst, arith, ◌↔◌}
 use Rattle.std.specs.List.{All, AllZip, Contains, IsDistinct}
 use Rattle.std.proofs.lemmas.Bool.{cases_eq, cases_lt}
-use Rattle.std.proofs.lemmas.List.{take_more, length-set, length-replicate, get_or-set_same, get_or-set_other, get_or_past, get_or-replicate}
+use Rattle.std.proofs.lemmas.List.{take_more, take_all, length-set, length-replicate, get_or-set_same, get_or-set_other, get_or_past, get_or-replicate}
 use Rattle.std.proofs.lemmas.List.Elements.{Contains-append_left, Contains-push_cases, Contains-push, Contains-get_or, All-nil, All-cons}
 use Rattle.std.proofs.lemmas.Option.{slice_get-get_or, slice_get_within}
 use Rattle.qm_lists.specs.Reach.{Reach}
@@ -26,7 +26,7 @@ same_portal portals p a b first second =
 -- ---- how it begins
 
 module _ (leaf leaves : ℕ) (within : leaf < leaves) where
-  first_row : List Bool
+  abbrev first_row : List Bool
   first_row = set (replicate leaves false) leaf true
 
   at_leaf : get_or first_row leaf false ≡ true
@@ -261,3 +261,14 @@ coarse_width [] leaves every (row ∷ rows) zip = absurd zip
 coarse_width (portal ∷ portals) leaves every [] zip = absurd zip
 coarse_width (portal ∷ portals) leaves every (row ∷ rows) zip =
     All-cons (λ one. length one ≡ leaves) row rows zip.0.one_each (coarse_width portals leaves every rows zip.1)
+
+-- where all portals are gone through, there is one for each, with a Bool for each leaf
+module _ (world : World) (p : ℕ) (rows : List (List Bool)) (all : length world.portals ≤ p) (so_far : AllZip (IsCoarseRow world.portals (leaves_of_world world)) (take p world.portals) rows) where
+  whole : AllZip (IsCoarseRow world.portals (leaves_of_world world)) world.portals rows
+  whole = subst (λ (ps : List Portal). AllZip (IsCoarseRow world.portals (leaves_of_world world)) ps rows) (take_all p world.portals all) so_far
+
+  pub all_counted : length rows ≡ length world.portals
+  all_counted = coarse_count world.portals (leaves_of_world world) world.portals rows whole
+
+  pub all_wide : All (λ row. length row ≡ leaves_of_world world) rows
+  all_wide = coarse_width world.portals (leaves_of_world world) world.portals rows whole

@@ -1,9 +1,9 @@
 //! The coarse rows of all portals.
 #![tactic(auto)]
 
-mod base;
+mod finding;
 mod flooding;
 mod following;
 mod sides;
 
-pub use base::base;
+pub use finding::base;

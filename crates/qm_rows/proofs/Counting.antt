@@ -10,10 +10,10 @@ use Rattle.qm_rows.specs.Seen.{seen_of}
 -- to stop at the limit before one adds more changes nothing
 pub stopped : (a b most : ℕ) → min (min a most + b) most ≡ min (a + b) most
 stopped a b most = ⊎_elim
-    (λ less. ap (λ n. min (n + b) most) (min-eq_left {a} {most} (omega (arith, less))))
+    (λ less. ap (λ (n : ℕ). min (n + b) most) (min-eq_left {a} {most} (omega (arith, less))))
     (λ more.
     let first : min a most ≡ most = min-eq_right {a} {most} more in
-    ap (λ n. min (n + b) most) first ∙ min-eq_right {most + b} {most} (omega arith) ∙ sym (min-eq_right {a + b} {most} (omega (arith, more))))
+    ap (λ (n : ℕ). min (n + b) most) first ∙ min-eq_right {most + b} {most} (omega arith) ∙ sym (min-eq_right {a + b} {most} (omega (arith, more))))
     (cases_lt a most)
 
 -- one row more
@@ -21,6 +21,6 @@ pub seen_more : (rows : List (List Bool)) (i : ℕ) (row : List Bool) → i < le
 unfolding seen_of
 seen_more rows i row within is =
     let so_far = sum_by (count_by (λ set. set)) (take i rows) in
-    ap (λ list. min (sum_by (count_by (λ set. set)) list) (2 ^ 64 - 1)) (take_more rows i row within ∙ ap (λ (r : List Bool). take i rows ++ r ∷ []) (sym is))
-    ∙ ap (λ n. min n (2 ^ 64 - 1)) (sum_by_push (count_by (λ set. set)) (take i rows) row)
+    ap (λ (list : List (List Bool)). min (sum_by (count_by (λ set. set)) list) (2 ^ 64 - 1)) (take_more rows i row within ∙ ap (λ (r : List Bool). take i rows ++ r ∷ []) (sym is))
+    ∙ ap (λ (n : ℕ). min n (2 ^ 64 - 1)) (sum_by_push (count_by (λ set. set)) (take i rows) row)
     ∙ sym (stopped so_far (count_by (λ set. set) row) (2 ^ 64 - 1))

@@ -17,7 +17,7 @@ use Rattle.qm_rows.specs.inner.Through.{IsInOneOf, HasThoseOf}
 -- ---- the leaf itself
 
 module _ (rows : List (List Bool)) (leaves n : ℕ) (within : n < leaves) where
-  own_row : List Bool
+  abbrev own_row : List Bool
   own_row = set (replicate leaves false) n true
 
   at_own : get_or own_row n false ≡ true

@@ -2,7 +2,7 @@
 #![tactic(auto)]
 
 mod rows;
-mod seen;
+mod total;
 
 pub use rows::leaf_rows;
-pub use seen::seen;
+pub use total::seen;

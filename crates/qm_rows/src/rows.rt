@@ -1,4 +1,5 @@
-ghost use Rattle.std.specs.Prelude.{◌≡◌, ◌<◌, length, All, IfOk};
+ghost use Rattle.std.specs.Prelude.{◌≡◌, ◌<◌, [], length, All, slice_index_or, IfOk};
+ghost use Rattle.qm_bits.specs.Union.{IsUnion};
 ghost use Rattle.qm_contacts.specs.NumberedLeaves.{numbered_leaves};
 ghost use Rattle.qm_coarse_rows.specs.LeafRow.{AreLeafRows, IsLeafRow};
 
@@ -36,7 +37,16 @@ fn leaf_row(alloc: Global, world: &World, rows: &[BitRow], n: u64) -> Result<Bit
     row.set(n);
     let leaving = world.leaving(n);
     for p in leaving {
-        row.or_row(&rows[*p as usize]);
+        add_row(&mut row, rows, *p);
     }
     Ok(row)
+}
+
+/// Sets each place that the row at a place of some rows has.
+fn add_row(row: &mut BitRow, rows: &[BitRow], p: u64)
+    requires within { p < length rows.now }
+    requires wide { All (λ other. length other ≡ length row.old) rows.now }
+    ensures { IsUnion row.old (slice_index_or rows.now p []) row.new }
+{
+    row.or_row(&rows[p as usize]);
 }

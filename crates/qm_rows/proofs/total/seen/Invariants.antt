@@ -1,6 +1,6 @@
 use Rattle.std.proofs.Common.{◌≡◌, take}
 use Rattle.qm_rows.specs.Seen.{seen_of}
-use Rattle.qm_rows.proofs.seen.seen.Given as goal
+use Rattle.qm_rows.proofs.total.seen.Given as goal
 
 -- the places of the rows so far
 abbrev pub invariant-loop-row : goal.invariant-loop-row
