@@ -10,10 +10,10 @@ use Rattle.qm_rows.specs.Seen.{seen_of}
 -- to stop at the limit before one adds more changes nothing
 pub stopped : (a b most : ℕ) → min (min a most + b) most ≡ min (a + b) most
 stopped a b most = ⊎_elim
-    (λ less. ap (λ (n : ℕ). min (n + b) most) (min-eq_left {a} {most} (omega (arith, less))))
+    (λ less. ap (λ (n : ℕ). min (n + b) most) (min-eq_left {n = a} {m = most} (omega (arith, less))))
     (λ more.
-    let first : min a most ≡ most = min-eq_right {a} {most} more in
-    ap (λ (n : ℕ). min (n + b) most) first ∙ min-eq_right {most + b} {most} (omega arith) ∙ sym (min-eq_right {a + b} {most} (omega (arith, more))))
+    let first : min a most ≡ most = min-eq_right {n = most} {m = a} more in
+    ap (λ (n : ℕ). min (n + b) most) first ∙ min-eq_right {n = most} {m = most + b} (omega arith) ∙ sym (min-eq_right {n = most} {m = a + b} (omega (arith, more))))
     (cases_lt a most)
 
 -- one row more
