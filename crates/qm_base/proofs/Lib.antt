@@ -1,0 +1,3 @@
+pub mod Gaining
+pub mod Passing
+pub mod LyingSides

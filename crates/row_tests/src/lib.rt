@@ -1,0 +1,9 @@
+//! Tests of the rows of portals and of leaves, by the calls that these crates offer.
+#![tactic(auto)]
+
+#[cfg(test)]
+mod plain;
+#[cfg(test)]
+mod rooms;
+#[cfg(test)]
+mod worlds;

@@ -1,0 +1,100 @@
+//! Coarse rows of generated worlds, beside a flood that goes through all portals again and again, and tests corners.
+
+use crate::worlds::{BoxRow, text, world_of};
+use qm_base::base;
+use qm_geom::{Plane, Point};
+use qm_portal::World;
+use qm_wind::Winding;
+use std::alloc::{AllocError, Global};
+use std::cmp::Ordering;
+use std::test::Fail;
+
+/// Whether a winding has a corner on a side of a plane.
+fn has_corner(winding: &Winding, plane: &Plane, side: Ordering) -> bool {
+    for i in 0..winding.len() {
+        if winding.corner(i).side(plane) == side {
+            return true;
+        }
+    }
+    false
+}
+
+fn follows(world: &World, p: u64, q: u64) -> bool {
+    if p >= world.portals() || q >= world.portals() {
+        return false;
+    }
+    let first = world.pane(p);
+    let second = world.pane(q);
+    has_corner(&second.winding, &first.into, Ordering::Greater)
+        && has_corner(&first.winding, &second.into, Ordering::Less)
+}
+
+/// The leaves that one comes to from a portal, some of them more than once.
+fn reached(alloc: Global, world: &World, p: u64) -> Result<Vec<u64>, AllocError> {
+    let mut found = Vec::new(alloc);
+    if p < world.portals() {
+        found.push(world.to(p))?;
+    }
+    for _ in 0..world.leaves() {
+        for q in 0..world.portals() {
+            if found.contains(&world.from(q))
+                && !found.contains(&world.to(q))
+                && follows(world, p, q)
+            {
+                found.push(world.to(q))?;
+            }
+        }
+    }
+    Ok(found)
+}
+
+/// Whether the rows of all portals are right.
+fn are_right(alloc: Global, world: &World) -> Result<bool, AllocError> {
+    let rows = base(alloc, world)?;
+    let mut right = rows.len() as u64 == world.portals();
+    for p in 0..rows.len() {
+        let row = &rows.as_slice()[p];
+        let found = reached(alloc, world, p as u64)?;
+        right &= row.len() == world.leaves();
+        for leaf in 0..row.len() {
+            right &= row.get(leaf) == found.contains(&leaf);
+        }
+    }
+    Ok(right)
+}
+
+/// Numbers that look random, by the steps of a shift register.
+fn next(state: u64) -> u64 {
+    let first = state ^ (state << 13);
+    let second = first ^ (first >> 7);
+    second ^ (second << 17)
+}
+
+/// Boxes at places of a grid of four by four by two.
+fn boxes(alloc: Global, places: u64) -> Result<Vec<BoxRow>, AllocError> {
+    let mut boxes = Vec::new(alloc);
+    for place in 0..32u32 {
+        if (places >> (2 * place)) & 3 == 3 {
+            let x = 64 * (place % 4) as i32 - 128;
+            let y = 64 * (place / 4 % 4) as i32 - 128;
+            let z = 64 * (place / 16) as i32;
+            boxes.push(([x, y, z], [x.saturating_add(48), y.saturating_add(64), z.saturating_add(64)]))?;
+        }
+    }
+    Ok(boxes)
+}
+
+#[test]
+fn rows_are_as_a_plain_flood_says(rt: HostRuntime) -> Result<(), Fail> {
+    let mut state = 0x9E37_79B9_7F4A_7C15;
+    let mut right = true;
+    for _ in 0..8 {
+        state = next(state);
+        let boxes = boxes(rt.alloc(), state)?;
+        let text = text(rt.alloc(), &boxes)?;
+        let world = world_of(rt.alloc(), text.as_str(), Point { x: 0, y: 0, z: 200, w: 1 })?;
+        right &= are_right(rt.alloc(), &world)?;
+    }
+    assert!(rt; right);
+    Ok(())
+}
