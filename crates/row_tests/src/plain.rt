@@ -78,7 +78,14 @@ fn boxes(alloc: Global, places: u64) -> Result<Vec<BoxRow>, AllocError> {
             let x = 64 * (place % 4) as i32 - 128;
             let y = 64 * (place / 4 % 4) as i32 - 128;
             let z = 64 * (place / 16) as i32;
-            boxes.push(([x, y, z], [x.saturating_add(48), y.saturating_add(64), z.saturating_add(64)]))?;
+            boxes.push((
+                [x, y, z],
+                [
+                    x.saturating_add(48),
+                    y.saturating_add(64),
+                    z.saturating_add(64),
+                ],
+            ))?;
         }
     }
     Ok(boxes)
@@ -92,7 +99,16 @@ fn rows_are_as_a_plain_flood_says(rt: HostRuntime) -> Result<(), Fail> {
         state = next(state);
         let boxes = boxes(rt.alloc(), state)?;
         let text = text(rt.alloc(), &boxes)?;
-        let world = world_of(rt.alloc(), text.as_str(), Point { x: 0, y: 0, z: 200, w: 1 })?;
+        let world = world_of(
+            rt.alloc(),
+            text.as_str(),
+            Point {
+                x: 0,
+                y: 0,
+                z: 200,
+                w: 1,
+            },
+        )?;
         right &= are_right(rt.alloc(), &world)?;
     }
     assert!(rt; right);
