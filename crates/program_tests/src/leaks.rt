@@ -9,8 +9,9 @@ use test_texts::put_box;
 
 /// A world, and what comes of it.
 struct Row {
-    /// A box of another texture, before those of stone.
-    first: Option<(&'static str, BoxRow)>,
+    /// Boxes of another texture, before those of stone.
+    texture: &'static str,
+    first: &'static [BoxRow],
     room: Room,
     /// Where the entities stand; an empty one has no origin.
     origins: &'static [&'static str],
@@ -24,7 +25,8 @@ const ROOM_SUMMARY: &str =
 
 static ROWS: [Row; 15] = [
     Row {
-        first: None,
+        texture: "",
+        first: &[],
         room: Room::Sealed,
         origins: &["0 0 24"],
         status: 0,
@@ -33,7 +35,8 @@ static ROWS: [Row; 15] = [
     },
     // in a wall
     Row {
-        first: None,
+        texture: "",
+        first: &[],
         room: Room::Sealed,
         origins: &["72 0 24"],
         status: 0,
@@ -41,7 +44,8 @@ static ROWS: [Row; 15] = [
         length: 586,
     },
     Row {
-        first: None,
+        texture: "",
+        first: &[],
         room: Room::Hole,
         origins: &["0 0 24"],
         status: 3,
@@ -50,7 +54,8 @@ static ROWS: [Row; 15] = [
     },
     // in the hole, on the plane of a node
     Row {
-        first: None,
+        texture: "",
+        first: &[],
         room: Room::Hole,
         origins: &["64 0.5 24"],
         status: 3,
@@ -59,7 +64,8 @@ static ROWS: [Row; 15] = [
     },
     // the first of two entities stands in a wall
     Row {
-        first: None,
+        texture: "",
+        first: &[],
         room: Room::Hole,
         origins: &["-72 0 24", "0 0 24"],
         status: 3,
@@ -68,7 +74,8 @@ static ROWS: [Row; 15] = [
     },
     // the first of two entities stands nowhere
     Row {
-        first: None,
+        texture: "",
+        first: &[],
         room: Room::Hole,
         origins: &["", "0 0 24"],
         status: 3,
@@ -77,7 +84,8 @@ static ROWS: [Row; 15] = [
     },
     // both leak
     Row {
-        first: None,
+        texture: "",
+        first: &[],
         room: Room::Hole,
         origins: &["0 0 24", "64 0.5 24"],
         status: 3,
@@ -86,7 +94,8 @@ static ROWS: [Row; 15] = [
     },
     // sky closes the hole
     Row {
-        first: Some(("sky", ([64, 0, 0], [80, 1, 96]))),
+        texture: "sky",
+        first: &[([64, 0, 0], [80, 1, 96])],
         room: Room::Hole,
         origins: &["0 0 24"],
         status: 0,
@@ -95,7 +104,8 @@ static ROWS: [Row; 15] = [
     },
     // lava does not
     Row {
-        first: Some(("*lava", ([64, 0, 0], [80, 1, 96]))),
+        texture: "*lava",
+        first: &[([64, 0, 0], [80, 1, 96])],
         room: Room::Hole,
         origins: &["0 0 24"],
         status: 3,
@@ -103,7 +113,8 @@ static ROWS: [Row; 15] = [
         length: 1276,
     },
     Row {
-        first: None,
+        texture: "",
+        first: &[],
         room: Room::Edge,
         origins: &["0 0 24"],
         status: 0,
@@ -111,7 +122,8 @@ static ROWS: [Row; 15] = [
         length: 636,
     },
     Row {
-        first: None,
+        texture: "",
+        first: &[],
         room: Room::Corner,
         origins: &["-64 0 24"],
         status: 0,
@@ -120,7 +132,8 @@ static ROWS: [Row; 15] = [
     },
     // in sky, in the open
     Row {
-        first: Some(("sky1", ([0, 0, 0], [64, 64, 64]))),
+        texture: "sky1",
+        first: &[([0, 0, 0], [64, 64, 64])],
         room: Room::Nothing,
         origins: &["32 32 32"],
         status: 0,
@@ -129,7 +142,8 @@ static ROWS: [Row; 15] = [
     },
     // in sky that fills the cube
     Row {
-        first: Some(("sky", ([-4096, -4096, -4096], [4096, 4096, 4096]))),
+        texture: "sky",
+        first: &[([-4096, -4096, -4096], [4096, 4096, 4096])],
         room: Room::Nothing,
         origins: &["0 0 0"],
         status: 0,
@@ -138,7 +152,8 @@ static ROWS: [Row; 15] = [
     },
     // water under a room
     Row {
-        first: Some(("*water1", ([-80, -80, -64], [80, 80, -16]))),
+        texture: "*water1",
+        first: &[([-80, -80, -64], [80, 80, -16])],
         room: Room::Sealed,
         origins: &["0 0 24"],
         status: 0,
@@ -147,7 +162,8 @@ static ROWS: [Row; 15] = [
     },
     // an entity in an empty world
     Row {
-        first: None,
+        texture: "",
+        first: &[],
         room: Room::Nothing,
         origins: &["0 0 0"],
         status: 3,
@@ -159,8 +175,8 @@ static ROWS: [Row; 15] = [
 /// The text of a row.
 fn text_of(alloc: Global, row: &Row) -> Result<String, AllocError> {
     let mut first = String::new(alloc);
-    if let Some((texture, (least, greatest))) = &row.first {
-        put_box(&mut first, texture, *least, *greatest)?;
+    for (least, greatest) in row.first {
+        put_box(&mut first, row.texture, *least, *greatest)?;
     }
     let mut text = world(alloc, &first, row.room.boxes())?;
     for origin in row.origins {
