@@ -36,6 +36,7 @@ fn reached(alloc: Global, world: &World, p: u64) -> Result<Vec<u64>, AllocError>
         found.push(world.to(p))?;
     }
     for _ in 0..world.leaves() {
+        let before = found.len();
         for q in 0..world.portals() {
             if found.contains(&world.from(q))
                 && !found.contains(&world.to(q))
@@ -43,6 +44,9 @@ fn reached(alloc: Global, world: &World, p: u64) -> Result<Vec<u64>, AllocError>
             {
                 found.push(world.to(q))?;
             }
+        }
+        if found.len() == before {
+            break;
         }
     }
     Ok(found)
@@ -70,15 +74,22 @@ fn next(state: u64) -> u64 {
     second ^ (second << 17)
 }
 
-/// Boxes at places of a grid of four by four by two.
+/// Boxes at places of a grid of three by three.
 fn boxes(alloc: Global, places: u64) -> Result<Vec<BoxRow>, AllocError> {
     let mut boxes = Vec::new(alloc);
-    for place in 0..32u32 {
-        if (places >> (2 * place)) & 3 == 3 {
-            let x = 64 * (place % 4) as i32 - 128;
-            let y = 64 * (place / 4 % 4) as i32 - 128;
-            let z = 64 * (place / 16) as i32;
-            boxes.push(([x, y, z], [x.saturating_add(48), y.saturating_add(64), z.saturating_add(64)]))?;
+    for place in 0..9u32 {
+        if (places >> (2 * place)) & 3 >= 2 {
+            let x = 64 * (place % 3) as i32 - 128;
+            let y = 64 * (place / 3) as i32 - 128;
+            let z = 16 * (place % 2) as i32;
+            boxes.push((
+                [x, y, z],
+                [
+                    x.saturating_add(48),
+                    y.saturating_add(64),
+                    z.saturating_add(64),
+                ],
+            ))?;
         }
     }
     Ok(boxes)
@@ -92,7 +103,16 @@ fn rows_are_as_a_plain_flood_says(rt: HostRuntime) -> Result<(), Fail> {
         state = next(state);
         let boxes = boxes(rt.alloc(), state)?;
         let text = text(rt.alloc(), &boxes)?;
-        let world = world_of(rt.alloc(), text.as_str(), Point { x: 0, y: 0, z: 200, w: 1 })?;
+        let world = world_of(
+            rt.alloc(),
+            text.as_str(),
+            Point {
+                x: 0,
+                y: 0,
+                z: 200,
+                w: 1,
+            },
+        )?;
         right &= are_right(rt.alloc(), &world)?;
     }
     assert!(rt; right);

@@ -103,9 +103,11 @@ fn holds(alloc: Global, sample: &Sample) -> Result<bool, AllocError> {
     let world = world_of(alloc, text.as_str(), Point { x, y, z, w: 1 })?;
     let coarse = base(alloc, &world)?;
     let rows = leaf_rows(alloc, &world, coarse.as_slice())?;
-    Ok(coarse.len() == sample.portals
-        && are_rows(rows.as_slice(), sample.rows)
-        && seen(rows.as_slice()) == sample.seen)
+    Ok(
+        coarse.len() == sample.portals
+            && are_rows(rows.as_slice(), sample.rows)
+            && seen(rows.as_slice()) == sample.seen,
+    )
 }
 
 #[test]

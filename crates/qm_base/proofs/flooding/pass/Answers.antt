@@ -1,4 +1,4 @@
-use Rattle.std.proofs.Common.{◌≡◌, ℕ, true, false, List, take, get_or, refl, inl, inr, sym, ap, ◌∙◌, subst, arith}
+use Rattle.std.proofs.Common.{◌≡◌, ℕ, true, false, List, get_or, refl, inl, inr, sym, ap, ◌∙◌, subst, arith}
 use Rattle.qm_base.proofs.Passing.{PassesBy, places_within, none_gained, one_gained, by_all}
 use Rattle.std.proofs.lemmas.List.{take_all}
 use Rattle.qm_base.proofs.flooding.pass.Goals as goal
@@ -23,9 +23,9 @@ loop-q-preserved c =
     elim c.if-not-get.branch [
       | then-not-get+then-may_follow+in_ok-push w ↦
           let gained = one_gained world.portals c.args.p places c.args.leaf i next c.args.row.now row c.args.found.now.items c.loop-q.found.items c.loop-q-test.true refl c.loop-q.invariant portal value.1 world c.requires.listing
-              (let within = c.to-entered.ensures.within in omega (arith, within, to))
-              (λ is. let never : false ≡ true = w.if-not-get.ensures ∙ ap (λ (n : ℕ). get_or row n false) to ∙ is in cc)
-              (w.if-may_follow.ensures.0 refl) in
+          (let within = c.to-entered.ensures.within in omega (arith, within, to))
+          (λ is. let never : false ≡ true = w.if-not-get.ensures ∙ ap (λ (n : ℕ). get_or row n false) to ∙ is in cc)
+          (w.if-may_follow.ensures.0 refl) in
           rw (w.row-is, w.found-is, w.set.ensures, w.in_ok-push.ensures.items, to) gained
       | else-not-get w ↦
           rw (w.row-is, w.found-is) (none_gained world.portals c.args.p places c.args.leaf i next c.args.row.now row c.args.found.now.items c.loop-q.found.items c.loop-q-test.true refl c.loop-q.invariant portal value.1
