@@ -103,13 +103,13 @@ module _ (rows : List (List Bool)) (places : List ℕ) (leaves n i next : ℕ) (
     one_each = union.same_length ∙ has.one_each;
     exactly = λ k. (
       (λ is. ⊎_elim
-      (λ was. ⊎_elim (λ here. inl here) (λ one. inr (more k one)) ((has.exactly k).0 was))
-      (λ new. inr (newly k new))
-      ((in_new k).0 is)),
+          (λ was. ⊎_elim (λ here. inl here) (λ one. inr (more k one)) ((has.exactly k).0 was))
+          (λ new. inr (newly k new))
+          ((in_new k).0 is)),
       (λ in_row. (in_new k).1 (⊎_elim
-      (λ here. inl ((has.exactly k).1 (inl here)))
-      (λ one. ⊎_elim (λ was. inl ((has.exactly k).1 (inr was))) (λ new. inr new) (known k one))
-      in_row)),
+          (λ here. inl ((has.exactly k).1 (inl here)))
+          (λ one. ⊎_elim (λ was. inl ((has.exactly k).1 (inr was))) (λ new. inr new) (known k one))
+          in_row)),
     );
   }
 

@@ -10,11 +10,7 @@ use std::alloc::{AllocError, Global};
 
 /// The rows of all numbered leaves of a world, by rows of its portals: for each the leaf itself, and all that the portals
 /// that leave it see.
-pub fn leaf_rows(
-    alloc: Global,
-    world: &World,
-    rows: &[BitRow],
-) -> Result<Items<BitRow>, AllocError>
+pub fn leaf_rows(alloc: Global, world: &World, rows: &[BitRow]) -> Result<Items<BitRow>, AllocError>
     requires one_each { length rows.now ≡ length world.now.portals }
     requires wide { All (λ row. length row ≡ length (numbered_leaves world.now.tree)) rows.now }
     ensures { IfOk result (λ leaf_rows. AreLeafRows world.now.portals rows.now (length (numbered_leaves world.now.tree)) leaf_rows) }
