@@ -1,5 +1,5 @@
 -- Where a winding that lies beside a plane has corners.
-use Rattle.std.proofs.Common.{◌≡◌, ◌⊎◌, ⊎_elim, ap, sym, ◌∙◌, subst, arith}
+use Rattle.std.proofs.Common.{◌≡◌, ◌⊎◌, ⊎_elim, subst, arith}
 use Rattle.std.proofs.lemmas.Int.{ints}
 use Rattle.qm_space.specs.Plane.{Plane, flipped}
 use Rattle.qm_space.proofs.Planes.{flipped_in_front}

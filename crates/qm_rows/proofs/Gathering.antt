@@ -1,17 +1,17 @@
 -- The row of a leaf, by more and more of the portals that leave it; and the rows of all leaves.
-use Rattle.std.proofs.Common.{◌≡◌, ℕ, ◌+◌, ◌<◌, ◌≤◌, ◌||◌, Bool, true, false, List, [], ◌∷◌, ◌++◌, length, take, get_or, set, replicate, slice_get, Some, ◌⊎◌, inl, inr, ⊎_elim, refl, sym, ap, ◌∙◌, subst, arith, ◌↔◌}
+use Rattle.std.proofs.Common.{◌≡◌, ℕ, ◌+◌, ◌<◌, ◌||◌, Bool, true, false, List, [], ◌∷◌, ◌++◌, length, take, get_or, set, replicate, slice_get, Some, ◌⊎◌, inl, inr, ⊎_elim, refl, sym, ◌∙◌, subst, arith, ◌↔◌}
 use Rattle.std.specs.List.{All, Contains}
-use Rattle.std.proofs.lemmas.Bool.{cases_eq, cases_lt, cases_Bool}
+use Rattle.std.proofs.lemmas.Bool.{cases_eq, cases_lt}
 use Rattle.std.proofs.lemmas.List.{take_more, length-set, length-replicate, get_or-set_same, get_or-set_other, get_or_past, get_or-replicate}
 use Rattle.std.proofs.lemmas.List.Elements.{Contains-append_left, Contains-push_cases, Contains-push, Contains-get_or}
-use Rattle.std.proofs.lemmas.Option.{slice_get-get_or, slice_get_within}
+use Rattle.std.proofs.lemmas.Option.{slice_get_within}
 use Rattle.qm_bits.specs.Union.{IsUnion}
 use Rattle.qm_lists.specs.WorkList.{IsIn}
-use Rattle.qm_lists.proofs.Elements.{Contains-at, Contains-nil}
+use Rattle.qm_lists.proofs.Elements.{Contains-nil}
 use Rattle.qm_lists.proofs.Places.{slice_get-push_cases}
 use Rattle.qm_contacts.specs.Portals.{Portal}
 use Rattle.qm_contacts.specs.World.{AreLeaving}
-use Rattle.qm_coarse_rows.specs.LeafRow.{IsSeenThrough, IsInLeafRow, IsLeafRow, AreLeafRows}
+use Rattle.qm_coarse_rows.specs.LeafRow.{IsSeenThrough, IsLeafRow}
 use Rattle.qm_rows.specs.inner.Through.{IsInOneOf, HasThoseOf}
 
 -- ---- the leaf itself

@@ -36,6 +36,7 @@ fn reached(alloc: Global, world: &World, p: u64) -> Result<Vec<u64>, AllocError>
         found.push(world.to(p))?;
     }
     for _ in 0..world.leaves() {
+        let before = found.len();
         for q in 0..world.portals() {
             if found.contains(&world.from(q))
                 && !found.contains(&world.to(q))
@@ -43,6 +44,9 @@ fn reached(alloc: Global, world: &World, p: u64) -> Result<Vec<u64>, AllocError>
             {
                 found.push(world.to(q))?;
             }
+        }
+        if found.len() == before {
+            break;
         }
     }
     Ok(found)
@@ -70,14 +74,14 @@ fn next(state: u64) -> u64 {
     second ^ (second << 17)
 }
 
-/// Boxes at places of a grid of four by four by two.
+/// Boxes at places of a grid of three by three.
 fn boxes(alloc: Global, places: u64) -> Result<Vec<BoxRow>, AllocError> {
     let mut boxes = Vec::new(alloc);
-    for place in 0..32u32 {
-        if (places >> (2 * place)) & 3 == 3 {
-            let x = 64 * (place % 4) as i32 - 128;
-            let y = 64 * (place / 4 % 4) as i32 - 128;
-            let z = 64 * (place / 16) as i32;
+    for place in 0..9u32 {
+        if (places >> (2 * place)) & 3 >= 2 {
+            let x = 64 * (place % 3) as i32 - 128;
+            let y = 64 * (place / 3) as i32 - 128;
+            let z = 16 * (place % 2) as i32;
             boxes.push((
                 [x, y, z],
                 [

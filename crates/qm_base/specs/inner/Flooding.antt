@@ -1,4 +1,4 @@
-use Rattle.std.specs.Prelude.{◌≡◌, ◌<◌, ℕ, eqb, List, Bool, Some, length, take, slice_get, Contains, ◌↔◌}
+use Rattle.std.specs.Prelude.{◌≡◌, ℕ, eqb, List, Bool, Some, length, slice_get, Contains, ◌↔◌}
 use Rattle.std.specs.List.{IsDistinct}
 use Rattle.qm_lists.specs.WorkList.{IsIn, IsFlood, PassesOn}
 use Rattle.qm_contacts.specs.NumberedLeaves.{numbered_leaves}

@@ -1,4 +1,4 @@
-use Rattle.std.proofs.Common.{◌≡◌, ℕ, true, false, List, take, get_or, refl, inl, inr, sym, ap, ◌∙◌, subst, arith}
+use Rattle.std.proofs.Common.{◌≡◌, ℕ, true, false, List, get_or, refl, inl, inr, sym, ap, ◌∙◌, subst, arith}
 use Rattle.qm_base.proofs.Passing.{PassesBy, places_within, none_gained, one_gained, by_all}
 use Rattle.std.proofs.lemmas.List.{take_all}
 use Rattle.qm_base.proofs.flooding.pass.Goals as goal

@@ -1,5 +1,4 @@
-use Rattle.std.proofs.Common.{◌≡◌, ◌+◌, ◌-◌, ◌^◌, ℕ, min, Bool, List, take, refl, sym, ap, ◌∙◌}
-use Rattle.std.specs.List.{count_by}
+use Rattle.std.proofs.Common.{refl, sym, ◌∙◌}
 use Rattle.qm_rows.specs.Seen.{seen_of}
 use Rattle.qm_rows.proofs.Counting.{seen_more}
 use Rattle.qm_rows.proofs.total.seen.Goals as goal
