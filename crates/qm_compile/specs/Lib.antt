@@ -10,6 +10,5 @@ pub mod StatusNumber
 pub mod Summary
 pub mod TextMeans
 pub mod Texts
-pub mod TreeFile
 pub mod TreeOfMap
 pub mod inner

@@ -1,4 +1,4 @@
-use Rattle.std.specs.Prelude.{◌≡◌, ◌≤◌, ℕ, List, length, Contains}
+use Rattle.std.specs.Prelude.{◌≡◌, ◌≤◌, ℕ, List, length, Contains, None}
 use Rattle.qm_mapfile.specs.declared.entity.MapFile.{MapFile}
 use Rattle.qm_grammar.specs.Faults.{text_limit}
 use Rattle.qm_grammar.specs.Meaning.{IsMapText}
@@ -7,6 +7,7 @@ use Rattle.qm_brush.specs.Solids.{drawn_solids}
 use Rattle.qm_partition.specs.Tree.{Tree}
 use Rattle.qm_solid_tree.specs.GivesContents.{GivesContentsOrIsFilled}
 use Rattle.qm_contacts.specs.Leak.{Origin, Leaks, IsLeak}
+use Rattle.qm_formats.specs.TreeFile.{file_bytes}
 use Rattle.qm_compile.specs.declared.command.Command.{Command}
 use Rattle.qm_compile.specs.declared.command.Command.TheVariants.{Compile, Format}
 use Rattle.qm_compile.specs.declared.status.Status.{Status}
@@ -15,7 +16,6 @@ use Rattle.qm_compile.specs.Built.{IsBuilt}
 use Rattle.qm_compile.specs.Marked.{IsMarked, IsApartFromFilled}
 use Rattle.qm_compile.specs.Summary.{IsCompileSummary, format_summary}
 use Rattle.qm_compile.specs.Texts.{leak_text}
-use Rattle.qm_compile.specs.TreeFile.{file_of}
 
 -- What a command makes of a map: a file, and the status and the text that are due once it is written.
 
@@ -29,7 +29,7 @@ pub record IsCompiled (map : MapFile) (file text : List ℕ) : Type 0 where
   pub none_leaks : (origin : Origin) → Contains origins origin → Leaks tree origin → ⊥
   pub written : Tree
   pub is_marked : IsMarked tree origins written
-  pub is_file : file ≡ file_of written
+  pub is_file : file ≡ file_bytes (written, None)
   pub is_summary : IsCompileSummary map tree origins written text
   pub is_true : GivesContentsOrIsFilled written (drawn_solids map)
   pub apart : (origin : Origin) → Contains origins origin → IsApartFromFilled tree origins origin
@@ -42,7 +42,7 @@ pub record IsLeaking (map : MapFile) (file text : List ℕ) : Type 0 where
   pub entity : ℕ
   pub trail : List ℕ
   pub is_leak : IsLeak tree origins entity trail
-  pub is_file : file ≡ file_of tree
+  pub is_file : file ≡ file_bytes (tree, None)
   pub is_text : text ≡ leak_text entity trail
 
 -- the canonical text of the map and its counts; the text means the map, where it is within the limit

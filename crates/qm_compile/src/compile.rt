@@ -1,9 +1,10 @@
 //! From a map to the bytes of its tree file.
 
-ghost use Rattle.std.specs.Prelude.{◌≡◌, length, IfOk};
+ghost use Rattle.std.specs.Prelude.{◌≡◌, length, IfOk, None};
 ghost use Rattle.qm_grammar.specs.Valid.{IsValid};
 ghost use Rattle.qm_partition.specs.Counting.{leaf_count};
 ghost use Rattle.qm_contacts.specs.Contacts.{AreContacts};
+ghost use Rattle.qm_formats.specs.TreeFile.{file_bytes};
 ghost use Rattle.qm_compile.specs.declared.command.Command.TheVariants.{Compile};
 ghost use Rattle.qm_compile.specs.Product.{IsProduct};
 ghost use Rattle.qm_compile.specs.inner.Finished.{IsFinished, IsLeakProduct};
@@ -14,8 +15,8 @@ use crate::compile_summary::{leak_text, portal_count, summary};
 use crate::entity_origins::origins_of;
 use crate::made::Product;
 use crate::outcome::Outcome;
-use crate::tree_file::encode;
 use qm_bits::BitRow;
+use qm_file::{TreeFile, encode};
 use qm_flood::{Flood, flood};
 use qm_mapfile::MapFile;
 use qm_portal::{TouchList, touches};
@@ -38,7 +39,7 @@ pub fn compile(alloc: Global, map: &MapFile) -> Result<Product, AllocError>
             let filled = BitRow::with_len(alloc, built.tree.leaves())?;
             finish(alloc, "no entity", built, contacts, &filled)
         }
-        Flood::Leak { entity, trail } => leaking(alloc, &built.tree, entity, trail.as_slice()),
+        Flood::Leak { entity, trail } => leaking(alloc, built.tree, entity, trail.as_slice()),
     }
 }
 
@@ -63,7 +64,7 @@ fn finish(
     let tree = tree.with_filled(filled);
     let portals = portal_count(alloc, &tree, contacts)?;
     let summary = summary(alloc, verdict, brushes, flat, &tree, portals)?;
-    let file = encode(alloc, &tree)?;
+    let file = encode_without_rows(alloc, tree)?;
     Ok(Product {
         file,
         outcome: Outcome::Done(summary),
@@ -71,13 +72,21 @@ fn finish(
 }
 
 /// The file of the tree as it was built, with the leak.
-fn leaking(alloc: Global, tree: &Tree, entity: u64, trail: &[u64]) -> Result<Product, AllocError>
-    ensures { IfOk result (λ product. IsLeakProduct tree.now entity trail.now product.file.items product.outcome) }
+fn leaking(alloc: Global, tree: Tree, entity: u64, trail: &[u64]) -> Result<Product, AllocError>
+    ensures { IfOk result (λ product. IsLeakProduct tree entity trail.now product.file.items product.outcome) }
 {
     let text = leak_text(alloc, entity, trail)?;
-    let file = encode(alloc, tree)?;
+    let file = encode_without_rows(alloc, tree)?;
     Ok(Product {
         file,
         outcome: Outcome::Leak(text),
     })
+}
+
+/// The file of a tree, without rows.
+fn encode_without_rows(alloc: Global, tree: Tree) -> Result<Vec<u8>, AllocError>
+    ensures { IfOk result (λ bytes. bytes.items ≡ file_bytes (tree, None)) }
+{
+    let file = TreeFile { tree, rows: None };
+    encode(alloc, &file)
 }

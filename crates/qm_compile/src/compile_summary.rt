@@ -4,12 +4,13 @@ ghost use Rattle.std.specs.Prelude.{◌≡◌, ◌++◌, flat_map, ◌∷◌, le
 ghost use Rattle.std.specs.Fmt.{decimal};
 ghost use Rattle.qm_partition.specs.Counting.{leaves_of};
 ghost use Rattle.qm_contacts.specs.Contacts.{AreContacts};
+ghost use Rattle.qm_contacts.specs.NumberedLeaves.{is_numbered};
 ghost use Rattle.qm_contacts.specs.Portals.{HasPassages};
 ghost use Rattle.qm_compile.specs.Summary.{compile_summary, tree_counts};
 ghost use Rattle.qm_compile.specs.Texts.{line, leak_text};
 
 use crate::count_lines::put_count_line;
-use crate::tree_file::count_numbered;
+use qm_contents::Contents;
 use qm_partition::Leaf;
 use qm_portal::{TouchList, world};
 use qm_tree::Tree;
@@ -48,6 +49,16 @@ fn put_tree_counts(text: &mut String, tree: &Tree) -> Result<(), AllocError>
     put_count_line(text, "leaves", tree.leaves())?;
     put_count_line(text, "numbered", count_numbered(leaves) as u64)?;
     put_count_line(text, "filled", count_filled(leaves) as u64)
+}
+
+/// How many leaves are not solid.
+fn count_numbered(leaves: &[Leaf]) -> usize
+    ensures { result ≡ count_by is_numbered leaves.now }
+{
+    leaves
+        .iter()
+        .filter(|leaf| leaf.contents != Contents::Solid)
+        .count()
 }
 
 /// How many leaves are filled.

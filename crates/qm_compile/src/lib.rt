@@ -14,7 +14,6 @@ mod make;
 mod outcome;
 mod program;
 mod status;
-mod tree_file;
 mod words;
 
 pub use program::run;

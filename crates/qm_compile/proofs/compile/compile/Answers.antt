@@ -17,8 +17,8 @@ returns-in-Sealed c =
     (λ product made. sealed_map c.args.map.now built.tree built.brushes built.flat c.in_ok-built.ensures c.in_ok-origins.origins.items c.in_ok-origins.ensures product.file.items product.outcome
     c.in-Sealed.filled found.0 found.1 made) c.finish.ensures
 
-pub returns-in_ok-filled-in-NoEntity : goal.returns-in_ok-filled-in-NoEntity
-returns-in_ok-filled-in-NoEntity c =
+pub returns-in-NoEntity : goal.returns-in-NoEntity
+returns-in-NoEntity c =
     let built = c.in_ok-built.built in
     let found = rw c.in-NoEntity.is at (subst (λ (origins : List Origin). IsFound built.tree origins c.in_ok-filled.field-0) c.deref.ensures.value c.in_ok-filled.ensures) in
     let finished = rw c.in_ok-filled-in-NoEntity.ensures at c.finish-in-NoEntity.ensures in
@@ -26,8 +26,8 @@ returns-in_ok-filled-in-NoEntity c =
     (λ product made. empty_map c.args.map.now built.tree built.brushes built.flat c.in_ok-built.ensures c.in_ok-origins.origins.items c.in_ok-origins.ensures product.file.items product.outcome
     c.leaves.result c.leaves.ensures found made) finished
 
-pub returns-in-Leak : goal.returns-in-Leak
-returns-in-Leak c =
+pub returns : goal.returns
+returns c =
     let built = c.in_ok-built.built in
     let found = rw c.in-Leak.is at (subst (λ (origins : List Origin). IsFound built.tree origins c.in_ok-filled.field-0) c.deref.ensures.value c.in_ok-filled.ensures) in
     let made_of = rw c.as_slice.ensures at c.leaking.ensures in
