@@ -1,0 +1,229 @@
+"""Reads a tree file, as `qmapc compile` writes it: planes, nodes, leaves, and the rows of what is seen from where.
+
+    import treefile
+    tree = treefile.load("room.tree")
+    leaf = tree.leaf_at((0, 0, 24))
+    print(leaf, tree.leaves[leaf].contents)
+
+docs/TREEFILE.md describes the file. This module needs nothing but the standard library, and may be copied. It refuses
+what is no tree file by the first fault in the order of the file, with the place of its byte.
+"""
+
+from math import gcd
+from os.path import getsize
+from struct import calcsize, iter_unpack, unpack
+from typing import NamedTuple, Optional
+
+MOST_BYTES = 1 << 30
+MAGIC = b"QMTREE01"
+CONTENTS = {-1: "empty", -2: "solid", -3: "water", -4: "slime", -5: "lava", -6: "sky"}
+SOLID = -2
+
+
+class Fault(Exception):
+    """Why bytes are no tree file: what is wrong, and at which byte."""
+
+    def __init__(self, words, place):
+        super().__init__(f"{words} at byte {place}")
+        self.words, self.place = words, place
+
+
+class Plane(NamedTuple):
+    """The points with nx*x + ny*y + nz*z = d. A point where that is greater or equal lies to its front."""
+    nx: int
+    ny: int
+    nz: int
+    d: int
+
+
+class Node(NamedTuple):
+    """The number of a plane, and two children: a node by its number, a leaf by -(1 + its number)."""
+    plane: int
+    front: int
+    back: int
+
+
+class Leaf(NamedTuple):
+    """What fills a leaf, whether it is filled since it lies outside, and its number among those that are not solid."""
+    contents: str
+    filled: bool
+    number: Optional[int]
+
+
+class Tree(NamedTuple):
+    """A whole file. `rows` has the bytes of a row for each numbered leaf, or is None where the file has no rows."""
+    planes: list
+    nodes: list
+    leaves: list
+    rows: Optional[list]
+
+    def root(self):
+        """The child from which each way begins."""
+        return 0 if self.nodes else -1
+
+    def leaf_at(self, point):
+        """The number of the leaf to which a point leads; what lies on a plane goes to its front."""
+        child = self.root()
+        while child >= 0:
+            plane, front, back = self.nodes[child]
+            child = front if value(self.planes[plane], point) >= 0 else back
+        return -1 - child
+
+    def row(self, number):
+        """The numbers of the leaves that a row holds, from the least on."""
+        return [8 * place + bit for place, byte in enumerate(self.rows[number]) if byte for bit in range(8) if byte >> bit & 1]
+
+
+def value(plane, point):
+    """How far in front of a plane a point is, as a multiple of the normal's length."""
+    return plane[0] * point[0] + plane[1] * point[1] + plane[2] * point[2] - plane[3]
+
+
+def load(name):
+    """The tree of a file. Raises `Fault`, or `OSError` where the file is not read."""
+    if getsize(name) > MOST_BYTES:
+        raise Fault("too long", MOST_BYTES)
+    with open(name, "rb") as file:
+        return decode(file.read(MOST_BYTES + 1))
+
+
+def decode(data):
+    """The tree of the bytes of a whole file, or the first `Fault`."""
+    if len(data) > MOST_BYTES:
+        raise Fault("too long", MOST_BYTES)
+    counts = read_header(data)
+    planes, at = read_planes(data, counts[0])
+    nodes, at = read_nodes(data, at, counts)
+    leaves, at = read_leaves(data, at, counts)
+    rows, at = read_rows(data, at, counts[3]) if counts[4] else (None, at)
+    if at < len(data):
+        raise Fault("trailing", at)
+    return Tree(planes, nodes, leaves, rows)
+
+
+def take(data, at, count):
+    """So many bytes from a place on."""
+    if at + count > len(data):
+        raise Fault("short", len(data))
+    return data[at:at + count]
+
+
+def records(data, at, count, layout):
+    """Of so many records those that are there as a whole; where some are missing, `due` raises the fault later."""
+    size = calcsize(layout)
+    whole = min(count, (len(data) - at) // size)
+    return iter_unpack(layout, data[at:at + whole * size]), at + count * size
+
+
+def due(data, end):
+    """Raises the fault of bytes that end before a place."""
+    if end > len(data):
+        raise Fault("short", len(data))
+
+
+def read_header(data):
+    """How many planes, nodes, leaves and numbered leaves there are, and whether there are rows."""
+    for place, (byte, wanted) in enumerate(zip(take(data, 0, 8), MAGIC)):
+        if byte != wanted:
+            raise Fault("magic", place)
+    counts = []
+    for at in (8, 16, 24, 32):
+        counts += unpack("<Q", take(data, at, 8))
+        if at == 8 and counts[0] >= 1 << 32 or at == 24 and counts[2] != counts[1] + 1 or at == 32 and counts[3] > counts[2]:
+            raise Fault("counts", at)
+    counts += take(data, 40, 1)
+    if counts[4] > 1:
+        raise Fault("counts", 40)
+    return counts
+
+
+def read_planes(data, count):
+    """The planes, and the place behind them."""
+    first, planes = 41, []
+    found, end = records(data, first, count, "<3iq")
+    for plane in found:
+        nx, ny, nz, d = plane
+        leading = nx or ny or nz
+        if leading <= 0 or max(abs(nx), abs(ny), abs(nz)) > 1 << 26 or abs(d) > 1 << 44 or gcd(gcd(nx, ny), gcd(nz, d)) != 1:
+            raise Fault("plane form", first + 20 * len(planes))
+        planes.append(Plane(*plane))
+    due(data, end)
+    return planes, end
+
+
+def read_nodes(data, first, counts):
+    """The nodes, and the place behind them."""
+    found, end = records(data, first, counts[1], "<Iqq")
+    nodes = [Node(*node) for node in found]
+    due(data, end)
+    if not in_order(nodes, counts[0], counts[2]):
+        raise Fault("node order", first)
+    return nodes, end
+
+
+def in_order(nodes, planes, leaves):
+    """Whether a walk, each node before its front and that before its back, meets all by their numbers."""
+    if any(node.plane >= planes for node in nodes):
+        return False
+    waiting, next_node, next_leaf = [0 if nodes else -1], 0, 0
+    while waiting:
+        child = waiting.pop()
+        if child < 0:
+            if -1 - child != next_leaf or next_leaf >= leaves:
+                return False
+            next_leaf += 1
+        else:
+            if child != next_node or next_node >= len(nodes):
+                return False
+            next_node += 1
+            waiting += [nodes[child].back, nodes[child].front]
+    return next_node == len(nodes) and next_leaf == leaves
+
+
+def read_leaves(data, first, counts):
+    """The leaves, and the place behind them."""
+    leaves, numbered = [], 0
+    found, end = records(data, first, counts[2], "<iB")
+    for code, filled in found:
+        if code not in CONTENTS or filled > 1 or (filled and code != SOLID):
+            raise Fault("leaf form", first + 5 * len(leaves))
+        leaves.append(Leaf(CONTENTS[code], filled == 1, None if code == SOLID else numbered))
+        numbered += code != SOLID
+    due(data, end)
+    if numbered != counts[3]:
+        raise Fault("counts", 32)
+    return leaves, end
+
+
+def read_rows(data, at, count):
+    """The rows, one for each numbered leaf, and the place behind them."""
+    rows = []
+    for own in range(count):
+        row, end = read_row(data, at, (count + 7) // 8)
+        past = row[-1] >> count % 8 if count % 8 else 0
+        if past or not row[own // 8] >> own % 8 & 1:
+            raise Fault("row form", at)
+        rows.append(row)
+        at = end
+    return rows, at
+
+
+def read_row(data, at, width):
+    """The bytes of the row that begins at a place, and the place behind it. A byte that is not 0 stands for itself, and a 0
+    is followed by how many zeros there are, as many as there can be."""
+    row, place, could_be_longer = bytearray(), at, False
+    while len(row) < width:
+        zero = data.find(0, place, place + width - len(row))
+        if zero != place:
+            plain = take(data, place, (width - len(row)) if zero < 0 else zero - place)
+            row += plain
+            place, could_be_longer = place + len(plain), False
+            continue
+        if could_be_longer:
+            raise Fault("row form", at)
+        zeros = take(data, place, 2)[1]
+        if zeros == 0 or len(row) + zeros > width:
+            raise Fault("row form", at)
+        row += bytes(zeros)
+        place, could_be_longer = place + 2, zeros < 255
+    return bytes(row), place
