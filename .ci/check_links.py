@@ -1,6 +1,6 @@
 #!/usr/bin/env python3
 """Holds the pages to the tree: each link of a page that git tracks leads to a file or folder, and so does each path
-`crates/..`, `docs/..`, `bench/..`, `samples/..` or `.ci/..` that a page names. A name with `NAME` or `*` stands for many."""
+`crates/..`, `docs/..`, `bench/..`, `samples/..`, `tools/..` or `.ci/..` that a page names. A name with `NAME` or `*` stands for many."""
 
 from pathlib import Path
 import re
@@ -8,7 +8,7 @@ import subprocess
 import sys
 
 LINK = re.compile(r"\]\(([^)#]+)(?:#[^)]*)?\)")
-PATH = re.compile(r"(?<![\w/.])(?:crates|docs|bench|samples|\.ci)/[\w./-]*[\w/]")
+PATH = re.compile(r"(?<![\w/.])(?:crates|docs|bench|samples|tools|\.ci)/[\w./-]*[\w/]")
 
 
 def pages():

@@ -1,0 +1,109 @@
+#!/usr/bin/env python3
+"""Holds the pictures of `tools/qmlook plan` to the tree that they show.
+
+    .ci/check_plans.py TREE..
+
+Of each tree, at some heights: the pieces of a slice fill the cube once, and each point of the slice lies in the piece of the
+leaf to which the tree leads it. The picture is XML, has each piece that it shows with the fill of its leaf, and no two of
+its texts overlap. Of a row just the leaves that it holds are drawn."""
+
+from fractions import Fraction
+from itertools import combinations
+from pathlib import Path
+import random
+import re
+import sys
+from xml.etree import ElementTree
+
+sys.path.insert(0, str(Path(__file__).resolve().parent.parent / "tools"))
+
+import plan
+import slices
+import treefile
+
+SVG = "{http://www.w3.org/2000/svg}"
+
+
+def area(corners):
+    """Twice the area of a polygon across x and y."""
+    return abs(sum(a[0] * b[1] - b[0] * a[1] for a, b in zip(corners, corners[1:] + corners[:1])))
+
+
+def lies_within(corners, x, y):
+    """Whether a point lies strictly inside a convex polygon."""
+    turns = [(b[0] - a[0]) * (y - a[1]) - (b[1] - a[1]) * (x - a[0]) for a, b in zip(corners, corners[1:] + corners[:1])]
+    return min(turns) > 0 or max(turns) < 0
+
+
+def faults_of_slice(tree, height, found, rng):
+    """What is wrong with the pieces of a slice."""
+    if sum(area(polygon) for _, polygon in found) != 2 * 8192 ** 2:
+        yield "the pieces do not fill the cube once"
+    (west, east), (south, north) = slices.extent(tree, found)
+    for _ in range(80):
+        x, y = (low + (high - low) * Fraction(rng.randrange(1, 9973), 9973) for low, high in ((west, east), (south, north)))
+        within = [leaf for leaf, polygon in found if lies_within(polygon, x, y)]
+        if within and within != [tree.leaf_at((x, y, height))]:
+            yield f"the point {x} {y} lies in the pieces of {within}, and the tree leads it to {tree.leaf_at((x, y, height))}"
+
+
+def boxes(root):
+    """The box of each text, from its place and size: west, east, top, bottom."""
+    for parent in root.iter():
+        shift = re.findall(r"-?[\d.]+", parent.get("transform", "translate(0,0)"))
+        for text in parent.findall(f"{SVG}text"):
+            x, y, size = (float(text.get(name, 0)) for name in ("x", "y", "font-size"))
+            wide = 0.56 * size * len(text.text)
+            left = x - wide / 2 if text.get("class") == "label" else x
+            left, y = left + float(shift[0]), y + float(shift[1])
+            yield left, left + wide, y - 0.75 * size, y + 0.05 * size
+
+
+def faults_of_picture(tree, text):
+    """What is wrong with a picture."""
+    root = ElementTree.fromstring(text)
+    for one, other in combinations(list(boxes(root)), 2):
+        if one[0] < other[1] and other[0] < one[1] and one[2] < other[3] and other[2] < one[3]:
+            yield f"two texts overlap, at {one[0]:.0f} {one[2]:.0f} and at {other[0]:.0f} {other[2]:.0f}"
+    fills = {pattern.get("id") for pattern in root.iter(f"{SVG}pattern")}
+    pieces = [path for path in root.iter(f"{SVG}path") if path.get("class") == "piece"]
+    if not pieces:
+        yield "it shows no piece"
+    for path in pieces:
+        leaf = tree.leaves[int(re.match(r"leaf (\d+)", path.find(f"{SVG}title").text).group(1))]
+        kind = "filled" if leaf.filled else leaf.contents
+        if path.get("fill") != f"url(#{kind})" or kind not in fills:
+            yield f"{path.find(f'{SVG}title').text}: its fill is {path.get('fill')}"
+
+
+def faults_of_row(tree, picture, number):
+    """What is wrong with what is drawn of a row: it has just the outlines of the leaves that it holds."""
+    picture.hold(number)
+    marked = set(re.findall(r'd="(\S+)" fill="url\(#held\)"', "".join(picture.overlay)))
+    held = {plan.outline(corners) for leaf, corners in picture.shown if tree.leaves[leaf].number in tree.row(number)}
+    if marked != held or not held:
+        yield f"row {number} has {len(marked)} pieces drawn, and holds {len(held)} of those that are shown"
+
+
+def faults(tree, rng):
+    heights = {slices.usual_height(tree), Fraction(rng.randrange(-100, 200)), *rng.sample(slices.heights(tree), 2)}
+    for height in sorted(heights):
+        found = slices.pieces(tree, height)
+        picture = plan.Picture(tree, height, found, plan.View(slices.extent(tree, found)))
+        for fault in (*faults_of_slice(tree, height, found, rng), *faults_of_picture(tree, plan.drawn(picture, "a <map>"))):
+            yield f"at height {height}: {fault}"
+    everyone = [leaf.number for leaf in tree.leaves if leaf.number is not None]
+    rows = [sum(1 << n for n in {own, everyone[-1 - own]}).to_bytes((len(everyone) + 7) // 8, "little") for own in everyone]
+    tree = tree._replace(rows=rows)
+    found = slices.pieces(tree, slices.usual_height(tree))
+    number = next(tree.leaves[leaf].number for leaf, _ in found if tree.leaves[leaf].number is not None)
+    yield from faults_of_row(tree, plan.Picture(tree, 0, found, plan.View(slices.extent(tree, found))), number)
+
+
+def main():
+    rng = random.Random(5)
+    found = [f"{name}: {fault}" for name in sys.argv[1:] for fault in faults(treefile.load(name), rng)]
+    sys.exit("\n".join(found) or 0)
+
+
+main()

@@ -1,0 +1,78 @@
+#!/usr/bin/env python3
+"""Takes the pieces of C from docs/TREEFILE.md, compiles them as one program, and compares what it prints with what
+`tools/treefile.py` reads: the leaves of points, and rows.
+
+    .ci/check_treefile_page.py FOLDER TREE..
+
+The trees are files of FOLDER, as the compiler wrote them; they get rows by chance, and so do trees that are made here."""
+
+from pathlib import Path
+from fractions import Fraction
+import random
+import re
+import subprocess
+import sys
+
+sys.path.insert(0, str(Path(__file__).resolve().parent.parent / "tools"))
+
+from made_trees import CODES, cube, long_tree, random_tree, written
+import treefile
+
+PAGE = Path("docs/TREEFILE.md")
+POINTS = 25
+
+
+def compiled(folder):
+    """The program that the page's pieces are."""
+    pieces = re.findall(r"^```c\n(.*?)^```$", PAGE.read_text(), re.M | re.S)
+    if len(pieces) != 3:
+        sys.exit(f"{PAGE} has {len(pieces)} pieces of C, and should have 3")
+    source, program = folder / "look.c", folder / "look"
+    source.write_text("\n".join(pieces))
+    subprocess.run(["cc", "-std=c99", "-Wall", "-Wextra", "-Werror", "-O1", "-o", program, source], check=True)
+    return program
+
+
+def with_rows(tree, rng):
+    """The tree with rows by chance, of long and short runs of zeros."""
+    count = sum(leaf.number is not None for leaf in tree.leaves)
+    rows = [{own} | {other for other in range(count) if rng.random() < rng.choice((0.02, 0.5))} for own in range(count)]
+    spelled = [sum(1 << other for other in row).to_bytes((count + 7) // 8, "little") for row in rows]
+    return tree._replace(rows=spelled)
+
+
+def wanted(tree, point):
+    """What the program should print of a point."""
+    leaf = tree.leaf_at(point)
+    what = tree.leaves[leaf]
+    text = f"leaf {leaf} contents {CODES[what.contents]}\n"
+    if tree.rows is not None and what.number is not None:
+        text += " ".join([f"row {what.number}:", *map(str, tree.row(what.number))]) + "\n"
+    return text
+
+
+def fault(program, folder, tree, points):
+    """The first point of which the program says something else, or None."""
+    (folder / "look.tree").write_bytes(written(tree))
+    for point in points:
+        words = [str(float(number)) for number in point]
+        done = subprocess.run([program, "look.tree", *words], cwd=folder, capture_output=True, text=True, check=True)
+        if done.stdout != wanted(tree, point):
+            return f"of {words} it prints {done.stdout!r}, and should print {wanted(tree, point)!r}"
+    return None
+
+
+def main():
+    folder, rng = Path(sys.argv[1]).resolve(), random.Random(7)
+    program = compiled(folder)
+    read = [treefile.load(folder / name) for name in sys.argv[2:]]
+    trees = read + [with_rows(tree, rng) for tree in read]
+    trees += [treefile.decode(data) for data in (cube(), random_tree(rng, 60, True), long_tree(3000))]
+    for number, tree in enumerate(trees):
+        points = [tuple(Fraction(rng.randrange(-2000, 2000), rng.choice((1, 4, 16))) for _ in range(3)) for _ in range(POINTS)]
+        found = fault(program, folder, tree, points)
+        if found:
+            sys.exit(f"tree {number}: the C of {PAGE}: {found}")
+
+
+main()

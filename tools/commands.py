@@ -1,0 +1,154 @@
+"""The commands of `qmlook`: their words, what each prints, and what is said where it cannot be done."""
+
+import argparse
+from fractions import Fraction
+import json
+import os
+import sys
+
+from cells import Cells, NoContact
+import listing
+import plan
+from points import leak_line, printed
+from polygons import BOUND
+import slices
+import treefile
+
+
+class Refused(Exception):
+    """Why a command cannot be done, in a line."""
+
+
+def words_of(parser, words):
+    """The words of a command line, or the usage line and status 2."""
+    commands = parser.add_subparsers(dest="command", metavar="COMMAND", required=True)
+    plan_words = command(commands, "plan", "a slice through the tree at a height, as an SVG picture")
+    plan_words.add_argument("--z", type=height, help="the height; without it one at which there is much to see")
+    plan_words.add_argument("--leak", metavar="TRAIL", type=trail, help='the numbers behind `trail: `, as "8 6 0"')
+    plan_words.add_argument("--row", metavar="N", type=number, help="shows the leaves that row N holds")
+    plan_words.add_argument("--prt", metavar="FILE", help="shows the portals of a listing")
+    points_words = command(commands, "points", "the line of a leak, as a point file for editors")
+    points_words.add_argument("--leak", metavar="TRAIL", type=trail, required=True, help='the numbers behind `trail: `, as "8 6 0"')
+    command(commands, "json", "planes, nodes, leaves and rows, for other programs")
+    return parser.parse_args(words)
+
+
+def command(commands, name, what):
+    """A command, which reads a tree file and takes its options in full alone."""
+    words = commands.add_parser(name, help=what, description=f"Prints {what}.", allow_abbrev=False)
+    words.add_argument("tree", metavar="OUT", help="a tree file of `qmapc compile`")
+    return words
+
+
+def height(word):
+    """A height inside the cube."""
+    try:
+        value = Fraction(word)
+    except ZeroDivisionError:
+        raise ValueError from None
+    if not -BOUND < value < BOUND:
+        raise ValueError
+    return value
+
+
+def number(word):
+    """A number from 0 on."""
+    if not word.isdecimal():
+        raise ValueError
+    return int(word)
+
+
+def trail(words):
+    """The numbers of a trail, with or without the `trail: ` before them."""
+    numbers = [number(word) for word in words.removeprefix("trail:").split()]
+    if not numbers:
+        raise ValueError
+    return numbers
+
+
+def plan_of(words):
+    """The picture that the words ask for."""
+    tree = tree_of(words.tree)
+    own = None if words.row is None else leaf_of_row(words, tree)
+    portals = None if words.prt is None else portals_of(words.prt, tree)
+    line = leak_line(Cells(tree), words.leak) if words.leak else None
+    z = words.z if words.z is not None else height_of(tree, line, own)
+    found = slices.pieces(tree, z)
+    picture = plan.Picture(tree, z, found, plan.View(slices.extent(tree, found)))
+    if own is not None:
+        picture.hold(words.row)
+    if portals is not None:
+        picture.join(portals)
+    if line:
+        picture.follow(line)
+    return plan.drawn(picture, os.path.basename(words.tree))
+
+
+def height_of(tree, line, own):
+    """The height of a slice where none is asked for: that at which a leak line comes into its last leaf, which touches the
+    outside; else that of the middle of the row's own leaf; else one at which there is much to see."""
+    if line and len(line) > 2:
+        return line[-3][2]
+    return slices.usual_height(tree) if own is None else Cells(tree).middle(own)[2]
+
+
+def leaf_of_row(words, tree):
+    """The leaf whose row is asked for."""
+    if tree.rows is None:
+        raise Refused(f"{words.tree} has no rows")
+    if words.row >= len(tree.rows):
+        raise Refused(f"{words.tree} has no row {words.row}: its rows are numbered from 0 to {len(tree.rows) - 1}")
+    return next(leaf for leaf, what in enumerate(tree.leaves) if what.number == words.row)
+
+
+def points_of(words):
+    """The point file that the words ask for."""
+    return printed(Cells(tree_of(words.tree)), words.leak)
+
+
+def json_of(words):
+    """The whole file as an object of JSON."""
+    tree = tree_of(words.tree)
+    rows = None if tree.rows is None else [tree.row(own) for own in range(len(tree.rows))]
+    return json.dumps({
+        "planes": tree.planes,
+        "nodes": [node._asdict() for node in tree.nodes],
+        "leaves": [leaf._asdict() for leaf in tree.leaves],
+        "rows": rows,
+    }) + "\n"
+
+
+def tree_of(name):
+    """The tree of a file."""
+    try:
+        return treefile.load(name)
+    except treefile.Fault as fault:
+        raise Refused(f"{name} is no tree file: {fault}") from None
+
+
+def portals_of(name, tree):
+    """The portals of a listing of this tree."""
+    try:
+        leaves, portals = listing.load(name)
+    except listing.NoListing as fault:
+        raise Refused(f"{name} is no listing of portals: {fault}") from None
+    numbered = sum(leaf.number is not None for leaf in tree.leaves)
+    if leaves != numbered:
+        raise Refused(f"{name} is a listing of another tree: it has {leaves} leaves, and the tree {numbered}")
+    return portals
+
+
+def run(words):
+    """Does what the words ask for, and answers the exit status: 0, or 1 where it cannot be done."""
+    parser = argparse.ArgumentParser(prog="qmlook", description="Looks at a compiled map.", allow_abbrev=False)
+    given = words_of(parser, words)
+    try:
+        sys.stdout.write({"plan": plan_of, "points": points_of, "json": json_of}[given.command](given))
+        sys.stdout.flush()
+    except (Refused, NoContact) as refused:
+        print(f"qmlook: {refused}", file=sys.stderr)
+        return 1
+    except OSError as fault:
+        print(f"qmlook: {fault.filename or 'standard output'}: {fault.strerror}", file=sys.stderr)
+        return 1
+    return 0

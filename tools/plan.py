@@ -1,0 +1,155 @@
+"""The picture of a slice through a tree: its pieces, what a row holds, portals, and the trail of a leak, as SVG."""
+
+from fractions import Fraction
+from xml.sax.saxutils import escape
+
+import labels
+import patterns
+from polygons import crossing, in_front
+
+# in units of the picture: the longer side of what is shown and the least width of what is written; the rim around it; a
+# line of the legend, a letter in it, and the gap between two items
+LONGEST, LEAST, RIM, LINE, LETTER, GAP = 800, 460, 16, 26, 7.6, 22
+STYLE = """<style>
+text { font-family: sans-serif; fill: #111111 }
+.label { text-anchor: middle; paint-order: stroke; stroke: #ffffff; stroke-width: 3px }
+.piece { stroke: #55504a; stroke-width: 0.6 }
+.own { stroke: #a3006b; stroke-width: 4; fill: none }
+.portal { stroke: #006b4f; stroke-width: 4 }
+.within { stroke: #ffffff; stroke-width: 1.6; stroke-dasharray: 3 3 }
+.below { stroke: #ffffff; stroke-width: 6; fill: none; stroke-linejoin: round }
+.trail { stroke: #c00018; stroke-width: 3; fill: none; stroke-linejoin: round }
+.stop { stroke: #c00018; stroke-width: 2; fill: #ffffff }
+.start { stroke: #ffffff; stroke-width: 2; fill: #c00018 }
+</style>
+"""
+
+
+class View:
+    """Which part of the world is shown, and where a point of it stands in the picture."""
+
+    def __init__(self, extent):
+        (west, east), (south, north) = extent
+        rim = max(east - west, north - south) / Fraction(12) or 64
+        self.west, self.east, self.south, self.north = west - rim, east + rim, south - rim, north + rim
+        self.scale = LONGEST / float(max(self.east - self.west, self.north - self.south))
+        self.wide, self.high = float(self.east - self.west) * self.scale, float(self.north - self.south) * self.scale
+
+    def at(self, point):
+        """A point of the world in the picture, north above."""
+        return RIM + float(point[0] - self.west) * self.scale, RIM + LINE + float(self.north - point[1]) * self.scale
+
+    def shown(self, polygon):
+        """The corners in the picture of what is shown of a piece, or None."""
+        sides = [(1, 0, 0, self.west), (-1, 0, 0, -self.east), (0, 1, 0, self.south), (0, -1, 0, -self.north)]
+        part = in_front(polygon, sides)
+        return part and [self.at(corner) for corner in part]
+
+
+class Picture:
+    """What a picture is made of: the tree and its slice, and what was asked for upon it."""
+
+    def __init__(self, tree, height, found, view):
+        self.tree, self.height = tree, height
+        self.shown = [(leaf, corners) for leaf, corners in ((leaf, view.shown(piece)) for leaf, piece in found) if corners]
+        self.view, self.overlay, self.legend = view, [], []
+        kinds = {patterns.kind(tree.leaves[leaf]) for leaf, _ in self.shown}
+        self.kinds = [name for name in patterns.KINDS if name in kinds]
+        self.label_by_number = False
+        self.lines = []
+
+    def hold(self, number):
+        """Draws the leaves that a row holds, and the row's own leaf; labels are now the numbers of rows."""
+        held = set(self.tree.row(number))
+        for leaf, corners in self.shown:
+            if self.tree.leaves[leaf].number in held:
+                self.overlay.append(f'<path d="{outline(corners)}" fill="url(#{patterns.HELD})"/>\n')
+        for leaf, corners in self.shown:
+            if self.tree.leaves[leaf].number == number:
+                self.overlay.append(f'<path class="own" d="{outline(corners)}"/>\n')
+        self.kinds.append(patterns.HELD)
+        self.legend.append(('<path class="own" d="M2,-14H26V2H2Z"/>', f"the leaf of row {number}"))
+        self.label_by_number = True
+
+    def join(self, portals):
+        """Draws the portals that the slice crosses."""
+        crossed = ((front, back, crossing(corners, self.height)) for front, back, corners in portals)
+        for front, back, ends in crossed:
+            if ends:
+                (x, y), (u, v) = (self.view.at(end) for end in ends)
+                line = f'x1="{x:.1f}" y1="{y:.1f}" x2="{u:.1f}" y2="{v:.1f}"'
+                self.overlay.append(f'<line class="portal" {line}><title>portal of {front} and {back}</title></line>\n'
+                                  f'<line class="within" {line}/>\n')
+        self.legend.append(('<path class="portal" d="M2,-5H26"/><path class="within" d="M2,-5H26"/>', "portal"))
+
+    def follow(self, line):
+        """Draws a leak line, with a ring at each contact and a dot where it begins."""
+        points = [self.view.at(point) for point in line]
+        self.lines = list(zip(points, points[1:]))
+        path = "M" + "L".join(f"{x:.1f},{y:.1f}" for x, y in points)
+        self.overlay.append(f'<path class="below" d="{path}"/>\n<path class="trail" d="{path}"/>\n')
+        self.overlay += [f'<circle class="stop" cx="{x:.1f}" cy="{y:.1f}" r="4"/>\n' for x, y in points[1::2]]
+        self.overlay.append('<circle class="start" cx="{:.1f}" cy="{:.1f}" r="7"/>\n'.format(*points[0]))
+        self.legend.append(('<path class="trail" d="M2,-5H26"/><circle class="stop" cx="14" cy="-5" r="4"/>',
+                            "leak line, with its contacts"))
+
+
+def outline(corners):
+    """The path round a piece."""
+    return "M" + "L".join(f"{x:.1f},{y:.1f}" for x, y in corners) + "Z"
+
+
+def drawn_pieces(picture):
+    """The pieces, each with what it is as the text that a browser shows under the pointer."""
+    for leaf, corners in picture.shown:
+        what = picture.tree.leaves[leaf]
+        number = "" if what.number is None else f", number {what.number}"
+        title = f"leaf {leaf}, {patterns.kind(what)}{number}"
+        yield f'<path class="piece" fill="url(#{patterns.kind(what)})" d="{outline(corners)}"><title>{title}</title></path>\n'
+
+
+def drawn_labels(picture):
+    """The number of each leaf that is not solid, where it fits into its piece."""
+    for leaf, corners in picture.shown:
+        number = picture.tree.leaves[leaf].number
+        text = str(number if picture.label_by_number else leaf)
+        placed = labels.place(text, corners, picture.lines) if number is not None else None
+        if placed:
+            x, y, size = placed
+            yield f'<text class="label" x="{x:.1f}" y="{y + 0.36 * size:.1f}" font-size="{size}">{text}</text>\n'
+
+
+def drawn_legend(picture, top):
+    """What each fill and line means, item behind item in lines, and how high all of it is."""
+    items = [(f'<rect x="2" y="-14" width="24" height="16" class="piece" fill="url(#{name})"/>',
+              "held by the row" if name == patterns.HELD else name) for name in picture.kinds]
+    items += picture.legend
+    items.append(("", "labels: numbers of rows" if picture.label_by_number else "labels: numbers of leaves"))
+    text, x, y = "", RIM, top + LINE
+    for sign, words in items:
+        indent = 34 if sign else 2
+        wide = indent + LETTER * len(words) + GAP
+        if x > RIM and x + wide > RIM + max(picture.view.wide, LEAST):
+            x, y = RIM, y + LINE
+        text += f'<g transform="translate({x:.1f},{y:.1f})">{sign}<text x="{indent}" font-size="13">{words}</text></g>\n'
+        x += wide
+    return text, y - top
+
+
+def drawn(picture, name):
+    """The whole picture, as the text of an SVG file."""
+    view = picture.view
+    legend, high = drawn_legend(picture, RIM + LINE + view.high)
+    wide, high = max(view.wide, LEAST) + 2 * RIM, view.high + LINE + high + 2 * RIM
+    frame = f'x="{RIM}" y="{RIM + LINE}" width="{view.wide:.1f}" height="{view.high:.1f}"'
+    title = f"{escape(name)}, slice at z = {picture.height}, x {span(view.west, view.east)}, y {span(view.south, view.north)}"
+    return (f'<svg xmlns="http://www.w3.org/2000/svg" viewBox="0 0 {wide:.1f} {high:.1f}" width="{wide:.0f}" height="{high:.0f}">\n'
+            + STYLE + patterns.definitions(picture.kinds) + f'<clipPath id="frame"><rect {frame}/></clipPath>\n'
+            + f'<rect width="100%" height="100%" fill="#ffffff"/>\n<text x="{RIM}" y="{RIM + 12}" font-size="14">{title}</text>\n'
+            + '<g clip-path="url(#frame)">\n' + "".join(drawn_pieces(picture)) + "".join(picture.overlay)
+            + "".join(drawn_labels(picture)) + f'</g>\n<rect {frame} fill="none" stroke="#111111"/>\n' + legend + "</svg>\n")
+
+
+def span(low, high):
+    """From where to where the picture reaches, in whole numbers."""
+    return f"{round(low)} to {round(high)}"
