@@ -67,7 +67,7 @@ def trail(words):
 
 
 def plan_of(words):
-    """The picture that the words ask for."""
+    """The picture that the words ask for, in one part."""
     tree = tree_of(words.tree)
     own = None if words.row is None else leaf_of_row(words, tree)
     portals = None if words.prt is None else portals_of(words.prt, tree)
@@ -81,7 +81,7 @@ def plan_of(words):
         picture.join(portals)
     if line:
         picture.follow(line)
-    return plan.drawn(picture, os.path.basename(words.tree))
+    return [plan.drawn(picture, os.path.basename(words.tree))]
 
 
 def height_of(tree, line, own):
@@ -102,20 +102,23 @@ def leaf_of_row(words, tree):
 
 
 def points_of(words):
-    """The point file that the words ask for."""
-    return printed(Cells(tree_of(words.tree)), words.leak)
+    """The point file that the words ask for, in one part."""
+    return [printed(Cells(tree_of(words.tree)), words.leak)]
 
 
 def json_of(words):
-    """The whole file as an object of JSON."""
+    """The whole file as an object of JSON, row by row, since rows are long."""
     tree = tree_of(words.tree)
-    rows = None if tree.rows is None else [tree.row(own) for own in range(len(tree.rows))]
-    return json.dumps({
-        "planes": tree.planes,
-        "nodes": [node._asdict() for node in tree.nodes],
-        "leaves": [leaf._asdict() for leaf in tree.leaves],
-        "rows": rows,
-    }) + "\n"
+    yield f'{{"planes": {json.dumps(tree.planes)},\n'
+    yield f'"nodes": {json.dumps([node._asdict() for node in tree.nodes])},\n'
+    yield f'"leaves": {json.dumps([leaf._asdict() for leaf in tree.leaves])},\n'
+    if tree.rows is None:
+        yield '"rows": null}\n'
+        return
+    yield '"rows": ['
+    for own in range(len(tree.rows)):
+        yield f"{',' if own else ''}\n{json.dumps(tree.row(own))}"
+    yield "]}\n"
 
 
 def tree_of(name):
@@ -143,7 +146,7 @@ def run(words):
     parser = argparse.ArgumentParser(prog="qmlook", description="Looks at a compiled map.", allow_abbrev=False)
     given = words_of(parser, words)
     try:
-        sys.stdout.write({"plan": plan_of, "points": points_of, "json": json_of}[given.command](given))
+        sys.stdout.writelines({"plan": plan_of, "points": points_of, "json": json_of}[given.command](given))
         sys.stdout.flush()
     except (Refused, NoContact) as refused:
         print(f"qmlook: {refused}", file=sys.stderr)

@@ -5,6 +5,7 @@ from xml.sax.saxutils import escape
 
 import labels
 import patterns
+from points import decimal
 from polygons import crossing, in_front
 
 # in units of the picture: the longer side of what is shown and the least width of what is written; the rim around it; a
@@ -142,7 +143,7 @@ def drawn(picture, name):
     legend, high = drawn_legend(picture, RIM + LINE + view.high)
     wide, high = max(view.wide, LEAST) + 2 * RIM, view.high + LINE + high + 2 * RIM
     frame = f'x="{RIM}" y="{RIM + LINE}" width="{view.wide:.1f}" height="{view.high:.1f}"'
-    title = f"{escape(name)}, slice at z = {picture.height}, x {span(view.west, view.east)}, y {span(view.south, view.north)}"
+    title = f"{escape(name)}, slice at z = {decimal(picture.height, 6)}, x {span(view.west, view.east)}, y {span(view.south, view.north)}"
     return (f'<svg xmlns="http://www.w3.org/2000/svg" viewBox="0 0 {wide:.1f} {high:.1f}" width="{wide:.0f}" height="{high:.0f}">\n'
             + STYLE + patterns.definitions(picture.kinds) + f'<clipPath id="frame"><rect {frame}/></clipPath>\n'
             + f'<rect width="100%" height="100%" fill="#ffffff"/>\n<text x="{RIM}" y="{RIM + 12}" font-size="14">{title}</text>\n'
