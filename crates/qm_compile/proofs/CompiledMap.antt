@@ -35,7 +35,13 @@ use Rattle.qm_contacts.specs.Portals.{portals_of, HasPassages}
 use Rattle.qm_contacts.specs.World.{World}
 use Rattle.qm_contacts.proofs.MarkedTrees.{marked_contacts}
 use Rattle.qm_contacts.proofs.PassageCounts.{half_are_passages}
+use Rattle.qm_solids.specs.Contents.{HasContents}
 use Rattle.qm_solids.specs.Flat.{HasFlat}
+use Rattle.qm_solids.specs.Holding.{Holds}
+use Rattle.qm_solids.proofs.ContentsLaws.{one_contents}
+use Rattle.qm_segments.specs.Ends.{HoldLinesOfSight}
+use Rattle.qm_segments.proofs.EndRows.{coarse_rows_hold_ends}
+use Rattle.qm_segments.proofs.FilledRows.{filled_row_closed}
 use Rattle.qm_file.specs.declared.tree_file.TreeFile.{TreeFile}
 use Rattle.qm_compile.specs.declared.compiled.Compiled.{Compiled}
 use Rattle.qm_compile.specs.declared.compiled.Compiled.TheVariants.{Done, Leak}
@@ -44,7 +50,7 @@ use Rattle.qm_compile.specs.Built.{IsBuilt}
 use Rattle.qm_compile.specs.CompiledMap.{NoneLeaks, IsDone, IsCompiled}
 use Rattle.qm_compile.specs.Marked.{IsMarked}
 use Rattle.qm_compile.specs.Origins.{AreOriginsOf}
-use Rattle.qm_compile.specs.Rows.{IsWorldOf}
+use Rattle.qm_compile.specs.Rows.{IsWorldOf, AreRowsOverCoarse}
 use Rattle.qm_compile.specs.Summary.{IsVerdict, IsSummary}
 use Rattle.qm_compile.specs.TreeOfMap.{IsTreeOfMap}
 use Rattle.qm_compile.specs.inner.Counted.{IsCounted}
@@ -125,7 +131,10 @@ module _ (map : MapFile) (tree : Tree) (brushes flat : ℕ) (counted : IsCounted
     }
 
     -- what is counted is the summary
-    module _ (sealed : Bool) (is_verdict : IsVerdict tree origins sealed) (contacts : Contacts) (are_contacts : AreContacts (marked_tree row tree) contacts) where
+    module _ (sealed : Bool) (is_verdict : IsVerdict tree origins sealed) (contacts : Contacts) (are : AreContacts tree contacts) where
+      are_contacts : AreContacts (marked_tree row tree) contacts
+      are_contacts = marked_contacts row tree contacts are
+
       is_summary : (world : World) (rows : List (List Bool)) (summary : Summary) → world ≡ record { tree = marked_tree row tree; portals = portals_of (marked_tree row tree) contacts.touchings } → IsCount sealed brushes flat world rows summary → IsSummary map tree origins world.tree rows summary
       is_summary world rows summary is count =
           let same : world.tree ≡ marked_tree row tree = ap (λ (w : World). w.tree) is in
@@ -143,6 +152,14 @@ module _ (map : MapFile) (tree : Tree) (brushes flat : ℕ) (counted : IsCounted
             seen = count.seen_is;
           }
 
+      -- the rows hold both ends of each line of sight
+      hold_sight : (world : World) (rows : List (List Bool)) → world ≡ record { tree = marked_tree row tree; portals = portals_of (marked_tree row tree) contacts.touchings } → AreRowsOverCoarse world rows → HoldLinesOfSight (HasContents (drawn_solids map)) (marked_tree row tree) rows
+      hold_sight world rows is are_rows =
+          let made = subst (λ (w : World). AreRowsOverCoarse w rows) is are_rows in
+          coarse_rows_hold_ends row tree counted.points (filled_row_closed tree origins row are_filled) (HasContents (drawn_solids map)) counted.is_true.gives
+          (λ x c d has also. one_contents (λ solid. Holds solid x) (drawn_solids map) c d has also)
+          contacts.touchings are.touching made.portal_rows rows made.are_coarse made.are_leaf_rows
+
       done_map : (file : TreeFile) (world : World) (summary : Summary) → IsFilledFile sealed tree brushes flat row contacts file world summary → IsDone map file world summary
       done_map file world summary made =
           let same : file.tree ≡ world.tree = made.is_tree ∙ sym (ap (λ (w : World). w.tree) made.is_world) in
@@ -158,6 +175,7 @@ module _ (map : MapFile) (tree : Tree) (brushes flat : ℕ) (counted : IsCounted
             rows = made.rows;
             has_rows = made.has_rows;
             are_rows = made.are_rows;
+            hold_sight = subst (λ (t : Tree). HoldLinesOfSight (HasContents (drawn_solids map)) t made.rows) (sym made.is_tree) (hold_sight world made.rows made.is_world made.are_rows);
             is_summary = subst (λ (t : Tree). IsSummary map tree origins t made.rows summary) (sym same) (is_summary world made.rows summary made.is_world made.is_count);
           }
 
@@ -166,14 +184,11 @@ module _ (map : MapFile) (tree : Tree) (brushes flat : ℕ) (counted : IsCounted
       finished_map (Done file world summary) made = done_map file world summary made
       finished_map (Leak file entity trail) made = absurd made
 
-  contacts_stay : (row : List Bool) (contacts : Contacts) → AreContacts tree contacts → AreContacts (marked_tree row tree) contacts
-  contacts_stay row contacts are = marked_contacts row tree contacts are
-
   -- it is sealed
   pub sealed_map : (row : List Bool) (contacts : Contacts) (compiled : Compiled) → IsSealed tree origins → IsFilledRow tree origins row → AreContacts tree contacts → IsFinished true tree brushes flat row contacts compiled → IsCompiled map compiled
-  sealed_map row contacts compiled is_sealed are_filled are made = finished_map row are_filled is_sealed.tight true is_sealed contacts (contacts_stay row contacts are) compiled made
+  sealed_map row contacts compiled is_sealed are_filled are made = finished_map row are_filled is_sealed.tight true is_sealed contacts are compiled made
 
   -- or no entity takes part
   pub empty_map : (count : ℕ) (contacts : Contacts) (compiled : Compiled) → count ≡ leaf_count tree.shape → NoneTakesPart tree origins → AreContacts tree contacts → IsFinished false tree brushes flat (replicate count false) contacts compiled → IsCompiled map compiled
   empty_map count contacts compiled is none are made =
-      finished_map (replicate count false) (none_filled tree origins count is none) (λ origin listed leaks. none origin listed leaks.takes_part) false none contacts (contacts_stay (replicate count false) contacts are) compiled made
+      finished_map (replicate count false) (none_filled tree origins count is none) (λ origin listed leaks. none origin listed leaks.takes_part) false none contacts are compiled made
