@@ -61,14 +61,20 @@ fn named_cube(alloc: Global, name: &str) -> Result<Vec<u8>, AllocError> {
     Ok(text)
 }
 
-/// The tree file of the cube with other contents: how many leaves are numbered, and the lowest byte of the
-/// inner leaf's code.
-fn cube_file_of(alloc: Global, numbered: u8, code: u8) -> Result<Vec<u8>, AllocError> {
+/// The rows of the six leaves around the cube, and those where what is inside has a row too.
+const ROWS_AROUND: &[u8] = &[0x3F, 0x3F, 0x37, 0x3B, 0x3F, 0x3F];
+
+const ROWS_WITH_INSIDE: &[u8] = &[0x77, 0x77, 0x67, 0x08, 0x73, 0x77, 0x77];
+
+/// The tree file of the cube with other contents: the lowest byte of the inner leaf's code, and the rows.
+fn cube_file_of(alloc: Global, code: u8, rows: &[u8]) -> Result<Vec<u8>, AllocError> {
     let mut file = Vec::from_slice(alloc, &CUBE_FILE)?;
-    if file.len() > 296 {
-        file[32] = numbered;
+    file.truncate(316);
+    if file.len() == 316 {
+        file[32] = rows.len() as u8;
         file[296] = code;
     }
+    file.extend_from_slice(rows)?;
     Ok(file)
 }
 
@@ -76,18 +82,19 @@ fn cube_file_of(alloc: Global, numbered: u8, code: u8) -> Result<Vec<u8>, AllocE
 #[test]
 fn names_give_contents(rt: HostRuntime) -> Result<(), Fail> {
     let rows = [
-        ("clip1", 6, 0xFE),
-        ("*lava", 7, 0xFB),
-        ("*Slime2", 7, 0xFC),
-        ("*x", 7, 0xFD),
-        ("Sky1", 7, 0xFA),
-        ("\"\"", 6, 0xFE),
+        ("clip1", 34, 0xFE, ROWS_AROUND),
+        ("*lava", 35, 0xFB, ROWS_WITH_INSIDE),
+        ("*Slime2", 35, 0xFC, ROWS_WITH_INSIDE),
+        ("*x", 35, 0xFD, ROWS_WITH_INSIDE),
+        ("Sky1", 35, 0xFA, ROWS_WITH_INSIDE),
+        ("\"\"", 34, 0xFE, ROWS_AROUND),
     ];
-    for (name, numbered, code) in rows {
+    for (name, seen, code, rows) in rows {
         let text = named_cube(rt.alloc(), name)?;
-        let file = cube_file_of(rt.alloc(), numbered, code)?;
+        let file = cube_file_of(rt.alloc(), code, rows)?;
+        let numbered = rows.len();
         let printed = format!(in rt.alloc();
-            "no entity\nbrushes 1\nflat 0\nplanes 6\nnodes 6\nleaves 7\nnumbered {numbered}\nfilled 0\nportals 12\n"
+            "no entity\nbrushes 1\nflat 0\nplanes 6\nnodes 6\nleaves 7\nnumbered {numbered}\nfilled 0\nportals 12\nseen {seen}\n"
         )?;
         assert!(rt; gives(&rt, "compile", &text, 0, &printed, Some(file.as_slice()))?);
     }
@@ -107,17 +114,26 @@ fn names_give_contents(rt: HostRuntime) -> Result<(), Fail> {
     Ok(())
 }
 
-/// Whether a text without entities compiles with these counts of brushes, flat ones, planes, nodes, leaves, numbered leaves
-/// and portals, to a file of this length.
+/// Whether a text without entities compiles with these counts of brushes, flat ones, planes, nodes, leaves, numbered leaves,
+/// portals and what is seen, to a file of this length.
 fn counts<R: AllocGlobal + Threads + Sync>(
     rt: &R,
     text: &str,
-    counts: [u64; 7],
+    counts: [u64; 8],
     length: usize,
 ) -> Result<bool, AllocError> {
-    let [brushes, flat, planes, nodes, leaves, numbered, portals] = counts;
+    let [
+        brushes,
+        flat,
+        planes,
+        nodes,
+        leaves,
+        numbered,
+        portals,
+        seen,
+    ] = counts;
     let printed = format!(in rt.alloc();
-        "no entity\nbrushes {brushes}\nflat {flat}\nplanes {planes}\nnodes {nodes}\nleaves {leaves}\nnumbered {numbered}\nfilled 0\nportals {portals}\n"
+        "no entity\nbrushes {brushes}\nflat {flat}\nplanes {planes}\nnodes {nodes}\nleaves {leaves}\nnumbered {numbered}\nfilled 0\nportals {portals}\nseen {seen}\n"
     )?;
     let mut outside = Outside::new(rt.alloc(), text.as_bytes())?;
     let says = outside.says(rt, &["compile", "map", "out"], 0, &printed);
@@ -130,16 +146,16 @@ fn counts_what_boxes_give(rt: HostRuntime) -> Result<(), Fail> {
     let wall = ([0, 0, 0], [4096, 64, 64]);
     let above = ([0, 0, 64], [64, 64, 128]);
     let rows = [
-        ("", [wall, wall], [2, 0, 6, 5, 6, 5, 8], 291),
-        (APART, [CUBE, above], [3, 1, 7, 6, 7, 6, 12], 336),
-        (OPPOSED, [CUBE, CUBE], [3, 1, 6, 6, 7, 6, 12], 316),
+        ("", [wall, wall], [2, 0, 6, 5, 6, 5, 8, 23], 296),
+        (APART, [CUBE, above], [3, 1, 7, 6, 7, 6, 12, 34], 342),
+        (OPPOSED, [CUBE, CUBE], [3, 1, 6, 6, 7, 6, 12, 34], 322),
     ];
     for (brushes, boxes, wanted, length) in rows {
         let text = world(rt.alloc(), brushes, &boxes)?;
         assert!(rt; counts(&rt, &text, wanted, length)?);
     }
     let flat = world(rt.alloc(), OPPOSED, &[])?;
-    assert!(rt; counts(&rt, &flat, [1, 1, 1, 0, 1, 1, 0], 66)?);
+    assert!(rt; counts(&rt, &flat, [1, 1, 1, 0, 1, 1, 0, 1], 67)?);
     Ok(())
 }
 
@@ -153,9 +169,9 @@ fn counts_what_two_contents_give(rt: HostRuntime) -> Result<(), Fail> {
     put_box(&mut stone_first, "stone", [16, 16, 16], [48, 48, 48])?;
     put_box(&mut stone_first, "*water1", [0, 0, 0], [64, 64, 64])?;
     let text = world(rt.alloc(), &water_first, &[])?;
-    assert!(rt; counts(&rt, &text, [2, 0, 12, 12, 13, 12, 24], 586)?);
+    assert!(rt; counts(&rt, &text, [2, 0, 12, 12, 13, 12, 24, 68], 610)?);
     let text = world(rt.alloc(), &stone_first, &[])?;
-    assert!(rt; counts(&rt, &text, [2, 0, 12, 24, 25, 24, 52], 886)?);
+    assert!(rt; counts(&rt, &text, [2, 0, 12, 24, 25, 24, 52, 308], 958)?);
     Ok(())
 }
 
@@ -165,8 +181,8 @@ fn counts_what_rooms_give(rt: HostRuntime) -> Result<(), Fail> {
     let room = world(rt.alloc(), "", &SEALED_ROOM)?;
     let hole = world(rt.alloc(), "", &HOLE_ROOM)?;
     let corner = world(rt.alloc(), "", &CORNER_ROOMS)?;
-    assert!(rt; counts(&rt, &room, [6, 0, 12, 12, 13, 7, 12], 586)?);
-    assert!(rt; counts(&rt, &hole, [7, 0, 14, 14, 15, 8, 14], 676)?);
-    assert!(rt; counts(&rt, &corner, [12, 0, 19, 22, 23, 11, 16], 976)?);
+    assert!(rt; counts(&rt, &room, [6, 0, 12, 12, 13, 7, 12, 35], 593)?);
+    assert!(rt; counts(&rt, &hole, [7, 0, 14, 14, 15, 8, 14, 42], 684)?);
+    assert!(rt; counts(&rt, &corner, [12, 0, 19, 22, 23, 11, 16, 59], 1003)?);
     Ok(())
 }

@@ -1,14 +1,16 @@
-/// The tree file of a world without brushes: one empty leaf.
-pub const EMPTY_FILE: [u8; 46] = [
+/// The tree file of a world without brushes: one empty leaf, which sees itself.
+pub const EMPTY_FILE: [u8; 47] = [
     // magic QMTREE01
     0x51, 0x4D, 0x54, 0x52, 0x45, 0x45, 0x30, 0x31,
-    // planes 0, nodes 0, leaves 1, numbered 1, no rows
+    // planes 0, nodes 0, leaves 1, numbered 1, with rows
     0x00, 0x00, 0x00, 0x00, 0x00, 0x00, 0x00, 0x00, 0x00, 0x00, 0x00, 0x00, 0x00, 0x00, 0x00, 0x00,
     0x01, 0x00, 0x00, 0x00, 0x00, 0x00, 0x00, 0x00, 0x01, 0x00, 0x00, 0x00, 0x00, 0x00, 0x00, 0x00,
-    0x00,
+    0x01,
     // leaf 0: empty
     0xFF, 0xFF, 0xFF, 0xFF, 0x00,
+    // row 0: leaf 0
+    0x01,
 ];
 
 pub const EMPTY_SUMMARY: &str =
-    "no entity\nbrushes 0\nflat 0\nplanes 0\nnodes 0\nleaves 1\nnumbered 1\nfilled 0\nportals 0\n";
+    "no entity\nbrushes 0\nflat 0\nplanes 0\nnodes 0\nleaves 1\nnumbered 1\nfilled 0\nportals 0\nseen 1\n";

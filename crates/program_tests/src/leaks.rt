@@ -18,12 +18,14 @@ struct Row {
     status: u8,
     printed: &'static str,
     length: usize,
+    /// The bytes of the rows, at the end of the file.
+    rows: &'static [u8],
 }
 
 const ROOM_SUMMARY: &str =
-    "sealed\nbrushes 6\nflat 0\nplanes 12\nnodes 12\nleaves 13\nnumbered 1\nfilled 6\nportals 0\n";
+    "sealed\nbrushes 6\nflat 0\nplanes 12\nnodes 12\nleaves 13\nnumbered 1\nfilled 6\nportals 0\nseen 1\n";
 
-static ROWS: [Row; 15] = [
+static ROWS: [Row; 16] = [
     Row {
         texture: "",
         first: &[],
@@ -31,7 +33,8 @@ static ROWS: [Row; 15] = [
         origins: &["0 0 24"],
         status: 0,
         printed: ROOM_SUMMARY,
-        length: 586,
+        length: 587,
+        rows: &[0x01],
     },
     // in a wall
     Row {
@@ -40,8 +43,9 @@ static ROWS: [Row; 15] = [
         room: Room::Sealed,
         origins: &["72 0 24"],
         status: 0,
-        printed: "no entity\nbrushes 6\nflat 0\nplanes 12\nnodes 12\nleaves 13\nnumbered 7\nfilled 0\nportals 12\n",
-        length: 586,
+        printed: "no entity\nbrushes 6\nflat 0\nplanes 12\nnodes 12\nleaves 13\nnumbered 7\nfilled 0\nportals 12\nseen 35\n",
+        length: 593,
+        rows: &[0x77, 0x77, 0x67, 0x08, 0x73, 0x77, 0x77],
     },
     Row {
         texture: "",
@@ -51,6 +55,7 @@ static ROWS: [Row; 15] = [
         status: 3,
         printed: "leak: entity 1\ntrail: 8 6 0\n",
         length: 676,
+        rows: &[],
     },
     // in the hole, on the plane of a node
     Row {
@@ -61,6 +66,7 @@ static ROWS: [Row; 15] = [
         status: 3,
         printed: "leak: entity 1\ntrail: 6 0\n",
         length: 676,
+        rows: &[],
     },
     // the first of two entities stands in a wall
     Row {
@@ -71,6 +77,7 @@ static ROWS: [Row; 15] = [
         status: 3,
         printed: "leak: entity 2\ntrail: 8 6 0\n",
         length: 676,
+        rows: &[],
     },
     // the first of two entities stands nowhere
     Row {
@@ -81,6 +88,7 @@ static ROWS: [Row; 15] = [
         status: 3,
         printed: "leak: entity 2\ntrail: 8 6 0\n",
         length: 676,
+        rows: &[],
     },
     // both leak
     Row {
@@ -91,6 +99,7 @@ static ROWS: [Row; 15] = [
         status: 3,
         printed: "leak: entity 1\ntrail: 8 6 0\n",
         length: 676,
+        rows: &[],
     },
     // sky closes the hole
     Row {
@@ -99,8 +108,9 @@ static ROWS: [Row; 15] = [
         room: Room::Hole,
         origins: &["0 0 24"],
         status: 0,
-        printed: "sealed\nbrushes 8\nflat 0\nplanes 14\nnodes 38\nleaves 39\nnumbered 2\nfilled 24\nportals 0\n",
-        length: 1276,
+        printed: "sealed\nbrushes 8\nflat 0\nplanes 14\nnodes 38\nleaves 39\nnumbered 2\nfilled 24\nportals 0\nseen 2\n",
+        length: 1278,
+        rows: &[0x01, 0x02],
     },
     // lava does not
     Row {
@@ -111,6 +121,7 @@ static ROWS: [Row; 15] = [
         status: 3,
         printed: "leak: entity 1\ntrail: 29 11 0\n",
         length: 1276,
+        rows: &[],
     },
     Row {
         texture: "",
@@ -118,8 +129,9 @@ static ROWS: [Row; 15] = [
         room: Room::Edge,
         origins: &["0 0 24"],
         status: 0,
-        printed: "sealed\nbrushes 6\nflat 0\nplanes 12\nnodes 14\nleaves 15\nnumbered 1\nfilled 8\nportals 0\n",
-        length: 636,
+        printed: "sealed\nbrushes 6\nflat 0\nplanes 12\nnodes 14\nleaves 15\nnumbered 1\nfilled 8\nportals 0\nseen 1\n",
+        length: 637,
+        rows: &[0x01],
     },
     Row {
         texture: "",
@@ -127,8 +139,9 @@ static ROWS: [Row; 15] = [
         room: Room::Corner,
         origins: &["-64 0 24"],
         status: 0,
-        printed: "sealed\nbrushes 12\nflat 0\nplanes 19\nnodes 22\nleaves 23\nnumbered 5\nfilled 6\nportals 4\n",
-        length: 976,
+        printed: "sealed\nbrushes 12\nflat 0\nplanes 19\nnodes 22\nleaves 23\nnumbered 5\nfilled 6\nportals 4\nseen 25\n",
+        length: 981,
+        rows: &[0x1F, 0x1F, 0x1F, 0x1F, 0x1F],
     },
     // in sky, in the open
     Row {
@@ -137,8 +150,9 @@ static ROWS: [Row; 15] = [
         room: Room::Nothing,
         origins: &["32 32 32"],
         status: 0,
-        printed: "sealed\nbrushes 1\nflat 0\nplanes 6\nnodes 6\nleaves 7\nnumbered 1\nfilled 6\nportals 0\n",
-        length: 316,
+        printed: "sealed\nbrushes 1\nflat 0\nplanes 6\nnodes 6\nleaves 7\nnumbered 1\nfilled 6\nportals 0\nseen 1\n",
+        length: 317,
+        rows: &[0x01],
     },
     // in sky that fills the cube
     Row {
@@ -147,8 +161,9 @@ static ROWS: [Row; 15] = [
         room: Room::Nothing,
         origins: &["0 0 0"],
         status: 0,
-        printed: "sealed\nbrushes 1\nflat 0\nplanes 6\nnodes 0\nleaves 1\nnumbered 1\nfilled 0\nportals 0\n",
-        length: 166,
+        printed: "sealed\nbrushes 1\nflat 0\nplanes 6\nnodes 0\nleaves 1\nnumbered 1\nfilled 0\nportals 0\nseen 1\n",
+        length: 167,
+        rows: &[0x01],
     },
     // water under a room
     Row {
@@ -157,8 +172,20 @@ static ROWS: [Row; 15] = [
         room: Room::Sealed,
         origins: &["0 0 24"],
         status: 0,
-        printed: "sealed\nbrushes 7\nflat 0\nplanes 13\nnodes 13\nleaves 14\nnumbered 1\nfilled 7\nportals 0\n",
-        length: 631,
+        printed: "sealed\nbrushes 7\nflat 0\nplanes 13\nnodes 13\nleaves 14\nnumbered 1\nfilled 7\nportals 0\nseen 1\n",
+        length: 632,
+        rows: &[0x01],
+    },
+    // solid fills the cube
+    Row {
+        texture: "stone",
+        first: &[([-4096, -4096, -4096], [4096, 4096, 4096])],
+        room: Room::Nothing,
+        origins: &[],
+        status: 0,
+        printed: "no entity\nbrushes 1\nflat 0\nplanes 6\nnodes 0\nleaves 1\nnumbered 0\nfilled 0\nportals 0\nseen 0\n",
+        length: 166,
+        rows: &[],
     },
     // an entity in an empty world
     Row {
@@ -169,6 +196,7 @@ static ROWS: [Row; 15] = [
         status: 3,
         printed: "leak: entity 1\ntrail: 0\n",
         length: 46,
+        rows: &[],
     },
 ];
 
@@ -189,30 +217,32 @@ fn text_of(alloc: Global, row: &Row) -> Result<String, AllocError> {
     Ok(text)
 }
 
-/// Whether a text gives this status, this printed text and a file of this length, whose byte 40 says that no rows follow.
+/// Whether a file has this length and these rows at its end, and its byte 40 says whether rows follow.
+fn has_rows(file: &[u8], follow: bool, length: usize, rows: &[u8]) -> bool {
+    file.len() == length && length > 40 && file[40] == u8::from(follow) && file.ends_with(rows)
+}
+
+/// Whether a text gives what a row says, with the option for coarse rows; where no entity leaks, rows follow.
 fn is_right<R: AllocGlobal + Threads + Sync>(
     rt: &R,
     text: &str,
-    status: u8,
-    printed: &str,
-    length: usize,
+    row: &Row,
 ) -> Result<bool, AllocError> {
     let mut outside = Outside::new(rt.alloc(), text.as_bytes())?;
-    let says = outside.says(rt, &["compile", "map", "out"], status, printed);
-    let has_no_rows = outside
-        .shelf
-        .get("out")
-        .is_some_and(|file| file.len() > 40 && file[40] == 0);
-    Ok(says && has_no_rows && outside.has_long_out(length))
+    let words = ["compile", "map", "--fast", "out"];
+    let says = outside.says(rt, &words, row.status, row.printed);
+    let follow = row.status == 0;
+    let out = outside.shelf.get("out");
+    Ok(says && out.is_some_and(|file| has_rows(file, follow, row.length, row.rows)))
 }
 
-/// What leaks and what is filled, and the room as an editor writes it.
+/// What leaks, what is filled and what is seen, and the room as an editor writes it.
 #[test]
 fn finds_leaks_and_fills(rt: HostRuntime) -> Result<(), Fail> {
-    let mut right = is_right(&rt, ROOM, 0, ROOM_SUMMARY, 586)?;
+    let mut right = is_right(&rt, ROOM, &ROWS[0])?;
     for row in &ROWS {
         let text = text_of(rt.alloc(), row)?;
-        right &= is_right(&rt, &text, row.status, row.printed, row.length)?;
+        right &= is_right(&rt, &text, row)?;
     }
     assert!(rt; right);
     Ok(())

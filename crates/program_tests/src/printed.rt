@@ -1,7 +1,7 @@
 //! The printed texts.
 
 pub const SUMMARY: &str =
-    "no entity\nbrushes 1\nflat 0\nplanes 6\nnodes 6\nleaves 7\nnumbered 6\nfilled 0\nportals 12\n";
+    "no entity\nbrushes 1\nflat 0\nplanes 6\nnodes 6\nleaves 7\nnumbered 6\nfilled 0\nportals 12\nseen 34\n";
 
 pub const USAGE: &str =
     "usage: qmapc compile MAP OUT [--prt FILE] [--threads N] [--fast] | inspect TREE QUERY.. | format MAP OUT | demo N NUMBER\n";

@@ -1,10 +1,12 @@
+use super::cube::{END, FIRST, OTHERS, joined};
+use super::cube_file::CUBE_FILE;
 use super::outside::Outside;
-use super::printed::USAGE;
+use super::printed::{SUMMARY, USAGE};
 use std::alloc::AllocError;
 use std::test::Fail;
 use std::thread::Threads;
 
-static OTHER_WORDS: [&[&str]; 18] = [
+static OTHER_WORDS: [&[&str]; 26] = [
     &[],
     &["compile"],
     &["compile", "map"],
@@ -23,6 +25,14 @@ static OTHER_WORDS: [&[&str]; 18] = [
     &["--help"],
     &["map", "out"],
     &["", "map", "out"],
+    &["compile", "map", "out", "--fast", "--fast"],
+    &["compile", "--fast", "map", "--fast", "out"],
+    &["compile", "map", "--fast"],
+    &["compile", "--fast", "map", "map"],
+    &["--fast", "compile", "map", "out"],
+    &["compile", "map", "out", "--Fast"],
+    &["compile", "map", "out", "--fast=1"],
+    &["format", "map", "out", "--fast"],
 ];
 
 /// Whether these words are answered with the usage line, and nothing changes.
@@ -37,6 +47,34 @@ fn answers_usage_to_other_words(rt: HostRuntime) -> Result<(), Fail> {
     let mut right = true;
     for words in &OTHER_WORDS {
         right &= is_usage(&rt, words)?;
+    }
+    assert!(rt; right);
+    Ok(())
+}
+
+static FAST_WORDS: [&[&str]; 4] = [
+    &["compile", "map", "out"],
+    &["compile", "--fast", "map", "out"],
+    &["compile", "map", "--fast", "out"],
+    &["compile", "map", "out", "--fast"],
+];
+
+/// Whether these words compile the cube.
+fn compiles_the_cube<R: AllocGlobal + Threads + Sync>(
+    rt: &R,
+    words: &[&str],
+) -> Result<bool, AllocError> {
+    let text = joined(rt.alloc(), [FIRST, OTHERS, END])?;
+    let mut outside = Outside::new(rt.alloc(), &text)?;
+    Ok(outside.says(rt, words, 0, SUMMARY) && outside.holds(Some(&CUBE_FILE), &text, [0, 0, 0]))
+}
+
+/// The option can stand in any place after the first word; the bytes are the same.
+#[test]
+fn takes_the_option_in_any_place(rt: HostRuntime) -> Result<(), Fail> {
+    let mut right = true;
+    for words in &FAST_WORDS {
+        right &= compiles_the_cube(&rt, words)?;
     }
     assert!(rt; right);
     Ok(())

@@ -1,7 +1,7 @@
--- What is built of the brushes of a map is what the map compiles to.
-use Rattle.std.proofs.Common.{◌≡◌, ℕ, Bool, false, List, [], replicate, length, refl, sym, ap, ◌∙◌, subst, arith, ◌↔◌}
-use Rattle.std.specs.Prelude.{codes}
-use Rattle.std.specs.List.{All, AllZip, Contains}
+-- What is built of the brushes of a map, with what is made of its tree, is what the map compiles to.
+use Rattle.std.proofs.Common.{◌≡◌, ℕ, Bool, true, false, List, [], replicate, length, sym, ap, ◌∙◌, subst, arith, ◌↔◌}
+use Rattle.std.specs.Prelude.{None}
+use Rattle.std.specs.List.{All, AllZip}
 use Rattle.std.proofs.lemmas.List.{length-map}
 use Rattle.std.proofs.lemmas.List.Elements.{length_all_zip}
 use Rattle.qm_space.specs.Plane.{Plane}
@@ -17,7 +17,7 @@ use Rattle.qm_solids.proofs.FlatCounts.{same_flat, counted_flat}
 use Rattle.qm_partition.specs.LeafOfPoint.{leaf_record_at}
 use Rattle.qm_partition.specs.Tree.{Tree}
 use Rattle.qm_partition.specs.Ways.{HasPoints}
-use Rattle.qm_solid_tree.specs.GivesContents.{GivesContents}
+use Rattle.qm_solid_tree.specs.GivesContents.{GivesContents, GivesContentsOrIsFilled}
 use Rattle.qm_solid_tree.specs.TreeOf.{IsTreeOf}
 use Rattle.qm_solid_tree.proofs.OneDivision.{one_tree}
 use Rattle.qm_solid_tree.proofs.SameTree.{tree_back}
@@ -26,21 +26,36 @@ use Rattle.qm_partition.specs.Marked.{marked_tree, IsFilledLeaf}
 use Rattle.qm_partition.proofs.FilledLeaves.{filled_in_row, row_is_filled}
 use Rattle.qm_lists.proofs.WorkLists.{place_within}
 use Rattle.qm_solid_tree.proofs.FilledTrees.{tree_unfilled, marked_gives}
-use Rattle.qm_contacts.specs.Leak.{Origin, Leaks, IsLeak}
+use Rattle.qm_contacts.specs.Leak.{Origin, IsLeak}
 use Rattle.qm_contacts.specs.Filled.{NoneTakesPart, IsSealed, IsToBeFilled, IsFilledRow}
 use Rattle.qm_contacts.proofs.FilledLeaves.{filled_apart}
 use Rattle.qm_contacts.proofs.FloodedLeaves.{none_filled}
-use Rattle.qm_compile.specs.declared.command.Command.TheVariants.{Compile}
-use Rattle.qm_compile.specs.declared.outcome.Outcome.{Outcome}
+use Rattle.qm_contacts.specs.Contacts.{Contacts, AreContacts}
+use Rattle.qm_contacts.specs.Portals.{portals_of, HasPassages}
+use Rattle.qm_contacts.specs.World.{World}
+use Rattle.qm_contacts.proofs.MarkedTrees.{marked_contacts}
+use Rattle.qm_contacts.proofs.PassageCounts.{half_are_passages}
+use Rattle.qm_solids.specs.Contents.{HasContents}
+use Rattle.qm_solids.specs.Flat.{HasFlat}
+use Rattle.qm_solids.specs.Holding.{Holds}
+use Rattle.qm_solids.proofs.ContentsLaws.{one_contents}
+use Rattle.qm_segments.specs.Ends.{HoldLinesOfSight}
+use Rattle.qm_segments.proofs.EndRows.{coarse_rows_hold_ends}
+use Rattle.qm_segments.proofs.FilledRows.{filled_row_closed}
+use Rattle.qm_file.specs.declared.tree_file.TreeFile.{TreeFile}
+use Rattle.qm_compile.specs.declared.compiled.Compiled.{Compiled}
+use Rattle.qm_compile.specs.declared.compiled.Compiled.TheVariants.{Done, Leak}
+use Rattle.qm_compile.specs.declared.summary.Summary.{Summary}
 use Rattle.qm_compile.specs.Built.{IsBuilt}
+use Rattle.qm_compile.specs.CompiledMap.{NoneLeaks, IsDone, IsCompiled}
+use Rattle.qm_compile.specs.Marked.{IsMarked}
 use Rattle.qm_compile.specs.Origins.{AreOriginsOf}
-use Rattle.qm_compile.specs.Product.{IsProduct}
-use Rattle.qm_compile.specs.Summary.{compile_summary, IsVerdict, sealed, no_entity}
+use Rattle.qm_compile.specs.Rows.{IsWorldOf, AreRowsOverCoarse}
+use Rattle.qm_compile.specs.Summary.{IsVerdict, IsSummary}
 use Rattle.qm_compile.specs.TreeOfMap.{IsTreeOfMap}
 use Rattle.qm_compile.specs.inner.Counted.{IsCounted}
-use Rattle.qm_compile.specs.inner.Finished.{IsFinished, IsLeakProduct}
+use Rattle.qm_compile.specs.inner.Finished.{IsCount, IsFilledFile, IsFinished}
 use Rattle.qm_compile.specs.inner.FlatCount.{flat_count}
-use Rattle.qm_compile.specs.inner.Outcome.{status_of, text_of}
 use Rattle.qm_compile.proofs.Origins.{one_origins}
 
 -- a map has one tree
@@ -71,7 +86,7 @@ module _ (map : MapFile) (book : List Plane) (list : List BookSolid) (alike : Al
     has_flat = same_flat (drawn_solids map) (solids_in book list) (flat_count list) alike (counted_flat book list filled.each);
   }
 
-module _ (map : MapFile) (tree : Tree) (brushes flat : ℕ) (counted : IsCounted map tree brushes flat) (origins : List Origin) (are_origins : AreOriginsOf map origins) (file : List ℕ) (outcome : Outcome) where
+module _ (map : MapFile) (tree : Tree) (brushes flat : ℕ) (counted : IsCounted map tree brushes flat) (origins : List Origin) (are_origins : AreOriginsOf map origins) where
   is_built : IsBuilt map tree origins
   is_built = record {
     is_tree = counted.is_tree;
@@ -83,23 +98,17 @@ module _ (map : MapFile) (tree : Tree) (brushes flat : ℕ) (counted : IsCounted
   }
 
   -- an entity leaks
-  pub leaking_map : (entity : ℕ) (trail : List ℕ) → IsLeak tree origins entity trail → IsLeakProduct tree entity trail file outcome → IsProduct Compile map file (status_of outcome) (text_of outcome)
-  unfolding IsProduct
-  leaking_map entity trail leak made =
-      rw made.is_leak
-      (record {
-        tree = tree;
-        origins = origins;
-        is_built = is_built;
-        entity = entity;
-        trail = trail;
-        is_leak = leak;
-        is_file = made.is_file;
-        is_text = made.is_text;
-      })
+  pub leaking_map : (file : TreeFile) (entity : ℕ) (trail : List ℕ) → file.tree ≡ tree → file.rows ≡ None → IsLeak tree origins entity trail → IsCompiled map (Leak file entity trail)
+  unfolding IsCompiled
+  leaking_map file entity trail same no_rows leak = record {
+    origins = origins;
+    is_built = subst (λ (t : Tree). IsBuilt map t origins) (sym same) is_built;
+    is_leak = subst (λ (t : Tree). IsLeak t origins entity trail) (sym same) leak;
+    has_no_rows = no_rows;
+  }
 
   -- none does, and these leaves are to be filled
-  module _ (row : List Bool) (are_filled : IsFilledRow tree origins row) (none_leaks : (origin : Origin) → Contains origins origin → Leaks tree origin → ⊥) where
+  module _ (row : List Bool) (are_filled : IsFilledRow tree origins row) (none_leaks : NoneLeaks tree origins) where
     unfilled : All (λ found. found.filled ≡ false) (leaves_of tree.shape)
     unfilled = tree_unfilled (drawn_solids map) counted.is_tree.book tree counted.is_tree.is_tree
 
@@ -113,35 +122,73 @@ module _ (map : MapFile) (tree : Tree) (brushes flat : ℕ) (counted : IsCounted
           row_is_filled row tree unfilled k (omega (arith, within, one_each)) set),
     )
 
-    pub compiled_map : (verdict : List ℕ) → IsVerdict tree origins verdict → IsFinished verdict tree brushes flat row file outcome → IsProduct Compile map file (status_of outcome) (text_of outcome)
-    unfolding IsProduct
-    compiled_map verdict is_verdict made =
-        rw made.is_done
-        (record {
-          tree = tree;
-          origins = origins;
-          is_built = is_built;
-          none_leaks = none_leaks;
-          written = marked_tree row tree;
-          is_marked = record { row = row; are_filled = are_filled; is_marked = refl; filled = filled };
-          is_file = made.is_file;
-          is_summary = record {
-            verdict = verdict;
-            is_verdict = is_verdict;
-            flat = flat;
-            has_flat = counted.has_flat;
-            portals = made.portals;
-            has_portals = made.has_portals;
-            is_printed = made.is_summary ∙ ap (λ (n : ℕ). compile_summary verdict n flat (marked_tree row tree) made.portals) counted.as_many;
-          };
-          is_true = marked_gives row tree (drawn_solids map) counted.is_true;
-          apart = λ origin listed takes_part k fill chain. filled_apart tree origins origin k fill listed takes_part chain;
-        })
+    is_marked : (written : Tree) → written ≡ marked_tree row tree → IsMarked tree origins written
+    is_marked written same = record {
+      row = row;
+      are_filled = are_filled;
+      is_marked = same;
+      filled = subst (λ (t : Tree). (k : ℕ) → IsFilledLeaf t k ↔ IsToBeFilled tree origins k) (sym same) filled;
+    }
+
+    -- what is counted is the summary
+    module _ (sealed : Bool) (is_verdict : IsVerdict tree origins sealed) (contacts : Contacts) (are : AreContacts tree contacts) where
+      are_contacts : AreContacts (marked_tree row tree) contacts
+      are_contacts = marked_contacts row tree contacts are
+
+      is_summary : (world : World) (rows : List (List Bool)) (summary : Summary) → world ≡ record { tree = marked_tree row tree; portals = portals_of (marked_tree row tree) contacts.touchings } → IsCount sealed brushes flat world rows summary → IsSummary map tree origins world.tree rows summary
+      is_summary world rows summary is count =
+          let same : world.tree ≡ marked_tree row tree = ap (λ (w : World). w.tree) is in
+          let portals = half_are_passages (marked_tree row tree) contacts world.portals summary.portals are_contacts (ap (λ (w : World). w.portals) is) count.portals_is in
+          record {
+            verdict = subst (IsVerdict tree origins) (sym count.sealed_is) is_verdict;
+            brushes = count.brushes_is ∙ counted.as_many;
+            flat = subst (λ (n : ℕ). HasFlat (drawn_solids map) n) (sym count.flat_is) counted.has_flat;
+            planes = count.planes_is;
+            nodes = count.nodes_is;
+            leaves = count.leaves_is;
+            numbered = count.numbered_is;
+            filled = count.filled_is;
+            portals = subst (λ (t : Tree). HasPassages t summary.portals) (sym same) portals;
+            seen = count.seen_is;
+          }
+
+      -- the rows hold both ends of each line of sight
+      hold_sight : (world : World) (rows : List (List Bool)) → world ≡ record { tree = marked_tree row tree; portals = portals_of (marked_tree row tree) contacts.touchings } → AreRowsOverCoarse world rows → HoldLinesOfSight (HasContents (drawn_solids map)) (marked_tree row tree) rows
+      hold_sight world rows is are_rows =
+          let made = subst (λ (w : World). AreRowsOverCoarse w rows) is are_rows in
+          coarse_rows_hold_ends row tree counted.points (filled_row_closed tree origins row are_filled) (HasContents (drawn_solids map)) counted.is_true.gives
+          (λ x c d has also. one_contents (λ solid. Holds solid x) (drawn_solids map) c d has also)
+          contacts.touchings are.touching made.portal_rows rows made.are_coarse made.are_leaf_rows
+
+      done_map : (file : TreeFile) (world : World) (summary : Summary) → IsFilledFile sealed tree brushes flat row contacts file world summary → IsDone map file world summary
+      done_map file world summary made =
+          let same : file.tree ≡ world.tree = made.is_tree ∙ sym (ap (λ (w : World). w.tree) made.is_world) in
+          record {
+            tree = tree;
+            origins = origins;
+            is_built = is_built;
+            none_leaks = none_leaks;
+            is_marked = is_marked file.tree made.is_tree;
+            is_true = subst (λ (t : Tree). GivesContentsOrIsFilled t (drawn_solids map)) (sym made.is_tree) (marked_gives row tree (drawn_solids map) counted.is_true);
+            apart = λ origin listed takes_part k fill chain. filled_apart tree origins origin k fill listed takes_part chain;
+            is_world = subst (λ (t : Tree). IsWorldOf t world) (sym made.is_tree) (record { touchings = contacts.touchings; are_touchings = are_contacts.touching; is = made.is_world });
+            rows = made.rows;
+            has_rows = made.has_rows;
+            are_rows = made.are_rows;
+            hold_sight = subst (λ (t : Tree). HoldLinesOfSight (HasContents (drawn_solids map)) t made.rows) (sym made.is_tree) (hold_sight world made.rows made.is_world made.are_rows);
+            is_summary = subst (λ (t : Tree). IsSummary map tree origins t made.rows summary) (sym same) (is_summary world made.rows summary made.is_world made.is_count);
+          }
+
+      finished_map : (compiled : Compiled) → IsFinished sealed tree brushes flat row contacts compiled → IsCompiled map compiled
+      unfolding IsFinished IsCompiled
+      finished_map (Done file world summary) made = done_map file world summary made
+      finished_map (Leak file entity trail) made = absurd made
 
   -- it is sealed
-  pub sealed_map : (row : List Bool) → IsSealed tree origins → IsFilledRow tree origins row → IsFinished (codes "sealed") tree brushes flat row file outcome → IsProduct Compile map file (status_of outcome) (text_of outcome)
-  sealed_map row is_sealed are_filled made = compiled_map row are_filled is_sealed.tight (codes "sealed") (sealed is_sealed) made
+  pub sealed_map : (row : List Bool) (contacts : Contacts) (compiled : Compiled) → IsSealed tree origins → IsFilledRow tree origins row → AreContacts tree contacts → IsFinished true tree brushes flat row contacts compiled → IsCompiled map compiled
+  sealed_map row contacts compiled is_sealed are_filled are made = finished_map row are_filled is_sealed.tight true is_sealed contacts are compiled made
 
   -- or no entity takes part
-  pub empty_map : (count : ℕ) → count ≡ leaf_count tree.shape → NoneTakesPart tree origins → IsFinished (codes "no entity") tree brushes flat (replicate count false) file outcome → IsProduct Compile map file (status_of outcome) (text_of outcome)
-  empty_map count is none made = compiled_map (replicate count false) (none_filled tree origins count is none) (λ origin listed leaks. none origin listed leaks.takes_part) (codes "no entity") (no_entity none) made
+  pub empty_map : (count : ℕ) (contacts : Contacts) (compiled : Compiled) → count ≡ leaf_count tree.shape → NoneTakesPart tree origins → AreContacts tree contacts → IsFinished false tree brushes flat (replicate count false) contacts compiled → IsCompiled map compiled
+  empty_map count contacts compiled is none are made =
+      finished_map (replicate count false) (none_filled tree origins count is none) (λ origin listed leaks. none origin listed leaks.takes_part) false none contacts are compiled made

@@ -1,7 +1,10 @@
 pub mod BrushCounts
+pub mod Commands
 pub mod CompiledMap
+pub mod Completeness
 pub mod FlatSoFar
 pub mod MadeTexts
+pub mod NumberedCounts
 pub mod Outcomes
 pub mod ReadMeanings
 pub mod Reported

@@ -1,10 +1,13 @@
 pub mod Built
 pub mod ComesOf
 pub mod Command
+pub mod CompiledMap
+pub mod Complete
 pub mod FaultText
 pub mod Marked
 pub mod Origins
 pub mod Product
+pub mod Rows
 pub mod Run
 pub mod StatusNumber
 pub mod Summary

@@ -7,7 +7,7 @@ use Rattle.qm_compile.specs.declared.command.Command.{Command}
 use Rattle.qm_compile.specs.declared.status.Status.{Status}
 use Rattle.qm_compile.specs.declared.status.Status.TheVariants as status
 use Rattle.qm_compile.specs.declared.status.Status.TheVariants.{Done, Usage, Leak, ReadFault, WriteFault, Memory}
-use Rattle.qm_compile.specs.Command.{IsCommand}
+use Rattle.qm_compile.specs.Command.{IsCommand, IsNoCommand}
 use Rattle.qm_compile.specs.ComesOf.{ComesOf, IsCutShort}
 use Rattle.qm_compile.specs.Texts.{usage_text}
 
@@ -16,8 +16,7 @@ use Rattle.qm_compile.specs.Texts.{usage_text}
 -- what comes of the words: they are no command, and the shelf is as it was; or what comes of the command
 pub data Due (words : List (List ℕ)) (before after : ShelfState) : Status → List ℕ → Type 0 where
   usage :
-      ((command : Command) (map_name out_name : List ℕ) → IsCommand words command map_name out_name → ⊥) →
-      IsKept before after → MetNoFault before after →
+      IsNoCommand words → IsKept before after → MetNoFault before after →
       Due words before after Usage usage_text
   command :
       {command : Command} {map_name out_name : List ℕ} {status : Status} {text : List ℕ} →

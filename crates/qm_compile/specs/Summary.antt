@@ -1,4 +1,4 @@
-use Rattle.std.specs.Prelude.{◌≡◌, ℕ, List, ◌++◌, length, sum_by, count_by, codes}
+use Rattle.std.specs.Prelude.{◌≡◌, ℕ, Bool, true, false, List, ◌++◌, length, sum_by, count_by, codes, if◌then◌else◌}
 use Rattle.qm_mapfile.specs.declared.entity.MapFile.{MapFile}
 use Rattle.qm_brush.specs.Solids.{drawn_solids}
 use Rattle.qm_solids.specs.Flat.{HasFlat}
@@ -8,41 +8,47 @@ use Rattle.qm_contacts.specs.Leak.{Origin}
 use Rattle.qm_contacts.specs.Filled.{NoneTakesPart, IsSealed}
 use Rattle.qm_contacts.specs.NumberedLeaves.{is_numbered}
 use Rattle.qm_contacts.specs.Portals.{HasPassages}
+use Rattle.qm_rows.specs.Seen.{seen_of}
+use Rattle.qm_compile.specs.declared.summary.Summary.{Summary}
 use Rattle.qm_compile.specs.Texts.{line, count_line}
 
 -- The summary that a command prints where it is done: a line for each count.
 
--- how many planes, nodes and leaves a tree has, and how many of the leaves are numbered, and how many filled
-unfoldable pub tree_counts : Tree → List ℕ
-tree_counts tree =
-    count_line (codes "planes") (length tree.planes)
-    ++ (count_line (codes "nodes") (node_count tree.shape)
-    ++ (count_line (codes "leaves") (leaf_count tree.shape)
-    ++ (count_line (codes "numbered") (count_by is_numbered (leaves_of tree.shape))
-    ++ count_line (codes "filled") (count_by (λ found. found.filled) (leaves_of tree.shape)))))
-
--- what was found of leaks, so many brushes, of which so many are flat, their tree, and so many portals
-unfoldable pub compile_summary : List ℕ → ℕ → ℕ → Tree → ℕ → List ℕ
-compile_summary verdict brushes flat tree portals =
-    line verdict
-    ++ (count_line (codes "brushes") brushes
-    ++ (count_line (codes "flat") flat ++ (tree_counts tree ++ count_line (codes "portals") portals)))
-
 -- what is said where no entity leaks
-pub data IsVerdict (tree : Tree) (origins : List Origin) : List ℕ → Type 0 where
-  sealed : IsSealed tree origins → IsVerdict tree origins (codes "sealed")
-  no_entity : NoneTakesPart tree origins → IsVerdict tree origins (codes "no entity")
+abbrev pub IsVerdict : Tree → List Origin → Bool → Type 0
+IsVerdict tree origins true = IsSealed tree origins
+IsVerdict tree origins false = NoneTakesPart tree origins
 
--- the summary of a map, its tree and the tree that is written: of the world, the brushes that are not clip count, and a
--- portal counts once for both ways through it
-pub record IsCompileSummary (map : MapFile) (tree : Tree) (origins : List Origin) (written : Tree) (summary : List ℕ) : Type 0 where
-  pub verdict : List ℕ
-  pub is_verdict : IsVerdict tree origins verdict
-  pub flat : ℕ
-  pub has_flat : HasFlat (drawn_solids map) flat
-  pub portals : ℕ
-  pub has_portals : HasPassages written portals
-  pub is_printed : summary ≡ compile_summary verdict (length (drawn_solids map)) flat written portals
+-- the summary of a map, its tree, and the tree that is written with its rows: of the world, the brushes that are not clip
+-- count, and a portal counts once for both ways through it
+pub record IsSummary (map : MapFile) (tree : Tree) (origins : List Origin) (written : Tree) (rows : List (List Bool)) (summary : Summary) : Type 0 where
+  pub verdict : IsVerdict tree origins summary.sealed
+  pub brushes : summary.brushes ≡ length (drawn_solids map)
+  pub flat : HasFlat (drawn_solids map) summary.flat
+  pub planes : summary.planes ≡ length written.planes
+  pub nodes : summary.nodes ≡ node_count written.shape
+  pub leaves : summary.leaves ≡ leaf_count written.shape
+  pub numbered : summary.numbered ≡ count_by is_numbered (leaves_of written.shape)
+  pub filled : summary.filled ≡ count_by (λ found. found.filled) (leaves_of written.shape)
+  pub portals : HasPassages written summary.portals
+  pub seen : summary.seen ≡ seen_of rows
+
+-- the lines of what a tree has
+unfoldable pub tree_lines : Summary → List ℕ
+tree_lines summary =
+    count_line (codes "planes") summary.planes
+    ++ (count_line (codes "nodes") summary.nodes
+    ++ (count_line (codes "leaves") summary.leaves
+    ++ (count_line (codes "numbered") summary.numbered ++ count_line (codes "filled") summary.filled)))
+
+-- the lines of a summary
+unfoldable pub summary_text : Summary → List ℕ
+summary_text summary =
+    line (if summary.sealed then codes "sealed" else codes "no entity")
+    ++ (count_line (codes "brushes") summary.brushes
+    ++ (count_line (codes "flat") summary.flat
+    ++ (tree_lines summary
+    ++ (count_line (codes "portals") summary.portals ++ count_line (codes "seen") summary.seen))))
 
 -- how many brushes all entities have
 abbrev pub brush_count : MapFile → ℕ

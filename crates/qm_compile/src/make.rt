@@ -5,9 +5,9 @@ ghost use Rattle.qm_grammar.specs.Valid.{IsValid};
 ghost use Rattle.qm_compile.specs.inner.Made.{ComesOfMap, ComesOfText, IsFaultAlone};
 
 use crate::command::Command;
-use crate::compile::compile;
 use crate::format::format;
 use crate::made::Made;
+use crate::putting_out::compile_to_file;
 use qm_map::{MapFault, parse};
 use qm_mapfile::MapFile;
 use std::alloc::{AllocError, Global};
@@ -40,8 +40,8 @@ fn make_of_map(alloc: Global, command: Command, map: &MapFile) -> Result<Made, A
     ensures { IfOk result (λ made. ComesOfMap command map.now made) }
 {
     match command {
-        Command::Compile => {
-            let product = compile(alloc, map)?;
+        Command::Compile(options) => {
+            let product = compile_to_file(alloc, map, options)?;
             Ok(Made::Product(product))
         }
         Command::Format => {

@@ -5,6 +5,7 @@ ghost use Rattle.qm_shelf.specs.Outside.{outside};
 ghost use Rattle.qm_shelf.specs.ShelfState.{shelf_state};
 ghost use Rattle.qm_compile.specs.declared.command.Command.{Command};
 ghost use Rattle.qm_compile.specs.Command.{IsCommand, words_of};
+ghost use Rattle.qm_compile.specs.Complete.{IsComplete};
 ghost use Rattle.qm_compile.specs.ComesOf.{ComesOf, IsCutShort};
 ghost use Rattle.qm_compile.specs.inner.Outcome.{status_of, text_of};
 ghost use Rattle.qm_compile.specs.Run.{Answers, Due};
@@ -30,7 +31,8 @@ pub fn run<R: Threads + Sync, H: Shelf, S: Sink>(
     shelf: &mut H,
     out: &mut S,
 ) -> Status
-    ensures { Answers (words_of words.now) (outside H.Shelf S.Sink shelf.old out.old) (outside H.Shelf S.Sink shelf.new out.new) result }
+    ensures answers { Answers (words_of words.now) (outside H.Shelf S.Sink shelf.old out.old) (outside H.Shelf S.Sink shelf.new out.new) result }
+    ensures complete { IsComplete (words_of words.now) (outside H.Shelf S.Sink shelf.old out.old) (outside H.Shelf S.Sink shelf.new out.new) result }
 {
     let Ok(outcome) = carry_out(alloc, words, shelf) else {
         return Status::Memory;

@@ -1,26 +1,43 @@
-use Rattle.std.specs.Prelude.{◌≡◌, ℕ, Bool, List, None}
-use Rattle.qm_partition.specs.Tree.{Tree}
+use Rattle.std.specs.Prelude.{◌≡◌, ◌/◌, ℕ, Bool, List, Some, length, count_by}
+use Rattle.qm_partition.specs.Counting.{node_count, leaf_count, leaves_of}
 use Rattle.qm_partition.specs.Marked.{marked_tree}
-use Rattle.qm_contacts.specs.Portals.{HasPassages}
-use Rattle.qm_formats.specs.TreeFile.{file_bytes}
-use Rattle.qm_compile.specs.declared.outcome.Outcome.{Outcome}
-use Rattle.qm_compile.specs.declared.status.Status.TheVariants as status
-use Rattle.qm_compile.specs.Summary.{compile_summary}
-use Rattle.qm_compile.specs.Texts.{leak_text}
-use Rattle.qm_compile.specs.inner.Outcome.{status_of, text_of}
+use Rattle.qm_partition.specs.Tree.{Tree}
+use Rattle.qm_contacts.specs.Contacts.{Contacts, AreContacts}
+use Rattle.qm_contacts.specs.NumberedLeaves.{is_numbered}
+use Rattle.qm_contacts.specs.Portals.{portals_of}
+use Rattle.qm_contacts.specs.World.{World}
+use Rattle.qm_file.specs.declared.tree_file.TreeFile.{TreeFile}
+use Rattle.qm_rows.specs.Seen.{seen_of}
+use Rattle.qm_compile.specs.declared.compiled.Compiled.{Compiled}
+use Rattle.qm_compile.specs.declared.compiled.Compiled.TheVariants.{Done, Leak}
+use Rattle.qm_compile.specs.declared.summary.Summary.{Summary}
+use Rattle.qm_compile.specs.Rows.{AreRowsOverCoarse}
 
 -- What is made of a tree, whatever the map.
 
--- the file of the tree in which the leaves of a row are filled, and its summary
-pub record IsFinished (verdict : List ℕ) (tree : Tree) (brushes flat : ℕ) (row : List Bool) (file : List ℕ) (outcome : Outcome) : Type 0 where
-  pub portals : ℕ
-  pub has_portals : HasPassages (marked_tree row tree) portals
-  pub is_file : file ≡ file_bytes (marked_tree row tree, None)
-  pub is_done : status_of outcome ≡ status.Done
-  pub is_summary : text_of outcome ≡ compile_summary verdict brushes flat (marked_tree row tree) portals
+-- what is counted of a tree, its portals and its rows
+pub record IsCount (sealed : Bool) (brushes flat : ℕ) (world : World) (rows : List (List Bool)) (summary : Summary) : Type 0 where
+  pub sealed_is : summary.sealed ≡ sealed
+  pub brushes_is : summary.brushes ≡ brushes
+  pub flat_is : summary.flat ≡ flat
+  pub planes_is : summary.planes ≡ length world.tree.planes
+  pub nodes_is : summary.nodes ≡ node_count world.tree.shape
+  pub leaves_is : summary.leaves ≡ leaf_count world.tree.shape
+  pub numbered_is : summary.numbered ≡ count_by is_numbered (leaves_of world.tree.shape)
+  pub filled_is : summary.filled ≡ count_by (λ found. found.filled) (leaves_of world.tree.shape)
+  pub portals_is : summary.portals ≡ length world.portals / 2
+  pub seen_is : summary.seen ≡ seen_of rows
 
--- the file of the tree as it is, and its leak
-pub record IsLeakProduct (tree : Tree) (entity : ℕ) (trail file : List ℕ) (outcome : Outcome) : Type 0 where
-  pub is_file : file ≡ file_bytes (tree, None)
-  pub is_leak : status_of outcome ≡ status.Leak
-  pub is_text : text_of outcome ≡ leak_text entity trail
+-- the tree in which the leaves of a row are filled, with its portals, rows and counts
+pub record IsFilledFile (sealed : Bool) (tree : Tree) (brushes flat : ℕ) (row : List Bool) (contacts : Contacts) (file : TreeFile) (world : World) (summary : Summary) : Type 0 where
+  pub is_tree : file.tree ≡ marked_tree row tree
+  pub are_contacts : AreContacts (marked_tree row tree) contacts
+  pub is_world : world ≡ record { tree = marked_tree row tree; portals = portals_of (marked_tree row tree) contacts.touchings }
+  pub rows : List (List Bool)
+  pub has_rows : file.rows ≡ Some rows
+  pub are_rows : AreRowsOverCoarse world rows
+  pub is_count : IsCount sealed brushes flat world rows summary
+
+unfoldable pub IsFinished : Bool → Tree → ℕ → ℕ → List Bool → Contacts → Compiled → Type 0
+IsFinished sealed tree brushes flat row contacts (Done file world summary) = IsFilledFile sealed tree brushes flat row contacts file world summary
+IsFinished sealed tree brushes flat row contacts (Leak file entity trail) = ⊥

@@ -5,23 +5,24 @@ use Rattle.qm_shelf.specs.Counts.{SinkFaultCounted}
 use Rattle.qm_shelf.specs.Writes.{ContinuesInto}
 use Rattle.qm_shelf.specs.declared.sink.SinkFault.{SinkFault}
 use Rattle.qm_compile.specs.inner.Outcome.{status_of, text_of}
+use Rattle.qm_compile.proofs.Completeness.{complete}
 use Rattle.qm_compile.proofs.Reported.{answers_report, answers_failure, answers_no_room, answers_run_out}
 use Rattle.qm_compile.proofs.program.run.Goals as goal
 
-pub returns-in_default : goal.returns-in_default
-returns-in_default g c =
+pub returns-in_default-clause-answers : goal.returns-in_default-clause-answers
+returns-in_default-clause-answers g c =
     let short = c.in_default.ensures.memory in
     answers_run_out _ _ _ (short.0, short.1, short.2, short.3, short.4, record { printed = λ tells. sym (append-nil _); faults = refl })
 
-pub returns-in-Ok-write : goal.returns-in-Ok-write
-returns-in-Ok-write g c =
+pub returns-in-Ok-write-clause-answers : goal.returns-in-Ok-write-clause-answers
+returns-in-Ok-write-clause-answers g c =
     let outcome = c.in-Ok.outcome in
     let wrote = c.in-Ok-write.ensures in
     let printed = λ (tells : IsTrue g.S.Sink.tells). wrote.bytes tells ∙ ap (λ (text : List ℕ). g.S.Sink.written c.args.out.now ++ text) c.text.ensures in
     answers_report _ _ _ outcome c.status.result c.status.ensures (text_of outcome, c.in-Ok.ensures.due, record { printed = printed; faults = wrote.faults_counted })
 
-pub returns-in-Err-Failed : goal.returns-in-Err-Failed
-returns-in-Err-Failed g c =
+pub returns-in-Err-Failed-clause-answers : goal.returns-in-Err-Failed-clause-answers
+returns-in-Err-Failed-clause-answers g c =
     let outcome = c.in-Ok.outcome in
     let sink = g.S.Sink in
     let wrote = c.in-Err-Failed.ensures in
@@ -29,11 +30,23 @@ returns-in-Err-Failed g c =
     let part = λ (tells : IsTrue sink.tells). subst (λ (text : List ℕ). ContinuesInto (sink.written c.args.out.now) text (sink.written c.write.new.self)) c.text.ensures (wrote.bytes tells) in
     answers_failure _ _ _ (rose, (status_of outcome, text_of outcome, c.in-Ok.ensures.due, part))
 
-pub returns : goal.returns
-returns g c =
+pub returns-clause-answers : goal.returns-clause-answers
+returns-clause-answers g c =
     let outcome = c.in-Ok.outcome in
     let sink = g.S.Sink in
     let wrote = c.in-Err-Memory.ensures in
     let same = subst (λ (fault : SinkFault). SinkFaultCounted fault (sink.faults c.args.out.now) (sink.faults c.write.new.self)) c.in-Err-Memory.field-0-is wrote.faults_counted in
     let part = λ (tells : IsTrue sink.tells). subst (λ (text : List ℕ). ContinuesInto (sink.written c.args.out.now) text (sink.written c.write.new.self)) c.text.ensures (wrote.bytes tells) in
     answers_no_room _ _ _ (same, (status_of outcome, text_of outcome, c.in-Ok.ensures.due, part))
+
+pub returns-in_default-clause-complete : goal.returns-in_default-clause-complete
+returns-in_default-clause-complete g c = complete _ _ _ _ (returns-in_default-clause-answers g c)
+
+pub returns-in-Ok-write-clause-complete : goal.returns-in-Ok-write-clause-complete
+returns-in-Ok-write-clause-complete g c = complete _ _ _ _ (returns-in-Ok-write-clause-answers g c)
+
+pub returns-in-Err-Failed-clause-complete : goal.returns-in-Err-Failed-clause-complete
+returns-in-Err-Failed-clause-complete g c = complete _ _ _ _ (returns-in-Err-Failed-clause-answers g c)
+
+pub returns-clause-complete : goal.returns-clause-complete
+returns-clause-complete g c = complete _ _ _ _ (returns-clause-answers g c)

@@ -1,0 +1,26 @@
+//! How the program ends over forms that never fail.
+
+ghost use Rattle.std.specs.Prelude.{ℕ, List};
+ghost use Rattle.qm_compile.specs.declared.command.Command.{Command};
+ghost use Rattle.qm_compile.specs.Command.{IsCommand, words_of};
+ghost use Rattle.qm_compile.specs.Complete.{CanEnd};
+
+use crate::program::run;
+use crate::status::Status;
+use qm_shelf::{SureShelf, SureSink};
+use std::alloc::Global;
+use std::thread::Threads;
+
+/// Runs the program over forms that never fail: a `compile` command is done, finds a leak or a fault of the text, or runs
+/// out of memory; and a `format` command does so without a leak.
+pub fn run_surely<R: Threads + Sync>(
+    rt: &R,
+    alloc: Global,
+    words: &[&str],
+    shelf: &mut SureShelf,
+    out: &mut SureSink,
+) -> Status
+    ensures { (command : Command) (map_name out_name : List ℕ) → IsCommand (words_of words.now) command map_name out_name → CanEnd result command }
+{
+    run(rt, alloc, words, shelf, out)
+}
