@@ -158,6 +158,7 @@ says_what_a_tree_does_not_have() {
 }
 
 says_what_is_no_listing() {
+    local wrong
     look plan rooms.tree --prt room.map
     refused "room.map is no listing of portals: line 1 is not PRT1" || return 1
     sed '2s/5/x/' "$folder/rooms.prt" >"$folder/no.prt"
@@ -166,9 +167,12 @@ says_what_is_no_listing() {
     sed '$d' "$folder/rooms.prt" >"$folder/no.prt"
     look plan rooms.tree --prt no.prt
     refused "no.prt is no listing of portals: there are not 4 portals, a line each" || return 1
-    sed '5s/64/6 4/' "$folder/rooms.prt" >"$folder/no.prt"
-    look plan rooms.tree --prt no.prt
-    refused "no.prt is no listing of portals: line 5 is not a portal" || return 1
+    # a number in two, a corner too many for its count, a portal from a leaf to itself, and one to a leaf that is not there
+    for wrong in '5s/64/6 4/' '5s/^4/3/' '5s/1 2/1 1/' '5s/1 2/1 5/'; do
+        sed "$wrong" "$folder/rooms.prt" >"$folder/no.prt"
+        look plan rooms.tree --prt no.prt
+        refused "no.prt is no listing of portals: line 5 is not a portal" || return 1
+    done
     look plan cube.tree --prt rooms.prt
     refused "rooms.prt is a listing of another tree: it has 5 leaves, and the tree 6" || return 1
     look plan rooms.tree --prt missing.prt
