@@ -43,6 +43,19 @@ draws_what_the_pages_show() {
     looked && cmp "$folder/printed" docs/courtyard_leak.svg
 }
 
+# what a brush holds is told by its fill: as many pieces of lava as there are of water in the same place
+draws_each_kind_of_contents() {
+    local kind
+    for kind in water slime lava; do
+        sed "s/[*]water1/*${kind}1/" "$folder/courtyard.map" >"$folder/$kind.map"
+        run_program compile $kind.map $kind.tree
+        look plan $kind.tree --z 32
+        looked && [[ $(grep -c "fill=\"url(#$kind)\"" "$folder/printed") == 5 && $(grep -c "<pattern id=\"$kind\"" "$folder/printed") == 1 ]] || return 1
+    done
+    look plan water.tree --z 40
+    looked && ! grep -q 'url(#water)' "$folder/printed"
+}
+
 draws_slices_that_agree_with_the_tree() {
     (cd "$folder" && python3 "$top/.ci/check_plans.py" cube.tree hole.tree rooms.tree courtyard.tree courtyard_leak.tree)
 }
@@ -87,7 +100,14 @@ makes_point_files() {
         looked && python3 .ci/check_points.py "$folder/$name.tree" "$folder/printed" "$(<"$folder/$name.trail")" || return 1
     done
     look points hole.tree --leak "8 6 0"
-    printf '0 0 48\n64 0.5 48\n72 0.5 48\n80 0.5 48\n2088 0 0\n4096 0 0\n' | cmp - "$folder/printed"
+    printf '0 0 48\n64 0.5 48\n72 0.5 48\n80 0.5 48\n2088 0 0\n4096 0 0\n' | cmp - "$folder/printed" || return 1
+    # a world that is one leaf
+    echo '{ } { "origin" "0 0 0" }' >"$folder/open.map"
+    run_program compile open.map open.tree
+    look plan open.tree --leak 0
+    looked || return 1
+    look points open.tree --leak 0
+    printf '0 0 0\n-4096 0 0\n' | cmp - "$folder/printed"
 }
 
 # of what is printed the bytes of the file can be made again
@@ -186,6 +206,7 @@ agrees_with_the_page_on_tree_files() {
 cp samples/*.map "$folder/"
 check "the samples compile, and leak where they should" compiles_the_samples
 check "tools: the pictures of the pages are those of the samples" draws_what_the_pages_show
+check "tools: each kind of contents has a fill of its own" draws_each_kind_of_contents
 check "tools: slices agree with their trees, and no texts overlap" draws_slices_that_agree_with_the_tree
 check "tools: a row and the portals of a listing are drawn" draws_rows_and_portals
 check "tools: point files go through the leaves of their trails alone" makes_point_files
