@@ -50,7 +50,8 @@ draws_each_kind_of_contents() {
         sed "s/[*]water1/*${kind}1/" "$folder/courtyard.map" >"$folder/$kind.map"
         run_program compile $kind.map $kind.tree
         look plan $kind.tree --z 32
-        looked && [[ $(grep -c "fill=\"url(#$kind)\"" "$folder/printed") == 5 && $(grep -c "<pattern id=\"$kind\"" "$folder/printed") == 1 ]] || return 1
+        looked && [[ $(grep -c "fill=\"url(#$kind)\"" "$folder/printed") == 5 ]] || return 1
+        [[ $(grep -c "<pattern id=\"$kind\"" "$folder/printed") == 1 ]] || return 1
     done
     look plan water.tree --z 40
     looked && ! grep -q 'url(#water)' "$folder/printed"
@@ -85,10 +86,13 @@ draws_rows_and_portals() {
     look plan seen.tree --row 4 --prt rooms.prt --z 24.5
     looked && python3 -c 'import sys, xml.dom.minidom as dom; dom.parse(sys.argv[1])' "$folder/printed" || return 1
     # three leaves and the line of the legend
-    [[ $(grep -c 'fill="url(#held)"' "$folder/printed") == 4 && $(grep -c 'class="portal" x1' "$folder/printed") == 4 ]] || return 1
-    # the row's own leaf lies at the height that is taken without --z; above the ways there is no portal
+    [[ $(grep -c 'fill="url(#held)"' "$folder/printed") == 4 ]] || return 1
+    [[ $(grep -c 'class="portal" x1' "$folder/printed") == 4 ]] || return 1
+    # above the doorways no portal is crossed
     look plan seen.tree --row 0 --prt rooms.prt --z 80
-    looked && [[ $(grep -c 'fill="url(#held)"' "$folder/printed") == 3 && $(grep -c 'class="portal" x1' "$folder/printed") == 0 ]] || return 1
+    looked && [[ $(grep -c 'fill="url(#held)"' "$folder/printed") == 3 ]] || return 1
+    [[ $(grep -c 'class="portal" x1' "$folder/printed") == 0 ]] || return 1
+    # without --z the row's own leaf is met
     look plan seen.tree --row 3
     looked && grep -q 'z = 32' "$folder/printed" && [[ $(grep -c 'class="own"' "$folder/printed") == 2 ]]
 }
@@ -129,7 +133,8 @@ END
 says_how_the_tools_are_used() {
     local words
     for words in '' 'plan' 'points hole.tree' 'json' 'draw hole.tree' 'plan hole.tree --z 5000' 'plan hole.tree --z 1/0' \
-        'plan hole.tree --row -1' 'plan hole.tree --row=x' 'points hole.tree --leak=8,6' 'points hole.tree --leak=' 'plan hole.tree --lea=8' 'json hole.tree more'; do
+        'plan hole.tree --row -1' 'plan hole.tree --row=x' 'points hole.tree --leak=8,6' 'points hole.tree --leak=' \
+        'plan hole.tree --lea=8' 'json hole.tree more'; do
         # shellcheck disable=SC2086  # the words of a command
         look $words
         [[ $status == 2 && ! -s $folder/printed ]] && grep -q '^usage: qmlook' "$folder/said" || return 1
