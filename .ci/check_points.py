@@ -32,8 +32,8 @@ def met(tree, first, second):
             waiting.append((node.back, low, high))
         else:
             cut = here / (here - there)
-            parts = [(node.front, cut, high), (node.back, low, cut)] if begin < 0 else [(node.back, cut, high), (node.front, low, cut)]
-            waiting += parts
+            before, behind = (node.back, node.front) if begin < 0 else (node.front, node.back)
+            waiting += [(behind, cut, high), (before, low, cut)]
     return found
 
 

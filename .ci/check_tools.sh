@@ -43,6 +43,20 @@ draws_what_the_pages_show() {
     looked && cmp "$folder/printed" docs/courtyard_leak.svg
 }
 
+# what a brush holds is told by its fill: as many pieces of lava as there are of water in the same place
+draws_each_kind_of_contents() {
+    local kind
+    for kind in water slime lava; do
+        sed "s/[*]water1/*${kind}1/" "$folder/courtyard.map" >"$folder/$kind.map"
+        run_program compile $kind.map $kind.tree
+        look plan $kind.tree --z 32
+        looked && [[ $(grep -c "fill=\"url(#$kind)\"" "$folder/printed") == 5 ]] || return 1
+        [[ $(grep -c "<pattern id=\"$kind\"" "$folder/printed") == 1 ]] || return 1
+    done
+    look plan water.tree --z 40
+    looked && ! grep -q 'url(#water)' "$folder/printed"
+}
+
 draws_slices_that_agree_with_the_tree() {
     (cd "$folder" && python3 "$top/.ci/check_plans.py" cube.tree hole.tree rooms.tree courtyard.tree courtyard_leak.tree)
 }
@@ -72,10 +86,13 @@ draws_rows_and_portals() {
     look plan seen.tree --row 4 --prt rooms.prt --z 24.5
     looked && python3 -c 'import sys, xml.dom.minidom as dom; dom.parse(sys.argv[1])' "$folder/printed" || return 1
     # three leaves and the line of the legend
-    [[ $(grep -c 'fill="url(#held)"' "$folder/printed") == 4 && $(grep -c 'class="portal" x1' "$folder/printed") == 4 ]] || return 1
-    # the row's own leaf lies at the height that is taken without --z; above the ways there is no portal
+    [[ $(grep -c 'fill="url(#held)"' "$folder/printed") == 4 ]] || return 1
+    [[ $(grep -c 'class="portal" x1' "$folder/printed") == 4 ]] || return 1
+    # above the doorways no portal is crossed
     look plan seen.tree --row 0 --prt rooms.prt --z 80
-    looked && [[ $(grep -c 'fill="url(#held)"' "$folder/printed") == 3 && $(grep -c 'class="portal" x1' "$folder/printed") == 0 ]] || return 1
+    looked && [[ $(grep -c 'fill="url(#held)"' "$folder/printed") == 3 ]] || return 1
+    [[ $(grep -c 'class="portal" x1' "$folder/printed") == 0 ]] || return 1
+    # without --z the row's own leaf is met
     look plan seen.tree --row 3
     looked && grep -q 'z = 32' "$folder/printed" && [[ $(grep -c 'class="own"' "$folder/printed") == 2 ]]
 }
@@ -87,7 +104,14 @@ makes_point_files() {
         looked && python3 .ci/check_points.py "$folder/$name.tree" "$folder/printed" "$(<"$folder/$name.trail")" || return 1
     done
     look points hole.tree --leak "8 6 0"
-    printf '0 0 48\n64 0.5 48\n72 0.5 48\n80 0.5 48\n2088 0 0\n4096 0 0\n' | cmp - "$folder/printed"
+    printf '0 0 48\n64 0.5 48\n72 0.5 48\n80 0.5 48\n2088 0 0\n4096 0 0\n' | cmp - "$folder/printed" || return 1
+    # a world that is one leaf
+    echo '{ } { "origin" "0 0 0" }' >"$folder/open.map"
+    run_program compile open.map open.tree
+    look plan open.tree --leak 0
+    looked || return 1
+    look points open.tree --leak 0
+    printf '0 0 0\n-4096 0 0\n' | cmp - "$folder/printed"
 }
 
 # of what is printed the bytes of the file can be made again
@@ -109,7 +133,8 @@ END
 says_how_the_tools_are_used() {
     local words
     for words in '' 'plan' 'points hole.tree' 'json' 'draw hole.tree' 'plan hole.tree --z 5000' 'plan hole.tree --z 1/0' \
-        'plan hole.tree --row -1' 'plan hole.tree --row=x' 'points hole.tree --leak=8,6' 'points hole.tree --leak=' 'plan hole.tree --lea=8' 'json hole.tree more'; do
+        'plan hole.tree --row -1' 'plan hole.tree --row=x' 'points hole.tree --leak=8,6' 'points hole.tree --leak=' \
+        'plan hole.tree --lea=8' 'json hole.tree more'; do
         # shellcheck disable=SC2086  # the words of a command
         look $words
         [[ $status == 2 && ! -s $folder/printed ]] && grep -q '^usage: qmlook' "$folder/said" || return 1
@@ -158,6 +183,7 @@ says_what_a_tree_does_not_have() {
 }
 
 says_what_is_no_listing() {
+    local wrong
     look plan rooms.tree --prt room.map
     refused "room.map is no listing of portals: line 1 is not PRT1" || return 1
     sed '2s/5/x/' "$folder/rooms.prt" >"$folder/no.prt"
@@ -166,9 +192,12 @@ says_what_is_no_listing() {
     sed '$d' "$folder/rooms.prt" >"$folder/no.prt"
     look plan rooms.tree --prt no.prt
     refused "no.prt is no listing of portals: there are not 4 portals, a line each" || return 1
-    sed '5s/64/6 4/' "$folder/rooms.prt" >"$folder/no.prt"
-    look plan rooms.tree --prt no.prt
-    refused "no.prt is no listing of portals: line 5 is not a portal" || return 1
+    # a number in two, a corner too many for its count, a portal from a leaf to itself, and one to a leaf that is not there
+    for wrong in '5s/64/6 4/' '5s/^4/3/' '5s/1 2/1 1/' '5s/1 2/1 5/'; do
+        sed "$wrong" "$folder/rooms.prt" >"$folder/no.prt"
+        look plan rooms.tree --prt no.prt
+        refused "no.prt is no listing of portals: line 5 is not a portal" || return 1
+    done
     look plan cube.tree --prt rooms.prt
     refused "rooms.prt is a listing of another tree: it has 5 leaves, and the tree 6" || return 1
     look plan rooms.tree --prt missing.prt
@@ -182,6 +211,7 @@ agrees_with_the_page_on_tree_files() {
 cp samples/*.map "$folder/"
 check "the samples compile, and leak where they should" compiles_the_samples
 check "tools: the pictures of the pages are those of the samples" draws_what_the_pages_show
+check "tools: each kind of contents has a fill of its own" draws_each_kind_of_contents
 check "tools: slices agree with their trees, and no texts overlap" draws_slices_that_agree_with_the_tree
 check "tools: a row and the portals of a listing are drawn" draws_rows_and_portals
 check "tools: point files go through the leaves of their trails alone" makes_point_files

@@ -25,7 +25,7 @@ def in_runs(row):
 
 
 def tree_file(planes, nodes, leaves, rows):
-    """The bytes of a file: each leaf is the code of its contents and whether it is filled, each row the set of what it holds."""
+    """The bytes of a file: a leaf is the code of its contents and whether it is filled, a row the set of what it holds."""
     numbered = sum(code != SOLID for code, _ in leaves)
     out = b"QMTREE01" + struct.pack("<4QB", len(planes), len(nodes), len(leaves), numbered, rows is not None)
     out += b"".join(struct.pack("<3iq", *plane) for plane in planes)

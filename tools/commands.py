@@ -28,7 +28,7 @@ def words_of(parser, words):
     plan_words.add_argument("--row", metavar="N", type=number, help="shows the leaves that row N holds")
     plan_words.add_argument("--prt", metavar="FILE", help="shows the portals of a listing")
     points_words = command(commands, "points", "the line of a leak, as a point file for editors")
-    points_words.add_argument("--leak", metavar="TRAIL", type=trail, required=True, help='the numbers behind `trail: `, as "8 6 0"')
+    points_words.add_argument("--leak", metavar="TRAIL", type=trail, required=True, help="the same")
     command(commands, "json", "planes, nodes, leaves and rows, for other programs")
     return parser.parse_args(words)
 

@@ -141,14 +141,24 @@ def drawn(picture, name):
     """The whole picture, as the text of an SVG file."""
     view = picture.view
     legend, high = drawn_legend(picture, RIM + LINE + view.high)
-    wide, high = max(view.wide, LEAST) + 2 * RIM, view.high + LINE + high + 2 * RIM
+    title = titled(picture, name)
+    wide, high = max(view.wide, LEAST, 8 * len(title)) + 2 * RIM, view.high + LINE + high + 2 * RIM
     frame = f'x="{RIM}" y="{RIM + LINE}" width="{view.wide:.1f}" height="{view.high:.1f}"'
-    title = f"{escape(name)}, slice at z = {decimal(picture.height, 6)}, x {span(view.west, view.east)}, y {span(view.south, view.north)}"
-    return (f'<svg xmlns="http://www.w3.org/2000/svg" viewBox="0 0 {wide:.1f} {high:.1f}" width="{wide:.0f}" height="{high:.0f}">\n'
-            + STYLE + patterns.definitions(picture.kinds) + f'<clipPath id="frame"><rect {frame}/></clipPath>\n'
-            + f'<rect width="100%" height="100%" fill="#ffffff"/>\n<text x="{RIM}" y="{RIM + 12}" font-size="14">{title}</text>\n'
-            + '<g clip-path="url(#frame)">\n' + "".join(drawn_pieces(picture)) + "".join(picture.overlay)
-            + "".join(drawn_labels(picture)) + f'</g>\n<rect {frame} fill="none" stroke="#111111"/>\n' + legend + "</svg>\n")
+    size = f'viewBox="0 0 {wide:.1f} {high:.1f}" width="{wide:.0f}" height="{high:.0f}"'
+    return "".join((
+        f'<svg xmlns="http://www.w3.org/2000/svg" {size}>\n', STYLE, patterns.definitions(picture.kinds),
+        f'<clipPath id="frame"><rect {frame}/></clipPath>\n<rect width="100%" height="100%" fill="#ffffff"/>\n',
+        f'<text x="{RIM}" y="{RIM + 12}" font-size="14">{escape(title)}</text>\n',
+        '<g clip-path="url(#frame)">\n', *drawn_pieces(picture), *picture.overlay, *drawn_labels(picture),
+        f'</g>\n<rect {frame} fill="none" stroke="#111111"/>\n', legend, "</svg>\n"))
+
+
+def titled(picture, name):
+    """What stands above the picture, in ASCII."""
+    plain = "".join(letter if " " <= letter <= "~" else "?" for letter in name)
+    view = picture.view
+    return (f"{plain}, slice at z = {decimal(picture.height, 6)}, "
+            f"x {span(view.west, view.east)}, y {span(view.south, view.north)}")
 
 
 def span(low, high):
