@@ -17,7 +17,8 @@ ended() { # ended STATUS TEXT
 prints_the_usage_line() {
     local words
     for words in '' 'compil room.map none' 'compile room.map' 'format room.map none more' 'format none none' \
-        'format -room.map none' 'format room.map -none' '--help'; do
+        'format -room.map none' 'format room.map -none' 'format --fast room.map none' \
+        'compile room.map none --fast --fast' '--help'; do
         # shellcheck disable=SC2086  # the words of a command
         run_program $words
         [[ $status == 2 && ! -s $folder/said && ! -e $folder/none ]] || return 1
@@ -101,7 +102,7 @@ has_bytes() { # has_bytes NAME BYTES
 
 compiles_a_room() {
     run_program compile room.map room.tree
-    ended 0 'sealed\nbrushes 6\nflat 0\nplanes 12\nnodes 12\nleaves 13\nnumbered 1\nfilled 6\nportals 0\n' && has_bytes room.tree 586 || return 1
+    ended 0 'sealed\nbrushes 6\nflat 0\nplanes 12\nnodes 12\nleaves 13\nnumbered 1\nfilled 6\nportals 0\nseen 1\n' && has_bytes room.tree 587 || return 1
     # a world of two brushes, one within the other
     {
         echo '{'
@@ -112,15 +113,23 @@ compiles_a_room() {
     run_program format two.map two.out
     [[ $status == 0 && $(<"$folder/printed") == $'entities 1\nbrushes 2' ]] || return 1
     run_program compile two.map two.tree
-    ended 0 'no entity\nbrushes 2\nflat 0\nplanes 9\nnodes 6\nleaves 7\nnumbered 6\nfilled 0\nportals 12\n' && has_bytes two.tree 376 || return 1
+    ended 0 'no entity\nbrushes 2\nflat 0\nplanes 9\nnodes 6\nleaves 7\nnumbered 6\nfilled 0\nportals 12\nseen 34\n' && has_bytes two.tree 382 || return 1
     # a world without brushes
     echo '{ }' >"$folder/bare.map"
     run_program compile bare.map bare.tree
-    ended 0 'no entity\nbrushes 0\nflat 0\nplanes 0\nnodes 0\nleaves 1\nnumbered 1\nfilled 0\nportals 0\n' && has_bytes bare.tree 46 || return 1
+    ended 0 'no entity\nbrushes 0\nflat 0\nplanes 0\nnodes 0\nleaves 1\nnumbered 1\nfilled 0\nportals 0\nseen 1\n' && has_bytes bare.tree 47 || return 1
+    # the option, in each place after the first word
+    local words
+    for words in '--fast bare.map fast.tree' 'bare.map --fast fast.tree' 'bare.map fast.tree --fast'; do
+        rm -f "$folder/fast.tree"
+        # shellcheck disable=SC2086  # the words of a command
+        run_program compile $words
+        [[ $status == 0 ]] && cmp "$folder/bare.tree" "$folder/fast.tree" || return 1
+    done
     # an entity in the open
     echo '{ } { "origin" "0 0 0" }' >"$folder/open.map"
     run_program compile open.map open.tree
-    ended 3 'leak: entity 1\ntrail: 0\n' && cmp "$folder/bare.tree" "$folder/open.tree"
+    ended 3 'leak: entity 1\ntrail: 0\n' && has_bytes open.tree 46 && cmp -n 40 "$folder/bare.tree" "$folder/open.tree"
 }
 
 formats_a_room_once_and_again() {

@@ -9,3 +9,4 @@ pub mod Outcomes
 pub mod ReadMeanings
 pub mod Reported
 pub mod Origins
+pub mod WrittenRows
