@@ -1,0 +1,13 @@
+//! Portal listings as text, printed and read: the listing of a world, and the listing of a text or the first fault with its
+//! place.
+#![tactic(auto)]
+
+mod numbers;
+mod places;
+mod portals;
+mod prt_fault;
+mod reading;
+
+pub use prt_fault::PrtFault;
+pub use qm_listing::{Coordinate, Listing, PrtPortal};
+pub use reading::read;
