@@ -3,3 +3,6 @@ pub mod LastDigits
 pub mod ExactNumbers
 pub mod ExactListings
 pub mod WholeListings
+pub mod FirstCorners
+pub mod RoundedCoordinates
+pub mod CornersBack
