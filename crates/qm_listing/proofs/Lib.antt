@@ -6,3 +6,4 @@ pub mod WholeListings
 pub mod FirstCorners
 pub mod RoundedCoordinates
 pub mod CornersBack
+pub mod PortalLines

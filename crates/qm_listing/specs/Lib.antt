@@ -2,3 +2,4 @@ pub mod Words
 pub mod Numbers
 pub mod Grammar
 pub mod WorldListing
+pub mod inner

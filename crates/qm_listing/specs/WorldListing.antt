@@ -53,8 +53,12 @@ pub record IsLineOf (portal : Portal) (line : PrtPortal) : Type 0 where
   pub leaf0 : line.leaf0 ≡ portal.from
   pub leaf1 : line.leaf1 ≡ portal.to
 
--- the numbered leaves are counted, and of the two portals of each passage the first, from front to back, has a line
+-- of portals, two for each passage, the lines: each is that of the first portal of a passage, from front to back
+pub record AreLinesOf (portals : List Portal) (lines : List PrtPortal) : Type 0 where
+  pub each : (j : ℕ) (line : PrtPortal) → slice_get lines j ≡ Some line → (portal : Portal) × (slice_get portals (2 * j) ≡ Some portal) × IsLineOf portal line
+
+-- the numbered leaves are counted, and each passage has its line, in the order of the portals
 pub record IsListingOf (world : World) (listing : Listing) : Type 0 where
   pub leaves : listing.leaves ≡ length (numbered_leaves world.tree)
   pub count : length listing.portals ≡ length world.portals / 2
-  pub lines : (j : ℕ) (line : PrtPortal) → slice_get listing.portals j ≡ Some line → (portal : Portal) × (slice_get world.portals (2 * j) ≡ Some portal) × IsLineOf portal line
+  pub lines : AreLinesOf world.portals listing.portals

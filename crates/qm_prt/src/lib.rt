@@ -2,12 +2,16 @@
 //! place.
 #![tactic(auto)]
 
+mod coordinates;
+mod lines;
 mod numbers;
 mod places;
 mod portals;
+mod printing;
 mod prt_fault;
 mod reading;
 
+pub use printing::print;
 pub use prt_fault::PrtFault;
 pub use qm_listing::{Coordinate, Listing, PrtPortal};
 pub use reading::read;

@@ -5,7 +5,7 @@ ghost use Rattle.std.specs.List.{list_all, prefix_len};
 ghost use Rattle.std.specs.Char.{is_ascii_digit};
 ghost use Rattle.std.specs.Str.Parse.{digits_value, AllDigits};
 ghost use Rattle.qm_listing.specs.Words.{is_number_byte, number_word};
-ghost use Rattle.qm_listing.specs.Numbers.{is_count_word, count_of, signed_coordinate, coordinate_of_parts, unsigned_coordinate, coordinate_of};
+ghost use Rattle.qm_listing.specs.Numbers.{is_count_word, count_of, with_sign, signed_coordinate, coordinate_of_parts, unsigned_coordinate, coordinate_of};
 
 use qm_listing::Coordinate;
 
@@ -42,7 +42,9 @@ fn number_length(text: &[u8]) -> usize
     ensures value { result ≡ prefix_len is_number_byte text.now }
     ensures within { result ≤ length text.now }
 {
-    text.iter().take_while(|byte| is_number_byte(**byte)).count()
+    text.iter()
+        .take_while(|byte| is_number_byte(**byte))
+        .count()
 }
 
 fn digits_length(text: &[u8]) -> usize
@@ -128,7 +130,11 @@ fn coordinate_of_parts(is_negative: bool, whole: u64, tail: &[u8]) -> Option<Coo
             if decimals.len() != DECIMALS || !all_digits(decimals) {
                 return None;
             }
-            signed_coordinate(is_negative, false, whole + u128::from(digits_value(decimals)))
+            signed_coordinate(
+                is_negative,
+                false,
+                whole + u128::from(digits_value(decimals)),
+            )
         }
         _ => None,
     }
@@ -141,9 +147,17 @@ fn signed_coordinate(is_negative: bool, whole: bool, millionths: u128) -> Option
     if millionths > MOST_MILLIONTHS || (is_negative && millionths == 0) {
         return None;
     }
-    let magnitude = millionths as i64;
     Some(Coordinate {
-        millionths: if is_negative { -magnitude } else { magnitude },
+        millionths: with_sign(is_negative, millionths as u64),
         whole,
     })
+}
+
+/// A number with its sign.
+pub(crate) fn with_sign(is_negative: bool, magnitude: u64) -> i64
+    requires { magnitude < 2 ^ 63 }
+    ensures { result ≡ with_sign is_negative magnitude }
+{
+    let magnitude = magnitude as i64;
+    if is_negative { -magnitude } else { magnitude }
 }

@@ -7,8 +7,8 @@ ghost use Rattle.qm_prt.specs.Answers.{IsFault, Gives};
 
 use crate::places::{byte_at, coordinate_at, count_at};
 use crate::prt_fault::PrtFault;
-use qm_lists::Items;
 use qm_listing::{Coordinate, PrtPortal};
+use qm_lists::Items;
 use std::alloc::Global;
 
 /// The fewest corners of a portal.
