@@ -9,5 +9,5 @@ mod reader;
 mod whole;
 
 pub use fraction::{Fraction, NumberFault};
-pub use print::print6;
+pub use print::{nearest_millionths, print6};
 pub use reader::read;

@@ -31,7 +31,7 @@ fn whole(is_negative: bool, magnitude: u128) -> Backward
 }
 
 /// `over / under` in millionths, to the nearest, and a half rounded up.
-fn nearest_millionths(over: u128, under: u128) -> u128
+pub fn nearest_millionths(over: u128, under: u128) -> u128
     requires above_zero { 0 < under }
     requires small { under < 2 ^ 127 }
     requires bounded { over ≤ 2 ^ 100 }

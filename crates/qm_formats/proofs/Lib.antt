@@ -14,3 +14,4 @@ pub mod RightParts
 pub mod ChildNumbers
 pub mod ValidFiles
 pub mod WholeFile
+pub mod ManyBytes

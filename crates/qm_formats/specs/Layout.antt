@@ -107,7 +107,12 @@ module _ {F X : Type 0} (layout : Layout F X) where
   abbrev pub present : Bool → Layout F (Option X)
   present is_there = record { bytes_of = bytes_of_option; right = right_option is_there; read = read_option is_there }
 
+-- a value with nothing behind it
+abbrev pub read_to_end : {F X : Type 0} → Layout F X → F → List ℕ → Answer F X
+read_to_end layout trailing file =
+    answer_then (layout.read file 0) (λ x next. if nat_lt next (length file) then bad trailing next else got x next)
+
 -- a whole file, of so many bytes at most: its length is looked at first, and nothing stands behind the value
 abbrev pub read_whole : {F X : Type 0} → Layout F X → ℕ → F → F → List ℕ → Answer F X
 read_whole layout limit too_long trailing file =
-    if nat_lt limit (length file) then bad too_long limit else answer_then (layout.read file 0) (λ x next. if nat_lt next (length file) then bad trailing next else got x next)
+    if nat_lt limit (length file) then bad too_long limit else read_to_end layout trailing file

@@ -1,0 +1,9 @@
+pub mod ExactWords
+pub mod LastDigits
+pub mod ExactNumbers
+pub mod ExactListings
+pub mod WholeListings
+pub mod FirstCorners
+pub mod RoundedCoordinates
+pub mod CornersBack
+pub mod PortalLines

@@ -1,0 +1,77 @@
+use Rattle.std.specs.Prelude.{ℕ, Bool, true, not, ◌&&◌, ◌==◌, nat_lt, nat_le, List, [], ◌∷◌, ◌++◌, length, codes}
+use Rattle.qm_listing.specs.declared.listing.Coordinate.{Coordinate}
+use Rattle.qm_listing.specs.declared.listing.PrtPortal.{PrtPortal}
+use Rattle.qm_listing.specs.declared.listing.Listing.{Listing}
+use Rattle.qm_formats.specs.Layout.{Answer, Layout, recast, tested, both, pair, many, read_to_end}
+use Rattle.qm_listing.specs.Words.{Spelling, word, literal, before, behind}
+use Rattle.qm_listing.specs.Numbers.{counts, coordinates}
+
+-- The text of a listing: a line `PRT1`, a line with the count of leaves, one with that of portals, and a line for each
+-- portal: how many corners it has, its leaves, and each corner as `(x y z )`, with a space behind each.
+
+-- What is wrong in a listing.
+pub data ListingFaultKind : Type 0 where
+  header : ListingFaultKind
+  number : ListingFaultKind
+  shape : ListingFaultKind
+  trailing : ListingFaultKind
+
+-- one byte that is due
+abbrev pub due : ℕ → Layout ListingFaultKind (Unit {0})
+due byte = literal shape (byte ∷ [])
+
+-- a number that passes a test, and a byte behind it
+abbrev pub number_before : {X : Type 0} → Spelling X → (X → Bool) → ℕ → Layout ListingFaultKind X
+number_before spelling test byte = before (tested test shape (λ _ at. at) (word number spelling)) (due byte)
+
+-- the first line: `PRT1`
+unfoldable pub header_layout : Layout ListingFaultKind (Unit {0})
+header_layout = literal header (codes "PRT1" ++ 10 ∷ [])
+
+-- a count on a line of its own
+unfoldable pub count_line : Layout ListingFaultKind ℕ
+count_line = number_before counts (λ _. true) 10
+
+-- how many corners a portal has: at least three
+unfoldable pub points_layout : Layout ListingFaultKind ℕ
+points_layout = number_before counts (nat_le 3) 32
+
+-- the number of a leaf
+unfoldable pub leaf0_layout : ℕ → Layout ListingFaultKind ℕ
+leaf0_layout leaves = number_before counts (λ leaf. nat_lt leaf leaves) 32
+
+-- the number of another leaf
+unfoldable pub leaf1_layout : ℕ → ℕ → Layout ListingFaultKind ℕ
+leaf1_layout leaves leaf0 = number_before counts (λ leaf. nat_lt leaf leaves && not (leaf == leaf0)) 32
+
+-- a coordinate, and a space behind it
+unfoldable pub coordinate_layout : Layout ListingFaultKind Coordinate
+coordinate_layout = number_before coordinates (λ _. true) 32
+
+-- three coordinates between brackets, and a space behind them
+unfoldable pub corner_layout : Layout ListingFaultKind (List Coordinate)
+corner_layout = behind (due 40) (before (before (many coordinate_layout 3) (due 41)) (due 32))
+
+-- the line of a portal between two of so many leaves
+unfoldable pub portal_layout : ℕ → Layout ListingFaultKind PrtPortal
+portal_layout leaves =
+    recast (λ v. record { leaf0 = v.1.0; leaf1 = v.1.1.0; corners = v.1.1.1 }) (λ found. (length found.corners, (found.leaf0, (found.leaf1, found.corners))))
+    (both points_layout (λ points. both (leaf0_layout leaves) (λ leaf0. both (leaf1_layout leaves leaf0) (λ leaf1. before (many corner_layout points) (due 10)))))
+
+-- the whole text
+unfoldable pub listing_layout : Layout ListingFaultKind Listing
+listing_layout =
+    recast (λ v. record { leaves = v.1.0; portals = v.1.1.1 }) (λ found. (tt, (found.leaves, (length found.portals, found.portals))))
+    (pair header_layout (both count_line (λ leaves. both count_line (λ portals. many (portal_layout leaves) portals))))
+
+-- the text of a listing
+unfoldable pub listing_text : Listing → List ℕ
+listing_text = listing_layout.bytes_of
+
+-- whether a listing has a text
+unfoldable pub can_stand : Listing → Bool
+can_stand = listing_layout.right
+
+-- what is read of a text: a listing with nothing behind it, or the first fault in the order of the text, with its place
+unfoldable pub read_listing : List ℕ → Answer ListingFaultKind Listing
+read_listing = read_to_end listing_layout trailing

@@ -1,0 +1,2 @@
+pub mod GoneRound
+pub mod PutLines

@@ -1,0 +1,4 @@
+pub mod Faults
+pub mod ReadLists
+pub mod Answered
+pub mod DigitSteps

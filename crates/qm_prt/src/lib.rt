@@ -1,0 +1,17 @@
+//! Portal listings as text, printed and read: the listing of a world, and the listing of a text or the first fault with its
+//! place.
+#![tactic(auto)]
+
+mod coordinates;
+mod lines;
+mod numbers;
+mod places;
+mod portals;
+mod printing;
+mod prt_fault;
+mod reading;
+
+pub use printing::print;
+pub use prt_fault::PrtFault;
+pub use qm_listing::{Coordinate, Listing, PrtPortal};
+pub use reading::read;
