@@ -11,7 +11,8 @@ WIDE, HIGH = 0.66, 1.0
 def place(text, corners, lines):
     """The middle and the size of a label inside a convex piece, off some lines where that can be, or None."""
     middle = centre(corners)
-    aside = [((middle[0] + x) / 2, (middle[1] + y) / 2) for x, y in corners]
+    rim = corners + [mean(side) for side in sides(corners)]
+    aside = [((middle[0] + x) / 2, (middle[1] + y) / 2) for x, y in rim]
     places = [(x, y, size) for size in SIZES for x, y in (middle, mean(corners), *aside)]
     fitting = [found for found in places if holds(corners, box(text, *found))]
     clear = (found for found in fitting if not any(crosses(line, box(text, *found)) for line in lines))

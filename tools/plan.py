@@ -86,13 +86,19 @@ class Picture:
     def follow(self, line):
         """Draws a leak line, with a ring at each contact and a dot where it begins."""
         points = [self.view.at(point) for point in line]
-        self.lines = list(zip(points, points[1:]))
+        self.lines = [*zip(points, points[1:]), *(line for point in points[1::2] for line in plus(point, 5)), *plus(points[0], 8)]
         path = "M" + "L".join(f"{x:.1f},{y:.1f}" for x, y in points)
         self.overlay.append(f'<path class="below" d="{path}"/>\n<path class="trail" d="{path}"/>\n')
         self.overlay += [f'<circle class="stop" cx="{x:.1f}" cy="{y:.1f}" r="4"/>\n' for x, y in points[1::2]]
         self.overlay.append('<circle class="start" cx="{:.1f}" cy="{:.1f}" r="7"/>\n'.format(*points[0]))
         self.legend.append(('<path class="trail" d="M2,-5H26"/><circle class="stop" cx="14" cy="-5" r="4"/>',
                             "leak line, with its contacts"))
+
+
+def plus(point, reach):
+    """Two lines through a point, which stand for a dot or a ring."""
+    x, y = point
+    return [((x - reach, y), (x + reach, y)), ((x, y - reach), (x, y + reach))]
 
 
 def outline(corners):
