@@ -1,18 +1,17 @@
 -- The text of a listing is read exactly.
-use Rattle.std.proofs.Common.{◌≡◌, ℕ, zero, suc, ◌+◌, Bool, true, eqb, ltb, leb, not, ◌&&◌, List, [], ◌∷◌, ◌++◌, length, refl, sym, ap, ◌∙◌, arith}
+use Rattle.std.proofs.Common.{◌≡◌, ℕ, true, eqb, ltb, leb, not, ◌&&◌, List, [], ◌∷◌, ◌++◌, length, refl, ap}
 use Rattle.std.proofs.lemmas.Bool.{and_parts}
 use Rattle.std.specs.Prelude.{codes}
-use Rattle.qm_formats.specs.Layout.{Layout, right_each, both, many}
+use Rattle.qm_formats.specs.Layout.{Layout, both, many}
 use Rattle.qm_formats.specs.Exact.{IsExact}
 use Rattle.qm_formats.proofs.ExactParts.{recast_exact, both_exact, pair_exact, each_exact}
 use Rattle.qm_formats.proofs.ExactFile.{right_each_length}
 use Rattle.qm_listing.specs.declared.listing.Coordinate.{Coordinate}
 use Rattle.qm_listing.specs.declared.listing.PrtPortal.{PrtPortal}
-use Rattle.qm_listing.specs.declared.listing.Listing.{Listing}
-use Rattle.qm_listing.specs.Words.{Spelling, literal, before, behind}
+use Rattle.qm_listing.specs.Words.{before}
 use Rattle.qm_listing.specs.Numbers.{counts, coordinates}
-use Rattle.qm_listing.specs.Grammar.{ListingFaultKind, header, number, shape, due, number_before, header_layout, count_line, points_layout, leaf0_layout, leaf1_layout, coordinate_layout, corner_layout, portal_layout, listing_layout}
-use Rattle.qm_listing.proofs.ExactWords.{IsSpelling, literal_exact, word_exact, before_exact, behind_exact}
+use Rattle.qm_listing.specs.Grammar.{ListingFaultKind, header, number, shape, due, header_layout, count_line, points_layout, leaf0_layout, leaf1_layout, coordinate_layout, corner_layout, portal_layout, listing_layout}
+use Rattle.qm_listing.proofs.ExactWords.{literal_exact, word_exact, before_exact, behind_exact}
 use Rattle.qm_listing.proofs.ExactNumbers.{counts_spelling, coordinates_spelling}
 
 due_exact : (byte : ℕ) → IsExact (due byte)

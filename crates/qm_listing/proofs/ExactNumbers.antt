@@ -196,12 +196,12 @@ whole_found negative n word c written is =
     let parts = whole_value n in
     let own : Coordinate = record { millionths = with_sign negative m; whole = true } in
     let right : is_coordinate own ≡ true =
-        ap (λ (k : ℕ). leb k most_millionths && (false || eqb (k % 1000000) 0)) sign.magnitude_is ∙ and_from (leb m most_millionths) (false || eqb (m % 1000000) 0) is.small (eq-eqb (m % 1000000) 0 parts.1)
+    ap (λ (k : ℕ). leb k most_millionths && (false || eqb (k % 1000000) 0)) sign.magnitude_is ∙ and_from (leb m most_millionths) (false || eqb (m % 1000000) 0) is.small (eq-eqb (m % 1000000) 0 parts.1)
     in
     let spelled : coordinate_word own ≡ sign_bytes negative ++ word =
-        (λ i. shown_sign (sign.negative_is i) (sign.magnitude_is i) ++ decimal (sign.magnitude_is i / 1000000))
-        ∙ ap (λ (k : ℕ). shown_sign negative m ++ decimal k) parts.0
-        ∙ (λ i. sign.shown i ++ written i)
+    (λ i. shown_sign (sign.negative_is i) (sign.magnitude_is i) ++ decimal (sign.magnitude_is i / 1000000))
+    ∙ ap (λ (k : ℕ). shown_sign negative m ++ decimal k) parts.0
+    ∙ (λ i. sign.shown i ++ written i)
     in
     subst (λ (d : Coordinate). IsWordOf negative word d) is.value (record { right = right; spelled = spelled })
 
@@ -215,12 +215,12 @@ parted_found negative n word decimals c written digits long is =
     let parts = parted_value n v below in
     let own : Coordinate = record { millionths = with_sign negative m; whole = false } in
     let right : is_coordinate own ≡ true =
-        ap (λ (k : ℕ). leb k most_millionths && (true || eqb (k % 1000000) 0)) sign.magnitude_is ∙ and_from (leb m most_millionths) (true || eqb (m % 1000000) 0) is.small refl
+    ap (λ (k : ℕ). leb k most_millionths && (true || eqb (k % 1000000) 0)) sign.magnitude_is ∙ and_from (leb m most_millionths) (true || eqb (m % 1000000) 0) is.small refl
     in
     let spelled : coordinate_word own ≡ sign_bytes negative ++ (word ++ (46 ∷ decimals)) =
-        (λ i. with_six_decimals (sign.negative_is i) (sign.magnitude_is i))
-        ∙ (λ i. sign.shown i ++ (decimal (parts.0 i) ++ (46 ∷ last_digits 6 (parts.1 i))))
-        ∙ (λ i. sign_bytes negative ++ (written i ++ (46 ∷ last_of_value 6 decimals digits long i)))
+    (λ i. with_six_decimals (sign.negative_is i) (sign.magnitude_is i))
+    ∙ (λ i. sign.shown i ++ (decimal (parts.0 i) ++ (46 ∷ last_digits 6 (parts.1 i))))
+    ∙ (λ i. sign_bytes negative ++ (written i ++ (46 ∷ last_of_value 6 decimals digits long i)))
     in
     subst (λ (d : Coordinate). IsWordOf negative (word ++ (46 ∷ decimals)) d) is.value (record { right = right; spelled = spelled })
 

@@ -1,12 +1,12 @@
 -- Numbers with a byte behind them, and fixed bytes, are read exactly.
-use Rattle.std.proofs.Common.{◌≡◌, ◌≤◌, ℕ, zero, suc, ◌+◌, Bool, true, false, cond, eqb, ◌&&◌, List, [], ◌∷◌, ◌++◌, length, take, drop, Option, Some, None, refl, sym, ap, subst, ◌∙◌, arith}
+use Rattle.std.proofs.Common.{◌≡◌, ◌≤◌, ℕ, suc, ◌+◌, Bool, true, false, cond, eqb, ◌&&◌, List, [], ◌∷◌, ◌++◌, length, take, drop, Option, Some, None, refl, sym, ap, subst, ◌∙◌, arith}
 use Rattle.std.specs.List.{list_all, prefix_len}
 use Rattle.std.proofs.lemmas.Bool.{and_parts, and_from, eqb-true, eq-eqb}
-use Rattle.std.proofs.lemmas.List.{take_at, length-drop, drop-drop}
+use Rattle.std.proofs.lemmas.List.{length-drop, drop-drop}
 use Rattle.std.proofs.lemmas.List.Folds.{length-prefix_len}
 use Rattle.std.proofs.lemmas.List.Sums.{prefix_len-le-length}
 use Rattle.qm_formats.specs.Layout.{Answer, got, bad, Layout, answer_map, answer_then, tested, pair}
-use Rattle.qm_formats.specs.Fields.{AreBytes, first_difference}
+use Rattle.qm_formats.specs.Fields.{first_difference}
 use Rattle.qm_formats.specs.Exact.{StandsAt, IsFound, IsExact}
 use Rattle.qm_formats.proofs.ExactParts.{map_got, then_got, chosen_got, recast_exact, pair_exact}
 use Rattle.qm_formats.proofs.ExactFields.{part_stands}
