@@ -9,14 +9,14 @@ use Rattle.qm_contacts.specs.World.{World}
 use Rattle.qm_formats.proofs.ManyBytes.{many_bytes}
 use Rattle.qm_listing.specs.declared.listing.PrtPortal.{PrtPortal}
 use Rattle.qm_listing.specs.declared.listing.Listing.{Listing}
-use Rattle.qm_listing.specs.Words.{word, literal}
+use Rattle.qm_listing.specs.Numerals.{numeral, literal}
 use Rattle.qm_listing.specs.Grammar.{header_layout, count_line, points_layout, leaf0_layout, leaf1_layout, corner_layout, portal_layout, listing_layout, listing_text}
 use Rattle.qm_listing.specs.WorldListing.{AreLinesOf, IsListingOf}
 use Rattle.qm_listing.specs.inner.PutLines.{HasLine, ArePutLines}
 
 -- the bytes of a portal's line, part by part
 pub portal_bytes : (leaves : ℕ) (portal : PrtPortal) → (portal_layout leaves).bytes_of portal ≡ (decimal (length portal.corners) ++ 32 ∷ []) ++ ((decimal portal.leaf0 ++ 32 ∷ []) ++ ((decimal portal.leaf1 ++ 32 ∷ []) ++ (flat_map corner_layout.bytes_of portal.corners ++ 10 ∷ [])))
-unfolding portal_layout points_layout leaf0_layout leaf1_layout word literal
+unfolding portal_layout points_layout leaf0_layout leaf1_layout numeral literal
 portal_bytes leaves portal =
     ap (λ (corners : List ℕ). (decimal (length portal.corners) ++ 32 ∷ []) ++ ((decimal portal.leaf0 ++ 32 ∷ []) ++ ((decimal portal.leaf1 ++ 32 ∷ []) ++ (corners ++ 10 ∷ [])))) (many_bytes corner_layout 0 portal.corners)
 
@@ -89,7 +89,7 @@ one_put portals j p start text more line so_far next place put =
 -- ---- the whole text
 
 same_bytes : (leaves : ℕ) (portals : List PrtPortal) → flat_map (portal_layout leaves).bytes_of portals ≡ flat_map (portal_layout 0).bytes_of portals
-unfolding portal_layout leaf0_layout leaf1_layout word literal
+unfolding portal_layout leaf0_layout leaf1_layout numeral literal
 same_bytes leaves portals = refl
 
 listing_bytes : (listing : Listing) → listing_text listing ≡ header_layout.bytes_of tt ++ (count_line.bytes_of listing.leaves ++ (count_line.bytes_of (length listing.portals) ++ flat_map (portal_layout 0).bytes_of listing.portals))

@@ -4,7 +4,7 @@ ghost use Rattle.std.specs.Prelude.{◌≡◌, ◌<◌, ℤ, pos, int_lt, unsign
 ghost use Rattle.qm_decimal.specs.Printed.{printed};
 ghost use Rattle.qm_formats.specs.Exact.{IsExact};
 ghost use Rattle.qm_listing.specs.declared.listing.Listing.{Listing};
-ghost use Rattle.qm_listing.specs.Numbers.{coordinate_word};
+ghost use Rattle.qm_listing.specs.Numbers.{coordinate_numeral};
 ghost use Rattle.qm_listing.specs.Grammar.{listing_layout, listing_text, can_stand};
 ghost use Rattle.qm_listing.specs.WorldListing.{coordinate_at};
 
@@ -20,5 +20,5 @@ pub fn one_listing()
 
 /// A coordinate of a corner stands in a text as `print6` prints its fraction.
 pub fn printed_coordinates()
-    ensures { (over under : ℤ) → 0 < unsigned_abs under → coordinate_word (coordinate_at over under) ≡ printed (int_lt over (pos 0)) (unsigned_abs over) (unsigned_abs under) }
+    ensures { (over under : ℤ) → 0 < unsigned_abs under → coordinate_numeral (coordinate_at over under) ≡ printed (int_lt over (pos 0)) (unsigned_abs over) (unsigned_abs under) }
 {}
