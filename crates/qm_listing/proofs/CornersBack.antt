@@ -1,13 +1,11 @@
 -- The corners of a winding, gone through backward.
-use Rattle.std.proofs.Common.{◌≡◌, ◌<◌, ◌≤◌, ℕ, zero, suc, ◌+◌, ◌-◌, Bool, cond, leb, false, List, [], ◌∷◌, ◌++◌, Some, length, get_or, map, refl, sym, ap, subst, ◌∙◌, ◌⊎◌, inl, inr, arith}
+use Rattle.std.proofs.Common.{◌≡◌, ◌<◌, ◌≤◌, ℕ, zero, suc, ◌+◌, false, List, [], ◌∷◌, ◌++◌, Some, length, get_or, map, refl, sym, ap, subst, ◌∙◌, arith}
 use Rattle.std.specs.Prelude.{slice_get}
 use Rattle.std.specs.List.{range_with_len}
-use Rattle.std.proofs.lemmas.Bool.{cases_lt}
 use Rattle.std.proofs.lemmas.List.FromFn.{get_or-map-range_with_len, length-map-range_with_len, map-range_with_len_more}
 use Rattle.qm_space.specs.Point.{Point}
 use Rattle.qm_convex.specs.Winding.{Winding, corner_at}
 use Rattle.qm_listing.specs.declared.listing.Coordinate.{Coordinate}
-use Rattle.qm_listing.specs.declared.listing.PrtPortal.{PrtPortal}
 use Rattle.qm_contacts.specs.Portals.{Portal}
 use Rattle.qm_listing.specs.WorldListing.{coordinates_at, come_before, place_back, corners_back, IsFirstCorner, IsLineOf}
 use Rattle.qm_listing.specs.inner.GoneRound.{first_corners, corners_forward, steps_back}

@@ -1,18 +1,17 @@
 -- The text of a listing is read exactly.
-use Rattle.std.proofs.Common.{◌≡◌, ℕ, zero, suc, ◌+◌, Bool, true, eqb, ltb, leb, not, ◌&&◌, List, [], ◌∷◌, ◌++◌, length, refl, sym, ap, ◌∙◌, arith}
+use Rattle.std.proofs.Common.{◌≡◌, ℕ, true, eqb, ltb, leb, not, ◌&&◌, List, [], ◌∷◌, ◌++◌, length, refl, ap}
 use Rattle.std.proofs.lemmas.Bool.{and_parts}
 use Rattle.std.specs.Prelude.{codes}
-use Rattle.qm_formats.specs.Layout.{Layout, right_each, both, many}
+use Rattle.qm_formats.specs.Layout.{Layout, both, many}
 use Rattle.qm_formats.specs.Exact.{IsExact}
 use Rattle.qm_formats.proofs.ExactParts.{recast_exact, both_exact, pair_exact, each_exact}
 use Rattle.qm_formats.proofs.ExactFile.{right_each_length}
 use Rattle.qm_listing.specs.declared.listing.Coordinate.{Coordinate}
 use Rattle.qm_listing.specs.declared.listing.PrtPortal.{PrtPortal}
-use Rattle.qm_listing.specs.declared.listing.Listing.{Listing}
-use Rattle.qm_listing.specs.Words.{Spelling, literal, before, behind}
+use Rattle.qm_listing.specs.Numerals.{before}
 use Rattle.qm_listing.specs.Numbers.{counts, coordinates}
-use Rattle.qm_listing.specs.Grammar.{ListingFaultKind, header, number, shape, due, number_before, header_layout, count_line, points_layout, leaf0_layout, leaf1_layout, coordinate_layout, corner_layout, portal_layout, listing_layout}
-use Rattle.qm_listing.proofs.ExactWords.{IsSpelling, literal_exact, word_exact, before_exact, behind_exact}
+use Rattle.qm_listing.specs.Grammar.{ListingFaultKind, header, number, shape, due, header_layout, count_line, points_layout, leaf0_layout, leaf1_layout, coordinate_layout, corner_layout, portal_layout, listing_layout}
+use Rattle.qm_listing.proofs.ExactNumerals.{literal_exact, numeral_exact, before_exact, behind_exact}
 use Rattle.qm_listing.proofs.ExactNumbers.{counts_spelling, coordinates_spelling}
 
 due_exact : (byte : ℕ) → IsExact (due byte)
@@ -24,23 +23,23 @@ header_exact = literal_exact header (codes "PRT1" ++ 10 ∷ [])
 
 pub count_line_exact : IsExact count_line
 unfolding count_line
-count_line_exact = word_exact number shape counts counts_spelling (λ _. true) 10 refl
+count_line_exact = numeral_exact number shape counts counts_spelling (λ _. true) 10 refl
 
 pub points_exact : IsExact points_layout
 unfolding points_layout
-points_exact = word_exact number shape counts counts_spelling (leb 3) 32 refl
+points_exact = numeral_exact number shape counts counts_spelling (leb 3) 32 refl
 
 pub leaf0_exact : (leaves : ℕ) → IsExact (leaf0_layout leaves)
 unfolding leaf0_layout
-leaf0_exact leaves = word_exact number shape counts counts_spelling (λ leaf. ltb leaf leaves) 32 refl
+leaf0_exact leaves = numeral_exact number shape counts counts_spelling (λ leaf. ltb leaf leaves) 32 refl
 
 pub leaf1_exact : (leaves leaf0 : ℕ) → IsExact (leaf1_layout leaves leaf0)
 unfolding leaf1_layout
-leaf1_exact leaves leaf0 = word_exact number shape counts counts_spelling (λ leaf. ltb leaf leaves && not (eqb leaf leaf0)) 32 refl
+leaf1_exact leaves leaf0 = numeral_exact number shape counts counts_spelling (λ leaf. ltb leaf leaves && not (eqb leaf leaf0)) 32 refl
 
 pub coordinate_exact : IsExact coordinate_layout
 unfolding coordinate_layout
-coordinate_exact = word_exact number shape coordinates coordinates_spelling (λ _. true) 32 refl
+coordinate_exact = numeral_exact number shape coordinates coordinates_spelling (λ _. true) 32 refl
 
 pub corner_exact : IsExact corner_layout
 unfolding corner_layout

@@ -1,9 +1,8 @@
 -- The order of coordinates, and the first of some corners.
-use Rattle.std.proofs.Common.{◌≡◌, ◌<◌, ℕ, ◌+◌, Bool, true, false, not, ◌&&◌, ◌||◌, ℤ, pos, ◌<ℤ◌, ◌≤ℤ◌, List, [], ◌∷◌, length, get_or, refl, sym, ap, subst, ◌∙◌, ◌⊎◌, inl, inr, arith}
+use Rattle.std.proofs.Common.{◌≡◌, ◌<◌, ℕ, ◌+◌, Bool, true, false, not, ◌&&◌, ◌||◌, ℤ, ◌<ℤ◌, ◌≤ℤ◌, List, [], ◌∷◌, refl, sym, subst, ◌∙◌, ◌⊎◌, inl, inr, arith}
 use Rattle.std.specs.Prelude.{int_lt}
 use Rattle.std.proofs.lemmas.Bool.{cases_lt}
 use Rattle.qm_numbers.proofs.IntegerProducts.{linear}
-use Rattle.qm_numbers.proofs.Signs.{by_order}
 use Rattle.qm_listing.specs.declared.listing.Coordinate.{Coordinate}
 use Rattle.qm_listing.specs.WorldListing.{come_before}
 
@@ -44,14 +43,14 @@ before_before (c ∷ cs) (d ∷ ds) (e ∷ es) first second =
     let z = e.millionths in
     elim (by_test (int_lt x y) (int_lt y x) (come_before cs ds) first) [
       | inl less ↦ elim (by_test (int_lt y z) (int_lt z y) (come_before ds es) second) [
-          | inl more ↦ less_first (int_lt x z) (not (int_lt z x) && come_before cs es) (true_less x z (let p = less_true x y less in let q = less_true y z more in omega (arith, linear)))
-          | inr same ↦ less_first (int_lt x z) (not (int_lt z x) && come_before cs es) (true_less x z (let p = less_true x y less in let q = less_false z y same.0 in omega (arith, linear)))
-        ]
+        | inl more ↦ less_first (int_lt x z) (not (int_lt z x) && come_before cs es) (true_less x z (let p = less_true x y less in let q = less_true y z more in omega (arith, linear)))
+        | inr same ↦ less_first (int_lt x z) (not (int_lt z x) && come_before cs es) (true_less x z (let p = less_true x y less in let q = less_false z y same.0 in omega (arith, linear)))
+      ]
       | inr at_most ↦ elim (by_test (int_lt y z) (int_lt z y) (come_before ds es) second) [
-          | inl more ↦ less_first (int_lt x z) (not (int_lt z x) && come_before cs es) (true_less x z (let p = less_false y x at_most.0 in let q = less_true y z more in omega (arith, linear)))
-          | inr same ↦
-              same_first (int_lt x z) (int_lt z x) (come_before cs es) (false_less z x (let p = less_false y x at_most.0 in let q = less_false z y same.0 in omega (arith, linear))) (before_before cs ds es at_most.1 same.1)
-        ]
+        | inl more ↦ less_first (int_lt x z) (not (int_lt z x) && come_before cs es) (true_less x z (let p = less_false y x at_most.0 in let q = less_true y z more in omega (arith, linear)))
+        | inr same ↦
+            same_first (int_lt x z) (int_lt z x) (come_before cs es) (false_less z x (let p = less_false y x at_most.0 in let q = less_false z y same.0 in omega (arith, linear))) (before_before cs ds es at_most.1 same.1)
+      ]
     ]
 
 not_less_self : (b d : Bool) → b ≡ false → d ≡ false → (b || (not b && d)) ≡ false

@@ -1,4 +1,4 @@
-pub mod ExactWords
+pub mod ExactNumerals
 pub mod LastDigits
 pub mod ExactNumbers
 pub mod ExactListings

@@ -1,6 +1,5 @@
 -- The parts of a portal's line, put one behind the other.
-use Rattle.std.proofs.Common.{◌≡◌, ℕ, ◌+◌, ◌*◌, ◌/◌, List, [], ◌∷◌, ◌++◌, Some, length, flat_map, decimal, refl, sym, ap, subst, ◌∙◌, append_assoc, append-nil, inl, inr, arith}
-use Rattle.std.specs.Prelude.{slice_get}
+use Rattle.std.proofs.Common.{◌≡◌, ℕ, ◌+◌, ◌*◌, ◌/◌, List, [], ◌∷◌, ◌++◌, length, flat_map, decimal, refl, sym, ap, subst, ◌∙◌, append_assoc, append-nil, inl, inr, arith}
 use Rattle.std.proofs.lemmas.Grind.{flat_map-append}
 use Rattle.std.proofs.lemmas.List.{length-append}
 use Rattle.qm_lists.proofs.Places.{slice_get-push_cases}
@@ -10,14 +9,14 @@ use Rattle.qm_contacts.specs.World.{World}
 use Rattle.qm_formats.proofs.ManyBytes.{many_bytes}
 use Rattle.qm_listing.specs.declared.listing.PrtPortal.{PrtPortal}
 use Rattle.qm_listing.specs.declared.listing.Listing.{Listing}
-use Rattle.qm_listing.specs.Words.{word, literal}
+use Rattle.qm_listing.specs.Numerals.{numeral, literal}
 use Rattle.qm_listing.specs.Grammar.{header_layout, count_line, points_layout, leaf0_layout, leaf1_layout, corner_layout, portal_layout, listing_layout, listing_text}
-use Rattle.qm_listing.specs.WorldListing.{IsLineOf, AreLinesOf, IsListingOf}
+use Rattle.qm_listing.specs.WorldListing.{AreLinesOf, IsListingOf}
 use Rattle.qm_listing.specs.inner.PutLines.{HasLine, ArePutLines}
 
 -- the bytes of a portal's line, part by part
 pub portal_bytes : (leaves : ℕ) (portal : PrtPortal) → (portal_layout leaves).bytes_of portal ≡ (decimal (length portal.corners) ++ 32 ∷ []) ++ ((decimal portal.leaf0 ++ 32 ∷ []) ++ ((decimal portal.leaf1 ++ 32 ∷ []) ++ (flat_map corner_layout.bytes_of portal.corners ++ 10 ∷ [])))
-unfolding portal_layout points_layout leaf0_layout leaf1_layout word literal
+unfolding portal_layout points_layout leaf0_layout leaf1_layout numeral literal
 portal_bytes leaves portal =
     ap (λ (corners : List ℕ). (decimal (length portal.corners) ++ 32 ∷ []) ++ ((decimal portal.leaf0 ++ 32 ∷ []) ++ ((decimal portal.leaf1 ++ 32 ∷ []) ++ (corners ++ 10 ∷ [])))) (many_bytes corner_layout 0 portal.corners)
 
@@ -73,23 +72,24 @@ one_put portals j p start text more line so_far next place put =
     let lines = so_far.0 in
     let are = so_far.1 in
     let f = (portal_layout 0).bytes_of in
-    let here : p ≡ 2 * length lines = omega (arith, place, are.count) in
-    (lines ++ line ∷ [],
-    record {
-      lines_are = one_line portals lines line are.lines_are (subst (λ (n : ℕ). HasLine portals n line) here next);
-      count = length-append lines (line ∷ []) ∙ omega (arith, are.count);
-      bytes =
-          put
-          ∙ ap (λ (xs : List ℕ). xs ++ f line) are.bytes
-          ∙ append_assoc start (flat_map f lines) (f line)
-          ∙ ap (λ (xs : List ℕ). start ++ (flat_map f lines ++ xs)) (sym (append-nil (f line)))
-          ∙ ap (λ (xs : List ℕ). start ++ xs) (sym (flat_map-append f lines (line ∷ [])));
-    })
+    let here : p ≡ 2 * length lines = omega (arith, place, are.count) in (
+      lines ++ line ∷ [],
+      record {
+        lines_are = one_line portals lines line are.lines_are (subst (λ (n : ℕ). HasLine portals n line) here next);
+        count = length-append lines (line ∷ []) ∙ omega (arith, are.count);
+        bytes =
+            put
+            ∙ ap (λ (xs : List ℕ). xs ++ f line) are.bytes
+            ∙ append_assoc start (flat_map f lines) (f line)
+            ∙ ap (λ (xs : List ℕ). start ++ (flat_map f lines ++ xs)) (sym (append-nil (f line)))
+            ∙ ap (λ (xs : List ℕ). start ++ xs) (sym (flat_map-append f lines (line ∷ [])));
+      },
+    )
 
 -- ---- the whole text
 
 same_bytes : (leaves : ℕ) (portals : List PrtPortal) → flat_map (portal_layout leaves).bytes_of portals ≡ flat_map (portal_layout 0).bytes_of portals
-unfolding portal_layout leaf0_layout leaf1_layout word literal
+unfolding portal_layout leaf0_layout leaf1_layout numeral literal
 same_bytes leaves portals = refl
 
 listing_bytes : (listing : Listing) → listing_text listing ≡ header_layout.bytes_of tt ++ (count_line.bytes_of listing.leaves ++ (count_line.bytes_of (length listing.portals) ++ flat_map (portal_layout 0).bytes_of listing.portals))
@@ -111,14 +111,15 @@ text_put world leaves count one two three four leaves_are count_is first second 
     let b = count_line.bytes_of leaves in
     let c = count_line.bytes_of count in
     let d = flat_map (portal_layout 0).bytes_of lines in
-    let listing : Listing = record { leaves = leaves; portals = lines } in
-    (listing,
-    record { leaves = leaves_are; count = are.count ∙ count_is; lines = are.lines_are },
-    are.bytes
-    ∙ ap (λ (xs : List ℕ). xs ++ d) third
-    ∙ ap (λ (xs : List ℕ). (xs ++ c) ++ d) second
-    ∙ ap (λ (xs : List ℕ). ((xs ++ b) ++ c) ++ d) first
-    ∙ append_assoc (a ++ b) c d
-    ∙ append_assoc a b (c ++ d)
-    ∙ ap (λ (n : ℕ). a ++ (b ++ (count_line.bytes_of n ++ d))) (sym are.count)
-    ∙ sym (listing_bytes listing))
+    let listing : Listing = record { leaves = leaves; portals = lines } in (
+      listing,
+      record { leaves = leaves_are; count = are.count ∙ count_is; lines = are.lines_are },
+      are.bytes
+          ∙ ap (λ (xs : List ℕ). xs ++ d) third
+          ∙ ap (λ (xs : List ℕ). (xs ++ c) ++ d) second
+          ∙ ap (λ (xs : List ℕ). ((xs ++ b) ++ c) ++ d) first
+          ∙ append_assoc (a ++ b) c d
+          ∙ append_assoc a b (c ++ d)
+          ∙ ap (λ (n : ℕ). a ++ (b ++ (count_line.bytes_of n ++ d))) (sym are.count)
+          ∙ sym (listing_bytes listing),
+    )

@@ -1,14 +1,12 @@
 -- The coordinates of a fraction, and how they are printed.
-use Rattle.std.proofs.Common.{◌≡◌, ◌<◌, ◌≤◌, ℕ, zero, suc, ◌+◌, ◌*◌, ◌/◌, ◌%◌, ◌^◌, ℤ, pos, negsuc, Bool, true, false, cond, eqb, List, ◌++◌, ◌∷◌, refl, sym, ap, subst, ◌∙◌, ◌⊎◌, inl, inr, arith}
+use Rattle.std.proofs.Common.{◌≡◌, ◌<◌, ◌≤◌, ℕ, zero, suc, ◌+◌, ◌*◌, ◌/◌, ◌%◌, ℤ, pos, negsuc, Bool, true, false, cond, eqb, List, ◌++◌, ◌∷◌, refl, sym, ap, ◌∙◌, ◌⊎◌, inl, inr, arith}
 use Rattle.std.specs.Prelude.{unsigned_abs, int_lt, decimal}
-use Rattle.std.proofs.lemmas.Bool.{eq-eqb, eqb-true}
+use Rattle.std.proofs.lemmas.Bool.{eqb-true}
 use Rattle.std.proofs.lemmas.Nat.{div-add-mod'}
 use Rattle.std.proofs.Math.Nat.{div-eq_of_lt-le, div-lt_iff_lt-mul}
 use Rattle.qm_decimal.specs.Printed.{last_digits, millionths, printed, shown_sign, with_six_decimals}
-use Rattle.qm_listing.specs.declared.listing.Coordinate.{Coordinate}
-use Rattle.qm_listing.specs.Numbers.{is_negative, with_sign, coordinate_word}
+use Rattle.qm_listing.specs.Numbers.{is_negative, with_sign, coordinate_numeral}
 use Rattle.qm_listing.specs.WorldListing.{coordinate_at}
-use Rattle.qm_listing.proofs.FirstCorners.{true_less, false_less}
 
 pub negative_test : (z : ℤ) → int_lt z (pos 0) ≡ is_negative z
 negative_test (pos n) = grind arith
@@ -59,8 +57,8 @@ true_or_false true = inl refl
 true_or_false false = inr refl
 
 -- a coordinate stands as its fraction is printed
-pub coordinate_printed : (over under : ℤ) → 0 < unsigned_abs under → coordinate_word (coordinate_at over under) ≡ printed (int_lt over (pos 0)) (unsigned_abs over) (unsigned_abs under)
-unfolding coordinate_word coordinate_at
+pub coordinate_printed : (over under : ℤ) → 0 < unsigned_abs under → coordinate_numeral (coordinate_at over under) ≡ printed (int_lt over (pos 0)) (unsigned_abs over) (unsigned_abs under)
+unfolding coordinate_numeral coordinate_at
 coordinate_printed over under some =
     let n = unsigned_abs over in
     let d = unsigned_abs under in

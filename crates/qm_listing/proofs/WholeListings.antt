@@ -1,5 +1,5 @@
 -- A whole text is read exactly where it is that of a listing.
-use Rattle.std.proofs.Common.{◌≡◌, ◌≤◌, ℕ, Bool, cond, ltb, List, [], ◌++◌, length, drop, refl, sym, ap, subst, ◌∙◌, append-nil, arith, inl, inr}
+use Rattle.std.proofs.Common.{◌≡◌, ℕ, Bool, cond, ltb, List, [], ◌++◌, length, drop, refl, sym, ap, subst, ◌∙◌, append-nil, arith, inl, inr}
 use Rattle.std.specs.Prelude.{IsTrue}
 use Rattle.std.proofs.lemmas.Bool.{cases_lt, lt-ltb, le-ltb}
 use Rattle.std.proofs.lemmas.List.{drop_all}
@@ -53,3 +53,11 @@ read_listing_found text listing next are is =
 pub read_listing_again : (text : List ℕ) (listing : Listing) → IsTrue (can_stand listing) → text ≡ listing_text listing → read_listing text ≡ got listing (length text)
 unfolding read_listing can_stand listing_text
 read_listing_again text listing right bytes = all_again listing_layout listing_exact trailing text listing right bytes
+
+-- no two listings have the same text
+pub same_listing : (listing other : Listing) → IsTrue (can_stand listing) → IsTrue (can_stand other) → listing_text listing ≡ listing_text other → listing ≡ other
+same_listing listing other right right_other same =
+    let one = read_listing_again (listing_text listing) listing right refl in
+    let two = read_listing_again (listing_text listing) other right_other same in
+    let e = sym one ∙ two in
+    cc

@@ -3,7 +3,7 @@ use Rattle.qm_listing.specs.declared.listing.Coordinate.{Coordinate}
 use Rattle.qm_listing.specs.declared.listing.PrtPortal.{PrtPortal}
 use Rattle.qm_listing.specs.declared.listing.Listing.{Listing}
 use Rattle.qm_formats.specs.Layout.{Answer, Layout, recast, tested, both, pair, many, read_to_end}
-use Rattle.qm_listing.specs.Words.{Spelling, word, literal, before, behind}
+use Rattle.qm_listing.specs.Numerals.{Spelling, numeral, literal, before, behind}
 use Rattle.qm_listing.specs.Numbers.{counts, coordinates}
 
 -- The text of a listing: a line `PRT1`, a line with the count of leaves, one with that of portals, and a line for each
@@ -22,7 +22,7 @@ due byte = literal shape (byte ∷ [])
 
 -- a number that passes a test, and a byte behind it
 abbrev pub number_before : {X : Type 0} → Spelling X → (X → Bool) → ℕ → Layout ListingFaultKind X
-number_before spelling test byte = before (tested test shape (λ _ at. at) (word number spelling)) (due byte)
+number_before spelling test byte = before (tested test shape (λ _ at. at) (numeral number spelling)) (due byte)
 
 -- the first line: `PRT1`
 unfoldable pub header_layout : Layout ListingFaultKind (Unit {0})

@@ -1,4 +1,4 @@
-pub mod Words
+pub mod Numerals
 pub mod Numbers
 pub mod Grammar
 pub mod WorldListing

@@ -4,7 +4,7 @@ use Rattle.std.specs.List.{list_all, prefix_len}
 use Rattle.std.specs.Str.Parse.{digits_value}
 use Rattle.qm_decimal.specs.Printed.{shown_sign, with_six_decimals}
 use Rattle.qm_listing.specs.declared.listing.Coordinate.{Coordinate}
-use Rattle.qm_listing.specs.Words.{Spelling}
+use Rattle.qm_listing.specs.Numerals.{Spelling}
 
 -- The numbers of a listing.
 
@@ -13,17 +13,17 @@ abbrev pub most_digits : ℕ
 most_digits = 18
 
 -- digits, and not too many, of which the first is 0 only where it stands alone
-unfoldable pub is_count_word : List ℕ → Bool
-is_count_word word =
-    nat_le 1 (length word) && (nat_le (length word) most_digits && (list_all is_ascii_digit word && ((length word == 1) || not (slice_index_or word 0 0 == 48))))
+unfoldable pub is_count_numeral : List ℕ → Bool
+is_count_numeral numeral =
+    nat_le 1 (length numeral) && (nat_le (length numeral) most_digits && (list_all is_ascii_digit numeral && ((length numeral == 1) || not (slice_index_or numeral 0 0 == 48))))
 
--- the number that such a word spells
+-- the number that such a numeral spells
 unfoldable pub count_of : List ℕ → Option ℕ
-count_of word = if is_count_word word then Some (digits_value 10 word) else None
+count_of numeral = if is_count_numeral numeral then Some (digits_value 10 numeral) else None
 
 -- counts and numbers of leaves, in decimal digits
 abbrev pub counts : Spelling ℕ
-counts = record { word_of = decimal; right = λ n. nat_lt n (10 ^ most_digits); value_of = count_of }
+counts = record { numeral_of = decimal; right = λ n. nat_lt n (10 ^ most_digits); value_of = count_of }
 
 -- the greatest absolute value of a coordinate, 32,768, in millionths
 abbrev pub most_millionths : ℕ
@@ -37,8 +37,8 @@ abbrev pub with_sign : Bool → ℕ → ℤ
 with_sign negative n = if negative then neg_ℤ (pos n) else pos n
 
 -- a whole coordinate in decimal digits, any other with a point and six decimals; a `-` before it where it is below 0
-unfoldable pub coordinate_word : Coordinate → List ℕ
-coordinate_word c =
+unfoldable pub coordinate_numeral : Coordinate → List ℕ
+coordinate_numeral c =
     let negative = is_negative c.millionths in
     let n = unsigned_abs c.millionths in
     if c.whole then shown_sign negative n ++ decimal (n / 1000000) else with_six_decimals negative n
@@ -61,16 +61,16 @@ coordinate_of_parts negative (Some n) (point ∷ decimals) =
     if (point == 46) && ((length decimals == 6) && list_all is_ascii_digit decimals) then signed_coordinate negative false (n * 1000000 + digits_value 10 decimals)
     else None
 
--- the same, of a word without its sign
+-- the same, of a numeral without its sign
 unfoldable pub unsigned_coordinate : Bool → List ℕ → Option Coordinate
-unsigned_coordinate negative word =
-    let count = prefix_len is_ascii_digit word in
-    coordinate_of_parts negative (count_of (take count word)) (drop count word)
+unsigned_coordinate negative numeral =
+    let count = prefix_len is_ascii_digit numeral in
+    coordinate_of_parts negative (count_of (take count numeral)) (drop count numeral)
 
--- the coordinate that a word spells
+-- the coordinate that a numeral spells
 unfoldable pub coordinate_of : List ℕ → Option Coordinate
 coordinate_of [] = None
 coordinate_of (byte ∷ bytes) = if byte == 45 then unsigned_coordinate true bytes else unsigned_coordinate false (byte ∷ bytes)
 
 abbrev pub coordinates : Spelling Coordinate
-coordinates = record { word_of = coordinate_word; right = is_coordinate; value_of = coordinate_of }
+coordinates = record { numeral_of = coordinate_numeral; right = is_coordinate; value_of = coordinate_of }

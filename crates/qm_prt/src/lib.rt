@@ -3,6 +3,7 @@
 #![tactic(auto)]
 
 mod coordinates;
+mod laws;
 mod lines;
 mod numbers;
 mod places;
@@ -11,6 +12,7 @@ mod printing;
 mod prt_fault;
 mod reading;
 
+pub use laws::{exact_layout, one_listing, printed_coordinates};
 pub use printing::print;
 pub use prt_fault::PrtFault;
 pub use qm_listing::{Coordinate, Listing, PrtPortal};

@@ -12,7 +12,7 @@ use std::alloc::AllocError;
 const MILLION: u64 = 1_000_000;
 
 /// The first line.
-#[tactic(auto, unfolding(qm_listing::specs::Grammar::header_layout, qm_listing::specs::Words::literal))]
+#[tactic(auto, unfolding(qm_listing::specs::Grammar::header_layout, qm_listing::specs::Numerals::literal))]
 pub(crate) fn put_header(out: &mut Vec<u8>) -> Result<(), AllocError>
     ensures { OnOk result (out.new.items ≡ out.old.items ++ header_layout.bytes_of tt) }
 {
@@ -20,7 +20,7 @@ pub(crate) fn put_header(out: &mut Vec<u8>) -> Result<(), AllocError>
 }
 
 /// A count on a line of its own.
-#[tactic(auto, unfolding(qm_listing::specs::Grammar::count_line, qm_listing::specs::Words::literal, qm_listing::specs::Words::word))]
+#[tactic(auto, unfolding(qm_listing::specs::Grammar::count_line, qm_listing::specs::Numerals::literal, qm_listing::specs::Numerals::numeral))]
 pub(crate) fn put_count_line(out: &mut Vec<u8>, count: u64) -> Result<(), AllocError>
     ensures { OnOk result (out.new.items ≡ out.old.items ++ count_line.bytes_of count) }
 {
@@ -72,7 +72,7 @@ fn digit(number: u64) -> u8
 }
 
 /// A coordinate and a space.
-#[tactic(auto, unfolding(qm_listing::specs::Grammar::coordinate_layout, qm_listing::specs::Numbers::coordinate_word, qm_listing::specs::Words::literal, qm_listing::specs::Words::word))]
+#[tactic(auto, unfolding(qm_listing::specs::Grammar::coordinate_layout, qm_listing::specs::Numbers::coordinate_numeral, qm_listing::specs::Numerals::literal, qm_listing::specs::Numerals::numeral))]
 fn put_coordinate(out: &mut Vec<u8>, coordinate: Coordinate) -> Result<(), AllocError>
     ensures { OnOk result (out.new.items ≡ out.old.items ++ coordinate_layout.bytes_of coordinate) }
 {
@@ -99,7 +99,7 @@ impl Encoding for CornerText {
 
     ghost bytes_of = { corner_layout.bytes_of };
 
-    #[tactic(auto, unfolding(qm_listing::specs::Grammar::corner_layout, qm_listing::specs::Words::literal))]
+    #[tactic(auto, unfolding(qm_listing::specs::Grammar::corner_layout, qm_listing::specs::Numerals::literal))]
     fn append(out: &mut Vec<u8>, corner: &[Coordinate; 3]) -> Result<(), AllocError> {
         let [x, y, z] = *corner;
         out.push(b'(')?;
@@ -120,7 +120,7 @@ impl Encoding for PortalLine {
 
     ghost bytes_of = { (portal_layout 0).bytes_of };
 
-    #[tactic(auto, unfolding(qm_listing::specs::Grammar::portal_layout, qm_listing::specs::Grammar::points_layout, qm_listing::specs::Grammar::leaf0_layout, qm_listing::specs::Grammar::leaf1_layout, qm_listing::specs::Words::literal, qm_listing::specs::Words::word))]
+    #[tactic(auto, unfolding(qm_listing::specs::Grammar::portal_layout, qm_listing::specs::Grammar::points_layout, qm_listing::specs::Grammar::leaf0_layout, qm_listing::specs::Grammar::leaf1_layout, qm_listing::specs::Numerals::literal, qm_listing::specs::Numerals::numeral))]
     fn append(out: &mut Vec<u8>, portal: &PrtPortal) -> Result<(), AllocError> {
         put_spaced(out, portal.corners.len() as u64)?;
         put_spaced(out, portal.leaf0)?;

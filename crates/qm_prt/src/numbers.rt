@@ -4,8 +4,8 @@ ghost use Rattle.std.specs.Prelude.{◌≡◌, ◌≤◌, ◌<◌, ◌^◌, ◌+
 ghost use Rattle.std.specs.List.{list_all, prefix_len};
 ghost use Rattle.std.specs.Char.{is_ascii_digit};
 ghost use Rattle.std.specs.Str.Parse.{digits_value, AllDigits};
-ghost use Rattle.qm_listing.specs.Words.{is_number_byte, number_word};
-ghost use Rattle.qm_listing.specs.Numbers.{is_count_word, count_of, with_sign, signed_coordinate, coordinate_of_parts, unsigned_coordinate, coordinate_of};
+ghost use Rattle.qm_listing.specs.Numerals.{is_number_byte, numeral_ahead};
+ghost use Rattle.qm_listing.specs.Numbers.{is_count_numeral, count_of, with_sign, signed_coordinate, coordinate_of_parts, unsigned_coordinate, coordinate_of};
 
 use qm_listing::Coordinate;
 
@@ -28,10 +28,10 @@ fn is_number_byte(byte: u8) -> bool
 }
 
 /// The longest run of such bytes at a place.
-#[tactic(auto, unfolding(qm_listing::specs::Words::number_word))]
-pub(crate) fn number_word(text: &[u8], at: usize) -> &[u8]
+#[tactic(auto, unfolding(qm_listing::specs::Numerals::numeral_ahead))]
+pub(crate) fn numeral_ahead(text: &[u8], at: usize) -> &[u8]
     requires { at ≤ length text.now }
-    ensures value { result.now ≡ number_word (drop at text.now) }
+    ensures value { result.now ≡ numeral_ahead (drop at text.now) }
     ensures within { at + length result.now ≤ length text.now }
 {
     let rest = &text[at..];
@@ -60,24 +60,24 @@ fn all_digits(text: &[u8]) -> bool
     text.iter().all(u8::is_ascii_digit)
 }
 
-/// Whether a word spells a count: digits, not too many, and no 0 before another digit.
-#[tactic(auto, unfolding(qm_listing::specs::Numbers::is_count_word))]
-fn is_count_word(word: &[u8]) -> bool
-    ensures { result ≡ is_count_word word.now }
+/// Whether a numeral spells a count: digits, not too many, and no 0 before another digit.
+#[tactic(auto, unfolding(qm_listing::specs::Numbers::is_count_numeral))]
+fn is_count_numeral(numeral: &[u8]) -> bool
+    ensures { result ≡ is_count_numeral numeral.now }
 {
-    if word.is_empty() || word.len() > MOST_DIGITS || !all_digits(word) {
+    if numeral.is_empty() || numeral.len() > MOST_DIGITS || !all_digits(numeral) {
         return false;
     }
-    word.len() == 1 || word[0] != b'0'
+    numeral.len() == 1 || numeral[0] != b'0'
 }
 
-/// The count that a word spells.
+/// The count that a numeral spells.
 #[tactic(auto, unfolding(qm_listing::specs::Numbers::count_of))]
-pub(crate) fn count_of(word: &[u8]) -> Option<u64>
-    ensures { result ≡ count_of word.now }
+pub(crate) fn count_of(numeral: &[u8]) -> Option<u64>
+    ensures { result ≡ count_of numeral.now }
 {
-    if is_count_word(word) {
-        Some(digits_value(word))
+    if is_count_numeral(numeral) {
+        Some(digits_value(numeral))
     } else {
         None
     }
@@ -96,26 +96,26 @@ fn digits_value(digits: &[u8]) -> u64
     value
 }
 
-/// The coordinate that a word spells.
+/// The coordinate that a numeral spells.
 #[tactic(auto, unfolding(qm_listing::specs::Numbers::coordinate_of))]
-pub(crate) fn coordinate_of(word: &[u8]) -> Option<Coordinate>
-    ensures { result ≡ coordinate_of word.now }
+pub(crate) fn coordinate_of(numeral: &[u8]) -> Option<Coordinate>
+    ensures { result ≡ coordinate_of numeral.now }
 {
-    match word {
+    match numeral {
         [] => None,
         [b'-', unsigned @ ..] => unsigned_coordinate(true, unsigned),
-        _ => unsigned_coordinate(false, word),
+        _ => unsigned_coordinate(false, numeral),
     }
 }
 
-/// The coordinate of a word without its sign.
+/// The coordinate of a numeral without its sign.
 #[tactic(auto, unfolding(qm_listing::specs::Numbers::unsigned_coordinate))]
-fn unsigned_coordinate(is_negative: bool, word: &[u8]) -> Option<Coordinate>
-    ensures { result ≡ unsigned_coordinate is_negative word.now }
+fn unsigned_coordinate(is_negative: bool, numeral: &[u8]) -> Option<Coordinate>
+    ensures { result ≡ unsigned_coordinate is_negative numeral.now }
 {
-    let count = digits_length(word);
-    let whole = count_of(&word[..count])?;
-    coordinate_of_parts(is_negative, whole, &word[count..])
+    let count = digits_length(numeral);
+    let whole = count_of(&numeral[..count])?;
+    coordinate_of_parts(is_negative, whole, &numeral[count..])
 }
 
 /// The coordinate of what stands before the point, and of what stands from the point on.

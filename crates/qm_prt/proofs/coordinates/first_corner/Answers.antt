@@ -1,4 +1,4 @@
-use Rattle.std.proofs.Common.{◌≡◌, ◌<◌, ◌+◌, ℕ, List, false, [], length, get_or, sym, ap, subst, ◌∙◌}
+use Rattle.std.proofs.Common.{◌≡◌, ◌<◌, ◌+◌, ℕ, List, false, [], length, get_or, sym, subst, ◌∙◌}
 use Rattle.qm_listing.specs.declared.listing.Coordinate.{Coordinate}
 use Rattle.qm_listing.specs.WorldListing.{come_before}
 use Rattle.qm_listing.proofs.FirstCorners.{first_kept, first_found}

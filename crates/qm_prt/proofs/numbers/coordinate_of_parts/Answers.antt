@@ -1,4 +1,4 @@
-use Rattle.std.proofs.Common.{sym, ◌∙◌, ℕ, Bool, true, false, not, ◌≡◌, refl}
+use Rattle.std.proofs.Common.{sym, ◌∙◌}
 use Rattle.qm_decimal.proofs.ByteTests.{digits_from_test}
 use Rattle.qm_prt.proofs.numbers.coordinate_of_parts.Goals as goal
 

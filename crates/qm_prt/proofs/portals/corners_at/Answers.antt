@@ -1,4 +1,3 @@
-use Rattle.std.proofs.Common.{ℕ}
 use Rattle.std.proofs.lemmas.Result.{err_from_is_err_and}
 use Rattle.qm_listing.specs.Grammar.{corner_layout}
 use Rattle.qm_prt.proofs.ReadLists.{one_more, one_fault}

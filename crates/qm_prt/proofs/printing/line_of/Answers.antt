@@ -1,4 +1,4 @@
-use Rattle.std.proofs.Common.{◌≡◌, ◌<◌, ℕ, List, length, sym, ap, subst, ◌∙◌}
+use Rattle.std.proofs.Common.{◌≡◌, ◌<◌, List, length, sym, ap, subst, ◌∙◌}
 use Rattle.qm_listing.specs.declared.listing.Coordinate.{Coordinate}
 use Rattle.qm_listing.specs.inner.GoneRound.{steps_back}
 use Rattle.qm_listing.proofs.CornersBack.{has_parts, listed_line}

@@ -4,34 +4,34 @@ use Rattle.std.specs.List.{prefix_len}
 use Rattle.qm_formats.specs.Layout.{Answer, got, bad, Layout, recast, pair}
 use Rattle.qm_formats.specs.Fields.{first_difference}
 
--- Numbers as words of a text, and the fixed bytes between them.
+-- Numerals in a text, and the fixed bytes between them.
 
 -- a digit, `-` or `.`
 abbrev pub is_number_byte : ℕ → Bool
 is_number_byte byte = is_ascii_digit byte || ((byte == 45) || (byte == 46))
 
--- the longest run of such bytes with which a text begins
-unfoldable pub number_word : List ℕ → List ℕ
-number_word text = take (prefix_len is_number_byte text) text
+-- the numeral with which a text begins: the longest run of such bytes
+unfoldable pub numeral_ahead : List ℕ → List ℕ
+numeral_ahead text = take (prefix_len is_number_byte text) text
 
--- how values are spelled: the word of each, which values have one, and the value of a word that is the word of one
+-- how values are spelled: the numeral of each, which values have one, and the value of a numeral that is the numeral of one
 pub record Spelling (X : Type 0) : Type 0 where
-  pub word_of : X → List ℕ
+  pub numeral_of : X → List ℕ
   pub right : X → Bool
   pub value_of : List ℕ → Option X
 
--- the value, and where its word ends; where there is none, a fault at the word
+-- the value, and where its numeral ends; where there is none, a fault at the numeral
 abbrev pub spelled : {F X : Type 0} → F → ℕ → ℕ → Option X → Answer F X
 spelled fault at next (Some x) = got x next
 spelled fault at next None = bad fault at
 
--- a value as a number: its word is the longest run of number bytes at its place
-unfoldable pub word : {F X : Type 0} → F → Spelling X → Layout F X
-word fault spelling =
+-- a value as a number: its numeral is the longest run of number bytes at its place
+unfoldable pub numeral : {F X : Type 0} → F → Spelling X → Layout F X
+numeral fault spelling =
     record {
-      bytes_of = spelling.word_of;
+      bytes_of = spelling.numeral_of;
       right = spelling.right;
-      read = λ text at. spelled fault at (at + length (number_word (drop at text))) (spelling.value_of (number_word (drop at text)));
+      read = λ text at. spelled fault at (at + length (numeral_ahead (drop at text))) (spelling.value_of (numeral_ahead (drop at text)));
     }
 
 -- fixed bytes; where others stand, there is a fault at the first of them

@@ -1,17 +1,17 @@
 -- Numbers with a byte behind them, and fixed bytes, are read exactly.
-use Rattle.std.proofs.Common.{◌≡◌, ◌≤◌, ℕ, zero, suc, ◌+◌, Bool, true, false, cond, eqb, ◌&&◌, List, [], ◌∷◌, ◌++◌, length, take, drop, Option, Some, None, refl, sym, ap, subst, ◌∙◌, arith}
+use Rattle.std.proofs.Common.{◌≡◌, ◌≤◌, ℕ, suc, ◌+◌, Bool, true, false, cond, eqb, ◌&&◌, List, [], ◌∷◌, ◌++◌, length, take, drop, Option, Some, None, refl, sym, ap, subst, ◌∙◌, arith}
 use Rattle.std.specs.List.{list_all, prefix_len}
 use Rattle.std.proofs.lemmas.Bool.{and_parts, and_from, eqb-true, eq-eqb}
-use Rattle.std.proofs.lemmas.List.{take_at, length-drop, drop-drop}
+use Rattle.std.proofs.lemmas.List.{length-drop, drop-drop}
 use Rattle.std.proofs.lemmas.List.Folds.{length-prefix_len}
 use Rattle.std.proofs.lemmas.List.Sums.{prefix_len-le-length}
 use Rattle.qm_formats.specs.Layout.{Answer, got, bad, Layout, answer_map, answer_then, tested, pair}
-use Rattle.qm_formats.specs.Fields.{AreBytes, first_difference}
+use Rattle.qm_formats.specs.Fields.{first_difference}
 use Rattle.qm_formats.specs.Exact.{StandsAt, IsFound, IsExact}
 use Rattle.qm_formats.proofs.ExactParts.{map_got, then_got, chosen_got, recast_exact, pair_exact}
 use Rattle.qm_formats.proofs.ExactFields.{part_stands}
 use Rattle.qm_formats.proofs.Standing.{stands_both, stands_first, stands_second}
-use Rattle.qm_listing.specs.Words.{is_number_byte, number_word, Spelling, spelled, word, literal, before, behind}
+use Rattle.qm_listing.specs.Numerals.{is_number_byte, numeral_ahead, Spelling, spelled, numeral, literal, before, behind}
 
 -- ---- fixed bytes
 
@@ -61,13 +61,13 @@ literal_exact fault bytes =
           ∙ ap (got tt) (sym found.stands.ends);
     }
 
--- ---- words
+-- ---- numerals
 
--- a word is a value's exactly where it is the one that is written for it, and has number bytes alone
+-- a numeral is a value's exactly where it is the one that is written for it, and has number bytes alone
 pub record IsSpelling {X : Type 0} (spelling : Spelling X) : Type 0 where
-  pub found : (word : List ℕ) (x : X) → spelling.value_of word ≡ Some x → (spelling.right x ≡ true) × (spelling.word_of x ≡ word)
-  pub again : (x : X) → spelling.right x ≡ true → spelling.value_of (spelling.word_of x) ≡ Some x
-  pub bytes : (x : X) → spelling.right x ≡ true → list_all is_number_byte (spelling.word_of x) ≡ true
+  pub found : (numeral : List ℕ) (x : X) → spelling.value_of numeral ≡ Some x → (spelling.right x ≡ true) × (spelling.numeral_of x ≡ numeral)
+  pub again : (x : X) → spelling.right x ≡ true → spelling.value_of (spelling.numeral_of x) ≡ Some x
+  pub bytes : (x : X) → spelling.right x ≡ true → list_all is_number_byte (spelling.numeral_of x) ≡ true
 
 run_by_head : (b : Bool) (x : ℕ) (xs rest : List ℕ) → (b && list_all is_number_byte xs) ≡ true → (list_all is_number_byte xs ≡ true → take (prefix_len is_number_byte (xs ++ rest)) (xs ++ rest) ≡ xs) → take (cond b (1 + prefix_len is_number_byte (xs ++ rest)) 0) (x ∷ (xs ++ rest)) ≡ x ∷ xs
 run_by_head true x xs rest all below =
@@ -77,19 +77,19 @@ run_by_head true x xs rest all below =
 run_by_head false x xs rest all below = absurd cc
 
 -- a run of number bytes ends before another byte
-pub number_word_ends : (xs rest : List ℕ) (byte : ℕ) → list_all is_number_byte xs ≡ true → is_number_byte byte ≡ false → number_word (xs ++ (byte ∷ rest)) ≡ xs
-unfolding number_word
-number_word_ends [] rest byte all ends = ap (λ (b : Bool). take (cond b (1 + prefix_len is_number_byte rest) 0) (byte ∷ rest)) ends
-number_word_ends (x ∷ xs) rest byte all ends = run_by_head (is_number_byte x) x xs (byte ∷ rest) all (λ below. number_word_ends xs rest byte below ends)
+pub numeral_ends : (xs rest : List ℕ) (byte : ℕ) → list_all is_number_byte xs ≡ true → is_number_byte byte ≡ false → numeral_ahead (xs ++ (byte ∷ rest)) ≡ xs
+unfolding numeral_ahead
+numeral_ends [] rest byte all ends = ap (λ (b : Bool). take (cond b (1 + prefix_len is_number_byte rest) 0) (byte ∷ rest)) ends
+numeral_ends (x ∷ xs) rest byte all ends = run_by_head (is_number_byte x) x xs (byte ∷ rest) all (λ below. numeral_ends xs rest byte below ends)
 
 spelled_got : {F X : Type 0} (fault : F) (at next : ℕ) (value : Option X) (x : X) (end : ℕ) → spelled fault at next value ≡ got x end → (value ≡ Some x) × (next ≡ end)
 spelled_got fault at next (Some y) x end is = (let same : y ≡ x = cc in ap (λ (z : _). Some z) same, cc)
 spelled_got fault at next None x end is = absurd (cc)
 
 module _ {F X : Type 0} (fault shape : F) (spelling : Spelling X) (is_spelling : IsSpelling spelling) (test : X → Bool) (byte : ℕ) (ends : is_number_byte byte ≡ false) where
-  found_word : (text : List ℕ) (at : ℕ) (x : X) (next : ℕ) → at ≤ length text → (word fault spelling).read text at ≡ got x next → IsFound (word fault spelling) text at x next
-  unfolding word number_word
-  found_word text at x next within is =
+  found_numeral : (text : List ℕ) (at : ℕ) (x : X) (next : ℕ) → at ≤ length text → (numeral fault spelling).read text at ≡ got x next → IsFound (numeral fault spelling) text at x next
+  unfolding numeral numeral_ahead
+  found_numeral text at x next within is =
       let run = prefix_len is_number_byte (drop at text) in
       let value = spelled_got fault at (at + length (take run (drop at text))) (spelling.value_of (take run (drop at text))) x next is in
       let own = is_spelling.found (take run (drop at text)) x value.0 in
@@ -98,34 +98,34 @@ module _ {F X : Type 0} (fault shape : F) (spelling : Spelling X) (is_spelling :
       let place : at + run ≡ next = omega (arith, long, value.1) in
       record {
         right = own.0;
-        stands = subst (λ (n : ℕ). StandsAt text at (spelling.word_of x) n) place (subst (λ (w : List ℕ). StandsAt text at w (at + run)) (sym own.1) (part_stands text at run fits));
+        stands = subst (λ (n : ℕ). StandsAt text at (spelling.numeral_of x) n) place (subst (λ (w : List ℕ). StandsAt text at w (at + run)) (sym own.1) (part_stands text at run fits));
       }
 
-  again_word : (text : List ℕ) (at : ℕ) (x : X) (next : ℕ) (rest : List ℕ) → IsFound (word fault spelling) text at x next → drop next text ≡ byte ∷ rest → (word fault spelling).read text at ≡ got x next
-  unfolding word
-  again_word text at x next rest found stop =
-      let stand : drop at text ≡ spelling.word_of x ++ (byte ∷ rest) = found.stands.stands ∙ ap (λ (xs : List ℕ). spelling.word_of x ++ xs) stop in
-      let run : number_word (drop at text) ≡ spelling.word_of x = ap number_word stand ∙ number_word_ends (spelling.word_of x) rest byte (is_spelling.bytes x found.right) ends in
+  again_numeral : (text : List ℕ) (at : ℕ) (x : X) (next : ℕ) (rest : List ℕ) → IsFound (numeral fault spelling) text at x next → drop next text ≡ byte ∷ rest → (numeral fault spelling).read text at ≡ got x next
+  unfolding numeral
+  again_numeral text at x next rest found stop =
+      let stand : drop at text ≡ spelling.numeral_of x ++ (byte ∷ rest) = found.stands.stands ∙ ap (λ (xs : List ℕ). spelling.numeral_of x ++ xs) stop in
+      let run : numeral_ahead (drop at text) ≡ spelling.numeral_of x = ap numeral_ahead stand ∙ numeral_ends (spelling.numeral_of x) rest byte (is_spelling.bytes x found.right) ends in
       ap (λ (w : List ℕ). spelled fault at (at + length w) (spelling.value_of w)) run
-      ∙ ap (spelled fault at (at + length (spelling.word_of x))) (is_spelling.again x found.right)
+      ∙ ap (spelled fault at (at + length (spelling.numeral_of x))) (is_spelling.again x found.right)
       ∙ ap (got x) (sym found.stands.ends)
 
-  abbrev tested_word : Layout F X
-  tested_word = tested test shape (λ _ at. at) (word fault spelling)
+  abbrev tested_numeral : Layout F X
+  tested_numeral = tested test shape (λ _ at. at) (numeral fault spelling)
 
-  found_tested : (text : List ℕ) (at : ℕ) (x : X) (next : ℕ) → at ≤ length text → tested_word.read text at ≡ got x next → IsFound tested_word text at x next
+  found_tested : (text : List ℕ) (at : ℕ) (x : X) (next : ℕ) → at ≤ length text → tested_numeral.read text at ≡ got x next → IsFound tested_numeral text at x next
   found_tested text at x next within is =
-      let value = then_got ((word fault spelling).read text at) (λ v mid. cond (test v) (got v mid) (bad shape at)) x next is in
+      let value = then_got ((numeral fault spelling).read text at) (λ v mid. cond (test v) (got v mid) (bad shape at)) x next is in
       let passed = chosen_got (test value.0) value.0 value.1 shape at x next value.3 in
-      let same = subst (λ (v : X). (word fault spelling).read text at ≡ got v value.1) passed.1 value.2 in
+      let same = subst (λ (v : X). (numeral fault spelling).read text at ≡ got v value.1) passed.1 value.2 in
       let read = same ∙ ap (got x) passed.2 in
-      let found = found_word text at x next within read in
-      record { right = and_from ((word fault spelling).right x) (test x) found.right (sym (ap test passed.1) ∙ passed.0); stands = found.stands }
+      let found = found_numeral text at x next within read in
+      record { right = and_from ((numeral fault spelling).right x) (test x) found.right (sym (ap test passed.1) ∙ passed.0); stands = found.stands }
 
-  again_tested : (text : List ℕ) (at : ℕ) (x : X) (next : ℕ) (rest : List ℕ) → IsFound tested_word text at x next → drop next text ≡ byte ∷ rest → tested_word.read text at ≡ got x next
+  again_tested : (text : List ℕ) (at : ℕ) (x : X) (next : ℕ) (rest : List ℕ) → IsFound tested_numeral text at x next → drop next text ≡ byte ∷ rest → tested_numeral.read text at ≡ got x next
   again_tested text at x next rest found stop =
-      let both = and_parts ((word fault spelling).right x) (test x) found.right in
-      ap (λ (answer : Answer F X). answer_then answer (λ v mid. cond (test v) (got v mid) (bad shape at))) (again_word text at x next rest (record { right = both.0; stands = found.stands }) stop)
+      let both = and_parts ((numeral fault spelling).right x) (test x) found.right in
+      ap (λ (answer : Answer F X). answer_then answer (λ v mid. cond (test v) (got v mid) (bad shape at))) (again_numeral text at x next rest (record { right = both.0; stands = found.stands }) stop)
       ∙ ap (λ (b : Bool). cond b (got x next) (bad shape at)) both.1
 
   abbrev last_byte : Layout F (Unit {0})
@@ -135,22 +135,22 @@ module _ {F X : Type 0} (fault shape : F) (spelling : Spelling X) (is_spelling :
   unfolding literal
   last_stands text at next stand = stand.stands
 
-  word_and_byte : IsExact (pair tested_word last_byte)
-  word_and_byte =
+  numeral_and_byte : IsExact (pair tested_numeral last_byte)
+  numeral_and_byte =
       record {
         found = λ text at v next are within is.
-            let one = then_got (tested_word.read text at) (λ x mid. answer_map (λ (y : Unit {0}). (x, y)) (last_byte.read text mid)) v next is in
+            let one = then_got (tested_numeral.read text at) (λ x mid. answer_map (λ (y : Unit {0}). (x, y)) (last_byte.read text mid)) v next is in
             let other = map_got (λ (y : Unit {0}). (one.0, y)) (last_byte.read text one.1) v next one.3 in
             let front = found_tested text at one.0 one.1 within one.2 in
             let back = (literal_exact shape (byte ∷ [])).found text one.1 other.0 next are front.stands.within other.1 in
-            let whole : IsFound (pair tested_word last_byte) text at (one.0, other.0) next = record {
-              right = and_from (tested_word.right one.0) (last_byte.right other.0) front.right back.right;
-              stands = stands_both text at (tested_word.bytes_of one.0) one.1 (last_byte.bytes_of other.0) next front.stands back.stands;
+            let whole : IsFound (pair tested_numeral last_byte) text at (one.0, other.0) next = record {
+              right = and_from (tested_numeral.right one.0) (last_byte.right other.0) front.right back.right;
+              stands = stands_both text at (tested_numeral.bytes_of one.0) one.1 (last_byte.bytes_of other.0) next front.stands back.stands;
             } in
-            subst (λ (w : _). IsFound (pair tested_word last_byte) text at w next) other.2 whole;
+            subst (λ (w : _). IsFound (pair tested_numeral last_byte) text at w next) other.2 whole;
         again = λ text at v next found.
-            let rights = and_parts (tested_word.right v.0) (last_byte.right v.1) found.right in
-            let p = tested_word.bytes_of v.0 in
+            let rights = and_parts (tested_numeral.right v.0) (last_byte.right v.1) found.right in
+            let p = tested_numeral.bytes_of v.0 in
             let q = last_byte.bytes_of v.1 in
             let last = stands_second text at p q next found.stands in
             let one = again_tested text at v.0 (at + length p) (drop next text) (record { right = rights.0; stands = stands_first text at p q next found.stands }) (last_stands text (at + length p) next last) in
@@ -158,8 +158,8 @@ module _ {F X : Type 0} (fault shape : F) (spelling : Spelling X) (is_spelling :
             ap (λ (answer : Answer F X). answer_then answer (λ x mid. answer_map (λ (y : Unit {0}). (x, y)) (last_byte.read text mid))) one ∙ ap (answer_map (λ (y : Unit {0}). (v.0, y))) other;
       }
 
-  pub word_exact : IsExact (before tested_word last_byte)
-  word_exact = recast_exact (λ v. v.0) (λ x. (x, tt)) (pair tested_word last_byte) word_and_byte (λ v right. refl) (λ x right. refl)
+  pub numeral_exact : IsExact (before tested_numeral last_byte)
+  numeral_exact = recast_exact (λ v. v.0) (λ x. (x, tt)) (pair tested_numeral last_byte) numeral_and_byte (λ v right. refl) (λ x right. refl)
 
 pub before_exact : {F X : Type 0} (first : Layout F X) (last : Layout F (Unit {0})) → IsExact first → IsExact last → IsExact (before first last)
 before_exact first last exact other = recast_exact (λ v. v.0) (λ x. (x, tt)) (pair first last) (pair_exact first last exact other) (λ v right. refl) (λ x right. refl)

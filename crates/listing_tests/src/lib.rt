@@ -1,0 +1,11 @@
+//! Tests of portal listings, by the calls that these crates offer.
+#![tactic(auto)]
+
+#[cfg(test)]
+mod altered;
+#[cfg(test)]
+mod printed;
+#[cfg(test)]
+mod rooms;
+#[cfg(test)]
+mod worlds;

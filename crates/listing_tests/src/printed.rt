@@ -1,0 +1,128 @@
+//! Listings of generated worlds, read again and held to the portals.
+
+use crate::worlds::{cut_box, world_of};
+use qm_geom::{Corner, Point};
+use qm_portal::World;
+use qm_prt::{Coordinate, PrtFault, PrtPortal, print, read};
+use qm_wind::Winding;
+use std::alloc::{AllocError, Global};
+use std::test::Fail;
+
+/// Whether a coordinate is that of a fraction, to the nearest millionth.
+fn is_near(coordinate: &Coordinate, over: i128, under: i128) -> bool {
+    let shown = i128::from(coordinate.millionths).saturating_mul(under);
+    let exact = over.saturating_mul(1_000_000);
+    let apart = shown.saturating_sub(exact).unsigned_abs().saturating_mul(2);
+    let whole = under > 0 && over.unsigned_abs() % under.unsigned_abs() == 0;
+    coordinate.whole == whole && apart <= under.unsigned_abs() && (!whole || apart == 0)
+}
+
+fn is_corner(listed: &[Coordinate; 3], corner: &Corner) -> bool {
+    let [x, y, z] = listed;
+    let (of_x, w) = corner.fraction(0);
+    let (of_y, _) = corner.fraction(1);
+    let (of_z, _) = corner.fraction(2);
+    is_near(x, of_x, w) && is_near(y, of_y, w) && is_near(z, of_z, w)
+}
+
+/// The place of a winding's corner in a list, if it stands there.
+fn place_of(listed: &[[Coordinate; 3]], corner: &Corner) -> Option<usize> {
+    listed.iter().position(|one| is_corner(one, corner))
+}
+
+/// Whether the corners of a winding stand in a list, each before the one that the winding has before it.
+fn goes_back(listed: &[[Coordinate; 3]], winding: &Winding) -> Option<bool> {
+    let count = winding.len();
+    let mut right = listed.len() == count;
+    for i in 1..count {
+        let place = place_of(listed, &winding.corner(i))?;
+        let next = place_of(listed, &winding.corner(i - 1))?;
+        right &= next == (if place + 1 < count { place + 1 } else { 0 });
+    }
+    Some(right)
+}
+
+/// Whether no corner comes before the first one.
+fn starts_with_least(listed: &[[Coordinate; 3]]) -> Option<bool> {
+    let [x, y, z] = listed.first()?;
+    Some(
+        listed.iter().all(|[a, b, c]| {
+            (x.millionths, y.millionths, z.millionths) <= (a.millionths, b.millionths, c.millionths)
+        }),
+    )
+}
+
+fn is_portal(portal: &PrtPortal, world: &World, p: u64) -> Option<bool> {
+    if p >= world.portals() {
+        return None;
+    }
+    let corners = portal.corners.as_slice();
+    Some(
+        portal.leaf0 == world.from(p)
+            && portal.leaf1 == world.to(p)
+            && starts_with_least(corners)?
+            && goes_back(corners, &world.pane(p).winding)?,
+    )
+}
+
+/// Whether the listing of a world says what the world does.
+fn is_listed(alloc: Global, world: &World) -> Result<bool, AllocError> {
+    let mut text = Vec::new(alloc);
+    print(alloc, world, &mut text)?;
+    let listing = match read(alloc, &text) {
+        Ok(listing) => listing,
+        Err(PrtFault::Memory) => return Err(AllocError),
+        Err(_) => return Ok(false),
+    };
+    let portals = listing.portals.as_slice();
+    Ok(
+        listing.leaves == world.leaves()
+            && portals.len() as u64 == world.portals() / 2
+            && portals.iter().enumerate().all(|(j, portal)| is_portal(portal, world, 2 * j as u64)
+                == Some(true)),
+    )
+}
+
+/// Numbers that look random, by the steps of a shift register.
+fn next(state: u64) -> u64 {
+    let first = state ^ (state << 13);
+    let second = first ^ (first >> 7);
+    second ^ (second << 17)
+}
+
+/// A coordinate near to a number, from some bits.
+fn near(middle: i32, bits: u64) -> i32 {
+    middle.saturating_add((bits % 24) as i32)
+}
+
+/// A plane that cuts one corner off.
+fn cut(state: u64) -> [[i32; 3]; 3] {
+    [
+        [near(-48, state >> 8), 64, 64],
+        [64, 64, near(-48, state >> 24)],
+        [64, near(-48, state >> 40), 64],
+    ]
+}
+
+#[test]
+fn listings_say_what_worlds_do(rt: HostRuntime) -> Result<(), Fail> {
+    let mut state = 0x9E37_79B9_7F4A_7C15;
+    let mut right = true;
+    for _ in 0..6 {
+        state = next(state);
+        let text = cut_box(rt.alloc(), &[cut(state), cut(next(state))])?;
+        let world = world_of(
+            rt.alloc(),
+            text.as_str(),
+            Point {
+                x: 0,
+                y: 0,
+                z: 200,
+                w: 1,
+            },
+        )?;
+        right &= world.portals() > 24 && is_listed(rt.alloc(), &world)?;
+    }
+    assert!(rt; right);
+    Ok(())
+}

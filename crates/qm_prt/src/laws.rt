@@ -1,0 +1,24 @@
+//! What holds of listings, whatever is printed or read.
+
+ghost use Rattle.std.specs.Prelude.{◌≡◌, ◌<◌, ℤ, pos, int_lt, unsigned_abs, IsTrue};
+ghost use Rattle.qm_decimal.specs.Printed.{printed};
+ghost use Rattle.qm_formats.specs.Exact.{IsExact};
+ghost use Rattle.qm_listing.specs.declared.listing.Listing.{Listing};
+ghost use Rattle.qm_listing.specs.Numbers.{coordinate_numeral};
+ghost use Rattle.qm_listing.specs.Grammar.{listing_layout, listing_text, can_stand};
+ghost use Rattle.qm_listing.specs.WorldListing.{coordinate_at};
+
+/// What is read of a text stands there and can stand there, and the other way round.
+pub fn exact_layout()
+    ensures { IsExact listing_layout }
+{}
+
+/// No two listings have the same text.
+pub fn one_listing()
+    ensures { (listing other : Listing) → IsTrue (can_stand listing) → IsTrue (can_stand other) → listing_text listing ≡ listing_text other → listing ≡ other }
+{}
+
+/// A coordinate of a corner stands in a text as `print6` prints its fraction.
+pub fn printed_coordinates()
+    ensures { (over under : ℤ) → 0 < unsigned_abs under → coordinate_numeral (coordinate_at over under) ≡ printed (int_lt over (pos 0)) (unsigned_abs over) (unsigned_abs under) }
+{}
