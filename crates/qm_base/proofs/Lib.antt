@@ -1,3 +1,9 @@
-pub mod Gaining
-pub mod Passing
 pub mod LyingSides
+pub mod Words
+pub mod LaneSteps
+pub mod BesideSteps
+pub mod TableSteps
+pub mod RunSteps
+pub mod WaySteps
+pub mod SweepSteps
+pub mod RowSteps

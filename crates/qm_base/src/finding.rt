@@ -1,8 +1,13 @@
-ghost use Rattle.std.specs.Prelude.{◌≡◌, length, All, IfOk};
+ghost use Rattle.std.specs.Prelude.{◌≡◌, ◌<◌, ◌*◌, length, replicate, [], All, IfOk, OnOk};
 ghost use Rattle.qm_contacts.specs.NumberedLeaves.{numbered_leaves};
 ghost use Rattle.qm_coarse_rows.specs.CoarseRow.{AreCoarseRows};
+ghost use Rattle.qm_base.specs.inner.Tables.{IsTable};
+ghost use Rattle.qm_base.specs.inner.Blocks.{IsBlockDone};
 
-use crate::flooding::coarse_row;
+use crate::column::column;
+use crate::sweeping::flooded;
+use crate::table::Table;
+use crate::ways::fill;
 use qm_bits::BitRow;
 use qm_lists::Items;
 use qm_portal::World;
@@ -14,9 +19,49 @@ pub fn base(alloc: Global, world: &World) -> Result<Items<BitRow>, AllocError>
     ensures one_each { IfOk result (λ rows. length rows ≡ length world.now.portals) }
     ensures wide { IfOk result (λ rows. All (λ row. length row ≡ length (numbered_leaves world.now.tree)) rows) }
 {
-    let mut rows = Vec::new(alloc);
-    for p in 0..world.portals() {
-        rows.push(coarse_row(alloc, world, p)?)?;
+    let table = Table::of(alloc, world)?;
+    let count = table.lanes.len();
+    let mut ways = vec![in alloc; 0; count]?;
+    let mut rows = empty_rows(alloc, count)?;
+    for block in 0..count.div_ceil(64) {
+        add_block(alloc, world, &table, block, &mut ways, &mut rows)?;
     }
     Ok(Items::from_vec(rows))
+}
+
+/// So many rows without places, which take no memory.
+fn empty_rows(alloc: Global, count: usize) -> Result<Vec<BitRow>, AllocError>
+    ensures { IfOk result (λ rows. length rows.items ≡ count) }
+{
+    let mut rows = Vec::new(alloc);
+    for _k in 0..count {
+        rows.push(BitRow::with_len(alloc, 0)?)?;
+    }
+    Ok(rows)
+}
+
+/// Writes the rows of the portals of a block of 64 lanes.
+fn add_block(
+    alloc: Global,
+    world: &World,
+    table: &Table,
+    block: usize,
+    ways: &mut [u64],
+    rows: &mut [BitRow],
+) -> Result<(), AllocError>
+    requires table { IsTable world.now.portals table.now.lanes.items table.now.kinds.items table.now.beside.items }
+    requires block { 64 * block < length world.now.portals }
+    requires ways { length ways.old ≡ length world.now.portals }
+    requires rows { length rows.old ≡ length world.now.portals }
+    ensures { OnOk result (IsBlockDone world.now table.now.lanes.items block rows.old rows.new) }
+{
+    fill(alloc, table, block, ways)?;
+    let first = 64 * block;
+    let end = (table.lanes.len() - first).min(64) + first;
+    let lanes = &table.lanes[first..end];
+    let seen = flooded(alloc, world, ways, lanes)?;
+    for j in 0..lanes.len() {
+        rows[lanes[j].portal as usize] = column(alloc, &seen, j)?;
+    }
+    Ok(())
 }

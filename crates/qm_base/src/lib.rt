@@ -1,9 +1,14 @@
 //! The coarse rows of all portals.
 #![tactic(auto)]
 
+mod beside;
+mod column;
 mod finding;
-mod flooding;
-mod following;
+mod lane;
+mod runs;
 mod sides;
+mod sweeping;
+mod table;
+mod ways;
 
 pub use finding::base;

@@ -6,24 +6,35 @@ ghost use Rattle.qm_convex.specs.Sides.{HasCornerInFront, HasCornerBehind};
 use qm_geom::Plane;
 use qm_wind::{Lies, Winding};
 
-/// Whether a winding has a corner strictly in front of a plane.
-pub(crate) fn has_corner_in_front(winding: &Winding, plane: &Plane) -> bool
-    ensures { IsTrue result ↔ HasCornerInFront winding.now plane.now }
-{
-    let _corners = winding.len();
-    match winding.lies(plane) {
-        Lies::Front | Lies::Across => true,
-        Lies::Back | Lies::On => false,
-    }
+/// Whether a winding has a corner strictly in front of a plane, and whether it has one strictly behind it.
+#[derive(Clone, Copy)]
+pub(crate) struct Sides {
+    pub(crate) front: bool,
+    pub(crate) behind: bool,
 }
 
-/// Whether a winding has a corner strictly behind a plane.
-pub(crate) fn has_corner_behind(winding: &Winding, plane: &Plane) -> bool
-    ensures { IsTrue result ↔ HasCornerBehind winding.now plane.now }
+/// On which sides of a plane a winding has corners.
+pub(crate) fn sides_of(winding: &Winding, plane: &Plane) -> Sides
+    ensures front { IsTrue result.front ↔ HasCornerInFront winding.now plane.now }
+    ensures behind { IsTrue result.behind ↔ HasCornerBehind winding.now plane.now }
 {
     let _corners = winding.len();
     match winding.lies(plane) {
-        Lies::Back | Lies::Across => true,
-        Lies::Front | Lies::On => false,
+        Lies::Front => Sides {
+            front: true,
+            behind: false,
+        },
+        Lies::Back => Sides {
+            front: false,
+            behind: true,
+        },
+        Lies::Across => Sides {
+            front: true,
+            behind: true,
+        },
+        Lies::On => Sides {
+            front: false,
+            behind: false,
+        },
     }
 }

@@ -1,0 +1,5 @@
+use Rattle.qm_base.specs.inner.Blocks.{WrittenSoFar}
+use Rattle.qm_base.proofs.finding.add_block.Given as goal
+
+abbrev pub invariant-loop-j : goal.invariant-loop-j
+invariant-loop-j l = WrittenSoFar l.world l.lanes l.j l.fn.rows l.rows

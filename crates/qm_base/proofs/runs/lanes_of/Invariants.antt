@@ -1,0 +1,5 @@
+use Rattle.qm_base.specs.inner.Runs.{LanesSoFar}
+use Rattle.qm_base.proofs.runs.lanes_of.Given as goal
+
+abbrev pub invariant-loop-j : goal.invariant-loop-j
+invariant-loop-j l = LanesSoFar l.kinds l.kind l.j l.lanes

@@ -1,0 +1,33 @@
+use Rattle.std.proofs.Common.{◌≡◌, ℕ, ◌*◌, ◌^◌, ◌<◌, List, get_or, length, take, sym, refl, subst, arith}
+use Rattle.std.proofs.lemmas.List.{take_all}
+use Rattle.qm_base.specs.inner.Sweeping.{IsSpreadBy}
+use Rattle.qm_base.proofs.SweepSteps.{spread_more, spread_none, spread_all, leaving_within}
+use Rattle.qm_base.proofs.sweeping.spread.Goals as goal
+
+pub to-to-requires : goal.to-to-requires
+to-to-requires c = leaving_within c.args.world.now.portals c.args.leaf c.leaving-leaving.result.now c.leaving-leaving.ensures c.loop-q.q-index 0 c.loop-q-test.true
+
+pub offset_bounds-ways-q : goal.offset_bounds-ways-q
+offset_bounds-ways-q c =
+    let within = leaving_within c.args.world.now.portals c.args.leaf c.leaving-leaving.result.now c.leaving-leaving.ensures c.loop-q.q-index 0 c.loop-q-test.true in
+    let each = c.requires.one_each in
+    omega (arith, within, each)
+
+pub bounds-ways-q : goal.bounds-ways-q
+bounds-ways-q c =
+    let within = leaving_within c.args.world.now.portals c.args.leaf c.leaving-leaving.result.now c.leaving-leaving.ensures c.loop-q.q-index 0 c.loop-q-test.true in
+    let each = c.requires.one_each in
+    omega (arith, within, each)
+
+pub loop-q-preserved : goal.loop-q-preserved
+loop-q-preserved c =
+    let value = c.to-to.ensures.value in
+    let places = c.leaving-leaving.result.now in
+    rw value.2 (spread_more c.args.world.now.portals c.args.ways.now c.args.due c.args.seen.now places c.loop-q.q-index (get_or places c.loop-q.q-index 0) c.loop-q.seen value.0 c.loop-q-test.true refl c.loop-q.invariant value.1
+    (let within = c.to-to.ensures.within in let to = value.2 in let wide = c.requires.wide in omega (arith, within, to, wide)))
+
+pub returns : goal.returns
+returns c =
+    let places = c.leaving-leaving.result.now in
+    spread_all c.args.world.now.portals c.args.ways.now c.args.due c.args.seen.now c.args.leaf places c.loop-q.seen c.leaving-leaving.ensures
+    (subst (λ (list : List ℕ). IsSpreadBy c.args.world.now.portals c.args.ways.now list c.args.due c.args.seen.now c.loop-q.seen) (take_all c.loop-q.q-index places (let end = c.loop-q-test.false in omega (arith, end))) c.loop-q.invariant)

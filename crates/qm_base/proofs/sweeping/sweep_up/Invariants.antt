@@ -1,0 +1,5 @@
+use Rattle.qm_base.specs.inner.Sweeping.{SweepUpTo}
+use Rattle.qm_base.proofs.sweeping.sweep_up.Given as goal
+
+abbrev pub invariant-loop-leaf : goal.invariant-loop-leaf
+invariant-loop-leaf l = SweepUpTo l.world l.ways l.leaf l.fn.seen l.seen l.fn.passed l.passed l.due

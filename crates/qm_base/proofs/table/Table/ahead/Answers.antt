@@ -1,0 +1,17 @@
+use Rattle.std.proofs.Common.{◌≡◌, ◌∙◌, ap, get_or, [], sym}
+use Rattle.std.proofs.lemmas.List.{get_or_default}
+use Rattle.qm_base.specs.declared.beside.Beside.{Beside}
+use Rattle.qm_base.specs.inner.Tables.{ahead, beside_at}
+use Rattle.qm_base.proofs.table.Table.ahead.Goals as goal
+
+pub returns-then-kind : goal.returns-then-kind
+unfolding ahead
+returns-then-kind c =
+    let read : c.index-beside.result.now ≡ beside_at c.args.self.now.beside.items c.args.kind.now.class = c.index-beside.ensures ∙ get_or_default c.args.self.now.beside.items c.args.kind.now.class c.index-beside.result.now (record { front = []; behind = [] }) c.requires in
+    rw c.if-kind.true (ap (λ (b : Beside). b.front) read)
+
+pub returns-else-kind : goal.returns-else-kind
+unfolding ahead
+returns-else-kind c =
+    let read : c.index-beside.result.now ≡ beside_at c.args.self.now.beside.items c.args.kind.now.class = c.index-beside.ensures ∙ get_or_default c.args.self.now.beside.items c.args.kind.now.class c.index-beside.result.now (record { front = []; behind = [] }) c.requires in
+    rw c.if-kind.false (ap (λ (b : Beside). b.behind) read)
