@@ -1,19 +1,23 @@
 //! Goes the way of `qmapc compile` up to a named phase, and prints counts of what is there then, so that phases are timed
 //! as differences. `bench/compile.sh` times it.
 //!
-//! The words are a phase (`read`, `parse`, `brushes`, `build` or `touches`) and the name of a map.
+//! The words are a phase (`read`, `parse`, `brushes`, `build`, `touches` or `flood`) and the name of a map.
 #![tactic(auto)]
 
 ghost use Rattle.qm_grammar.specs.Valid.{IsValid};
+ghost use Rattle.qm_contacts.specs.Contacts.{AreContacts};
 
 use qm_brush::brushes;
 use qm_build::build;
-use qm_geom::PlaneBook;
+use qm_flood::{Flood, Origin, flood};
+use qm_geom::{PlaneBook, Point};
 use qm_grammar::TEXT_LIMIT;
 use qm_map::parse;
 use qm_mapfile::MapFile;
-use qm_portal::touches;
+use qm_portal::{TouchList, touches};
 use qm_shelf::{FolderShelf, read_whole};
+use qm_tree::Tree;
+use std::alloc::{AllocError, Global};
 use std::rt::Files;
 use std::{env, io};
 
@@ -21,7 +25,7 @@ fn main(rt: HostRuntime) -> io::Result<()> {
     let mut words = env::args(&rt)?.skip(1);
     match (words.next(), words.next()) {
         (Some(phase), Some(name)) => run_up_to(&rt, phase.as_str(), name.as_str()),
-        _ => println!(rt; "usage: compile_bench read|parse|brushes|build|touches MAP"),
+        _ => println!(rt; "usage: compile_bench read|parse|brushes|build|touches|flood MAP"),
     }
 }
 
@@ -59,9 +63,35 @@ fn go_on<R: AllocGlobal + Print>(rt: &R, phase: &str, map: &MapFile) -> io::Resu
     let tree = build(rt.alloc(), &list, &book)?;
     let nodes = tree.nodes();
     let leaves = tree.leaves();
-    if phase == "touches" {
+    if phase == "touches" || phase == "flood" {
         let contacts = touches(rt.alloc(), &tree)?;
+        if phase == "flood" {
+            let verdict = verdict_of(&flood_of(rt.alloc(), &contacts, &tree)?);
+            return println!(rt; "nodes {nodes}, leaves {leaves}, {verdict}");
+        }
         return println!(rt; "nodes {nodes}, leaves {}", contacts.leaves());
     }
     println!(rt; "brushes {brushes}, planes {planes}, nodes {nodes}, leaves {leaves}")
+}
+
+/// The flood for an entity that stands outside, in a corner of the cube.
+fn flood_of(alloc: Global, contacts: &TouchList, tree: &Tree) -> Result<Flood, AllocError>
+    requires { AreContacts tree.now contacts.now }
+{
+    let point = Point {
+        x: 4095,
+        y: 4095,
+        z: 4095,
+        w: 1,
+    };
+    flood(alloc, contacts, tree, &[Origin { entity: 1, point }])
+}
+
+/// What a flood found, in a word.
+fn verdict_of(flood: &Flood) -> &'static str {
+    match flood {
+        Flood::Sealed(_) => "sealed",
+        Flood::NoEntity => "no entity",
+        Flood::Leak { .. } => "leak",
+    }
 }

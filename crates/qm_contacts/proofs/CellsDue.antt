@@ -22,7 +22,7 @@ use Rattle.qm_contacts.specs.Meeting.{leaves_below, then_step, meetings_at, meet
 use Rattle.qm_contacts.specs.Touching.{Touching, AreTouchings, none}
 use Rattle.qm_contacts.specs.Outside.{TouchesOutside}
 use Rattle.qm_contacts.specs.Contacts.{Contacts, AreContacts}
-use Rattle.qm_contacts.specs.inner.Descent.{HasPointsBelow, AreCellFacets}
+use Rattle.qm_contacts.specs.inner.Descent.{HasPointsBelow, AreBounds, AreWallFacets}
 use Rattle.qm_contacts.specs.inner.Pieces.{walled_cell}
 use Rattle.qm_contacts.specs.inner.Due.{DueCell, DueCellBelow, IsDueCell, ComesToTouchings, AreOutside, ComesToOutside}
 use Rattle.qm_contacts.proofs.Pieces.{touchings_append}
@@ -84,17 +84,19 @@ module _ (tree : Tree) (entry : DueCellBelow) (here : NodeRecord) (is : IsNodePa
     ways_here i way at = known.ways_below i way (ap (λ (p : Partition). slice_get (ways p) i) is.part_is ∙ at)
 
     -- what is known of them
-    pub front_known : front_cell.child ≡ here.front → AreCellFacets tree.planes (then_step entry.above here.plane true) front_cell.on_walls front_cell.on_steps → IsDueCell tree front_due
-    front_known child facets = record {
+    pub front_known : front_cell.child ≡ here.front → AreBounds tree.planes (then_step entry.above here.plane true) front_cell.bounds → AreWallFacets tree.planes (then_step entry.above here.plane true) front_cell.on_walls → IsDueCell tree front_due
+    front_known child bounds facets = record {
       stands = record { is_part = is.front_stands.is_part; child_is = child ∙ is.front_stands.child_is };
+      bounds = bounds;
       facets = facets;
       points = points_in_front tree.planes entry.above here.plane is.front is.back points_here;
       ways_below = ways_in_front tree.shape entry.above here.plane is.front is.back entry.k ways_here;
     }
 
-    pub back_known : back_cell.child ≡ here.back → AreCellFacets tree.planes (then_step entry.above here.plane false) back_cell.on_walls back_cell.on_steps → IsDueCell tree back_due
-    back_known child facets = record {
+    pub back_known : back_cell.child ≡ here.back → AreBounds tree.planes (then_step entry.above here.plane false) back_cell.bounds → AreWallFacets tree.planes (then_step entry.above here.plane false) back_cell.on_walls → IsDueCell tree back_due
+    back_known child bounds facets = record {
       stands = record { is_part = is.back_stands.is_part; child_is = child ∙ is.back_stands.child_is };
+      bounds = bounds;
       facets = facets;
       points = points_behind tree.planes entry.above here.plane is.front is.back points_here;
       ways_below = ways_behind tree.shape entry.above here.plane is.front is.back entry.k ways_here;
@@ -158,9 +160,10 @@ all_contacts tree cell contacts touchings outside = record { touching = touching
         (at k (omega (arith, within, length-ways tree.shape, outside.one_each))).1 touches
 
 -- what is known at the root
-pub root_known : (tree : Tree) (cell : DueCell) → HasPoints tree → cell.child ≡ child_of tree.shape 0 0 → AreCellFacets tree.planes [] cell.on_walls cell.on_steps → IsDueCell tree (root_due tree cell)
-root_known tree cell have child facets = record {
+pub root_known : (tree : Tree) (cell : DueCell) → HasPoints tree → cell.child ≡ child_of tree.shape 0 0 → AreBounds tree.planes [] cell.bounds → AreWallFacets tree.planes [] cell.on_walls → IsDueCell tree (root_due tree cell)
+root_known tree cell have child bounds facets = record {
   stands = record { is_part = (root_stands tree.shape).is_part; child_is = child };
+  bounds = bounds;
   facets = facets;
   points = points_at_root tree have;
   ways_below = λ i way at. ap (slice_get (ways tree.shape)) {x = 0 + i} {y = i} (omega arith) ∙ at;

@@ -1,5 +1,5 @@
 -- From the root down: each leaf below has a point, so each node has a section, and each side of it the facets of its cell.
-use Rattle.std.proofs.Common.{◌≡◌, ℕ, Bool, true, false, List, [], ◌∷◌, ◌++◌, All, map, Contains, sym, ap, ◌∙◌, subst, arith, Some, ◌⊎◌, ⊎_elim, ◌↔◌}
+use Rattle.std.proofs.Common.{◌≡◌, ℕ, pos, ◌<ℤ◌, Bool, true, false, List, [], ◌∷◌, ◌++◌, All, map, Contains, sym, ap, ◌∙◌, subst, arith, Some, ◌⊎◌, ⊎_elim, ◌↔◌}
 use Rattle.std.specs.Prelude.{slice_get}
 use Rattle.std.specs.List.{AllZip}
 use Rattle.std.proofs.lemmas.List.{map-append}
@@ -19,10 +19,10 @@ use Rattle.qm_space.proofs.SameSides.{same_in_front}
 use Rattle.qm_space.proofs.Cubes.{cube_is_cell}
 use Rattle.qm_convex.specs.Winding.{Winding, IsInRegion}
 use Rattle.qm_convex.specs.World.{IsCubeFace}
-use Rattle.qm_convex.specs.inner.Facets.{IsOnFacet, Facet, facing_in, IsFacet, HasNoFacet, AreFacetsOn, AreFacets, none, facet, hidden, AreCut, IsSection}
+use Rattle.qm_convex.specs.inner.Facets.{IsOnFacet, Facet, facing_in, IsFacet, HasNoFacet, AreFacetsOn, none, facet, hidden, AreCut, IsSection}
 use Rattle.qm_convex.proofs.Central.{has_a_point}
 use Rattle.qm_convex.proofs.ImpliedPlanes.{beside_of_cell}
-use Rattle.qm_convex.proofs.Facets.{crosses_cell, facets_append, left_of_side, section_facet}
+use Rattle.qm_convex.proofs.Facets.{crosses_cell, left_of_side}
 use Rattle.qm_convex.proofs.CubeFacets.{face_is_facet, cube_facets}
 use Rattle.qm_partition.specs.Partition.{Partition, leaf, node}
 use Rattle.qm_partition.specs.Tree.{Tree}
@@ -30,7 +30,7 @@ use Rattle.qm_partition.specs.Ways.{Way, after_step, ways, turned_to, cell_of, H
 use Rattle.qm_contacts.specs.Meeting.{then_step}
 use Rattle.qm_contacts.specs.Outside.{TouchesOutside}
 use Rattle.qm_contacts.specs.inner.Pieces.{walled_cell}
-use Rattle.qm_contacts.specs.inner.Descent.{HasPointsBelow, AreCellFacets}
+use Rattle.qm_contacts.specs.inner.Descent.{HasPointsBelow, AreBounds, AreWallFacets}
 use Rattle.qm_contacts.proofs.Pieces.{walled_split}
 
 -- one step more
@@ -110,46 +110,39 @@ section_is_no_wall planes above n side wall x on in_cube is_wall same =
     let front = same_in_front h wall x same (All-contains (λ g. IsInFront g x) cube_walls wall ((cube_is_cell x).0 in_cube) is_wall) in
     absurd (omega (arith, linear))
 
-pub facets_at_root : (planes : List Plane) (faces : List Winding) → AllZip IsCubeFace faces cube_walls → AreCellFacets planes [] (map facing_in faces) []
-facets_at_root planes faces are = record { walls = cube_facets faces are; steps = none; apart = All-nil (λ g. (wall : Plane) → Contains cube_walls wall → HasSameSides g wall → ⊥) }
+pub facets_at_root : (planes : List Plane) (faces : List Winding) → AllZip IsCubeFace faces cube_walls → AreWallFacets planes [] (map facing_in faces)
+facets_at_root planes faces are = record { walls = cube_facets faces are; apart = All-nil (λ g. (wall : Plane) → Contains cube_walls wall → HasSameSides g wall → ⊥) }
 
--- the facets of the cell on one side of a node
-pub facets_below : (planes : List Plane) (above : Way) (n : ℕ) (side : Bool) (section : Winding) (on_walls on_steps walls steps : List Facet) → IsSection (walled_cell planes above) (plane_at planes n) section → AreCellFacets planes above on_walls on_steps → AreCut (turned side (plane_at planes n)) on_walls walls → AreCut (turned side (plane_at planes n)) on_steps steps → AreCellFacets planes (then_step above n side) walls (steps ++ record { inward = turned side (plane_at planes n); winding = section } ∷ [])
-facets_below planes above n side section on_walls on_steps walls steps is are cut_walls cut_steps = record {
-  walls = subst (λ (c : List Plane). AreFacetsOn c cube_walls walls) (sym longer) (left_of_side cell h side section is cube_walls on_walls walls (λ x inside. (cube_is_cell x).0 (in_cube x inside)) are.walls cut_walls);
-  steps = subst (λ (c : List Plane). AreFacetsOn c (cell_of planes (then_step above n side)) all_steps) (sym longer) (subst (λ (c : List Plane). AreFacetsOn half c all_steps) (sym (cell-then_step planes above n side)) (
-      facets_append half (cell_of planes above) (turned side h ∷ []) steps (record { inward = turned side h; winding = section } ∷ [])
-      (left_of_side cell h side section is (cell_of planes above) on_steps steps (λ x inside. ((walled_split planes above x).0 inside).1) are.steps cut_steps)
-      (facet (section_facet cell h side section is) none)));
+-- the facets on walls of the cell on one side of a node
+pub facets_below : (planes : List Plane) (above : Way) (n : ℕ) (side : Bool) (section : Winding) (on_walls walls : List Facet) → IsSection (walled_cell planes above) (plane_at planes n) section → AreWallFacets planes above on_walls → AreCut (turned side (plane_at planes n)) on_walls walls → AreWallFacets planes (then_step above n side) walls
+facets_below planes above n side section on_walls walls is are cut_walls = record {
+  walls = subst (λ (c : List Plane). AreFacetsOn c cube_walls walls) (sym (walled-then_step planes above n side)) (left_of_side (walled_cell planes above) (plane_at planes n) side section is cube_walls on_walls walls (λ x inside. (cube_is_cell x).0 (in_cube x inside)) are.walls cut_walls);
   apart = subst (All (λ g. (wall : Plane) → Contains cube_walls wall → HasSameSides g wall → ⊥)) (sym (cell-then_step planes above n side))
-      (All-push (λ g. (wall : Plane) → Contains cube_walls wall → HasSameSides g wall → ⊥) (cell_of planes above) (turned side h) are.apart
+      (All-push (λ g. (wall : Plane) → Contains cube_walls wall → HasSameSides g wall → ⊥) (cell_of planes above) (turned side (plane_at planes n)) are.apart
       (λ wall is_wall same. section_is_no_wall planes above n side wall point.0 ((is.points point.0).0 point.1).0 (in_cube point.0 ((is.points point.0).0 point.1).1) is_wall same));
 }
   where
-    cell : List Plane
-    cell = walled_cell planes above
-
-    h : Plane
-    h = plane_at planes n
-
-    half : List Plane
-    half = walled_cell planes above ++ turned side (plane_at planes n) ∷ []
-
-    all_steps : List Facet
-    all_steps = steps ++ record { inward = turned side (plane_at planes n); winding = section } ∷ []
-
-    longer : walled_cell planes (then_step above n side) ≡ walled_cell planes above ++ turned side (plane_at planes n) ∷ []
-    longer = walled-then_step planes above n side
-
     in_cube : (x : Point) → IsInCell (walled_cell planes above) x → IsInCube x
     in_cube x inside = ((walled_split planes above x).0 inside).0
 
     point : (p : Point) × IsInRegion section p
     point = has_a_point section is.convex
 
--- the facets of a cell, those on walls first
-pub all_facets : (planes : List Plane) (way : Way) (on_walls on_steps : List Facet) → AreCellFacets planes way on_walls on_steps → AreFacets (walled_cell planes way) (on_walls ++ on_steps)
-all_facets planes way on_walls on_steps are = facets_append (walled_cell planes way) cube_walls (cell_of planes way) on_walls on_steps are.walls are.steps
+-- ---- bounds
+
+pub bounds_at_root : (planes : List Plane) → AreBounds planes [] cube_walls
+bounds_at_root planes x weight = ((λ inside. inside), (λ inside. inside))
+
+-- the bounds of the cell on one side of a node
+pub bounds_below : (planes : List Plane) (above : Way) (n : ℕ) (side : Bool) (bounds half : List Plane) → AreBounds planes above bounds → ((x : Point) → pos 0 <ℤ x.w → IsInCell half x ↔ (IsInCell bounds x × IsInFront (turned side (plane_at planes n)) x)) → AreBounds planes (then_step above n side) half
+bounds_below planes above n side bounds half are added x weight = (
+  (λ inside.
+      let both = All-pop (λ g. IsInFront g x) (walled_cell planes (then_step above n side)) (walled_cell planes above) (Some (turned side (plane_at planes n))) (walled-then_step planes above n side) inside in
+      (added x weight).1 ((are x weight).0 both.0, both.1)),
+  (λ inside.
+      let both = (added x weight).0 inside in
+      subst (λ (cell : List Plane). IsInCell cell x) (sym (walled-then_step planes above n side)) (All-push (λ g. IsInFront g x) (walled_cell planes above) (turned side (plane_at planes n)) ((are x weight).1 both.0) both.1)),
+)
 
 -- ---- the outside
 
@@ -180,15 +173,15 @@ none_on cell planes none = All-nil (HasNoFacet cell)
 none_on cell planes (hidden {h = h} {planes = others} never have) = All-cons (HasNoFacet cell) h others never (none_on cell others have)
 
 -- the leaf at the end of the way touches the outside exactly where its cell has a facet on a wall
-pub touches_outside : (tree : Tree) (k : ℕ) (way : Way) (found : Facet) (rest on_steps : List Facet) → slice_get (ways tree.shape) k ≡ Some way → AreCellFacets tree.planes way (found ∷ rest) on_steps → TouchesOutside tree k
-touches_outside tree k way found rest on_steps way_is are =
+pub touches_outside : (tree : Tree) (k : ℕ) (way : Way) (found : Facet) (rest : List Facet) → slice_get (ways tree.shape) k ≡ Some way → AreWallFacets tree.planes way (found ∷ rest) → TouchesOutside tree k
+touches_outside tree k way found rest way_is are =
     let first = first_wall (walled_cell tree.planes way) cube_walls found rest (All-contains_itself cube_walls) are.walls in
     let point = has_a_point found.winding first.1.convex in
     let both = (facet_outside tree.planes way found.inward first.0 are.apart point.0).0 ((first.1.points point.0).0 point.1) in
     record { way = way; way_is = way_is; wall = found.inward; is_wall = first.0; point = point.0; on_face = both.0; in_cell = both.1 }
 
-pub not_outside : (tree : Tree) (k : ℕ) (way : Way) (on_steps : List Facet) → slice_get (ways tree.shape) k ≡ Some way → AreCellFacets tree.planes way [] on_steps → TouchesOutside tree k → ⊥
-not_outside tree k way on_steps way_is are outside =
+pub not_outside : (tree : Tree) (k : ℕ) (way : Way) → slice_get (ways tree.shape) k ≡ Some way → AreWallFacets tree.planes way [] → TouchesOutside tree k → ⊥
+not_outside tree k way way_is are outside =
     let none_there = All-contains (HasNoFacet (walled_cell tree.planes way)) cube_walls outside.wall (none_on (walled_cell tree.planes way) cube_walls are.walls) outside.is_wall in
     none_there outside.point ((facet_outside tree.planes way outside.wall outside.is_wall are.apart outside.point).1 (outside.on_face, subst (λ (w : Way). IsInCell (cell_of tree.planes w) outside.point) same outside.in_cell))
   where

@@ -1,13 +1,14 @@
 -- A polygon that is due at a child: what is left of it there, and how much there is to do.
-use Rattle.std.proofs.Common.{◌≡◌, ◌≤◌, ◌<◌, ℕ, ◌+◌, false, Option, Some, None, List, [], ◌∷◌, ◌++◌, map, refl, sym, ap, ◌∙◌, subst, arith}
-use Rattle.std.specs.Prelude.{slice_get, sum_by, All}
+use Rattle.std.proofs.Common.{◌≡◌, ◌<◌, ℕ, ◌+◌, ◌^◌, false, Option, Some, None, List, [], ◌∷◌, ◌++◌, map, refl, sym, ap, ◌∙◌, subst, arith}
+use Rattle.std.specs.Prelude.{slice_get, All}
 use Rattle.std.specs.Option.{MatchOption}
 use Rattle.std.proofs.lemmas.List.{map-append, append-nil, append_assoc}
-use Rattle.std.proofs.lemmas.List.Elements.{All-nil, All-cons, All-head, All-append}
+use Rattle.std.proofs.lemmas.List.Elements.{All-nil, All-cons, All-pop, All-append}
 use Rattle.std.proofs.lemmas.List.Sums.{sum_by-append}
-use Rattle.qm_numbers.proofs.Powers.{some_power, higher_power, two_powers}
-use Rattle.qm_lists.specs.inner.Stack.{IsLeft}
-use Rattle.qm_lists.proofs.KeptStacks.{leaves_itself, leaves_then, under_way_first, under_way_goes_on, under_way_last}
+use Rattle.qm_numbers.proofs.Powers.{some_power, two_powers}
+use Rattle.qm_lists.specs.inner.Stack.{ComesTo, IsLeft, Leaves}
+use Rattle.qm_lists.proofs.Stacks.{taken, last_of_map}
+use Rattle.qm_lists.proofs.KeptStacks.{leaves_itself, under_way_first, under_way_goes_on, under_way_last}
 use Rattle.qm_space.specs.Plane.{Plane, flipped}
 use Rattle.qm_space.specs.Turned.{turned}
 use Rattle.qm_space.specs.Book.{plane_at}
@@ -30,7 +31,7 @@ use Rattle.qm_contacts.specs.inner.Due.{StandsFor, DuePolygon, DueBelow, due_of,
 use Rattle.qm_contacts.proofs.PushedDown.{IsNodePart, node_part, leaf_part, node_within, piece_due_at_leaf, halves_due_at_node}
 use Rattle.qm_wind.specs.Split.{IsSplit}
 use Rattle.qm_wind.specs.declared.halves.Halves.{Halves}
-use Rattle.qm_portal.specs.inner.Pushes.{IsChildOf, HasPieces, IsDue, polygon_at, weight_at, polygon_weight, LeavesPolygons, IsPushed, MayBeDue, IsPushing, ComesDown, half_at}
+use Rattle.qm_portal.specs.inner.Pushes.{IsChildOf, HasPieces, IsDue, polygon_at, weight_at, polygon_weight, LeavesPolygons, IsPushed, MayBeDue, IsPushing, rest_at, GoesDown, half_at}
 
 -- a node that can be due is one of the tree
 pub due_within : (tree : Tree) (winding : Winding) (n : ℕ) → MayBeDue tree (polygon_at winding (Node n)) → n < node_count tree.shape
@@ -87,16 +88,6 @@ module _ (tree : Tree) (n : ℕ) (here : NodeRecord) (g : Plane) (at : slice_get
         rest = λ all comes. halves_due_at_node tree.planes tree.shape entry here halves.front halves.back all is front_half back_half comes;
       }
 
-  half_weight : (half : Option Winding) (child : Child) → sum_by (polygon_weight tree) (half_at half child) ≤ weight_at tree child
-  half_weight None child = omega arith
-  half_weight (Some winding) child = omega arith
-
-  -- and they have less to do
-  halves_lighter : (front back : Option Winding) → sum_by (polygon_weight tree) (half_at back here.back ++ half_at front here.front) < weight_at tree (Node n)
-  halves_lighter front back =
-      let later = sides_come_later tree.shape n here at in
-      omega (arith, sum_by-append (polygon_weight tree) (half_at back here.back) (half_at front here.front), half_weight front here.front, half_weight back here.back, two_powers _ _ _ later.0 later.1)
-
 -- at a leaf the polygon is done
 pub done_at_leaf : (tree : Tree) (winding : Winding) (j : ℕ) → LeavesPolygons tree (polygon_at winding (Leaf j)) [] (record { leaf = j; winding = winding } ∷ [])
 done_at_leaf tree winding j entry same known = record {
@@ -109,91 +100,147 @@ done_at_leaf tree winding j entry same known = record {
       subst (λ (w : Winding). ComesToPieces tree.planes entry (record { leaf = j; winding = w } ∷ [] ++ all)) winding_is (piece_due_at_leaf tree.planes entry j all known.convex part comes);
 }
 
+-- ---- stacks
+
+-- where what one leaves ends in another, that one may be taken off in its turn
+pub leaves_then_last : {Entry Kept Item : Type 0} (kept_of : Entry → Kept) (IsKnown : Entry → Type 0) (By : Entry → List Item → Type 0) (first next : Kept) (others more : List Kept) (own : List Item) → Leaves kept_of IsKnown By first (others ++ next ∷ []) [] → Leaves kept_of IsKnown By next more own → Leaves kept_of IsKnown By first (others ++ more) own
+leaves_then_last {Entry} {Kept} {Item} kept_of IsKnown By first next others more own one then entry same known = from (one entry same known)
+  where
+    from : IsLeft kept_of IsKnown By entry (others ++ next ∷ []) [] → IsLeft kept_of IsKnown By entry (others ++ more) own
+    from left =
+        let last = last_of_map kept_of left.entries others next left.kept_is in
+        let all_known = All-pop IsKnown left.entries last.0 (Some last.1) last.2 left.known in
+        let its = then last.1 last.4 all_known.1 in
+        record {
+          entries = last.0 ++ its.entries;
+          kept_is = map-append kept_of last.0 its.entries ∙ (λ i. last.3 i ++ its.kept_is i);
+          known = All-append IsKnown last.0 its.entries all_known.0 its.known;
+          rest = taken By (By entry) last.0 its.entries last.1 [] own (λ rest comes. left.rest rest (subst (λ (entries : List Entry). ComesTo By entries rest) (sym last.2) comes)) its.rest;
+        }
+
 -- ---- by what code answers
 
-module _ (tree : Tree) (n : ℕ) (here : NodeRecord) (g : Plane) (at : slice_get (nodes_of tree.shape 0 0) n ≡ Some here) (plane_is : slice_get tree.planes here.plane ≡ Some g) (winding : Winding) where
-  -- both halves are due
-  pub parted_at : (halves : Halves) (old middle new : List DuePolygon) → IsSplit halves winding g → middle ≡ old ++ half_at halves.back here.back → new ≡ middle ++ half_at halves.front here.front → IsPushed tree (polygon_at winding (Node n)) old new [] []
-  parted_at halves old middle new split first second = record {
-    others = half_at halves.back here.back ++ half_at halves.front here.front;
-    own = [];
-    stack_is = second ∙ ap (λ ds. ds ++ half_at halves.front here.front) first ∙ append_assoc old (half_at halves.back here.back) (half_at halves.front here.front);
-    done_is = refl;
-    leaves = halves_left tree n here g at plane_is winding halves split;
-    lighter = halves_lighter tree n here g at plane_is halves.front halves.back;
-  }
+module _ (tree : Tree) (n : ℕ) (here : NodeRecord) (g : Plane) (at : slice_get (nodes_of tree.shape 0 0) n ≡ Some here) (plane_is : slice_get tree.planes here.plane ≡ Some g) where
+  -- the children weigh less than the node, also with one more
+  children_lighter : (3 ^ nodes_from (node_count tree.shape) here.front) + (3 ^ nodes_from (node_count tree.shape) here.back) < weight_at tree (Node n)
+  children_lighter = let later = sides_come_later tree.shape n here at in two_powers _ _ _ later.0 later.1
 
-  module _ (from : Child) (convex : IsConvex winding) (so_far : ComesDown tree winding from (Node n)) where
+  pub front_lighter : weight_at tree here.front < weight_at tree (Node n)
+  front_lighter = let l = children_lighter in omega (arith, l)
+
+  pub back_lighter : weight_at tree here.back < weight_at tree (Node n)
+  back_lighter = let l = children_lighter in omega (arith, l)
+
+  pub none_lighter : 1 < weight_at tree (Node n)
+  none_lighter =
+      let l = children_lighter in
+      omega (arith, l, some_power (nodes_from (node_count tree.shape) here.front), some_power (nodes_from (node_count tree.shape) here.back))
+
+  module _ (old new : Winding) (convex : IsConvex old) (due : List DuePolygon) where
     -- all of it goes one way
-    pub goes_front : IsWhollyInFront winding g → ComesDown tree winding from here.front
-    goes_front ahead = record {
-      leaves = leaves_then due_of (IsDue tree) (ComesToPieces tree.planes) (polygon_at winding from) (polygon_at winding (Node n)) (polygon_at winding here.front ∷ []) [] so_far.leaves
-          (halves_left tree n here g at plane_is winding (record { front = Some winding; back = None }) (split_front winding g convex ahead));
-      later = let l = (sides_come_later tree.shape n here at).0 in omega (arith, l, so_far.later);
+    pub goes_front : new ≡ old → IsWhollyInFront old g → GoesDown tree old (Node n) new (Some here.front) due due
+    goes_front same ahead = record {
+      others = [];
+      stack_is = sym (append-nil due);
+      leaves = subst (λ (w : Winding). LeavesPolygons tree (polygon_at old (Node n)) (polygon_at w here.front ∷ []) []) (sym same)
+          (halves_left tree n here g at plane_is old (record { front = Some old; back = None }) (split_front old g convex ahead));
+      lighter = let l = front_lighter in omega (arith, l);
     }
 
-    pub goes_back : IsWhollyInFront winding (flipped g) → ComesDown tree winding from here.back
-    goes_back behind = record {
-      leaves = leaves_then due_of (IsDue tree) (ComesToPieces tree.planes) (polygon_at winding from) (polygon_at winding (Node n)) (polygon_at winding here.back ∷ []) [] so_far.leaves
-          (halves_left tree n here g at plane_is winding (record { front = None; back = Some winding }) (split_back winding g convex behind));
-      later = let l = (sides_come_later tree.shape n here at).1 in omega (arith, l, so_far.later);
+    pub goes_back : new ≡ old → IsWhollyInFront old (flipped g) → GoesDown tree old (Node n) new (Some here.back) due due
+    goes_back same behind = record {
+      others = [];
+      stack_is = sym (append-nil due);
+      leaves = subst (λ (w : Winding). LeavesPolygons tree (polygon_at old (Node n)) (polygon_at w here.back ∷ []) []) (sym same)
+          (halves_left tree n here g at plane_is old (record { front = None; back = Some old }) (split_back old g convex behind));
+      lighter = let l = back_lighter in omega (arith, l);
     }
 
     -- or nothing is left of it
-    pub goes_nowhere : LiesIn winding g → LeavesPolygons tree (polygon_at winding from) [] []
-    goes_nowhere lies = leaves_then due_of (IsDue tree) (ComesToPieces tree.planes) (polygon_at winding from) (polygon_at winding (Node n)) [] [] so_far.leaves
-        (halves_left tree n here g at plane_is winding (record { front = None; back = None }) (split_on winding g lies))
+    pub goes_nowhere : LiesIn old g → GoesDown tree old (Node n) new None due due
+    goes_nowhere lies = record {
+      others = [];
+      stack_is = sym (append-nil due);
+      leaves = halves_left tree n here g at plane_is old (record { front = None; back = None }) (split_on old g lies);
+      lighter = let l = none_lighter in omega (arith, l);
+    }
 
-pub comes_itself : (tree : Tree) (winding : Winding) (child : Child) → ComesDown tree winding child child
-comes_itself tree winding child = record { leaves = leaves_itself due_of (IsDue tree) (ComesToPieces tree.planes) (polygon_at winding child); later = omega arith }
+    -- or it is cut
+    pub goes_both : (behind : Winding) (new_due : List DuePolygon) → IsPartInFront new old g → IsPartInFront behind old (flipped g) → new_due ≡ due ++ polygon_at behind here.back ∷ [] → GoesDown tree old (Node n) new (Some here.front) due new_due
+    goes_both behind new_due front back is = record {
+      others = polygon_at behind here.back ∷ [];
+      stack_is = is;
+      leaves = halves_left tree n here g at plane_is old (record { front = Some new; back = Some behind }) (record { front = front; back = back });
+      lighter = let l = children_lighter in omega (arith, l);
+    }
 
--- what can be due at a child can be due further down
-pub due_further_down : (tree : Tree) (winding : Winding) (from to : Child) → MayBeDue tree (polygon_at winding from) → ComesDown tree winding from to → MayBeDue tree (polygon_at winding to)
-due_further_down tree winding from to (entry, same, known) down =
-    let left = down.leaves entry same known in
-    stack_entry left.entries left.kept_is left.known
-  where
-    stack_entry : (entries : List DueBelow) → map due_of entries ≡ polygon_at winding to ∷ [] → All (IsDue tree) entries → MayBeDue tree (polygon_at winding to)
-    stack_entry [] kept all = absurd cc
-    stack_entry (first ∷ rest) kept all = (first, cc, All-head (IsDue tree) first rest all)
+-- ---- on the way down
+
+pub stays : (tree : Tree) (winding : Winding) (child : Child) (due : List DuePolygon) → GoesDown tree winding child winding (Some child) due due
+stays tree winding child due = record {
+  others = [];
+  stack_is = sym (append-nil due);
+  leaves = leaves_itself due_of (IsDue tree) (ComesToPieces tree.planes) (polygon_at winding child);
+  lighter = omega arith;
+}
+
+module _ (tree : Tree) (old middle : Winding) (from at : Child) (due middle_due : List DuePolygon) (so_far : GoesDown tree old from middle (Some at) due middle_due) where
+  -- one step more
+  pub goes_on : (new : Winding) (to : Option Child) (new_due : List DuePolygon) → GoesDown tree middle at new to middle_due new_due → GoesDown tree old from new to due new_due
+  goes_on new to new_due step = record {
+    others = so_far.others ++ step.others;
+    stack_is = step.stack_is ∙ ap (λ ds. ds ++ step.others) so_far.stack_is ∙ append_assoc due so_far.others step.others;
+    leaves = subst (λ (ds : List DuePolygon). LeavesPolygons tree (polygon_at old from) ds []) (sym (append_assoc so_far.others step.others (rest_at to new)))
+        (leaves_then_last due_of (IsDue tree) (ComesToPieces tree.planes) (polygon_at old from) (polygon_at middle at) so_far.others (step.others ++ rest_at to new) [] so_far.leaves step.leaves);
+    lighter = omega (arith, sum_by-append (polygon_weight tree) so_far.others step.others, so_far.lighter, step.lighter);
+  }
+
+  -- what can be due can be due further down
+  pub due_further_down : MayBeDue tree (polygon_at old from) → MayBeDue tree (polygon_at middle at)
+  due_further_down (entry, same, known) =
+      let left = so_far.leaves entry same known in
+      let last = last_of_map due_of left.entries so_far.others (polygon_at middle at) left.kept_is in
+      (last.1, last.4, (All-pop (IsDue tree) left.entries last.0 (Some last.1) last.2 left.known).1)
 
 pub convex_of_due : (tree : Tree) (winding : Winding) (child : Child) → MayBeDue tree (polygon_at winding child) → IsConvex winding
 convex_of_due tree winding child (entry, same, known) = subst IsConvex (ap (λ (d : DuePolygon). d.winding) same) known.convex
 
-module _ (tree : Tree) (winding : Winding) (from : Child) where
+-- ---- where it came to
+
+module _ (tree : Tree) (old new : Winding) (from : Child) (due new_due : List DuePolygon) where
   -- nothing is left of the polygon
-  pub pushed_nowhere : (due : List DuePolygon) (pieces : List Piece) → LeavesPolygons tree (polygon_at winding from) [] [] → IsPushed tree (polygon_at winding from) due due pieces pieces
-  pushed_nowhere due pieces none = record {
-    others = [];
+  pub pushed_nowhere : GoesDown tree old from new None due new_due → IsPushed tree (polygon_at old from) due new_due [] []
+  pushed_nowhere down = record {
+    others = down.others;
     own = [];
-    stack_is = sym (append-nil due);
-    done_is = sym (append-nil pieces);
-    leaves = none;
-    lighter = some_power (nodes_from (node_count tree.shape) from);
+    stack_is = down.stack_is;
+    done_is = refl;
+    leaves = subst (λ (ds : List DuePolygon). LeavesPolygons tree (polygon_at old from) ds []) (append-nil down.others) down.leaves;
+    lighter = omega (arith, down.lighter);
   }
 
-  -- it came to a leaf
-  pub pushed_to_leaf : (j : ℕ) (due : List DuePolygon) (pieces new : List Piece) → ComesDown tree winding from (Leaf j) → new ≡ pieces ++ record { leaf = j; winding = winding } ∷ [] → IsPushed tree (polygon_at winding from) due due pieces new
-  pushed_to_leaf j due pieces new down new_is = record {
-    others = [];
-    own = record { leaf = j; winding = winding } ∷ [];
-    stack_is = sym (append-nil due);
-    done_is = new_is;
-    leaves = leaves_then due_of (IsDue tree) (ComesToPieces tree.planes) (polygon_at winding from) (polygon_at winding (Leaf j)) [] (record { leaf = j; winding = winding } ∷ []) down.leaves (done_at_leaf tree winding j);
-    lighter = some_power (nodes_from (node_count tree.shape) from);
+  -- what is left of it is in a leaf
+  pub pushed_to_leaf : (j : ℕ) → GoesDown tree old from new (Some (Leaf j)) due new_due → IsPushed tree (polygon_at old from) due new_due [] (record { leaf = j; winding = new } ∷ [])
+  pushed_to_leaf j down = record {
+    others = down.others;
+    own = record { leaf = j; winding = new } ∷ [];
+    stack_is = down.stack_is;
+    done_is = refl;
+    leaves = subst (λ (ds : List DuePolygon). LeavesPolygons tree (polygon_at old from) ds (record { leaf = j; winding = new } ∷ [])) (append-nil down.others)
+        (leaves_then_last due_of (IsDue tree) (ComesToPieces tree.planes) (polygon_at old from) (polygon_at new (Leaf j)) down.others [] (record { leaf = j; winding = new } ∷ []) down.leaves (done_at_leaf tree new j));
+    lighter = omega (arith, down.lighter, some_power (nodes_from (node_count tree.shape) (Leaf j)));
   }
 
-  -- it came to a node that parts it
-  pub pushed_to_node : (n : ℕ) (due new : List DuePolygon) (pieces : List Piece) → ComesDown tree winding from (Node n) → IsPushed tree (polygon_at winding (Node n)) due new [] [] → IsPushed tree (polygon_at winding from) due new pieces pieces
-  pushed_to_node n due new pieces down is = record {
-    others = is.others;
-    own = [];
-    stack_is = is.stack_is;
-    done_is = sym (append-nil pieces);
-    leaves = leaves_then due_of (IsDue tree) (ComesToPieces tree.planes) (polygon_at winding from) (polygon_at winding (Node n)) is.others [] down.leaves
-        (subst (λ (own : List Piece). LeavesPolygons tree (polygon_at winding (Node n)) is.others own) (sym is.done_is) is.leaves);
-    lighter = omega (arith, is.lighter, higher_power _ _ down.later);
-  }
+-- pieces that are found after others
+pub pushed_after : (tree : Tree) (polygon : DuePolygon) (due new_due : List DuePolygon) (own pieces new : List Piece) → IsPushed tree polygon due new_due [] own → new ≡ pieces ++ own → IsPushed tree polygon due new_due pieces new
+pushed_after tree polygon due new_due own pieces new is new_is = record {
+  others = is.others;
+  own = is.own;
+  stack_is = is.stack_is;
+  done_is = new_is ∙ ap (λ ps. pieces ++ ps) is.done_is;
+  leaves = is.leaves;
+  lighter = is.lighter;
+}
 
 -- ---- all of it
 

@@ -26,11 +26,11 @@ use Rattle.qm_partition.proofs.PlacedParts.{sides_come_later}
 use Rattle.qm_contacts.specs.Meeting.{leaves_below, then_step}
 use Rattle.qm_contacts.specs.Touching.{Touching}
 use Rattle.qm_contacts.specs.Outside.{TouchesOutside}
-use Rattle.qm_contacts.specs.inner.Descent.{AreCellFacets}
+use Rattle.qm_contacts.specs.inner.Descent.{AreBounds, AreWallFacets}
 use Rattle.qm_contacts.specs.inner.Pieces.{walled_cell, AreRows}
 use Rattle.qm_contacts.specs.inner.Due.{StandsFor, DueCell, DueCellBelow, IsDueCell, cell_due_of, ComesToTouchings, ComesToOutside}
 use Rattle.qm_contacts.proofs.Pieces.{walled_split, touchings_at_node}
-use Rattle.qm_contacts.proofs.Descent.{facets_below, all_facets, touches_outside, not_outside}
+use Rattle.qm_contacts.proofs.Descent.{facets_below, bounds_below, touches_outside, not_outside}
 use Rattle.qm_contacts.proofs.PushedDown.{IsNodePart, IsLeafPart, node_part, leaf_part, node_within}
 use Rattle.qm_contacts.proofs.CellsDue.{leaf_way, none_due_at_leaf, outside_due_at_leaf, front_due, back_due, front_known, back_known, point_here, touchings_due_at_node, outside_due_at_node}
 use Rattle.qm_portal.specs.inner.Pushes.{IsChildOf, weight_at}
@@ -39,9 +39,9 @@ use Rattle.qm_portal.specs.inner.Walks.{has_facets, cell_weight, MayBeDueCell, I
 
 -- ---- a leaf
 
-outside_test : (tree : Tree) (j : ℕ) (way : Way) (on_walls on_steps : List Facet) → AreCellFacets tree.planes way on_walls on_steps → slice_get (ways tree.shape) j ≡ Some way → (has_facets on_walls ≡ true) ↔ TouchesOutside tree j
-outside_test tree j way [] on_steps are at = ((λ is. absurd cc), (λ touches. absurd (not_outside tree j way on_steps at are touches)))
-outside_test tree j way (first ∷ others) on_steps are at = ((λ is. touches_outside tree j way first others on_steps at are), (λ touches. refl))
+outside_test : (tree : Tree) (j : ℕ) (way : Way) (on_walls : List Facet) → AreWallFacets tree.planes way on_walls → slice_get (ways tree.shape) j ≡ Some way → (has_facets on_walls ≡ true) ↔ TouchesOutside tree j
+outside_test tree j way [] are at = ((λ is. absurd cc), (λ touches. absurd (not_outside tree j way at are touches)))
+outside_test tree j way (first ∷ others) are at = ((λ is. touches_outside tree j way first others at are), (λ touches. refl))
 
 module _ (tree : Tree) (cell : DueCell) (j : ℕ) (child_is : cell.child ≡ Leaf j) where
   leaf_of_entry : (entry : DueCellBelow) → cell_due_of entry ≡ cell → IsDueCell tree entry → IsLeafPart entry.part entry.k j
@@ -74,7 +74,7 @@ module _ (tree : Tree) (cell : DueCell) (j : ℕ) (child_is : cell.child ≡ Lea
         known = All-nil (IsDueCell tree);
         rest = λ all comes.
             let part = leaf_of_entry entry same known in
-            let test = outside_test tree j entry.above entry.due.on_walls entry.due.on_steps known.facets (leaf_way tree entry j known part) in
+            let test = outside_test tree j entry.above entry.due.on_walls known.facets (leaf_way tree entry j known part) in
             subst (λ (d : DueCell). ComesToOutside tree entry (has_facets d.on_walls ∷ [] ++ all)) same (outside_due_at_leaf tree entry j (has_facets entry.due.on_walls) all part test comes);
       };
       lighter = some_power (nodes_from (node_count tree.shape) cell.child);
@@ -100,7 +100,7 @@ module _ (tree : Tree) (cell : DueCell) (n : ℕ) (here : NodeRecord) (g : Plane
     crosses_at =
         subst (λ (d : DueCell). CrossesCell (walled_cell tree.planes entry.above) d g) same
         (subst (λ (h : Plane). CrossesCell (walled_cell tree.planes entry.above) entry.due h) same_plane (record {
-          facets = all_facets tree.planes entry.above entry.due.on_walls entry.due.on_steps known.facets;
+          bounds = known.bounds;
           in_cube = λ x inside. ((walled_split tree.planes entry.above x).0 inside).0;
           point = p.0;
           on = p.1;
@@ -111,21 +111,26 @@ module _ (tree : Tree) (cell : DueCell) (n : ℕ) (here : NodeRecord) (g : Plane
         p = point_here tree entry here node_of_entry.1 entry.due entry.due known
 
     module _ (section : Winding) (is_section : IsSection (walled_cell tree.planes entry.above) g section) where
-      -- the facets of the cell of a child
-      facets_of_half : (side : Bool) (child : Child) (half : DueCell) → IsHalf cell (turned side g) section child half → AreCellFacets tree.planes (then_step entry.above here.plane side) half.on_walls half.on_steps
+      -- the half of the cell, as the node's plane in the tree makes it
+      halved : (side : Bool) (child : Child) (half : DueCell) → IsHalf cell (turned side g) child half → IsHalf entry.due (turned side (plane_at tree.planes here.plane)) child half
+      halved side child half is = subst (λ (d : DueCell). IsHalf d (turned side (plane_at tree.planes here.plane)) child half) (sym same) (subst (λ (h : Plane). IsHalf cell (turned side h) child half) (sym same_plane) is)
+
+      -- the bounds and facets of the cell of a child
+      bounds_of_half : (side : Bool) (child : Child) (half : DueCell) → IsHalf cell (turned side g) child half → AreBounds tree.planes (then_step entry.above here.plane side) half.bounds
+      bounds_of_half side child half is = bounds_below tree.planes entry.above here.plane side entry.due.bounds half.bounds known.bounds (halved side child half is).bounds
+
+      facets_of_half : (side : Bool) (child : Child) (half : DueCell) → IsHalf cell (turned side g) child half → AreWallFacets tree.planes (then_step entry.above here.plane side) half.on_walls
       facets_of_half side child half is =
-          let halved = subst (λ (d : DueCell). IsHalf d (turned side (plane_at tree.planes here.plane)) section child half) (sym same) (subst (λ (h : Plane). IsHalf cell (turned side h) section child half) (sym same_plane) is) in
-          subst (λ (fs : List Facet). AreCellFacets tree.planes (then_step entry.above here.plane side) half.on_walls fs) (sym halved.steps_are)
-          (facets_below tree.planes entry.above here.plane side section entry.due.on_walls entry.due.on_steps half.on_walls halved.left (subst (λ (h : Plane). IsSection (walled_cell tree.planes entry.above) h section) (sym same_plane) is_section) known.facets halved.walls halved.steps)
+          facets_below tree.planes entry.above here.plane side section entry.due.on_walls half.on_walls (subst (λ (h : Plane). IsSection (walled_cell tree.planes entry.above) h section) (sym same_plane) is_section) known.facets (halved side child half is).walls
 
       -- both are left
-      module _ (front back : DueCell) (front_half : IsHalf cell g section here.front front) (back_half : IsHalf cell (flipped g) section here.back back) where
+      module _ (front back : DueCell) (front_half : IsHalf cell g here.front front) (back_half : IsHalf cell (flipped g) here.back back) where
         both_known : All (IsDueCell tree) (back_due tree entry here node_of_entry.1 front back ∷ front_due tree entry here node_of_entry.1 front back ∷ [])
         both_known =
             All-cons (IsDueCell tree) (back_due tree entry here node_of_entry.1 front back) (front_due tree entry here node_of_entry.1 front back ∷ [])
-            (back_known tree entry here node_of_entry.1 front back known back_half.child_is (facets_of_half false here.back back back_half))
+            (back_known tree entry here node_of_entry.1 front back known back_half.child_is (bounds_of_half false here.back back back_half) (facets_of_half false here.back back back_half))
             (All-cons (IsDueCell tree) (front_due tree entry here node_of_entry.1 front back) []
-            (front_known tree entry here node_of_entry.1 front back known front_half.child_is (facets_of_half true here.front front front_half)) (All-nil (IsDueCell tree)))
+            (front_known tree entry here node_of_entry.1 front back known front_half.child_is (bounds_of_half true here.front front front_half) (facets_of_half true here.front front front_half)) (All-nil (IsDueCell tree)))
 
         outside_left : IsLeft cell_due_of (IsDueCell tree) (ComesToOutside tree) entry (back ∷ front ∷ []) []
         outside_left = record {
@@ -167,7 +172,7 @@ module _ (tree : Tree) (cell : DueCell) (n : ℕ) (here : NodeRecord) (g : Plane
       let is = (node_of_entry entry same known).1 in
       record { part = is.back; n = nodes_after is.front (entry.n + 1); k = leaves_after is.front entry.k; stands = is.back_stands }
 
-  pub visited_node : (section : Winding) (front back : DueCell) (due middle new : List DueCell) (pairs new_pairs : List Touching) → ((planes : List Plane) → CrossesCell planes cell g → IsSection planes g section) → IsHalf cell g section here.front front → IsHalf cell (flipped g) section here.back back → middle ≡ due ++ back ∷ [] → new ≡ middle ++ front ∷ [] → ArePairsAdded tree n here section pairs new_pairs → (row : List Bool) → IsVisited tree cell due new pairs new_pairs row row
+  pub visited_node : (section : Winding) (front back : DueCell) (due middle new : List DueCell) (pairs new_pairs : List Touching) → ((planes : List Plane) → CrossesCell planes cell g → IsSection planes g section) → IsHalf cell g here.front front → IsHalf cell (flipped g) here.back back → middle ≡ due ++ back ∷ [] → new ≡ middle ++ front ∷ [] → ArePairsAdded tree n here section pairs new_pairs → (row : List Bool) → IsVisited tree cell due new pairs new_pairs row row
   visited_node section front back due middle new pairs new_pairs is_section front_half back_half first second added row = record {
     touchings = record {
       others = back ∷ front ∷ [];

@@ -1,4 +1,4 @@
-//! The cells of a tree, each with its facets.
+//! The cells of a tree, each with its bounds.
 
 ghost use Rattle.std.specs.Prelude.{◌≡◌, List, IfOk};
 ghost use Rattle.qm_space.specs.Plane.{Plane as SpacePlane, flipped};
@@ -6,19 +6,20 @@ ghost use Rattle.qm_convex.specs.inner.Facets.{IsSection};
 ghost use Rattle.qm_portal.specs.inner.Cells.{CrossesCell, IsHalf};
 ghost use Rattle.qm_portal.specs.inner.Walks.{has_facets};
 
-use crate::facet::{Facet, split_facets, within};
+use crate::bounds::{add_bound, within};
+use crate::facet::{Facet, split_facets};
 use qm_geom::Plane;
 use qm_tree::{Child, Node};
 use qm_wind::Winding;
 use std::alloc::{AllocError, Global};
 use std::marker::Model;
 
-/// A cell of a tree: the child to which its way leads, and its facets, those on walls of the cube apart.
+/// A cell of a tree: the child to which its way leads, planes that bound it, and its facets on walls of the cube.
 #[derive(Drop)]
 pub(crate) struct DueCell {
     pub(crate) child: Child,
+    pub(crate) bounds: Vec<Plane>,
     pub(crate) on_walls: Vec<Facet>,
-    pub(crate) on_steps: Vec<Facet>,
 }
 
 impl Model for DueCell {
@@ -26,7 +27,7 @@ impl Model for DueCell {
 
     ghost Value = { DueCell };
 
-    ghost view = { λ cell. record { child = cell.child; on_walls = cell.on_walls.items; on_steps = cell.on_steps.items } };
+    ghost view = { λ cell. record { child = cell.child; bounds = cell.bounds.items; on_walls = cell.on_walls.items } };
 }
 
 /// The cells of both children of a node.
@@ -51,46 +52,36 @@ impl DueCell {
     {
         match Winding::on(alloc, plane)? {
             Some(whole) => {
-                let before_walls = within(whole, &self.on_walls)?;
-                let section = within(before_walls, &self.on_steps)?;
+                let section = within(whole, &self.bounds)?;
                 Ok(section)
             }
             None => unreachable!(),
         }
     }
 
-    /// Both sides of a node's plane, on which the section lies.
-    pub(crate) fn split(
-        self,
-        node: &Node,
-        plane: &Plane,
-        section: &Winding,
-    ) -> Result<CellHalves, AllocError>
-        ensures front { IfOk result (λ halves. IsHalf self plane.now section.now node.now.front halves.front) }
-        ensures back { IfOk result (λ halves. IsHalf self (flipped plane.now) section.now node.now.back halves.back) }
+    /// Both sides of a node's plane.
+    pub(crate) fn split(self, node: &Node, plane: &Plane) -> Result<CellHalves, AllocError>
+        ensures front { IfOk result (λ halves. IsHalf self plane.now node.now.front halves.front) }
+        ensures back { IfOk result (λ halves. IsHalf self (flipped plane.now) node.now.back halves.back) }
     {
         let DueCell {
-            on_walls,
-            on_steps,
-            ..
+            bounds, on_walls, ..
         } = self;
-        let alloc = *on_walls.allocator();
         let walls = split_facets(on_walls, plane)?;
-        let mut steps = split_facets(on_steps, plane)?;
-        let in_front = section.copy()?;
-        steps.front.push(Facet::of(alloc, *plane, in_front)?)?;
-        let behind = section.copy()?;
-        steps.back.push(Facet::of(alloc, plane.flipped(), behind)?)?;
+        let mut behind = Vec::from_slice(*bounds.allocator(), &bounds)?;
+        add_bound(&mut behind, &plane.flipped())?;
+        let mut in_front = bounds;
+        add_bound(&mut in_front, plane)?;
         Ok(CellHalves {
             front: DueCell {
                 child: node.front,
+                bounds: in_front,
                 on_walls: walls.front,
-                on_steps: steps.front,
             },
             back: DueCell {
                 child: node.back,
+                bounds: behind,
                 on_walls: walls.back,
-                on_steps: steps.back,
             },
         })
     }

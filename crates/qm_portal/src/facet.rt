@@ -1,14 +1,12 @@
 //! The facets of a cell: what its border has on its planes.
 
-ghost use Rattle.std.specs.Prelude.{◌≡◌, ◌++◌, map, IfOk, OnOk};
+ghost use Rattle.std.specs.Prelude.{◌≡◌, ◌++◌, IfOk, OnOk};
 ghost use Rattle.qm_space.specs.Plane.{flipped};
-ghost use Rattle.qm_convex.specs.inner.Facets.{inward_of, AreCut};
-ghost use Rattle.qm_convex.specs.Cut.{IsPartInFront, IsPartWithin};
-ghost use Rattle.qm_convex.specs.Sides.{HasSomeInFront};
-ghost use Rattle.qm_portal.specs.inner.Cells.{left_facet, IsLeftAdded, HasPointBefore};
+ghost use Rattle.qm_convex.specs.inner.Facets.{AreCut};
+ghost use Rattle.qm_portal.specs.inner.Cells.{left_facet, IsLeftAdded};
 
 use qm_geom::Plane;
-use qm_wind::{Clip, Lies, Side, Winding};
+use qm_wind::{Lies, Winding};
 use std::alloc::{AllocError, Global};
 use std::marker::Model;
 
@@ -118,30 +116,4 @@ fn push_left(
         facets.push(Facet::of(alloc, inward, winding)?)?;
     }
     Ok(())
-}
-
-/// The part of a winding in front of the planes of all facets, where it has a point there.
-pub(crate) fn within(winding: Winding, facets: &[Facet]) -> Result<Winding, AllocError>
-    requires { HasPointBefore winding facets.now }
-    ensures { IfOk result (λ part. IsPartWithin part winding (map inward_of facets.now)) }
-{
-    let _corners = winding.len();
-    let mut left = winding;
-    for facet in facets {
-        left = part_in_front(left, &facet.inward)?;
-    }
-    Ok(left)
-}
-
-/// The part of a winding in front of a plane, where it has a point there.
-fn part_in_front(winding: Winding, plane: &Plane) -> Result<Winding, AllocError>
-    requires { HasSomeInFront winding plane.now }
-    ensures { IfOk result (λ part. IsPartInFront part winding plane.now) }
-{
-    let _corners = winding.len();
-    match winding.clip(plane, Side::Front)? {
-        Clip::Whole => Ok(winding),
-        Clip::Cut(part) => Ok(part),
-        Clip::Gone => unreachable!(),
-    }
 }

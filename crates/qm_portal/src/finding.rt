@@ -1,5 +1,5 @@
 ghost use Rattle.std.specs.Prelude.{◌≡◌, map, IfOk};
-ghost use Rattle.qm_convex.specs.inner.Facets.{facing_in};
+ghost use Rattle.qm_convex.specs.inner.Facets.{facing_in, inward_of};
 ghost use Rattle.qm_partition.specs.Ways.{HasPoints};
 ghost use Rattle.qm_contacts.specs.Contacts.{AreContacts};
 ghost use Rattle.qm_portal.specs.inner.Walks.{IsCubeCell};
@@ -8,6 +8,7 @@ use crate::cell::DueCell;
 use crate::facet::Facet;
 use crate::touch_list::TouchList;
 use crate::walk::found_below;
+use qm_geom::Plane;
 use qm_tree::Tree;
 use qm_wind::Winding;
 use std::alloc::{AllocError, Global};
@@ -30,10 +31,11 @@ fn cube_cell(alloc: Global, tree: &Tree) -> Result<DueCell, AllocError>
 {
     let faces = Winding::faces(alloc)?;
     let on_walls = facets_of(faces)?;
+    let bounds = walls_of(alloc, &on_walls)?;
     Ok(DueCell {
         child: tree.root(),
+        bounds,
         on_walls,
-        on_steps: Vec::new(alloc),
     })
 }
 
@@ -47,4 +49,15 @@ fn facets_of(faces: Vec<Winding>) -> Result<Vec<Facet>, AllocError>
         facets.push(Facet::of(alloc, winding.plane(), winding)?)?;
     }
     Ok(facets)
+}
+
+/// The planes of facets.
+fn walls_of(alloc: Global, facets: &[Facet]) -> Result<Vec<Plane>, AllocError>
+    ensures { IfOk result (λ walls. walls.items ≡ map inward_of facets.now) }
+{
+    let mut walls = Vec::with_capacity(alloc, facets.len())?;
+    for facet in facets {
+        walls.push(facet.inward)?;
+    }
+    Ok(walls)
 }

@@ -2,6 +2,7 @@
 //! the portals between leaves of equal contents.
 #![tactic(auto)]
 
+mod bounds;
 mod cell;
 mod facet;
 mod finding;

@@ -1,12 +1,12 @@
 //! Pushing polygons down a tree, by a list of those that are due.
 
-ghost use Rattle.std.specs.Prelude.{◌≡◌, ◌++◌, [], OnOk, MatchOption};
+ghost use Rattle.std.specs.Prelude.{◌≡◌, ◌<◌, [], IfOk, OnOk};
 ghost use Rattle.qm_partition.specs.declared.node.Child.TheVariants.{Node};
-ghost use Rattle.qm_portal.specs.inner.Pushes.{IsChildOf, HasPieces, polygon_at, LeavesPolygons, IsPushed, MayBeDue, ComesDown, half_at};
+ghost use Rattle.qm_portal.specs.inner.Pushes.{IsChildOf, HasPieces, polygon_at, weight_at, rest_weight, IsPushed, MayBeDue, GoesDown, piece_in};
 
 use crate::piece::{DuePolygon, Piece};
 use qm_tree::{Child, Tree};
-use qm_wind::{Lies, Winding};
+use qm_wind::{Severed, Winding};
 use std::alloc::AllocError;
 
 /// Pushes a polygon down from a child: what each leaf below has of it, in the order of the leaves.
@@ -28,7 +28,7 @@ pub(crate) fn push_down(
     Ok(())
 }
 
-/// Takes a polygon down to a leaf, or to a node that parts it: there both halves are due, that in front next.
+/// Takes a polygon down to a leaf. What is cut off of it on the way is due, that in front next.
 fn advance(
     tree: &Tree,
     polygon: DuePolygon,
@@ -38,61 +38,62 @@ fn advance(
     requires { MayBeDue tree.now polygon }
     ensures { OnOk result (IsPushed tree.now polygon due.old.items due.new.items pieces.old.items pieces.new.items) }
 {
-    let DuePolygon { child, winding } = polygon;
-    match parting_child(tree, child, &winding) {
+    let DuePolygon { child, mut winding } = polygon;
+    match descend(tree, child, &mut winding, due)? {
         None => Ok(()),
-        Some(Child::Leaf(leaf)) => {
+        Some(leaf) => {
             pieces.push(Piece { leaf, winding })?;
             Ok(())
         }
-        Some(Child::Node(n)) => {
-            part(tree, n, winding, due)?;
-            Ok(())
-        }
     }
 }
 
-/// Down from a child, the leaf in which a polygon lies whole, or the first node whose plane has points of it on both
-/// sides. `None` where it lies in a plane on the way: then no leaf has a piece of it.
-fn parting_child(tree: &Tree, child: Child, winding: &Winding) -> Option<Child>
-    requires { MayBeDue tree.now (polygon_at winding.now child) }
-    ensures { MatchOption result (LeavesPolygons tree.now (polygon_at winding.now child) [] []) (ComesDown tree.now winding.now child) }
+/// Takes a polygon down from a child, to the leaf in which what is left of it lies; what is cut off is due. `None` where it
+/// lies in a plane on the way: then no leaf has a piece of it.
+fn descend(
+    tree: &Tree,
+    child: Child,
+    winding: &mut Winding,
+    due: &mut Vec<DuePolygon>,
+) -> Result<Option<u64>, AllocError>
+    requires { MayBeDue tree.now (polygon_at winding.old child) }
+    ensures { IfOk result (λ leaf. IsPushed tree.now (polygon_at winding.old child) due.old.items due.new.items [] (piece_in leaf winding.new)) }
 {
     let mut at = child;
-    while let Child::Node(n) = at {
-        let node = tree.node(n);
-        match winding.lies(&tree.plane(node.plane)) {
-            Lies::Front => at = node.front,
-            Lies::Back => at = node.back,
-            Lies::Across => return Some(at),
-            Lies::On => return None,
+    loop {
+        match at {
+            Child::Leaf(leaf) => return Ok(Some(leaf)),
+            Child::Node(n) => match step_down(tree, n, winding, due)? {
+                Some(to) => at = to,
+                None => return Ok(None),
+            },
         }
     }
-    Some(at)
 }
 
-/// Parts a polygon at a node.
-fn part(tree: &Tree, n: u64, winding: Winding, due: &mut Vec<DuePolygon>) -> Result<(), AllocError>
-    requires { MayBeDue tree.now (polygon_at winding (Node n)) }
-    ensures { OnOk result (IsPushed tree.now (polygon_at winding (Node n)) due.old.items due.new.items [] []) }
+/// Takes a polygon from a node to one of its children. Where the node's plane cuts it, what is behind is due there, and the
+/// rest goes to the front. `None` where it lies in the plane.
+fn step_down(
+    tree: &Tree,
+    n: u64,
+    winding: &mut Winding,
+    due: &mut Vec<DuePolygon>,
+) -> Result<Option<Child>, AllocError>
+    requires { MayBeDue tree.now (polygon_at winding.old (Node n)) }
+    ensures goes { IfOk result (λ to. GoesDown tree.now winding.old (Node n) winding.new to due.old.items due.new.items) }
+    ensures smaller { IfOk result (λ to. rest_weight tree.now to < weight_at tree.now (Node n)) }
 {
     let node = tree.node(n);
-    let halves = winding.split(&tree.plane(node.plane))?;
-    push_half(due, node.back, halves.back)?;
-    push_half(due, node.front, halves.front)?;
-    Ok(())
-}
-
-/// Adds a half, if there is one.
-fn push_half(
-    due: &mut Vec<DuePolygon>,
-    child: Child,
-    half: Option<Winding>,
-) -> Result<(), AllocError>
-    ensures { OnOk result (due.new.items ≡ due.old.items ++ half_at half child) }
-{
-    if let Some(winding) = half {
-        due.push(DuePolygon { child, winding })?;
+    match winding.sever(&tree.plane(node.plane))? {
+        Severed::Front => Ok(Some(node.front)),
+        Severed::Back => Ok(Some(node.back)),
+        Severed::On => Ok(None),
+        Severed::Across(behind) => {
+            due.push(DuePolygon {
+                child: node.back,
+                winding: behind,
+            })?;
+            Ok(Some(node.front))
+        }
     }
-    Ok(())
 }

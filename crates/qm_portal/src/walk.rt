@@ -75,7 +75,7 @@ fn visit_node(
     let node = tree.node(n);
     let plane = tree.plane(node.plane);
     let section = cell.section(alloc, &plane)?;
-    let halves = cell.split(&node, &plane, &section)?;
+    let halves = cell.split(&node, &plane)?;
     due.push(halves.back)?;
     due.push(halves.front)?;
     add_pairs(tree, n, &node, section, pairs)?;

@@ -1,4 +1,4 @@
-use Rattle.std.specs.Prelude.{List, All, Contains}
+use Rattle.std.specs.Prelude.{pos, ◌<ℤ◌, List, All, Contains, ◌↔◌}
 use Rattle.qm_space.specs.Point.{Point}
 use Rattle.qm_space.specs.Plane.{Plane}
 use Rattle.qm_space.specs.Cell.{IsInCell}
@@ -14,9 +14,11 @@ abbrev pub HasPointsBelow : List Plane → Way → Partition → Type 0
 HasPointsBelow planes above shape =
     (way : Way) → Contains (ways shape) way → (x : Point) × IsInCell (walled_cell planes above) x × IsInCell (cell_of planes way) x
 
--- the facets of the cell at the end of a way: on walls of the cube, and on the planes of its steps, none of which has the
--- sides of a wall
-pub record AreCellFacets (planes : List Plane) (way : Way) (on_walls on_steps : List Facet) : Type 0 where
+-- these planes bound the cell at the end of a way
+abbrev pub AreBounds : List Plane → Way → List Plane → Type 0
+AreBounds planes way bounds = (x : Point) → pos 0 <ℤ x.w → IsInCell (walled_cell planes way) x ↔ IsInCell bounds x
+
+-- the facets of that cell on walls of the cube; none of the way's steps has the sides of a wall
+pub record AreWallFacets (planes : List Plane) (way : Way) (on_walls : List Facet) : Type 0 where
   pub walls : AreFacetsOn (walled_cell planes way) cube_walls on_walls
-  pub steps : AreFacetsOn (walled_cell planes way) (cell_of planes way) on_steps
   pub apart : All (λ g. (wall : Plane) → Contains cube_walls wall → HasSameSides g wall → ⊥) (cell_of planes way)

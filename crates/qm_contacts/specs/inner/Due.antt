@@ -13,7 +13,7 @@ use Rattle.qm_contacts.specs.Meeting.{leaves_below, meetings_below}
 use Rattle.qm_contacts.specs.Touching.{Touching, AreTouchings}
 use Rattle.qm_contacts.specs.Outside.{TouchesOutside}
 use Rattle.qm_contacts.specs.inner.Pieces.{Piece, ArePieces}
-use Rattle.qm_contacts.specs.inner.Descent.{HasPointsBelow, AreCellFacets}
+use Rattle.qm_contacts.specs.inner.Descent.{HasPointsBelow, AreBounds, AreWallFacets}
 
 -- a child stands for a part of a partition
 pub record StandsFor (whole : Partition) (child : Child) (part : Partition) (n k : ℕ) : Type 0 where
@@ -45,12 +45,13 @@ abbrev pub half_due : Option Winding → Child → Partition → ℕ → ℕ →
 half_due None child part n k = []
 half_due (Some winding) child part n k = record { due = record { child = child; winding = winding }; part = part; n = n; k = k } ∷ []
 
--- What is due where all cells of numbered nodes are gone through: children, each with the facets of its cell.
+-- What is due where all cells of numbered nodes are gone through: children, each with planes that bound its cell, and with
+-- the facets of the cell on walls of the cube.
 
 pub record DueCell : Type 0 where
   pub child : Child
+  pub bounds : List Plane
   pub on_walls : List Facet
-  pub on_steps : List Facet
 
 -- the same, with the part of the tree for which the child stands, and the way that leads to it
 pub record DueCellBelow : Type 0 where
@@ -66,7 +67,8 @@ cell_due_of entry = entry.due
 -- what is known of a cell that is due
 pub record IsDueCell (tree : Tree) (entry : DueCellBelow) : Type 0 where
   pub stands : StandsFor tree.shape entry.due.child entry.part entry.n entry.k
-  pub facets : AreCellFacets tree.planes entry.above entry.due.on_walls entry.due.on_steps
+  pub bounds : AreBounds tree.planes entry.above entry.due.bounds
+  pub facets : AreWallFacets tree.planes entry.above entry.due.on_walls
   pub points : HasPointsBelow tree.planes entry.above entry.part
   pub ways_below : (i : ℕ) (way : Way) → slice_get (ways entry.part) i ≡ Some way → slice_get (ways tree.shape) (entry.k + i) ≡ Some (entry.above ++ way)
 

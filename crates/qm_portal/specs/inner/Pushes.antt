@@ -1,5 +1,5 @@
 -- A polygon is pushed down a tree from a child.
-use Rattle.std.specs.Prelude.{◌≤◌, ◌^◌, ℕ, Option, Some, None, List, [], ◌∷◌}
+use Rattle.std.specs.Prelude.{◌≡◌, ◌≤◌, ◌+◌, ◌^◌, ℕ, Option, Some, None, List, [], ◌∷◌, ◌++◌, sum_by}
 use Rattle.qm_lists.specs.inner.Stack.{Leaves, IsTakenOff, StandsForKnown, IsUnderWay}
 use Rattle.qm_convex.specs.Winding.{Winding, IsConvex}
 use Rattle.qm_partition.specs.declared.node.Child.{Child}
@@ -54,10 +54,26 @@ MayBeDue tree = StandsForKnown due_of (IsDue tree) (ComesToPieces tree.planes)
 abbrev pub IsPushing : Tree → DuePolygon → List DuePolygon → List Piece → Type 0
 IsPushing tree = IsUnderWay due_of (IsDue tree) (ComesToPieces tree.planes)
 
--- the polygon has the same pieces from a child further down
-pub record ComesDown (tree : Tree) (winding : Winding) (from to : Child) : Type 0 where
-  pub leaves : LeavesPolygons tree (polygon_at winding from) (polygon_at winding to ∷ []) []
-  pub later : nodes_from (node_count tree.shape) to ≤ nodes_from (node_count tree.shape) from
+-- what is left of a polygon, at the child to which it came, if anything is
+abbrev pub rest_at : Option Child → Winding → List DuePolygon
+rest_at None winding = []
+rest_at (Some child) winding = polygon_at winding child ∷ []
+
+abbrev pub rest_weight : Tree → Option Child → ℕ
+rest_weight tree None = 1
+rest_weight tree (Some child) = weight_at tree child
+
+-- a polygon goes down from a child to another: what is cut off is due, and this and what is left have its pieces
+pub record GoesDown (tree : Tree) (old : Winding) (from : Child) (new : Winding) (to : Option Child) (old_due new_due : List DuePolygon) : Type 0 where
+  pub others : List DuePolygon
+  pub stack_is : new_due ≡ old_due ++ others
+  pub leaves : LeavesPolygons tree (polygon_at old from) (others ++ rest_at to new) []
+  pub lighter : sum_by (polygon_weight tree) others + rest_weight tree to ≤ weight_at tree from
+
+-- what is left of a polygon, as the piece of a leaf, if it came to one
+abbrev pub piece_in : Option ℕ → Winding → List Piece
+piece_in None winding = []
+piece_in (Some leaf) winding = record { leaf = leaf; winding = winding } ∷ []
 
 -- a half, if there is one, at its child
 abbrev pub half_at : Option Winding → Child → List DuePolygon

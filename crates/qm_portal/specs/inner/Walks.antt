@@ -10,7 +10,7 @@ use Rattle.qm_partition.specs.Tree.{Tree}
 use Rattle.qm_partition.specs.Numbering.{child_of}
 use Rattle.qm_contacts.specs.Meeting.{leaves_below}
 use Rattle.qm_contacts.specs.Touching.{Touching}
-use Rattle.qm_contacts.specs.inner.Descent.{AreCellFacets}
+use Rattle.qm_contacts.specs.inner.Descent.{AreBounds, AreWallFacets}
 use Rattle.qm_contacts.specs.inner.Pieces.{Piece, touching_at, AreRows}
 use Rattle.qm_contacts.specs.inner.Due.{StandsFor, DueCell, IsDueCell, cell_due_of, ComesToTouchings, ComesToOutside}
 use Rattle.qm_portal.specs.inner.Pushes.{HasPieces, weight_at}
@@ -30,7 +30,8 @@ MayBeDueCell tree = StandsForKnown cell_due_of (IsDueCell tree) (ComesToTouching
 -- the cell with which the tree begins
 pub record IsCubeCell (tree : Tree) (cell : DueCell) : Type 0 where
   pub child_is : cell.child ≡ child_of tree.shape 0 0
-  pub facets : AreCellFacets tree.planes [] cell.on_walls cell.on_steps
+  pub bounds : AreBounds tree.planes [] cell.bounds
+  pub facets : AreWallFacets tree.planes [] cell.on_walls
 
 -- a cell is taken off those that are due: its touching pairs, and its leaves that touch the outside
 pub record IsVisited (tree : Tree) (cell : DueCell) (old new : List DueCell) (old_pairs new_pairs : List Touching) (old_outside new_outside : List Bool) : Type 0 where

@@ -6,7 +6,7 @@ use Rattle.qm_portal.proofs.finding.touches.Goals as goal
 use Rattle.qm_portal.proofs.finding.touches.Goals.{In_ok-cube, After-deref}
 
 cube_known : (c : In_ok-cube) → IsDueCell c.args.tree.now (root_due c.args.tree.now c.in_ok-cube.cube)
-cube_known c = root_known c.args.tree.now c.in_ok-cube.cube c.requires.points c.in_ok-cube.ensures.child_is c.in_ok-cube.ensures.facets
+cube_known c = root_known c.args.tree.now c.in_ok-cube.cube c.requires.points c.in_ok-cube.ensures.child_is c.in_ok-cube.ensures.bounds c.in_ok-cube.ensures.facets
 
 all : (c : After-deref) → IsDueCell c.args.tree.now (root_due c.args.tree.now c.in_ok-cube.cube) → AreContacts c.args.tree.now (record { touchings = c.in_ok-found.found.pairs.items; outside = c.deref.result.now })
 all c known =

@@ -1,0 +1,87 @@
+//! The planes that bound a cell.
+
+ghost use Rattle.std.specs.Prelude.{◌≡◌, ◌<◌, length, Some, slice_get, MatchOption, IsTrue, IfOk, OnOk};
+ghost use Rattle.qm_space.specs.Plane.{Plane as SpacePlane};
+ghost use Rattle.qm_convex.specs.Cut.{IsPartInFront, IsPartWithin};
+ghost use Rattle.qm_convex.specs.Sides.{HasSomeInFront};
+ghost use Rattle.qm_contacts.specs.inner.Bounds.{HasSameNormal, IsBoundAdded};
+ghost use Rattle.qm_portal.specs.inner.Cells.{HasPointBefore, IsPlaceOfNormal};
+
+use qm_geom::Plane;
+use qm_wind::{Clip, Side, Winding};
+use std::alloc::AllocError;
+
+/// Adds a plane to those that bound a cell. Of planes of one normal only the nearest is kept, so that a cell has few bounds
+/// however deep in a tree it is.
+pub(crate) fn add_bound(bounds: &mut Vec<Plane>, plane: &Plane) -> Result<(), AllocError>
+    ensures { OnOk result (IsBoundAdded plane.now bounds.old.items bounds.new.items) }
+{
+    match place_of_normal(bounds, plane) {
+        Some(place) => {
+            put_nearer(bounds, place, plane);
+            Ok(())
+        }
+        None => {
+            bounds.push(*plane)?;
+            Ok(())
+        }
+    }
+}
+
+/// The place of a plane that has the normal of another.
+fn place_of_normal(bounds: &[Plane], plane: &Plane) -> Option<usize>
+    ensures { MatchOption result Unit (IsPlaceOfNormal plane.now bounds.now) }
+{
+    for place in 0..bounds.len() {
+        if has_normal_of(&bounds[place], plane) {
+            return Some(place);
+        }
+    }
+    None
+}
+
+/// Whether two planes have one normal.
+fn has_normal_of(one: &Plane, other: &Plane) -> bool
+    ensures { IsTrue result → HasSameNormal one.now other.now }
+{
+    one.nx == other.nx && one.ny == other.ny && one.nz == other.nz
+}
+
+/// Puts a plane at the place of another that has its normal, where it is nearer.
+fn put_nearer(bounds: &mut Vec<Plane>, place: usize, plane: &Plane)
+    requires { IsPlaceOfNormal plane.now bounds.old.items place }
+    ensures { IsBoundAdded plane.now bounds.old.items bounds.new.items }
+{
+    if plane.d > bounds[place].d {
+        bounds[place] = *plane;
+    }
+}
+
+/// The part of a winding in front of all planes, where it has a point there.
+pub(crate) fn within(winding: Winding, bounds: &[Plane]) -> Result<Winding, AllocError>
+    requires { HasPointBefore winding bounds.now }
+    ensures { IfOk result (λ part. IsPartWithin part winding bounds.now) }
+{
+    let _corners = winding.len();
+    let mut left = winding;
+    for plane in bounds {
+        cut_down(&mut left, plane)?;
+    }
+    Ok(left)
+}
+
+/// Cuts a winding down to its part in front of a plane, where it has a point there.
+fn cut_down(winding: &mut Winding, plane: &Plane) -> Result<(), AllocError>
+    requires { HasSomeInFront winding.old plane.now }
+    ensures { OnOk result (IsPartInFront winding.new winding.old plane.now) }
+{
+    let _corners = winding.len();
+    match winding.clip(plane, Side::Front)? {
+        Clip::Whole => Ok(()),
+        Clip::Cut(part) => {
+            *winding = part;
+            Ok(())
+        }
+        Clip::Gone => unreachable!(),
+    }
+}
