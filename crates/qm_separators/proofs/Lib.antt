@@ -27,3 +27,6 @@ pub mod SignedLooks
 pub mod Outlines
 pub mod OutwardPlanes
 pub mod Comparisons
+pub mod FoundPlanes
+pub mod FoundMixes
+pub mod NarrowedSteps

@@ -67,10 +67,10 @@ outward_lowest_normal at from to weight normal k x y z =
 times_one : (p : Point) → p.w ≡ pos 0 → point_times (pos 1) p ≡ p
 times_one p e = same_point (point_times (pos 1) p) p (omega (arith, ints)) (omega (arith, ints)) (omega (arith, ints)) (omega (arith, ints))
 
-flipped_lowest_normal : (h : Plane) → HasLowestNormal h → HasLowestNormal (flipped h)
+pub flipped_lowest_normal : (h : Plane) → HasLowestNormal h → HasLowestNormal (flipped h)
 flipped_lowest_normal h l k x y z = l k (subst (λ (n : ℕ). k ∣ n) (abs_neg h.nx) x) (subst (λ (n : ℕ). k ∣ n) (abs_neg h.ny) y) (subst (λ (n : ℕ). k ∣ n) (abs_neg h.nz) z)
 
-like_lowest : (g h : Plane) → normal_of g ≡ normal_of h → HasLowestNormal h → HasLowestNormal g
+pub like_lowest : (g h : Plane) → normal_of g ≡ normal_of h → HasLowestNormal h → HasLowestNormal g
 like_lowest g h e l k x y z = l k (subst (λ (n : ℤ). k ∣ unsigned_abs n) (ap (λ (p : Point). p.x) e) x) (subst (λ (n : ℤ). k ∣ unsigned_abs n) (ap (λ (p : Point). p.y) e) y) (subst (λ (n : ℤ). k ∣ unsigned_abs n) (ap (λ (p : Point). p.z) e) z)
 
 -- the factor by which a plane in lowest terms gives the plane back

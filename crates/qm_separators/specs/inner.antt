@@ -3,3 +3,5 @@ pub mod Outline
 pub mod Look
 pub mod GroupLook
 pub mod Below
+pub mod Found
+pub mod Narrowed

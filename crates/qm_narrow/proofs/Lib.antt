@@ -1,0 +1,3 @@
+pub mod LyingSides
+pub mod Traces
+pub mod Coordinates

@@ -1,0 +1,8 @@
+use Rattle.qm_separators.specs.Gains.{Gains}
+use Rattle.qm_separators.specs.inner.Below.{HasBelow}
+use Rattle.qm_separators.specs.inner.Found.{SeparatesByEdge}
+use Rattle.qm_narrow.proofs.candidates.gain_across.Given as goal
+
+-- those of the edges before
+abbrev pub invariant-loop-i : goal.invariant-loop-i
+invariant-loop-i l = Gains (HasBelow l.i (SeparatesByEdge l.source l.pass l.edges l.others)) l.fn.planes.items l.planes.items

@@ -1,0 +1,8 @@
+use Rattle.qm_separators.specs.Gains.{Gains}
+use Rattle.qm_separators.specs.inner.Below.{HasBelow}
+use Rattle.qm_separators.specs.inner.Found.{SeparatesAt}
+use Rattle.qm_narrow.proofs.candidates.gain_by_edge.Given as goal
+
+-- those of the corners before
+abbrev pub invariant-loop-k : goal.invariant-loop-k
+invariant-loop-k l = Gains (HasBelow l.k (SeparatesAt l.source l.pass l.edges l.others l.i)) l.fn.planes.items l.planes.items

@@ -1,0 +1,14 @@
+use Rattle.std.proofs.Common.{List, subst}
+use Rattle.qm_space.specs.Plane.{Plane}
+use Rattle.qm_convex.specs.Winding.{corners}
+use Rattle.qm_separators.specs.Across.{HasNormalAcross}
+use Rattle.qm_separators.specs.Separator.{IsSeparator}
+use Rattle.qm_separators.specs.Gains.{Gains}
+use Rattle.qm_separators.proofs.FoundMixes.{found_exactly}
+use Rattle.qm_narrow.proofs.separating.separators_of.Goals as goal
+
+pub returns : goal.returns
+returns c =
+    found_exactly c.args.source.now c.args.pass.now c.gain_across.new.planes.items c.gain_across-2.new.planes.items
+    (subst (λ (old : List Plane). Gains (λ h. IsSeparator c.args.source.now c.args.pass.now h × HasNormalAcross (corners c.args.source.now) (corners c.args.pass.now) h) old c.gain_across.new.planes.items) c.new-planes.ensures.items c.in_ok-gain_across.ensures)
+    c.in_ok-gain_across-2.ensures

@@ -1,0 +1,23 @@
+use Rattle.std.specs.Prelude.{◌≡◌, ℕ, ◌<◌, List, length, get_or}
+use Rattle.qm_numbers.specs.Rounding.{IsRoundedDown, IsRoundedUp, IsNearest}
+use Rattle.qm_space.specs.Point.{Point, AreCoordinates}
+use Rattle.qm_geom.specs.Rounding.{AreCoordinatesBy}
+use Rattle.qm_convex.specs.Winding.{Winding, corner_at, corners}
+use Rattle.qm_narrow.specs.declared.spot.Spot.{Spot}
+
+-- What is kept beside a winding: its corners, and the whole points near them.
+
+-- the whole points near a corner
+pub record IsSpotOf (corner : Point) (spot : Spot) : Type 0 where
+  pub nearest : AreCoordinatesBy IsNearest corner spot.nearest
+  pub below : AreCoordinatesBy IsRoundedDown corner spot.below
+  pub above : AreCoordinatesBy IsRoundedUp corner spot.above
+  pub nearest_in : AreCoordinates spot.nearest
+  pub below_in : AreCoordinates spot.below
+  pub above_in : AreCoordinates spot.above
+
+-- the corners of a winding in their order, and the whole points near each
+pub record IsTrace (v : Winding) (traced : List Point) (spots : List Spot) : Type 0 where
+  pub corners_are : traced ≡ corners v
+  pub one_each : length spots ≡ length v.edges
+  pub spots_are : (i : ℕ) (d : Spot) → i < length v.edges → IsSpotOf (corner_at v i) (get_or spots i d)

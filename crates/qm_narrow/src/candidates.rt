@@ -1,0 +1,211 @@
+//! Separators through the edges of one winding and the corners of another.
+
+ghost use Rattle.std.specs.Prelude.{◌≡◌, ◌<◌, pos, length, OnOk};
+ghost use Rattle.qm_space.specs.Point.{whole_point, AreCoordinates};
+ghost use Rattle.qm_convex.specs.Winding.{corners, next_place};
+ghost use Rattle.qm_separators.specs.Gains.{Gains};
+ghost use Rattle.qm_separators.specs.Across.{HasNormalAcross};
+ghost use Rattle.qm_separators.specs.Separator.{IsSeparator};
+ghost use Rattle.qm_separators.specs.inner.Found.{AreBoth, AreCandidates, SeparatesByMix, SeparatesAt, SeparatesByEdge};
+
+use crate::across::gain_through;
+use crate::traced::Traced;
+use qm_geom::Plane;
+use std::alloc::AllocError;
+
+/// Gains the separators with a normal across two windings, by the edges of the one and the corners of the other.
+pub(crate) fn gain_across(
+    planes: &mut Vec<Plane>,
+    source: &Traced,
+    pass: &Traced,
+    edges: &Traced,
+    others: &Traced,
+) -> Result<(), AllocError>
+    requires { AreBoth source.now pass.now edges.now others.now }
+    ensures { OnOk result (Gains (λ h. IsSeparator source.now pass.now h × HasNormalAcross (corners edges.now) (corners others.now) h) planes.old.items planes.new.items) }
+{
+    let _corners = others.len();
+    for i in 0..edges.len() {
+        gain_by_edge(planes, source, pass, edges, others, i)?;
+    }
+    Ok(())
+}
+
+/// Gains those of one edge.
+fn gain_by_edge(
+    planes: &mut Vec<Plane>,
+    source: &Traced,
+    pass: &Traced,
+    edges: &Traced,
+    others: &Traced,
+    i: usize,
+) -> Result<(), AllocError>
+    requires both { AreBoth source.now pass.now edges.now others.now }
+    requires in_range { i < length edges.now.edges }
+    ensures { OnOk result (Gains (SeparatesByEdge source.now pass.now edges.now others.now i) planes.old.items planes.new.items) }
+{
+    for k in 0..others.len() {
+        gain_at(planes, source, pass, edges, others, i, k)?;
+    }
+    Ok(())
+}
+
+/// Gains those of one edge and one corner.
+fn gain_at(
+    planes: &mut Vec<Plane>,
+    source: &Traced,
+    pass: &Traced,
+    edges: &Traced,
+    others: &Traced,
+    i: usize,
+    k: usize,
+) -> Result<(), AllocError>
+    requires both { AreBoth source.now pass.now edges.now others.now }
+    requires edge_in_range { i < length edges.now.edges }
+    requires corner_in_range { k < length others.now.edges }
+    ensures { OnOk result (Gains (SeparatesAt source.now pass.now edges.now others.now i k) planes.old.items planes.new.items) }
+{
+    let _corners = others.len();
+    let next = next_place(edges.len(), i);
+    let from = edges.spot(i).nearest;
+    let to = edges.spot(next).nearest;
+    let spot = others.spot(k);
+    gain_mixed(planes, source, pass, spot.below, spot.above, from, to)?;
+    Ok(())
+}
+
+/// The place after a place, of so many in a circle.
+fn next_place(count: usize, i: usize) -> usize
+    requires { i < count }
+    ensures value { result ≡ next_place count i }
+    ensures in_range { result < count }
+{
+    if i + 1 == count { 0 } else { i + 1 }
+}
+
+/// A point with the x of another.
+fn with_x_of(point: [i32; 3], other: [i32; 3]) -> [i32; 3]
+    requires point_in_cube { AreCoordinates point }
+    requires other_in_cube { AreCoordinates other }
+    ensures exact { whole_point result ≡ record { x = (whole_point other).x; y = (whole_point point).y; z = (whole_point point).z; w = pos 1 } }
+    ensures in_cube { AreCoordinates result }
+{
+    [other[0], point[1], point[2]]
+}
+
+/// A point with the z of another.
+fn with_z_of(point: [i32; 3], other: [i32; 3]) -> [i32; 3]
+    requires point_in_cube { AreCoordinates point }
+    requires other_in_cube { AreCoordinates other }
+    ensures exact { whole_point result ≡ record { x = (whole_point point).x; y = (whole_point point).y; z = (whole_point other).z; w = pos 1 } }
+    ensures in_cube { AreCoordinates result }
+{
+    [point[0], point[1], other[2]]
+}
+
+/// Gains those through two points and a mix of two others.
+fn gain_mixed(
+    planes: &mut Vec<Plane>,
+    source: &Traced,
+    pass: &Traced,
+    below: [i32; 3],
+    above: [i32; 3],
+    from: [i32; 3],
+    to: [i32; 3],
+) -> Result<(), AllocError>
+    requires below_in_cube { AreCoordinates below }
+    requires above_in_cube { AreCoordinates above }
+    requires from_in_cube { AreCoordinates from }
+    requires to_in_cube { AreCoordinates to }
+    requires candidates { AreCandidates source.now pass.now (whole_point below) (whole_point above) (whole_point from) (whole_point to) }
+    ensures { OnOk result (Gains (SeparatesByMix source.now pass.now (whole_point below) (whole_point above) (whole_point from) (whole_point to)) planes.old.items planes.new.items) }
+{
+    gain_layer(
+        planes,
+        source,
+        pass,
+        below,
+        with_x_of(above, below),
+        from,
+        to,
+    )?;
+    if below[0] != above[0] {
+        gain_layer(
+            planes,
+            source,
+            pass,
+            with_x_of(below, above),
+            above,
+            from,
+            to,
+        )?;
+    }
+    Ok(())
+}
+
+/// Gains those where the two others agree in x.
+fn gain_layer(
+    planes: &mut Vec<Plane>,
+    source: &Traced,
+    pass: &Traced,
+    below: [i32; 3],
+    above: [i32; 3],
+    from: [i32; 3],
+    to: [i32; 3],
+) -> Result<(), AllocError>
+    requires below_in_cube { AreCoordinates below }
+    requires above_in_cube { AreCoordinates above }
+    requires from_in_cube { AreCoordinates from }
+    requires to_in_cube { AreCoordinates to }
+    requires candidates { AreCandidates source.now pass.now (whole_point below) (whole_point above) (whole_point from) (whole_point to) }
+    requires flat { (whole_point below).x ≡ (whole_point above).x }
+    ensures { OnOk result (Gains (SeparatesByMix source.now pass.now (whole_point below) (whole_point above) (whole_point from) (whole_point to)) planes.old.items planes.new.items) }
+{
+    gain_row(
+        planes,
+        source,
+        pass,
+        below,
+        with_z_of(below, above),
+        from,
+        to,
+    )?;
+    if below[1] != above[1] {
+        gain_row(
+            planes,
+            source,
+            pass,
+            with_z_of(above, below),
+            above,
+            from,
+            to,
+        )?;
+    }
+    Ok(())
+}
+
+/// Gains those where the two others agree in x and y.
+fn gain_row(
+    planes: &mut Vec<Plane>,
+    source: &Traced,
+    pass: &Traced,
+    below: [i32; 3],
+    above: [i32; 3],
+    from: [i32; 3],
+    to: [i32; 3],
+) -> Result<(), AllocError>
+    requires below_in_cube { AreCoordinates below }
+    requires above_in_cube { AreCoordinates above }
+    requires from_in_cube { AreCoordinates from }
+    requires to_in_cube { AreCoordinates to }
+    requires candidates { AreCandidates source.now pass.now (whole_point below) (whole_point above) (whole_point from) (whole_point to) }
+    requires flat { (whole_point below).x ≡ (whole_point above).x }
+    requires straight { (whole_point below).y ≡ (whole_point above).y }
+    ensures { OnOk result (Gains (SeparatesByMix source.now pass.now (whole_point below) (whole_point above) (whole_point from) (whole_point to)) planes.old.items planes.new.items) }
+{
+    gain_through(planes, source, pass, below, from, to)?;
+    if below[2] != above[2] {
+        gain_through(planes, source, pass, above, from, to)?;
+    }
+    Ok(())
+}

@@ -1,0 +1,19 @@
+//! Separating planes of two windings, exactly, and the steps of a chain of portals by them.
+#![tactic(auto)]
+
+mod across;
+mod candidates;
+mod chain_state;
+pub mod laws;
+mod narrowing;
+mod passing;
+mod separating;
+mod sides;
+mod spot;
+mod stepping;
+mod traced;
+
+pub use chain_state::ChainState;
+pub use passing::may_pass;
+pub use separating::separators;
+pub use stepping::step;

@@ -1,0 +1,94 @@
+//! Windings with what is wanted of their corners again and again.
+
+ghost use Rattle.std.specs.Prelude.{◌≡◌, ◌<◌, ◌≤◌, [], ◌∷◌, length, IfOk};
+ghost use Rattle.qm_geom.specs.LeastDistance.{IsLeastDistance};
+ghost use Rattle.qm_convex.specs.Winding.{corner_at, corners};
+ghost use Rattle.qm_convex.specs.World.{IsInWorld};
+
+use crate::spot::Spot;
+use qm_geom::{Corner, Plane, least_distance};
+use qm_wind::Winding;
+use std::alloc::{AllocError, Global};
+use std::marker::Model;
+
+/// A winding with its corners, and the whole points near each of them, computed once.
+#[derive(Drop)]
+pub(crate) struct Traced {
+    winding: Winding,
+    corners: Vec<Corner>,
+    spots: Vec<Spot>,
+}
+
+impl Model for Traced {
+    ghost use Rattle.qm_convex.specs.Winding.{Winding};
+    ghost use Rattle.qm_narrow.specs.inner.Trace.{IsTrace};
+
+    ghost Value = { Winding };
+
+    ghost view = { λ t. t.winding };
+
+    ghost invariant = { λ t. IsTrace t.winding t.corners.items t.spots.items };
+}
+
+impl Traced {
+    ghost use Rattle.qm_narrow.specs.inner.Trace.{IsSpotOf};
+
+    /// A winding with these.
+    pub(crate) fn of(alloc: Global, winding: Winding) -> Result<Traced, AllocError>
+        ensures { IfOk result (λ traced. traced ≡ winding) }
+    {
+        let count = winding.len();
+        let mut corners = Vec::with_capacity(alloc, count)?;
+        let mut spots = Vec::with_capacity(alloc, count)?;
+        for i in 0..count {
+            let corner = winding.corner(i);
+            spots.push(Spot::of(&corner))?;
+            corners.push(corner)?;
+        }
+        Ok(Traced {
+            winding,
+            corners,
+            spots,
+        })
+    }
+
+    /// The winding itself.
+    pub(crate) fn winding(&self) -> &Winding
+        ensures value { result.now ≡ self.now }
+    {
+        &self.winding
+    }
+
+    /// The winding, given back.
+    pub(crate) fn into_winding(self) -> Winding
+        ensures { result ≡ self }
+    {
+        let Traced { winding, .. } = self;
+        winding
+    }
+
+    /// How many corners it has.
+    pub(crate) fn len(&self) -> usize
+        ensures count { result ≡ length self.now.edges }
+        ensures enough { 3 ≤ result }
+        ensures in_world { IsInWorld self.now }
+    {
+        self.winding.len()
+    }
+
+    /// The whole points near a corner.
+    pub(crate) fn spot(&self, i: usize) -> &Spot
+        requires { i < length self.now.edges }
+        ensures { IsSpotOf (corner_at self.now i) result.now }
+    {
+        &self.spots[i]
+    }
+
+    /// The least whole distance at which no corner is in front of the plane with this plane's normal.
+    pub(crate) fn least_distance(&self, along: &Plane) -> i64
+        ensures { IsLeastDistance (along.now.nx ∷ along.now.ny ∷ along.now.nz ∷ []) (corners self.now) result }
+    {
+        let _corners = self.winding.len();
+        least_distance([along.nx, along.ny, along.nz], self.corners.as_slice())
+    }
+}

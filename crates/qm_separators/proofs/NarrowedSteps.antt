@@ -1,0 +1,76 @@
+-- How a step is made: windings cut down plane by plane, and the last two points of a step after the first two.
+use Rattle.std.specs.Option.{MatchOption}
+use Rattle.std.proofs.Common.{List, [], ◌∷◌, ◌++◌, Contains, Option, Some, None, refl, subst, ◌∙◌, ⊎_elim}
+use Rattle.std.proofs.lemmas.List.Elements.{Contains-append_left, Contains-append_right, Contains-append_cases}
+use Rattle.qm_lists.proofs.Elements.{Contains-first, Contains-nil, Contains-cons_cases}
+use Rattle.qm_space.specs.Plane.{Plane, IsInFront, flipped}
+use Rattle.qm_convex.specs.Winding.{Winding, IsConvex}
+use Rattle.qm_convex.specs.Sides.{HasNoneInFront, IsWhollyInFront, LiesIn, HasCornerInFront}
+use Rattle.qm_convex.specs.Cut.{IsPartInFront}
+use Rattle.qm_separators.specs.Part.{IsPartBy, HasNoPartBy}
+use Rattle.qm_separators.specs.ChainState.{ChainState, IsChainState}
+use Rattle.qm_separators.specs.ChainStep.{IsCutByPlanes, LeadsTo, Blocks, target_cut_away, source_cut_away}
+use Rattle.qm_separators.proofs.Parts.{part_by_none, no_part_after}
+use Rattle.qm_separators.specs.inner.Found.{HasCornersBeyond}
+use Rattle.qm_separators.specs.inner.Narrowed.{NarrowsTo, CutsAway, target_gone, source_gone}
+
+-- ---- plane by plane
+
+pub part_by_no_plane : (v : Winding) → IsConvex v → IsPartBy v v (Contains [])
+part_by_no_plane v convex = part_by_none v (Contains []) convex (λ h there. Contains-nil h there)
+
+pub part_by_next : (v left kept : Winding) (done : List Plane) (h : Plane) → IsPartBy left v (Contains done) → IsPartInFront kept left h → IsPartBy kept v (Contains (done ++ h ∷ []))
+part_by_next v left kept done h are part = record {
+  convex = part.convex;
+  plane = part.plane ∙ are.plane;
+  points = λ p. (
+    (λ r. let front = (part.points p).0 r in let all = (are.points p).0 front.0 in
+        (all.0, λ g there. ⊎_elim (λ before. all.1 g before) (λ last. ⊎_elim (λ same. subst (λ (k : Plane). IsInFront k p) same front.1) (λ none. absurd (Contains-nil g none)) (Contains-cons_cases h g [] last)) (Contains-append_cases done (h ∷ []) g there))),
+    (λ all. (part.points p).1 ((are.points p).1 (all.0, λ g before. all.1 g (Contains-append_left done (h ∷ []) g before)), all.1 h (Contains-append_right done (h ∷ []) h (Contains-first h [])))),
+  );
+}
+
+pub no_part_by_next : (v left : Winding) (done rest : List Plane) (h : Plane) → IsPartBy left v (Contains done) → HasNoneInFront left h → HasNoPartBy v (Contains (done ++ h ∷ rest))
+no_part_by_next v left done rest h are none =
+    no_part_after left v h (Contains done) (Contains (done ++ h ∷ rest)) (λ g before. Contains-append_left done (h ∷ rest) g before) (Contains-append_right done (h ∷ rest) h (Contains-first h rest)) are none
+
+-- a winding wholly in front of a plane is what it has there
+pub whole_part : (v : Winding) (g : Plane) → IsConvex v → IsWhollyInFront v g → IsPartInFront v v g
+whole_part v g convex whole = record { convex = convex; plane = refl; points = λ p. ((λ r. (r, whole p r)), (λ both. both.0)) }
+
+-- ---- corners in front of planes
+
+pub none_beyond : (v : Winding) → HasCornersBeyond v []
+none_beyond v h there = absurd (Contains-nil h there)
+
+pub one_beyond : (v : Winding) (done : List Plane) (g : Plane) → HasCornersBeyond v done → HasCornerInFront v g → HasCornersBeyond v (done ++ g ∷ [])
+one_beyond v done g are front h there = ⊎_elim
+    (λ before. are h before)
+    (λ last. ⊎_elim (λ same. subst (λ (k : Plane). HasCornerInFront v k) same front) (λ none. absurd (Contains-nil h none)) (Contains-cons_cases g h [] last))
+    (Contains-append_cases done (g ∷ []) h there)
+
+-- ---- the last two points
+
+module _ (state : ChainState) (target : Winding) (into : Plane) (near far : Winding) (far_is : IsPartInFront far target state.into) (near_is : IsPartInFront near state.source (flipped into)) where
+  cut : IsCutByPlanes state target into near far
+  cut = record { far_is = far_is; near_is = near_is }
+
+  pub leads_by : (next : ChainState) → NarrowsTo state near far next → LeadsTo state target into next
+  leads_by next is = record { near = near; far = far; cut = cut; pass = is.pass; pass_is = is.pass_is; narrowed = is.narrowed; source = is.source; into_is = is.into_is }
+
+  pub blocks_by : CutsAway state near far → Blocks state target into
+  blocks_by (target_gone none) = target_cut_away cut none
+  blocks_by (source_gone narrowed none) = source_cut_away cut narrowed none
+
+  -- what is left of the source lies in its plane
+  pub near_lies : IsChainState state → LiesIn near state.into
+  near_lies valid p r = valid.source_lies p ((near_is.points p).0 r).0
+
+-- a state that is narrowed keeps its rules
+pub narrowed_is_state : (near source pass : Winding) (into : Plane) (Has : Plane → Type 0) → LiesIn near into → IsPartBy source near Has → IsConvex pass → IsChainState (record { source = source; into = into; pass = Some pass })
+narrowed_is_state near source pass into Has lies is convex = record { source_convex = is.convex; source_lies = λ p r. lies p ((is.points p).0 r).0; pass_convex = convex }
+
+-- so they say what the step does
+pub step_by : (state : ChainState) (target : Winding) (into : Plane) (near far : Winding) → IsPartInFront far target state.into → IsPartInFront near state.source (flipped into) → (after : Option ChainState) → MatchOption after (CutsAway state near far) (NarrowsTo state near far) → MatchOption after (Blocks state target into) (LeadsTo state target into)
+step_by state target into near far far_is near_is None cuts = blocks_by state target into near far far_is near_is cuts
+step_by state target into near far far_is near_is (Some next) narrows = leads_by state target into near far far_is near_is next narrows
