@@ -7,3 +7,4 @@ pub mod FirstCorners
 pub mod RoundedCoordinates
 pub mod CornersBack
 pub mod PortalLines
+pub mod Turns

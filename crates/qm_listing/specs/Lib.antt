@@ -3,3 +3,4 @@ pub mod Numbers
 pub mod Grammar
 pub mod WorldListing
 pub mod inner
+pub mod Turning

@@ -1,12 +1,14 @@
 //! What holds of listings, whatever is printed or read.
 
-ghost use Rattle.std.specs.Prelude.{◌≡◌, ◌<◌, ℤ, pos, int_lt, unsigned_abs, IsTrue};
+ghost use Rattle.std.specs.Prelude.{◌≡◌, ◌<◌, ℕ, ℤ, pos, int_lt, unsigned_abs, length, IsTrue};
+ghost use Rattle.qm_convex.specs.Winding.{Winding, next_place, corner_at, IsConvex};
 ghost use Rattle.qm_decimal.specs.Printed.{printed};
 ghost use Rattle.qm_formats.specs.Exact.{IsExact};
 ghost use Rattle.qm_listing.specs.declared.listing.Listing.{Listing};
 ghost use Rattle.qm_listing.specs.Numbers.{coordinate_numeral};
 ghost use Rattle.qm_listing.specs.Grammar.{listing_layout, listing_text, can_stand};
-ghost use Rattle.qm_listing.specs.WorldListing.{coordinate_at};
+ghost use Rattle.qm_listing.specs.WorldListing.{coordinate_at, place_back};
+ghost use Rattle.qm_listing.specs.Turning.{TurnToFront};
 
 /// What is read of a text stands there and can stand there, and the other way round.
 pub fn exact_layout()
@@ -21,4 +23,9 @@ pub fn one_listing()
 /// A coordinate of a corner stands in a text as `print6` prints its fraction.
 pub fn printed_coordinates()
     ensures { (over under : ℤ) → 0 < unsigned_abs under → coordinate_numeral (coordinate_at over under) ≡ printed (int_lt over (pos 0)) (unsigned_abs over) (unsigned_abs under) }
+{}
+
+/// Each three neighbours of a listing's corners turn to the front of the polygon's plane.
+pub fn turned_corners()
+    ensures { (w : Winding) → IsConvex w → (k i : ℕ) → k < length w.edges → i < length w.edges → TurnToFront w.plane (corner_at w (place_back (length w.edges) k i)) (corner_at w (place_back (length w.edges) k (next_place (length w.edges) i))) (corner_at w (place_back (length w.edges) k (next_place (length w.edges) (next_place (length w.edges) i)))) }
 {}
