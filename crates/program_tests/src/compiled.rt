@@ -66,12 +66,13 @@ const ROWS_AROUND: &[u8] = &[0x3F, 0x3F, 0x37, 0x3B, 0x3F, 0x3F];
 
 const ROWS_WITH_INSIDE: &[u8] = &[0x77, 0x77, 0x67, 0x08, 0x73, 0x77, 0x77];
 
-/// The tree file of the cube with other contents: the lowest byte of the inner leaf's code, and the rows.
-fn cube_file_of(alloc: Global, code: u8, rows: &[u8]) -> Result<Vec<u8>, AllocError> {
+/// The tree file of the cube with other contents: how many leaves are numbered, the lowest byte of the inner leaf's code,
+/// and the rows.
+fn cube_file_of(alloc: Global, numbered: u8, code: u8, rows: &[u8]) -> Result<Vec<u8>, AllocError> {
     let mut file = Vec::from_slice(alloc, &CUBE_FILE)?;
     file.truncate(316);
     if file.len() == 316 {
-        file[32] = rows.len() as u8;
+        file[32] = numbered;
         file[296] = code;
     }
     file.extend_from_slice(rows)?;
@@ -82,17 +83,16 @@ fn cube_file_of(alloc: Global, code: u8, rows: &[u8]) -> Result<Vec<u8>, AllocEr
 #[test]
 fn names_give_contents(rt: HostRuntime) -> Result<(), Fail> {
     let rows = [
-        ("clip1", 34, 0xFE, ROWS_AROUND),
-        ("*lava", 35, 0xFB, ROWS_WITH_INSIDE),
-        ("*Slime2", 35, 0xFC, ROWS_WITH_INSIDE),
-        ("*x", 35, 0xFD, ROWS_WITH_INSIDE),
-        ("Sky1", 35, 0xFA, ROWS_WITH_INSIDE),
-        ("\"\"", 34, 0xFE, ROWS_AROUND),
+        ("clip1", 6, 34, 0xFE, ROWS_AROUND),
+        ("*lava", 7, 35, 0xFB, ROWS_WITH_INSIDE),
+        ("*Slime2", 7, 35, 0xFC, ROWS_WITH_INSIDE),
+        ("*x", 7, 35, 0xFD, ROWS_WITH_INSIDE),
+        ("Sky1", 7, 35, 0xFA, ROWS_WITH_INSIDE),
+        ("\"\"", 6, 34, 0xFE, ROWS_AROUND),
     ];
-    for (name, seen, code, rows) in rows {
+    for (name, numbered, seen, code, rows) in rows {
         let text = named_cube(rt.alloc(), name)?;
-        let file = cube_file_of(rt.alloc(), code, rows)?;
-        let numbered = rows.len();
+        let file = cube_file_of(rt.alloc(), numbered, code, rows)?;
         let printed = format!(in rt.alloc();
             "no entity\nbrushes 1\nflat 0\nplanes 6\nnodes 6\nleaves 7\nnumbered {numbered}\nfilled 0\nportals 12\nseen {seen}\n"
         )?;

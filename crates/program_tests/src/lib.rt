@@ -5,6 +5,8 @@
 #[cfg(test)]
 mod boxes;
 #[cfg(test)]
+mod compile_call;
+#[cfg(test)]
 mod compiled;
 #[cfg(test)]
 mod cube;

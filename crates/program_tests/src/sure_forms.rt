@@ -1,6 +1,6 @@
 use super::empty_file::{EMPTY_FILE, EMPTY_SUMMARY};
 use super::printed::{COUNTS, UNEXPECTED};
-use qm_compile::run;
+use qm_compile::laws::run_surely;
 use qm_shelf::{SureShelf, SureSink};
 use std::test::Fail;
 use std::thread::Threads;
@@ -36,7 +36,7 @@ fn says<R: AllocGlobal + Threads + Sync>(
     printed: &str,
 ) -> bool {
     let mut sink = SureSink::new(rt.alloc());
-    let answer = run(rt, rt.alloc(), words, shelf, &mut sink);
+    let answer = run_surely(rt, rt.alloc(), words, shelf, &mut sink);
     answer.number() == status && sink.bytes() == printed.as_bytes()
 }
 
