@@ -65,7 +65,9 @@ impl DueCell {
         ensures back { IfOk result (λ halves. IsHalf self (flipped plane.now) node.now.back halves.back) }
     {
         let DueCell {
-            bounds, on_walls, ..
+            bounds,
+            on_walls,
+            ..
         } = self;
         let walls = split_facets(on_walls, plane)?;
         let mut behind = Vec::from_slice(*bounds.allocator(), &bounds)?;

@@ -27,7 +27,7 @@ pub(crate) fn add_pairs(
     let mut fronts = Vec::new(*pairs.allocator());
     let polygon = DuePolygon {
         child: node.front,
-        winding: section,
+        winding: Box::new(*pairs.allocator(), section)?,
     };
     push_down(tree, polygon, &mut fronts)?;
     add_rows(tree, n, node.back, fronts, pairs)?;

@@ -6,7 +6,7 @@ use std::marker::Model;
 #[derive(Drop)]
 pub(crate) struct Piece {
     pub(crate) leaf: u64,
-    pub(crate) winding: Winding,
+    pub(crate) winding: Box<Winding>,
 }
 
 impl Model for Piece {
@@ -14,14 +14,14 @@ impl Model for Piece {
 
     ghost Value = { Piece };
 
-    ghost view = { λ piece. record { leaf = piece.leaf; winding = piece.winding } };
+    ghost view = { λ piece. record { leaf = piece.leaf; winding = piece.winding.value } };
 }
 
 /// A polygon on its way down a tree, with the child to which it came.
 #[derive(Drop)]
 pub(crate) struct DuePolygon {
     pub(crate) child: Child,
-    pub(crate) winding: Winding,
+    pub(crate) winding: Box<Winding>,
 }
 
 impl Model for DuePolygon {
@@ -29,5 +29,5 @@ impl Model for DuePolygon {
 
     ghost Value = { DuePolygon };
 
-    ghost view = { λ due. record { child = due.child; winding = due.winding } };
+    ghost view = { λ due. record { child = due.child; winding = due.winding.value } };
 }

@@ -91,7 +91,7 @@ fn step_down(
         Severed::Across(behind) => {
             due.push(DuePolygon {
                 child: node.back,
-                winding: behind,
+                winding: Box::new(*due.allocator(), behind)?,
             })?;
             Ok(Some(node.front))
         }

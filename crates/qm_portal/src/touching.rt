@@ -8,7 +8,7 @@ pub(crate) struct Touching {
     pub(crate) node: u64,
     pub(crate) front: u64,
     pub(crate) back: u64,
-    pub(crate) winding: Winding,
+    pub(crate) winding: Box<Winding>,
 }
 
 impl Model for Touching {
@@ -16,5 +16,5 @@ impl Model for Touching {
 
     ghost Value = { Touching };
 
-    ghost view = { λ pair. record { node = pair.node; front = pair.front; back = pair.back; winding = pair.winding } };
+    ghost view = { λ pair. record { node = pair.node; front = pair.front; back = pair.back; winding = pair.winding.value } };
 }

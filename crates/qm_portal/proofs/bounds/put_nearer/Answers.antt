@@ -5,7 +5,6 @@ use Rattle.qm_space.specs.Plane.{Plane}
 use Rattle.qm_contacts.proofs.CellBounds.{bound_farther, bound_nearer}
 use Rattle.qm_portal.proofs.bounds.put_nearer.Goals as goal
 
-
 pub returns-then-plane-index : goal.returns-then-plane-index
 returns-then-plane-index c =
     bound_nearer c.args.plane.now c.args.bounds.now.items c.args.place (get_or c.args.bounds.now.items c.args.place c.args.plane.now) c.requires.within refl c.requires.same _

@@ -1,4 +1,4 @@
-use Rattle.std.proofs.Common.{List, [], ap, subst, arith}
+use Rattle.std.proofs.Common.{List, [], ap, ◌∙◌, subst, arith}
 use Rattle.std.proofs.lemmas.List.{nil_from_length}
 use Rattle.qm_lists.proofs.KeptStacks.{under_way_next, under_way_goes_on, under_way_smaller}
 use Rattle.qm_convex.specs.Winding.{IsConvex}
@@ -10,7 +10,7 @@ use Rattle.qm_portal.proofs.pushing.push_down.Goals as goal
 use Rattle.qm_portal.proofs.pushing.push_down.Goals.{After-len-corners}
 
 convex : (c : After-len-corners) → IsConvex c.args.polygon.winding
-convex c = subst IsConvex (ap (λ (p : DuePolygon). p.winding) c.polygon.view_is) c.len-corners.ensures.in_world.convex
+convex c = subst IsConvex (c.deref.ensures ∙ ap (λ (p : DuePolygon). p.winding) c.polygon.view_is) c.len-corners.ensures.in_world.convex
 
 first : (c : After-len-corners) → MayBeDue c.args.tree.now c.args.polygon
 first c = child_is_due c.args.tree.now c.args.polygon c.requires.child (convex c)

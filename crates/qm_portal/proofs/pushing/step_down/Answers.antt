@@ -4,7 +4,9 @@ use Rattle.qm_convex.specs.Sides.{IsWhollyInFront, LiesIn}
 use Rattle.qm_convex.specs.Cut.{IsPartInFront}
 use Rattle.qm_wind.specs.Severing.{IsSevered}
 use Rattle.qm_wind.specs.declared.severed.Severed.{Severed}
-use Rattle.std.proofs.Common.{◌≡◌, subst}
+use Rattle.qm_convex.specs.Winding.{Winding}
+use Rattle.qm_portal.specs.inner.Pushes.{polygon_at}
+use Rattle.std.proofs.Common.{[], ◌∷◌, ◌++◌, ap, ◌∙◌, ◌≡◌, subst}
 use Rattle.qm_portal.proofs.pushing.step_down.Goals as goal
 use Rattle.qm_portal.proofs.pushing.step_down.Goals.{In-Front, In-Back, In-On, In-Across}
 
@@ -46,7 +48,7 @@ returns-in-On-clause-smaller c = none_lighter c.args.tree.now c.args.n c.node-no
 
 pub returns-in_ok-push-in-Across-clause-goes : goal.returns-in_ok-push-in-Across-clause-goes
 returns-in_ok-push-in-Across-clause-goes c =
-    goes_both c.args.tree.now c.args.n c.node-node.result c.plane.result c.node-node.ensures.value c.plane.ensures.value c.args.winding.now c.sever.new.self (convex_of_due c.args.tree.now c.args.winding.now _ c.requires) c.args.due.now.items c.in-Across.behind c.push.new.self.items (severed_across (goal.at.returns-in_ok-push-in-Across-clause-goes c).In-Across).0 (severed_across (goal.at.returns-in_ok-push-in-Across-clause-goes c).In-Across).1 c.in_ok-push-in-Across.ensures.items
+    goes_both c.args.tree.now c.args.n c.node-node.result c.plane.result c.node-node.ensures.value c.plane.ensures.value c.args.winding.now c.sever.new.self (convex_of_due c.args.tree.now c.args.winding.now _ c.requires) c.args.due.now.items c.in-Across.behind c.push.new.self.items (severed_across (goal.at.returns-in_ok-push-in-Across-clause-goes c).In-Across).0 (severed_across (goal.at.returns-in_ok-push-in-Across-clause-goes c).In-Across).1 (c.in_ok-push-in-Across.ensures.items ∙ ap (λ (w : Winding). c.args.due.now.items ++ polygon_at w c.node-node.result.back ∷ []) c.in_ok-new-in-Across.ensures.ok)
 
 pub returns-in_ok-push-in-Across-clause-smaller : goal.returns-in_ok-push-in-Across-clause-smaller
 returns-in_ok-push-in-Across-clause-smaller c = front_lighter c.args.tree.now c.args.n c.node-node.result c.plane.result c.node-node.ensures.value c.plane.ensures.value
