@@ -1,11 +1,14 @@
 //! Goes the way of `qmapc compile` up to a named phase, and prints counts of what is there then, so that phases are timed
 //! as differences. `bench/compile.sh` times it.
 //!
-//! The words are a phase (`read`, `parse`, `brushes`, `build` or `touches`) and the name of a map.
+//! The words are a phase (`read`, `parse`, `brushes`, `build`, `touches`, `world`, `base` or `rows`) and the name of a map.
 #![tactic(auto)]
+
+mod rows;
 
 ghost use Rattle.qm_grammar.specs.Valid.{IsValid};
 
+use crate::rows::rows_up_to;
 use qm_brush::brushes;
 use qm_build::build;
 use qm_geom::PlaneBook;
@@ -21,7 +24,9 @@ fn main(rt: HostRuntime) -> io::Result<()> {
     let mut words = env::args(&rt)?.skip(1);
     match (words.next(), words.next()) {
         (Some(phase), Some(name)) => run_up_to(&rt, phase.as_str(), name.as_str()),
-        _ => println!(rt; "usage: compile_bench read|parse|brushes|build|touches MAP"),
+        _ => println!(rt;
+            "usage: compile_bench read|parse|brushes|build|touches|world|base|rows MAP"
+        ),
     }
 }
 
@@ -63,5 +68,9 @@ fn go_on<R: AllocGlobal + Print>(rt: &R, phase: &str, map: &MapFile) -> io::Resu
         let contacts = touches(rt.alloc(), &tree)?;
         return println!(rt; "nodes {nodes}, leaves {}", contacts.leaves());
     }
-    println!(rt; "brushes {brushes}, planes {planes}, nodes {nodes}, leaves {leaves}")
+    if phase == "build" {
+        return println!(rt; "brushes {brushes}, planes {planes}, nodes {nodes}, leaves {leaves}");
+    }
+    drop(list);
+    rows_up_to(rt, phase, map, tree)
 }
