@@ -1,12 +1,16 @@
 //! Goes the way of `qmapc compile` up to a named phase, and prints counts of what is there then, so that phases are timed
 //! as differences. `bench/compile.sh` times it.
 //!
-//! The words are a phase (`read`, `parse`, `brushes`, `build`, `touches` or `flood`) and the name of a map.
+//! The words are a phase (`read`, `parse`, `brushes`, `build`, `touches`, `flood`, `world`, `base` or `rows`) and the name
+//! of a map.
 #![tactic(auto)]
+
+mod rows;
 
 ghost use Rattle.qm_grammar.specs.Valid.{IsValid};
 ghost use Rattle.qm_contacts.specs.Contacts.{AreContacts};
 
+use crate::rows::rows_up_to;
 use qm_brush::brushes;
 use qm_build::build;
 use qm_flood::{Flood, Origin, flood};
@@ -25,7 +29,9 @@ fn main(rt: HostRuntime) -> io::Result<()> {
     let mut words = env::args(&rt)?.skip(1);
     match (words.next(), words.next()) {
         (Some(phase), Some(name)) => run_up_to(&rt, phase.as_str(), name.as_str()),
-        _ => println!(rt; "usage: compile_bench read|parse|brushes|build|touches|flood MAP"),
+        _ => println!(rt;
+            "usage: compile_bench read|parse|brushes|build|touches|flood|world|base|rows MAP"
+        ),
     }
 }
 
@@ -71,7 +77,11 @@ fn go_on<R: AllocGlobal + Print>(rt: &R, phase: &str, map: &MapFile) -> io::Resu
         }
         return println!(rt; "nodes {nodes}, leaves {}", contacts.leaves());
     }
-    println!(rt; "brushes {brushes}, planes {planes}, nodes {nodes}, leaves {leaves}")
+    if phase == "build" {
+        return println!(rt; "brushes {brushes}, planes {planes}, nodes {nodes}, leaves {leaves}");
+    }
+    drop(list);
+    rows_up_to(rt, phase, map, tree)
 }
 
 /// The flood for an entity that stands outside, in a corner of the cube.

@@ -1,11 +1,10 @@
 -- Rows of the lanes with corners on one side of a plane, lane by lane.
-use Rattle.std.proofs.Common.{◌≡◌, ◌≢◌, ℕ, ◌+◌, ◌<◌, ◌≤◌, Bool, true, false, List, length, get_or, set, replicate, Some, slice_get, ◌⊎◌, inl, inr, ⊎_elim, refl, sym, ap, ◌∙◌, subst, arith, ◌↔◌}
+use Rattle.std.proofs.Common.{◌≡◌, ℕ, ◌+◌, ◌<◌, ◌≤◌, Bool, true, false, List, length, get_or, set, replicate, Some, slice_get, inl, inr, ⊎_elim, refl, sym, ap, ◌∙◌, subst, arith, ◌↔◌}
 use Rattle.std.proofs.lemmas.Bool.{cases_eq, cases_lt}
 use Rattle.std.proofs.lemmas.List.{length-set, length-replicate, get_or-set_same, get_or-set_other, get_or_past, get_or-replicate}
 use Rattle.std.proofs.lemmas.Option.{slice_get_within}
 use Rattle.qm_lists.specs.WorkList.{IsIn}
 use Rattle.qm_space.specs.Plane.{Plane}
-use Rattle.qm_convex.specs.Winding.{Winding}
 use Rattle.qm_convex.specs.Sides.{HasCornerInFront, HasCornerBehind}
 use Rattle.qm_contacts.specs.Portals.{Portal}
 use Rattle.qm_base.specs.declared.lane.Lane.{Lane}

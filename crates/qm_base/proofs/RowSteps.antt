@@ -1,23 +1,21 @@
 -- From words for leaves to coarse rows, block by block.
-use Rattle.std.proofs.Common.{◌≡◌, ◌≢◌, ℕ, suc, ◌+◌, ◌-◌, ◌*◌, ◌/◌, ◌%◌, ◌<◌, ◌≤◌, Bool, true, false, List, [], ◌∷◌, ◌++◌, length, get_or, set, Some, slice_get, ◌⊎◌, inl, inr, ⊎_elim, refl, sym, ap, ◌∙◌, subst, arith, ◌↔◌}
-use Rattle.std.specs.List.{All, AllZip, Contains}
+use Rattle.std.proofs.Common.{◌≡◌, ◌≢◌, ℕ, suc, ◌+◌, ◌-◌, ◌*◌, ◌<◌, ◌≤◌, Bool, List, [], ◌∷◌, length, set, Some, slice_get, ⊎_elim, refl, sym, ap, ◌∙◌, subst, arith}
+use Rattle.std.specs.List.{All, AllZip}
 use Rattle.std.proofs.lemmas.Bool.{cases_eq, cases_lt}
 use Rattle.std.proofs.lemmas.List.{length-set, get_or-set_same, get_or-set_other}
 use Rattle.std.proofs.lemmas.List.Elements.{All-nil, All-cons}
 use Rattle.std.proofs.lemmas.Option.{slice_get-get_or, slice_get_within, get_or_from_slice_get}
-use Rattle.qm_bits.specs.Word.{has_bit}
 use Rattle.qm_lists.specs.Reach.{Reach, start, onward}
-use Rattle.qm_lists.specs.WorkList.{IsIn}
 use Rattle.qm_lists.proofs.Reached.{least}
 use Rattle.qm_lists.proofs.Elements.{Contains-at}
 use Rattle.qm_contacts.specs.Portals.{Portal}
 use Rattle.qm_contacts.specs.World.{World}
 use Rattle.qm_coarse_rows.specs.CoarseRow.{MayFollow, GoesOnFrom, IsCoarseRow}
 use Rattle.qm_base.specs.declared.lane.Lane.{Lane}
-use Rattle.qm_base.specs.inner.Following.{leaves_of_world, MayFollowAt, IsCoarseRowAt}
+use Rattle.qm_base.specs.inner.Following.{leaves_of_world, IsCoarseRowAt}
 use Rattle.qm_base.specs.inner.Lanes.{IsLane, AreLanes}
-use Rattle.qm_base.specs.inner.Ways.{block_of, FollowsLane, AreWays}
-use Rattle.qm_base.specs.inner.Sweeping.{IsInLane, GoesBy, Enters, AreFlooded, IsColumn}
+use Rattle.qm_base.specs.inner.Ways.{block_of, AreWays}
+use Rattle.qm_base.specs.inner.Sweeping.{GoesBy, Enters, AreFlooded, IsColumn}
 use Rattle.qm_base.specs.inner.Blocks.{HasCoarseRow, AreWritten, WrittenSoFar, BlocksSoFar}
 use Rattle.qm_base.proofs.LaneSteps.{lane_at}
 use Rattle.qm_base.proofs.WaySteps.{of_block, in_block}

@@ -1,6 +1,5 @@
 -- A table, lane by lane, and what its rows say.
-use Rattle.std.proofs.Common.{◌≡◌, ◌≢◌, ℕ, ◌+◌, ◌-◌, ◌<◌, ◌≤◌, Bool, true, false, List, [], ◌∷◌, ◌++◌, length, get_or, Some, slice_get, ◌⊎◌, ⊎_elim, refl, sym, ap, ◌∙◌, subst, arith, ◌↔◌, if◌then◌else◌}
-use Rattle.std.specs.List.{All}
+use Rattle.std.proofs.Common.{◌≡◌, ℕ, ◌+◌, ◌-◌, ◌<◌, Bool, true, false, List, [], ◌∷◌, ◌++◌, length, Some, slice_get, ⊎_elim, refl, sym, ap, ◌∙◌, subst, arith, ◌↔◌, if◌then◌else◌}
 use Rattle.std.proofs.Math.Seq.{get_or-append_seam}
 use Rattle.std.proofs.lemmas.List.{length-append, get_or_append_left}
 use Rattle.std.proofs.lemmas.List.Elements.{All-nil, All-push, All-weaker}
@@ -10,7 +9,7 @@ use Rattle.qm_lists.proofs.Places.{slice_get-push_cases}
 use Rattle.qm_space.specs.Plane.{Plane, flipped}
 use Rattle.qm_space.specs.Turned.{turned}
 use Rattle.qm_space.proofs.Planes.{flipped_in_front, flipped_behind}
-use Rattle.qm_convex.specs.Winding.{Winding, corner_at}
+use Rattle.qm_convex.specs.Winding.{corner_at}
 use Rattle.qm_contacts.specs.Portals.{Portal}
 use Rattle.qm_base.specs.declared.lane.Lane.{Lane}
 use Rattle.qm_base.specs.declared.beside.Beside.{Beside}

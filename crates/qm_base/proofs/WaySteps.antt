@@ -1,25 +1,22 @@
 -- Which lanes of a block a portal may follow, as the bits of a word.
 use Rattle.std.proofs.Common.{◌≡◌, ◌≢◌, ℕ, zero, suc, ◌+◌, ◌-◌, ◌*◌, ◌<◌, ◌≤◌, min, Bool, true, false, ◌&&◌, List, [], ◌∷◌, ◌++◌, length, get_or, set, take, drop, bit_or, bit_and, Some, slice_get, ◌⊎◌, inl, inr, ⊎_elim, refl, sym, ap, ◌∙◌, subst, arith, ◌↔◌}
 use Rattle.std.specs.List.{All, Contains}
-use Rattle.std.proofs.lemmas.Bool.{cases_eq, cases_lt}
+use Rattle.std.proofs.lemmas.Bool.{cases_eq}
 use Rattle.std.proofs.lemmas.List.{length-set, length-take, length-drop, get_or-set_same, get_or-set_other, take_more, take_all, take_min}
 use Rattle.std.proofs.lemmas.List.Elements.{All-take, All-drop, Contains-append_left, Contains-push, Contains-push_cases}
-use Rattle.std.proofs.lemmas.Option.{slice_get-get_or, slice_get_within, get_or_from_slice_get}
+use Rattle.std.proofs.lemmas.Option.{slice_get-get_or, slice_get_within}
 use Rattle.qm_lists.specs.WorkList.{IsIn}
 use Rattle.qm_lists.proofs.Cases.{both_yes}
-use Rattle.qm_lists.proofs.Elements.{Contains-nil, Contains-at}
+use Rattle.qm_lists.proofs.Elements.{Contains-nil}
 use Rattle.qm_bits.specs.Word.{has_bit, IsWord}
 use Rattle.qm_bits.proofs.Bits.{has_bit-or, has_bit-and, has_bit-zero}
 use Rattle.qm_space.specs.Turned.{turned}
-use Rattle.qm_space.specs.Plane.{Plane}
 use Rattle.qm_convex.specs.Sides.{HasCornerInFront, HasCornerBehind}
 use Rattle.qm_contacts.specs.Portals.{Portal}
 use Rattle.qm_base.specs.declared.lane.Lane.{Lane}
 use Rattle.qm_base.specs.declared.beside.Beside.{Beside}
 use Rattle.qm_base.specs.declared.table.Kind.{Kind}
 use Rattle.qm_base.specs.declared.runs.Run.{Run}
-use Rattle.qm_base.specs.inner.Following.{MayFollowAt}
-use Rattle.qm_base.specs.inner.Besides.{IsFrontAt, IsBehindAt}
 use Rattle.qm_base.specs.inner.Tables.{ahead, back, AreKinds, IsTable}
 use Rattle.qm_base.specs.inner.Runs.{AreRuns}
 use Rattle.qm_base.specs.inner.Ways.{block_of, IsAheadOf, MayPass, IsWay, FollowsLane, AreWays, WaysSoFar, BeforeSoFar}

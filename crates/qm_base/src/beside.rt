@@ -34,8 +34,8 @@ pub(crate) fn beside_of(
     for k in 0..lanes.len() {
         let pane = world.pane(lanes[k].portal);
         let sides = sides_of(&pane.winding, plane);
-        put(&mut front, k as u64, sides.front);
-        put(&mut behind, k as u64, sides.behind);
+        put(&mut front, k as u64, sides.0);
+        put(&mut behind, k as u64, sides.1);
     }
     Ok(Beside { front, behind })
 }

@@ -1,6 +1,5 @@
-use Rattle.std.proofs.Common.{get_or, arith}
+use Rattle.std.proofs.Common.{get_or}
 use Rattle.std.proofs.lemmas.Option.{slice_get-get_or}
-use Rattle.qm_base.proofs.LaneSteps.{portals_within}
 use Rattle.qm_base.proofs.BesideSteps.{beside_begins, beside_more, beside_ends}
 use Rattle.qm_base.proofs.beside.beside_of.Goals as goal
 
@@ -13,7 +12,7 @@ loop-k-preserved c =
     let sides = c.sides_of-sides in
     beside_more c.args.world.now.portals c.args.lanes.now c.args.plane.now c.loop-k.k (get_or c.args.lanes.now c.loop-k.k c.index-lanes-k.result) value.0
     (slice_get-get_or c.args.lanes.now c.loop-k.k c.index-lanes-k.result c.loop-k-test.true) value.1
-    sides.result.front sides.result.behind c.loop-k.front c.loop-k.behind c.put.new.row c.put-in-loop-k.new.row c.loop-k.invariant c.put.ensures c.put-in-loop-k.ensures
+    sides.result.0 sides.result.1 c.loop-k.front c.loop-k.behind c.put.new.row c.put-in-loop-k.new.row c.loop-k.invariant c.put.ensures c.put-in-loop-k.ensures
     (rw (← value.2) sides.ensures.front) (rw (← value.2) sides.ensures.behind)
 
 pub returns : goal.returns

@@ -1,4 +1,4 @@
-use Rattle.std.proofs.Common.{◌≡◌, ◌∙◌, sym, arith}
+use Rattle.std.proofs.Common.{◌∙◌, sym, arith}
 use Rattle.qm_base.proofs.LaneSteps.{lane_added, all_have_lanes}
 use Rattle.qm_base.proofs.lane.lanes_in_turn.Goals as goal
 

@@ -1,6 +1,5 @@
-use Rattle.std.proofs.Common.{◌≡◌, ◌∙◌, sym, ap, get_or, Some, slice_get, refl, true, false, arith}
+use Rattle.std.proofs.Common.{◌≡◌, ◌∙◌, sym, ap, get_or, Some, true, false, arith}
 use Rattle.std.proofs.lemmas.Option.{slice_get-get_or}
-use Rattle.qm_base.specs.declared.table.Kind.{Kind}
 use Rattle.qm_base.proofs.RunSteps.{lane_more, lane_other, lanes_all}
 use Rattle.qm_base.proofs.runs.lanes_of.Goals as goal
 use Rattle.qm_base.proofs.runs.lanes_of.Goals.{then-is, else-is}

@@ -1,4 +1,4 @@
-use Rattle.std.proofs.Common.{◌≡◌, ◌*◌, ◌^◌, Bool, false, length, sum, subst, ap, arith}
+use Rattle.std.proofs.Common.{◌≡◌, ◌*◌, ◌^◌, length, subst, ap, arith}
 use Rattle.qm_base.specs.inner.Sweeping.{IsSweep}
 use Rattle.qm_base.proofs.SweepSteps.{grown_none, grown_twice, flood_over, passed_most}
 use Rattle.qm_base.proofs.sweeping.flood.Goals as goal

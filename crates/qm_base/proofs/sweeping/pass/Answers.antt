@@ -1,4 +1,3 @@
-use Rattle.std.proofs.Common.{arith}
 use Rattle.qm_base.proofs.SweepSteps.{passes, rests}
 use Rattle.qm_base.proofs.sweeping.pass.Goals as goal
 

@@ -1,7 +1,7 @@
-use Rattle.std.proofs.Common.{◌≡◌, ℕ, ◌*◌, ◌^◌, ◌<◌, List, get_or, length, take, sym, refl, subst, arith}
+use Rattle.std.proofs.Common.{ℕ, List, get_or, refl, subst, arith}
 use Rattle.std.proofs.lemmas.List.{take_all}
 use Rattle.qm_base.specs.inner.Sweeping.{IsSpreadBy}
-use Rattle.qm_base.proofs.SweepSteps.{spread_more, spread_none, spread_all, leaving_within}
+use Rattle.qm_base.proofs.SweepSteps.{spread_more, spread_all, leaving_within}
 use Rattle.qm_base.proofs.sweeping.spread.Goals as goal
 
 pub to-to-requires : goal.to-to-requires

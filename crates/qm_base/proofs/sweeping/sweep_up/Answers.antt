@@ -1,4 +1,4 @@
-use Rattle.std.proofs.Common.{false, arith}
+use Rattle.std.proofs.Common.{arith}
 use Rattle.qm_base.proofs.SweepSteps.{up_more, step_none}
 use Rattle.qm_base.proofs.sweeping.sweep_up.Goals as goal
 

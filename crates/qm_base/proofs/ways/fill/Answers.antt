@@ -1,8 +1,6 @@
-use Rattle.std.proofs.Common.{◌≡◌, ◌∙◌, ℕ, ◌<◌, ◌*◌, List, length, get_or, refl, sym, subst, arith}
+use Rattle.std.proofs.Common.{◌∙◌, ◌<◌, List, length, refl, subst, arith}
 use Rattle.std.proofs.lemmas.Option.{slice_get_read}
 use Rattle.qm_base.specs.declared.table.Kind.{Kind}
-use Rattle.qm_base.specs.declared.lane.Lane.{Lane}
-use Rattle.qm_base.specs.declared.runs.Run.{Run}
 use Rattle.qm_base.specs.inner.Runs.{AreRuns}
 use Rattle.qm_base.specs.inner.Ways.{block_of}
 use Rattle.qm_base.proofs.WaySteps.{ways_more, ways_all, slice_of_block, portal_within}

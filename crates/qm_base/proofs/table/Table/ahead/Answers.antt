@@ -1,4 +1,4 @@
-use Rattle.std.proofs.Common.{◌≡◌, ◌∙◌, ap, get_or, [], sym}
+use Rattle.std.proofs.Common.{◌≡◌, ◌∙◌, ap, []}
 use Rattle.std.proofs.lemmas.List.{get_or_default}
 use Rattle.qm_base.specs.declared.beside.Beside.{Beside}
 use Rattle.qm_base.specs.inner.Tables.{ahead, beside_at}

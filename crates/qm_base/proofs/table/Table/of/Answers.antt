@@ -1,9 +1,8 @@
-use Rattle.std.proofs.Common.{◌≡◌, ◌∙◌, ℕ, ◌+◌, ◌-◌, ◌<◌, List, [], ◌∷◌, ◌++◌, sym, ap, subst, get_or, length, Some, slice_get, refl, arith}
+use Rattle.std.proofs.Common.{◌≡◌, ◌∙◌, ℕ, ◌-◌, ◌<◌, List, [], ◌∷◌, ◌++◌, ap, subst, length, Some, slice_get, refl, arith}
 use Rattle.std.proofs.lemmas.Option.{slice_get_read}
 use Rattle.qm_base.specs.declared.lane.Lane.{Lane}
 use Rattle.qm_base.specs.declared.beside.Beside.{Beside}
 use Rattle.qm_base.specs.inner.Besides.{IsBeside}
-use Rattle.qm_base.specs.inner.Tables.{beside_at}
 use Rattle.qm_base.proofs.TableSteps.{kind_more, row_more, table_all, plane_before}
 use Rattle.qm_base.proofs.table.Table.of.Goals as goal
 use Rattle.qm_base.proofs.table.Table.of.Goals.{then-not-has_plane_before+in_ok-beside_of+in_ok-push, else-not-has_plane_before}
