@@ -3,7 +3,8 @@
 # each map the milliseconds of processor time at the best of seven runs: of each phase, by differences of
 # crates/compile_bench, of the way up to the tree, and of the whole command, with the peak of memory in megabytes. PEER is
 # another program that compiles with the words `compile MAP OUT --fast` and, where QM_TIMES is set, prints lines
-# `time PHASE N ms  peak K KiB` on standard error; beside it stand its phases up to `build`, its peak there, and the ratios.
+# `time PHASE N ms  peak K KiB` on standard error; beside it stand its phases up to `build`, its peak there, and the ratios,
+# and then its contacts with the flood, and their ratio.
 set -euo pipefail
 cd "$(dirname "${BASH_SOURCE[0]}")/.."
 maps=$(cd "${1:?usage: bench/compile.sh FOLDER [PEER]}" && pwd)
@@ -22,7 +23,7 @@ import os, re, shutil, subprocess, sys
 
 maps, out, bench, program, peer = sys.argv[1:]
 RUNS = 7
-PHASES = ["read", "parse", "brushes", "build"]
+PHASES = ["read", "parse", "brushes", "build", "touches", "flood"]
 TIME = shutil.which("time") or sys.exit("the command `time` is not on the PATH")
 
 
@@ -50,8 +51,8 @@ def peak(*words):
 
 
 def measure_peer(name):
-    """The least milliseconds of its phases up to the tree, and its megabytes there."""
-    least = peak = float("inf")
+    """The least milliseconds of its phases up to the tree, and its megabytes there; and those of contacts and flood."""
+    least = peak = contacts = float("inf")
     for _ in range(RUNS):
         said = subprocess.run(
             [peer, "compile", name, out, "--fast"],
@@ -66,12 +67,15 @@ def measure_peer(name):
             total += float(took)
             if phase == "build":
                 peak = min(peak, int(kilobytes) / 1024)
+                least = min(least, total)
+                total = 0.0
+            if phase == "flood":
+                contacts = min(contacts, total)
                 break
-        least = min(least, total)
-    return least, peak
+    return least, peak, contacts
 
 
-heads = [*PHASES, "tree", "compile", "MB"] + (["peer", "MB", "ratio", "memory"] if peer else [])
+heads = [*PHASES, "tree", "compile", "MB"] + (["peer", "MB", "ratio", "memory", "contacts", "ratio"] if peer else [])
 print(f"{'map':<28}" + "".join(f"{head:>10}" for head in heads))
 start = measure(bench)
 for name in sorted(os.listdir(maps)):
@@ -80,10 +84,11 @@ for name in sorted(os.listdir(maps)):
     path = os.path.join(maps, name)
     times = [measure(bench, phase, path) for phase in PHASES]
     phases = [now - before for before, now in zip([start, *times], times)]
-    tree = times[-1] - start
+    tree = times[PHASES.index("build")] - start
     row = [*phases, tree, measure(program, "compile", path, out), peak(program, "compile", path, out)]
     if peer:
-        its, its_peak = measure_peer(path)
+        its, its_peak, its_contacts = measure_peer(path)
         row += [its, its_peak, tree / its, peak(bench, "build", path) / its_peak]
+        row += [its_contacts, (times[-1] - times[PHASES.index("build")]) / its_contacts]
     print(f"{name.removesuffix('.map'):<28}" + "".join(f"{value:>10.2f}" for value in row))
 END
