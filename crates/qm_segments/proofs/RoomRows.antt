@@ -16,11 +16,13 @@ use Rattle.qm_partition.specs.LeafOfPoint.{node_value}
 use Rattle.qm_partition.specs.Ways.{ways, IsInLeaf, HasPoints}
 use Rattle.qm_contacts.specs.Meeting.{Meeting, meeting_at, meetings}
 use Rattle.qm_contacts.specs.Touching.{IsTouching, AreApart, AreTouchings, none, touching, apart}
+use Rattle.qm_contacts.specs.Portals.{portals_of}
 use Rattle.qm_coarse_rows.specs.CoarseRow.{IsInCoarseRow}
 use Rattle.qm_coarse_rows.proofs.RoomSamples.{at, rooms, door, touchings, portals, out, on, back, rows, coarse_rows, leaf_rows, are_leaf_rows}
 use Rattle.qm_segments.specs.Clear.{LeafHas}
 use Rattle.qm_segments.specs.Ends.{HasInRow, HoldLinesOfSight}
-use Rattle.qm_segments.specs.Sight.{IsInSight}
+use Rattle.qm_segments.specs.LedByPortals.{IsLedByPortals}
+use Rattle.qm_segments.specs.Sight.{IsInSight, AreSoundRows}
 use Rattle.qm_segments.specs.SeenVia.{IsSeenVia}
 use Rattle.qm_segments.specs.OpenChain.{IsInBound}
 use Rattle.qm_segments.specs.Steps.{LetSegmentsThrough, LeadOnOrBlock}
@@ -29,7 +31,8 @@ use Rattle.qm_segments.proofs.OpenChains.{bound_has_sight}
 use Rattle.qm_segments.proofs.AheadLaws.{start_ahead}
 use Rattle.qm_segments.proofs.ViaLaws.{first_in_sight_back}
 use Rattle.qm_segments.proofs.CoarseSight.{coarse_holds_sight}
-use Rattle.qm_segments.proofs.EndRows.{coarse_rows_hold_ends}
+use Rattle.qm_segments.proofs.EndRows.{coarse_rows_hold_ends, coarse_rows_sound}
+use Rattle.qm_segments.proofs.SegmentLaw.{is_led_by_portals}
 use Rattle.qm_segments.proofs.RoomSights.{place, line, at_value, generic, clear, sight_row}
 
 -- ---- the meetings of the rooms, and their contacts
@@ -187,3 +190,11 @@ via_row = record { sight = sight_row; before = []; left = 1; entered = 2; after 
 
 back_by_law : IsInSight rooms back 0
 back_by_law = first_in_sight_back rooms out on 2 via_row back refl refl
+
+-- the segment goes by both doors
+led_by_law : IsLedByPortals rooms (portals_of rooms touchings) line
+led_by_law = is_led_by_portals rooms have_points touchings are_touchings line generic Empty (λ e. cc) clear
+
+-- the coarse rows are rows of this world
+pub sound_by_law : AreSoundRows rooms portals rows
+sound_by_law = coarse_rows_sound rooms have_points touchings are_touchings 3 rows coarse_rows

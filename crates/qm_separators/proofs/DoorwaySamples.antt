@@ -22,6 +22,7 @@ use Rattle.qm_separators.proofs.GainedPlanes.{gains_one}
 use Rattle.qm_separators.proofs.OneLook.{look_by_source}
 use Rattle.qm_separators.proofs.CornerLists.{all_corners}
 use Rattle.qm_separators.proofs.Distances.{least_by_neighbours}
+use Rattle.qm_separators.specs.inner.Found.{PartsAlong, SeparatesBy}
 use Rattle.qm_separators.specs.inner.Look.{IsNotRefusedTurned}
 
 -- ---- a doorway: y and z between -16 and 16
@@ -184,3 +185,11 @@ gains_row = gains_one (right_left ∷ []) left_right
 not_refused_row : IsNotRefusedTurned (doorway (pos 0)) (doorway (pos 64)) (outward_plane (spot (pos 64) low low) (spot (pos 0) high low) (spot (pos 0) high high)) (neg_ℤ (pos 1024))
 unfolding left_right_across left_right_normal
 not_refused_row = look_by_source (doorway (pos 0)) (doorway (pos 64)) (doorway_convex (pos 0)) (doorway_convex (pos 64)) left_right left_right_row left_right_across
+
+-- it is found along its own normal, and through the points of an edge and a corner
+found_row : PartsAlong (doorway (pos 0)) (doorway (pos 64)) left_right left_right
+unfolding left_right_row
+found_row = record { normal = refl; least = left_right_row.least; parts = record { in_front = left_right_row.in_front; strict = left_right_row.strict } }
+
+found_through_row : SeparatesBy (doorway (pos 0)) (doorway (pos 64)) (spot (pos 64) low low) (spot (pos 0) high low) (spot (pos 0) high high) left_right
+found_through_row = (left_right_row, left_right_normal)
