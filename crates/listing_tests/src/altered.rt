@@ -124,11 +124,15 @@ fn has_fault(alloc: Global, sample: &Altered) -> Option<bool> {
 
 /// Whether no text is read that ends before the listing does.
 fn no_prefix_is_read(alloc: Global) -> bool {
-    (0..LISTING.len()).all(|end| match read(alloc, &LISTING[..end]) {
-        Ok(_) => false,
-        Err(PrtFault::Memory) => false,
-        Err(_) => true,
-    })
+    let mut none = true;
+    for end in 0..LISTING.len() {
+        none &= match read(alloc, &LISTING[..end]) {
+            Ok(_) => false,
+            Err(PrtFault::Memory) => false,
+            Err(_) => true,
+        };
+    }
+    none
 }
 
 #[test]

@@ -37,7 +37,8 @@ fn goes_back(listed: &[[Coordinate; 3]], winding: &Winding) -> Option<bool> {
     for i in 1..count {
         let place = place_of(listed, &winding.corner(i))?;
         let next = place_of(listed, &winding.corner(i - 1))?;
-        right &= next == (if place + 1 < count { place + 1 } else { 0 });
+        let after = place.saturating_add(1);
+        right &= next == (if after < count { after } else { 0 });
     }
     Some(right)
 }
@@ -78,8 +79,11 @@ fn is_listed(alloc: Global, world: &World) -> Result<bool, AllocError> {
     Ok(
         listing.leaves == world.leaves()
             && portals.len() as u64 == world.portals() / 2
-            && portals.iter().enumerate().all(|(j, portal)| is_portal(portal, world, 2 * j as u64)
-                == Some(true)),
+            && portals.iter().enumerate().all(|(j, portal)| is_portal(
+                portal,
+                world,
+                (j as u64).saturating_mul(2),
+            ) == Some(true)),
     )
 }
 
