@@ -4,6 +4,7 @@ pub mod LaneSteps
 pub mod BesideSteps
 pub mod TableSteps
 pub mod RunSteps
+pub mod SightInRows
 pub mod WaySteps
 pub mod SweepSteps
 pub mod RowSteps
