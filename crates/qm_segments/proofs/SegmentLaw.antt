@@ -3,7 +3,7 @@
 use Rattle.std.proofs.Common.{◌≡◌, ◌≢◌, ℕ, List, [], ◌∷◌, All, map, Some, slice_get, sym, ap, ◌∙◌, subst, inr}
 use Rattle.std.specs.List.{AllZip}
 use Rattle.std.proofs.lemmas.List.Elements.{All-nil, All-cons, All-head, All-tail}
-use Rattle.qm_lists.proofs.EachPair.{EachPair}
+use Rattle.qm_lists.proofs.EachPair.{EachPair, pairs_by_place}
 use Rattle.qm_lists.proofs.Elements.{Contains-first}
 use Rattle.qm_space.specs.Point.{Point}
 use Rattle.qm_space.specs.Line.{IsBetween}
@@ -22,6 +22,7 @@ use Rattle.qm_segments.specs.Segment.{Segment}
 use Rattle.qm_segments.specs.Generic.{IsGeneric}
 use Rattle.qm_segments.specs.Clear.{IsClear, LeafHas}
 use Rattle.qm_segments.specs.Passes.{Passes, within, onward}
+use Rattle.qm_segments.specs.LedByPortals.{IsLedByPortals}
 use Rattle.qm_segments.specs.GoesBy.{GoesBy, ends, through}
 use Rattle.qm_segments.specs.Sight.{IsInSight}
 use Rattle.qm_segments.proofs.Betweenness.{farther_between}
@@ -117,3 +118,9 @@ module _ (tree : Tree) (have : HasPoints tree) (touchings : List Touching) (are 
         once = numbers_differ tree (number_of tree passed.0 ∷ map (λ q. q.to) whole.chain) (passed.0 ∷ passed.1) whole.numbers (leaves_once tree s.from s.to passed.0 passed.1 passed.2);
         sight = whole.sight;
       }
+
+  -- the same by the word for it
+  pub is_led_by_portals : IsLedByPortals tree (portals_of tree touchings) s
+  is_led_by_portals =
+      let is = segment_law in
+      record { from = is.from; to = is.to; chain = is.chain; from_is = is.from_is; to_is = is.to_is; goes = is.goes; once = pairs_by_place (λ a b. a ≢ b) (is.from ∷ map (λ q. q.to) is.chain) is.once; sight = is.sight }

@@ -4,6 +4,7 @@ pub mod Clear
 pub mod Passes
 pub mod GoesThrough
 pub mod GoesBy
+pub mod LedByPortals
 pub mod CrossesWay
 pub mod LeafNumber
 pub mod Sight

@@ -1,0 +1,3 @@
+pub mod WordInSight
+pub mod RowsOfWorld
+pub mod inner
