@@ -23,7 +23,7 @@ AllLeave portals leaf numbers = (number : ℕ) → Contains numbers number → (
 module _ (world : World) (MayHave : ℕ → ℕ → Type 0) (p : ℕ) where
   -- ---- the chain with one portal
 
-  pub first_ends : (first : Portal) (frame : Frame) → IsAt world.portals p first → BeginsWith first frame.state →
+  abbrev pub first_ends : (first : Portal) (frame : Frame) → IsAt world.portals p first → BeginsWith first frame.state →
       AllLeave world.portals first.to frame.untried →
       ((n : ℕ) → IsIn frame.met n ↔ Contains (first.from ∷ first.to ∷ []) n) →
       ((n : ℕ) → IsIn frame.mask n → MayHave n p) →
@@ -68,7 +68,7 @@ module _ (world : World) (MayHave : ℕ → ℕ → Type 0) (p : ℕ) where
     met = map (λ (r : Portal). r.to) (ends.last ∷ ends.before)
 
     -- the leaves met, with one more at the end
-    one_more : (q : Portal) (n : ℕ) → (q.to ≡ n) ⊎ Contains (leaves_met ends.first (ends.last ∷ ends.before)) n ↔ Contains (leaves_met ends.first (q ∷ ends.last ∷ ends.before)) n
+    pub one_more : (q : Portal) (n : ℕ) → (q.to ≡ n) ⊎ Contains (leaves_met ends.first (ends.last ∷ ends.before)) n ↔ Contains (leaves_met ends.first (q ∷ ends.last ∷ ends.before)) n
     one_more q n = (
       ⊎_elim
       (λ here. Contains-later ends.first.from n (q.to ∷ met) (subst (Contains (q.to ∷ met)) here (Contains-first q.to met)))
@@ -83,13 +83,13 @@ module _ (world : World) (MayHave : ℕ → ℕ → Type 0) (p : ℕ) where
     )
 
     module _ (number : ℕ) (untried : Contains frame.untried number) (q : Portal) (q_is : IsAt world.portals number q) where
-      q_leaves : q.from ≡ ends.last.to
+      pub q_leaves : q.from ≡ ends.last.to
       q_leaves =
           let other = ends.untried_leave number untried in
           let same : q ≡ other.0 = let both = sym q_is ∙ other.1 in cc in
           subst (λ (r : Portal). r.from ≡ ends.last.to) (sym same) other.2
 
-      pub step_ends : (next : Frame) → GoesOn frame.state q next.state → (IsIn frame.met q.to → ⊥) →
+      abbrev pub step_ends : (next : Frame) → GoesOn frame.state q next.state → (IsIn frame.met q.to → ⊥) →
           AllLeave world.portals q.to next.untried → GainsOne q.to frame.met next.met →
           ((n : ℕ) → IsIn next.mask n → IsIn frame.mask n × MayHave n number) →
           length next.met ≡ length frame.met → length next.mask ≡ length frame.mask →

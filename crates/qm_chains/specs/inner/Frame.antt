@@ -22,6 +22,17 @@ pub record Frame : Type 0 where
   pub met : List Bool
   pub mask : List Bool
 
+-- the same frame with one portal more to be tried first
+abbrev pub put_back : ℕ → Frame → Frame
+put_back number frame = record { state = frame.state; untried = number ∷ frame.untried; met = frame.met; mask = frame.mask }
+
+-- a mask is narrowed by what was read of the row of the portal of this number: it keeps each leaf in sight of the portal, and
+-- it keeps only leaves that the ceiling has
+pub record IsNarrowed (world : World) (number : ℕ) (ceiling old new : List Bool) : Type 0 where
+  pub same_length : length new ≡ length old
+  pub within : (n : ℕ) → IsIn new n → IsIn old n × IsIn ceiling n
+  pub keeps : (q : Portal) → IsAt world.portals number q → (n : ℕ) → IsIn old n → IsInSight world.tree q n → IsIn new n
+
 -- An open chain from the portal of number p ends here, and all that the walk may still show of it each of its portals may
 -- have: which leaf, and then the portal, by their numbers, is any relation.
 pub record EndsChain (world : World) (MayHave : ℕ → ℕ → Type 0) (p : ℕ) (frame : Frame) : Type 0 where

@@ -29,6 +29,19 @@ frame_weight world frame = (1 + length frame.untried) * (length world.portals + 
 abbrev pub IsFoundOrAhead : World → Portal → Option Frame → List Bool → ℕ → Type 0
 IsFoundOrAhead world first child row n = IsIn row n ⊎ MatchOption child ⊥ (IsAwaited world first n)
 
+-- rows of a frame, and the one of what is found, have a place for each numbered leaf
+pub record AreWide (world : World) (frame : Frame) (row : List Bool) : Type 0 where
+  pub met : length frame.met ≡ length (numbered_leaves world.tree)
+  pub mask : length frame.mask ≡ length (numbered_leaves world.tree)
+  pub found : length row ≡ length (numbered_leaves world.tree)
+
+-- the frame of the chain with one portal, and what is found there
+pub record IsBegun (world : World) (MayHave : ℕ → ℕ → Type 0) (p : ℕ) (frame : Frame) (row : List Bool) : Type 0 where
+  pub wide : length row ≡ length (numbered_leaves world.tree)
+  pub chain : EndsChain world MayHave p frame
+  pub shown : (n : ℕ) → IsIn row n → IsShown world.portals (MayHave n) p n
+  pub none_missed : (first : Portal) → IsAt world.portals p first → (n : ℕ) → IsInSight world.tree first n → IsIn row n ⊎ IsAwaited world first n frame
+
 -- a portal is tried at a frame: leaves may be found, and where the chain goes on there is a frame for it
 pub record IsTried (world : World) (MayHave : ℕ → ℕ → Type 0) (p : ℕ) (frame : Frame) (number : ℕ) (old new : List Bool) (child : Option Frame) : Type 0 where
   pub same_length : length new ≡ length old
