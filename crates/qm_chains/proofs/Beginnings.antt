@@ -1,12 +1,11 @@
 -- The frame of the chain with one portal.
-use Rattle.std.proofs.Common.{◌≡◌, refl, ◌⊎◌, inl, inr, ⊎_elim, ◌↔◌, ℕ, ◌<◌, ◌≤◌, Bool, true, false, List, [], ◌∷◌, length, get_or, set, replicate, Contains, sym, ap, ◌∙◌, subst, arith}
-use Rattle.std.proofs.lemmas.Bool.{cases_eq, cases_lt}
+use Rattle.std.proofs.Common.{◌≡◌, refl, ◌⊎◌, inl, inr, ⊎_elim, ◌↔◌, ℕ, ◌<◌, Bool, true, false, List, [], ◌∷◌, length, set, replicate, Contains, sym, ap, ◌∙◌, subst, arith}
+use Rattle.std.proofs.lemmas.Bool.{cases_lt}
 use Rattle.std.proofs.lemmas.List.{length-set, length-replicate, get_or-replicate, get_or_past}
 use Rattle.std.proofs.lemmas.Option.{slice_get_within}
 use Rattle.qm_space.specs.Turned.{turned}
 use Rattle.qm_lists.specs.WorkList.{IsIn}
 use Rattle.qm_lists.proofs.Elements.{Contains-at, Contains-first, Contains-later, Contains-cons_cases}
-use Rattle.qm_lists.proofs.WorkLists.{place_within}
 use Rattle.qm_contacts.specs.NumberedLeaves.{numbered_leaves}
 use Rattle.qm_contacts.specs.Portals.{Portal, portals_of}
 use Rattle.qm_contacts.specs.World.{World, AreLeaving}
@@ -16,10 +15,10 @@ use Rattle.qm_separators.specs.ChainState.{first_state}
 use Rattle.qm_separators.specs.PortalSteps.{BeginsWith}
 use Rattle.qm_separators.proofs.PortalStepLaws.{are_convex, first_is_state}
 use Rattle.qm_chains.specs.OwnPortals.{HasOwnPortals}
-use Rattle.qm_chains.specs.Shown.{IsAt, IsShown}
+use Rattle.qm_chains.specs.Shown.{IsAt}
 use Rattle.qm_chains.specs.inner.Frame.{Frame, IsNarrowed, EndsChain, IsAwaited}
 use Rattle.qm_chains.specs.inner.Walk.{IsBegun}
-use Rattle.qm_chains.proofs.ChainEnds.{GainsOne, first_ends, end_shown}
+use Rattle.qm_chains.proofs.ChainEnds.{first_ends, end_shown}
 use Rattle.qm_chains.proofs.AwaitedLeaves.{first_awaited}
 use Rattle.qm_chains.proofs.TriedPortals.{same_portal, gains_one, all_leave, all_leaving}
 
@@ -72,16 +71,15 @@ module _ (world : World) (own : HasOwnPortals world) (p : ℕ) (first : Portal) 
     met_both : (n : ℕ) → IsIn frame.met n ↔ Contains ends_of n
     met_both n =
         let one = gains_one (replicate leaves false) first.from (omega (arith, clear_long, from_within)) n in
-        let two = gains_one (set (replicate leaves false) first.from true) first.to (omega (arith, one_long, to_within)) n in
-        (
+        let two = gains_one (set (replicate leaves false) first.from true) first.to (omega (arith, one_long, to_within)) n in (
           (λ is. ⊎_elim
-          (λ here. subst (Contains ends_of) here (Contains-later first.from first.to (first.to ∷ []) (Contains-first first.to [])))
-          (λ old. ⊎_elim (λ here. subst (Contains ends_of) here (Contains-first first.from (first.to ∷ []))) (λ never. absurd (none_clear leaves n never)) (one.0 old))
-          (two.0 (subst (λ (row : List Bool). IsIn row n) met_is is))),
+              (λ here. subst (Contains ends_of) here (Contains-later first.from first.to (first.to ∷ []) (Contains-first first.to [])))
+              (λ old. ⊎_elim (λ here. subst (Contains ends_of) here (Contains-first first.from (first.to ∷ []))) (λ never. absurd (none_clear leaves n never)) (one.0 old))
+              (two.0 (subst (λ (row : List Bool). IsIn row n) met_is is))),
           (λ there. subst (λ (row : List Bool). IsIn row n) (sym met_is) (⊎_elim
-          (λ here. two.1 (inr (one.1 (inl here))))
-          (λ later. ⊎_elim (λ here. two.1 (inl here)) (λ none. let range = none.1 in absurd (omega arith)) (Contains-cons_cases first.to n [] later))
-          (Contains-cons_cases first.from n (first.to ∷ []) there))),
+              (λ here. two.1 (inr (one.1 (inl here))))
+              (λ later. ⊎_elim (λ here. two.1 (inl here)) (λ none. let range = none.1 in absurd (omega arith)) (Contains-cons_cases first.to n [] later))
+              (Contains-cons_cases first.from n (first.to ∷ []) there))),
         )
 
     begun : BeginsWith first frame.state

@@ -1,5 +1,5 @@
 -- Frames end open chains: at the start, and after each step. What a frame may still show, and ends in, is shown.
-use Rattle.std.proofs.Common.{◌≡◌, ◌⊎◌, inl, inr, ⊎_elim, ◌↔◌, ℕ, Bool, List, [], ◌∷◌, ◌++◌, All, map, length, Contains, refl, sym, ◌∙◌, subst, arith}
+use Rattle.std.proofs.Common.{◌≡◌, ◌⊎◌, inl, inr, ⊎_elim, ◌↔◌, ℕ, Bool, List, [], ◌∷◌, ◌++◌, map, length, Contains, sym, ◌∙◌, subst}
 use Rattle.std.proofs.lemmas.List.Elements.{All-nil, All-cons}
 use Rattle.qm_lists.specs.WorkList.{IsIn}
 use Rattle.qm_lists.proofs.Elements.{Contains-at, Contains-first, Contains-later, Contains-cons_cases}
@@ -7,7 +7,6 @@ use Rattle.qm_contacts.specs.NumberedLeaves.{numbered_leaves}
 use Rattle.qm_contacts.specs.Portals.{Portal}
 use Rattle.qm_contacts.specs.World.{World}
 use Rattle.qm_segments.specs.OpenChain.{leaves_met, alone, longer}
-use Rattle.qm_separators.specs.ChainState.{ChainState}
 use Rattle.qm_separators.specs.PortalSteps.{BeginsWith, GoesOn}
 use Rattle.qm_chains.specs.Shown.{IsAt, IsShown}
 use Rattle.qm_chains.specs.inner.Frame.{Frame, EndsChain}
@@ -71,15 +70,15 @@ module _ (world : World) (MayHave : ℕ → ℕ → Type 0) (p : ℕ) where
     pub one_more : (q : Portal) (n : ℕ) → (q.to ≡ n) ⊎ Contains (leaves_met ends.first (ends.last ∷ ends.before)) n ↔ Contains (leaves_met ends.first (q ∷ ends.last ∷ ends.before)) n
     one_more q n = (
       ⊎_elim
-      (λ here. Contains-later ends.first.from n (q.to ∷ met) (subst (Contains (q.to ∷ met)) here (Contains-first q.to met)))
-      (λ old. ⊎_elim
-      (λ first. subst (Contains (ends.first.from ∷ q.to ∷ met)) first (Contains-first ends.first.from (q.to ∷ met)))
-      (λ among. Contains-later ends.first.from n (q.to ∷ met) (Contains-later q.to n met among))
-      (Contains-cons_cases ends.first.from n met old)),
+          (λ here. Contains-later ends.first.from n (q.to ∷ met) (subst (Contains (q.to ∷ met)) here (Contains-first q.to met)))
+          (λ old. ⊎_elim
+          (λ first. subst (Contains (ends.first.from ∷ q.to ∷ met)) first (Contains-first ends.first.from (q.to ∷ met)))
+          (λ among. Contains-later ends.first.from n (q.to ∷ met) (Contains-later q.to n met among))
+          (Contains-cons_cases ends.first.from n met old)),
       (λ new. ⊎_elim
-      (λ first. inr (subst (Contains (ends.first.from ∷ met)) first (Contains-first ends.first.from met)))
-      (λ later. ⊎_elim (λ here. inl here) (λ among. inr (Contains-later ends.first.from n met among)) (Contains-cons_cases q.to n met later))
-      (Contains-cons_cases ends.first.from n (q.to ∷ met) new)),
+          (λ first. inr (subst (Contains (ends.first.from ∷ met)) first (Contains-first ends.first.from met)))
+          (λ later. ⊎_elim (λ here. inl here) (λ among. inr (Contains-later ends.first.from n met among)) (Contains-cons_cases q.to n met later))
+          (Contains-cons_cases ends.first.from n (q.to ∷ met) new)),
     )
 
     module _ (number : ℕ) (untried : Contains frame.untried number) (q : Portal) (q_is : IsAt world.portals number q) where

@@ -1,5 +1,5 @@
 -- Masks are narrowed word by word.
-use Rattle.std.proofs.Common.{◌≡◌, ◌⊎◌, ⊎_elim, ℕ, ◌+◌, ◌*◌, ◌/◌, ◌%◌, ◌<◌, ◌≤◌, Bool, true, false, ◌&&◌, List, length, get_or, refl, sym, ap, ◌∙◌, subst, arith}
+use Rattle.std.proofs.Common.{◌≡◌, ⊎_elim, ℕ, ◌+◌, ◌*◌, ◌/◌, ◌%◌, ◌<◌, ◌≤◌, Bool, true, false, ◌&&◌, List, length, get_or, refl, sym, ◌∙◌, subst, arith}
 use Rattle.std.proofs.lemmas.Bool.{cases_eq}
 use Rattle.qm_bits.specs.Word.{has_bit, IsMasked}
 use Rattle.qm_lists.specs.WorkList.{IsIn}
@@ -38,19 +38,19 @@ module _ (world : World) (number : ℕ) (ceiling : List Bool) where
       same_length = masked.same_length ∙ so_far.same_length;
       within = λ n is. ⊎_elim
           (λ here.
-              let parts = both_yes (get_or row n false) (has_bit word (n % 64)) (sym (at_word n here) ∙ is) in
-              let bit : n % 64 < 64 = omega arith in
-              let place : 64 * words + n % 64 ≡ n = omega (arith, here) in
-              ((so_far.within n parts.0).0, λ before. subst (IsIn ceiling) place (below (n % 64) bit parts.1)))
+          let parts = both_yes (get_or row n false) (has_bit word (n % 64)) (sym (at_word n here) ∙ is) in
+          let bit : n % 64 < 64 = omega arith in
+          let place : 64 * words + n % 64 ≡ n = omega (arith, here) in
+          ((so_far.within n parts.0).0, λ before. subst (IsIn ceiling) place (below (n % 64) bit parts.1)))
           (λ other.
-              let its = so_far.within n (sym (masked.elsewhere n other) ∙ is) in
-              (its.0, λ before. its.1 (omega (arith, before, other))))
+          let its = so_far.within n (sym (masked.elsewhere n other) ∙ is) in
+          (its.0, λ before. its.1 (omega (arith, before, other))))
           (cases_eq (n / 64) words);
       keeps = λ q at n is sight. ⊎_elim
           (λ here.
-              let bit : n % 64 < 64 = omega arith in
-              let place : n ≡ 64 * words + n % 64 = omega (arith, here) in
-              at_word n here ∙ both (get_or row n false) (has_bit word (n % 64)) (so_far.keeps q at n is sight) (sound q at (n % 64) bit (subst (IsInSight world.tree q) place sight)))
+          let bit : n % 64 < 64 = omega arith in
+          let place : n ≡ 64 * words + n % 64 = omega (arith, here) in
+          at_word n here ∙ both (get_or row n false) (has_bit word (n % 64)) (so_far.keeps q at n is sight) (sound q at (n % 64) bit (subst (IsInSight world.tree q) place sight)))
           (λ other. masked.elsewhere n other ∙ so_far.keeps q at n is sight)
           (cases_eq (n / 64) words);
     }

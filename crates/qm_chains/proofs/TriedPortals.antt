@@ -1,6 +1,6 @@
 -- What becomes of a portal that is tried at the end of a chain: its leaf was met, nothing new may be shown, the step blocks, or
 -- the chain goes on.
-use Rattle.std.proofs.Common.{◌≡◌, ◌⊎◌, inl, inr, ⊎_elim, ◌↔◌, ℕ, ◌+◌, ◌<◌, Bool, true, false, not, List, ◌∷◌, length, get_or, set, Contains, Some, None, Option, refl, sym, ap, ◌∙◌, subst, arith}
+use Rattle.std.proofs.Common.{◌≡◌, ◌⊎◌, inl, inr, ⊎_elim, ℕ, ◌+◌, ◌<◌, Bool, true, false, not, List, length, get_or, set, Some, None, refl, sym, ap, ◌∙◌, subst, arith}
 use Rattle.std.specs.List.{count_by}
 use Rattle.std.proofs.lemmas.Bool.{cases_eq}
 use Rattle.std.proofs.lemmas.List.{length-set, get_or-set_same, get_or-set_other}
@@ -13,8 +13,8 @@ use Rattle.qm_contacts.specs.World.{World, AreLeaving}
 use Rattle.qm_separators.specs.PortalSteps.{GoesOn, BlocksAt}
 use Rattle.qm_chains.specs.OwnPortals.{HasOwnPortals}
 use Rattle.qm_chains.specs.Shown.{IsAt, IsShown}
-use Rattle.qm_chains.specs.inner.Frame.{Frame, put_back, IsNarrowed, EndsChain, IsNextTo, IsAwaited}
-use Rattle.qm_chains.specs.inner.Walk.{AreWide, IsFoundOrAhead, IsTried}
+use Rattle.qm_chains.specs.inner.Frame.{Frame, put_back, IsNarrowed, EndsChain, IsNextTo}
+use Rattle.qm_chains.specs.inner.Walk.{IsFoundOrAhead, IsTried}
 use Rattle.qm_chains.proofs.ChainEnds.{AllLeave, GainsOne, step_ends, end_shown}
 use Rattle.qm_chains.proofs.AwaitedLeaves.{HasAllLeaving, next_awaited}
 use Rattle.qm_chains.proofs.Weights.{few_ascend, fewer_clear}
@@ -39,11 +39,11 @@ pub gains_one : (row : List Bool) (place : ℕ) → place < length row → Gains
 gains_one row place within n = (
   (λ is. ⊎_elim (λ here. inl (sym here)) (λ other. inr (sym (get_or-set_other row place n true false other) ∙ is)) (cases_eq n place)),
   ⊎_elim
-  (λ here. subst (IsIn (set row place true)) here (get_or-set_same row place true false within))
-  (λ old. ⊎_elim
-  (λ here. subst (IsIn (set row place true)) (sym here) (get_or-set_same row place true false within))
-  (λ other. get_or-set_other row place n true false other ∙ old)
-  (cases_eq n place)),
+      (λ here. subst (IsIn (set row place true)) here (get_or-set_same row place true false within))
+      (λ old. ⊎_elim
+      (λ here. subst (IsIn (set row place true)) (sym here) (get_or-set_same row place true false within))
+      (λ other. get_or-set_other row place n true false other ∙ old)
+      (cases_eq n place)),
 )
 
 -- ---- the portals that leave a leaf
@@ -132,8 +132,8 @@ module _ (world : World) (own : HasOwnPortals world) (MayHave : ℕ → ℕ → 
           let in_child = narrowed.keeps q q_is n in_mask next.in_sight in
           ⊎_elim
           (λ here.
-              let last : IsIn child.mask q.to = subst (IsIn child.mask) (sym here) in_child in
-              inl ((found_gains last n).1 (inl here)))
+          let last : IsIn child.mask q.to = subst (IsIn child.mask) (sym here) in_child in
+          inl ((found_gains last n).1 (inl here)))
           (λ awaited. inr awaited)
           (next_awaited world own first MayHave p frame child q n next step child_ends met_gains (all_leaving world.portals q.to child.untried leaving) in_child)
 

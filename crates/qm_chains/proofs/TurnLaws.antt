@@ -1,12 +1,12 @@
 -- What is shown by open chains, and rows of portals that are found in turns.
-use Rattle.std.proofs.Common.{◌≡◌, ◌≢◌, ℕ, suc, List, [], ◌∷◌, ◌++◌, All, sym, subst, ⊎_elim, length}
+use Rattle.std.proofs.Common.{◌≢◌, ℕ, List, [], ◌∷◌, ◌++◌, sym, subst, ⊎_elim}
 use Rattle.std.proofs.lemmas.Bool.{cases_eq}
 use Rattle.std.proofs.lemmas.List.Elements.{All-weaker, All-contains, Contains-append_right}
 use Rattle.qm_lists.proofs.Elements.{Contains-first}
 use Rattle.qm_contacts.specs.Portals.{Portal}
 use Rattle.qm_separators.specs.PortalSteps.{IsInChainBound}
-use Rattle.qm_chains.specs.Shown.{IsAt, IsShown}
-use Rattle.qm_chains.specs.Turns.{IsInCoarseRowAt, MayHaveAfter, turns_up_to}
+use Rattle.qm_chains.specs.Shown.{IsShown}
+use Rattle.qm_chains.specs.Turns.{IsInCoarseRowAt, MayHaveAfter}
 
 module _ (portals : List Portal) where
   -- ---- what is shown
@@ -48,7 +48,7 @@ module _ (portals : List Portal) where
       (n q : ℕ) → New n q → MayHaveAfter portals (p ∷ turns) n q
   turn_taken turns p Old New old found stays n q has = ⊎_elim
       (λ same.
-          let shown = shown_weaker (Old n) (MayHaveAfter portals turns n) (old n) p n (found n (subst (New n) same has)) in
-          (subst (MayHaveAfter portals turns n) (sym same) (first_has (MayHaveAfter portals turns n) p n shown), λ again. shown))
+      let shown = shown_weaker (Old n) (MayHaveAfter portals turns n) (old n) p n (found n (subst (New n) same has)) in
+      (subst (MayHaveAfter portals turns n) (sym same) (first_has (MayHaveAfter portals turns n) p n shown), λ again. shown))
       (λ other. (old n q (stays n q other has), λ same. absurd (other same)))
       (cases_eq q p)

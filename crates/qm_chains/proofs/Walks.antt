@@ -1,19 +1,19 @@
 -- A walk of open chains: how it begins, what becomes of it when a frame is taken off, and what it comes to.
-use Rattle.std.proofs.Common.{◌≡◌, ◌⊎◌, inl, inr, ⊎_elim, ℕ, ◌+◌, ◌*◌, ◌^◌, ◌<◌, Bool, not, List, [], ◌∷◌, ◌++◌, All, length, Contains, Some, None, Option, option_to_list, refl, sym, ap, ◌∙◌, subst, arith}
+use Rattle.std.proofs.Common.{◌≡◌, inl, inr, ⊎_elim, ℕ, ◌+◌, ◌<◌, Bool, not, List, [], ◌∷◌, ◌++◌, All, length, Contains, Some, None, Option, option_to_list, sym, ap, ◌∙◌, subst, arith}
 use Rattle.std.specs.Prelude.{MatchOption}
 use Rattle.std.specs.List.{count_by, sum_by}
 use Rattle.std.proofs.lemmas.List.{append-nil}
 use Rattle.std.proofs.lemmas.List.Elements.{All-nil, All-cons, All-push, All-contains, Contains-append_left, Contains-append_right, Contains-push_cases}
-use Rattle.std.proofs.lemmas.List.Sums.{sum_by-append, sum_by_push}
+use Rattle.std.proofs.lemmas.List.Sums.{sum_by_push}
 use Rattle.std.proofs.lemmas.Option.{slice_get_within}
 use Rattle.qm_lists.specs.WorkList.{IsIn}
 use Rattle.qm_lists.proofs.Elements.{All-first_part, Contains-nil, Contains-first, Contains-cons_cases}
 use Rattle.qm_contacts.specs.Portals.{Portal}
 use Rattle.qm_contacts.specs.World.{World}
 use Rattle.qm_segments.specs.Sight.{IsInSight}
-use Rattle.qm_chains.specs.Shown.{IsAt, IsShown}
-use Rattle.qm_chains.specs.inner.Frame.{Frame, put_back, EndsChain, IsNextTo, IsAwaited}
-use Rattle.qm_chains.specs.inner.Walk.{IsFoundOrAwaited, IsWalk, frame_weight, AreWide, IsBegun, IsFoundOrAhead, IsTried}
+use Rattle.qm_chains.specs.Shown.{IsAt}
+use Rattle.qm_chains.specs.inner.Frame.{Frame, put_back, EndsChain, IsAwaited}
+use Rattle.qm_chains.specs.inner.Walk.{IsFoundOrAwaited, IsWalk, frame_weight, AreWide, IsBegun, IsTried}
 use Rattle.qm_chains.proofs.Weights.{weight_parts, weight_of_child, weight_some, power_some}
 
 last_there : (below : List Frame) (frame : Frame) → Contains (below ++ frame ∷ []) frame
@@ -101,14 +101,18 @@ module _ (world : World) (MayHave : ℕ → ℕ → Type 0) (p : ℕ) where
           (λ is. inl is)
           (λ ahead. inr (in_child child first n ahead))
           (tried.none_missed first awaited.portal at (subst (λ (m : ℕ). IsAt world.portals m awaited.portal) (sym here) awaited.portal_is) n awaited.in_mask (record { new = awaited.next.new; in_sight = awaited.next.in_sight; not_blocked = awaited.next.not_blocked; ahead = awaited.next.ahead })))
-          (λ later. inr (frame, Contains-append_left (below ++ frame ∷ []) (option_to_list child) frame (last_there below frame), record {
-            in_mask = awaited.in_mask;
-            number = awaited.number;
-            untried = later;
-            portal = awaited.portal;
-            portal_is = awaited.portal_is;
-            next = record { new = awaited.next.new; in_sight = awaited.next.in_sight; not_blocked = awaited.next.not_blocked; ahead = awaited.next.ahead };
-          }))
+          (λ later. inr (
+            frame,
+            Contains-append_left (below ++ frame ∷ []) (option_to_list child) frame (last_there below frame),
+            record {
+              in_mask = awaited.in_mask;
+              number = awaited.number;
+              untried = later;
+              portal = awaited.portal;
+              portal_is = awaited.portal_is;
+              next = record { new = awaited.next.new; in_sight = awaited.next.in_sight; not_blocked = awaited.next.not_blocked; ahead = awaited.next.ahead };
+            },
+          ))
           (Contains-cons_cases number awaited.number frame.untried awaited.untried)
 
       pub walk_tried : IsWalk world MayHave p after new

@@ -1,7 +1,7 @@
 -- A walk ends: what is left to do grows less, since a frame with one leaf fewer to meet weighs less than the portal that leads
 -- to it.
-use Rattle.std.proofs.Common.{pow-suc, add-mul, suc-mul, mul_comm, cond, ◌≡◌, ℕ, zero, suc, ◌+◌, ◌-◌, ◌*◌, ◌^◌, ◌<◌, ◌≤◌, Bool, true, false, not, List, [], ◌∷◌, ◌++◌, length, get_or, set, Contains, refl, sym, ap, ◌∙◌, subst, arith, ⊎_elim}
-use Rattle.std.specs.List.{count_by, sum_by}
+use Rattle.std.proofs.Common.{pow-suc, add-mul, suc-mul, mul_comm, cond, ◌≡◌, ℕ, zero, suc, ◌+◌, ◌-◌, ◌*◌, ◌^◌, ◌<◌, ◌≤◌, Bool, true, false, not, List, [], ◌∷◌, length, get_or, set, Contains, refl, ap, ◌∙◌, arith}
+use Rattle.std.specs.List.{count_by}
 use Rattle.std.specs.List.Sorted.{IsStrictlyIncreasing}
 use Rattle.std.proofs.Math.Nat.{pow-zero}
 use Rattle.std.proofs.lemmas.List.Sums.{sum_by-set}

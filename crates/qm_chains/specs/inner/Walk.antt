@@ -1,4 +1,4 @@
-use Rattle.std.specs.Prelude.{◌≡◌, ◌⊎◌, ℕ, ◌+◌, ◌*◌, ◌^◌, ◌<◌, Bool, not, List, ◌++◌, All, length, Contains, Option, MatchOption}
+use Rattle.std.specs.Prelude.{◌≡◌, ◌⊎◌, ℕ, ◌+◌, ◌*◌, ◌^◌, ◌<◌, Bool, not, List, All, length, Contains, Option, MatchOption}
 use Rattle.std.specs.List.{count_by}
 use Rattle.qm_lists.specs.WorkList.{IsIn}
 use Rattle.qm_contacts.specs.NumberedLeaves.{numbered_leaves}
