@@ -1,0 +1,108 @@
+-- A leaf in sight is found or awaited: at the start, and wherever a chain goes on.
+use Rattle.std.proofs.Common.{◌≡◌, ◌⊎◌, inl, inr, ⊎_elim, ◌↔◌, ℕ, List, [], ◌∷◌, Contains, Some, sym, ap, ◌∙◌, subst, arith}
+use Rattle.std.proofs.lemmas.Option.{slice_get-get_or}
+use Rattle.qm_lists.specs.WorkList.{IsIn}
+use Rattle.qm_lists.proofs.Elements.{Contains-at, Contains-first, Contains-later, Contains-cons_cases}
+use Rattle.qm_contacts.specs.Portals.{Portal, portals_of}
+use Rattle.qm_contacts.specs.World.{World}
+use Rattle.qm_segments.specs.Sight.{IsInSight}
+use Rattle.qm_segments.specs.OpenChain.{leaves_met}
+use Rattle.qm_segments.specs.Ahead.{IsAhead}
+use Rattle.qm_segments.proofs.AheadLaws.{IsNext}
+use Rattle.qm_segments.proofs.ViaLaws.{via_in_sight}
+use Rattle.qm_separators.specs.ChainState.{ChainState}
+use Rattle.qm_separators.specs.PortalSteps.{BeginsWith, GoesOn, BlocksAt, MeetsState}
+use Rattle.qm_separators.proofs.ChainLaws.{lets, ahead_at_start, reached_or_next}
+use Rattle.qm_chains.specs.OwnPortals.{HasOwnPortals}
+use Rattle.qm_chains.specs.Shown.{IsAt}
+use Rattle.qm_chains.specs.inner.Frame.{Frame, EndsChain, IsNextTo, IsAwaited}
+use Rattle.qm_chains.proofs.ChainEnds.{GainsOne}
+
+-- all portals that leave the leaf are among these numbers
+abbrev pub HasAllLeaving : List Portal → ℕ → List ℕ → Type 0
+HasAllLeaving portals leaf numbers = (number : ℕ) (q : Portal) → IsAt portals number q → q.from ≡ leaf → Contains numbers number
+
+-- a listed portal has a number
+pub number_of_listed : (portals : List Portal) (q : Portal) → Contains portals q → (number : ℕ) × IsAt portals number q
+number_of_listed portals q listed = (listed.0, slice_get-get_or portals listed.0 q listed.1 ∙ ap Some listed.2)
+
+module _ (world : World) (own : HasOwnPortals world) (first : Portal) where
+  listed : (q : Portal) → Contains (portals_of world.tree own.touchings) q → Contains world.portals q
+  listed q there = subst (λ (all : List Portal). Contains all q) (sym own.portals_are) there
+
+  listed_own : (q : Portal) → Contains world.portals q → Contains (portals_of world.tree own.touchings) q
+  listed_own q there = subst (λ (all : List Portal). Contains all q) own.portals_are there
+
+  -- a leaf that is ahead stays so where fewer leaves were met
+  fewer_met : (state : ChainState) (leaf n : ℕ) (met fewer : List ℕ) → ((m : ℕ) → Contains fewer m → Contains met m) → IsAhead MeetsState world.tree first state leaf met n → IsAhead MeetsState world.tree first state leaf fewer n
+  fewer_met state leaf n met fewer among ahead = record {
+    sight = ahead.sight;
+    at = ahead.at;
+    between = ahead.between;
+    met = ahead.met;
+    before = ahead.before;
+    here = ahead.here;
+    rest = ahead.rest;
+    leaves_are = ahead.leaves_are;
+    passes = ahead.passes;
+    here_is = ahead.here_is;
+    not_again = λ m j there number in_fewer. ahead.not_again m j there number (among m in_fewer);
+  }
+
+  module _ (frame : Frame) (leaf n : ℕ) (met : List ℕ) (met_is : (m : ℕ) → IsIn frame.met m ↔ Contains met m) (in_mask : IsIn frame.mask n) (leaving : HasAllLeaving world.portals leaf frame.untried) where
+    awaited : IsNext world.tree own.have_points own.touchings own.are_touchings BeginsWith GoesOn BlocksAt MeetsState (lets world.tree own.have_points own.touchings own.are_touchings) first frame.state leaf met n → IsAwaited world first n frame
+    awaited next =
+        let at = number_of_listed world.portals next.portal (listed next.portal next.listed) in
+        record {
+          in_mask = in_mask;
+          number = at.0;
+          untried = leaving at.0 next.portal at.1 next.from;
+          portal = next.portal;
+          portal_is = at.1;
+          next = record {
+            new = λ is. next.new ((met_is next.portal.to).0 is);
+            in_sight = via_in_sight world.tree first next.portal n next.via;
+            not_blocked = next.not_blocked;
+            ahead = λ after step others among. fewer_met after next.portal.to n (next.portal.to ∷ met) others
+                (λ m there. ⊎_elim
+                (λ here. subst (Contains (next.portal.to ∷ met)) here (Contains-first next.portal.to met))
+                (λ is. Contains-later next.portal.to m met ((met_is m).0 is))
+                (among m there))
+                (next.ahead after step);
+          };
+        }
+
+    -- it is the leaf that was entered last, or awaited
+    pub reached_or_awaited : IsAhead MeetsState world.tree first frame.state leaf met n → (leaf ≡ n) ⊎ IsAwaited world first n frame
+    reached_or_awaited ahead = ⊎_elim (λ here. inl here) (λ next. inr (awaited next))
+        (reached_or_next world.tree own.have_points own.touchings own.are_touchings first frame.state leaf met n ahead)
+
+  -- ---- at the start
+
+  pub first_awaited : (p : ℕ) (frame : Frame) (n : ℕ) → IsAt world.portals p first → BeginsWith first frame.state →
+      ((m : ℕ) → IsIn frame.met m ↔ Contains (first.from ∷ first.to ∷ []) m) → HasAllLeaving world.portals first.to frame.untried →
+      IsIn frame.mask n → IsInSight world.tree first n → (first.to ≡ n) ⊎ IsAwaited world first n frame
+  first_awaited p frame n first_is begun met_is leaving in_mask sight =
+      reached_or_awaited frame first.to n (first.to ∷ first.from ∷ [])
+      (λ m. ((λ is. swapped first.from first.to m ((met_is m).0 is)), (λ there. (met_is m).1 (swapped first.to first.from m there))))
+      in_mask leaving
+      (ahead_at_start world.tree own.have_points own.touchings own.are_touchings first n frame.state (listed_own first (Contains-at world.portals p first first_is)) begun sight)
+    where
+      swapped : (a b m : ℕ) → Contains (a ∷ b ∷ []) m → Contains (b ∷ a ∷ []) m
+      swapped a b m there = ⊎_elim
+          (λ is_a. subst (Contains (b ∷ a ∷ [])) is_a (Contains-later b a (a ∷ []) (Contains-first a [])))
+          (λ later. ⊎_elim
+          (λ is_b. subst (Contains (b ∷ a ∷ [])) is_b (Contains-first b (a ∷ [])))
+          (λ none. let range = none.1 in absurd (omega arith))
+          (Contains-cons_cases b m [] later))
+          (Contains-cons_cases a m (b ∷ []) there)
+
+  -- ---- after a step through the portal that is next
+
+  pub next_awaited : (MayHave : ℕ → ℕ → Type 0) (p : ℕ) (frame child : Frame) (q : Portal) (n : ℕ) → IsNextTo world.tree first frame n q → GoesOn frame.state q child.state →
+      EndsChain world MayHave p child → GainsOne q.to frame.met child.met → HasAllLeaving world.portals q.to child.untried →
+      IsIn child.mask n → (q.to ≡ n) ⊎ IsAwaited world first n child
+  next_awaited MayHave p frame child q n next step ends gains leaving in_mask =
+      let met = leaves_met ends.first (ends.last ∷ ends.before) in
+      reached_or_awaited child q.to n met ends.met_is in_mask leaving
+      (next.ahead child.state step met (λ m there. (gains m).0 ((ends.met_is m).1 there)))

@@ -1,0 +1,4 @@
+pub mod OwnPortals
+pub mod Shown
+pub mod Turns
+pub mod inner

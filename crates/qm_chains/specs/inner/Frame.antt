@@ -1,0 +1,68 @@
+use Rattle.std.specs.Prelude.{◌≡◌, ◌↔◌, ◌⊎◌, ℕ, Bool, List, [], ◌∷◌, ◌++◌, All, length, Contains}
+use Rattle.std.specs.List.{AllZip}
+use Rattle.qm_lists.specs.WorkList.{IsIn}
+use Rattle.qm_partition.specs.Tree.{Tree}
+use Rattle.qm_contacts.specs.NumberedLeaves.{numbered_leaves}
+use Rattle.qm_contacts.specs.Portals.{Portal}
+use Rattle.qm_contacts.specs.World.{World}
+use Rattle.qm_segments.specs.Sight.{IsInSight}
+use Rattle.qm_segments.specs.OpenChain.{leaves_met, IsOpenChain}
+use Rattle.qm_segments.specs.Ahead.{IsAhead}
+use Rattle.qm_separators.specs.ChainState.{ChainState}
+use Rattle.qm_separators.specs.PortalSteps.{BeginsWith, GoesOn, BlocksAt, MeetsState}
+use Rattle.qm_chains.specs.Shown.{IsAt}
+
+-- A place in a walk of open chains.
+
+-- the end of a chain: the state to which it has led, the portals by which it is still to go on, by their numbers, the leaves
+-- in which it has been, and the leaves that it may still show
+pub record Frame : Type 0 where
+  pub state : ChainState
+  pub untried : List ℕ
+  pub met : List Bool
+  pub mask : List Bool
+
+-- the same frame with one portal more to be tried first
+abbrev pub put_back : ℕ → Frame → Frame
+put_back number frame = record { state = frame.state; untried = number ∷ frame.untried; met = frame.met; mask = frame.mask }
+
+-- a mask is narrowed by what was read of the row of the portal of this number: it keeps each leaf in sight of the portal, and
+-- it keeps only leaves that the ceiling has
+pub record IsNarrowed (world : World) (number : ℕ) (ceiling old new : List Bool) : Type 0 where
+  pub same_length : length new ≡ length old
+  pub within : (n : ℕ) → IsIn new n → IsIn old n × IsIn ceiling n
+  pub keeps : (q : Portal) → IsAt world.portals number q → (n : ℕ) → IsIn old n → IsInSight world.tree q n → IsIn new n
+
+-- An open chain from the portal of number p ends here, and all that the walk may still show of it each of its portals may
+-- have: which leaf, and then the portal, by their numbers, is any relation.
+pub record EndsChain (world : World) (MayHave : ℕ → ℕ → Type 0) (p : ℕ) (frame : Frame) : Type 0 where
+  pub first : Portal
+  pub first_is : IsAt world.portals p first
+  pub last : Portal
+  pub before : List Portal
+  pub open_chain : IsOpenChain BeginsWith GoesOn world.portals first (last ∷ before) frame.state
+  pub later : List ℕ
+  pub numbers_are : AllZip (IsAt world.portals) (later ++ p ∷ []) (last ∷ before)
+  pub each_may : (n : ℕ) → IsIn frame.mask n → All (MayHave n) (later ++ p ∷ [])
+  pub met_is : (n : ℕ) → IsIn frame.met n ↔ Contains (leaves_met first (last ∷ before)) n
+  pub untried_leave : (number : ℕ) → Contains frame.untried number → (q : Portal) × IsAt world.portals number q × (q.from ≡ last.to)
+  pub met_wide : length frame.met ≡ length (numbered_leaves world.tree)
+  pub mask_wide : length frame.mask ≡ length (numbered_leaves world.tree)
+
+-- the portal q is next on the way to the leaf of number n: it leads to a leaf that was not met, the leaf is in sight of it, the
+-- step there does not block, and after it the leaf is ahead of the first portal's chain
+pub record IsNextTo (tree : Tree) (first : Portal) (frame : Frame) (n : ℕ) (q : Portal) : Type 0 where
+  pub new : IsIn frame.met q.to → ⊥
+  pub in_sight : IsInSight tree q n
+  pub not_blocked : BlocksAt frame.state q → ⊥
+  pub ahead : (next : ChainState) → GoesOn frame.state q next → (met : List ℕ) →
+      ((m : ℕ) → Contains met m → (q.to ≡ m) ⊎ IsIn frame.met m) → IsAhead MeetsState tree first next q.to met n
+
+-- the leaf of number n is awaited here: it may still be shown, by some portal that is still to be tried
+pub record IsAwaited (world : World) (first : Portal) (n : ℕ) (frame : Frame) : Type 0 where
+  pub in_mask : IsIn frame.mask n
+  pub number : ℕ
+  pub untried : Contains frame.untried number
+  pub portal : Portal
+  pub portal_is : IsAt world.portals number portal
+  pub next : IsNextTo world.tree first frame n portal
