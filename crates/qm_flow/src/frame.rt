@@ -1,0 +1,41 @@
+//! Where a walk of chains stands.
+
+ghost use Rattle.std.specs.Prelude.{◌≡◌, [], MatchOption};
+ghost use Rattle.qm_chains.specs.inner.Frame.{put_back};
+
+use qm_bits::BitRow;
+use qm_narrow::ChainState;
+use std::marker::Model;
+
+/// The end of a chain: the state to which it has led, the portals by which it is still to go on, the leaves in which it
+/// has been, and the leaves that it may still show.
+#[derive(Drop)]
+pub(crate) struct Frame<'a> {
+    pub(crate) state: ChainState,
+    pub(crate) untried: &'a [u64],
+    pub(crate) met: BitRow,
+    pub(crate) mask: BitRow,
+}
+
+impl<'a> Model for Frame<'a> {
+    ghost use Rattle.qm_chains.specs.inner.Frame.{Frame};
+
+    ghost Value = { Frame };
+
+    ghost view = { λ f. record { state = f.state; untried = f.untried.now; met = f.met; mask = f.mask } };
+}
+
+impl<'a> Frame<'a> {
+    /// Takes off the portal that is to be tried next.
+    pub(crate) fn take_next(&mut self) -> Option<u64>
+        ensures { MatchOption result (self.old.untried ≡ []) (λ number. self.old ≡ put_back number self.new) }
+    {
+        match self.untried.split_first() {
+            None => None,
+            Some((number, untried)) => {
+                self.untried = untried;
+                Some(*number)
+            }
+        }
+    }
+}

@@ -1,0 +1,55 @@
+//! The one place in which a source is read.
+
+ghost use Rattle.std.specs.Prelude.{◌≡◌, ◌⊎◌, ◌<◌, true, length, replicate, slice_set, IfOk};
+ghost use Rattle.qm_lists.specs.WorkList.{IsIn};
+ghost use Rattle.qm_contacts.specs.NumberedLeaves.{numbered_leaves};
+ghost use Rattle.qm_chains.specs.inner.Frame.{IsNarrowed};
+ghost use Rattle.qm_sight.specs.WordInSight.{ceiling_of};
+
+use qm_bits::BitRow;
+use qm_sight::RowSource;
+use std::alloc::{AllocError, Global};
+
+/// Narrows a mask by the row of a portal, as the source answers it word by word.
+pub(crate) fn narrow<S: RowSource>(source: &mut S, portal: u64, mask: &mut BitRow)
+    requires portal { portal < length (S.world source.old).portals }
+    requires wide { length mask.old ≡ length (numbered_leaves (S.world source.old).tree) }
+    ensures narrowed { IsNarrowed (S.world source.old) portal (ceiling_of (S.ceilings source.old) portal) mask.old mask.new }
+    ensures on { S.goes_on source.old source.new }
+{
+    for k in 0..mask.len().div_ceil(64) {
+        let word = source.word(portal, k);
+        mask.and_word(k, word);
+    }
+}
+
+/// A row of which all places are set.
+pub(crate) fn full(alloc: Global, len: u64) -> Result<BitRow, AllocError>
+    ensures { IfOk result (λ row. row ≡ replicate len true) }
+{
+    let mut row = BitRow::with_len(alloc, len)?;
+    for place in 0..len {
+        row.set(place);
+    }
+    Ok(row)
+}
+
+/// The same row once more.
+pub(crate) fn copy(alloc: Global, row: &BitRow) -> Result<BitRow, AllocError>
+    ensures { IfOk result (λ other. other ≡ row.now) }
+{
+    let mut other = BitRow::with_len(alloc, row.len())?;
+    other.or_row(row);
+    Ok(other)
+}
+
+/// Sets a place of a row where the mask has it.
+pub(crate) fn find(row: &mut BitRow, mask: &BitRow, place: u64)
+    requires row { place < length row.old }
+    requires mask { place < length mask.now }
+    ensures { (IsIn mask.now place × (row.new ≡ slice_set row.old place true)) ⊎ ((IsIn mask.now place → ⊥) × (row.new ≡ row.old)) }
+{
+    if mask.get(place) {
+        row.set(place);
+    }
+}
