@@ -23,6 +23,7 @@ import os, re, shutil, subprocess, sys
 
 maps, out, bench, program, peer = sys.argv[1:]
 RUNS = 7
+DONE, LEAK = 0, 3  # a map that leaks is compiled too
 PHASES = ["read", "parse", "brushes", "build", "touches", "flood"]
 TIME = shutil.which("time") or sys.exit("the command `time` is not on the PATH")
 
@@ -36,7 +37,7 @@ def measure(*words):
             os.dup2(os.open(os.devnull, os.O_WRONLY), 1)
             os.execv(words[0], words)
         _, status, usage = os.wait4(child, 0)
-        if status != 0:
+        if os.waitstatus_to_exitcode(status) not in (DONE, LEAK):
             sys.exit(f"{' '.join(words)} failed")
         least = min(least, 1000 * (usage.ru_utime + usage.ru_stime))
     return least
