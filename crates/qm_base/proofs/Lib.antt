@@ -7,4 +7,5 @@ pub mod RunSteps
 pub mod SightInRows
 pub mod WaySteps
 pub mod SweepSteps
+pub mod EnteringSteps
 pub mod RowSteps

@@ -1,4 +1,5 @@
 pub mod Following
+pub mod Entering
 pub mod Lanes
 pub mod Besides
 pub mod Tables
