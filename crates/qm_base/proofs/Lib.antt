@@ -8,4 +8,5 @@ pub mod SightInRows
 pub mod WaySteps
 pub mod SweepSteps
 pub mod EnteringSteps
+pub mod ColumnSteps
 pub mod RowSteps

@@ -6,4 +6,5 @@ pub mod Tables
 pub mod Runs
 pub mod Ways
 pub mod Sweeping
+pub mod Columns
 pub mod Blocks

@@ -10,7 +10,7 @@ ghost use Rattle.qm_base.specs.inner.Tables.{IsTable};
 ghost use Rattle.qm_base.specs.inner.Entering.{AreEntered};
 ghost use Rattle.qm_base.specs.inner.Blocks.{IsBlockDone};
 
-use crate::column::column;
+use crate::column::{column, full};
 use crate::entering::entered;
 use crate::sweeping::flooded;
 use crate::table::Table;
@@ -75,8 +75,9 @@ fn add_block(
     let end = (table.lanes.len() - first).min(64) + first;
     let lanes = &table.lanes[first..end];
     let seen = flooded(alloc, world, entered, ways, lanes)?;
+    let all = full(alloc, seen.len() as u64)?;
     for j in 0..lanes.len() {
-        rows[lanes[j].portal as usize] = column(alloc, &seen, j)?;
+        rows[lanes[j].portal as usize] = column(alloc, &seen, &all, j)?;
     }
     Ok(())
 }
