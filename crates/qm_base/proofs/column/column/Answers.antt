@@ -1,4 +1,4 @@
-use Rattle.std.proofs.Common.{◌≡◌, ◌∙◌, ◌+◌, ◌-◌, ◌*◌, ℕ, List, length, take, drop, refl, ap, subst, false, arith}
+use Rattle.std.proofs.Common.{◌≡◌, ◌+◌, ◌-◌, ◌*◌, ℕ, List, length, take, drop, refl, subst, false, arith}
 use Rattle.std.proofs.lemmas.List.{length-replicate}
 use Rattle.qm_base.specs.inner.Ways.{block_of}
 use Rattle.qm_base.specs.inner.Columns.{IsGathered}
