@@ -6,3 +6,6 @@ pub mod Weights
 pub mod TriedPortals
 pub mod Walks
 pub mod Beginnings
+pub mod Cones
+pub mod Entering
+pub mod Words

@@ -1,3 +1,4 @@
+pub mod Cone
 pub mod Frame
 pub mod Narrowing
 pub mod Walk

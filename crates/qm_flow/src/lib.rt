@@ -2,6 +2,7 @@
 #![tactic(auto)]
 
 mod beginning;
+mod cone;
 mod flowing;
 mod frame;
 pub mod laws;

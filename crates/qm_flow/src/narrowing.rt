@@ -1,9 +1,10 @@
 //! The one place in which a source is read.
 
-ghost use Rattle.std.specs.Prelude.{◌≡◌, ◌⊎◌, ◌<◌, true, length, replicate, slice_set, IfOk};
+ghost use Rattle.std.specs.Prelude.{ℕ, ◌≡◌, ◌⊎◌, ◌↔◌, ◌<◌, true, false, length, replicate, slice_set, IfOk};
 ghost use Rattle.qm_lists.specs.WorkList.{IsIn};
 ghost use Rattle.qm_contacts.specs.NumberedLeaves.{numbered_leaves};
 ghost use Rattle.qm_chains.specs.inner.Frame.{IsNarrowed};
+ghost use Rattle.qm_chains.specs.inner.Cone.{IsCutTo, ShowsNothingNew};
 ghost use Rattle.qm_sight.specs.WordInSight.{ceiling_of};
 
 use qm_bits::BitRow;
@@ -20,6 +21,38 @@ pub(crate) fn narrow<S: RowSource>(source: &mut S, portal: u64, mask: &mut BitRo
     for k in 0..mask.len().div_ceil(64) {
         let word = source.word(portal, k);
         mask.and_word(k, word);
+    }
+}
+
+/// Whether a portal may show a leaf that the mask has, and that was not found. Where it says no, there is none in sight.
+pub(crate) fn may_show<S: RowSource>(
+    source: &mut S,
+    portal: u64,
+    mask: &BitRow,
+    found: &BitRow,
+) -> bool
+    requires portal { portal < length (S.world source.old).portals }
+    requires wide { length mask.now ≡ length (numbered_leaves (S.world source.old).tree) }
+    requires found { length found.now ≡ length mask.now }
+    ensures none { result ≡ false → ShowsNothingNew (S.world source.old) portal mask.now found.now }
+    ensures on { S.goes_on source.old source.new }
+{
+    for k in 0..mask.len().div_ceil(64) {
+        let word = source.word(portal, k);
+        if word & mask.word(k) & !found.word(k) != 0 {
+            return true;
+        }
+    }
+    false
+}
+
+/// Clears the places of a row that another one does not have.
+pub(crate) fn cut(row: &mut BitRow, other: &BitRow)
+    requires { length other.now ≡ length row.old }
+    ensures { IsCutTo other.now row.old row.new }
+{
+    for k in 0..row.len().div_ceil(64) {
+        row.and_word(k, other.word(k));
     }
 }
 

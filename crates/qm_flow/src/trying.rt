@@ -7,6 +7,7 @@ ghost use Rattle.qm_chains.specs.inner.Walk.{AreWide, IsTried};
 ghost use Rattle.qm_sight.specs.WordInSight.{LieWithin};
 ghost use Rattle.qm_flow.specs.InCeiling.{IsInCeiling};
 
+use crate::cone::left_of;
 use crate::frame::Frame;
 use crate::narrowing::{copy, find, narrow};
 use qm_bits::BitRow;
@@ -49,12 +50,14 @@ pub(crate) fn try_portal<'a, S: RowSource>(
             let mut met = copy(alloc, &frame.met)?;
             met.set(entered);
             find(row, &mask, entered);
-            Ok(Some(Frame {
+            let child = Frame {
                 state,
                 untried: world.leaving(entered),
                 met,
                 mask,
-            }))
+            };
+            let left = left_of(alloc, world, source, child, row, entered)?;
+            Ok(left)
         }
     }
 }

@@ -10,7 +10,9 @@ use Rattle.qm_contacts.specs.World.{World, AreLeaving}
 use Rattle.qm_chains.specs.inner.Frame.{Frame, IsNarrowed}
 use Rattle.qm_sight.specs.WordInSight.{ceiling_of}
 use Rattle.qm_flow.specs.InCeiling.{IsInCeiling}
-use Rattle.qm_chains.proofs.TriedPortals.{same_portal, tried_nothing, tried_blocked, tried_on}
+use Rattle.qm_chains.proofs.TriedPortals.{same_portal, tried_nothing, tried_blocked}
+use Rattle.qm_chains.specs.inner.Cone.{IsLeftOf}
+use Rattle.qm_chains.proofs.Cones.{tried_on_left}
 use Rattle.qm_flow.proofs.trying.try_portal.Goals as goal
 
 pub returns-then-not-has_new-clause-tried : goal.returns-then-not-has_new-clause-tried
@@ -53,10 +55,22 @@ returns-clause-tried g c ceilings p lie ends =
     let met_wide = c.requires.wide.met in
     let row_wide = c.requires.wide.found in
     let is = q.2 in
-    tried_on c.args.world.now c.requires.own_portals (IsInCeiling ceilings) p frame c.args.portal c.args.row.now q.0 q.1
-    _ ceiling narrowed (λ n has. lie c.args.portal n has) ends step
+    let child : Frame = record { state = c.in-Some.state; untried = c.leaving.result.now; met = c.set.new.self; mask = c.narrow.new.mask } in
+    tried_on_left c.args.world.now c.requires.own_portals (IsInCeiling ceilings) p frame c.args.portal c.args.row.now q.0 q.1
+    child ceiling narrowed (λ n has. lie c.args.portal n has) ends step
     (λ has. let never : false ≡ true = sym clear ∙ has in cc)
     (omega (arith, within, met_wide, is)) met_is
     (subst (λ (n : ℕ). AreLeaving c.args.world.now.portals n c.leaving.result.now) q.2 c.leaving.ensures)
     (omega (arith, within, row_wide, is)) c.find.new.row
     (subst (λ (n : ℕ). (IsIn c.narrow.new.mask n × (c.find.new.row ≡ set c.args.row.now n true)) ⊎ ((IsIn c.narrow.new.mask n → ⊥) × (c.find.new.row ≡ c.args.row.now))) q.2 c.find.ensures)
+    c.in_ok-left-in-Some.left
+    (subst (λ (n : ℕ). IsLeftOf c.args.world.now child c.find.new.row n c.in_ok-left-in-Some.left) q.2 c.in_ok-left-in-Some.ensures.left)
+
+pub left_of-requires-clause-same_world : goal.left_of-requires-clause-same_world
+left_of-requires-clause-same_world g c = g.met.S.RowSource.same_world c.args.source.now c.narrow.new.source c.narrow.ensures.on ∙ c.requires.same_world
+
+pub returns-in_err-left-in-Some-clause-on : goal.returns-in_err-left-in-Some-clause-on
+returns-in_err-left-in-Some-clause-on g c = g.met.S.RowSource.goes_on_in_turn c.args.source.now c.narrow.new.source c.left_of.new.source c.narrow.ensures.on c.left_of.ensures.on
+
+pub returns-clause-on : goal.returns-clause-on
+returns-clause-on g c = g.met.S.RowSource.goes_on_in_turn c.args.source.now c.narrow.new.source c.left_of.new.source c.narrow.ensures.on c.left_of.ensures.on

@@ -1,0 +1,93 @@
+-- Rows that are compared, or cut, word by word.
+use Rattle.std.proofs.Common.{◌≡◌, ⊎_elim, ℕ, ◌+◌, ◌*◌, ◌/◌, ◌%◌, ◌^◌, ◌<◌, ◌≤◌, Bool, true, false, ◌&&◌, List, length, get_or, bit_and, w64, refl, sym, ap, ◌∙◌, subst, arith}
+use Rattle.std.specs.Int.{bit_not}
+use Rattle.std.proofs.lemmas.Bool.{cases_eq, and_parts}
+use Rattle.qm_bits.specs.Word.{has_bit, IsWord, IsMasked}
+use Rattle.qm_bits.proofs.Bits.{has_bit-and, has_bit-not, has_bit-zero}
+use Rattle.qm_lists.proofs.WorkLists.{place_within}
+use Rattle.qm_contacts.specs.Portals.{Portal}
+use Rattle.qm_contacts.specs.World.{World}
+use Rattle.qm_segments.specs.Sight.{IsInSight}
+use Rattle.qm_chains.specs.Shown.{IsAt}
+use Rattle.qm_chains.specs.inner.Cone.{ShowsNothingNew, ShowsNothingNewUpTo, IsCutTo, IsCutUpTo}
+use Rattle.qm_chains.proofs.TriedPortals.{in_or_clear}
+
+-- where a word, a mask and what was not found have no bit in common, a bit of the two is found
+bit_found : (word mask found bit : ℕ) → found < 2 ^ 64 → bit < 64 → bit_and (bit_and word mask) (bit_not w64 found) ≡ 0 → has_bit word bit ≡ true → has_bit mask bit ≡ true → has_bit found bit ≡ false → ⊥
+bit_found word mask found bit small within none in_word in_mask clear =
+    let zero_bit : has_bit (bit_and (bit_and word mask) (bit_not w64 found)) bit ≡ false = ap (λ (n : ℕ). has_bit n bit) none ∙ has_bit-zero bit in
+    let outer = has_bit-and (bit_and word mask) (bit_not w64 found) bit in
+    let inner = has_bit-and word mask bit in
+    let flipped = has_bit-not found bit small within in
+    let whole : has_bit (bit_and (bit_and word mask) (bit_not w64 found)) bit ≡ true = outer ∙ rw (inner, flipped, in_word, in_mask, clear) refl in
+    let never : true ≡ false = sym whole ∙ zero_bit in
+    cc
+
+module _ (world : World) (number : ℕ) (mask found : List Bool) where
+  pub shows_none : ShowsNothingNewUpTo world number 0 mask found
+  shows_none q at n before in_mask sight = absurd (omega (arith, before))
+
+  pub shows_more : (words word mask_word found_word : ℕ) → ShowsNothingNewUpTo world number words mask found → IsWord mask words mask_word → IsWord found words found_word → found_word < 2 ^ 64 →
+      ((q : Portal) → IsAt world.portals number q → (bit : ℕ) → bit < 64 → IsInSight world.tree q (64 * words + bit) → has_bit word bit ≡ true) →
+      bit_and (bit_and word mask_word) (bit_not w64 found_word) ≡ 0 → ShowsNothingNewUpTo world number (words + 1) mask found
+  shows_more words word mask_word found_word so_far is_mask is_found small sound none q at n before in_mask sight = ⊎_elim
+      (λ here. ⊎_elim
+      (λ is. is)
+      (λ clear.
+      let bit : n % 64 < 64 = omega arith in
+      let place : n ≡ 64 * words + n % 64 = omega (arith, here) in
+      let has_mask = is_mask (n % 64) bit ∙ ap (λ (m : ℕ). get_or mask m false) (sym place) ∙ in_mask in
+      let has_none = is_found (n % 64) bit ∙ ap (λ (m : ℕ). get_or found m false) (sym place) ∙ clear in
+      absurd (bit_found word mask_word found_word (n % 64) small bit none (sound q at (n % 64) bit (subst (IsInSight world.tree q) place sight)) has_mask has_none))
+      (in_or_clear found n))
+      (λ other. so_far q at n (omega (arith, before, other)) in_mask sight)
+      (cases_eq (n / 64) words)
+
+  pub shows_nothing : (words : ℕ) → length mask ≤ 64 * words → ShowsNothingNewUpTo world number words mask found → ShowsNothingNew world number mask found
+  shows_nothing words enough so_far q at n in_mask sight =
+      let inside = place_within mask n in_mask in
+      so_far q at n (omega (arith, enough, inside)) in_mask sight
+
+-- ---- a row is cut to another
+
+pub cut_none : (other row : List Bool) → IsCutUpTo 0 other row row
+cut_none other row = record {
+  same_length = refl;
+  done = λ n before. absurd (omega (arith, before));
+  left = λ n after. refl;
+}
+
+pub cut_more : (words word : ℕ) (other old row new : List Bool) → IsCutUpTo words other old row → IsWord other words word → IsMasked row new words word → IsCutUpTo (words + 1) other old new
+cut_more words word other old row new so_far is_word masked = record {
+  same_length = masked.same_length ∙ so_far.same_length;
+  done = λ n before. ⊎_elim
+      (λ here.
+      let bit : n % 64 < 64 = omega arith in
+      let place : 64 * words + n % 64 ≡ n = omega (arith, here) in
+      let at : get_or new n false ≡ (get_or row n false && has_bit word (n % 64)) = subst (λ (m : ℕ). get_or new m false ≡ (get_or row m false && has_bit word (n % 64))) place (masked.in_word (n % 64) bit) in
+      let other_is : has_bit word (n % 64) ≡ get_or other n false = is_word (n % 64) bit ∙ ap (λ (m : ℕ). get_or other m false) place in
+      let old_is : get_or row n false ≡ get_or old n false = so_far.left n (omega (arith, here)) in (
+        (λ is. let parts = and_parts (get_or row n false) (has_bit word (n % 64)) (sym at ∙ is) in (sym old_is ∙ parts.0, sym other_is ∙ parts.1)),
+        (λ both. let first = old_is ∙ both.0 in let second = other_is ∙ both.1 in at ∙ rw (first, second) refl),
+      ))
+      (λ elsewhere.
+      let same : get_or new n false ≡ get_or row n false = masked.elsewhere n elsewhere in
+      let was = so_far.done n (omega (arith, before, elsewhere)) in
+      ((λ is. was.0 (sym same ∙ is)), (λ both. same ∙ was.1 both)))
+      (cases_eq (n / 64) words);
+  left = λ n after. masked.elsewhere n (λ here. let never : words + 1 ≤ words = omega (arith, after, here) in absurd (omega (arith, never))) ∙ so_far.left n (omega (arith, after));
+}
+
+pub cut_all : (words : ℕ) (other old new : List Bool) → length old ≤ 64 * words → IsCutUpTo words other old new → IsCutTo other old new
+cut_all words other old new enough so_far = record {
+  same_length = so_far.same_length;
+  exactly = λ n. (
+    (λ is.
+        let inside = place_within new n is in
+        let long = so_far.same_length in
+        (so_far.done n (omega (arith, enough, inside, long))).0 is),
+    (λ both.
+        let inside = place_within old n both.0 in
+        (so_far.done n (omega (arith, enough, inside))).1 both),
+  );
+}

@@ -1,0 +1,40 @@
+use Rattle.std.proofs.Common.{[], ◌∷◌, ◌++◌, take, get_or, List, ℕ, sym, ◌∙◌, subst}
+use Rattle.std.proofs.lemmas.List.{take_all, get_or_default}
+use Rattle.qm_lists.proofs.Places.{take-read}
+use Rattle.qm_chains.specs.inner.Cone.{LeadsInto, AreEntered}
+use Rattle.qm_chains.proofs.Entering.{none_entered, then_entered, into_none, into_cases}
+use Rattle.qm_flow.proofs.cone.go_on.Goals as goal
+
+pub loop-portal-init : goal.loop-portal-init
+loop-portal-init g c = record {
+  entered = none_entered (LeadsInto c.args.world.now c.args.frame.now c.args.found.now []) c.args.row.now c.args.due.now.items (λ to leads. absurd (into_none c.args.world.now c.args.frame.now c.args.found.now to leads));
+  on = g.met.S.RowSource.goes_on_itself c.args.source.now;
+}
+
+pub enter-requires-clause-same_world : goal.enter-requires-clause-same_world
+enter-requires-clause-same_world g c = g.met.S.RowSource.same_world c.args.source.now c.loop-portal.source c.loop-portal.invariant.on ∙ c.requires.same_world
+
+pub enter-requires-clause-row : goal.enter-requires-clause-row
+enter-requires-clause-row g c = c.loop-portal.invariant.entered.same_length ∙ c.requires.row
+
+pub loop-portal-preserved : goal.loop-portal-preserved
+loop-portal-preserved g c =
+    let world = c.args.world.now in
+    let frame = c.args.frame.now in
+    let found = c.args.found.now in
+    let before = take c.loop-portal.portal-index c.args.portals.now in
+    let number = get_or c.args.portals.now c.loop-portal.portal-index 0 in
+    record {
+      entered =
+          subst (λ (numbers : List ℕ). AreEntered (LeadsInto world frame found numbers) c.args.row.now c.enter.new.row c.args.due.now.items c.enter.new.due.items)
+          (sym (take-read c.args.portals.now c.loop-portal.portal-index number c.loop-portal-test.true (get_or_default c.args.portals.now c.loop-portal.portal-index 0 number c.loop-portal-test.true)))
+          (then_entered (LeadsInto world frame found before) (LeadsInto world frame found (number ∷ [])) (LeadsInto world frame found (before ++ number ∷ []))
+          c.args.row.now c.loop-portal.row c.enter.new.row c.args.due.now.items c.loop-portal.due.items c.enter.new.due.items
+          (into_cases world frame found before number) c.loop-portal.invariant.entered c.in_ok-enter.ensures.entered);
+      on = g.met.S.RowSource.goes_on_in_turn c.args.source.now c.loop-portal.source c.enter.new.source c.loop-portal.invariant.on c.enter.ensures.on;
+    }
+
+pub returns-clause-entered : goal.returns-clause-entered
+returns-clause-entered g c =
+    subst (λ (numbers : List ℕ). AreEntered (LeadsInto c.args.world.now c.args.frame.now c.args.found.now numbers) c.args.row.now c.loop-portal.row c.args.due.now.items c.loop-portal.due.items)
+    (take_all c.loop-portal.portal-index c.args.portals.now c.loop-portal-test.false) c.loop-portal.invariant.entered

@@ -1,0 +1,10 @@
+use Rattle.std.proofs.Common.{take}
+use Rattle.qm_chains.specs.inner.Cone.{LeadsInto, AreEntered}
+use Rattle.qm_flow.proofs.cone.go_on.Given as goal
+
+-- the leaves of the portals so far are entered, and the source goes on from what it was
+abbrev pub invariant-loop-portal : goal.invariant-loop-portal
+invariant-loop-portal g l = record {
+  entered : AreEntered (LeadsInto l.world l.frame l.found (take l.portal-index l.portals)) l.fn.row l.row l.fn.due.items l.due.items;
+  on : g.S.RowSource.goes_on l.fn.source l.source;
+}
