@@ -4,7 +4,8 @@ pub mod LaneSteps
 pub mod BesideSteps
 pub mod TableSteps
 pub mod RunSteps
-pub mod SightInRows
 pub mod WaySteps
 pub mod SweepSteps
+pub mod EnteringSteps
+pub mod ColumnSteps
 pub mod RowSteps

@@ -1,15 +1,13 @@
 ghost use Rattle.std.specs.Prelude.{◌≡◌, ◌<◌, ◌*◌, length, replicate, [], All, List, IfOk, OnOk};
-ghost use Rattle.qm_partition.specs.Ways.{HasPoints};
-ghost use Rattle.qm_contacts.specs.Meeting.{meetings};
 ghost use Rattle.qm_contacts.specs.NumberedLeaves.{numbered_leaves};
-ghost use Rattle.qm_contacts.specs.Portals.{portals_of};
-ghost use Rattle.qm_contacts.specs.Touching.{Touching, AreTouchings};
 ghost use Rattle.qm_coarse_rows.specs.CoarseRow.{AreCoarseRows};
 ghost use Rattle.qm_segments.specs.Sight.{AreSoundRows};
 ghost use Rattle.qm_base.specs.inner.Tables.{IsTable};
+ghost use Rattle.qm_base.specs.inner.Entering.{AreEntered};
 ghost use Rattle.qm_base.specs.inner.Blocks.{IsBlockDone};
 
-use crate::column::column;
+use crate::column::{column, full};
+use crate::entering::entered;
 use crate::sweeping::flooded;
 use crate::table::Table;
 use crate::ways::fill;
@@ -18,23 +16,21 @@ use qm_lists::Items;
 use qm_portal::World;
 use std::alloc::{AllocError, Global};
 
-/// The coarse rows of all portals of a world, in their order. Where each leaf of its tree has a point and the portals are
-/// those of its tree, each row has all that is in sight of its portal.
+/// The coarse rows of all portals of a world, in their order. Each row has all that is in sight of its portal.
 pub fn base(alloc: Global, world: &World) -> Result<Items<BitRow>, AllocError>
     ensures rows { IfOk result (λ rows. AreCoarseRows world.now.portals (length (numbered_leaves world.now.tree)) rows) }
     ensures one_each { IfOk result (λ rows. length rows ≡ length world.now.portals) }
     ensures wide { IfOk result (λ rows. All (λ row. length row ≡ length (numbered_leaves world.now.tree)) rows) }
-    ensures sound { IfOk result (λ rows. (touchings : List Touching) →
-        HasPoints world.now.tree → AreTouchings world.now.tree.planes (meetings world.now.tree) touchings →
-        world.now.portals ≡ portals_of world.now.tree touchings →
-        AreSoundRows world.now.tree world.now.portals rows) }
+    ensures sound { IfOk result (λ rows. AreSoundRows world.now.tree world.now.portals rows) }
 {
+    world.own_portals();
     let table = Table::of(alloc, world)?;
+    let entered = entered(alloc, world)?;
     let count = table.lanes.len();
     let mut ways = vec![in alloc; 0; count]?;
     let mut rows = empty_rows(alloc, count)?;
     for block in 0..count.div_ceil(64) {
-        add_block(alloc, world, &table, block, &mut ways, &mut rows)?;
+        add_block(alloc, world, &table, &entered, block, &mut ways, &mut rows)?;
     }
     Ok(Items::from_vec(rows))
 }
@@ -55,11 +51,13 @@ fn add_block(
     alloc: Global,
     world: &World,
     table: &Table,
+    entered: &[usize],
     block: usize,
     ways: &mut [u64],
     rows: &mut [BitRow],
 ) -> Result<(), AllocError>
     requires table { IsTable world.now.portals table.now.lanes.items table.now.kinds.items table.now.beside.items }
+    requires entered { AreEntered world.now entered.now }
     requires block { 64 * block < length world.now.portals }
     requires ways { length ways.old ≡ length world.now.portals }
     requires rows { length rows.old ≡ length world.now.portals }
@@ -69,9 +67,10 @@ fn add_block(
     let first = 64 * block;
     let end = (table.lanes.len() - first).min(64) + first;
     let lanes = &table.lanes[first..end];
-    let seen = flooded(alloc, world, ways, lanes)?;
+    let seen = flooded(alloc, world, entered, ways, lanes)?;
+    let all = full(alloc, seen.len() as u64)?;
     for j in 0..lanes.len() {
-        rows[lanes[j].portal as usize] = column(alloc, &seen, j)?;
+        rows[lanes[j].portal as usize] = column(alloc, &seen, &all, j)?;
     }
     Ok(())
 }
