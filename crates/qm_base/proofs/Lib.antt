@@ -4,7 +4,6 @@ pub mod LaneSteps
 pub mod BesideSteps
 pub mod TableSteps
 pub mod RunSteps
-pub mod SightInRows
 pub mod WaySteps
 pub mod SweepSteps
 pub mod EnteringSteps

@@ -1,9 +1,5 @@
 ghost use Rattle.std.specs.Prelude.{◌≡◌, ◌<◌, ◌*◌, length, replicate, [], All, List, IfOk, OnOk};
-ghost use Rattle.qm_partition.specs.Ways.{HasPoints};
-ghost use Rattle.qm_contacts.specs.Meeting.{meetings};
 ghost use Rattle.qm_contacts.specs.NumberedLeaves.{numbered_leaves};
-ghost use Rattle.qm_contacts.specs.Portals.{portals_of};
-ghost use Rattle.qm_contacts.specs.Touching.{Touching, AreTouchings};
 ghost use Rattle.qm_coarse_rows.specs.CoarseRow.{AreCoarseRows};
 ghost use Rattle.qm_segments.specs.Sight.{AreSoundRows};
 ghost use Rattle.qm_base.specs.inner.Tables.{IsTable};
@@ -20,17 +16,14 @@ use qm_lists::Items;
 use qm_portal::World;
 use std::alloc::{AllocError, Global};
 
-/// The coarse rows of all portals of a world, in their order. Where each leaf of its tree has a point and the portals are
-/// those of its tree, each row has all that is in sight of its portal.
+/// The coarse rows of all portals of a world, in their order. Each row has all that is in sight of its portal.
 pub fn base(alloc: Global, world: &World) -> Result<Items<BitRow>, AllocError>
     ensures rows { IfOk result (λ rows. AreCoarseRows world.now.portals (length (numbered_leaves world.now.tree)) rows) }
     ensures one_each { IfOk result (λ rows. length rows ≡ length world.now.portals) }
     ensures wide { IfOk result (λ rows. All (λ row. length row ≡ length (numbered_leaves world.now.tree)) rows) }
-    ensures sound { IfOk result (λ rows. (touchings : List Touching) →
-        HasPoints world.now.tree → AreTouchings world.now.tree.planes (meetings world.now.tree) touchings →
-        world.now.portals ≡ portals_of world.now.tree touchings →
-        AreSoundRows world.now.tree world.now.portals rows) }
+    ensures sound { IfOk result (λ rows. AreSoundRows world.now.tree world.now.portals rows) }
 {
+    world.own_portals();
     let table = Table::of(alloc, world)?;
     let entered = entered(alloc, world)?;
     let count = table.lanes.len();

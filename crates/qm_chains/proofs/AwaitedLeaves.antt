@@ -13,7 +13,7 @@ use Rattle.qm_segments.proofs.ViaLaws.{via_in_sight}
 use Rattle.qm_separators.specs.ChainState.{ChainState}
 use Rattle.qm_separators.specs.PortalSteps.{BeginsWith, GoesOn, BlocksAt, MeetsState}
 use Rattle.qm_separators.proofs.ChainLaws.{lets, ahead_at_start, reached_or_next}
-use Rattle.qm_chains.specs.OwnPortals.{HasOwnPortals}
+use Rattle.qm_contacts.specs.OwnPortals.{HasOwnPortals}
 use Rattle.qm_chains.specs.Shown.{IsAt}
 use Rattle.qm_chains.specs.inner.Frame.{Frame, EndsChain, IsNextTo, IsAwaited}
 use Rattle.qm_chains.proofs.ChainEnds.{GainsOne}

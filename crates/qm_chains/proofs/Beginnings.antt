@@ -14,7 +14,7 @@ use Rattle.qm_segments.proofs.PortalsListed.{passage_of_portal}
 use Rattle.qm_separators.specs.ChainState.{first_state}
 use Rattle.qm_separators.specs.PortalSteps.{BeginsWith}
 use Rattle.qm_separators.proofs.PortalStepLaws.{are_convex, first_is_state}
-use Rattle.qm_chains.specs.OwnPortals.{HasOwnPortals}
+use Rattle.qm_contacts.specs.OwnPortals.{HasOwnPortals}
 use Rattle.qm_chains.specs.Shown.{IsAt}
 use Rattle.qm_chains.specs.inner.Frame.{Frame, IsNarrowed, EndsChain, IsAwaited}
 use Rattle.qm_chains.specs.inner.Walk.{IsBegun}

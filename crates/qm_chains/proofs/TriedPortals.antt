@@ -11,7 +11,7 @@ use Rattle.qm_lists.proofs.Elements.{Contains-first}
 use Rattle.qm_contacts.specs.Portals.{Portal}
 use Rattle.qm_contacts.specs.World.{World, AreLeaving}
 use Rattle.qm_separators.specs.PortalSteps.{GoesOn, BlocksAt}
-use Rattle.qm_chains.specs.OwnPortals.{HasOwnPortals}
+use Rattle.qm_contacts.specs.OwnPortals.{HasOwnPortals}
 use Rattle.qm_chains.specs.Shown.{IsAt, IsShown}
 use Rattle.qm_chains.specs.inner.Frame.{Frame, put_back, IsNarrowed, EndsChain, IsNextTo}
 use Rattle.qm_chains.specs.inner.Walk.{IsFoundOrAhead, IsTried}

@@ -1,12 +1,13 @@
 -- What is shown by open chains, and rows of portals that are found in turns.
-use Rattle.std.proofs.Common.{◌≢◌, ℕ, List, [], ◌∷◌, ◌++◌, sym, subst, ⊎_elim}
+use Rattle.std.proofs.Common.{◌≡◌, ◌≢◌, ℕ, zero, suc, ◌<◌, List, [], ◌∷◌, ◌++◌, length, Some, sym, subst, ◌∙◌, arith, ⊎_elim}
 use Rattle.std.proofs.lemmas.Bool.{cases_eq}
+use Rattle.std.proofs.lemmas.Option.{slice_get_within}
 use Rattle.std.proofs.lemmas.List.Elements.{All-weaker, All-contains, Contains-append_right}
 use Rattle.qm_lists.proofs.Elements.{Contains-first}
 use Rattle.qm_contacts.specs.Portals.{Portal}
 use Rattle.qm_separators.specs.PortalSteps.{IsInChainBound}
-use Rattle.qm_chains.specs.Shown.{IsShown}
-use Rattle.qm_chains.specs.Turns.{IsInCoarseRowAt, MayHaveAfter}
+use Rattle.qm_chains.specs.Shown.{IsAt, IsShown}
+use Rattle.qm_chains.specs.Turns.{IsInCoarseRowAt, MayHaveAfter, turns_up_to, IsInReuse}
 
 module _ (portals : List Portal) where
   -- ---- what is shown
@@ -52,3 +53,20 @@ module _ (portals : List Portal) where
       (subst (MayHaveAfter portals turns n) (sym same) (first_has (MayHaveAfter portals turns n) p n shown), λ again. shown))
       (λ other. (old n q (stays n q other has), λ same. absurd (other same)))
       (cases_eq q p)
+
+  -- ---- reuse
+
+  -- a leaf that the row of a portal may have after its turn is in the bound of the portal
+  bound_after : (k n q : ℕ) (portal : Portal) → IsAt portals q portal → q < k → MayHaveAfter portals (turns_up_to k) n q → IsInChainBound portals portal n
+  bound_after zero n q portal at less may = absurd (omega (arith, less))
+  bound_after (suc k) n q portal at less may = ⊎_elim
+      (λ same.
+      let shown = may.1 same in
+      let first : shown.first ≡ portal = let e : Some shown.first ≡ Some portal = sym shown.first_is ∙ subst (λ (i : ℕ). IsAt portals i portal) same at in cc in
+      subst (λ (p : Portal). IsInChainBound portals p n) first (shown_in_bound (MayHaveAfter portals (turns_up_to k) n) k n shown))
+      (λ other. bound_after k n q portal at (omega (arith, less, other)) may.0)
+      (cases_eq q k)
+
+  -- so the reuse of a portal lies within its bound
+  pub reuse_in_bound : (n q : ℕ) (portal : Portal) → IsAt portals q portal → IsInReuse portals q n → IsInChainBound portals portal n
+  reuse_in_bound n q portal at may = bound_after (length portals) n q portal at (slice_get_within portals q portal at) may

@@ -1,4 +1,3 @@
-pub mod OwnPortals
 pub mod Shown
 pub mod Turns
 pub mod inner

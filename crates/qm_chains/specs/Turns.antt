@@ -1,4 +1,5 @@
-use Rattle.std.specs.Prelude.{◌≡◌, ℕ, zero, suc, List, [], ◌∷◌, length}
+use Rattle.std.specs.Prelude.{◌≡◌, ℕ, zero, suc, Bool, List, [], ◌∷◌, length, slice_index_or}
+use Rattle.qm_lists.specs.WorkList.{IsIn}
 use Rattle.qm_contacts.specs.Portals.{Portal}
 use Rattle.qm_coarse_rows.specs.CoarseRow.{IsInCoarseRow}
 use Rattle.qm_chains.specs.Shown.{IsAt, IsShown}
@@ -27,3 +28,11 @@ turns_up_to (suc k) = k ∷ turns_up_to k
 -- order of their numbers
 abbrev pub IsInReuse : List Portal → ℕ → ℕ → Type 0
 IsInReuse portals q n = MayHaveAfter portals (turns_up_to (length portals)) n q
+
+-- rows, one for each portal in their order, lie within what they may have after these turns
+abbrev pub LieWithinTurns : List Portal → List ℕ → List (List Bool) → Type 0
+LieWithinTurns portals turns rows = (n q : ℕ) → IsIn (slice_index_or rows q []) n → MayHaveAfter portals turns n q
+
+-- rows, one for each portal in their order, lie within the reuse of their portals
+abbrev pub LieInReuse : List Portal → List (List Bool) → Type 0
+LieInReuse portals rows = (n q : ℕ) → IsIn (slice_index_or rows q []) n → IsInReuse portals q n

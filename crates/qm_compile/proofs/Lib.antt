@@ -8,5 +8,7 @@ pub mod NumberedCounts
 pub mod Outcomes
 pub mod ReadMeanings
 pub mod Reported
+pub mod Requests
+pub mod Writings
 pub mod Origins
 pub mod WrittenRows

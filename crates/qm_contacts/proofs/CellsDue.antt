@@ -145,8 +145,8 @@ outside_at tree k (suc i) (outside ∷ row) are within =
     subst (λ (m : ℕ). IsIn row i ↔ TouchesOutside tree m) one_more (outside_at tree (k + 1) i row are.1 (omega (arith, within)))
 
 -- all touching pairs and all leaves that touch the outside are all contacts
-pub all_contacts : (tree : Tree) (cell : DueCell) (contacts : Contacts) → ComesToTouchings tree.planes (root_due tree cell) contacts.touchings → ComesToOutside tree (root_due tree cell) contacts.outside → AreContacts tree contacts
-all_contacts tree cell contacts touchings outside = record { touching = touchings; one_each = outside.one_each; outside = λ k. (there k, back k) }
+pub all_contacts : (tree : Tree) (cell : DueCell) (contacts : Contacts) → HasPoints tree → ComesToTouchings tree.planes (root_due tree cell) contacts.touchings → ComesToOutside tree (root_due tree cell) contacts.outside → AreContacts tree contacts
+all_contacts tree cell contacts have touchings outside = record { points = have; touching = touchings; one_each = outside.one_each; outside = λ k. (there k, back k) }
   where
     at : (k : ℕ) → k < length contacts.outside → IsIn contacts.outside k ↔ TouchesOutside tree k
     at k within = subst (λ (m : ℕ). IsIn contacts.outside k ↔ TouchesOutside tree m) (omega arith) (outside_at tree 0 k contacts.outside outside.are within)

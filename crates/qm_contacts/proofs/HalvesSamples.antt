@@ -1,11 +1,11 @@
 -- Worked rows: the tree of one node, the plane x = 0, with all contacts of its two leaves; what leaks, and what is filled.
-use Rattle.std.proofs.Common.{◌≡◌, ℕ, zero, suc, ◌<◌, ◌≤◌, ℤ, pos, neg_ℤ, true, false, List, [], ◌∷◌, Contains, length, Some, refl, sym, ap, subst, arith, ◌⊎◌, inl, inr, ⊎_elim}
+use Rattle.std.proofs.Common.{◌≡◌, ℕ, zero, suc, ◌<◌, ◌≤◌, ℤ, pos, neg_ℤ, ◌<ℤ◌, true, false, List, [], ◌∷◌, Contains, length, Some, refl, sym, ap, subst, arith, ◌⊎◌, inl, inr, ⊎_elim}
 use Rattle.std.proofs.lemmas.Int.{ints}
-use Rattle.std.proofs.lemmas.List.Elements.{All-from_recursion, All-nil}
+use Rattle.std.proofs.lemmas.List.Elements.{All-from_recursion, All-contains, All-nil}
 use Rattle.qm_lists.specs.Reach.{start}
 use Rattle.qm_lists.specs.WorkList.{IsIn}
 use Rattle.qm_lists.proofs.Elements.{Contains-first, Contains-cons_cases}
-use Rattle.qm_space.specs.Point.{Point}
+use Rattle.qm_space.specs.Point.{Point, IsInCube}
 use Rattle.qm_space.specs.Plane.{Plane, plane_of, value, IsInFront, flipped}
 use Rattle.qm_space.specs.Cube.{cube_walls, wall_x, wall_y, wall_z, mirrored}
 use Rattle.qm_numbers.proofs.IntegerProducts.{linear, one_*ℤ, zero_*ℤ}
@@ -20,7 +20,7 @@ use Rattle.qm_partition.specs.Partition.{leaf, node}
 use Rattle.qm_partition.specs.Tree.{Tree}
 use Rattle.qm_partition.specs.LeafOfPoint.{node_value}
 use Rattle.qm_partition.specs.Marked.{filled_leaf, marked_tree}
-use Rattle.qm_partition.specs.Ways.{cell_of}
+use Rattle.qm_partition.specs.Ways.{Way, ways, cell_of, IsInLeaf, HasPoints}
 use Rattle.qm_contacts.specs.Meeting.{meetings, Meeting, meeting_at}
 use Rattle.qm_contacts.specs.Touching.{Touching, IsTouching, AreTouchings, none, touching}
 use Rattle.qm_contacts.specs.Contacts.{AreContacts}
@@ -90,6 +90,24 @@ found_is = record {
 touchings_row : AreTouchings (half ∷ []) (meeting ∷ []) (found ∷ [])
 touchings_row = touching found_is none
 
+-- both leaves have a point
+in_cube : (x : ℤ) → neg_ℤ (pos 4096) <ℤ x → x <ℤ pos 4096 → IsInCube (point x (pos 0) (pos 0))
+in_cube x low high = record {
+  weight = omega (arith, ints);
+  x = record { above = omega (arith, ints, low); below = omega (arith, ints, high) };
+  y = record { above = omega (arith, ints); below = omega (arith, ints) };
+  z = record { above = omega (arith, ints); below = omega (arith, ints) };
+}
+
+points_row : (contents : Contents) → HasPoints (halves contents)
+unfolding value
+points_row contents way listed = All-contains (λ (w : Way). (x : Point) × IsInLeaf (half ∷ []) w x) (ways (halves contents).shape) way
+    (All-from_recursion (λ (w : Way). (x : Point) × IsInLeaf (half ∷ []) w x) (ways (halves contents).shape) (
+      (point (pos 64) (pos 0) (pos 0), record { in_cube = in_cube (pos 64) (omega (arith, ints)) (omega (arith, ints)); in_cell = All-from_recursion (λ g. IsInFront g (point (pos 64) (pos 0) (pos 0))) (half ∷ []) (omega (arith, ints), tt) }),
+      ((point (neg_ℤ (pos 64)) (pos 0) (pos 0), record { in_cube = in_cube (neg_ℤ (pos 64)) (omega (arith, ints)) (omega (arith, ints)); in_cell = All-from_recursion (λ g. IsInFront g (point (neg_ℤ (pos 64)) (pos 0) (pos 0))) (flipped half ∷ []) (omega (arith, ints), tt) }), tt),
+    ))
+    listed
+
 -- both leaves touch the outside
 module _ (contents : Contents) where
   front_outside : TouchesOutside (halves contents) 0
@@ -128,7 +146,7 @@ module _ (contents : Contents) where
 
   -- these are all contacts
   contacts_row : AreContacts (halves contents) (record { touchings = found ∷ []; outside = true ∷ true ∷ [] })
-  contacts_row = record { touching = touchings_row; one_each = refl; outside = λ k. (there k, back k) }
+  contacts_row = record { points = points_row contents; touching = touchings_row; one_each = refl; outside = λ k. (there k, back k) }
     where
       there : (k : ℕ) → IsIn (true ∷ true ∷ []) k → TouchesOutside (halves contents) k
       there zero is = front_outside

@@ -6,6 +6,7 @@ use Rattle.qm_partition.specs.Numbering.{nodes_after, leaves_after}
 use Rattle.qm_partition.specs.Ways.{Way}
 use Rattle.qm_partition.specs.Marked.{marked, marked_tree}
 use Rattle.qm_partition.proofs.MarkedLeaves.{marked_nodes_after, marked_leaves_after, marked_ways, marked_count}
+use Rattle.qm_partition.proofs.MarkedParts.{marked_points}
 use Rattle.qm_contacts.specs.Meeting.{Meeting, seen_from, leaves_below, meetings_at, then_step, meetings_below, meetings}
 use Rattle.qm_contacts.specs.Touching.{AreTouchings}
 use Rattle.qm_contacts.specs.Outside.{TouchesOutside}
@@ -61,6 +62,7 @@ module _ (row : List Bool) where
   -- so the contacts of a tree are those of the marked one
   pub marked_contacts : (tree : Tree) (contacts : Contacts) → AreContacts tree contacts → AreContacts (marked_tree row tree) contacts
   marked_contacts tree contacts are = record {
+    points = marked_points row tree are.points;
     touching = subst (λ (all : List Meeting). AreTouchings tree.planes all contacts.touchings) (sym (marked_meetings tree)) are.touching;
     one_each = are.one_each ∙ sym (marked_count row tree.shape 0);
     outside = λ k. (λ there. outside_marked tree k ((are.outside k).0 there), λ touches. (are.outside k).1 (outside_unmarked tree k touches));

@@ -3,6 +3,7 @@ use Rattle.std.specs.List.Sorted.{IsStrictlyIncreasing}
 use Rattle.qm_lists.specs.WorkList.{IsIn}
 use Rattle.qm_partition.specs.Tree.{Tree}
 use Rattle.qm_partition.specs.Counting.{leaf_count}
+use Rattle.qm_partition.specs.Ways.{HasPoints}
 use Rattle.qm_contacts.specs.Meeting.{meetings}
 use Rattle.qm_contacts.specs.Contact.{Touch}
 use Rattle.qm_contacts.specs.Touching.{Touching, AreTouchings}
@@ -14,8 +15,10 @@ pub record Contacts : Type 0 where
   pub touchings : List Touching
   pub outside : List Bool
 
--- exactly the touching pairs, in their order, and a row with exactly the leaves that touch the outside
+-- of a tree each of whose leaves has a point: exactly the touching pairs, in their order, and a row with exactly the leaves
+-- that touch the outside
 pub record AreContacts (tree : Tree) (contacts : Contacts) : Type 0 where
+  pub points : HasPoints tree
   pub touching : AreTouchings tree.planes (meetings tree) contacts.touchings
   pub one_each : length contacts.outside ≡ leaf_count tree.shape
   pub outside : (k : ℕ) → IsIn contacts.outside k ↔ TouchesOutside tree k

@@ -8,6 +8,7 @@ pub mod NumberedLeaves
 pub mod Portals
 pub mod PortalChain
 pub mod World
+pub mod OwnPortals
 pub mod Reached
 pub mod Leak
 pub mod Filled

@@ -2,7 +2,7 @@
 
 ghost use Rattle.std.specs.Prelude.{◌≡◌, ◌<◌, length, false, replicate, IfOk};
 ghost use Rattle.qm_contacts.specs.NumberedLeaves.{numbered_leaves};
-ghost use Rattle.qm_chains.specs.OwnPortals.{HasOwnPortals};
+ghost use Rattle.qm_contacts.specs.OwnPortals.{HasOwnPortals};
 ghost use Rattle.qm_chains.specs.inner.Walk.{IsBegun};
 ghost use Rattle.qm_flow.specs.InCeiling.{IsInCeiling};
 

@@ -5,7 +5,6 @@ ghost use Rattle.qm_lists.specs.WorkList.{IsIn};
 ghost use Rattle.qm_contacts.specs.NumberedLeaves.{numbered_leaves};
 ghost use Rattle.qm_contacts.specs.Portals.{Portal};
 ghost use Rattle.qm_segments.specs.Sight.{IsSoundRow};
-ghost use Rattle.qm_chains.specs.OwnPortals.{HasOwnPortals};
 ghost use Rattle.qm_chains.specs.Shown.{IsAt, IsShown};
 ghost use Rattle.qm_flow.specs.InCeiling.{IsInCeiling};
 
@@ -26,13 +25,13 @@ pub fn flow<S: RowSource>(
     portal: u64,
 ) -> Result<BitRow, AllocError>
     requires portal_in_range { portal < length world.now.portals }
-    requires own_portals { HasOwnPortals world.now }
     requires same_world { S.world source.old ≡ world.now }
     ensures wide { IfOk result (λ row. length row ≡ length (numbered_leaves world.now.tree)) }
     ensures sound { IfOk result (λ row. (first : Portal) → IsAt world.now.portals portal first → IsSoundRow world.now.tree first row) }
     ensures open_chains { IfOk result (λ row. (n : ℕ) → IsIn row n → IsShown world.now.portals (IsInCeiling (S.ceilings source.old) n) portal n) }
     ensures on { S.goes_on source.old source.new }
 {
+    world.own_portals();
     let mut row = BitRow::with_len(alloc, world.leaves())?;
     let first = begin(alloc, world, source, portal, &mut row)?;
     let mut frames = Vec::new(alloc);

@@ -1,7 +1,7 @@
 //! One portal is tried at the end of a chain.
 
 ghost use Rattle.std.specs.Prelude.{ℕ, ◌≡◌, ◌<◌, Bool, List, length, IfOk};
-ghost use Rattle.qm_chains.specs.OwnPortals.{HasOwnPortals};
+ghost use Rattle.qm_contacts.specs.OwnPortals.{HasOwnPortals};
 ghost use Rattle.qm_chains.specs.inner.Frame.{put_back, EndsChain};
 ghost use Rattle.qm_chains.specs.inner.Walk.{AreWide, IsTried};
 ghost use Rattle.qm_sight.specs.WordInSight.{LieWithin};

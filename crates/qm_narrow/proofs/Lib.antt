@@ -1,3 +1,5 @@
 pub mod LyingSides
 pub mod Traces
 pub mod Coordinates
+pub mod Outlooks
+pub mod KeptNormals

@@ -3,6 +3,7 @@ ghost use Rattle.qm_partition.specs.Counting.{leaf_count};
 ghost use Rattle.qm_contacts.specs.NumberedLeaves.{numbered_leaves};
 ghost use Rattle.qm_contacts.specs.Portals.{Portal as PortalRecord};
 ghost use Rattle.qm_contacts.specs.World.{AreLeaving};
+ghost use Rattle.qm_contacts.specs.OwnPortals.{HasOwnPortals};
 ghost use Rattle.qm_contacts.specs.inner.WorldParts.{AreWorldParts};
 
 use crate::leaving::Leaving;
@@ -12,7 +13,7 @@ use qm_tree::Tree;
 use qm_wind::Pane;
 use std::marker::Model;
 
-/// A tree with the portals between its numbered leaves.
+/// A tree each of whose leaves has a point, with the portals between its numbered leaves.
 #[derive(Drop)]
 pub struct World {
     tree: Tree,
@@ -48,6 +49,14 @@ impl World {
             portals,
             leaving,
         }
+    }
+
+    /// Each leaf of the tree has a point, and the portals are exactly those between its touching leaves. This does nothing: its
+    /// clause is what a world is by itself.
+    pub fn own_portals(&self)
+        ensures { HasOwnPortals self.now }
+    {
+        let _ = &self.tree;
     }
 
     /// The tree.

@@ -1,5 +1,5 @@
 -- Rows of leaves over sound rows of portals hold both ends of each line of sight; coarse rows are sound.
-use Rattle.std.proofs.Common.{◌≡◌, ◌≢◌, ℕ, zero, suc, Bool, List, [], ◌∷◌, length, get_or, Contains, Some, slice_get, refl, ap, ◌∙◌, subst, arith, inl, inr}
+use Rattle.std.proofs.Common.{◌≡◌, ◌≢◌, ℕ, zero, suc, Bool, List, [], ◌∷◌, length, get_or, Contains, Some, slice_get, refl, sym, ap, ◌∙◌, subst, arith, inl, inr}
 use Rattle.std.specs.Prelude.{All}
 use Rattle.std.specs.List.{AllZip}
 use Rattle.std.proofs.lemmas.Option.{slice_get_within, slice_get-get_or}
@@ -18,6 +18,8 @@ use Rattle.qm_contacts.specs.Touching.{Touching, AreTouchings}
 use Rattle.qm_contacts.specs.NumberedLeaves.{numbered_leaves}
 use Rattle.qm_contacts.specs.Portals.{Portal, portals_of}
 use Rattle.qm_contacts.specs.PortalChain.{IsPortalBetween}
+use Rattle.qm_contacts.specs.World.{World}
+use Rattle.qm_contacts.specs.OwnPortals.{HasOwnPortals}
 use Rattle.qm_coarse_rows.specs.CoarseRow.{IsCoarseRow, AreCoarseRows}
 use Rattle.qm_coarse_rows.specs.LeafRow.{IsInLeafRow, AreLeafRows}
 use Rattle.qm_segments.specs.Segment.{Segment, turned_round}
@@ -81,6 +83,12 @@ module _ (tree : Tree) (have : HasPoints tree) (touchings : List Touching) (are 
       there = has_end s contents generic not_solid clear;
       back = has_end (turned_round s) contents (turned_generic tree s generic) not_solid (turned_clear tree (LeafHas tree) s contents clear);
     }
+
+-- the coarse rows of a world are sound
+pub own_coarse_rows_sound : (world : World) → HasOwnPortals world → (leaves : ℕ) (rows : List (List Bool)) → AreCoarseRows world.portals leaves rows → AreSoundRows world.tree world.portals rows
+own_coarse_rows_sound world own leaves rows coarse =
+    subst (λ (portals : List Portal). AreSoundRows world.tree portals rows) (sym own.portals_are)
+    (coarse_rows_sound world.tree own.have_points own.touchings own.are_touchings leaves rows (subst (λ (portals : List Portal). AreCoarseRows portals leaves rows) own.portals_are coarse))
 
 -- ---- a map, whose tree is marked
 

@@ -7,8 +7,7 @@ use Rattle.qm_contacts.specs.NumberedLeaves.{numbered_leaves}
 use Rattle.qm_contacts.specs.World.{World}
 use Rattle.qm_segments.specs.Sight.{IsSoundRow}
 use Rattle.qm_sight.specs.WordInSight.{IsWordWithin, LacksNoneInSight}
-use Rattle.qm_sight.specs.RowsOfWorld.{AreRowsOfWorld}
-use Rattle.qm_sight.specs.inner.PlainRows.{IsSoundAt}
+use Rattle.qm_sight.specs.RowsOfWorld.{AreRowsOfWorld, IsSoundAt}
 
 -- ---- pairs at a place
 

@@ -1,8 +1,7 @@
-ghost use Rattle.std.specs.Prelude.{◌≡◌, ◌<◌, length};
+ghost use Rattle.std.specs.Prelude.{◌≡◌, ◌<◌, length, slice_set};
 ghost use Rattle.qm_contacts.specs.NumberedLeaves.{numbered_leaves};
 ghost use Rattle.qm_sight.specs.WordInSight.{ceiling_of};
-ghost use Rattle.qm_sight.specs.RowsOfWorld.{AreRowsOfWorld};
-ghost use Rattle.qm_sight.specs.inner.PlainRows.{IsSoundAt};
+ghost use Rattle.qm_sight.specs.RowsOfWorld.{AreRowsOfWorld, IsSoundAt};
 
 use crate::row_source::RowSource;
 use qm_bits::BitRow;
@@ -14,7 +13,7 @@ use std::marker::Model;
 #[derive(Drop)]
 pub struct Rows<'a> {
     world: &'a World,
-    rows: Items<BitRow>,
+    rows: Vec<BitRow>,
 }
 
 impl<'a> Model for Rows<'a> {
@@ -26,9 +25,9 @@ impl<'a> Model for Rows<'a> {
 
     ghost coded = { Prim.hlevel (codes, tree_code) };
 
-    ghost view = { λ r. record { world = r.world.now; rows = r.rows } };
+    ghost view = { λ r. record { world = r.world.now; rows = r.rows.items } };
 
-    ghost invariant = { λ r. AreRowsOfWorld r.world.now r.rows };
+    ghost invariant = { λ r. AreRowsOfWorld r.world.now r.rows.items };
 }
 
 impl<'a> Rows<'a> {
@@ -38,7 +37,28 @@ impl<'a> Rows<'a> {
         ensures world { result.world ≡ world.now }
         ensures rows { result.rows ≡ rows }
     {
+        let rows = rows.into_vec();
         Rows { world, rows }
+    }
+
+    /// Puts another sound row in the place of a portal's. The rows of all other portals stay. It takes no memory.
+    pub fn replace(&mut self, portal: u64, row: BitRow)
+        requires portal_in_range { portal < length self.old.world.portals }
+        requires wide { length row ≡ length (numbered_leaves self.old.world.tree) }
+        requires sound { IsSoundAt self.old.world portal row }
+        ensures world { self.new.world ≡ self.old.world }
+        ensures rows { self.new.rows ≡ slice_set self.old.rows portal row }
+    {
+        self.rows[portal as usize] = row;
+    }
+
+    /// The rows, given back as they are now. It takes no memory.
+    pub fn into_rows(self) -> Items<BitRow>
+        ensures rows { result ≡ self.entry.rows }
+        ensures are { AreRowsOfWorld self.entry.world result }
+    {
+        let Rows { rows, .. } = self;
+        Items::from_vec(rows)
     }
 
     /// The row of a portal.
@@ -48,7 +68,7 @@ impl<'a> Rows<'a> {
         ensures wide { length result.now ≡ length (numbered_leaves self.now.world.tree) }
         ensures sound { IsSoundAt self.now.world portal result.now }
     {
-        &self.rows.as_slice()[portal as usize]
+        &self.rows[portal as usize]
     }
 }
 

@@ -2,6 +2,7 @@ use Rattle.std.specs.Prelude.{ℕ, ◌<◌, List, All, length}
 use Rattle.qm_partition.specs.Tree.{Tree}
 use Rattle.qm_partition.specs.Counting.{leaves_of}
 use Rattle.qm_contacts.specs.Portals.{Portal}
+use Rattle.qm_contacts.specs.OwnPortals.{HasOwnPortals}
 use Rattle.qm_contacts.specs.inner.LeafNumbers.{AreNumbersOf}
 use Rattle.qm_contacts.specs.inner.Leaving.{AreLeavingInRows}
 
@@ -10,8 +11,9 @@ pub record IsAmong (leaves : ℕ) (portal : Portal) : Type 0 where
   pub from : portal.from < leaves
   pub to : portal.to < leaves
 
--- what is kept beside a tree and its portals: the numbers of its leaves, and the portals that leave each
+-- what is kept of a tree and its own portals: beside them the numbers of its leaves, and the portals that leave each
 pub record AreWorldParts (tree : Tree) (portals : List Portal) (numbered before begins places : List ℕ) : Type 0 where
+  pub own : HasOwnPortals (record { tree = tree; portals = portals })
   pub numbers : AreNumbersOf (leaves_of tree.shape) numbered before
   pub among : All (IsAmong (length numbered)) portals
   pub leaving : AreLeavingInRows portals (length numbered) begins places

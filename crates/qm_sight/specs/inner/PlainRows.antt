@@ -1,8 +1,6 @@
 -- The plain source goes on from an equal state alone.
-use Rattle.std.proofs.Common.{◌≡◌, ℕ, Bool, List, Some, slice_get, refl, subst, ◌∙◌, ap}
-use Rattle.qm_contacts.specs.Portals.{Portal}
+use Rattle.std.proofs.Common.{◌≡◌, refl, subst, ◌∙◌, ap}
 use Rattle.qm_contacts.specs.World.{World}
-use Rattle.qm_segments.specs.Sight.{IsSoundRow}
 use Rattle.qm_lists.specs.WorkList.{IsIn}
 use Rattle.qm_sight.specs.WordInSight.{LieWithin, ceiling_of}
 use Rattle.qm_sight.specs.RowsOfWorld.{RowsOfWorld}
@@ -18,7 +16,3 @@ one_world a b e = ap (λ (r : RowsOfWorld). r.world) e
 
 pub none_narrower : (a b : RowsOfWorld) → b ≡ a → LieWithin b.rows a.rows
 none_narrower a b e place n is = subst (λ (r : RowsOfWorld). IsIn (ceiling_of r.rows place) n) e is
-
--- a sound row for the portal at a place
-abbrev pub IsSoundAt : World → ℕ → List Bool → Type 0
-IsSoundAt world place row = (portal : Portal) → slice_get world.portals place ≡ Some portal → IsSoundRow world.tree portal row

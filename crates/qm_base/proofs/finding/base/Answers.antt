@@ -1,10 +1,10 @@
 use Rattle.std.proofs.Common.{◌≡◌, ◌∙◌, List, Bool, length, sym, ap, subst, arith}
 use Rattle.std.proofs.lemmas.List.{with_items_is}
 use Rattle.qm_contacts.specs.NumberedLeaves.{numbered_leaves}
+use Rattle.qm_segments.proofs.EndRows.{own_coarse_rows_sound}
 use Rattle.qm_base.specs.inner.Ways.{block_of}
 use Rattle.qm_base.specs.inner.Blocks.{AreWritten}
 use Rattle.qm_base.proofs.RowSteps.{block_more, all_rows, all_wide}
-use Rattle.qm_base.proofs.SightInRows.{sound_of}
 use Rattle.qm_base.proofs.finding.base.Goals as goal
 
 pub loop-block-init : goal.loop-block-init
@@ -52,6 +52,6 @@ pub returns-clause-sound : goal.returns-clause-sound
 returns-clause-sound c =
     let lanes = c.in_ok-table.table.lanes in
     let world = c.args.world.now in
-    rw c.from_vec.ensures (sound_of world (length (numbered_leaves world.tree)) c.loop-block.rows.items
+    rw c.from_vec.ensures (own_coarse_rows_sound world c.own_portals.ensures (length (numbered_leaves world.tree)) c.loop-block.rows.items
     (all_rows world lanes.items c.in_ok-table.ensures.are_lanes c.loop-block.block c.loop-block.ways.items c.loop-block.rows.items c.loop-block.invariant
     (let end = c.loop-block-test.false in let blocks = c.div_ceil-block-end.ensures in let count = c.len-count.ensures in let fits = lanes.ok.0 in omega (arith, end, blocks, count, fits))))

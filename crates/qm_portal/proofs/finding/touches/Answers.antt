@@ -11,7 +11,7 @@ cube_known c = root_known c.args.tree.now c.in_ok-cube.cube c.requires.points c.
 all : (c : After-deref) → IsDueCell c.args.tree.now (root_due c.args.tree.now c.in_ok-cube.cube) → AreContacts c.args.tree.now (record { touchings = c.in_ok-found.found.pairs.items; outside = c.deref.result.now })
 all c known =
     subst (λ (row : List Bool). AreContacts c.args.tree.now (record { touchings = c.in_ok-found.found.pairs.items; outside = row })) (sym c.deref.ensures.value)
-    (all_contacts c.args.tree.now c.in_ok-cube.cube (record { touchings = c.in_ok-found.found.pairs.items; outside = c.in_ok-found.found.outside.items })
+    (all_contacts c.args.tree.now c.in_ok-cube.cube (record { touchings = c.in_ok-found.found.pairs.items; outside = c.in_ok-found.found.outside.items }) c.requires.points
     (c.in_ok-found.ensures.touchings (root_due c.args.tree.now c.in_ok-cube.cube) refl known)
     (c.in_ok-found.ensures.outside (root_due c.args.tree.now c.in_ok-cube.cube) refl known))
 

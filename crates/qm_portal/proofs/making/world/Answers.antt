@@ -3,6 +3,9 @@ use Rattle.std.proofs.lemmas.List.Elements.{All-weaker}
 use Rattle.qm_partition.specs.Tree.{Tree}
 use Rattle.qm_partition.specs.declared.node.Leaf.{Leaf}
 use Rattle.qm_partition.specs.Counting.{leaves_of}
+use Rattle.qm_partition.specs.Ways.{HasPoints}
+use Rattle.qm_contacts.specs.Meeting.{meetings}
+use Rattle.qm_contacts.specs.Touching.{AreTouchings}
 use Rattle.qm_contacts.specs.NumberedLeaves.{numbered_from, numbered_leaves}
 use Rattle.qm_contacts.specs.Portals.{Portal, portals_of}
 use Rattle.qm_contacts.specs.inner.LeafNumbers.{AreNumbersOf}
@@ -36,6 +39,12 @@ of-requires-3 c =
     let leaves : c.all_leaves.result.now ≡ leaves_of c.in_ok-copy.field-0.shape = c.all_leaves.ensures ∙ ap (λ (t : Tree). leaves_of t.shape) (sym c.in_ok-copy.ensures) in
     let leaving : AreLeavingInRows portals c.len.result c.in_ok-leaving.leaving.begins.items c.in_ok-leaving.leaving.places.items = rw c.deref-2.ensures.value at c.in_ok-leaving.ensures in
     record {
+      own = record {
+        have_points = subst HasPoints (sym c.in_ok-copy.ensures) c.requires.points;
+        touchings = touchings;
+        are_touchings = subst (λ (t : Tree). AreTouchings t.planes (meetings t) touchings) (sym c.in_ok-copy.ensures) c.requires.touching;
+        portals_are = sym portals_are ∙ ap (λ (t : Tree). portals_of t touchings) (sym c.in_ok-copy.ensures);
+      };
       numbers = subst (λ (found : List Leaf). AreNumbersOf found numbered.items c.in_ok-numbers.numbers.before.items) leaves c.in_ok-numbers.ensures;
       among = subst (λ (all : List Portal). All (IsAmong (length numbered.items)) all) portals_are (subst (λ (n : ℕ). All (IsAmong n) (portals_of tree touchings)) count (portals_among tree touchings c.requires.touching));
       leaving = subst (λ (n : ℕ). AreLeavingInRows portals n c.in_ok-leaving.leaving.begins.items c.in_ok-leaving.leaving.places.items) all leaving;

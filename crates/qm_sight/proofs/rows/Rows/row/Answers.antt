@@ -1,31 +1,28 @@
-use Rattle.std.proofs.Common.{◌≡◌, ◌<◌, Bool, List, length, get_or, sym, subst, ◌∙◌, ap, arith}
+use Rattle.std.proofs.Common.{◌≡◌, ◌<◌, length, get_or, sym, subst, ◌∙◌, ap, arith}
 use Rattle.qm_sight.specs.RowsOfWorld.{RowsOfWorld, AreRowsOfWorld}
 use Rattle.qm_sight.proofs.RowsRead.{row_there, row_is, row_wide, row_sound}
 use Rattle.qm_sight.proofs.rows.Rows.row.Goals as goal
+use Rattle.qm_sight.proofs.rows.Rows.row.Goals.{After-self, After-index}
 
-are : (c : goal.After-as_slice) → AreRowsOfWorld c.args.self.now.world c.args.self.now.rows
+are : (c : After-self) → AreRowsOfWorld c.args.self.now.world c.args.self.now.rows
 are c = subst (λ (r : RowsOfWorld). AreRowsOfWorld r.world r.rows) c.self.view_is c.self.invariant
 
-listed : (c : goal.After-as_slice) → c.as_slice.result.now ≡ c.args.self.now.rows
-listed c = c.as_slice.ensures ∙ ap (λ (r : RowsOfWorld). r.rows) c.self.view_is
+read : (c : After-index) → c.index.result.now ≡ get_or c.args.self.now.rows c.args.portal c.index.result.now
+read c = c.index.ensures ∙ ap (λ (r : RowsOfWorld). get_or r.rows c.args.portal c.index.result.now) c.self.view_is
 
-pub bounds-as_slice-portal : goal.bounds-as_slice-portal
-bounds-as_slice-portal c = subst (λ (rows : List (List Bool)). c.args.portal < length rows) (sym (listed c)) (row_there c.args.self.now.world c.args.self.now.rows (are c) c.args.portal c.requires)
-
-pub offset_bounds-as_slice-portal : goal.offset_bounds-as_slice-portal
-offset_bounds-as_slice-portal c = let b = bounds-as_slice-portal c in let t = c.as_slice.type_inv.1 in record { fits = omega arith }
+pub index-requires : goal.index-requires
+index-requires c =
+    let there =
+    subst (λ (r : RowsOfWorld). c.args.portal < length r.rows) (sym c.self.view_is)
+    (row_there c.args.self.now.world c.args.self.now.rows (are (goal.at.index-requires c).After-self) c.args.portal c.requires) in
+    let fits = c.self.inside.rows.ok.0 in
+    omega (arith, there, fits)
 
 pub returns-clause-value : goal.returns-clause-value
-returns-clause-value c =
-    row_is c.args.self.now.world c.args.self.now.rows (subst (λ (r : RowsOfWorld). AreRowsOfWorld r.world r.rows) c.self.view_is c.self.invariant) c.args.portal c.requires c.index-as_slice-portal.result
-    (c.index-as_slice-portal.is ∙ ap (λ (rows : List (List Bool)). get_or rows c.args.portal c.index-as_slice-portal.result) (c.as_slice.ensures ∙ ap (λ (r : RowsOfWorld). r.rows) c.self.view_is))
+returns-clause-value c = row_is c.args.self.now.world c.args.self.now.rows (are (goal.at.returns-clause-value c).After-self) c.args.portal c.requires c.index.result.now (read (goal.at.returns-clause-value c).After-index)
 
 pub returns-clause-wide : goal.returns-clause-wide
-returns-clause-wide c =
-    row_wide c.args.self.now.world c.args.self.now.rows (subst (λ (r : RowsOfWorld). AreRowsOfWorld r.world r.rows) c.self.view_is c.self.invariant) c.args.portal c.requires c.index-as_slice-portal.result
-    (c.index-as_slice-portal.is ∙ ap (λ (rows : List (List Bool)). get_or rows c.args.portal c.index-as_slice-portal.result) (c.as_slice.ensures ∙ ap (λ (r : RowsOfWorld). r.rows) c.self.view_is))
+returns-clause-wide c = row_wide c.args.self.now.world c.args.self.now.rows (are (goal.at.returns-clause-wide c).After-self) c.args.portal c.requires c.index.result.now (read (goal.at.returns-clause-wide c).After-index)
 
 pub returns-clause-sound : goal.returns-clause-sound
-returns-clause-sound c =
-    row_sound c.args.self.now.world c.args.self.now.rows (subst (λ (r : RowsOfWorld). AreRowsOfWorld r.world r.rows) c.self.view_is c.self.invariant) c.args.portal c.requires c.index-as_slice-portal.result
-    (c.index-as_slice-portal.is ∙ ap (λ (rows : List (List Bool)). get_or rows c.args.portal c.index-as_slice-portal.result) (c.as_slice.ensures ∙ ap (λ (r : RowsOfWorld). r.rows) c.self.view_is))
+returns-clause-sound c = row_sound c.args.self.now.world c.args.self.now.rows (are (goal.at.returns-clause-sound c).After-self) c.args.portal c.requires c.index.result.now (read (goal.at.returns-clause-sound c).After-index)
