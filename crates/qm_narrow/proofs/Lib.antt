@@ -3,3 +3,4 @@ pub mod Traces
 pub mod Coordinates
 pub mod Outlooks
 pub mod KeptNormals
+pub mod LookSamples
