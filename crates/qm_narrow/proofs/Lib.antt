@@ -4,3 +4,4 @@ pub mod Coordinates
 pub mod Outlooks
 pub mod KeptNormals
 pub mod LookSamples
+pub mod WholeCorners

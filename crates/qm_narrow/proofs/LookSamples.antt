@@ -1,10 +1,10 @@
 -- Worked rows: two doorways one behind the other, and a normal that the look refuses to one side and not to the other, for
 -- which they have a separator.
-use Rattle.std.proofs.Common.{◌≡◌, ℤ, pos, neg_ℤ, ◌<ℤ◌, true, false, List, [], ◌∷◌, refl, sym, arith, inl, inr}
+use Rattle.std.proofs.Common.{◌≡◌, ℤ, pos, neg_ℤ, true, false, [], ◌∷◌, refl, sym, arith, inl, inr}
 use Rattle.std.proofs.lemmas.Int.{ints}
 use Rattle.std.proofs.lemmas.List.Elements.{All-from_recursion}
 use Rattle.qm_numbers.specs.Rounding.{IsRoundedDown, IsRoundedUp}
-use Rattle.qm_space.specs.Point.{Point, IsCoordinate, AreCoordinates}
+use Rattle.qm_space.specs.Point.{IsCoordinate, AreCoordinates}
 use Rattle.qm_space.specs.Meet.{meet}
 use Rattle.qm_space.specs.Determinant.{determinant}
 use Rattle.qm_space.specs.Cuboid.{least_product, greatest_product}
@@ -13,7 +13,6 @@ use Rattle.qm_separators.proofs.SeparatorLaw.{none_in_front}
 use Rattle.qm_separators.proofs.DoorwaySamples.{doorway, doorway_convex, spot, nearest_itself, left_right, left_right_row}
 use Rattle.qm_narrow.specs.declared.normal.Normal.{Normal}
 use Rattle.qm_narrow.specs.declared.reach.Reach.{Reach}
-use Rattle.qm_narrow.specs.declared.outlook.Outlook.{Outlook}
 use Rattle.qm_narrow.specs.declared.spot.Spot.{Spot}
 use Rattle.qm_narrow.specs.inner.Trace.{IsSpotOf}
 use Rattle.qm_narrow.specs.inner.Look.{least_along, greatest_along, IsReach, IsOutlook, PartsNowhere}
