@@ -53,7 +53,7 @@ product_ends Format map bytes Memory text made = absurd made
 
 -- where nothing keeps it from being done, it is done
 
-put_out_done : (options : Options) (map : MapFile) (its : Compiled) (bytes : List ℕ) (status : Status) (text : List ℕ) → CanBeDone (Compile options) map → IsCompiled map its → IsPutOut its bytes status text → IsDoneOrMemory status
+put_out_done : (options : Options) (map : MapFile) (its : Compiled) (bytes : List ℕ) (status : Status) (text : List ℕ) → CanBeDone (Compile options) map → IsCompiled map options its → IsPutOut its bytes status text → IsDoneOrMemory status
 unfolding IsCompiled
 put_out_done options map (compiled.Done file world summary) bytes Done text tight is put = tt
 put_out_done options map (compiled.Done file world summary) bytes Usage text tight is put = absurd put

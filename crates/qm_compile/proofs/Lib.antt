@@ -8,5 +8,6 @@ pub mod NumberedCounts
 pub mod Outcomes
 pub mod ReadMeanings
 pub mod Reported
+pub mod ShownLeaves
 pub mod Origins
 pub mod WrittenRows

@@ -8,6 +8,7 @@ use Rattle.qm_compile.specs.declared.command.Command.{Command}
 use Rattle.qm_compile.specs.declared.command.Command.TheVariants.{Compile, Format}
 use Rattle.qm_compile.specs.declared.compiled.Compiled.{Compiled}
 use Rattle.qm_compile.specs.declared.compiled.Compiled.TheVariants as compiled
+use Rattle.qm_compile.specs.declared.options.Options.{Options}
 use Rattle.qm_compile.specs.declared.status.Status.{Status}
 use Rattle.qm_compile.specs.declared.status.Status.TheVariants.{Done, Leak}
 use Rattle.qm_compile.specs.CompiledMap.{IsCompiled}
@@ -23,9 +24,9 @@ IsPutOut (compiled.Leak file entity trail) bytes Leak text = (bytes ≡ file_byt
 IsPutOut _ bytes _ text = ⊥
 
 -- what the map compiles to is put out
-pub record IsCompiledFile (map : MapFile) (bytes : List ℕ) (status : Status) (text : List ℕ) : Type 0 where
+pub record IsCompiledFile (options : Options) (map : MapFile) (bytes : List ℕ) (status : Status) (text : List ℕ) : Type 0 where
   pub compiled : Compiled
-  pub is_compiled : IsCompiled map compiled
+  pub is_compiled : IsCompiled map options compiled
   pub is_put_out : IsPutOut compiled bytes status text
 
 -- the canonical text of the map and its counts; the text means the map, where it is within the limit
@@ -36,6 +37,6 @@ pub record IsFormatted (map : MapFile) (file text : List ℕ) : Type 0 where
 
 -- the file that a command makes of a map, and what is due with it
 unfoldable pub IsProduct : Command → MapFile → List ℕ → Status → List ℕ → Type 0
-IsProduct (Compile options) map file status text = IsCompiledFile map file status text
+IsProduct (Compile options) map file status text = IsCompiledFile options map file status text
 IsProduct Format map file Done text = IsFormatted map file text
 IsProduct Format map file _ text = ⊥
