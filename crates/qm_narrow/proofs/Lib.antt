@@ -5,3 +5,4 @@ pub mod Outlooks
 pub mod KeptNormals
 pub mod LookSamples
 pub mod WholeCorners
+pub mod Nearness

@@ -6,6 +6,7 @@ mod candidates;
 mod chain_state;
 pub mod laws;
 mod narrowing;
+mod near;
 mod normal;
 mod outlook;
 mod passing;
