@@ -3,3 +3,5 @@ pub mod Traces
 pub mod Coordinates
 pub mod Outlooks
 pub mod KeptNormals
+pub mod LookSamples
+pub mod WholeCorners

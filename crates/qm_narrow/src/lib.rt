@@ -15,6 +15,7 @@ mod sides;
 mod spot;
 mod stepping;
 mod traced;
+mod whole;
 
 pub use chain_state::ChainState;
 pub use passing::may_pass;

@@ -7,6 +7,7 @@ ghost use Rattle.qm_space.specs.Cuboid.{least_product, greatest_product};
 ghost use Rattle.qm_geom.specs.Rounding.{HasSmallCoordinates};
 
 use crate::normal::Normal;
+use crate::whole::whole_corner;
 use qm_geom::Corner;
 
 /// The whole points near a corner: the nearest one, and the coordinates rounded down and up.
@@ -27,6 +28,13 @@ impl Spot {
         requires in_cube { IsInClosedCube corner.now }
         ensures { IsSpotOf corner.now result }
     {
+        if let Some(at) = whole_corner(corner) {
+            return Spot {
+                nearest: at,
+                below: at,
+                above: at,
+            };
+        }
         let (below, above) = corner.around();
         Spot {
             nearest: corner.rounded(),
