@@ -1,10 +1,10 @@
 #!/usr/bin/env bash
 # Times `qmapc compile` on each map of a folder: `bench/compile.sh FOLDER [PEER]`. It builds what it times, and prints for
 # each map the milliseconds of processor time at the best of seven runs: of each phase, by differences of
-# crates/compile_bench, of the way up to the tree, and of the whole command, with the peak of memory in megabytes. PEER is
-# another program that compiles with the words `compile MAP OUT --fast` and, where QM_TIMES is set, prints lines
-# `time PHASE N ms  peak K KiB` on standard error; beside it stand its phases up to `build`, its peak there, and the ratios,
-# and then its contacts with the flood, and their ratio.
+# crates/compile_bench, of the way up to the tree, and of the whole command with `--fast`, with its peak of memory in
+# megabytes. PEER is another program that compiles with the words `compile MAP OUT --fast` and, where QM_TIMES is set, prints
+# lines `time PHASE N ms  peak K KiB` on standard error; beside it stand its phases up to `build`, its peak there, and the
+# ratios, and then its contacts with the flood, and their ratio.
 set -euo pipefail
 cd "$(dirname "${BASH_SOURCE[0]}")/.."
 maps=$(cd "${1:?usage: bench/compile.sh FOLDER [PEER]}" && pwd)
@@ -86,7 +86,8 @@ for name in sorted(os.listdir(maps)):
     times = [measure(bench, phase, path) for phase in PHASES]
     phases = [now - before for before, now in zip([start, *times], times)]
     tree = times[PHASES.index("build")] - start
-    row = [*phases, tree, measure(program, "compile", path, out), peak(program, "compile", path, out)]
+    whole = [program, "compile", path, out, "--fast"]
+    row = [*phases, tree, measure(*whole), peak(*whole)]
     if peer:
         its, its_peak, its_contacts = measure_peer(path)
         row += [its, its_peak, tree / its, peak(bench, "build", path) / its_peak]

@@ -183,6 +183,6 @@ fn counts_what_rooms_give(rt: HostRuntime) -> Result<(), Fail> {
     let corner = world(rt.alloc(), "", &CORNER_ROOMS)?;
     assert!(rt; counts(&rt, &room, [6, 0, 12, 12, 13, 7, 12, 35], 593)?);
     assert!(rt; counts(&rt, &hole, [7, 0, 14, 14, 15, 8, 14, 42], 684)?);
-    assert!(rt; counts(&rt, &corner, [12, 0, 19, 22, 23, 11, 16, 59], 1003)?);
+    assert!(rt; counts(&rt, &corner, [12, 0, 19, 22, 23, 11, 16, 55], 1003)?);
     Ok(())
 }

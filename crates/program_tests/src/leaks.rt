@@ -200,6 +200,18 @@ static ROWS: [Row; 16] = [
     },
 ];
 
+/// The three rooms, of whose rows each is found in its turn.
+static FINE: Row = Row {
+    texture: "",
+    first: &[],
+    room: Room::Corner,
+    origins: &["-64 0 24"],
+    status: 0,
+    printed: "sealed\nbrushes 12\nflat 0\nplanes 19\nnodes 22\nleaves 23\nnumbered 5\nfilled 6\nportals 4\nseen 21\n",
+    length: 981,
+    rows: &[0x0F, 0x0F, 0x1F, 0x1F, 0x1C],
+};
+
 /// The text of a row.
 fn text_of(alloc: Global, row: &Row) -> Result<String, AllocError> {
     let mut first = String::new(alloc);
@@ -222,15 +234,15 @@ fn has_rows(file: &[u8], follow: bool, length: usize, rows: &[u8]) -> bool {
     file.len() == length && length > 40 && file[40] == u8::from(follow) && file.ends_with(rows)
 }
 
-/// Whether a text gives what a row says, with the option for coarse rows; where no entity leaks, rows follow.
+/// Whether a text gives what a row says by these words; where no entity leaks, rows follow.
 fn is_right<R: AllocGlobal + Threads + Sync>(
     rt: &R,
+    words: &[&str],
     text: &str,
     row: &Row,
 ) -> Result<bool, AllocError> {
     let mut outside = Outside::new(rt.alloc(), text.as_bytes())?;
-    let words = ["compile", "map", "--fast", "out"];
-    let says = outside.says(rt, &words, row.status, row.printed);
+    let says = outside.says(rt, words, row.status, row.printed);
     let follow = row.status == 0;
     let out = outside.shelf.get("out");
     Ok(says && out.is_some_and(|file| has_rows(file, follow, row.length, row.rows)))
@@ -239,11 +251,26 @@ fn is_right<R: AllocGlobal + Threads + Sync>(
 /// What leaks, what is filled and what is seen, and the room as an editor writes it.
 #[test]
 fn finds_leaks_and_fills(rt: HostRuntime) -> Result<(), Fail> {
-    let mut right = is_right(&rt, ROOM, &ROWS[0])?;
+    let fast = ["compile", "map", "--fast", "out"];
+    let mut right = is_right(&rt, &fast, ROOM, &ROWS[0])?;
     for row in &ROWS {
         let text = text_of(rt.alloc(), row)?;
-        right &= is_right(&rt, &text, row)?;
+        right &= is_right(&rt, &fast, &text, row)?;
     }
     assert!(rt; right);
+    Ok(())
+}
+
+/// Rows that are found in turns, and the same bytes once more.
+#[test]
+fn finds_rows_in_turns(rt: HostRuntime) -> Result<(), Fail> {
+    let words = ["compile", "map", "out"];
+    let text = text_of(rt.alloc(), &FINE)?;
+    let right = is_right(&rt, &words, &text, &FINE)?;
+    let mut one = Outside::new(rt.alloc(), text.as_bytes())?;
+    let mut other = Outside::new(rt.alloc(), text.as_bytes())?;
+    let both = one.says(&rt, &words, 0, FINE.printed) && other.says(&rt, &words, 0, FINE.printed);
+    let same = one.shelf.get("out") == other.shelf.get("out");
+    assert!(rt; right && both && same);
     Ok(())
 }

@@ -1,5 +1,5 @@
 -- What is built of the brushes of a map, with what is made of its tree, is what the map compiles to.
-use Rattle.std.proofs.Common.{◌≡◌, ℕ, Bool, true, false, List, [], replicate, length, sym, ap, ◌∙◌, subst, arith, ◌↔◌}
+use Rattle.std.proofs.Common.{◌≡◌, ℕ, Bool, true, false, List, [], replicate, length, refl, sym, ap, ◌∙◌, subst, arith, ◌↔◌}
 use Rattle.std.specs.Prelude.{None}
 use Rattle.std.specs.List.{All, AllZip}
 use Rattle.std.proofs.lemmas.List.{length-map}
@@ -33,6 +33,7 @@ use Rattle.qm_contacts.proofs.FloodedLeaves.{none_filled}
 use Rattle.qm_contacts.specs.Contacts.{Contacts, AreContacts}
 use Rattle.qm_contacts.specs.Portals.{portals_of, HasPassages}
 use Rattle.qm_contacts.specs.World.{World}
+use Rattle.qm_contacts.specs.OwnPortals.{HasOwnPortals}
 use Rattle.qm_contacts.proofs.MarkedTrees.{marked_contacts}
 use Rattle.qm_contacts.proofs.PassageCounts.{half_are_passages}
 use Rattle.qm_solids.specs.Contents.{HasContents}
@@ -40,17 +41,18 @@ use Rattle.qm_solids.specs.Flat.{HasFlat}
 use Rattle.qm_solids.specs.Holding.{Holds}
 use Rattle.qm_solids.proofs.ContentsLaws.{one_contents}
 use Rattle.qm_segments.specs.Ends.{HoldLinesOfSight}
-use Rattle.qm_segments.proofs.EndRows.{coarse_rows_hold_ends}
+use Rattle.qm_segments.proofs.EndRows.{sound_rows_hold_ends, coarse_rows_hold_ends}
 use Rattle.qm_segments.proofs.FilledRows.{filled_row_closed}
 use Rattle.qm_file.specs.declared.tree_file.TreeFile.{TreeFile}
 use Rattle.qm_compile.specs.declared.compiled.Compiled.{Compiled}
 use Rattle.qm_compile.specs.declared.compiled.Compiled.TheVariants.{Done, Leak}
+use Rattle.qm_compile.specs.declared.options.Options.{Options}
 use Rattle.qm_compile.specs.declared.summary.Summary.{Summary}
 use Rattle.qm_compile.specs.Built.{IsBuilt}
 use Rattle.qm_compile.specs.CompiledMap.{NoneLeaks, IsDone, IsCompiled}
 use Rattle.qm_compile.specs.Marked.{IsMarked}
 use Rattle.qm_compile.specs.Origins.{AreOriginsOf}
-use Rattle.qm_compile.specs.Rows.{IsWorldOf, AreRowsOverCoarse}
+use Rattle.qm_compile.specs.Rows.{AreRowsAsAsked}
 use Rattle.qm_compile.specs.Summary.{IsVerdict, IsSummary}
 use Rattle.qm_compile.specs.TreeOfMap.{IsTreeOfMap}
 use Rattle.qm_compile.specs.inner.Counted.{IsCounted}
@@ -86,7 +88,7 @@ module _ (map : MapFile) (book : List Plane) (list : List BookSolid) (alike : Al
     has_flat = same_flat (drawn_solids map) (solids_in book list) (flat_count list) alike (counted_flat book list filled.each);
   }
 
-module _ (map : MapFile) (tree : Tree) (brushes flat : ℕ) (counted : IsCounted map tree brushes flat) (origins : List Origin) (are_origins : AreOriginsOf map origins) where
+module _ (map : MapFile) (options : Options) (tree : Tree) (brushes flat : ℕ) (counted : IsCounted map tree brushes flat) (origins : List Origin) (are_origins : AreOriginsOf map origins) where
   is_built : IsBuilt map tree origins
   is_built = record {
     is_tree = counted.is_tree;
@@ -98,7 +100,7 @@ module _ (map : MapFile) (tree : Tree) (brushes flat : ℕ) (counted : IsCounted
   }
 
   -- an entity leaks
-  pub leaking_map : (file : TreeFile) (entity : ℕ) (trail : List ℕ) → file.tree ≡ tree → file.rows ≡ None → IsLeak tree origins entity trail → IsCompiled map (Leak file entity trail)
+  pub leaking_map : (file : TreeFile) (entity : ℕ) (trail : List ℕ) → file.tree ≡ tree → file.rows ≡ None → IsLeak tree origins entity trail → IsCompiled map options (Leak file entity trail)
   unfolding IsCompiled
   leaking_map file entity trail same no_rows leak = record {
     origins = origins;
@@ -135,6 +137,10 @@ module _ (map : MapFile) (tree : Tree) (brushes flat : ℕ) (counted : IsCounted
       are_contacts : AreContacts (marked_tree row tree) contacts
       are_contacts = marked_contacts row tree contacts are
 
+      -- the portals are the tree's own
+      own_portals : (world : World) → world ≡ record { tree = marked_tree row tree; portals = portals_of (marked_tree row tree) contacts.touchings } → HasOwnPortals world
+      own_portals world is = subst HasOwnPortals (sym is) (record { have_points = are_contacts.points; touchings = contacts.touchings; are_touchings = are_contacts.touching; portals_are = refl })
+
       is_summary : (world : World) (rows : List (List Bool)) (summary : Summary) → world ≡ record { tree = marked_tree row tree; portals = portals_of (marked_tree row tree) contacts.touchings } → IsCount sealed brushes flat world rows summary → IsSummary map tree origins world.tree rows summary
       is_summary world rows summary is count =
           let same : world.tree ≡ marked_tree row tree = ap (λ (w : World). w.tree) is in
@@ -152,15 +158,24 @@ module _ (map : MapFile) (tree : Tree) (brushes flat : ℕ) (counted : IsCounted
             seen = count.seen_is;
           }
 
-      -- the rows hold both ends of each line of sight
-      hold_sight : (world : World) (rows : List (List Bool)) → world ≡ record { tree = marked_tree row tree; portals = portals_of (marked_tree row tree) contacts.touchings } → AreRowsOverCoarse world rows → HoldLinesOfSight (HasContents (drawn_solids map)) (marked_tree row tree) rows
-      hold_sight world rows is are_rows =
-          let made = subst (λ (w : World). AreRowsOverCoarse w rows) is are_rows in
+      -- the rows hold both ends of each line of sight, whether they are coarse or found in turns
+      abbrev marked_world : World
+      marked_world = record { tree = marked_tree row tree; portals = portals_of (marked_tree row tree) contacts.touchings }
+
+      rows_hold : (fast : Bool) (rows : List (List Bool)) → AreRowsAsAsked fast marked_world rows → HoldLinesOfSight (HasContents (drawn_solids map)) (marked_tree row tree) rows
+      rows_hold true rows made =
           coarse_rows_hold_ends row tree counted.points (filled_row_closed tree origins row are_filled) (HasContents (drawn_solids map)) counted.is_true.gives
           (λ x c d has also. one_contents (λ solid. Holds solid x) (drawn_solids map) c d has also)
           contacts.touchings are.touching made.portal_rows rows made.are_coarse made.are_leaf_rows
+      rows_hold false rows made =
+          sound_rows_hold_ends row tree counted.points (filled_row_closed tree origins row are_filled) (HasContents (drawn_solids map)) counted.is_true.gives
+          (λ x c d has also. one_contents (λ solid. Holds solid x) (drawn_solids map) c d has also)
+          contacts.touchings are.touching made.portal_rows rows made.are_sound made.are_leaf_rows
 
-      done_map : (file : TreeFile) (world : World) (summary : Summary) → IsFilledFile sealed tree brushes flat row contacts file world summary → IsDone map file world summary
+      hold_sight : (world : World) (rows : List (List Bool)) → world ≡ marked_world → AreRowsAsAsked options.fast world rows → HoldLinesOfSight (HasContents (drawn_solids map)) (marked_tree row tree) rows
+      hold_sight world rows is are_rows = rows_hold options.fast rows (subst (λ (w : World). AreRowsAsAsked options.fast w rows) is are_rows)
+
+      done_map : (file : TreeFile) (world : World) (summary : Summary) → IsFilledFile options.fast sealed tree brushes flat row contacts file world summary → IsDone map options file world summary
       done_map file world summary made =
           let same : file.tree ≡ world.tree = made.is_tree ∙ sym (ap (λ (w : World). w.tree) made.is_world) in
           record {
@@ -171,7 +186,7 @@ module _ (map : MapFile) (tree : Tree) (brushes flat : ℕ) (counted : IsCounted
             is_marked = is_marked file.tree made.is_tree;
             is_true = subst (λ (t : Tree). GivesContentsOrIsFilled t (drawn_solids map)) (sym made.is_tree) (marked_gives row tree (drawn_solids map) counted.is_true);
             apart = λ origin listed takes_part k fill chain. filled_apart tree origins origin k fill listed takes_part chain;
-            is_world = subst (λ (t : Tree). IsWorldOf t world) (sym made.is_tree) (record { touchings = contacts.touchings; are_touchings = are_contacts.touching; is = made.is_world });
+            is_world = record { is_tree = sym same; own_portals = own_portals world made.is_world };
             rows = made.rows;
             has_rows = made.has_rows;
             are_rows = made.are_rows;
@@ -179,16 +194,16 @@ module _ (map : MapFile) (tree : Tree) (brushes flat : ℕ) (counted : IsCounted
             is_summary = subst (λ (t : Tree). IsSummary map tree origins t made.rows summary) (sym same) (is_summary world made.rows summary made.is_world made.is_count);
           }
 
-      finished_map : (compiled : Compiled) → IsFinished sealed tree brushes flat row contacts compiled → IsCompiled map compiled
+      finished_map : (compiled : Compiled) → IsFinished options.fast sealed tree brushes flat row contacts compiled → IsCompiled map options compiled
       unfolding IsFinished IsCompiled
       finished_map (Done file world summary) made = done_map file world summary made
       finished_map (Leak file entity trail) made = absurd made
 
   -- it is sealed
-  pub sealed_map : (row : List Bool) (contacts : Contacts) (compiled : Compiled) → IsSealed tree origins → IsFilledRow tree origins row → AreContacts tree contacts → IsFinished true tree brushes flat row contacts compiled → IsCompiled map compiled
+  pub sealed_map : (row : List Bool) (contacts : Contacts) (compiled : Compiled) → IsSealed tree origins → IsFilledRow tree origins row → AreContacts tree contacts → IsFinished options.fast true tree brushes flat row contacts compiled → IsCompiled map options compiled
   sealed_map row contacts compiled is_sealed are_filled are made = finished_map row are_filled is_sealed.tight true is_sealed contacts are compiled made
 
   -- or no entity takes part
-  pub empty_map : (count : ℕ) (contacts : Contacts) (compiled : Compiled) → count ≡ leaf_count tree.shape → NoneTakesPart tree origins → AreContacts tree contacts → IsFinished false tree brushes flat (replicate count false) contacts compiled → IsCompiled map compiled
+  pub empty_map : (count : ℕ) (contacts : Contacts) (compiled : Compiled) → count ≡ leaf_count tree.shape → NoneTakesPart tree origins → AreContacts tree contacts → IsFinished options.fast false tree brushes flat (replicate count false) contacts compiled → IsCompiled map options compiled
   empty_map count contacts compiled is none are made =
       finished_map (replicate count false) (none_filled tree origins count is none) (λ origin listed leaks. none origin listed leaks.takes_part) false none contacts are compiled made

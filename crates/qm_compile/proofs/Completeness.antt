@@ -39,7 +39,7 @@ product_ends Format listed map output made = subst (λ (s : Status). CanEnd s Fo
 
 -- where nothing keeps it from being done, it is done
 
-put_out_done : (options : Options) (listed : Bool) (map : MapFile) (its : Compiled) (output : Output) → CanBeDone (Compile options) map → IsCompiled map its → IsPutOut listed its output → IsDoneOrMemory output.status
+put_out_done : (options : Options) (listed : Bool) (map : MapFile) (its : Compiled) (output : Output) → CanBeDone (Compile options) map → IsCompiled map options its → IsPutOut listed its output → IsDoneOrMemory output.status
 unfolding IsCompiled
 put_out_done options listed map (compiled.Done file world summary) output tight is put = subst IsDoneOrMemory (sym put.is_status) tt
 put_out_done options listed map (compiled.Leak file entity trail) output tight is put =

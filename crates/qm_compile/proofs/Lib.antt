@@ -10,5 +10,6 @@ pub mod ReadMeanings
 pub mod Reported
 pub mod Requests
 pub mod Writings
+pub mod ShownLeaves
 pub mod Origins
 pub mod WrittenRows

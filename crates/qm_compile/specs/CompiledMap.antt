@@ -10,10 +10,11 @@ use Rattle.qm_segments.specs.Ends.{HoldLinesOfSight}
 use Rattle.qm_file.specs.declared.tree_file.TreeFile.{TreeFile}
 use Rattle.qm_compile.specs.declared.compiled.Compiled.{Compiled}
 use Rattle.qm_compile.specs.declared.compiled.Compiled.TheVariants.{Done, Leak}
+use Rattle.qm_compile.specs.declared.options.Options.{Options}
 use Rattle.qm_compile.specs.declared.summary.Summary.{Summary}
 use Rattle.qm_compile.specs.Built.{IsBuilt}
 use Rattle.qm_compile.specs.Marked.{IsMarked, IsApartFromFilled}
-use Rattle.qm_compile.specs.Rows.{IsWorldOf, AreRowsOverCoarse}
+use Rattle.qm_compile.specs.Rows.{IsWorldOf, AreRowsAsAsked}
 use Rattle.qm_compile.specs.Summary.{IsSummary}
 
 -- What a map compiles to.
@@ -24,9 +25,10 @@ NoneLeaks tree origins = (origin : Origin) → Contains origins origin → Leaks
 
 -- no entity leaks. The tree is the map's with the leaves filled that are to be filled. It gives each point the contents
 -- that the map's drawn solids define there, but in filled leaves; and no chain of portals leads from one of these to an
--- entity. Each of its numbered leaves has a row, and the rows hold both ends of each line of sight: of each segment on which
--- the map's drawn solids define one contents that is not solid, and that begins in a leaf that is not filled.
-pub record IsDone (map : MapFile) (file : TreeFile) (world : World) (summary : Summary) : Type 0 where
+-- entity. Each of its numbered leaves has a row, coarse or found in turns as the options ask, and the rows hold both ends of
+-- each line of sight: of each segment on which the map's drawn solids define one contents that is not solid, and that begins
+-- in a leaf that is not filled.
+pub record IsDone (map : MapFile) (options : Options) (file : TreeFile) (world : World) (summary : Summary) : Type 0 where
   pub tree : Tree
   pub origins : List Origin
   pub is_built : IsBuilt map tree origins
@@ -37,7 +39,7 @@ pub record IsDone (map : MapFile) (file : TreeFile) (world : World) (summary : S
   pub is_world : IsWorldOf file.tree world
   pub rows : List (List Bool)
   pub has_rows : file.rows ≡ Some rows
-  pub are_rows : AreRowsOverCoarse world rows
+  pub are_rows : AreRowsAsAsked options.fast world rows
   pub hold_sight : HoldLinesOfSight (HasContents (drawn_solids map)) file.tree rows
   pub is_summary : IsSummary map tree origins file.tree rows summary
 
@@ -48,6 +50,6 @@ pub record IsLeaking (map : MapFile) (file : TreeFile) (entity : ℕ) (trail : L
   pub is_leak : IsLeak file.tree origins entity trail
   pub has_no_rows : file.rows ≡ None
 
-unfoldable pub IsCompiled : MapFile → Compiled → Type 0
-IsCompiled map (Done file world summary) = IsDone map file world summary
-IsCompiled map (Leak file entity trail) = IsLeaking map file entity trail
+unfoldable pub IsCompiled : MapFile → Options → Compiled → Type 0
+IsCompiled map options (Done file world summary) = IsDone map options file world summary
+IsCompiled map options (Leak file entity trail) = IsLeaking map file entity trail

@@ -56,7 +56,7 @@ IsPutOut listed (compiled.Leak file entity trail) output = IsLeakOutput file ent
 -- what the map compiles to is put out
 pub record IsCompiledFile (options : Options) (listed : Bool) (map : MapFile) (output : Output) : Type 0 where
   pub compiled : Compiled
-  pub is_compiled : IsCompiled map compiled
+  pub is_compiled : IsCompiled map options compiled
   pub is_put_out : IsPutOut listed compiled output
 
 -- the canonical text of the map and its counts; the text means the map, where it is within the limit

@@ -161,7 +161,7 @@ module _ (n : Normal) (h : Plane) (k : ℤ) (multiple : direction_of n ≡ point
     none_ahead : pos 0 <ℤ k → PartsNowhere s p n → ⊥
     none_ahead positive nowhere = nowhere (k *ℤ h.d) (λ i l. stays_not_in_front positive (corner_at s i) (source i l)) (λ i l. stays_not_behind positive (corner_at p i) (pass i l))
 
-    none_back : k <ℤ pos 0 → PartsNowhere p s n → ⊥
+    pub none_back : k <ℤ pos 0 → PartsNowhere p s n → ⊥
     none_back negative nowhere = nowhere (k *ℤ h.d) (λ i l. turns_not_in_front negative (corner_at p i) (pass i l)) (λ i l. turns_not_behind negative (corner_at s i) (source i l))
 
 -- ---- what is not gained

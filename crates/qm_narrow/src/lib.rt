@@ -6,6 +6,7 @@ mod candidates;
 mod chain_state;
 pub mod laws;
 mod narrowing;
+mod near;
 mod normal;
 mod outlook;
 mod passing;
@@ -15,6 +16,7 @@ mod sides;
 mod spot;
 mod stepping;
 mod traced;
+mod whole;
 
 pub use chain_state::ChainState;
 pub use passing::may_pass;

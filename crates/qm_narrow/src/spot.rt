@@ -5,8 +5,11 @@ ghost use Rattle.qm_space.specs.Cube.{IsInClosedCube};
 ghost use Rattle.qm_space.specs.Point.{IsCoordinate, AreCoordinates};
 ghost use Rattle.qm_space.specs.Cuboid.{least_product, greatest_product};
 ghost use Rattle.qm_geom.specs.Rounding.{HasSmallCoordinates};
+ghost use Rattle.qm_narrow.specs.inner.Trace.{IsSpotOf};
 
+use crate::near::Near;
 use crate::normal::Normal;
+use crate::whole::whole_corner;
 use qm_geom::Corner;
 
 /// The whole points near a corner: the nearest one, and the coordinates rounded down and up.
@@ -27,12 +30,14 @@ impl Spot {
         requires in_cube { IsInClosedCube corner.now }
         ensures { IsSpotOf corner.now result }
     {
-        let (below, above) = corner.around();
-        Spot {
-            nearest: corner.rounded(),
-            below,
-            above,
+        if let Some(at) = whole_corner(corner) {
+            return Spot {
+                nearest: at,
+                below: at,
+                above: at,
+            };
         }
+        divided(corner)
     }
 
     /// The least that a normal has along a point between those below and above.
@@ -65,6 +70,25 @@ impl Spot {
             z: least_product(normal.z, self.above[2], self.below[2]),
         };
         products.sum()
+    }
+}
+
+/// Those of a corner, by a division for each coordinate.
+fn divided(corner: &Corner) -> Spot
+    requires small { HasSmallCoordinates corner.now }
+    requires in_cube { IsInClosedCube corner.now }
+    ensures { IsSpotOf corner.now result }
+{
+    let (x, weight) = corner.fraction(0);
+    let (y, _) = corner.fraction(1);
+    let (z, _) = corner.fraction(2);
+    let near_x = Near::of(x, weight);
+    let near_y = Near::of(y, weight);
+    let near_z = Near::of(z, weight);
+    Spot {
+        nearest: [near_x.nearest, near_y.nearest, near_z.nearest],
+        below: [near_x.below, near_y.below, near_z.below],
+        above: [near_x.above, near_y.above, near_z.above],
     }
 }
 

@@ -1,8 +1,9 @@
-//! The rows of a cube, a room, and three rooms round a corner.
+//! The rows of a cube, a room, and three rooms round a corner, over coarse rows of portals and over those found in turns.
 
 use crate::worlds::{BoxRow, text, world_of};
 use qm_base::base;
 use qm_bits::BitRow;
+use qm_flow::refine;
 use qm_geom::Point;
 use qm_rows::{leaf_rows, seen};
 use std::alloc::{AllocError, Global};
@@ -16,6 +17,8 @@ struct Sample {
     /// The row of each leaf, its first place in the lowest bit.
     rows: &'static [u64],
     seen: u64,
+    /// The rows over those that are found in turns.
+    fine: &'static [u64],
 }
 
 const CUBE: BoxRow = ([0, 0, 0], [64, 64, 64]);
@@ -53,6 +56,7 @@ static SAMPLES: [Sample; 5] = [
         portals: 0,
         rows: &[1],
         seen: 1,
+        fine: &[1],
     },
     Sample {
         boxes: &[CUBE],
@@ -60,6 +64,7 @@ static SAMPLES: [Sample; 5] = [
         portals: 24,
         rows: &[0x3F, 0x3F, 0x37, 0x3B, 0x3F, 0x3F],
         seen: 34,
+        fine: &[0x3F, 0x3F, 0x37, 0x3B, 0x3F, 0x3F],
     },
     Sample {
         boxes: &ROOM,
@@ -67,6 +72,7 @@ static SAMPLES: [Sample; 5] = [
         portals: 0,
         rows: &[1],
         seen: 1,
+        fine: &[1],
     },
     Sample {
         boxes: &ROOM,
@@ -74,6 +80,7 @@ static SAMPLES: [Sample; 5] = [
         portals: 24,
         rows: &[0x7F & !8, 0x77, 0x67, 8, 0x73, 0x77, 0x77],
         seen: 35,
+        fine: &[0x7F & !8, 0x77, 0x67, 8, 0x73, 0x77, 0x77],
     },
     Sample {
         boxes: &CORNER_ROOMS,
@@ -81,6 +88,7 @@ static SAMPLES: [Sample; 5] = [
         portals: 8,
         rows: &[0x1F, 0x1F, 0x1F, 0x1F, 0x1F],
         seen: 25,
+        fine: &[0x0F, 0x0F, 0x1F, 0x1F, 0x1C],
     },
 ];
 
@@ -103,11 +111,12 @@ fn holds(alloc: Global, sample: &Sample) -> Result<bool, AllocError> {
     let world = world_of(alloc, text.as_str(), Point { x, y, z, w: 1 })?;
     let coarse = base(alloc, &world)?;
     let rows = leaf_rows(alloc, &world, coarse.as_slice())?;
-    Ok(
-        coarse.len() == sample.portals
-            && are_rows(rows.as_slice(), sample.rows)
-            && seen(rows.as_slice()) == sample.seen,
-    )
+    let right = coarse.len() == sample.portals
+        && are_rows(rows.as_slice(), sample.rows)
+        && seen(rows.as_slice()) == sample.seen;
+    let found = refine(alloc, &world, coarse)?;
+    let fine = leaf_rows(alloc, &world, found.as_slice())?;
+    Ok(right && are_rows(fine.as_slice(), sample.fine))
 }
 
 #[test]
