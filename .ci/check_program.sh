@@ -18,7 +18,9 @@ prints_the_usage_line() {
     local words
     for words in '' 'compil room.map none' 'compile room.map' 'format room.map none more' 'format none none' \
         'format -room.map none' 'format room.map -none' 'format --fast room.map none' \
-        'compile room.map none --fast --fast' '--help'; do
+        'compile room.map none --fast --fast' 'compile room.map none --prt' 'compile room.map none --prt=' \
+        'compile room.map none --prt -x' 'compile room.map --prt --fast none' 'compile --prt room.map room.map none' \
+        'compile room.map none --prt=none' 'format room.map none --prt list' '--help'; do
         # shellcheck disable=SC2086  # the words of a command
         run_program $words
         [[ $status == 2 && ! -s $folder/said && ! -e $folder/none ]] || return 1
@@ -130,6 +132,25 @@ compiles_a_room() {
     echo '{ } { "origin" "0 0 0" }' >"$folder/open.map"
     run_program compile open.map open.tree
     ended 3 'leak: entity 1\ntrail: 0\n' && has_bytes open.tree 46 && cmp -n 40 "$folder/bare.tree" "$folder/open.tree"
+}
+
+lists_the_portals_of_the_cube() {
+    local words
+    for words in '--prt cube.prt cube.map listed.tree' 'cube.map listed.tree --fast --prt=cube.prt'; do
+        rm -f "$folder/cube.prt" "$folder/listed.tree"
+        # shellcheck disable=SC2086  # the words of a command
+        run_program compile $words
+        [[ $status == 0 ]] && has_bytes listed.tree 322 && has_bytes cube.prt 718 || return 1
+        [[ $(head -n 4 "$folder/cube.prt") == $'PRT1\n6\n12\n4 1 5 (0 64 -4096 ) (0 64 4096 ) (0 4096 4096 ) (0 4096 -4096 ) ' ]] || return 1
+    done
+    # the tree is whole where its listing is not written
+    rm -f "$folder/listed.tree"
+    run_program compile cube.map listed.tree --prt=/dev/full
+    ended 6 'write fault\n' && has_bytes listed.tree 322 || return 1
+    # nothing is listed of a leak
+    echo '{ } { "origin" "0 0 0" }' >"$folder/open.map"
+    run_program compile open.map open.tree --prt none
+    ended 3 'leak: entity 1\ntrail: 0\n' && has_bytes open.tree 46
 }
 
 formats_a_room_once_and_again() {

@@ -13,13 +13,11 @@ keeps_definitions_and_proofs_alone() {
     ! git ls-files 'crates/*/specs/*' 'crates/*/proofs/*' | grep -v '\.antt$'
 }
 
-# at most seven in a crate, and eight in the crate of `run`
+# at most seven in a crate
 has_few_edits() {
-    local crate count most few=true
+    local crate count most=7 few=true
     for crate in crates/*/; do
         count=$(git ls-files "$crate/must-fail/*.edit" | wc -l)
-        most=7
-        [[ $crate != crates/qm_compile/ ]] || most=8
         if ((count > most)); then
             echo "$crate has $count must-fail edits, and $most are allowed"
             few=false

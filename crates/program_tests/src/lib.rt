@@ -13,6 +13,8 @@ mod cube;
 #[cfg(test)]
 mod cube_file;
 #[cfg(test)]
+mod cube_listing;
+#[cfg(test)]
 mod devices;
 #[cfg(test)]
 mod empty_file;
@@ -22,6 +24,8 @@ mod folder;
 mod formatted;
 #[cfg(test)]
 mod leaks;
+#[cfg(test)]
+mod listings;
 #[cfg(test)]
 mod map_faults;
 #[cfg(test)]

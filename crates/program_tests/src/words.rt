@@ -1,12 +1,13 @@
 use super::cube::{END, FIRST, OTHERS, joined};
 use super::cube_file::CUBE_FILE;
+use super::cube_listing::CUBE_LISTING;
 use super::outside::Outside;
 use super::printed::{SUMMARY, USAGE};
 use std::alloc::AllocError;
 use std::test::Fail;
 use std::thread::Threads;
 
-static OTHER_WORDS: [&[&str]; 26] = [
+static OTHER_WORDS: [&[&str]; 43] = [
     &[],
     &["compile"],
     &["compile", "map"],
@@ -33,13 +34,31 @@ static OTHER_WORDS: [&[&str]; 26] = [
     &["compile", "map", "out", "--Fast"],
     &["compile", "map", "out", "--fast=1"],
     &["format", "map", "out", "--fast"],
+    &["compile", "map", "out", "--prt"],
+    &["compile", "--prt", "map", "out"],
+    &["compile", "map", "out", "--prt="],
+    &["compile", "map", "out", "--prt", ""],
+    &["compile", "map", "out", "--prt", "-x"],
+    &["compile", "map", "out", "--prt", "--fast"],
+    &["compile", "map", "out", "--prt", "--prt=list"],
+    &["compile", "map", "out", "--prt", "list", "--prt", "list"],
+    &["compile", "--prt=list", "map", "out", "--prt=other"],
+    &["compile", "map", "--prt", "list", "--prt=other", "out"],
+    &["compile", "map", "out", "--prt", "map"],
+    &["compile", "map", "out", "--prt=out"],
+    &["compile", "map", "out", "--prt", "list", "more"],
+    &["compile", "map", "out", "--prtlist"],
+    &["format", "map", "out", "--prt", "list"],
+    &["format", "map", "--prt=list", "out"],
+    &["--prt", "list", "compile", "map", "out"],
 ];
 
 /// Whether these words are answered with the usage line, and nothing changes.
 fn is_usage<R: AllocGlobal + Threads + Sync>(rt: &R, words: &[&str]) -> Result<bool, AllocError> {
     let text = b"{ }".as_slice();
     let mut outside = Outside::new(rt.alloc(), text)?;
-    Ok(outside.says(rt, words, 2, USAGE) && outside.holds(None, text, [0, 0, 0]))
+    let says = outside.says(rt, words, 2, USAGE);
+    Ok(says && outside.holds(None, text, [0, 0, 0]) && outside.shelf.get("list").is_none())
 }
 
 #[test]
@@ -75,6 +94,45 @@ fn takes_the_option_in_any_place(rt: HostRuntime) -> Result<(), Fail> {
     let mut right = true;
     for words in &FAST_WORDS {
         right &= compiles_the_cube(&rt, words)?;
+    }
+    assert!(rt; right);
+    Ok(())
+}
+
+/// Words that ask for a listing, and its name.
+static LISTING_WORDS: [(&[&str], &str); 9] = [
+    (&["compile", "--prt", "list", "map", "out"], "list"),
+    (&["compile", "map", "--prt", "list", "out"], "list"),
+    (&["compile", "map", "out", "--prt", "list"], "list"),
+    (&["compile", "map", "--prt=list", "out"], "list"),
+    (&["compile", "map", "out", "--prt=-x"], "-x"),
+    (&["compile", "map", "out", "--prt=--fast"], "--fast"),
+    (
+        &["compile", "--fast", "map", "--prt", "list", "out"],
+        "list",
+    ),
+    (&["compile", "--prt=list", "--fast", "map", "out"], "list"),
+    (&["compile", "map", "out", "--prt==", "--fast"], "="),
+];
+
+/// Whether these words compile the cube, and list its portals under this name.
+fn lists_the_cube<R: AllocGlobal + Threads + Sync>(
+    rt: &R,
+    words: &[&str],
+    name: &str,
+) -> Result<bool, AllocError> {
+    let text = joined(rt.alloc(), [FIRST, OTHERS, END])?;
+    let mut outside = Outside::new(rt.alloc(), &text)?;
+    let says = outside.says(rt, words, 0, SUMMARY);
+    let listed = outside.shelf.get(name) == Some(CUBE_LISTING.as_bytes());
+    Ok(says && outside.holds(Some(&CUBE_FILE), &text, [0, 0, 0]) && listed)
+}
+
+#[test]
+fn takes_a_listing_in_any_place(rt: HostRuntime) -> Result<(), Fail> {
+    let mut right = true;
+    for &(words, name) in &LISTING_WORDS {
+        right &= lists_the_cube(&rt, words, name)?;
     }
     assert!(rt; right);
     Ok(())

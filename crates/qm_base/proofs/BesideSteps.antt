@@ -1,15 +1,18 @@
 -- Rows of the lanes with corners on one side of a plane, lane by lane.
-use Rattle.std.proofs.Common.{◌≡◌, ℕ, ◌+◌, ◌<◌, ◌≤◌, Bool, true, false, List, length, get_or, set, replicate, Some, slice_get, inl, inr, ⊎_elim, refl, sym, ap, ◌∙◌, subst, arith, ◌↔◌}
+use Rattle.std.proofs.Common.{◌≡◌, ℕ, ◌+◌, ◌<◌, ◌≤◌, Bool, true, false, List, [], ◌∷◌, ◌++◌, length, get_or, set, replicate, Some, None, slice_get, ◌⊎◌, inl, inr, ⊎_elim, refl, sym, ap, ◌∙◌, subst, arith, ◌↔◌}
+use Rattle.std.specs.List.{All}
 use Rattle.std.proofs.lemmas.Bool.{cases_eq, cases_lt}
-use Rattle.std.proofs.lemmas.List.{length-set, length-replicate, get_or-set_same, get_or-set_other, get_or_past, get_or-replicate}
-use Rattle.std.proofs.lemmas.Option.{slice_get_within}
+use Rattle.std.proofs.lemmas.List.{length-append, length-set, length-replicate, get_or-set_same, get_or-set_other, get_or_past, get_or-replicate}
+use Rattle.std.proofs.lemmas.List.Elements.{All-nil, All-push, All-from_get_or}
+use Rattle.std.proofs.lemmas.Option.{slice_get_within, slice_get_cases}
 use Rattle.qm_lists.specs.WorkList.{IsIn}
 use Rattle.qm_space.specs.Plane.{Plane}
+use Rattle.qm_convex.specs.Winding.{Winding}
 use Rattle.qm_convex.specs.Sides.{HasCornerInFront, HasCornerBehind}
 use Rattle.qm_contacts.specs.Portals.{Portal}
 use Rattle.qm_base.specs.declared.lane.Lane.{Lane}
 use Rattle.qm_base.specs.declared.beside.Beside.{Beside}
-use Rattle.qm_base.specs.inner.Besides.{IsFrontAt, IsBehindAt, IsBeside, IsPutAt, BesideSoFar}
+use Rattle.qm_base.specs.inner.Besides.{IsFrontAt, IsBehindAt, IsBeside, IsPutAt, BesideSoFar, no_beside, beside_at, AreBesides, AreClear, IsPutBeside, IsPutIn, PutInSoFar, BesidesSoFar}
 
 -- ---- one place
 
@@ -114,4 +117,94 @@ module _ (portals : List Portal) (lanes : List Lane) (plane : Plane) where
     behind_wide = so_far.behind_wide;
     front = all_put (IsFrontAt portals lanes plane) beside.front place (λ k at. let within = slice_get_within lanes k at.lane at.lane_is in omega (arith, within, all)) so_far.front;
     behind = all_put (IsBehindAt portals lanes plane) beside.behind place (λ k at. let within = slice_get_within lanes k at.lane at.lane_is in omega (arith, within, all)) so_far.behind;
+  }
+
+-- ---- for one plane after another
+
+module _ (winding : Winding) (planes : List Plane) (place : ℕ) (old : List Beside) where
+  pub put_in_none : PutInSoFar winding planes place 0 old old
+  put_in_none = record { same_count = refl; each = λ class plane less is. absurd (omega (arith, less)); left = λ class from. refl }
+
+  pub put_in_more : (count : ℕ) (plane : Plane) (new : List Beside) (beside : Beside) → slice_get planes count ≡ Some plane → count < length old → PutInSoFar winding planes place count old new →
+      IsPutBeside winding plane place (beside_at new count) beside → PutInSoFar winding planes place (count + 1) old (set new count beside)
+  put_in_more count plane new beside plane_is within so_far put = record {
+    same_count = length-set new count beside ∙ so_far.same_count;
+    each = λ class other less is. ⊎_elim
+        (λ here. at_count class other here is)
+        (λ apart. subst (IsPutBeside winding other place (beside_at old class)) (sym (get_or-set_other new count class beside no_beside apart)) (so_far.each class other (omega (arith, less, apart)) is))
+        (cases_eq class count);
+    left = λ class from. get_or-set_other new count class beside no_beside (λ same. omega (arith, from, same)) ∙ so_far.left class (omega (arith, from));
+  }
+    where
+      in_new : count < length new
+      in_new = let same = so_far.same_count in omega (arith, within, same)
+
+      put_now : IsPutBeside winding plane place (beside_at old count) (beside_at (set new count beside) count)
+      put_now = subst (IsPutBeside winding plane place (beside_at old count)) (sym (get_or-set_same new count beside no_beside in_new)) (subst (λ (b : Beside). IsPutBeside winding plane place b beside) (so_far.left count (omega arith)) put)
+
+      at_count : (class : ℕ) (other : Plane) → class ≡ count → slice_get planes class ≡ Some other → IsPutBeside winding other place (beside_at old class) (beside_at (set new count beside) class)
+      at_count class other here is =
+          let both : Some plane ≡ Some other = sym plane_is ∙ ap (slice_get planes) (sym here) ∙ is in
+          let same : plane ≡ other = cc in
+          subst (λ (n : ℕ). IsPutBeside winding other place (beside_at old n) (beside_at (set new count beside) n)) (sym here) (subst (λ (h : Plane). IsPutBeside winding h place (beside_at old count) (beside_at (set new count beside) count)) same put_now)
+
+  pub put_in_all : (count : ℕ) (new : List Beside) → length planes ≤ count → PutInSoFar winding planes place count old new → IsPutIn winding planes place old new
+  put_in_all count new all so_far = record {
+    same_count = so_far.same_count;
+    each = λ class plane is. so_far.each class plane (let within = slice_get_within planes class plane is in omega (arith, within, all)) is;
+  }
+
+-- ---- one lane after another
+
+module _ (portals : List Portal) (lanes : List Lane) (planes : List Plane) where
+  pub besides_none : (table : List Beside) → AreClear (length planes) (length lanes) table → BesidesSoFar portals lanes planes 0 table
+  besides_none table clear = record {
+    one_each = clear.one_each;
+    each = λ class plane is.
+        let within : class < length table = let in_planes = slice_get_within planes class plane is in let each = clear.one_each in omega (arith, in_planes, each) in
+        beside_begins portals lanes plane (beside_at table class).front (beside_at table class).behind (clear.front class no_beside within) (clear.behind class no_beside within);
+  }
+
+  pub besides_more : (place : ℕ) (lane : Lane) (portal : Portal) (winding : Winding) (old new : List Beside) → slice_get lanes place ≡ Some lane → slice_get portals lane.portal ≡ Some portal → winding ≡ portal.winding →
+      BesidesSoFar portals lanes planes place old → IsPutIn winding planes place old new → BesidesSoFar portals lanes planes (place + 1) new
+  besides_more place lane portal winding old new lane_is portal_is of so_far put = record {
+    one_each = put.same_count ∙ so_far.one_each;
+    each = λ class plane is.
+        let one = subst (λ (w : Winding). IsPutBeside w plane place (beside_at old class) (beside_at new class)) of (put.each class plane is) in
+        beside_more portals lanes plane place lane portal lane_is portal_is one.is_front one.is_behind (beside_at old class).front (beside_at old class).behind (beside_at new class).front (beside_at new class).behind
+        (so_far.each class plane is) one.front one.behind one.says_front one.says_behind;
+  }
+
+  pub besides_all : (place : ℕ) (table : List Beside) → length lanes ≤ place → BesidesSoFar portals lanes planes place table → AreBesides portals lanes planes table
+  besides_all place table all so_far = record {
+    one_each = so_far.one_each;
+    each = λ class plane is. beside_ends portals lanes plane place (beside_at table class) all (so_far.each class plane is);
+  }
+
+  -- each row has a place for a lane
+  module _ (place : ℕ) (table : List Beside) (so_far : BesidesSoFar portals lanes planes place table) (within : place < length lanes) where
+    wide_at : (class : ℕ) → class < length table → (length (beside_at table class).front ≡ length lanes) × (length (beside_at table class).behind ≡ length lanes)
+    wide_at class in_table = by_case (slice_get_cases planes class)
+      where
+        by_case : (slice_get planes class ≡ slice_get planes class) × (((h : Plane) × (class < length planes) × (slice_get planes class ≡ Some h) × (get_or planes class h ≡ h)) ⊎ ((length planes ≤ class) × (slice_get planes class ≡ None))) →
+            (length (beside_at table class).front ≡ length lanes) × (length (beside_at table class).behind ≡ length lanes)
+        by_case (same, inl some) = let is = so_far.each class some.0 some.2 in (is.front_wide, is.behind_wide)
+        by_case (same, inr past) = absurd (let each = so_far.one_each in let most = past.0 in omega (arith, each, most, in_table))
+
+    pub fronts_within : All (λ beside. place < length beside.front) table
+    fronts_within = All-from_get_or (λ (beside : Beside). place < length beside.front) table no_beside (λ class in_table. let wide = (wide_at class in_table).0 in omega (arith, wide, within))
+
+    pub behinds_within : All (λ beside. place < length beside.behind) table
+    behinds_within = All-from_get_or (λ (beside : Beside). place < length beside.behind) table no_beside (λ class in_table. let wide = (wide_at class in_table).1 in omega (arith, wide, within))
+
+-- none is put in
+module _ (lanes : ℕ) where
+  pub clear_none : AreClear 0 lanes []
+  clear_none = record { one_each = refl; front = All-nil (λ (beside : Beside). beside.front ≡ replicate lanes false); behind = All-nil (λ (beside : Beside). beside.behind ≡ replicate lanes false) }
+
+  pub clear_more : (count : ℕ) (table : List Beside) (beside : Beside) → AreClear count lanes table → beside.front ≡ replicate lanes false → beside.behind ≡ replicate lanes false → AreClear (count + 1) lanes (table ++ beside ∷ [])
+  clear_more count table beside clear front behind = record {
+    one_each = let one = length-append table (beside ∷ []) in let each = clear.one_each in omega (arith, one, each);
+    front = All-push (λ (b : Beside). b.front ≡ replicate lanes false) table beside clear.front front;
+    behind = All-push (λ (b : Beside). b.behind ≡ replicate lanes false) table beside clear.behind behind;
   }

@@ -6,4 +6,6 @@ pub mod TableSteps
 pub mod RunSteps
 pub mod WaySteps
 pub mod SweepSteps
+pub mod EnteringSteps
+pub mod ColumnSteps
 pub mod RowSteps

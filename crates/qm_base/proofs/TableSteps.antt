@@ -1,11 +1,11 @@
 -- A table, lane by lane, and what its rows say.
-use Rattle.std.proofs.Common.{◌≡◌, ℕ, ◌+◌, ◌-◌, ◌<◌, Bool, true, false, List, [], ◌∷◌, ◌++◌, length, Some, slice_get, ⊎_elim, refl, sym, ap, ◌∙◌, subst, arith, ◌↔◌, if◌then◌else◌}
-use Rattle.std.proofs.Math.Seq.{get_or-append_seam}
-use Rattle.std.proofs.lemmas.List.{length-append, get_or_append_left}
-use Rattle.std.proofs.lemmas.List.Elements.{All-nil, All-push, All-weaker}
-use Rattle.std.proofs.lemmas.Option.{slice_get_within}
+use Rattle.std.proofs.Common.{◌≡◌, ℕ, ◌+◌, ◌-◌, ◌<◌, ◌≤◌, Bool, true, false, List, [], ◌∷◌, ◌++◌, length, get_or, Some, None, slice_get, ◌⊎◌, inl, inr, ⊎_elim, refl, sym, ap, ◌∙◌, subst, arith, ◌↔◌, if◌then◌else◌}
+use Rattle.std.specs.List.{All}
+use Rattle.std.proofs.lemmas.List.{length-append}
+use Rattle.std.proofs.lemmas.List.Elements.{All-from_get_or}
+use Rattle.std.proofs.lemmas.Option.{slice_get-get_or, slice_get_within, slice_get_cases}
 use Rattle.qm_lists.specs.WorkList.{IsIn}
-use Rattle.qm_lists.proofs.Places.{slice_get-push_cases}
+use Rattle.qm_lists.proofs.Places.{slice_get-push_cases, slice_get-push_old, slice_get-push_last}
 use Rattle.qm_space.specs.Plane.{Plane, flipped}
 use Rattle.qm_space.specs.Turned.{turned}
 use Rattle.qm_space.proofs.Planes.{flipped_in_front, flipped_behind}
@@ -15,131 +15,109 @@ use Rattle.qm_base.specs.declared.lane.Lane.{Lane}
 use Rattle.qm_base.specs.declared.beside.Beside.{Beside}
 use Rattle.qm_base.specs.declared.table.Kind.{Kind}
 use Rattle.qm_base.specs.inner.Lanes.{AreLanes}
-use Rattle.qm_base.specs.inner.Besides.{IsFrontAt, IsBehindAt, IsBeside}
-use Rattle.qm_base.specs.inner.Tables.{beside_at, ahead, back, AreKinds, IsKindOf, IsTable, TableSoFar, HasPlaneBefore}
+use Rattle.qm_base.specs.inner.Besides.{IsFrontAt, IsBehindAt, no_beside, beside_at, AreBesides}
+use Rattle.qm_base.specs.inner.Tables.{ahead, back, AreKinds, IsKindOf, IsTable, IsClassOf, AreClasses, IsLastPlaneOf, IsPlaneAdded, HasPlaneBefore}
 
-abbrev no_beside : Beside
-no_beside = record { front = []; behind = [] }
+-- ---- planes are added
 
--- ---- rows are added
+-- the lane before has the plane of the lane: so the last plane is its own
+pub plane_had : (lanes : List Lane) (k : ℕ) (planes : List Plane) → ((place : ℕ) → k ≡ place + 1 → IsLastPlaneOf lanes place planes) → HasPlaneBefore lanes k → IsPlaneAdded lanes k planes planes
+plane_had lanes k planes before has = record {
+  kept = λ class h is. is;
+  last = λ lane here.
+      let last = before has.before has.next has.lane has.lane_is in
+      let both : Some has.own ≡ Some lane = sym has.own_is ∙ here in
+      let own : has.own ≡ lane = cc in
+      (last.0, last.1 ∙ ap Some (has.same ∙ ap (λ (l : Lane). l.plane) own));
+}
 
-module _ (table : List Beside) (row : Beside) where
-  pub old_row : (class : ℕ) → class < length table → beside_at (table ++ row ∷ []) class ≡ beside_at table class
-  old_row class within = get_or_append_left table (row ∷ []) no_beside class within
+pub plane_more : (lanes : List Lane) (k : ℕ) (planes : List Plane) (lane : Lane) → slice_get lanes k ≡ Some lane → IsPlaneAdded lanes k planes (planes ++ lane.plane ∷ [])
+plane_more lanes k planes lane is = record {
+  kept = λ class h old. slice_get-push_old planes lane.plane h class old;
+  last = λ other here.
+      let both : Some lane ≡ Some other = sym is ∙ here in
+      let same : lane ≡ other = cc in
+      (some, ap (slice_get (planes ++ lane.plane ∷ [])) at ∙ slice_get-push_last planes lane.plane ∙ ap (λ (l : Lane). Some l.plane) same);
+}
+  where
+    some : 0 < length (planes ++ lane.plane ∷ [])
+    some = let one = length-append planes (lane.plane ∷ []) in omega (arith, one)
 
-  pub last_row : beside_at (table ++ row ∷ []) (length (table ++ row ∷ []) - 1) ≡ row
-  last_row =
-      let one = length-append table (row ∷ []) in
-      let at : length (table ++ row ∷ []) - 1 ≡ length table = omega (arith, one) in
-      ap (beside_at (table ++ row ∷ [])) at ∙ get_or-append_seam table row [] no_beside
+    at : length (planes ++ lane.plane ∷ []) - 1 ≡ length planes
+    at = let one = length-append planes (lane.plane ∷ []) in omega (arith, one)
 
-  more_rows : length (table ++ row ∷ []) ≡ length table + 1
-  more_rows = let one = length-append table (row ∷ []) in omega (arith, one)
+pub some_plane : (lanes : List Lane) (k : ℕ) (old new : List Plane) → IsPlaneAdded lanes k old new → k < length lanes → 0 < length new
+some_plane lanes k old new added within = by_case (slice_get_cases lanes k)
+  where
+    by_case : (slice_get lanes k ≡ slice_get lanes k) × (((l : Lane) × (k < length lanes) × (slice_get lanes k ≡ Some l) × (get_or lanes k l ≡ l)) ⊎ ((length lanes ≤ k) × (slice_get lanes k ≡ None))) → 0 < length new
+    by_case (same, inl one) = (added.last one.0 one.2).0
+    by_case (same, inr past) = absurd (let most = past.0 in omega (arith, most, within))
 
-module _ (portals : List Portal) (lanes : List Lane) where
-  pub no_kinds : TableSoFar portals lanes 0 [] []
-  no_kinds = record {
+module _ (lanes : List Lane) where
+  pub no_classes : AreClasses lanes 0 [] []
+  no_classes = record {
     one_each = refl;
-    within = All-nil (λ kind. kind.class < 0);
-    front_wide = All-nil (λ (beside : Beside). length beside.front ≡ length lanes);
-    behind_wide = All-nil (λ (beside : Beside). length beside.behind ≡ length lanes);
     each = λ k lane kind lane_is kind_is. absurd (let within = slice_get_within [] k kind kind_is in omega (arith, within));
-    last = λ k lane none is. absurd (omega (arith, none));
+    last = λ k none. absurd (omega (arith, none));
   }
 
-  module _ (place : ℕ) (kinds : List Kind) (table : List Beside) (so_far : TableSoFar portals lanes place kinds table) (lane : Lane) (here : slice_get lanes place ≡ Some lane) where
-    -- the lane's plane has the last row already
-    pub kind_more : (kind : Kind) → kind.front ≡ lane.front → kind.class ≡ length table - 1 → 0 < length table → IsBeside portals lanes lane.plane (beside_at table (length table - 1)) →
-        TableSoFar portals lanes (place + 1) (kinds ++ kind ∷ []) table
-    kind_more kind front class some beside = record {
-      one_each = let one = length-append kinds (kind ∷ []) in let each = so_far.one_each in omega (arith, one, each);
-      within = All-push (λ (k : Kind). k.class < length table) kinds kind so_far.within (omega (arith, class, some));
-      front_wide = so_far.front_wide;
-      behind_wide = so_far.behind_wide;
-      each = λ k other its lane_is kind_is. ⊎_elim
-          (λ was. so_far.each k other its lane_is was)
-          (λ now. this k other its lane_is now)
-          (slice_get-push_cases kinds kind its k kind_is);
-      last = λ k other next is. (some, subst (λ (l : Lane). IsBeside portals lanes l.plane (beside_at table (length table - 1))) (sym (last_lane k other next is)) beside);
-    }
-      where
-        last_lane : (k : ℕ) (other : Lane) → place + 1 ≡ k + 1 → slice_get lanes k ≡ Some other → other ≡ lane
-        last_lane k other next is =
-            let at : k ≡ place = omega (arith, next) in
-            let both : Some other ≡ Some lane = sym is ∙ ap (slice_get lanes) at ∙ here in
-            cc
+  pub class_more : (place : ℕ) (kinds : List Kind) (old planes : List Plane) (lane : Lane) (kind : Kind) → AreClasses lanes place kinds old → IsPlaneAdded lanes place old planes → slice_get lanes place ≡ Some lane →
+      kind.front ≡ lane.front → kind.class ≡ length planes - 1 → AreClasses lanes (place + 1) (kinds ++ kind ∷ []) planes
+  class_more place kinds old planes lane kind so_far added here front class = record {
+    one_each = let one = length-append kinds (kind ∷ []) in let each = so_far.one_each in omega (arith, one, each);
+    each = λ k other its lane_is kind_is. ⊎_elim
+        (λ was. let is = so_far.each k other its lane_is was in record { front = is.front; plane = added.kept its.class other.plane is.plane })
+        (λ now. this k other its lane_is now)
+        (slice_get-push_cases kinds kind its k kind_is);
+    last = λ k next. let at : place ≡ k = omega (arith, next) in subst (λ (n : ℕ). IsLastPlaneOf lanes n planes) at added.last;
+  }
+    where
+      of_lane : IsClassOf planes lane kind
+      of_lane = record { front = front; plane = ap (slice_get planes) class ∙ (added.last lane here).1 }
 
-        this : (k : ℕ) (other : Lane) (its : Kind) → slice_get lanes k ≡ Some other → (k ≡ length kinds) × (kind ≡ its) → IsKindOf portals lanes table other its
-        this k other its lane_is now =
-            let each = so_far.one_each in
-            let at : k ≡ place = omega (arith, now.0, each) in
-            let both : Some other ≡ Some lane = sym lane_is ∙ ap (slice_get lanes) at ∙ here in
-            let of : other ≡ lane = cc in
-            subst (IsKindOf portals lanes table other) now.1 (subst (λ (l : Lane). IsKindOf portals lanes table l kind) (sym of) (record {
-              front = front;
-              within = omega (arith, class, some);
-              beside = subst (λ (n : ℕ). IsBeside portals lanes lane.plane (beside_at table n)) (sym class) beside;
-            }))
+      this : (k : ℕ) (other : Lane) (its : Kind) → slice_get lanes k ≡ Some other → (k ≡ length kinds) × (kind ≡ its) → IsClassOf planes other its
+      this k other its lane_is now =
+          let both : Some lane ≡ Some other = sym here ∙ ap (slice_get lanes) (sym (now.0 ∙ so_far.one_each)) ∙ lane_is in
+          let same : lane ≡ other = cc in
+          subst (IsClassOf planes other) now.1 (subst (λ (l : Lane). IsClassOf planes l kind) same of_lane)
 
-    -- its row is added
-    pub row_more : (row : Beside) → IsBeside portals lanes lane.plane row → (kind : Kind) → kind.front ≡ lane.front → kind.class ≡ length (table ++ row ∷ []) - 1 →
-        TableSoFar portals lanes (place + 1) (kinds ++ kind ∷ []) (table ++ row ∷ [])
-    row_more row is kind front class = record {
-      one_each = let one = length-append kinds (kind ∷ []) in let each = so_far.one_each in omega (arith, one, each);
-      within = All-push (λ (k : Kind). k.class < length new) kinds kind
-          (All-weaker (λ (k : Kind). k.class < length table) (λ (k : Kind). k.class < length new) (λ k less. omega (arith, less, count)) kinds so_far.within)
-          (omega (arith, class, count));
-      front_wide = All-push (λ (beside : Beside). length beside.front ≡ length lanes) table row so_far.front_wide is.front_wide;
-      behind_wide = All-push (λ (beside : Beside). length beside.behind ≡ length lanes) table row so_far.behind_wide is.behind_wide;
-      each = λ k other its lane_is kind_is. ⊎_elim
-          (λ was. grown other its (so_far.each k other its lane_is was))
-          (λ now. this k other its lane_is now)
-          (slice_get-push_cases kinds kind its k kind_is);
-      last = λ k other next at. (omega (arith, count), subst (λ (l : Lane). IsBeside portals lanes l.plane (beside_at new (length new - 1))) (sym (last_lane k other next at)) (subst (IsBeside portals lanes lane.plane) (sym (last_row table row)) is));
-    }
-      where
-        new : List Beside
-        new = table ++ row ∷ []
+-- the table of some planes
+module _ (portals : List Portal) (lanes : List Lane) (place : ℕ) (kinds : List Kind) (planes : List Plane) (table : List Beside) (are : AreLanes portals lanes) (all : place ≡ length lanes) (so_far : AreClasses lanes place kinds planes) (besides : AreBesides portals lanes planes table) where
+  kind_at : (k : ℕ) (lane : Lane) (kind : Kind) → slice_get lanes k ≡ Some lane → slice_get kinds k ≡ Some kind → IsKindOf portals lanes table lane kind
+  kind_at k lane kind lane_is kind_is =
+      let of = so_far.each k lane kind lane_is kind_is in
+      record {
+        front = of.front;
+        within = let within = slice_get_within planes kind.class lane.plane of.plane in let each = besides.one_each in omega (arith, within, each);
+        beside = besides.each kind.class lane.plane of.plane;
+      }
 
-        count : length (table ++ row ∷ []) ≡ length table + 1
-        count = more_rows table row
+  kinds_within : All (λ kind. kind.class < length table) kinds
+  kinds_within k d within = by_case (slice_get_cases lanes k)
+    where
+      by_case : (slice_get lanes k ≡ slice_get lanes k) × (((l : Lane) × (k < length lanes) × (slice_get lanes k ≡ Some l) × (get_or lanes k l ≡ l)) ⊎ ((length lanes ≤ k) × (slice_get lanes k ≡ None))) → (get_or kinds k d).class < length table
+      by_case (same, inl some) = (kind_at k some.0 (get_or kinds k d) some.2 (slice_get-get_or kinds k d within)).within
+      by_case (same, inr past) = absurd (let each = so_far.one_each in let most = past.0 in omega (arith, each, most, within, all))
 
-        last_lane : (k : ℕ) (other : Lane) → place + 1 ≡ k + 1 → slice_get lanes k ≡ Some other → other ≡ lane
-        last_lane k other next at =
-            let same : k ≡ place = omega (arith, next) in
-            let both : Some other ≡ Some lane = sym at ∙ ap (slice_get lanes) same ∙ here in
-            cc
+  wide_at : (class : ℕ) → class < length table → (length (beside_at table class).front ≡ length lanes) × (length (beside_at table class).behind ≡ length lanes)
+  wide_at class in_table = by_case (slice_get_cases planes class)
+    where
+      by_case : (slice_get planes class ≡ slice_get planes class) × (((h : Plane) × (class < length planes) × (slice_get planes class ≡ Some h) × (get_or planes class h ≡ h)) ⊎ ((length planes ≤ class) × (slice_get planes class ≡ None))) →
+          (length (beside_at table class).front ≡ length lanes) × (length (beside_at table class).behind ≡ length lanes)
+      by_case (same, inl some) = let is = besides.each class some.0 some.2 in (is.front_wide, is.behind_wide)
+      by_case (same, inr past) = absurd (let each = besides.one_each in let most = past.0 in omega (arith, each, most, in_table))
 
-        grown : (other : Lane) (its : Kind) → IsKindOf portals lanes table other its → IsKindOf portals lanes (table ++ row ∷ []) other its
-        grown other its was = record {
-          front = was.front;
-          within = let less = was.within in omega (arith, less, count);
-          beside = subst (IsBeside portals lanes other.plane) (sym (old_row table row its.class was.within)) was.beside;
-        }
-
-        this : (k : ℕ) (other : Lane) (its : Kind) → slice_get lanes k ≡ Some other → (k ≡ length kinds) × (kind ≡ its) → IsKindOf portals lanes (table ++ row ∷ []) other its
-        this k other its lane_is now =
-            let each = so_far.one_each in
-            let at : k ≡ place = omega (arith, now.0, each) in
-            let both : Some other ≡ Some lane = sym lane_is ∙ ap (slice_get lanes) at ∙ here in
-            let of : other ≡ lane = cc in
-            subst (IsKindOf portals lanes (table ++ row ∷ []) other) now.1 (subst (λ (l : Lane). IsKindOf portals lanes (table ++ row ∷ []) l kind) (sym of) (record {
-              front = front;
-              within = omega (arith, class, count);
-              beside = subst (IsBeside portals lanes lane.plane) (sym (ap (beside_at (table ++ row ∷ [])) class ∙ last_row table row)) is;
-            }))
-
-pub table_all : (portals : List Portal) (lanes : List Lane) (place : ℕ) (kinds : List Kind) (table : List Beside) → AreLanes portals lanes → place ≡ length lanes → TableSoFar portals lanes place kinds table → IsTable portals lanes kinds table
-table_all portals lanes place kinds table are all so_far = record {
-  are_lanes = are;
-  are_kinds = record {
-    one_each = so_far.one_each ∙ all;
-    within = so_far.within;
-    front_wide = so_far.front_wide;
-    behind_wide = so_far.behind_wide;
-  };
-  each = so_far.each;
-}
+  pub table_all : IsTable portals lanes kinds table
+  table_all = record {
+    are_lanes = are;
+    are_kinds = record {
+      one_each = so_far.one_each ∙ all;
+      within = kinds_within;
+      front_wide = All-from_get_or (λ (beside : Beside). length beside.front ≡ length lanes) table no_beside (λ class in_table. (wide_at class in_table).0);
+      behind_wide = All-from_get_or (λ (beside : Beside). length beside.behind ≡ length lanes) table no_beside (λ class in_table. (wide_at class in_table).1);
+    };
+    each = kind_at;
+  }
 
 -- ---- what the rows of a kind say
 
@@ -178,16 +156,6 @@ module _ (portals : List Portal) (lanes : List Lane) (table : List Beside) where
       by_side : (front : Bool) → IsIn (if front then beside.behind else beside.front) k ↔ IsBehindAt portals lanes (turned front lane.plane) k
       by_side true = is.beside.behind k
       by_side false = let other = behind_of_flipped portals lanes lane.plane k in let says = is.beside.front k in ((λ set_now. other.1 (says.0 set_now)), (λ at. says.1 (other.0 at)))
-
--- the lane before has the plane of the lane: so the last row is its own
-pub plane_before : (portals : List Portal) (lanes : List Lane) (place : ℕ) (kinds : List Kind) (table : List Beside) → TableSoFar portals lanes place kinds table → (lane : Lane) → slice_get lanes place ≡ Some lane → HasPlaneBefore lanes place →
-    (0 < length table) × IsBeside portals lanes lane.plane (beside_at table (length table - 1))
-plane_before portals lanes place kinds table so_far lane here before =
-    let last = so_far.last before.before before.lane before.next before.lane_is in
-    let both : Some before.own ≡ Some lane = sym before.own_is ∙ here in
-    let own : before.own ≡ lane = cc in
-    let same : before.lane.plane ≡ lane.plane = before.same ∙ ap (λ (l : Lane). l.plane) own in
-    (last.0, subst (λ (h : Plane). IsBeside portals lanes h (beside_at table (length table - 1))) same last.1)
 
 -- a place for each lane
 module _ (lanes : List Lane) (kinds : List Kind) (table : List Beside) (are : AreKinds lanes kinds table) (kind : Kind) (within : kind.class < length table) where

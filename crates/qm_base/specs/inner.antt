@@ -1,8 +1,10 @@
 pub mod Following
+pub mod Entering
 pub mod Lanes
 pub mod Besides
 pub mod Tables
 pub mod Runs
 pub mod Ways
 pub mod Sweeping
+pub mod Columns
 pub mod Blocks

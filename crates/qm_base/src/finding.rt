@@ -3,9 +3,11 @@ ghost use Rattle.qm_contacts.specs.NumberedLeaves.{numbered_leaves};
 ghost use Rattle.qm_coarse_rows.specs.CoarseRow.{AreCoarseRows};
 ghost use Rattle.qm_segments.specs.Sight.{AreSoundRows};
 ghost use Rattle.qm_base.specs.inner.Tables.{IsTable};
+ghost use Rattle.qm_base.specs.inner.Entering.{AreEntered};
 ghost use Rattle.qm_base.specs.inner.Blocks.{IsBlockDone};
 
-use crate::column::column;
+use crate::column::{column, full};
+use crate::entering::entered;
 use crate::sweeping::flooded;
 use crate::table::Table;
 use crate::ways::fill;
@@ -23,11 +25,12 @@ pub fn base(alloc: Global, world: &World) -> Result<Items<BitRow>, AllocError>
 {
     world.own_portals();
     let table = Table::of(alloc, world)?;
+    let entered = entered(alloc, world)?;
     let count = table.lanes.len();
     let mut ways = vec![in alloc; 0; count]?;
     let mut rows = empty_rows(alloc, count)?;
     for block in 0..count.div_ceil(64) {
-        add_block(alloc, world, &table, block, &mut ways, &mut rows)?;
+        add_block(alloc, world, &table, &entered, block, &mut ways, &mut rows)?;
     }
     Ok(Items::from_vec(rows))
 }
@@ -48,11 +51,13 @@ fn add_block(
     alloc: Global,
     world: &World,
     table: &Table,
+    entered: &[usize],
     block: usize,
     ways: &mut [u64],
     rows: &mut [BitRow],
 ) -> Result<(), AllocError>
     requires table { IsTable world.now.portals table.now.lanes.items table.now.kinds.items table.now.beside.items }
+    requires entered { AreEntered world.now entered.now }
     requires block { 64 * block < length world.now.portals }
     requires ways { length ways.old ≡ length world.now.portals }
     requires rows { length rows.old ≡ length world.now.portals }
@@ -62,9 +67,10 @@ fn add_block(
     let first = 64 * block;
     let end = (table.lanes.len() - first).min(64) + first;
     let lanes = &table.lanes[first..end];
-    let seen = flooded(alloc, world, ways, lanes)?;
+    let seen = flooded(alloc, world, entered, ways, lanes)?;
+    let all = full(alloc, seen.len() as u64)?;
     for j in 0..lanes.len() {
-        rows[lanes[j].portal as usize] = column(alloc, &seen, j)?;
+        rows[lanes[j].portal as usize] = column(alloc, &seen, &all, j)?;
     }
     Ok(())
 }

@@ -3,6 +3,7 @@
 
 mod beside;
 mod column;
+mod entering;
 mod finding;
 mod lane;
 mod runs;

@@ -1,9 +1,9 @@
 //! All sides on which windings of portals have corners beside planes of portals, each found once.
 
-ghost use Rattle.std.specs.Prelude.{◌≡◌, ◌<◌, ◌↔◌, length, IfOk, IsTrue};
-ghost use Rattle.qm_base.specs.inner.Tables.{IsTable, HasPlaneBefore, ahead, back};
+ghost use Rattle.std.specs.Prelude.{◌≡◌, ◌<◌, ◌+◌, ◌↔◌, ℕ, length, IfOk, OnOk, IsTrue};
+ghost use Rattle.qm_base.specs.inner.Tables.{IsTable, AreClasses, IsLastPlaneOf, IsPlaneAdded, HasPlaneBefore, ahead, back};
 
-use crate::beside::{Beside, beside_of};
+use crate::beside::{Beside, besides};
 use crate::lane::{Lane, lanes};
 use qm_bits::BitRow;
 use qm_geom::Plane;
@@ -40,22 +40,12 @@ impl Table {
         ensures { IfOk result (λ table. IsTable world.now.portals table.lanes.items table.kinds.items table.beside.items) }
     {
         let lanes = lanes(alloc, world)?;
-        let mut kinds = Vec::new(alloc);
-        let mut rows = Vec::new(alloc);
-        for k in 0..lanes.len() {
-            let lane = lanes[k];
-            if !has_plane_before(&lanes, k) {
-                rows.push(beside_of(alloc, world, &lanes, &lane.plane)?)?;
-            }
-            kinds.push(Kind {
-                class: rows.len() - 1,
-                front: lane.front,
-            })?;
-        }
+        let Classes { kinds, planes } = classes_of(alloc, &lanes)?;
+        let beside = besides(alloc, world, &lanes, &planes)?;
         Ok(Table {
             lanes,
             kinds,
-            beside: rows,
+            beside,
         })
     }
 
@@ -84,6 +74,41 @@ impl Table {
             &beside.front
         }
     }
+}
+
+/// The kinds of some lanes, and the planes whose places they name.
+#[derive(Drop)]
+struct Classes {
+    kinds: Vec<Kind>,
+    planes: Vec<Plane>,
+}
+
+/// The kinds of lanes that stand in the order of their planes.
+fn classes_of(alloc: Global, lanes: &[Lane]) -> Result<Classes, AllocError>
+    ensures { IfOk result (λ classes. AreClasses lanes.now (length lanes.now) classes.kinds.items classes.planes.items) }
+{
+    let mut kinds = Vec::new(alloc);
+    let mut planes = Vec::new(alloc);
+    for k in 0..lanes.len() {
+        add_plane(&mut planes, lanes, k)?;
+        kinds.push(Kind {
+            class: planes.len() - 1,
+            front: lanes[k].front,
+        })?;
+    }
+    Ok(Classes { kinds, planes })
+}
+
+/// Adds the plane of a lane, if it is not the last one already.
+fn add_plane(planes: &mut Vec<Plane>, lanes: &[Lane], k: usize) -> Result<(), AllocError>
+    requires lane { k < length lanes.now }
+    requires before { (place : ℕ) → k ≡ place + 1 → IsLastPlaneOf lanes.now place planes.old.items }
+    ensures { OnOk result (IsPlaneAdded lanes.now k planes.old.items planes.new.items) }
+{
+    if !has_plane_before(lanes, k) {
+        planes.push(lanes[k].plane)?;
+    }
+    Ok(())
 }
 
 /// Whether the lane before has the same plane.

@@ -1,187 +1,84 @@
 -- Words are one command at most.
-use Rattle.std.proofs.Common.{◌≡◌, ℕ, Bool, true, false, List, [], ◌∷◌, ◌++◌, refl, sym, ap, ◌∙◌, subst, suc, length, ◌⊎◌, ⊎_elim, inl, inr}
+use Rattle.std.proofs.Common.{◌≡◌, ℕ, List, [], ◌∷◌, refl, sym, ap, ◌∙◌, subst, length}
 use Rattle.std.specs.Prelude.{codes}
-use Rattle.std.specs.Borrow.{Bor}
-use Rattle.std.proofs.lemmas.List.{length-map}
 use Rattle.qm_compile.specs.declared.command.Command.{Command}
 use Rattle.qm_compile.specs.declared.command.Command.TheVariants.{Compile, Format}
-use Rattle.qm_compile.specs.Command.{IsFileName, AreTwoFiles, fast_option, StandsAmong, AreNames, IsSpelled, IsCommand, IsNoCommand, words_of}
+use Rattle.qm_compile.specs.Command.{FileNames, Request, Asks, no_request, verb_of, HasOptions, AreFilesOf, IsOrder, IsCommand}
+use Rattle.qm_compile.proofs.Requests.{one_request}
 
--- the option is no name of a file
-option_no_name : (name : List ℕ) → name ≡ fast_option → IsFileName name → ⊥
-option_no_name name same is = subst IsFileName same is refl
+-- ---- the files
 
--- ---- a word among two others
+same_files : (files others : FileNames) → files.map_name ≡ others.map_name → files.out_name ≡ others.out_name → files.listing_name ≡ others.listing_name → files ≡ others
+same_files files others a b c = λ i. record { map_name = a i; out_name = b i; listing_name = c i }
 
--- it stands before them, between them, or behind them
-pub data Places (word m o a b c : List ℕ) : Type 0 where
-  first : a ≡ word → b ≡ m → c ≡ o → Places word m o a b c
-  second : b ≡ word → a ≡ m → c ≡ o → Places word m o a b c
-  third : c ≡ word → a ≡ m → b ≡ o → Places word m o a b c
+one_files : (asked : Request) (files others : FileNames) → AreFilesOf asked files → AreFilesOf asked others → files ≡ others
+one_files asked files others are its =
+    let names : files.map_name ∷ files.out_name ∷ [] ≡ others.map_name ∷ others.out_name ∷ [] = sym are.are_names ∙ its.are_names in
+    let first : files.map_name ≡ others.map_name = cc in
+    let second : files.out_name ≡ others.out_name = cc in
+    same_files files others first second (sym are.is_listing ∙ its.is_listing)
 
-places_of : (word m o a b c : List ℕ) (before behind : List (List ℕ)) → m ∷ o ∷ [] ≡ before ++ behind → a ∷ b ∷ c ∷ [] ≡ before ++ (word ∷ behind) → Places word m o a b c
-places_of word m o a b c [] behind others all =
-    let rest : a ∷ b ∷ c ∷ [] ≡ word ∷ m ∷ o ∷ [] = all ∙ ap (λ (b : List (List ℕ)). word ∷ b) (sym others) in
-    let x : a ≡ word = cc in
-    let y : b ≡ m = cc in
-    let z : c ≡ o = cc in
-    first x y z
-places_of word m o a b c (x ∷ []) behind others all =
-    let tail : behind ≡ o ∷ [] = cc in
-    let head : x ≡ m = cc in
-    let rest : a ∷ b ∷ c ∷ [] ≡ x ∷ word ∷ o ∷ [] = all ∙ ap (λ (b : List (List ℕ)). x ∷ word ∷ b) tail in
-    let at : b ≡ word = cc in
-    let y : a ≡ m = cc in
-    let z : c ≡ o = cc in
-    second at y z
-places_of word m o a b c (x ∷ y ∷ []) behind others all =
-    let tail : behind ≡ [] = cc in
-    let rest : a ∷ b ∷ c ∷ [] ≡ x ∷ y ∷ word ∷ [] = all ∙ ap (λ (b : List (List ℕ)). x ∷ y ∷ word ∷ b) tail in
-    let at : c ≡ word = cc in
-    let u : a ≡ m = cc in
-    let v : b ≡ o = cc in
-    third at u v
-places_of word m o a b c (x ∷ y ∷ z ∷ more) behind others all = absurd cc
+-- ---- the command
 
-pub places : (word m o a b c : List ℕ) → StandsAmong word (m ∷ o ∷ []) (a ∷ b ∷ c ∷ []) → Places word m o a b c
-places word m o a b c is = places_of word m o a b c is.before is.behind is.others_are is.words_are
+verbs_differ : codes "compile" ≡ codes "format" → ⊥
+verbs_differ same = absurd cc
 
--- and so it can stand
-pub stands_first : (word m o at : List ℕ) → at ≡ word → StandsAmong word (m ∷ o ∷ []) (at ∷ m ∷ o ∷ [])
-stands_first word m o at is = record { before = []; behind = m ∷ o ∷ []; others_are = refl; words_are = ap (λ (w : List ℕ). w ∷ m ∷ o ∷ []) is }
+one_order : (asked : Request) (command other : Command) → verb_of command ≡ verb_of other → HasOptions command asked → HasOptions other asked → command ≡ other
+one_order asked (Compile options) (Compile others) verb has its =
+    let fast = has.0 ∙ sym its.0 in
+    let threads = has.1 ∙ sym its.1 in
+    λ i. Compile (record { threads = threads i; fast = fast i })
+one_order asked (Compile options) Format verb has its = absurd (verbs_differ verb)
+one_order asked Format (Compile others) verb has its = absurd (verbs_differ (sym verb))
+one_order asked Format Format verb has its = refl
 
-pub stands_second : (word m o at : List ℕ) → at ≡ word → StandsAmong word (m ∷ o ∷ []) (m ∷ at ∷ o ∷ [])
-stands_second word m o at is = record { before = m ∷ []; behind = o ∷ []; others_are = refl; words_are = ap (λ (w : List ℕ). m ∷ w ∷ o ∷ []) is }
-
-pub stands_third : (word m o at : List ℕ) → at ≡ word → StandsAmong word (m ∷ o ∷ []) (m ∷ o ∷ at ∷ [])
-stands_third word m o at is = record { before = m ∷ o ∷ []; behind = []; others_are = refl; words_are = ap (λ (w : List ℕ). m ∷ o ∷ w ∷ []) is }
-
--- the option stands nowhere among names of files
-pub in_no_place : (a b c : List ℕ) → ((a ≡ fast_option) × AreTwoFiles b c → ⊥) → ((b ≡ fast_option) × AreTwoFiles a c → ⊥) → ((c ≡ fast_option) × AreTwoFiles a b → ⊥) → (m o : List ℕ) → AreTwoFiles m o → StandsAmong fast_option (m ∷ o ∷ []) (a ∷ b ∷ c ∷ []) → ⊥
-in_no_place a b c none_first none_second none_third m o files stands = nowhere (places fast_option m o a b c stands)
-  where
-    as_files : (n p : List ℕ) → n ≡ m → p ≡ o → AreTwoFiles n p
-    as_files n p same also = subst (λ (x : List ℕ). AreTwoFiles x p) (sym same) (subst (λ (x : List ℕ). AreTwoFiles m x) (sym also) files)
-
-    nowhere : Places fast_option m o a b c → ⊥
-    nowhere (first at y z) = none_first (at, as_files b c y z)
-    nowhere (second at y z) = none_second (at, as_files a c y z)
-    nowhere (third at y z) = none_third (at, as_files a b y z)
-
--- as many words
-two_and_one : (word m o : List ℕ) (words before behind : List (List ℕ)) → m ∷ o ∷ [] ≡ before ++ behind → words ≡ before ++ (word ∷ behind) → (a : List ℕ) × (b : List ℕ) × (c : List ℕ) × (words ≡ a ∷ b ∷ c ∷ [])
-two_and_one word m o words [] behind others all = (word, m, o, all ∙ ap (λ (b : List (List ℕ)). word ∷ b) (sym others))
-two_and_one word m o words (x ∷ []) behind others all =
-    let tail : behind ≡ o ∷ [] = cc in
-    (x, word, o, all ∙ ap (λ (b : List (List ℕ)). x ∷ word ∷ b) tail)
-two_and_one word m o words (x ∷ y ∷ []) behind others all =
-    let tail : behind ≡ [] = cc in
-    (x, y, word, all ∙ ap (λ (b : List (List ℕ)). x ∷ y ∷ word ∷ b) tail)
-two_and_one word m o words (x ∷ y ∷ z ∷ more) behind others all = absurd cc
-
-pub three_words : (word m o : List ℕ) (words : List (List ℕ)) → StandsAmong word (m ∷ o ∷ []) words → (a : List ℕ) × (b : List ℕ) × (c : List ℕ) × (words ≡ a ∷ b ∷ c ∷ [])
-three_words word m o words is = two_and_one word m o words is.before is.behind is.others_are is.words_are
-
--- ---- the names, with and without the option
-
--- the same words give the same names
-pub record IsOne (fast gast : Bool) (m o n p : List ℕ) : Type 0 where
-  pub option : fast ≡ gast
-  pub map_name : m ≡ n
-  pub out_name : o ≡ p
-
-one_of_places : (m o n p a b c : List ℕ) → AreTwoFiles m o → AreTwoFiles n p → Places fast_option m o a b c → Places fast_option n p a b c → IsOne true true m o n p
-one_of_places m o n p a b c files others (first x y z) (first u v w) = record { option = refl; map_name = sym y ∙ v; out_name = sym z ∙ w }
-one_of_places m o n p a b c files others (first x y z) (second u v w) = absurd (option_no_name n (sym v ∙ x) others.is_map_name)
-one_of_places m o n p a b c files others (first x y z) (third u v w) = absurd (option_no_name n (sym v ∙ x) others.is_map_name)
-one_of_places m o n p a b c files others (second x y z) (first u v w) = absurd (option_no_name m (sym y ∙ u) files.is_map_name)
-one_of_places m o n p a b c files others (second x y z) (second u v w) = record { option = refl; map_name = sym y ∙ v; out_name = sym z ∙ w }
-one_of_places m o n p a b c files others (second x y z) (third u v w) = absurd (option_no_name p (sym w ∙ x) others.is_out_name)
-one_of_places m o n p a b c files others (third x y z) (first u v w) = absurd (option_no_name m (sym y ∙ u) files.is_map_name)
-one_of_places m o n p a b c files others (third x y z) (second u v w) = absurd (option_no_name o (sym z ∙ u) files.is_out_name)
-one_of_places m o n p a b c files others (third x y z) (third u v w) = record { option = refl; map_name = sym y ∙ v; out_name = sym z ∙ w }
-
-one_names : (fast gast : Bool) (m o n p : List ℕ) (words : List (List ℕ)) → AreTwoFiles m o → AreTwoFiles n p → AreNames fast (m ∷ o ∷ []) words → AreNames gast (n ∷ p ∷ []) words → IsOne fast gast m o n p
-one_names false false m o n p words files others is its =
-    let same : m ∷ o ∷ [] ≡ n ∷ p ∷ [] = sym is ∙ its in
-    record { option = refl; map_name = cc; out_name = cc }
-one_names false true m o n p words files others is its =
-    let three = three_words fast_option n p words its in
-    absurd (let same : m ∷ o ∷ [] ≡ three.0 ∷ three.1 ∷ three.2 ∷ [] = sym is ∙ three.3 in cc)
-one_names true false m o n p words files others is its =
-    let three = three_words fast_option m o words is in
-    absurd (let same : n ∷ p ∷ [] ≡ three.0 ∷ three.1 ∷ three.2 ∷ [] = sym its ∙ three.3 in cc)
-one_names true true m o n p words files others is its =
-    let three = three_words fast_option m o words is in
-    one_of_places m o n p three.0 three.1 three.2 files others
-    (places fast_option m o three.0 three.1 three.2 (subst (λ (w : List (List ℕ)). StandsAmong fast_option (m ∷ o ∷ []) w) three.3 is))
-    (places fast_option n p three.0 three.1 three.2 (subst (λ (w : List (List ℕ)). StandsAmong fast_option (n ∷ p ∷ []) w) three.3 its))
-
--- ---- commands
-
--- the same command, on the same files
-pub record IsSame (command other : Command) (m o n p : List ℕ) : Type 0 where
+-- the same command, over the same files
+pub record IsSame (command other : Command) (files others : FileNames) : Type 0 where
   pub command_is : command ≡ other
-  pub map_name : m ≡ n
-  pub out_name : o ≡ p
+  pub files_are : files ≡ others
 
-verbs_differ : (rest others words : List (List ℕ)) → words ≡ codes "compile" ∷ rest → words ≡ codes "format" ∷ others → ⊥
-verbs_differ rest others words is its =
-    let same : codes "compile" ∷ rest ≡ codes "format" ∷ others = sym is ∙ its in
-    let verb : codes "compile" ≡ codes "format" = cc in
-    absurd cc
+-- a verb, and what is asked for behind it, are one command at most
+same_order : (verb : List ℕ) (asked : Request) (command other : Command) (files others : FileNames) → IsOrder verb asked command files → IsOrder verb asked other others → IsSame command other files others
+same_order verb asked command other files others is its = record {
+  command_is = one_order asked command other (sym is.is_verb ∙ its.is_verb) is.has_options its.has_options;
+  files_are = one_files asked files others is.are_files its.are_files;
+}
 
-pub one_command : (words : List (List ℕ)) (command other : Command) (m o n p : List ℕ) → IsCommand words command m o → IsCommand words other n p → IsSame command other m o n p
-one_command words (Compile options) (Compile others) m o n p is its =
-    let same : codes "compile" ∷ is.spelled.0 ≡ codes "compile" ∷ its.spelled.0 = sym is.spelled.1 ∙ its.spelled.1 in
-    let rest : is.spelled.0 ≡ its.spelled.0 = cc in
-    let one = one_names options.fast others.fast m o n p its.spelled.0 is.are_files its.are_files
-    (subst (λ (w : List (List ℕ)). AreNames options.fast (m ∷ o ∷ []) w) rest is.spelled.2) its.spelled.2 in
-    let threads : options.threads ≡ others.threads = is.spelled.3 ∙ sym its.spelled.3 in
-    record { command_is = λ i. Compile (record { threads = threads i; fast = one.option i }); map_name = one.map_name; out_name = one.out_name }
-one_command words (Compile options) Format m o n p is its = absurd (verbs_differ is.spelled.0 (n ∷ p ∷ []) words is.spelled.1 its.spelled)
-one_command words Format (Compile others) m o n p is its = absurd (verbs_differ its.spelled.0 (m ∷ o ∷ []) words its.spelled.1 is.spelled)
-one_command words Format Format m o n p is its =
-    let same : codes "format" ∷ m ∷ o ∷ [] ≡ codes "format" ∷ n ∷ p ∷ [] = sym is.spelled ∙ its.spelled in
-    let rest : m ∷ o ∷ [] ≡ n ∷ p ∷ [] = cc in
-    record { command_is = refl; map_name = cc; out_name = cc }
+pub one_command : (words : List (List ℕ)) (command other : Command) (files others : FileNames) → IsCommand words command files → IsCommand words other others → IsSame command other files others
+one_command words command other files others is its =
+    let same : is.verb ∷ is.rest ≡ its.verb ∷ its.rest = sym is.words_are ∙ its.words_are in
+    let verb : is.verb ≡ its.verb = cc in
+    let rest : is.rest ≡ its.rest = cc in
+    let asked = one_request no_request is.asked its.asked its.rest (subst (λ (w : List (List ℕ)). Asks no_request w is.asked) rest is.asks) its.asks in
+    same_order its.verb its.asked command other files others
+    (subst (λ (a : Request). IsOrder its.verb a command files) asked (subst (λ (v : List ℕ). IsOrder v is.asked command files) verb is.is_order)) its.is_order
 
--- ---- how many words a command has
+-- ---- words that are no command
 
--- three words name two files
-names_of_two : (fast : Bool) (m o a b : List ℕ) → AreNames fast (m ∷ o ∷ []) (a ∷ b ∷ []) → a ∷ b ∷ [] ≡ m ∷ o ∷ []
-names_of_two false m o a b are = are
-names_of_two true m o a b are =
-    let three = three_words fast_option m o (a ∷ b ∷ []) are in
-    absurd (let same = three.3 in cc)
+-- a command has a word
+pub no_words : (command : Command) (files : FileNames) → IsCommand [] command files → ⊥
+no_words command files is = absurd (let same = is.words_are in cc)
 
-three_names : (command : Command) (m o verb a b : List ℕ) → IsSpelled command (m ∷ o ∷ []) (verb ∷ a ∷ b ∷ []) → a ∷ b ∷ [] ≡ m ∷ o ∷ []
-three_names (Compile options) m o verb a b is =
-    let words = is.1 in
-    let rest : is.0 ≡ a ∷ b ∷ [] = cc in
-    names_of_two options.fast m o a b (subst (λ (w : List (List ℕ)). AreNames options.fast (m ∷ o ∷ []) w) rest is.2)
-three_names Format m o verb a b is = let words = is in cc
+module _ (verb : List ℕ) (rest : List (List ℕ)) where
+  -- what the words behind the verb ask for, where the words are a command
+  rest_of : (command : Command) (files : FileNames) (is : IsCommand (verb ∷ rest) command files) → rest ≡ is.rest
+  rest_of command files is = let same = is.words_are in cc
 
-pub files_of_three : (command : Command) (m o verb a b : List ℕ) → IsCommand (verb ∷ a ∷ b ∷ []) command m o → AreTwoFiles a b
-files_of_three command m o verb a b is =
-    let names = three_names command m o verb a b is.spelled in
-    let same : a ≡ m = cc in
-    let also : b ≡ o = cc in
-    subst (λ (x : List ℕ). AreTwoFiles x b) (sym same) (subst (λ (x : List ℕ). AreTwoFiles m x) (sym also) is.are_files)
+  verb_is : (command : Command) (files : FileNames) (is : IsCommand (verb ∷ rest) command files) → verb ≡ is.verb
+  verb_is command files is = let same = is.words_are in cc
 
--- there are three or four
-names_count : (fast : Bool) (m o : List ℕ) (words : List (List ℕ)) → AreNames fast (m ∷ o ∷ []) words → (length words ≡ 2) ⊎ (length words ≡ 3)
-names_count false m o words are = inl (ap length are)
-names_count true m o words are = let three = three_words fast_option m o words are in inr (ap length three.3)
+  -- they ask for no two files
+  pub nothing_asked : ((all : Request) → length all.names ≡ 2 → Asks no_request rest all → ⊥) → (command : Command) (files : FileNames) → IsCommand (verb ∷ rest) command files → ⊥
+  nothing_asked none command files is =
+      none is.asked (ap length is.is_order.are_files.are_names) (subst (λ (w : List (List ℕ)). Asks no_request w is.asked) (sym (rest_of command files is)) is.asks)
 
-pub word_count : (words : List (List ℕ)) (command : Command) (m o : List ℕ) → IsCommand words command m o → (length words ≡ 3) ⊎ (length words ≡ 4)
-word_count words (Compile options) m o is = ⊎_elim
-    (λ two. inl (ap length is.spelled.1 ∙ ap suc two))
-    (λ three. inr (ap length is.spelled.1 ∙ ap suc three))
-    (names_count options.fast m o is.spelled.0 is.spelled.2)
-word_count words Format m o is = inl (ap length is.spelled)
+  -- what they ask for is no command behind the verb
+  pub no_order : (asked : Request) → Asks no_request rest asked → ((command : Command) (files : FileNames) → IsOrder verb asked command files → ⊥) → (command : Command) (files : FileNames) → IsCommand (verb ∷ rest) command files → ⊥
+  no_order asked asks none command files is =
+      let its = subst (λ (w : List (List ℕ)). Asks no_request w is.asked) (sym (rest_of command files is)) is.asks in
+      let one = one_request no_request is.asked asked rest its asks in
+      none command files
+      (subst (λ (a : Request). IsOrder verb a command files) one (subst (λ (v : List ℕ). IsOrder v is.asked command files) (sym (verb_is command files is)) is.is_order))
 
-pub no_other_length : (words : List (Bor (List ℕ))) → (length words ≡ 3 → ⊥) → (length words ≡ 4 → ⊥) → IsNoCommand (words_of words)
-no_other_length words not_three not_four command m o is =
-    let same : length (words_of words) ≡ length words = length-map words (λ (word : Bor (List ℕ)). word.now) in
-    ⊎_elim (λ three. not_three (sym same ∙ three)) (λ four. not_four (sym same ∙ four)) (word_count (words_of words) command m o is)
+  pub ordered : (asked : Request) (command : Command) (files : FileNames) → Asks no_request rest asked → IsOrder verb asked command files → IsCommand (verb ∷ rest) command files
+  ordered asked command files asks is = record { verb = verb; rest = rest; words_are = refl; asked = asked; asks = asks; is_order = is }

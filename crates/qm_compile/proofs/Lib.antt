@@ -8,6 +8,8 @@ pub mod NumberedCounts
 pub mod Outcomes
 pub mod ReadMeanings
 pub mod Reported
+pub mod Requests
+pub mod Writings
 pub mod ShownLeaves
 pub mod Origins
 pub mod WrittenRows

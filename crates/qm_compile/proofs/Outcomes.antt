@@ -1,71 +1,86 @@
-use Rattle.std.proofs.Common.{◌≡◌, ℕ, List, Some, take, ◌⊎◌, inl, inr, subst, ap, ◌∙◌, Ok}
-use Rattle.std.specs.Prelude.{IsTrue}
+-- What comes of reading a text, making files of it and writing these, one after another.
+use Rattle.std.proofs.Common.{◌≡◌, ℕ, Bool, List, Option, Some, None, ◌⊎◌, inl, inr, subst, refl, Ok}
+use Rattle.std.specs.Borrow.{Bor}
+use Rattle.std.specs.Option.{is_some, option_map}
 use Rattle.qm_shelf.specs.ShelfState.{ShelfState}
-use Rattle.qm_shelf.specs.ShelfChanges.{IsKept, IsKeptElsewhere, MetNoFault, WriteFaultMeans}
-use Rattle.qm_shelf.specs.WholeFiles.{IsReadFrom, HoldsTheSame, HoldsExactly, HoldsUnfinished}
+use Rattle.qm_shelf.specs.ShelfChanges.{IsKept, MetNoFault}
+use Rattle.qm_shelf.specs.WholeFiles.{HoldsTheSame, HoldsUnfinished}
 use Rattle.qm_shelf.specs.declared.shelf.ShelfFault.{ShelfFault}
 use Rattle.qm_shelf.specs.declared.shelf.ShelfFault.TheVariants.{Failed, Memory}
-use Rattle.qm_shelf.proofs.Counted.{no_fault_twice, write_fault_twice}
 use Rattle.qm_mapfile.specs.declared.entity.MapFile.{MapFile}
-use Rattle.qm_grammar.specs.Faults.{text_limit}
-use Rattle.qm_grammar.specs.Meaning.{IsMapText}
 use Rattle.qm_compile.specs.declared.command.Command.{Command}
-use Rattle.qm_compile.specs.declared.status.Status.{Status}
 use Rattle.qm_compile.specs.declared.status.Status.TheVariants.{WriteFault}
-use Rattle.qm_compile.specs.ComesOf.{ComesOf, HoldsPart, IsUnfinished, IsWritten, IsCutShort, write_fault, written}
-use Rattle.qm_compile.specs.Product.{IsProduct}
+use Rattle.qm_compile.specs.Command.{FileNames}
+use Rattle.qm_compile.specs.ComesOf.{ComesOf, IsDue, HoldsPart, IsUnfinished, IsListingUnfinished, IsCutShort, write_fault, listing_fault, written}
+use Rattle.qm_compile.specs.Product.{Output, IsProduct}
 use Rattle.qm_compile.specs.TextMeans.{TextMeans}
 use Rattle.qm_compile.specs.Texts.{write_fault_text}
-use Rattle.qm_compile.proofs.ReadMeanings.{text_means}
+use Rattle.qm_compile.specs.inner.Writing.{IsAllWritten, StopsInOut, StopsInListing}
+use Rattle.qm_compile.proofs.Writings.{written_since, stopped_since, listing_stopped_since}
 
--- What comes of reading a text, making a file of it and writing the file, one after another.
+-- a listing is asked for where it has a name
+pub is_asked_for : (name : Option (Bor (List ℕ))) (listed : Bool) → listed ≡ is_some name → listed ≡ is_some (option_map (λ (word : Bor (List ℕ)). word.now) name)
+is_asked_for None listed is = is
+is_asked_for (Some name) listed is = is
 
 -- nothing was written
-pub kept_unfinished : (before after : ShelfState) (command : Command) (map_name out_name : List ℕ) → IsKept before after → IsUnfinished before after command map_name out_name
-kept_unfinished before after command map_name out_name kept = record {
+pub kept_unfinished : (before after : ShelfState) (command : Command) (files : FileNames) → IsKept before after → IsUnfinished before after command files
+kept_unfinished before after command files kept = record {
   others = λ name other. kept name;
-  part = λ tells. inl (kept out_name);
+  part = λ tells. inl (kept files.out_name);
 }
 
-module _ (before between after : ShelfState) (command : Command) (map_name out_name text file bytes : List ℕ) (status : Status) (due : List ℕ) (read : IsReadFrom before map_name text_limit text) (kept : IsKept before between) (map : MapFile) (means : IsMapText text map) (made : IsProduct command map file status due) (same : bytes ≡ file) (others : IsKeptElsewhere between after out_name) (no_fault : MetNoFault before between) where
-  its_meaning : TextMeans before map_name (Ok map)
-  its_meaning = text_means before map_name text (Ok map) read means
+module _ (before after : ShelfState) (command : Command) (files : FileNames) (output : Output) (due : IsDue before command files output) where
+  all_due : IsAllWritten before after files output → ComesOf before after command files output.status output.text
+  all_due all = written
+      (record { output = output; is_due = due; is_status = refl; is_text = refl; others = all.others; holds_out = all.holds_out; holds_listing = all.holds_listing })
+      all.no_fault
 
-  -- a part of the file was written, or nothing
-  part_written : HoldsUnfinished between after out_name bytes → HoldsTheSame before after out_name ⊎ HoldsPart before after command map_name out_name
-  part_written (inl nothing) = inl (nothing ∙ kept out_name)
-  part_written (inr part) =
-      inr (map, file, status, due, its_meaning, made, (part.0, part.1 ∙ ap (λ (b : List ℕ). Some (take part.0 b)) same))
+  part_of : HoldsUnfinished before after files.out_name output.file → HoldsTheSame before after files.out_name ⊎ HoldsPart before after command files
+  part_of (inl same) = inl same
+  part_of (inr part) = inr (output, due, part)
 
-  -- writing the file stopped on the way
-  stopped_writing : (IsTrue before.tells → HoldsUnfinished between after out_name bytes) → IsUnfinished before after command map_name out_name
-  stopped_writing stopped = record {
-    others = λ name other. others name other ∙ kept name;
-    part = λ tells. part_written (stopped tells);
+  out_unfinished : (fault : ShelfFault) → StopsInOut before after files output fault → IsUnfinished before after command files
+  out_unfinished fault stops = record { others = stops.others; part = λ tells. part_of (stops.part tells) }
+
+  listing_unfinished : (fault : ShelfFault) (stops : StopsInListing before after files output fault) → IsListingUnfinished before after command files stops.name
+  listing_unfinished fault stops = record {
+    is_asked = stops.is_asked;
+    output = output;
+    is_due = due;
+    listing = stops.bytes;
+    is_listing = stops.is_due;
+    others = stops.others;
+    holds_out = stops.holds_out;
+    part = stops.part;
   }
 
-  -- the file was written whole
-  all_written : (IsTrue before.tells → HoldsExactly after out_name bytes) → IsWritten before after command map_name out_name status due
-  all_written wrote = record {
-    others = λ name other. others name other ∙ kept name;
-    map = map;
-    is_meant = its_meaning;
-    file = file;
-    is_made = made;
-    holds = λ tells. wrote tells ∙ ap (λ (b : List ℕ). Some b) same;
-  }
+  fault_due : StopsInOut before after files output Failed ⊎ StopsInListing before after files output Failed → ComesOf before after command files WriteFault write_fault_text
+  fault_due (inl stops) = write_fault due.is_meant stops.means (out_unfinished Failed stops)
+  fault_due (inr stops) = listing_fault stops.means (listing_unfinished Failed stops)
 
-  pub written_due : (IsTrue before.tells → HoldsExactly after out_name bytes) → MetNoFault between after → ComesOf before after command map_name out_name status due
-  written_due wrote none = written (all_written wrote) (no_fault_twice before between after no_fault none)
+  memory_due : StopsInOut before after files output Memory ⊎ StopsInListing before after files output Memory → IsCutShort before after command files
+  memory_due (inl stops) = record { no_fault = stops.means; unfinished = inl (out_unfinished Memory stops) }
+  memory_due (inr stops) = record { no_fault = stops.means; unfinished = inr (stops.name, listing_unfinished Memory stops) }
 
-  -- what the fault of the write means, as the fault of the command
-  fault_since : (fault its : ShelfFault) → fault ≡ its → WriteFaultMeans between after out_name fault → WriteFaultMeans before after out_name its
-  fault_since fault its is means =
-      subst (λ (f : ShelfFault). WriteFaultMeans before after out_name f) is (write_fault_twice before between after fault out_name no_fault means)
+-- after MAP was read
+module _ (before between after : ShelfState) (command : Command) (files : FileNames) (map : MapFile) (output : Output) (tells_are : between.tells ≡ before.tells) (kept : IsKept before between) (no_fault : MetNoFault before between) (means : TextMeans before files.map_name (Ok map)) (listed : Bool) (listed_is : listed ≡ is_some files.listing_name) (made : IsProduct command listed map output) where
+  its_due : IsDue before command files output
+  its_due = record { map = map; is_meant = means; is_made = subst (λ (b : Bool). IsProduct command b map output) listed_is made }
 
-  pub write_fault_due : (IsTrue before.tells → HoldsUnfinished between after out_name bytes) → (fault : ShelfFault) → fault ≡ Failed → WriteFaultMeans between after out_name fault → ComesOf before after command map_name out_name WriteFault write_fault_text
-  write_fault_due stopped fault is means =
-      write_fault its_meaning (fault_since fault Failed is means) (stopped_writing stopped)
+  pub written_due : IsAllWritten between after files output → ComesOf before after command files output.status output.text
+  written_due all = all_due before after command files output its_due (written_since before between after files output tells_are kept no_fault all)
 
-  pub cut_short : (IsTrue before.tells → HoldsUnfinished between after out_name bytes) → (fault : ShelfFault) → fault ≡ Memory → WriteFaultMeans between after out_name fault → IsCutShort before after command map_name out_name
-  cut_short stopped fault is means = record { no_fault = fault_since fault Memory is means; unfinished = stopped_writing stopped }
+  stops_since : (fault : ShelfFault) → StopsInOut between after files output fault ⊎ StopsInListing between after files output fault → StopsInOut before after files output fault ⊎ StopsInListing before after files output fault
+  stops_since fault (inl stops) = inl (stopped_since before between after files output tells_are kept no_fault fault stops)
+  stops_since fault (inr stops) = inr (listing_stopped_since before between after files output tells_are kept no_fault fault stops)
+
+  pub write_fault_due : (fault : ShelfFault) → fault ≡ Failed → StopsInOut between after files output fault ⊎ StopsInListing between after files output fault → ComesOf before after command files WriteFault write_fault_text
+  write_fault_due fault is stops =
+      fault_due before after command files output its_due
+      (stops_since Failed (subst (λ (f : ShelfFault). StopsInOut between after files output f ⊎ StopsInListing between after files output f) is stops))
+
+  pub cut_short : (fault : ShelfFault) → fault ≡ Memory → StopsInOut between after files output fault ⊎ StopsInListing between after files output fault → IsCutShort before after command files
+  cut_short fault is stops =
+      memory_due before after command files output its_due
+      (stops_since Memory (subst (λ (f : ShelfFault). StopsInOut between after files output f ⊎ StopsInListing between after files output f) is stops))

@@ -1,4 +1,4 @@
-use Rattle.std.specs.Prelude.{ℕ, IsTrue, List}
+use Rattle.std.specs.Prelude.{◌≡◌, ℕ, IsTrue, List, Some}
 use Rattle.qm_shelf.specs.Counts.{Rose}
 use Rattle.qm_shelf.specs.Outside.{Outside}
 use Rattle.qm_shelf.specs.ShelfState.{text_under}
@@ -11,15 +11,17 @@ use Rattle.qm_compile.specs.declared.command.Command.TheVariants.{Compile, Forma
 use Rattle.qm_compile.specs.declared.status.Status.{Status}
 use Rattle.qm_compile.specs.declared.status.Status.TheVariants.{Done, Leak, MapFault, Memory}
 use Rattle.qm_compile.specs.Built.{IsBuilt}
-use Rattle.qm_compile.specs.Command.{IsCommand}
+use Rattle.qm_compile.specs.Command.{FileNames, IsCommand}
 use Rattle.qm_compile.specs.CompiledMap.{NoneLeaks}
 
 -- How a command ends that meets no fault of the outside.
 
--- none of the counts of faults rose that the command can raise: those of reading MAP, of writing OUT and of printing
-pub record MetNone (before after : Outside) (map_name out_name : List ℕ) : Type 0 where
-  pub reading : Rose (before.shelf.read_faults map_name) (after.shelf.read_faults map_name) → ⊥
-  pub writing : Rose (before.shelf.write_faults out_name) (after.shelf.write_faults out_name) → ⊥
+-- none of the counts of faults rose that the command can raise: those of reading MAP, of writing OUT and FILE and of
+-- printing
+pub record MetNone (before after : Outside) (files : FileNames) : Type 0 where
+  pub reading : Rose (before.shelf.read_faults files.map_name) (after.shelf.read_faults files.map_name) → ⊥
+  pub writing : Rose (before.shelf.write_faults files.out_name) (after.shelf.write_faults files.out_name) → ⊥
+  pub listing : (name : List ℕ) → files.listing_name ≡ Some name → Rose (before.shelf.write_faults name) (after.shelf.write_faults name) → ⊥
   pub printing : Rose before.sink.faults after.sink.faults → ⊥
 
 -- it is done, or memory ran out, or the text has a fault, or, of `compile`, an entity leaks
@@ -44,8 +46,8 @@ IsDoneOrMemory _ = ⊥
 -- where the words are a command that meets no fault, the status is one of these; and where the text that the shelf holds
 -- is a map that can be done, it is done or memory ran out
 pub record IsComplete (words : List (List ℕ)) (before after : Outside) (status : Status) : Type 0 where
-  pub ends : (command : Command) (map_name out_name : List ℕ) → IsCommand words command map_name out_name →
-      MetNone before after map_name out_name → CanEnd status command
-  pub done : IsTrue before.shelf.tells → (command : Command) (map_name out_name : List ℕ) → IsCommand words command map_name out_name →
-      MetNone before after map_name out_name → (map : MapFile) → IsMapText (text_under before.shelf map_name) map →
+  pub ends : (command : Command) (files : FileNames) → IsCommand words command files →
+      MetNone before after files → CanEnd status command
+  pub done : IsTrue before.shelf.tells → (command : Command) (files : FileNames) → IsCommand words command files →
+      MetNone before after files → (map : MapFile) → IsMapText (text_under before.shelf files.map_name) map →
       CanBeDone command map → IsDoneOrMemory status

@@ -14,4 +14,5 @@ pub mod Summary
 pub mod TextMeans
 pub mod Texts
 pub mod TreeOfMap
+pub mod Written
 pub mod inner

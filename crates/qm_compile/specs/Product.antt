@@ -1,9 +1,14 @@
-use Rattle.std.specs.Prelude.{◌≡◌, ◌≤◌, ℕ, List, length}
+use Rattle.std.specs.Prelude.{◌≡◌, ◌≤◌, ℕ, Bool, true, false, List, Option, Some, None, length}
 use Rattle.qm_mapfile.specs.declared.entity.MapFile.{MapFile}
 use Rattle.qm_grammar.specs.Faults.{text_limit}
 use Rattle.qm_grammar.specs.Meaning.{IsMapText}
 use Rattle.qm_mapout.specs.Printed.{printed}
+use Rattle.qm_contacts.specs.World.{World}
+use Rattle.qm_file.specs.declared.tree_file.TreeFile.{TreeFile}
 use Rattle.qm_formats.specs.TreeFile.{file_bytes}
+use Rattle.qm_listing.specs.declared.listing.Listing.{Listing}
+use Rattle.qm_listing.specs.Grammar.{listing_text}
+use Rattle.qm_listing.specs.WorldListing.{IsListingOf}
 use Rattle.qm_compile.specs.declared.command.Command.{Command}
 use Rattle.qm_compile.specs.declared.command.Command.TheVariants.{Compile, Format}
 use Rattle.qm_compile.specs.declared.compiled.Compiled.{Compiled}
@@ -11,32 +16,58 @@ use Rattle.qm_compile.specs.declared.compiled.Compiled.TheVariants as compiled
 use Rattle.qm_compile.specs.declared.options.Options.{Options}
 use Rattle.qm_compile.specs.declared.status.Status.{Status}
 use Rattle.qm_compile.specs.declared.status.Status.TheVariants.{Done, Leak}
+use Rattle.qm_compile.specs.declared.summary.Summary.{Summary}
 use Rattle.qm_compile.specs.CompiledMap.{IsCompiled}
 use Rattle.qm_compile.specs.Summary.{summary_text, format_summary}
 use Rattle.qm_compile.specs.Texts.{leak_text}
 
--- What a command makes of a map: a file, and the status and the text that are due once it is written.
+-- What a command makes of a map.
 
--- the bytes of a tree file, with the summary; or, where an entity leaks, with that entity and its trail
-abbrev pub IsPutOut : Compiled → List ℕ → Status → List ℕ → Type 0
-IsPutOut (compiled.Done file world summary) bytes Done text = (bytes ≡ file_bytes (file.tree, file.rows)) × (text ≡ summary_text summary)
-IsPutOut (compiled.Leak file entity trail) bytes Leak text = (bytes ≡ file_bytes (file.tree, file.rows)) × (text ≡ leak_text entity trail)
-IsPutOut _ bytes _ text = ⊥
+-- the bytes of OUT, those of the listing where one is made, and the status and the text that are due once they are written
+pub record Output : Type 0 where
+  pub file : List ℕ
+  pub listing : Option (List ℕ)
+  pub status : Status
+  pub text : List ℕ
+
+-- the text of a listing of a world, where one is asked for
+abbrev pub IsListed : Bool → World → Option (List ℕ) → Type 0
+IsListed true world bytes = (listing : Listing) × IsListingOf world listing × (bytes ≡ Some (listing_text listing))
+IsListed false world bytes = bytes ≡ None
+
+-- the bytes of a tree file, its world's listing where one is asked for, and the summary
+pub record IsDoneOutput (listed : Bool) (file : TreeFile) (world : World) (summary : Summary) (output : Output) : Type 0 where
+  pub is_file : output.file ≡ file_bytes (file.tree, file.rows)
+  pub is_listed : IsListed listed world output.listing
+  pub is_status : output.status ≡ Done
+  pub is_text : output.text ≡ summary_text summary
+
+-- where an entity leaks: the bytes of a tree file, no listing, and that entity and its trail
+pub record IsLeakOutput (file : TreeFile) (entity : ℕ) (trail : List ℕ) (output : Output) : Type 0 where
+  pub is_file : output.file ≡ file_bytes (file.tree, file.rows)
+  pub is_not_listed : output.listing ≡ None
+  pub is_status : output.status ≡ Leak
+  pub is_text : output.text ≡ leak_text entity trail
+
+abbrev pub IsPutOut : Bool → Compiled → Output → Type 0
+IsPutOut listed (compiled.Done file world summary) output = IsDoneOutput listed file world summary output
+IsPutOut listed (compiled.Leak file entity trail) output = IsLeakOutput file entity trail output
 
 -- what the map compiles to is put out
-pub record IsCompiledFile (options : Options) (map : MapFile) (bytes : List ℕ) (status : Status) (text : List ℕ) : Type 0 where
+pub record IsCompiledFile (options : Options) (listed : Bool) (map : MapFile) (output : Output) : Type 0 where
   pub compiled : Compiled
   pub is_compiled : IsCompiled map options compiled
-  pub is_put_out : IsPutOut compiled bytes status text
+  pub is_put_out : IsPutOut listed compiled output
 
 -- the canonical text of the map and its counts; the text means the map, where it is within the limit
-pub record IsFormatted (map : MapFile) (file text : List ℕ) : Type 0 where
-  pub is_file : file ≡ printed map
-  pub is_summary : text ≡ format_summary map
+pub record IsFormatted (map : MapFile) (output : Output) : Type 0 where
+  pub is_file : output.file ≡ printed map
   pub is_true : length (printed map) ≤ text_limit → IsMapText (printed map) map
+  pub is_not_listed : output.listing ≡ None
+  pub is_status : output.status ≡ Done
+  pub is_text : output.text ≡ format_summary map
 
--- the file that a command makes of a map, and what is due with it
-unfoldable pub IsProduct : Command → MapFile → List ℕ → Status → List ℕ → Type 0
-IsProduct (Compile options) map file status text = IsCompiledFile options map file status text
-IsProduct Format map file Done text = IsFormatted map file text
-IsProduct Format map file _ text = ⊥
+-- what a command makes of a map, where a listing is asked for or not
+unfoldable pub IsProduct : Command → Bool → MapFile → Output → Type 0
+IsProduct (Compile options) listed map output = IsCompiledFile options listed map output
+IsProduct Format listed map output = IsFormatted map output

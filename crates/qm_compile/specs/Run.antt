@@ -7,7 +7,7 @@ use Rattle.qm_compile.specs.declared.command.Command.{Command}
 use Rattle.qm_compile.specs.declared.status.Status.{Status}
 use Rattle.qm_compile.specs.declared.status.Status.TheVariants as status
 use Rattle.qm_compile.specs.declared.status.Status.TheVariants.{Done, Usage, Leak, ReadFault, WriteFault, Memory}
-use Rattle.qm_compile.specs.Command.{IsCommand, IsNoCommand}
+use Rattle.qm_compile.specs.Command.{FileNames, IsCommand, IsNoCommand}
 use Rattle.qm_compile.specs.ComesOf.{ComesOf, IsCutShort}
 use Rattle.qm_compile.specs.Texts.{usage_text}
 
@@ -19,8 +19,8 @@ pub data Due (words : List (List ℕ)) (before after : ShelfState) : Status → 
       IsNoCommand words → IsKept before after → MetNoFault before after →
       Due words before after Usage usage_text
   command :
-      {command : Command} {map_name out_name : List ℕ} {status : Status} {text : List ℕ} →
-      IsCommand words command map_name out_name → ComesOf before after command map_name out_name status text →
+      {command : Command} {files : FileNames} {status : Status} {text : List ℕ} →
+      IsCommand words command files → ComesOf before after command files status text →
       Due words before after status text
 
 -- a status was due, and its text was printed
@@ -44,8 +44,8 @@ RunsOutReporting words before after = PrintedWithoutFault before.sink after.sink
 -- memory ran out on the way of a command, before a status was due, and nothing was printed
 abbrev pub RunsOut : List (List ℕ) → Outside → Outside → Type 0
 RunsOut words before after =
-    (command : Command) × (map_name : List ℕ) × (out_name : List ℕ) × IsCommand words command map_name out_name
-    × IsCutShort before.shelf after.shelf command map_name out_name × IsPrinted before.sink after.sink []
+    (command : Command) × (files : FileNames) × IsCommand words command files
+    × IsCutShort before.shelf after.shelf command files × IsPrinted before.sink after.sink []
 
 -- what each answer of a run says of the outside before it and after it
 unfoldable pub Answers : List (List ℕ) → Outside → Outside → Status → Type 0

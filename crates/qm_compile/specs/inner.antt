@@ -3,3 +3,5 @@ pub mod Finished
 pub mod FlatCount
 pub mod Made
 pub mod Outcome
+pub mod WordsRead
+pub mod Writing

@@ -2,10 +2,9 @@
 
 ghost use Rattle.std.specs.Prelude.{◌≡◌, ◌<◌, ◌^◌, ◌++◌, length, IfOk, codes, string_bytes};
 ghost use Rattle.qm_grammar.specs.Valid.{IsValid};
-ghost use Rattle.qm_compile.specs.declared.command.Command.TheVariants.{Format};
-ghost use Rattle.qm_compile.specs.Product.{IsProduct};
+ghost use Rattle.qm_compile.specs.Product.{IsFormatted};
 ghost use Rattle.qm_compile.specs.Summary.{brush_count, format_summary};
-ghost use Rattle.qm_compile.specs.inner.Outcome.{status_of, text_of};
+ghost use Rattle.qm_compile.specs.inner.Made.{output_of};
 
 use crate::count_lines::put_count_line;
 use crate::made::Product;
@@ -17,14 +16,14 @@ use std::alloc::{AllocError, Global};
 /// The canonical text of a map, with the number of its entities and of their brushes.
 pub fn format(alloc: Global, map: &MapFile) -> Result<Product, AllocError>
     requires { IsValid map.now }
-    ensures { IfOk result
-        (λ product. IsProduct Format map.now product.file.items (status_of product.outcome) (text_of product.outcome)) }
+    ensures { IfOk result (λ product. IsFormatted map.now (output_of product)) }
 {
     let summary = summary(alloc, map)?;
     let mut file = Vec::new(alloc);
     print(alloc, map, &mut file)?;
     Ok(Product {
         file,
+        listing: None,
         outcome: Outcome::Done(summary),
     })
 }

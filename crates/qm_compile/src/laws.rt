@@ -1,8 +1,7 @@
 //! How the program ends over forms that never fail.
 
-ghost use Rattle.std.specs.Prelude.{ℕ, List};
 ghost use Rattle.qm_compile.specs.declared.command.Command.{Command};
-ghost use Rattle.qm_compile.specs.Command.{IsCommand, words_of};
+ghost use Rattle.qm_compile.specs.Command.{FileNames, IsCommand, words_of};
 ghost use Rattle.qm_compile.specs.Complete.{CanEnd};
 
 use crate::program::run;
@@ -20,7 +19,7 @@ pub fn run_surely<R: Threads + Sync>(
     shelf: &mut SureShelf,
     out: &mut SureSink,
 ) -> Status
-    ensures { (command : Command) (map_name out_name : List ℕ) → IsCommand (words_of words.now) command map_name out_name → CanEnd result command }
+    ensures { (command : Command) (files : FileNames) → IsCommand (words_of words.now) command files → CanEnd result command }
 {
     run(rt, alloc, words, shelf, out)
 }

@@ -1,6 +1,8 @@
 //! Compiles a map to a tree with rows, looks for leaks, and does all that the program does.
 #![tactic(auto)]
 
+mod asked;
+mod asking;
 mod building;
 mod command;
 mod compiled;
@@ -9,6 +11,7 @@ mod count_lines;
 mod counting;
 mod entity_origins;
 mod fault_text;
+mod files;
 mod format;
 pub mod laws;
 mod made;
@@ -21,6 +24,7 @@ mod putting_out;
 mod status;
 mod summary;
 mod words;
+mod writing;
 
 pub use compiled::Compiled;
 pub use compiling::compile;

@@ -12,14 +12,19 @@ use qm_map::{MapFault, parse};
 use qm_mapfile::MapFile;
 use std::alloc::{AllocError, Global};
 
-/// Makes of a text what a command asks for. The text is let go of before the file is made.
-pub fn make(alloc: Global, command: Command, text: Vec<u8>) -> Result<Made, AllocError>
-    ensures { IfOk result (λ made. ComesOfText command text.items made) }
+/// Makes of a text what a command asks for, with a listing or without one. The text is let go of before the file is made.
+pub fn make(
+    alloc: Global,
+    command: Command,
+    listed: bool,
+    text: Vec<u8>,
+) -> Result<Made, AllocError>
+    ensures { IfOk result (λ made. ComesOfText command listed text.items made) }
 {
     let meaning = parse(alloc, &text);
     drop(text);
     match meaning {
-        Ok(map) => make_of_map(alloc, command, &map),
+        Ok(map) => make_of_map(alloc, command, listed, &map),
         Err(fault) => fault_of_text(fault),
     }
 }
@@ -35,13 +40,19 @@ fn fault_of_text(fault: MapFault) -> Result<Made, AllocError>
 }
 
 /// Makes of a map what a command asks for.
-fn make_of_map(alloc: Global, command: Command, map: &MapFile) -> Result<Made, AllocError>
+#[tactic(auto, unfolding(crate::specs::Product::IsProduct))]
+fn make_of_map(
+    alloc: Global,
+    command: Command,
+    listed: bool,
+    map: &MapFile,
+) -> Result<Made, AllocError>
     requires { IsValid map.now }
-    ensures { IfOk result (λ made. ComesOfMap command map.now made) }
+    ensures { IfOk result (λ made. ComesOfMap command listed map.now made) }
 {
     match command {
         Command::Compile(options) => {
-            let product = compile_to_file(alloc, map, options)?;
+            let product = compile_to_file(alloc, map, options, listed)?;
             Ok(Made::Product(product))
         }
         Command::Format => {

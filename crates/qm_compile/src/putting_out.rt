@@ -1,10 +1,10 @@
-//! From a map to the bytes of its tree file, and what is printed of it.
+//! From a map to the bytes of its tree file and its listing, and what is printed of it.
 
 ghost use Rattle.std.specs.Prelude.{IfOk};
 ghost use Rattle.qm_grammar.specs.Valid.{IsValid};
-ghost use Rattle.qm_compile.specs.declared.command.Command.TheVariants.{Compile};
-ghost use Rattle.qm_compile.specs.Product.{IsProduct, IsPutOut};
-ghost use Rattle.qm_compile.specs.inner.Outcome.{status_of, text_of};
+ghost use Rattle.std.specs.Option.{option_map};
+ghost use Rattle.qm_compile.specs.Product.{IsCompiledFile, IsListed, IsPutOut};
+ghost use Rattle.qm_compile.specs.inner.Made.{output_of};
 
 use crate::compiled::Compiled;
 use crate::compiling::compile;
@@ -14,26 +14,27 @@ use crate::outcome::Outcome;
 use crate::printed::{leak_text, summary_text};
 use qm_file::encode;
 use qm_mapfile::MapFile;
+use qm_portal::World;
+use qm_prt::print;
 use std::alloc::{AllocError, Global};
 
-/// Compiles a map to the bytes of a tree file.
+/// Compiles a map to the bytes of a tree file, and to a listing where one is asked for.
 pub fn compile_to_file(
     alloc: Global,
     map: &MapFile,
     options: Options,
+    listed: bool,
 ) -> Result<Product, AllocError>
     requires { IsValid map.now }
-    ensures { IfOk result
-        (λ product. IsProduct (Compile options) map.now product.file.items (status_of product.outcome) (text_of product.outcome)) }
+    ensures { IfOk result (λ product. IsCompiledFile options listed map.now (output_of product)) }
 {
     let compiled = compile(alloc, map, &options)?;
-    put_out(alloc, compiled)
+    put_out(alloc, listed, compiled)
 }
 
 /// The bytes of what a map compiled to, with what is printed of it.
-fn put_out(alloc: Global, compiled: Compiled) -> Result<Product, AllocError>
-    ensures { IfOk result
-        (λ product. IsPutOut compiled product.file.items (status_of product.outcome) (text_of product.outcome)) }
+fn put_out(alloc: Global, listed: bool, compiled: Compiled) -> Result<Product, AllocError>
+    ensures { IfOk result (λ product. IsPutOut listed compiled (output_of product)) }
 {
     match compiled {
         Compiled::Done {
@@ -41,11 +42,13 @@ fn put_out(alloc: Global, compiled: Compiled) -> Result<Product, AllocError>
             world,
             summary,
         } => {
+            let listing = listing_of(alloc, listed, &world)?;
             drop(world);
             let text = summary_text(alloc, &summary)?;
             let file = encode(alloc, &file)?;
             Ok(Product {
                 file,
+                listing,
                 outcome: Outcome::Done(text),
             })
         }
@@ -58,8 +61,21 @@ fn put_out(alloc: Global, compiled: Compiled) -> Result<Product, AllocError>
             let file = encode(alloc, &file)?;
             Ok(Product {
                 file,
+                listing: None,
                 outcome: Outcome::Leak(text),
             })
         }
     }
+}
+
+/// The text of a listing of a world, where one is asked for.
+fn listing_of(alloc: Global, listed: bool, world: &World) -> Result<Option<Vec<u8>>, AllocError>
+    ensures { IfOk result (λ listing. IsListed listed world.now (option_map (λ bytes. bytes.items) listing)) }
+{
+    if !listed {
+        return Ok(None);
+    }
+    let mut bytes = Vec::new(alloc);
+    print(alloc, world, &mut bytes)?;
+    Ok(Some(bytes))
 }

@@ -1,41 +1,18 @@
 -- The planes that bound a cell, of which one with the normal of another takes its place where it is nearer.
-use Rattle.std.proofs.Common.{◌≡◌, ℕ, ◌<◌, ℤ, pos, ◌+ℤ◌, ◌*ℤ◌, ◌<ℤ◌, ◌≤ℤ◌, List, [], ◌∷◌, ◌++◌, length, map, get_or, set, Some, refl, ap, sym, ◌∙◌, subst, arith, ⊎_elim}
-use Rattle.std.proofs.Math.IntN.{*ℤ_comm}
+use Rattle.std.proofs.Common.{◌≡◌, ℕ, ◌<◌, ◌≤ℤ◌, List, [], ◌∷◌, ◌++◌, length, map, get_or, set, Some, refl, ap, sym, ◌∙◌, subst, ⊎_elim}
 use Rattle.std.proofs.lemmas.Bool.Decides.{eqb_tells}
 use Rattle.std.proofs.lemmas.List.{get_or-set_same, get_or-set_other, length-set}
 use Rattle.std.proofs.lemmas.List.Elements.{All-push, All-pop, All-set, All-from_get_or, All-get_or}
-use Rattle.qm_numbers.proofs.IntegerProducts.{linear}
-use Rattle.qm_numbers.proofs.Signs.{times_at_most}
-use Rattle.qm_space.specs.Point.{Point}
-use Rattle.qm_space.specs.Plane.{Plane, value, IsInFront}
+use Rattle.qm_space.specs.Plane.{Plane, IsInFront}
 use Rattle.qm_space.specs.Cell.{IsInCell}
 use Rattle.std.specs.List.{AllZip}
 use Rattle.qm_space.specs.Cube.{cube_walls}
 use Rattle.qm_convex.specs.Winding.{Winding}
 use Rattle.qm_convex.specs.World.{IsCubeFace}
 use Rattle.qm_convex.specs.inner.Facets.{inward_of, facing_in}
-use Rattle.qm_contacts.specs.inner.Bounds.{HasSameNormal, IsBoundAdded}
-
--- planes of one normal differ by their distances alone
-same_normal_values : (g h : Plane) (x : Point) → HasSameNormal g h → value g x +ℤ (g.d *ℤ x.w) ≡ value h x +ℤ (h.d *ℤ x.w)
-unfolding value
-same_normal_values g h x same =
-    let a = ap (λ (n : ℤ). n *ℤ x.x) same.nx in
-    let b = ap (λ (n : ℤ). n *ℤ x.y) same.ny in
-    let c = ap (λ (n : ℤ). n *ℤ x.z) same.nz in
-    omega (arith, linear)
-
--- what is in front of the nearer one is in front of the other
-pub front_of_farther : (g h : Plane) (x : Point) → HasSameNormal g h → h.d ≤ℤ g.d → pos 0 <ℤ x.w → IsInFront g x → IsInFront h x
-front_of_farther g h x same less weight front =
-    let e = same_normal_values g h x same in
-    let p = times_at_most x.w h.d g.d (omega (arith, linear)) less in
-    let c = *ℤ_comm x.w h.d in
-    let d = *ℤ_comm x.w g.d in
-    omega (arith, linear)
-
-pub same_normal_back : (g h : Plane) → HasSameNormal g h → HasSameNormal h g
-same_normal_back g h same = record { nx = sym same.nx; ny = sym same.ny; nz = sym same.nz }
+use Rattle.qm_convex.specs.Section.{HasSameNormal}
+use Rattle.qm_convex.proofs.AxialBounds.{front_of_farther, same_normal_back}
+use Rattle.qm_contacts.specs.inner.Bounds.{IsBoundAdded}
 
 -- the plane is pushed
 pub bound_pushed : (h : Plane) (old new : List Plane) → new ≡ old ++ h ∷ [] → IsBoundAdded h old new

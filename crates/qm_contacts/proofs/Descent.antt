@@ -19,7 +19,8 @@ use Rattle.qm_space.proofs.SameSides.{same_in_front}
 use Rattle.qm_space.proofs.Cubes.{cube_is_cell}
 use Rattle.qm_convex.specs.Winding.{Winding, IsInRegion}
 use Rattle.qm_convex.specs.World.{IsCubeFace}
-use Rattle.qm_convex.specs.inner.Facets.{IsOnFacet, Facet, facing_in, IsFacet, HasNoFacet, AreFacetsOn, none, facet, hidden, AreCut, IsSection}
+use Rattle.qm_convex.specs.inner.Facets.{IsOnFacet, Facet, facing_in, IsFacet, HasNoFacet, AreFacetsOn, none, facet, hidden, AreCut}
+use Rattle.qm_convex.specs.Section.{IsSection}
 use Rattle.qm_convex.proofs.Central.{has_a_point}
 use Rattle.qm_convex.proofs.ImpliedPlanes.{beside_of_cell}
 use Rattle.qm_convex.proofs.Facets.{crosses_cell, left_of_side}

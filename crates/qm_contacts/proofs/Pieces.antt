@@ -14,7 +14,7 @@ use Rattle.qm_space.proofs.Cubes.{cube_is_cell}
 use Rattle.qm_convex.specs.Winding.{Winding, IsInRegion, IsConvex}
 use Rattle.qm_convex.specs.Cut.{IsPartInFront, IsPartWithin}
 use Rattle.qm_convex.specs.Sides.{HasNoneInFront}
-use Rattle.qm_convex.specs.inner.Facets.{IsSection}
+use Rattle.qm_convex.specs.Section.{IsSection}
 use Rattle.qm_convex.proofs.Cutting.{all_at_first}
 use Rattle.qm_partition.specs.declared.node.Leaf.{Leaf}
 use Rattle.qm_partition.specs.Partition.{leaf}

@@ -14,7 +14,8 @@ use Rattle.qm_convex.specs.Winding.{Winding, IsInRegion, IsConvex}
 use Rattle.qm_convex.specs.Cut.{IsPartInFront, IsPartWithin}
 use Rattle.qm_convex.specs.Sides.{HasNoneInFront, HasSomeInFront}
 use Rattle.qm_convex.specs.World.{IsWorldPart}
-use Rattle.qm_convex.specs.inner.Facets.{IsOnFacet, HasNoFacet, Facet, IsFacet, AreFacetsOn, AreFacets, none, facet, hidden, AreCut, left, gone, IsSection, inward_of}
+use Rattle.qm_convex.specs.inner.Facets.{IsOnFacet, HasNoFacet, Facet, IsFacet, AreFacetsOn, AreFacets, none, facet, hidden, AreCut, left, gone, inward_of}
+use Rattle.qm_convex.specs.Section.{IsSection}
 use Rattle.qm_convex.proofs.Central.{has_a_point}
 use Rattle.qm_convex.proofs.ImpliedPlanes.{beside_of_cell, facets_from_cell, cell_from_facets}
 

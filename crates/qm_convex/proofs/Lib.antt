@@ -7,7 +7,9 @@ pub mod Central
 pub mod NewCorners
 pub mod CutAtFirst
 pub mod Cutting
+pub mod Parallelograms
 pub mod Squares
+pub mod AxialBounds
 pub mod Vertices
 pub mod Rows
 pub mod Runs

@@ -9,7 +9,7 @@ use Rattle.qm_space.specs.Cuboid.{Cuboid, whole_cuboid, least_value, greatest_va
 use Rattle.qm_space.proofs.Planes.{value_flipped}
 use Rattle.qm_space.proofs.Cuboids.{least_value_bound, greatest_value_bound, closed_cube_in_whole}
 use Rattle.qm_convex.specs.Winding.{Winding, IsInRegion}
-use Rattle.qm_convex.specs.Sides.{HasNoneInFront, IsWhollyInFront, LiesIn}
+use Rattle.qm_convex.specs.Sides.{HasNoneInFront, IsWhollyInFront}
 use Rattle.qm_convex.specs.Cut.{IsPartInFront}
 use Rattle.qm_convex.specs.World.{IsInWorld, LiesWithin}
 

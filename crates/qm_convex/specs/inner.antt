@@ -1,3 +1,4 @@
 pub mod FrontRun
+pub mod Parallelogram
 pub mod Square
 pub mod Facets

@@ -42,6 +42,15 @@ impl Span {
         }
     }
 
+    /// From one coordinate to another.
+    pub fn between(low: i32, high: i32) -> Span
+        requires low { IsCoordinate low }
+        requires high { IsCoordinate high }
+        ensures { result ≡ record { low = low; high = high } }
+    {
+        Span { low, high }
+    }
+
     /// What is, times a component, at least a number, rounded outward. The span itself where that is all
     /// of it.
     fn tightened(self, component: i32, least: i64) -> Span

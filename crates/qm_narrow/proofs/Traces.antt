@@ -53,3 +53,10 @@ traced_small v traced listed e f world k d h =
     let same = e ∙ f in let n = corners_length v in let m = ap length same in
     let below : k < length v.edges = omega arith in
     is_small v v k (get_or listed k d) refl world below (ap (λ (ps : List Point). get_or ps k d) same ∙ corner_in_list v k d below)
+
+-- the whole points at a place of those that are kept are near the corner there
+pub spot_at : (v u : Winding) (traced : List Point) (spots listed : List Spot) (i : ℕ) (d : Spot) → IsTrace v traced spots → v ≡ u → listed ≡ spots → i < length listed → (i < length u.edges) × IsSpotOf (corner_at u i) (get_or listed i d)
+spot_at v u traced spots listed i d is e f l =
+    let n = is.one_each in let m = ap length f in
+    let within : i < length v.edges = omega arith in
+    (subst (λ (w : Winding). i < length w.edges) e within, subst (λ (w : Winding). IsSpotOf (corner_at w i) (get_or listed i d)) e (subst (λ (ss : List Spot). IsSpotOf (corner_at v i) (get_or ss i d)) (sym f) (is.spots_are i d within)))

@@ -1,14 +1,17 @@
 //! Separators along one normal, and through three whole points.
 
-ghost use Rattle.std.specs.Prelude.{◌≡◌, ◌↔◌, IsTrue, [], ◌∷◌, Contains, OnOk};
+ghost use Rattle.std.specs.Prelude.{◌≡◌, false, ◌↔◌, IsTrue, [], ◌∷◌, Contains, OnOk};
 ghost use Rattle.qm_space.specs.Point.{whole_point, AreCoordinates};
 ghost use Rattle.qm_space.specs.Vector.{normal_of};
+ghost use Rattle.qm_space.specs.Plane.{Plane};
 ghost use Rattle.qm_geom.specs.LeastDistance.{IsLeastDistance};
 ghost use Rattle.qm_convex.specs.Winding.{corners};
 ghost use Rattle.qm_separators.specs.Across.{HasLowestNormal};
 ghost use Rattle.qm_separators.specs.Gains.{Gains};
 ghost use Rattle.qm_separators.specs.inner.Found.{PartsAlong, AreCandidate, SeparatesBy};
 
+use crate::normal::Normal;
+use crate::outlook::Outlook;
 use crate::sides::parts;
 use crate::traced::Traced;
 use qm_geom::Plane;
@@ -29,14 +32,39 @@ pub(crate) fn gain_through(
     requires candidate { AreCandidate source.now pass.now (whole_point at) (whole_point from) (whole_point to) }
     ensures { OnOk result (Gains (SeparatesBy source.now pass.now (whole_point at) (whole_point from) (whole_point to)) planes.old.items planes.new.items) }
 {
+    let normal = Normal::through(at, from, to);
+    let outlook = Outlook::of(source, pass, &normal);
+    if outlook.is_none() {
+        return Ok(());
+    }
     match Plane::through(at, from, to) {
         Err(_) => Ok(()),
-        Ok((plane, _)) => {
-            gain_along(planes, source, pass, &plane)?;
-            gain_along(planes, source, pass, &plane.flipped())?;
+        Ok((plane, front)) => {
+            let turned = plane.flipped();
+            gain_where(planes, source, pass, &plane, outlook.towards(front))?;
+            gain_where(planes, source, pass, &turned, outlook.towards(!front))?;
             Ok(())
         }
     }
+}
+
+/// Gains the plane with this plane's normal at the least distance, if it parts both windings; it may not do so where the
+/// flag is not set.
+fn gain_where(
+    planes: &mut Vec<Plane>,
+    source: &Traced,
+    pass: &Traced,
+    along: &Plane,
+    may: bool,
+) -> Result<(), AllocError>
+    requires lowest { HasLowestNormal along.now }
+    requires not { may ≡ false → (h : Plane) → PartsAlong source.now pass.now along.now h → ⊥ }
+    ensures { OnOk result (Gains (PartsAlong source.now pass.now along.now) planes.old.items planes.new.items) }
+{
+    if may {
+        gain_along(planes, source, pass, along)?;
+    }
+    Ok(())
 }
 
 /// Gains the plane with this plane's normal at the least distance, if it parts both windings.

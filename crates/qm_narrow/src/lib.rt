@@ -6,12 +6,17 @@ mod candidates;
 mod chain_state;
 pub mod laws;
 mod narrowing;
+mod near;
+mod normal;
+mod outlook;
 mod passing;
+mod reach;
 mod separating;
 mod sides;
 mod spot;
 mod stepping;
 mod traced;
+mod whole;
 
 pub use chain_state::ChainState;
 pub use passing::may_pass;

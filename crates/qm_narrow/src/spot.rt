@@ -1,6 +1,15 @@
-ghost use Rattle.qm_space.specs.Cube.{IsInClosedCube};
-ghost use Rattle.qm_geom.specs.Rounding.{HasSmallCoordinates};
+//! Whole points near corners.
 
+ghost use Rattle.std.specs.Prelude.{◌≡◌, ◌≤◌, ◌^◌, ◌*ℤ◌, unsigned_abs};
+ghost use Rattle.qm_space.specs.Cube.{IsInClosedCube};
+ghost use Rattle.qm_space.specs.Point.{IsCoordinate, AreCoordinates};
+ghost use Rattle.qm_space.specs.Cuboid.{least_product, greatest_product};
+ghost use Rattle.qm_geom.specs.Rounding.{HasSmallCoordinates};
+ghost use Rattle.qm_narrow.specs.inner.Trace.{IsSpotOf};
+
+use crate::near::Near;
+use crate::normal::Normal;
+use crate::whole::whole_corner;
 use qm_geom::Corner;
 
 /// The whole points near a corner: the nearest one, and the coordinates rounded down and up.
@@ -13,6 +22,7 @@ pub(crate) struct Spot {
 
 impl Spot {
     ghost use Rattle.qm_narrow.specs.inner.Trace.{IsSpotOf};
+    ghost use Rattle.qm_narrow.specs.inner.Look.{IsSmallNormal, least_along, greatest_along};
 
     /// Those of a corner.
     pub(crate) fn of(corner: &Corner) -> Spot
@@ -20,11 +30,88 @@ impl Spot {
         requires in_cube { IsInClosedCube corner.now }
         ensures { IsSpotOf corner.now result }
     {
-        let (below, above) = corner.around();
-        Spot {
-            nearest: corner.rounded(),
-            below,
-            above,
+        if let Some(at) = whole_corner(corner) {
+            return Spot {
+                nearest: at,
+                below: at,
+                above: at,
+            };
         }
+        divided(corner)
     }
+
+    /// The least that a normal has along a point between those below and above.
+    pub(crate) fn least(&self, normal: &Normal) -> i64
+        requires below_in { AreCoordinates self.now.below }
+        requires above_in { AreCoordinates self.now.above }
+        requires small { IsSmallNormal normal.now (2 ^ 26) }
+        ensures exact { result ≡ least_along normal.now self.now }
+        ensures size { unsigned_abs result ≤ 2 ^ 40 }
+    {
+        let products = Normal {
+            x: least_product(normal.x, self.below[0], self.above[0]),
+            y: least_product(normal.y, self.below[1], self.above[1]),
+            z: least_product(normal.z, self.below[2], self.above[2]),
+        };
+        products.sum()
+    }
+
+    /// The greatest that it has.
+    pub(crate) fn greatest(&self, normal: &Normal) -> i64
+        requires below_in { AreCoordinates self.now.below }
+        requires above_in { AreCoordinates self.now.above }
+        requires small { IsSmallNormal normal.now (2 ^ 26) }
+        ensures exact { result ≡ greatest_along normal.now self.now }
+        ensures size { unsigned_abs result ≤ 2 ^ 40 }
+    {
+        let products = Normal {
+            x: least_product(normal.x, self.above[0], self.below[0]),
+            y: least_product(normal.y, self.above[1], self.below[1]),
+            z: least_product(normal.z, self.above[2], self.below[2]),
+        };
+        products.sum()
+    }
+}
+
+/// Those of a corner, by a division for each coordinate.
+fn divided(corner: &Corner) -> Spot
+    requires small { HasSmallCoordinates corner.now }
+    requires in_cube { IsInClosedCube corner.now }
+    ensures { IsSpotOf corner.now result }
+{
+    let (x, weight) = corner.fraction(0);
+    let (y, _) = corner.fraction(1);
+    let (z, _) = corner.fraction(2);
+    let near_x = Near::of(x, weight);
+    let near_y = Near::of(y, weight);
+    let near_z = Near::of(z, weight);
+    Spot {
+        nearest: [near_x.nearest, near_y.nearest, near_z.nearest],
+        below: [near_x.below, near_y.below, near_z.below],
+        above: [near_x.above, near_y.above, near_z.above],
+    }
+}
+
+/// A component times the one coordinate, or times the other one where it is below 0.
+fn least_product(component: i64, low: i32, high: i32) -> i64
+    requires component_small { unsigned_abs component ≤ 2 ^ 26 }
+    requires low_in { IsCoordinate low }
+    requires high_in { IsCoordinate high }
+    ensures exact { result ≡ least_product component (record { low = low; high = high }) }
+    ensures size { unsigned_abs result ≤ 2 ^ 38 }
+{
+    if component < 0 {
+        times(component, high)
+    } else {
+        times(component, low)
+    }
+}
+
+fn times(component: i64, coordinate: i32) -> i64
+    requires component_small { unsigned_abs component ≤ 2 ^ 26 }
+    requires in_cube { IsCoordinate coordinate }
+    ensures exact { result ≡ component *ℤ coordinate }
+    ensures size { unsigned_abs result ≤ 2 ^ 38 }
+{
+    component * i64::from(coordinate)
 }

@@ -1,10 +1,13 @@
 //! Windings with what is wanted of their corners again and again.
 
-ghost use Rattle.std.specs.Prelude.{◌≡◌, ◌<◌, ◌≤◌, [], ◌∷◌, length, IfOk};
+ghost use Rattle.std.specs.Prelude.{◌≡◌, ◌<◌, ◌≤◌, ◌^◌, [], ◌∷◌, length, IfOk};
 ghost use Rattle.qm_geom.specs.LeastDistance.{IsLeastDistance};
 ghost use Rattle.qm_convex.specs.Winding.{corner_at, corners};
 ghost use Rattle.qm_convex.specs.World.{IsInWorld};
 
+use crate::normal::Normal;
+use crate::outlook::Outlook;
+use crate::reach::Reach;
 use crate::spot::Spot;
 use qm_geom::{Corner, Plane, least_distance};
 use qm_wind::Winding;
@@ -32,6 +35,7 @@ impl Model for Traced {
 
 impl Traced {
     ghost use Rattle.qm_narrow.specs.inner.Trace.{IsSpotOf};
+    ghost use Rattle.qm_narrow.specs.inner.Look.{IsSmallNormal, IsReach, IsOutlook};
 
     /// A winding with these.
     pub(crate) fn of(alloc: Global, winding: Winding) -> Result<Traced, AllocError>
@@ -90,5 +94,37 @@ impl Traced {
     {
         let _corners = self.winding.len();
         least_distance([along.nx, along.ny, along.nz], self.corners.as_slice())
+    }
+
+    /// Its reach along a normal.
+    pub(crate) fn reach(&self, normal: &Normal) -> Reach
+        requires { IsSmallNormal normal.now (2 ^ 26) }
+        ensures { IsReach self.now normal.now result }
+    {
+        let _corners = self.len();
+        let mut reach = Reach::of(self.spot(0), normal);
+        for spot in &self.spots {
+            reach = reach.with(spot, normal);
+        }
+        reach
+    }
+
+    /// Whether planes with a normal may part it and a source of this reach.
+    pub(crate) fn outlook(&self, reach: &Reach, normal: &Normal) -> Outlook
+        requires { IsSmallNormal normal.now (2 ^ 26) }
+        ensures { IsOutlook self.now normal.now reach.now result }
+    {
+        let _corners = self.len();
+        let mut outlook = Outlook {
+            ahead: true,
+            back: true,
+        };
+        for spot in &self.spots {
+            outlook = outlook.with(reach, spot, normal);
+            if outlook.is_none() {
+                return outlook;
+            }
+        }
+        outlook
     }
 }

@@ -1,17 +1,18 @@
 -- What facets leave on one side of a plane, one after another, and the section of a cell by its bounds.
-use Rattle.std.proofs.Common.{◌≡◌, ℕ, ◌+◌, ◌<◌, Option, Some, None, List, [], ◌∷◌, ◌++◌, length, take, drop, get_or, sym, ◌∙◌, subst}
+use Rattle.std.proofs.Common.{◌≡◌, ℕ, ◌+◌, ◌<◌, Option, Some, None, List, [], ◌∷◌, ◌++◌, length, take, drop, get_or, sym, ◌∙◌, subst, ◌↔◌}
 use Rattle.std.specs.Option.{MatchOption}
 use Rattle.std.proofs.lemmas.List.{append-nil}
-use Rattle.std.proofs.lemmas.List.Elements.{All-head}
+use Rattle.std.proofs.lemmas.List.Elements.{All-head, All-append}
 use Rattle.qm_lists.proofs.Places.{take-read, parted-read}
 use Rattle.qm_lists.proofs.Elements.{All-first_part, All-last_part}
+use Rattle.qm_space.specs.Point.{Point}
 use Rattle.qm_space.specs.Plane.{Plane, IsInFront}
 use Rattle.qm_space.specs.Cell.{IsInCell}
 use Rattle.qm_convex.specs.Winding.{Winding, IsConvex}
 use Rattle.qm_convex.specs.Sides.{HasNoneInFront, HasSomeInFront, IsWhollyInFront}
 use Rattle.qm_convex.specs.Cut.{IsPartInFront, IsPartWithin}
-use Rattle.qm_convex.specs.World.{IsWorldPart}
-use Rattle.qm_convex.specs.inner.Facets.{Facet, AreCut, none, left, gone, IsSection}
+use Rattle.qm_convex.specs.inner.Facets.{Facet, AreCut, none, left, gone}
+use Rattle.qm_convex.specs.Section.{IsSection, MissesCell}
 use Rattle.qm_convex.proofs.Cutting.{within_one_more, whole_is_part}
 use Rattle.qm_contacts.specs.inner.Due.{DueCell}
 use Rattle.qm_portal.specs.inner.Cells.{left_facet, IsLeftAdded, CrossesCell, HasPointBefore}
@@ -25,26 +26,36 @@ cut_more h facets rest inward winding half (gone never have) is = gone never (cu
 
 -- ---- the section of a cell
 
-module _ (cell : List Plane) (due : DueCell) (h : Plane) (crosses : CrossesCell cell due h) (whole : Winding) (world : IsWorldPart whole h) where
-  -- some of the plane's part in the cube is before all bounds
-  pub point_before_bounds : HasPointBefore whole due.bounds
-  point_before_bounds =
-      let in_cube = crosses.in_cube crosses.point crosses.inside in (
-        crosses.point,
-        (world.points crosses.point).1 (crosses.on, in_cube),
-        (crosses.bounds crosses.point in_cube.weight).0 crosses.inside,
-      )
+module _ (cell : List Plane) (due : DueCell) (h : Plane) (crosses : CrossesCell cell due h) (axial slanted : List Plane) (parts : due.bounds ≡ axial ++ slanted) where
+  -- the bounds are the axial ones and the slanted ones
+  before_bounds : (x : Point) → IsInCell due.bounds x ↔ (IsInCell axial x × IsInCell slanted x)
+  before_bounds x = (
+    (λ r. let both = subst (λ (bounds : List Plane). IsInCell bounds x) parts r in (All-first_part (λ g. IsInFront g x) axial slanted both, All-last_part (λ g. IsInFront g x) axial slanted both)),
+    (λ q. subst (λ (bounds : List Plane). IsInCell bounds x) (sym parts) (All-append (λ g. IsInFront g x) axial slanted q.0 q.1)),
+  )
 
-  -- and what they leave of it is the section
-  pub section_by_bounds : (section : Winding) → IsPartWithin section whole due.bounds → IsSection cell h section
-  section_by_bounds section part = record {
-    convex = part.convex;
-    plane = part.plane ∙ world.plane;
-    points = λ x. (
-      (λ r. let q = (part.points x).0 r in (((world.points x).0 q.0).0, (crosses.bounds x r.weight).1 q.1)),
-      (λ q. let in_cube = crosses.in_cube x q.1 in (part.points x).1 ((world.points x).1 (q.0, in_cube), (crosses.bounds x in_cube.weight).0 q.1)),
-    );
-  }
+  crossing_before : IsInCell axial crosses.point × IsInCell slanted crosses.point
+  crossing_before = (before_bounds crosses.point).0 ((crosses.bounds crosses.point (crosses.in_cube crosses.point crosses.inside).weight).0 crosses.inside)
+
+  -- the plane does not miss the cell of the axial ones
+  pub crosses_axial : MissesCell axial h → ⊥
+  crosses_axial misses = misses crosses.point (crosses.in_cube crosses.point crosses.inside).weight crosses.on crossing_before.0
+
+  module _ (whole : Winding) (is : IsSection axial h whole) where
+    -- some of its section there is before all slanted ones
+    pub point_before_slanted : HasPointBefore whole slanted
+    point_before_slanted = (crosses.point, (is.points crosses.point).1 (crosses.on, crossing_before.0), crossing_before.1)
+
+    -- and what they leave of it is the section
+    pub section_by_bounds : (section : Winding) → IsPartWithin section whole slanted → IsSection cell h section
+    section_by_bounds section part = record {
+      convex = part.convex;
+      plane = part.plane ∙ is.plane;
+      points = λ x. (
+        (λ r. let q = (part.points x).0 r in let s = (is.points x).0 q.0 in (s.0, (crosses.bounds x r.weight).1 ((before_bounds x).1 (s.1, q.1)))),
+        (λ q. let both = (before_bounds x).0 ((crosses.bounds x (crosses.in_cube x q.1).weight).0 q.1) in (part.points x).1 ((is.points x).1 (q.0, both.0), both.1)),
+      );
+    }
 
 -- ---- plane after plane
 

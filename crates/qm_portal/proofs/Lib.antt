@@ -1,5 +1,6 @@
 pub mod PushedPolygons
 pub mod CutFacets
+pub mod AxialBounds
 pub mod AddedPairs
 pub mod VisitedCells
 pub mod LinkedLeaves

@@ -13,7 +13,8 @@ use Rattle.qm_space.specs.Turned.{turned}
 use Rattle.qm_space.specs.Book.{plane_at}
 use Rattle.qm_space.proofs.Books.{plane_at_from}
 use Rattle.qm_convex.specs.Winding.{Winding}
-use Rattle.qm_convex.specs.inner.Facets.{Facet, IsSection}
+use Rattle.qm_convex.specs.inner.Facets.{Facet}
+use Rattle.qm_convex.specs.Section.{IsSection}
 use Rattle.qm_partition.specs.declared.node.Node.{Node as NodeRecord}
 use Rattle.qm_partition.specs.declared.node.Child.{Child}
 use Rattle.qm_partition.specs.declared.node.Child.TheVariants.{Node, Leaf}

@@ -2,11 +2,11 @@
 
 ghost use Rattle.std.specs.Prelude.{◌≡◌, List, IfOk};
 ghost use Rattle.qm_space.specs.Plane.{Plane as SpacePlane, flipped};
-ghost use Rattle.qm_convex.specs.inner.Facets.{IsSection};
+ghost use Rattle.qm_convex.specs.Section.{IsSection};
 ghost use Rattle.qm_portal.specs.inner.Cells.{CrossesCell, IsHalf};
 ghost use Rattle.qm_portal.specs.inner.Walks.{has_facets};
 
-use crate::bounds::{add_bound, within};
+use crate::bounds::{AXIAL_BOUNDS, add_bound, within};
 use crate::facet::{Facet, split_facets};
 use qm_geom::Plane;
 use qm_tree::{Child, Node};
@@ -14,7 +14,8 @@ use qm_wind::Winding;
 use std::alloc::{AllocError, Global};
 use std::marker::Model;
 
-/// A cell of a tree: the child to which its way leads, planes that bound it, and its facets on walls of the cube.
+/// A cell of a tree: the child to which its way leads, planes that bound it, those across the axes first, and its facets on
+/// walls of the cube.
 #[derive(Drop)]
 pub(crate) struct DueCell {
     pub(crate) child: Child,
@@ -24,10 +25,13 @@ pub(crate) struct DueCell {
 
 impl Model for DueCell {
     ghost use Rattle.qm_contacts.specs.inner.Due.{DueCell};
+    ghost use Rattle.qm_portal.specs.inner.Cells.{BeginAxially};
 
     ghost Value = { DueCell };
 
     ghost view = { λ cell. record { child = cell.child; bounds = cell.bounds.items; on_walls = cell.on_walls.items } };
+
+    ghost invariant = { λ cell. BeginAxially cell.bounds.items };
 }
 
 /// The cells of both children of a node.
@@ -50,9 +54,10 @@ impl DueCell {
         requires { (planes : List SpacePlane) × CrossesCell planes self.now plane.now }
         ensures { IfOk result (λ section. (planes : List SpacePlane) → CrossesCell planes self.now plane.now → IsSection planes plane.now section) }
     {
-        match Winding::on(alloc, plane)? {
+        let (axial, slanted) = self.bounds.split_at(AXIAL_BOUNDS);
+        match Winding::between(alloc, plane, axial)? {
             Some(whole) => {
-                let section = within(whole, &self.bounds)?;
+                let section = within(whole, slanted)?;
                 Ok(section)
             }
             None => unreachable!(),

@@ -12,7 +12,7 @@ use Rattle.qm_lists.proofs.Places.{slice_get-push_cases}
 use Rattle.qm_contacts.specs.Portals.{Portal}
 use Rattle.qm_contacts.specs.World.{AreLeaving}
 use Rattle.qm_coarse_rows.specs.LeafRow.{IsSeenThrough, IsLeafRow}
-use Rattle.qm_rows.specs.inner.Through.{IsInOneOf, HasThoseOf}
+use Rattle.qm_rows.specs.inner.Through.{IsInOneOf, HasThoseOf, AreLeafRowsSoFar}
 
 -- ---- the leaf itself
 
@@ -145,11 +145,6 @@ leaving_within portals n places leaving k d within =
     slice_get_within portals (get_or places k d) one.0 one.1
 
 -- ---- all leaves
-
--- the rows of the first leaves
-abbrev pub AreLeafRowsSoFar : List Portal → List (List Bool) → ℕ → List (List Bool) → Type 0
-AreLeafRowsSoFar portals rows leaves leaf_rows =
-    (n : ℕ) (row : List Bool) → slice_get leaf_rows n ≡ Some row → IsLeafRow portals rows leaves n row
 
 pub one_leaf_more : (portals : List Portal) (rows : List (List Bool)) (leaves n : ℕ) (leaf_rows : List (List Bool)) (row : List Bool) → length leaf_rows ≡ n → AreLeafRowsSoFar portals rows leaves leaf_rows → IsLeafRow portals rows leaves n row → AreLeafRowsSoFar portals rows leaves (leaf_rows ++ row ∷ [])
 one_leaf_more portals rows leaves n leaf_rows row long so_far is m one at = ⊎_elim

@@ -1,4 +1,4 @@
-ghost use Rattle.std.specs.Prelude.{◌≡◌};
+ghost use Rattle.std.specs.Prelude.{◌≡◌, ◌+◌, ◌-◌, ◌^◌, min};
 ghost use Rattle.qm_rows.specs.Seen.{seen_of};
 
 use qm_bits::BitRow;
@@ -9,7 +9,14 @@ pub fn seen(rows: &[BitRow]) -> u64
 {
     let mut seen: u64 = 0;
     for row in rows {
-        seen = seen.saturating_add(row.count());
+        seen = sum_or_most(seen, row.count());
     }
     seen
+}
+
+/// The sum, or the greatest number of 64 bits where it is more.
+fn sum_or_most(first: u64, second: u64) -> u64
+    ensures { result ≡ min (first + second) (2 ^ 64 - 1) }
+{
+    first.saturating_add(second)
 }

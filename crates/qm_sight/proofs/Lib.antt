@@ -1,2 +1,3 @@
 pub mod RowsRead
 pub mod RowsReplaced
+pub mod WaysOnLaws

@@ -1,3 +1,4 @@
 pub mod WordInSight
 pub mod RowsOfWorld
+pub mod WaysOn
 pub mod inner

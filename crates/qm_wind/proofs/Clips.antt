@@ -1,5 +1,5 @@
 -- What a survey of the corners says of a winding.
-use Rattle.std.proofs.Common.{◌≡◌, ℕ, ◌<◌, true, false, pos, ◌≤ℤ◌, ⊎_elim, Option, None, Some, length, ap, sym, ◌∙◌, subst, arith}
+use Rattle.std.proofs.Common.{◌≡◌, ℕ, ◌<◌, true, false, pos, ◌≤ℤ◌, ⊎_elim, Option, None, Some, List, length, ap, sym, ◌∙◌, subst, arith}
 use Rattle.std.proofs.lemmas.Bool.{MatchBool-at_true, MatchBool-at_false}
 use Rattle.qm_space.specs.Plane.{Plane, value, flipped}
 use Rattle.qm_numbers.proofs.IntegerProducts.{linear}
@@ -9,6 +9,10 @@ use Rattle.qm_convex.specs.Winding.{Winding, corner_at, IsConvex}
 use Rattle.qm_convex.specs.Rotation.{place_after}
 use Rattle.qm_convex.specs.Sides.{HasCornerInFront, HasCornerBehind, HasNoCornerInFront, HasNoneInFront, HasSomeInFront, IsWhollyInFront, LiesIn}
 use Rattle.qm_convex.specs.Cut.{IsPartInFront}
+use Rattle.qm_convex.specs.World.{MissesCube, IsWorldPart}
+use Rattle.qm_convex.specs.Section.{IsSection, MissesCell}
+use Rattle.qm_space.specs.Cube.{cube_walls}
+use Rattle.qm_convex.proofs.Squares.{world_part_of_section, misses_cube_by_walls}
 use Rattle.qm_convex.specs.inner.FrontRun.{IsFrontRun}
 use Rattle.qm_convex.proofs.Places.{next_below}
 use Rattle.qm_convex.proofs.Central.{none_in_front, some_in_front, wholly_in_front, lies_in}
@@ -123,3 +127,9 @@ pub some_kept : (u v : Winding) (f g : Plane) (part : Option Winding) (w : Windi
     MatchOption part (HasNoneInFront u f) (λ w. IsPartInFront w u f) → IsPartInFront w v g
 some_kept u v f g part w e d n m =
     subst (λ t. IsPartInFront w t g) e (subst (IsPartInFront w u) d (subst (λ o. MatchOption o (HasNoneInFront u f) (λ w. IsPartInFront w u f)) n m))
+
+-- the part of a plane in the cell of the walls is its part inside the cube
+pub part_in_cube : (bounds : List Plane) (h : Plane) (part : Option Winding) → bounds ≡ cube_walls →
+    MatchOption part (MissesCell bounds h) (λ w. IsSection bounds h w) → MatchOption part (MissesCube h) (λ w. IsWorldPart w h)
+part_in_cube bounds h None e m = misses_cube_by_walls h (subst (λ (cell : List Plane). MissesCell cell h) e m)
+part_in_cube bounds h (Some w) e m = world_part_of_section w h (subst (λ (cell : List Plane). IsSection cell h w) e m)

@@ -2,7 +2,8 @@ pub mod Polygons
 pub mod Arcs
 pub mod Surveys
 pub mod Clips
-pub mod WallsAcross
+pub mod PairsAcross
+pub mod Distances
 pub mod Worlds
 pub mod Beside
 pub mod SixFaces

@@ -2,11 +2,10 @@
 use Rattle.std.proofs.Common.{◌≡◌, ℕ, suc, pos, ◌+◌, ◌<◌, ◌<ℤ◌, get_or, List, [], ◌∷◌, ◌++◌, length, take, ap, sym, ◌∙◌, subst, arith}
 use Rattle.qm_space.specs.Plane.{Plane}
 use Rattle.std.proofs.lemmas.List.{get_or_default}
-use Rattle.qm_space.specs.Cube.{mirrored}
 use Rattle.qm_space.specs.Meet.{meet}
 use Rattle.qm_convex.specs.Winding.{Winding, next_place, corner_at, IsConvex}
 use Rattle.qm_convex.specs.Rotation.{rotated_list}
-use Rattle.qm_convex.specs.inner.Square.{square}
+use Rattle.qm_convex.specs.inner.Parallelogram.{parallelogram}
 use Rattle.qm_convex.specs.inner.FrontRun.{cut}
 
 -- what a winding is seen as has as many edges
@@ -21,10 +20,10 @@ cut_view u v g start count es e f =
     ∙ ap (λ n. record { plane = u.plane; edges = take n (rotated_list start u.edges) ++ g ∷ [] }) {x = count + 1} {y = suc count} (omega arith)
     ∙ ap (λ w. cut w g start count) e
 
--- and that of a square's edges is the square
-pub square_view : (h a b h' a' b' c' d' : Plane) (es : List Plane) → h' ≡ h → a' ≡ a → b' ≡ b → c' ≡ mirrored a → d' ≡ mirrored b → es ≡ a' ∷ b' ∷ c' ∷ d' ∷ [] →
-    record { plane = h'; edges = es } ≡ square h a b
-square_view h a b h' a' b' c' d' es eh ea eb ec ed e = λ i. record { plane = eh i; edges = (e ∙ (λ j. ea j ∷ eb j ∷ ec j ∷ ed j ∷ [])) i }
+-- and that of a parallelogram's edges is the parallelogram
+pub parallelogram_view : (h a b c d h' a' b' c' d' : Plane) (es : List Plane) → h' ≡ h → a' ≡ a → b' ≡ b → c' ≡ c → d' ≡ d → es ≡ a' ∷ b' ∷ c' ∷ d' ∷ [] →
+    record { plane = h'; edges = es } ≡ parallelogram h a b c d
+parallelogram_view h a b c d h' a' b' c' d' es eh ea eb ec ed e = λ i. record { plane = eh i; edges = (e ∙ (λ j. ea j ∷ eb j ∷ ec j ∷ ed j ∷ [])) i }
 
 -- where two neighbouring edges that were read meet
 pub corner_by_edges : (h : Plane) (es : List Plane) (i next : ℕ) (a b : Plane) → i < length es → next < length es → next ≡ next_place (length es) i →

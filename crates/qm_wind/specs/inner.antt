@@ -1,4 +1,5 @@
 pub mod Surveyed
 pub mod Finding
 pub mod Held
+pub mod AxialCells
 pub mod Across

@@ -4,6 +4,7 @@ ghost use Rattle.qm_space.specs.Cube.{cube_walls};
 ghost use Rattle.qm_convex.specs.World.{IsCubeFace};
 ghost use Rattle.qm_convex.specs.inner.Square.{square};
 
+use crate::axial_cell::Opposites;
 use crate::polygon::Polygon;
 use crate::walls::{mirrored, wall_x, wall_y, wall_z};
 use crate::winding::Winding;
@@ -39,7 +40,12 @@ fn add_face(
     requires { IsCubeFace (square wall.now first.now second.now) wall.now }
     ensures { OnOk result (faces.new.items ≡ faces.old.items ++ square wall.now first.now second.now ∷ []) }
 {
-    let polygon = Polygon::square(*faces.allocator(), wall, first, second)?;
+    let polygon = Polygon::parallelogram(
+        *faces.allocator(),
+        wall,
+        &Opposites::of_wall(first),
+        &Opposites::of_wall(second),
+    )?;
     faces.push(Winding::in_world(polygon))?;
     Ok(())
 }

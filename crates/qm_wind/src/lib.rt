@@ -2,6 +2,8 @@
 //! windings, for the layers above.
 #![tactic(auto)]
 
+mod across;
+mod axial_cell;
 mod circle;
 mod faces;
 mod found;

@@ -1,15 +1,15 @@
 ghost use Rattle.std.specs.Prelude.{◌≡◌, ◌<◌, length, IfOk, MatchOption};
 ghost use Rattle.qm_convex.specs.Winding.{corner_at, IsConvex};
-ghost use Rattle.qm_convex.specs.inner.Square.{square};
+ghost use Rattle.qm_convex.specs.inner.Parallelogram.{parallelogram};
 ghost use Rattle.qm_convex.specs.Cut.{IsPartInFront};
 ghost use Rattle.qm_convex.specs.inner.FrontRun.{IsFrontRun, cut};
 ghost use Rattle.qm_convex.specs.Sides.{HasCornerBehind, HasNoneInFront};
 ghost use Rattle.qm_wind.specs.inner.Surveyed.{IsRun, IsSurvey};
 ghost use Rattle.qm_wind.specs.inner.Finding.{HasCornersAcross};
 
+use crate::axial_cell::Opposites;
 use crate::circle::{add_arc, next_place, steps_between};
 use crate::survey::{Run, Survey};
-use crate::walls::mirrored;
 use qm_geom::{Corner, Plane};
 use smallvec::SmallVec;
 use std::alloc::{AllocError, Global};
@@ -117,23 +117,22 @@ impl Polygon {
         Ok(Some(self.part_in_front_of(plane, &survey.front)?))
     }
 
-    /// The part of a plane between two walls and these mirrored.
-    pub(crate) fn square(
+    /// The part of a plane between two pairs of others.
+    pub(crate) fn parallelogram(
         alloc: Global,
         plane: &Plane,
-        first: &Plane,
-        second: &Plane,
+        first: &Opposites,
+        second: &Opposites,
     ) -> Result<Polygon, AllocError>
-        requires { IsConvex (square plane.now first.now second.now) }
-        ensures { IfOk result (λ w. w ≡ square plane.now first.now second.now) }
+        requires { IsConvex (parallelogram plane.now first.now.near second.now.near first.now.far second.now.far) }
+        ensures { IfOk result (λ w. w ≡ parallelogram plane.now first.now.near second.now.near first.now.far second.now.far) }
     {
         let _ = &plane.nx;
-        let _ = &first.nx;
-        let _ = &second.nx;
-        let edges = SmallVec::from_array(
-            alloc,
-            [*first, *second, mirrored(first), mirrored(second)],
-        )?;
+        let _ = &first.near.nx;
+        let _ = &first.far.nx;
+        let _ = &second.near.nx;
+        let _ = &second.far.nx;
+        let edges = SmallVec::from_array(alloc, [first.near, second.near, first.far, second.far])?;
         Ok(Polygon {
             plane: *plane,
             edges,

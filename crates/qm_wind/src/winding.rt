@@ -6,21 +6,24 @@ ghost use Rattle.qm_convex.specs.Vertex.{IsVertex, HasVerticesAsCorners};
 ghost use Rattle.qm_convex.specs.Cut.{IsPartInFront};
 ghost use Rattle.qm_convex.specs.Sides.{LiesIn};
 ghost use Rattle.qm_convex.specs.World.{MissesCube, IsWorldPart, IsInWorld, LiesWithin};
+ghost use Rattle.qm_convex.specs.Section.{IsSection, MissesCell, AreAxialBounds};
 ghost use Rattle.qm_space.specs.Cube.{IsInClosedCube};
 ghost use Rattle.qm_wind.specs.Clipped.{IsClip, is_front};
 ghost use Rattle.qm_wind.specs.Severing.{IsSevered};
 ghost use Rattle.qm_wind.specs.Split.{IsSplit};
 ghost use Rattle.qm_wind.specs.Lying.{IsLying};
+ghost use Rattle.qm_wind.specs.inner.AxialCells.{bounds_of};
 ghost use Rattle.qm_wind.specs.inner.Surveyed.{IsRun};
 ghost use Rattle.qm_wind.specs.inner.Finding.{IsFound, HasCornersAcross};
 
+use crate::across::Across;
+use crate::axial_cell::AxialCell;
 use crate::found::Found;
 use crate::halves::Halves;
 use crate::lies::Lies;
 use crate::polygon::Polygon;
 use crate::severed::Severed;
 use crate::survey::Run;
-use crate::walls::{Walls, mirrored};
 use qm_geom::{Corner, Cuboid, Plane};
 use std::alloc::{AllocError, Global};
 use std::marker::Model;
@@ -65,15 +68,43 @@ impl Winding {
     pub fn on(alloc: Global, plane: &Plane) -> Result<Option<Winding>, AllocError>
         ensures { IfOk result (λ part. MatchOption part (MissesCube plane.now) (λ w. IsWorldPart w plane.now)) }
     {
-        let walls = Walls::across(plane);
-        let square = Polygon::square(alloc, plane, &walls.first, &walls.second)?;
-        let near = match square.kept_in_front_of(&walls.third)? {
+        Winding::in_cell(alloc, plane, &AxialCell::whole())
+    }
+
+    /// The part of the plane in the cell of six axial bounds, in the order of the cube's walls. `None` exactly where no
+    /// point of the cell is on the plane.
+    pub fn between(
+        alloc: Global,
+        plane: &Plane,
+        bounds: &[Plane],
+    ) -> Result<Option<Winding>, AllocError>
+        requires { AreAxialBounds bounds.now }
+        ensures { IfOk result (λ part. MatchOption part (MissesCell bounds.now plane.now) (λ w. IsSection bounds.now plane.now w)) }
+    {
+        Winding::in_cell(alloc, plane, &AxialCell::of(bounds))
+    }
+
+    /// The part of the plane in a cell: the parallelogram of two pairs of its planes, cut by the third one.
+    fn in_cell(
+        alloc: Global,
+        plane: &Plane,
+        cell: &AxialCell,
+    ) -> Result<Option<Winding>, AllocError>
+        requires { AreAxialBounds (bounds_of cell.now) }
+        ensures { IfOk result (λ part. MatchOption part (MissesCell (bounds_of cell.now) plane.now) (λ w. IsSection (bounds_of cell.now) plane.now w)) }
+    {
+        if !cell.is_open() {
+            return Ok(None);
+        }
+        let pairs = Across::of(plane, cell);
+        let parallelogram = Polygon::parallelogram(alloc, plane, &pairs.first, &pairs.second)?;
+        let near = match parallelogram.kept_in_front_of(&pairs.third.near)? {
             None => return Ok(None),
             Some(near) => near,
         };
-        match near.kept_in_front_of(&mirrored(&walls.third))? {
+        match near.kept_in_front_of(&pairs.third.far)? {
             None => Ok(None),
-            Some(polygon) => Ok(Some(Winding::in_world(polygon))),
+            Some(polygon) => Ok(Some(Winding::in_cuboid(polygon, cell.cuboid()))),
         }
     }
 
@@ -82,10 +113,19 @@ impl Winding {
         requires { IsInWorld polygon }
         ensures { result ≡ polygon }
     {
+        Winding::in_cuboid(polygon, Cuboid::whole())
+    }
+
+    /// A polygon in the closed cube as a winding, by a cuboid that has all its points.
+    fn in_cuboid(polygon: Polygon, cuboid: Cuboid) -> Winding
+        requires in_world { IsInWorld polygon }
+        requires within { LiesWithin polygon cuboid }
+        ensures { result ≡ polygon }
+    {
         let plane = polygon.plane();
         Winding {
             polygon,
-            cuboid: Cuboid::whole().tightened_on(&plane),
+            cuboid: cuboid.tightened_on(&plane),
         }
     }
 

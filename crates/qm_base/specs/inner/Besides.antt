@@ -1,7 +1,8 @@
 -- On which sides of a plane the windings of lanes have corners.
-use Rattle.std.specs.Prelude.{◌≡◌, ◌≢◌, ℕ, ◌<◌, ◌↔◌, ◌⊎◌, Bool, true, false, List, Some, length, slice_get, slice_index_or}
+use Rattle.std.specs.Prelude.{◌≡◌, ◌≢◌, ℕ, ◌<◌, ◌≤◌, ◌↔◌, ◌⊎◌, Bool, true, false, List, [], Some, All, replicate, length, slice_get, slice_index_or}
 use Rattle.qm_lists.specs.WorkList.{IsIn}
 use Rattle.qm_space.specs.Plane.{Plane}
+use Rattle.qm_convex.specs.Winding.{Winding}
 use Rattle.qm_convex.specs.Sides.{HasCornerInFront, HasCornerBehind}
 use Rattle.qm_contacts.specs.Portals.{Portal}
 use Rattle.qm_base.specs.declared.lane.Lane.{Lane}
@@ -42,3 +43,46 @@ pub record BesideSoFar (portals : List Portal) (lanes : List Lane) (plane : Plan
   pub behind_wide : length behind_row ≡ length lanes
   pub front : (k : ℕ) → IsIn front_row k ↔ ((k < place) × IsFrontAt portals lanes plane k)
   pub behind : (k : ℕ) → IsIn behind_row k ↔ ((k < place) × IsBehindAt portals lanes plane k)
+
+abbrev pub no_beside : Beside
+no_beside = record { front = []; behind = [] }
+
+-- the row of a plane among the rows of all
+abbrev pub beside_at : List Beside → ℕ → Beside
+beside_at table class = slice_index_or table class no_beside
+
+-- for each of some planes
+pub record AreBesides (portals : List Portal) (lanes : List Lane) (planes : List Plane) (table : List Beside) : Type 0 where
+  pub one_each : length table ≡ length planes
+  pub each : (class : ℕ) (plane : Plane) → slice_get planes class ≡ Some plane → IsBeside portals lanes plane (beside_at table class)
+
+-- for so many planes, none of so many lanes is put in
+pub record AreClear (planes lanes : ℕ) (table : List Beside) : Type 0 where
+  pub one_each : length table ≡ planes
+  pub front : All (λ beside. beside.front ≡ replicate lanes false) table
+  pub behind : All (λ beside. beside.behind ≡ replicate lanes false) table
+
+-- a winding is put in at a place, for one plane
+pub record IsPutBeside (winding : Winding) (plane : Plane) (place : ℕ) (old new : Beside) : Type 0 where
+  pub is_front : Bool
+  pub is_behind : Bool
+  pub says_front : (is_front ≡ true) ↔ HasCornerInFront winding plane
+  pub says_behind : (is_behind ≡ true) ↔ HasCornerBehind winding plane
+  pub front : IsPutAt place is_front old.front new.front
+  pub behind : IsPutAt place is_behind old.behind new.behind
+
+-- for all planes
+pub record IsPutIn (winding : Winding) (planes : List Plane) (place : ℕ) (old new : List Beside) : Type 0 where
+  pub same_count : length new ≡ length old
+  pub each : (class : ℕ) (plane : Plane) → slice_get planes class ≡ Some plane → IsPutBeside winding plane place (beside_at old class) (beside_at new class)
+
+-- for the planes before one
+pub record PutInSoFar (winding : Winding) (planes : List Plane) (place count : ℕ) (old new : List Beside) : Type 0 where
+  pub same_count : length new ≡ length old
+  pub each : (class : ℕ) (plane : Plane) → class < count → slice_get planes class ≡ Some plane → IsPutBeside winding plane place (beside_at old class) (beside_at new class)
+  pub left : (class : ℕ) → count ≤ class → beside_at new class ≡ beside_at old class
+
+-- the lanes before a place are put in, for all planes
+pub record BesidesSoFar (portals : List Portal) (lanes : List Lane) (planes : List Plane) (place : ℕ) (table : List Beside) : Type 0 where
+  pub one_each : length table ≡ length planes
+  pub each : (class : ℕ) (plane : Plane) → slice_get planes class ≡ Some plane → BesideSoFar portals lanes plane place (beside_at table class).front (beside_at table class).behind

@@ -1,14 +1,12 @@
 -- On which sides of all planes the windings of all lanes have corners.
-use Rattle.std.specs.Prelude.{◌≡◌, ℕ, ◌+◌, ◌-◌, ◌<◌, Bool, List, [], Some, All, if◌then◌else◌, length, slice_get, slice_index_or}
+use Rattle.std.specs.Prelude.{◌≡◌, ℕ, ◌+◌, ◌-◌, ◌<◌, Bool, List, Some, All, if◌then◌else◌, length, slice_get}
+use Rattle.qm_space.specs.Plane.{Plane}
 use Rattle.qm_contacts.specs.Portals.{Portal}
 use Rattle.qm_base.specs.declared.lane.Lane.{Lane}
 use Rattle.qm_base.specs.declared.beside.Beside.{Beside}
 use Rattle.qm_base.specs.declared.table.Kind.{Kind}
 use Rattle.qm_base.specs.inner.Lanes.{AreLanes}
-use Rattle.qm_base.specs.inner.Besides.{IsBeside}
-
-abbrev pub beside_at : List Beside → ℕ → Beside
-beside_at table class = slice_index_or table class (record { front = []; behind = [] })
+use Rattle.qm_base.specs.inner.Besides.{IsBeside, beside_at}
 
 -- the lanes with a corner in front of a turned plane, and those with one behind it
 unfoldable pub ahead : List Beside → Kind → List Bool
@@ -35,14 +33,25 @@ pub record IsTable (portals : List Portal) (lanes : List Lane) (kinds : List Kin
   pub are_kinds : AreKinds lanes kinds table
   pub each : (k : ℕ) (lane : Lane) (kind : Kind) → slice_get lanes k ≡ Some lane → slice_get kinds k ≡ Some kind → IsKindOf portals lanes table lane kind
 
--- the lanes before a place have their kinds, and the last row is that of the plane of the last of them
-pub record TableSoFar (portals : List Portal) (lanes : List Lane) (place : ℕ) (kinds : List Kind) (table : List Beside) : Type 0 where
+-- the kind of a lane names its plane among some planes
+pub record IsClassOf (planes : List Plane) (lane : Lane) (kind : Kind) : Type 0 where
+  pub front : kind.front ≡ lane.front
+  pub plane : slice_get planes kind.class ≡ Some lane.plane
+
+-- the last of the planes is that of the lane at a place
+abbrev pub IsLastPlaneOf : List Lane → ℕ → List Plane → Type 0
+IsLastPlaneOf lanes k planes = (lane : Lane) → slice_get lanes k ≡ Some lane → (0 < length planes) × (slice_get planes (length planes - 1) ≡ Some lane.plane)
+
+-- the planes stay where they are, and the last one is that of a lane
+pub record IsPlaneAdded (lanes : List Lane) (k : ℕ) (old new : List Plane) : Type 0 where
+  pub kept : (class : ℕ) (h : Plane) → slice_get old class ≡ Some h → slice_get new class ≡ Some h
+  pub last : IsLastPlaneOf lanes k new
+
+-- the lanes before a place have their kinds, and the last plane is that of the last of them
+pub record AreClasses (lanes : List Lane) (place : ℕ) (kinds : List Kind) (planes : List Plane) : Type 0 where
   pub one_each : length kinds ≡ place
-  pub within : All (λ kind. kind.class < length table) kinds
-  pub front_wide : All (λ beside. length beside.front ≡ length lanes) table
-  pub behind_wide : All (λ beside. length beside.behind ≡ length lanes) table
-  pub each : (k : ℕ) (lane : Lane) (kind : Kind) → slice_get lanes k ≡ Some lane → slice_get kinds k ≡ Some kind → IsKindOf portals lanes table lane kind
-  pub last : (k : ℕ) (lane : Lane) → place ≡ k + 1 → slice_get lanes k ≡ Some lane → (0 < length table) × IsBeside portals lanes lane.plane (beside_at table (length table - 1))
+  pub each : (k : ℕ) (lane : Lane) (kind : Kind) → slice_get lanes k ≡ Some lane → slice_get kinds k ≡ Some kind → IsClassOf planes lane kind
+  pub last : (k : ℕ) → place ≡ k + 1 → IsLastPlaneOf lanes k planes
 
 -- the lane before has the same plane
 pub record HasPlaneBefore (lanes : List Lane) (k : ℕ) : Type 0 where

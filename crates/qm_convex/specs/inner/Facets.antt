@@ -1,7 +1,6 @@
-use Rattle.std.specs.Prelude.{◌≡◌, pos, ◌<ℤ◌, ◌⊎◌, List, [], ◌∷◌, All, ◌↔◌}
+use Rattle.std.specs.Prelude.{pos, ◌<ℤ◌, ◌⊎◌, List, [], ◌∷◌, All, ◌↔◌}
 use Rattle.qm_space.specs.Point.{Point}
 use Rattle.qm_space.specs.Plane.{Plane, IsOn, IsInFront}
-use Rattle.qm_space.specs.Cell.{IsInCell}
 use Rattle.qm_space.specs.Multiple.{HasSameSides}
 use Rattle.qm_convex.specs.Winding.{Winding, IsInRegion, IsConvex}
 use Rattle.qm_convex.specs.Sides.{HasNoneInFront}
@@ -55,9 +54,3 @@ pub data AreCut (h : Plane) : List Facet → List Facet → Type 0 where
       AreCut h (record { inward = inward; winding = old } ∷ facets) (record { inward = inward; winding = new } ∷ rest)
   gone : {found : Facet} {facets rest : List Facet} →
       HasNoneInFront found.winding h → AreCut h facets rest → AreCut h (found ∷ facets) rest
-
--- the polygon is the part of a plane in a cell
-pub record IsSection (cell : List Plane) (h : Plane) (section : Winding) : Type 0 where
-  pub convex : IsConvex section
-  pub plane : section.plane ≡ h
-  pub points : (x : Point) → IsInRegion section x ↔ (IsOn h x × IsInCell cell x)

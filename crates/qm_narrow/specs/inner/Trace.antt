@@ -1,4 +1,4 @@
-use Rattle.std.specs.Prelude.{◌≡◌, ℕ, ◌<◌, List, length, get_or}
+use Rattle.std.specs.Prelude.{◌≡◌, ℕ, ℤ, pos, ◌<◌, List, length, get_or, slice_index_or}
 use Rattle.qm_numbers.specs.Rounding.{IsRoundedDown, IsRoundedUp, IsNearest}
 use Rattle.qm_space.specs.Point.{Point, AreCoordinates}
 use Rattle.qm_geom.specs.Rounding.{AreCoordinatesBy}
@@ -21,3 +21,10 @@ pub record IsTrace (v : Winding) (traced : List Point) (spots : List Spot) : Typ
   pub corners_are : traced ≡ corners v
   pub one_each : length spots ≡ length v.edges
   pub spots_are : (i : ℕ) (d : Spot) → i < length v.edges → IsSpotOf (corner_at v i) (get_or spots i d)
+
+-- the corner is the whole point of three numbers
+pub record IsWholeAt (corner : Point) (at : List ℤ) : Type 0 where
+  pub x : corner.x ≡ slice_index_or at 0 (pos 0)
+  pub y : corner.y ≡ slice_index_or at 1 (pos 0)
+  pub z : corner.z ≡ slice_index_or at 2 (pos 0)
+  pub weight : corner.w ≡ pos 1

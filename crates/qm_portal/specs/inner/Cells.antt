@@ -1,12 +1,13 @@
 -- A cell with its bounds is parted by a plane.
-use Rattle.std.specs.Prelude.{◌≡◌, ℕ, ◌<◌, pos, ◌<ℤ◌, ◌↔◌, Option, Some, None, List, [], ◌∷◌, ◌++◌, length, get_or}
+use Rattle.std.specs.Prelude.{◌≡◌, ℕ, ◌<◌, pos, ◌<ℤ◌, ◌↔◌, Option, Some, None, List, [], ◌∷◌, ◌++◌, length, get_or, take, All}
 use Rattle.qm_space.specs.Point.{Point, IsInCube}
 use Rattle.qm_space.specs.Plane.{Plane, IsOn}
 use Rattle.qm_space.specs.Cell.{IsInCell}
 use Rattle.qm_convex.specs.Winding.{Winding, IsInRegion}
 use Rattle.qm_convex.specs.inner.Facets.{Facet, AreCut}
 use Rattle.qm_partition.specs.declared.node.Child.{Child}
-use Rattle.qm_contacts.specs.inner.Bounds.{HasSameNormal, IsBoundAdded}
+use Rattle.qm_convex.specs.Section.{HasSameNormal, AreAxialBounds}
+use Rattle.qm_contacts.specs.inner.Bounds.{IsBoundAdded}
 use Rattle.qm_contacts.specs.inner.Due.{DueCell}
 
 -- what is left of a facet on one side, if there is anything
@@ -36,6 +37,14 @@ HasPointBefore winding bounds = (x : Point) × IsInRegion winding x × IsInCell 
 pub record IsPlaceOfNormal (h : Plane) (bounds : List Plane) (place : ℕ) : Type 0 where
   pub within : place < length bounds
   pub same : HasSameNormal (get_or bounds place h) h
+
+-- no plane has that normal
+abbrev pub HasNoneOfNormal : Plane → List Plane → Type 0
+HasNoneOfNormal h bounds = All (λ g. HasSameNormal g h → ⊥) bounds
+
+-- the first six bounds of a cell are those across the axes
+abbrev pub BeginAxially : List Plane → Type 0
+BeginAxially bounds = AreAxialBounds (take 6 bounds)
 
 -- what a cell is in front of a plane
 pub record IsHalf (whole : DueCell) (h : Plane) (child : Child) (half : DueCell) : Type 0 where

@@ -1,11 +1,30 @@
-use Rattle.std.specs.Prelude.{pos, ◌<ℤ◌}
+use Rattle.std.specs.Prelude.{pos, ◌<ℤ◌, ◌↔◌}
+use Rattle.qm_space.specs.Point.{Point}
 use Rattle.qm_space.specs.Plane.{Plane}
+use Rattle.qm_space.specs.Cell.{IsInCell}
 use Rattle.qm_space.specs.Meet.{meet}
-use Rattle.qm_convex.specs.inner.Square.{AreWalls}
+use Rattle.qm_convex.specs.inner.Parallelogram.{AreOpposite, AreApart, IsBetweenPlanes}
+use Rattle.qm_wind.specs.declared.axial_cell.Opposites.{Opposites}
+use Rattle.qm_wind.specs.declared.axial_cell.AxialCell.{AxialCell}
+use Rattle.qm_wind.specs.declared.across.Across.{Across}
+use Rattle.qm_wind.specs.inner.AxialCells.{bounds_of}
 
--- three walls of the cube, the first two across a plane: the normals of the plane and of these two turn to the front
-pub record StandAcross (h a b c : Plane) : Type 0 where
-  pub walls : AreWalls a b c
-  pub turn : pos 0 <ℤ (meet h a b).w
-  pub first_apart : a.d <ℤ pos 0
-  pub second_apart : b.d <ℤ pos 0
+abbrev pub IsBetween : Opposites → Point → Type 0
+IsBetween pair p = IsBetweenPlanes pair.near pair.far p
+
+-- two planes that face one another, with room between them
+pub record IsPair (pair : Opposites) : Type 0 where
+  pub opposite : AreOpposite pair.near pair.far
+  pub apart : AreApart pair.near pair.far
+
+-- three pairs are those of a cell
+pub record ArePairs (cell : AxialCell) (a b c : Opposites) : Type 0 where
+  pub inside : (p : Point) → IsInCell (bounds_of cell) p ↔ (IsBetween a p × IsBetween b p × IsBetween c p)
+  pub first : IsPair a
+  pub second : IsPair b
+  pub third : IsPair c
+
+-- the first two of them stand across a plane: the normals of the plane and of their near planes turn to the front
+pub record StandAcross (h : Plane) (cell : AxialCell) (pairs : Across) : Type 0 where
+  pub are : ArePairs cell pairs.first pairs.second pairs.third
+  pub turn : pos 0 <ℤ (meet h pairs.first.near pairs.second.near).w

@@ -2,10 +2,8 @@ use Rattle.std.proofs.Common.{ℕ, List, get_or, refl, subst, arith}
 use Rattle.std.proofs.lemmas.List.{take_all}
 use Rattle.qm_base.specs.inner.Sweeping.{IsSpreadBy}
 use Rattle.qm_base.proofs.SweepSteps.{spread_more, spread_all, leaving_within}
+use Rattle.qm_base.proofs.EnteringSteps.{place_entered, leaf_entered, portal_entered}
 use Rattle.qm_base.proofs.sweeping.spread.Goals as goal
-
-pub to-to-requires : goal.to-to-requires
-to-to-requires c = leaving_within c.args.world.now.portals c.args.leaf c.leaving-leaving.result.now c.leaving-leaving.ensures c.loop-q.q-index 0 c.loop-q-test.true
 
 pub offset_bounds-ways-q : goal.offset_bounds-ways-q
 offset_bounds-ways-q c =
@@ -19,12 +17,21 @@ bounds-ways-q c =
     let each = c.requires.one_each in
     omega (arith, within, each)
 
+pub offset_bounds-entered-q : goal.offset_bounds-entered-q
+offset_bounds-entered-q c =
+    let within = place_entered c.args.world.now c.args.entered.now c.requires.entered c.args.leaf c.leaving-leaving.result.now c.leaving-leaving.ensures c.loop-q.q-index c.loop-q-test.true in
+    omega (arith, within)
+
+pub bounds-entered-q : goal.bounds-entered-q
+bounds-entered-q c = place_entered c.args.world.now c.args.entered.now c.requires.entered c.args.leaf c.leaving-leaving.result.now c.leaving-leaving.ensures c.loop-q.q-index c.loop-q-test.true
+
 pub loop-q-preserved : goal.loop-q-preserved
 loop-q-preserved c =
-    let value = c.to-to.ensures.value in
     let places = c.leaving-leaving.result.now in
-    rw value.2 (spread_more c.args.world.now.portals c.args.ways.now c.args.due c.args.seen.now places c.loop-q.q-index (get_or places c.loop-q.q-index 0) c.loop-q.seen value.0 c.loop-q-test.true refl c.loop-q.invariant value.1
-    (let within = c.to-to.ensures.within in let to = value.2 in let wide = c.requires.wide in omega (arith, within, to, wide)))
+    let portal = portal_entered c.args.world.now c.args.entered.now c.requires.entered c.args.leaf places c.leaving-leaving.ensures c.loop-q.q-index c.loop-q-test.true in
+    let within = leaf_entered c.args.world.now c.args.entered.now c.requires.entered c.args.leaf places c.leaving-leaving.ensures c.loop-q.q-index c.loop-q-test.true in
+    rw portal.2 (spread_more c.args.world.now.portals c.args.ways.now c.args.due c.args.seen.now places c.loop-q.q-index (get_or places c.loop-q.q-index 0) c.loop-q.seen portal.0 c.loop-q-test.true refl c.loop-q.invariant portal.1
+    (let to = portal.2 in let wide = c.requires.wide in omega (arith, within, to, wide)))
 
 pub returns : goal.returns
 returns c =

@@ -1,4 +1,4 @@
-use Rattle.qm_compile.specs.Product.{IsProduct}
+use Rattle.std.proofs.Common.{refl}
 use Rattle.qm_compile.proofs.BrushCounts.{brush_count-few}
 use Rattle.qm_compile.proofs.format.format.Goals as goal
 
@@ -6,9 +6,10 @@ pub summary-requires : goal.summary-requires
 summary-requires c = brush_count-few c.args.map.now c.requires
 
 pub returns : goal.returns
-unfolding IsProduct
 returns c = record {
   is_file = rw c.new-file.ensures.items at c.in_ok-print.ensures.ok;
-  is_summary = c.in_ok-summary.ensures;
   is_true = c.in_ok-print.ensures.read_again;
+  is_not_listed = refl;
+  is_status = refl;
+  is_text = c.in_ok-summary.ensures;
 }

@@ -10,3 +10,6 @@ returns-in-None-clause-due g c =
 pub returns-in-Some-clause-due : goal.returns-in-Some-clause-due
 returns-in-Some-clause-due g c =
     IfOk-weaker c.carry_out_command.result _ _ (λ outcome comes. command c.in-Some.ensures.command comes) c.carry_out_command.ensures.due
+
+pub carry_out_command-requires : goal.carry_out_command-requires
+carry_out_command-requires g c = c.in-Some.ensures.command.is_order.are_files.different

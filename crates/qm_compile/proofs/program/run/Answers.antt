@@ -12,7 +12,7 @@ use Rattle.qm_compile.proofs.program.run.Goals as goal
 pub returns-in_default-clause-answers : goal.returns-in_default-clause-answers
 returns-in_default-clause-answers g c =
     let short = c.in_default.ensures.memory in
-    answers_run_out _ _ _ (short.0, short.1, short.2, short.3, short.4, record { printed = λ tells. sym (append-nil _); faults = refl })
+    answers_run_out _ _ _ (short.0, short.1, short.2, short.3, record { printed = λ tells. sym (append-nil _); faults = refl })
 
 pub returns-in-Ok-write-clause-answers : goal.returns-in-Ok-write-clause-answers
 returns-in-Ok-write-clause-answers g c =

@@ -1,11 +1,16 @@
-use Rattle.std.proofs.Common.{rules}
-use Rattle.qm_compile.proofs.Commands.{no_other_length}
+use Rattle.std.proofs.Common.{◌-◌, List, [], ℕ, Bor, drop, take, get_or, length, sym, subst}
+use Rattle.qm_compile.specs.Command.{IsNoCommand, words_of}
+use Rattle.qm_compile.specs.inner.WordsRead.{request_of}
+use Rattle.qm_compile.proofs.Commands.{no_order}
+use Rattle.qm_compile.proofs.Requests.{first_and_rest, if_none_then}
 use Rattle.qm_compile.proofs.words.command_of.Goals as goal
-use Rattle.qm_compile.proofs.words.command_of.Goals.{in_default-via-then-words-lt3, in_default-via-else-words-lt3+else-words-lt4+else-words-lt5}
 
-pub returns-in_default-clause-none : goal.returns-in_default-clause-none
-returns-in_default-clause-none c =
-    elim c.in_default.branch [
-      | in_default-via-then-words-lt3 w ↦ no_other_length c.args.words.now (λ three. search rules) (λ four. search rules)
-      | in_default-via-else-words-lt3+else-words-lt4+else-words-lt5 w ↦ no_other_length c.args.words.now (λ three. search rules) (λ four. search rules)
-    ]
+pub returns-in-Some-clause-none : goal.returns-in-Some-clause-none
+returns-in-Some-clause-none c =
+    let words = c.args.words.now in
+    let nothing : Bor (List ℕ) = record { ref_ptr = (0, 0); now = [] } in
+    let front = first_and_rest words nothing c.in-len1-up.len_at_least in
+    if_none_then c.order_of.result c.order_of.ensures.none
+    (λ none.
+    subst (λ (all : List (Bor (List ℕ))). IsNoCommand (words_of all)) (sym front)
+    (no_order (get_or words 0 nothing).now (words_of (take (length words - 1) (drop 1 words))) (request_of c.in-Some.asked) c.in-Some.ensures.asked none))

@@ -9,4 +9,4 @@ loop-row-init c = refl
 
 pub loop-row-preserved : goal.loop-row-preserved
 loop-row-preserved c =
-    c.saturating_add-seen.ensures ∙ rw (c.loop-row.invariant, c.count.ensures) (sym (seen_more c.args.rows.now c.loop-row.row-index c.row-item.result c.loop-row-test.true c.row-item.is))
+    c.sum_or_most-seen.ensures ∙ rw (c.loop-row.invariant, c.count.ensures) (sym (seen_more c.args.rows.now c.loop-row.row-index c.row-item.result c.loop-row-test.true c.row-item.is))

@@ -1,7 +1,8 @@
 use Rattle.std.proofs.Common.{◌≡◌, ◌∙◌, ap, []}
 use Rattle.std.proofs.lemmas.List.{get_or_default}
 use Rattle.qm_base.specs.declared.beside.Beside.{Beside}
-use Rattle.qm_base.specs.inner.Tables.{ahead, beside_at}
+use Rattle.qm_base.specs.inner.Tables.{ahead}
+use Rattle.qm_base.specs.inner.Besides.{beside_at}
 use Rattle.qm_base.proofs.table.Table.ahead.Goals as goal
 
 pub returns-then-kind : goal.returns-then-kind

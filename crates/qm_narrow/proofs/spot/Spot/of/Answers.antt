@@ -1,6 +1,6 @@
 use Rattle.std.proofs.Common.{rules}
-use Rattle.qm_narrow.proofs.Coordinates.{spot_is}
+use Rattle.qm_narrow.proofs.WholeCorners.{whole_spot}
 use Rattle.qm_narrow.proofs.spot.Spot.of.Goals as goal
 
-pub returns : goal.returns
-returns c = spot_is c.args.corner.now _ c.requires.in_cube c.rounded.ensures c.around.ensures.below c.around.ensures.above (search rules) (search rules) (search rules)
+pub returns-in-Some : goal.returns-in-Some
+returns-in-Some c = whole_spot c.args.corner.now c.in-Some.at c.requires.in_cube (search rules) c.in-Some.ensures

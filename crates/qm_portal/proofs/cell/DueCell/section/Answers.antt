@@ -1,31 +1,44 @@
-use Rattle.std.proofs.Common.{Option, List, sym, subst}
-use Rattle.std.specs.Option.{MatchOption}
+use Rattle.std.proofs.Common.{◌≡◌, List, ◌++◌, take, length, ◌≤◌, ◌∙◌, sym, ap, subst}
+use Rattle.std.proofs.lemmas.Option.{MatchOption-at_some, MatchOption-at_none}
 use Rattle.qm_space.specs.Plane.{Plane}
-use Rattle.qm_convex.specs.Winding.{Winding}
-use Rattle.qm_convex.specs.Cut.{IsPartWithin}
-use Rattle.qm_convex.specs.World.{MissesCube, IsWorldPart}
+use Rattle.qm_convex.specs.Section.{AreAxialBounds, IsSection, MissesCell}
 use Rattle.qm_contacts.specs.inner.Due.{DueCell}
-use Rattle.qm_portal.specs.inner.Cells.{CrossesCell, HasPointBefore}
-use Rattle.qm_portal.proofs.CutFacets.{point_before_bounds, section_by_bounds}
+use Rattle.qm_portal.specs.inner.Cells.{CrossesCell}
+use Rattle.qm_portal.proofs.AxialBounds.{six_axial}
+use Rattle.qm_portal.proofs.CutFacets.{crosses_axial, point_before_slanted, section_by_bounds}
 use Rattle.qm_portal.proofs.cell.DueCell.section.Goals as goal
-use Rattle.qm_portal.proofs.cell.DueCell.section.Goals.{In-Some}
+use Rattle.qm_portal.proofs.cell.DueCell.section.Goals.{After-split_at, In-Some}
 
-abbrev kept : In-Some → DueCell
+abbrev kept : After-split_at → DueCell
 kept c = record { child = c.self.inside.child; bounds = c.self.inside.bounds.items; on_walls = c.self.inside.on_walls.items }
 
-crosses : (c : In-Some) (planes : List Plane) → CrossesCell planes c.args.self.now c.args.plane.now → CrossesCell planes (kept c) c.args.plane.now
+parts : (c : After-split_at) → (kept c).bounds ≡ c.split_at.result.0.now ++ c.split_at.result.1.now
+parts c = sym c.deref.ensures.value ∙ c.split_at.ensures.by_index.0
+
+crosses : (c : After-split_at) (planes : List Plane) → CrossesCell planes c.args.self.now c.args.plane.now → CrossesCell planes (kept c) c.args.plane.now
 crosses c planes is = subst (λ (d : DueCell). CrossesCell planes d c.args.plane.now) (sym c.self.view_is) is
 
-world : (c : In-Some) → IsWorldPart c.in-Some.whole c.args.plane.now
-world c = subst (λ (o : Option Winding). MatchOption o (MissesCube c.args.plane.now) (λ w. IsWorldPart w c.args.plane.now)) c.in-Some.is c.in_ok-whole.ensures
+whole : (c : In-Some) → IsSection c.split_at.result.0.now c.args.plane.now c.in-Some.whole
+whole c = MatchOption-at_some (MissesCell c.split_at.result.0.now c.args.plane.now) (λ w. IsSection c.split_at.result.0.now c.args.plane.now w) c.in-Some.whole c.in-Some.is c.in_ok-whole.ensures
+
+pub split_at-requires : goal.split_at-requires
+split_at-requires c = subst (λ (bounds : List Plane). 6 ≤ length bounds) (sym c.deref.ensures.value) (six_axial c.self.inside.bounds.items c.self.invariant)
+
+pub between-requires : goal.between-requires
+between-requires c = subst AreAxialBounds (sym (c.split_at.ensures.front ∙ ap (take 6) c.deref.ensures.value)) c.self.invariant
 
 pub within-requires : goal.within-requires
 within-requires c =
-    let at = (goal.at.within-requires c).In-Some in
-    subst (HasPointBefore c.in-Some.whole) (sym c.deref.ensures.value) (point_before_bounds c.requires.0 (kept at) c.args.plane.now (crosses at c.requires.0 c.requires.1) c.in-Some.whole (world at))
+    let at = (goal.at.within-requires c).After-split_at in
+    point_before_slanted c.requires.0 (kept at) c.args.plane.now (crosses at c.requires.0 c.requires.1) _ _ (parts at) c.in-Some.whole (whole (goal.at.within-requires c).In-Some)
+
+pub unreachable-requires : goal.unreachable-requires
+unreachable-requires c =
+    let at = (goal.at.unreachable-requires c).After-split_at in
+    crosses_axial c.requires.0 (kept at) c.args.plane.now (crosses at c.requires.0 c.requires.1) _ _ (parts at)
+    (MatchOption-at_none (MissesCell c.split_at.result.0.now c.args.plane.now) (λ w. IsSection c.split_at.result.0.now c.args.plane.now w) c.in-None.is c.in_ok-whole.ensures)
 
 pub returns : goal.returns
 returns c = λ planes is.
-    let at = (goal.at.returns c).In-Some in
-    section_by_bounds planes (kept at) c.args.plane.now (crosses at planes is) c.in-Some.whole (world at) c.in_ok-section-in-Some.section
-    (subst (λ (bs : List Plane). IsPartWithin c.in_ok-section-in-Some.section c.in-Some.whole bs) c.deref.ensures.value c.in_ok-section-in-Some.ensures)
+    let at = (goal.at.returns c).After-split_at in
+    section_by_bounds planes (kept at) c.args.plane.now (crosses at planes is) _ _ (parts at) c.in-Some.whole (whole (goal.at.returns c).In-Some) c.in_ok-section-in-Some.section c.in_ok-section-in-Some.ensures

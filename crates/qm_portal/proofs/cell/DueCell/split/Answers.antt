@@ -8,7 +8,7 @@ use Rattle.qm_portal.proofs.cell.DueCell.split.Goals as goal
 pub returns-clause-front : goal.returns-clause-front
 returns-clause-front c = record {
   child_is = refl;
-  bounds = subst (λ (bs : List Plane). IsBoundAdded c.args.plane.now bs c.add_bound-2.new.bounds.items) (ap (λ (d : DueCell). d.bounds) c.self.view_is) c.in_ok-add_bound-2.ensures;
+  bounds = subst (λ (bs : List Plane). IsBoundAdded c.args.plane.now bs c.add_bound-2.new.bounds.items) (ap (λ (d : DueCell). d.bounds) c.self.view_is) c.in_ok-add_bound-2.ensures.added;
   walls = subst (λ (ws : List Facet). AreCut c.args.plane.now ws c.in_ok-walls.walls.front.items) (ap (λ (d : DueCell). d.on_walls) c.self.view_is) c.in_ok-walls.ensures.front;
 }
 
@@ -17,6 +17,6 @@ returns-clause-back c = record {
   child_is = refl;
   bounds =
       subst (λ (bs : List Plane). IsBoundAdded (flipped c.args.plane.now) bs c.add_bound.new.bounds.items) (c.in_ok-behind.ensures.items ∙ c.deref.ensures.value ∙ ap (λ (d : DueCell). d.bounds) c.self.view_is)
-      (subst (λ (g : Plane). IsBoundAdded g c.in_ok-behind.behind.items c.add_bound.new.bounds.items) c.flipped.ensures c.in_ok-add_bound.ensures);
+      (subst (λ (g : Plane). IsBoundAdded g c.in_ok-behind.behind.items c.add_bound.new.bounds.items) c.flipped.ensures c.in_ok-add_bound.ensures.added);
   walls = subst (λ (ws : List Facet). AreCut (flipped c.args.plane.now) ws c.in_ok-walls.walls.back.items) (ap (λ (d : DueCell). d.on_walls) c.self.view_is) c.in_ok-walls.ensures.back;
 }

@@ -1,0 +1,81 @@
+use crate::openings::{Chain, Openings, Shape};
+use crate::tally::Tally;
+use qm_narrow::{ChainState, separators, step};
+use qm_wind::Pane;
+use std::alloc::{AllocError, Global};
+
+/// What is timed.
+#[derive(Clone, Copy)]
+pub(crate) enum Phase {
+    /// The separators of the first two openings of each chain.
+    Separators,
+    /// The step from the state that has gone through the first two openings through the third.
+    Step,
+}
+
+impl Phase {
+    pub(crate) fn name(self) -> &'static str {
+        match self {
+            Phase::Separators => "separators",
+            Phase::Step => "step",
+        }
+    }
+
+    /// Runs so many rounds.
+    pub(crate) fn run(self, alloc: Global, shape: Shape, rounds: u32) -> Result<Tally, AllocError> {
+        let chains = Openings::new(shape).chains(alloc)?;
+        match self {
+            Phase::Separators => all_separators(alloc, &chains, rounds),
+            Phase::Step => all_steps(alloc, &chains, rounds),
+        }
+    }
+}
+
+fn all_separators(alloc: Global, chains: &Vec<Chain>, rounds: u32) -> Result<Tally, AllocError> {
+    let mut tally = Tally::default();
+    for _ in 0..rounds {
+        for chain in chains {
+            let planes = separators(alloc, &chain.first.winding, &chain.second.winding)?;
+            tally = tally.with_planes(planes.len());
+        }
+    }
+    Ok(tally)
+}
+
+/// A state that has gone through the first two openings of a chain, and the third one.
+#[derive(Drop)]
+struct Going {
+    state: ChainState,
+    next: Pane,
+}
+
+/// That of a chain; `None` where the step through the second opening blocks.
+fn way_of(alloc: Global, chain: &Chain) -> Result<Option<Going>, AllocError> {
+    let first = chain.first.pane()?;
+    let second = chain.second.pane()?;
+    let start = ChainState::start(alloc, &first)?;
+    let Some(state) = step(alloc, &start, &second)? else {
+        return Ok(None);
+    };
+    let next = chain.third.pane()?;
+    Ok(Some(Going { state, next }))
+}
+
+fn all_steps(alloc: Global, chains: &Vec<Chain>, rounds: u32) -> Result<Tally, AllocError> {
+    let mut ways = Vec::new(alloc);
+    for chain in chains {
+        if let Some(way) = way_of(alloc, chain)? {
+            ways.push(way)?;
+        }
+    }
+    let mut tally = Tally::default();
+    for _ in 0..rounds {
+        for way in &ways {
+            tally = match step(alloc, &way.state, &way.next)? {
+                None => tally.with_blocked(),
+                Some(_) => tally.with_step(),
+            };
+        }
+    }
+    Ok(tally)
+}

@@ -1,0 +1,171 @@
+//! Listings that are written beside a tree.
+
+use super::boxes::{BoxRow, world};
+use super::cube::{END, FIRST, OTHERS, joined};
+use super::cube_file::CUBE_FILE;
+use super::cube_listing::CUBE_LISTING;
+use super::outside::{Answer, Outside};
+use super::printed::{READ_FAULT, SUMMARY, WRITE_FAULT};
+use super::rooms::{HOLE_ROOM, TWO_ROOMS};
+use std::alloc::{AllocError, Global};
+use std::test::Fail;
+use std::thread::Threads;
+
+const ROOMS_SUMMARY: &str =
+    "sealed\nbrushes 8\nflat 0\nplanes 16\nnodes 16\nleaves 17\nnumbered 3\nfilled 6\nportals 2\nseen 9\n";
+
+const ROOMS_LISTING: &str =
+    "PRT1\n3\n2\n4 1 2 (-3488 -64 0 ) (-3488 -64 64 ) (-3488 -32 64 ) (-3488 -32 0 ) \n4 0 1 (-3472 -64 0 ) (-3472 -64 64 ) (-3472 -32 64 ) (-3472 -32 0 ) \n";
+
+/// A world of boxes, with an entity at a point.
+fn world_with(alloc: Global, boxes: &[BoxRow], origin: &str) -> Result<String, AllocError> {
+    let mut text = world(alloc, "", boxes)?;
+    writeln!(
+        text,
+        "{{\n\"classname\" \"info_player_start\"\n\"origin\" \"{origin}\"\n}}"
+    )?;
+    Ok(text)
+}
+
+/// The tree and the listing of two rooms.
+#[test]
+fn lists_two_rooms(rt: HostRuntime) -> Result<(), Fail> {
+    let text = world_with(rt.alloc(), &TWO_ROOMS, "-3536 0 24")?;
+    let mut outside = Outside::new(rt.alloc(), text.as_bytes())?;
+    let words = ["compile", "map", "out", "--prt", "list"];
+    let says = outside.says(&rt, &words, 0, ROOMS_SUMMARY);
+    let has_rows = outside
+        .shelf
+        .get("out")
+        .is_some_and(|file| file.ends_with(&[7, 7, 7]));
+    let listed = outside.shelf.get("list") == Some(ROOMS_LISTING.as_bytes());
+    assert!(rt; says && outside.has_long_out(769) && has_rows && listed);
+    Ok(())
+}
+
+/// Where an entity leaks, what stood under the listing's name stays.
+#[test]
+fn lists_nothing_of_a_leak(rt: HostRuntime) -> Result<(), Fail> {
+    let text = world_with(rt.alloc(), &HOLE_ROOM, "0 0 24")?;
+    let mut outside = Outside::new(rt.alloc(), text.as_bytes())?;
+    outside.shelf.put("list", b"old")?;
+    let words = ["compile", "map", "out", "--prt", "list"];
+    let says = outside.says(&rt, &words, 3, "leak: entity 1\ntrail: 8 6 0\n");
+    let stays = outside.shelf.get("list") == Some(b"old".as_slice());
+    assert!(rt; says && outside.has_long_out(676) && stays);
+    Ok(())
+}
+
+/// What a file holds.
+#[derive(Clone, Copy)]
+enum Held {
+    Nothing,
+    Empty,
+    Whole,
+}
+
+/// Whether a file holds this, of these bytes.
+fn has(file: Option<&[u8]>, held: Held, whole: &[u8]) -> bool {
+    match held {
+        Held::Nothing => file.is_none(),
+        Held::Empty => file.is_some_and(|bytes| bytes.is_empty()),
+        Held::Whole => file == Some(whole),
+    }
+}
+
+/// What fails: a call of the shelf by its number, of which there are six, and a write of the sink.
+#[derive(Clone, Copy)]
+struct Failing {
+    call: u64,
+    write: u64,
+}
+
+const UNREAD: Answer = (5, READ_FAULT, [1, 0, 0]);
+
+const UNWRITTEN: Answer = (6, WRITE_FAULT, [0, 1, 0]);
+
+/// What is answered where one call fails, and what `out` and `list` then hold. The calls are two reads, the creation of
+/// `out` and the addition of its bytes, and the same of `list`.
+static FAULTS: [(Failing, Answer, Held, Held); 8] = [
+    (
+        Failing { call: 0, write: 9 },
+        UNREAD,
+        Held::Nothing,
+        Held::Nothing,
+    ),
+    (
+        Failing { call: 1, write: 9 },
+        UNREAD,
+        Held::Nothing,
+        Held::Nothing,
+    ),
+    (
+        Failing { call: 2, write: 9 },
+        UNWRITTEN,
+        Held::Nothing,
+        Held::Nothing,
+    ),
+    (
+        Failing { call: 3, write: 9 },
+        UNWRITTEN,
+        Held::Empty,
+        Held::Nothing,
+    ),
+    (
+        Failing { call: 4, write: 9 },
+        UNWRITTEN,
+        Held::Whole,
+        Held::Nothing,
+    ),
+    (
+        Failing { call: 5, write: 9 },
+        UNWRITTEN,
+        Held::Whole,
+        Held::Empty,
+    ),
+    (
+        Failing { call: 6, write: 0 },
+        (6, "", [0, 0, 1]),
+        Held::Whole,
+        Held::Whole,
+    ),
+    (
+        Failing { call: 6, write: 9 },
+        (0, SUMMARY, [0, 0, 0]),
+        Held::Whole,
+        Held::Whole,
+    ),
+];
+
+/// Whether a run that lists the cube gives this answer where this fails, and the files then hold this.
+fn fails_so<R: AllocGlobal + Threads + Sync>(
+    rt: &R,
+    failing: Failing,
+    answer: Answer,
+    out: Held,
+    list: Held,
+) -> Result<bool, AllocError> {
+    let (status, printed, faults) = answer;
+    let text = joined(rt.alloc(), [FIRST, OTHERS, END])?;
+    let mut outside = Outside::new(rt.alloc(), &text)?;
+    outside.shelf.fail_call(failing.call)?;
+    outside.sink.fail_call(failing.write)?;
+    let words = ["compile", "map", "out", "--prt", "list"];
+    let says = outside.says(rt, &words, status, printed);
+    let found = outside.shelf.get("out");
+    Ok(
+        says && outside.holds(found, &text, faults)
+            && has(found, out, &CUBE_FILE)
+            && has(outside.shelf.get("list"), list, CUBE_LISTING.as_bytes()),
+    )
+}
+
+#[test]
+fn answers_each_fault_beside_a_listing(rt: HostRuntime) -> Result<(), Fail> {
+    let mut right = true;
+    for &(failing, answer, out, list) in &FAULTS {
+        right &= fails_so(&rt, failing, answer, out, list)?;
+    }
+    assert!(rt; right);
+    Ok(())
+}

@@ -1,0 +1,5 @@
+use Rattle.qm_base.specs.inner.Besides.{BesidesSoFar}
+use Rattle.qm_base.proofs.beside.besides.Given as goal
+
+abbrev pub invariant-loop-k : goal.invariant-loop-k
+invariant-loop-k l = BesidesSoFar l.world.portals l.lanes l.planes l.k l.rows.items

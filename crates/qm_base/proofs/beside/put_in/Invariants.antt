@@ -1,0 +1,5 @@
+use Rattle.qm_base.specs.inner.Besides.{PutInSoFar}
+use Rattle.qm_base.proofs.beside.put_in.Given as goal
+
+abbrev pub invariant-loop-c : goal.invariant-loop-c
+invariant-loop-c l = PutInSoFar l.winding l.planes l.place l.c l.fn.rows l.rows

@@ -1,0 +1,103 @@
+-- Normals, and their products with coordinates, as the code keeps their numbers.
+use Rattle.std.proofs.Common.{◌≡◌, ◌≤◌, ◌^◌, ◌∙◌, ℕ, Bool, ℤ, pos, FitsSigned, w32, w64, ◌+ℤ◌, ◌*ℤ◌, ◌<ℤ◌, ◌≤ℤ◌, cond, arith, lit≤, refl, ap, sym, subst, unsigned_abs, ⊎_elim}
+use Rattle.std.proofs.lemmas.Int.{ints}
+use Rattle.qm_numbers.proofs.Bits.{kept_32, kept_64}
+use Rattle.qm_numbers.proofs.Signs.{side_test}
+use Rattle.qm_numbers.proofs.Kept.{kept, fits_64}
+use Rattle.qm_space.specs.Bounds.{world_extent}
+use Rattle.qm_space.specs.Point.{Point, IsCoordinate, IsWholePoint}
+use Rattle.qm_space.specs.Vector.{normal_of}
+use Rattle.qm_space.specs.Cuboid.{least_product, greatest_product}
+use Rattle.qm_space.specs.ThreePoints.{outward_plane}
+use Rattle.qm_space.proofs.PlanesThroughPoints.{coordinate_small, outward_sizes}
+use Rattle.qm_space.proofs.Cuboids.{product_small}
+use Rattle.qm_narrow.specs.declared.normal.Normal.{Normal}
+use Rattle.qm_narrow.specs.inner.Look.{direction_of, IsSmallNormal}
+
+abbrev pub normal : ℤ → ℤ → ℤ → Normal
+normal x y z = record { x = x; y = y; z = z }
+
+pub same_direction : (a b c p q r : ℤ) → a ≡ p → b ≡ q → c ≡ r → direction_of (normal a b c) ≡ record { x = p; y = q; z = r; w = pos 0 }
+same_direction a b c p q r x y z = rw (x, y, z) refl
+
+small_kept : (a : ℤ) (n : ℕ) → n ≤ 2 ^ 62 → unsigned_abs a ≤ n → unsigned_abs (kept w64 a) ≤ n
+small_kept a n l h = rw (kept_64 a n h l) h
+
+pub small_normal : (a b c : ℤ) (n : ℕ) → n ≤ 2 ^ 62 → unsigned_abs a ≤ n → unsigned_abs b ≤ n → unsigned_abs c ≤ n → IsSmallNormal (normal (kept w64 a) (kept w64 b) (kept w64 c)) n
+small_normal a b c n l x y z = record { x_small = small_kept a n l x; y_small = small_kept b n l y; z_small = small_kept c n l z }
+
+-- the normal through three whole points of the cube is small
+pub through_small : (n : Normal) (at from to : Point) → IsWholePoint at → IsWholePoint from → IsWholePoint to → direction_of n ≡ normal_of (outward_plane at from to) → IsSmallNormal n (2 ^ 26)
+through_small n at from to a f t e =
+    let s = outward_sizes at from to a f t in
+    record {
+      x_small = subst (λ (z : ℤ). unsigned_abs z ≤ 2 ^ 26) (sym (ap (λ (p : Point). p.x) e)) s.nx_small;
+      y_small = subst (λ (z : ℤ). unsigned_abs z ≤ 2 ^ 26) (sym (ap (λ (p : Point). p.y) e)) s.ny_small;
+      z_small = subst (λ (z : ℤ). unsigned_abs z ≤ 2 ^ 26) (sym (ap (λ (p : Point). p.z) e)) s.nz_small;
+    }
+
+-- ---- a component times a coordinate
+
+module _ (n c f : ℤ) (small : unsigned_abs n ≤ 2 ^ 26) (in_cube : IsCoordinate c) (e : f ≡ kept w32 c) where
+  component : kept w64 n ≡ n
+  component = kept_64 n (2 ^ 26) small (lit≤ tt)
+
+  widened : kept w64 f ≡ c
+  widened = ap (λ (z : ℤ). kept w64 z) (e ∙ kept_32 c world_extent (coordinate_small c in_cube) (lit≤ tt)) ∙ kept_64 c world_extent (coordinate_small c in_cube) (lit≤ tt)
+
+  pub times_fits : FitsSigned w64 (kept w64 n *ℤ kept w64 f)
+  times_fits = rw (component, widened) (fits_64 (n *ℤ c) (2 ^ 38) (product_small n c small in_cube) (lit≤ tt))
+
+  pub times_is : kept w64 (kept w64 n *ℤ kept w64 f) ≡ n *ℤ c
+  times_is = rw (component, widened) (kept_64 (n *ℤ c) (2 ^ 38) (product_small n c small in_cube) (lit≤ tt))
+
+-- ---- sums of three
+
+pub sum_kept : (a b c : ℤ) → unsigned_abs a ≤ 2 ^ 38 → unsigned_abs b ≤ 2 ^ 38 → unsigned_abs c ≤ 2 ^ 38 → kept w64 (kept w64 (kept w64 a +ℤ kept w64 b) +ℤ kept w64 c) ≡ (a +ℤ b) +ℤ c
+sum_kept a b c h k l = omega (arith, ints)
+
+pub sum_small : (a b c : ℤ) → unsigned_abs a ≤ 2 ^ 38 → unsigned_abs b ≤ 2 ^ 38 → unsigned_abs c ≤ 2 ^ 38 → unsigned_abs ((a +ℤ b) +ℤ c) ≤ 2 ^ 40
+sum_small a b c h k l = omega (arith, ints)
+
+-- ---- the least and the greatest product with a coordinate of a span
+
+module _ (n low high r : ℤ) (small : unsigned_abs n ≤ 2 ^ 26) (low_in : IsCoordinate low) (high_in : IsCoordinate high) where
+  n_kept : kept w64 n ≡ n
+  n_kept = kept_64 n (2 ^ 26) small (lit≤ tt)
+
+  low_kept : kept w32 low ≡ low
+  low_kept = kept_32 low world_extent (coordinate_small low low_in) (lit≤ tt)
+
+  high_kept : kept w32 high ≡ high
+  high_kept = kept_32 high world_extent (coordinate_small high high_in) (lit≤ tt)
+
+  pub below_zero_is : n <ℤ pos 0 → unsigned_abs r ≤ 2 ^ 38 → r ≡ kept w64 n *ℤ kept w32 high → kept w64 r ≡ least_product n (record { low = low; high = high })
+  unfolding least_product
+  below_zero_is below size e =
+      kept_64 r (2 ^ 38) size (lit≤ tt) ∙ e ∙ (λ i. n_kept i *ℤ high_kept i)
+      ∙ ⊎_elim
+      (λ t. sym (ap (λ (b : Bool). cond b (n *ℤ high) (n *ℤ low)) t.0))
+      (λ t. let other = t.1 in absurd (omega (arith, ints)))
+      (side_test n)
+
+  pub not_below_zero_is : pos 0 ≤ℤ n → unsigned_abs r ≤ 2 ^ 38 → r ≡ kept w64 n *ℤ kept w32 low → kept w64 r ≡ least_product n (record { low = low; high = high })
+  unfolding least_product
+  not_below_zero_is not size e =
+      kept_64 r (2 ^ 38) size (lit≤ tt) ∙ e ∙ (λ i. n_kept i *ℤ low_kept i)
+      ∙ ⊎_elim
+      (λ t. let other = t.1 in absurd (omega (arith, ints)))
+      (λ t. sym (ap (λ (b : Bool). cond b (n *ℤ high) (n *ℤ low)) t.0))
+      (side_test n)
+
+  pub least_is : r ≡ least_product (kept w64 n) (record { low = kept w32 low; high = kept w32 high }) → r ≡ least_product n (record { low = low; high = high })
+  least_is e = e ∙ (λ i. least_product (n_kept i) (record { low = low_kept i; high = high_kept i }))
+
+  pub greatest_is : r ≡ least_product (kept w64 n) (record { low = kept w32 low; high = kept w32 high }) → r ≡ greatest_product n (record { low = high; high = low })
+  unfolding least_product greatest_product
+  greatest_is e = least_is e
+
+pub three_are : (a b c r p q s : ℤ) → unsigned_abs r ≤ 2 ^ 40 → r ≡ (kept w64 a +ℤ kept w64 b) +ℤ kept w64 c → unsigned_abs a ≤ 2 ^ 38 → unsigned_abs b ≤ 2 ^ 38 → unsigned_abs c ≤ 2 ^ 38 → a ≡ p → b ≡ q → c ≡ s → kept w64 r ≡ (p +ℤ q) +ℤ s
+three_are a b c r p q s size e h k l x y z =
+    kept_64 r (2 ^ 40) size (lit≤ tt) ∙ e
+    ∙ (λ i. (kept_64 a (2 ^ 38) h (lit≤ tt) i +ℤ kept_64 b (2 ^ 38) k (lit≤ tt) i) +ℤ kept_64 c (2 ^ 38) l (lit≤ tt) i)
+    ∙ (λ i. (x i +ℤ y i) +ℤ z i)

@@ -1,0 +1,209 @@
+-- What a look at a normal rests on: where it refuses a normal, no separator has it.
+use Rattle.std.proofs.Common.{◌≡◌, ℕ, ◌<◌, Bool, true, false, not, ℤ, pos, neg_ℤ, ◌+ℤ◌, ◌-ℤ◌, ◌*ℤ◌, ◌<ℤ◌, ◌≤ℤ◌, List, [], ◌∷◌, length, cond, refl, ap, sym, subst, ◌∙◌, arith, ◌⊎◌, ⊎_elim}
+use Rattle.std.specs.Int.{int_max, int_min}
+use Rattle.std.proofs.lemmas.Int.{ints, clamps}
+use Rattle.std.proofs.Math.IntN.{*ℤ_comm}
+use Rattle.qm_numbers.proofs.IntegerProducts.{linear, +ℤ-*ℤ, neg-*ℤ, *ℤ_zero}
+use Rattle.qm_numbers.proofs.Signs.{by_sign, cancel_at_most, product_not_negative, product_not_positive}
+use Rattle.qm_numbers.proofs.Ring.{variable, ◌⊕◌, ◌⊖◌, ◌⊗◌, solved}
+use Rattle.qm_space.specs.Point.{Point, point_times}
+use Rattle.qm_space.specs.Plane.{Plane, value, IsNotInFront, IsNotBehind, flipped, scaled}
+use Rattle.qm_space.specs.Vector.{normal_of}
+use Rattle.qm_space.specs.Turned.{turned}
+use Rattle.qm_space.specs.Cuboid.{IsInSpan, least_product, greatest_product}
+use Rattle.qm_space.specs.ThreePoints.{outward_plane, IsPlaneThrough}
+use Rattle.qm_space.proofs.Planes.{same_point}
+use Rattle.qm_space.proofs.Cuboids.{least_product_bound, greatest_product_bound}
+use Rattle.qm_space.proofs.ReducedPlanes.{flipped_twice}
+use Rattle.qm_convex.specs.Winding.{Winding, corner_at, IsConvex}
+use Rattle.qm_convex.specs.Sides.{HasNoCornerInFront, HasNoCornerBehind}
+use Rattle.qm_convex.proofs.Corners.{corners_length, corner_in_list}
+use Rattle.qm_separators.specs.Gains.{Gains}
+use Rattle.qm_separators.specs.inner.Found.{PartsAlong, SeparatesBy}
+use Rattle.qm_separators.proofs.Comparisons.{neg-*ℤ-neg}
+use Rattle.qm_separators.proofs.SeparatorLaw.{none_in_front}
+use Rattle.qm_separators.proofs.GainedPlanes.{gains_none}
+use Rattle.qm_narrow.specs.declared.normal.Normal.{Normal}
+use Rattle.qm_narrow.specs.declared.reach.Reach.{Reach}
+use Rattle.qm_narrow.specs.declared.outlook.Outlook.{Outlook}
+use Rattle.qm_narrow.specs.declared.spot.Spot.{Spot}
+use Rattle.qm_narrow.specs.inner.Trace.{IsSpotOf}
+use Rattle.qm_narrow.specs.inner.Look.{direction_of, at_distance, span_of, least_along, greatest_along, IsReach, PartsNowhere, IsOutlook}
+
+-- ---- one corner
+
+module _ (n : Normal) (p : Point) (spot : Spot) (weight : pos 0 <ℤ p.w) (is : IsSpotOf p spot) where
+  in_x : IsInSpan (span_of spot 0) p.x p.w
+  in_x = record { above = is.below.of_x.at_most; below = is.above.of_x.at_least }
+
+  in_y : IsInSpan (span_of spot 1) p.y p.w
+  in_y = record { above = is.below.of_y.at_most; below = is.above.of_y.at_least }
+
+  in_z : IsInSpan (span_of spot 2) p.z p.w
+  in_z = record { above = is.below.of_z.at_most; below = is.above.of_z.at_least }
+
+  abbrev total : ℤ
+  total = ((n.x *ℤ p.x) +ℤ (n.y *ℤ p.y)) +ℤ (n.z *ℤ p.z)
+
+  value_is : (d : ℤ) → value (at_distance n d) p ≡ total -ℤ (d *ℤ p.w)
+  unfolding value
+  value_is d = refl
+
+  least_bound : (least_along n spot *ℤ p.w) ≤ℤ total
+  unfolding least_along
+  least_bound =
+      let a = least_product n.x (span_of spot 0) in let b = least_product n.y (span_of spot 1) in let c = least_product n.z (span_of spot 2) in
+      let e = +ℤ-*ℤ (a +ℤ b) c p.w in let f = +ℤ-*ℤ a b p.w in
+      let x = least_product_bound n.x (span_of spot 0) p.x p.w in_x in
+      let y = least_product_bound n.y (span_of spot 1) p.y p.w in_y in
+      let z = least_product_bound n.z (span_of spot 2) p.z p.w in_z in
+      omega (arith, linear)
+
+  greatest_bound : total ≤ℤ (greatest_along n spot *ℤ p.w)
+  unfolding greatest_along
+  greatest_bound =
+      let a = greatest_product n.x (span_of spot 0) in let b = greatest_product n.y (span_of spot 1) in let c = greatest_product n.z (span_of spot 2) in
+      let e = +ℤ-*ℤ (a +ℤ b) c p.w in let f = +ℤ-*ℤ a b p.w in
+      let x = greatest_product_bound n.x (span_of spot 0) p.x p.w in_x in
+      let y = greatest_product_bound n.y (span_of spot 1) p.y p.w in_y in
+      let z = greatest_product_bound n.z (span_of spot 2) p.z p.w in_z in
+      omega (arith, linear)
+
+  least_not_in_front : (d : ℤ) → IsNotInFront (at_distance n d) p → least_along n spot ≤ℤ d
+  least_not_in_front d not =
+      let e = value_is d in let l = least_bound in
+      let f = *ℤ_comm p.w (least_along n spot) in let g = *ℤ_comm p.w d in
+      cancel_at_most p.w (least_along n spot) d weight (omega (arith, linear))
+
+  greatest_not_behind : (d : ℤ) → IsNotBehind (at_distance n d) p → d ≤ℤ greatest_along n spot
+  greatest_not_behind d not =
+      let e = value_is d in let l = greatest_bound in
+      let f = *ℤ_comm p.w (greatest_along n spot) in let g = *ℤ_comm p.w d in
+      cancel_at_most p.w d (greatest_along n spot) weight (omega (arith, linear))
+
+-- ---- all corners, one after another
+
+max_at_most : (a b d : ℤ) → a ≤ℤ d → b ≤ℤ d → int_max a b ≤ℤ d
+max_at_most a b d h k = omega (arith, ints, clamps)
+
+min_at_least : (a b d : ℤ) → d ≤ℤ a → d ≤ℤ b → d ≤ℤ int_min a b
+min_at_least a b d h k = omega (arith, ints, clamps)
+
+module _ (v : Winding) (convex : IsConvex v) (n : Normal) (i : ℕ) (within : i < length v.edges) (spot : Spot) (is : IsSpotOf (corner_at v i) spot) where
+  corner_low : (d : ℤ) → HasNoCornerInFront v (at_distance n d) → least_along n spot ≤ℤ d
+  corner_low d none = least_not_in_front n (corner_at v i) spot (convex.weight i within) is d (none i within)
+
+  corner_high : (d : ℤ) → HasNoCornerBehind v (at_distance n d) → d ≤ℤ greatest_along n spot
+  corner_high d none = greatest_not_behind n (corner_at v i) spot (convex.weight i within) is d (none i within)
+
+  pub reach_begins : (reach : Reach) → reach.low ≡ least_along n spot → reach.high ≡ greatest_along n spot → IsReach v n reach
+  reach_begins reach low high = record {
+    low = λ d none. subst (λ (z : ℤ). z ≤ℤ d) (sym low) (corner_low d none);
+    high = λ d none. subst (λ (z : ℤ). d ≤ℤ z) (sym high) (corner_high d none);
+  }
+
+  pub reach_more : (old new : Reach) → IsReach v n old → new.low ≡ int_max old.low (least_along n spot) → new.high ≡ int_min old.high (greatest_along n spot) → IsReach v n new
+  reach_more old new of_old low high = record {
+    low = λ d none. subst (λ (z : ℤ). z ≤ℤ d) (sym low) (max_at_most old.low (least_along n spot) d (of_old.low d none) (corner_low d none));
+    high = λ d none. subst (λ (z : ℤ). d ≤ℤ z) (sym high) (min_at_least old.high (greatest_along n spot) d (of_old.high d none) (corner_high d none));
+  }
+
+  -- an outlook on this winding as the pass
+  pub outlook_more : (reach : Reach) (old new : Outlook) → IsOutlook v n reach old →
+      (new.ahead ≡ false → (old.ahead ≡ false) ⊎ (greatest_along n spot <ℤ reach.low)) →
+      (new.back ≡ false → (old.back ≡ false) ⊎ (reach.high <ℤ least_along n spot)) → IsOutlook v n reach new
+  outlook_more reach old new of_old ahead back = record {
+    ahead = λ source is not. ⊎_elim
+        (λ before. of_old.ahead source is before)
+        (λ less. λ d front behind. let l = is.low d front in let h = corner_high d behind in absurd (omega (arith, linear)))
+        (ahead not);
+    back = λ source is not. ⊎_elim
+        (λ before. of_old.back source is before)
+        (λ less. λ d front behind. let h = is.high d behind in let l = corner_low d front in absurd (omega (arith, linear)))
+        (back not);
+  }
+
+pub outlook_begins : (v : Winding) (n : Normal) (reach : Reach) (outlook : Outlook) → outlook.ahead ≡ true → outlook.back ≡ true → IsOutlook v n reach outlook
+outlook_begins v n reach outlook ahead back = record {
+  ahead = λ source is not. let never : true ≡ false = sym ahead ∙ not in cc;
+  back = λ source is not. let never : true ≡ false = sym back ∙ not in cc;
+}
+
+-- ---- a multiple of a plane's normal
+
+module _ (n : Normal) (h : Plane) (k : ℤ) (multiple : direction_of n ≡ point_times k (normal_of h)) where
+  value_multiple : (p : Point) → value (at_distance n (k *ℤ h.d)) p ≡ k *ℤ value h p
+  unfolding value
+  value_multiple p =
+      ap (λ (q : Point). (((q.x *ℤ p.x) +ℤ (q.y *ℤ p.y)) +ℤ (q.z *ℤ p.z)) -ℤ ((k *ℤ h.d) *ℤ p.w)) multiple
+      ∙ (let t = variable in
+      solved (k ∷ h.nx ∷ h.ny ∷ h.nz ∷ h.d ∷ p.x ∷ p.y ∷ p.z ∷ p.w ∷ [])
+      ((((t 0 ⊗ t 1) ⊗ t 5 ⊕ (t 0 ⊗ t 2) ⊗ t 6) ⊕ (t 0 ⊗ t 3) ⊗ t 7) ⊖ (t 0 ⊗ t 4) ⊗ t 8)
+      (t 0 ⊗ (((t 1 ⊗ t 5 ⊕ t 2 ⊗ t 6) ⊕ t 3 ⊗ t 7) ⊖ t 4 ⊗ t 8)) tt)
+
+  stays_not_in_front : pos 0 <ℤ k → (p : Point) → IsNotInFront h p → IsNotInFront (at_distance n (k *ℤ h.d)) p
+  stays_not_in_front positive p is = let e = value_multiple p in let m = product_not_positive k (value h p) (omega (arith, linear)) is in omega (arith, linear)
+
+  stays_not_behind : pos 0 <ℤ k → (p : Point) → IsNotBehind h p → IsNotBehind (at_distance n (k *ℤ h.d)) p
+  stays_not_behind positive p is = let e = value_multiple p in let m = product_not_negative k (value h p) (omega (arith, linear)) is in omega (arith, linear)
+
+  turns_not_behind : k <ℤ pos 0 → (p : Point) → IsNotInFront h p → IsNotBehind (at_distance n (k *ℤ h.d)) p
+  turns_not_behind negative p is =
+      let e = value_multiple p in let f = neg-*ℤ k (value h p) in
+      let m = product_not_positive (neg_ℤ k) (value h p) (omega (arith, linear)) is in omega (arith, linear)
+
+  turns_not_in_front : k <ℤ pos 0 → (p : Point) → IsNotBehind h p → IsNotInFront (at_distance n (k *ℤ h.d)) p
+  turns_not_in_front negative p is =
+      let e = value_multiple p in let f = neg-*ℤ k (value h p) in
+      let m = product_not_negative (neg_ℤ k) (value h p) (omega (arith, linear)) is in omega (arith, linear)
+
+  module _ (s p : Winding) (source : HasNoCornerInFront s h) (pass : HasNoCornerBehind p h) where
+    none_ahead : pos 0 <ℤ k → PartsNowhere s p n → ⊥
+    none_ahead positive nowhere = nowhere (k *ℤ h.d) (λ i l. stays_not_in_front positive (corner_at s i) (source i l)) (λ i l. stays_not_behind positive (corner_at p i) (pass i l))
+
+    pub none_back : k <ℤ pos 0 → PartsNowhere p s n → ⊥
+    none_back negative nowhere = nowhere (k *ℤ h.d) (λ i l. turns_not_in_front negative (corner_at p i) (pass i l)) (λ i l. turns_not_behind negative (corner_at s i) (source i l))
+
+-- ---- what is not gained
+
+module _ (s p : Winding) (at from to : Point) (n : Normal) (through : direction_of n ≡ normal_of (outward_plane at from to)) where
+  pub gains_nowhere : PartsNowhere s p n → PartsNowhere p s n → (old : List Plane) → Gains (SeparatesBy s p at from to) old old
+  gains_nowhere ahead back old = gains_none (SeparatesBy s p at from to) old (λ h sep.
+      let is = sep.1 in let e = through ∙ is.multiple in
+      by_sign is.factor
+      (λ negative. none_back n h is.factor e s p (none_in_front s p h sep.0) sep.0.in_front negative back)
+      (λ zero. is.some_factor zero)
+      (λ positive. none_ahead n h is.factor e s p (none_in_front s p h sep.0) sep.0.in_front positive ahead))
+
+  -- a plane at the least distance has no corner of the source in front
+  none_along : (along h : Plane) → PartsAlong s p along h → HasNoCornerInFront s h
+  none_along along h is i below =
+      let a = is.least.none_in_front h.d (omega (arith, linear)) i (corner_at s i) (let e = corners_length s in omega arith) in
+      subst (λ q. IsNotInFront h q) (corner_in_list s i (corner_at s i) below) a
+
+  times_back : (k : ℤ) (g : Plane) → point_times k (normal_of g) ≡ point_times (neg_ℤ k) (normal_of (flipped g))
+  times_back k g = same_point (point_times k (normal_of g)) (point_times (neg_ℤ k) (normal_of (flipped g))) (sym (neg-*ℤ-neg k g.nx)) (sym (neg-*ℤ-neg k g.ny)) (sym (neg-*ℤ-neg k g.nz)) (*ℤ_zero k ∙ sym (*ℤ_zero (neg_ℤ k)))
+
+  module _ (plane : Plane) (flag : Bool) (is : IsPlaneThrough at from to plane flag) where
+    itself : direction_of n ≡ point_times is.multiple.factor (normal_of (turned flag plane))
+    itself = through ∙ ap normal_of is.multiple.multiple ∙ same_point (normal_of (scaled is.multiple.factor (turned flag plane))) (point_times is.multiple.factor (normal_of (turned flag plane))) refl refl refl (sym (*ℤ_zero is.multiple.factor))
+
+    none_itself : PartsNowhere s p n → (along h : Plane) → along ≡ turned flag plane → PartsAlong s p along h → ⊥
+    none_itself ahead along h e parts =
+        none_ahead n h is.multiple.factor (itself ∙ ap (point_times is.multiple.factor) (sym (parts.normal ∙ ap normal_of e))) s p (none_along along h parts) parts.parts.in_front is.multiple.positive ahead
+
+    none_turned : PartsNowhere p s n → (along h : Plane) → along ≡ flipped (turned flag plane) → PartsAlong s p along h → ⊥
+    none_turned back along h e parts =
+        let positive = is.multiple.positive in
+        none_back n h (neg_ℤ is.multiple.factor) (itself ∙ times_back is.multiple.factor (turned flag plane) ∙ ap (point_times (neg_ℤ is.multiple.factor)) (sym (parts.normal ∙ ap normal_of e))) s p (none_along along h parts) parts.parts.in_front (omega (arith, linear)) back
+
+-- by the flag
+
+module _ (s p : Winding) (at from to : Point) (n : Normal) (through : direction_of n ≡ normal_of (outward_plane at from to)) (outlook : Outlook) (ahead : outlook.ahead ≡ false → PartsNowhere s p n) (back : outlook.back ≡ false → PartsNowhere p s n) where
+  pub none_as_it_is : (plane : Plane) (flag may : Bool) → IsPlaneThrough at from to plane flag → may ≡ cond flag outlook.ahead outlook.back → may ≡ false → (h : Plane) → PartsAlong s p plane h → ⊥
+  none_as_it_is plane true may is e unset h parts = none_itself s p at from to n through plane true is (ahead (sym e ∙ unset)) plane h refl parts
+  none_as_it_is plane false may is e unset h parts = none_turned s p at from to n through plane false is (back (sym e ∙ unset)) plane h (sym (flipped_twice plane)) parts
+
+  pub none_flipped : (plane : Plane) (flag may : Bool) → IsPlaneThrough at from to plane flag → may ≡ cond (not flag) outlook.ahead outlook.back → may ≡ false → (h : Plane) → PartsAlong s p (flipped plane) h → ⊥
+  none_flipped plane true may is e unset h parts = none_turned s p at from to n through plane true is (back (sym e ∙ unset)) (flipped plane) h refl parts
+  none_flipped plane false may is e unset h parts = none_itself s p at from to n through plane false is (ahead (sym e ∙ unset)) (flipped plane) h refl parts

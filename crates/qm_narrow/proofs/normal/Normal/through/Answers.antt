@@ -1,0 +1,17 @@
+use Rattle.std.proofs.Common.{◌∙◌}
+use Rattle.qm_space.specs.Point.{whole_point}
+use Rattle.qm_space.specs.Vector.{cross}
+use Rattle.qm_space.specs.ThreePoints.{outward_plane}
+use Rattle.qm_space.proofs.PlanesThroughPoints.{whole_point_is_whole}
+use Rattle.qm_narrow.proofs.KeptNormals.{through_small}
+use Rattle.qm_narrow.proofs.normal.Normal.through.Goals as goal
+
+pub returns-clause-exact : goal.returns-clause-exact
+unfolding outward_plane
+returns-clause-exact c = c.cross.ensures ∙ (λ i. cross (c.between-first.ensures.exact i) (c.between-second.ensures.exact i))
+
+pub returns-clause-size : goal.returns-clause-size
+returns-clause-size c =
+    through_small c.cross.result (whole_point c.args.at) (whole_point c.args.from) (whole_point c.args.to)
+    (whole_point_is_whole _ c.requires.at_in_cube) (whole_point_is_whole _ c.requires.from_in_cube) (whole_point_is_whole _ c.requires.to_in_cube)
+    (returns-clause-exact c)

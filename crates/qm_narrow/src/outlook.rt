@@ -1,0 +1,59 @@
+//! Looks at a normal before it is brought to lowest terms.
+
+ghost use Rattle.std.specs.Prelude.{◌≡◌, ◌^◌, ◌⊎◌, ◌<ℤ◌, Bool, true, false, if◌then◌else◌};
+ghost use Rattle.qm_space.specs.Point.{AreCoordinates};
+ghost use Rattle.qm_narrow.specs.inner.Look.{IsSmallNormal, PartsNowhere, least_along, greatest_along};
+
+use crate::normal::Normal;
+use crate::reach::Reach;
+use crate::spot::Spot;
+use crate::traced::Traced;
+
+/// Whether planes with a normal, or with its opposite, may part two windings.
+#[derive(Clone, Copy)]
+pub(crate) struct Outlook {
+    pub(crate) ahead: bool,
+    pub(crate) back: bool,
+}
+
+impl Outlook {
+    /// By the whole points near the corners of a source and a pass.
+    pub(crate) fn of(source: &Traced, pass: &Traced, normal: &Normal) -> Outlook
+        requires { IsSmallNormal normal.now (2 ^ 26) }
+        ensures ahead { result.ahead ≡ false → PartsNowhere source.now pass.now normal.now }
+        ensures back { result.back ≡ false → PartsNowhere pass.now source.now normal.now }
+    {
+        let reach = source.reach(normal);
+        let outlook = pass.outlook(&reach, normal);
+        outlook
+    }
+
+    /// By one corner of the pass more, where this is the reach of the source.
+    pub(crate) fn with(&self, reach: &Reach, spot: &Spot, normal: &Normal) -> Outlook
+        requires below_in { AreCoordinates spot.now.below }
+        requires above_in { AreCoordinates spot.now.above }
+        requires small { IsSmallNormal normal.now (2 ^ 26) }
+        ensures ahead { result.ahead ≡ false → (self.now.ahead ≡ false) ⊎ (greatest_along normal.now spot.now <ℤ reach.now.low) }
+        ensures back { result.back ≡ false → (self.now.back ≡ false) ⊎ (reach.now.high <ℤ least_along normal.now spot.now) }
+    {
+        Outlook {
+            ahead: self.ahead && spot.greatest(normal) >= reach.low,
+            back: self.back && spot.least(normal) <= reach.high,
+        }
+    }
+
+    /// Whether neither may.
+    pub(crate) fn is_none(&self) -> bool
+        ensures ahead { result ≡ true → self.now.ahead ≡ false }
+        ensures back { result ≡ true → self.now.back ≡ false }
+    {
+        !self.ahead && !self.back
+    }
+
+    /// Whether planes with the normal may, or those with its opposite.
+    pub(crate) fn towards(&self, front: bool) -> bool
+        ensures { result ≡ (if front then self.now.ahead else self.now.back) }
+    {
+        if front { self.ahead } else { self.back }
+    }
+}
