@@ -219,6 +219,7 @@ counts_clips_as_fractions_do() {
 cp samples/cube.map samples/room.map "$folder/"
 check "status 0: the canonical text of samples/room.map is printed again as it is" formats_a_room_once_and_again
 check "status 0: trees of a room, of one brush within another, and of no brush" compiles_a_room
+check "the listing of samples/cube.map, in FILE behind a whole OUT, and none of a leak" lists_the_portals_of_the_cube
 check "status 0: a text of a megabyte is read whole" formats_a_large_text
 check "status 0: OUT that was there is written anew" writes_over_what_was_there
 check "status 2: words that are no command print the usage line" prints_the_usage_line

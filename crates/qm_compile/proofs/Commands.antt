@@ -3,7 +3,7 @@ use Rattle.std.proofs.Common.{◌≡◌, ℕ, List, [], ◌∷◌, refl, sym, ap
 use Rattle.std.specs.Prelude.{codes}
 use Rattle.qm_compile.specs.declared.command.Command.{Command}
 use Rattle.qm_compile.specs.declared.command.Command.TheVariants.{Compile, Format}
-use Rattle.qm_compile.specs.Command.{FileNames, Request, Asks, no_request, verb_of, HasOptions, AreFilesOf, IsOrder, IsCommand}
+use Rattle.qm_compile.specs.Command.{FileNames, Request, Asks, no_request, verb_of, HasOptions, AreFilesOf, IsAskedCommand, IsCommand}
 use Rattle.qm_compile.proofs.Requests.{one_request}
 
 -- ---- the files
@@ -23,14 +23,14 @@ one_files asked files others are its =
 verbs_differ : codes "compile" ≡ codes "format" → ⊥
 verbs_differ same = absurd cc
 
-one_order : (asked : Request) (command other : Command) → verb_of command ≡ verb_of other → HasOptions command asked → HasOptions other asked → command ≡ other
-one_order asked (Compile options) (Compile others) verb has its =
+one_command_asked : (asked : Request) (command other : Command) → verb_of command ≡ verb_of other → HasOptions command asked → HasOptions other asked → command ≡ other
+one_command_asked asked (Compile options) (Compile others) verb has its =
     let fast = has.0 ∙ sym its.0 in
     let threads = has.1 ∙ sym its.1 in
     λ i. Compile (record { threads = threads i; fast = fast i })
-one_order asked (Compile options) Format verb has its = absurd (verbs_differ verb)
-one_order asked Format (Compile others) verb has its = absurd (verbs_differ (sym verb))
-one_order asked Format Format verb has its = refl
+one_command_asked asked (Compile options) Format verb has its = absurd (verbs_differ verb)
+one_command_asked asked Format (Compile others) verb has its = absurd (verbs_differ (sym verb))
+one_command_asked asked Format Format verb has its = refl
 
 -- the same command, over the same files
 pub record IsSame (command other : Command) (files others : FileNames) : Type 0 where
@@ -38,9 +38,9 @@ pub record IsSame (command other : Command) (files others : FileNames) : Type 0 
   pub files_are : files ≡ others
 
 -- a verb, and what is asked for behind it, are one command at most
-same_order : (verb : List ℕ) (asked : Request) (command other : Command) (files others : FileNames) → IsOrder verb asked command files → IsOrder verb asked other others → IsSame command other files others
-same_order verb asked command other files others is its = record {
-  command_is = one_order asked command other (sym is.is_verb ∙ its.is_verb) is.has_options its.has_options;
+same_asked : (verb : List ℕ) (asked : Request) (command other : Command) (files others : FileNames) → IsAskedCommand verb asked command files → IsAskedCommand verb asked other others → IsSame command other files others
+same_asked verb asked command other files others is its = record {
+  command_is = one_command_asked asked command other (sym is.is_verb ∙ its.is_verb) is.has_options its.has_options;
   files_are = one_files asked files others is.are_files its.are_files;
 }
 
@@ -50,8 +50,8 @@ one_command words command other files others is its =
     let verb : is.verb ≡ its.verb = cc in
     let rest : is.rest ≡ its.rest = cc in
     let asked = one_request no_request is.asked its.asked its.rest (subst (λ (w : List (List ℕ)). Asks no_request w is.asked) rest is.asks) its.asks in
-    same_order its.verb its.asked command other files others
-    (subst (λ (a : Request). IsOrder its.verb a command files) asked (subst (λ (v : List ℕ). IsOrder v is.asked command files) verb is.is_order)) its.is_order
+    same_asked its.verb its.asked command other files others
+    (subst (λ (a : Request). IsAskedCommand its.verb a command files) asked (subst (λ (v : List ℕ). IsAskedCommand v is.asked command files) verb is.is_asked)) its.is_asked
 
 -- ---- words that are no command
 
@@ -70,15 +70,12 @@ module _ (verb : List ℕ) (rest : List (List ℕ)) where
   -- they ask for no two files
   pub nothing_asked : ((all : Request) → length all.names ≡ 2 → Asks no_request rest all → ⊥) → (command : Command) (files : FileNames) → IsCommand (verb ∷ rest) command files → ⊥
   nothing_asked none command files is =
-      none is.asked (ap length is.is_order.are_files.are_names) (subst (λ (w : List (List ℕ)). Asks no_request w is.asked) (sym (rest_of command files is)) is.asks)
+      none is.asked (ap length is.is_asked.are_files.are_names) (subst (λ (w : List (List ℕ)). Asks no_request w is.asked) (sym (rest_of command files is)) is.asks)
 
   -- what they ask for is no command behind the verb
-  pub no_order : (asked : Request) → Asks no_request rest asked → ((command : Command) (files : FileNames) → IsOrder verb asked command files → ⊥) → (command : Command) (files : FileNames) → IsCommand (verb ∷ rest) command files → ⊥
-  no_order asked asks none command files is =
+  pub no_command_asked : (asked : Request) → Asks no_request rest asked → ((command : Command) (files : FileNames) → IsAskedCommand verb asked command files → ⊥) → (command : Command) (files : FileNames) → IsCommand (verb ∷ rest) command files → ⊥
+  no_command_asked asked asks none command files is =
       let its = subst (λ (w : List (List ℕ)). Asks no_request w is.asked) (sym (rest_of command files is)) is.asks in
       let one = one_request no_request is.asked asked rest its asks in
       none command files
-      (subst (λ (a : Request). IsOrder verb a command files) one (subst (λ (v : List ℕ). IsOrder v is.asked command files) (sym (verb_is command files is)) is.is_order))
-
-  pub ordered : (asked : Request) (command : Command) (files : FileNames) → Asks no_request rest asked → IsOrder verb asked command files → IsCommand (verb ∷ rest) command files
-  ordered asked command files asks is = record { verb = verb; rest = rest; words_are = refl; asked = asked; asks = asks; is_order = is }
+      (subst (λ (a : Request). IsAskedCommand verb a command files) one (subst (λ (v : List ℕ). IsAskedCommand v is.asked command files) (sym (verb_is command files is)) is.is_asked))

@@ -107,7 +107,7 @@ pub record AreFilesOf (asked : Request) (files : FileNames) : Type 0 where
   pub different : AreDifferent files
 
 -- a verb, and what is asked for behind it, are a command over files
-pub record IsOrder (verb : List ℕ) (asked : Request) (command : Command) (files : FileNames) : Type 0 where
+pub record IsAskedCommand (verb : List ℕ) (asked : Request) (command : Command) (files : FileNames) : Type 0 where
   pub is_verb : verb ≡ verb_of command
   pub has_options : HasOptions command asked
   pub are_files : AreFilesOf asked files
@@ -119,7 +119,7 @@ pub record IsCommand (words : List (List ℕ)) (command : Command) (files : File
   pub words_are : words ≡ verb ∷ rest
   pub asked : Request
   pub asks : Asks no_request rest asked
-  pub is_order : IsOrder verb asked command files
+  pub is_asked : IsAskedCommand verb asked command files
 
 -- words that are no command
 abbrev pub IsNoCommand : List (List ℕ) → Type 0

@@ -3,7 +3,7 @@
 ghost use Rattle.std.specs.Prelude.{◌≡◌, IfSome, IfNone, IsTrue, ◌↔◌};
 ghost use Rattle.qm_compile.specs.declared.command.Command.{Command as CommandRecord};
 ghost use Rattle.std.specs.Option.{option_map};
-ghost use Rattle.qm_compile.specs.Command.{FileNames, AreDifferent, AreFilesOf, IsOrder, IsCommand, IsNoCommand, names_of, words_of};
+ghost use Rattle.qm_compile.specs.Command.{FileNames, AreDifferent, AreFilesOf, IsAskedCommand, IsCommand, IsNoCommand, names_of, words_of};
 ghost use Rattle.qm_compile.specs.inner.WordsRead.{name_in, request_of};
 
 use crate::asked::{Asked, ListingName, Names};
@@ -23,16 +23,16 @@ pub fn command_of<'a>(words: &[&'a str]) -> Option<(Command, Files<'a>)>
         [] => None,
         [verb, rest @ ..] => match asked_of(rest) {
             None => None,
-            Some(asked) => order_of(verb, &asked),
+            Some(asked) => command_asked(verb, &asked),
         },
     }
 }
 
 /// The command of a verb, and of what is asked for behind it.
-fn order_of<'a>(verb: &str, asked: &Asked<'a>) -> Option<(Command, Files<'a>)>
-    ensures order { IfSome result (λ found. IsOrder verb.now (request_of asked.now) found.0 (names_of found.1)) }
+fn command_asked<'a>(verb: &str, asked: &Asked<'a>) -> Option<(Command, Files<'a>)>
+    ensures asked { IfSome result (λ found. IsAskedCommand verb.now (request_of asked.now) found.0 (names_of found.1)) }
     ensures none { IfNone result ((command : CommandRecord) (files : FileNames) →
-        IsOrder verb.now (request_of asked.now) command files → ⊥) }
+        IsAskedCommand verb.now (request_of asked.now) command files → ⊥) }
 {
     let files = files_of(asked)?;
     match verb {

@@ -6,3 +6,4 @@ pub mod KeptNormals
 pub mod LookSamples
 pub mod WholeCorners
 pub mod Nearness
+pub mod ListedNormals

@@ -1,3 +1,4 @@
 pub mod Trace
 pub mod Look
 pub mod Near
+pub mod FoundPlanes

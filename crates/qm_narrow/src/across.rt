@@ -1,6 +1,6 @@
 //! Separators along one normal, and through three whole points.
 
-ghost use Rattle.std.specs.Prelude.{◌≡◌, false, ◌↔◌, IsTrue, [], ◌∷◌, Contains, OnOk};
+ghost use Rattle.std.specs.Prelude.{◌≡◌, false, ◌↔◌, IsTrue, [], ◌∷◌, OnOk};
 ghost use Rattle.qm_space.specs.Point.{whole_point, AreCoordinates};
 ghost use Rattle.qm_space.specs.Vector.{normal_of};
 ghost use Rattle.qm_space.specs.Plane.{Plane};
@@ -9,6 +9,7 @@ ghost use Rattle.qm_convex.specs.Winding.{corners};
 ghost use Rattle.qm_separators.specs.Across.{HasLowestNormal};
 ghost use Rattle.qm_separators.specs.Gains.{Gains};
 ghost use Rattle.qm_separators.specs.inner.Found.{PartsAlong, AreCandidate, SeparatesBy};
+ghost use Rattle.qm_narrow.specs.inner.FoundPlanes.{AreAtLeastDistance, HasNormalAmong};
 
 use crate::normal::Normal;
 use crate::outlook::Outlook;
@@ -29,6 +30,7 @@ pub(crate) fn gain_through(
     requires at_in_cube { AreCoordinates at }
     requires from_in_cube { AreCoordinates from }
     requires to_in_cube { AreCoordinates to }
+    requires found { AreAtLeastDistance source.now planes.now.items }
     requires candidate { AreCandidate source.now pass.now (whole_point at) (whole_point from) (whole_point to) }
     ensures { OnOk result (Gains (SeparatesBy source.now pass.now (whole_point at) (whole_point from) (whole_point to)) planes.old.items planes.new.items) }
 {
@@ -58,6 +60,7 @@ fn gain_where(
     may: bool,
 ) -> Result<(), AllocError>
     requires lowest { HasLowestNormal along.now }
+    requires found { AreAtLeastDistance source.now planes.now.items }
     requires not { may ≡ false → (h : Plane) → PartsAlong source.now pass.now along.now h → ⊥ }
     ensures { OnOk result (Gains (PartsAlong source.now pass.now along.now) planes.old.items planes.new.items) }
 {
@@ -67,20 +70,22 @@ fn gain_where(
     Ok(())
 }
 
-/// Gains the plane with this plane's normal at the least distance, if it parts both windings.
+/// Gains the plane with this plane's normal at the least distance, if it parts both windings. What has this normal and was
+/// found before is that plane.
 fn gain_along(
     planes: &mut Vec<Plane>,
     source: &Traced,
     pass: &Traced,
     along: &Plane,
 ) -> Result<(), AllocError>
-    requires { HasLowestNormal along.now }
+    requires lowest { HasLowestNormal along.now }
+    requires found { AreAtLeastDistance source.now planes.now.items }
     ensures { OnOk result (Gains (PartsAlong source.now pass.now along.now) planes.old.items planes.new.items) }
 {
-    let plane = at_least_distance(source, along);
-    if has(planes.as_slice(), &plane) {
+    if has_normal(planes.as_slice(), along) {
         return Ok(());
     }
+    let plane = at_least_distance(source, along);
     if parts(source, pass, &plane) {
         planes.push(plane)?;
     }
@@ -102,23 +107,21 @@ fn at_least_distance(source: &Traced, along: &Plane) -> Plane
     }
 }
 
-/// Whether a plane is listed.
-fn has(planes: &[Plane], plane: &Plane) -> bool
-    ensures { IsTrue result ↔ Contains planes.now plane.now }
+/// Whether a plane with this plane's normal is listed.
+fn has_normal(planes: &[Plane], along: &Plane) -> bool
+    ensures { IsTrue result ↔ HasNormalAmong planes.now along.now }
 {
     for one in planes {
-        if is_same(one, plane) {
+        if is_along(one, along) {
             return true;
         }
     }
     false
 }
 
-/// Whether two planes are one.
-fn is_same(first: &Plane, second: &Plane) -> bool
-    ensures { IsTrue result ↔ (first.now ≡ second.now) }
+/// Whether two planes have one normal.
+fn is_along(first: &Plane, second: &Plane) -> bool
+    ensures { IsTrue result ↔ (normal_of first.now ≡ normal_of second.now) }
 {
-    let _ = &first.nx;
-    let _ = &second.nx;
-    *first == *second
+    first.nx == second.nx && first.ny == second.ny && first.nz == second.nz
 }

@@ -7,6 +7,7 @@ ghost use Rattle.qm_separators.specs.Gains.{Gains};
 ghost use Rattle.qm_separators.specs.Across.{HasNormalAcross};
 ghost use Rattle.qm_separators.specs.Separator.{IsSeparator};
 ghost use Rattle.qm_separators.specs.inner.Found.{AreBoth, AreCandidates, SeparatesByMix, SeparatesAt, SeparatesByEdge};
+ghost use Rattle.qm_narrow.specs.inner.FoundPlanes.{AreAtLeastDistance};
 
 use crate::across::gain_through;
 use crate::traced::Traced;
@@ -21,7 +22,8 @@ pub(crate) fn gain_across(
     edges: &Traced,
     others: &Traced,
 ) -> Result<(), AllocError>
-    requires { AreBoth source.now pass.now edges.now others.now }
+    requires both { AreBoth source.now pass.now edges.now others.now }
+    requires found { AreAtLeastDistance source.now planes.now.items }
     ensures { OnOk result (Gains (λ h. IsSeparator source.now pass.now h × HasNormalAcross (corners edges.now) (corners others.now) h) planes.old.items planes.new.items) }
 {
     let _corners = others.len();
@@ -41,6 +43,7 @@ fn gain_by_edge(
     i: usize,
 ) -> Result<(), AllocError>
     requires both { AreBoth source.now pass.now edges.now others.now }
+    requires found { AreAtLeastDistance source.now planes.now.items }
     requires in_range { i < length edges.now.edges }
     ensures { OnOk result (Gains (SeparatesByEdge source.now pass.now edges.now others.now i) planes.old.items planes.new.items) }
 {
@@ -61,6 +64,7 @@ fn gain_at(
     k: usize,
 ) -> Result<(), AllocError>
     requires both { AreBoth source.now pass.now edges.now others.now }
+    requires found { AreAtLeastDistance source.now planes.now.items }
     requires edge_in_range { i < length edges.now.edges }
     requires corner_in_range { k < length others.now.edges }
     ensures { OnOk result (Gains (SeparatesAt source.now pass.now edges.now others.now i k) planes.old.items planes.new.items) }
@@ -118,6 +122,7 @@ fn gain_mixed(
     requires from_in_cube { AreCoordinates from }
     requires to_in_cube { AreCoordinates to }
     requires candidates { AreCandidates source.now pass.now (whole_point below) (whole_point above) (whole_point from) (whole_point to) }
+    requires found { AreAtLeastDistance source.now planes.now.items }
     ensures { OnOk result (Gains (SeparatesByMix source.now pass.now (whole_point below) (whole_point above) (whole_point from) (whole_point to)) planes.old.items planes.new.items) }
 {
     gain_layer(
@@ -158,6 +163,7 @@ fn gain_layer(
     requires from_in_cube { AreCoordinates from }
     requires to_in_cube { AreCoordinates to }
     requires candidates { AreCandidates source.now pass.now (whole_point below) (whole_point above) (whole_point from) (whole_point to) }
+    requires found { AreAtLeastDistance source.now planes.now.items }
     requires flat { (whole_point below).x ≡ (whole_point above).x }
     ensures { OnOk result (Gains (SeparatesByMix source.now pass.now (whole_point below) (whole_point above) (whole_point from) (whole_point to)) planes.old.items planes.new.items) }
 {
@@ -199,6 +205,7 @@ fn gain_row(
     requires from_in_cube { AreCoordinates from }
     requires to_in_cube { AreCoordinates to }
     requires candidates { AreCandidates source.now pass.now (whole_point below) (whole_point above) (whole_point from) (whole_point to) }
+    requires found { AreAtLeastDistance source.now planes.now.items }
     requires flat { (whole_point below).x ≡ (whole_point above).x }
     requires straight { (whole_point below).y ≡ (whole_point above).y }
     ensures { OnOk result (Gains (SeparatesByMix source.now pass.now (whole_point below) (whole_point above) (whole_point from) (whole_point to)) planes.old.items planes.new.items) }

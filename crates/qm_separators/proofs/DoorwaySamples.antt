@@ -19,11 +19,9 @@ use Rattle.qm_separators.specs.Across.{HasLowestNormal, HasNormalOf, HasNormalAc
 use Rattle.qm_separators.specs.Separator.{IsSeparator}
 use Rattle.qm_separators.specs.Gains.{Gains}
 use Rattle.qm_separators.proofs.GainedPlanes.{gains_one}
-use Rattle.qm_separators.proofs.OneLook.{look_by_source}
 use Rattle.qm_separators.proofs.CornerLists.{all_corners}
 use Rattle.qm_separators.proofs.Distances.{least_by_neighbours}
 use Rattle.qm_separators.specs.inner.Found.{PartsAlong, SeparatesBy}
-use Rattle.qm_separators.specs.inner.Look.{IsNotRefusedTurned}
 
 -- ---- a doorway: y and z between -16 and 16
 
@@ -180,11 +178,6 @@ around_row = record { x = inl (record { at_most = omega (arith, ints); next = om
 
 gains_row : Gains (λ h. h ≡ left_right) (right_left ∷ []) (right_left ∷ left_right ∷ [])
 gains_row = gains_one (right_left ∷ []) left_right
-
--- no look refuses the separator
-not_refused_row : IsNotRefusedTurned (doorway (pos 0)) (doorway (pos 64)) (outward_plane (spot (pos 64) low low) (spot (pos 0) high low) (spot (pos 0) high high)) (neg_ℤ (pos 1024))
-unfolding left_right_across left_right_normal
-not_refused_row = look_by_source (doorway (pos 0)) (doorway (pos 64)) (doorway_convex (pos 0)) (doorway_convex (pos 64)) left_right left_right_row left_right_across
 
 -- it is found along its own normal, and through the points of an edge and a corner
 found_row : PartsAlong (doorway (pos 0)) (doorway (pos 64)) left_right left_right

@@ -16,14 +16,10 @@ pub mod ListedSeparators
 pub mod Parts
 pub mod StepsLead
 pub mod ChainLaws
-pub mod Looks
-pub mod OneLook
-pub mod GroupLook
 pub mod GainedPlanes
 pub mod DoorwaySamples
 pub mod StepSamples
 pub mod ChainRows
-pub mod SignedLooks
 pub mod Outlines
 pub mod OutwardPlanes
 pub mod Comparisons

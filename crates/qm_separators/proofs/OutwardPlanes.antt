@@ -1,4 +1,4 @@
--- The outward plane of three points as expressions, and that the points lie on it.
+-- The outward plane of three points as expressions, and that the second of them lies on it.
 use Rattle.std.proofs.Common.{◌≡◌, ℤ, pos, ◌-ℤ◌, ◌*ℤ◌, [], ap, ◌∙◌}
 use Rattle.qm_space.specs.Point.{Point}
 use Rattle.qm_space.specs.Plane.{value}
@@ -22,13 +22,6 @@ symbol_outward p q r =
 
 no_weight : (d w : ℤ) → w ≡ pos 1 → d *ℤ (pos 1 -ℤ w) ≡ pos 0
 no_weight d w e = ap (λ t. d *ℤ (pos 1 -ℤ t)) e ∙ *ℤ_zero d
-
-pub outward_holds_first : (p0 p1 p2 : Point) → p0.w ≡ pos 1 → value (outward_plane p0 p1 p2) p0 ≡ pos 0
-unfolding value outward_plane
-outward_holds_first p0 p1 p2 e =
-    let p = point_from 0 in let q = point_from 4 in let r = point_from 8 in let h = symbol_outward p q r in
-    solved (numbers_of_point p0 (numbers_of_point p1 (numbers_of_point p2 []))) (symbol_value h p) (h.d ⊗ (number (pos 1) ⊖ p.w)) tt
-    ∙ no_weight _ p0.w e
 
 pub outward_holds_second : (p0 p1 p2 : Point) → p1.w ≡ pos 1 → value (outward_plane p0 p1 p2) p1 ≡ pos 0
 unfolding value outward_plane

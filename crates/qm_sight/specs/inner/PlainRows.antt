@@ -1,6 +1,5 @@
 -- The plain source goes on from an equal state alone.
 use Rattle.std.proofs.Common.{◌≡◌, refl, subst, ◌∙◌, ap}
-use Rattle.qm_contacts.specs.World.{World}
 use Rattle.qm_lists.specs.WorkList.{IsIn}
 use Rattle.qm_sight.specs.WordInSight.{LieWithin, ceiling_of}
 use Rattle.qm_sight.specs.RowsOfWorld.{RowsOfWorld}

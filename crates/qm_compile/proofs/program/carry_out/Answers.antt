@@ -12,4 +12,4 @@ returns-in-Some-clause-due g c =
     IfOk-weaker c.carry_out_command.result _ _ (λ outcome comes. command c.in-Some.ensures.command comes) c.carry_out_command.ensures.due
 
 pub carry_out_command-requires : goal.carry_out_command-requires
-carry_out_command-requires g c = c.in-Some.ensures.command.is_order.are_files.different
+carry_out_command-requires g c = c.in-Some.ensures.command.is_asked.are_files.different

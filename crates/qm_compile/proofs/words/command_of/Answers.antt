@@ -1,7 +1,7 @@
 use Rattle.std.proofs.Common.{◌-◌, List, [], ℕ, Bor, drop, take, get_or, length, sym, subst}
 use Rattle.qm_compile.specs.Command.{IsNoCommand, words_of}
 use Rattle.qm_compile.specs.inner.WordsRead.{request_of}
-use Rattle.qm_compile.proofs.Commands.{no_order}
+use Rattle.qm_compile.proofs.Commands.{no_command_asked}
 use Rattle.qm_compile.proofs.Requests.{first_and_rest, if_none_then}
 use Rattle.qm_compile.proofs.words.command_of.Goals as goal
 
@@ -10,7 +10,7 @@ returns-in-Some-clause-none c =
     let words = c.args.words.now in
     let nothing : Bor (List ℕ) = record { ref_ptr = (0, 0); now = [] } in
     let front = first_and_rest words nothing c.in-len1-up.len_at_least in
-    if_none_then c.order_of.result c.order_of.ensures.none
+    if_none_then c.command_asked.result c.command_asked.ensures.none
     (λ none.
     subst (λ (all : List (Bor (List ℕ))). IsNoCommand (words_of all)) (sym front)
-    (no_order (get_or words 0 nothing).now (words_of (take (length words - 1) (drop 1 words))) (request_of c.in-Some.asked) c.in-Some.ensures.asked none))
+    (no_command_asked (get_or words 0 nothing).now (words_of (take (length words - 1) (drop 1 words))) (request_of c.in-Some.asked) c.in-Some.ensures.asked none))

@@ -6,6 +6,7 @@ use Rattle.qm_separators.specs.Gains.{Gains}
 use Rattle.qm_separators.specs.inner.Found.{PartsAlong}
 use Rattle.qm_separators.proofs.FoundPlanes.{through_lowest, through_lowest_flipped, gains_on_line, gains_through}
 use Rattle.qm_narrow.proofs.Outlooks.{gains_nowhere, none_as_it_is, none_flipped}
+use Rattle.qm_narrow.proofs.ListedNormals.{found_along}
 use Rattle.qm_narrow.proofs.across.gain_through.Goals as goal
 
 pub gain_where-requires-clause-lowest : goal.gain_where-requires-clause-lowest
@@ -39,3 +40,6 @@ returns-in_ok-gain_where-in-Ok-2 c =
     c.args.planes.now.items c.gain_where.new.planes.items c.gain_where-in-Ok.new.planes.items
     c.in_ok-gain_where-in-Ok.ensures
     (subst (λ (h : Plane). Gains (PartsAlong c.args.source.now c.args.pass.now h) c.gain_where.new.planes.items c.gain_where-in-Ok.new.planes.items) c.flipped-turned.ensures c.in_ok-gain_where-in-Ok-2.ensures)
+
+pub gain_where-requires-in-Ok-clause-found : goal.gain_where-requires-in-Ok-clause-found
+gain_where-requires-in-Ok-clause-found c = found_along c.args.source.now c.args.pass.now c.args.planes.now.items c.gain_where.new.planes.items _ c.in_ok-gain_where-in-Ok.ensures c.requires.found

@@ -4,6 +4,7 @@ use Rattle.qm_separators.specs.inner.Below.{HasBelow}
 use Rattle.qm_separators.specs.inner.Found.{SeparatesByEdge}
 use Rattle.qm_separators.proofs.GainedPlanes.{gains_at_first, gains_next}
 use Rattle.qm_separators.proofs.FoundMixes.{gains_edges}
+use Rattle.qm_narrow.proofs.ListedNormals.{found_by_edges}
 use Rattle.qm_narrow.proofs.candidates.gain_across.Goals as goal
 
 pub loop-i-init : goal.loop-i-init
@@ -21,3 +22,6 @@ returns c =
     let all : c.loop-i.i ≡ c.len-i-end.result = omega arith in
     gains_edges c.args.source.now c.args.pass.now c.args.edges.now c.args.others.now c.args.planes.now.items c.loop-i.planes.items
     (subst (λ (n : ℕ). Gains (HasBelow n (SeparatesByEdge c.args.source.now c.args.pass.now c.args.edges.now c.args.others.now)) c.args.planes.now.items c.loop-i.planes.items) (all ∙ n) c.loop-i.invariant)
+
+pub gain_by_edge-requires-clause-found : goal.gain_by_edge-requires-clause-found
+gain_by_edge-requires-clause-found c = found_by_edges c.args.source.now c.args.pass.now c.args.planes.now.items c.loop-i.planes.items c.args.edges.now c.args.others.now c.loop-i.i c.loop-i.invariant c.requires.found

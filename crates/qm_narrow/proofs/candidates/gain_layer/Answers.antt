@@ -4,6 +4,7 @@ use Rattle.qm_separators.specs.Gains.{Gains}
 use Rattle.qm_separators.specs.inner.Found.{AreCandidates, SeparatesByMix}
 use Rattle.qm_separators.proofs.FoundMixes.{gains_y, gains_y_alike, candidates_y_high, candidates_y_low}
 use Rattle.qm_narrow.proofs.Coordinates.{same_coordinate}
+use Rattle.qm_narrow.proofs.ListedNormals.{found_by_mix}
 use Rattle.qm_narrow.proofs.candidates.gain_layer.Goals as goal
 
 pub gain_row-requires-clause-candidates : goal.gain_row-requires-clause-candidates
@@ -41,3 +42,7 @@ gain_row-requires-then-below-above-clause-flat c = ap (λ (p : Point). p.x) c.wi
 
 pub gain_row-requires-then-below-above-clause-straight : goal.gain_row-requires-then-below-above-clause-straight
 gain_row-requires-then-below-above-clause-straight c = ap (λ (p : Point). p.y) c.with_z_of-then-below-above.ensures.exact
+
+pub gain_row-requires-then-below-above-clause-found : goal.gain_row-requires-then-below-above-clause-found
+gain_row-requires-then-below-above-clause-found c =
+    found_by_mix c.args.source.now c.args.pass.now c.args.planes.now.items c.gain_row.new.planes.items (whole_point c.args.below) (whole_point c.with_z_of.result) (whole_point c.args.from) (whole_point c.args.to) c.in_ok-gain_row.ensures c.requires.found

@@ -4,6 +4,7 @@ use Rattle.qm_separators.specs.Gains.{Gains}
 use Rattle.qm_separators.specs.inner.Found.{AreCandidates, SeparatesByMix}
 use Rattle.qm_separators.proofs.FoundMixes.{gains_x, gains_x_alike, candidates_x_high, candidates_x_low}
 use Rattle.qm_narrow.proofs.Coordinates.{same_coordinate}
+use Rattle.qm_narrow.proofs.ListedNormals.{found_by_mix}
 use Rattle.qm_narrow.proofs.candidates.gain_mixed.Goals as goal
 
 pub gain_layer-requires-clause-candidates : goal.gain_layer-requires-clause-candidates
@@ -35,3 +36,7 @@ gain_layer-requires-clause-flat c = ap (λ (p : Point). p.x) (sym c.with_x_of.en
 
 pub gain_layer-requires-then-below-above-clause-flat : goal.gain_layer-requires-then-below-above-clause-flat
 gain_layer-requires-then-below-above-clause-flat c = ap (λ (p : Point). p.x) c.with_x_of-then-below-above.ensures.exact
+
+pub gain_layer-requires-then-below-above-clause-found : goal.gain_layer-requires-then-below-above-clause-found
+gain_layer-requires-then-below-above-clause-found c =
+    found_by_mix c.args.source.now c.args.pass.now c.args.planes.now.items c.gain_layer.new.planes.items (whole_point c.args.below) (whole_point c.with_x_of.result) (whole_point c.args.from) (whole_point c.args.to) c.in_ok-gain_layer.ensures c.requires.found

@@ -5,6 +5,7 @@ use Rattle.qm_separators.specs.Across.{HasNormalAcross}
 use Rattle.qm_separators.specs.Separator.{IsSeparator}
 use Rattle.qm_separators.specs.Gains.{Gains}
 use Rattle.qm_separators.proofs.FoundMixes.{found_exactly}
+use Rattle.qm_narrow.proofs.ListedNormals.{none_found, found_still}
 use Rattle.qm_narrow.proofs.separating.separators_of.Goals as goal
 
 pub returns : goal.returns
@@ -12,3 +13,11 @@ returns c =
     found_exactly c.args.source.now c.args.pass.now c.gain_across.new.planes.items c.gain_across-2.new.planes.items
     (subst (λ (old : List Plane). Gains (λ h. IsSeparator c.args.source.now c.args.pass.now h × HasNormalAcross (corners c.args.source.now) (corners c.args.pass.now) h) old c.gain_across.new.planes.items) c.new-planes.ensures.items c.in_ok-gain_across.ensures)
     c.in_ok-gain_across-2.ensures
+
+pub gain_across-requires-clause-found : goal.gain_across-requires-clause-found
+gain_across-requires-clause-found c = none_found c.args.source.now _ c.new-planes.ensures.items
+
+pub gain_across-requires-2-clause-found : goal.gain_across-requires-2-clause-found
+gain_across-requires-2-clause-found c =
+    found_still (λ h. IsSeparator c.args.source.now c.args.pass.now h × HasNormalAcross (corners c.args.source.now) (corners c.args.pass.now) h) c.args.source.now _ c.gain_across.new.planes.items
+    (λ h is. is.0.least) c.in_ok-gain_across.ensures (none_found c.args.source.now _ c.new-planes.ensures.items)
