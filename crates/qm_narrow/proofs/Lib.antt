@@ -7,3 +7,4 @@ pub mod LookSamples
 pub mod WholeCorners
 pub mod Nearness
 pub mod ListedNormals
+pub mod RaisedDistances

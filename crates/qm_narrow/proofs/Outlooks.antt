@@ -4,7 +4,7 @@ use Rattle.std.specs.Int.{int_max, int_min}
 use Rattle.std.proofs.lemmas.Int.{ints, clamps}
 use Rattle.std.proofs.Math.IntN.{*ℤ_comm}
 use Rattle.qm_numbers.proofs.IntegerProducts.{linear, +ℤ-*ℤ, neg-*ℤ, *ℤ_zero}
-use Rattle.qm_numbers.proofs.Signs.{by_sign, cancel_at_most, product_not_negative, product_not_positive}
+use Rattle.qm_numbers.proofs.Signs.{by_sign, cancel_at_most, times_at_most, product_not_negative, product_not_positive}
 use Rattle.qm_numbers.proofs.Ring.{variable, ◌⊕◌, ◌⊖◌, ◌⊗◌, solved}
 use Rattle.qm_space.specs.Point.{Point, point_times}
 use Rattle.qm_space.specs.Plane.{Plane, value, IsNotInFront, IsNotBehind, flipped, scaled}
@@ -80,6 +80,14 @@ module _ (n : Normal) (p : Point) (spot : Spot) (weight : pos 0 <ℤ p.w) (is : 
       let e = value_is d in let l = greatest_bound in
       let f = *ℤ_comm p.w (greatest_along n spot) in let g = *ℤ_comm p.w d in
       cancel_at_most p.w d (greatest_along n spot) weight (omega (arith, linear))
+
+  -- from the greatest along it on, the point is not in front
+  pub greatest_not_in_front : (d : ℤ) → greatest_along n spot ≤ℤ d → IsNotInFront (at_distance n d) p
+  greatest_not_in_front d l =
+      let e = value_is d in let b = greatest_bound in
+      let f = *ℤ_comm p.w (greatest_along n spot) in let g = *ℤ_comm p.w d in
+      let m = times_at_most p.w (greatest_along n spot) d (omega (arith, linear)) l in
+      omega (arith, linear)
 
 -- ---- all corners, one after another
 

@@ -60,3 +60,13 @@ spot_at v u traced spots listed i d is e f l =
     let n = is.one_each in let m = ap length f in
     let within : i < length v.edges = omega arith in
     (subst (λ (w : Winding). i < length w.edges) e within, subst (λ (w : Winding). IsSpotOf (corner_at w i) (get_or listed i d)) e (subst (λ (ss : List Spot). IsSpotOf (corner_at v i) (get_or ss i d)) (sym f) (is.spots_are i d within)))
+
+-- the corner at a place of those that are kept
+pub corner_at_place : (v u : Winding) (traced listed : List Point) (spots : List Spot) (i : ℕ) (corner : Point) → IsTrace v traced spots → v ≡ u → listed ≡ traced → IsInWorld v → i < length u.edges → corner ≡ get_or listed i corner → (corner ≡ corner_at u i) × HasSmallCoordinates corner
+corner_at_place v u traced listed spots i corner is e f world below read =
+    let same = read ∙ ap (λ (ps : List Point). get_or ps i corner) (f ∙ is.corners_are ∙ ap corners e) ∙ corner_in_list u i corner below in
+    (same, is_small v u i corner e world below same)
+
+pub corner_listed : (v u : Winding) (traced : List Point) (spots : List Spot) (i : ℕ) → IsTrace v traced spots → v ≡ u → i < length u.edges → i < length traced
+corner_listed v u traced spots i is e below =
+    let n = corners_length u in let m = ap length (is.corners_are ∙ ap corners e) in omega arith

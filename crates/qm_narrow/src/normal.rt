@@ -5,6 +5,8 @@ ghost use Rattle.qm_space.specs.Point.{whole_point, IsCoordinate, AreCoordinates
 ghost use Rattle.qm_space.specs.Vector.{normal_of, step_between, cross};
 ghost use Rattle.qm_space.specs.ThreePoints.{outward_plane};
 
+use qm_geom::Plane;
+
 /// A normal, or a step from one whole point to another.
 #[derive(Clone, Copy)]
 pub(crate) struct Normal {
@@ -27,6 +29,18 @@ impl Normal {
         let first = Normal::between(from, at);
         let second = Normal::between(from, to);
         first.cross(&second)
+    }
+
+    /// That of a plane in lowest terms.
+    pub(crate) fn of(plane: &Plane) -> Normal
+        ensures exact { direction_of result ≡ normal_of plane.now }
+        ensures size { IsSmallNormal result (2 ^ 26) }
+    {
+        Normal {
+            x: i64::from(plane.nx),
+            y: i64::from(plane.ny),
+            z: i64::from(plane.nz),
+        }
     }
 
     /// The step from one whole point to another.

@@ -2,6 +2,7 @@
 
 ghost use Rattle.std.specs.Prelude.{◌≡◌, ◌<◌, ◌≤◌, ◌^◌, [], ◌∷◌, length, IfOk};
 ghost use Rattle.qm_geom.specs.LeastDistance.{IsLeastDistance};
+ghost use Rattle.qm_geom.specs.Rounding.{HasSmallCoordinates};
 ghost use Rattle.qm_convex.specs.Winding.{corner_at, corners};
 ghost use Rattle.qm_convex.specs.World.{IsInWorld};
 
@@ -88,12 +89,30 @@ impl Traced {
         &self.spots[i]
     }
 
-    /// The least whole distance at which no corner is in front of the plane with this plane's normal.
+    /// A corner.
+    fn corner(&self, i: usize) -> &Corner
+        requires { i < length self.now.edges }
+        ensures value { result.now ≡ corner_at self.now i }
+        ensures small { HasSmallCoordinates result.now }
+    {
+        let _corners = self.winding.len();
+        &self.corners[i]
+    }
+
+    /// The least whole distance at which no corner is in front of the plane with this plane's normal. It begins where the
+    /// whole points near the corners allow; only a corner that these do not tell to be behind is asked for its own.
     pub(crate) fn least_distance(&self, along: &Plane) -> i64
         ensures { IsLeastDistance (along.now.nx ∷ along.now.ny ∷ along.now.nz ∷ []) (corners self.now) result }
     {
-        let _corners = self.winding.len();
-        least_distance([along.nx, along.ny, along.nz], self.corners.as_slice())
+        let count = self.len();
+        let normal = Normal::of(along);
+        let mut least = self.reach(&normal).low;
+        for i in 0..count {
+            if self.spot(i).greatest(&normal) > least {
+                least = least.max(distance_of(self.corner(i), along));
+            }
+        }
+        least
     }
 
     /// Its reach along a normal.
@@ -127,4 +146,12 @@ impl Traced {
         }
         outlook
     }
+}
+
+/// The least whole distance at which a corner is not in front of the plane with this plane's normal.
+fn distance_of(corner: &Corner, along: &Plane) -> i64
+    requires { HasSmallCoordinates corner.now }
+    ensures { IsLeastDistance (along.now.nx ∷ along.now.ny ∷ along.now.nz ∷ []) (corner.now ∷ []) result }
+{
+    least_distance([along.nx, along.ny, along.nz], &[*corner])
 }
