@@ -1,4 +1,4 @@
-//! The walk of all open chains from one portal.
+//! The walk of open chains from one portal.
 
 ghost use Rattle.std.specs.Prelude.{ℕ, ◌≡◌, ◌<◌, length, IfOk};
 ghost use Rattle.qm_lists.specs.WorkList.{IsIn};

@@ -8,7 +8,7 @@ use Rattle.qm_segments.specs.Sight.{IsInSight}
 use Rattle.qm_chains.specs.Shown.{IsAt, IsShown}
 use Rattle.qm_chains.specs.inner.Frame.{Frame, EndsChain, IsNextTo, IsAwaited}
 
--- A walk of all open chains from one portal, frame by frame.
+-- A walk of open chains from one portal, frame by frame. Chains may be left out that show no leaf in sight that is not found.
 
 -- a leaf that is in sight of the portal is found, or awaited at a frame
 abbrev pub IsFoundOrAwaited : World → Portal → List Frame → List Bool → ℕ → Type 0
