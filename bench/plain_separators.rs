@@ -218,13 +218,14 @@ fn parts(source: &Traced, pass: &Traced, plane: &Plane) -> bool {
 }
 
 fn at_least_distance(source: &Traced, n: [i32; 3]) -> Plane {
-    let mut plane = Plane { n, d: source.corners[0].distance(&n) };
-    for corner in &source.corners[1..] {
-        if corner.side(&plane) == Ordering::Greater {
-            plane.d = corner.distance(&n);
+    let long = n.map(i64::from);
+    let (mut d, _) = reach(source, &long);
+    for (corner, spot) in source.corners.iter().zip(&source.spots) {
+        if spot.greatest(&long) > d {
+            d = d.max(corner.distance(&n));
         }
     }
-    plane
+    Plane { n, d }
 }
 
 fn gain_along(planes: &mut Vec<Plane>, source: &Traced, pass: &Traced, along: &Plane) {

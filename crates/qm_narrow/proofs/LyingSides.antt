@@ -6,7 +6,7 @@ use Rattle.qm_space.specs.Plane.{Plane, value, flipped}
 use Rattle.qm_space.proofs.Planes.{flipped_in_front}
 use Rattle.qm_convex.specs.Winding.{Winding, corner_at, IsConvex}
 use Rattle.qm_convex.specs.Sides.{HasSomeInFront, IsWhollyInFront, LiesIn, HasCornerInFront, HasCornerBehind, HasNoCornerBehind}
-use Rattle.qm_convex.proofs.Central.{middle, middle_in_region, some_in_front, wholly_in_front}
+use Rattle.qm_convex.proofs.Central.{middle, middle_in_region, some_in_front}
 use Rattle.qm_wind.specs.Lying.{IsLying}
 use Rattle.qm_wind.specs.declared.lies.Lies.{Lies}
 use Rattle.qm_wind.specs.declared.lies.Lies.TheVariants.{Front, Back, Across, On}
@@ -75,18 +75,16 @@ module _ (v : Winding) (g : Plane) (convex : IsConvex v) where
     pub none_behind_where : (lies ≡ Front) ⊎ (lies ≡ On) → HasCornerBehind v g → ⊥
     none_behind_where = ⊎_elim (λ is. front_none_behind (as_lying Front is)) (λ is. on_none_behind (as_lying On is))
 
-    -- the pass parts where it lies in front, or in the plane and the source has a corner behind
-    pub parts_in_front : (s : Winding) → lies ≡ Front → Parts s v g
-    parts_in_front s is = let both = (wholly_in_front v g convex).0 (as_lying Front is) in record { in_front = both.0; strict = inr both.1 }
+-- ---- what parts two windings, by corners
 
-    pub no_parts_behind : (s : Winding) → (lies ≡ Back) ⊎ (lies ≡ Across) → Parts s v g → ⊥
-    no_parts_behind s is parts = let corner = some_behind_where is in let not = parts.in_front corner.0 corner.1 in let behind = corner.2 in omega (arith, ints)
+module _ (s p : Winding) (g : Plane) (none : HasCornerBehind p g → ⊥) where
+  none_behind : HasNoCornerBehind p g
+  none_behind i l = by_least (value g (corner_at p i)) (pos 0) (λ below. absurd (none (i, l, below))) (λ not. not)
 
-    pub parts_on : (s : Winding) → lies ≡ On → HasCornerBehind s g ↔ Parts s v g
-    parts_on s is = (
-      (λ behind. record { in_front = by_least_behind; strict = inl behind }),
-      (λ parts. ⊎_elim (λ behind. behind) (λ front. absurd (on_none_in_front (as_lying On is) front)) parts.strict),
-    )
-      where
-        by_least_behind : HasNoCornerBehind v g
-        by_least_behind i l = by_least (value g (corner_at v i)) (pos 0) (λ below. absurd (on_none_behind (as_lying On is) (i, l, below))) (λ not. not)
+  -- a corner of the pass in front is enough
+  pub parts_in_front : HasCornerInFront p g → Parts s p g
+  parts_in_front front = record { in_front = none_behind; strict = inr front }
+
+  -- without one there has to be one of the source behind
+  pub parts_behind : (HasCornerInFront p g → ⊥) → HasCornerBehind s g ↔ Parts s p g
+  parts_behind not = ((λ behind. record { in_front = none_behind; strict = inl behind }), (λ parts. ⊎_elim (λ behind. behind) (λ front. absurd (not front)) parts.strict))

@@ -34,12 +34,8 @@ pub(crate) fn has_corner_behind(winding: &Winding, plane: &Plane) -> bool
 pub(crate) fn parts(source: &Traced, pass: &Traced, plane: &Plane) -> bool
     ensures { IsTrue result ↔ Parts source.now pass.now plane.now }
 {
-    let winding = pass.winding();
-    let behind = source.winding();
-    let _corners = winding.len();
-    match winding.lies(plane) {
-        Lies::Front => true,
-        Lies::Back | Lies::Across => false,
-        Lies::On => has_corner_behind(behind, plane),
+    if pass.has_corner_behind(plane) {
+        return false;
     }
+    pass.has_corner_in_front(plane) || source.has_corner_behind(plane)
 }

@@ -1,10 +1,12 @@
 //! Windings with what is wanted of their corners again and again.
 
-ghost use Rattle.std.specs.Prelude.{◌≡◌, ◌<◌, ◌≤◌, ◌^◌, [], ◌∷◌, length, IfOk};
+ghost use Rattle.std.specs.Prelude.{◌≡◌, ◌<◌, ◌≤◌, ◌^◌, [], ◌∷◌, length, IfOk, IsTrue, ◌↔◌};
 ghost use Rattle.qm_geom.specs.LeastDistance.{IsLeastDistance};
 ghost use Rattle.qm_geom.specs.Rounding.{HasSmallCoordinates};
 ghost use Rattle.qm_convex.specs.Winding.{corner_at, corners};
 ghost use Rattle.qm_convex.specs.World.{IsInWorld};
+ghost use Rattle.qm_convex.specs.Sides.{HasCornerBehind, HasCornerInFront};
+ghost use Rattle.qm_space.specs.Plane.{IsBehind, IsInFront};
 
 use crate::normal::Normal;
 use crate::outlook::Outlook;
@@ -13,6 +15,7 @@ use crate::spot::Spot;
 use qm_geom::{Corner, Plane, least_distance};
 use qm_wind::Winding;
 use std::alloc::{AllocError, Global};
+use std::cmp::Ordering;
 use std::marker::Model;
 
 /// A winding with its corners, and the whole points near each of them, computed once.
@@ -99,6 +102,32 @@ impl Traced {
         &self.corners[i]
     }
 
+    /// Whether a corner is strictly behind a plane.
+    pub(crate) fn has_corner_behind(&self, plane: &Plane) -> bool
+        ensures { IsTrue result ↔ HasCornerBehind self.now plane.now }
+    {
+        let count = self.len();
+        for i in 0..count {
+            if is_behind(self.corner(i), plane) {
+                return true;
+            }
+        }
+        false
+    }
+
+    /// Whether a corner is strictly in front of a plane.
+    pub(crate) fn has_corner_in_front(&self, plane: &Plane) -> bool
+        ensures { IsTrue result ↔ HasCornerInFront self.now plane.now }
+    {
+        let count = self.len();
+        for i in 0..count {
+            if is_in_front(self.corner(i), plane) {
+                return true;
+            }
+        }
+        false
+    }
+
     /// The least whole distance at which no corner is in front of the plane with this plane's normal. It begins where the
     /// whole points near the corners allow; only a corner that these do not tell to be behind is asked for its own.
     pub(crate) fn least_distance(&self, along: &Plane) -> i64
@@ -154,4 +183,22 @@ fn distance_of(corner: &Corner, along: &Plane) -> i64
     ensures { IsLeastDistance (along.now.nx ∷ along.now.ny ∷ along.now.nz ∷ []) (corner.now ∷ []) result }
 {
     least_distance([along.nx, along.ny, along.nz], &[*corner])
+}
+
+fn is_behind(corner: &Corner, plane: &Plane) -> bool
+    ensures { IsTrue result ↔ IsBehind plane.now corner.now }
+{
+    match corner.side(plane) {
+        Ordering::Less => true,
+        Ordering::Equal | Ordering::Greater => false,
+    }
+}
+
+fn is_in_front(corner: &Corner, plane: &Plane) -> bool
+    ensures { IsTrue result ↔ IsInFront plane.now corner.now }
+{
+    match corner.side(plane) {
+        Ordering::Greater => true,
+        Ordering::Equal | Ordering::Less => false,
+    }
 }

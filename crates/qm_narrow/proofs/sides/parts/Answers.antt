@@ -1,27 +1,18 @@
-use Rattle.std.proofs.Common.{◌≡◌, true, false, refl, subst, sym}
-use Rattle.qm_convex.specs.Winding.{Winding}
-use Rattle.qm_convex.specs.Sides.{HasCornerBehind}
-use Rattle.qm_separators.specs.inner.Found.{Parts}
-use Rattle.qm_narrow.proofs.LyingSides.{parts_in_front, no_parts_behind, parts_on}
+use Rattle.std.proofs.Common.{◌≡◌, true, false, sym, ◌∙◌}
+use Rattle.qm_narrow.proofs.LyingSides.{parts_in_front, parts_behind}
 use Rattle.qm_narrow.proofs.sides.parts.Goals as goal
 
-pub returns-in-Front : goal.returns-in-Front
-returns-in-Front c = (
-  (λ _. subst (λ (v : Winding). Parts c.args.source.now v c.args.plane.now) c.winding-winding.ensures.value
-      (parts_in_front c.winding-winding.result.now c.args.plane.now c.len-corners.ensures.in_world.convex c.lies.result c.lies.ensures c.args.source.now c.in-Front.is)),
-  (λ _. refl),
+pub returns-then-has_corner_in_front : goal.returns-then-has_corner_in_front
+returns-then-has_corner_in_front c = (
+  (λ _. parts_in_front c.args.source.now c.args.pass.now c.args.plane.now (λ some. let e = c.has_corner_behind.ensures.1 some in let never : false ≡ true = sym c.if-has_corner_behind.false ∙ e in cc) (c.has_corner_in_front.ensures.0 c.if-has_corner_in_front.true)),
+  (λ _. c.if-has_corner_in_front.true),
 )
 
-pub returns-in-Back : goal.returns-in-Back
-returns-in-Back c = (
-  (λ is. let never : false ≡ true = is in cc),
-  (λ parts. absurd (no_parts_behind c.winding-winding.result.now c.args.plane.now c.len-corners.ensures.in_world.convex c.lies.result c.lies.ensures c.args.source.now c.in-Back.is
-      (subst (λ (v : Winding). Parts c.args.source.now v c.args.plane.now) (sym c.winding-winding.ensures.value) parts))),
-)
-
-pub returns-in-On : goal.returns-in-On
-returns-in-On c =
-    let on = parts_on c.winding-winding.result.now c.args.plane.now c.len-corners.ensures.in_world.convex c.lies.result c.lies.ensures c.args.source.now c.in-On.is in (
-      (λ is. subst (λ (v : Winding). Parts c.args.source.now v c.args.plane.now) c.winding-winding.ensures.value (on.0 (subst (λ (v : Winding). HasCornerBehind v c.args.plane.now) c.winding-behind.ensures.value (c.has_corner_behind.ensures.0 is)))),
-      (λ parts. c.has_corner_behind.ensures.1 (subst (λ (v : Winding). HasCornerBehind v c.args.plane.now) (sym c.winding-behind.ensures.value) (on.1 (subst (λ (v : Winding). Parts c.args.source.now v c.args.plane.now) (sym c.winding-winding.ensures.value) parts)))),
+pub returns-else-has_corner_in_front : goal.returns-else-has_corner_in_front
+returns-else-has_corner_in_front c =
+    let both = parts_behind c.args.source.now c.args.pass.now c.args.plane.now
+    (λ some. let e = c.has_corner_behind.ensures.1 some in let never : false ≡ true = sym c.if-has_corner_behind.false ∙ e in cc)
+    (λ some. let e = c.has_corner_in_front.ensures.1 some in let never : false ≡ true = sym c.if-has_corner_in_front.false ∙ e in cc) in (
+      (λ is. both.0 (c.has_corner_behind-else-has_corner_in_front.ensures.0 is)),
+      (λ parts. c.has_corner_behind-else-has_corner_in_front.ensures.1 (both.1 parts)),
     )
