@@ -56,6 +56,13 @@ impl Polygon {
         self.plane
     }
 
+    /// The planes of its edges.
+    pub(crate) fn edges(&self) -> &[Plane]
+        ensures { result.now ≡ self.now.edges }
+    {
+        self.edges.as_slice()
+    }
+
     /// The same polygon once more.
     pub(crate) fn copy(&self) -> Result<Polygon, AllocError>
         ensures { IfOk result (λ w. w ≡ self.now) }

@@ -322,4 +322,11 @@ impl Winding {
     {
         self.polygon.plane()
     }
+
+    /// The planes of its edges, in their order: it lies in front of each.
+    pub fn edges(&self) -> &[Plane]
+        ensures { result.now ≡ self.now.edges }
+    {
+        self.polygon.edges()
+    }
 }
