@@ -1,4 +1,3 @@
-pub mod LyingSides
 pub mod Words
 pub mod LaneSteps
 pub mod BesideSteps

@@ -5,11 +5,10 @@ ghost use Rattle.qm_base.specs.inner.Lanes.{AreLanes};
 ghost use Rattle.qm_base.specs.inner.Besides.{AreBesides, AreClear, IsPutIn, IsPutAt};
 
 use crate::lane::Lane;
-use crate::sides::sides_of;
 use qm_bits::BitRow;
 use qm_geom::Plane;
 use qm_portal::World;
-use qm_wind::Winding;
+use qm_wind::{CornerSides, Winding};
 use std::alloc::{AllocError, Global};
 
 /// By the places of lanes: those whose windings have a corner strictly in front of a plane, and those with one strictly
@@ -60,20 +59,20 @@ fn put_in(winding: &Winding, planes: &[Plane], place: u64, rows: &mut [Beside])
     ensures { IsPutIn winding.now planes.now place rows.old rows.new }
 {
     for c in 0..planes.len() {
-        let sides = sides_of(winding, &planes[c]);
+        let sides = winding.corner_sides(&planes[c]);
         put_sides(&mut rows[c], place, sides);
     }
 }
 
 /// Sets a place in front and behind, where it is to be set there.
-fn put_sides(beside: &mut Beside, place: u64, sides: (bool, bool))
+fn put_sides(beside: &mut Beside, place: u64, sides: CornerSides)
     requires front { place < length beside.old.front }
     requires behind { place < length beside.old.behind }
-    ensures front { IsPutAt place sides.0 beside.old.front beside.new.front }
-    ensures behind { IsPutAt place sides.1 beside.old.behind beside.new.behind }
+    ensures front { IsPutAt place sides.in_front beside.old.front beside.new.front }
+    ensures behind { IsPutAt place sides.behind beside.old.behind beside.new.behind }
 {
-    put(&mut beside.front, place, sides.0);
-    put(&mut beside.behind, place, sides.1);
+    put(&mut beside.front, place, sides.in_front);
+    put(&mut beside.behind, place, sides.behind);
 }
 
 /// Sets a place where it is to be set.

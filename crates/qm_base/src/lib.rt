@@ -7,7 +7,6 @@ mod entering;
 mod finding;
 mod lane;
 mod runs;
-mod sides;
 mod sweeping;
 mod table;
 mod ways;

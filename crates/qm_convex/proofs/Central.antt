@@ -4,12 +4,12 @@ use Rattle.std.proofs.lemmas.Bool.{cases_eq}
 use Rattle.std.proofs.lemmas.Int.{ints}
 use Rattle.std.proofs.lemmas.List.Elements.{All-from_get_or}
 use Rattle.qm_space.specs.Point.{Point, point_sum, point_times}
-use Rattle.qm_space.specs.Plane.{Plane, value, IsOn, IsInFront, flipped}
+use Rattle.qm_space.specs.Plane.{Plane, value, IsOn, IsInFront, IsBehind, flipped}
 use Rattle.qm_numbers.proofs.IntegerProducts.{linear, *ℤ_zero, *ℤ_one}
 use Rattle.qm_numbers.proofs.Signs.{by_least, product_not_negative, times_at_most}
-use Rattle.qm_space.proofs.Planes.{value_sum, value_times, value_flipped}
+use Rattle.qm_space.proofs.Planes.{value_sum, value_times, value_flipped, flipped_in_front}
 use Rattle.qm_convex.specs.Winding.{Winding, next_place, edge_at, corner_at, IsConvex, IsInRegion}
-use Rattle.qm_convex.specs.Sides.{HasNoneInFront, HasSomeInFront, IsWhollyInFront, LiesIn, HasNoCornerInFront, HasNoCornerBehind, HasCornerInFront, HasCornersOn}
+use Rattle.qm_convex.specs.Sides.{HasNoneInFront, HasSomeInFront, IsWhollyInFront, LiesIn, HasNoCornerInFront, HasNoCornerBehind, HasCornerInFront, HasCornerBehind, HasCornersOn}
 use Rattle.qm_convex.specs.Rotation.{place_after, rotated}
 use Rattle.qm_convex.proofs.Places.{next_inner, next_next_other, after_below, after_none}
 use Rattle.qm_convex.proofs.Corners.{corner_on_plane, corner_not_behind, by_edge}
@@ -188,6 +188,17 @@ pub some_in_front : (v : Winding) (g : Plane) → IsConvex v → HasSomeInFront 
 some_in_front v g c = (
   (λ s. by_corner_in_front v g (λ t. t) (λ a. let m = hull v g c a s.0 s.1 in let f = s.2 in absurd (omega (arith, linear)))),
   (λ s. point_in_front v g s.0 c s.1 s.2),
+)
+
+-- some point of the winding is behind the plane
+abbrev pub HasSomeBehind : Winding → Plane → Type 0
+HasSomeBehind v g = (p : Point) × IsInRegion v p × IsBehind g p
+
+-- some point is behind exactly where some corner is
+pub some_behind : (v : Winding) (g : Plane) → IsConvex v → HasSomeBehind v g ↔ HasCornerBehind v g
+some_behind v g c = (
+  (λ s. let t = (some_in_front v (flipped g) c).0 (s.0, s.1, (flipped_in_front g s.0).1 s.2) in (t.0, t.1, (flipped_in_front g (corner_at v t.0)).0 t.2)),
+  (λ s. let t = (some_in_front v (flipped g) c).1 (s.0, s.1, (flipped_in_front g (corner_at v s.0)).1 s.2) in (t.0, t.1, (flipped_in_front g t.0).0 t.2)),
 )
 
 -- each point is in front exactly where no corner is behind and some corner is in front

@@ -9,7 +9,7 @@ use Rattle.qm_space.specs.Determinant.{determinant}
 use Rattle.qm_space.proofs.Planes.{same_point}
 use Rattle.qm_numbers.proofs.Ring.{◌⊕◌, ◌⊗◌, solved}
 use Rattle.qm_space.proofs.PlaneSymbols.{plane_from, numbers_of_plane, symbol_meet, symbol_along}
-use Rattle.qm_geom.specs.inner.Vectors.{cross, dot, normal_of, IsWithin}
+use Rattle.qm_geom.specs.Vectors.{cross, dot, normal_of, IsWithin}
 use Rattle.qm_geom.specs.declared.vector.Vector.{Vector}
 use Rattle.qm_numbers.proofs.Kept.{kept, fits_64, fits_128}
 use Rattle.qm_geom.proofs.Vectors.{vector, point, vector_kept, small_vector, IsWithin-more}

@@ -12,7 +12,7 @@ use Rattle.qm_space.specs.Plane.{Plane}
 use Rattle.qm_space.specs.Cuboid.{Span, IsTightenedSpan, IsTightenedBetween}
 use Rattle.qm_space.proofs.Cuboids.{tightened_multiple}
 use Rattle.qm_geom.specs.declared.vector.Vector.{Vector}
-use Rattle.qm_geom.specs.inner.Vectors.{IsWithin}
+use Rattle.qm_geom.specs.Vectors.{IsWithin}
 use Rattle.qm_geom.specs.inner.Products.{sum_less, left_of}
 
 -- a component as the code widens it

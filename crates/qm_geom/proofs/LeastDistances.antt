@@ -12,7 +12,7 @@ use Rattle.qm_numbers.proofs.IntegerProducts.{linear}
 use Rattle.qm_numbers.proofs.Signs.{by_least, times_at_most, abs_sum, abs_product_bound}
 use Rattle.qm_geom.specs.LeastDistance.{plane_at_distance, IsComponent, IsLeastDistance}
 use Rattle.qm_geom.specs.inner.LeastDistanceOf.{IsLeastDistanceOf}
-use Rattle.qm_geom.specs.inner.Vectors.{vector_of, step_to, dot, IsWithin}
+use Rattle.qm_geom.specs.Vectors.{vector_of, step_to, dot, IsWithin}
 use Rattle.qm_geom.specs.declared.vector.Vector.{Vector}
 use Rattle.qm_numbers.specs.Rounding.{IsRoundedUp}
 use Rattle.qm_geom.specs.Rounding.{HasSmallCoordinates}

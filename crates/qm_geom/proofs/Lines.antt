@@ -7,7 +7,7 @@ use Rattle.qm_space.specs.Plane.{Plane}
 use Rattle.qm_space.specs.Reduced.{IsReduced}
 use Rattle.qm_space.specs.CommonLine.{common_line, HasLineSizes}
 use Rattle.qm_geom.specs.declared.vector.Vector.{Vector}
-use Rattle.qm_geom.specs.inner.Vectors.{normal_of, cross, IsWithin}
+use Rattle.qm_geom.specs.Vectors.{normal_of, cross, IsWithin}
 
 -- ---- sizes
 

@@ -8,7 +8,7 @@ use Rattle.qm_space.specs.ThreePoints.{outward_plane}
 use Rattle.qm_space.specs.inner.OutwardSizes.{HasOutwardSizes}
 use Rattle.qm_numbers.proofs.Signs.{abs_difference}
 use Rattle.qm_space.proofs.PlanesThroughPoints.{coordinate_small, outward_sizes}
-use Rattle.qm_geom.specs.inner.Vectors.{normal_of, step_to, step_between, cross, dot, IsWithin}
+use Rattle.qm_geom.specs.Vectors.{normal_of, step_to, step_between, cross, dot, IsWithin}
 use Rattle.qm_geom.specs.declared.vector.Vector.{Vector}
 use Rattle.qm_numbers.proofs.Kept.{kept, small_kept, fits_64, fits_128, answered, product_answered, apart_is}
 use Rattle.qm_numbers.proofs.Bits.{kept_32}

@@ -2,4 +2,5 @@ pub mod Corners
 pub mod LeastDistance
 pub mod Planes
 pub mod Rounding
+pub mod Vectors
 pub mod inner

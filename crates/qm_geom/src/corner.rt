@@ -7,7 +7,7 @@ ghost use Rattle.qm_space.specs.Meet.{meet, HasMeetSizes};
 ghost use Rattle.qm_geom.specs.Corners.{numerator, with_positive_weight, MeetBeside, MeetOnlyIn};
 ghost use Rattle.qm_geom.specs.LeastDistance.{IsComponent};
 ghost use Rattle.qm_geom.specs.inner.LeastDistanceOf.{IsLeastDistanceOf};
-ghost use Rattle.qm_geom.specs.inner.Vectors.{dot, step_to, IsWithin};
+ghost use Rattle.qm_geom.specs.Vectors.{dot, step_to, IsWithin};
 ghost use Rattle.qm_numbers.specs.Rounding.{IsNearest, IsRoundedDown, IsRoundedUp};
 ghost use Rattle.qm_geom.specs.Rounding.{AreCoordinatesBy, HasSmallCoordinates};
 

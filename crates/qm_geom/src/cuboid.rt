@@ -4,7 +4,7 @@ ghost use Rattle.qm_space.specs.Bounds.{normal_bound, distance_bound};
 ghost use Rattle.qm_space.specs.Point.{Point, IsCoordinate};
 ghost use Rattle.qm_space.specs.Plane.{value};
 ghost use Rattle.qm_space.specs.Cuboid.{IsInSpan, IsInCuboid, whole_span, whole_cuboid, least_product, greatest_product, least_value, greatest_value, IsTightened, IsTightenedOn, IsTightenedSpan, IsTightenedBetween};
-ghost use Rattle.qm_geom.specs.inner.Vectors.{IsWithin};
+ghost use Rattle.qm_geom.specs.Vectors.{IsWithin};
 ghost use Rattle.qm_geom.specs.inner.Products.{least_products, greatest_products, sum_less, left_of};
 
 use crate::plane::Plane;

@@ -25,3 +25,5 @@ pub use one_line::are_on_one_line;
 pub use plane::{NoNormal, Plane};
 pub use plane_book::PlaneBook;
 pub use point::Point;
+pub use rounding::rounded_down;
+pub use vector::Vector;

@@ -1,7 +1,7 @@
 ghost use Rattle.std.specs.Prelude.{◌≡◌, ◌^◌};
 ghost use Rattle.qm_space.specs.Meet.{meet};
 ghost use Rattle.qm_geom.specs.Corners.{with_positive_weight};
-ghost use Rattle.qm_geom.specs.inner.Vectors.{cross, normal_of, IsWithin};
+ghost use Rattle.qm_geom.specs.Vectors.{cross, normal_of, IsWithin};
 
 use crate::plane::Plane;
 use crate::vector::Vector;

@@ -4,7 +4,7 @@ ghost use Rattle.qm_space.specs.Plane.{flipped, value};
 ghost use Rattle.qm_space.specs.Point.{whole_point, AreCoordinates};
 ghost use Rattle.qm_space.specs.ThreePoints.{plane_through, IsPlaneThrough};
 ghost use Rattle.qm_space.specs.Line.{AreOnOneLine};
-ghost use Rattle.qm_geom.specs.inner.Vectors.{normal_of, IsWithin};
+ghost use Rattle.qm_geom.specs.Vectors.{normal_of, IsWithin};
 
 use crate::point::Point;
 use crate::unreduced::UnreducedPlane;
@@ -89,7 +89,7 @@ impl Plane {
     }
 
     /// The normal.
-    pub(crate) fn normal(&self) -> Vector
+    pub fn normal(&self) -> Vector
         ensures exact { result ≡ normal_of self.now }
         ensures size { IsWithin result (2 ^ 26) }
     {

@@ -3,7 +3,7 @@ ghost use Rattle.qm_numbers.specs.Rounding.{IsRoundedDown, IsRoundedUp, IsNeares
 ghost use Rattle.qm_geom.specs.inner.SmallCoordinate.{IsSmallCoordinate};
 
 /// The greatest whole number that is at most the fraction.
-pub(crate) fn rounded_down(over: i128, under: i128) -> i64
+pub fn rounded_down(over: i128, under: i128) -> i64
     requires under_positive { pos 0 <ℤ under }
     requires fraction_small { unsigned_abs over ≤ 2 ^ 44 * unsigned_abs under }
     ensures exact { IsRoundedDown over under result }

@@ -3,14 +3,14 @@ ghost use Rattle.qm_space.specs.Point.{whole_point, IsCoordinate, AreCoordinates
 
 /// A step from one point to another, a normal, or the distances of three planes.
 #[derive(Clone, Copy)]
-pub(crate) struct Vector {
-    pub(crate) x: i64,
-    pub(crate) y: i64,
-    pub(crate) z: i64,
+pub struct Vector {
+    pub x: i64,
+    pub y: i64,
+    pub z: i64,
 }
 
 impl Vector {
-    ghost use Rattle.qm_geom.specs.inner.Vectors.{vector_of, step_between, cross, dot, IsWithin};
+    ghost use Rattle.qm_geom.specs.Vectors.{vector_of, step_between, cross, dot, IsWithin};
 
     /// Three numbers.
     pub(crate) fn of(numbers: [i32; 3]) -> Vector
@@ -24,7 +24,7 @@ impl Vector {
     }
 
     /// The step from one whole point to another.
-    pub(crate) fn between(from: [i32; 3], to: [i32; 3]) -> Vector
+    pub fn between(from: [i32; 3], to: [i32; 3]) -> Vector
         requires from_in_cube { AreCoordinates from }
         requires to_in_cube { AreCoordinates to }
         ensures exact { result ≡ step_between (whole_point from) (whole_point to) }
@@ -38,7 +38,7 @@ impl Vector {
     }
 
     /// The cross product of two steps or normals.
-    pub(crate) fn cross(&self, other: &Vector) -> Vector
+    pub fn cross(&self, other: &Vector) -> Vector
         requires self_small { IsWithin self.now (2 ^ 26) }
         requires other_small { IsWithin other.now (2 ^ 26) }
         ensures exact { result ≡ cross self.now other.now }

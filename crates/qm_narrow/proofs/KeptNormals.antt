@@ -1,5 +1,5 @@
 -- Normals, and their products with coordinates, as the code keeps their numbers.
-use Rattle.std.proofs.Common.{◌≡◌, ◌≤◌, ◌^◌, ◌∙◌, ℕ, Bool, ℤ, pos, FitsSigned, w32, w64, ◌+ℤ◌, ◌*ℤ◌, ◌<ℤ◌, ◌≤ℤ◌, cond, arith, lit≤, refl, ap, sym, subst, unsigned_abs, ⊎_elim}
+use Rattle.std.proofs.Common.{◌≡◌, ◌≤◌, ◌^◌, ◌∙◌, Bool, ℤ, pos, FitsSigned, w32, w64, ◌+ℤ◌, ◌*ℤ◌, ◌<ℤ◌, ◌≤ℤ◌, cond, arith, lit≤, ap, sym, subst, unsigned_abs, ⊎_elim}
 use Rattle.std.proofs.lemmas.Int.{ints}
 use Rattle.qm_numbers.proofs.Bits.{kept_32, kept_64}
 use Rattle.qm_numbers.proofs.Signs.{side_test}
@@ -11,23 +11,11 @@ use Rattle.qm_space.specs.Cuboid.{least_product, greatest_product}
 use Rattle.qm_space.specs.ThreePoints.{outward_plane}
 use Rattle.qm_space.proofs.PlanesThroughPoints.{coordinate_small, outward_sizes}
 use Rattle.qm_space.proofs.Cuboids.{product_small}
-use Rattle.qm_narrow.specs.declared.normal.Normal.{Normal}
-use Rattle.qm_narrow.specs.inner.Look.{direction_of, IsSmallNormal}
-
-abbrev pub normal : ℤ → ℤ → ℤ → Normal
-normal x y z = record { x = x; y = y; z = z }
-
-pub same_direction : (a b c p q r : ℤ) → a ≡ p → b ≡ q → c ≡ r → direction_of (normal a b c) ≡ record { x = p; y = q; z = r; w = pos 0 }
-same_direction a b c p q r x y z = rw (x, y, z) refl
-
-small_kept : (a : ℤ) (n : ℕ) → n ≤ 2 ^ 62 → unsigned_abs a ≤ n → unsigned_abs (kept w64 a) ≤ n
-small_kept a n l h = rw (kept_64 a n h l) h
-
-pub small_normal : (a b c : ℤ) (n : ℕ) → n ≤ 2 ^ 62 → unsigned_abs a ≤ n → unsigned_abs b ≤ n → unsigned_abs c ≤ n → IsSmallNormal (normal (kept w64 a) (kept w64 b) (kept w64 c)) n
-small_normal a b c n l x y z = record { x_small = small_kept a n l x; y_small = small_kept b n l y; z_small = small_kept c n l z }
+use Rattle.qm_geom.specs.declared.vector.Vector.{Vector}
+use Rattle.qm_geom.specs.Vectors.{direction_of, IsWithin}
 
 -- the normal through three whole points of the cube is small
-pub through_small : (n : Normal) (at from to : Point) → IsWholePoint at → IsWholePoint from → IsWholePoint to → direction_of n ≡ normal_of (outward_plane at from to) → IsSmallNormal n (2 ^ 26)
+pub through_small : (n : Vector) (at from to : Point) → IsWholePoint at → IsWholePoint from → IsWholePoint to → direction_of n ≡ normal_of (outward_plane at from to) → IsWithin n (2 ^ 26)
 through_small n at from to a f t e =
     let s = outward_sizes at from to a f t in
     record {

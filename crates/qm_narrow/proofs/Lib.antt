@@ -1,4 +1,4 @@
-pub mod LyingSides
+pub mod PartingPlanes
 pub mod Traces
 pub mod Coordinates
 pub mod Outlooks

@@ -11,7 +11,7 @@ use Rattle.qm_space.specs.Cuboid.{least_product, greatest_product}
 use Rattle.qm_convex.specs.Winding.{next_place, corner_at}
 use Rattle.qm_separators.proofs.SeparatorLaw.{none_in_front}
 use Rattle.qm_separators.proofs.DoorwaySamples.{doorway, doorway_convex, spot, nearest_itself, left_right, left_right_row}
-use Rattle.qm_narrow.specs.declared.normal.Normal.{Normal}
+use Rattle.qm_geom.specs.declared.vector.Vector.{Vector}
 use Rattle.qm_narrow.specs.declared.reach.Reach.{Reach}
 use Rattle.qm_narrow.specs.declared.spot.Spot.{Spot}
 use Rattle.qm_narrow.specs.inner.Trace.{IsSpotOf}
@@ -72,7 +72,7 @@ far_is = whole_is (pos 64) (pos 16) (neg_ℤ (pos 16)) coordinate_64 coordinate_
 
 -- ---- the normal of an edge of the near doorway and a corner of the far one: that of a separator, times a number below 0
 
-abbrev across : Normal
+abbrev across : Vector
 across = record { x = neg_ℤ (pos 1024); y = neg_ℤ (pos 2048); z = pos 0 }
 
 abbrev reach : Reach

@@ -1,5 +1,5 @@
 -- The whole numbers near a fraction, by the one below it and what that leaves.
-use Rattle.std.proofs.Common.{◌≡◌, ◌≤◌, ◌<◌, ◌*◌, ◌^◌, ◌∙◌, ℤ, pos, ◌+ℤ◌, ◌-ℤ◌, ◌*ℤ◌, ◌<ℤ◌, ◌≤ℤ◌, ◌⊎◌, ⊎_elim, [], ◌∷◌, w32, w64, arith, lit≤, refl, ap, sym, subst, unsigned_abs}
+use Rattle.std.proofs.Common.{◌≡◌, ◌≤◌, ◌<◌, ◌*◌, ◌^◌, ◌∙◌, ℤ, pos, ◌+ℤ◌, ◌-ℤ◌, ◌*ℤ◌, ◌<ℤ◌, ◌≤ℤ◌, ◌⊎◌, ⊎_elim, [], ◌∷◌, FitsSigned, w32, w64, arith, lit≤, refl, ap, sym, subst, unsigned_abs}
 use mir.Syntax.{w128}
 use Rattle.std.proofs.lemmas.Int.{ints}
 use Rattle.qm_numbers.specs.Rounding.{IsRoundedDown, IsRoundedUp, IsNearest}
@@ -78,42 +78,49 @@ module _ (o u d r : ℤ) (positive : pos 0 <ℤ u) (down : IsRoundedDown o u d) 
 
 -- ---- as the code keeps the numbers
 
+pub above_fits : (d : ℤ) → unsigned_abs d ≤ 65536 → FitsSigned w32 (kept w32 (kept w64 d) +ℤ pos 1)
+above_fits d h = omega (arith, ints)
+
 above_kept : (d : ℤ) → unsigned_abs d ≤ 65536 → kept w32 (kept w32 (kept w64 d) +ℤ pos 1) ≡ d +ℤ pos 1
 above_kept d h = omega (arith, ints)
 
 size_of : (r u : ℤ) → (pos 0 ≤ℤ r) × (r <ℤ u) → unsigned_abs u ≤ 3 * 2 ^ 79 → unsigned_abs r ≤ 3 * 2 ^ 79
 size_of r u (low, high) h = omega (arith, ints)
 
-module _ (o u d r : ℤ) (small : IsSmallCoordinate o u) (d_small : unsigned_abs d ≤ 65536) (down : IsRoundedDown (kept w128 o) (kept w128 u) d) (rest : r ≡ kept w128 o -ℤ (kept w64 d *ℤ kept w128 u)) where
+module _ (o u d : ℤ) (small : IsSmallCoordinate o u) (down : IsRoundedDown (kept w128 o) (kept w128 u) d) where
   o_kept : kept w128 o ≡ o
   o_kept = kept_128 o (3 * 2 ^ 97) small.over_size (lit≤ tt)
 
   u_kept : kept w128 u ≡ u
   u_kept = kept_128 u (3 * 2 ^ 79) small.under_size (lit≤ tt)
 
-  d_kept : kept w64 d ≡ d
-  d_kept = kept_64 d 65536 d_small (lit≤ tt)
-
   is_down : IsRoundedDown o u d
   is_down = subst (λ (z : ℤ). IsRoundedDown z u d) o_kept (subst (λ (z : ℤ). IsRoundedDown (kept w128 o) z d) u_kept down)
 
+  pub d_small : unsigned_abs d ≤ 65536
+  d_small = down_small o u d 65536 small.positive small.small is_down
+
+module _ (o u d r : ℤ) (small : IsSmallCoordinate o u) (down : IsRoundedDown (kept w128 o) (kept w128 u) d) (rest : r ≡ kept w128 o -ℤ (kept w64 d *ℤ kept w128 u)) where
+  d_kept : kept w64 d ≡ d
+  d_kept = kept_64 d 65536 (d_small o u d small down) (lit≤ tt)
+
   is_rest : r ≡ o -ℤ (d *ℤ u)
-  is_rest = rest ∙ (λ i. o_kept i -ℤ (d_kept i *ℤ u_kept i))
+  is_rest = rest ∙ (λ i. o_kept o u d small down i -ℤ (d_kept i *ℤ u_kept o u d small down i))
 
   r_small : unsigned_abs r ≤ 3 * 2 ^ 79
-  r_small = size_of r u (rest_small o u d r small.positive is_down is_rest) small.under_size
+  r_small = size_of r u (rest_small o u d r small.positive (is_down o u d small down) is_rest) small.under_size
 
   r_kept : kept w128 r ≡ r
   r_kept = kept_128 r (3 * 2 ^ 79) r_small (lit≤ tt)
 
   pub near_whole : r ≤ℤ pos 0 → AreNear o u (record { below = kept w32 (kept w64 d); above = kept w32 (kept w64 d); nearest = kept w32 (kept w64 d) })
-  near_whole none = rw (narrowed_32 d d_small) (record { below = is_down; above = up_itself o u d r small.positive is_down is_rest none; nearest = nearest_itself o u d r small.positive is_down is_rest none })
+  near_whole none = rw (narrowed_32 d (d_small o u d small down)) (record { below = (is_down o u d small down); above = up_itself o u d r small.positive (is_down o u d small down) is_rest none; nearest = nearest_itself o u d r small.positive (is_down o u d small down) is_rest none })
 
   pub near_up : pos 0 <ℤ r → ((kept w128 u -ℤ kept w128 r) <ℤ kept w128 r) ⊎ ((kept w128 r ≡ kept w128 u -ℤ kept w128 r) × pos 0 ≤ℤ kept w128 o) → AreNear o u (record { below = kept w32 (kept w64 d); above = kept w32 (kept w32 (kept w64 d) +ℤ pos 1); nearest = kept w32 (kept w32 (kept w64 d) +ℤ pos 1) })
-  near_up some either = rw (above_kept d d_small, narrowed_32 d d_small) (record { below = is_down; above = up_next o u d r small.positive is_down is_rest some; nearest = nearest_next o u d r small.positive is_down is_rest (rw (u_kept, r_kept, o_kept) at either) })
+  near_up some either = rw (above_kept d (d_small o u d small down), narrowed_32 d (d_small o u d small down)) (record { below = (is_down o u d small down); above = up_next o u d r small.positive (is_down o u d small down) is_rest some; nearest = nearest_next o u d r small.positive (is_down o u d small down) is_rest (rw (u_kept o u d small down, r_kept, o_kept o u d small down) at either) })
 
   pub near_down : pos 0 <ℤ r → (kept w128 r <ℤ (kept w128 u -ℤ kept w128 r)) ⊎ ((kept w128 r ≡ kept w128 u -ℤ kept w128 r) × kept w128 o <ℤ pos 0) → AreNear o u (record { below = kept w32 (kept w64 d); above = kept w32 (kept w32 (kept w64 d) +ℤ pos 1); nearest = kept w32 (kept w64 d) })
-  near_down some either = rw (above_kept d d_small, narrowed_32 d d_small) (record { below = is_down; above = up_next o u d r small.positive is_down is_rest some; nearest = nearest_below o u d r small.positive is_down is_rest some (rw (u_kept, r_kept, o_kept) at either) })
+  near_down some either = rw (above_kept d (d_small o u d small down), narrowed_32 d (d_small o u d small down)) (record { below = (is_down o u d small down); above = up_next o u d r small.positive (is_down o u d small down) is_rest some; nearest = nearest_below o u d r small.positive (is_down o u d small down) is_rest some (rw (u_kept o u d small down, r_kept, o_kept o u d small down) at either) })
 
 -- ---- of the three coordinates of a corner
 

@@ -23,16 +23,17 @@ use Rattle.qm_separators.specs.inner.Found.{PartsAlong, SeparatesBy}
 use Rattle.qm_separators.proofs.Comparisons.{neg-*ℤ-neg}
 use Rattle.qm_separators.proofs.SeparatorLaw.{none_in_front}
 use Rattle.qm_separators.proofs.GainedPlanes.{gains_none}
-use Rattle.qm_narrow.specs.declared.normal.Normal.{Normal}
+use Rattle.qm_geom.specs.Vectors.{direction_of}
+use Rattle.qm_geom.specs.declared.vector.Vector.{Vector}
 use Rattle.qm_narrow.specs.declared.reach.Reach.{Reach}
 use Rattle.qm_narrow.specs.declared.outlook.Outlook.{Outlook}
 use Rattle.qm_narrow.specs.declared.spot.Spot.{Spot}
 use Rattle.qm_narrow.specs.inner.Trace.{IsSpotOf}
-use Rattle.qm_narrow.specs.inner.Look.{direction_of, at_distance, span_of, least_along, greatest_along, IsReach, PartsNowhere, IsOutlook}
+use Rattle.qm_narrow.specs.inner.Look.{at_distance, span_of, least_along, greatest_along, IsReach, PartsNowhere, IsOutlook}
 
 -- ---- one corner
 
-module _ (n : Normal) (p : Point) (spot : Spot) (weight : pos 0 <ℤ p.w) (is : IsSpotOf p spot) where
+module _ (n : Vector) (p : Point) (spot : Spot) (weight : pos 0 <ℤ p.w) (is : IsSpotOf p spot) where
   in_x : IsInSpan (span_of spot 0) p.x p.w
   in_x = record { above = is.below.of_x.at_most; below = is.above.of_x.at_least }
 
@@ -97,7 +98,7 @@ max_at_most a b d h k = omega (arith, ints, clamps)
 min_at_least : (a b d : ℤ) → d ≤ℤ a → d ≤ℤ b → d ≤ℤ int_min a b
 min_at_least a b d h k = omega (arith, ints, clamps)
 
-module _ (v : Winding) (convex : IsConvex v) (n : Normal) (i : ℕ) (within : i < length v.edges) (spot : Spot) (is : IsSpotOf (corner_at v i) spot) where
+module _ (v : Winding) (convex : IsConvex v) (n : Vector) (i : ℕ) (within : i < length v.edges) (spot : Spot) (is : IsSpotOf (corner_at v i) spot) where
   corner_low : (d : ℤ) → HasNoCornerInFront v (at_distance n d) → least_along n spot ≤ℤ d
   corner_low d none = least_not_in_front n (corner_at v i) spot (convex.weight i within) is d (none i within)
 
@@ -131,7 +132,7 @@ module _ (v : Winding) (convex : IsConvex v) (n : Normal) (i : ℕ) (within : i 
         (back not);
   }
 
-pub outlook_begins : (v : Winding) (n : Normal) (reach : Reach) (outlook : Outlook) → outlook.ahead ≡ true → outlook.back ≡ true → IsOutlook v n reach outlook
+pub outlook_begins : (v : Winding) (n : Vector) (reach : Reach) (outlook : Outlook) → outlook.ahead ≡ true → outlook.back ≡ true → IsOutlook v n reach outlook
 outlook_begins v n reach outlook ahead back = record {
   ahead = λ source is not. let never : true ≡ false = sym ahead ∙ not in cc;
   back = λ source is not. let never : true ≡ false = sym back ∙ not in cc;
@@ -139,7 +140,7 @@ outlook_begins v n reach outlook ahead back = record {
 
 -- ---- a multiple of a plane's normal
 
-module _ (n : Normal) (h : Plane) (k : ℤ) (multiple : direction_of n ≡ point_times k (normal_of h)) where
+module _ (n : Vector) (h : Plane) (k : ℤ) (multiple : direction_of n ≡ point_times k (normal_of h)) where
   value_multiple : (p : Point) → value (at_distance n (k *ℤ h.d)) p ≡ k *ℤ value h p
   unfolding value
   value_multiple p =
@@ -174,7 +175,7 @@ module _ (n : Normal) (h : Plane) (k : ℤ) (multiple : direction_of n ≡ point
 
 -- ---- what is not gained
 
-module _ (s p : Winding) (at from to : Point) (n : Normal) (through : direction_of n ≡ normal_of (outward_plane at from to)) where
+module _ (s p : Winding) (at from to : Point) (n : Vector) (through : direction_of n ≡ normal_of (outward_plane at from to)) where
   pub gains_nowhere : PartsNowhere s p n → PartsNowhere p s n → (old : List Plane) → Gains (SeparatesBy s p at from to) old old
   gains_nowhere ahead back old = gains_none (SeparatesBy s p at from to) old (λ h sep.
       let is = sep.1 in let e = through ∙ is.multiple in
@@ -207,7 +208,7 @@ module _ (s p : Winding) (at from to : Point) (n : Normal) (through : direction_
 
 -- by the flag
 
-module _ (s p : Winding) (at from to : Point) (n : Normal) (through : direction_of n ≡ normal_of (outward_plane at from to)) (outlook : Outlook) (ahead : outlook.ahead ≡ false → PartsNowhere s p n) (back : outlook.back ≡ false → PartsNowhere p s n) where
+module _ (s p : Winding) (at from to : Point) (n : Vector) (through : direction_of n ≡ normal_of (outward_plane at from to)) (outlook : Outlook) (ahead : outlook.ahead ≡ false → PartsNowhere s p n) (back : outlook.back ≡ false → PartsNowhere p s n) where
   pub none_as_it_is : (plane : Plane) (flag may : Bool) → IsPlaneThrough at from to plane flag → may ≡ cond flag outlook.ahead outlook.back → may ≡ false → (h : Plane) → PartsAlong s p plane h → ⊥
   none_as_it_is plane true may is e unset h parts = none_itself s p at from to n through plane true is (ahead (sym e ∙ unset)) plane h refl parts
   none_as_it_is plane false may is e unset h parts = none_turned s p at from to n through plane false is (back (sym e ∙ unset)) plane h (sym (flipped_twice plane)) parts

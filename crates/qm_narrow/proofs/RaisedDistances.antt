@@ -15,11 +15,12 @@ use Rattle.qm_convex.specs.Winding.{Winding, corner_at, corners, IsConvex}
 use Rattle.qm_convex.specs.Sides.{HasNoCornerInFront}
 use Rattle.qm_convex.proofs.Corners.{corners_length, corner_in_list}
 use Rattle.qm_separators.proofs.Distances.{least_distance}
-use Rattle.qm_narrow.specs.declared.normal.Normal.{Normal}
+use Rattle.qm_geom.specs.Vectors.{direction_of}
+use Rattle.qm_geom.specs.declared.vector.Vector.{Vector}
 use Rattle.qm_narrow.specs.declared.reach.Reach.{Reach}
 use Rattle.qm_narrow.specs.declared.spot.Spot.{Spot}
 use Rattle.qm_narrow.specs.inner.Trace.{IsSpotOf}
-use Rattle.qm_narrow.specs.inner.Look.{direction_of, at_distance, greatest_along, IsReach}
+use Rattle.qm_narrow.specs.inner.Look.{at_distance, greatest_along, IsReach}
 use Rattle.qm_narrow.proofs.Outlooks.{greatest_not_in_front}
 
 -- what a test for less tells where it fails
@@ -30,7 +31,7 @@ in_front_alone : (P : Point → Type 0) (p : Point) → Any P (p ∷ []) → P p
 in_front_alone P p (zero, q, l, e, is) = subst P (sym e) is
 in_front_alone P p (suc k, q, l, e, is) = absurd (omega arith)
 
-module _ (v : Winding) (convex : IsConvex v) (h : Plane) (n : Normal) (same : direction_of n ≡ normal_of h) where
+module _ (v : Winding) (convex : IsConvex v) (h : Plane) (n : Vector) (same : direction_of n ≡ normal_of h) where
   in_corners : (i : ℕ) → i < length v.edges → i < length (corners v)
   in_corners i below = let e = corners_length v in omega arith
 

@@ -11,7 +11,7 @@ ghost use Rattle.qm_separators.specs.Gains.{Gains};
 ghost use Rattle.qm_separators.specs.inner.Found.{PartsAlong, AreCandidate, SeparatesBy};
 ghost use Rattle.qm_narrow.specs.inner.FoundPlanes.{AreAtLeastDistance, HasNormalAmong};
 
-use crate::normal::Normal;
+use crate::normal::normal_through;
 use crate::outlook::Outlook;
 use crate::sides::parts;
 use crate::traced::Traced;
@@ -34,7 +34,7 @@ pub(crate) fn gain_through(
     requires candidate { AreCandidate source.now pass.now (whole_point at) (whole_point from) (whole_point to) }
     ensures { OnOk result (Gains (SeparatesBy source.now pass.now (whole_point at) (whole_point from) (whole_point to)) planes.old.items planes.new.items) }
 {
-    let normal = Normal::through(at, from, to);
+    let normal = normal_through(at, from, to);
     let outlook = Outlook::of(source, pass, &normal);
     if outlook.is_none() {
         return Ok(());

@@ -1,8 +1,9 @@
 //! Coordinates of corners as whole numbers, by one division each.
 
 ghost use Rattle.std.specs.Prelude.{◌≡◌, ◌⊎◌, ◌<◌, ◌≤◌, ◌*◌, ◌^◌, true, false, pos, ◌-ℤ◌, ◌*ℤ◌, ◌<ℤ◌, ◌≤ℤ◌, unsigned_abs};
-ghost use Rattle.qm_numbers.specs.Rounding.{IsRoundedDown};
 ghost use Rattle.qm_geom.specs.inner.SmallCoordinate.{IsSmallCoordinate};
+
+use qm_geom::rounded_down;
 
 /// A coordinate rounded down, rounded up, and to the nearest whole number: of two that are equally near, the one farther from
 /// 0.
@@ -45,16 +46,6 @@ impl Near {
             nearest: below,
         }
     }
-}
-
-/// The greatest whole number that is at most a fraction.
-fn rounded_down(over: i128, under: i128) -> i64
-    requires under_positive { pos 0 <ℤ under }
-    requires fraction_small { unsigned_abs over ≤ 65536 * unsigned_abs under }
-    ensures exact { IsRoundedDown over under result }
-    ensures size { unsigned_abs result ≤ 65536 }
-{
-    over.div_euclid(under) as i64
 }
 
 /// What a fraction leaves of its numerator beside so many denominators.

@@ -2,12 +2,13 @@
 
 ghost use Rattle.std.specs.Prelude.{◌≡◌, ◌^◌, ◌⊎◌, ◌<ℤ◌, Bool, true, false, if◌then◌else◌};
 ghost use Rattle.qm_space.specs.Point.{AreCoordinates};
-ghost use Rattle.qm_narrow.specs.inner.Look.{IsSmallNormal, PartsNowhere, least_along, greatest_along};
+ghost use Rattle.qm_geom.specs.Vectors.{IsWithin};
+ghost use Rattle.qm_narrow.specs.inner.Look.{PartsNowhere, least_along, greatest_along};
 
-use crate::normal::Normal;
 use crate::reach::Reach;
 use crate::spot::Spot;
 use crate::traced::Traced;
+use qm_geom::Vector;
 
 /// Whether planes with a normal, or with its opposite, may part two windings.
 #[derive(Clone, Copy)]
@@ -18,8 +19,8 @@ pub(crate) struct Outlook {
 
 impl Outlook {
     /// By the whole points near the corners of a source and a pass.
-    pub(crate) fn of(source: &Traced, pass: &Traced, normal: &Normal) -> Outlook
-        requires { IsSmallNormal normal.now (2 ^ 26) }
+    pub(crate) fn of(source: &Traced, pass: &Traced, normal: &Vector) -> Outlook
+        requires { IsWithin normal.now (2 ^ 26) }
         ensures ahead { result.ahead ≡ false → PartsNowhere source.now pass.now normal.now }
         ensures back { result.back ≡ false → PartsNowhere pass.now source.now normal.now }
     {
@@ -29,10 +30,10 @@ impl Outlook {
     }
 
     /// By one corner of the pass more, where this is the reach of the source.
-    pub(crate) fn with(&self, reach: &Reach, spot: &Spot, normal: &Normal) -> Outlook
+    pub(crate) fn with(&self, reach: &Reach, spot: &Spot, normal: &Vector) -> Outlook
         requires below_in { AreCoordinates spot.now.below }
         requires above_in { AreCoordinates spot.now.above }
-        requires small { IsSmallNormal normal.now (2 ^ 26) }
+        requires small { IsWithin normal.now (2 ^ 26) }
         ensures ahead { result.ahead ≡ false → (self.now.ahead ≡ false) ⊎ (greatest_along normal.now spot.now <ℤ reach.now.low) }
         ensures back { result.back ≡ false → (self.now.back ≡ false) ⊎ (reach.now.high <ℤ least_along normal.now spot.now) }
     {

@@ -6,7 +6,6 @@ ghost use Rattle.qm_separators.specs.MayPass.{MayPass};
 ghost use Rattle.qm_separators.specs.inner.Found.{HasCornersBeyond};
 
 use crate::chain_state::ChainState;
-use crate::sides::{has_corner_behind, has_corner_in_front};
 use crate::traced::Traced;
 use qm_geom::Plane;
 use qm_wind::{Pane, Winding};
@@ -15,10 +14,10 @@ use qm_wind::{Pane, Winding};
 pub fn may_pass(state: &ChainState, pane: &Pane) -> bool
     ensures { MayPass state.now pane.now.winding pane.now.into → result ≡ true }
 {
-    if !has_corner_in_front(&pane.winding, state.into()) {
+    if !pane.winding.has_corner_in_front(state.into()) {
         return false;
     }
-    if !has_corner_behind(state.source(), &pane.into) {
+    if !state.source().has_corner_behind(&pane.into) {
         return false;
     }
     if !pass_is_behind(state.pass(), &pane.into) {
@@ -33,7 +32,7 @@ fn pass_is_behind(pass: &Option<Traced>, plane: &Plane) -> bool
 {
     match pass {
         None => true,
-        Some(pass) => has_corner_behind(pass.winding(), plane),
+        Some(pass) => pass.winding().has_corner_behind(plane),
     }
 }
 
@@ -42,7 +41,7 @@ fn is_beyond(winding: &Winding, planes: &[Plane]) -> bool
     ensures { IsTrue result ↔ HasCornersBeyond winding.now planes.now }
 {
     for plane in planes {
-        if !has_corner_in_front(winding, plane) {
+        if !winding.has_corner_in_front(plane) {
             return false;
         }
     }

@@ -3,10 +3,11 @@
 ghost use Rattle.std.specs.Prelude.{◌≡◌, ◌^◌};
 ghost use Rattle.std.specs.Int.{int_max, int_min};
 ghost use Rattle.qm_space.specs.Point.{AreCoordinates};
-ghost use Rattle.qm_narrow.specs.inner.Look.{IsSmallNormal, least_along, greatest_along};
+ghost use Rattle.qm_geom.specs.Vectors.{IsWithin};
+ghost use Rattle.qm_narrow.specs.inner.Look.{least_along, greatest_along};
 
-use crate::normal::Normal;
 use crate::spot::Spot;
+use qm_geom::Vector;
 
 /// From which distance on no corner may be in front, and up to which none may be behind.
 #[derive(Clone, Copy)]
@@ -17,10 +18,10 @@ pub(crate) struct Reach {
 
 impl Reach {
     /// By one corner.
-    pub(crate) fn of(spot: &Spot, normal: &Normal) -> Reach
+    pub(crate) fn of(spot: &Spot, normal: &Vector) -> Reach
         requires below_in { AreCoordinates spot.now.below }
         requires above_in { AreCoordinates spot.now.above }
-        requires small { IsSmallNormal normal.now (2 ^ 26) }
+        requires small { IsWithin normal.now (2 ^ 26) }
         ensures low { result.low ≡ least_along normal.now spot.now }
         ensures high { result.high ≡ greatest_along normal.now spot.now }
     {
@@ -31,10 +32,10 @@ impl Reach {
     }
 
     /// By one corner more.
-    pub(crate) fn with(&self, spot: &Spot, normal: &Normal) -> Reach
+    pub(crate) fn with(&self, spot: &Spot, normal: &Vector) -> Reach
         requires below_in { AreCoordinates spot.now.below }
         requires above_in { AreCoordinates spot.now.above }
-        requires small { IsSmallNormal normal.now (2 ^ 26) }
+        requires small { IsWithin normal.now (2 ^ 26) }
         ensures low { result.low ≡ int_max self.now.low (least_along normal.now spot.now) }
         ensures high { result.high ≡ int_min self.now.high (greatest_along normal.now spot.now) }
     {

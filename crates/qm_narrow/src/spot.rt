@@ -8,9 +8,9 @@ ghost use Rattle.qm_geom.specs.Rounding.{HasSmallCoordinates};
 ghost use Rattle.qm_narrow.specs.inner.Trace.{IsSpotOf};
 
 use crate::near::Near;
-use crate::normal::Normal;
+use crate::normal::sum;
 use crate::whole::whole_corner;
-use qm_geom::Corner;
+use qm_geom::{Corner, Vector};
 
 /// The whole points near a corner: the nearest one, and the coordinates rounded down and up.
 #[derive(Clone, Copy)]
@@ -22,7 +22,8 @@ pub(crate) struct Spot {
 
 impl Spot {
     ghost use Rattle.qm_narrow.specs.inner.Trace.{IsSpotOf};
-    ghost use Rattle.qm_narrow.specs.inner.Look.{IsSmallNormal, least_along, greatest_along};
+    ghost use Rattle.qm_geom.specs.Vectors.{IsWithin};
+    ghost use Rattle.qm_narrow.specs.inner.Look.{least_along, greatest_along};
 
     /// Those of a corner.
     pub(crate) fn of(corner: &Corner) -> Spot
@@ -41,35 +42,35 @@ impl Spot {
     }
 
     /// The least that a normal has along a point between those below and above.
-    pub(crate) fn least(&self, normal: &Normal) -> i64
+    pub(crate) fn least(&self, normal: &Vector) -> i64
         requires below_in { AreCoordinates self.now.below }
         requires above_in { AreCoordinates self.now.above }
-        requires small { IsSmallNormal normal.now (2 ^ 26) }
+        requires small { IsWithin normal.now (2 ^ 26) }
         ensures exact { result ≡ least_along normal.now self.now }
         ensures size { unsigned_abs result ≤ 2 ^ 40 }
     {
-        let products = Normal {
+        let products = Vector {
             x: least_product(normal.x, self.below[0], self.above[0]),
             y: least_product(normal.y, self.below[1], self.above[1]),
             z: least_product(normal.z, self.below[2], self.above[2]),
         };
-        products.sum()
+        sum(&products)
     }
 
     /// The greatest that it has.
-    pub(crate) fn greatest(&self, normal: &Normal) -> i64
+    pub(crate) fn greatest(&self, normal: &Vector) -> i64
         requires below_in { AreCoordinates self.now.below }
         requires above_in { AreCoordinates self.now.above }
-        requires small { IsSmallNormal normal.now (2 ^ 26) }
+        requires small { IsWithin normal.now (2 ^ 26) }
         ensures exact { result ≡ greatest_along normal.now self.now }
         ensures size { unsigned_abs result ≤ 2 ^ 40 }
     {
-        let products = Normal {
+        let products = Vector {
             x: least_product(normal.x, self.above[0], self.below[0]),
             y: least_product(normal.y, self.above[1], self.below[1]),
             z: least_product(normal.z, self.above[2], self.below[2]),
         };
-        products.sum()
+        sum(&products)
     }
 }
 

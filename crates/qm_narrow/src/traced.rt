@@ -8,11 +8,10 @@ ghost use Rattle.qm_convex.specs.World.{IsInWorld};
 ghost use Rattle.qm_convex.specs.Sides.{HasCornerBehind, HasCornerInFront};
 ghost use Rattle.qm_space.specs.Plane.{IsBehind, IsInFront};
 
-use crate::normal::Normal;
 use crate::outlook::Outlook;
 use crate::reach::Reach;
 use crate::spot::Spot;
-use qm_geom::{Corner, Plane, least_distance};
+use qm_geom::{Corner, Plane, Vector, least_distance};
 use qm_wind::Winding;
 use std::alloc::{AllocError, Global};
 use std::cmp::Ordering;
@@ -39,7 +38,8 @@ impl Model for Traced {
 
 impl Traced {
     ghost use Rattle.qm_narrow.specs.inner.Trace.{IsSpotOf};
-    ghost use Rattle.qm_narrow.specs.inner.Look.{IsSmallNormal, IsReach, IsOutlook};
+    ghost use Rattle.qm_geom.specs.Vectors.{IsWithin};
+    ghost use Rattle.qm_narrow.specs.inner.Look.{IsReach, IsOutlook};
 
     /// A winding with these.
     pub(crate) fn of(alloc: Global, winding: Winding) -> Result<Traced, AllocError>
@@ -134,7 +134,7 @@ impl Traced {
         ensures { IsLeastDistance (along.now.nx ∷ along.now.ny ∷ along.now.nz ∷ []) (corners self.now) result }
     {
         let count = self.len();
-        let normal = Normal::of(along);
+        let normal = along.normal();
         let mut least = self.reach(&normal).low;
         for i in 0..count {
             if self.spot(i).greatest(&normal) > least {
@@ -145,8 +145,8 @@ impl Traced {
     }
 
     /// Its reach along a normal.
-    pub(crate) fn reach(&self, normal: &Normal) -> Reach
-        requires { IsSmallNormal normal.now (2 ^ 26) }
+    pub(crate) fn reach(&self, normal: &Vector) -> Reach
+        requires { IsWithin normal.now (2 ^ 26) }
         ensures { IsReach self.now normal.now result }
     {
         let _corners = self.len();
@@ -158,8 +158,8 @@ impl Traced {
     }
 
     /// Whether planes with a normal may part it and a source of this reach.
-    pub(crate) fn outlook(&self, reach: &Reach, normal: &Normal) -> Outlook
-        requires { IsSmallNormal normal.now (2 ^ 26) }
+    pub(crate) fn outlook(&self, reach: &Reach, normal: &Vector) -> Outlook
+        requires { IsWithin normal.now (2 ^ 26) }
         ensures { IsOutlook self.now normal.now reach.now result }
     {
         let _corners = self.len();

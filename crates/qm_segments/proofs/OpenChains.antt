@@ -11,13 +11,14 @@ use Rattle.qm_space.specs.Line.{IsBetween}
 use Rattle.qm_space.specs.Plane.{Plane}
 use Rattle.qm_convex.specs.Winding.{Winding, IsInRegion, IsConvex}
 use Rattle.qm_convex.specs.Sides.{HasSomeInFront}
+use Rattle.qm_convex.proofs.Central.{HasSomeBehind}
 use Rattle.qm_partition.specs.Tree.{Tree}
 use Rattle.qm_partition.specs.Ways.{HasPoints}
 use Rattle.qm_contacts.specs.Meeting.{meetings}
 use Rattle.qm_contacts.specs.Touching.{Touching, AreTouchings}
 use Rattle.qm_contacts.specs.Portals.{Portal, portals_of}
 use Rattle.qm_coarse_rows.specs.CoarseRow.{MayFollow, IsInCoarseRow}
-use Rattle.qm_coarse_rows.proofs.PortalSides.{HasSomeBehind, follows_by_points}
+use Rattle.qm_coarse_rows.proofs.PortalSides.{follows_by_points}
 use Rattle.qm_segments.specs.Segment.{Segment}
 use Rattle.qm_segments.specs.GoesThrough.{GoesThrough}
 use Rattle.qm_segments.specs.GoesBy.{GoesBy, ends, through}

@@ -13,7 +13,7 @@ use Rattle.qm_space.specs.Plane.{Plane, value, IsNotInFront, IsInFront}
 use Rattle.qm_space.specs.Cube.{IsUpToExtent, IsInClosedCube}
 use Rattle.qm_geom.specs.LeastDistance.{plane_at_distance, IsLeastDistance}
 use Rattle.qm_geom.specs.inner.LeastDistanceOf.{IsLeastDistanceOf}
-use Rattle.qm_geom.specs.inner.Vectors.{vector_of, step_to, dot}
+use Rattle.qm_geom.specs.Vectors.{vector_of, step_to, dot}
 use Rattle.qm_geom.proofs.LeastDistances.{up_is_least, IsLeastSoFar, so_far_begun, so_far_gained, so_far_ended}
 use Rattle.qm_separators.proofs.Roundings.{up}
 

@@ -6,8 +6,7 @@ use Rattle.qm_space.specs.Plane.{Plane, IsInFront}
 use Rattle.qm_space.specs.Line.{IsBetween}
 use Rattle.qm_convex.specs.Winding.{Winding, IsConvex, IsInRegion}
 use Rattle.qm_convex.specs.Sides.{LiesIn, HasCornerBehind}
-use Rattle.qm_convex.proofs.Central.{some_in_front}
-use Rattle.qm_coarse_rows.proofs.PortalSides.{some_behind}
+use Rattle.qm_convex.proofs.Central.{some_in_front, some_behind}
 use Rattle.qm_segments.specs.Segment.{Segment}
 use Rattle.qm_segments.proofs.Betweenness.{behind_before}
 use Rattle.qm_separators.specs.ChainState.{ChainState, IsChainState}

@@ -6,4 +6,5 @@ pub mod PairsAcross
 pub mod Distances
 pub mod Worlds
 pub mod Beside
+pub mod SidesOfCorners
 pub mod SixFaces

@@ -3,8 +3,10 @@
 #![tactic(auto)]
 
 mod across;
+mod any_corner;
 mod axial_cell;
 mod circle;
+mod corner_sides;
 mod faces;
 mod found;
 mod halves;
@@ -17,6 +19,7 @@ mod survey;
 mod walls;
 mod winding;
 
+pub use corner_sides::CornerSides;
 pub use halves::Halves;
 pub use lies::Lies;
 pub use pane::Pane;

@@ -1,12 +1,13 @@
-ghost use Rattle.std.specs.Prelude.{◌≡◌, ◌<◌, length, IfOk, MatchOption};
+ghost use Rattle.std.specs.Prelude.{◌≡◌, ◌<◌, ◌↔◌, length, IsTrue, IfOk, MatchOption};
 ghost use Rattle.qm_convex.specs.Winding.{corner_at, IsConvex};
 ghost use Rattle.qm_convex.specs.inner.Parallelogram.{parallelogram};
 ghost use Rattle.qm_convex.specs.Cut.{IsPartInFront};
 ghost use Rattle.qm_convex.specs.inner.FrontRun.{IsFrontRun, cut};
-ghost use Rattle.qm_convex.specs.Sides.{HasCornerBehind, HasNoneInFront};
+ghost use Rattle.qm_convex.specs.Sides.{HasCornerInFront, HasCornerBehind, HasNoneInFront};
 ghost use Rattle.qm_wind.specs.inner.Surveyed.{IsRun, IsSurvey};
 ghost use Rattle.qm_wind.specs.inner.Finding.{HasCornersAcross};
 
+use crate::any_corner::is_any_in_front;
 use crate::axial_cell::Opposites;
 use crate::circle::{add_arc, next_place, steps_between};
 use crate::survey::{Run, Survey};
@@ -80,6 +81,13 @@ impl Polygon {
         ensures { IsSurvey self.now plane.now result }
     {
         Survey::of(&self.plane, self.edges.as_slice(), plane)
+    }
+
+    /// Whether a corner is strictly in front of a plane.
+    pub(crate) fn has_corner_in_front(&self, plane: &Plane) -> bool
+        ensures { IsTrue result ↔ HasCornerInFront self.now plane.now }
+    {
+        is_any_in_front(&self.plane, self.edges.as_slice(), plane)
     }
 
     /// The part in front of a plane, by the run of the corners there, where some are on both sides.

@@ -89,7 +89,7 @@ impl Survey {
 
 /// The side of a plane on which the corner at a place lies, by the line in which the plane meets that of
 /// the winding.
-fn side_of_corner(line: &Line, edges: &[Plane], i: usize) -> Ordering
+pub(crate) fn side_of_corner(line: &Line, edges: &[Plane], i: usize) -> Ordering
     requires { i < length edges.now }
     ensures { (g h : Plane) → line.now ≡ common_line g h →
         result ≡ int_cmp (value g (corner_at (record { plane = h; edges = edges.now }) i)) (pos 0) }

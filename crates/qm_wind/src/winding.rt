@@ -4,20 +4,21 @@ ghost use Rattle.qm_geom.specs.Rounding.{HasSmallCoordinates};
 ghost use Rattle.qm_convex.specs.Winding.{corner_at};
 ghost use Rattle.qm_convex.specs.Vertex.{IsVertex, HasVerticesAsCorners};
 ghost use Rattle.qm_convex.specs.Cut.{IsPartInFront};
-ghost use Rattle.qm_convex.specs.Sides.{LiesIn};
+ghost use Rattle.qm_convex.specs.Sides.{LiesIn, HasCornerInFront, HasCornerBehind};
 ghost use Rattle.qm_convex.specs.World.{MissesCube, IsWorldPart, IsInWorld, LiesWithin};
 ghost use Rattle.qm_convex.specs.Section.{IsSection, MissesCell, AreAxialBounds};
 ghost use Rattle.qm_space.specs.Cube.{IsInClosedCube};
 ghost use Rattle.qm_wind.specs.Clipped.{IsClip, is_front};
 ghost use Rattle.qm_wind.specs.Severing.{IsSevered};
 ghost use Rattle.qm_wind.specs.Split.{IsSplit};
-ghost use Rattle.qm_wind.specs.Lying.{IsLying};
+ghost use Rattle.qm_wind.specs.Lying.{IsLying, AreCornerSides};
 ghost use Rattle.qm_wind.specs.inner.AxialCells.{bounds_of};
 ghost use Rattle.qm_wind.specs.inner.Surveyed.{IsRun};
 ghost use Rattle.qm_wind.specs.inner.Finding.{IsFound, HasCornersAcross};
 
 use crate::across::Across;
 use crate::axial_cell::AxialCell;
+use crate::corner_sides::CornerSides;
 use crate::found::Found;
 use crate::halves::Halves;
 use crate::lies::Lies;
@@ -207,6 +208,41 @@ impl Winding {
             Found::On => Lies::On,
             Found::Across(_) => Lies::Across,
         }
+    }
+
+    /// On which sides of a plane it has corners.
+    pub fn corner_sides(&self, plane: &Plane) -> CornerSides
+        ensures { AreCornerSides result self.now plane.now }
+    {
+        let _ = &self.polygon;
+        let (in_front, behind) = match self.found(plane) {
+            Found::Front => (true, false),
+            Found::Back => (false, true),
+            Found::On => (false, false),
+            Found::Across(_) => (true, true),
+        };
+        CornerSides { in_front, behind }
+    }
+
+    /// Whether a corner is strictly in front of a plane: by its cuboid, or by its corners where the plane cuts the cuboid.
+    pub fn has_corner_in_front(&self, plane: &Plane) -> bool
+        ensures { IsTrue result ↔ HasCornerInFront self.now plane.now }
+    {
+        let _ = &self.polygon;
+        if self.cuboid.greatest_value(plane) <= 0 {
+            return false;
+        }
+        if self.cuboid.least_value(plane) > 0 {
+            return true;
+        }
+        self.polygon.has_corner_in_front(plane)
+    }
+
+    /// Whether a corner is strictly behind a plane.
+    pub fn has_corner_behind(&self, plane: &Plane) -> bool
+        ensures { IsTrue result ↔ HasCornerBehind self.now plane.now }
+    {
+        self.has_corner_in_front(&plane.flipped())
     }
 
     /// Where the winding lies beside a plane: by its cuboid, or by its corners where the plane cuts the

@@ -1,10 +1,9 @@
-use Rattle.std.specs.Prelude.{◌≡◌, false, ℤ, pos, ◌+ℤ◌, ◌≤◌, ◌≤ℤ◌, ℕ, slice_index_or, unsigned_abs}
-use Rattle.qm_space.specs.Point.{Point}
+use Rattle.std.specs.Prelude.{◌≡◌, false, ℤ, pos, ◌+ℤ◌, ◌≤ℤ◌, ℕ, slice_index_or}
 use Rattle.qm_space.specs.Plane.{Plane}
 use Rattle.qm_space.specs.Cuboid.{Span, least_product, greatest_product}
 use Rattle.qm_convex.specs.Winding.{Winding}
 use Rattle.qm_convex.specs.Sides.{HasNoCornerInFront, HasNoCornerBehind}
-use Rattle.qm_narrow.specs.declared.normal.Normal.{Normal}
+use Rattle.qm_geom.specs.declared.vector.Vector.{Vector}
 use Rattle.qm_narrow.specs.declared.reach.Reach.{Reach}
 use Rattle.qm_narrow.specs.declared.outlook.Outlook.{Outlook}
 use Rattle.qm_narrow.specs.declared.spot.Spot.{Spot}
@@ -12,18 +11,8 @@ use Rattle.qm_narrow.specs.declared.spot.Spot.{Spot}
 -- A look at a normal before it is brought to lowest terms: whether planes with it can part two windings at all, as far as
 -- whole points near their corners tell.
 
--- the normal, as a direction
-abbrev pub direction_of : Normal → Point
-direction_of n = record { x = n.x; y = n.y; z = n.z; w = pos 0 }
-
--- no component is greater than the bound, whatever its sign
-pub record IsSmallNormal (n : Normal) (bound : ℕ) : Type 0 where
-  pub x_small : unsigned_abs n.x ≤ bound
-  pub y_small : unsigned_abs n.y ≤ bound
-  pub z_small : unsigned_abs n.z ≤ bound
-
 -- the plane with the normal at a distance
-abbrev pub at_distance : Normal → ℤ → Plane
+abbrev pub at_distance : Vector → ℤ → Plane
 at_distance n d = record { nx = n.x; ny = n.y; nz = n.z; d = d }
 
 -- across one axis, from a coordinate rounded down to it rounded up
@@ -31,24 +20,24 @@ abbrev pub span_of : Spot → ℕ → Span
 span_of spot axis = record { low = slice_index_or spot.below axis (pos 0); high = slice_index_or spot.above axis (pos 0) }
 
 -- the least and the greatest that the normal has along a point between the whole points below and above a corner
-unfoldable pub least_along : Normal → Spot → ℤ
+unfoldable pub least_along : Vector → Spot → ℤ
 least_along n spot = (least_product n.x (span_of spot 0) +ℤ least_product n.y (span_of spot 1)) +ℤ least_product n.z (span_of spot 2)
 
-unfoldable pub greatest_along : Normal → Spot → ℤ
+unfoldable pub greatest_along : Vector → Spot → ℤ
 greatest_along n spot = (greatest_product n.x (span_of spot 0) +ℤ greatest_product n.y (span_of spot 1)) +ℤ greatest_product n.z (span_of spot 2)
 
 -- a plane with the normal that has no corner of the winding in front has at least the low distance, and one that has none
 -- behind has at most the high one
-pub record IsReach (v : Winding) (n : Normal) (reach : Reach) : Type 0 where
+pub record IsReach (v : Winding) (n : Vector) (reach : Reach) : Type 0 where
   pub low : (d : ℤ) → HasNoCornerInFront v (at_distance n d) → reach.low ≤ℤ d
   pub high : (d : ℤ) → HasNoCornerBehind v (at_distance n d) → d ≤ℤ reach.high
 
 -- no plane with the normal has no corner of the one winding in front and none of the other behind
-abbrev pub PartsNowhere : Winding → Winding → Normal → Type 0
+abbrev pub PartsNowhere : Winding → Winding → Vector → Type 0
 PartsNowhere source pass n = (d : ℤ) → HasNoCornerInFront source (at_distance n d) → HasNoCornerBehind pass (at_distance n d) → ⊥
 
 -- where the reach is that of a winding, such planes do not part it and the pass: with the normal, where the outlook says so
 -- ahead, and with the opposite one, where it does so back
-pub record IsOutlook (pass : Winding) (n : Normal) (reach : Reach) (outlook : Outlook) : Type 0 where
+pub record IsOutlook (pass : Winding) (n : Vector) (reach : Reach) (outlook : Outlook) : Type 0 where
   pub ahead : (source : Winding) → IsReach source n reach → outlook.ahead ≡ false → PartsNowhere source pass n
   pub back : (source : Winding) → IsReach source n reach → outlook.back ≡ false → PartsNowhere pass source n

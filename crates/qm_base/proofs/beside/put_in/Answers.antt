@@ -11,7 +11,7 @@ loop-c-preserved c =
     let planes = c.args.planes.now in
     let rows = c.loop-c.rows in
     let place = c.args.place in
-    let sides = c.sides_of-sides.result in
+    let sides = c.corner_sides-sides.result in
     let beside = c.put_sides.new.beside in
     let within : c.loop-c.c < length rows = let test = c.loop-c-test.true in let each = c.requires.one_each in let same = c.loop-c.invariant.same_count in omega (arith, test, each, same) in
     let within_old : c.loop-c.c < length c.args.rows.now = let test = c.loop-c-test.true in let each = c.requires.one_each in omega (arith, test, each) in
@@ -19,12 +19,12 @@ loop-c-preserved c =
     let read : get_or rows c.loop-c.c c.index-rows-c.result ≡ beside_at rows c.loop-c.c = get_or_default rows c.loop-c.c c.index-rows-c.result no_beside within in
     put_in_more c.args.winding.now planes place c.args.rows.now c.loop-c.c plane rows beside
     (slice_get_read planes (length planes) c.loop-c.c plane refl c.loop-c-test.true c.index-planes-c.is) within_old c.loop-c.invariant (record {
-      is_front = sides.0;
-      is_behind = sides.1;
-      says_front = c.sides_of-sides.ensures.front;
-      says_behind = c.sides_of-sides.ensures.behind;
-      front = subst (λ (b : Beside). IsPutAt place sides.0 b.front beside.front) read c.put_sides.ensures.front;
-      behind = subst (λ (b : Beside). IsPutAt place sides.1 b.behind beside.behind) read c.put_sides.ensures.behind;
+      is_front = sides.in_front;
+      is_behind = sides.behind;
+      says_front = c.corner_sides-sides.ensures.in_front;
+      says_behind = c.corner_sides-sides.ensures.behind;
+      front = subst (λ (b : Beside). IsPutAt place sides.in_front b.front beside.front) read c.put_sides.ensures.front;
+      behind = subst (λ (b : Beside). IsPutAt place sides.behind b.behind beside.behind) read c.put_sides.ensures.behind;
     })
 
 pub returns : goal.returns

@@ -1,6 +1,6 @@
 use Rattle.std.proofs.Common.{◌^◌, sym, subst}
 use Rattle.qm_geom.specs.declared.vector.Vector.{Vector}
-use Rattle.qm_geom.specs.inner.Vectors.{IsWithin}
+use Rattle.qm_geom.specs.Vectors.{IsWithin}
 use Rattle.qm_geom.proofs.Cuboids.{left_kept, left_small}
 use Rattle.qm_geom.proofs.cuboid.left_of.Goals as goal
 

@@ -15,7 +15,7 @@ gain_where-requires-clause-lowest c = through_lowest (whole_point c.args.at) (wh
 pub gain_where-requires-clause-not : goal.gain_where-requires-clause-not
 gain_where-requires-clause-not c =
     none_as_it_is c.args.source.now c.args.pass.now (whole_point c.args.at) (whole_point c.args.from) (whole_point c.args.to)
-    c.through-normal.result c.through-normal.ensures.exact c.of-outlook.result c.of-outlook.ensures.ahead c.of-outlook.ensures.back _ _ _ c.in-Ok.ensures.through c.towards.ensures
+    c.normal_through-normal.result c.normal_through-normal.ensures.exact c.of-outlook.result c.of-outlook.ensures.ahead c.of-outlook.ensures.back _ _ _ c.in-Ok.ensures.through c.towards.ensures
 
 pub gain_where-requires-in-Ok-clause-lowest : goal.gain_where-requires-in-Ok-clause-lowest
 gain_where-requires-in-Ok-clause-lowest c = subst HasLowestNormal (sym c.flipped-turned.ensures) (through_lowest_flipped (whole_point c.args.at) (whole_point c.args.from) (whole_point c.args.to) refl _ _ c.in-Ok.ensures.through)
@@ -24,11 +24,11 @@ pub gain_where-requires-in-Ok-clause-not : goal.gain_where-requires-in-Ok-clause
 gain_where-requires-in-Ok-clause-not c =
     subst (λ (g : Plane). c.towards-in-Ok.result ≡ false → (h : Plane) → PartsAlong c.args.source.now c.args.pass.now g h → ⊥) (sym c.flipped-turned.ensures)
     (none_flipped c.args.source.now c.args.pass.now (whole_point c.args.at) (whole_point c.args.from) (whole_point c.args.to)
-    c.through-normal.result c.through-normal.ensures.exact c.of-outlook.result c.of-outlook.ensures.ahead c.of-outlook.ensures.back _ _ _ c.in-Ok.ensures.through c.towards-in-Ok.ensures)
+    c.normal_through-normal.result c.normal_through-normal.ensures.exact c.of-outlook.result c.of-outlook.ensures.ahead c.of-outlook.ensures.back _ _ _ c.in-Ok.ensures.through c.towards-in-Ok.ensures)
 
 pub returns-then-is_none : goal.returns-then-is_none
 returns-then-is_none c =
-    gains_nowhere c.args.source.now c.args.pass.now (whole_point c.args.at) (whole_point c.args.from) (whole_point c.args.to) c.through-normal.result c.through-normal.ensures.exact
+    gains_nowhere c.args.source.now c.args.pass.now (whole_point c.args.at) (whole_point c.args.from) (whole_point c.args.to) c.normal_through-normal.result c.normal_through-normal.ensures.exact
     (c.of-outlook.ensures.ahead (c.is_none.ensures.ahead c.if-is_none.true)) (c.of-outlook.ensures.back (c.is_none.ensures.back c.if-is_none.true)) c.args.planes.now.items
 
 pub returns-in-Err : goal.returns-in-Err

@@ -1,5 +1,5 @@
 use Rattle.std.proofs.Common.{◌≡◌, true, false, sym, ◌∙◌}
-use Rattle.qm_narrow.proofs.LyingSides.{parts_in_front, parts_behind}
+use Rattle.qm_narrow.proofs.PartingPlanes.{parts_in_front, parts_behind}
 use Rattle.qm_narrow.proofs.sides.parts.Goals as goal
 
 pub returns-then-has_corner_in_front : goal.returns-then-has_corner_in_front

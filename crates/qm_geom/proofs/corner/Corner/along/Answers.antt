@@ -1,5 +1,5 @@
 use Rattle.std.proofs.Common.{◌≡◌, ◌≤◌, ◌*◌, ◌^◌, ◌*ℤ◌, ◌∙◌, ℤ, sym, subst, lit≤, unsigned_abs}
-use Rattle.qm_geom.specs.inner.Vectors.{dot}
+use Rattle.qm_geom.specs.Vectors.{dot}
 use Rattle.qm_numbers.proofs.Kept.{factors_small, factors_answered, first_two_fit, three_fit, three_is, three_size}
 use Rattle.qm_geom.proofs.corner.Corner.along.Goals as goal
 

@@ -1,5 +1,5 @@
 use Rattle.std.proofs.Common.{rules, ◌≡◌, ◌^◌, ◌<ℤ◌, ◌∙◌, pos, ap, arith, lit≤, sym, subst}
-use Rattle.qm_geom.specs.inner.Vectors.{IsWithin, vector_of, step_to, dot}
+use Rattle.qm_geom.specs.Vectors.{IsWithin, vector_of, step_to, dot}
 use Rattle.qm_geom.specs.declared.vector.Vector.{Vector}
 use Rattle.qm_numbers.specs.Rounding.{IsRoundedUp}
 use Rattle.qm_geom.proofs.LeastDistances.{along_small, components_small, up_is_least}

@@ -1,5 +1,5 @@
 use Rattle.std.proofs.Common.{◌*◌, ◌^◌, ◌∙◌, ap, lit≤, refl}
-use Rattle.qm_geom.specs.inner.Vectors.{step_to, dot}
+use Rattle.qm_geom.specs.Vectors.{step_to, dot}
 use Rattle.qm_numbers.proofs.Kept.{factors_small, factors_answered, apart_fits, apart_is}
 use Rattle.qm_geom.proofs.Vectors.{value_is}
 use Rattle.qm_geom.proofs.corner.Corner.value.Goals as goal

@@ -1,5 +1,5 @@
 use Rattle.std.proofs.Common.{rules, ◌≡◌, ◌^◌, FitsSigned, sym, subst, w32, w64}
-use Rattle.qm_geom.specs.inner.Vectors.{IsWithin}
+use Rattle.qm_geom.specs.Vectors.{IsWithin}
 use Rattle.qm_geom.specs.declared.vector.Vector.{Vector}
 use Rattle.qm_numbers.proofs.Kept.{kept, widened_32}
 use Rattle.qm_geom.proofs.Vectors.{vector, same_vector}

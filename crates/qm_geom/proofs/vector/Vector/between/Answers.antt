@@ -1,5 +1,5 @@
 use Rattle.std.proofs.Common.{rules, ◌^◌, pos, lit≤}
-use Rattle.qm_geom.specs.inner.Vectors.{step_between}
+use Rattle.qm_geom.specs.Vectors.{step_between}
 use Rattle.qm_geom.proofs.Vectors.{coordinate_kept, difference_answered, same_vector, small_vector}
 use Rattle.qm_geom.proofs.vector.Vector.between.Goals as goal
 

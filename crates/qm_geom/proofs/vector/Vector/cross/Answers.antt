@@ -1,5 +1,5 @@
 use Rattle.std.proofs.Common.{◌^◌, lit≤}
-use Rattle.qm_geom.specs.inner.Vectors.{cross}
+use Rattle.qm_geom.specs.Vectors.{cross}
 use Rattle.qm_numbers.proofs.Kept.{crossed_answered, small_kept}
 use Rattle.qm_geom.proofs.Vectors.{same_vector, small_vector}
 use Rattle.qm_geom.proofs.vector.Vector.cross.Goals as goal

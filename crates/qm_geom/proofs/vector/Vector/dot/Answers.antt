@@ -1,5 +1,5 @@
 use Rattle.std.proofs.Common.{rules, ◌≡◌, ◌≤◌, ◌*◌, ◌^◌, ◌*ℤ◌, ◌∙◌, ℤ, FitsSigned, w64, sym, subst, lit≤, unsigned_abs}
-use Rattle.qm_geom.specs.inner.Vectors.{dot}
+use Rattle.qm_geom.specs.Vectors.{dot}
 use Rattle.qm_numbers.proofs.Kept.{product_answered, product_size, first_two_fit, three_fit, three_is, three_size}
 use Rattle.qm_geom.proofs.vector.Vector.dot.Goals as goal
 

@@ -1,19 +1,30 @@
-use Rattle.std.proofs.Common.{arith}
+use Rattle.std.proofs.Common.{arith, lit≤}
 use Rattle.std.proofs.lemmas.Int.{ints}
-use Rattle.qm_narrow.proofs.Nearness.{near_whole, near_up, near_down}
+use Rattle.qm_numbers.proofs.Bits.{fits_32}
+use Rattle.qm_numbers.proofs.Kept.{small_kept}
+use Rattle.qm_narrow.proofs.Nearness.{d_small, above_fits, near_whole, near_up, near_down}
 use Rattle.qm_narrow.proofs.near.Near.of.Goals as goal
+
+pub rest-rest-requires-clause-down_size : goal.rest-rest-requires-clause-down_size
+rest-rest-requires-clause-down_size c = small_kept c.rounded_down-down.result 65536 (lit≤ tt) (d_small c.args.over c.args.under c.rounded_down-down.result c.requires c.rounded_down-down.ensures.exact)
+
+pub overflow_cast-below : goal.overflow_cast-below
+overflow_cast-below c = fits_32 c.rounded_down-down.result (d_small c.args.over c.args.under c.rounded_down-down.result c.requires c.rounded_down-down.ensures.exact)
+
+pub overflow_add-above : goal.overflow_add-above
+overflow_add-above c = above_fits c.rounded_down-down.result (d_small c.args.over c.args.under c.rounded_down-down.result c.requires c.rounded_down-down.ensures.exact)
 
 pub returns-then-rest-le0 : goal.returns-then-rest-le0
 returns-then-rest-le0 c =
     let test = c.if-rest-le0.true in let t = c.rest-rest.type_inv in
-    near_whole c.args.over c.args.under c.rounded_down-down.result c.rest-rest.result c.requires c.rounded_down-down.ensures.size c.rounded_down-down.ensures.exact c.rest-rest.ensures (omega (arith, ints))
+    near_whole c.args.over c.args.under c.rounded_down-down.result c.rest-rest.result c.requires c.rounded_down-down.ensures.exact c.rest-rest.ensures (omega (arith, ints))
 
 pub returns-then-goes_up : goal.returns-then-goes_up
 returns-then-goes_up c =
     let test = c.if-rest-le0.false in let t = c.rest-rest.type_inv in
-    near_up c.args.over c.args.under c.rounded_down-down.result c.rest-rest.result c.requires c.rounded_down-down.ensures.size c.rounded_down-down.ensures.exact c.rest-rest.ensures (omega (arith, ints)) (c.goes_up.ensures.up c.if-goes_up.true)
+    near_up c.args.over c.args.under c.rounded_down-down.result c.rest-rest.result c.requires c.rounded_down-down.ensures.exact c.rest-rest.ensures (omega (arith, ints)) (c.goes_up.ensures.up c.if-goes_up.true)
 
 pub returns : goal.returns
 returns c =
     let test = c.if-rest-le0.false in let t = c.rest-rest.type_inv in
-    near_down c.args.over c.args.under c.rounded_down-down.result c.rest-rest.result c.requires c.rounded_down-down.ensures.size c.rounded_down-down.ensures.exact c.rest-rest.ensures (omega (arith, ints)) (c.goes_up.ensures.down c.if-goes_up.false)
+    near_down c.args.over c.args.under c.rounded_down-down.result c.rest-rest.result c.requires c.rounded_down-down.ensures.exact c.rest-rest.ensures (omega (arith, ints)) (c.goes_up.ensures.down c.if-goes_up.false)
