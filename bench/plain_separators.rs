@@ -328,6 +328,13 @@ impl State {
         let source = Traced::of(within(near, &beyond)?);
         Some(State::of(source, self.into, Some(pass)))
     }
+
+    /// Whether a line that has met the state may still pass a portal with these corners.
+    fn may_pass(&self, corners: &[Corner], into: &Plane) -> bool {
+        let in_front = |g: &Plane| corners.iter().any(|corner| corner.side(g) == Ordering::Greater);
+        let behind = |traced: &Traced| traced.corners.iter().any(|corner| corner.side(into) == Ordering::Less);
+        in_front(&self.into) && behind(&self.source) && self.pass.as_ref().map_or(true, behind) && self.separators.iter().all(in_front)
+    }
 }
 
 fn within(winding: Winding, planes: &[Plane]) -> Option<Winding> {
@@ -431,12 +438,16 @@ fn main() {
     let words: Vec<String> = std::env::args().skip(1).collect();
     let rounds: u32 = words.get(2).map_or(1, |word| word.parse().unwrap());
     let shapes = [("whole", Shape::Whole), ("turned", Shape::Turned), ("fractional", Shape::Fractional), ("hexagons", Shape::Hexagons)];
-    for phase in ["separators", "step"] {
+    for phase in ["separators", "step", "may_pass"] {
         for (name, shape) in shapes {
             if words.is_empty() || words[0] == phase && words[1] == name {
                 let mut openings = Openings { numbers: Numbers(1), shape };
                 let chains: Vec<[Pane; 3]> = (0..64).filter_map(|_| openings.chain()).collect();
-                let tally = if phase == "separators" { time_separators(&chains, rounds) } else { time_steps(&chains, rounds) };
+                let tally = match phase {
+                    "separators" => time_separators(&chains, rounds),
+                    "step" => time_steps(&chains, rounds),
+                    _ => time_may_pass(&chains, rounds),
+                };
                 let Tally { calls, planes, blocked } = tally;
                 println!("{phase} {name}: calls {calls}, planes {planes}, blocked {blocked}");
             }
@@ -463,6 +474,24 @@ fn time_steps(chains: &[[Pane; 3]], rounds: u32) -> Tally {
         for (state, next) in &states {
             tally.calls += 1;
             tally.blocked += u64::from(std::hint::black_box(state.step(next)).is_none());
+        }
+    }
+    tally
+}
+
+/// From each state that has gone through the first two openings of a chain through the third of each, whose corners are kept.
+fn time_may_pass(chains: &[[Pane; 3]], rounds: u32) -> Tally {
+    let mut tally = Tally::default();
+    let ways: Vec<(State, Traced, Plane)> = chains
+        .iter()
+        .filter_map(|[first, second, third]| Some((State::start(first).step(second)?, Traced::of(third.winding.clone()), third.into)))
+        .collect();
+    for _ in 0..rounds {
+        for (state, _, _) in &ways {
+            for (_, traced, into) in &ways {
+                tally.calls += 1;
+                tally.blocked += u64::from(!std::hint::black_box(state.may_pass(&traced.corners, into)));
+            }
         }
     }
     tally

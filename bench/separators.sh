@@ -1,5 +1,5 @@
 #!/usr/bin/env bash
-# Times separators and steps: builds crates/narrow_bench and, where rustc is on the PATH, the plain Rust program of
+# Times separators, steps and tests of portals: builds crates/narrow_bench and, where rustc is on the PATH, the plain Rust program of
 # bench/plain_separators.rs, and prints for each shape of openings how many microseconds a call each of them takes, by
 # processor time, at the best of five runs, both in turn. `bench/separators.sh ROUNDS` takes more or fewer rounds.
 set -euo pipefail
@@ -22,7 +22,7 @@ fi
 printf '%-22s' ''
 printf '%10s' "${programs[@]}"
 printf '   microseconds a call\n'
-for phase in separators step; do
+for phase in separators step may_pass; do
     for shape in whole turned fractional hexagons; do
         declare -A least=()
         for _ in 1 2 3 4 5; do

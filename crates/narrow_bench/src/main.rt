@@ -1,8 +1,8 @@
-//! Finds separators of openings, and goes steps through them, and prints how many there were. `bench/separators.sh` times
-//! it.
+//! Finds separators of openings, goes steps through them and asks which may still be passed, and prints how many there
+//! were. `bench/separators.sh` times it.
 //!
-//! The words are what is done (`separators` or `step`), a shape (`whole`, `turned`, `fractional` or `hexagons`) and how many
-//! rounds of it; without words each is done once.
+//! The words are what is done (`separators`, `step` or `may_pass`), a shape (`whole`, `turned`, `fractional` or `hexagons`)
+//! and how many rounds of it; without words each is done once.
 #![tactic(auto)]
 
 mod openings;
@@ -25,7 +25,7 @@ fn main(rt: HostRuntime) -> io::Result<()> {
         .unwrap_or(1);
     let phase = first.as_ref().map_or("", |word| word.as_str());
     let shape = second.as_ref().map_or("", |word| word.as_str());
-    for one in [Phase::Separators, Phase::Step] {
+    for one in [Phase::Separators, Phase::Step, Phase::MayPass] {
         for kind in [
             Shape::Whole,
             Shape::Turned,

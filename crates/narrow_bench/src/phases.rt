@@ -1,6 +1,6 @@
 use crate::openings::{Chain, Openings, Shape};
 use crate::tally::Tally;
-use qm_narrow::{ChainState, separators, step};
+use qm_narrow::{ChainState, may_pass, separators, step};
 use qm_wind::Pane;
 use std::alloc::{AllocError, Global};
 
@@ -11,6 +11,8 @@ pub(crate) enum Phase {
     Separators,
     /// The step from the state that has gone through the first two openings through the third.
     Step,
+    /// Whether the third opening of each chain may still be passed from each of these states.
+    MayPass,
 }
 
 impl Phase {
@@ -18,6 +20,7 @@ impl Phase {
         match self {
             Phase::Separators => "separators",
             Phase::Step => "step",
+            Phase::MayPass => "may_pass",
         }
     }
 
@@ -27,6 +30,7 @@ impl Phase {
         match self {
             Phase::Separators => all_separators(alloc, &chains, rounds),
             Phase::Step => all_steps(alloc, &chains, rounds),
+            Phase::MayPass => all_may_pass(alloc, &chains, rounds),
         }
     }
 }
@@ -61,13 +65,19 @@ fn way_of(alloc: Global, chain: &Chain) -> Result<Option<Going>, AllocError> {
     Ok(Some(Going { state, next }))
 }
 
-fn all_steps(alloc: Global, chains: &Vec<Chain>, rounds: u32) -> Result<Tally, AllocError> {
+/// Those of all chains.
+fn ways_of(alloc: Global, chains: &Vec<Chain>) -> Result<Vec<Going>, AllocError> {
     let mut ways = Vec::new(alloc);
     for chain in chains {
         if let Some(way) = way_of(alloc, chain)? {
             ways.push(way)?;
         }
     }
+    Ok(ways)
+}
+
+fn all_steps(alloc: Global, chains: &Vec<Chain>, rounds: u32) -> Result<Tally, AllocError> {
+    let ways = ways_of(alloc, chains)?;
     let mut tally = Tally::default();
     for _ in 0..rounds {
         for way in &ways {
@@ -78,4 +88,28 @@ fn all_steps(alloc: Global, chains: &Vec<Chain>, rounds: u32) -> Result<Tally, A
         }
     }
     Ok(tally)
+}
+
+fn all_may_pass(alloc: Global, chains: &Vec<Chain>, rounds: u32) -> Result<Tally, AllocError> {
+    let ways = ways_of(alloc, chains)?;
+    let mut tally = Tally::default();
+    for _ in 0..rounds {
+        for way in &ways {
+            tally = with_may_pass(tally, &way.state, &ways);
+        }
+    }
+    Ok(tally)
+}
+
+/// With a call for the third opening of each chain.
+fn with_may_pass(before: Tally, state: &ChainState, ways: &Vec<Going>) -> Tally {
+    let mut tally = before;
+    for way in ways {
+        tally = if may_pass(state, &way.next) {
+            tally.with_step()
+        } else {
+            tally.with_blocked()
+        };
+    }
+    tally
 }

@@ -1,13 +1,13 @@
 -- What a look at a normal rests on: where it refuses a normal, no separator has it.
-use Rattle.std.proofs.Common.{◌≡◌, ℕ, ◌<◌, Bool, true, false, not, ℤ, pos, neg_ℤ, ◌+ℤ◌, ◌-ℤ◌, ◌*ℤ◌, ◌<ℤ◌, ◌≤ℤ◌, List, [], ◌∷◌, length, cond, refl, ap, sym, subst, ◌∙◌, arith, ◌⊎◌, ⊎_elim}
+use Rattle.std.proofs.Common.{◌≡◌, ℕ, ◌<◌, Bool, true, false, not, ℤ, pos, neg_ℤ, ◌+ℤ◌, ◌-ℤ◌, ◌*ℤ◌, ◌<ℤ◌, ◌≤ℤ◌, List, [], ◌∷◌, length, cond, refl, ap, sym, subst, ◌∙◌, IsTrue, ◌↔◌, arith, ◌⊎◌, ⊎_elim}
 use Rattle.std.specs.Int.{int_max, int_min}
 use Rattle.std.proofs.lemmas.Int.{ints, clamps}
 use Rattle.std.proofs.Math.IntN.{*ℤ_comm}
-use Rattle.qm_numbers.proofs.IntegerProducts.{linear, +ℤ-*ℤ, neg-*ℤ, *ℤ_zero}
-use Rattle.qm_numbers.proofs.Signs.{by_sign, cancel_at_most, times_at_most, product_not_negative, product_not_positive}
+use Rattle.qm_numbers.proofs.IntegerProducts.{linear, +ℤ-*ℤ, -ℤ-*ℤ, neg-*ℤ, *ℤ_zero}
+use Rattle.qm_numbers.proofs.Signs.{by_sign, cancel_at_most, times_at_most, product_positive, product_not_negative, product_not_positive}
 use Rattle.qm_numbers.proofs.Ring.{variable, ◌⊕◌, ◌⊖◌, ◌⊗◌, solved}
 use Rattle.qm_space.specs.Point.{Point, point_times}
-use Rattle.qm_space.specs.Plane.{Plane, value, IsNotInFront, IsNotBehind, flipped, scaled}
+use Rattle.qm_space.specs.Plane.{Plane, value, IsBehind, IsNotInFront, IsNotBehind, flipped, scaled}
 use Rattle.qm_space.specs.Vector.{normal_of}
 use Rattle.qm_space.specs.Turned.{turned}
 use Rattle.qm_space.specs.Cuboid.{IsInSpan, least_product, greatest_product}
@@ -23,7 +23,7 @@ use Rattle.qm_separators.specs.inner.Found.{PartsAlong, SeparatesBy}
 use Rattle.qm_separators.proofs.Comparisons.{neg-*ℤ-neg}
 use Rattle.qm_separators.proofs.SeparatorLaw.{none_in_front}
 use Rattle.qm_separators.proofs.GainedPlanes.{gains_none}
-use Rattle.qm_geom.specs.Vectors.{direction_of}
+use Rattle.qm_geom.specs.Vectors.{direction_of, normal_of as own_normal}
 use Rattle.qm_geom.specs.declared.vector.Vector.{Vector}
 use Rattle.qm_narrow.specs.declared.reach.Reach.{Reach}
 use Rattle.qm_narrow.specs.declared.outlook.Outlook.{Outlook}
@@ -82,6 +82,21 @@ module _ (n : Vector) (p : Point) (spot : Spot) (weight : pos 0 <ℤ p.w) (is : 
       let f = *ℤ_comm p.w (greatest_along n spot) in let g = *ℤ_comm p.w d in
       cancel_at_most p.w d (greatest_along n spot) weight (omega (arith, linear))
 
+  -- past the greatest along it the point is behind, and up to the least it is not
+  pub greatest_behind : (d : ℤ) → greatest_along n spot <ℤ d → IsBehind (at_distance n d) p
+  greatest_behind d l =
+      let e = value_is d in let b = greatest_bound in
+      let f = -ℤ-*ℤ d (greatest_along n spot) p.w in
+      let m = product_positive (d -ℤ greatest_along n spot) p.w (omega (arith, linear)) weight in
+      omega (arith, linear)
+
+  pub least_not_behind : (d : ℤ) → d ≤ℤ least_along n spot → IsNotBehind (at_distance n d) p
+  least_not_behind d l =
+      let e = value_is d in let b = least_bound in
+      let f = -ℤ-*ℤ (least_along n spot) d p.w in
+      let m = product_not_negative (least_along n spot -ℤ d) p.w (omega (arith, linear)) (omega (arith, linear)) in
+      omega (arith, linear)
+
   -- from the greatest along it on, the point is not in front
   pub greatest_not_in_front : (d : ℤ) → greatest_along n spot ≤ℤ d → IsNotInFront (at_distance n d) p
   greatest_not_in_front d l =
@@ -89,6 +104,16 @@ module _ (n : Vector) (p : Point) (spot : Spot) (weight : pos 0 <ℤ p.w) (is : 
       let f = *ℤ_comm p.w (greatest_along n spot) in let g = *ℤ_comm p.w d in
       let m = times_at_most p.w (greatest_along n spot) d (omega (arith, linear)) l in
       omega (arith, linear)
+
+-- where a corner lies beside a plane, by the whole points near it
+module _ (h : Plane) (n : Vector) (same : n ≡ own_normal h) (p : Point) (weight : pos 0 <ℤ p.w) (spot : Spot) (is : IsSpotOf p spot) where
+  pub behind_by : greatest_along n spot <ℤ h.d → IsTrue true ↔ IsBehind h p
+  behind_by less = ((λ _. subst (λ (m : Vector). IsBehind (at_distance m h.d) p) same (greatest_behind n p spot weight is h.d less)), (λ _. refl))
+
+  pub not_behind_by : h.d ≤ℤ least_along n spot → IsTrue false ↔ IsBehind h p
+  not_behind_by at_most =
+      let not : IsNotBehind h p = subst (λ (m : Vector). IsNotBehind (at_distance m h.d) p) same (least_not_behind n p spot weight is h.d at_most) in
+      ((λ told. let never : false ≡ true = told in cc), (λ behind. absurd (omega (arith, linear))))
 
 -- ---- all corners, one after another
 

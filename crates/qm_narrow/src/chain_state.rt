@@ -74,6 +74,13 @@ impl ChainState {
         self.source.winding()
     }
 
+    /// Its source with its corners.
+    pub(crate) fn trace(&self) -> &Traced
+        ensures { result.now ≡ self.now.source }
+    {
+        &self.source
+    }
+
     /// The turned plane of its first portal.
     pub(crate) fn into(&self) -> &Plane
         ensures value { result.now ≡ self.now.into }

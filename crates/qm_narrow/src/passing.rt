@@ -10,20 +10,24 @@ use crate::traced::Traced;
 use qm_geom::Plane;
 use qm_wind::{Pane, Winding};
 
-/// Whether a line that has met the state may still pass the portal: true wherever it may.
+/// Whether a line that has met the state may still pass the portal. What its cuboid tells is asked before its corners.
 pub fn may_pass(state: &ChainState, pane: &Pane) -> bool
-    ensures { MayPass state.now pane.now.winding pane.now.into → result ≡ true }
+    ensures { IsTrue result ↔ MayPass state.now pane.now.winding pane.now.into }
 {
+    let planes = state.separators();
     if !pane.winding.has_corner_in_front(state.into()) {
         return false;
     }
-    if !state.source().has_corner_behind(&pane.into) {
+    if !state.trace().has_corner_behind(&pane.into) {
         return false;
     }
     if !pass_is_behind(state.pass(), &pane.into) {
         return false;
     }
-    is_beyond(&pane.winding, state.separators())
+    if is_held_back(&pane.winding, planes) {
+        return false;
+    }
+    is_beyond(&pane.winding, planes)
 }
 
 /// Whether the pass, where there is one, has a corner behind a plane.
@@ -32,8 +36,22 @@ fn pass_is_behind(pass: &Option<Traced>, plane: &Plane) -> bool
 {
     match pass {
         None => true,
-        Some(pass) => pass.winding().has_corner_behind(plane),
+        Some(pass) => pass.has_corner_behind(plane),
     }
+}
+
+/// Whether the cuboid of a winding tells that it has no corner in front of one of some planes.
+fn is_held_back(winding: &Winding, planes: &[Plane]) -> bool
+    ensures { result ≡ true → HasCornersBeyond winding.now planes.now → ⊥ }
+{
+    let _corners = winding.len();
+    let cuboid = winding.cuboid();
+    for plane in planes {
+        if cuboid.greatest_value(plane) <= 0 {
+            return true;
+        }
+    }
+    false
 }
 
 /// Whether a winding has a corner in front of each of some planes.

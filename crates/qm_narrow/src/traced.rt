@@ -1,12 +1,13 @@
 //! Windings with what is wanted of their corners again and again.
 
-ghost use Rattle.std.specs.Prelude.{◌≡◌, ◌<◌, ◌≤◌, ◌^◌, [], ◌∷◌, length, IfOk, IsTrue, ◌↔◌};
+ghost use Rattle.std.specs.Prelude.{◌≡◌, ◌<◌, ◌≤◌, ◌^◌, pos, ◌<ℤ◌, [], ◌∷◌, length, IfOk, IsTrue, ◌↔◌};
 ghost use Rattle.qm_geom.specs.LeastDistance.{IsLeastDistance};
 ghost use Rattle.qm_geom.specs.Rounding.{HasSmallCoordinates};
 ghost use Rattle.qm_convex.specs.Winding.{corner_at, corners};
 ghost use Rattle.qm_convex.specs.World.{IsInWorld};
 ghost use Rattle.qm_convex.specs.Sides.{HasCornerBehind, HasCornerInFront};
 ghost use Rattle.qm_space.specs.Plane.{IsBehind, IsInFront};
+ghost use Rattle.qm_narrow.specs.inner.Trace.{IsSpotOf};
 
 use crate::outlook::Outlook;
 use crate::reach::Reach;
@@ -108,7 +109,7 @@ impl Traced {
     {
         let count = self.len();
         for i in 0..count {
-            if is_behind(self.corner(i), plane) {
+            if is_behind(self.spot(i), self.corner(i), plane) {
                 return true;
             }
         }
@@ -185,9 +186,21 @@ fn distance_of(corner: &Corner, along: &Plane) -> i64
     least_distance([along.nx, along.ny, along.nz], &[*corner])
 }
 
-fn is_behind(corner: &Corner, plane: &Plane) -> bool
+/// Whether a corner is strictly behind a plane: by the whole points near it, in 64 bits, or by itself where these do not
+/// tell.
+fn is_behind(spot: &Spot, corner: &Corner, plane: &Plane) -> bool
+    requires spot { IsSpotOf corner.now spot.now }
+    requires weight { pos 0 <ℤ corner.now.w }
     ensures { IsTrue result ↔ IsBehind plane.now corner.now }
 {
+    let _ = &plane.nx;
+    let normal = plane.normal();
+    if spot.greatest(&normal) < plane.d {
+        return true;
+    }
+    if spot.least(&normal) >= plane.d {
+        return false;
+    }
     match corner.side(plane) {
         Ordering::Less => true,
         Ordering::Equal | Ordering::Greater => false,
