@@ -7,3 +7,4 @@ pub mod Distances
 pub mod Worlds
 pub mod Beside
 pub mod SixFaces
+pub mod ParallelPlanes

@@ -24,6 +24,20 @@ pub(crate) fn add_arc<T: Copy + Default + Drop>(
     list.extend_from_slice(&items[..count - before_end])
 }
 
+/// Keeps so many items in a row from a place on, of items in a circle.
+pub(crate) fn keep_arc<T: Copy + Default + Drop>(
+    list: &mut SmallVec<T, 8>,
+    start: usize,
+    count: usize,
+)
+    requires start_in_range { start ≤ length list.old.items }
+    ensures items { list.new.items ≡ take count (rotated_list start list.old.items) }
+    ensures capacity { list.new.capacity ≡ list.old.capacity }
+{
+    list.as_mut_slice().rotate_left(start);
+    list.truncate(count);
+}
+
 /// The place after a place, of places in a circle.
 pub(crate) fn next_place(places: usize, place: usize) -> usize
     requires { place < places }
