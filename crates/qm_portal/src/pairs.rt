@@ -17,20 +17,20 @@ pub(crate) fn add_pairs(
     tree: &Tree,
     n: u64,
     node: &Node,
-    section: Winding,
+    section: Box<Winding>,
     buffers: &mut Buffers,
     pairs: &mut Vec<Touching>,
 ) -> Result<(), AllocError>
     requires front { IsChildOf tree.now node.now.front }
     requires back { IsChildOf tree.now node.now.back }
     requires empty { AreEmpty buffers.old }
-    ensures pairs { OnOk result (ArePairsAdded tree.now n node.now section pairs.old.items pairs.new.items) }
+    ensures pairs { OnOk result (ArePairsAdded tree.now n node.now section.value pairs.old.items pairs.new.items) }
     ensures empty { OnOk result (AreEmpty buffers.new) }
 {
     let mut fronts = Vec::new(*pairs.allocator());
     let polygon = DuePolygon {
         child: node.front,
-        winding: Box::new(*pairs.allocator(), section)?,
+        winding: section,
     };
     push_down(tree, polygon, &mut buffers.due, &mut fronts)?;
     add_rows(tree, n, node.back, fronts, buffers, pairs)?;
