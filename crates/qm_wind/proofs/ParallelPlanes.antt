@@ -1,12 +1,12 @@
 -- A winding on a plane that is parallel to another, and in its front.
-use Rattle.std.proofs.Common.{◌≡◌, ℤ, pos, ◌+ℤ◌, ◌-ℤ◌, ◌*ℤ◌, ◌<ℤ◌, List, [], ◌∷◌, sym, ◌∙◌, subst, ⊎_elim, arith}
+use Rattle.std.proofs.Common.{◌≡◌, ℤ, pos, ◌+ℤ◌, ◌-ℤ◌, ◌*ℤ◌, ◌<ℤ◌, [], ◌∷◌, sym, ◌∙◌, subst, ⊎_elim, arith}
 use Rattle.qm_numbers.proofs.IntegerProducts.{linear}
 use Rattle.qm_numbers.proofs.Signs.{product_positive}
 use Rattle.qm_numbers.proofs.Ring.{variable, negated, ◌⊕◌, ◌⊗◌, solved}
 use Rattle.qm_space.specs.Point.{Point}
 use Rattle.qm_space.specs.Plane.{Plane, value, flipped, IsOn, IsInFront}
 use Rattle.qm_space.proofs.Planes.{value_flipped}
-use Rattle.qm_space.proofs.PlaneSymbols.{PlaneSymbols, plane_from, point_from, numbers_of_plane, numbers_of_point, symbol_value}
+use Rattle.qm_space.proofs.PlaneSymbols.{plane_from, point_from, numbers_of_plane, numbers_of_point, symbol_value}
 use Rattle.qm_convex.specs.Winding.{Winding}
 use Rattle.qm_convex.specs.Section.{HasSameNormal}
 use Rattle.qm_convex.specs.Sides.{IsWhollyInFront}
