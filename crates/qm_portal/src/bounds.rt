@@ -64,17 +64,16 @@ fn put_nearer(bounds: &mut Vec<Plane>, place: usize, plane: &Plane)
     }
 }
 
-/// The part of a winding in front of all planes, where it has a point there.
-pub(crate) fn within(winding: Winding, bounds: &[Plane]) -> Result<Winding, AllocError>
-    requires { HasPointBefore winding bounds.now }
-    ensures { IfOk result (λ part. IsPartWithin part winding bounds.now) }
+/// Cuts a winding down to its part in front of all planes, where it has a point there.
+pub(crate) fn cut_within(winding: &mut Winding, bounds: &[Plane]) -> Result<(), AllocError>
+    requires { HasPointBefore winding.old bounds.now }
+    ensures { OnOk result (IsPartWithin winding.new winding.old bounds.now) }
 {
     let _corners = winding.len();
-    let mut left = winding;
     for plane in bounds {
-        cut_down(&mut left, plane)?;
+        cut_down(winding, plane)?;
     }
-    Ok(left)
+    Ok(())
 }
 
 /// Cuts a winding down to its part in front of a plane, where it has a point there.

@@ -6,7 +6,7 @@ ghost use Rattle.qm_convex.specs.Section.{IsSection};
 ghost use Rattle.qm_portal.specs.inner.Cells.{CrossesCell, IsHalf};
 ghost use Rattle.qm_portal.specs.inner.Walks.{has_facets};
 
-use crate::bounds::{AXIAL_BOUNDS, add_bound, within};
+use crate::bounds::{AXIAL_BOUNDS, add_bound, cut_within};
 use crate::facet::{Facet, split_facets};
 use qm_geom::Plane;
 use qm_tree::{Child, Node};
@@ -50,14 +50,15 @@ impl DueCell {
     }
 
     /// The part of a plane in the cell, where it has a point there.
-    pub(crate) fn section(&self, alloc: Global, plane: &Plane) -> Result<Winding, AllocError>
+    pub(crate) fn section(&self, alloc: Global, plane: &Plane) -> Result<Box<Winding>, AllocError>
         requires { (planes : List SpacePlane) × CrossesCell planes self.now plane.now }
-        ensures { IfOk result (λ section. (planes : List SpacePlane) → CrossesCell planes self.now plane.now → IsSection planes plane.now section) }
+        ensures { IfOk result (λ section. (planes : List SpacePlane) → CrossesCell planes self.now plane.now → IsSection planes plane.now section.value) }
     {
         let (axial, slanted) = self.bounds.split_at(AXIAL_BOUNDS);
         match Winding::between(alloc, plane, axial)? {
             Some(whole) => {
-                let section = within(whole, slanted)?;
+                let mut section = Box::new(alloc, whole)?;
+                cut_within(&mut section, slanted)?;
                 Ok(section)
             }
             None => unreachable!(),

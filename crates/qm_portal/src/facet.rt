@@ -48,8 +48,8 @@ pub(crate) fn split_facets(facets: Vec<Facet>, plane: &Plane) -> Result<FacetLis
     ensures back { IfOk result (λ lists. AreCut (flipped plane.now) facets.items lists.back.items) }
 {
     let alloc = *facets.allocator();
-    let mut front = Vec::with_capacity(alloc, facets.len() + 1)?;
-    let mut back = Vec::with_capacity(alloc, facets.len() + 1)?;
+    let mut front = Vec::new(alloc);
+    let mut back = Vec::new(alloc);
     for facet in facets {
         split_facet(alloc, facet, plane, &mut front, &mut back)?;
     }

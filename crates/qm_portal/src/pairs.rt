@@ -3,9 +3,9 @@
 ghost use Rattle.std.specs.Prelude.{◌≡◌, ◌++◌, [], map, OnOk};
 ghost use Rattle.qm_contacts.specs.inner.Pieces.{touching_at};
 ghost use Rattle.qm_portal.specs.inner.Pushes.{IsChildOf};
-ghost use Rattle.qm_portal.specs.inner.Walks.{IsRowAdded, AreRowsAdded, ArePairsAdded};
+ghost use Rattle.qm_portal.specs.inner.Walks.{IsRowAdded, AreRowsAdded, ArePairsAdded, AreEmpty};
 
-use crate::piece::{DuePolygon, Piece};
+use crate::piece::{Buffers, DuePolygon, Piece};
 use crate::pushing::push_down;
 use crate::touching::Touching;
 use qm_tree::{Child, Node, Tree};
@@ -17,20 +17,23 @@ pub(crate) fn add_pairs(
     tree: &Tree,
     n: u64,
     node: &Node,
-    section: Winding,
+    section: Box<Winding>,
+    buffers: &mut Buffers,
     pairs: &mut Vec<Touching>,
 ) -> Result<(), AllocError>
     requires front { IsChildOf tree.now node.now.front }
     requires back { IsChildOf tree.now node.now.back }
-    ensures { OnOk result (ArePairsAdded tree.now n node.now section pairs.old.items pairs.new.items) }
+    requires empty { AreEmpty buffers.old }
+    ensures pairs { OnOk result (ArePairsAdded tree.now n node.now section.value pairs.old.items pairs.new.items) }
+    ensures empty { OnOk result (AreEmpty buffers.new) }
 {
     let mut fronts = Vec::new(*pairs.allocator());
     let polygon = DuePolygon {
         child: node.front,
-        winding: Box::new(*pairs.allocator(), section)?,
+        winding: section,
     };
-    push_down(tree, polygon, &mut fronts)?;
-    add_rows(tree, n, node.back, fronts, pairs)?;
+    push_down(tree, polygon, &mut buffers.due, &mut fronts)?;
+    add_rows(tree, n, node.back, fronts, buffers, pairs)?;
     Ok(())
 }
 
@@ -40,14 +43,16 @@ fn add_rows(
     n: u64,
     back: Child,
     fronts: Vec<Piece>,
+    buffers: &mut Buffers,
     pairs: &mut Vec<Touching>,
 ) -> Result<(), AllocError>
-    requires { IsChildOf tree.now back }
-    ensures { OnOk result (AreRowsAdded tree.now n back fronts.items pairs.old.items pairs.new.items) }
+    requires child { IsChildOf tree.now back }
+    requires empty { AreEmpty buffers.old }
+    ensures rows { OnOk result (AreRowsAdded tree.now n back fronts.items pairs.old.items pairs.new.items) }
+    ensures empty { OnOk result (AreEmpty buffers.new) }
 {
-    let mut pieces = Vec::new(*pairs.allocator());
     for front in fronts {
-        add_row(tree, n, back, front, &mut pieces, pairs)?;
+        add_row(tree, n, back, front, buffers, pairs)?;
     }
     Ok(())
 }
@@ -58,21 +63,21 @@ fn add_row(
     n: u64,
     back: Child,
     front: Piece,
-    pieces: &mut Vec<Piece>,
+    buffers: &mut Buffers,
     pairs: &mut Vec<Touching>,
 ) -> Result<(), AllocError>
     requires child { IsChildOf tree.now back }
-    requires none { pieces.old.items ≡ [] }
+    requires empty { AreEmpty buffers.old }
     ensures row { OnOk result (IsRowAdded tree.now n back front pairs.old.items pairs.new.items) }
-    ensures none { OnOk result (pieces.new.items ≡ []) }
+    ensures empty { OnOk result (AreEmpty buffers.new) }
 {
     let Piece { leaf, winding } = front;
     let polygon = DuePolygon {
         child: back,
         winding,
     };
-    push_down(tree, polygon, pieces)?;
-    move_pieces(n, leaf, pieces, pairs)?;
+    push_down(tree, polygon, &mut buffers.due, &mut buffers.pieces)?;
+    move_pieces(n, leaf, &mut buffers.pieces, pairs)?;
     Ok(())
 }
 

@@ -31,3 +31,10 @@ impl Model for DuePolygon {
 
     ghost view = { λ due. record { child = due.child; winding = due.winding.value } };
 }
+
+/// Lists that are used again at each node, so that they seldom take memory. Between nodes they are empty.
+#[derive(Drop)]
+pub(crate) struct Buffers {
+    pub(crate) due: Vec<DuePolygon>,
+    pub(crate) pieces: Vec<Piece>,
+}

@@ -9,21 +9,24 @@ use qm_tree::{Child, Tree};
 use qm_wind::{Severed, Winding};
 use std::alloc::AllocError;
 
-/// Pushes a polygon down from a child: what each leaf below has of it, in the order of the leaves.
+/// Pushes a polygon down from a child: what each leaf below has of it, in the order of the leaves. The list of those that
+/// are due is empty before, and in the end.
 pub(crate) fn push_down(
     tree: &Tree,
     polygon: DuePolygon,
+    due: &mut Vec<DuePolygon>,
     pieces: &mut Vec<Piece>,
 ) -> Result<(), AllocError>
     requires child { IsChildOf tree.now polygon.child }
+    requires none_due { due.old.items ≡ [] }
     requires none { pieces.old.items ≡ [] }
-    ensures { OnOk result (HasPieces tree.now polygon.child polygon.winding pieces.new.items) }
+    ensures pieces { OnOk result (HasPieces tree.now polygon.child polygon.winding pieces.new.items) }
+    ensures none_due { OnOk result (due.new.items ≡ []) }
 {
     let _corners = polygon.winding.len();
-    let mut due = Vec::new(*pieces.allocator());
-    advance(tree, polygon, &mut due, pieces)?;
+    advance(tree, polygon, due, pieces)?;
     while let Some(polygon) = due.pop() {
-        advance(tree, polygon, &mut due, pieces)?;
+        advance(tree, polygon, due, pieces)?;
     }
     Ok(())
 }
@@ -88,10 +91,10 @@ fn step_down(
         Severed::Front => Ok(Some(node.front)),
         Severed::Back => Ok(Some(node.back)),
         Severed::On => Ok(None),
-        Severed::Across(behind) => {
+        Severed::Across(winding) => {
             due.push(DuePolygon {
                 child: node.back,
-                winding: Box::new(*due.allocator(), behind)?,
+                winding,
             })?;
             Ok(Some(node.front))
         }

@@ -49,7 +49,7 @@ impl Piece {
     }
 
     /// What it has in front of a plane, and behind it. Only where it has both is its winding cut.
-    fn split(self, alloc: Global, plane: &Plane) -> Result<PieceParts, AllocError>
+    fn split(self, plane: &Plane) -> Result<PieceParts, AllocError>
         ensures front { IfOk result (λ parts. IsPartOf self plane.now parts.front) }
         ensures back { IfOk result (λ parts. IsPartOf self (flipped plane.now) parts.back) }
     {
@@ -68,8 +68,7 @@ impl Piece {
                 front: None,
                 back: None,
             }),
-            Severed::Across(behind) => {
-                let winding = Box::new(alloc, behind)?;
+            Severed::Across(winding) => {
                 let back = Piece {
                     number: piece.number,
                     winding,
@@ -109,7 +108,7 @@ pub(crate) fn split_pieces(pieces: Vec<Piece>, plane: &Plane) -> Result<PieceLis
     let mut front = Vec::with_capacity(alloc, pieces.len())?;
     let mut back = Vec::with_capacity(alloc, pieces.len())?;
     for piece in pieces {
-        let parts = piece.split(alloc, plane)?;
+        let parts = piece.split(plane)?;
         push_some(&mut front, parts.front)?;
         push_some(&mut back, parts.back)?;
     }

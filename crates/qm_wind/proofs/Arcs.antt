@@ -1,6 +1,6 @@
 -- Items in a row from a place on, of items in a circle.
-use Rattle.std.proofs.Common.{◌≡◌, ℕ, ◌+◌, ◌-◌, ◌<◌, ◌≤◌, List, ◌++◌, length, take, drop, ap, sym, ◌∙◌, arith}
-use Rattle.std.proofs.lemmas.List.{append_assoc, length-drop, take-append-le, take-take, take_rest}
+use Rattle.std.proofs.Common.{◌≡◌, ℕ, zero, suc, ◌+◌, ◌-◌, ◌<◌, ◌≤◌, List, [], ◌∷◌, ◌++◌, length, take, drop, ap, refl, sym, ◌∙◌, arith}
+use Rattle.std.proofs.lemmas.List.{append_assoc, length-append, length-drop, length-take, take-append-le, take-take, take_rest}
 use Rattle.std.proofs.Math.Seq.{take-append-add}
 use Rattle.qm_convex.specs.Rotation.{rotated_list}
 
@@ -24,3 +24,29 @@ arc_added old mid new xs start count h l m e f =
     f ∙ ap (λ ys. ys ++ take (count - (length xs - start)) xs) e
     ∙ append_assoc old (take (length xs - start) (drop start xs)) (take (count - (length xs - start)) xs)
     ∙ ap (λ ys. old ++ ys) (sym (arc_over xs start count h l m))
+
+-- ---- a circle turned by one step more
+
+take_one_more : {X : Type 0} (xs : List X) (i : ℕ) → take (suc i) xs ≡ take i xs ++ take 1 (drop i xs)
+take_one_more [] zero = refl
+take_one_more [] (suc i) = refl
+take_one_more (x ∷ xs) zero = refl
+take_one_more (x ∷ xs) (suc i) = ap (λ ys. x ∷ ys) (take_one_more xs i)
+
+drop_one_more : {X : Type 0} (xs : List X) (i : ℕ) → drop (suc i) xs ≡ drop 1 (drop i xs)
+drop_one_more [] zero = refl
+drop_one_more [] (suc i) = refl
+drop_one_more (x ∷ xs) zero = refl
+drop_one_more (x ∷ xs) (suc i) = drop_one_more xs i
+
+first_to_last : {X : Type 0} (xs ys : List X) → 0 < length xs → drop 1 (xs ++ ys) ++ take 1 (xs ++ ys) ≡ drop 1 xs ++ (ys ++ take 1 xs)
+first_to_last [] ys some = absurd (omega arith)
+first_to_last (x ∷ xs) ys some = append_assoc xs ys (x ∷ [])
+
+pub turned_further : {X : Type 0} (xs : List X) (i : ℕ) → i < length xs → drop 1 (rotated_list i xs) ++ take 1 (rotated_list i xs) ≡ rotated_list (suc i) xs
+turned_further xs i h =
+    let n = length-drop i xs in
+    first_to_last (drop i xs) (take i xs) (omega arith) ∙ (λ t. sym (drop_one_more xs i) t ++ sym (take_one_more xs i) t)
+
+pub rotated_length : {X : Type 0} (xs : List X) (i : ℕ) → length (rotated_list i xs) ≡ length xs
+rotated_length xs i = length-append (drop i xs) (take i xs) ∙ (let n = length-drop i xs in let m = length-take i xs in omega arith)

@@ -1,5 +1,5 @@
 -- What a survey of the corners says of a winding.
-use Rattle.std.proofs.Common.{◌≡◌, ℕ, ◌<◌, true, false, pos, ◌≤ℤ◌, ⊎_elim, Option, None, Some, List, length, ap, sym, ◌∙◌, subst, arith}
+use Rattle.std.proofs.Common.{◌≡◌, ℕ, ◌<◌, Bool, true, false, pos, ◌≤ℤ◌, ⊎_elim, Option, None, Some, List, length, ap, sym, ◌∙◌, subst, arith}
 use Rattle.std.proofs.lemmas.Bool.{MatchBool-at_true, MatchBool-at_false}
 use Rattle.qm_space.specs.Plane.{Plane, value, flipped}
 use Rattle.qm_numbers.proofs.IntegerProducts.{linear}
@@ -17,6 +17,7 @@ use Rattle.qm_convex.specs.inner.FrontRun.{IsFrontRun}
 use Rattle.qm_convex.proofs.Places.{next_below}
 use Rattle.qm_convex.proofs.Central.{none_in_front, some_in_front, wholly_in_front, lies_in}
 use Rattle.qm_convex.proofs.Runs.{run_between, enters_somewhere, leaves_somewhere}
+use Rattle.std.specs.Bool.{MatchBool}
 use Rattle.std.specs.Option.{MatchOption}
 use Rattle.qm_convex.proofs.Cutting.{whole_is_part}
 use Rattle.qm_wind.specs.Split.{IsSplit}
@@ -117,16 +118,12 @@ module _ (v : Winding) (g : Plane) (run : Run) (c : IsConvex v) (x : IsRun v g r
       (run_between v g start.before end.before count c behind start.in_range start.enters end.in_range end.leaves h
       (ap (λ i. place_after (length v.edges) i count) start.next ∙ p ∙ sym end.next))
 
--- what is kept of a winding in front of a plane, where both are others
-pub none_kept : (u v : Winding) (f g : Plane) (part : Option Winding) → u ≡ v → f ≡ g → part ≡ None →
-    MatchOption part (HasNoneInFront u f) (λ w. IsPartInFront w u f) → HasNoneInFront v g
-none_kept u v f g part e d n m =
-    subst (λ w. HasNoneInFront w g) e (subst (HasNoneInFront u) d (subst (λ o. MatchOption o (HasNoneInFront u f) (λ w. IsPartInFront w u f)) n m))
+-- what is kept of a winding in front of a plane, where it is another
+pub none_kept : (u v w : Winding) (g : Plane) (some : Bool) → u ≡ v → some ≡ false → MatchBool some (IsPartInFront w u g) (HasNoneInFront u g) → HasNoneInFront v g
+none_kept u v w g some e f m = subst (λ t. HasNoneInFront t g) e (MatchBool-at_false (IsPartInFront w u g) (HasNoneInFront u g) f m)
 
-pub some_kept : (u v : Winding) (f g : Plane) (part : Option Winding) (w : Winding) → u ≡ v → f ≡ g → part ≡ Some w →
-    MatchOption part (HasNoneInFront u f) (λ w. IsPartInFront w u f) → IsPartInFront w v g
-some_kept u v f g part w e d n m =
-    subst (λ t. IsPartInFront w t g) e (subst (IsPartInFront w u) d (subst (λ o. MatchOption o (HasNoneInFront u f) (λ w. IsPartInFront w u f)) n m))
+pub some_kept : (u v w : Winding) (g : Plane) (some : Bool) → u ≡ v → some ≡ true → MatchBool some (IsPartInFront w u g) (HasNoneInFront u g) → IsPartInFront w v g
+some_kept u v w g some e f m = subst (λ t. IsPartInFront w t g) e (MatchBool-at_true (IsPartInFront w u g) (HasNoneInFront u g) f m)
 
 -- the part of a plane in the cell of the walls is its part inside the cube
 pub part_in_cube : (bounds : List Plane) (h : Plane) (part : Option Winding) → bounds ≡ cube_walls →

@@ -8,3 +8,4 @@ pub mod Worlds
 pub mod Beside
 pub mod SidesOfCorners
 pub mod SixFaces
+pub mod ParallelPlanes

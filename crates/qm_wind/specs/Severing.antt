@@ -11,4 +11,4 @@ abbrev pub IsSevered : Severed → Winding → Winding → Plane → Type 0
 IsSevered Front v w g = (w ≡ v) × IsWhollyInFront v g
 IsSevered Back v w g = (w ≡ v) × IsWhollyInFront v (flipped g)
 IsSevered On v w g = (w ≡ v) × LiesIn v g
-IsSevered (Across behind) v w g = IsPartInFront w v g × IsPartInFront behind v (flipped g)
+IsSevered (Across behind) v w g = IsPartInFront w v g × IsPartInFront behind.value v (flipped g)

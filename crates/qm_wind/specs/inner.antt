@@ -3,3 +3,4 @@ pub mod Finding
 pub mod Held
 pub mod AxialCells
 pub mod Across
+pub mod Before

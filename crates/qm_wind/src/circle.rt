@@ -24,6 +24,46 @@ pub(crate) fn add_arc<T: Copy + Default + Drop>(
     list.extend_from_slice(&items[..count - before_end])
 }
 
+/// Keeps so many items in a row from a place on, of items in a circle.
+pub(crate) fn keep_arc<T: Copy + Default + Drop>(
+    list: &mut SmallVec<T, 8>,
+    start: usize,
+    count: usize,
+)
+    requires start_in_range { start ≤ length list.old.items }
+    ensures items { list.new.items ≡ take count (rotated_list start list.old.items) }
+    ensures capacity { list.new.capacity ≡ list.old.capacity }
+{
+    turn(list, start);
+    list.truncate(count);
+}
+
+/// Turns a circle, so that the item at a place comes first: by single steps, which are few in a short circle, and for
+/// which no room is needed.
+fn turn<T: Copy + Default + Drop>(list: &mut SmallVec<T, 8>, start: usize)
+    requires start_in_range { start ≤ length list.old.items }
+    ensures items { list.new.items ≡ rotated_list start list.old.items }
+    ensures capacity { list.new.capacity ≡ list.old.capacity }
+{
+    let last = list.len().saturating_sub(1);
+    if start == last {
+        rotate(list, start);
+        return;
+    }
+    for _step in 0..start {
+        rotate(list, 1);
+    }
+}
+
+/// Turns a circle at once.
+fn rotate<T: Copy + Default + Drop>(list: &mut SmallVec<T, 8>, start: usize)
+    requires start_in_range { start ≤ length list.old.items }
+    ensures items { list.new.items ≡ rotated_list start list.old.items }
+    ensures capacity { list.new.capacity ≡ list.old.capacity }
+{
+    list.as_mut_slice().rotate_left(start);
+}
+
 /// The place after a place, of places in a circle.
 pub(crate) fn next_place(places: usize, place: usize) -> usize
     requires { place < places }

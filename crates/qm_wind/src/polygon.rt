@@ -1,15 +1,17 @@
-ghost use Rattle.std.specs.Prelude.{◌≡◌, ◌<◌, ◌↔◌, length, IsTrue, IfOk, MatchOption};
+ghost use Rattle.std.specs.Prelude.{◌≡◌, ◌<◌, ◌↔◌, length, IsTrue, IfOk, OnOk, OnErr, MatchBool};
 ghost use Rattle.qm_convex.specs.Winding.{corner_at, IsConvex};
 ghost use Rattle.qm_convex.specs.inner.Parallelogram.{parallelogram};
 ghost use Rattle.qm_convex.specs.Cut.{IsPartInFront};
+ghost use Rattle.qm_convex.specs.Section.{HasSameNormal};
 ghost use Rattle.qm_convex.specs.inner.FrontRun.{IsFrontRun, cut};
 ghost use Rattle.qm_convex.specs.Sides.{HasCornerInFront, HasCornerBehind, HasNoneInFront};
 ghost use Rattle.qm_wind.specs.inner.Surveyed.{IsRun, IsSurvey};
 ghost use Rattle.qm_wind.specs.inner.Finding.{HasCornersAcross};
+ghost use Rattle.qm_wind.specs.inner.Before.{IsNearer, IsBefore};
 
 use crate::any_corner::is_any_in_front;
 use crate::axial_cell::Opposites;
-use crate::circle::{add_arc, next_place, steps_between};
+use crate::circle::{add_arc, keep_arc, next_place, steps_between};
 use crate::survey::{Run, Survey};
 use qm_geom::{Corner, Plane};
 use smallvec::SmallVec;
@@ -116,20 +118,43 @@ impl Polygon {
         })
     }
 
-    /// The part in front of a plane, if there is one.
-    pub(crate) fn kept_in_front_of(self, plane: &Plane) -> Result<Option<Polygon>, AllocError>
-        ensures { IfOk result (λ part.
-            MatchOption part (HasNoneInFront self plane.now) (λ w. IsPartInFront w self plane.now)) }
+    /// Cuts it down to its part in front of a plane, by the run of the corners there, where some are on both sides. Where
+    /// memory runs out, it stays as it was.
+    pub(crate) fn cut_down(&mut self, plane: &Plane, run: &Run) -> Result<(), AllocError>
+        requires run { IsRun self.old plane.now run.now }
+        requires across { HasCornersAcross self.old plane.now }
+        ensures ok { OnOk result (IsPartInFront self.new self.old plane.now) }
+        ensures err { OnErr result (self.new ≡ self.old) }
+    {
+        let _ = &plane.nx;
+        let count = steps_between(self.edges.len(), run.start, run.end);
+        self.edges.reserve(1)?;
+        keep_arc(&mut self.edges, run.start, count + 1);
+        self.edges.push_reserved(*plane);
+        Ok(())
+    }
+
+    /// Where its edges take memory from.
+    pub(crate) fn allocator(&self) -> Global {
+        *self.edges.allocator()
+    }
+
+    /// Cuts it down to its part in front of a plane, if there is one. Whether there is.
+    pub(crate) fn keep_in_front_of(&mut self, plane: &Plane) -> Result<bool, AllocError>
+        ensures { IfOk result (λ some. MatchBool some (IsPartInFront self.new self.old plane.now) (HasNoneInFront self.old plane.now)) }
     {
         let _ = &self.plane;
+        if is_before(&self.plane, plane) {
+            return Ok(true);
+        }
         let survey = self.survey(plane);
         if !survey.front.some {
-            return Ok(None);
+            return Ok(false);
         }
-        if !survey.back.some {
-            return Ok(Some(self));
+        if survey.back.some {
+            self.cut_down(plane, &survey.front)?;
         }
-        Ok(Some(self.part_in_front_of(plane, &survey.front)?))
+        Ok(true)
     }
 
     /// The part of a plane between two pairs of others.
@@ -153,6 +178,32 @@ impl Polygon {
             edges,
         })
     }
+}
+
+/// Whether a plane is parallel to another, and lies in front of it.
+fn is_before(own: &Plane, plane: &Plane) -> bool
+    ensures { IsTrue result → IsBefore own.now plane.now }
+{
+    let _ = &own.nx;
+    let _ = &plane.nx;
+    has_nearer(own, plane) || has_nearer(&own.flipped(), plane)
+}
+
+/// Whether a plane has the normal of another, and a greater distance.
+fn has_nearer(own: &Plane, plane: &Plane) -> bool
+    ensures { IsTrue result → IsNearer own.now plane.now }
+{
+    if !has_normal_of(own, plane) {
+        return false;
+    }
+    own.d > plane.d
+}
+
+/// Whether two planes have one normal.
+fn has_normal_of(own: &Plane, plane: &Plane) -> bool
+    ensures { IsTrue result ↔ HasSameNormal own.now plane.now }
+{
+    own.nx == plane.nx && own.ny == plane.ny && own.nz == plane.nz
 }
 
 /// The corner at a place.

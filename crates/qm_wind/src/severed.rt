@@ -10,5 +10,5 @@ pub enum Severed {
     /// It lies in the plane.
     On,
     /// It had points on both sides, and this is what was behind.
-    Across(Winding),
+    Across(Box<Winding>),
 }

@@ -1,7 +1,7 @@
-ghost use Rattle.std.specs.Prelude.{◌≡◌, ◌<◌, ◌≤◌, ◌↔◌, length, IsTrue, IfOk, OnErr, MatchOption};
+ghost use Rattle.std.specs.Prelude.{◌≡◌, ◌<◌, ◌≤◌, ◌↔◌, length, IsTrue, IfOk, OnOk, OnErr, MatchOption};
 ghost use Rattle.qm_space.specs.Turned.{turned};
 ghost use Rattle.qm_geom.specs.Rounding.{HasSmallCoordinates};
-ghost use Rattle.qm_convex.specs.Winding.{corner_at};
+ghost use Rattle.qm_convex.specs.Winding.{Winding as WindingValue, corner_at};
 ghost use Rattle.qm_convex.specs.Vertex.{IsVertex, HasVerticesAsCorners};
 ghost use Rattle.qm_convex.specs.Cut.{IsPartInFront};
 ghost use Rattle.qm_convex.specs.Sides.{LiesIn, HasCornerInFront, HasCornerBehind};
@@ -98,15 +98,14 @@ impl Winding {
             return Ok(None);
         }
         let pairs = Across::of(plane, cell);
-        let parallelogram = Polygon::parallelogram(alloc, plane, &pairs.first, &pairs.second)?;
-        let near = match parallelogram.kept_in_front_of(&pairs.third.near)? {
-            None => return Ok(None),
-            Some(near) => near,
-        };
-        match near.kept_in_front_of(&pairs.third.far)? {
-            None => Ok(None),
-            Some(polygon) => Ok(Some(Winding::in_cuboid(polygon, cell.cuboid()))),
+        let mut polygon = Polygon::parallelogram(alloc, plane, &pairs.first, &pairs.second)?;
+        if !polygon.keep_in_front_of(&pairs.third.near)? {
+            return Ok(None);
         }
+        if !polygon.keep_in_front_of(&pairs.third.far)? {
+            return Ok(None);
+        }
+        Ok(Some(Winding::in_cuboid(polygon, cell.cuboid())))
     }
 
     /// A polygon in the closed cube as a winding.
@@ -191,10 +190,25 @@ impl Winding {
             Found::On => Ok(Severed::On),
             Found::Across(survey) => {
                 let behind = self.part(&plane.flipped(), &survey.back)?;
-                *self = self.part(plane, &survey.front)?;
+                let behind = Box::new(self.polygon.allocator(), behind)?;
+                self.cut_down(plane, &survey.front)?;
                 Ok(Severed::Across(behind))
             }
         }
+    }
+
+    /// Cuts the winding down to its part in front of a plane, by the run of the corners there, where some are on both
+    /// sides. Where memory runs out, it stays as it was.
+    fn cut_down(&mut self, plane: &Plane, run: &Run) -> Result<(), AllocError>
+        requires run { IsRun self.old plane.now run.now }
+        requires across { HasCornersAcross self.old plane.now }
+        ensures ok { OnOk result (IsPartInFront self.new self.old plane.now) }
+        ensures err { OnErr result (self.new ≡ self.old) }
+    {
+        let cuboid = self.part_cuboid(plane);
+        self.polygon.cut_down(plane, run)?;
+        self.cuboid = cuboid;
+        Ok(())
     }
 
     /// Where the winding lies beside a plane.
@@ -306,11 +320,22 @@ impl Winding {
     {
         Ok(Winding {
             polygon: self.polygon.part_in_front_of(plane, run)?,
-            cuboid: self
-                .cuboid
-                .tightened(plane)
-                .tightened_on(&self.polygon.plane()),
+            cuboid: self.part_cuboid(plane),
         })
+    }
+
+    /// A cuboid that has all points of the part in front of a plane. That of a winding across an axis is not tightened by
+    /// its own plane once more.
+    fn part_cuboid(&self, plane: &Plane) -> Cuboid
+        ensures { (w : WindingValue) → IsPartInFront w self.now plane.now → LiesWithin w result }
+    {
+        let own = self.polygon.plane();
+        let tightened = self.cuboid.tightened(plane);
+        if is_across_an_axis(&own) {
+            tightened
+        } else {
+            tightened.tightened_on(&own)
+        }
     }
 
     /// The same winding once more.
@@ -365,4 +390,9 @@ impl Winding {
     {
         self.polygon.edges()
     }
+}
+
+/// Whether a plane is across an axis.
+fn is_across_an_axis(plane: &Plane) -> bool {
+    (plane.nx == 0 && (plane.ny == 0 || plane.nz == 0)) || (plane.ny == 0 && plane.nz == 0)
 }

@@ -13,6 +13,7 @@ use Rattle.qm_contacts.specs.Touching.{Touching}
 use Rattle.qm_contacts.specs.inner.Descent.{AreBounds, AreWallFacets}
 use Rattle.qm_contacts.specs.inner.Pieces.{Piece, touching_at, AreRows}
 use Rattle.qm_contacts.specs.inner.Due.{StandsFor, DueCell, IsDueCell, cell_due_of, ComesToTouchings, ComesToOutside}
+use Rattle.qm_portal.specs.declared.piece.Buffers.{Buffers}
 use Rattle.qm_portal.specs.inner.Pushes.{HasPieces, weight_at}
 
 -- whether there is a facet
@@ -42,6 +43,10 @@ pub record IsVisited (tree : Tree) (cell : DueCell) (old new : List DueCell) (ol
 pub record IsWalking (tree : Tree) (first : DueCell) (due : List DueCell) (pairs : List Touching) (row : List Bool) : Type 0 where
   pub touchings : IsUnderWay cell_due_of (IsDueCell tree) (ComesToTouchings tree.planes) first due pairs
   pub outside : IsUnderWay cell_due_of (IsDueCell tree) (ComesToOutside tree) first due row
+
+-- nothing is in the lists that are used again
+abbrev pub AreEmpty : Buffers → Type 0
+AreEmpty buffers = (buffers.due.items ≡ []) × (buffers.pieces.items ≡ [])
 
 -- ---- the touching pairs at a node
 

@@ -9,8 +9,8 @@ use Rattle.qm_portal.proofs.facet.split_facets.Goals as goal
 pub loop-facet-init : goal.loop-facet-init
 loop-facet-init c = record {
   taken = taken_none _ _ _ refl (grind (arith, common_steps));
-  front = subst (λ (fs : List Facet). AreCut c.args.plane.now [] fs) (sym c.in_ok-front.ensures.items) none;
-  back = subst (λ (fs : List Facet). AreCut (flipped c.args.plane.now) [] fs) (sym c.in_ok-back.ensures.items) none;
+  front = subst (λ (fs : List Facet). AreCut c.args.plane.now [] fs) (sym c.new-front.ensures.items) none;
+  back = subst (λ (fs : List Facet). AreCut (flipped c.args.plane.now) [] fs) (sym c.new-back.ensures.items) none;
 }
 
 pub loop-facet-preserved : goal.loop-facet-preserved

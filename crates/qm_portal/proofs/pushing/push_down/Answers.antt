@@ -1,5 +1,5 @@
-use Rattle.std.proofs.Common.{List, [], ap, ◌∙◌, subst, arith}
-use Rattle.std.proofs.lemmas.List.{nil_from_length}
+use Rattle.std.proofs.Common.{List, [], ap, sym, ◌∙◌, subst, arith}
+use Rattle.std.proofs.lemmas.List.{append-nil, nil_from_length}
 use Rattle.qm_lists.proofs.KeptStacks.{under_way_next, under_way_goes_on, under_way_smaller}
 use Rattle.qm_convex.specs.Winding.{IsConvex}
 use Rattle.qm_contacts.specs.inner.Due.{DuePolygon, due_of, ComesToPieces}
@@ -27,7 +27,7 @@ pub loop-polygon-init : goal.loop-polygon-init
 loop-polygon-init c =
     push_begins c.args.tree.now c.args.polygon c.advance.new.due.items c.advance.new.pieces.items
     (subst (λ (pieces : List Piece). IsPushed c.args.tree.now c.args.polygon [] c.advance.new.due.items pieces c.advance.new.pieces.items) c.requires.none
-    (subst (λ (due : List DuePolygon). IsPushed c.args.tree.now c.args.polygon due c.advance.new.due.items c.args.pieces.now.items c.advance.new.pieces.items) c.new-due.ensures.items c.in_ok-advance.ensures))
+    (subst (λ (due : List DuePolygon). IsPushed c.args.tree.now c.args.polygon due c.advance.new.due.items c.args.pieces.now.items c.advance.new.pieces.items) c.requires.none_due c.in_ok-advance.ensures))
 
 pub loop-polygon-preserved : goal.loop-polygon-preserved
 loop-polygon-preserved c =
@@ -39,7 +39,12 @@ loop-polygon-smaller c =
     let tree = c.args.tree.now in
     under_way_smaller due_of (IsDue tree) (ComesToPieces tree.planes) c.args.polygon c.loop-polygon.due.items c.pop.new.self.items c.in-Some.polygon c.loop-polygon.pieces.items c.in-Some.ensures.items (polygon_weight tree) c.advance-in-Some.new.due.items c.advance-in-Some.new.pieces.items c.in_ok-advance-2.ensures
 
-pub returns : goal.returns
-returns c =
-    push_ends c.args.tree.now c.args.polygon c.loop-polygon.pieces.items (convex (goal.at.returns c).After-len-corners)
+pub returns-clause-none_due : goal.returns-clause-none_due
+returns-clause-none_due c =
+    sym (append-nil c.pop.new.self.items) ∙ sym c.in_default.ensures.items
+    ∙ nil_from_length c.loop-polygon.due.items (omega (arith, c.loop-polygon.due.ok.0, c.in_default.ensures.cases.0))
+
+pub returns-clause-pieces : goal.returns-clause-pieces
+returns-clause-pieces c =
+    push_ends c.args.tree.now c.args.polygon c.loop-polygon.pieces.items (convex (goal.at.returns-clause-pieces c).After-len-corners)
     (subst (λ (due : List DuePolygon). IsPushing c.args.tree.now c.args.polygon due c.loop-polygon.pieces.items) (nil_from_length c.loop-polygon.due.items (omega (arith, c.loop-polygon.due.ok.0, c.in_default.ensures.cases.0))) c.loop-polygon.invariant)

@@ -19,7 +19,7 @@ severed_back c = subst (λ (s : Severed). IsSevered s c.args.winding.now c.sever
 severed_on : (c : In-On) → (c.sever.new.self ≡ c.args.winding.now) × LiesIn c.args.winding.now c.plane.result
 severed_on c = subst (λ (s : Severed). IsSevered s c.args.winding.now c.sever.new.self c.plane.result) c.in-On.is c.in_ok-sever.ensures.ok
 
-severed_across : (c : In-Across) → IsPartInFront c.sever.new.self c.args.winding.now c.plane.result × IsPartInFront c.in-Across.behind c.args.winding.now (flipped c.plane.result)
+severed_across : (c : In-Across) → IsPartInFront c.sever.new.self c.args.winding.now c.plane.result × IsPartInFront c.in-Across.winding.value c.args.winding.now (flipped c.plane.result)
 severed_across c = subst (λ (s : Severed). IsSevered s c.args.winding.now c.sever.new.self c.plane.result) c.in-Across.is c.in_ok-sever.ensures.ok
 
 pub node-node-requires : goal.node-node-requires
@@ -48,7 +48,7 @@ returns-in-On-clause-smaller c = none_lighter c.args.tree.now c.args.n c.node-no
 
 pub returns-in_ok-push-in-Across-clause-goes : goal.returns-in_ok-push-in-Across-clause-goes
 returns-in_ok-push-in-Across-clause-goes c =
-    goes_both c.args.tree.now c.args.n c.node-node.result c.plane.result c.node-node.ensures.value c.plane.ensures.value c.args.winding.now c.sever.new.self (convex_of_due c.args.tree.now c.args.winding.now _ c.requires) c.args.due.now.items c.in-Across.behind c.push.new.self.items (severed_across (goal.at.returns-in_ok-push-in-Across-clause-goes c).In-Across).0 (severed_across (goal.at.returns-in_ok-push-in-Across-clause-goes c).In-Across).1 (c.in_ok-push-in-Across.ensures.items ∙ ap (λ (w : Winding). c.args.due.now.items ++ polygon_at w c.node-node.result.back ∷ []) c.in_ok-new-in-Across.ensures.ok)
+    goes_both c.args.tree.now c.args.n c.node-node.result c.plane.result c.node-node.ensures.value c.plane.ensures.value c.args.winding.now c.sever.new.self (convex_of_due c.args.tree.now c.args.winding.now _ c.requires) c.args.due.now.items c.in-Across.winding.value c.push.new.self.items (severed_across (goal.at.returns-in_ok-push-in-Across-clause-goes c).In-Across).0 (severed_across (goal.at.returns-in_ok-push-in-Across-clause-goes c).In-Across).1 c.in_ok-push-in-Across.ensures.items
 
 pub returns-in_ok-push-in-Across-clause-smaller : goal.returns-in_ok-push-in-Across-clause-smaller
 returns-in_ok-push-in-Across-clause-smaller c = front_lighter c.args.tree.now c.args.n c.node-node.result c.plane.result c.node-node.ensures.value c.plane.ensures.value

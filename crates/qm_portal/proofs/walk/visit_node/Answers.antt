@@ -13,8 +13,8 @@ add_pairs-requires-clause-front c = front_child c.args.tree.now c.args.cell c.ar
 pub add_pairs-requires-clause-back : goal.add_pairs-requires-clause-back
 add_pairs-requires-clause-back c = back_child c.args.tree.now c.args.cell c.args.n c.node-node.result c.plane-plane.result c.requires.node c.node-node.ensures.value c.plane-plane.ensures.value c.requires.known
 
-pub returns : goal.returns
-returns c =
+pub returns-clause-visited : goal.returns-clause-visited
+returns-clause-visited c =
     visited_node c.args.tree.now c.args.cell c.args.n c.node-node.result c.plane-plane.result c.requires.node c.node-node.ensures.value c.plane-plane.ensures.value
-    c.in_ok-section.section c.in_ok-halves.halves.front c.in_ok-halves.halves.back c.args.due.now.items c.push.new.self.items c.push-2.new.self.items c.args.pairs.now.items c.add_pairs.new.pairs.items
-    c.in_ok-section.ensures c.in_ok-halves.ensures.front c.in_ok-halves.ensures.back c.in_ok-push.ensures.items c.in_ok-push-2.ensures.items c.in_ok-add_pairs.ensures
+    c.in_ok-section.section.value c.in_ok-halves.halves.front c.in_ok-halves.halves.back c.args.due.now.items c.push.new.self.items c.push-2.new.self.items c.args.pairs.now.items c.add_pairs.new.pairs.items
+    c.in_ok-section.ensures c.in_ok-halves.ensures.front c.in_ok-halves.ensures.back c.in_ok-push.ensures.items c.in_ok-push-2.ensures.items c.in_ok-add_pairs.ensures.pairs

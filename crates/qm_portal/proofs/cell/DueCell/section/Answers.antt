@@ -3,11 +3,13 @@ use Rattle.std.proofs.lemmas.Option.{MatchOption-at_some, MatchOption-at_none}
 use Rattle.qm_space.specs.Plane.{Plane}
 use Rattle.qm_convex.specs.Section.{AreAxialBounds, IsSection, MissesCell}
 use Rattle.qm_contacts.specs.inner.Due.{DueCell}
-use Rattle.qm_portal.specs.inner.Cells.{CrossesCell}
+use Rattle.qm_portal.specs.inner.Cells.{CrossesCell, HasPointBefore}
+use Rattle.qm_convex.specs.Cut.{IsPartWithin}
+use Rattle.qm_convex.specs.Winding.{Winding}
 use Rattle.qm_portal.proofs.AxialBounds.{six_axial}
 use Rattle.qm_portal.proofs.CutFacets.{crosses_axial, point_before_slanted, section_by_bounds}
 use Rattle.qm_portal.proofs.cell.DueCell.section.Goals as goal
-use Rattle.qm_portal.proofs.cell.DueCell.section.Goals.{After-split_at, In-Some}
+use Rattle.qm_portal.proofs.cell.DueCell.section.Goals.{After-split_at, In-Some, After-deref_mut}
 
 abbrev kept : After-split_at → DueCell
 kept c = record { child = c.self.inside.child; bounds = c.self.inside.bounds.items; on_walls = c.self.inside.on_walls.items }
@@ -27,10 +29,15 @@ split_at-requires c = subst (λ (bounds : List Plane). 6 ≤ length bounds) (sym
 pub between-requires : goal.between-requires
 between-requires c = subst AreAxialBounds (sym (c.split_at.ensures.front ∙ ap (take 6) c.deref.ensures.value)) c.self.invariant
 
-pub within-requires : goal.within-requires
-within-requires c =
-    let at = (goal.at.within-requires c).After-split_at in
-    point_before_slanted c.requires.0 (kept at) c.args.plane.now (crosses at c.requires.0 c.requires.1) _ _ (parts at) c.in-Some.whole (whole (goal.at.within-requires c).In-Some)
+-- the section stands on the heap
+boxed : (c : After-deref_mut) → c.deref_mut.result.now ≡ c.in-Some.whole
+boxed c = c.deref_mut.ensures.value ∙ c.in_ok-section-in-Some.ensures.ok
+
+pub cut_within-requires : goal.cut_within-requires
+cut_within-requires c =
+    let at = (goal.at.cut_within-requires c).After-split_at in
+    subst (λ (w : Winding). HasPointBefore w c.split_at.result.1.now) (sym (boxed (goal.at.cut_within-requires c).After-deref_mut))
+    (point_before_slanted c.requires.0 (kept at) c.args.plane.now (crosses at c.requires.0 c.requires.1) _ _ (parts at) c.in-Some.whole (whole (goal.at.cut_within-requires c).In-Some))
 
 pub unreachable-requires : goal.unreachable-requires
 unreachable-requires c =
@@ -41,4 +48,5 @@ unreachable-requires c =
 pub returns : goal.returns
 returns c = λ planes is.
     let at = (goal.at.returns c).After-split_at in
-    section_by_bounds planes (kept at) c.args.plane.now (crosses at planes is) _ _ (parts at) c.in-Some.whole (whole (goal.at.returns c).In-Some) c.in_ok-section-in-Some.section c.in_ok-section-in-Some.ensures
+    section_by_bounds planes (kept at) c.args.plane.now (crosses at planes is) _ _ (parts at) c.in-Some.whole (whole (goal.at.returns c).In-Some) c.cut_within.new.winding
+    (subst (λ (w : Winding). IsPartWithin c.cut_within.new.winding w c.split_at.result.1.now) (boxed (goal.at.returns c).After-deref_mut) c.in_ok-cut_within-in-Some.ensures)

@@ -7,7 +7,7 @@ use Rattle.qm_wind.specs.inner.AxialCells.{bounds_of, IsOpen, IsShut}
 use Rattle.qm_wind.proofs.Clips.{none_kept, some_kept}
 use Rattle.qm_wind.proofs.PairsAcross.{shut_misses, section_in_world, section_in_cuboid}
 use Rattle.qm_wind.proofs.winding.Winding.in_cell.Goals as goal
-use Rattle.qm_wind.proofs.winding.Winding.in_cell.Goals.{In-Some-2}
+use Rattle.qm_wind.proofs.winding.Winding.in_cell.Goals.{Else-not-branch-2}
 
 pub returns-then-not-is_open : goal.returns-then-not-is_open
 returns-then-not-is_open c = shut_misses c.args.cell.now c.requires c.args.plane.now (MatchBool-at_false (IsOpen c.args.cell.now) (IsShut c.args.cell.now) c.if-not-is_open.true c.is_open.ensures)
@@ -20,34 +20,34 @@ parallelogram-requires c =
     let s = c.of-pairs.ensures in
     parallelogram_convex c.args.plane.now _ _ _ _ s.are.first.opposite s.are.second.opposite s.are.first.apart s.are.second.apart s.turn
 
-pub returns-in-None : goal.returns-in-None
-returns-in-None c =
+pub returns-then-not-branch : goal.returns-then-not-branch
+returns-then-not-branch c =
     misses_near (bounds_of c.args.cell.now) c.args.plane.now _ _ _ _ _ _ c.of-pairs.ensures.are.inside
-    (none_kept _ _ _ _ c.in_ok-kept_in_front_of.field-0 c.in_ok-parallelogram.ensures refl c.in-None.is c.in_ok-kept_in_front_of.ensures)
+    (none_kept _ _ _ _ _ c.in_ok-polygon.ensures c.if-not-branch.true c.in_ok-keep_in_front_of.ensures)
 
-pub returns-in-None-2 : goal.returns-in-None-2
-returns-in-None-2 c =
-    misses_far (bounds_of c.args.cell.now) c.args.plane.now _ _ _ _ _ _ c.of-pairs.ensures.are.inside c.in-Some.near
-    (some_kept _ _ _ _ c.in_ok-kept_in_front_of.field-0 c.in-Some.near c.in_ok-parallelogram.ensures refl c.in-Some.is c.in_ok-kept_in_front_of.ensures)
-    (none_kept _ _ _ _ c.in_ok-kept_in_front_of-2.field-0 refl refl c.in-None-2.is c.in_ok-kept_in_front_of-2.ensures)
+pub returns-then-not-branch-2 : goal.returns-then-not-branch-2
+returns-then-not-branch-2 c =
+    misses_far (bounds_of c.args.cell.now) c.args.plane.now _ _ _ _ _ _ c.of-pairs.ensures.are.inside _
+    (some_kept _ _ _ _ _ c.in_ok-polygon.ensures c.if-not-branch.false c.in_ok-keep_in_front_of.ensures)
+    (none_kept _ _ _ _ _ refl c.if-not-branch-2.true c.in_ok-keep_in_front_of-2.ensures)
 
-part : (c : In-Some-2) → IsSection (bounds_of c.args.cell.now) c.args.plane.now c.in-Some-2.polygon
+part : (c : Else-not-branch-2) → IsSection (bounds_of c.args.cell.now) c.args.plane.now c.keep_in_front_of-2.new.self
 part c =
-    section_of_parallelogram (bounds_of c.args.cell.now) c.args.plane.now _ _ _ _ _ _ c.of-pairs.ensures.are.inside c.in-Some.near c.in-Some-2.polygon
+    section_of_parallelogram (bounds_of c.args.cell.now) c.args.plane.now _ _ _ _ _ _ c.of-pairs.ensures.are.inside _ c.keep_in_front_of-2.new.self
     c.of-pairs.ensures.are.first.opposite c.of-pairs.ensures.are.first.apart
-    (some_kept _ _ _ _ c.in_ok-kept_in_front_of.field-0 c.in-Some.near c.in_ok-parallelogram.ensures refl c.in-Some.is c.in_ok-kept_in_front_of.ensures)
-    (some_kept _ _ _ _ c.in_ok-kept_in_front_of-2.field-0 c.in-Some-2.polygon refl refl c.in-Some-2.is c.in_ok-kept_in_front_of-2.ensures)
+    (some_kept _ _ _ _ _ c.in_ok-polygon.ensures c.if-not-branch.false c.in_ok-keep_in_front_of.ensures)
+    (some_kept _ _ _ _ _ refl c.if-not-branch-2.false c.in_ok-keep_in_front_of-2.ensures)
 
 pub cuboid-requires-clause-wide : goal.cuboid-requires-clause-wide
 cuboid-requires-clause-wide c = MatchBool-at_true (IsOpen c.args.cell.now) (IsShut c.args.cell.now) c.if-not-is_open.false c.is_open.ensures
 
 pub in_cuboid-requires-clause-in_world : goal.in_cuboid-requires-clause-in_world
-in_cuboid-requires-clause-in_world c = section_in_world c.args.cell.now c.requires c.in-Some-2.polygon c.args.plane.now (part (goal.at.in_cuboid-requires-clause-in_world c).In-Some-2)
+in_cuboid-requires-clause-in_world c = section_in_world c.args.cell.now c.requires c.keep_in_front_of-2.new.self c.args.plane.now (part (goal.at.in_cuboid-requires-clause-in_world c).Else-not-branch-2)
 
 pub in_cuboid-requires-clause-within : goal.in_cuboid-requires-clause-within
 in_cuboid-requires-clause-within c =
-    subst (LiesWithin c.in-Some-2.polygon) (sym c.cuboid.ensures)
-    (section_in_cuboid c.args.cell.now c.requires c.in-Some-2.polygon c.args.plane.now (part (goal.at.in_cuboid-requires-clause-within c).In-Some-2))
+    subst (LiesWithin c.keep_in_front_of-2.new.self) (sym c.cuboid.ensures)
+    (section_in_cuboid c.args.cell.now c.requires c.keep_in_front_of-2.new.self c.args.plane.now (part (goal.at.in_cuboid-requires-clause-within c).Else-not-branch-2))
 
-pub returns-in-Some-2 : goal.returns-in-Some-2
-returns-in-Some-2 c = subst (λ w. IsSection (bounds_of c.args.cell.now) c.args.plane.now w) (sym c.in_cuboid.ensures) (part (goal.at.returns-in-Some-2 c).In-Some-2)
+pub returns : goal.returns
+returns c = subst (λ w. IsSection (bounds_of c.args.cell.now) c.args.plane.now w) (sym c.in_cuboid.ensures) (part (goal.at.returns c).Else-not-branch-2)

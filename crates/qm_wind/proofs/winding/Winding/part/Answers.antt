@@ -1,6 +1,6 @@
-use Rattle.std.proofs.Common.{◌∙◌, sym}
+use Rattle.std.proofs.Common.{subst}
+use Rattle.qm_convex.specs.Cut.{IsPartInFront}
 use Rattle.qm_convex.proofs.Squares.{part_in_world}
-use Rattle.qm_convex.proofs.Within.{part_within, own_within}
 use Rattle.qm_wind.proofs.winding.Winding.part.Goals as goal
 
 pub invariant_of-result : goal.invariant_of-result
@@ -9,7 +9,5 @@ invariant_of-result c =
     let is = c.in_ok-part_in_front_of.ensures in
     record {
       in_world = part_in_world w c.self.inside.polygon c.args.plane.now c.self.invariant.in_world is;
-      within = own_within w c.plane.result c.tightened.result c.tightened_on.result
-          (part_within w c.self.inside.polygon c.args.plane.now c.self.inside.cuboid c.tightened.result c.self.invariant.within is c.tightened.ensures)
-          (is.plane ∙ sym c.plane.ensures) c.tightened_on.ensures;
+      within = c.part_cuboid.ensures w (subst (λ v. IsPartInFront w v c.args.plane.now) c.self.view_is is);
     }
