@@ -20,6 +20,8 @@ use Rattle.qm_separators.specs.PortalSteps.{BeginsWith, GoesOn, MeetsState}
 use Rattle.qm_separators.proofs.ChainLaws.{lets, lead}
 use Rattle.qm_chains.specs.Shown.{IsAt, IsShown}
 use Rattle.qm_chains.proofs.TriedPortals.{same_portal, gains_one}
+use Rattle.qm_sight.specs.WordInSight.{LieWithin}
+use Rattle.qm_sight.specs.InCeiling.{IsInCeiling}
 use Rattle.qm_lines.specs.Gained.{HasGainedShown}
 use Rattle.qm_lines.specs.inner.Crossing.{Crossing, crossing_point, value_where, CrossesAt, MissesAt}
 use Rattle.qm_lines.specs.inner.Trace.{IsTrace, IsOnward, HasEntered, AreInRange}
@@ -51,10 +53,10 @@ gains_shown portals MayHave p leaf row within shown = record {
 -- ---- traces
 
 module _ (world : World) (own : HasOwnPortals world) (p : ℕ) (s : Segment) where
-  abbrev portals : List Portal
-  portals = portals_of world.tree own.touchings
+  abbrev own_list : List Portal
+  own_list = portals_of world.tree own.touchings
 
-  listed : (number : ℕ) (q : Portal) → IsAt world.portals number q → Contains portals q
+  listed : (number : ℕ) (q : Portal) → IsAt world.portals number q → Contains own_list q
   listed number q at = subst (λ (all : List Portal). Contains all q) own.portals_are (Contains-at world.portals number q at)
 
   -- a trace begins where the line goes through the portal
@@ -97,8 +99,8 @@ module _ (world : World) (own : HasOwnPortals world) (p : ℕ) (s : Segment) whe
       let between = further_on s last.into q.into trace.goes_through.in_front onward.crosses.goes_through.in_front behind in
       let own_chain = subst (λ (all : List Portal). IsOpenChain BeginsWith GoesOn all trace.first chain trace.state) own.portals_are trace.open_chain in
       let step : (next : ChainState) × GoesOn trace.state q next = ⊎_elim (λ leads. leads)
-          (λ blocked. absurd ((lets world.tree own.have_points own.touchings own.are_touchings).not_blocked s q trace.state (crossing_point s last.into) (crossing_point s q.into) trace.meets there onward.crosses.goes_through between blocked))
-          ((lead world.tree own.have_points own.touchings own.are_touchings).go_on trace.first chain trace.state q own_chain there) in
+      (λ blocked. absurd ((lets world.tree own.have_points own.touchings own.are_touchings).not_blocked s q trace.state (crossing_point s last.into) (crossing_point s q.into) trace.meets there onward.crosses.goes_through between blocked))
+      ((lead world.tree own.have_points own.touchings own.are_touchings).go_on trace.first chain trace.state q own_chain there) in
       let to_is = ap (λ (r : Portal). r.to) (same_portal world.portals number entered.portal q entered.portal_is q_is) in
       let entered_met = map (λ (r : Portal). r.to) chain in
       record {
@@ -175,3 +177,28 @@ onward_found world s trace number q q_is from_here behind new (Some crossing) cr
       further = subst (λ (r : Portal). value_where trace.last s r.into <ℤ pos 0) same behind;
       new = subst (λ (r : Portal). Contains trace.met.items r.to → ⊥) same new;
     }
+
+-- ---- over ceilings
+
+-- what is shown over ceilings is shown over larger ones
+pub shown_wider : (portals : List Portal) (less more : List (List Bool)) (p n : ℕ) → LieWithin less more → IsShown portals (IsInCeiling less n) p n → IsShown portals (IsInCeiling more n) p n
+shown_wider portals less more p n lie shown = record {
+  first = shown.first;
+  first_is = shown.first_is;
+  last = shown.last;
+  before = shown.before;
+  state = shown.state;
+  open_chain = shown.open_chain;
+  ends = shown.ends;
+  later = shown.later;
+  numbers_are = shown.numbers_are;
+  each_has = λ place d within. lie (get_or (shown.later ++ p ∷ []) place d) n (shown.each_has place d within);
+}
+
+-- a row that has gained over larger ceilings, and then over smaller ones
+pub gains_on : (portals : List Portal) (more less : List (List Bool)) (p : ℕ) (a b c : List Bool) → LieWithin less more → HasGainedShown portals (IsInCeiling more) p a b → HasGainedShown portals (IsInCeiling less) p b c → HasGainedShown portals (IsInCeiling more) p a c
+gains_on portals more less p a b c lie first second = gains_more portals (IsInCeiling more) p a b c first (record {
+  same_length = second.same_length;
+  stays = second.stays;
+  gained = λ n is. ⊎_elim (λ old. inl old) (λ shown. inr (shown_wider portals less more p n lie shown)) (second.gained n is);
+})

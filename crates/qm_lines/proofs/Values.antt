@@ -1,13 +1,15 @@
 -- A plane's value at a whole point, as the code computes it.
-use Rattle.std.proofs.Common.{◌≡◌, ◌≤◌, ◌^◌, ◌∙◌, FitsSigned, ℤ, pos, ◌+ℤ◌, ◌-ℤ◌, ◌*ℤ◌, w32, w64, List, get_or, refl, ap, arith, lit≤, unsigned_abs}
+use Rattle.std.proofs.Common.{◌≡◌, ◌≤◌, ◌^◌, ◌∙◌, FitsSigned, ℤ, pos, ◌+ℤ◌, ◌-ℤ◌, ◌*ℤ◌, w32, w64, List, [], ◌∷◌, get_or, refl, ap, arith, lit≤, unsigned_abs}
 use Rattle.std.proofs.lemmas.Int.{ints}
+use Rattle.std.proofs.lemmas.List.Elements.{All-from_recursion}
 use Rattle.qm_numbers.proofs.IntegerProducts.{linear, *ℤ_one}
 use Rattle.qm_numbers.proofs.Bits.{kept_32}
 use Rattle.qm_numbers.proofs.Kept.{kept, three_less_one_kept}
 use Rattle.qm_numbers.proofs.Signs.{abs_sum, abs_difference, abs_product_bound}
 use Rattle.qm_space.specs.Bounds.{normal_bound, distance_bound}
-use Rattle.qm_space.specs.Point.{Point, whole_point, IsCoordinate}
+use Rattle.qm_space.specs.Point.{Point, whole_point, IsCoordinate, AreCoordinates}
 use Rattle.qm_space.specs.Plane.{Plane, value}
+use Rattle.qm_geom.proofs.Vectors.{coordinate_kept}
 use Rattle.qm_space.proofs.PlanesThroughPoints.{coordinate_small}
 
 -- a component times a coordinate
@@ -38,3 +40,8 @@ wide_size a b h k = abs_product_bound a b (2 ^ 63) (2 ^ 45) (size a h) k
   where
     size : (a : ℤ) → FitsSigned w64 a → unsigned_abs a ≤ 2 ^ 63
     size a h = omega (arith, ints)
+
+-- ---- three coordinates, as the code puts them into one point
+
+pub three_coordinates : (x y z : ℤ) → IsCoordinate x → IsCoordinate y → IsCoordinate z → AreCoordinates (kept w32 x ∷ kept w32 y ∷ kept w32 z ∷ [])
+three_coordinates x y z a b c = All-from_recursion IsCoordinate (kept w32 x ∷ kept w32 y ∷ kept w32 z ∷ []) (coordinate_kept x a, (coordinate_kept y b, (coordinate_kept z c, tt)))

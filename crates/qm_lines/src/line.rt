@@ -7,6 +7,7 @@ use qm_geom::Plane;
 use std::marker::Model;
 
 /// A straight line from one whole point of the closed cube to another.
+#[derive(Drop)]
 pub(crate) struct Line {
     from: [i32; 3],
     to: [i32; 3],
