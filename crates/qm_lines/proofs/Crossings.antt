@@ -1,17 +1,16 @@
 -- Where a line goes through portals: what tests of whole numbers say.
-use Rattle.std.proofs.Common.{◌≡◌, ◌≤◌, ◌^◌, w64, lit≤, unsigned_abs, ℤ, pos, neg_ℤ, ◌+ℤ◌, ◌-ℤ◌, ◌*ℤ◌, ◌<ℤ◌, ◌≤ℤ◌, Bool, true, false, List, [], ◌∷◌, get_or, All, refl, sym, ap, ◌∙◌, subst, arith}
+use Rattle.std.proofs.Common.{◌≡◌, ◌≤◌, ◌^◌, w64, lit≤, unsigned_abs, ℤ, pos, neg_ℤ, ◌+ℤ◌, ◌-ℤ◌, ◌*ℤ◌, ◌<ℤ◌, Bool, true, false, [], ◌∷◌, get_or, All, refl, sym, ap, ◌∙◌, subst, arith}
 use Rattle.std.proofs.lemmas.Int.{ints, to_z-of_z}
 use Rattle.qm_numbers.proofs.IntegerProducts.{linear, one_*ℤ, *ℤ_zero}
 use Rattle.qm_numbers.proofs.Signs.{product_positive, positive_beside}
 use Rattle.qm_numbers.proofs.Kept.{kept, fits_64}
 use Rattle.qm_numbers.proofs.Ring.{variable, negated, ◌⊕◌, ◌⊗◌, solved}
 use Rattle.qm_space.specs.Point.{Point, point_sum, point_times}
-use Rattle.qm_space.specs.Plane.{Plane, value, IsOn, IsInFront, IsBehind, flipped}
+use Rattle.qm_space.specs.Plane.{Plane, value, IsOn, IsInFront, IsBehind}
 use Rattle.qm_space.specs.Line.{IsBetween}
 use Rattle.qm_space.specs.Turned.{turned}
 use Rattle.qm_space.proofs.Planes.{same_point, flipped_on}
-use Rattle.qm_space.proofs.Crossings.{through, value_through, crossing_on, crossing_weight}
-use Rattle.qm_convex.specs.Winding.{Winding}
+use Rattle.qm_space.proofs.Crossings.{value_through, crossing_on, crossing_weight}
 use Rattle.qm_contacts.specs.Portals.{Portal}
 use Rattle.qm_segments.specs.Segment.{Segment}
 use Rattle.qm_segments.specs.GoesThrough.{GoesThrough}

@@ -1,22 +1,18 @@
 -- Traces of lines: how they begin and go on, and what they show.
-use Rattle.std.proofs.Common.{◌≡◌, ◌⊎◌, inl, inr, ⊎_elim, ℕ, ◌<◌, true, ℤ, pos, ◌<ℤ◌, Bool, List, [], ◌∷◌, ◌++◌, map, length, get_or, set, All, Contains, Option, Some, None, MatchOption, IfSome, refl, sym, ap, ◌∙◌, subst, arith}
+use Rattle.std.proofs.Common.{◌≡◌, ◌⊎◌, inl, inr, ⊎_elim, ℕ, ◌<◌, true, ℤ, pos, ◌<ℤ◌, Bool, List, [], ◌∷◌, ◌++◌, map, length, get_or, set, All, Contains, Option, Some, None, MatchOption, IfSome, refl, sym, ap, ◌∙◌, subst}
 use Rattle.std.proofs.lemmas.List.{length-set}
 use Rattle.std.proofs.lemmas.List.Elements.{All-contains, All-push, Contains-push, Contains-append_left}
-use Rattle.qm_lists.specs.WorkList.{IsIn}
 use Rattle.qm_lists.proofs.Elements.{Contains-at, Contains-first, Contains-later, Contains-cons_cases}
 use Rattle.qm_lists.proofs.Pairs.{All-from_contains}
-use Rattle.qm_space.specs.Point.{Point}
-use Rattle.qm_space.specs.Plane.{Plane, IsBehind}
-use Rattle.qm_space.specs.Line.{IsBetween}
+use Rattle.qm_space.specs.Plane.{IsBehind}
 use Rattle.qm_contacts.specs.Portals.{Portal, portals_of}
 use Rattle.qm_contacts.specs.NumberedLeaves.{numbered_leaves}
 use Rattle.qm_contacts.specs.World.{World}
 use Rattle.qm_contacts.specs.OwnPortals.{HasOwnPortals}
 use Rattle.qm_segments.specs.Segment.{Segment}
-use Rattle.qm_segments.specs.GoesThrough.{GoesThrough}
-use Rattle.qm_segments.specs.OpenChain.{leaves_met, IsOpenChain, alone, longer}
+use Rattle.qm_segments.specs.OpenChain.{IsOpenChain, alone, longer}
 use Rattle.qm_separators.specs.ChainState.{ChainState}
-use Rattle.qm_separators.specs.PortalSteps.{BeginsWith, GoesOn, MeetsState}
+use Rattle.qm_separators.specs.PortalSteps.{BeginsWith, GoesOn}
 use Rattle.qm_separators.proofs.ChainLaws.{lets, lead}
 use Rattle.qm_chains.specs.Shown.{IsAt, IsShown}
 use Rattle.qm_chains.proofs.TriedPortals.{same_portal, gains_one}

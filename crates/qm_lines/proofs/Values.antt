@@ -1,5 +1,5 @@
 -- A plane's value at a whole point, as the code computes it.
-use Rattle.std.proofs.Common.{◌≡◌, ◌≤◌, ◌^◌, ◌∙◌, FitsSigned, ℤ, pos, ◌+ℤ◌, ◌-ℤ◌, ◌*ℤ◌, w32, w64, List, [], ◌∷◌, get_or, refl, ap, arith, lit≤, unsigned_abs}
+use Rattle.std.proofs.Common.{◌≡◌, ◌≤◌, ◌^◌, ◌∙◌, FitsSigned, ℤ, pos, ◌+ℤ◌, ◌-ℤ◌, ◌*ℤ◌, w32, w64, List, [], ◌∷◌, get_or, refl, arith, lit≤, unsigned_abs}
 use Rattle.std.proofs.lemmas.Int.{ints}
 use Rattle.std.proofs.lemmas.List.Elements.{All-from_recursion}
 use Rattle.qm_numbers.proofs.IntegerProducts.{linear, *ℤ_one}
@@ -7,7 +7,7 @@ use Rattle.qm_numbers.proofs.Bits.{kept_32}
 use Rattle.qm_numbers.proofs.Kept.{kept, three_less_one_kept}
 use Rattle.qm_numbers.proofs.Signs.{abs_sum, abs_difference, abs_product_bound}
 use Rattle.qm_space.specs.Bounds.{normal_bound, distance_bound}
-use Rattle.qm_space.specs.Point.{Point, whole_point, IsCoordinate, AreCoordinates}
+use Rattle.qm_space.specs.Point.{whole_point, IsCoordinate, AreCoordinates}
 use Rattle.qm_space.specs.Plane.{Plane, value}
 use Rattle.qm_geom.proofs.Vectors.{coordinate_kept}
 use Rattle.qm_space.proofs.PlanesThroughPoints.{coordinate_small}

@@ -1,4 +1,4 @@
-use Rattle.std.proofs.Common.{◌≡◌, pos, ◌<ℤ◌, true, false, sym, ap, ◌∙◌, subst, All, List, arith}
+use Rattle.std.proofs.Common.{◌≡◌, pos, ◌<ℤ◌, true, false, sym, ap, ◌∙◌, subst, All, arith}
 use Rattle.std.proofs.lemmas.Int.{ints}
 use Rattle.qm_space.specs.Plane.{Plane, value}
 use Rattle.qm_convex.specs.Winding.{Winding}

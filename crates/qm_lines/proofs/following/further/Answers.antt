@@ -1,4 +1,4 @@
-use Rattle.std.proofs.Common.{◌≡◌, ◌<ℤ◌, pos, true, false, ℕ, Contains, ap, sym, ◌∙◌, subst}
+use Rattle.std.proofs.Common.{◌≡◌, ◌<ℤ◌, pos, true, false, Contains, ap, sym, ◌∙◌, subst}
 use Rattle.qm_contacts.specs.Portals.{Portal}
 use Rattle.qm_space.specs.Plane.{Plane}
 use Rattle.qm_chains.proofs.TriedPortals.{same_portal}

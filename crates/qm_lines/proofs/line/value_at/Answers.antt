@@ -1,4 +1,4 @@
-use Rattle.std.proofs.Common.{rules, ◌≤◌, ◌^◌, ◌∙◌, ℤ, pos, sym, ap, subst, arith, unsigned_abs}
+use Rattle.std.proofs.Common.{rules, ◌∙◌, pos, ap, arith}
 use Rattle.std.proofs.lemmas.Int.{ints}
 use Rattle.qm_space.specs.Point.{whole_point}
 use Rattle.qm_space.specs.Plane.{Plane, plane_of, value}

@@ -1,6 +1,6 @@
-use Rattle.std.proofs.Common.{◌<◌, ◌++◌, ◌∷◌, [], ℕ, List, All, take, get_or, length, sym, subst}
-use Rattle.std.proofs.lemmas.List.{take_all, get_or_default}
-use Rattle.std.proofs.lemmas.List.Elements.{All-more, All-take, All-nil}
+use Rattle.std.proofs.Common.{◌<◌, All, get_or, length, sym, subst}
+use Rattle.std.proofs.lemmas.List.{take_all}
+use Rattle.std.proofs.lemmas.List.Elements.{All-more, All-nil}
 use Rattle.qm_contacts.specs.NumberedLeaves.{numbered_leaves}
 use Rattle.qm_contacts.specs.World.{World}
 use Rattle.qm_sight.specs.InCeiling.{IsInCeiling}

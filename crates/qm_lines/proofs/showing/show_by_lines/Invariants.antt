@@ -1,4 +1,3 @@
-use Rattle.std.proofs.Common.{◌≡◌, length}
 use Rattle.qm_sight.specs.InCeiling.{IsInCeiling}
 use Rattle.qm_lines.specs.Gained.{HasGainedShown}
 use Rattle.qm_lines.proofs.showing.show_by_lines.Given as goal
