@@ -51,6 +51,13 @@ impl Span {
         Span { low, high }
     }
 
+    /// The whole number in its middle; of two, the one nearer to 0.
+    pub fn middle(&self) -> i32
+        ensures { IsCoordinate result }
+    {
+        (self.low + self.high) / 2
+    }
+
     /// What is, times a component, at least a number, rounded outward. The span itself where that is all
     /// of it.
     fn tightened(self, component: i32, least: i64) -> Span

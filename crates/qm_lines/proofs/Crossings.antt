@@ -1,0 +1,173 @@
+-- Where a line goes through portals: what tests of whole numbers say.
+use Rattle.std.proofs.Common.{◌≡◌, ◌≤◌, ◌^◌, w64, lit≤, unsigned_abs, ℤ, pos, neg_ℤ, ◌+ℤ◌, ◌-ℤ◌, ◌*ℤ◌, ◌<ℤ◌, Bool, true, false, [], ◌∷◌, get_or, All, refl, sym, ap, ◌∙◌, subst, arith}
+use Rattle.std.proofs.lemmas.Int.{ints, to_z-of_z}
+use Rattle.qm_numbers.proofs.IntegerProducts.{linear, one_*ℤ, *ℤ_zero}
+use Rattle.qm_numbers.proofs.Signs.{product_positive, positive_beside}
+use Rattle.qm_numbers.proofs.Kept.{kept, fits_64}
+use Rattle.qm_numbers.proofs.Ring.{variable, negated, ◌⊕◌, ◌⊗◌, solved}
+use Rattle.qm_space.specs.Point.{Point, point_sum, point_times}
+use Rattle.qm_space.specs.Plane.{Plane, value, IsOn, IsInFront, IsBehind}
+use Rattle.qm_space.specs.Line.{IsBetween}
+use Rattle.qm_space.specs.Turned.{turned}
+use Rattle.qm_space.proofs.Planes.{same_point, flipped_on}
+use Rattle.qm_space.proofs.Crossings.{value_through, crossing_on, crossing_weight}
+use Rattle.qm_contacts.specs.Portals.{Portal}
+use Rattle.qm_segments.specs.Segment.{Segment}
+use Rattle.qm_segments.specs.GoesThrough.{GoesThrough}
+use Rattle.qm_segments.proofs.Betweenness.{between_value}
+use Rattle.qm_lines.specs.inner.Crossing.{Crossing, IsCrossing, crossing_point, value_where}
+
+-- the value of a plane where the line crosses another one
+pub value_is : (s : Segment) (e g : Plane) (c : Crossing) → c.at_begin ≡ value e s.from → c.at_end ≡ value e s.to → value_where c s g ≡ value g (crossing_point s e)
+unfolding value_where
+value_is s e g c a_is b_is =
+    let v = value_through g e s.to s.from in
+    rw (a_is, b_is) (let same : (value e s.to *ℤ value g s.from) -ℤ (value e s.from *ℤ value g s.to) ≡ (value e s.to *ℤ value g s.from) +ℤ neg_ℤ (value e s.from *ℤ value g s.to) = omega (arith, linear) in same ∙ sym v)
+
+on_either : (side : Bool) (h : Plane) (x : Point) → IsOn (turned side h) x → IsOn h x
+on_either true h x on = on
+on_either false h x on = (flipped_on h x).0 on
+
+onto_either : (side : Bool) (h : Plane) (x : Point) → IsOn h x → IsOn (turned side h) x
+onto_either true h x on = on
+onto_either false h x on = (flipped_on h x).1 on
+
+module _ (s : Segment) (q : Portal) (side : Bool) (into_is : q.into ≡ turned side q.winding.plane) (crossing : Crossing) (a_is : crossing.at_begin ≡ value q.into s.from) (b_is : crossing.at_end ≡ value q.into s.to) where
+  abbrev a : ℤ
+  a = crossing.at_begin
+
+  abbrev b : ℤ
+  b = crossing.at_end
+
+  -- ---- where the tests hold, the line goes through the portal
+
+  module _ (from_weight : pos 0 <ℤ s.from.w) (to_weight : pos 0 <ℤ s.to.w) (below : a <ℤ pos 0) (above : pos 0 <ℤ b) (inside : All (λ g. pos 0 <ℤ value_where crossing s g) q.winding.edges) where
+    behind : IsBehind q.into s.from
+    behind = subst (λ (z : ℤ). z <ℤ pos 0) a_is below
+
+    in_front : IsInFront q.into s.to
+    in_front = subst (λ (z : ℤ). pos 0 <ℤ z) b_is above
+
+    one : (z : ℤ) → pos 1 *ℤ z ≡ z
+    one z = one_*ℤ z
+
+    pub goes_through : GoesThrough s q (crossing_point s q.into)
+    goes_through = record {
+      between = record {
+        times_p = pos 1;
+        times_q = value q.into s.to;
+        times_r = neg_ℤ (value q.into s.from);
+        some_p = omega (arith, ints);
+        some_q = in_front;
+        some_r = let z = behind in omega (arith, linear);
+        sum = same_point (point_times (pos 1) (crossing_point s q.into)) (crossing_point s q.into) (one _) (one _) (one _) (one _);
+      };
+      inside = record {
+        weight = crossing_weight q.into s.to s.from in_front (let z = behind in omega (arith, linear)) to_weight from_weight;
+        on = on_either side q.winding.plane (crossing_point s q.into) (subst (λ (h : Plane). IsOn h (crossing_point s q.into)) into_is (crossing_on q.into s.to s.from in_front (let z = behind in omega (arith, linear))));
+        inside = λ place d within. subst (λ (z : ℤ). pos 0 <ℤ z) (value_is s q.into (get_or q.winding.edges place d) crossing a_is b_is) (inside place d within);
+      };
+      behind = behind;
+      in_front = in_front;
+    }
+
+  -- ---- where the line goes through the portal, the tests hold
+
+  module _ (x : Point) (at : GoesThrough s q x) where
+    pub begin_below : a <ℤ pos 0
+    begin_below = subst (λ (z : ℤ). z <ℤ pos 0) (sym a_is) at.behind
+
+    pub end_above : pos 0 <ℤ b
+    end_above = subst (λ (z : ℤ). pos 0 <ℤ z) (sym b_is) at.in_front
+
+    -- with x = i from + j to on the portal's plane: i a + j b = 0
+    module _ (g : Plane) (front : IsInFront g x) where
+      abbrev k : ℤ
+      k = at.between.times_p
+
+      abbrev i : ℤ
+      i = at.between.times_q
+
+      abbrev j : ℤ
+      j = at.between.times_r
+
+      abbrev c : ℤ
+      c = value g s.from
+
+      abbrev d : ℤ
+      d = value g s.to
+
+      on_it : value q.into x ≡ pos 0
+      on_it = subst (λ (h : Plane). IsOn h x) (sym into_is) (onto_either side q.winding.plane x at.inside.on)
+
+      no_sum : (i *ℤ a) +ℤ (j *ℤ b) ≡ pos 0
+      no_sum =
+          let mixed = between_value q.into x s.from s.to at.between in
+          let zero : k *ℤ value q.into x ≡ pos 0 = ap (λ z. k *ℤ z) on_it ∙ *ℤ_zero k in
+          ap (λ z. (i *ℤ z) +ℤ (j *ℤ b)) a_is ∙ ap (λ z. (i *ℤ value q.into s.from) +ℤ (j *ℤ z)) b_is ∙ sym mixed ∙ zero
+
+      some_sum : pos 0 <ℤ ((i *ℤ c) +ℤ (j *ℤ d))
+      some_sum = subst (λ (z : ℤ). pos 0 <ℤ z) (between_value g x s.from s.to at.between) (product_positive k (value g x) at.between.some_p front)
+
+      -- b (i c + j d) = i (b c - a d) + d (i a + j b)
+      exchanged : b *ℤ ((i *ℤ c) +ℤ (j *ℤ d)) ≡ (i *ℤ ((b *ℤ c) +ℤ neg_ℤ (a *ℤ d))) +ℤ (d *ℤ ((i *ℤ a) +ℤ (j *ℤ b)))
+      exchanged =
+          let t = variable in
+          solved (a ∷ b ∷ i ∷ j ∷ c ∷ d ∷ []) (t 1 ⊗ (t 2 ⊗ t 4 ⊕ t 3 ⊗ t 5)) (t 2 ⊗ (t 1 ⊗ t 4 ⊕ negated (t 0 ⊗ t 5)) ⊕ t 5 ⊗ (t 2 ⊗ t 0 ⊕ t 3 ⊗ t 1)) tt
+
+      pub front_there : pos 0 <ℤ value_where crossing s g
+      unfolding value_where
+      front_there =
+          let all = product_positive b ((i *ℤ c) +ℤ (j *ℤ d)) end_above some_sum in
+          let none : d *ℤ ((i *ℤ a) +ℤ (j *ℤ b)) ≡ pos 0 = ap (λ z. d *ℤ z) no_sum ∙ *ℤ_zero d in
+          let e = exchanged in
+          let positive = positive_beside i ((b *ℤ c) +ℤ neg_ℤ (a *ℤ d)) at.between.some_q (omega (arith, linear)) in
+          omega (arith, linear)
+
+    pub all_in_front : All (λ g. pos 0 <ℤ value_where crossing s g) q.winding.edges
+    all_in_front place d within = front_there (get_or q.winding.edges place d) (at.inside.inside place d within)
+
+-- ---- what is crossed further on
+
+-- one number of the four: h and g have the values hf, gf where the line begins and ht, gt where it ends
+further_number : (hf ht gf gt f t : ℤ) → ht *ℤ ((gt *ℤ f) +ℤ (neg_ℤ gf *ℤ t)) ≡ (gt *ℤ ((ht *ℤ f) +ℤ (neg_ℤ hf *ℤ t))) +ℤ (neg_ℤ ((ht *ℤ gf) +ℤ neg_ℤ (hf *ℤ gt)) *ℤ t)
+further_number hf ht gf gt f t =
+    let v = variable in
+    solved (hf ∷ ht ∷ gf ∷ gt ∷ f ∷ t ∷ []) (v 1 ⊗ (v 3 ⊗ v 4 ⊕ negated (v 2) ⊗ v 5)) (v 3 ⊗ (v 1 ⊗ v 4 ⊕ negated (v 0) ⊗ v 5) ⊕ negated (v 1 ⊗ v 2 ⊕ negated (v 0 ⊗ v 3)) ⊗ v 5) tt
+
+-- the plane g is crossed further on than h, where the line crosses h behind it
+pub further_on : (s : Segment) (h g : Plane) → IsInFront h s.to → IsInFront g s.to → IsBehind g (crossing_point s h) → IsBetween (crossing_point s g) (crossing_point s h) s.to
+further_on s h g h_front g_front behind =
+    let v = value_through g h s.to s.from in
+    record {
+      times_p = value h s.to;
+      times_q = value g s.to;
+      times_r = neg_ℤ ((value h s.to *ℤ value g s.from) +ℤ neg_ℤ (value h s.from *ℤ value g s.to));
+      some_p = h_front;
+      some_q = g_front;
+      some_r = omega (arith, linear);
+      sum = same_point (point_times (value h s.to) (crossing_point s g)) (point_sum (point_times (value g s.to) (crossing_point s h)) (point_times (neg_ℤ ((value h s.to *ℤ value g s.from) +ℤ neg_ℤ (value h s.from *ℤ value g s.to))) s.to))
+          (further_number (value h s.from) (value h s.to) (value g s.from) (value g s.to) s.from.x s.to.x)
+          (further_number (value h s.from) (value h s.to) (value g s.from) (value g s.to) s.from.y s.to.y)
+          (further_number (value h s.from) (value h s.to) (value g s.from) (value g s.to) s.from.z s.to.z)
+          (further_number (value h s.from) (value h s.to) (value g s.from) (value g s.to) s.from.w s.to.w);
+    }
+
+-- ---- as the code computes it
+
+-- a number as it is passed on
+passed_on : (z : ℤ) → unsigned_abs z ≤ 2 ^ 45 → kept w64 z ≡ z
+passed_on z h = to_z-of_z w64 z (fits_64 z (2 ^ 45) h (lit≤ tt))
+
+pub value_computed : (s : Segment) (g : Plane) (a b forward backward v w : ℤ) → IsCrossing (record { at_begin = a; at_end = b }) → unsigned_abs v ≤ 2 ^ 45 → unsigned_abs w ≤ 2 ^ 45 → v ≡ value g s.from → w ≡ value g s.to →
+    forward ≡ kept w64 b *ℤ kept w64 v → backward ≡ kept w64 a *ℤ kept w64 w → forward -ℤ backward ≡ value_where (record { at_begin = a; at_end = b }) s g
+unfolding value_where
+value_computed s g a b forward backward v w is v_small w_small v_is w_is e f =
+    rw (e, f, passed_on b is.end_small, passed_on a is.begin_small, passed_on v v_small, passed_on w w_small, v_is, w_is) refl
+
+-- the crossing with these values
+abbrev pub crossing_with : ℤ → ℤ → Crossing
+crossing_with a b = record { at_begin = a; at_end = b }
+
+pub crossing_kept : (a b : ℤ) → unsigned_abs a ≤ 2 ^ 45 → unsigned_abs b ≤ 2 ^ 45 → crossing_with (kept w64 a) (kept w64 b) ≡ crossing_with a b
+crossing_kept a b h k = rw (passed_on a h, passed_on b k) refl
