@@ -4,27 +4,28 @@ ghost use Rattle.std.specs.Prelude.{◌≡◌, ◌↔◌, IsTrue, true, MatchOpt
 ghost use Rattle.qm_convex.specs.Sides.{HasCornerInFront, HasCornerBehind};
 ghost use Rattle.qm_separators.specs.MayPass.{MayPass};
 ghost use Rattle.qm_separators.specs.inner.Found.{HasCornersBeyond};
+ghost use Rattle.qm_narrow.specs.inner.Trace.{IsCornerOf};
 
 use crate::chain_state::ChainState;
-use crate::traced::Traced;
-use qm_geom::Plane;
+use crate::traced::{Traced, is_in_front};
+use qm_geom::{Corner, Plane};
 use qm_wind::{Pane, Winding};
 
-/// Whether a line that has met the state may still pass the portal. What its cuboid tells is asked before its corners.
+/// Whether a line that has met the state may still pass the portal. What its cuboid tells of separators is asked first.
 pub fn may_pass(state: &ChainState, pane: &Pane) -> bool
     ensures { IsTrue result ↔ MayPass state.now pane.now.winding pane.now.into }
 {
     let planes = state.separators();
-    if !pane.winding.has_corner_in_front(state.into()) {
-        return false;
-    }
-    if !state.trace().has_corner_behind(&pane.into) {
+    if is_held_back(&pane.winding, planes) {
         return false;
     }
     if !pass_is_behind(state.pass(), &pane.into) {
         return false;
     }
-    if is_held_back(&pane.winding, planes) {
+    if !state.trace().has_corner_behind(&pane.into) {
+        return false;
+    }
+    if !pane.winding.has_corner_in_front(state.into()) {
         return false;
     }
     is_beyond(&pane.winding, planes)
@@ -54,14 +55,37 @@ fn is_held_back(winding: &Winding, planes: &[Plane]) -> bool
     false
 }
 
-/// Whether a winding has a corner in front of each of some planes.
+/// Whether a winding has a corner in front of each of some planes. The corner that was in front of the last plane is asked
+/// first of the next one.
 fn is_beyond(winding: &Winding, planes: &[Plane]) -> bool
     ensures { IsTrue result ↔ HasCornersBeyond winding.now planes.now }
 {
+    let _corners = winding.len();
+    let mut ahead = winding.corner(0);
     for plane in planes {
-        if !winding.has_corner_in_front(plane) {
+        if !stays_beyond(winding, plane, &mut ahead) {
             return false;
         }
     }
     true
+}
+
+/// Whether a winding has a corner in front of a plane: one of its corners, which is asked first, or another one, which is
+/// then kept in its place.
+fn stays_beyond(winding: &Winding, plane: &Plane, ahead: &mut Corner) -> bool
+    requires { IsCornerOf winding.now ahead.old }
+    ensures told { IsTrue result ↔ HasCornerInFront winding.now plane.now }
+    ensures kept { IsCornerOf winding.now ahead.new }
+{
+    if is_in_front(ahead, plane) {
+        return true;
+    }
+    for i in 0..winding.len() {
+        let corner = winding.corner(i);
+        if is_in_front(&corner, plane) {
+            *ahead = corner;
+            return true;
+        }
+    }
+    false
 }

@@ -207,7 +207,8 @@ fn is_behind(spot: &Spot, corner: &Corner, plane: &Plane) -> bool
     }
 }
 
-fn is_in_front(corner: &Corner, plane: &Plane) -> bool
+/// Whether a corner is strictly in front of a plane.
+pub(crate) fn is_in_front(corner: &Corner, plane: &Plane) -> bool
     ensures { IsTrue result ↔ IsInFront plane.now corner.now }
 {
     match corner.side(plane) {
