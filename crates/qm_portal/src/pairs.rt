@@ -11,6 +11,7 @@ use crate::touching::Touching;
 use qm_tree::{Child, Node, Tree};
 use qm_wind::Winding;
 use std::alloc::AllocError;
+use std::mem;
 
 /// Adds the pairs that touch at a node: the section is pushed down its front, and each piece down its back.
 pub(crate) fn add_pairs(
@@ -27,31 +28,33 @@ pub(crate) fn add_pairs(
     ensures pairs { OnOk result (ArePairsAdded tree.now n node.now section.value pairs.old.items pairs.new.items) }
     ensures empty { OnOk result (AreEmpty buffers.new) }
 {
-    let mut fronts = Vec::new(*pairs.allocator());
+    let mut fronts = mem::replace(&mut buffers.fronts, Vec::new(*pairs.allocator()));
     let polygon = DuePolygon {
         child: node.front,
         winding: section,
     };
     push_down(tree, polygon, &mut buffers.due, &mut fronts)?;
-    add_rows(tree, n, node.back, fronts, buffers, pairs)?;
+    add_rows(tree, n, node.back, &mut fronts, buffers, pairs)?;
+    buffers.fronts = fronts;
     Ok(())
 }
 
-/// Adds the pairs of all leaves in front of a node that have a piece of its section.
+/// Adds the pairs of all leaves in front of a node that have a piece of its section, and empties their list.
 fn add_rows(
     tree: &Tree,
     n: u64,
     back: Child,
-    fronts: Vec<Piece>,
+    fronts: &mut Vec<Piece>,
     buffers: &mut Buffers,
     pairs: &mut Vec<Touching>,
 ) -> Result<(), AllocError>
     requires child { IsChildOf tree.now back }
     requires empty { AreEmpty buffers.old }
-    ensures rows { OnOk result (AreRowsAdded tree.now n back fronts.items pairs.old.items pairs.new.items) }
+    ensures rows { OnOk result (AreRowsAdded tree.now n back fronts.old.items pairs.old.items pairs.new.items) }
+    ensures none { OnOk result (fronts.new.items ≡ []) }
     ensures empty { OnOk result (AreEmpty buffers.new) }
 {
-    for front in fronts {
+    for front in fronts.drain(..) {
         add_row(tree, n, back, front, buffers, pairs)?;
     }
     Ok(())

@@ -36,5 +36,6 @@ impl Model for DuePolygon {
 #[derive(Drop)]
 pub(crate) struct Buffers {
     pub(crate) due: Vec<DuePolygon>,
+    pub(crate) fronts: Vec<Piece>,
     pub(crate) pieces: Vec<Piece>,
 }

@@ -31,6 +31,7 @@ pub(crate) fn found_below(alloc: Global, tree: &Tree, cell: DueCell) -> Result<F
     due.push(cell)?;
     let mut buffers = Buffers {
         due: Vec::new(alloc),
+        fronts: Vec::new(alloc),
         pieces: Vec::new(alloc),
     };
     while let Some(cell) = due.pop() {

@@ -46,7 +46,7 @@ pub record IsWalking (tree : Tree) (first : DueCell) (due : List DueCell) (pairs
 
 -- nothing is in the lists that are used again
 abbrev pub AreEmpty : Buffers → Type 0
-AreEmpty buffers = (buffers.due.items ≡ []) × (buffers.pieces.items ≡ [])
+AreEmpty buffers = (buffers.due.items ≡ []) × (buffers.fronts.items ≡ []) × (buffers.pieces.items ≡ [])
 
 -- ---- the touching pairs at a node
 

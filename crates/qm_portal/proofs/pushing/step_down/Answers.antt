@@ -4,9 +4,7 @@ use Rattle.qm_convex.specs.Sides.{IsWhollyInFront, LiesIn}
 use Rattle.qm_convex.specs.Cut.{IsPartInFront}
 use Rattle.qm_wind.specs.Severing.{IsSevered}
 use Rattle.qm_wind.specs.declared.severed.Severed.{Severed}
-use Rattle.qm_convex.specs.Winding.{Winding}
-use Rattle.qm_portal.specs.inner.Pushes.{polygon_at}
-use Rattle.std.proofs.Common.{[], ◌∷◌, ◌++◌, ap, ◌∙◌, ◌≡◌, subst}
+use Rattle.std.proofs.Common.{◌≡◌, subst}
 use Rattle.qm_portal.proofs.pushing.step_down.Goals as goal
 use Rattle.qm_portal.proofs.pushing.step_down.Goals.{In-Front, In-Back, In-On, In-Across}
 

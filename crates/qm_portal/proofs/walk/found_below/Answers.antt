@@ -11,7 +11,7 @@ pub loop-cell-init : goal.loop-cell-init
 loop-cell-init c = record {
   walking = walk_begins c.args.tree.now c.args.cell c.push.new.self.items c.new-pairs.result.items c.in_ok-outside.outside.items
       (c.in_ok-push.ensures.items ∙ ap (λ (ds : List DueCell). ds ++ c.args.cell ∷ []) c.new-due.ensures.items) c.new-pairs.ensures.items c.in_ok-outside.ensures.items;
-  empty = (c.new.ensures.items, c.new-2.ensures.items);
+  empty = (c.new.ensures.items, c.new-2.ensures.items, c.new-3.ensures.items);
 }
 
 pub visit-requires-clause-known : goal.visit-requires-clause-known
