@@ -1,3 +1,4 @@
 pub mod Values
 pub mod Crossings
 pub mod Traces
+pub mod RoomLines
