@@ -41,6 +41,8 @@ mod room;
 #[cfg(test)]
 mod rooms;
 #[cfg(test)]
+mod sampled;
+#[cfg(test)]
 mod sure_forms;
 #[cfg(test)]
 mod words;
