@@ -5,17 +5,22 @@ use Rattle.qm_lists.specs.WorkList.{IsIn}
 use Rattle.qm_lists.proofs.Elements.{Contains-at, Contains-first, Contains-later, Contains-cons_cases}
 use Rattle.qm_contacts.specs.Portals.{Portal, portals_of}
 use Rattle.qm_contacts.specs.World.{World}
+use Rattle.qm_space.specs.Point.{Point}
+use Rattle.qm_space.specs.Line.{IsBetween}
+use Rattle.qm_segments.specs.Segment.{Segment}
+use Rattle.qm_segments.specs.GoesThrough.{GoesThrough}
 use Rattle.qm_segments.specs.Sight.{IsInSight}
 use Rattle.qm_segments.specs.OpenChain.{leaves_met}
 use Rattle.qm_segments.specs.Ahead.{IsAhead}
-use Rattle.qm_segments.proofs.AheadLaws.{IsNext}
-use Rattle.qm_segments.proofs.ViaLaws.{via_in_sight}
+use Rattle.qm_segments.specs.Steps.{LetSegmentsThrough}
+use Rattle.qm_segments.proofs.AheadLaws.{IsNext, next_ahead}
 use Rattle.qm_separators.specs.ChainState.{ChainState}
-use Rattle.qm_separators.specs.PortalSteps.{BeginsWith, GoesOn, BlocksAt, MeetsState}
-use Rattle.qm_separators.proofs.ChainLaws.{lets, ahead_at_start, reached_or_next}
+use Rattle.qm_separators.specs.PortalSteps.{BeginsWith, GoesOn, MeetsState}
+use Rattle.qm_separators.proofs.PortalStepLaws.{are_convex, lets_pass}
+use Rattle.qm_separators.proofs.ChainLaws.{lets, ahead_at_start}
 use Rattle.qm_contacts.specs.OwnPortals.{HasOwnPortals}
 use Rattle.qm_chains.specs.Shown.{IsAt}
-use Rattle.qm_chains.specs.inner.Frame.{Frame, EndsChain, IsNextTo, IsAwaited}
+use Rattle.qm_chains.specs.inner.Frame.{Frame, EndsChain, StopsAt, not_passed, blocked, IsNextTo, IsAwaited}
 use Rattle.qm_chains.proofs.ChainEnds.{GainsOne}
 
 -- all portals that leave the leaf are among these numbers
@@ -32,6 +37,20 @@ module _ (world : World) (own : HasOwnPortals world) (first : Portal) where
 
   listed_own : (q : Portal) → Contains world.portals q → Contains (portals_of world.tree own.touchings) q
   listed_own q there = subst (λ (all : List Portal). Contains all q) own.portals_are there
+
+  -- no chain stops before a portal that a segment goes through which has met its state
+  none_stops : LetSegmentsThrough BeginsWith GoesOn StopsAt (portals_of world.tree own.touchings) MeetsState
+  none_stops =
+      let its = lets world.tree own.have_points own.touchings own.are_touchings in
+      record {
+        begun = its.begun;
+        not_blocked = λ s q state x y met among through on stops. by s q state x y met among through on stops;
+        gone_on = its.gone_on;
+      }
+    where
+      by : (s : Segment) (q : Portal) (state : ChainState) (x y : Point) → MeetsState s x state → Contains (portals_of world.tree own.touchings) q → GoesThrough s q y → IsBetween y x s.to → StopsAt state q → ⊥
+      by s q state x y met among through on (not_passed never) = never (lets_pass (portals_of world.tree own.touchings) (are_convex world.tree own.touchings own.are_touchings) state s q x y met among through on)
+      by s q state x y met among through on (blocked is) = (lets world.tree own.have_points own.touchings own.are_touchings).not_blocked s q state x y met among through on is
 
   -- a leaf that is ahead stays so where fewer leaves were met
   fewer_met : (state : ChainState) (leaf n : ℕ) (met fewer : List ℕ) → ((m : ℕ) → Contains fewer m → Contains met m) → IsAhead MeetsState world.tree first state leaf met n → IsAhead MeetsState world.tree first state leaf fewer n
@@ -50,7 +69,7 @@ module _ (world : World) (own : HasOwnPortals world) (first : Portal) where
   }
 
   module _ (frame : Frame) (leaf n : ℕ) (met : List ℕ) (met_is : (m : ℕ) → IsIn frame.met m ↔ Contains met m) (in_mask : IsIn frame.mask n) (leaving : HasAllLeaving world.portals leaf frame.untried) where
-    awaited : IsNext world.tree own.have_points own.touchings own.are_touchings BeginsWith GoesOn BlocksAt MeetsState (lets world.tree own.have_points own.touchings own.are_touchings) first frame.state leaf met n → IsAwaited world first n frame
+    awaited : IsNext world.tree own.have_points own.touchings own.are_touchings BeginsWith GoesOn StopsAt MeetsState none_stops first frame.state leaf met n → IsAwaited world first n frame
     awaited next =
         let at = number_of_listed world.portals next.portal (listed next.portal next.listed) in
         record {
@@ -61,8 +80,8 @@ module _ (world : World) (own : HasOwnPortals world) (first : Portal) where
           portal_is = at.1;
           next = record {
             new = λ is. next.new ((met_is next.portal.to).0 is);
-            in_sight = via_in_sight world.tree first next.portal n next.via;
-            not_blocked = next.not_blocked;
+            via = next.via;
+            not_stopped = next.not_blocked;
             ahead = λ after step others among. fewer_met after next.portal.to n (next.portal.to ∷ met) others
                 (λ m there. ⊎_elim
                 (λ here. subst (Contains (next.portal.to ∷ met)) here (Contains-first next.portal.to met))
@@ -75,7 +94,7 @@ module _ (world : World) (own : HasOwnPortals world) (first : Portal) where
     -- it is the leaf that was entered last, or awaited
     pub reached_or_awaited : IsAhead MeetsState world.tree first frame.state leaf met n → (leaf ≡ n) ⊎ IsAwaited world first n frame
     reached_or_awaited ahead = ⊎_elim (λ here. inl here) (λ next. inr (awaited next))
-        (reached_or_next world.tree own.have_points own.touchings own.are_touchings first frame.state leaf met n ahead)
+        (next_ahead world.tree own.have_points own.touchings own.are_touchings BeginsWith GoesOn StopsAt MeetsState none_stops first frame.state leaf met n ahead)
 
   -- ---- at the start
 

@@ -16,7 +16,9 @@ use Rattle.qm_separators.specs.PortalSteps.{BeginsWith}
 use Rattle.qm_separators.proofs.PortalStepLaws.{are_convex, first_is_state}
 use Rattle.qm_contacts.specs.OwnPortals.{HasOwnPortals}
 use Rattle.qm_chains.specs.Shown.{IsAt}
-use Rattle.qm_chains.specs.inner.Frame.{Frame, IsNarrowed, EndsChain, IsAwaited}
+use Rattle.qm_chains.specs.inner.Frame.{Frame, EndsChain, IsAwaited}
+use Rattle.qm_chains.specs.inner.Narrowing.{IsNarrowed}
+use Rattle.qm_chains.specs.inner.OwnRows.{IsInSightAt}
 use Rattle.qm_chains.specs.inner.Walk.{IsBegun}
 use Rattle.qm_chains.proofs.ChainEnds.{first_ends, end_shown}
 use Rattle.qm_chains.proofs.AwaitedLeaves.{first_awaited}
@@ -55,7 +57,7 @@ module _ (world : World) (own : HasOwnPortals world) (p : ℕ) (first : Portal) 
 
   module _ (MayHave : ℕ → ℕ → Type 0) (frame : Frame) (leaves : ℕ) (count : leaves ≡ length (numbered_leaves world.tree)) (from_within : first.from < leaves) (to_within : first.to < leaves)
       (state_is : frame.state ≡ first_state first.winding first.into) (met_is : frame.met ≡ set (set (replicate leaves false) first.from true) first.to true) (leaving : AreLeaving world.portals first.to frame.untried)
-      (ceiling : List Bool) (narrowed : IsNarrowed world p ceiling (replicate leaves true) frame.mask) (may : (n : ℕ) → IsIn ceiling n → MayHave n p) where
+      (Can : ℕ → Type 0) (narrowed : IsNarrowed (IsInSightAt world p) Can (replicate leaves true) frame.mask) (may : (n : ℕ) → Can n → MayHave n p) where
     clear_long : length {A = Bool} (replicate leaves false) ≡ leaves
     clear_long = length-replicate leaves false
 
@@ -96,7 +98,7 @@ module _ (world : World) (own : HasOwnPortals world) (p : ℕ) (first : Portal) 
     sight_within n sight = let below = slice_get_within (numbered_leaves world.tree) n _ sight.last_is in omega (arith, below, count)
 
     in_mask : (n : ℕ) → IsInSight world.tree first n → n < leaves → IsIn frame.mask n
-    in_mask n sight inside = narrowed.keeps first first_is n (all_set leaves n inside) sight
+    in_mask n sight inside = narrowed.keeps n (all_set leaves n inside) (record { portal = first; portal_is = first_is; sight = sight })
 
     -- what is found: the leaf that the portal enters, where the mask has it
     abbrev pub FindsFirst : List Bool → Type 0
@@ -105,6 +107,9 @@ module _ (world : World) (own : HasOwnPortals world) (p : ℕ) (first : Portal) 
     pub begins : (row : List Bool) → FindsFirst row → IsBegun world MayHave p frame row
     begins row finds = record {
       wide = ⊎_elim (λ it. ap length it.1 ∙ length-set (replicate leaves false) first.to true ∙ clear_long ∙ count) (λ kept. ap length kept.1 ∙ clear_long ∙ count) finds;
+      sees = λ other at n other_sight.
+          let sight = subst (λ (r : Portal). IsInSight world.tree r n) (same_portal world.portals p other first at first_is) other_sight in
+          in_mask n sight (sight_within n sight);
       chain = chain_ends;
       shown = λ n is. ⊎_elim
           (λ it. ⊎_elim

@@ -77,13 +77,13 @@ then_entered A B C one two three due later last either before after = record {
   weight = after.weight ∙ before.weight;
 }
 
-module _ (world : World) (frame : Frame) (found : List Bool) where
+module _ (world : World) (p : ℕ) (frame : Frame) (found : List Bool) where
   -- ---- over the portals that leave a leaf
 
-  pub into_none : (to : ℕ) → LeadsInto world frame found [] to → ⊥
+  pub into_none : (to : ℕ) → LeadsInto world p frame found [] to → ⊥
   into_none to leads = Contains-nil leads.number leads.among
 
-  pub into_cases : (numbers : List ℕ) (number to : ℕ) → LeadsInto world frame found (numbers ++ number ∷ []) to → LeadsInto world frame found numbers to ⊎ LeadsInto world frame found (number ∷ []) to
+  pub into_cases : (numbers : List ℕ) (number to : ℕ) → LeadsInto world p frame found (numbers ++ number ∷ []) to → LeadsInto world p frame found numbers to ⊎ LeadsInto world p frame found (number ∷ []) to
   into_cases numbers number to leads = ⊎_elim
       (λ before. inl (record { number = leads.number; among = before; portal = leads.portal; portal_is = leads.portal_is; leads = leads.leads; to_is = leads.to_is }))
       (λ here. inr (record { number = leads.number; among = subst (Contains (number ∷ [])) here (Contains-first number []); portal = leads.portal; portal_is = leads.portal_is; leads = leads.leads; to_is = leads.to_is }))
@@ -96,7 +96,7 @@ module _ (world : World) (frame : Frame) (found : List Bool) where
       slice_get_within world.portals (get_or numbers i other) its.0 its.1
 
   -- the one portal of a list is the portal of that number
-  module _ (number : ℕ) (q : Portal) (q_is : IsAt world.portals number q) (to : ℕ) (leads : LeadsInto world frame found (number ∷ []) to) where
+  module _ (number : ℕ) (q : Portal) (q_is : IsAt world.portals number q) (to : ℕ) (leads : LeadsInto world p frame found (number ∷ []) to) where
     one_portal : leads.portal ≡ q
     one_portal = ⊎_elim
         (λ here. same_portal world.portals number leads.portal q (subst (λ (m : ℕ). IsAt world.portals m leads.portal) (sym here) leads.portal_is) q_is)
@@ -106,13 +106,13 @@ module _ (world : World) (frame : Frame) (found : List Bool) where
     pub into_its_leaf : q.to ≡ to
     into_its_leaf = ap (λ (r : Portal). r.to) (sym one_portal) ∙ leads.to_is
 
-    pub leads_over : LeadsOn world frame found q
-    leads_over = subst (LeadsOn world frame found) one_portal leads.leads
+    pub leads_over : LeadsOn world p frame found q
+    leads_over = subst (LeadsOn world p frame found) one_portal leads.leads
 
   -- ---- leaf by leaf
 
   module _ (entered : ℕ) where
-    pub cone_begins : (leaves : ℕ) (row : List Bool) (due : List ℕ) → leaves ≡ length (numbered_leaves world.tree) → entered < leaves → row ≡ set (replicate leaves false) entered true → due ≡ entered ∷ [] → IsConeSoFar world frame found entered row due
+    pub cone_begins : (leaves : ℕ) (row : List Bool) (due : List ℕ) → leaves ≡ length (numbered_leaves world.tree) → entered < leaves → row ≡ set (replicate leaves false) entered true → due ≡ entered ∷ [] → IsConeSoFar world p frame found entered row due
     cone_begins leaves row due count within row_is due_is = record {
       wide = ap length row_is ∙ length-set (replicate leaves false) entered true ∙ clear_long ∙ count;
       begun = subst (λ (r : List Bool). IsIn r entered) (sym row_is) ((one entered).1 (inl refl));
@@ -133,12 +133,12 @@ module _ (world : World) (frame : Frame) (found : List Bool) where
         one n = gains_one (replicate leaves false) entered (omega (arith, clear_long, within)) n
 
     -- the last leaf that is due is gone on from
-    module _ (row new : List Bool) (due below new_due : List ℕ) (leaf : ℕ) (taken_off : due ≡ below ++ leaf ∷ []) (so_far : IsConeSoFar world frame found entered row due) where
+    module _ (row new : List Bool) (due below new_due : List ℕ) (leaf : ℕ) (taken_off : due ≡ below ++ leaf ∷ []) (so_far : IsConeSoFar world p frame found entered row due) where
       pub leaf_in : IsIn row leaf
       leaf_in = so_far.only leaf (subst (λ (l : List ℕ). Contains l leaf) (sym taken_off) (last_there below leaf))
 
-      module _ (leaving : List ℕ) (all : AreLeaving world.portals leaf leaving) (after : AreEntered (LeadsInto world frame found leaving) row new below new_due) where
-        from_leaf : (to : ℕ) → LeadsFrom world frame found leaf to → IsIn new to
+      module _ (leaving : List ℕ) (all : AreLeaving world.portals leaf leaving) (after : AreEntered (LeadsInto world p frame found leaving) row new below new_due) where
+        from_leaf : (to : ℕ) → LeadsFrom world p frame found leaf to → IsIn new to
         from_leaf to leads =
             let at = number_of_listed world.portals leads.portal leads.listed in
             after.all to (record {
@@ -150,7 +150,7 @@ module _ (world : World) (frame : Frame) (found : List Bool) where
               to_is = leads.to_is;
             })
 
-        pub cone_more : IsConeSoFar world frame found entered new new_due
+        pub cone_more : IsConeSoFar world p frame found entered new new_due
         cone_more = record {
           wide = after.same_length ∙ so_far.wide;
           begun = after.stays entered so_far.begun;
@@ -162,7 +162,7 @@ module _ (world : World) (frame : Frame) (found : List Bool) where
               (λ was. ⊎_elim
               (λ was_due. ⊎_elim
               (λ among. inl (after.due_stays from among))
-              (λ here. inr (λ to leads. from_leaf to (subst (λ (m : ℕ). LeadsFrom world frame found m to) (sym here) leads)))
+              (λ here. inr (λ to leads. from_leaf to (subst (λ (m : ℕ). LeadsFrom world p frame found m to) (sym here) leads)))
               (Contains-push_cases below leaf from (subst (λ (l : List ℕ). Contains l from) taken_off was_due)))
               (λ gone. inr (λ to leads. after.stays to (gone to leads)))
               (so_far.gone_on from was))
@@ -176,8 +176,8 @@ module _ (world : World) (frame : Frame) (found : List Bool) where
             let more = ap length taken_off ∙ length_push below leaf in
             omega (arith, same, more)
 
-    pub cone_ends : (row : List Bool) → IsConeSoFar world frame found entered row [] → (n : ℕ) → IsInCone world frame found entered n → IsIn row n
+    pub cone_ends : (row : List Bool) → IsConeSoFar world p frame found entered row [] → (n : ℕ) → IsInCone world p frame found entered n → IsIn row n
     cone_ends row so_far =
-        least (λ m. entered ≡ m) (LeadsFrom world frame found) (IsIn row)
+        least (λ m. entered ≡ m) (LeadsFrom world p frame found) (IsIn row)
         (λ n here. subst (IsIn row) here so_far.begun)
         (λ from to is leads. ⊎_elim (λ due. absurd (Contains-nil from due)) (λ gone. gone to leads) (so_far.gone_on from is))

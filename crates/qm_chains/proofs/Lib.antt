@@ -9,3 +9,4 @@ pub mod Beginnings
 pub mod Cones
 pub mod Entering
 pub mod Words
+pub mod PairRows

@@ -5,15 +5,16 @@ use Rattle.std.specs.List.{count_by}
 use Rattle.std.proofs.lemmas.Bool.{cases_eq}
 use Rattle.std.proofs.lemmas.List.{length-set, get_or-set_same, get_or-set_other}
 use Rattle.std.proofs.lemmas.Option.{slice_get_within}
-use Rattle.qm_bits.specs.Unseen.{HasUnseen}
 use Rattle.qm_lists.specs.WorkList.{IsIn}
 use Rattle.qm_lists.proofs.Elements.{Contains-first}
 use Rattle.qm_contacts.specs.Portals.{Portal}
 use Rattle.qm_contacts.specs.World.{World, AreLeaving}
-use Rattle.qm_separators.specs.PortalSteps.{GoesOn, BlocksAt}
+use Rattle.qm_separators.specs.PortalSteps.{GoesOn}
 use Rattle.qm_contacts.specs.OwnPortals.{HasOwnPortals}
 use Rattle.qm_chains.specs.Shown.{IsAt, IsShown}
-use Rattle.qm_chains.specs.inner.Frame.{Frame, put_back, IsNarrowed, EndsChain, IsNextTo}
+use Rattle.qm_chains.specs.inner.Frame.{Frame, put_back, EndsChain, StopsAt, IsNextTo}
+use Rattle.qm_chains.specs.inner.Narrowing.{IsNarrowed}
+use Rattle.qm_chains.specs.inner.Wanted.{IsWantedVia}
 use Rattle.qm_chains.specs.inner.Walk.{IsFoundOrAhead, IsTried}
 use Rattle.qm_chains.proofs.ChainEnds.{AllLeave, GainsOne, step_ends, end_shown}
 use Rattle.qm_chains.proofs.AwaitedLeaves.{HasAllLeaving, next_awaited}
@@ -34,6 +35,9 @@ in_or_clear row place = by (get_or row place false) refl
 pub clear_if_not_in : (row : List Bool) (place : ℕ) → (IsIn row place → ⊥) → get_or row place false ≡ false
 clear_if_not_in row place never = ⊎_elim (λ is. absurd (never is)) (λ clear. clear) (in_or_clear row place)
 
+pub not_in_if_clear : (row : List Bool) (place : ℕ) → get_or row place false ≡ false → IsIn row place → ⊥
+not_in_if_clear row place clear is = let never : true ≡ false = sym is ∙ clear in cc
+
 -- a row in which one place was set
 pub gains_one : (row : List Bool) (place : ℕ) → place < length row → GainsOne place row (set row place true)
 gains_one row place within n = (
@@ -45,6 +49,10 @@ gains_one row place within n = (
       (λ other. get_or-set_other row place n true false other ∙ old)
       (cases_eq n place)),
 )
+
+-- a place of it is that one, or was set before
+pub set_only : (row : List Bool) (place n : ℕ) → IsIn (set row place true) n → (n ≡ place) ⊎ IsIn row n
+set_only row place n is = ⊎_elim (λ here. inl here) (λ other. inr (sym (get_or-set_other row place n true false other) ∙ is)) (cases_eq n place)
 
 -- ---- the portals that leave a leaf
 
@@ -63,31 +71,34 @@ module _ (portals : List Portal) (leaf : ℕ) (numbers : List ℕ) (leaving : Ar
 -- ---- a portal
 
 module _ (world : World) (own : HasOwnPortals world) (MayHave : ℕ → ℕ → Type 0) (p : ℕ) (frame : Frame) (number : ℕ) (row : List Bool) (q : Portal) (q_is : IsAt world.portals number q) where
+  -- a leaf for which the portal is next, and that was not found, is wanted via it
+  pub next_wanted : (first : Portal) → IsAt world.portals p first → (n : ℕ) → IsNextTo world.tree first frame n q → (IsIn row n → ⊥) → IsWantedVia world p row number n
+  next_wanted first first_is n next never = record { portal = q; portal_is = q_is; wanted = record { first = first; first_is = first_is; via = next.via; not_found = never } }
+
   -- nothing is found, where no leaf that may still be shown is lost
-  none_found : ((first : Portal) (n : ℕ) → IsIn frame.mask n → IsNextTo world.tree first frame n q → IsIn row n) → IsTried world MayHave p frame number row row None
+  none_found : ((first : Portal) → IsAt world.portals p first → (n : ℕ) → IsIn frame.mask n → IsNextTo world.tree first frame n q → IsIn row n) → IsTried world MayHave p frame number row row None
   none_found none_lost = record {
     same_length = refl;
     stays = λ n is. is;
     gained = λ n is. inl is;
     chain = tt;
     fewer = tt;
-    none_missed = λ first other first_is at n in_mask next. inl (none_lost first n in_mask (subst (IsNextTo world.tree first frame n) (same_portal world.portals number other q at q_is) next));
+    none_missed = λ first other first_is at n in_mask next. inl (none_lost first first_is n in_mask (subst (IsNextTo world.tree first frame n) (same_portal world.portals number other q at q_is) next));
   }
 
   pub tried_met : IsIn frame.met q.to → IsTried world MayHave p frame number row row None
-  tried_met met = none_found (λ first n in_mask next. absurd (next.new met))
+  tried_met met = none_found (λ first first_is n in_mask next. absurd (next.new met))
 
-  pub tried_blocked : BlocksAt frame.state q → IsTried world MayHave p frame number row row None
-  tried_blocked blocks = none_found (λ first n in_mask next. absurd (next.not_blocked blocks))
+  pub tried_stopped : StopsAt frame.state q → IsTried world MayHave p frame number row row None
+  tried_stopped stops = none_found (λ first first_is n in_mask next. absurd (next.not_stopped stops))
 
-  module _ (ceiling mask : List Bool) (narrowed : IsNarrowed world number ceiling frame.mask mask) where
-    pub tried_nothing : (HasUnseen mask row → ⊥) → IsTried world MayHave p frame number row row None
-    tried_nothing none_new = none_found (λ first n in_mask next. ⊎_elim
-        (λ is. is)
-        (λ clear. absurd (none_new (n, narrowed.keeps q q_is n in_mask next.in_sight, clear)))
-        (in_or_clear row n))
+  pub tried_nothing : ((n : ℕ) → IsIn frame.mask n → IsWantedVia world p row number n → ⊥) → IsTried world MayHave p frame number row row None
+  tried_nothing none_new = none_found (λ first first_is n in_mask next. ⊎_elim
+      (λ is. is)
+      (λ clear. absurd (none_new n in_mask (next_wanted first first_is n next (not_in_if_clear row n clear))))
+      (in_or_clear row n))
 
-  module _ (child : Frame) (ceiling : List Bool) (narrowed : IsNarrowed world number ceiling frame.mask child.mask) (may : (n : ℕ) → IsIn ceiling n → MayHave n number) (ends : EndsChain world MayHave p (put_back number frame))
+  module _ (child : Frame) (Can : ℕ → Type 0) (narrowed : IsNarrowed (IsWantedVia world p row number) Can frame.mask child.mask) (may : (n : ℕ) → Can n → MayHave n number) (ends : EndsChain world MayHave p (put_back number frame))
       (step : GoesOn frame.state q child.state) (new : IsIn frame.met q.to → ⊥) (within : q.to < length frame.met) (met_is : child.met ≡ set frame.met q.to true) (leaving : AreLeaving world.portals q.to child.untried) where
     met_gains : GainsOne q.to frame.met child.met
     met_gains = subst (GainsOne q.to frame.met) (sym met_is) (gains_one frame.met q.to within)
@@ -127,15 +138,18 @@ module _ (world : World) (own : HasOwnPortals world) (MayHave : ℕ → ℕ → 
           (λ kept. inl (subst (λ (r : List Bool). IsIn r n) kept.1 is))
           finds
 
-      found_or_ahead : (first : Portal) (n : ℕ) → IsIn frame.mask n → IsNextTo world.tree first frame n q → IsFoundOrAhead world first (Some child) found n
-      found_or_ahead first n in_mask next =
-          let in_child = narrowed.keeps q q_is n in_mask next.in_sight in
+      found_or_ahead : (first : Portal) → IsAt world.portals p first → (n : ℕ) → IsIn frame.mask n → IsNextTo world.tree first frame n q → IsFoundOrAhead world first (Some child) found n
+      found_or_ahead first first_is n in_mask next = ⊎_elim
+          (λ is. inl (found_keeps n is))
+          (λ clear.
+          let in_child = narrowed.keeps n in_mask (next_wanted first first_is n next (not_in_if_clear row n clear)) in
           ⊎_elim
           (λ here.
           let last : IsIn child.mask q.to = subst (IsIn child.mask) (sym here) in_child in
           inl ((found_gains last n).1 (inl here)))
           (λ awaited. inr awaited)
-          (next_awaited world own first MayHave p frame child q n next step child_ends met_gains (all_leaving world.portals q.to child.untried leaving) in_child)
+          (next_awaited world own first MayHave p frame child q n next step child_ends met_gains (all_leaving world.portals q.to child.untried leaving) in_child))
+          (in_or_clear row n)
 
       pub tried_on : IsTried world MayHave p frame number row found (Some child)
       tried_on = record {
@@ -147,5 +161,5 @@ module _ (world : World) (own : HasOwnPortals world) (MayHave : ℕ → ℕ → 
           few_leaving world.portals q.to child.untried leaving,
           subst (λ (met : List Bool). count_by not met < count_by not frame.met) (sym met_is) (fewer_clear frame.met q.to within (clear_if_not_in frame.met q.to new)),
         );
-        none_missed = λ first other first_is at n in_mask next. found_or_ahead first n in_mask (subst (IsNextTo world.tree first frame n) (same_portal world.portals number other q at q_is) next);
+        none_missed = λ first other first_is at n in_mask next. found_or_ahead first first_is n in_mask (subst (IsNextTo world.tree first frame n) (same_portal world.portals number other q at q_is) next);
       }

@@ -100,7 +100,7 @@ module _ (world : World) (MayHave : ℕ → ℕ → Type 0) (p : ℕ) where
           (λ here. ⊎_elim
           (λ is. inl is)
           (λ ahead. inr (in_child child first n ahead))
-          (tried.none_missed first awaited.portal at (subst (λ (m : ℕ). IsAt world.portals m awaited.portal) (sym here) awaited.portal_is) n awaited.in_mask (record { new = awaited.next.new; in_sight = awaited.next.in_sight; not_blocked = awaited.next.not_blocked; ahead = awaited.next.ahead })))
+          (tried.none_missed first awaited.portal at (subst (λ (m : ℕ). IsAt world.portals m awaited.portal) (sym here) awaited.portal_is) n awaited.in_mask (record { new = awaited.next.new; via = awaited.next.via; not_stopped = awaited.next.not_stopped; ahead = awaited.next.ahead })))
           (λ later. inr (
             frame,
             Contains-append_left (below ++ frame ∷ []) (option_to_list child) frame (last_there below frame),
@@ -110,7 +110,7 @@ module _ (world : World) (MayHave : ℕ → ℕ → Type 0) (p : ℕ) where
               untried = later;
               portal = awaited.portal;
               portal_is = awaited.portal_is;
-              next = record { new = awaited.next.new; in_sight = awaited.next.in_sight; not_blocked = awaited.next.not_blocked; ahead = awaited.next.ahead };
+              next = record { new = awaited.next.new; via = awaited.next.via; not_stopped = awaited.next.not_stopped; ahead = awaited.next.ahead };
             },
           ))
           (Contains-cons_cases number awaited.number frame.untried awaited.untried)

@@ -5,32 +5,30 @@ use Rattle.std.proofs.lemmas.Bool.{cases_eq, and_parts}
 use Rattle.qm_bits.specs.Word.{has_bit, IsWord, IsMasked}
 use Rattle.qm_bits.proofs.Bits.{has_bit-and, has_bit-not, has_bit-zero}
 use Rattle.qm_lists.proofs.WorkLists.{place_within}
-use Rattle.qm_contacts.specs.Portals.{Portal}
-use Rattle.qm_contacts.specs.World.{World}
-use Rattle.qm_segments.specs.Sight.{IsInSight}
-use Rattle.qm_chains.specs.Shown.{IsAt}
-use Rattle.qm_chains.specs.inner.Cone.{ShowsNothingNew, ShowsNothingNewUpTo, IsCutTo, IsCutUpTo}
+use Rattle.qm_chains.specs.inner.Cone.{IsCutTo, IsCutUpTo}
+use Rattle.qm_chains.specs.inner.Narrowing.{ShowsNothingNew, ShowsNothingNewUpTo}
 use Rattle.qm_chains.proofs.TriedPortals.{in_or_clear}
 
--- where a word, a mask and what was not found have no bit in common, a bit of the two is found
-bit_found : (word mask found bit : ℕ) → found < 2 ^ 64 → bit < 64 → bit_and (bit_and word mask) (bit_not w64 found) ≡ 0 → has_bit word bit ≡ true → has_bit mask bit ≡ true → has_bit found bit ≡ false → ⊥
-bit_found word mask found bit small within none in_word in_mask clear =
-    let zero_bit : has_bit (bit_and (bit_and word mask) (bit_not w64 found)) bit ≡ false = ap (λ (n : ℕ). has_bit n bit) none ∙ has_bit-zero bit in
-    let outer = has_bit-and (bit_and word mask) (bit_not w64 found) bit in
-    let inner = has_bit-and word mask bit in
+-- where a word has no bit that a mask has and what was found has not, a bit of the two is found
+new_bit : (mask found bit : ℕ) → found < 2 ^ 64 → bit < 64 → has_bit mask bit ≡ true → has_bit found bit ≡ false → has_bit (bit_and mask (bit_not w64 found)) bit ≡ true
+new_bit mask found bit small within in_mask clear =
+    let both = has_bit-and mask (bit_not w64 found) bit in
     let flipped = has_bit-not found bit small within in
-    let whole : has_bit (bit_and (bit_and word mask) (bit_not w64 found)) bit ≡ true = outer ∙ rw (inner, flipped, in_word, in_mask, clear) refl in
-    let never : true ≡ false = sym whole ∙ zero_bit in
+    both ∙ rw (flipped, in_mask, clear) refl
+
+none_set : (word bit : ℕ) → word ≡ 0 → has_bit word bit ≡ true → ⊥
+none_set word bit zero is =
+    let never : true ≡ false = sym is ∙ ap (λ (n : ℕ). has_bit n bit) zero ∙ has_bit-zero bit in
     cc
 
-module _ (world : World) (number : ℕ) (mask found : List Bool) where
-  pub shows_none : ShowsNothingNewUpTo world number 0 mask found
-  shows_none q at n before in_mask sight = absurd (omega (arith, before))
+module _ (Must : ℕ → Type 0) (mask found : List Bool) where
+  pub shows_none : ShowsNothingNewUpTo Must 0 mask found
+  shows_none n before in_mask must = absurd (omega (arith, before))
 
-  pub shows_more : (words word mask_word found_word : ℕ) → ShowsNothingNewUpTo world number words mask found → IsWord mask words mask_word → IsWord found words found_word → found_word < 2 ^ 64 →
-      ((q : Portal) → IsAt world.portals number q → (bit : ℕ) → bit < 64 → IsInSight world.tree q (64 * words + bit) → has_bit word bit ≡ true) →
-      bit_and (bit_and word mask_word) (bit_not w64 found_word) ≡ 0 → ShowsNothingNewUpTo world number (words + 1) mask found
-  shows_more words word mask_word found_word so_far is_mask is_found small sound none q at n before in_mask sight = ⊎_elim
+  -- none that may be new is among those that an answer must have
+  shows_more : (words mask_word found_word : ℕ) → ShowsNothingNewUpTo Must words mask found → IsWord mask words mask_word → IsWord found words found_word → found_word < 2 ^ 64 →
+      ((bit : ℕ) → bit < 64 → Must (64 * words + bit) → has_bit (bit_and mask_word (bit_not w64 found_word)) bit ≡ true → ⊥) → ShowsNothingNewUpTo Must (words + 1) mask found
+  shows_more words mask_word found_word so_far is_mask is_found small none n before in_mask must = ⊎_elim
       (λ here. ⊎_elim
       (λ is. is)
       (λ clear.
@@ -38,15 +36,32 @@ module _ (world : World) (number : ℕ) (mask found : List Bool) where
       let place : n ≡ 64 * words + n % 64 = omega (arith, here) in
       let has_mask = is_mask (n % 64) bit ∙ ap (λ (m : ℕ). get_or mask m false) (sym place) ∙ in_mask in
       let has_none = is_found (n % 64) bit ∙ ap (λ (m : ℕ). get_or found m false) (sym place) ∙ clear in
-      absurd (bit_found word mask_word found_word (n % 64) small bit none (sound q at (n % 64) bit (subst (IsInSight world.tree q) place sight)) has_mask has_none))
+      absurd (none (n % 64) bit (subst Must place must) (new_bit mask_word found_word (n % 64) small bit has_mask has_none)))
       (in_or_clear found n))
-      (λ other. so_far q at n (omega (arith, before, other)) in_mask sight)
+      (λ other. so_far n (omega (arith, before, other)) in_mask must)
       (cases_eq (n / 64) words)
 
-  pub shows_nothing : (words : ℕ) → length mask ≤ 64 * words → ShowsNothingNewUpTo world number words mask found → ShowsNothingNew world number mask found
-  shows_nothing words enough so_far q at n in_mask sight =
+  -- the mask has none in its word that was not found
+  pub shows_none_new : (words mask_word found_word : ℕ) → ShowsNothingNewUpTo Must words mask found → IsWord mask words mask_word → IsWord found words found_word → found_word < 2 ^ 64 →
+      bit_and mask_word (bit_not w64 found_word) ≡ 0 → ShowsNothingNewUpTo Must (words + 1) mask found
+  shows_none_new words mask_word found_word so_far is_mask is_found small zero =
+      shows_more words mask_word found_word so_far is_mask is_found small (λ bit within must is. none_set (bit_and mask_word (bit_not w64 found_word)) bit zero is)
+
+  -- the word of the row has none of them
+  pub shows_none_there : (words word mask_word found_word : ℕ) → ShowsNothingNewUpTo Must words mask found → IsWord mask words mask_word → IsWord found words found_word → found_word < 2 ^ 64 →
+      ((bit : ℕ) → bit < 64 → Must (64 * words + bit) → has_bit word bit ≡ true) →
+      bit_and word (bit_and mask_word (bit_not w64 found_word)) ≡ 0 → ShowsNothingNewUpTo Must (words + 1) mask found
+  shows_none_there words word mask_word found_word so_far is_mask is_found small sound zero =
+      let left = bit_and mask_word (bit_not w64 found_word) in
+      shows_more words mask_word found_word so_far is_mask is_found small (λ bit within must is.
+      let both = has_bit-and word left bit in
+      let has = sound bit within must in
+      none_set (bit_and word left) bit zero (both ∙ rw (has, is) refl))
+
+  pub shows_nothing : (words : ℕ) → length mask ≤ 64 * words → ShowsNothingNewUpTo Must words mask found → ShowsNothingNew Must mask found
+  shows_nothing words enough so_far n in_mask must =
       let inside = place_within mask n in_mask in
-      so_far q at n (omega (arith, enough, inside)) in_mask sight
+      so_far n (omega (arith, enough, inside)) in_mask must
 
 -- ---- a row is cut to another
 

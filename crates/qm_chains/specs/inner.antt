@@ -1,4 +1,7 @@
 pub mod Cone
 pub mod Frame
 pub mod Narrowing
+pub mod OwnRows
+pub mod Pairs
 pub mod Walk
+pub mod Wanted

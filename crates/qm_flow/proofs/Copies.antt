@@ -1,5 +1,5 @@
 -- Rows of which all places are set, and rows that are copied.
-use Rattle.std.proofs.Common.{◌≡◌, ⊎_elim, ℕ, ◌+◌, ◌<◌, Bool, true, false, ◌||◌, List, length, get_or, set, replicate, sym, ap, ◌∙◌, subst, arith, inl, inr}
+use Rattle.std.proofs.Common.{◌≡◌, ◌⊎◌, ⊎_elim, ℕ, ◌+◌, ◌<◌, Bool, true, false, ◌||◌, List, length, get_or, set, replicate, sym, ap, ◌∙◌, subst, arith, inl, inr}
 use Rattle.std.proofs.lemmas.Bool.{cases_eq}
 use Rattle.std.proofs.lemmas.List.{ext_get_or, length-replicate, get_or-replicate}
 use Rattle.qm_bits.specs.Union.{IsUnion}
@@ -24,3 +24,10 @@ one_more_set row n within all place below = ⊎_elim
     (λ here. (gains_one row n within place).1 (inl (sym here)))
     (λ other. (gains_one row n within place).1 (inr (all place (omega (arith, below, other)))))
     (cases_eq place n)
+
+-- what was found stays, where one place more may be set
+pub found_stays : (row new mask : List Bool) (place : ℕ) → place < length row → (IsIn mask place × (new ≡ set row place true)) ⊎ ((IsIn mask place → ⊥) × (new ≡ row)) → (n : ℕ) → IsIn row n → IsIn new n
+found_stays row new mask place within finds n is = ⊎_elim
+    (λ it. subst (λ (r : List Bool). IsIn r n) (sym it.1) ((gains_one row place within n).1 (inr is)))
+    (λ kept. subst (λ (r : List Bool). IsIn r n) (sym kept.1) is)
+    finds

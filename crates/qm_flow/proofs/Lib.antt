@@ -1,3 +1,7 @@
 mod Copies
+mod FourLeaves
+mod OwnAnswers
+mod PairFrames
+mod PairsKept
 mod Rounds
 mod Turns

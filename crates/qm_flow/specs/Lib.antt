@@ -1,1 +1,3 @@
 pub mod InCeiling
+pub mod PairFrame
+pub mod PairsGoOn

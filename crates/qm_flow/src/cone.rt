@@ -4,10 +4,12 @@ ghost use Rattle.std.specs.Prelude.{ℕ, ◌≡◌, ◌<◌, [], ◌∷◌, leng
 ghost use Rattle.qm_lists.specs.WorkList.{IsIn};
 ghost use Rattle.qm_contacts.specs.NumberedLeaves.{numbered_leaves};
 ghost use Rattle.qm_chains.specs.inner.Cone.{LeadsInto, IsInCone, IsLeftOf, AreEntered};
+ghost use Rattle.qm_chains.specs.inner.Pairs.{ArePairs};
 ghost use Rattle.qm_chains.specs.inner.Walk.{AreWide};
 
 use crate::frame::Frame;
 use crate::narrowing::{cut, may_show};
+use crate::pairs::Pairs;
 use qm_bits::BitRow;
 use qm_narrow::may_pass;
 use qm_portal::World;
@@ -20,17 +22,19 @@ pub(crate) fn left_of<'a, S: RowSource>(
     alloc: Global,
     world: &World,
     source: &mut S,
+    pairs: &Pairs,
     frame: Frame<'a>,
     found: &BitRow,
     entered: u64,
 ) -> Result<Option<Frame<'a>>, AllocError>
     requires entered { entered < length (numbered_leaves world.now.tree) }
     requires same_world { S.world source.old ≡ world.now }
+    requires pairs { ArePairs world.now found.now pairs.now }
     requires wide { AreWide world.now frame found.now }
-    ensures left { IfOk result (λ left. IsLeftOf world.now frame.entry found.now entered left) }
+    ensures left { IfOk result (λ left. IsLeftOf world.now pairs.now.first frame.entry found.now entered left) }
     ensures on { S.goes_on source.old source.new }
 {
-    let cone = cone_of(alloc, world, source, &frame, found, entered)?;
+    let cone = cone_of(alloc, world, source, pairs, &frame, found, entered)?;
     let Frame {
         state,
         untried,
@@ -50,19 +54,21 @@ pub(crate) fn left_of<'a, S: RowSource>(
 }
 
 /// A row that has the cone of a frame that has entered a leaf.
-fn cone_of<'a, S: RowSource>(
+pub(crate) fn cone_of<'a, S: RowSource>(
     alloc: Global,
     world: &World,
     source: &mut S,
+    pairs: &Pairs,
     frame: &Frame<'a>,
     found: &BitRow,
     entered: u64,
 ) -> Result<BitRow, AllocError>
     requires entered { entered < length (numbered_leaves world.now.tree) }
     requires same_world { S.world source.old ≡ world.now }
+    requires pairs { ArePairs world.now found.now pairs.now }
     requires wide { AreWide world.now frame.now found.now }
     ensures wide { IfOk result (λ row. length row ≡ length (numbered_leaves world.now.tree)) }
-    ensures cone { IfOk result (λ row. (n : ℕ) → IsInCone world.now frame.now found.now entered n → IsIn row n) }
+    ensures cone { IfOk result (λ row. (n : ℕ) → IsInCone world.now pairs.now.first frame.now found.now entered n → IsIn row n) }
     ensures on { S.goes_on source.old source.new }
 {
     let mut row = BitRow::with_len(alloc, world.leaves())?;
@@ -71,7 +77,9 @@ fn cone_of<'a, S: RowSource>(
     due.push(entered)?;
     while let Some(leaf) = due.pop() {
         let portals = world.leaving(leaf);
-        go_on(world, source, frame, found, portals, &mut row, &mut due)?;
+        go_on(
+            world, source, pairs, frame, found, portals, &mut row, &mut due,
+        )?;
     }
     Ok(row)
 }
@@ -80,6 +88,7 @@ fn cone_of<'a, S: RowSource>(
 fn go_on<'a, S: RowSource>(
     world: &World,
     source: &mut S,
+    pairs: &Pairs,
     frame: &Frame<'a>,
     found: &BitRow,
     portals: &[u64],
@@ -88,13 +97,14 @@ fn go_on<'a, S: RowSource>(
 ) -> Result<(), AllocError>
     requires portals { All (λ p. p < length world.now.portals) portals.now }
     requires same_world { S.world source.old ≡ world.now }
+    requires pairs { ArePairs world.now found.now pairs.now }
     requires wide { AreWide world.now frame.now found.now }
     requires row { length row.old ≡ length (numbered_leaves world.now.tree) }
-    ensures entered { OnOk result (AreEntered (LeadsInto world.now frame.now found.now portals.now) row.old row.new due.old.items due.new.items) }
+    ensures entered { OnOk result (AreEntered (LeadsInto world.now pairs.now.first frame.now found.now portals.now) row.old row.new due.old.items due.new.items) }
     ensures on { S.goes_on source.old source.new }
 {
     for portal in portals {
-        enter(world, source, frame, found, *portal, row, due)?;
+        enter(world, source, pairs, frame, found, *portal, row, due)?;
     }
     Ok(())
 }
@@ -103,6 +113,7 @@ fn go_on<'a, S: RowSource>(
 fn enter<'a, S: RowSource>(
     world: &World,
     source: &mut S,
+    pairs: &Pairs,
     frame: &Frame<'a>,
     found: &BitRow,
     portal: u64,
@@ -111,9 +122,10 @@ fn enter<'a, S: RowSource>(
 ) -> Result<(), AllocError>
     requires portal { portal < length world.now.portals }
     requires same_world { S.world source.old ≡ world.now }
+    requires pairs { ArePairs world.now found.now pairs.now }
     requires wide { AreWide world.now frame.now found.now }
     requires row { length row.old ≡ length (numbered_leaves world.now.tree) }
-    ensures entered { OnOk result (AreEntered (LeadsInto world.now frame.now found.now (portal ∷ [])) row.old row.new due.old.items due.new.items) }
+    ensures entered { OnOk result (AreEntered (LeadsInto world.now pairs.now.first frame.now found.now (portal ∷ [])) row.old row.new due.old.items due.new.items) }
     ensures on { S.goes_on source.old source.new }
 {
     let to = world.to(portal);
@@ -123,7 +135,7 @@ fn enter<'a, S: RowSource>(
     if frame.met.get(to) {
         return Ok(());
     }
-    if !may_show(source, portal, &frame.mask, found) {
+    if !may_show(pairs.own(), source, portal, &frame.mask, found) {
         return Ok(());
     }
     if !may_pass(&frame.state, world.pane(portal)) {

@@ -9,6 +9,8 @@ ghost use Rattle.qm_chains.specs.Shown.{IsAt, IsShown};
 ghost use Rattle.qm_flow.specs.InCeiling.{IsInCeiling};
 
 use crate::beginning::begin;
+use crate::own_rows::OwnRows;
+use crate::pairs::Pairs;
 use crate::trying::try_portal;
 use qm_bits::BitRow;
 use qm_portal::World;
@@ -33,12 +35,14 @@ pub fn flow<S: RowSource>(
 {
     world.own_portals();
     let mut row = BitRow::with_len(alloc, world.leaves())?;
-    let first = begin(alloc, world, source, portal, &mut row)?;
+    let own = OwnRows::none(alloc, world.portals())?;
+    let first = begin(alloc, world, source, &own, portal, &mut row)?;
+    let mut pairs = Pairs::of(alloc, world, portal, &first.mask, own)?;
     let mut frames = Vec::new(alloc);
     frames.push(first)?;
     while let Some(mut frame) = frames.pop() {
         if let Some(number) = frame.take_next() {
-            let child = try_portal(alloc, world, source, &frame, number, &mut row)?;
+            let child = try_portal(alloc, world, source, &mut pairs, &frame, number, &mut row)?;
             frames.push(frame)?;
             if let Some(child) = child {
                 frames.push(child)?;

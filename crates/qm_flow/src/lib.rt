@@ -5,8 +5,12 @@ mod beginning;
 mod cone;
 mod flowing;
 mod frame;
+mod going;
 pub mod laws;
 mod narrowing;
+mod own_rows;
+mod pairing;
+mod pairs;
 mod refining;
 mod trying;
 

@@ -1,46 +1,56 @@
-//! The one place in which a source is read.
+//! Rows of a flow, word by word.
 
-ghost use Rattle.std.specs.Prelude.{ℕ, ◌≡◌, ◌⊎◌, ◌↔◌, ◌<◌, true, false, length, replicate, slice_set, IfOk};
+ghost use Rattle.std.specs.Prelude.{ℕ, ◌≡◌, ◌⊎◌, ◌<◌, true, false, length, replicate, slice_set, IfOk};
 ghost use Rattle.qm_lists.specs.WorkList.{IsIn};
 ghost use Rattle.qm_contacts.specs.NumberedLeaves.{numbered_leaves};
-ghost use Rattle.qm_chains.specs.inner.Frame.{IsNarrowed};
-ghost use Rattle.qm_chains.specs.inner.Cone.{IsCutTo, ShowsNothingNew};
+ghost use Rattle.qm_chains.specs.inner.Cone.{IsCutTo};
+ghost use Rattle.qm_chains.specs.inner.Narrowing.{IsNarrowed, ShowsNothingNew};
+ghost use Rattle.qm_chains.specs.inner.OwnRows.{AreOwnRows, MustHave, CanHave};
 ghost use Rattle.qm_sight.specs.WordInSight.{ceiling_of};
 
+use crate::own_rows::OwnRows;
 use qm_bits::BitRow;
 use qm_sight::RowSource;
 use std::alloc::{AllocError, Global};
 
-/// Narrows a mask by the row of a portal, as the source answers it word by word.
-pub(crate) fn narrow<S: RowSource>(source: &mut S, portal: u64, mask: &mut BitRow)
-    requires portal { portal < length (S.world source.old).portals }
+/// Narrows a mask by the row of a portal. Where the mask has no leaf, nothing is read.
+pub(crate) fn narrow<S: RowSource>(own: &OwnRows, source: &mut S, portal: u64, mask: &mut BitRow)
+    requires portal { portal < length own.now }
+    requires own { AreOwnRows (S.world source.old) own.now }
     requires wide { length mask.old ≡ length (numbered_leaves (S.world source.old).tree) }
-    ensures narrowed { IsNarrowed (S.world source.old) portal (ceiling_of (S.ceilings source.old) portal) mask.old mask.new }
+    ensures narrowed { IsNarrowed (MustHave (S.world source.old) own.now portal) (CanHave (ceiling_of (S.ceilings source.old) portal) own.now portal) mask.old mask.new }
     ensures on { S.goes_on source.old source.new }
 {
     for k in 0..mask.len().div_ceil(64) {
-        let word = source.word(portal, k);
-        mask.and_word(k, word);
+        if mask.word(k) != 0 {
+            let word = own.word(source, portal, k);
+            mask.and_word(k, word);
+        }
     }
 }
 
-/// Whether a portal may show a leaf that the mask has, and that was not found. Where it says no, there is none in sight.
+/// Whether a portal may show a leaf that the mask has, and that was not found.
 pub(crate) fn may_show<S: RowSource>(
+    own: &OwnRows,
     source: &mut S,
     portal: u64,
     mask: &BitRow,
     found: &BitRow,
 ) -> bool
-    requires portal { portal < length (S.world source.old).portals }
+    requires portal { portal < length own.now }
+    requires own { AreOwnRows (S.world source.old) own.now }
     requires wide { length mask.now ≡ length (numbered_leaves (S.world source.old).tree) }
     requires found { length found.now ≡ length mask.now }
-    ensures none { result ≡ false → ShowsNothingNew (S.world source.old) portal mask.now found.now }
+    ensures none { result ≡ false → ShowsNothingNew (MustHave (S.world source.old) own.now portal) mask.now found.now }
     ensures on { S.goes_on source.old source.new }
 {
     for k in 0..mask.len().div_ceil(64) {
-        let word = source.word(portal, k);
-        if word & mask.word(k) & !found.word(k) != 0 {
-            return true;
+        let left = mask.word(k) & !found.word(k);
+        if left != 0 {
+            let word = own.word(source, portal, k);
+            if word & left != 0 {
+                return true;
+            }
         }
     }
     false

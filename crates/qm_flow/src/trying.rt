@@ -1,17 +1,21 @@
 //! One portal is tried at the end of a chain.
 
-ghost use Rattle.std.specs.Prelude.{ℕ, ◌≡◌, ◌<◌, Bool, List, length, IfOk};
+ghost use Rattle.std.specs.Prelude.{◌≡◌, ◌<◌, Bool, List, length, false, None, IfOk, OnOk};
 ghost use Rattle.qm_contacts.specs.OwnPortals.{HasOwnPortals};
 ghost use Rattle.qm_chains.specs.inner.Frame.{put_back, EndsChain};
+ghost use Rattle.qm_chains.specs.inner.Pairs.{ArePairs, LieWithinPairs};
 ghost use Rattle.qm_chains.specs.inner.Walk.{AreWide, IsTried};
 ghost use Rattle.qm_sight.specs.WordInSight.{LieWithin};
 ghost use Rattle.qm_flow.specs.InCeiling.{IsInCeiling};
+ghost use Rattle.qm_flow.specs.PairsGoOn.{PairsGoOn};
 
-use crate::cone::left_of;
 use crate::frame::Frame;
-use crate::narrowing::{copy, find, narrow};
+use crate::going::go_through;
+use crate::narrowing::may_show;
+use crate::pairing::pair;
+use crate::pairs::Pairs;
 use qm_bits::BitRow;
-use qm_narrow::step;
+use qm_narrow::may_pass;
 use qm_portal::World;
 use qm_sight::RowSource;
 use std::alloc::{AllocError, Global};
@@ -22,6 +26,7 @@ pub(crate) fn try_portal<'a, S: RowSource>(
     alloc: Global,
     world: &'a World,
     source: &mut S,
+    pairs: &mut Pairs,
     frame: &Frame<'a>,
     portal: u64,
     row: &mut BitRow,
@@ -30,34 +35,55 @@ pub(crate) fn try_portal<'a, S: RowSource>(
     requires own_portals { HasOwnPortals world.now }
     requires same_world { S.world source.old ≡ world.now }
     requires wide { AreWide world.now frame.now row.old }
-    ensures tried { IfOk result (λ child. (ceilings : List (List Bool)) (p : ℕ) → LieWithin (S.ceilings source.old) ceilings →
-        EndsChain world.now (IsInCeiling ceilings) p (put_back portal frame.now) →
-        IsTried world.now (IsInCeiling ceilings) p frame.now portal row.old row.new child) }
+    requires pairs { ArePairs world.now row.old pairs.old }
+    ensures tried { IfOk result (λ child. (ceilings : List (List Bool)) → LieWithin (S.ceilings source.old) ceilings → LieWithinPairs (IsInCeiling ceilings) pairs.old.own →
+        EndsChain world.now (IsInCeiling ceilings) pairs.old.first (put_back portal frame.now) →
+        IsTried world.now (IsInCeiling ceilings) pairs.old.first frame.now portal row.old row.new child) }
+    ensures pairs { OnOk result (PairsGoOn world.now (S.ceilings source.old) row.new pairs.old pairs.new) }
     ensures on { S.goes_on source.old source.new }
 {
-    let entered = world.to(portal);
-    if frame.met.get(entered) {
+    if frame.met.get(world.to(portal)) {
         return Ok(None);
     }
-    let mut mask = copy(alloc, &frame.mask)?;
-    narrow(source, portal, &mut mask);
-    if !mask.has_new(row) {
+    let may = may_lead_on(alloc, world, source, pairs, frame, portal, row)?;
+    if !may {
         return Ok(None);
     }
-    match step(alloc, &frame.state, world.pane(portal))? {
-        None => Ok(None),
-        Some(state) => {
-            let mut met = copy(alloc, &frame.met)?;
-            met.set(entered);
-            find(row, &mask, entered);
-            let child = Frame {
-                state,
-                untried: world.leaving(entered),
-                met,
-                mask,
-            };
-            let left = left_of(alloc, world, source, child, row, entered)?;
-            Ok(left)
-        }
+    let child = go_through(alloc, world, source, pairs, frame, portal, row)?;
+    Ok(child)
+}
+
+/// Whether a portal may lead on to a leaf that was not found. The row of its pair is made, where the first tests do not tell.
+fn may_lead_on<'a, S: RowSource>(
+    alloc: Global,
+    world: &World,
+    source: &mut S,
+    pairs: &mut Pairs,
+    frame: &Frame<'a>,
+    portal: u64,
+    row: &BitRow,
+) -> Result<bool, AllocError>
+    requires portal { portal < length world.now.portals }
+    requires own_portals { HasOwnPortals world.now }
+    requires same_world { S.world source.old ≡ world.now }
+    requires wide { AreWide world.now frame.now row.now }
+    requires pairs { ArePairs world.now row.now pairs.old }
+    ensures none { IfOk result (λ may. may ≡ false → (ceilings : List (List Bool)) →
+        IsTried world.now (IsInCeiling ceilings) pairs.old.first frame.now portal row.now row.now None) }
+    ensures pairs { OnOk result (PairsGoOn world.now (S.ceilings source.old) row.now pairs.old pairs.new) }
+    ensures on { S.goes_on source.old source.new }
+{
+    let pane = world.pane(portal);
+    if !may_show(pairs.own(), source, portal, &frame.mask, row) {
+        return Ok(false);
     }
+    if !may_pass(&frame.state, pane) {
+        return Ok(false);
+    }
+    if pairs.own().has(portal) {
+        return Ok(true);
+    }
+    pair(alloc, world, source, pairs, portal, row)?;
+    let may = may_show(pairs.own(), source, portal, &frame.mask, row);
+    Ok(may)
 }

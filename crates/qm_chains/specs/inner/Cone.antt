@@ -6,43 +6,42 @@ use Rattle.qm_lists.specs.WorkList.{IsIn}
 use Rattle.qm_contacts.specs.NumberedLeaves.{numbered_leaves}
 use Rattle.qm_contacts.specs.Portals.{Portal}
 use Rattle.qm_contacts.specs.World.{World}
-use Rattle.qm_segments.specs.Sight.{IsInSight}
 use Rattle.qm_separators.specs.PortalSteps.{LetsPass}
 use Rattle.qm_chains.specs.Shown.{IsAt}
 use Rattle.qm_chains.specs.inner.Frame.{Frame}
+use Rattle.qm_chains.specs.inner.Wanted.{IsWanted}
 
--- The cone of a frame: the leaves that a chain may still come to from where it ends.
+-- The cone of a frame, in a flow from the portal of number p: the leaves that a chain may still come to from where it ends.
 
--- the portal q may lead on from a frame: the state lets it pass, it enters a leaf that was not met, and some leaf is in sight
--- of it that the frame may still show and that was not found yet
-pub record LeadsOn (world : World) (frame : Frame) (found : List Bool) (q : Portal) : Type 0 where
+-- the portal q may lead on from a frame: the state lets it pass, it enters a leaf that was not met, and some leaf is wanted
+-- via it that the frame may still show
+pub record LeadsOn (world : World) (p : ℕ) (frame : Frame) (found : List Bool) (q : Portal) : Type 0 where
   pub passed : LetsPass frame.state q
   pub new : IsIn frame.met q.to → ⊥
   pub leaf : ℕ
   pub in_mask : IsIn frame.mask leaf
-  pub not_found : IsIn found leaf → ⊥
-  pub in_sight : IsInSight world.tree q leaf
+  pub wanted : IsWanted world p found q leaf
 
 -- one of the portals of these numbers leads on into the leaf
-pub record LeadsInto (world : World) (frame : Frame) (found : List Bool) (numbers : List ℕ) (to : ℕ) : Type 0 where
+pub record LeadsInto (world : World) (p : ℕ) (frame : Frame) (found : List Bool) (numbers : List ℕ) (to : ℕ) : Type 0 where
   pub number : ℕ
   pub among : Contains numbers number
   pub portal : Portal
   pub portal_is : IsAt world.portals number portal
-  pub leads : LeadsOn world frame found portal
+  pub leads : LeadsOn world p frame found portal
   pub to_is : portal.to ≡ to
 
 -- some portal leads on from a leaf into another
-pub record LeadsFrom (world : World) (frame : Frame) (found : List Bool) (from to : ℕ) : Type 0 where
+pub record LeadsFrom (world : World) (p : ℕ) (frame : Frame) (found : List Bool) (from to : ℕ) : Type 0 where
   pub portal : Portal
   pub listed : Contains world.portals portal
   pub from_is : portal.from ≡ from
   pub to_is : portal.to ≡ to
-  pub leads : LeadsOn world frame found portal
+  pub leads : LeadsOn world p frame found portal
 
 -- a leaf is in the cone of a frame whose chain has entered a leaf: it is that leaf, or portals lead on from there to it
-abbrev pub IsInCone : World → Frame → List Bool → ℕ → ℕ → Type 0
-IsInCone world frame found entered n = Reach (λ m. entered ≡ m) (LeadsFrom world frame found) n
+abbrev pub IsInCone : World → ℕ → Frame → List Bool → ℕ → ℕ → Type 0
+IsInCone world p frame found entered n = Reach (λ m. entered ≡ m) (LeadsFrom world p frame found) n
 
 -- the same frame with another mask
 abbrev pub with_mask : List Bool → Frame → Frame
@@ -50,22 +49,22 @@ with_mask mask frame = record { state = frame.state; untried = frame.untried; me
 
 -- what is left of a frame when its mask was narrowed by the cone: a mask that keeps each leaf of the cone, and no frame where
 -- nothing new would be in it
-pub record IsLeftOf (world : World) (frame : Frame) (found : List Bool) (entered : ℕ) (left : Option Frame) : Type 0 where
+pub record IsLeftOf (world : World) (p : ℕ) (frame : Frame) (found : List Bool) (entered : ℕ) (left : Option Frame) : Type 0 where
   pub mask : List Bool
   pub same_length : length mask ≡ length frame.mask
   pub within : (n : ℕ) → IsIn mask n → IsIn frame.mask n
-  pub keeps : (n : ℕ) → IsIn frame.mask n → IsInCone world frame found entered n → IsIn mask n
+  pub keeps : (n : ℕ) → IsIn frame.mask n → IsInCone world p frame found entered n → IsIn mask n
   pub left_is : MatchOption left (HasUnseen mask found → ⊥) (λ next. next ≡ with_mask mask frame)
 
 -- ---- how it is found
 
 -- Leaves that were entered, and those of them that are still to be gone on from: all others are gone on from, so that the
 -- row has what portals lead into from there.
-pub record IsConeSoFar (world : World) (frame : Frame) (found : List Bool) (entered : ℕ) (row : List Bool) (due : List ℕ) : Type 0 where
+pub record IsConeSoFar (world : World) (p : ℕ) (frame : Frame) (found : List Bool) (entered : ℕ) (row : List Bool) (due : List ℕ) : Type 0 where
   pub wide : length row ≡ length (numbered_leaves world.tree)
   pub begun : IsIn row entered
   pub only : (n : ℕ) → Contains due n → IsIn row n
-  pub gone_on : (from : ℕ) → IsIn row from → Contains due from ⊎ ((to : ℕ) → LeadsFrom world frame found from to → IsIn row to)
+  pub gone_on : (from : ℕ) → IsIn row from → Contains due from ⊎ ((to : ℕ) → LeadsFrom world p frame found from to → IsIn row to)
 
 -- leaves are entered, among them all to which it goes, and each of them is due
 pub record AreEntered (goes : ℕ → Type 0) (old new : List Bool) (old_due new_due : List ℕ) : Type 0 where
@@ -77,19 +76,12 @@ pub record AreEntered (goes : ℕ → Type 0) (old new : List Bool) (old_due new
   pub all : (to : ℕ) → goes to → IsIn new to
   pub weight : count_by not new + length new_due ≡ count_by not old + length old_due
 
--- the portal of this number shows nothing new: each leaf in sight of it that the mask has was found
-abbrev pub ShowsNothingNew : World → ℕ → List Bool → List Bool → Type 0
-ShowsNothingNew world number mask found = (q : Portal) → IsAt world.portals number q → (n : ℕ) → IsIn mask n → IsInSight world.tree q n → IsIn found n
-
 -- a row keeps those of its places that another one has
 pub record IsCutTo (other old new : List Bool) : Type 0 where
   pub same_length : length new ≡ length old
   pub exactly : (n : ℕ) → IsIn new n ↔ IsIn old n × IsIn other n
 
 -- so far, by the first words of the rows
-abbrev pub ShowsNothingNewUpTo : World → ℕ → ℕ → List Bool → List Bool → Type 0
-ShowsNothingNewUpTo world number words mask found = (q : Portal) → IsAt world.portals number q → (n : ℕ) → n / 64 < words → IsIn mask n → IsInSight world.tree q n → IsIn found n
-
 pub record IsCutUpTo (words : ℕ) (other old new : List Bool) : Type 0 where
   pub same_length : length new ≡ length old
   pub done : (n : ℕ) → n / 64 < words → IsIn new n ↔ IsIn old n × IsIn other n

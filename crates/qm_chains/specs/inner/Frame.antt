@@ -5,11 +5,11 @@ use Rattle.qm_partition.specs.Tree.{Tree}
 use Rattle.qm_contacts.specs.NumberedLeaves.{numbered_leaves}
 use Rattle.qm_contacts.specs.Portals.{Portal}
 use Rattle.qm_contacts.specs.World.{World}
-use Rattle.qm_segments.specs.Sight.{IsInSight}
+use Rattle.qm_segments.specs.SeenVia.{IsSeenVia}
 use Rattle.qm_segments.specs.OpenChain.{leaves_met, IsOpenChain}
 use Rattle.qm_segments.specs.Ahead.{IsAhead}
 use Rattle.qm_separators.specs.ChainState.{ChainState}
-use Rattle.qm_separators.specs.PortalSteps.{BeginsWith, GoesOn, BlocksAt, MeetsState}
+use Rattle.qm_separators.specs.PortalSteps.{BeginsWith, GoesOn, BlocksAt, LetsPass, MeetsState}
 use Rattle.qm_chains.specs.Shown.{IsAt}
 
 -- A place in a walk of open chains.
@@ -25,13 +25,6 @@ pub record Frame : Type 0 where
 -- the same frame with one portal more to be tried first
 abbrev pub put_back : ℕ → Frame → Frame
 put_back number frame = record { state = frame.state; untried = number ∷ frame.untried; met = frame.met; mask = frame.mask }
-
--- a mask is narrowed by what was read of the row of the portal of this number: it keeps each leaf in sight of the portal, and
--- it keeps only leaves that the ceiling has
-pub record IsNarrowed (world : World) (number : ℕ) (ceiling old new : List Bool) : Type 0 where
-  pub same_length : length new ≡ length old
-  pub within : (n : ℕ) → IsIn new n → IsIn old n × IsIn ceiling n
-  pub keeps : (q : Portal) → IsAt world.portals number q → (n : ℕ) → IsIn old n → IsInSight world.tree q n → IsIn new n
 
 -- An open chain from the portal of number p ends here, and all that the walk may still show of it each of its portals may
 -- have: which leaf, and then the portal, by their numbers, is any relation.
@@ -49,12 +42,17 @@ pub record EndsChain (world : World) (MayHave : ℕ → ℕ → Type 0) (p : ℕ
   pub met_wide : length frame.met ≡ length (numbered_leaves world.tree)
   pub mask_wide : length frame.mask ≡ length (numbered_leaves world.tree)
 
--- the portal q is next on the way to the leaf of number n: it leads to a leaf that was not met, the leaf is in sight of it, the
--- step there does not block, and after it the leaf is ahead of the first portal's chain
+-- a chain stops before the portal q: the state does not let it pass, or the step there blocks
+pub data StopsAt (state : ChainState) (q : Portal) : Type 0 where
+  not_passed : (LetsPass state q → ⊥) → StopsAt state q
+  blocked : BlocksAt state q → StopsAt state q
+
+-- the portal q is next on the way to the leaf of number n: it leads to a leaf that was not met, the leaf is seen via it from
+-- the first portal, the chain does not stop there, and after the step the leaf is ahead of the first portal's chain
 pub record IsNextTo (tree : Tree) (first : Portal) (frame : Frame) (n : ℕ) (q : Portal) : Type 0 where
   pub new : IsIn frame.met q.to → ⊥
-  pub in_sight : IsInSight tree q n
-  pub not_blocked : BlocksAt frame.state q → ⊥
+  pub via : IsSeenVia tree first q n
+  pub not_stopped : StopsAt frame.state q → ⊥
   pub ahead : (next : ChainState) → GoesOn frame.state q next → (met : List ℕ) →
       ((m : ℕ) → Contains met m → (q.to ≡ m) ⊎ IsIn frame.met m) → IsAhead MeetsState tree first next q.to met n
 

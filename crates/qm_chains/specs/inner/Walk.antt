@@ -35,8 +35,9 @@ pub record AreWide (world : World) (frame : Frame) (row : List Bool) : Type 0 wh
   pub mask : length frame.mask ≡ length (numbered_leaves world.tree)
   pub found : length row ≡ length (numbered_leaves world.tree)
 
--- the frame of the chain with one portal, and what is found there
+-- the frame of the chain with one portal, and what is found there: its mask has all that is in sight of the portal
 pub record IsBegun (world : World) (MayHave : ℕ → ℕ → Type 0) (p : ℕ) (frame : Frame) (row : List Bool) : Type 0 where
+  pub sees : (first : Portal) → IsAt world.portals p first → (n : ℕ) → IsInSight world.tree first n → IsIn frame.mask n
   pub wide : length row ≡ length (numbered_leaves world.tree)
   pub chain : EndsChain world MayHave p frame
   pub shown : (n : ℕ) → IsIn row n → IsShown world.portals (MayHave n) p n

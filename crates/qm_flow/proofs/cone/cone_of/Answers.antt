@@ -10,7 +10,7 @@ loop-leaf-init g c =
     let count = c.leaves.ensures in
     let within = c.requires.entered in
     record {
-      so_far = cone_begins c.args.world.now c.args.frame.now c.args.found.now c.args.entered c.leaves.result c.set.new.self c.push.new.self.items count (omega (arith, count, within))
+      so_far = cone_begins c.args.world.now c.args.pairs.now.first c.args.frame.now c.args.found.now c.args.entered c.leaves.result c.set.new.self c.push.new.self.items count (omega (arith, count, within))
           (c.set.ensures ∙ ap (λ (row : List Bool). set row c.args.entered true) c.in_ok-row.ensures)
           (c.in_ok-push.ensures.items ∙ ap (λ (due : List ℕ). due ++ c.args.entered ∷ []) c.new-due.ensures.items);
       on = g.met.S.RowSource.goes_on_itself c.args.source.now;
@@ -18,30 +18,30 @@ loop-leaf-init g c =
 
 pub leaving-portals-requires : goal.leaving-portals-requires
 leaving-portals-requires g c =
-    let inside = place_within c.loop-leaf.row c.in-Some.leaf (leaf_in c.args.world.now c.args.frame.now c.args.found.now c.args.entered c.loop-leaf.row c.loop-leaf.row c.loop-leaf.due.items c.pop.new.self.items c.pop.new.self.items c.in-Some.leaf c.in-Some.ensures.items c.loop-leaf.invariant.so_far) in
+    let inside = place_within c.loop-leaf.row c.in-Some.leaf (leaf_in c.args.world.now c.args.pairs.now.first c.args.frame.now c.args.found.now c.args.entered c.loop-leaf.row c.loop-leaf.row c.loop-leaf.due.items c.pop.new.self.items c.pop.new.self.items c.in-Some.leaf c.in-Some.ensures.items c.loop-leaf.invariant.so_far) in
     let wide = c.loop-leaf.invariant.so_far.wide in
     omega (arith, inside, wide)
 
 pub go_on-requires-clause-portals : goal.go_on-requires-clause-portals
-go_on-requires-clause-portals g c = leaving_within c.args.world.now c.args.frame.now c.args.found.now c.in-Some.leaf c.leaving-portals.result.now c.leaving-portals.ensures
+go_on-requires-clause-portals g c = leaving_within c.args.world.now c.args.pairs.now.first c.args.frame.now c.args.found.now c.in-Some.leaf c.leaving-portals.result.now c.leaving-portals.ensures
 
 pub go_on-requires-clause-same_world : goal.go_on-requires-clause-same_world
 go_on-requires-clause-same_world g c = g.met.S.RowSource.same_world c.args.source.now c.loop-leaf.source c.loop-leaf.invariant.on ∙ c.requires.same_world
 
 pub loop-leaf-preserved : goal.loop-leaf-preserved
 loop-leaf-preserved g c = record {
-  so_far = cone_more c.args.world.now c.args.frame.now c.args.found.now c.args.entered c.loop-leaf.row c.go_on.new.row c.loop-leaf.due.items c.pop.new.self.items c.go_on.new.due.items c.in-Some.leaf c.in-Some.ensures.items c.loop-leaf.invariant.so_far
+  so_far = cone_more c.args.world.now c.args.pairs.now.first c.args.frame.now c.args.found.now c.args.entered c.loop-leaf.row c.go_on.new.row c.loop-leaf.due.items c.pop.new.self.items c.go_on.new.due.items c.in-Some.leaf c.in-Some.ensures.items c.loop-leaf.invariant.so_far
       c.leaving-portals.result.now c.leaving-portals.ensures c.in_ok-go_on.ensures.entered;
   on = g.met.S.RowSource.goes_on_in_turn c.args.source.now c.loop-leaf.source c.go_on.new.source c.loop-leaf.invariant.on c.go_on.ensures.on;
 }
 
 pub loop-leaf-smaller : goal.loop-leaf-smaller
 loop-leaf-smaller g c =
-    cone_less c.args.world.now c.args.frame.now c.args.found.now c.args.entered c.loop-leaf.row c.go_on.new.row c.loop-leaf.due.items c.pop.new.self.items c.go_on.new.due.items c.in-Some.leaf c.in-Some.ensures.items c.loop-leaf.invariant.so_far
+    cone_less c.args.world.now c.args.pairs.now.first c.args.frame.now c.args.found.now c.args.entered c.loop-leaf.row c.go_on.new.row c.loop-leaf.due.items c.pop.new.self.items c.go_on.new.due.items c.in-Some.leaf c.in-Some.ensures.items c.loop-leaf.invariant.so_far
     c.leaving-portals.result.now c.leaving-portals.ensures c.in_ok-go_on.ensures.entered
 
 pub returns-clause-cone : goal.returns-clause-cone
 returns-clause-cone g c =
     let none : c.loop-leaf.due.items ≡ [] = nil_from_length c.loop-leaf.due.items (omega (arith, c.loop-leaf.due.ok.0, c.in_default.ensures.cases.0)) in
-    cone_ends c.args.world.now c.args.frame.now c.args.found.now c.args.entered c.loop-leaf.row
-    (subst (λ (due : List ℕ). IsConeSoFar c.args.world.now c.args.frame.now c.args.found.now c.args.entered c.loop-leaf.row due) none c.loop-leaf.invariant.so_far)
+    cone_ends c.args.world.now c.args.pairs.now.first c.args.frame.now c.args.found.now c.args.entered c.loop-leaf.row
+    (subst (λ (due : List ℕ). IsConeSoFar c.args.world.now c.args.pairs.now.first c.args.frame.now c.args.found.now c.args.entered c.loop-leaf.row due) none c.loop-leaf.invariant.so_far)

@@ -6,7 +6,7 @@ use Rattle.qm_flow.proofs.cone.cone_of.Given as goal
 -- the cone so far, and the source goes on from what it was
 abbrev pub invariant-loop-leaf : goal.invariant-loop-leaf
 invariant-loop-leaf g l = record {
-  so_far : IsConeSoFar l.world l.frame l.found l.entered l.row l.due.items;
+  so_far : IsConeSoFar l.world l.pairs.first l.frame l.found l.entered l.row l.due.items;
   on : g.S.RowSource.goes_on l.fn.source l.source;
 }
 

@@ -1,31 +1,49 @@
-use Rattle.std.proofs.Common.{[], ◌∷◌, List, Bool, ap, sym, ◌∙◌, subst, arith}
+use Rattle.std.proofs.Common.{◌<◌, [], ◌∷◌, List, Option, Bool, length, ap, sym, ◌∙◌, subst, arith}
 use Rattle.qm_contacts.specs.World.{World}
-use Rattle.qm_chains.specs.inner.Cone.{LeadsInto, ShowsNothingNew}
+use Rattle.qm_chains.specs.inner.Cone.{LeadsInto}
 use Rattle.qm_chains.specs.inner.Frame.{Frame}
+use Rattle.qm_chains.specs.inner.Narrowing.{ShowsNothingNew}
+use Rattle.qm_chains.specs.inner.OwnRows.{AreOwnRows, MustHave}
 use Rattle.qm_chains.proofs.Entering.{none_entered, one_entered, into_its_leaf, leads_over}
+use Rattle.qm_chains.proofs.PairRows.{wanted_answered}
 use Rattle.qm_flow.proofs.cone.enter.Goals as goal
+
+pub may_show-requires-clause-portal : goal.may_show-requires-clause-portal
+may_show-requires-clause-portal g c =
+    let one = c.requires.pairs.own_are.one_each in
+    let within = c.requires.portal in
+    subst (λ (own : List (Option (List Bool))). c.args.portal < length own) (sym c.own.ensures) (omega (arith, one, within))
+
+pub may_show-requires-clause-own : goal.may_show-requires-clause-own
+may_show-requires-clause-own g c =
+    subst (λ (own : List (Option (List Bool))). AreOwnRows (g.S.RowSource.world c.args.source.now) own) (sym c.own.ensures)
+    (subst (λ (w : World). AreOwnRows w c.args.pairs.now.own) (sym c.requires.same_world) c.requires.pairs.own_are)
 
 pub returns-then-not-may_show-clause-entered : goal.returns-then-not-may_show-clause-entered
 returns-then-not-may_show-clause-entered g c =
     let world = c.args.world.now in
+    let pairs = c.args.pairs.now in
     let frame = c.args.frame.now in
     let found = c.args.found.now in
+    let portal = c.args.portal in
     let q = c.to-to.ensures.value in
-    let nothing = subst (λ (mask : List Bool). ShowsNothingNew world c.args.portal mask found) (ap (λ (f : Frame). f.mask) c.frame.view_is)
-    (subst (λ (w : World). ShowsNothingNew w c.args.portal c.frame.inside.mask found) c.requires.same_world (c.may_show.ensures.none c.if-not-may_show.true)) in
-    none_entered (LeadsInto world frame found (c.args.portal ∷ [])) c.args.row.now c.args.due.now.items
+    let nothing = subst (λ (mask : List Bool). ShowsNothingNew (MustHave world pairs.own portal) mask found) (ap (λ (f : Frame). f.mask) c.frame.view_is)
+    (subst (λ (own : List (Option (List Bool))). ShowsNothingNew (MustHave world own portal) c.frame.inside.mask found) c.own.ensures
+    (subst (λ (w : World). ShowsNothingNew (MustHave w c.own.result.now portal) c.frame.inside.mask found) c.requires.same_world (c.may_show.ensures.none c.if-not-may_show.true))) in
+    none_entered (LeadsInto world pairs.first frame found (portal ∷ [])) c.args.row.now c.args.due.now.items
     (λ to leads.
-    let over = leads_over world frame found c.args.portal q.0 q.1 to leads in
-    absurd (over.not_found (nothing q.0 q.1 over.leaf over.in_mask over.in_sight)))
+    let over = leads_over world pairs.first frame found portal q.0 q.1 to leads in
+    absurd (over.wanted.not_found (nothing over.leaf over.in_mask (wanted_answered world found pairs c.requires.pairs portal over.leaf (record { portal = q.0; portal_is = q.1; wanted = over.wanted })))))
 
 pub returns-clause-entered : goal.returns-clause-entered
 returns-clause-entered g c =
     let world = c.args.world.now in
+    let first = c.args.pairs.now.first in
     let frame = c.args.frame.now in
     let found = c.args.found.now in
     let q = c.to-to.ensures.value in
     let within = c.to-to.ensures.within in
     let wide = c.requires.row in
-    one_entered (LeadsInto world frame found (c.args.portal ∷ [])) c.args.row.now c.set.new.self c.args.due.now.items c.push.new.self.items c.to-to.result
+    one_entered (LeadsInto world first frame found (c.args.portal ∷ [])) c.args.row.now c.set.new.self c.args.due.now.items c.push.new.self.items c.to-to.result
     (omega (arith, within, wide)) (sym c.get.ensures ∙ c.if-get.false) c.set.ensures c.in_ok-push.ensures.items
-    (λ n leads. q.2 ∙ into_its_leaf world frame found c.args.portal q.0 q.1 n leads)
+    (λ n leads. q.2 ∙ into_its_leaf world first frame found c.args.portal q.0 q.1 n leads)

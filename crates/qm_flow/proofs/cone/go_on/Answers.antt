@@ -7,7 +7,7 @@ use Rattle.qm_flow.proofs.cone.go_on.Goals as goal
 
 pub loop-portal-init : goal.loop-portal-init
 loop-portal-init g c = record {
-  entered = none_entered (LeadsInto c.args.world.now c.args.frame.now c.args.found.now []) c.args.row.now c.args.due.now.items (λ to leads. absurd (into_none c.args.world.now c.args.frame.now c.args.found.now to leads));
+  entered = none_entered (LeadsInto c.args.world.now c.args.pairs.now.first c.args.frame.now c.args.found.now []) c.args.row.now c.args.due.now.items (λ to leads. absurd (into_none c.args.world.now c.args.pairs.now.first c.args.frame.now c.args.found.now to leads));
   on = g.met.S.RowSource.goes_on_itself c.args.source.now;
 }
 
@@ -20,21 +20,22 @@ enter-requires-clause-row g c = c.loop-portal.invariant.entered.same_length ∙ 
 pub loop-portal-preserved : goal.loop-portal-preserved
 loop-portal-preserved g c =
     let world = c.args.world.now in
+    let first = c.args.pairs.now.first in
     let frame = c.args.frame.now in
     let found = c.args.found.now in
     let before = take c.loop-portal.portal-index c.args.portals.now in
     let number = get_or c.args.portals.now c.loop-portal.portal-index 0 in
     record {
       entered =
-          subst (λ (numbers : List ℕ). AreEntered (LeadsInto world frame found numbers) c.args.row.now c.enter.new.row c.args.due.now.items c.enter.new.due.items)
+          subst (λ (numbers : List ℕ). AreEntered (LeadsInto world first frame found numbers) c.args.row.now c.enter.new.row c.args.due.now.items c.enter.new.due.items)
           (sym (take-read c.args.portals.now c.loop-portal.portal-index number c.loop-portal-test.true (get_or_default c.args.portals.now c.loop-portal.portal-index 0 number c.loop-portal-test.true)))
-          (then_entered (LeadsInto world frame found before) (LeadsInto world frame found (number ∷ [])) (LeadsInto world frame found (before ++ number ∷ []))
+          (then_entered (LeadsInto world first frame found before) (LeadsInto world first frame found (number ∷ [])) (LeadsInto world first frame found (before ++ number ∷ []))
           c.args.row.now c.loop-portal.row c.enter.new.row c.args.due.now.items c.loop-portal.due.items c.enter.new.due.items
-          (into_cases world frame found before number) c.loop-portal.invariant.entered c.in_ok-enter.ensures.entered);
+          (into_cases world first frame found before number) c.loop-portal.invariant.entered c.in_ok-enter.ensures.entered);
       on = g.met.S.RowSource.goes_on_in_turn c.args.source.now c.loop-portal.source c.enter.new.source c.loop-portal.invariant.on c.enter.ensures.on;
     }
 
 pub returns-clause-entered : goal.returns-clause-entered
 returns-clause-entered g c =
-    subst (λ (numbers : List ℕ). AreEntered (LeadsInto c.args.world.now c.args.frame.now c.args.found.now numbers) c.args.row.now c.loop-portal.row c.args.due.now.items c.loop-portal.due.items)
+    subst (λ (numbers : List ℕ). AreEntered (LeadsInto c.args.world.now c.args.pairs.now.first c.args.frame.now c.args.found.now numbers) c.args.row.now c.loop-portal.row c.args.due.now.items c.loop-portal.due.items)
     (take_all c.loop-portal.portal-index c.args.portals.now c.loop-portal-test.false) c.loop-portal.invariant.entered

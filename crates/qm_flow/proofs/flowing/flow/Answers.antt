@@ -1,10 +1,13 @@
-use Rattle.std.proofs.Common.{◌≡◌, List, [], ◌∷◌, ◌++◌, sym, ap, ◌∙◌, subst, arith}
+use Rattle.std.proofs.Common.{◌≡◌, ℕ, None, replicate, List, [], ◌∷◌, ◌++◌, length, sym, ap, ◌∙◌, subst, arith}
 use Rattle.std.proofs.lemmas.List.{nil_from_length}
 use Rattle.qm_lists.proofs.Options.{none_if_not_some}
-use Rattle.qm_chains.specs.inner.Frame.{Frame}
-use Rattle.qm_chains.specs.inner.Walk.{IsWalk}
+use Rattle.qm_lists.specs.WorkList.{IsIn}
+use Rattle.qm_chains.specs.inner.Frame.{Frame, put_back, EndsChain}
+use Rattle.qm_chains.specs.inner.Pairs.{LieWithinPairs}
+use Rattle.qm_chains.specs.inner.Walk.{IsWalk, IsTried}
 use Rattle.qm_chains.proofs.Walks.{walk_begins, walk_ends}
 use Rattle.qm_flow.specs.InCeiling.{IsInCeiling}
+use Rattle.qm_flow.proofs.OwnAnswers.{fresh_within}
 use Rattle.qm_flow.proofs.Rounds.{round_done, less_done, round_within, round_ends, round_wide, round_tried, less_tried, after_child, after_none}
 use Rattle.qm_flow.proofs.flowing.flow.Goals as goal
 
@@ -14,12 +17,30 @@ loop-frame-init g c =
     record {
       walk = subst (λ (frames : List Frame). IsWalk c.args.world.now may c.args.portal frames c.begin.new.row) (sym (c.in_ok-push.ensures.items ∙ ap (λ (frames : List Frame). frames ++ c.in_ok-first.first ∷ []) c.new-frames.ensures.items))
           (walk_begins c.args.world.now may c.args.portal c.in_ok-first.first c.begin.new.row c.in_ok-first.ensures.begun);
+      pairs = c.in_ok-pairs.ensures.pairs c.begin.new.row;
+      first = c.in_ok-pairs.ensures.first;
+      within = subst (LieWithinPairs may) (sym c.in_ok-pairs.ensures.own) (fresh_within c.in_ok-own.own c.portals.result c.in_ok-own.ensures may);
       on = c.begin.ensures.on;
     }
+
+pub begin-requires-clause-none : goal.begin-requires-clause-none
+begin-requires-clause-none g c = c.in_ok-own.ensures ∙ ap (λ (n : ℕ). replicate n None) c.portals.ensures
+
+pub of-requires-clause-none : goal.of-requires-clause-none
+of-requires-clause-none g c = c.in_ok-own.ensures ∙ ap (λ (n : ℕ). replicate n None) c.portals.ensures
+
+pub of-requires-clause-wide : goal.of-requires-clause-wide
+of-requires-clause-wide g c = ap (λ (f : Frame). length f.mask) c.first.view_is ∙ c.in_ok-first.ensures.begun.chain.mask_wide
+
+pub of-requires-clause-sees : goal.of-requires-clause-sees
+of-requires-clause-sees g c portal at n sight = subst (λ (f : Frame). IsIn f.mask n) (sym c.first.view_is) (c.in_ok-first.ensures.begun.sees portal at n sight)
 
 pub try_portal-requires-clause-portal : goal.try_portal-requires-clause-portal
 try_portal-requires-clause-portal g c =
     round_within c.args.world.now (IsInCeiling (g.S.RowSource.ceilings c.args.source.now)) c.args.portal c.loop-frame.frames.items c.pop.new.self.items c.in-Some.frame c.loop-frame.row c.in-Some.ensures.items c.loop-frame.invariant.walk c.in-Some-take_next.number c.take_next.new.self c.in-Some-take_next.ensures
+
+pub try_portal-requires-clause-same_world : goal.try_portal-requires-clause-same_world
+try_portal-requires-clause-same_world g c = g.met.S.RowSource.same_world c.args.source.now c.loop-frame.source c.loop-frame.invariant.on ∙ c.requires.same_world
 
 pub try_portal-requires-clause-wide : goal.try_portal-requires-clause-wide
 try_portal-requires-clause-wide g c =
@@ -33,28 +54,37 @@ returns-in_err-push-3-clause-on g c = g.met.S.RowSource.goes_on_in_turn c.args.s
 
 -- the chain goes on
 
-pub loop-frame-preserved-in-Continue-branch-6 : goal.loop-frame-preserved-in-Continue-branch-6
-loop-frame-preserved-in-Continue-branch-6 g c =
+pub loop-frame-preserved-in-Continue-branch-8 : goal.loop-frame-preserved-in-Continue-branch-8
+loop-frame-preserved-in-Continue-branch-8 g c =
     let world = c.args.world.now in
     let ceilings = g.S.RowSource.ceilings c.args.source.now in
     let below = c.pop.new.self.items in
     let frame = c.take_next.new.self in
     let ends = round_ends world (IsInCeiling ceilings) c.args.portal c.loop-frame.frames.items below c.in-Some.frame c.loop-frame.row c.in-Some.ensures.items c.loop-frame.invariant.walk c.in-Some-take_next.number frame c.in-Some-take_next.ensures in
-    let tried = c.in_ok-child.ensures.tried ceilings c.args.portal (g.met.S.RowSource.narrower c.args.source.now c.loop-frame.source c.loop-frame.invariant.on) ends in
+    let narrower = g.met.S.RowSource.narrower c.args.source.now c.loop-frame.source c.loop-frame.invariant.on in
+    let tried = subst (λ (p : ℕ). IsTried world (IsInCeiling ceilings) p frame c.in-Some-take_next.number c.loop-frame.row c.try_portal.new.row c.in_ok-child.child) c.loop-frame.invariant.first
+    (c.in_ok-child.ensures.tried ceilings narrower c.loop-frame.invariant.within
+    (subst (λ (p : ℕ). EndsChain world (IsInCeiling ceilings) p (put_back c.in-Some-take_next.number frame)) (sym c.loop-frame.invariant.first) ends)) in
     record {
       walk = round_tried world (IsInCeiling ceilings) c.args.portal c.loop-frame.frames.items below c.in-Some.frame c.loop-frame.row c.in-Some.ensures.items c.loop-frame.invariant.walk c.in-Some-take_next.number frame c.in-Some-take_next.ensures c.try_portal.new.row c.in_ok-child.child tried c.push-in-Some-child.new.self.items
           (after_child (below ++ frame ∷ []) c.push-in-Some-child.new.self.items c.in_ok-child.child c.in-Some-child.child c.in-Some-child.is (c.in_ok-push-3.ensures.items ∙ ap (λ (frames : List Frame). frames ++ c.in-Some-child.child ∷ []) c.in_ok-push-2.ensures.items));
+      pairs = c.in_ok-child.ensures.pairs.are;
+      first = c.in_ok-child.ensures.pairs.same_first ∙ c.loop-frame.invariant.first;
+      within = c.in_ok-child.ensures.pairs.within ceilings narrower c.loop-frame.invariant.within;
       on = g.met.S.RowSource.goes_on_in_turn c.args.source.now c.loop-frame.source c.try_portal.new.source c.loop-frame.invariant.on c.try_portal.ensures.on;
     }
 
-pub loop-frame-smaller-in-Continue-branch-6 : goal.loop-frame-smaller-in-Continue-branch-6
-loop-frame-smaller-in-Continue-branch-6 g c =
+pub loop-frame-smaller-in-Continue-branch-8 : goal.loop-frame-smaller-in-Continue-branch-8
+loop-frame-smaller-in-Continue-branch-8 g c =
     let world = c.args.world.now in
     let ceilings = g.S.RowSource.ceilings c.args.source.now in
     let below = c.pop.new.self.items in
     let frame = c.take_next.new.self in
     let ends = round_ends world (IsInCeiling ceilings) c.args.portal c.loop-frame.frames.items below c.in-Some.frame c.loop-frame.row c.in-Some.ensures.items c.loop-frame.invariant.walk c.in-Some-take_next.number frame c.in-Some-take_next.ensures in
-    let tried = c.in_ok-child.ensures.tried ceilings c.args.portal (g.met.S.RowSource.narrower c.args.source.now c.loop-frame.source c.loop-frame.invariant.on) ends in
+    let narrower = g.met.S.RowSource.narrower c.args.source.now c.loop-frame.source c.loop-frame.invariant.on in
+    let tried = subst (λ (p : ℕ). IsTried world (IsInCeiling ceilings) p frame c.in-Some-take_next.number c.loop-frame.row c.try_portal.new.row c.in_ok-child.child) c.loop-frame.invariant.first
+    (c.in_ok-child.ensures.tried ceilings narrower c.loop-frame.invariant.within
+    (subst (λ (p : ℕ). EndsChain world (IsInCeiling ceilings) p (put_back c.in-Some-take_next.number frame)) (sym c.loop-frame.invariant.first) ends)) in
     less_tried world (IsInCeiling ceilings) c.args.portal c.loop-frame.frames.items below c.in-Some.frame c.loop-frame.row c.in-Some.ensures.items c.loop-frame.invariant.walk c.in-Some-take_next.number frame c.in-Some-take_next.ensures c.try_portal.new.row c.in_ok-child.child tried c.push-in-Some-child.new.self.items
     (after_child (below ++ frame ∷ []) c.push-in-Some-child.new.self.items c.in_ok-child.child c.in-Some-child.child c.in-Some-child.is (c.in_ok-push-3.ensures.items ∙ ap (λ (frames : List Frame). frames ++ c.in-Some-child.child ∷ []) c.in_ok-push-2.ensures.items))
 
@@ -67,10 +97,16 @@ loop-frame-preserved-in_default-child g c =
     let below = c.pop.new.self.items in
     let frame = c.take_next.new.self in
     let ends = round_ends world (IsInCeiling ceilings) c.args.portal c.loop-frame.frames.items below c.in-Some.frame c.loop-frame.row c.in-Some.ensures.items c.loop-frame.invariant.walk c.in-Some-take_next.number frame c.in-Some-take_next.ensures in
-    let tried = c.in_ok-child.ensures.tried ceilings c.args.portal (g.met.S.RowSource.narrower c.args.source.now c.loop-frame.source c.loop-frame.invariant.on) ends in
+    let narrower = g.met.S.RowSource.narrower c.args.source.now c.loop-frame.source c.loop-frame.invariant.on in
+    let tried = subst (λ (p : ℕ). IsTried world (IsInCeiling ceilings) p frame c.in-Some-take_next.number c.loop-frame.row c.try_portal.new.row c.in_ok-child.child) c.loop-frame.invariant.first
+    (c.in_ok-child.ensures.tried ceilings narrower c.loop-frame.invariant.within
+    (subst (λ (p : ℕ). EndsChain world (IsInCeiling ceilings) p (put_back c.in-Some-take_next.number frame)) (sym c.loop-frame.invariant.first) ends)) in
     record {
       walk = round_tried world (IsInCeiling ceilings) c.args.portal c.loop-frame.frames.items below c.in-Some.frame c.loop-frame.row c.in-Some.ensures.items c.loop-frame.invariant.walk c.in-Some-take_next.number frame c.in-Some-take_next.ensures c.try_portal.new.row c.in_ok-child.child tried c.push-in-Some-take_next.new.self.items
           (after_none (below ++ frame ∷ []) c.push-in-Some-take_next.new.self.items c.in_ok-child.child (none_if_not_some c.in_ok-child.child c.in_default-child.not-Some) c.in_ok-push-2.ensures.items);
+      pairs = c.in_ok-child.ensures.pairs.are;
+      first = c.in_ok-child.ensures.pairs.same_first ∙ c.loop-frame.invariant.first;
+      within = c.in_ok-child.ensures.pairs.within ceilings narrower c.loop-frame.invariant.within;
       on = g.met.S.RowSource.goes_on_in_turn c.args.source.now c.loop-frame.source c.try_portal.new.source c.loop-frame.invariant.on c.try_portal.ensures.on;
     }
 
@@ -81,7 +117,10 @@ loop-frame-smaller-in_default-child g c =
     let below = c.pop.new.self.items in
     let frame = c.take_next.new.self in
     let ends = round_ends world (IsInCeiling ceilings) c.args.portal c.loop-frame.frames.items below c.in-Some.frame c.loop-frame.row c.in-Some.ensures.items c.loop-frame.invariant.walk c.in-Some-take_next.number frame c.in-Some-take_next.ensures in
-    let tried = c.in_ok-child.ensures.tried ceilings c.args.portal (g.met.S.RowSource.narrower c.args.source.now c.loop-frame.source c.loop-frame.invariant.on) ends in
+    let narrower = g.met.S.RowSource.narrower c.args.source.now c.loop-frame.source c.loop-frame.invariant.on in
+    let tried = subst (λ (p : ℕ). IsTried world (IsInCeiling ceilings) p frame c.in-Some-take_next.number c.loop-frame.row c.try_portal.new.row c.in_ok-child.child) c.loop-frame.invariant.first
+    (c.in_ok-child.ensures.tried ceilings narrower c.loop-frame.invariant.within
+    (subst (λ (p : ℕ). EndsChain world (IsInCeiling ceilings) p (put_back c.in-Some-take_next.number frame)) (sym c.loop-frame.invariant.first) ends)) in
     less_tried world (IsInCeiling ceilings) c.args.portal c.loop-frame.frames.items below c.in-Some.frame c.loop-frame.row c.in-Some.ensures.items c.loop-frame.invariant.walk c.in-Some-take_next.number frame c.in-Some-take_next.ensures c.try_portal.new.row c.in_ok-child.child tried c.push-in-Some-take_next.new.self.items
     (after_none (below ++ frame ∷ []) c.push-in-Some-take_next.new.self.items c.in_ok-child.child (none_if_not_some c.in_ok-child.child c.in_default-child.not-Some) c.in_ok-push-2.ensures.items)
 
@@ -90,6 +129,9 @@ loop-frame-smaller-in_default-child g c =
 pub loop-frame-preserved : goal.loop-frame-preserved
 loop-frame-preserved g c = record {
   walk = round_done c.args.world.now (IsInCeiling (g.S.RowSource.ceilings c.args.source.now)) c.args.portal c.loop-frame.frames.items c.pop.new.self.items c.in-Some.frame c.loop-frame.row c.in-Some.ensures.items c.loop-frame.invariant.walk c.in_default-take_next.ensures;
+  pairs = c.loop-frame.invariant.pairs;
+  first = c.loop-frame.invariant.first;
+  within = c.loop-frame.invariant.within;
   on = c.loop-frame.invariant.on;
 }
 

@@ -1,0 +1,131 @@
+-- Rows of pairs: each keeps what is wanted via its portal, when it is made and while more is found.
+use Rattle.std.proofs.Common.{◌≡◌, ◌⊎◌, inl, inr, ⊎_elim, ℕ, ◌<◌, Bool, List, [], ◌∷◌, length, get_or, set, Contains, Option, Some, None, refl, sym, ap, ◌∙◌, subst}
+use Rattle.std.specs.Prelude.{MatchOption}
+use Rattle.std.proofs.lemmas.Bool.{cases_eq}
+use Rattle.std.proofs.lemmas.List.{get_or-set_same, get_or-set_other, length-set}
+use Rattle.qm_lists.specs.WorkList.{IsIn}
+use Rattle.qm_lists.proofs.Elements.{Contains-at}
+use Rattle.qm_contacts.specs.NumberedLeaves.{numbered_leaves}
+use Rattle.qm_contacts.specs.OwnPortals.{HasOwnPortals}
+use Rattle.qm_contacts.specs.Portals.{Portal, portals_of}
+use Rattle.qm_contacts.specs.World.{World}
+use Rattle.qm_segments.specs.SeenVia.{IsSeenVia}
+use Rattle.qm_segments.proofs.ViaLaws.{via_in_sight}
+use Rattle.qm_separators.specs.PortalSteps.{GoesOn, BlocksAt}
+use Rattle.qm_separators.proofs.ChainLaws.{straight_on}
+use Rattle.qm_chains.specs.Shown.{IsAt}
+use Rattle.qm_chains.specs.inner.Cone.{IsInCone}
+use Rattle.qm_chains.specs.inner.Frame.{Frame}
+use Rattle.qm_chains.specs.inner.Narrowing.{ShowsNothingNew}
+use Rattle.qm_chains.specs.inner.OwnRows.{IsInSightAt, MustHave, CanHave}
+use Rattle.qm_chains.specs.inner.Pairs.{Pairs, IsPairRow, ArePairs, LieWithinPairs}
+use Rattle.qm_chains.specs.inner.Wanted.{IsWantedVia}
+use Rattle.qm_chains.proofs.Cones.{ahead_in_cone}
+use Rattle.qm_chains.proofs.TriedPortals.{same_portal}
+
+-- what is wanted where more is found was wanted before
+pub wanted_before : (world : World) (p : ℕ) (found more : List Bool) (number n : ℕ) → ((m : ℕ) → IsIn found m → IsIn more m) → IsWantedVia world p more number n → IsWantedVia world p found number n
+wanted_before world p found more number n stays is = record {
+  portal = is.portal;
+  portal_is = is.portal_is;
+  wanted = record { first = is.wanted.first; first_is = is.wanted.first_is; via = is.wanted.via; not_found = λ was. is.wanted.not_found (stays n was) };
+}
+
+-- so pairs stay what they are while more is found
+pub pairs_stay : (world : World) (found more : List Bool) (pairs : Pairs) → ((m : ℕ) → IsIn found m → IsIn more m) → ArePairs world found pairs → ArePairs world more pairs
+pairs_stay world found more pairs stays are = record {
+  begun = are.begun;
+  seen_wide = are.seen_wide;
+  sees = are.sees;
+  first_within = are.first_within;
+  own_are = are.own_are;
+  rows_are = λ number row is n wanted. are.rows_are number row is n (wanted_before world pairs.first found more number n stays wanted);
+}
+
+-- ---- what is answered
+
+module _ (world : World) (found : List Bool) (pairs : Pairs) (are : ArePairs world found pairs) (number : ℕ) where
+  -- an answer must have what is wanted
+  pub wanted_answered : (n : ℕ) → IsWantedVia world pairs.first found number n → MustHave world pairs.own number n
+  wanted_answered n wanted = by (get_or pairs.own number None) refl
+    where
+      by : (row : Option (List Bool)) → get_or pairs.own number None ≡ row → MatchOption row (IsInSightAt world number n) (λ r. IsIn r n)
+      by None none = record { portal = wanted.portal; portal_is = wanted.portal_is; sight = via_in_sight world.tree wanted.wanted.first wanted.portal n wanted.wanted.via }
+      by (Some row) is = are.rows_are number row is n wanted
+
+  -- so none is wanted where an answer shows nothing new
+  pub none_wanted : (mask : List Bool) → ShowsNothingNew (MustHave world pairs.own number) mask found → (n : ℕ) → IsIn mask n → IsWantedVia world pairs.first found number n → ⊥
+  none_wanted mask nothing n in_mask wanted = wanted.wanted.not_found (nothing n in_mask (wanted_answered n wanted))
+
+  -- and the leaves that may be in sight of the first portal have it
+  pub wanted_seen : (n : ℕ) → IsWantedVia world pairs.first found number n → IsIn pairs.seen n
+  wanted_seen n wanted = are.sees wanted.wanted.first wanted.wanted.first_is n wanted.wanted.via.sight
+
+pub can_within : (MayHave : ℕ → ℕ → Type 0) (ceiling : List Bool) (own : List (Option (List Bool))) (number n : ℕ) → ((m : ℕ) → IsIn ceiling m → MayHave m number) → LieWithinPairs MayHave own → CanHave ceiling own number n → MayHave n number
+can_within MayHave ceiling own number n below within can = by (get_or own number None) refl can
+  where
+    by : (row : Option (List Bool)) → get_or own number None ≡ row → MatchOption row (IsIn ceiling n) (λ r. IsIn r n) → MayHave n number
+    by None none is = below n is
+    by (Some row) row_is is = within number row row_is n is
+
+-- ---- a row more
+
+pub own_row_put : (own : List (Option (List Bool))) (number : ℕ) (row : List Bool) → number < length own → (other : ℕ) (r : List Bool) → get_or (set own number (Some row)) other None ≡ Some r → ((other ≡ number) × (r ≡ row)) ⊎ (get_or own other None ≡ Some r)
+own_row_put own number row within other r is = ⊎_elim
+    (λ here.
+    let at : get_or (set own number (Some row)) number None ≡ Some row = get_or-set_same own number (Some row) None within in
+    let same : get_or (set own number (Some row)) other None ≡ get_or (set own number (Some row)) number None = ap (λ (m : ℕ). get_or (set own number (Some row)) m None) here in
+    let both : Some r ≡ Some row = sym is ∙ same ∙ at in
+    inl (here, cc))
+    (λ apart. inr (sym (get_or-set_other own number other (Some row) None apart) ∙ is))
+    (cases_eq other number)
+
+module _ (world : World) (found : List Bool) (pairs : Pairs) (number : ℕ) (row : List Bool) (new : Pairs) (new_is : new ≡ record { first = pairs.first; start = pairs.start; seen = pairs.seen; own = set pairs.own number (Some row) }) (within : number < length pairs.own) where
+  pub pairs_more : ArePairs world found pairs → length row ≡ length (numbered_leaves world.tree) → IsPairRow world pairs.first found number row → ArePairs world found new
+  pairs_more are wide is_row = subst (ArePairs world found) (sym new_is) (record {
+    begun = are.begun;
+    seen_wide = are.seen_wide;
+    sees = are.sees;
+    first_within = are.first_within;
+    own_are = record {
+      one_each = length-set pairs.own number (Some row) ∙ are.own_are.one_each;
+      wide = λ other r is. ⊎_elim
+          (λ here. ap length here.1 ∙ wide)
+          (λ old. are.own_are.wide other r old)
+          (own_row_put pairs.own number row within other r is);
+    };
+    rows_are = λ other r is. ⊎_elim
+        (λ here. subst (λ (l : List Bool). IsPairRow world pairs.first found other l) (sym here.1) (subst (λ (m : ℕ). IsPairRow world pairs.first found m row) (sym here.0) is_row))
+        (λ old. are.rows_are other r old)
+        (own_row_put pairs.own number row within other r is);
+  })
+
+  pub within_more : (MayHave : ℕ → ℕ → Type 0) → LieWithinPairs MayHave pairs.own → ((n : ℕ) → IsIn row n → MayHave n number) → LieWithinPairs MayHave new.own
+  within_more MayHave lie may = subst (λ (all : Pairs). LieWithinPairs MayHave all.own) (sym new_is) (λ other r is n has. ⊎_elim
+      (λ here. subst (MayHave n) (sym here.0) (may n (subst (λ (l : List Bool). IsIn l n) here.1 has)))
+      (λ old. lie other r old n has)
+      (own_row_put pairs.own number row within other r is))
+
+-- ---- how the row of a pair is made
+
+module _ (world : World) (own : HasOwnPortals world) (found : List Bool) (pairs : Pairs) (are : ArePairs world found pairs) (number : ℕ) (q : Portal) (q_is : IsAt world.portals number q) where
+  listed : (r : Portal) (m : ℕ) → IsAt world.portals m r → Contains (portals_of world.tree own.touchings) r
+  listed r m is = subst (λ (all : List Portal). Contains all r) own.portals_are (Contains-at world.portals m r is)
+
+  via_q : (n : ℕ) (wanted : IsWantedVia world pairs.first found number n) → IsSeenVia world.tree wanted.wanted.first q n
+  via_q n wanted = subst (λ (r : Portal). IsSeenVia world.tree wanted.wanted.first r n) (same_portal world.portals number wanted.portal q wanted.portal_is q_is) wanted.wanted.via
+
+  -- where the step straight to the portal blocks, nothing is wanted via it
+  pub none_behind_block : BlocksAt pairs.start q → (n : ℕ) → IsWantedVia world pairs.first found number n → ⊥
+  none_behind_block blocks n wanted =
+      let first = wanted.wanted.first in
+      (straight_on world.tree own.have_points own.touchings own.are_touchings first q pairs.start n (listed first pairs.first wanted.wanted.first_is) (listed q number q_is) (are.begun first wanted.wanted.first_is) (via_q n wanted)).not_blocked blocks
+
+  -- else what is wanted is in the cone of the chain with these two portals
+  module _ (frame : Frame) (step : GoesOn pairs.start q frame.state) (met_is : (first : Portal) → IsAt world.portals pairs.first first → (m : ℕ) → IsIn frame.met m → Contains (q.to ∷ q.from ∷ first.to ∷ first.from ∷ []) m) where
+    pub wanted_in_cone : (n : ℕ) → IsIn frame.mask n → IsWantedVia world pairs.first found number n → IsInCone world pairs.first frame found q.to n
+    wanted_in_cone n in_mask wanted =
+        let first = wanted.wanted.first in
+        let led = straight_on world.tree own.have_points own.touchings own.are_touchings first q pairs.start n (listed first pairs.first wanted.wanted.first_is) (listed q number q_is) (are.begun first wanted.wanted.first_is) (via_q n wanted) in
+        ahead_in_cone world own pairs.first first wanted.wanted.first_is frame found q.to n in_mask wanted.wanted.not_found (q.to ∷ q.from ∷ first.to ∷ first.from ∷ [])
+        (met_is first wanted.wanted.first_is) (led.ahead frame.state step)

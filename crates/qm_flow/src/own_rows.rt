@@ -1,0 +1,69 @@
+//! The rows that a flow has of its own, and how a row is read.
+
+ghost use Rattle.std.specs.Prelude.{ℕ, ◌≡◌, ◌<◌, ◌+◌, ◌*◌, length, replicate, true, None, Some, slice_index_or, slice_set, IfOk, IsTrue};
+ghost use Rattle.qm_bits.specs.Word.{has_bit};
+ghost use Rattle.qm_contacts.specs.NumberedLeaves.{numbered_leaves};
+ghost use Rattle.qm_chains.specs.inner.OwnRows.{AreOwnRows, MustHave, CanHave};
+ghost use Rattle.qm_sight.specs.WordInSight.{ceiling_of};
+
+use qm_bits::BitRow;
+use qm_sight::RowSource;
+use std::alloc::{AllocError, Global};
+use std::marker::Model;
+
+/// For each portal a row of the flow's own, or none yet, and then the source answers.
+#[derive(Drop)]
+pub(crate) struct OwnRows {
+    rows: Vec<Option<BitRow>>,
+}
+
+impl Model for OwnRows {
+    ghost use Rattle.std.specs.Prelude.{List, Option, Bool};
+
+    ghost Value = { List (Option (List Bool)) };
+
+    ghost view = { λ own. own.rows.items };
+}
+
+impl OwnRows {
+    /// No row yet for any of so many portals.
+    pub(crate) fn none(alloc: Global, portals: u64) -> Result<OwnRows, AllocError>
+        ensures { IfOk result (λ own. own ≡ replicate portals None) }
+    {
+        let mut rows = Vec::new(alloc);
+        for _portal in 0..portals {
+            rows.push(None)?;
+        }
+        Ok(OwnRows { rows })
+    }
+
+    /// Whether there is a row for a portal.
+    pub(crate) fn has(&self, portal: u64) -> bool
+        requires { portal < length self.now }
+    {
+        self.rows[portal as usize].is_some()
+    }
+
+    /// Puts the row of a portal.
+    pub(crate) fn put(&mut self, portal: u64, row: BitRow)
+        requires { portal < length self.old }
+        ensures { self.new ≡ slice_set self.old portal (Some row) }
+    {
+        self.rows[portal as usize] = Some(row);
+    }
+
+    /// Word `k` of the row of a portal: of the one that is there, and else as the source answers it.
+    pub(crate) fn word<S: RowSource>(&self, source: &mut S, portal: u64, k: u64) -> u64
+        requires portal { portal < length self.now }
+        requires own { AreOwnRows (S.world source.old) self.now }
+        requires word { 64 * k < length (numbered_leaves (S.world source.old).tree) }
+        ensures sound { (bit : ℕ) → bit < 64 → MustHave (S.world source.old) self.now portal (64 * k + bit) → has_bit result bit ≡ true }
+        ensures within { (bit : ℕ) → bit < 64 → has_bit result bit ≡ true → CanHave (ceiling_of (S.ceilings source.old) portal) self.now portal (64 * k + bit) }
+        ensures on { S.goes_on source.old source.new }
+    {
+        match &self.rows[portal as usize] {
+            None => source.word(portal, k),
+            Some(row) => row.word(k),
+        }
+    }
+}

@@ -1,0 +1,101 @@
+//! What a flow knows of its first portal and another one, a pair.
+
+ghost use Rattle.std.specs.Prelude.{ℕ, ◌≡◌, ◌<◌, Bool, List, length, replicate, None, Some, slice_set, IfOk};
+ghost use Rattle.qm_lists.specs.WorkList.{IsIn};
+ghost use Rattle.qm_contacts.specs.NumberedLeaves.{numbered_leaves};
+ghost use Rattle.qm_contacts.specs.OwnPortals.{HasOwnPortals};
+ghost use Rattle.qm_contacts.specs.Portals.{Portal};
+ghost use Rattle.qm_segments.specs.Sight.{IsInSight};
+ghost use Rattle.qm_chains.specs.Shown.{IsAt};
+ghost use Rattle.qm_chains.specs.inner.Pairs.{ArePairs};
+
+use crate::narrowing::copy;
+use crate::own_rows::OwnRows;
+use qm_bits::BitRow;
+use qm_narrow::ChainState;
+use qm_portal::World;
+use std::alloc::{AllocError, Global};
+use std::marker::Model;
+
+/// The first portal of a flow, the state of its chain, the leaves that may be in sight of it, and the rows of the flow's own:
+/// that of a portal is the row of its pair with the first.
+#[derive(Drop)]
+pub(crate) struct Pairs {
+    first: u64,
+    start: ChainState,
+    seen: BitRow,
+    own: OwnRows,
+}
+
+impl Model for Pairs {
+    ghost use Rattle.qm_chains.specs.inner.Pairs.{Pairs};
+
+    ghost Value = { Pairs };
+
+    ghost view = { λ p. record { first = p.first; start = p.start; seen = p.seen; own = p.own } };
+}
+
+impl Pairs {
+    /// The pairs of a portal, of none of which there is a row.
+    pub(crate) fn of(
+        alloc: Global,
+        world: &World,
+        first: u64,
+        seen: &BitRow,
+        own: OwnRows,
+    ) -> Result<Pairs, AllocError>
+        requires first { first < length world.now.portals }
+        requires own_portals { HasOwnPortals world.now }
+        requires none { own ≡ replicate (length world.now.portals) None }
+        requires wide { length seen.now ≡ length (numbered_leaves world.now.tree) }
+        requires sees { (portal : Portal) → IsAt world.now.portals first portal → (n : ℕ) → IsInSight world.now.tree portal n → IsIn seen.now n }
+        ensures pairs { IfOk result (λ pairs. (found : List Bool) → ArePairs world.now found pairs) }
+        ensures first { IfOk result (λ pairs. pairs.first ≡ first) }
+        ensures own { IfOk result (λ pairs. pairs.own ≡ own) }
+    {
+        let start = ChainState::start(alloc, world.pane(first))?;
+        let seen = copy(alloc, seen)?;
+        Ok(Pairs {
+            first,
+            start,
+            seen,
+            own,
+        })
+    }
+
+    /// The number of the first portal.
+    pub(crate) fn first(&self) -> u64
+        ensures { result ≡ self.now.first }
+    {
+        self.first
+    }
+
+    /// The state of the chain with the first portal alone.
+    pub(crate) fn start(&self) -> &ChainState
+        ensures { result.now ≡ self.now.start }
+    {
+        &self.start
+    }
+
+    /// The leaves that may be in sight of the first portal.
+    pub(crate) fn seen(&self) -> &BitRow
+        ensures { result.now ≡ self.now.seen }
+    {
+        &self.seen
+    }
+
+    /// The rows of the flow's own.
+    pub(crate) fn own(&self) -> &OwnRows
+        ensures { result.now ≡ self.now.own }
+    {
+        &self.own
+    }
+
+    /// Puts the row of the pair with a portal.
+    pub(crate) fn put(&mut self, portal: u64, row: BitRow)
+        requires { portal < length self.old.own }
+        ensures { self.new ≡ record { first = self.old.first; start = self.old.start; seen = self.old.seen; own = slice_set self.old.own portal (Some row) } }
+    {
+        self.own.put(portal, row);
+    }
+}
