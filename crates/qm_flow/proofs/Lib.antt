@@ -1,3 +1,4 @@
+mod BegunRows
 mod Copies
 mod FourLeaves
 mod OwnAnswers

@@ -13,6 +13,7 @@ use crate::own_rows::OwnRows;
 use crate::pairs::Pairs;
 use crate::trying::try_portal;
 use qm_bits::BitRow;
+use qm_lines::show_by_lines;
 use qm_portal::World;
 use qm_sight::RowSource;
 use std::alloc::{AllocError, Global};
@@ -37,6 +38,7 @@ pub fn flow<S: RowSource>(
     let mut row = BitRow::with_len(alloc, world.leaves())?;
     let own = OwnRows::none(alloc, world.portals())?;
     let first = begin(alloc, world, source, &own, portal, &mut row)?;
+    show_by_lines(alloc, world, source, portal, &mut row)?;
     let mut pairs = Pairs::of(alloc, world, portal, &first.mask, own)?;
     let mut frames = Vec::new(alloc);
     frames.push(first)?;

@@ -7,6 +7,7 @@ use Rattle.qm_chains.specs.inner.Pairs.{LieWithinPairs}
 use Rattle.qm_chains.specs.inner.Walk.{IsWalk, IsTried}
 use Rattle.qm_chains.proofs.Walks.{walk_begins, walk_ends}
 use Rattle.qm_flow.specs.InCeiling.{IsInCeiling}
+use Rattle.qm_flow.proofs.BegunRows.{begun_with_more}
 use Rattle.qm_flow.proofs.OwnAnswers.{fresh_within}
 use Rattle.qm_flow.proofs.Rounds.{round_done, less_done, round_within, round_ends, round_wide, round_tried, less_tried, after_child, after_none}
 use Rattle.qm_flow.proofs.flowing.flow.Goals as goal
@@ -16,11 +17,13 @@ loop-frame-init g c =
     let may = IsInCeiling (g.S.RowSource.ceilings c.args.source.now) in
     record {
       walk = subst (λ (frames : List Frame). IsWalk c.args.world.now may c.args.portal frames c.begin.new.row) (sym (c.in_ok-push.ensures.items ∙ ap (λ (frames : List Frame). frames ++ c.in_ok-first.first ∷ []) c.new-frames.ensures.items))
-          (walk_begins c.args.world.now may c.args.portal c.in_ok-first.first c.begin.new.row c.in_ok-first.ensures.begun);
-      pairs = c.in_ok-pairs.ensures.pairs c.begin.new.row;
+          (walk_begins c.args.world.now may c.args.portal c.in_ok-first.first c.show_by_lines.new.row
+          (begun_with_more c.args.world.now (g.S.RowSource.ceilings c.args.source.now) (g.S.RowSource.ceilings c.begin.new.source) c.args.portal c.in_ok-first.first c.begin.new.row c.show_by_lines.new.row
+          (g.met.S.RowSource.narrower c.args.source.now c.begin.new.source c.begin.ensures.on) c.in_ok-first.ensures.begun c.in_ok-show_by_lines.ensures.shown));
+      pairs = c.in_ok-pairs.ensures.pairs c.show_by_lines.new.row;
       first = c.in_ok-pairs.ensures.first;
       within = subst (LieWithinPairs may) (sym c.in_ok-pairs.ensures.own) (fresh_within c.in_ok-own.own c.portals.result c.in_ok-own.ensures may);
-      on = c.begin.ensures.on;
+      on = g.met.S.RowSource.goes_on_in_turn c.args.source.now c.begin.new.source c.show_by_lines.new.source c.begin.ensures.on c.show_by_lines.ensures.on;
     }
 
 pub begin-requires-clause-none : goal.begin-requires-clause-none
