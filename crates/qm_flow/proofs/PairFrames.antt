@@ -12,7 +12,7 @@ use Rattle.qm_chains.specs.inner.Frame.{Frame}
 use Rattle.qm_chains.specs.inner.OwnRows.{CanHave}
 use Rattle.qm_chains.specs.inner.Pairs.{Pairs, IsPairRow, ArePairs}
 use Rattle.qm_chains.proofs.PairRows.{wanted_answered, wanted_seen, wanted_in_cone}
-use Rattle.qm_flow.specs.PairFrame.{IsPairFrame}
+use Rattle.qm_flow.specs.inner.PairFrame.{IsPairFrame}
 
 module _ (world : World) (own : HasOwnPortals world) (found : List Bool) (pairs : Pairs) (are : ArePairs world found pairs) (number : ℕ) (q : Portal) (q_is : IsAt world.portals number q)
     (ceiling : List Bool) (state : ChainState) (frame : Frame) (is : IsPairFrame world ceiling pairs state number frame) (step : GoesOn pairs.start q state)

@@ -5,7 +5,7 @@ use Rattle.qm_contacts.specs.World.{World}
 use Rattle.qm_chains.specs.inner.Pairs.{Pairs, ArePairs}
 use Rattle.qm_chains.proofs.PairRows.{pairs_stay}
 use Rattle.qm_sight.specs.WordInSight.{LieWithin}
-use Rattle.qm_flow.specs.PairsGoOn.{PairsGoOn}
+use Rattle.qm_flow.specs.inner.PairsGoOn.{PairsGoOn}
 
 pub pairs_same : (world : World) (now : List (List Bool)) (found : List Bool) (pairs : Pairs) → ArePairs world found pairs → PairsGoOn world now found pairs pairs
 pairs_same world now found pairs are = record { same_first = refl; are = are; within = λ ceilings lie within. within }

@@ -1,3 +1,2 @@
 pub mod InCeiling
-pub mod PairFrame
-pub mod PairsGoOn
+pub mod inner

@@ -7,8 +7,8 @@ ghost use Rattle.qm_contacts.specs.OwnPortals.{HasOwnPortals};
 ghost use Rattle.qm_chains.specs.inner.OwnRows.{AreOwnRows, CanHave};
 ghost use Rattle.qm_chains.specs.inner.Pairs.{IsPairRow, ArePairs};
 ghost use Rattle.qm_sight.specs.WordInSight.{ceiling_of};
-ghost use Rattle.qm_flow.specs.PairFrame.{IsPairFrame};
-ghost use Rattle.qm_flow.specs.PairsGoOn.{PairsGoOn};
+ghost use Rattle.qm_flow.specs.inner.PairFrame.{IsPairFrame};
+ghost use Rattle.qm_flow.specs.inner.PairsGoOn.{PairsGoOn};
 
 use crate::cone::cone_of;
 use crate::frame::Frame;

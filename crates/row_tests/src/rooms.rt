@@ -33,7 +33,7 @@ const ROOM: [BoxRow; 6] = [
 ];
 
 /// Three rooms round a corner.
-const CORNER_ROOMS: [BoxRow; 12] = [
+pub(crate) const CORNER_ROOMS: [BoxRow; 12] = [
     ([-144, -80, -16], [112, 192, 0]),
     ([-144, -80, 96], [112, 192, 112]),
     ([-144, -80, 0], [112, -64, 96]),

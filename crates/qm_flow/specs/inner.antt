@@ -1,0 +1,2 @@
+pub mod PairFrame
+pub mod PairsGoOn
