@@ -8,4 +8,6 @@ mod plain;
 #[cfg(test)]
 mod rooms;
 #[cfg(test)]
-mod worlds;
+mod two_rows;
+#[cfg(test)]
+mod wavering;

@@ -3,7 +3,6 @@
 ghost use Rattle.std.specs.Prelude.{◌<◌, length};
 
 use crate::rooms::CORNER_ROOMS;
-use crate::worlds::{text, world_of};
 use qm_base::base;
 use qm_bits::BitRow;
 use qm_geom::Point;
@@ -12,6 +11,7 @@ use qm_portal::World;
 use qm_sight::Rows;
 use std::alloc::{AllocError, Global};
 use std::test::Fail;
+use test_worlds::{text_of, world_of};
 
 /// What open chains show of the leaves, seen from each of them, worked out by hand; the first leaf in the lowest bit.
 static SHOWN: [u64; 5] = [0x0F, 0x0F, 0x1F, 0x1F, 0x1C];
@@ -42,7 +42,7 @@ fn lies_within(row: &BitRow, places: u64) -> bool {
 #[test]
 fn lines_show_what_is_seen(rt: HostRuntime) -> Result<(), Fail> {
     let alloc = rt.alloc();
-    let text = text(alloc, &CORNER_ROOMS)?;
+    let text = text_of(alloc, &CORNER_ROOMS)?;
     let point = Point {
         x: -64,
         y: 0,

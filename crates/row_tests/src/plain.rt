@@ -1,6 +1,5 @@
 //! Coarse rows of generated worlds, beside a flood that goes through all portals again and again, and tests corners.
 
-use crate::worlds::{BoxRow, text, world_of};
 use qm_base::base;
 use qm_geom::{Plane, Point};
 use qm_portal::World;
@@ -8,6 +7,7 @@ use qm_wind::Winding;
 use std::alloc::{AllocError, Global};
 use std::cmp::Ordering;
 use std::test::Fail;
+use test_worlds::{BoxRow, text_of, world_of};
 
 /// Whether a winding has a corner on a side of a plane.
 fn has_corner(winding: &Winding, plane: &Plane, side: Ordering) -> bool {
@@ -102,7 +102,7 @@ fn rows_are_as_a_plain_flood_says(rt: HostRuntime) -> Result<(), Fail> {
     for _ in 0..8 {
         state = next(state);
         let boxes = boxes(rt.alloc(), state)?;
-        let text = text(rt.alloc(), &boxes)?;
+        let text = text_of(rt.alloc(), &boxes)?;
         let world = world_of(
             rt.alloc(),
             text.as_str(),

@@ -1,6 +1,5 @@
 //! The rows of a cube, a room, and three rooms round a corner, over coarse rows of portals and over those found in turns.
 
-use crate::worlds::{BoxRow, text, world_of};
 use qm_base::base;
 use qm_bits::BitRow;
 use qm_flow::refine;
@@ -8,6 +7,7 @@ use qm_geom::Point;
 use qm_rows::{leaf_rows, seen};
 use std::alloc::{AllocError, Global};
 use std::test::Fail;
+use test_worlds::{BoxRow, text_of, world_of};
 
 struct Sample {
     boxes: &'static [BoxRow],
@@ -106,7 +106,7 @@ fn are_rows(rows: &[BitRow], places: &[u64]) -> bool {
 }
 
 fn holds(alloc: Global, sample: &Sample) -> Result<bool, AllocError> {
-    let text = text(alloc, sample.boxes)?;
+    let text = text_of(alloc, sample.boxes)?;
     let (x, y, z) = sample.at;
     let world = world_of(alloc, text.as_str(), Point { x, y, z, w: 1 })?;
     let coarse = base(alloc, &world)?;

@@ -7,8 +7,8 @@ mod random;
 mod segments;
 mod worlds;
 
-pub use boxes::{BoxRow, CORNER_ROOMS, CUBE, HOLE_ROOM, ROOM, TWO_ROOMS, text_of};
+pub use boxes::{BoxRow, text_of};
 pub use mazes::{maze, point};
 pub use random::Random;
 pub use segments::{Segment, row_of};
-pub use worlds::{tree_of, world_of};
+pub use worlds::world_of;

@@ -1,4 +1,4 @@
-//! Trees and worlds of MAP texts.
+//! Worlds of MAP texts.
 
 ghost use Rattle.std.specs.Prelude.{IfOk};
 ghost use Rattle.qm_partition.specs.Ways.{HasPoints};
@@ -13,7 +13,7 @@ use qm_tree::Tree;
 use std::alloc::{AllocError, Global};
 
 /// The tree of a text, which has to be a map.
-pub fn tree_of(alloc: Global, text: &str) -> Result<Tree, AllocError>
+fn tree_of(alloc: Global, text: &str) -> Result<Tree, AllocError>
     ensures { IfOk result HasPoints }
 {
     let Ok(map) = parse(alloc, text.as_bytes()) else {
