@@ -15,7 +15,7 @@ use Rattle.qm_chains.specs.Shown.{IsAt, IsShown}
 use Rattle.qm_chains.specs.Turns.{LieWithinTurns}
 use Rattle.qm_chains.proofs.TurnLaws.{turn_taken}
 use Rattle.qm_sight.specs.RowsOfWorld.{AreRowsOfWorld}
-use Rattle.qm_flow.specs.InCeiling.{IsInCeiling}
+use Rattle.qm_sight.specs.InCeiling.{IsInCeiling}
 
 -- ---- coarse rows, with which the turns begin
 

@@ -1,2 +1,1 @@
-pub mod InCeiling
 pub mod inner

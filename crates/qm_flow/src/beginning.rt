@@ -4,7 +4,7 @@ ghost use Rattle.std.specs.Prelude.{◌≡◌, ◌<◌, length, false, replicate
 ghost use Rattle.qm_contacts.specs.NumberedLeaves.{numbered_leaves};
 ghost use Rattle.qm_contacts.specs.OwnPortals.{HasOwnPortals};
 ghost use Rattle.qm_chains.specs.inner.Walk.{IsBegun};
-ghost use Rattle.qm_flow.specs.InCeiling.{IsInCeiling};
+ghost use Rattle.qm_sight.specs.InCeiling.{IsInCeiling};
 
 use crate::frame::Frame;
 use crate::narrowing::{find, full, narrow};

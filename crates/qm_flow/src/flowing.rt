@@ -6,7 +6,7 @@ ghost use Rattle.qm_contacts.specs.NumberedLeaves.{numbered_leaves};
 ghost use Rattle.qm_contacts.specs.Portals.{Portal};
 ghost use Rattle.qm_segments.specs.Sight.{IsSoundRow};
 ghost use Rattle.qm_chains.specs.Shown.{IsAt, IsShown};
-ghost use Rattle.qm_flow.specs.InCeiling.{IsInCeiling};
+ghost use Rattle.qm_sight.specs.InCeiling.{IsInCeiling};
 
 use crate::beginning::begin;
 use crate::own_rows::OwnRows;

@@ -9,7 +9,7 @@ ghost use Rattle.qm_chains.specs.inner.Frame.{put_back, EndsChain};
 ghost use Rattle.qm_chains.specs.inner.Pairs.{ArePairs, LieWithinPairs};
 ghost use Rattle.qm_chains.specs.inner.Walk.{AreWide, IsTried};
 ghost use Rattle.qm_sight.specs.WordInSight.{LieWithin};
-ghost use Rattle.qm_flow.specs.InCeiling.{IsInCeiling};
+ghost use Rattle.qm_sight.specs.InCeiling.{IsInCeiling};
 
 use crate::cone::left_of;
 use crate::frame::Frame;

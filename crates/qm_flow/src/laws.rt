@@ -7,7 +7,7 @@ ghost use Rattle.qm_separators.specs.PortalSteps.{IsInChainBound};
 ghost use Rattle.qm_chains.specs.Shown.{IsAt, IsShown};
 ghost use Rattle.qm_chains.specs.Turns.{LieWithinTurns, IsInReuse};
 ghost use Rattle.qm_sight.specs.WordInSight.{ceiling_of};
-ghost use Rattle.qm_flow.specs.InCeiling.{IsInCeiling};
+ghost use Rattle.qm_sight.specs.InCeiling.{IsInCeiling};
 
 /// One turn: where the row of a portal is found by open chains over the rows as they stood, and no other row gains a leaf, all
 /// rows lie within what they may have after that turn.

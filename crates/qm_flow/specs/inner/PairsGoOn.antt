@@ -2,7 +2,7 @@ use Rattle.std.specs.Prelude.{◌≡◌, Bool, List}
 use Rattle.qm_contacts.specs.World.{World}
 use Rattle.qm_chains.specs.inner.Pairs.{Pairs, ArePairs, LieWithinPairs}
 use Rattle.qm_sight.specs.WordInSight.{LieWithin}
-use Rattle.qm_flow.specs.InCeiling.{IsInCeiling}
+use Rattle.qm_sight.specs.InCeiling.{IsInCeiling}
 
 -- Pairs go on, with a row more or not: their first portal stays, and they are pairs for what is found. What their rows have
 -- lies within all ceilings that have what rows had before, and what the source can answer now.

@@ -14,7 +14,7 @@ use Rattle.qm_flow.proofs.OwnAnswers.{fresh_own, fresh_must, fresh_can}
 use Rattle.qm_sight.specs.WordInSight.{ceiling_of}
 use Rattle.qm_chains.proofs.Beginnings.{turned_of_portal, begins}
 use Rattle.qm_chains.proofs.TriedPortals.{same_portal}
-use Rattle.qm_flow.specs.InCeiling.{IsInCeiling}
+use Rattle.qm_sight.specs.InCeiling.{IsInCeiling}
 use Rattle.qm_flow.proofs.beginning.begin.Goals as goal
 
 pub start-requires : goal.start-requires

@@ -6,7 +6,7 @@ use Rattle.qm_chains.specs.inner.Frame.{Frame, put_back, EndsChain}
 use Rattle.qm_chains.specs.inner.Pairs.{LieWithinPairs}
 use Rattle.qm_chains.specs.inner.Walk.{IsWalk, IsTried}
 use Rattle.qm_chains.proofs.Walks.{walk_begins, walk_ends}
-use Rattle.qm_flow.specs.InCeiling.{IsInCeiling}
+use Rattle.qm_sight.specs.InCeiling.{IsInCeiling}
 use Rattle.qm_flow.proofs.BegunRows.{begun_with_more}
 use Rattle.qm_flow.proofs.OwnAnswers.{fresh_within}
 use Rattle.qm_flow.proofs.Rounds.{round_done, less_done, round_within, round_ends, round_wide, round_tried, less_tried, after_child, after_none}

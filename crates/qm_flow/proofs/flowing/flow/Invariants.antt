@@ -2,7 +2,7 @@ use Rattle.std.proofs.Common.{◌≡◌}
 use Rattle.std.specs.List.{sum_by}
 use Rattle.qm_chains.specs.inner.Pairs.{ArePairs, LieWithinPairs}
 use Rattle.qm_chains.specs.inner.Walk.{IsWalk, frame_weight}
-use Rattle.qm_flow.specs.InCeiling.{IsInCeiling}
+use Rattle.qm_sight.specs.InCeiling.{IsInCeiling}
 use Rattle.qm_flow.proofs.flowing.flow.Given as goal
 
 -- the walk so far, and what the rows of pairs have, over the ceilings at entry; and the source goes on from what it was

@@ -17,7 +17,7 @@ use Rattle.qm_chains.proofs.PairRows.{wanted_answered, can_within, pairs_stay}
 use Rattle.qm_chains.proofs.TriedPortals.{same_portal, tried_stopped}
 use Rattle.qm_chains.proofs.Cones.{tried_on_left}
 use Rattle.qm_sight.specs.WordInSight.{ceiling_of}
-use Rattle.qm_flow.specs.InCeiling.{IsInCeiling}
+use Rattle.qm_sight.specs.InCeiling.{IsInCeiling}
 use Rattle.qm_flow.proofs.Copies.{found_stays}
 use Rattle.qm_flow.proofs.going.go_through.Goals as goal
 

@@ -2,7 +2,7 @@ use Rattle.std.proofs.Common.{ap, arith}
 use Rattle.qm_chains.specs.inner.Pairs.{Pairs}
 use Rattle.qm_chains.proofs.PairRows.{pairs_more, within_more, can_within}
 use Rattle.qm_sight.specs.WordInSight.{ceiling_of}
-use Rattle.qm_flow.specs.InCeiling.{IsInCeiling}
+use Rattle.qm_sight.specs.InCeiling.{IsInCeiling}
 use Rattle.qm_flow.proofs.pairing.pair.Goals as goal
 
 pub put-requires : goal.put-requires

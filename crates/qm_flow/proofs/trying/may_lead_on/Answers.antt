@@ -11,7 +11,7 @@ use Rattle.qm_chains.specs.inner.OwnRows.{AreOwnRows, MustHave}
 use Rattle.qm_chains.specs.inner.Walk.{IsTried}
 use Rattle.qm_chains.proofs.PairRows.{none_wanted}
 use Rattle.qm_chains.proofs.TriedPortals.{tried_stopped, tried_nothing}
-use Rattle.qm_flow.specs.InCeiling.{IsInCeiling}
+use Rattle.qm_sight.specs.InCeiling.{IsInCeiling}
 use Rattle.qm_flow.proofs.PairsKept.{pairs_same, pairs_later}
 use Rattle.qm_flow.proofs.trying.may_lead_on.Goals as goal
 

@@ -3,7 +3,7 @@ use Rattle.qm_chains.specs.inner.Frame.{Frame, put_back, EndsChain}
 use Rattle.qm_chains.specs.inner.Walk.{IsTried}
 use Rattle.qm_contacts.specs.Portals.{Portal}
 use Rattle.qm_chains.proofs.TriedPortals.{same_portal, tried_met}
-use Rattle.qm_flow.specs.InCeiling.{IsInCeiling}
+use Rattle.qm_sight.specs.InCeiling.{IsInCeiling}
 use Rattle.qm_flow.proofs.PairsKept.{pairs_same, pairs_found}
 use Rattle.qm_flow.proofs.trying.try_portal.Goals as goal
 
