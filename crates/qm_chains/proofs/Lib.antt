@@ -7,6 +7,7 @@ pub mod TriedPortals
 pub mod Walks
 pub mod Beginnings
 pub mod Cones
+pub mod ConeSamples
 pub mod Entering
 pub mod Words
 pub mod PairRows
