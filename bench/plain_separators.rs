@@ -238,9 +238,19 @@ fn gain_along(planes: &mut Vec<Plane>, source: &Traced, pass: &Traced, along: &P
     }
 }
 
+/// Whether a normal points where that of a listed plane does; with the sign -1, where the opposite of that does.
+#[inline]
+fn listed(planes: &[Plane], n: &[i64; 3], sign: i64) -> bool {
+    planes.iter().any(|g| {
+        let m = g.n.map(|k| sign * i64::from(k));
+        crossed(*n, m) == [0; 3] && (0..3).all(|i| (n[i] < 0) == (m[i] < 0))
+    })
+}
+
 fn gain_through(planes: &mut Vec<Plane>, source: &Traced, pass: &Traced, at: [i32; 3], from: [i32; 3], to: [i32; 3]) {
     let n = normal(at, from, to);
     let (ahead, back) = outlook(source, pass, &n);
+    let (ahead, back) = (ahead && !listed(planes, &n, 1), back && !listed(planes, &n, -1));
     if !ahead && !back {
         return;
     }

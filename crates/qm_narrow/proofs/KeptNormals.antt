@@ -1,10 +1,11 @@
 -- Normals, and their products with coordinates, as the code keeps their numbers.
 use Rattle.std.proofs.Common.{◌≡◌, ◌≤◌, ◌^◌, ◌∙◌, Bool, ℤ, pos, FitsSigned, w32, w64, ◌+ℤ◌, ◌*ℤ◌, ◌<ℤ◌, ◌≤ℤ◌, cond, arith, lit≤, ap, sym, subst, unsigned_abs, ⊎_elim}
+use Rattle.std.specs.Prelude.{int_lt}
 use Rattle.std.proofs.lemmas.Int.{ints}
 use Rattle.qm_numbers.proofs.Bits.{kept_32, kept_64}
 use Rattle.qm_numbers.proofs.Signs.{side_test}
 use Rattle.qm_numbers.proofs.Kept.{kept, fits_64}
-use Rattle.qm_space.specs.Bounds.{world_extent}
+use Rattle.qm_space.specs.Bounds.{world_extent, normal_bound}
 use Rattle.qm_space.specs.Point.{Point, IsCoordinate, IsWholePoint}
 use Rattle.qm_space.specs.Vector.{normal_of}
 use Rattle.qm_space.specs.Cuboid.{least_product, greatest_product}
@@ -89,3 +90,8 @@ three_are a b c r p q s size e h k l x y z =
     kept_64 r (2 ^ 40) size (lit≤ tt) ∙ e
     ∙ (λ i. (kept_64 a (2 ^ 38) h (lit≤ tt) i +ℤ kept_64 b (2 ^ 38) k (lit≤ tt) i) +ℤ kept_64 c (2 ^ 38) l (lit≤ tt) i)
     ∙ (λ i. (x i +ℤ y i) +ℤ z i)
+
+-- ---- signs
+
+pub signs_kept : (a b : ℤ) → unsigned_abs a ≤ 2 ^ 26 → unsigned_abs b ≤ normal_bound → int_lt (kept w64 a) (pos 0) ≡ int_lt (kept w32 b) (pos 0) → int_lt a (pos 0) ≡ int_lt b (pos 0)
+signs_kept a b h k e = sym (ap (λ (z : ℤ). int_lt z (pos 0)) (kept_64 a (2 ^ 26) h (lit≤ tt))) ∙ e ∙ ap (λ (z : ℤ). int_lt z (pos 0)) (kept_32 b normal_bound k (lit≤ tt))

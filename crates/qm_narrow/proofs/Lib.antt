@@ -7,4 +7,5 @@ pub mod LookSamples
 pub mod WholeCorners
 pub mod Nearness
 pub mod ListedNormals
+pub mod ParallelNormals
 pub mod RaisedDistances

@@ -1,5 +1,5 @@
 -- What a look at a normal rests on: where it refuses a normal, no separator has it.
-use Rattle.std.proofs.Common.{◌≡◌, ℕ, ◌<◌, Bool, true, false, not, ℤ, pos, neg_ℤ, ◌+ℤ◌, ◌-ℤ◌, ◌*ℤ◌, ◌<ℤ◌, ◌≤ℤ◌, List, [], ◌∷◌, length, cond, refl, ap, sym, subst, ◌∙◌, IsTrue, ◌↔◌, arith, ◌⊎◌, ⊎_elim}
+use Rattle.std.proofs.Common.{◌≡◌, ℕ, ◌<◌, Bool, true, false, not, ℤ, pos, neg_ℤ, ◌+ℤ◌, ◌-ℤ◌, ◌*ℤ◌, ◌<ℤ◌, ◌≤ℤ◌, List, [], ◌∷◌, Contains, length, cond, refl, ap, sym, subst, ◌∙◌, IsTrue, ◌↔◌, arith, ◌⊎◌, ⊎_elim}
 use Rattle.std.specs.Int.{int_max, int_min}
 use Rattle.std.proofs.lemmas.Int.{ints, clamps}
 use Rattle.std.proofs.Math.IntN.{*ℤ_comm}
@@ -21,8 +21,12 @@ use Rattle.qm_convex.proofs.Corners.{corners_length, corner_in_list}
 use Rattle.qm_separators.specs.Gains.{Gains}
 use Rattle.qm_separators.specs.inner.Found.{PartsAlong, SeparatesBy}
 use Rattle.qm_separators.proofs.Comparisons.{neg-*ℤ-neg}
-use Rattle.qm_separators.proofs.SeparatorLaw.{none_in_front}
-use Rattle.qm_separators.proofs.GainedPlanes.{gains_none}
+use Rattle.qm_separators.proofs.GainedPlanes.{gains_there}
+use Rattle.qm_separators.proofs.Normals.{like_lowest, flipped_lowest_normal}
+use Rattle.qm_separators.specs.Across.{HasLowestNormal}
+use Rattle.qm_narrow.specs.inner.FoundPlanes.{AreAtLeastDistance, HasAlongAmong, HasAgainstAmong}
+use Rattle.qm_narrow.proofs.ListedNormals.{listed_along}
+use Rattle.qm_narrow.proofs.ParallelNormals.{same_normal}
 use Rattle.qm_geom.specs.Vectors.{direction_of, normal_of as own_normal}
 use Rattle.qm_geom.specs.declared.vector.Vector.{Vector}
 use Rattle.qm_narrow.specs.declared.reach.Reach.{Reach}
@@ -200,44 +204,69 @@ module _ (n : Vector) (h : Plane) (k : ℤ) (multiple : direction_of n ≡ point
 
 -- ---- what is not gained
 
-module _ (s p : Winding) (at from to : Point) (n : Vector) (through : direction_of n ≡ normal_of (outward_plane at from to)) where
-  pub gains_nowhere : PartsNowhere s p n → PartsNowhere p s n → (old : List Plane) → Gains (SeparatesBy s p at from to) old old
-  gains_nowhere ahead back old = gains_none (SeparatesBy s p at from to) old (λ h sep.
+-- a plane at the least distance has no corner of the source in front
+none_along : (s p : Winding) (along h : Plane) → PartsAlong s p along h → HasNoCornerInFront s h
+none_along s p along h is i below =
+    let a = is.least.none_in_front h.d (omega (arith, linear)) i (corner_at s i) (let e = corners_length s in omega arith) in
+    subst (λ q. IsNotInFront h q) (corner_in_list s i (corner_at s i) below) a
+
+times_back : (k : ℤ) (g : Plane) → point_times k (normal_of g) ≡ point_times (neg_ℤ k) (normal_of (flipped g))
+times_back k g = same_point (point_times k (normal_of g)) (point_times (neg_ℤ k) (normal_of (flipped g))) (sym (neg-*ℤ-neg k g.nx)) (sym (neg-*ℤ-neg k g.ny)) (sym (neg-*ℤ-neg k g.nz)) (*ℤ_zero k ∙ sym (*ℤ_zero (neg_ℤ k)))
+
+turned_alike : (g h : Plane) → normal_of (flipped g) ≡ normal_of (flipped h) → normal_of g ≡ normal_of h
+turned_alike g h e = same_point (normal_of g) (normal_of h) (back g.nx h.nx (ap (λ (p : Point). p.x) e)) (back g.ny h.ny (ap (λ (p : Point). p.y) e)) (back g.nz h.nz (ap (λ (p : Point). p.z) e)) refl
+  where
+    back : (a b : ℤ) → neg_ℤ a ≡ neg_ℤ b → a ≡ b
+    back a b e = omega (arith, linear)
+
+-- where the look and the list leave a side out, what parts them on this side is listed
+module _ (s p : Winding) (at from to : Point) (n : Vector) (through : direction_of n ≡ normal_of (outward_plane at from to)) (planes listed : List Plane) (same : listed ≡ planes) (found : AreAtLeastDistance s planes) (look outlook : Outlook) (look_ahead : look.ahead ≡ false → PartsNowhere s p n) (look_back : look.back ≡ false → PartsNowhere p s n) (ahead : outlook.ahead ≡ false → (look.ahead ≡ false) ⊎ HasAlongAmong listed n) (back : outlook.back ≡ false → (look.back ≡ false) ⊎ HasAgainstAmong listed n) where
+  module _ (h : Plane) (lowest : HasLowestNormal h) (parts : PartsAlong s p h h) (k : ℤ) (multiple : direction_of n ≡ point_times k (normal_of h)) where
+    there_ahead : pos 0 <ℤ k → outlook.ahead ≡ false → Contains planes h
+    there_ahead positive not = ⊎_elim
+        (λ no. absurd (none_ahead n h k multiple s p (none_along s p h h parts) parts.parts.in_front positive (look_ahead no)))
+        (λ among. let there = subst (λ (l : List Plane). Contains l among.0) same among.1 in
+        listed_along s p h among.0 h planes found there (same_normal n among.0 (found.lowest among.0 there) among.2 at from to through h lowest k positive multiple) parts)
+        (ahead not)
+
+    there_back : k <ℤ pos 0 → outlook.back ≡ false → Contains planes h
+    there_back negative not = ⊎_elim
+        (λ no. absurd (none_back n h k multiple s p (none_along s p h h parts) parts.parts.in_front negative (look_back no)))
+        (λ among. let there = subst (λ (l : List Plane). Contains l among.0) same among.1 in
+        listed_along s p h among.0 h planes found there
+        (turned_alike h among.0 (same_normal n (flipped among.0) (flipped_lowest_normal among.0 (found.lowest among.0 there)) among.2 at from to through (flipped h) (flipped_lowest_normal h lowest) (neg_ℤ k) (omega (arith, linear)) (multiple ∙ times_back k h)))
+        parts)
+        (back not)
+
+  pub gains_nowhere : outlook.ahead ≡ false → outlook.back ≡ false → Gains (SeparatesBy s p at from to) planes planes
+  gains_nowhere not_ahead not_back = gains_there (SeparatesBy s p at from to) planes (λ h sep.
       let is = sep.1 in let e = through ∙ is.multiple in
+      let parts : PartsAlong s p h h = record { normal = refl; least = sep.0.least; parts = record { in_front = sep.0.in_front; strict = sep.0.strict } } in
       by_sign is.factor
-      (λ negative. none_back n h is.factor e s p (none_in_front s p h sep.0) sep.0.in_front negative back)
-      (λ zero. is.some_factor zero)
-      (λ positive. none_ahead n h is.factor e s p (none_in_front s p h sep.0) sep.0.in_front positive ahead))
-
-  -- a plane at the least distance has no corner of the source in front
-  none_along : (along h : Plane) → PartsAlong s p along h → HasNoCornerInFront s h
-  none_along along h is i below =
-      let a = is.least.none_in_front h.d (omega (arith, linear)) i (corner_at s i) (let e = corners_length s in omega arith) in
-      subst (λ q. IsNotInFront h q) (corner_in_list s i (corner_at s i) below) a
-
-  times_back : (k : ℤ) (g : Plane) → point_times k (normal_of g) ≡ point_times (neg_ℤ k) (normal_of (flipped g))
-  times_back k g = same_point (point_times k (normal_of g)) (point_times (neg_ℤ k) (normal_of (flipped g))) (sym (neg-*ℤ-neg k g.nx)) (sym (neg-*ℤ-neg k g.ny)) (sym (neg-*ℤ-neg k g.nz)) (*ℤ_zero k ∙ sym (*ℤ_zero (neg_ℤ k)))
+      (λ negative. there_back h is.lowest parts is.factor e negative not_back)
+      (λ zero. absurd (is.some_factor zero))
+      (λ positive. there_ahead h is.lowest parts is.factor e positive not_ahead))
 
   module _ (plane : Plane) (flag : Bool) (is : IsPlaneThrough at from to plane flag) where
     itself : direction_of n ≡ point_times is.multiple.factor (normal_of (turned flag plane))
     itself = through ∙ ap normal_of is.multiple.multiple ∙ same_point (normal_of (scaled is.multiple.factor (turned flag plane))) (point_times is.multiple.factor (normal_of (turned flag plane))) refl refl refl (sym (*ℤ_zero is.multiple.factor))
 
-    none_itself : PartsNowhere s p n → (along h : Plane) → along ≡ turned flag plane → PartsAlong s p along h → ⊥
-    none_itself ahead along h e parts =
-        none_ahead n h is.multiple.factor (itself ∙ ap (point_times is.multiple.factor) (sym (parts.normal ∙ ap normal_of e))) s p (none_along along h parts) parts.parts.in_front is.multiple.positive ahead
+    there_itself : outlook.ahead ≡ false → (along h : Plane) → HasLowestNormal along → along ≡ turned flag plane → PartsAlong s p along h → Contains planes h
+    there_itself not along h lowest e parts =
+        there_ahead h (like_lowest h along parts.normal lowest) (record { normal = refl; least = parts.least; parts = parts.parts }) is.multiple.factor
+        (itself ∙ ap (point_times is.multiple.factor) (sym (parts.normal ∙ ap normal_of e))) is.multiple.positive not
 
-    none_turned : PartsNowhere p s n → (along h : Plane) → along ≡ flipped (turned flag plane) → PartsAlong s p along h → ⊥
-    none_turned back along h e parts =
+    there_turned : outlook.back ≡ false → (along h : Plane) → HasLowestNormal along → along ≡ flipped (turned flag plane) → PartsAlong s p along h → Contains planes h
+    there_turned not along h lowest e parts =
         let positive = is.multiple.positive in
-        none_back n h (neg_ℤ is.multiple.factor) (itself ∙ times_back is.multiple.factor (turned flag plane) ∙ ap (point_times (neg_ℤ is.multiple.factor)) (sym (parts.normal ∙ ap normal_of e))) s p (none_along along h parts) parts.parts.in_front (omega (arith, linear)) back
+        there_back h (like_lowest h along parts.normal lowest) (record { normal = refl; least = parts.least; parts = parts.parts }) (neg_ℤ is.multiple.factor)
+        (itself ∙ times_back is.multiple.factor (turned flag plane) ∙ ap (point_times (neg_ℤ is.multiple.factor)) (sym (parts.normal ∙ ap normal_of e))) (omega (arith, linear)) not
 
--- by the flag
+  -- by the flag
+  pub there_as_it_is : (plane : Plane) (flag may : Bool) → IsPlaneThrough at from to plane flag → HasLowestNormal plane → may ≡ cond flag outlook.ahead outlook.back → may ≡ false → (h : Plane) → PartsAlong s p plane h → Contains planes h
+  there_as_it_is plane true may is lowest e unset h parts = there_itself plane true is (sym e ∙ unset) plane h lowest refl parts
+  there_as_it_is plane false may is lowest e unset h parts = there_turned plane false is (sym e ∙ unset) plane h lowest (sym (flipped_twice plane)) parts
 
-module _ (s p : Winding) (at from to : Point) (n : Vector) (through : direction_of n ≡ normal_of (outward_plane at from to)) (outlook : Outlook) (ahead : outlook.ahead ≡ false → PartsNowhere s p n) (back : outlook.back ≡ false → PartsNowhere p s n) where
-  pub none_as_it_is : (plane : Plane) (flag may : Bool) → IsPlaneThrough at from to plane flag → may ≡ cond flag outlook.ahead outlook.back → may ≡ false → (h : Plane) → PartsAlong s p plane h → ⊥
-  none_as_it_is plane true may is e unset h parts = none_itself s p at from to n through plane true is (ahead (sym e ∙ unset)) plane h refl parts
-  none_as_it_is plane false may is e unset h parts = none_turned s p at from to n through plane false is (back (sym e ∙ unset)) plane h (sym (flipped_twice plane)) parts
-
-  pub none_flipped : (plane : Plane) (flag may : Bool) → IsPlaneThrough at from to plane flag → may ≡ cond (not flag) outlook.ahead outlook.back → may ≡ false → (h : Plane) → PartsAlong s p (flipped plane) h → ⊥
-  none_flipped plane true may is e unset h parts = none_turned s p at from to n through plane true is (back (sym e ∙ unset)) (flipped plane) h refl parts
-  none_flipped plane false may is e unset h parts = none_itself s p at from to n through plane false is (ahead (sym e ∙ unset)) (flipped plane) h refl parts
+  pub there_flipped : (plane : Plane) (flag may : Bool) → IsPlaneThrough at from to plane flag → HasLowestNormal (flipped plane) → may ≡ cond (not flag) outlook.ahead outlook.back → may ≡ false → (h : Plane) → PartsAlong s p (flipped plane) h → Contains planes h
+  there_flipped plane true may is lowest e unset h parts = there_turned plane true is (sym e ∙ unset) (flipped plane) h lowest refl parts
+  there_flipped plane false may is lowest e unset h parts = there_itself plane false is (sym e ∙ unset) (flipped plane) h lowest refl parts

@@ -1,6 +1,6 @@
 //! Separators along one normal, and through three whole points.
 
-ghost use Rattle.std.specs.Prelude.{◌≡◌, false, ◌↔◌, IsTrue, [], ◌∷◌, OnOk};
+ghost use Rattle.std.specs.Prelude.{◌≡◌, false, ◌↔◌, IsTrue, [], ◌∷◌, OnOk, Contains};
 ghost use Rattle.qm_space.specs.Point.{whole_point, AreCoordinates};
 ghost use Rattle.qm_space.specs.Vector.{normal_of};
 ghost use Rattle.qm_space.specs.Plane.{Plane};
@@ -36,6 +36,7 @@ pub(crate) fn gain_through(
 {
     let normal = normal_through(at, from, to);
     let outlook = Outlook::of(source, pass, &normal);
+    let outlook = outlook.without(planes.as_slice(), &normal);
     if outlook.is_none() {
         return Ok(());
     }
@@ -50,8 +51,8 @@ pub(crate) fn gain_through(
     }
 }
 
-/// Gains the plane with this plane's normal at the least distance, if it parts both windings; it may not do so where the
-/// flag is not set.
+/// Gains the plane with this plane's normal at the least distance, if it parts both windings; where the flag is not set, it
+/// does not, or is listed.
 fn gain_where(
     planes: &mut Vec<Plane>,
     source: &Traced,
@@ -61,7 +62,7 @@ fn gain_where(
 ) -> Result<(), AllocError>
     requires lowest { HasLowestNormal along.now }
     requires found { AreAtLeastDistance source.now planes.now.items }
-    requires not { may ≡ false → (h : Plane) → PartsAlong source.now pass.now along.now h → ⊥ }
+    requires not { may ≡ false → (h : Plane) → PartsAlong source.now pass.now along.now h → Contains planes.now.items h }
     ensures { OnOk result (Gains (PartsAlong source.now pass.now along.now) planes.old.items planes.new.items) }
 {
     if may {

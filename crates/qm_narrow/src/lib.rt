@@ -5,6 +5,7 @@ mod across;
 mod candidates;
 mod chain_state;
 pub mod laws;
+mod multiples;
 mod narrowing;
 mod near;
 mod normal;

@@ -4,11 +4,13 @@ ghost use Rattle.std.specs.Prelude.{◌≡◌, ◌^◌, ◌⊎◌, ◌<ℤ◌, B
 ghost use Rattle.qm_space.specs.Point.{AreCoordinates};
 ghost use Rattle.qm_geom.specs.Vectors.{IsWithin};
 ghost use Rattle.qm_narrow.specs.inner.Look.{PartsNowhere, least_along, greatest_along};
+ghost use Rattle.qm_narrow.specs.inner.FoundPlanes.{HasAlongAmong, HasAgainstAmong};
 
+use crate::multiples::{has_against, has_along};
 use crate::reach::Reach;
 use crate::spot::Spot;
 use crate::traced::Traced;
-use qm_geom::Vector;
+use qm_geom::{Plane, Vector};
 
 /// Whether planes with a normal, or with its opposite, may part two windings.
 #[derive(Clone, Copy)]
@@ -40,6 +42,18 @@ impl Outlook {
         Outlook {
             ahead: self.ahead && spot.greatest(normal) >= reach.low,
             back: self.back && spot.least(normal) <= reach.high,
+        }
+    }
+
+    /// Without the sides for which a plane with such a normal is listed.
+    pub(crate) fn without(&self, planes: &[Plane], normal: &Vector) -> Outlook
+        requires { IsWithin normal.now (2 ^ 26) }
+        ensures ahead { result.ahead ≡ false → (self.now.ahead ≡ false) ⊎ HasAlongAmong planes.now normal.now }
+        ensures back { result.back ≡ false → (self.now.back ≡ false) ⊎ HasAgainstAmong planes.now normal.now }
+    {
+        Outlook {
+            ahead: self.ahead && !has_along(planes, normal),
+            back: self.back && !has_against(planes, normal),
         }
     }
 

@@ -1,11 +1,11 @@
-use Rattle.std.proofs.Common.{◌≡◌, false, refl, sym, subst}
+use Rattle.std.proofs.Common.{refl, sym, subst, inl}
 use Rattle.qm_space.specs.Point.{whole_point}
 use Rattle.qm_space.specs.Plane.{Plane}
 use Rattle.qm_separators.specs.Across.{HasLowestNormal}
 use Rattle.qm_separators.specs.Gains.{Gains}
 use Rattle.qm_separators.specs.inner.Found.{PartsAlong}
 use Rattle.qm_separators.proofs.FoundPlanes.{through_lowest, through_lowest_flipped, gains_on_line, gains_through}
-use Rattle.qm_narrow.proofs.Outlooks.{gains_nowhere, none_as_it_is, none_flipped}
+use Rattle.qm_narrow.proofs.Outlooks.{gains_nowhere, there_as_it_is, there_flipped}
 use Rattle.qm_narrow.proofs.ListedNormals.{found_along}
 use Rattle.qm_narrow.proofs.across.gain_through.Goals as goal
 
@@ -14,22 +14,28 @@ gain_where-requires-clause-lowest c = through_lowest (whole_point c.args.at) (wh
 
 pub gain_where-requires-clause-not : goal.gain_where-requires-clause-not
 gain_where-requires-clause-not c =
-    none_as_it_is c.args.source.now c.args.pass.now (whole_point c.args.at) (whole_point c.args.from) (whole_point c.args.to)
-    c.normal_through-normal.result c.normal_through-normal.ensures.exact c.of-outlook.result c.of-outlook.ensures.ahead c.of-outlook.ensures.back _ _ _ c.in-Ok.ensures.through c.towards.ensures
+    there_as_it_is c.args.source.now c.args.pass.now (whole_point c.args.at) (whole_point c.args.from) (whole_point c.args.to)
+    c.normal_through-normal.result c.normal_through-normal.ensures.exact c.args.planes.now.items _ c.as_slice.ensures.value c.requires.found c.of-outlook.result c.without-outlook.result
+    c.of-outlook.ensures.ahead c.of-outlook.ensures.back c.without-outlook.ensures.ahead c.without-outlook.ensures.back
+    _ _ _ c.in-Ok.ensures.through (through_lowest (whole_point c.args.at) (whole_point c.args.from) (whole_point c.args.to) refl _ _ c.in-Ok.ensures.through) c.towards.ensures
 
 pub gain_where-requires-in-Ok-clause-lowest : goal.gain_where-requires-in-Ok-clause-lowest
 gain_where-requires-in-Ok-clause-lowest c = subst HasLowestNormal (sym c.flipped-turned.ensures) (through_lowest_flipped (whole_point c.args.at) (whole_point c.args.from) (whole_point c.args.to) refl _ _ c.in-Ok.ensures.through)
 
 pub gain_where-requires-in-Ok-clause-not : goal.gain_where-requires-in-Ok-clause-not
-gain_where-requires-in-Ok-clause-not c =
-    subst (λ (g : Plane). c.towards-in-Ok.result ≡ false → (h : Plane) → PartsAlong c.args.source.now c.args.pass.now g h → ⊥) (sym c.flipped-turned.ensures)
-    (none_flipped c.args.source.now c.args.pass.now (whole_point c.args.at) (whole_point c.args.from) (whole_point c.args.to)
-    c.normal_through-normal.result c.normal_through-normal.ensures.exact c.of-outlook.result c.of-outlook.ensures.ahead c.of-outlook.ensures.back _ _ _ c.in-Ok.ensures.through c.towards-in-Ok.ensures)
+gain_where-requires-in-Ok-clause-not c = λ unset h parts.
+    (c.in_ok-gain_where-in-Ok.ensures h).1 (inl (there_flipped c.args.source.now c.args.pass.now (whole_point c.args.at) (whole_point c.args.from) (whole_point c.args.to)
+    c.normal_through-normal.result c.normal_through-normal.ensures.exact c.args.planes.now.items _ c.as_slice.ensures.value c.requires.found c.of-outlook.result c.without-outlook.result
+    c.of-outlook.ensures.ahead c.of-outlook.ensures.back c.without-outlook.ensures.ahead c.without-outlook.ensures.back
+    _ _ _ c.in-Ok.ensures.through (through_lowest_flipped (whole_point c.args.at) (whole_point c.args.from) (whole_point c.args.to) refl _ _ c.in-Ok.ensures.through) c.towards-in-Ok.ensures unset h
+    (subst (λ (g : Plane). PartsAlong c.args.source.now c.args.pass.now g h) c.flipped-turned.ensures parts)))
 
 pub returns-then-is_none : goal.returns-then-is_none
 returns-then-is_none c =
-    gains_nowhere c.args.source.now c.args.pass.now (whole_point c.args.at) (whole_point c.args.from) (whole_point c.args.to) c.normal_through-normal.result c.normal_through-normal.ensures.exact
-    (c.of-outlook.ensures.ahead (c.is_none.ensures.ahead c.if-is_none.true)) (c.of-outlook.ensures.back (c.is_none.ensures.back c.if-is_none.true)) c.args.planes.now.items
+    gains_nowhere c.args.source.now c.args.pass.now (whole_point c.args.at) (whole_point c.args.from) (whole_point c.args.to)
+    c.normal_through-normal.result c.normal_through-normal.ensures.exact c.args.planes.now.items _ c.as_slice.ensures.value c.requires.found c.of-outlook.result c.without-outlook.result
+    c.of-outlook.ensures.ahead c.of-outlook.ensures.back c.without-outlook.ensures.ahead c.without-outlook.ensures.back
+    (c.is_none.ensures.ahead c.if-is_none.true) (c.is_none.ensures.back c.if-is_none.true)
 
 pub returns-in-Err : goal.returns-in-Err
 returns-in-Err c = gains_on_line c.args.source.now c.args.pass.now (whole_point c.args.at) (whole_point c.args.from) (whole_point c.args.to) c.requires.candidate refl refl (c.in-Err.ensures.no_normal.0 refl) c.args.planes.now.items
@@ -42,4 +48,4 @@ returns-in_ok-gain_where-in-Ok-2 c =
     (subst (λ (h : Plane). Gains (PartsAlong c.args.source.now c.args.pass.now h) c.gain_where.new.planes.items c.gain_where-in-Ok.new.planes.items) c.flipped-turned.ensures c.in_ok-gain_where-in-Ok-2.ensures)
 
 pub gain_where-requires-in-Ok-clause-found : goal.gain_where-requires-in-Ok-clause-found
-gain_where-requires-in-Ok-clause-found c = found_along c.args.source.now c.args.pass.now c.args.planes.now.items c.gain_where.new.planes.items _ c.in_ok-gain_where-in-Ok.ensures c.requires.found
+gain_where-requires-in-Ok-clause-found c = found_along c.args.source.now c.args.pass.now c.args.planes.now.items c.gain_where.new.planes.items _ (through_lowest (whole_point c.args.at) (whole_point c.args.from) (whole_point c.args.to) refl _ _ c.in-Ok.ensures.through) c.in_ok-gain_where-in-Ok.ensures c.requires.found
