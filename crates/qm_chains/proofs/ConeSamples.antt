@@ -10,10 +10,8 @@ use Rattle.qm_space.specs.Determinant.{determinant}
 use Rattle.qm_convex.specs.Winding.{corner_at, next_place}
 use Rattle.qm_contacts.specs.World.{World}
 use Rattle.qm_coarse_rows.proofs.RoomSamples.{rooms, portals, out, on}
-use Rattle.qm_segments.specs.Sight.{IsInSight}
 use Rattle.qm_segments.specs.SeenVia.{IsSeenVia}
 use Rattle.qm_segments.proofs.RoomSights.{sight_row}
-use Rattle.qm_segments.proofs.ViaLaws.{via_in_sight}
 use Rattle.qm_separators.specs.ChainState.{first_state}
 use Rattle.qm_separators.specs.PortalSteps.{LetsPass}
 use Rattle.qm_chains.specs.inner.Frame.{Frame}
@@ -34,13 +32,10 @@ frame = record {
 abbrev found : List Bool
 found = false ∷ true ∷ false ∷ []
 
--- the last room is in sight of the second door
+-- the last room is seen via the second door from the first
 via_on : IsSeenVia rooms out on 2
 unfolding sight_row
 via_on = record { sight = sight_row; before = []; left = 1; entered = 2; after = []; leaves_are = refl; left_is = refl; entered_is = refl }
-
-on_sight : IsInSight rooms on 2
-on_sight = via_in_sight rooms out on 2 via_on
 
 passes_on : LetsPass (first_state out.winding out.into) on
 unfolding corner_at next_place meet determinant value
@@ -51,23 +46,22 @@ passes_on = record {
   pass_behind = tt;
 }
 
-leads_on : LeadsOn world frame found on
+leads_on : LeadsOn world 0 frame found on
 leads_on = record {
   passed = passes_on;
   new = λ is. absurd (let e : false ≡ true = is in cc);
   leaf = 2;
   in_mask = refl;
-  not_found = λ is. absurd (let e : false ≡ true = is in cc);
-  in_sight = on_sight;
+  wanted = record { first = out; first_is = refl; via = via_on; not_found = λ is. absurd (let e : false ≡ true = is in cc) };
 }
 
-middle_row : IsInCone world frame found 1 1
+middle_row : IsInCone world 0 frame found 1 1
 middle_row = start refl
 
-last_row : IsInCone world frame found 1 2
+last_row : IsInCone world 0 frame found 1 2
 last_row = onward middle_row (record { portal = on; listed = (2, omega arith, refl); from_is = refl; to_is = refl; leads = leads_on })
 
 -- no portal leads on into the first room
-first_row : (n : ℕ) → IsInCone world frame found 1 n → n ≡ 0 → ⊥
+first_row : (n : ℕ) → IsInCone world 0 frame found 1 n → n ≡ 0 → ⊥
 first_row n (start is) zero = absurd (omega (arith, is, zero))
 first_row n (onward reached goes) zero = goes.leads.new (subst (λ (m : ℕ). IsIn frame.met m) (sym (goes.to_is ∙ zero)) refl)

@@ -18,21 +18,27 @@ use std::alloc::{AllocError, Global};
 use std::marker::Model;
 
 /// The first portal of a flow, the state of its chain, the leaves that may be in sight of it, and the rows of the flow's own:
-/// that of a portal is the row of its pair with the first.
+/// that of a portal is the row of its pair with the first. It is made when the portal is tried for the second time, since it
+/// would not pay for one that is tried once.
 #[derive(Drop)]
 pub(crate) struct Pairs {
     first: u64,
     start: ChainState,
     seen: BitRow,
     own: OwnRows,
+    /// For each portal, whether it has passed the cheap tests before.
+    tried: BitRow,
 }
 
 impl Model for Pairs {
+    ghost use Rattle.std.specs.Prelude.{◌≡◌, length};
     ghost use Rattle.qm_chains.specs.inner.Pairs.{Pairs};
 
     ghost Value = { Pairs };
 
     ghost view = { λ p. record { first = p.first; start = p.start; seen = p.seen; own = p.own } };
+
+    ghost invariant = { λ p. length p.tried ≡ length p.own };
 }
 
 impl Pairs {
@@ -55,11 +61,13 @@ impl Pairs {
     {
         let start = ChainState::start(alloc, world.pane(first))?;
         let seen = copy(alloc, seen)?;
+        let tried = BitRow::with_len(alloc, world.portals())?;
         Ok(Pairs {
             first,
             start,
             seen,
             own,
+            tried,
         })
     }
 
@@ -89,6 +97,22 @@ impl Pairs {
         ensures { result.now ≡ self.now.own }
     {
         &self.own
+    }
+
+    /// Whether the row of the pair with a portal is to be made, since there is none yet and the portal was tried before. It is
+    /// noted that it was tried.
+    pub(crate) fn is_due(&mut self, portal: u64) -> bool
+        requires { portal < length self.old.own }
+        ensures { self.new ≡ self.old }
+    {
+        if self.own.has(portal) {
+            return false;
+        }
+        if self.tried.get(portal) {
+            return true;
+        }
+        self.tried.set(portal);
+        false
     }
 
     /// Puts the row of the pair with a portal.

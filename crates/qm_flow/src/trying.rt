@@ -53,7 +53,8 @@ pub(crate) fn try_portal<'a, S: RowSource>(
     Ok(child)
 }
 
-/// Whether a portal may lead on to a leaf that was not found. The row of its pair is made, where the first tests do not tell.
+/// Whether a portal may lead on to a leaf that was not found. Where the first tests do not tell, the row of its pair is made if
+/// it is due.
 fn may_lead_on<'a, S: RowSource>(
     alloc: Global,
     world: &World,
@@ -80,7 +81,7 @@ fn may_lead_on<'a, S: RowSource>(
     if !may_pass(&frame.state, pane) {
         return Ok(false);
     }
-    if pairs.own().has(portal) {
+    if !pairs.is_due(portal) {
         return Ok(true);
     }
     pair(alloc, world, source, pairs, portal, row)?;

@@ -16,7 +16,7 @@ pub loop-frame-init : goal.loop-frame-init
 loop-frame-init g c =
     let may = IsInCeiling (g.S.RowSource.ceilings c.args.source.now) in
     record {
-      walk = subst (λ (frames : List Frame). IsWalk c.args.world.now may c.args.portal frames c.begin.new.row) (sym (c.in_ok-push.ensures.items ∙ ap (λ (frames : List Frame). frames ++ c.in_ok-first.first ∷ []) c.new-frames.ensures.items))
+      walk = subst (λ (frames : List Frame). IsWalk c.args.world.now may c.args.portal frames c.show_by_lines.new.row) (sym (c.in_ok-push.ensures.items ∙ ap (λ (frames : List Frame). frames ++ c.in_ok-first.first ∷ []) c.new-frames.ensures.items))
           (walk_begins c.args.world.now may c.args.portal c.in_ok-first.first c.show_by_lines.new.row
           (begun_with_more c.args.world.now (g.S.RowSource.ceilings c.args.source.now) (g.S.RowSource.ceilings c.begin.new.source) c.args.portal c.in_ok-first.first c.begin.new.row c.show_by_lines.new.row
           (g.met.S.RowSource.narrower c.args.source.now c.begin.new.source c.begin.ensures.on) c.in_ok-first.ensures.begun c.in_ok-show_by_lines.ensures.shown));
@@ -25,6 +25,9 @@ loop-frame-init g c =
       within = subst (LieWithinPairs may) (sym c.in_ok-pairs.ensures.own) (fresh_within c.in_ok-own.own c.portals.result c.in_ok-own.ensures may);
       on = g.met.S.RowSource.goes_on_in_turn c.args.source.now c.begin.new.source c.show_by_lines.new.source c.begin.ensures.on c.show_by_lines.ensures.on;
     }
+
+pub returns-in_err-push-clause-on : goal.returns-in_err-push-clause-on
+returns-in_err-push-clause-on g c = g.met.S.RowSource.goes_on_in_turn c.args.source.now c.begin.new.source c.show_by_lines.new.source c.begin.ensures.on c.show_by_lines.ensures.on
 
 pub begin-requires-clause-none : goal.begin-requires-clause-none
 begin-requires-clause-none g c = c.in_ok-own.ensures ∙ ap (λ (n : ℕ). replicate n None) c.portals.ensures
@@ -57,8 +60,8 @@ returns-in_err-push-3-clause-on g c = g.met.S.RowSource.goes_on_in_turn c.args.s
 
 -- the chain goes on
 
-pub loop-frame-preserved-in-Continue-branch-8 : goal.loop-frame-preserved-in-Continue-branch-8
-loop-frame-preserved-in-Continue-branch-8 g c =
+pub loop-frame-preserved-in-Continue-branch-9 : goal.loop-frame-preserved-in-Continue-branch-9
+loop-frame-preserved-in-Continue-branch-9 g c =
     let world = c.args.world.now in
     let ceilings = g.S.RowSource.ceilings c.args.source.now in
     let below = c.pop.new.self.items in
@@ -77,8 +80,8 @@ loop-frame-preserved-in-Continue-branch-8 g c =
       on = g.met.S.RowSource.goes_on_in_turn c.args.source.now c.loop-frame.source c.try_portal.new.source c.loop-frame.invariant.on c.try_portal.ensures.on;
     }
 
-pub loop-frame-smaller-in-Continue-branch-8 : goal.loop-frame-smaller-in-Continue-branch-8
-loop-frame-smaller-in-Continue-branch-8 g c =
+pub loop-frame-smaller-in-Continue-branch-9 : goal.loop-frame-smaller-in-Continue-branch-9
+loop-frame-smaller-in-Continue-branch-9 g c =
     let world = c.args.world.now in
     let ceilings = g.S.RowSource.ceilings c.args.source.now in
     let below = c.pop.new.self.items in

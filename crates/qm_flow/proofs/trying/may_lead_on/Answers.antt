@@ -12,6 +12,8 @@ use Rattle.qm_chains.specs.inner.Walk.{IsTried}
 use Rattle.qm_chains.proofs.PairRows.{none_wanted}
 use Rattle.qm_chains.proofs.TriedPortals.{tried_stopped, tried_nothing}
 use Rattle.qm_sight.specs.InCeiling.{IsInCeiling}
+use Rattle.qm_chains.specs.inner.Pairs.{Pairs}
+use Rattle.qm_flow.specs.inner.PairsGoOn.{PairsGoOn}
 use Rattle.qm_flow.proofs.PairsKept.{pairs_same, pairs_later}
 use Rattle.qm_flow.proofs.trying.may_lead_on.Goals as goal
 
@@ -51,20 +53,23 @@ returns-then-not-may_pass-clause-none g c is ceilings =
     let here = subst (λ (s : ChainState). MayPass s c.pane-pane.result.now.winding c.pane-pane.result.now.into) (sym (ap (λ (f : Frame). f.state) c.frame.view_is))
     (subst (λ (w : Winding). MayPass state w c.pane-pane.result.now.into) (sym pane.2)
     (subst (λ (h : Plane). MayPass state pane.0.winding h) (sym pane.3) passes)) in
-    let never : false ≡ true = sym c.if-not-may_pass.true ∙ c.may_pass.ensures here in
+    let never : false ≡ true = sym c.if-not-may_pass.true ∙ c.may_pass.ensures.1 here in
     absurd (let e : false ≡ true = never in cc)))
 
 pub returns-then-not-may_pass-clause-pairs : goal.returns-then-not-may_pass-clause-pairs
 returns-then-not-may_pass-clause-pairs g c = pairs_same c.args.world.now (g.S.RowSource.ceilings c.args.source.now) c.args.row.now c.args.pairs.now c.requires.pairs
 
-pub returns-then-has-clause-pairs : goal.returns-then-has-clause-pairs
-returns-then-has-clause-pairs g c = pairs_same c.args.world.now (g.S.RowSource.ceilings c.args.source.now) c.args.row.now c.args.pairs.now c.requires.pairs
+pub returns-then-not-is_due-clause-pairs : goal.returns-then-not-is_due-clause-pairs
+returns-then-not-is_due-clause-pairs g c =
+    let ceilings = g.S.RowSource.ceilings c.args.source.now in
+    subst (λ (pairs : Pairs). PairsGoOn c.args.world.now ceilings c.args.row.now c.args.pairs.now pairs) (sym c.is_due.ensures)
+    (pairs_same c.args.world.now ceilings c.args.row.now c.args.pairs.now c.requires.pairs)
 
-pub has-requires : goal.has-requires
-has-requires g c =
+pub is_due-requires : goal.is_due-requires
+is_due-requires g c =
     let one = c.requires.pairs.own_are.one_each in
     let within = c.requires.portal in
-    subst (λ (own : List (Option (List Bool))). c.args.portal < length own) (sym c.own-2.ensures) (omega (arith, one, within))
+    omega (arith, one, within)
 
 pub pair-requires-clause-same_world : goal.pair-requires-clause-same_world
 pair-requires-clause-same_world g c = g.met.S.RowSource.same_world c.args.source.now c.may_show.new.source c.may_show.ensures.on ∙ c.requires.same_world
@@ -76,12 +81,12 @@ pub may_show-may-requires-clause-portal : goal.may_show-may-requires-clause-port
 may_show-may-requires-clause-portal g c =
     let one = c.in_ok-pair.ensures.pairs.are.own_are.one_each in
     let within = c.requires.portal in
-    subst (λ (own : List (Option (List Bool))). c.args.portal < length own) (sym c.own-3.ensures) (omega (arith, one, within))
+    subst (λ (own : List (Option (List Bool))). c.args.portal < length own) (sym c.own-2.ensures) (omega (arith, one, within))
 
 pub may_show-may-requires-clause-own : goal.may_show-may-requires-clause-own
 may_show-may-requires-clause-own g c =
     let same = g.met.S.RowSource.same_world c.may_show.new.source c.pair.new.source c.pair.ensures.on ∙ g.met.S.RowSource.same_world c.args.source.now c.may_show.new.source c.may_show.ensures.on ∙ c.requires.same_world in
-    subst (λ (own : List (Option (List Bool))). AreOwnRows (g.S.RowSource.world c.pair.new.source) own) (sym c.own-3.ensures)
+    subst (λ (own : List (Option (List Bool))). AreOwnRows (g.S.RowSource.world c.pair.new.source) own) (sym c.own-2.ensures)
     (subst (λ (w : World). AreOwnRows w c.pair.new.pairs.own) (sym same) c.in_ok-pair.ensures.pairs.are.own_are)
 
 pub may_show-may-requires-clause-wide : goal.may_show-may-requires-clause-wide
@@ -99,15 +104,18 @@ returns-clause-none g c is ceilings =
     let pane = c.pane-pane.ensures in
     let same = g.met.S.RowSource.same_world c.may_show.new.source c.pair.new.source c.pair.ensures.on ∙ g.met.S.RowSource.same_world c.args.source.now c.may_show.new.source c.may_show.ensures.on ∙ c.requires.same_world in
     let nothing = subst (λ (mask : List Bool). ShowsNothingNew (MustHave world pairs.own portal) mask row) (ap (λ (f : Frame). f.mask) c.frame.view_is)
-    (subst (λ (own : List (Option (List Bool))). ShowsNothingNew (MustHave world own portal) c.frame.inside.mask row) c.own-3.ensures
-    (subst (λ (w : World). ShowsNothingNew (MustHave w c.own-3.result.now portal) c.frame.inside.mask row) same (c.may_show-may.ensures.none is))) in
-    subst (λ (first : ℕ). IsTried world (IsInCeiling ceilings) first frame portal row row None) c.in_ok-pair.ensures.pairs.same_first
+    (subst (λ (own : List (Option (List Bool))). ShowsNothingNew (MustHave world own portal) c.frame.inside.mask row) c.own-2.ensures
+    (subst (λ (w : World). ShowsNothingNew (MustHave w c.own-2.result.now portal) c.frame.inside.mask row) same (c.may_show-may.ensures.none is))) in
+    subst (λ (first : ℕ). IsTried world (IsInCeiling ceilings) first frame portal row row None) (c.in_ok-pair.ensures.pairs.same_first ∙ ap (λ (pairs : Pairs). pairs.first) c.is_due.ensures)
     (tried_nothing world c.requires.own_portals (IsInCeiling ceilings) pairs.first frame portal row pane.0 pane.1
     (none_wanted world row pairs c.in_ok-pair.ensures.pairs.are portal frame.mask nothing))
 
 pub returns-clause-pairs : goal.returns-clause-pairs
-returns-clause-pairs g c = pairs_later c.args.world.now (g.S.RowSource.ceilings c.args.source.now) (g.S.RowSource.ceilings c.may_show.new.source) c.args.row.now c.args.pairs.now c.pair.new.pairs
-    (g.met.S.RowSource.narrower c.args.source.now c.may_show.new.source c.may_show.ensures.on) c.in_ok-pair.ensures.pairs
+returns-clause-pairs g c =
+    let ceilings = g.S.RowSource.ceilings c.args.source.now in
+    subst (λ (pairs : Pairs). PairsGoOn c.args.world.now ceilings c.args.row.now pairs c.pair.new.pairs) c.is_due.ensures
+    (pairs_later c.args.world.now ceilings (g.S.RowSource.ceilings c.may_show.new.source) c.args.row.now c.is_due.new.self c.pair.new.pairs
+    (g.met.S.RowSource.narrower c.args.source.now c.may_show.new.source c.may_show.ensures.on) c.in_ok-pair.ensures.pairs)
 
 pub returns-clause-on : goal.returns-clause-on
 returns-clause-on g c = g.met.S.RowSource.goes_on_in_turn c.args.source.now c.pair.new.source c.may_show-may.new.source
