@@ -1,5 +1,5 @@
 -- Where a line goes through portals: what tests of whole numbers say.
-use Rattle.std.proofs.Common.{◌≡◌, ◌≤◌, ◌^◌, w64, lit≤, unsigned_abs, ℤ, pos, neg_ℤ, ◌+ℤ◌, ◌-ℤ◌, ◌*ℤ◌, ◌<ℤ◌, Bool, true, false, [], ◌∷◌, get_or, All, refl, sym, ap, ◌∙◌, subst, arith}
+use Rattle.std.proofs.Common.{◌≡◌, ◌≤◌, ◌^◌, w64, lit≤, unsigned_abs, ℕ, ℤ, pos, neg_ℤ, ◌+ℤ◌, ◌-ℤ◌, ◌*ℤ◌, ◌<ℤ◌, Bool, true, false, [], ◌∷◌, get_or, All, refl, sym, ap, ◌∙◌, subst, arith}
 use Rattle.std.proofs.lemmas.Int.{ints, to_z-of_z}
 use Rattle.qm_numbers.proofs.IntegerProducts.{linear, one_*ℤ, *ℤ_zero}
 use Rattle.qm_numbers.proofs.Signs.{product_positive, positive_beside}
@@ -12,14 +12,19 @@ use Rattle.qm_space.specs.Turned.{turned}
 use Rattle.qm_space.proofs.Planes.{same_point, flipped_on}
 use Rattle.qm_space.proofs.Crossings.{value_through, crossing_on, crossing_weight}
 use Rattle.qm_contacts.specs.Portals.{Portal}
+use Rattle.qm_contacts.specs.World.{World}
+use Rattle.qm_contacts.specs.OwnPortals.{HasOwnPortals}
 use Rattle.qm_segments.specs.Segment.{Segment}
 use Rattle.qm_segments.specs.GoesThrough.{GoesThrough}
 use Rattle.qm_segments.proofs.Betweenness.{between_value}
-use Rattle.qm_lines.specs.inner.Crossing.{Crossing, IsCrossing, crossing_point, value_where}
+use Rattle.qm_chains.specs.Shown.{IsAt}
+use Rattle.qm_chains.proofs.Beginnings.{turned_of_portal}
+use Rattle.qm_chains.proofs.TriedPortals.{same_portal}
+use Rattle.qm_lines.specs.inner.Crossing.{Crossing, IsCrossing, crossing_point, mixed, value_where, CrossesPlane, MissesPlane, CrossesAt, MissesAt}
 
 -- the value of a plane where the line crosses another one
 pub value_is : (s : Segment) (e g : Plane) (c : Crossing) → c.at_begin ≡ value e s.from → c.at_end ≡ value e s.to → value_where c s g ≡ value g (crossing_point s e)
-unfolding value_where
+unfolding mixed value_where
 value_is s e g c a_is b_is =
     let v = value_through g e s.to s.from in
     rw (a_is, b_is) (let same : (value e s.to *ℤ value g s.from) -ℤ (value e s.from *ℤ value g s.to) ≡ (value e s.to *ℤ value g s.from) +ℤ neg_ℤ (value e s.from *ℤ value g s.to) = omega (arith, linear) in same ∙ sym v)
@@ -116,7 +121,7 @@ module _ (s : Segment) (q : Portal) (side : Bool) (into_is : q.into ≡ turned s
           solved (a ∷ b ∷ i ∷ j ∷ c ∷ d ∷ []) (t 1 ⊗ (t 2 ⊗ t 4 ⊕ t 3 ⊗ t 5)) (t 2 ⊗ (t 1 ⊗ t 4 ⊕ negated (t 0 ⊗ t 5)) ⊕ t 5 ⊗ (t 2 ⊗ t 0 ⊕ t 3 ⊗ t 1)) tt
 
       pub front_there : pos 0 <ℤ value_where crossing s g
-      unfolding value_where
+      unfolding mixed value_where
       front_there =
           let all = product_positive b ((i *ℤ c) +ℤ (j *ℤ d)) end_above some_sum in
           let none : d *ℤ ((i *ℤ a) +ℤ (j *ℤ b)) ≡ pos 0 = ap (λ z. d *ℤ z) no_sum ∙ *ℤ_zero d in
@@ -126,6 +131,33 @@ module _ (s : Segment) (q : Portal) (side : Bool) (into_is : q.into ≡ turned s
 
     pub all_in_front : All (λ g. pos 0 <ℤ value_where crossing s g) q.winding.edges
     all_in_front place d within = front_there (get_or q.winding.edges place d) (at.inside.inside place d within)
+
+-- ---- the portal of a number
+
+module _ (world : World) (own : HasOwnPortals world) (number : ℕ) (q : Portal) (q_is : IsAt world.portals number q) (s : Segment) where
+  -- a line that crosses the portal's turned plane in front of its edges goes through it
+  unfoldable pub crosses_there : (crossing : Crossing) → CrossesPlane q.into s crossing → All (λ g. pos 0 <ℤ value_where crossing s g) q.winding.edges → CrossesAt world.portals number s crossing
+  crosses_there crossing at inside =
+      let side = turned_of_portal world own number q q_is in
+      record {
+        portal = q;
+        portal_is = q_is;
+        goes_through = goes_through s q side.0 side.1 crossing at.begin_is at.end_is at.begin_weight at.end_weight (subst (λ (z : ℤ). z <ℤ pos 0) (sym at.begin_is) at.behind) (subst (λ (z : ℤ). pos 0 <ℤ z) (sym at.end_is) at.in_front) inside;
+        begin_is = at.begin_is;
+        end_is = at.end_is;
+      }
+
+  -- one that misses the plane does not
+  pub misses_plane : MissesPlane q.into s → MissesAt world.portals number s
+  misses_plane misses r x r_is at =
+      let same = sym (same_portal world.portals number q r q_is r_is) in
+      misses (subst (λ (p : Portal). IsBehind p.into s.from) same at.behind) (subst (λ (p : Portal). IsInFront p.into s.to) same at.in_front)
+
+  -- and neither does one that crosses it elsewhere
+  pub misses_edges : (crossing : Crossing) → CrossesPlane q.into s crossing → (All (λ g. pos 0 <ℤ value_where crossing s g) q.winding.edges → ⊥) → MissesAt world.portals number s
+  misses_edges crossing at outside r x r_is through =
+      let side = turned_of_portal world own number q q_is in
+      outside (all_in_front s q side.0 side.1 crossing at.begin_is at.end_is x (subst (λ (p : Portal). GoesThrough s p x) (sym (same_portal world.portals number q r q_is r_is)) through))
 
 -- ---- what is crossed further on
 
@@ -159,11 +191,14 @@ further_on s h g h_front g_front behind =
 passed_on : (z : ℤ) → unsigned_abs z ≤ 2 ^ 45 → kept w64 z ≡ z
 passed_on z h = to_z-of_z w64 z (fits_64 z (2 ^ 45) h (lit≤ tt))
 
-pub value_computed : (s : Segment) (g : Plane) (a b forward backward v w : ℤ) → IsCrossing (record { at_begin = a; at_end = b }) → unsigned_abs v ≤ 2 ^ 45 → unsigned_abs w ≤ 2 ^ 45 → v ≡ value g s.from → w ≡ value g s.to →
-    forward ≡ kept w64 b *ℤ kept w64 v → backward ≡ kept w64 a *ℤ kept w64 w → forward -ℤ backward ≡ value_where (record { at_begin = a; at_end = b }) s g
+pub mixed_computed : (a b forward backward v w : ℤ) → IsCrossing (record { at_begin = a; at_end = b }) → unsigned_abs v ≤ 2 ^ 45 → unsigned_abs w ≤ 2 ^ 45 →
+    forward ≡ kept w64 b *ℤ kept w64 v → backward ≡ kept w64 a *ℤ kept w64 w → forward -ℤ backward ≡ mixed (record { at_begin = a; at_end = b }) v w
+unfolding mixed
+mixed_computed a b forward backward v w is v_small w_small e f = rw (e, f, passed_on b is.end_small, passed_on a is.begin_small, passed_on v v_small, passed_on w w_small) refl
+
+pub value_computed : (s : Segment) (g : Plane) (crossing : Crossing) (v w : ℤ) → unsigned_abs v ≤ 2 ^ 45 → unsigned_abs w ≤ 2 ^ 45 → v ≡ value g s.from → w ≡ value g s.to → mixed crossing (kept w64 v) (kept w64 w) ≡ value_where crossing s g
 unfolding value_where
-value_computed s g a b forward backward v w is v_small w_small v_is w_is e f =
-    rw (e, f, passed_on b is.end_small, passed_on a is.begin_small, passed_on v v_small, passed_on w w_small, v_is, w_is) refl
+value_computed s g crossing v w v_small w_small v_is w_is = rw (passed_on v v_small, passed_on w w_small, v_is, w_is) refl
 
 -- the crossing with these values
 abbrev pub crossing_with : ℤ → ℤ → Crossing

@@ -1,11 +1,10 @@
 -- Worked crossings: a line through two doors of three rooms in a row, as (-36, 164) and (-100, 100). The second door is further
 -- on, and the last room is shown from the first door.
-use Rattle.std.proofs.Common.{◌≡◌, ◌++◌, ℕ, ℤ, pos, negsuc, ◌<ℤ◌, List, [], ◌∷◌, All, Contains, false, ⊎_elim, refl, sym, ap, ◌∙◌, subst, arith}
+use Rattle.std.proofs.Common.{◌≡◌, ◌++◌, ℕ, pos, negsuc, ◌<ℤ◌, List, [], ◌∷◌, Contains, false, ⊎_elim, refl, sym, ap, ◌∙◌, subst, arith}
 use Rattle.std.proofs.lemmas.Int.{ints}
 use Rattle.std.proofs.lemmas.List.Elements.{All-from_recursion}
 use Rattle.qm_lists.proofs.Elements.{Contains-cons_cases, Contains-nil}
-use Rattle.qm_space.specs.Plane.{value, IsBehind}
-use Rattle.qm_space.specs.Line.{IsBetween}
+use Rattle.qm_space.specs.Plane.{value}
 use Rattle.qm_contacts.specs.Portals.{Portal}
 use Rattle.qm_contacts.specs.World.{World}
 use Rattle.qm_contacts.specs.OwnPortals.{HasOwnPortals}
@@ -14,10 +13,10 @@ use Rattle.qm_segments.proofs.RoomSights.{line}
 use Rattle.qm_segments.proofs.RoomRows.{are_touchings, have_points}
 use Rattle.qm_chains.specs.Shown.{IsShown}
 use Rattle.qm_chains.proofs.TriedPortals.{same_portal}
-use Rattle.qm_lines.specs.inner.Crossing.{Crossing, IsCrossing, crossing_point, value_where, CrossesAt}
+use Rattle.qm_lines.specs.inner.Crossing.{Crossing, IsCrossing, mixed, value_where, CrossesAt}
 use Rattle.qm_lines.specs.inner.Trace.{IsTrace, IsOnward, HasEntered}
 use Rattle.qm_lines.specs.declared.trace.Trace.{Trace}
-use Rattle.qm_lines.proofs.Crossings.{crossing_with, goes_through, further_on}
+use Rattle.qm_lines.proofs.Crossings.{crossing_with, goes_through}
 use Rattle.qm_lines.proofs.Traces.{trace_begins, trace_goes_on, trace_shows}
 
 abbrev world : World
@@ -38,7 +37,7 @@ first_is : IsCrossing first
 first_is = record { begins_behind = omega (arith, ints); ends_in_front = omega (arith, ints); begin_small = omega arith; end_small = omega arith }
 
 crosses_first : CrossesAt portals 0 line first
-unfolding value value_where
+unfolding value mixed value_where
 crosses_first = record {
   portal = out;
   portal_is = refl;
@@ -49,7 +48,7 @@ crosses_first = record {
 }
 
 crosses_second : CrossesAt portals 2 line second
-unfolding value value_where
+unfolding value mixed value_where
 crosses_second = record {
   portal = on;
   portal_is = refl;
@@ -60,7 +59,7 @@ crosses_second = record {
 }
 
 second_behind : value_where first line on.into <ℤ pos 0
-unfolding value value_where
+unfolding value mixed value_where
 second_behind = omega (arith, ints)
 
 -- ---- traces of the line

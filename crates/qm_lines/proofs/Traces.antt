@@ -1,10 +1,10 @@
 -- Traces of lines: how they begin and go on, and what they show.
-use Rattle.std.proofs.Common.{◌≡◌, ◌⊎◌, inl, inr, ⊎_elim, ℕ, ◌<◌, true, ℤ, pos, ◌<ℤ◌, Bool, List, [], ◌∷◌, ◌++◌, map, length, get_or, set, All, Contains, Option, Some, None, MatchOption, IfSome, refl, sym, ap, ◌∙◌, subst}
+use Rattle.std.proofs.Common.{◌≡◌, ◌⊎◌, inl, inr, ⊎_elim, ℕ, ◌<◌, true, ℤ, pos, ◌<ℤ◌, Bool, List, [], ◌∷◌, ◌++◌, map, length, get_or, set, All, Contains, refl, sym, ap, ◌∙◌, subst}
 use Rattle.std.proofs.lemmas.List.{length-set}
 use Rattle.std.proofs.lemmas.List.Elements.{All-contains, All-push, Contains-push, Contains-append_left}
 use Rattle.qm_lists.proofs.Elements.{Contains-at, Contains-first, Contains-later, Contains-cons_cases}
 use Rattle.qm_lists.proofs.Pairs.{All-from_contains}
-use Rattle.qm_space.specs.Plane.{IsBehind}
+use Rattle.qm_space.specs.Plane.{value, IsBehind}
 use Rattle.qm_contacts.specs.Portals.{Portal, portals_of}
 use Rattle.qm_contacts.specs.NumberedLeaves.{numbered_leaves}
 use Rattle.qm_contacts.specs.World.{World}
@@ -19,10 +19,10 @@ use Rattle.qm_chains.proofs.TriedPortals.{same_portal, gains_one}
 use Rattle.qm_sight.specs.WordInSight.{LieWithin}
 use Rattle.qm_sight.specs.InCeiling.{IsInCeiling}
 use Rattle.qm_lines.specs.Gained.{HasGainedShown}
-use Rattle.qm_lines.specs.inner.Crossing.{Crossing, crossing_point, value_where, CrossesAt, MissesAt}
+use Rattle.qm_lines.specs.inner.Crossing.{Crossing, crossing_point, mixed, value_where, CrossesPlane, CrossesAt}
 use Rattle.qm_lines.specs.inner.Trace.{IsTrace, IsOnward, HasEntered, AreInRange}
 use Rattle.qm_lines.specs.declared.trace.Trace.{Trace}
-use Rattle.qm_lines.proofs.Crossings.{value_is, further_on}
+use Rattle.qm_lines.proofs.Crossings.{value_is, further_on, crosses_there}
 
 -- ---- rows
 
@@ -161,18 +161,16 @@ entered_range world old new number crossing range entered within leaf = record {
 
 -- ---- the portal that is next
 
--- where the line goes through a portal, if it does
-pub onward_found : (world : World) (s : Segment) (trace : Trace) (number : ℕ) (q : Portal) → IsAt world.portals number q → q.from ≡ trace.leaf → value_where trace.last s q.into <ℤ pos 0 → (Contains trace.met.items q.to → ⊥) →
-    (found : Option Crossing) → MatchOption found (MissesAt world.portals number s) (λ crossing. CrossesAt world.portals number s crossing) → IfSome found (IsOnward world s trace number)
-onward_found world s trace number q q_is from_here behind new None misses = tt
-onward_found world s trace number q q_is from_here behind new (Some crossing) crosses =
-    let same = same_portal world.portals number q crosses.portal q_is crosses.portal_is in
-    record {
-      crosses = crosses;
-      from_here = subst (λ (r : Portal). r.from ≡ trace.leaf) same from_here;
-      further = subst (λ (r : Portal). value_where trace.last s r.into <ℤ pos 0) same behind;
-      new = subst (λ (r : Portal). Contains trace.met.items r.to → ⊥) same new;
-    }
+-- a portal that leaves the leaf, and whose plane the line crosses further on than the last one, in front of the portal's edges
+pub onward_through : (world : World) → HasOwnPortals world → (s : Segment) (trace : Trace) (number : ℕ) (q : Portal) → IsAt world.portals number q → q.from ≡ trace.leaf → (Contains trace.met.items q.to → ⊥) →
+    (crossing : Crossing) → CrossesPlane q.into s crossing → mixed trace.last crossing.at_begin crossing.at_end <ℤ pos 0 → All (λ g. pos 0 <ℤ value_where crossing s g) q.winding.edges → IsOnward world s trace number crossing
+unfolding value_where crosses_there
+onward_through world own s trace number q q_is from_here new crossing at beyond inside = record {
+  crosses = crosses_there world own number q q_is s crossing at inside;
+  from_here = from_here;
+  further = subst (λ (z : ℤ). mixed trace.last z (value q.into s.to) <ℤ pos 0) at.begin_is (subst (λ (z : ℤ). mixed trace.last crossing.at_begin z <ℤ pos 0) at.end_is beyond);
+  new = new;
+}
 
 -- ---- over ceilings
 

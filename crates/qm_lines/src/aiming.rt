@@ -6,27 +6,23 @@ use crate::line::Line;
 use qm_space::WORLD_EXTENT;
 use qm_wind::Winding;
 
-/// The points of a winding through which lines are drawn: its middle, and those halfway from there to its first corner, and to
-/// the one across.
+/// The points of a winding through which lines are drawn: its middle, and the one halfway from there to its first corner.
 #[derive(Drop)]
 pub(crate) struct Spots {
     pub(crate) middle: [i32; 3],
     pub(crate) near_first: [i32; 3],
-    pub(crate) near_across: [i32; 3],
 }
 
 impl Spots {
     pub(crate) fn of(winding: &Winding) -> Spots
         ensures middle { AreCoordinates result.middle }
         ensures near_first { AreCoordinates result.near_first }
-        ensures near_across { AreCoordinates result.near_across }
     {
         let middle = middle_of(winding);
-        let count = winding.len();
+        let _corners = winding.len();
         Spots {
             middle,
             near_first: halfway(&middle, &winding.corner(0).rounded()),
-            near_across: halfway(&middle, &winding.corner(count / 2).rounded()),
         }
     }
 }

@@ -1,15 +1,15 @@
-//! Where a line goes through a portal.
+//! How a line crosses a plane, and where it goes through a portal.
 
 ghost use Rattle.std.specs.Prelude.{◌≡◌, ◌<◌, ◌≤◌, ◌*◌, ◌^◌, pos, ◌*ℤ◌, ◌<ℤ◌, ◌↔◌, length, All, IsTrue, MatchOption, unsigned_abs};
 ghost use Rattle.qm_contacts.specs.OwnPortals.{HasOwnPortals};
-ghost use Rattle.qm_lines.specs.inner.Crossing.{value_where, CrossesAt, MissesAt};
+ghost use Rattle.qm_lines.specs.inner.Crossing.{mixed, value_where, CrossesPlane, MissesPlane, CrossesAt, MissesAt};
 
 use crate::line::Line;
 use qm_geom::Plane;
 use qm_portal::World;
 use std::marker::Model;
 
-/// The values of a portal's turned plane at both ends of a line that goes through the portal: the first is below 0, the
+/// The values of a plane, such as a portal's turned one, at both ends of a line that crosses it: the first is below 0, the
 /// second above.
 #[derive(Clone, Copy)]
 pub(crate) struct Crossing {
@@ -30,24 +30,49 @@ impl Model for Crossing {
 }
 
 impl Crossing {
-    /// The value of a plane where the line crosses the portal's, times a positive number.
-    fn value(self, line: &Line, plane: &Plane) -> i128
-        ensures { result ≡ value_where self line.now plane.now }
+    /// How a line crosses a plane from behind it. `None` exactly where it does not.
+    pub(crate) fn of_plane(line: &Line, plane: &Plane) -> Option<Crossing>
+        ensures { MatchOption result (MissesPlane plane.now line.now) (CrossesPlane plane.now line.now) }
     {
-        let forward = product(self.at_end, line.value_at_begin(plane));
-        let backward = product(self.at_begin, line.value_at_end(plane));
+        let at_begin = line.value_at_begin(plane);
+        if at_begin >= 0 {
+            return None;
+        }
+        let at_end = line.value_at_end(plane);
+        if at_end <= 0 {
+            return None;
+        }
+        Some(Crossing { at_begin, at_end })
+    }
+
+    /// The value, where the line crosses this plane, of a plane with these values at both ends of the line, times a positive
+    /// number.
+    fn mixed(self, at_begin: i64, at_end: i64) -> i128
+        requires begin { unsigned_abs at_begin ≤ 2 ^ 45 }
+        requires end { unsigned_abs at_end ≤ 2 ^ 45 }
+        ensures { result ≡ mixed self at_begin at_end }
+    {
+        let forward = product(self.at_end, at_begin);
+        let backward = product(self.at_begin, at_end);
         forward - backward
     }
 
-    /// Whether the line crosses the portal's plane behind another plane.
-    pub(crate) fn is_behind(self, line: &Line, plane: &Plane) -> bool
-        ensures { IsTrue result ↔ value_where self line.now plane.now <ℤ pos 0 }
+    /// The same of a plane.
+    fn value(self, line: &Line, plane: &Plane) -> i128
+        ensures { result ≡ value_where self line.now plane.now }
     {
-        self.value(line, plane) < 0
+        self.mixed(line.value_at_begin(plane), line.value_at_end(plane))
     }
 
-    /// Whether it does so in front of each of some planes.
-    fn is_within(self, line: &Line, planes: &[Plane]) -> bool
+    /// Whether the line crosses this plane further on than the last one.
+    pub(crate) fn is_beyond(self, last: Crossing) -> bool
+        ensures { IsTrue result ↔ mixed last self.at_begin self.at_end <ℤ pos 0 }
+    {
+        last.mixed(self.at_begin, self.at_end) < 0
+    }
+
+    /// Whether it crosses this plane in front of each of some planes.
+    pub(crate) fn is_within(self, line: &Line, planes: &[Plane]) -> bool
         ensures { IsTrue result ↔ All (λ g. pos 0 <ℤ value_where self line.now g) planes.now }
     {
         planes.iter().all(|plane| self.value(line, plane) > 0)
@@ -61,15 +86,7 @@ pub(crate) fn crossing_of(world: &World, portal: u64, line: &Line) -> Option<Cro
     ensures { MatchOption result (MissesAt world.now.portals portal line.now) (λ crossing. CrossesAt world.now.portals portal line.now crossing) }
 {
     let pane = world.pane(portal);
-    let at_begin = line.value_at_begin(&pane.into);
-    if at_begin >= 0 {
-        return None;
-    }
-    let at_end = line.value_at_end(&pane.into);
-    if at_end <= 0 {
-        return None;
-    }
-    let crossing = Crossing { at_begin, at_end };
+    let crossing = Crossing::of_plane(line, &pane.into)?;
     if !crossing.is_within(line, pane.winding.edges()) {
         return None;
     }

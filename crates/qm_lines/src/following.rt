@@ -10,9 +10,9 @@ ghost use Rattle.qm_sight.specs.InCeiling.{IsInCeiling};
 ghost use Rattle.qm_lines.specs.Gained.{HasGainedShown};
 ghost use Rattle.qm_lines.specs.inner.Trace.{IsTrace, IsOnward, AreInRange};
 
-use crate::crossing::{Crossing, crossing_of};
+use crate::crossing::Crossing;
 use crate::line::Line;
-use crate::reading::all_have_leaf;
+use crate::reading::{all_have_leaf, has_leaf};
 use crate::trace::Trace;
 use qm_bits::BitRow;
 use qm_portal::World;
@@ -26,15 +26,17 @@ pub(crate) struct Onward {
     crossing: Crossing,
 }
 
-/// Follows a line from leaf to leaf, as far as it goes through portals, and sets each leaf in a row that all portals on the
-/// way may show.
+/// Follows a line from leaf to leaf, as far as it goes through portals whose rows have its target, and sets each leaf in a row
+/// that all portals on the way may show.
 pub(crate) fn follow<S: RowSource>(
     world: &World,
     source: &mut S,
     line: &Line,
+    target: u64,
     trace: &mut Trace,
     row: &mut BitRow,
 ) -> Result<(), AllocError>
+    requires target { target < length (numbered_leaves world.now.tree) }
     requires own_portals { HasOwnPortals world.now }
     requires same_world { S.world source.old ≡ world.now }
     requires range { AreInRange world.now trace.old }
@@ -45,7 +47,7 @@ pub(crate) fn follow<S: RowSource>(
 {
     show(source, trace, row);
     for _ in 0..world.leaves() {
-        match next_portal(world, line, trace) {
+        match next_portal(world, source, line, target, trace) {
             None => return Ok(()),
             Some(next) => {
                 trace.enter(world, next.portal, next.crossing)?;
@@ -71,13 +73,25 @@ fn show<S: RowSource>(source: &mut S, trace: &Trace, row: &mut BitRow)
     }
 }
 
-/// The portal that is next on a line.
-fn next_portal(world: &World, line: &Line, trace: &Trace) -> Option<Onward>
+/// The portal that is next on a line, of those whose rows have a target.
+fn next_portal<S: RowSource>(
+    world: &World,
+    source: &mut S,
+    line: &Line,
+    target: u64,
+    trace: &Trace,
+) -> Option<Onward>
+    requires target { target < length (numbered_leaves world.now.tree) }
     requires own_portals { HasOwnPortals world.now }
+    requires same_world { S.world source.old ≡ world.now }
     requires range { AreInRange world.now trace.now }
-    ensures { IfSome result (λ next. IsOnward world.now line.now trace.now next.portal next.crossing) }
+    ensures next { IfSome result (λ next. IsOnward world.now line.now trace.now next.portal next.crossing) }
+    ensures on { S.goes_on source.old source.new }
 {
     for portal in world.leaving(trace.leaf) {
+        if !has_leaf(source, *portal, target) {
+            continue;
+        }
         if let Some(crossing) = further(world, line, trace, *portal) {
             return Some(Onward {
                 portal: *portal,
@@ -95,12 +109,16 @@ fn further(world: &World, line: &Line, trace: &Trace, portal: u64) -> Option<Cro
     requires leaves { (q : Portal) × IsAt world.now.portals portal q × (q.from ≡ trace.now.leaf) }
     ensures { IfSome result (IsOnward world.now line.now trace.now portal) }
 {
-    let pane = world.pane(portal);
-    if !trace.last.is_behind(line, &pane.into) {
-        return None;
-    }
     if trace.has_met(world.to(portal)) {
         return None;
     }
-    crossing_of(world, portal, line)
+    let pane = world.pane(portal);
+    let crossing = Crossing::of_plane(line, &pane.into)?;
+    if !crossing.is_beyond(trace.last) {
+        return None;
+    }
+    if !crossing.is_within(line, pane.winding.edges()) {
+        return None;
+    }
+    Some(crossing)
 }

@@ -71,7 +71,6 @@ fn aim<S: RowSource>(
     }
     aim_from(world, source, portal, &spots.middle, leaf, trace, row)?;
     aim_from(world, source, portal, &spots.near_first, leaf, trace, row)?;
-    aim_from(world, source, portal, &spots.near_across, leaf, trace, row)?;
     Ok(())
 }
 
@@ -97,12 +96,13 @@ fn aim_from<S: RowSource>(
         if row.get(leaf) {
             return Ok(());
         }
-        let target = middle_of(&world.pane(*number).winding);
+        let end = middle_of(&world.pane(*number).winding);
         show_along(
             world,
             source,
             portal,
-            &line_through(spot, &target),
+            &line_through(spot, &end),
+            leaf,
             trace,
             row,
         )?;
@@ -110,16 +110,18 @@ fn aim_from<S: RowSource>(
     Ok(())
 }
 
-/// Sets the leaves that a line shows, if it goes through the portal.
+/// Sets the leaves that a line towards a target shows, if it goes through the portal.
 fn show_along<S: RowSource>(
     world: &World,
     source: &mut S,
     portal: u64,
     line: &Line,
+    target: u64,
     trace: &mut Trace,
     row: &mut BitRow,
 ) -> Result<(), AllocError>
     requires portal { portal < length world.now.portals }
+    requires target { target < length (numbered_leaves world.now.tree) }
     requires own_portals { HasOwnPortals world.now }
     requires same_world { S.world source.old ≡ world.now }
     requires row { length row.old ≡ length (numbered_leaves world.now.tree) }
@@ -128,7 +130,7 @@ fn show_along<S: RowSource>(
 {
     if let Some(crossing) = crossing_of(world, portal, line) {
         trace.begin(world, portal, crossing)?;
-        follow(world, source, line, trace, row)?;
+        follow(world, source, line, target, trace, row)?;
     }
     Ok(())
 }

@@ -1,6 +1,6 @@
 use Rattle.std.specs.Prelude.{◌≡◌, ℕ, ◌≤◌, ◌^◌, ℤ, pos, neg_ℤ, ◌-ℤ◌, ◌*ℤ◌, ◌<ℤ◌, unsigned_abs, List}
 use Rattle.qm_space.specs.Point.{Point, point_sum, point_times}
-use Rattle.qm_space.specs.Plane.{Plane, value}
+use Rattle.qm_space.specs.Plane.{Plane, value, IsBehind, IsInFront}
 use Rattle.qm_contacts.specs.Portals.{Portal}
 use Rattle.qm_segments.specs.Segment.{Segment}
 use Rattle.qm_segments.specs.GoesThrough.{GoesThrough}
@@ -23,9 +23,26 @@ pub record IsCrossing (crossing : Crossing) : Type 0 where
   pub begin_small : unsigned_abs crossing.at_begin ≤ 2 ^ 45
   pub end_small : unsigned_abs crossing.at_end ≤ 2 ^ 45
 
--- the value of the plane g where the line crosses a plane so
+-- the value where the line crosses a plane so, of a plane with these values where the line begins and where it ends
+unfoldable pub mixed : Crossing → ℤ → ℤ → ℤ
+mixed crossing begin end = (crossing.at_end *ℤ begin) -ℤ (crossing.at_begin *ℤ end)
+
+-- the value of the plane g there
 unfoldable pub value_where : Crossing → Segment → Plane → ℤ
-value_where crossing s g = (crossing.at_end *ℤ value g s.from) -ℤ (crossing.at_begin *ℤ value g s.to)
+value_where crossing s g = mixed crossing (value g s.from) (value g s.to)
+
+-- the line goes from behind the plane e to in front of it, and crosses it so
+pub record CrossesPlane (e : Plane) (s : Segment) (crossing : Crossing) : Type 0 where
+  pub begin_is : crossing.at_begin ≡ value e s.from
+  pub end_is : crossing.at_end ≡ value e s.to
+  pub behind : IsBehind e s.from
+  pub in_front : IsInFront e s.to
+  pub begin_weight : pos 0 <ℤ s.from.w
+  pub end_weight : pos 0 <ℤ s.to.w
+
+-- it does not
+abbrev pub MissesPlane : Plane → Segment → Type 0
+MissesPlane e s = IsBehind e s.from → IsInFront e s.to → ⊥
 
 -- the line goes through the portal of this number, and crosses its turned plane so
 pub record CrossesAt (portals : List Portal) (number : ℕ) (s : Segment) (crossing : Crossing) : Type 0 where
