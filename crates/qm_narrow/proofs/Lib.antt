@@ -2,6 +2,7 @@ pub mod PartingPlanes
 pub mod Traces
 pub mod Coordinates
 pub mod Outlooks
+pub mod Edges
 pub mod KeptNormals
 pub mod LookSamples
 pub mod WholeCorners

@@ -1,4 +1,5 @@
 pub mod Trace
 pub mod Look
+pub mod Edge
 pub mod Near
 pub mod FoundPlanes

@@ -7,28 +7,33 @@ ghost use Rattle.qm_separators.specs.Gains.{Gains};
 ghost use Rattle.qm_separators.specs.Across.{HasNormalAcross};
 ghost use Rattle.qm_separators.specs.Separator.{IsSeparator};
 ghost use Rattle.qm_separators.specs.inner.Found.{AreBoth, AreCandidates, SeparatesByMix, SeparatesAt, SeparatesByEdge};
+ghost use Rattle.qm_narrow.specs.inner.Edge.{HasEdge, IsOwner, IsEdgeOf};
 ghost use Rattle.qm_narrow.specs.inner.FoundPlanes.{AreAtLeastDistance};
 
 use crate::across::gain_through;
+use crate::edge::Edge;
 use crate::traced::Traced;
 use qm_geom::Plane;
 use std::alloc::AllocError;
 
-/// Gains the separators with a normal across two windings, by the edges of the one and the corners of the other.
+/// Gains the separators with a normal across two windings, by the edges of the one and the corners of the other. The flag
+/// tells whether the pass has the edges.
 pub(crate) fn gain_across(
     planes: &mut Vec<Plane>,
     source: &Traced,
     pass: &Traced,
     edges: &Traced,
     others: &Traced,
+    of_pass: bool,
 ) -> Result<(), AllocError>
     requires both { AreBoth source.now pass.now edges.now others.now }
+    requires owner { IsOwner source.now pass.now edges.now of_pass }
     requires found { AreAtLeastDistance source.now planes.now.items }
     ensures { OnOk result (Gains (λ h. IsSeparator source.now pass.now h × HasNormalAcross (corners edges.now) (corners others.now) h) planes.old.items planes.new.items) }
 {
     let _corners = others.len();
     for i in 0..edges.len() {
-        gain_by_edge(planes, source, pass, edges, others, i)?;
+        gain_by_edge(planes, source, pass, edges, others, of_pass, i)?;
     }
     Ok(())
 }
@@ -40,15 +45,18 @@ fn gain_by_edge(
     pass: &Traced,
     edges: &Traced,
     others: &Traced,
+    of_pass: bool,
     i: usize,
 ) -> Result<(), AllocError>
     requires both { AreBoth source.now pass.now edges.now others.now }
+    requires owner { IsOwner source.now pass.now edges.now of_pass }
     requires found { AreAtLeastDistance source.now planes.now.items }
     requires in_range { i < length edges.now.edges }
     ensures { OnOk result (Gains (SeparatesByEdge source.now pass.now edges.now others.now i) planes.old.items planes.new.items) }
 {
+    let edge = edge_at(edges, of_pass, i);
     for k in 0..others.len() {
-        gain_at(planes, source, pass, edges, others, i, k)?;
+        gain_at(planes, source, pass, edges, others, &edge, i, k)?;
     }
     Ok(())
 }
@@ -60,10 +68,12 @@ fn gain_at(
     pass: &Traced,
     edges: &Traced,
     others: &Traced,
+    edge: &Edge,
     i: usize,
     k: usize,
 ) -> Result<(), AllocError>
     requires both { AreBoth source.now pass.now edges.now others.now }
+    requires edge { IsEdgeOf source.now pass.now edge.now }
     requires found { AreAtLeastDistance source.now planes.now.items }
     requires edge_in_range { i < length edges.now.edges }
     requires corner_in_range { k < length others.now.edges }
@@ -74,8 +84,24 @@ fn gain_at(
     let from = edges.spot(i).nearest;
     let to = edges.spot(next).nearest;
     let spot = others.spot(k);
-    gain_mixed(planes, source, pass, spot.below, spot.above, from, to)?;
+    gain_mixed(planes, source, pass, edge, spot.below, spot.above, from, to)?;
     Ok(())
+}
+
+/// The edge at a place, with the corner after it.
+fn edge_at(edges: &Traced, of_pass: bool, i: usize) -> Edge
+    requires { i < length edges.now.edges }
+    ensures flag { result.of_pass ≡ of_pass }
+    ensures of_winding { HasEdge edges.now result }
+{
+    let count = edges.len();
+    let next = next_place(count, i);
+    let after = next_place(count, next);
+    Edge {
+        of_pass,
+        first: *edges.spot(i),
+        beside: *edges.spot(after),
+    }
 }
 
 /// The place after a place, of so many in a circle.
@@ -112,11 +138,13 @@ fn gain_mixed(
     planes: &mut Vec<Plane>,
     source: &Traced,
     pass: &Traced,
+    edge: &Edge,
     below: [i32; 3],
     above: [i32; 3],
     from: [i32; 3],
     to: [i32; 3],
 ) -> Result<(), AllocError>
+    requires edge { IsEdgeOf source.now pass.now edge.now }
     requires below_in_cube { AreCoordinates below }
     requires above_in_cube { AreCoordinates above }
     requires from_in_cube { AreCoordinates from }
@@ -129,6 +157,7 @@ fn gain_mixed(
         planes,
         source,
         pass,
+        edge,
         below,
         with_x_of(above, below),
         from,
@@ -139,6 +168,7 @@ fn gain_mixed(
             planes,
             source,
             pass,
+            edge,
             with_x_of(below, above),
             above,
             from,
@@ -153,11 +183,13 @@ fn gain_layer(
     planes: &mut Vec<Plane>,
     source: &Traced,
     pass: &Traced,
+    edge: &Edge,
     below: [i32; 3],
     above: [i32; 3],
     from: [i32; 3],
     to: [i32; 3],
 ) -> Result<(), AllocError>
+    requires edge { IsEdgeOf source.now pass.now edge.now }
     requires below_in_cube { AreCoordinates below }
     requires above_in_cube { AreCoordinates above }
     requires from_in_cube { AreCoordinates from }
@@ -171,6 +203,7 @@ fn gain_layer(
         planes,
         source,
         pass,
+        edge,
         below,
         with_z_of(below, above),
         from,
@@ -181,6 +214,7 @@ fn gain_layer(
             planes,
             source,
             pass,
+            edge,
             with_z_of(above, below),
             above,
             from,
@@ -195,11 +229,13 @@ fn gain_row(
     planes: &mut Vec<Plane>,
     source: &Traced,
     pass: &Traced,
+    edge: &Edge,
     below: [i32; 3],
     above: [i32; 3],
     from: [i32; 3],
     to: [i32; 3],
 ) -> Result<(), AllocError>
+    requires edge { IsEdgeOf source.now pass.now edge.now }
     requires below_in_cube { AreCoordinates below }
     requires above_in_cube { AreCoordinates above }
     requires from_in_cube { AreCoordinates from }
@@ -210,9 +246,9 @@ fn gain_row(
     requires straight { (whole_point below).y ≡ (whole_point above).y }
     ensures { OnOk result (Gains (SeparatesByMix source.now pass.now (whole_point below) (whole_point above) (whole_point from) (whole_point to)) planes.old.items planes.new.items) }
 {
-    gain_through(planes, source, pass, below, from, to)?;
+    gain_through(planes, source, pass, edge, below, from, to)?;
     if below[2] != above[2] {
-        gain_through(planes, source, pass, above, from, to)?;
+        gain_through(planes, source, pass, edge, above, from, to)?;
     }
     Ok(())
 }

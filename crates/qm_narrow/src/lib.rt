@@ -4,6 +4,7 @@
 mod across;
 mod candidates;
 mod chain_state;
+mod edge;
 pub mod laws;
 mod multiples;
 mod narrowing;

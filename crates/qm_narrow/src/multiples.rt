@@ -1,6 +1,6 @@
 //! Whether a normal is a multiple of a listed plane's, before it is brought to lowest terms.
 
-ghost use Rattle.std.specs.Prelude.{◌≡◌, ◌^◌, true, int_lt, pos};
+ghost use Rattle.std.specs.Prelude.{◌≡◌, ◌≤◌, ◌^◌, ◌*ℤ◌, true, int_lt, pos, unsigned_abs};
 ghost use Rattle.qm_space.specs.Plane.{flipped};
 ghost use Rattle.qm_geom.specs.Vectors.{IsWithin};
 ghost use Rattle.qm_narrow.specs.inner.FoundPlanes.{IsAlong, HasAlongAmong, HasAgainstAmong};
@@ -34,12 +34,17 @@ pub(crate) fn has_against(planes: &[Plane], normal: &Vector) -> bool
     false
 }
 
-/// Whether a normal points where a plane's does: their cross product is zero, and their components have the same signs.
+/// Whether a normal points where a plane's does: their cross product is zero, and their components have the same signs. Most
+/// listed planes are told by the first two components.
 fn is_along(normal: &Vector, plane: &Plane) -> bool
     requires { IsWithin normal.now (2 ^ 26) }
     ensures { result ≡ true → IsAlong normal.now plane.now }
 {
-    let across = normal.cross(&plane.normal());
+    let other = plane.normal();
+    if product(normal.x, other.y) != product(normal.y, other.x) {
+        return false;
+    }
+    let across = normal.cross(&other);
     if !is_zero(&across) {
         return false;
     }
@@ -47,6 +52,14 @@ fn is_along(normal: &Vector, plane: &Plane) -> bool
         return false;
     }
     are_alike(normal.z, plane.nz)
+}
+
+fn product(first: i64, second: i64) -> i64
+    requires first_small { unsigned_abs first ≤ 2 ^ 26 }
+    requires second_small { unsigned_abs second ≤ 2 ^ 26 }
+    ensures { result ≡ first *ℤ second }
+{
+    first * second
 }
 
 fn is_zero(vector: &Vector) -> bool

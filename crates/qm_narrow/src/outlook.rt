@@ -4,8 +4,10 @@ ghost use Rattle.std.specs.Prelude.{◌≡◌, ◌^◌, ◌⊎◌, ◌<ℤ◌, B
 ghost use Rattle.qm_space.specs.Point.{AreCoordinates};
 ghost use Rattle.qm_geom.specs.Vectors.{IsWithin};
 ghost use Rattle.qm_narrow.specs.inner.Look.{PartsNowhere, least_along, greatest_along};
+ghost use Rattle.qm_narrow.specs.inner.Edge.{IsEdgeOf};
 ghost use Rattle.qm_narrow.specs.inner.FoundPlanes.{HasAlongAmong, HasAgainstAmong};
 
+use crate::edge::Edge;
 use crate::multiples::{has_against, has_along};
 use crate::reach::Reach;
 use crate::spot::Spot;
@@ -20,13 +22,21 @@ pub(crate) struct Outlook {
 }
 
 impl Outlook {
-    /// By the whole points near the corners of a source and a pass.
-    pub(crate) fn of(source: &Traced, pass: &Traced, normal: &Vector) -> Outlook
-        requires { IsWithin normal.now (2 ^ 26) }
+    /// By an edge of the one of two windings, and the whole points near the corners of the other.
+    pub(crate) fn of(source: &Traced, pass: &Traced, edge: &Edge, normal: &Vector) -> Outlook
+        requires edge { IsEdgeOf source.now pass.now edge.now }
+        requires small { IsWithin normal.now (2 ^ 26) }
         ensures ahead { result.ahead ≡ false → PartsNowhere source.now pass.now normal.now }
         ensures back { result.back ≡ false → PartsNowhere pass.now source.now normal.now }
     {
-        let reach = source.reach(normal);
+        let reach = edge.reach(normal);
+        if edge.of_pass {
+            let outlook = source.outlook(&reach, normal);
+            return Outlook {
+                ahead: outlook.back,
+                back: outlook.ahead,
+            };
+        }
         let outlook = pass.outlook(&reach, normal);
         outlook
     }

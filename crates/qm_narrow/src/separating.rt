@@ -34,8 +34,8 @@ pub(crate) fn separators_of(
     ensures { IfOk result (λ planes. HasExactly (IsSeparator source.now pass.now) planes.items) }
 {
     let mut planes = Vec::new(alloc);
-    gain_across(&mut planes, source, pass, source, pass)?;
-    gain_across(&mut planes, source, pass, pass, source)?;
+    gain_across(&mut planes, source, pass, source, pass, false)?;
+    gain_across(&mut planes, source, pass, pass, source, true)?;
     Ok(planes)
 }
 

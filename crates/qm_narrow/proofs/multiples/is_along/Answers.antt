@@ -8,7 +8,7 @@ use Rattle.qm_narrow.proofs.multiples.is_along.Goals as goal
 
 pub returns : goal.returns
 returns c = λ is.
-    let exact = c.cross-across.ensures.exact ∙ ap (cross c.args.normal.now) c.normal.ensures.exact in
+    let exact = c.cross-across.ensures.exact ∙ ap (cross c.args.normal.now) c.normal-other.ensures.exact in
     record {
       x_zero = sym (ap (λ (v : Vector). v.x) exact) ∙ c.if-not-is_zero.ensures.x refl;
       y_zero = sym (ap (λ (v : Vector). v.y) exact) ∙ c.if-not-is_zero.ensures.y refl;
