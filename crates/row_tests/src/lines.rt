@@ -51,12 +51,12 @@ fn lines_show_what_is_seen(rt: HostRuntime) -> Result<(), Fail> {
     };
     let world = world_of(alloc, text.as_str(), point)?;
     let mut right = true;
-    let mut shown = 0;
+    let mut shown: u64 = 0;
     for portal in 0..world.portals() {
         let row = row_of(alloc, &world, portal)?;
         let from = world.from(portal) as usize;
         right &= from < SHOWN.len() && lies_within(&row, SHOWN[from % 5]);
-        shown += row.count();
+        shown = row.count().saturating_add(shown);
     }
     assert!(rt; right && shown == BY_LINES);
     Ok(())
