@@ -39,8 +39,11 @@ pub(crate) fn gain_through(
     ensures { OnOk result (Gains (SeparatesBy source.now pass.now (whole_point at) (whole_point from) (whole_point to)) planes.old.items planes.new.items) }
 {
     let normal = normal_through(at, from, to);
-    let outlook = Outlook::of(source, pass, edge, &normal);
-    let outlook = outlook.without(planes.as_slice(), &normal);
+    let look = Outlook::of(source, pass, edge, &normal);
+    if look.is_none() {
+        return Ok(());
+    }
+    let outlook = look.without(planes.as_slice(), &normal);
     if outlook.is_none() {
         return Ok(());
     }
