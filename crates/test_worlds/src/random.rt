@@ -5,8 +5,9 @@ pub struct Random {
 }
 
 impl Random {
-    pub fn new(seed: u64) -> Random {
-        Random { state: seed }
+    /// A generator that begins at a number.
+    pub fn new(state: u64) -> Random {
+        Random { state }
     }
 
     /// The next number, of 31 bits.
