@@ -15,9 +15,9 @@ use Rattle.qm_segments.proofs.RoomSights.{sight_row}
 use Rattle.qm_separators.specs.ChainState.{first_state}
 use Rattle.qm_separators.specs.PortalSteps.{LetsPass}
 use Rattle.qm_chains.specs.inner.Frame.{Frame}
-use Rattle.qm_chains.specs.inner.Cone.{LeadsOn, LeadsFrom, IsInCone}
+use Rattle.qm_chains.specs.inner.Cone.{LeadsOn, IsInCone}
 
-abbrev world : World
+abbrev pub world : World
 world = record { tree = rooms; portals = portals }
 
 -- the chain has gone from the first room into the middle one, which is found; it may still show the last one
@@ -29,11 +29,11 @@ frame = record {
   mask = false ∷ true ∷ true ∷ [];
 }
 
-abbrev found : List Bool
+abbrev pub found : List Bool
 found = false ∷ true ∷ false ∷ []
 
 -- the last room is seen via the second door from the first
-via_on : IsSeenVia rooms out on 2
+pub via_on : IsSeenVia rooms out on 2
 unfolding sight_row
 via_on = record { sight = sight_row; before = []; left = 1; entered = 2; after = []; leaves_are = refl; left_is = refl; entered_is = refl }
 

@@ -11,3 +11,4 @@ pub mod ConeSamples
 pub mod Entering
 pub mod Words
 pub mod PairRows
+pub mod PairSamples
