@@ -1,3 +1,4 @@
+use Rattle.std.proofs.Common.{◌<◌, sym, ◌∙◌, subst}
 use Rattle.qm_sight.specs.InCeiling.{IsInCeiling}
 use Rattle.qm_lines.proofs.Traces.{gains_none, gains_on}
 use Rattle.qm_lines.proofs.showing.aim_through.Goals as goal
@@ -20,3 +21,24 @@ loop-i-preserved g c =
           (g.met.S.RowSource.narrower c.args.source.now c.loop-i.source on) c.loop-i.invariant.shown c.in_ok-aim_at-2.ensures.shown;
       on = g.met.S.RowSource.goes_on_in_turn c.args.source.now c.loop-i.source c.aim_at-in-loop-i.new.source on c.aim_at-in-loop-i.ensures.on;
     }
+
+pub aim_at-requires : goal.aim_at-requires
+aim_at-requires g c = record {
+  portal = c.requires.portal;
+  target = c.to-target.ensures.within;
+  own_portals = c.requires.own_portals;
+  same_world = g.met.S.RowSource.same_world c.args.source.now c.may_lead.new.source c.may_lead.ensures ∙ c.requires.same_world;
+  row = c.requires.row;
+}
+
+pub get-requires-in-loop-i : goal.get-requires-in-loop-i
+get-requires-in-loop-i g c = subst (λ n. c.to-target.result < n) (sym (c.loop-i.invariant.shown.same_length ∙ c.requires.row)) c.to-target.ensures.within
+
+pub aim_at-requires-in-loop-i : goal.aim_at-requires-in-loop-i
+aim_at-requires-in-loop-i g c = record {
+  portal = c.requires.portal;
+  target = c.to-target.ensures.within;
+  own_portals = c.requires.own_portals;
+  same_world = g.met.S.RowSource.same_world c.args.source.now c.loop-i.source c.loop-i.invariant.on ∙ c.requires.same_world;
+  row = c.loop-i.invariant.shown.same_length ∙ c.requires.row;
+}

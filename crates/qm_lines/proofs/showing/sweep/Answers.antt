@@ -1,4 +1,4 @@
-use Rattle.std.proofs.Common.{◌∙◌, ap, length, true}
+use Rattle.std.proofs.Common.{◌<◌, ◌∙◌, ap, length, subst, true}
 use Rattle.std.proofs.lemmas.List.{length-set}
 use Rattle.qm_lines.proofs.Traces.{gains_on}
 use Rattle.qm_lines.proofs.showing.sweep.Goals as goal
@@ -12,3 +12,12 @@ loop-leaf-preserved g c =
       on = g.met.S.RowSource.goes_on_in_turn c.args.source.now c.loop-leaf.source c.aim_out.new.source on c.aim_out.ensures.on;
       wide = ap length c.set.ensures ∙ length-set c.loop-leaf.gone c.loop-leaf.leaf true ∙ c.loop-leaf.invariant.wide;
     }
+
+pub aim_out-requires : goal.aim_out-requires
+aim_out-requires g c = record {
+  portal = c.requires.portal;
+  leaf = subst (λ n. c.loop-leaf.leaf < n) c.leaves-leaf-end.ensures c.loop-leaf-test.true;
+  own_portals = c.requires.own_portals;
+  same_world = g.met.S.RowSource.same_world c.args.source.now c.loop-leaf.source c.loop-leaf.invariant.on ∙ c.requires.same_world;
+  row = c.loop-leaf.invariant.shown.same_length ∙ c.requires.row;
+}
