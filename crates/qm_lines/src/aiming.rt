@@ -1,30 +1,29 @@
 //! From which points lines are drawn, and to which. Nothing that is promised of lines rests on this choice.
 
+ghost use Rattle.std.specs.Prelude.{◌<◌, length};
 ghost use Rattle.qm_space.specs.Point.{IsCoordinate, AreCoordinates};
 
 use crate::line::Line;
 use qm_space::WORLD_EXTENT;
 use qm_wind::Winding;
+use std::alloc::{AllocError, Global};
 
-/// The points of a winding through which lines are drawn: its middle, and the one halfway from there to its first corner.
-#[derive(Drop)]
-pub(crate) struct Spots {
-    pub(crate) middle: [i32; 3],
-    pub(crate) near_first: [i32; 3],
+/// The spots of a winding, through which lines are drawn: its middle, and one near each corner.
+pub(crate) fn spots_of(alloc: Global, winding: &Winding) -> Result<Vec<[i32; 3]>, AllocError> {
+    let mut spots = Vec::new(alloc);
+    spots.push(middle_of(winding))?;
+    for i in 0..winding.len() {
+        spots.push(spot_near_corner(winding, i))?;
+    }
+    Ok(spots)
 }
 
-impl Spots {
-    pub(crate) fn of(winding: &Winding) -> Spots
-        ensures middle { AreCoordinates result.middle }
-        ensures near_first { AreCoordinates result.near_first }
-    {
-        let middle = middle_of(winding);
-        let _corners = winding.len();
-        Spots {
-            middle,
-            near_first: halfway(&middle, &winding.corner(0).rounded()),
-        }
-    }
+/// The spot near a corner: 15 of 16 parts of the way to it from the middle.
+pub(crate) fn spot_near_corner(winding: &Winding, i: usize) -> [i32; 3]
+    requires { i < length winding.now.edges }
+    ensures { AreCoordinates result }
+{
+    near(&middle_of(winding), &winding.corner(i).rounded())
 }
 
 /// The middle of the cuboid round a winding, to whole numbers.
@@ -58,21 +57,21 @@ fn further(from: i32, to: i32) -> i32
     coordinate(i64::from(to) + (i64::from(to) - i64::from(from)) / 2)
 }
 
-/// The point between two points.
-fn halfway(first: &[i32; 3], second: &[i32; 3]) -> [i32; 3]
+/// The point at 15 of 16 parts of the way from one point to another.
+fn near(from: &[i32; 3], to: &[i32; 3]) -> [i32; 3]
     ensures { AreCoordinates result }
 {
     [
-        between(first[0], second[0]),
-        between(first[1], second[1]),
-        between(first[2], second[2]),
+        most_of_the_way(from[0], to[0]),
+        most_of_the_way(from[1], to[1]),
+        most_of_the_way(from[2], to[2]),
     ]
 }
 
-fn between(first: i32, second: i32) -> i32
+fn most_of_the_way(from: i32, to: i32) -> i32
     ensures { IsCoordinate result }
 {
-    coordinate((i64::from(first) + i64::from(second)) / 2)
+    coordinate((i64::from(from) + 15 * i64::from(to)) / 16)
 }
 
 /// The coordinate of the closed cube that is nearest to a number.

@@ -109,11 +109,11 @@ fn further(world: &World, line: &Line, trace: &Trace, portal: u64) -> Option<Cro
     requires leaves { (q : Portal) × IsAt world.now.portals portal q × (q.from ≡ trace.now.leaf) }
     ensures { IfSome result (IsOnward world.now line.now trace.now portal) }
 {
+    let pane = world.pane(portal);
+    let crossing = Crossing::of_plane(line, &pane.into)?;
     if trace.has_met(world.to(portal)) {
         return None;
     }
-    let pane = world.pane(portal);
-    let crossing = Crossing::of_plane(line, &pane.into)?;
     if !crossing.is_beyond(trace.last) {
         return None;
     }

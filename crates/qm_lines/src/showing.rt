@@ -1,14 +1,13 @@
 //! The leaves that lines show from a portal.
 
 ghost use Rattle.std.specs.Prelude.{ℕ, ◌≡◌, ◌<◌, Bool, List, length, All, OnOk};
-ghost use Rattle.qm_space.specs.Point.{AreCoordinates};
 ghost use Rattle.qm_contacts.specs.NumberedLeaves.{numbered_leaves};
 ghost use Rattle.qm_contacts.specs.OwnPortals.{HasOwnPortals};
 ghost use Rattle.qm_sight.specs.WordInSight.{LieWithin};
 ghost use Rattle.qm_sight.specs.InCeiling.{IsInCeiling};
 ghost use Rattle.qm_lines.specs.Gained.{HasGainedShown};
 
-use crate::aiming::{Spots, line_through, middle_of};
+use crate::aiming::{line_through, middle_of, spot_near_corner, spots_of};
 use crate::crossing::crossing_of;
 use crate::following::follow;
 use crate::line::Line;
@@ -36,50 +35,81 @@ pub fn show_by_lines<S: RowSource>(
     ensures on { S.goes_on source.old source.new }
 {
     world.own_portals();
-    let pane = world.pane(portal);
-    let spots = Spots::of(&pane.winding);
+    let spots = spots_of(alloc, &world.pane(portal).winding)?;
     let mut trace = Trace::new(alloc);
-    for leaf in 0..world.leaves() {
-        aim(world, source, portal, &spots, leaf, &mut trace, row)?;
-    }
+    let mut gone = BitRow::with_len(alloc, world.leaves())?;
+    let entered = world.to(portal);
+    gone.set(entered);
+    aim_out(world, source, portal, &spots, entered, &mut trace, row)?;
+    flood(world, source, portal, &spots, &mut gone, &mut trace, row)?;
     Ok(())
 }
 
-/// Aims at a leaf that the row does not have, from each spot.
-fn aim<S: RowSource>(
+/// Goes on from the leaves of the row that were not gone on from, and from those that are shown by it, until none is left.
+fn flood<S: RowSource>(
     world: &World,
     source: &mut S,
     portal: u64,
-    spots: &Spots,
-    leaf: u64,
+    spots: &[[i32; 3]],
+    gone: &mut BitRow,
     trace: &mut Trace,
     row: &mut BitRow,
 ) -> Result<(), AllocError>
     requires portal { portal < length world.now.portals }
-    requires leaf { leaf < length (numbered_leaves world.now.tree) }
+    requires gone { length gone.old ≡ length (numbered_leaves world.now.tree) }
     requires own_portals { HasOwnPortals world.now }
     requires same_world { S.world source.old ≡ world.now }
     requires row { length row.old ≡ length (numbered_leaves world.now.tree) }
     ensures shown { OnOk result (HasGainedShown world.now.portals (IsInCeiling (S.ceilings source.old)) portal row.old row.new) }
     ensures on { S.goes_on source.old source.new }
 {
-    if row.get(leaf) {
-        return Ok(());
+    for _ in 0..world.leaves() {
+        if !row.has_new(gone) {
+            return Ok(());
+        }
+        sweep(world, source, portal, spots, gone, trace, row)?;
     }
-    if !has_leaf(source, portal, leaf) {
-        return Ok(());
-    }
-    aim_from(world, source, portal, &spots.middle, leaf, trace, row)?;
-    aim_from(world, source, portal, &spots.near_first, leaf, trace, row)?;
     Ok(())
 }
 
-/// Aims at a leaf from a spot, through the middle of each portal that leaves it, until the row has it.
-fn aim_from<S: RowSource>(
+/// Goes on from each leaf of the row that was not gone on from, in the order of their numbers.
+fn sweep<S: RowSource>(
     world: &World,
     source: &mut S,
     portal: u64,
-    spot: &[i32; 3],
+    spots: &[[i32; 3]],
+    gone: &mut BitRow,
+    trace: &mut Trace,
+    row: &mut BitRow,
+) -> Result<(), AllocError>
+    requires portal { portal < length world.now.portals }
+    requires gone { length gone.old ≡ length (numbered_leaves world.now.tree) }
+    requires own_portals { HasOwnPortals world.now }
+    requires same_world { S.world source.old ≡ world.now }
+    requires row { length row.old ≡ length (numbered_leaves world.now.tree) }
+    ensures shown { OnOk result (HasGainedShown world.now.portals (IsInCeiling (S.ceilings source.old)) portal row.old row.new) }
+    ensures on { S.goes_on source.old source.new }
+    ensures gone { length gone.new ≡ length gone.old }
+{
+    for leaf in 0..world.leaves() {
+        if !row.get(leaf) {
+            continue;
+        }
+        if gone.get(leaf) {
+            continue;
+        }
+        gone.set(leaf);
+        aim_out(world, source, portal, spots, leaf, trace, row)?;
+    }
+    Ok(())
+}
+
+/// Aims through each portal that leaves a leaf.
+fn aim_out<S: RowSource>(
+    world: &World,
+    source: &mut S,
+    portal: u64,
+    spots: &[[i32; 3]],
     leaf: u64,
     trace: &mut Trace,
     row: &mut BitRow,
@@ -93,19 +123,96 @@ fn aim_from<S: RowSource>(
     ensures on { S.goes_on source.old source.new }
 {
     for number in world.leaving(leaf) {
-        if row.get(leaf) {
+        aim_through(world, source, portal, spots, *number, trace, row)?;
+    }
+    Ok(())
+}
+
+/// Aims through the spots of another portal at the leaf that it enters, until the row has that.
+fn aim_through<S: RowSource>(
+    world: &World,
+    source: &mut S,
+    portal: u64,
+    spots: &[[i32; 3]],
+    other: u64,
+    trace: &mut Trace,
+    row: &mut BitRow,
+) -> Result<(), AllocError>
+    requires portal { portal < length world.now.portals }
+    requires other { other < length world.now.portals }
+    requires own_portals { HasOwnPortals world.now }
+    requires same_world { S.world source.old ≡ world.now }
+    requires row { length row.old ≡ length (numbered_leaves world.now.tree) }
+    ensures shown { OnOk result (HasGainedShown world.now.portals (IsInCeiling (S.ceilings source.old)) portal row.old row.new) }
+    ensures on { S.goes_on source.old source.new }
+{
+    let target = world.to(other);
+    if row.get(target) {
+        return Ok(());
+    }
+    if !may_lead(world, source, portal, other, target) {
+        return Ok(());
+    }
+    let winding = &world.pane(other).winding;
+    let middle = middle_of(winding);
+    aim_at(world, source, portal, spots, &middle, target, trace, row)?;
+    for i in 0..winding.len() {
+        if row.get(target) {
             return Ok(());
         }
-        let end = middle_of(&world.pane(*number).winding);
-        show_along(
-            world,
-            source,
-            portal,
-            &line_through(spot, &end),
-            leaf,
-            trace,
-            row,
-        )?;
+        let end = spot_near_corner(winding, i);
+        aim_at(world, source, portal, spots, &end, target, trace, row)?;
+    }
+    Ok(())
+}
+
+/// Whether a line may lead through one portal and then another to a leaf: both rows have it, and that of the portal back
+/// through the other one has the leaf that the first portal leaves. Portals stand in pairs, one each way; nothing rests on that.
+fn may_lead<S: RowSource>(world: &World, source: &mut S, portal: u64, other: u64, leaf: u64) -> bool
+    requires portal { portal < length world.now.portals }
+    requires other { other < length world.now.portals }
+    requires leaf { leaf < length (numbered_leaves world.now.tree) }
+    requires same_world { S.world source.old ≡ world.now }
+    ensures { S.goes_on source.old source.new }
+{
+    if !has_leaf(source, portal, leaf) {
+        return false;
+    }
+    if !has_leaf(source, other, leaf) {
+        return false;
+    }
+    let back = other ^ 1;
+    if back >= world.portals() {
+        return true;
+    }
+    has_leaf(source, back, world.from(portal))
+}
+
+/// Aims at a target from each spot through another one, until the row has it.
+fn aim_at<S: RowSource>(
+    world: &World,
+    source: &mut S,
+    portal: u64,
+    spots: &[[i32; 3]],
+    end: &[i32; 3],
+    target: u64,
+    trace: &mut Trace,
+    row: &mut BitRow,
+) -> Result<(), AllocError>
+    requires portal { portal < length world.now.portals }
+    requires target { target < length (numbered_leaves world.now.tree) }
+    requires own_portals { HasOwnPortals world.now }
+    requires same_world { S.world source.old ≡ world.now }
+    requires row { length row.old ≡ length (numbered_leaves world.now.tree) }
+    ensures shown { OnOk result (HasGainedShown world.now.portals (IsInCeiling (S.ceilings source.old)) portal row.old row.new) }
+    ensures on { S.goes_on source.old source.new }
+{
+    for spot in spots {
+        if row.get(target) {
+            return Ok(());
+        }
+        let line = line_through(spot, end);
+        show_along(world, source, portal, &line, target, trace, row)?;
     }
     Ok(())
 }
