@@ -1,3 +1,4 @@
+mod Barred
 mod BegunRows
 mod Copies
 mod FourLeaves

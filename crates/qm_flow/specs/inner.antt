@@ -1,2 +1,5 @@
+pub mod LeadsBack
+pub mod OwnRow
 pub mod PairFrame
 pub mod PairsGoOn
+pub mod UnseenVia

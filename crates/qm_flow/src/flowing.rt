@@ -8,6 +8,7 @@ ghost use Rattle.qm_segments.specs.Sight.{IsSoundRow};
 ghost use Rattle.qm_chains.specs.Shown.{IsAt, IsShown};
 ghost use Rattle.qm_sight.specs.InCeiling.{IsInCeiling};
 
+use crate::barring::bar_unseen;
 use crate::beginning::begin;
 use crate::own_rows::OwnRows;
 use crate::pairs::Pairs;
@@ -40,6 +41,7 @@ pub fn flow<S: RowSource>(
     let first = begin(alloc, world, source, &own, portal, &mut row)?;
     show_by_lines(alloc, world, source, portal, &mut row)?;
     let mut pairs = Pairs::of(alloc, world, portal, &first.mask, own)?;
+    bar_unseen(world, source, &mut pairs);
     let mut frames = Vec::new(alloc);
     frames.push(first)?;
     while let Some(mut frame) = frames.pop() {

@@ -1,6 +1,7 @@
 //! The flow of one portal: which leaves open chains show from it, over any source of rows; and of all portals in turns.
 #![tactic(auto)]
 
+mod barring;
 mod beginning;
 mod cone;
 mod flowing;

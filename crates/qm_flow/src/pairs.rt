@@ -1,6 +1,6 @@
 //! What a flow knows of its first portal and another one, a pair.
 
-ghost use Rattle.std.specs.Prelude.{ℕ, ◌≡◌, ◌<◌, Bool, List, length, replicate, None, Some, slice_set, IfOk};
+ghost use Rattle.std.specs.Prelude.{ℕ, ◌≡◌, ◌<◌, Bool, List, length, replicate, false, None, Some, slice_set, IfOk};
 ghost use Rattle.qm_lists.specs.WorkList.{IsIn};
 ghost use Rattle.qm_contacts.specs.NumberedLeaves.{numbered_leaves};
 ghost use Rattle.qm_contacts.specs.OwnPortals.{HasOwnPortals};
@@ -19,7 +19,7 @@ use std::marker::Model;
 
 /// The first portal of a flow, the state of its chain, the leaves that may be in sight of it, and the rows of the flow's own:
 /// that of a portal is the row of its pair with the first. It is made when the portal is tried for the second time, since it
-/// would not pay for one that is tried once.
+/// would not pay for one that is tried once; where nothing can be seen via the portal, it is barred before the first.
 #[derive(Drop)]
 pub(crate) struct Pairs {
     first: u64,
@@ -121,5 +121,14 @@ impl Pairs {
         ensures { self.new ≡ record { first = self.old.first; start = self.old.start; seen = self.old.seen; own = slice_set self.old.own portal (Some row) } }
     {
         self.own.put(portal, row);
+    }
+
+    /// Bars a portal: the row of its pair is a clear one. It takes no memory.
+    pub(crate) fn bar(&mut self, portal: u64)
+        requires { portal < length self.old.own }
+        ensures { self.new ≡ record { first = self.old.first; start = self.old.start; seen = self.old.seen; own = slice_set self.old.own portal (Some (replicate (length self.old.seen) false)) } }
+    {
+        let leaves = self.seen.len();
+        self.own.bar(portal, leaves);
     }
 }

@@ -1,0 +1,49 @@
+-- Portals via which nothing is seen: how the portal back tells it, and pairs with a clear row for one.
+use Rattle.std.proofs.Common.{◌≡◌, ℕ, ◌<◌, Bool, false, List, length, replicate, set, Some, sym, ap, ◌∙◌, subst}
+use Rattle.std.proofs.lemmas.List.{length-replicate}
+use Rattle.qm_lists.specs.WorkList.{IsIn}
+use Rattle.qm_contacts.specs.Portals.{Portal}
+use Rattle.qm_contacts.specs.World.{World}
+use Rattle.qm_segments.specs.SeenVia.{IsSeenVia}
+use Rattle.qm_segments.proofs.ViaLaws.{first_in_sight_back}
+use Rattle.qm_sight.specs.WordInSight.{LieWithin}
+use Rattle.qm_sight.specs.InCeiling.{IsInCeiling}
+use Rattle.qm_chains.specs.Shown.{IsAt}
+use Rattle.qm_chains.specs.inner.OwnRows.{IsInSightAt}
+use Rattle.qm_chains.specs.inner.Pairs.{Pairs, ArePairs}
+use Rattle.qm_chains.proofs.Beginnings.{none_clear}
+use Rattle.qm_chains.proofs.PairRows.{pairs_more, within_more}
+use Rattle.qm_chains.proofs.TriedPortals.{same_portal}
+use Rattle.qm_flow.specs.inner.LeadsBack.{LeadsBack}
+use Rattle.qm_flow.specs.inner.PairsGoOn.{PairsGoOn}
+use Rattle.qm_flow.specs.inner.UnseenVia.{IsUnseenVia}
+
+-- ---- the portal back
+
+-- the leaf that the first portal leaves is in sight of the portal back, where anything is seen via the portal
+pub unseen_via : (world : World) (p number back : ℕ) (first : Portal) → IsAt world.portals p first → LeadsBack world.portals number back → (IsInSightAt world back first.from → ⊥) → IsUnseenVia world p number
+unseen_via world p number back first first_is leads unseen other q other_is q_is n via =
+    let seen = subst (λ (r : Portal). IsSeenVia world.tree r leads.there n) (same_portal world.portals p other first other_is first_is)
+    (subst (λ (r : Portal). IsSeenVia world.tree other r n) (same_portal world.portals number q leads.there q_is leads.there_is) via) in
+    unseen (record { portal = leads.again; portal_is = leads.again_is; sight = first_in_sight_back world.tree first leads.there n seen leads.again leads.from_is leads.to_is })
+
+-- ---- pairs
+
+-- a clear row is a row of the pair, and lies within all ceilings
+pub pairs_barred : (world : World) (now : List (List Bool)) (old new : Pairs) (number : ℕ) → new ≡ record { first = old.first; start = old.start; seen = old.seen; own = set old.own number (Some (replicate (length old.seen) false)) } → number < length old.own →
+    IsUnseenVia world old.first number → (found : List Bool) → ArePairs world found old → PairsGoOn world now found old new
+pairs_barred world now old new number new_is within unseen found are =
+    let clear : List Bool = replicate (length old.seen) false in
+    record {
+      same_first = ap (λ (p : Pairs). p.first) new_is;
+      are = pairs_more world found old number clear new new_is within are (length-replicate (length old.seen) false ∙ are.seen_wide) (λ n wanted. absurd (unseen wanted.wanted.first wanted.portal wanted.wanted.first_is wanted.portal_is n wanted.wanted.via));
+      within = λ ceilings lie lies. within_more world found old number clear new new_is within (IsInCeiling ceilings) lies (λ n is. absurd (none_clear (length old.seen) n is));
+    }
+
+-- pairs go on in turn, over a source that has gone on
+pub pairs_in_turn : (world : World) (now later : List (List Bool)) (found : List Bool) (a b c : Pairs) → LieWithin later now → PairsGoOn world now found a b → PairsGoOn world later found b c → PairsGoOn world now found a c
+pairs_in_turn world now later found a b c narrower first second = record {
+  same_first = second.same_first ∙ first.same_first;
+  are = second.are;
+  within = λ ceilings lie within. second.within ceilings (λ place n is. lie place n (narrower place n is)) (first.within ceilings lie within);
+}

@@ -1,0 +1,24 @@
+use Rattle.std.proofs.Common.{◌<◌, ℕ, [], length, sym, subst, arith}
+use Rattle.qm_flow.proofs.PairsKept.{pairs_same}
+use Rattle.qm_flow.proofs.Barred.{pairs_barred}
+use Rattle.qm_flow.specs.inner.UnseenVia.{IsUnseenVia}
+use Rattle.qm_flow.proofs.barring.bar_portal.Goals as goal
+
+pub is_unseen-requires-clause-first : goal.is_unseen-requires-clause-first
+is_unseen-requires-clause-first g c = subst (λ (p : ℕ). p < length c.args.world.now.portals) (sym c.first.ensures) (c.requires.pairs []).first_within
+
+pub returns-then-not-is_unseen-clause-pairs : goal.returns-then-not-is_unseen-clause-pairs
+returns-then-not-is_unseen-clause-pairs g c found = pairs_same c.args.world.now (g.S.RowSource.ceilings c.args.source.now) found c.args.pairs.now (c.requires.pairs found)
+
+pub bar-requires : goal.bar-requires
+bar-requires g c =
+    let one = (c.requires.pairs []).own_are.one_each in
+    let within = c.requires.portal in
+    omega (arith, one, within)
+
+pub returns-clause-pairs : goal.returns-clause-pairs
+returns-clause-pairs g c found =
+    let one = (c.requires.pairs []).own_are.one_each in
+    let within = c.requires.portal in
+    pairs_barred c.args.world.now (g.S.RowSource.ceilings c.args.source.now) c.args.pairs.now c.bar.new.self c.args.portal c.bar.ensures (omega (arith, one, within))
+    (subst (λ (p : ℕ). IsUnseenVia c.args.world.now p c.args.portal) c.first.ensures (c.is_unseen.ensures.unseen c.if-not-is_unseen.false)) found (c.requires.pairs found)
