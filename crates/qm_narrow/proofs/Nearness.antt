@@ -87,6 +87,28 @@ above_kept d h = omega (arith, ints)
 size_of : (r u : ℤ) → (pos 0 ≤ℤ r) × (r <ℤ u) → unsigned_abs u ≤ 3 * 2 ^ 79 → unsigned_abs r ≤ 3 * 2 ^ 79
 size_of r u (low, high) h = omega (arith, ints)
 
+module _ (o u : ℤ) (small : IsSmallCoordinate o u) where
+  over_kept : kept w128 o ≡ o
+  over_kept = kept_128 o (3 * 2 ^ 97) small.over_size (lit≤ tt)
+
+  under_kept : kept w128 u ≡ u
+  under_kept = kept_128 u (3 * 2 ^ 79) small.under_size (lit≤ tt)
+
+  pub under_positive : pos 0 <ℤ kept w128 u
+  under_positive = subst (λ (z : ℤ). pos 0 <ℤ z) (sym under_kept) small.positive
+
+  fraction : unsigned_abs o ≤ 2 ^ 44 * unsigned_abs u
+  fraction = let h = small.small in omega arith
+
+  pub fraction_small : unsigned_abs (kept w128 o) ≤ 2 ^ 44 * unsigned_abs (kept w128 u)
+  fraction_small = rw (over_kept, under_kept) fraction
+
+  pub over_size : unsigned_abs (kept w128 o) ≤ 3 * 2 ^ 97
+  over_size = subst (λ (z : ℤ). unsigned_abs z ≤ 3 * 2 ^ 97) (sym over_kept) small.over_size
+
+  pub under_size : unsigned_abs (kept w128 u) ≤ 3 * 2 ^ 79
+  under_size = subst (λ (z : ℤ). unsigned_abs z ≤ 3 * 2 ^ 79) (sym under_kept) small.under_size
+
 module _ (o u d : ℤ) (small : IsSmallCoordinate o u) (down : IsRoundedDown (kept w128 o) (kept w128 u) d) where
   o_kept : kept w128 o ≡ o
   o_kept = kept_128 o (3 * 2 ^ 97) small.over_size (lit≤ tt)
@@ -113,6 +135,9 @@ module _ (o u d r : ℤ) (small : IsSmallCoordinate o u) (down : IsRoundedDown (
   r_kept : kept w128 r ≡ r
   r_kept = kept_128 r (3 * 2 ^ 79) r_small (lit≤ tt)
 
+  pub rest_size : unsigned_abs (kept w128 r) ≤ 3 * 2 ^ 79
+  rest_size = subst (λ (z : ℤ). unsigned_abs z ≤ 3 * 2 ^ 79) (sym r_kept) r_small
+
   pub near_whole : r ≤ℤ pos 0 → AreNear o u (record { below = kept w32 (kept w64 d); above = kept w32 (kept w64 d); nearest = kept w32 (kept w64 d) })
   near_whole none = rw (narrowed_32 d (d_small o u d small down)) (record { below = (is_down o u d small down); above = up_itself o u d r small.positive (is_down o u d small down) is_rest none; nearest = nearest_itself o u d r small.positive (is_down o u d small down) is_rest none })
 
@@ -123,6 +148,11 @@ module _ (o u d r : ℤ) (small : IsSmallCoordinate o u) (down : IsRoundedDown (
   near_down some either = rw (above_kept d (d_small o u d small down), narrowed_32 d (d_small o u d small down)) (record { below = (is_down o u d small down); above = up_next o u d r small.positive (is_down o u d small down) is_rest some; nearest = nearest_below o u d r small.positive (is_down o u d small down) is_rest some (rw (u_kept o u d small down, r_kept, o_kept o u d small down) at either) })
 
 -- ---- of the three coordinates of a corner
+
+pub coordinate_answered : (n w over under : ℤ) → IsSmallCoordinate n w → over ≡ n → under ≡ w → IsSmallCoordinate (kept w128 over) (kept w128 under)
+coordinate_answered n w over under small e f =
+    subst (λ (z : ℤ). IsSmallCoordinate z (kept w128 under)) (sym (ap (λ (z : ℤ). kept w128 z) e ∙ over_kept n w small))
+    (subst (λ (z : ℤ). IsSmallCoordinate n z) (sym (ap (λ (z : ℤ). kept w128 z) f ∙ under_kept n w small)) small)
 
 module _ (n w over under : ℤ) (small : IsSmallCoordinate n w) (near : Near) (e : over ≡ n) (f : under ≡ w) (are : AreNear (kept w128 over) (kept w128 under) near) where
   over_is : kept w128 over ≡ n

@@ -3,3 +3,4 @@ pub mod Look
 pub mod Edge
 pub mod Near
 pub mod FoundPlanes
+pub mod LastPoint

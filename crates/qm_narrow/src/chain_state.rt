@@ -42,7 +42,7 @@ impl ChainState {
         ensures { IfOk result (λ state. state ≡ first_state pane.now.winding pane.now.into) }
     {
         let _corners = pane.winding.len();
-        let source = Traced::of(alloc, pane.winding.copy()?)?;
+        let source = Traced::copied(alloc, &pane.winding)?;
         let state = ChainState::of(alloc, source, &pane.into, None)?;
         Ok(state)
     }

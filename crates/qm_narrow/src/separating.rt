@@ -19,10 +19,28 @@ pub fn separators(
 ) -> Result<Items<Plane>, AllocError>
     ensures { IfOk result (λ planes. HasExactly (IsSeparator source.now pass.now) planes) }
 {
-    let source = Traced::of(alloc, source.copy()?)?;
-    let pass = Traced::of(alloc, pass.copy()?)?;
-    let planes = separators_of(alloc, &source, &pass)?;
+    let planes = separators_between(alloc, source, pass)?;
     Ok(Items::from_vec(planes))
+}
+
+/// The separators of two windings.
+fn separators_between(
+    alloc: Global,
+    source: &Winding,
+    pass: &Winding,
+) -> Result<Vec<Plane>, AllocError>
+    ensures { IfOk result (λ planes. HasExactly (IsSeparator source.now pass.now) planes.items) }
+{
+    let source = Traced::copied(alloc, source)?;
+    separators_to(alloc, &source, pass)
+}
+
+/// The separators of two windings, where the corners of the first are known.
+fn separators_to(alloc: Global, source: &Traced, pass: &Winding) -> Result<Vec<Plane>, AllocError>
+    ensures { IfOk result (λ planes. HasExactly (IsSeparator source.now pass.now) planes.items) }
+{
+    let pass = Traced::copied(alloc, pass)?;
+    separators_of(alloc, source, &pass)
 }
 
 /// The separators of two windings whose corners are known.

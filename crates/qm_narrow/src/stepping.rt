@@ -1,19 +1,18 @@
 //! One step of a chain of portals.
 
-ghost use Rattle.std.specs.Prelude.{◌≡◌, IfOk, MatchOption};
-ghost use Rattle.qm_convex.specs.Winding.{IsConvex};
-ghost use Rattle.qm_convex.specs.Sides.{HasNoneInFront, LiesIn};
+ghost use Rattle.std.specs.Prelude.{IfOk, MatchOption};
+ghost use Rattle.qm_convex.specs.Sides.{LiesIn};
 ghost use Rattle.qm_convex.specs.Cut.{IsPartInFront};
-ghost use Rattle.qm_separators.specs.Gains.{HasExactly};
+ghost use Rattle.qm_separators.specs.Part.{IsPartBy, HasNoPartBy};
 ghost use Rattle.qm_separators.specs.Separator.{IsSeparatorFrom};
 ghost use Rattle.qm_separators.specs.ChainStep.{LeadsTo, Blocks};
 ghost use Rattle.qm_separators.specs.inner.Narrowed.{NarrowsTo, CutsAway};
+ghost use Rattle.qm_narrow.specs.inner.LastPoint.{EndsAt};
 
 use crate::chain_state::ChainState;
-use crate::narrowing::{kept, within};
+use crate::narrowing::{kept, traced_within};
 use crate::separating::separators_from;
 use crate::traced::Traced;
-use qm_geom::Plane;
 use qm_wind::{Clip, Pane, Side, Winding};
 use std::alloc::{AllocError, Global};
 
@@ -26,58 +25,102 @@ pub fn step(
 ) -> Result<Option<ChainState>, AllocError>
     ensures { IfOk result (λ after. MatchOption after (Blocks state.now next.now.winding next.now.into) (LeadsTo state.now next.now.winding next.now.into)) }
 {
-    let _corners = next.winding.len();
-    let first = state.into();
-    let far = match kept(next.winding.copy()?, first)? {
-        None => return Ok(None),
-        Some(far) => far,
-    };
-    let source = state.source();
-    match source.clip(&next.into, Side::Back)? {
-        Clip::Gone => Ok(None),
-        Clip::Whole => {
-            let near = source.copy()?;
-            let planes = state.separators();
-            let after = narrowed(alloc, state, near, far, planes)?;
-            Ok(after)
-        }
-        Clip::Cut(part) => {
-            let near = Traced::of(alloc, part)?;
-            let last = state.pass();
-            let planes = separators_from(alloc, &near, last)?;
-            let after = narrowed(alloc, state, near.into_winding(), far, planes.as_slice())?;
-            Ok(after)
-        }
+    let copy = next.winding.copy()?;
+    match kept(copy, state.into())? {
+        None => Ok(None),
+        Some(far) => stepped(alloc, state, next, far),
     }
 }
 
-/// The last two points of a step, by the separators of what is left of the source and the pass.
-fn narrowed(
+/// What is left of a step once the portal is cut: the source is cut by the portal's plane, and then both by separators.
+fn stepped(
+    alloc: Global,
+    state: &ChainState,
+    next: &Pane,
+    far: Winding,
+) -> Result<Option<ChainState>, AllocError>
+    requires { IsPartInFront far next.now.winding state.now.into }
+    ensures { IfOk result (λ after. MatchOption after (Blocks state.now next.now.winding next.now.into) (LeadsTo state.now next.now.winding next.now.into)) }
+{
+    match state.source().clip(&next.into, Side::Back)? {
+        Clip::Gone => Ok(None),
+        Clip::Whole => narrowed_whole(alloc, state, far),
+        Clip::Cut(near) => narrowed_part(alloc, state, near, far),
+    }
+}
+
+/// The last two points of a step that has left the source whole: the separators are those of the state.
+fn narrowed_whole(
+    alloc: Global,
+    state: &ChainState,
+    far: Winding,
+) -> Result<Option<ChainState>, AllocError>
+    ensures { IfOk result (λ after. MatchOption after (CutsAway state.now state.now.source far) (NarrowsTo state.now state.now.source far)) }
+{
+    match traced_within(alloc, far, state.separators())? {
+        None => Ok(None),
+        Some(pass) => last_point_whole(alloc, state, pass),
+    }
+}
+
+/// The last point of such a step.
+fn last_point_whole(
+    alloc: Global,
+    state: &ChainState,
+    pass: Traced,
+) -> Result<Option<ChainState>, AllocError>
+    ensures { IfOk result (λ after. MatchOption after (HasNoPartBy state.now.source (IsSeparatorFrom state.now.pass pass)) (EndsAt state.now state.now.source pass)) }
+{
+    let near = state.source().copy()?;
+    last_point(alloc, state, near, pass)
+}
+
+/// The last two points of a step that has left a part of the source: the separators are those of this part.
+fn narrowed_part(
     alloc: Global,
     state: &ChainState,
     near: Winding,
     far: Winding,
-    planes: &[Plane],
 ) -> Result<Option<ChainState>, AllocError>
-    requires lies { LiesIn near state.now.into }
-    requires planes { HasExactly (IsSeparatorFrom state.now.pass near) planes.now }
+    requires { LiesIn near state.now.into }
     ensures { IfOk result (λ after. MatchOption after (CutsAway state.now near far) (NarrowsTo state.now near far)) }
 {
-    let pass = match within(far, planes)? {
-        None => return Ok(None),
-        Some(pass) => pass,
-    };
-    let pass = Traced::of(alloc, pass)?;
-    let last = state.pass();
-    let beyond = separators_from(alloc, &pass, last)?;
-    let left = within(near, beyond.as_slice())?;
-    match left {
+    let near = Traced::of(alloc, near)?;
+    match left_beyond(alloc, state.pass(), &near, far)? {
+        None => Ok(None),
+        Some(pass) => last_point(alloc, state, near.into_winding(), pass),
+    }
+}
+
+/// The last point of a step, from what the others have left.
+fn last_point(
+    alloc: Global,
+    state: &ChainState,
+    near: Winding,
+    pass: Traced,
+) -> Result<Option<ChainState>, AllocError>
+    requires { LiesIn near state.now.into }
+    ensures { IfOk result (λ after. MatchOption after (HasNoPartBy near (IsSeparatorFrom state.now.pass pass)) (EndsAt state.now near pass)) }
+{
+    let _corners = pass.len();
+    match left_beyond(alloc, state.pass(), &pass, near)? {
         None => Ok(None),
         Some(source) => {
-            let source = Traced::of(alloc, source)?;
-            let first = state.into();
-            let after = ChainState::of(alloc, source, first, Some(pass))?;
+            let after = ChainState::of(alloc, source, state.into(), Some(pass))?;
             Ok(Some(after))
         }
     }
+}
+
+/// What a winding has in front of the separators of another one and the last pass.
+fn left_beyond(
+    alloc: Global,
+    last: &Option<Traced>,
+    other: &Traced,
+    winding: Winding,
+) -> Result<Option<Traced>, AllocError>
+    ensures { IfOk result (λ part. MatchOption part (HasNoPartBy winding (IsSeparatorFrom last.now other.now)) (λ w. IsPartBy w winding (IsSeparatorFrom last.now other.now))) }
+{
+    let planes = separators_from(alloc, other, last)?;
+    traced_within(alloc, winding, planes.as_slice())
 }

@@ -1,13 +1,13 @@
 //! Windings with what is wanted of their corners again and again.
 
-ghost use Rattle.std.specs.Prelude.{◌≡◌, ◌<◌, ◌≤◌, ◌^◌, pos, ◌<ℤ◌, [], ◌∷◌, length, IfOk, IsTrue, ◌↔◌};
+ghost use Rattle.std.specs.Prelude.{◌≡◌, ◌<◌, ◌≤◌, ◌^◌, pos, ◌<ℤ◌, [], ◌∷◌, length, IfOk, OnOk, IsTrue, ◌↔◌};
 ghost use Rattle.qm_geom.specs.LeastDistance.{IsLeastDistance};
 ghost use Rattle.qm_geom.specs.Rounding.{HasSmallCoordinates};
 ghost use Rattle.qm_convex.specs.Winding.{corner_at, corners};
 ghost use Rattle.qm_convex.specs.World.{IsInWorld};
 ghost use Rattle.qm_convex.specs.Sides.{HasCornerBehind, HasCornerInFront};
 ghost use Rattle.qm_space.specs.Plane.{IsBehind, IsInFront};
-ghost use Rattle.qm_narrow.specs.inner.Trace.{IsSpotOf};
+ghost use Rattle.qm_narrow.specs.inner.Trace.{IsSpotOf, IsTrace};
 
 use crate::outlook::Outlook;
 use crate::reach::Reach;
@@ -49,16 +49,20 @@ impl Traced {
         let count = winding.len();
         let mut corners = Vec::with_capacity(alloc, count)?;
         let mut spots = Vec::with_capacity(alloc, count)?;
-        for i in 0..count {
-            let corner = winding.corner(i);
-            spots.push(Spot::of(&corner))?;
-            corners.push(corner)?;
-        }
+        trace(&winding, &mut corners, &mut spots)?;
         Ok(Traced {
             winding,
             corners,
             spots,
         })
+    }
+
+    /// A copy of a winding with these.
+    pub(crate) fn copied(alloc: Global, winding: &Winding) -> Result<Traced, AllocError>
+        ensures { IfOk result (λ traced. traced ≡ winding.now) }
+    {
+        let copy = winding.copy()?;
+        Traced::of(alloc, copy)
     }
 
     /// The winding itself.
@@ -178,6 +182,24 @@ impl Traced {
     }
 }
 
+/// Lists the corners of a winding, and the whole points near each of them.
+fn trace(
+    winding: &Winding,
+    corners: &mut Vec<Corner>,
+    spots: &mut Vec<Spot>,
+) -> Result<(), AllocError>
+    requires no_corner_yet { corners.old.items ≡ [] }
+    requires no_spot_yet { spots.old.items ≡ [] }
+    ensures { OnOk result (IsTrace winding.now corners.new.items spots.new.items) }
+{
+    for i in 0..winding.len() {
+        let corner = winding.corner(i);
+        spots.push(Spot::of(&corner))?;
+        corners.push(corner)?;
+    }
+    Ok(())
+}
+
 /// The least whole distance at which a corner is not in front of the plane with this plane's normal.
 fn distance_of(corner: &Corner, along: &Plane) -> i64
     requires { HasSmallCoordinates corner.now }
@@ -201,6 +223,13 @@ fn is_behind(spot: &Spot, corner: &Corner, plane: &Plane) -> bool
     if spot.least(&normal) >= plane.d {
         return false;
     }
+    lies_behind(corner, plane)
+}
+
+/// Whether a corner is strictly behind a plane, by itself.
+fn lies_behind(corner: &Corner, plane: &Plane) -> bool
+    ensures { IsTrue result ↔ IsBehind plane.now corner.now }
+{
     match corner.side(plane) {
         Ordering::Less => true,
         Ordering::Equal | Ordering::Greater => false,

@@ -1,0 +1,76 @@
+-- Steps: what their points leave, once the planes are listed that cut, and the windings known that are cut.
+use Rattle.std.proofs.Common.{◌≡◌, Option, Some, None, Result, IfOk, Contains, List, ◌↔◌, sym, subst}
+use Rattle.std.specs.Option.{MatchOption}
+use Rattle.std.proofs.lemmas.Result.{IfOk-weaker}
+use Rattle.qm_space.specs.Plane.{Plane, flipped}
+use Rattle.qm_convex.specs.Winding.{Winding, IsConvex}
+use Rattle.qm_convex.specs.Sides.{HasNoneInFront, LiesIn}
+use Rattle.qm_convex.specs.Cut.{IsPartInFront}
+use Rattle.qm_wind.specs.declared.winding.Clip.{Clip}
+use Rattle.qm_wind.specs.declared.winding.Clip.TheVariants.{Whole, Gone, Cut}
+use Rattle.qm_wind.specs.Clipped.{IsClip}
+use Rattle.qm_separators.specs.Gains.{HasExactly}
+use Rattle.qm_separators.specs.Separator.{IsSeparatorFrom}
+use Rattle.qm_separators.specs.Part.{IsPartBy, HasNoPartBy}
+use Rattle.qm_separators.specs.ChainState.{ChainState}
+use Rattle.qm_separators.specs.ChainStep.{LeadsTo, Blocks, source_beyond}
+use Rattle.qm_separators.specs.inner.Narrowed.{NarrowsTo, CutsAway, target_gone, source_gone}
+use Rattle.qm_separators.proofs.Parts.{part_by_alike, no_part_alike}
+use Rattle.qm_separators.proofs.NarrowedSteps.{whole_part, step_by}
+use Rattle.qm_narrow.specs.inner.LastPoint.{EndsAt}
+
+-- what is left in front of planes
+
+abbrev pub IsLeft : Winding → (Plane → Type 0) → Option Winding → Type 0
+IsLeft v Has part = MatchOption part (HasNoPartBy v Has) (λ w. IsPartBy w v Has)
+
+same_left : (v : Winding) (Has Having : Plane → Type 0) → ((h : Plane) → Has h ↔ Having h) → (part : Option Winding) → IsLeft v Has part → IsLeft v Having part
+same_left v Has Having alike None none = no_part_alike v Has Having alike none
+same_left v Has Having alike (Some w) is = part_by_alike w v Has Having alike is
+
+-- what is left by listed planes is left by those that they are
+pub left_by : {E : Type 0} (answer : Result (Option Winding) E) (v : Winding) (planes listed : List Plane) (Has : Plane → Type 0) → HasExactly Has planes → listed ≡ planes → IfOk answer (IsLeft v (Contains listed)) → IfOk answer (IsLeft v Has)
+left_by answer v planes listed Has exactly e = IfOk-weaker answer (IsLeft v (Contains listed)) (IsLeft v Has) (same_left v (Contains listed) Has (subst (HasExactly Has) (sym e) exactly))
+
+pub left_some : (part : Option Winding) (v w : Winding) (Has : Plane → Type 0) → IsLeft v Has part → part ≡ Some w → IsPartBy w v Has
+left_some part v w Has is e = subst (IsLeft v Has) e is
+
+-- the last two points, by the last one
+
+abbrev pub IsEnd : ChainState → Winding → Winding → Option ChainState → Type 0
+IsEnd state near pass after = MatchOption after (HasNoPartBy near (IsSeparatorFrom state.pass pass)) (EndsAt state near pass)
+
+abbrev pub IsNarrowed : ChainState → Winding → Winding → Option ChainState → Type 0
+IsNarrowed state near far after = MatchOption after (CutsAway state near far) (NarrowsTo state near far)
+
+ended : (state : ChainState) (near far pass : Winding) → IsPartBy pass far (IsSeparatorFrom state.pass near) → (after : Option ChainState) → IsEnd state near pass after → IsNarrowed state near far after
+ended state near far pass narrowed None gone = source_gone narrowed gone
+ended state near far pass narrowed (Some next) ends = record { pass = pass; pass_is = ends.pass_is; narrowed = narrowed; source = ends.source; into_is = ends.into_is }
+
+pub narrowed_by : {E : Type 0} (answer : Result (Option ChainState) E) (state : ChainState) (near far pass : Winding) → IsPartBy pass far (IsSeparatorFrom state.pass near) → IfOk answer (IsEnd state near pass) → IfOk answer (IsNarrowed state near far)
+narrowed_by answer state near far pass narrowed = IfOk-weaker answer (IsEnd state near pass) (IsNarrowed state near far) (ended state near far pass narrowed)
+
+-- the step, by what its first two points leave
+
+module _ (state : ChainState) (target far : Winding) (into : Plane) (far_is : IsPartInFront far target state.into) (v : Winding) (source_is : v ≡ state.source) (clip : Clip) (is : IsClip clip v (flipped into)) where
+  clipped : IsClip clip state.source (flipped into)
+  clipped = subst (λ (w : Winding). IsClip clip w (flipped into)) source_is is
+
+  pub blocked_where_gone : clip ≡ Gone → Blocks state target into
+  blocked_where_gone e = source_beyond (subst (λ (o : Clip). IsClip o state.source (flipped into)) e clipped)
+
+  part_is : (near : Winding) → clip ≡ Cut near → IsPartInFront near state.source (flipped into)
+  part_is near e = (subst (λ (o : Clip). IsClip o state.source (flipped into)) e clipped).0
+
+  pub part_lies : (near : Winding) → clip ≡ Cut near → LiesIn state.source state.into → LiesIn near state.into
+  part_lies near e lies p r = lies p (((part_is near e).points p).0 r).0
+
+  abbrev pub IsStep : Option ChainState → Type 0
+  IsStep after = MatchOption after (Blocks state target into) (LeadsTo state target into)
+
+  pub stepped_whole : {E : Type 0} (answer : Result (Option ChainState) E) → clip ≡ Whole → IsConvex state.source → IfOk answer (IsNarrowed state state.source far) → IfOk answer IsStep
+  stepped_whole answer e convex = IfOk-weaker answer (IsNarrowed state state.source far) IsStep
+      (step_by state target into state.source far far_is (whole_part state.source (flipped into) convex (subst (λ (o : Clip). IsClip o state.source (flipped into)) e clipped)))
+
+  pub stepped_part : {E : Type 0} (answer : Result (Option ChainState) E) (near : Winding) → clip ≡ Cut near → IfOk answer (IsNarrowed state near far) → IfOk answer IsStep
+  stepped_part answer near e = IfOk-weaker answer (IsNarrowed state near far) IsStep (step_by state target into near far far_is (part_is near e))
