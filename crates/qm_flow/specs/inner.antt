@@ -1,2 +1,3 @@
+pub mod CutFrame
 pub mod PairFrame
 pub mod PairsGoOn
