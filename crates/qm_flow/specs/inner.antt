@@ -1,3 +1,4 @@
+pub mod CutFrame
 pub mod LeadsBack
 pub mod OwnRow
 pub mod PairFrame

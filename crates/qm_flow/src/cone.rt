@@ -6,6 +6,7 @@ ghost use Rattle.qm_contacts.specs.NumberedLeaves.{numbered_leaves};
 ghost use Rattle.qm_chains.specs.inner.Cone.{LeadsInto, IsInCone, IsLeftOf, AreEntered};
 ghost use Rattle.qm_chains.specs.inner.Pairs.{ArePairs};
 ghost use Rattle.qm_chains.specs.inner.Walk.{AreWide};
+ghost use Rattle.qm_flow.specs.inner.CutFrame.{IsCutFrame};
 
 use crate::frame::Frame;
 use crate::narrowing::{cut, may_show};
@@ -35,22 +36,21 @@ pub(crate) fn left_of<'a, S: RowSource>(
     ensures on { S.goes_on source.old source.new }
 {
     let cone = cone_of(alloc, world, source, pairs, &frame, found, entered)?;
-    let Frame {
-        state,
-        untried,
-        met,
-        mut mask,
-    } = frame;
-    cut(&mut mask, &cone);
-    if !mask.has_new(found) {
-        return Ok(None);
+    Ok(cut_frame(frame, &cone, found))
+}
+
+/// What is left of a frame when its mask loses leaves that a row does not have: no frame where the mask has nothing then that
+/// was not found.
+fn cut_frame<'a>(mut frame: Frame<'a>, cone: &BitRow, found: &BitRow) -> Option<Frame<'a>>
+    requires cone { length cone.now ≡ length frame.mask }
+    requires found { length found.now ≡ length frame.mask }
+    ensures { IsCutFrame cone.now found.now frame.entry result }
+{
+    cut(&mut frame.mask, cone);
+    if frame.mask.has_new(found) {
+        return Some(frame);
     }
-    Ok(Some(Frame {
-        state,
-        untried,
-        met,
-        mask,
-    }))
+    None
 }
 
 /// A row that has the cone of a frame that has entered a leaf.
