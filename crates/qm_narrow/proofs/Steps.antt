@@ -4,7 +4,7 @@ use Rattle.std.specs.Option.{MatchOption}
 use Rattle.std.proofs.lemmas.Result.{IfOk-weaker}
 use Rattle.qm_space.specs.Plane.{Plane, flipped}
 use Rattle.qm_convex.specs.Winding.{Winding, IsConvex}
-use Rattle.qm_convex.specs.Sides.{HasNoneInFront, LiesIn}
+use Rattle.qm_convex.specs.Sides.{LiesIn}
 use Rattle.qm_convex.specs.Cut.{IsPartInFront}
 use Rattle.qm_wind.specs.declared.winding.Clip.{Clip}
 use Rattle.qm_wind.specs.declared.winding.Clip.TheVariants.{Whole, Gone, Cut}
@@ -14,7 +14,7 @@ use Rattle.qm_separators.specs.Separator.{IsSeparatorFrom}
 use Rattle.qm_separators.specs.Part.{IsPartBy, HasNoPartBy}
 use Rattle.qm_separators.specs.ChainState.{ChainState}
 use Rattle.qm_separators.specs.ChainStep.{LeadsTo, Blocks, source_beyond}
-use Rattle.qm_separators.specs.inner.Narrowed.{NarrowsTo, CutsAway, target_gone, source_gone}
+use Rattle.qm_separators.specs.inner.Narrowed.{NarrowsTo, CutsAway, source_gone}
 use Rattle.qm_separators.proofs.Parts.{part_by_alike, no_part_alike}
 use Rattle.qm_separators.proofs.NarrowedSteps.{whole_part, step_by}
 use Rattle.qm_narrow.specs.inner.LastPoint.{EndsAt}

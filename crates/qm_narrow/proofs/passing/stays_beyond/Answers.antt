@@ -1,4 +1,4 @@
-use Rattle.std.proofs.Common.{◌≡◌, ◌∙◌, ℕ, ◌<◌, true, false, length, sym, arith}
+use Rattle.std.proofs.Common.{◌≡◌, ◌∙◌, true, false, sym, arith}
 use Rattle.qm_narrow.specs.inner.Trace.{IsCornerOf}
 use Rattle.qm_narrow.proofs.KeptCorners.{in_front_by, none_more}
 use Rattle.qm_narrow.proofs.passing.stays_beyond.Goals as goal

@@ -1,8 +1,7 @@
 use Rattle.qm_separators.specs.Separator.{IsSeparatorFrom}
 use Rattle.qm_separators.specs.inner.Narrowed.{target_gone}
 use Rattle.qm_separators.proofs.Parts.{part_by_alike, no_part_alike}
-use Rattle.std.proofs.Common.{Contains, Option, subst}
-use Rattle.qm_convex.specs.Winding.{Winding}
+use Rattle.std.proofs.Common.{Contains, subst}
 use Rattle.qm_narrow.proofs.Steps.{IsLeft, narrowed_by, left_some}
 use Rattle.qm_narrow.proofs.stepping.narrowed_whole.Goals as goal
 
