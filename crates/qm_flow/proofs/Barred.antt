@@ -1,7 +1,6 @@
 -- Portals via which nothing is seen: how the portal back tells it, and pairs with a clear row for one.
-use Rattle.std.proofs.Common.{◌≡◌, ℕ, ◌<◌, Bool, false, List, length, replicate, set, Some, sym, ap, ◌∙◌, subst}
+use Rattle.std.proofs.Common.{◌≡◌, ℕ, ◌<◌, Bool, false, List, length, replicate, set, Some, ap, ◌∙◌, subst}
 use Rattle.std.proofs.lemmas.List.{length-replicate}
-use Rattle.qm_lists.specs.WorkList.{IsIn}
 use Rattle.qm_contacts.specs.Portals.{Portal}
 use Rattle.qm_contacts.specs.World.{World}
 use Rattle.qm_segments.specs.SeenVia.{IsSeenVia}

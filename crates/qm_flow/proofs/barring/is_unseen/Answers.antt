@@ -1,4 +1,4 @@
-use Rattle.std.proofs.Common.{ℕ, sym, subst}
+use Rattle.std.proofs.Common.{sym, subst}
 use Rattle.std.proofs.lemmas.Bool.{not-true}
 use Rattle.qm_contacts.specs.World.{World}
 use Rattle.qm_chains.specs.inner.OwnRows.{IsInSightAt}
