@@ -1,5 +1,5 @@
 -- A walk that has begun, and leaves that are shown besides before it goes on.
-use Rattle.std.proofs.Common.{◌≡◌, inl, inr, ⊎_elim, ℕ, Bool, List, ◌∙◌}
+use Rattle.std.proofs.Common.{inl, inr, ⊎_elim, ℕ, Bool, List, ◌∙◌}
 use Rattle.qm_contacts.specs.World.{World}
 use Rattle.qm_sight.specs.WordInSight.{LieWithin}
 use Rattle.qm_sight.specs.InCeiling.{IsInCeiling}

@@ -4,3 +4,4 @@ pub mod OwnRow
 pub mod PairFrame
 pub mod PairsGoOn
 pub mod UnseenVia
+pub mod WalkSoFar

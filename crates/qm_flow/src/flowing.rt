@@ -8,13 +8,8 @@ ghost use Rattle.qm_segments.specs.Sight.{IsSoundRow};
 ghost use Rattle.qm_chains.specs.Shown.{IsAt, IsShown};
 ghost use Rattle.qm_sight.specs.InCeiling.{IsInCeiling};
 
-use crate::barring::bar_unseen;
-use crate::beginning::begin;
-use crate::own_rows::OwnRows;
-use crate::pairs::Pairs;
-use crate::trying::try_portal;
+use crate::walking::{begin_walk, go_round};
 use qm_bits::BitRow;
-use qm_lines::show_by_lines;
 use qm_portal::World;
 use qm_sight::RowSource;
 use std::alloc::{AllocError, Global};
@@ -37,21 +32,18 @@ pub fn flow<S: RowSource>(
 {
     world.own_portals();
     let mut row = BitRow::with_len(alloc, world.leaves())?;
-    let own = OwnRows::none(alloc, world.portals())?;
-    let first = begin(alloc, world, source, &own, portal, &mut row)?;
-    show_by_lines(alloc, world, source, portal, &mut row)?;
-    let mut pairs = Pairs::of(alloc, world, portal, &first.mask, own)?;
-    bar_unseen(world, source, &mut pairs);
     let mut frames = Vec::new(alloc);
-    frames.push(first)?;
-    while let Some(mut frame) = frames.pop() {
-        if let Some(number) = frame.take_next() {
-            let child = try_portal(alloc, world, source, &mut pairs, &frame, number, &mut row)?;
-            frames.push(frame)?;
-            if let Some(child) = child {
-                frames.push(child)?;
-            }
-        }
+    let mut pairs = begin_walk(alloc, world, source, portal, &mut row, &mut frames)?;
+    while let Some(frame) = frames.pop() {
+        go_round(
+            alloc,
+            world,
+            source,
+            &mut pairs,
+            frame,
+            &mut row,
+            &mut frames,
+        )?;
     }
     Ok(row)
 }

@@ -14,6 +14,7 @@ mod pairing;
 mod pairs;
 mod refining;
 mod trying;
+mod walking;
 
 pub use flowing::flow;
 pub use refining::refine;
