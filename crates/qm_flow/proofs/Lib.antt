@@ -1,6 +1,7 @@
 mod Barred
 mod BegunRows
 mod Copies
+mod FirstMasks
 mod FourLeaves
 mod OwnAnswers
 mod PairFrames

@@ -1,4 +1,5 @@
 pub mod CutFrame
+pub mod FirstMask
 pub mod LeadsBack
 pub mod OwnRow
 pub mod PairFrame

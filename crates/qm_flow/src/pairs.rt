@@ -59,9 +59,9 @@ impl Pairs {
         ensures first { IfOk result (λ pairs. pairs.first ≡ first) }
         ensures own { IfOk result (λ pairs. pairs.own ≡ own) }
     {
-        let start = ChainState::start(alloc, world.pane(first))?;
         let seen = copy(alloc, seen)?;
         let tried = BitRow::with_len(alloc, world.portals())?;
+        let start = ChainState::start(alloc, world.pane(first))?;
         Ok(Pairs {
             first,
             start,

@@ -5,12 +5,14 @@ ghost use Rattle.std.specs.List.{sum_by};
 ghost use Rattle.std.specs.Option.{option_to_list};
 ghost use Rattle.qm_contacts.specs.NumberedLeaves.{numbered_leaves};
 ghost use Rattle.qm_contacts.specs.OwnPortals.{HasOwnPortals};
-ghost use Rattle.qm_chains.specs.inner.Walk.{frame_weight};
+ghost use Rattle.qm_chains.specs.inner.Walk.{IsWalk, frame_weight};
+ghost use Rattle.qm_sight.specs.InCeiling.{IsInCeiling};
 ghost use Rattle.qm_sight.specs.WordInSight.{LieWithin};
+ghost use Rattle.qm_flow.specs.inner.FirstMask.{IsFirstMask};
 ghost use Rattle.qm_flow.specs.inner.WalkSoFar.{IsWalkSoFar, IsSomeWalk};
 
 use crate::barring::bar_unseen;
-use crate::beginning::begin;
+use crate::beginning::{begin, first_mask};
 use crate::frame::Frame;
 use crate::own_rows::OwnRows;
 use crate::pairs::Pairs;
@@ -39,12 +41,37 @@ pub(crate) fn begin_walk<'a, S: RowSource>(
     ensures on { S.goes_on source.old source.new }
 {
     let own = OwnRows::none(alloc, world.portals())?;
-    let first = begin(alloc, world, source, &own, portal, row)?;
-    show_by_lines(alloc, world, source, portal, row)?;
-    let mut pairs = Pairs::of(alloc, world, portal, &first.mask, own)?;
+    let mask = first_mask(alloc, world, source, &own, portal)?;
+    let mut pairs = Pairs::of(alloc, world, portal, &mask, own)?;
     bar_unseen(world, source, &mut pairs);
-    frames.push(first)?;
+    open(alloc, world, source, portal, mask, row, frames)?;
     Ok(pairs)
+}
+
+/// Begins with the frame of the first portal, which has this mask, and with what lines show.
+fn open<'a, S: RowSource>(
+    alloc: Global,
+    world: &'a World,
+    source: &mut S,
+    portal: u64,
+    mask: BitRow,
+    row: &mut BitRow,
+    frames: &mut Vec<Frame<'a>>,
+) -> Result<(), AllocError>
+    requires portal { portal < length world.now.portals }
+    requires own_portals { HasOwnPortals world.now }
+    requires same_world { S.world source.old ≡ world.now }
+    requires wide { length mask ≡ length (numbered_leaves world.now.tree) }
+    requires clear { row.old ≡ replicate (length (numbered_leaves world.now.tree)) false }
+    requires none { frames.old.items ≡ [] }
+    ensures walk { OnOk result ((ceilings : List (List Bool)) → LieWithin (S.ceilings source.old) ceilings → IsFirstMask world.now ceilings portal mask →
+        IsWalk world.now (IsInCeiling ceilings) portal frames.new.items row.new) }
+    ensures on { S.goes_on source.old source.new }
+{
+    let first = begin(alloc, world, portal, mask, row)?;
+    frames.push(first)?;
+    show_by_lines(alloc, world, source, portal, row)?;
+    Ok(())
 }
 
 /// One round: a portal is tried at the last frame, which stands by itself here, or none is left there.
