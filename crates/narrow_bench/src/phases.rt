@@ -1,6 +1,6 @@
 use crate::openings::{Chain, Openings, Shape};
 use crate::tally::Tally;
-use qm_narrow::{ChainState, may_pass, separators, step};
+use qm_narrow::{ChainState, StepBuffers, may_pass, separators, step, step_into};
 use qm_wind::Pane;
 use std::alloc::{AllocError, Global};
 
@@ -9,7 +9,8 @@ use std::alloc::{AllocError, Global};
 pub(crate) enum Phase {
     /// The separators of the first two openings of each chain.
     Separators,
-    /// The step from the state that has gone through the first two openings through the third.
+    /// The step from the state that has gone through the first two openings through the third, put in the place of another
+    /// state.
     Step,
     /// Whether the third opening of each chain may still be passed from each of these states.
     MayPass,
@@ -77,13 +78,31 @@ fn ways_of(alloc: Global, chains: &Vec<Chain>) -> Result<Vec<Going>, AllocError>
 }
 
 fn all_steps(alloc: Global, chains: &Vec<Chain>, rounds: u32) -> Result<Tally, AllocError> {
+    let Some(chain) = chains.first() else {
+        return Ok(Tally::default());
+    };
+    let first = chain.first.pane()?;
+    let mut spare = ChainState::start(alloc, &first)?;
     let ways = ways_of(alloc, chains)?;
+    steps_into(alloc, &mut spare, &ways, rounds)
+}
+
+/// So many rounds of steps, each put in the place of the same state.
+fn steps_into(
+    alloc: Global,
+    spare: &mut ChainState,
+    ways: &Vec<Going>,
+    rounds: u32,
+) -> Result<Tally, AllocError> {
+    let mut buffers = StepBuffers::new(alloc);
     let mut tally = Tally::default();
     for _ in 0..rounds {
-        for way in &ways {
-            tally = match step(alloc, &way.state, &way.next)? {
-                None => tally.with_blocked(),
-                Some(_) => tally.with_step(),
+        for way in ways {
+            let leads = step_into(alloc, &mut buffers, spare, &way.state, &way.next)?;
+            tally = if leads {
+                tally.with_step()
+            } else {
+                tally.with_blocked()
             };
         }
     }

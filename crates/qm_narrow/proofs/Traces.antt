@@ -1,5 +1,5 @@
 -- Corners of a winding and the whole points near them, as they are listed one after another.
-use Rattle.std.proofs.Common.{◌≡◌, ℕ, pos, ◌+◌, ◌<◌, List, [], ◌∷◌, ◌++◌, All, length, get_or, refl, sym, subst, ap, ◌∙◌, arith, ⊎_elim}
+use Rattle.std.proofs.Common.{◌≡◌, ℕ, pos, ◌+◌, ◌<◌, List, [], ◌∷◌, ◌++◌, length, get_or, sym, subst, ap, ◌∙◌, arith, ⊎_elim}
 use Rattle.std.proofs.lemmas.Bool.{cases_eq}
 use Rattle.std.proofs.lemmas.List.{length_push, get_or_push, get_or_append_left}
 use Rattle.qm_space.specs.Point.{Point}
@@ -46,13 +46,6 @@ tracing_more v traced new_traced spots new_spots n corner spot e f is c s = reco
       (λ other. subst (λ (q : Spot). IsSpotOf (corner_at v i) q) (sym (ap (λ (ps : List Spot). get_or ps i d) f ∙ get_or_append_left spots (spot ∷ []) d i (let m = is.spots_many in omega (arith, other)))) (is.spots_are i d (omega (arith, other))))
       (cases_eq i n);
 }
-
--- its corners are small enough to be rounded
-pub traced_small : (v : Winding) (traced listed : List Point) → listed ≡ traced → traced ≡ corners v → IsInWorld v → All HasSmallCoordinates listed
-traced_small v traced listed e f world k d h =
-    let same = e ∙ f in let n = corners_length v in let m = ap length same in
-    let below : k < length v.edges = omega arith in
-    is_small v v k (get_or listed k d) refl world below (ap (λ (ps : List Point). get_or ps k d) same ∙ corner_in_list v k d below)
 
 -- the whole points at a place of those that are kept are near the corner there
 pub spot_at : (v u : Winding) (traced : List Point) (spots listed : List Spot) (i : ℕ) (d : Spot) → IsTrace v traced spots → v ≡ u → listed ≡ spots → i < length listed → (i < length u.edges) × IsSpotOf (corner_at u i) (get_or listed i d)

@@ -6,7 +6,8 @@ ghost use Rattle.qm_separators.specs.Separator.{IsSeparatorFrom};
 ghost use Rattle.qm_separators.specs.Gains.{HasExactly};
 ghost use Rattle.qm_wind.specs.Entered.{IsPane};
 
-use crate::separating::separators_from;
+use crate::separating::list_separators_from;
+use crate::step_buffers::StepBuffers;
 use crate::traced::Traced;
 use qm_geom::Plane;
 use qm_wind::{Pane, Winding};
@@ -43,13 +44,13 @@ impl ChainState {
     {
         let _corners = pane.winding.len();
         let source = Traced::copied(alloc, &pane.winding)?;
-        let state = ChainState::of(alloc, source, &pane.into, None)?;
+        let state = ChainState::of(Vec::new(alloc), source, &pane.into, None)?;
         Ok(state)
     }
 
-    /// A state of these parts.
+    /// A state of these parts, with its separators in a list that is used again.
     pub(crate) fn of(
-        alloc: Global,
+        planes: Vec<Plane>,
         source: Traced,
         into: &Plane,
         pass: Option<Traced>,
@@ -57,13 +58,29 @@ impl ChainState {
         requires { IsChainState (record { source = source; into = into.now; pass = pass }) }
         ensures { IfOk result (λ state. state ≡ record { source = source; into = into.now; pass = pass }) }
     {
-        let separators = separators_from(alloc, &source, &pass)?;
+        let mut separators = planes;
+        list_separators_from(&mut separators, &source, &pass)?;
         Ok(ChainState {
             source,
             into: *into,
             pass,
             separators,
         })
+    }
+
+    /// Gives its lists to be used again.
+    pub(crate) fn give_lists(self, buffers: &mut StepBuffers) {
+        let ChainState {
+            source,
+            pass,
+            separators,
+            ..
+        } = self;
+        buffers.planes = separators;
+        buffers.keep_source(source);
+        if let Some(pass) = pass {
+            buffers.keep_pass(pass);
+        }
     }
 
     /// Its source.

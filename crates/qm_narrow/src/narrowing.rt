@@ -5,10 +5,9 @@ ghost use Rattle.qm_convex.specs.Sides.{HasNoneInFront};
 ghost use Rattle.qm_convex.specs.Cut.{IsPartInFront};
 ghost use Rattle.qm_separators.specs.Part.{IsPartBy, HasNoPartBy};
 
-use crate::traced::Traced;
 use qm_geom::Plane;
 use qm_wind::{Clip, Side, Winding};
-use std::alloc::{AllocError, Global};
+use std::alloc::AllocError;
 
 /// What a winding has in front of each of some planes.
 pub(crate) fn within(winding: Winding, planes: &[Plane]) -> Result<Option<Winding>, AllocError>
@@ -23,23 +22,6 @@ pub(crate) fn within(winding: Winding, planes: &[Plane]) -> Result<Option<Windin
         };
     }
     Ok(Some(left))
-}
-
-/// The same, with its corners.
-pub(crate) fn traced_within(
-    alloc: Global,
-    winding: Winding,
-    planes: &[Plane],
-) -> Result<Option<Traced>, AllocError>
-    ensures { IfOk result (λ part. MatchOption part (HasNoPartBy winding (Contains planes.now)) (λ w. IsPartBy w winding (Contains planes.now))) }
-{
-    match within(winding, planes)? {
-        None => Ok(None),
-        Some(part) => {
-            let traced = Traced::of(alloc, part)?;
-            Ok(Some(traced))
-        }
-    }
 }
 
 /// What a winding has in front of a plane.

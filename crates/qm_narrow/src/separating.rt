@@ -1,6 +1,6 @@
 //! The separators of a source and a pass.
 
-ghost use Rattle.std.specs.Prelude.{◌≡◌, IfOk};
+ghost use Rattle.std.specs.Prelude.{◌≡◌, IfOk, OnOk};
 ghost use Rattle.qm_separators.specs.Gains.{HasExactly};
 ghost use Rattle.qm_separators.specs.Separator.{IsSeparator, IsSeparatorFrom};
 
@@ -44,32 +44,45 @@ fn separators_to(alloc: Global, source: &Traced, pass: &Winding) -> Result<Vec<P
 }
 
 /// The separators of two windings whose corners are known.
-pub(crate) fn separators_of(
-    alloc: Global,
-    source: &Traced,
-    pass: &Traced,
-) -> Result<Vec<Plane>, AllocError>
+fn separators_of(alloc: Global, source: &Traced, pass: &Traced) -> Result<Vec<Plane>, AllocError>
     ensures { IfOk result (λ planes. HasExactly (IsSeparator source.now pass.now) planes.items) }
 {
     let mut planes = Vec::new(alloc);
-    gain_across(&mut planes, source, pass, source, pass, false)?;
-    gain_across(&mut planes, source, pass, pass, source, true)?;
+    list_separators(&mut planes, source, pass)?;
     Ok(planes)
 }
 
-/// The separators of a winding and the pass, where there is one; where there is none, no plane.
-pub(crate) fn separators_from(
-    alloc: Global,
+/// Lists the separators of two windings whose corners are known, in place of what was listed.
+fn list_separators(
+    planes: &mut Vec<Plane>,
+    source: &Traced,
+    pass: &Traced,
+) -> Result<(), AllocError>
+    ensures { OnOk result (HasExactly (IsSeparator source.now pass.now) planes.new.items) }
+{
+    planes.clear();
+    gain_across(planes, source, pass, source, pass, false)?;
+    gain_across(planes, source, pass, pass, source, true)?;
+    Ok(())
+}
+
+/// Lists the separators of a winding and the pass, where there is one, in place of what was listed; where there is none, no
+/// plane.
+pub(crate) fn list_separators_from(
+    planes: &mut Vec<Plane>,
     source: &Traced,
     pass: &Option<Traced>,
-) -> Result<Vec<Plane>, AllocError>
-    ensures { IfOk result (λ planes. HasExactly (IsSeparatorFrom pass.now source.now) planes.items) }
+) -> Result<(), AllocError>
+    ensures { OnOk result (HasExactly (IsSeparatorFrom pass.now source.now) planes.new.items) }
 {
     match pass {
-        None => Ok(Vec::new(alloc)),
+        None => {
+            planes.clear();
+            Ok(())
+        }
         Some(pass) => {
-            let planes = separators_of(alloc, source, pass)?;
-            Ok(planes)
+            list_separators(planes, source, pass)?;
+            Ok(())
         }
     }
 }

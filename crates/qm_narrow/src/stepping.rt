@@ -1,20 +1,23 @@
 //! One step of a chain of portals.
 
-ghost use Rattle.std.specs.Prelude.{IfOk, MatchOption};
+ghost use Rattle.std.specs.Prelude.{◌≡◌, true, false, Some, IfOk, MatchOption, OnErr};
 ghost use Rattle.qm_convex.specs.Sides.{LiesIn};
 ghost use Rattle.qm_convex.specs.Cut.{IsPartInFront};
 ghost use Rattle.qm_separators.specs.Part.{IsPartBy, HasNoPartBy};
 ghost use Rattle.qm_separators.specs.Separator.{IsSeparatorFrom};
+ghost use Rattle.qm_separators.specs.ChainState.{IsChainState};
 ghost use Rattle.qm_separators.specs.ChainStep.{LeadsTo, Blocks};
 ghost use Rattle.qm_separators.specs.inner.Narrowed.{NarrowsTo, CutsAway};
 ghost use Rattle.qm_narrow.specs.inner.LastPoint.{EndsAt};
 
 use crate::chain_state::ChainState;
-use crate::narrowing::{kept, traced_within};
-use crate::separating::separators_from;
+use crate::narrowing::{kept, within};
+use crate::separating::list_separators_from;
+use crate::step_buffers::StepBuffers;
 use crate::traced::Traced;
 use qm_wind::{Clip, Pane, Side, Winding};
 use std::alloc::{AllocError, Global};
+use std::mem;
 
 /// The step from a state through a portal, next to the last one or not: the state to which it leads, or none exactly
 /// where it blocks.
@@ -25,16 +28,55 @@ pub fn step(
 ) -> Result<Option<ChainState>, AllocError>
     ensures { IfOk result (λ after. MatchOption after (Blocks state.now next.now.winding next.now.into) (LeadsTo state.now next.now.winding next.now.into)) }
 {
+    let mut buffers = StepBuffers::new(alloc);
+    let after = step_with(alloc, &mut buffers, state, next)?;
+    Ok(after)
+}
+
+/// The step from a state through a portal, as `step` makes it, put in the place of another state, whose lists further steps
+/// use again: whether it leads on. Where it blocks, and where memory runs out, that state stays as it was.
+pub fn step_into(
+    alloc: Global,
+    buffers: &mut StepBuffers,
+    spare: &mut ChainState,
+    state: &ChainState,
+    next: &Pane,
+) -> Result<bool, AllocError>
+    ensures leads { IfOk result (λ leads. leads ≡ true → LeadsTo state.now next.now.winding next.now.into spare.new) }
+    ensures blocks { IfOk result (λ leads. leads ≡ false → Blocks state.now next.now.winding next.now.into) }
+    ensures stays { IfOk result (λ leads. leads ≡ false → spare.new ≡ spare.old) }
+    ensures kept { OnErr result (spare.new ≡ spare.old) }
+{
+    match step_with(alloc, buffers, state, next)? {
+        None => Ok(false),
+        Some(after) => {
+            let before = mem::replace(spare, after);
+            before.give_lists(buffers);
+            Ok(true)
+        }
+    }
+}
+
+/// The step, with memory that is used again.
+fn step_with(
+    alloc: Global,
+    buffers: &mut StepBuffers,
+    state: &ChainState,
+    next: &Pane,
+) -> Result<Option<ChainState>, AllocError>
+    ensures { IfOk result (λ after. MatchOption after (Blocks state.now next.now.winding next.now.into) (LeadsTo state.now next.now.winding next.now.into)) }
+{
     let copy = next.winding.copy()?;
     match kept(copy, state.into())? {
         None => Ok(None),
-        Some(far) => stepped(alloc, state, next, far),
+        Some(far) => after_far_cut(alloc, buffers, state, next, far),
     }
 }
 
 /// What is left of a step once the portal is cut: the source is cut by the portal's plane, and then both by separators.
-fn stepped(
+fn after_far_cut(
     alloc: Global,
+    buffers: &mut StepBuffers,
     state: &ChainState,
     next: &Pane,
     far: Winding,
@@ -44,40 +86,43 @@ fn stepped(
 {
     match state.source().clip(&next.into, Side::Back)? {
         Clip::Gone => Ok(None),
-        Clip::Whole => narrowed_whole(alloc, state, far),
-        Clip::Cut(near) => narrowed_part(alloc, state, near, far),
+        Clip::Whole => narrowed_whole(alloc, buffers, state, far),
+        Clip::Cut(near) => narrowed_part(alloc, buffers, state, near, far),
     }
 }
 
 /// The last two points of a step that has left the source whole: the separators are those of the state.
 fn narrowed_whole(
     alloc: Global,
+    buffers: &mut StepBuffers,
     state: &ChainState,
     far: Winding,
 ) -> Result<Option<ChainState>, AllocError>
     ensures { IfOk result (λ after. MatchOption after (CutsAway state.now state.now.source far) (NarrowsTo state.now state.now.source far)) }
 {
-    match traced_within(alloc, far, state.separators())? {
+    match within(far, state.separators())? {
         None => Ok(None),
-        Some(pass) => last_point_whole(alloc, state, pass),
+        Some(pass) => last_point_whole(alloc, buffers, state, pass),
     }
 }
 
 /// The last point of such a step.
 fn last_point_whole(
     alloc: Global,
+    buffers: &mut StepBuffers,
     state: &ChainState,
-    pass: Traced,
+    pass: Winding,
 ) -> Result<Option<ChainState>, AllocError>
     ensures { IfOk result (λ after. MatchOption after (HasNoPartBy state.now.source (IsSeparatorFrom state.now.pass pass)) (EndsAt state.now state.now.source pass)) }
 {
     let near = state.source().copy()?;
-    last_point(alloc, state, near, pass)
+    last_point(alloc, buffers, state, near, pass)
 }
 
 /// The last two points of a step that has left a part of the source: the separators are those of this part.
 fn narrowed_part(
     alloc: Global,
+    buffers: &mut StepBuffers,
     state: &ChainState,
     near: Winding,
     far: Winding,
@@ -85,42 +130,63 @@ fn narrowed_part(
     requires { LiesIn near state.now.into }
     ensures { IfOk result (λ after. MatchOption after (CutsAway state.now near far) (NarrowsTo state.now near far)) }
 {
-    let near = Traced::of(alloc, near)?;
-    match left_beyond(alloc, state.pass(), &near, far)? {
+    let near = buffers.trace_source(alloc, near)?;
+    let part = left_beyond(buffers, state.pass(), &near, far)?;
+    let near = buffers.keep_source(near);
+    match part {
         None => Ok(None),
-        Some(pass) => last_point(alloc, state, near.into_winding(), pass),
+        Some(pass) => last_point(alloc, buffers, state, near, pass),
     }
 }
 
 /// The last point of a step, from what the others have left.
 fn last_point(
     alloc: Global,
+    buffers: &mut StepBuffers,
     state: &ChainState,
     near: Winding,
-    pass: Traced,
+    pass: Winding,
 ) -> Result<Option<ChainState>, AllocError>
     requires { LiesIn near state.now.into }
     ensures { IfOk result (λ after. MatchOption after (HasNoPartBy near (IsSeparatorFrom state.now.pass pass)) (EndsAt state.now near pass)) }
 {
-    let _corners = pass.len();
-    match left_beyond(alloc, state.pass(), &pass, near)? {
-        None => Ok(None),
+    let pass = buffers.trace_pass(alloc, pass)?;
+    match left_beyond(buffers, state.pass(), &pass, near)? {
+        None => {
+            buffers.keep_pass(pass);
+            Ok(None)
+        }
         Some(source) => {
-            let after = ChainState::of(alloc, source, state.into(), Some(pass))?;
+            let after = last_state(alloc, buffers, state, source, pass)?;
             Ok(Some(after))
         }
     }
 }
 
+/// The state in which a step ends.
+fn last_state(
+    alloc: Global,
+    buffers: &mut StepBuffers,
+    state: &ChainState,
+    source: Winding,
+    pass: Traced,
+) -> Result<ChainState, AllocError>
+    requires { IsChainState (record { source = source; into = state.now.into; pass = Some pass }) }
+    ensures { IfOk result (λ after. after ≡ record { source = source; into = state.now.into; pass = Some pass }) }
+{
+    let source = buffers.trace_source(alloc, source)?;
+    ChainState::of(buffers.take_planes(alloc), source, state.into(), Some(pass))
+}
+
 /// What a winding has in front of the separators of another one and the last pass.
 fn left_beyond(
-    alloc: Global,
+    buffers: &mut StepBuffers,
     last: &Option<Traced>,
     other: &Traced,
     winding: Winding,
-) -> Result<Option<Traced>, AllocError>
+) -> Result<Option<Winding>, AllocError>
     ensures { IfOk result (λ part. MatchOption part (HasNoPartBy winding (IsSeparatorFrom last.now other.now)) (λ w. IsPartBy w winding (IsSeparatorFrom last.now other.now))) }
 {
-    let planes = separators_from(alloc, other, last)?;
-    traced_within(alloc, winding, planes.as_slice())
+    list_separators_from(&mut buffers.planes, other, last)?;
+    within(winding, buffers.planes.as_slice())
 }

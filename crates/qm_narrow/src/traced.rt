@@ -9,6 +9,7 @@ ghost use Rattle.qm_convex.specs.Sides.{HasCornerBehind, HasCornerInFront};
 ghost use Rattle.qm_space.specs.Plane.{IsBehind, IsInFront};
 ghost use Rattle.qm_narrow.specs.inner.Trace.{IsSpotOf, IsTrace};
 
+use crate::corner_lists::CornerLists;
 use crate::outlook::Outlook;
 use crate::reach::Reach;
 use crate::spot::Spot;
@@ -22,8 +23,7 @@ use std::marker::Model;
 #[derive(Drop)]
 pub(crate) struct Traced {
     winding: Winding,
-    corners: Vec<Corner>,
-    spots: Vec<Spot>,
+    lists: CornerLists,
 }
 
 impl Model for Traced {
@@ -34,7 +34,7 @@ impl Model for Traced {
 
     ghost view = { λ t. t.winding };
 
-    ghost invariant = { λ t. IsTrace t.winding t.corners.items t.spots.items };
+    ghost invariant = { λ t. IsTrace t.winding t.lists.corners.items t.lists.spots.items };
 }
 
 impl Traced {
@@ -42,19 +42,13 @@ impl Traced {
     ghost use Rattle.qm_geom.specs.Vectors.{IsWithin};
     ghost use Rattle.qm_narrow.specs.inner.Look.{IsReach, IsOutlook};
 
-    /// A winding with these.
-    pub(crate) fn of(alloc: Global, winding: Winding) -> Result<Traced, AllocError>
+    /// A winding with these, in lists that are used again.
+    pub(crate) fn of(lists: CornerLists, winding: Winding) -> Result<Traced, AllocError>
         ensures { IfOk result (λ traced. traced ≡ winding) }
     {
-        let count = winding.len();
-        let mut corners = Vec::with_capacity(alloc, count)?;
-        let mut spots = Vec::with_capacity(alloc, count)?;
-        trace(&winding, &mut corners, &mut spots)?;
-        Ok(Traced {
-            winding,
-            corners,
-            spots,
-        })
+        let mut lists = lists;
+        lists.trace(&winding)?;
+        Ok(Traced { winding, lists })
     }
 
     /// A copy of a winding with these.
@@ -62,7 +56,7 @@ impl Traced {
         ensures { IfOk result (λ traced. traced ≡ winding.now) }
     {
         let copy = winding.copy()?;
-        Traced::of(alloc, copy)
+        Traced::of(CornerLists::new(alloc), copy)
     }
 
     /// The winding itself.
@@ -72,12 +66,12 @@ impl Traced {
         &self.winding
     }
 
-    /// The winding, given back.
-    pub(crate) fn into_winding(self) -> Winding
-        ensures { result ≡ self }
+    /// The winding and the lists, given back.
+    pub(crate) fn into_parts(self) -> (Winding, CornerLists)
+        ensures { result.0 ≡ self }
     {
-        let Traced { winding, .. } = self;
-        winding
+        let Traced { winding, lists } = self;
+        (winding, lists)
     }
 
     /// How many corners it has.
@@ -94,7 +88,7 @@ impl Traced {
         requires { i < length self.now.edges }
         ensures { IsSpotOf (corner_at self.now i) result.now }
     {
-        &self.spots[i]
+        &self.lists.spots[i]
     }
 
     /// A corner.
@@ -104,7 +98,7 @@ impl Traced {
         ensures small { HasSmallCoordinates result.now }
     {
         let _corners = self.winding.len();
-        &self.corners[i]
+        &self.lists.corners[i]
     }
 
     /// Whether a corner is strictly behind a plane.
@@ -156,7 +150,7 @@ impl Traced {
     {
         let _corners = self.len();
         let mut reach = Reach::of(self.spot(0), normal);
-        for spot in &self.spots {
+        for spot in &self.lists.spots {
             reach = reach.with(spot, normal);
         }
         reach
@@ -172,7 +166,7 @@ impl Traced {
             ahead: true,
             back: true,
         };
-        for spot in &self.spots {
+        for spot in &self.lists.spots {
             outlook = outlook.with(reach, spot, normal);
             if outlook.is_none() {
                 return outlook;
@@ -180,24 +174,6 @@ impl Traced {
         }
         outlook
     }
-}
-
-/// Lists the corners of a winding, and the whole points near each of them.
-fn trace(
-    winding: &Winding,
-    corners: &mut Vec<Corner>,
-    spots: &mut Vec<Spot>,
-) -> Result<(), AllocError>
-    requires no_corner_yet { corners.old.items ≡ [] }
-    requires no_spot_yet { spots.old.items ≡ [] }
-    ensures { OnOk result (IsTrace winding.now corners.new.items spots.new.items) }
-{
-    for i in 0..winding.len() {
-        let corner = winding.corner(i);
-        spots.push(Spot::of(&corner))?;
-        corners.push(corner)?;
-    }
-    Ok(())
 }
 
 /// The least whole distance at which a corner is not in front of the plane with this plane's normal.

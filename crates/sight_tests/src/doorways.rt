@@ -6,7 +6,7 @@ ghost use Rattle.qm_wind.specs.Entered.{IsPane};
 
 use crate::shapes::{across_x, across_y, across_z, cut_by};
 use qm_geom::Plane;
-use qm_narrow::{ChainState, may_pass, separators, step};
+use qm_narrow::{ChainState, StepBuffers, may_pass, separators, step, step_into};
 use qm_wind::{Pane, Side};
 use std::alloc::{AllocError, Global};
 use std::test::Fail;
@@ -59,17 +59,48 @@ fn has_plane_across(alloc: Global) -> Result<bool, AllocError> {
     Ok(found)
 }
 
-/// Whether a chain goes through the first doorway, and not on into the second.
-fn stops_at_second(alloc: Global) -> Result<bool, AllocError> {
+/// Whether steps lead through the end of the first doorway, and from there into the second; and whether a line may pass
+/// into the second from the state before the first step, and from the one after it.
+fn answers(alloc: Global) -> Result<[bool; 4], AllocError> {
     let near = first(alloc, -16)?;
     let far = first(alloc, 0)?;
     let next = second(alloc)?;
     let start = ChainState::start(alloc, &near)?;
     let Some(through) = step(alloc, &start, &far)? else {
-        return Ok(false);
+        return Ok([false; 4]);
     };
-    let blocked = step(alloc, &through, &next)?.is_none();
-    Ok(blocked && may_pass(&start, &next) && !may_pass(&through, &next))
+    let leads_on = step(alloc, &through, &next)?.is_some();
+    Ok([
+        true,
+        leads_on,
+        may_pass(&start, &next),
+        may_pass(&through, &next),
+    ])
+}
+
+/// The same of steps that are put in the place of another state: the first one in that of a second start, and the next one
+/// in that of the first start, which stays, since it blocks.
+fn answers_in_place(alloc: Global) -> Result<[bool; 4], AllocError> {
+    let near = first(alloc, -16)?;
+    let far = first(alloc, 0)?;
+    let next = second(alloc)?;
+    let mut buffers = StepBuffers::new(alloc);
+    let mut start = ChainState::start(alloc, &near)?;
+    let mut spare = ChainState::start(alloc, &near)?;
+    let leads = step_into(alloc, &mut buffers, &mut spare, &start, &far)?;
+    let leads_on = step_into(alloc, &mut buffers, &mut start, &spare, &next)?;
+    Ok([
+        leads,
+        leads_on,
+        may_pass(&start, &next),
+        may_pass(&spare, &next),
+    ])
+}
+
+/// Whether a chain goes through the first doorway, and not on into the second, by both forms of a step.
+fn stops_at_second(alloc: Global) -> Result<bool, AllocError> {
+    let expected = [true, false, true, false];
+    Ok(answers(alloc)? == expected && answers_in_place(alloc)? == expected)
 }
 
 #[test]

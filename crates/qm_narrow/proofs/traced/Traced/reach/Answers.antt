@@ -15,13 +15,13 @@ loop-spot-init c =
     c.spot.result.now c.spot.ensures c.of-reach.result c.of-reach.ensures.low c.of-reach.ensures.high
 
 pub with-reach-requires-clause-below_in : goal.with-reach-requires-clause-below_in
-with-reach-requires-clause-below_in c = (spot_at c.self.inside.winding c.args.self.now c.self.inside.corners.items c.self.inside.spots.items c.deref-spot-items.result.now c.loop-spot.spot-index _ c.self.invariant c.self.view_is c.deref-spot-items.ensures.value c.loop-spot-test.true).1.below_in
+with-reach-requires-clause-below_in c = (spot_at c.self.inside.winding c.args.self.now c.self.inside.lists.corners.items c.self.inside.lists.spots.items c.deref-spot-items.result.now c.loop-spot.spot-index _ c.self.invariant c.self.view_is c.deref-spot-items.ensures.value c.loop-spot-test.true).1.below_in
 
 pub with-reach-requires-clause-above_in : goal.with-reach-requires-clause-above_in
-with-reach-requires-clause-above_in c = (spot_at c.self.inside.winding c.args.self.now c.self.inside.corners.items c.self.inside.spots.items c.deref-spot-items.result.now c.loop-spot.spot-index _ c.self.invariant c.self.view_is c.deref-spot-items.ensures.value c.loop-spot-test.true).1.above_in
+with-reach-requires-clause-above_in c = (spot_at c.self.inside.winding c.args.self.now c.self.inside.lists.corners.items c.self.inside.lists.spots.items c.deref-spot-items.result.now c.loop-spot.spot-index _ c.self.invariant c.self.view_is c.deref-spot-items.ensures.value c.loop-spot-test.true).1.above_in
 
 pub loop-spot-preserved : goal.loop-spot-preserved
 loop-spot-preserved c =
-    let spot = spot_at c.self.inside.winding c.args.self.now c.self.inside.corners.items c.self.inside.spots.items c.deref-spot-items.result.now c.loop-spot.spot-index _ c.self.invariant c.self.view_is c.deref-spot-items.ensures.value c.loop-spot-test.true in
+    let spot = spot_at c.self.inside.winding c.args.self.now c.self.inside.lists.corners.items c.self.inside.lists.spots.items c.deref-spot-items.result.now c.loop-spot.spot-index _ c.self.invariant c.self.view_is c.deref-spot-items.ensures.value c.loop-spot-test.true in
     reach_more c.args.self.now c.len-corners.ensures.in_world.convex c.args.normal.now c.loop-spot.spot-index spot.0 _ spot.1
     c.loop-spot.reach c.with-reach.result c.loop-spot.invariant c.with-reach.ensures.low c.with-reach.ensures.high

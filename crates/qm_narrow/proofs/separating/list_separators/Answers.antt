@@ -6,18 +6,18 @@ use Rattle.qm_separators.specs.Separator.{IsSeparator}
 use Rattle.qm_separators.specs.Gains.{Gains}
 use Rattle.qm_separators.proofs.FoundMixes.{found_exactly}
 use Rattle.qm_narrow.proofs.ListedNormals.{none_found, found_still}
-use Rattle.qm_narrow.proofs.separating.separators_of.Goals as goal
+use Rattle.qm_narrow.proofs.separating.list_separators.Goals as goal
 
 pub returns : goal.returns
 returns c =
     found_exactly c.args.source.now c.args.pass.now c.gain_across.new.planes.items c.gain_across-2.new.planes.items
-    (subst (λ (old : List Plane). Gains (λ h. IsSeparator c.args.source.now c.args.pass.now h × HasNormalAcross (corners c.args.source.now) (corners c.args.pass.now) h) old c.gain_across.new.planes.items) c.new-planes.ensures.items c.in_ok-gain_across.ensures)
+    (subst (λ (old : List Plane). Gains (λ h. IsSeparator c.args.source.now c.args.pass.now h × HasNormalAcross (corners c.args.source.now) (corners c.args.pass.now) h) old c.gain_across.new.planes.items) c.clear.ensures.items c.in_ok-gain_across.ensures)
     c.in_ok-gain_across-2.ensures
 
 pub gain_across-requires-clause-found : goal.gain_across-requires-clause-found
-gain_across-requires-clause-found c = none_found c.args.source.now _ c.new-planes.ensures.items
+gain_across-requires-clause-found c = none_found c.args.source.now _ c.clear.ensures.items
 
 pub gain_across-requires-2-clause-found : goal.gain_across-requires-2-clause-found
 gain_across-requires-2-clause-found c =
     found_still (λ h. IsSeparator c.args.source.now c.args.pass.now h × HasNormalAcross (corners c.args.source.now) (corners c.args.pass.now) h) c.args.source.now _ c.gain_across.new.planes.items
-    (λ h is. is.0.least) (λ h is. is.1.normal.lowest) c.in_ok-gain_across.ensures (none_found c.args.source.now _ c.new-planes.ensures.items)
+    (λ h is. is.0.least) (λ h is. is.1.normal.lowest) c.in_ok-gain_across.ensures (none_found c.args.source.now _ c.clear.ensures.items)

@@ -1,5 +1,5 @@
 use Rattle.qm_narrow.proofs.Steps.{blocked_where_gone, part_lies, stepped_whole, stepped_part}
-use Rattle.qm_narrow.proofs.stepping.stepped.Goals as goal
+use Rattle.qm_narrow.proofs.stepping.after_far_cut.Goals as goal
 
 pub returns-in-Gone : goal.returns-in-Gone
 returns-in-Gone c = blocked_where_gone c.args.state.now c.args.next.now.winding c.args.far c.args.next.now.into c.requires c.source.result.now c.source.ensures.value c.in_ok-clip.field-0 c.in_ok-clip.ensures c.in-Gone.is
