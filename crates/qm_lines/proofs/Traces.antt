@@ -1,12 +1,11 @@
 -- Traces of lines: how they begin and go on, and what they show.
 use Rattle.std.proofs.Common.{◌≡◌, ◌⊎◌, inl, inr, ⊎_elim, ℕ, ◌<◌, true, ℤ, pos, ◌<ℤ◌, Bool, List, [], ◌∷◌, ◌++◌, map, length, get_or, set, All, Contains, refl, sym, ap, ◌∙◌, subst}
 use Rattle.std.proofs.lemmas.List.{length-set}
-use Rattle.std.proofs.lemmas.List.Elements.{All-contains, All-push, Contains-push, Contains-append_left}
+use Rattle.std.proofs.lemmas.List.Elements.{All-contains, All-nil, All-push, Contains-push, Contains-append_left}
 use Rattle.qm_lists.proofs.Elements.{Contains-at, Contains-first, Contains-later, Contains-cons_cases}
 use Rattle.qm_lists.proofs.Pairs.{All-from_contains}
 use Rattle.qm_space.specs.Plane.{value, IsBehind}
 use Rattle.qm_contacts.specs.Portals.{Portal, portals_of}
-use Rattle.qm_contacts.specs.NumberedLeaves.{numbered_leaves}
 use Rattle.qm_contacts.specs.World.{World}
 use Rattle.qm_contacts.specs.OwnPortals.{HasOwnPortals}
 use Rattle.qm_segments.specs.Segment.{Segment}
@@ -153,10 +152,16 @@ module _ (world : World) (own : HasOwnPortals world) (p : ℕ) (s : Segment) whe
 pub row_long : (Shows : Type 0) (leaf : ℕ) (old new : List Bool) → (new ≡ old) ⊎ (Shows × (new ≡ set old leaf true)) → length new ≡ length old
 row_long Shows leaf old new shows = ⊎_elim (λ same. ap length same) (λ sets. ap length sets.1 ∙ length-set old leaf true) shows
 
-pub entered_range : (world : World) (old new : Trace) (number : ℕ) (crossing : Crossing) → AreInRange world old → HasEntered world number crossing old new → number < length world.portals → new.leaf < length (numbered_leaves world.tree) → AreInRange world new
-entered_range world old new number crossing range entered within leaf = record {
+pub entered_range : (world : World) (old new : Trace) (number : ℕ) (crossing : Crossing) → AreInRange world old → HasEntered world number crossing old new → number < length world.portals → AreInRange world new
+entered_range world old new number crossing range entered within = record {
   portals = subst (All (λ n. n < length world.portals)) (sym entered.passed) (All-push (λ n. n < length world.portals) old.passed.items number range.portals within);
-  leaf = leaf;
+  leaf = entered.within;
+}
+
+pub begun_range : (world : World) (old new : Trace) (number : ℕ) (crossing : Crossing) → old.passed.items ≡ [] → HasEntered world number crossing old new → number < length world.portals → AreInRange world new
+begun_range world old new number crossing none entered within = record {
+  portals = subst (All (λ n. n < length world.portals)) (sym entered.passed) (All-push (λ n. n < length world.portals) old.passed.items number (subst (All (λ n. n < length world.portals)) (sym none) (All-nil (λ n. n < length world.portals))) within);
+  leaf = entered.within;
 }
 
 -- ---- the portal that is next

@@ -1,16 +1,20 @@
 -- A plane's value at a whole point, as the code computes it.
 use Rattle.std.proofs.Common.{◌≡◌, ◌≤◌, ◌^◌, ◌∙◌, FitsSigned, ℤ, pos, ◌+ℤ◌, ◌-ℤ◌, ◌*ℤ◌, w32, w64, List, [], ◌∷◌, get_or, refl, arith, lit≤, unsigned_abs}
-use Rattle.std.proofs.lemmas.Int.{ints}
+use Rattle.std.proofs.lemmas.Int.{ints, to_z-of_z}
 use Rattle.std.proofs.lemmas.List.Elements.{All-from_recursion}
 use Rattle.qm_numbers.proofs.IntegerProducts.{linear, *ℤ_one}
 use Rattle.qm_numbers.proofs.Bits.{kept_32}
-use Rattle.qm_numbers.proofs.Kept.{kept, three_less_one_kept}
+use Rattle.qm_numbers.proofs.Kept.{kept, fits_64, sum_fits, sum_kept}
 use Rattle.qm_numbers.proofs.Signs.{abs_sum, abs_difference, abs_product_bound}
 use Rattle.qm_space.specs.Bounds.{normal_bound, distance_bound}
 use Rattle.qm_space.specs.Point.{whole_point, IsCoordinate, AreCoordinates}
 use Rattle.qm_space.specs.Plane.{Plane, value}
 use Rattle.qm_geom.proofs.Vectors.{coordinate_kept}
 use Rattle.qm_space.proofs.PlanesThroughPoints.{coordinate_small}
+
+-- a component of a normal as it is passed on
+pub component_kept : (n : ℤ) → unsigned_abs n ≤ normal_bound → unsigned_abs (kept w32 n) ≤ normal_bound
+component_kept n h = rw (kept_32 n normal_bound h (lit≤ tt)) h
 
 -- a component times a coordinate
 pub part_is : (r n c : ℤ) → unsigned_abs n ≤ normal_bound → IsCoordinate c → r ≡ kept w32 n *ℤ kept w32 c → r ≡ n *ℤ c
@@ -20,19 +24,39 @@ pub whole_value : (h : Plane) (at : List ℤ) (x y z : ℤ) → x ≡ h.nx *ℤ 
 unfolding value
 whole_value h at x y z e f g = let one = *ℤ_one h.d in omega (arith, linear)
 
-pub sum_small : (x y z d : ℤ) → unsigned_abs x ≤ 2 ^ 38 → unsigned_abs y ≤ 2 ^ 38 → unsigned_abs z ≤ 2 ^ 38 → unsigned_abs d ≤ distance_bound →
-    unsigned_abs (kept w64 (kept w64 (kept w64 (kept w64 x +ℤ kept w64 y) +ℤ kept w64 z) -ℤ kept w64 d)) ≤ 2 ^ 45
-sum_small x y z d h i j k =
-    let s = abs_sum x y in let t = abs_sum (x +ℤ y) z in let u = abs_difference ((x +ℤ y) +ℤ z) d in
-    rw (three_less_one_kept x y z d (omega arith) (omega arith) (omega arith) (omega arith)) (omega arith)
+-- ---- three parts and a distance, as the code adds them
 
-pub sum_fits : (x y z d : ℤ) → unsigned_abs x ≤ 2 ^ 38 → unsigned_abs y ≤ 2 ^ 38 → unsigned_abs z ≤ 2 ^ 38 → unsigned_abs d ≤ distance_bound →
-    FitsSigned w64 (kept w64 (kept w64 (kept w64 x +ℤ kept w64 y) +ℤ kept w64 z) -ℤ kept w64 d)
-sum_fits x y z d h i j k = fits x y z d h i j k
-  where
-    fits : (x y z d : ℤ) → unsigned_abs x ≤ 2 ^ 38 → unsigned_abs y ≤ 2 ^ 38 → unsigned_abs z ≤ 2 ^ 38 → unsigned_abs d ≤ 2 ^ 44 →
-        FitsSigned w64 (kept w64 (kept w64 (kept w64 x +ℤ kept w64 y) +ℤ kept w64 z) -ℤ kept w64 d)
-    fits x y z d h i j k = omega (arith, ints)
+module _ (x y z : ℤ) (x_small : unsigned_abs x ≤ 2 ^ 38) (y_small : unsigned_abs y ≤ 2 ^ 38) (z_small : unsigned_abs z ≤ 2 ^ 38) where
+  two_small : unsigned_abs (x +ℤ y) ≤ 2 ^ 39
+  two_small = let s = abs_sum x y in omega arith
+
+  three_small : unsigned_abs ((x +ℤ y) +ℤ z) ≤ 2 ^ 40
+  three_small = let s = abs_sum (x +ℤ y) z in let t = two_small in omega arith
+
+  two_kept : kept w64 (kept w64 x +ℤ kept w64 y) ≡ x +ℤ y
+  two_kept = sum_kept w64 x y (fits_64 x _ x_small (lit≤ tt)) (fits_64 y _ y_small (lit≤ tt)) (fits_64 (x +ℤ y) _ two_small (lit≤ tt))
+
+  pub two_fit : FitsSigned w64 (kept w64 x +ℤ kept w64 y)
+  two_fit = sum_fits w64 x y (fits_64 x _ x_small (lit≤ tt)) (fits_64 y _ y_small (lit≤ tt)) (fits_64 (x +ℤ y) _ two_small (lit≤ tt))
+
+  pub three_fit : FitsSigned w64 (kept w64 (kept w64 x +ℤ kept w64 y) +ℤ kept w64 z)
+  three_fit = rw (two_kept, to_z-of_z w64 z (fits_64 z _ z_small (lit≤ tt))) (fits_64 ((x +ℤ y) +ℤ z) _ three_small (lit≤ tt))
+
+  three_kept : kept w64 (kept w64 (kept w64 x +ℤ kept w64 y) +ℤ kept w64 z) ≡ (x +ℤ y) +ℤ z
+  three_kept = rw (two_kept, to_z-of_z w64 z (fits_64 z _ z_small (lit≤ tt))) (to_z-of_z w64 ((x +ℤ y) +ℤ z) (fits_64 ((x +ℤ y) +ℤ z) _ three_small (lit≤ tt)))
+
+  module _ (d : ℤ) (d_small : unsigned_abs d ≤ distance_bound) where
+    less_small : unsigned_abs (((x +ℤ y) +ℤ z) -ℤ d) ≤ 2 ^ 45
+    less_small = let s = abs_difference ((x +ℤ y) +ℤ z) d in let t = three_small in omega arith
+
+    pub less_fits : FitsSigned w64 (kept w64 (kept w64 (kept w64 x +ℤ kept w64 y) +ℤ kept w64 z) -ℤ kept w64 d)
+    less_fits = rw (three_kept, to_z-of_z w64 d (fits_64 d _ d_small (lit≤ tt))) (fits_64 (((x +ℤ y) +ℤ z) -ℤ d) _ less_small (lit≤ tt))
+
+    pub less_kept : kept w64 (kept w64 (kept w64 (kept w64 x +ℤ kept w64 y) +ℤ kept w64 z) -ℤ kept w64 d) ≡ ((x +ℤ y) +ℤ z) -ℤ d
+    less_kept = rw (three_kept, to_z-of_z w64 d (fits_64 d _ d_small (lit≤ tt))) (to_z-of_z w64 (((x +ℤ y) +ℤ z) -ℤ d) (fits_64 (((x +ℤ y) +ℤ z) -ℤ d) _ less_small (lit≤ tt)))
+
+    pub less_kept_small : unsigned_abs (kept w64 (kept w64 (kept w64 (kept w64 x +ℤ kept w64 y) +ℤ kept w64 z) -ℤ kept w64 d)) ≤ 2 ^ 45
+    less_kept_small = rw less_kept less_small
 
 -- a product of which one number is a plane's value
 pub wide_size : (a b : ℤ) → FitsSigned w64 a → unsigned_abs b ≤ 2 ^ 45 → unsigned_abs (a *ℤ b) ≤ 2 ^ 108

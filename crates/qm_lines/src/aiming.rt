@@ -8,6 +8,9 @@ use qm_space::WORLD_EXTENT;
 use qm_wind::Winding;
 use std::alloc::{AllocError, Global};
 
+/// The greatest coordinate of the closed cube, and the opposite of the least.
+const EXTENT: i64 = WORLD_EXTENT as i64;
+
 /// The spots of a winding, through which lines are drawn: its middle, and one near each corner.
 pub(crate) fn spots_of(alloc: Global, winding: &Winding) -> Result<Vec<[i32; 3]>, AllocError> {
     let mut spots = Vec::new(alloc);
@@ -78,7 +81,5 @@ fn most_of_the_way(from: i32, to: i32) -> i32
 fn coordinate(number: i64) -> i32
     ensures { IsCoordinate result }
 {
-    number
-        .max(-i64::from(WORLD_EXTENT))
-        .min(i64::from(WORLD_EXTENT)) as i32
+    number.max(-EXTENT).min(EXTENT) as i32
 }

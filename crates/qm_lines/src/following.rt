@@ -1,11 +1,10 @@
 //! A line is followed from leaf to leaf.
 
-ghost use Rattle.std.specs.Prelude.{ℕ, ◌≡◌, ◌<◌, ◌⊎◌, Bool, true, List, length, All, slice_set, OnOk, IfSome};
+ghost use Rattle.std.specs.Prelude.{ℕ, ◌≡◌, ◌<◌, ◌⊎◌, true, length, All, slice_set, OnOk, IfSome};
 ghost use Rattle.qm_contacts.specs.NumberedLeaves.{numbered_leaves};
 ghost use Rattle.qm_contacts.specs.Portals.{Portal};
 ghost use Rattle.qm_contacts.specs.OwnPortals.{HasOwnPortals};
 ghost use Rattle.qm_chains.specs.Shown.{IsAt};
-ghost use Rattle.qm_sight.specs.WordInSight.{LieWithin};
 ghost use Rattle.qm_sight.specs.InCeiling.{IsInCeiling};
 ghost use Rattle.qm_lines.specs.Gained.{HasGainedShown};
 ghost use Rattle.qm_lines.specs.inner.Trace.{IsTrace, IsOnward, AreInRange};
@@ -41,8 +40,8 @@ pub(crate) fn follow<S: RowSource>(
     requires same_world { S.world source.old ≡ world.now }
     requires range { AreInRange world.now trace.old }
     requires row { length row.old ≡ length (numbered_leaves world.now.tree) }
-    ensures shown { OnOk result ((ceilings : List (List Bool)) (p : ℕ) → LieWithin (S.ceilings source.old) ceilings →
-        IsTrace world.now p line.now trace.old → HasGainedShown world.now.portals (IsInCeiling ceilings) p row.old row.new) }
+    ensures shown { OnOk result ((p : ℕ) → IsTrace world.now p line.now trace.old →
+        HasGainedShown world.now.portals (IsInCeiling (S.ceilings source.old)) p row.old row.new) }
     ensures on { S.goes_on source.old source.new }
 {
     show(source, trace, row);

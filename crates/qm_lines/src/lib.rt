@@ -1,8 +1,10 @@
-//! Which leaves straight lines show from a portal: each is followed from portal to portal by exact tests.
+//! Which leaves straight lines show from a portal: each is followed from portal to portal by exact tests. What lines find is no
+//! promise, for speed alone is at stake.
 #![tactic(auto)]
 
 mod aiming;
 mod crossing;
+mod first_portal;
 mod following;
 mod line;
 mod reading;

@@ -1,14 +1,15 @@
-//! The leaves that lines show from a portal.
+//! The leaves that lines show from a portal. Which of them are found is no promise, for speed alone is at stake: the contracts
+//! say that a leaf is set only where an open chain shows it.
 
-ghost use Rattle.std.specs.Prelude.{ℕ, ◌≡◌, ◌<◌, Bool, List, length, All, OnOk};
+ghost use Rattle.std.specs.Prelude.{◌≡◌, ◌<◌, length, OnOk};
 ghost use Rattle.qm_contacts.specs.NumberedLeaves.{numbered_leaves};
-ghost use Rattle.qm_contacts.specs.OwnPortals.{HasOwnPortals};
-ghost use Rattle.qm_sight.specs.WordInSight.{LieWithin};
 ghost use Rattle.qm_sight.specs.InCeiling.{IsInCeiling};
 ghost use Rattle.qm_lines.specs.Gained.{HasGainedShown};
+ghost use Rattle.qm_lines.specs.inner.Drawing.{MayDraw, HasGainedFrom};
 
 use crate::aiming::{line_through, middle_of, spot_near_corner, spots_of};
 use crate::crossing::crossing_of;
+use crate::first_portal::FirstPortal;
 use crate::following::follow;
 use crate::line::Line;
 use crate::reading::has_leaf;
@@ -16,6 +17,7 @@ use crate::trace::Trace;
 use qm_bits::BitRow;
 use qm_portal::World;
 use qm_sight::RowSource;
+use qm_wind::Winding;
 use std::alloc::{AllocError, Global};
 
 /// Sets leaves in a portal's row to which straight lines lead through it, each by an open chain whose portals, the first
@@ -36,62 +38,57 @@ pub fn show_by_lines<S: RowSource>(
 {
     world.own_portals();
     let spots = spots_of(alloc, &world.pane(portal).winding)?;
-    let mut trace = Trace::new(alloc);
     let mut gone = BitRow::with_len(alloc, world.leaves())?;
-    let entered = world.to(portal);
-    gone.set(entered);
-    aim_out(world, source, portal, &spots, entered, &mut trace, row)?;
-    flood(world, source, portal, &spots, &mut gone, &mut trace, row)?;
-    Ok(())
+    let mut trace = Trace::new(alloc);
+    let first = FirstPortal {
+        world,
+        portal,
+        spots: &spots,
+    };
+    flood(&first, source, &mut gone, &mut trace, row)
 }
 
-/// Goes on from the leaves of the row that were not gone on from, and from those that are shown by it, until none is left.
+/// Goes on from the leaf that the portal enters, then from the leaves of the row that were not gone on from, and from those
+/// that are shown by it, until none is left.
 fn flood<S: RowSource>(
-    world: &World,
+    first: &FirstPortal,
     source: &mut S,
-    portal: u64,
-    spots: &[[i32; 3]],
     gone: &mut BitRow,
     trace: &mut Trace,
     row: &mut BitRow,
 ) -> Result<(), AllocError>
-    requires portal { portal < length world.now.portals }
-    requires gone { length gone.old ≡ length (numbered_leaves world.now.tree) }
-    requires own_portals { HasOwnPortals world.now }
-    requires same_world { S.world source.old ≡ world.now }
-    requires row { length row.old ≡ length (numbered_leaves world.now.tree) }
-    ensures shown { OnOk result (HasGainedShown world.now.portals (IsInCeiling (S.ceilings source.old)) portal row.old row.new) }
+    requires may_draw { MayDraw first.now (S.world source.old) row.old }
+    requires gone { length gone.old ≡ length row.old }
+    ensures shown { OnOk result (HasGainedFrom first.now (S.ceilings source.old) row.old row.new) }
     ensures on { S.goes_on source.old source.new }
 {
-    for _ in 0..world.leaves() {
+    let entered = first.world.to(first.portal);
+    gone.set(entered);
+    aim_out(first, source, entered, trace, row)?;
+    for _ in 0..first.world.leaves() {
         if !row.has_new(gone) {
             return Ok(());
         }
-        sweep(world, source, portal, spots, gone, trace, row)?;
+        sweep(first, source, gone, trace, row)?;
     }
     Ok(())
 }
 
 /// Goes on from each leaf of the row that was not gone on from, in the order of their numbers.
 fn sweep<S: RowSource>(
-    world: &World,
+    first: &FirstPortal,
     source: &mut S,
-    portal: u64,
-    spots: &[[i32; 3]],
     gone: &mut BitRow,
     trace: &mut Trace,
     row: &mut BitRow,
 ) -> Result<(), AllocError>
-    requires portal { portal < length world.now.portals }
-    requires gone { length gone.old ≡ length (numbered_leaves world.now.tree) }
-    requires own_portals { HasOwnPortals world.now }
-    requires same_world { S.world source.old ≡ world.now }
-    requires row { length row.old ≡ length (numbered_leaves world.now.tree) }
-    ensures shown { OnOk result (HasGainedShown world.now.portals (IsInCeiling (S.ceilings source.old)) portal row.old row.new) }
+    requires may_draw { MayDraw first.now (S.world source.old) row.old }
+    requires gone { length gone.old ≡ length row.old }
+    ensures shown { OnOk result (HasGainedFrom first.now (S.ceilings source.old) row.old row.new) }
     ensures on { S.goes_on source.old source.new }
     ensures gone { length gone.new ≡ length gone.old }
 {
-    for leaf in 0..world.leaves() {
+    for leaf in 0..first.world.leaves() {
         if !row.get(leaf) {
             continue;
         }
@@ -99,71 +96,52 @@ fn sweep<S: RowSource>(
             continue;
         }
         gone.set(leaf);
-        aim_out(world, source, portal, spots, leaf, trace, row)?;
+        aim_out(first, source, leaf, trace, row)?;
     }
     Ok(())
 }
 
 /// Aims through each portal that leaves a leaf.
 fn aim_out<S: RowSource>(
-    world: &World,
+    first: &FirstPortal,
     source: &mut S,
-    portal: u64,
-    spots: &[[i32; 3]],
     leaf: u64,
     trace: &mut Trace,
     row: &mut BitRow,
 ) -> Result<(), AllocError>
-    requires portal { portal < length world.now.portals }
-    requires leaf { leaf < length (numbered_leaves world.now.tree) }
-    requires own_portals { HasOwnPortals world.now }
-    requires same_world { S.world source.old ≡ world.now }
-    requires row { length row.old ≡ length (numbered_leaves world.now.tree) }
-    ensures shown { OnOk result (HasGainedShown world.now.portals (IsInCeiling (S.ceilings source.old)) portal row.old row.new) }
+    requires may_draw { MayDraw first.now (S.world source.old) row.old }
+    requires leaf { leaf < length (numbered_leaves first.now.world.now.tree) }
+    ensures shown { OnOk result (HasGainedFrom first.now (S.ceilings source.old) row.old row.new) }
     ensures on { S.goes_on source.old source.new }
 {
-    for number in world.leaving(leaf) {
-        aim_through(world, source, portal, spots, *number, trace, row)?;
+    for other in first.world.leaving(leaf) {
+        aim_through(first, source, *other, trace, row)?;
     }
     Ok(())
 }
 
-/// Aims through the spots of another portal at the leaf that it enters, until the row has that.
+/// Aims through another portal at the leaf that it enters, unless the row has that or rows rule it out.
 fn aim_through<S: RowSource>(
-    world: &World,
+    first: &FirstPortal,
     source: &mut S,
-    portal: u64,
-    spots: &[[i32; 3]],
     other: u64,
     trace: &mut Trace,
     row: &mut BitRow,
 ) -> Result<(), AllocError>
-    requires portal { portal < length world.now.portals }
-    requires other { other < length world.now.portals }
-    requires own_portals { HasOwnPortals world.now }
-    requires same_world { S.world source.old ≡ world.now }
-    requires row { length row.old ≡ length (numbered_leaves world.now.tree) }
-    ensures shown { OnOk result (HasGainedShown world.now.portals (IsInCeiling (S.ceilings source.old)) portal row.old row.new) }
+    requires may_draw { MayDraw first.now (S.world source.old) row.old }
+    requires other { other < length first.now.world.now.portals }
+    ensures shown { OnOk result (HasGainedFrom first.now (S.ceilings source.old) row.old row.new) }
     ensures on { S.goes_on source.old source.new }
 {
-    let target = world.to(other);
+    let target = first.world.to(other);
     if row.get(target) {
         return Ok(());
     }
-    if !may_lead(world, source, portal, other, target) {
+    if !may_lead(first.world, source, first.portal, other, target) {
         return Ok(());
     }
-    let winding = &world.pane(other).winding;
-    let middle = middle_of(winding);
-    aim_at(world, source, portal, spots, &middle, target, trace, row)?;
-    for i in 0..winding.len() {
-        if row.get(target) {
-            return Ok(());
-        }
-        let end = spot_near_corner(winding, i);
-        aim_at(world, source, portal, spots, &end, target, trace, row)?;
-    }
-    Ok(())
+    let winding = &first.world.pane(other).winding;
+    aim_within(first, source, winding, target, trace, row)
 }
 
 /// Whether a line may lead through one portal and then another to a leaf: both rows have it, and that of the portal back
@@ -188,56 +166,74 @@ fn may_lead<S: RowSource>(world: &World, source: &mut S, portal: u64, other: u64
     has_leaf(source, back, world.from(portal))
 }
 
+/// Aims at a target through the spots of another winding, until the row has it.
+fn aim_within<S: RowSource>(
+    first: &FirstPortal,
+    source: &mut S,
+    winding: &Winding,
+    target: u64,
+    trace: &mut Trace,
+    row: &mut BitRow,
+) -> Result<(), AllocError>
+    requires may_draw { MayDraw first.now (S.world source.old) row.old }
+    requires target { target < length (numbered_leaves first.now.world.now.tree) }
+    ensures shown { OnOk result (HasGainedFrom first.now (S.ceilings source.old) row.old row.new) }
+    ensures on { S.goes_on source.old source.new }
+{
+    aim_at(first, source, &middle_of(winding), target, trace, row)?;
+    for i in 0..winding.len() {
+        if row.get(target) {
+            return Ok(());
+        }
+        let end = spot_near_corner(winding, i);
+        aim_at(first, source, &end, target, trace, row)?;
+    }
+    Ok(())
+}
+
 /// Aims at a target from each spot through another one, until the row has it.
 fn aim_at<S: RowSource>(
-    world: &World,
+    first: &FirstPortal,
     source: &mut S,
-    portal: u64,
-    spots: &[[i32; 3]],
     end: &[i32; 3],
     target: u64,
     trace: &mut Trace,
     row: &mut BitRow,
 ) -> Result<(), AllocError>
-    requires portal { portal < length world.now.portals }
-    requires target { target < length (numbered_leaves world.now.tree) }
-    requires own_portals { HasOwnPortals world.now }
-    requires same_world { S.world source.old ≡ world.now }
-    requires row { length row.old ≡ length (numbered_leaves world.now.tree) }
-    ensures shown { OnOk result (HasGainedShown world.now.portals (IsInCeiling (S.ceilings source.old)) portal row.old row.new) }
+    requires may_draw { MayDraw first.now (S.world source.old) row.old }
+    requires target { target < length (numbered_leaves first.now.world.now.tree) }
+    ensures shown { OnOk result (HasGainedFrom first.now (S.ceilings source.old) row.old row.new) }
     ensures on { S.goes_on source.old source.new }
 {
-    for spot in spots {
+    for spot in first.spots {
         if row.get(target) {
             return Ok(());
         }
         let line = line_through(spot, end);
-        show_along(world, source, portal, &line, target, trace, row)?;
+        show_along(first, source, &line, target, trace, row)?;
     }
     Ok(())
 }
 
 /// Sets the leaves that a line towards a target shows, if it goes through the portal.
 fn show_along<S: RowSource>(
-    world: &World,
+    first: &FirstPortal,
     source: &mut S,
-    portal: u64,
     line: &Line,
     target: u64,
     trace: &mut Trace,
     row: &mut BitRow,
 ) -> Result<(), AllocError>
-    requires portal { portal < length world.now.portals }
-    requires target { target < length (numbered_leaves world.now.tree) }
-    requires own_portals { HasOwnPortals world.now }
-    requires same_world { S.world source.old ≡ world.now }
-    requires row { length row.old ≡ length (numbered_leaves world.now.tree) }
-    ensures shown { OnOk result (HasGainedShown world.now.portals (IsInCeiling (S.ceilings source.old)) portal row.old row.new) }
+    requires may_draw { MayDraw first.now (S.world source.old) row.old }
+    requires target { target < length (numbered_leaves first.now.world.now.tree) }
+    ensures shown { OnOk result (HasGainedFrom first.now (S.ceilings source.old) row.old row.new) }
     ensures on { S.goes_on source.old source.new }
 {
-    if let Some(crossing) = crossing_of(world, portal, line) {
-        trace.begin(world, portal, crossing)?;
-        follow(world, source, line, target, trace, row)?;
+    match crossing_of(first.world, first.portal, line) {
+        None => Ok(()),
+        Some(crossing) => {
+            trace.begin(first.world, first.portal, crossing)?;
+            follow(first.world, source, line, target, trace, row)
+        }
     }
-    Ok(())
 }

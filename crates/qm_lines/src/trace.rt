@@ -50,8 +50,7 @@ impl Trace {
         self.passed.clear();
         self.met.clear();
         self.met.push(world.from(portal))?;
-        self.enter(world, portal, crossing)?;
-        Ok(())
+        self.enter(world, portal, crossing)
     }
 
     /// Goes on through a portal.
@@ -61,9 +60,8 @@ impl Trace {
         portal: u64,
         crossing: Crossing,
     ) -> Result<(), AllocError>
-        requires portal { portal < length world.now.portals }
-        ensures entered { OnOk result (HasEntered world.now portal crossing self.old self.new) }
-        ensures leaf { OnOk result (self.new.leaf < length (numbered_leaves world.now.tree)) }
+        requires { portal < length world.now.portals }
+        ensures { OnOk result (HasEntered world.now portal crossing self.old self.new) }
     {
         let to = world.to(portal);
         self.passed.push(portal)?;

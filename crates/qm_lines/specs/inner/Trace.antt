@@ -52,4 +52,5 @@ pub record HasEntered (world : World) (number : ℕ) (crossing : Crossing) (old 
   pub passed : new.passed.items ≡ old.passed.items ++ number ∷ []
   pub met : new.met.items ≡ old.met.items ++ portal.to ∷ []
   pub leaf : new.leaf ≡ portal.to
+  pub within : new.leaf < length (numbered_leaves world.tree)
   pub last : new.last ≡ crossing

@@ -1,6 +1,5 @@
-use Rattle.std.proofs.Common.{◌≡◌, ℕ, Bool, List, length}
+use Rattle.std.proofs.Common.{◌≡◌, ℕ, length}
 use Rattle.qm_contacts.specs.NumberedLeaves.{numbered_leaves}
-use Rattle.qm_sight.specs.WordInSight.{LieWithin}
 use Rattle.qm_sight.specs.InCeiling.{IsInCeiling}
 use Rattle.qm_lines.specs.Gained.{HasGainedShown}
 use Rattle.qm_lines.specs.inner.Trace.{IsTrace, AreInRange}
@@ -12,6 +11,6 @@ invariant-loop g l = record {
   range : AreInRange l.world l.trace;
   long : length l.row ≡ length (numbered_leaves l.world.tree);
   trace : (p : ℕ) → IsTrace l.world p l.line l.fn.trace → IsTrace l.world p l.line l.trace;
-  shown : (ceilings : List (List Bool)) (p : ℕ) → LieWithin (g.S.RowSource.ceilings l.fn.source) ceilings → IsTrace l.world p l.line l.fn.trace → HasGainedShown l.world.portals (IsInCeiling ceilings) p l.fn.row l.row;
+  shown : (p : ℕ) → IsTrace l.world p l.line l.fn.trace → HasGainedShown l.world.portals (IsInCeiling (g.S.RowSource.ceilings l.fn.source)) p l.fn.row l.row;
   on : g.S.RowSource.goes_on l.fn.source l.source;
 }

@@ -1,9 +1,8 @@
-use Rattle.std.proofs.Common.{◌<◌, All, get_or, length, sym, subst}
+use Rattle.std.proofs.Common.{All, get_or, subst}
 use Rattle.std.proofs.lemmas.List.{take_all}
 use Rattle.std.proofs.lemmas.List.Elements.{All-more, All-nil}
-use Rattle.qm_contacts.specs.NumberedLeaves.{numbered_leaves}
-use Rattle.qm_contacts.specs.World.{World}
 use Rattle.qm_sight.specs.InCeiling.{IsInCeiling}
+use Rattle.qm_lines.proofs.Asking.{asked_portal, asked_leaf}
 use Rattle.qm_lines.proofs.reading.all_have_leaf.Goals as goal
 
 pub loop-portal-init : goal.loop-portal-init
@@ -12,14 +11,15 @@ loop-portal-init g c = record {
   on = g.met.S.RowSource.goes_on_itself c.args.source.now;
 }
 
-pub has_leaf-requires-clause-portal : goal.has_leaf-requires-clause-portal
-has_leaf-requires-clause-portal g c =
-    subst (λ (w : World). get_or c.args.portals.now c.loop-portal.portal-index 0 < length w.portals) (sym (g.met.S.RowSource.same_world c.args.source.now c.loop-portal.source c.loop-portal.invariant.on))
-    (c.requires.portals c.loop-portal.portal-index 0 c.loop-portal-test.true)
-
-pub has_leaf-requires-clause-leaf : goal.has_leaf-requires-clause-leaf
-has_leaf-requires-clause-leaf g c =
-    subst (λ (w : World). c.args.leaf < length (numbered_leaves w.tree)) (sym (g.met.S.RowSource.same_world c.args.source.now c.loop-portal.source c.loop-portal.invariant.on)) c.requires.leaf
+pub has_leaf-requires : goal.has_leaf-requires
+has_leaf-requires g c =
+    let world = g.S.RowSource.world c.args.source.now in
+    let answered = g.S.RowSource.world c.loop-portal.source in
+    let same = g.met.S.RowSource.same_world c.args.source.now c.loop-portal.source c.loop-portal.invariant.on in
+    record {
+      portal = asked_portal world answered same (get_or c.args.portals.now c.loop-portal.portal-index 0) (c.requires.portals c.loop-portal.portal-index 0 c.loop-portal-test.true);
+      leaf = asked_leaf world answered same c.args.leaf c.requires.leaf;
+    }
 
 pub loop-portal-preserved : goal.loop-portal-preserved
 loop-portal-preserved g c =

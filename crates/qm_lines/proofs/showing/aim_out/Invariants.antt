@@ -1,10 +1,9 @@
-use Rattle.qm_sight.specs.InCeiling.{IsInCeiling}
-use Rattle.qm_lines.specs.Gained.{HasGainedShown}
+use Rattle.qm_lines.specs.inner.Drawing.{HasGainedFrom}
 use Rattle.qm_lines.proofs.showing.aim_out.Given as goal
 
 -- what the row has gained so far is shown, and the source goes on from what it was
-abbrev pub invariant-loop-number : goal.invariant-loop-number
-invariant-loop-number g l = record {
-  shown : HasGainedShown l.world.portals (IsInCeiling (g.S.RowSource.ceilings l.fn.source)) l.portal l.fn.row l.row;
+abbrev pub invariant-loop-other : goal.invariant-loop-other
+invariant-loop-other g l = record {
+  shown : HasGainedFrom l.first (g.S.RowSource.ceilings l.fn.source) l.fn.row l.row;
   on : g.S.RowSource.goes_on l.fn.source l.source;
 }

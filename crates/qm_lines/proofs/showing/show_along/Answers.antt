@@ -1,5 +1,38 @@
+use Rattle.std.proofs.lemmas.Result.{on_ok_weaker}
+use Rattle.qm_lines.proofs.Drawing.{gained_none, nothing_at_err}
 use Rattle.qm_lines.proofs.showing.show_along.Goals as goal
 
-pub returns-in_ok-follow-clause-shown : goal.returns-in_ok-follow-clause-shown
-returns-in_ok-follow-clause-shown g c =
-    c.in_ok-follow.ensures.shown (g.S.RowSource.ceilings c.args.source.now) c.args.portal (λ place n is. is) (c.in_ok-begin.ensures.trace c.args.line.now c.in-Some.ensures)
+pub crossing_of-requires : goal.crossing_of-requires
+crossing_of-requires g c = record { portal = c.requires.may_draw.portal; own_portals = c.requires.may_draw.own_portals }
+
+pub returns-in-None : goal.returns-in-None
+returns-in-None g c = record {
+  shown = gained_none c.args.first.now (g.S.RowSource.ceilings c.args.source.now) c.args.row.now;
+  on = g.met.S.RowSource.goes_on_itself c.args.source.now;
+}
+
+pub begin-requires : goal.begin-requires
+begin-requires g c = record { portal = c.requires.may_draw.portal; own_portals = c.requires.may_draw.own_portals }
+
+pub returns-in_err-begin-in-Some : goal.returns-in_err-begin-in-Some
+returns-in_err-begin-in-Some g c = record {
+  shown = nothing_at_err _ c.from_residual.result c.from_residual.ensures.0;
+  on = g.met.S.RowSource.goes_on_itself c.args.source.now;
+}
+
+pub follow-requires : goal.follow-requires
+follow-requires g c = record {
+  target = c.requires.target;
+  own_portals = c.requires.may_draw.own_portals;
+  same_world = c.requires.may_draw.same_world;
+  range = c.in_ok-begin-in-Some.ensures.range;
+  row = c.requires.may_draw.wide;
+}
+
+pub returns-in_ok-begin-in-Some : goal.returns-in_ok-begin-in-Some
+returns-in_ok-begin-in-Some g c = record {
+  shown = on_ok_weaker c.follow.result
+      (λ shown. shown c.args.first.now.portal (c.in_ok-begin-in-Some.ensures.trace c.args.line.now c.in-Some.ensures))
+      c.follow.ensures.shown;
+  on = c.follow.ensures.on;
+}

@@ -1,8 +1,15 @@
-use Rattle.std.proofs.Common.{◌∙◌}
+use Rattle.std.proofs.Common.{◌∙◌, ◌^◌, lit≤}
 use Rattle.std.specs.Int.{w128}
 use Rattle.std.proofs.lemmas.Int.{to_z-of_z}
+use Rattle.qm_numbers.proofs.Kept.{small_kept}
 use Rattle.qm_lines.proofs.Crossings.{value_computed}
 use Rattle.qm_lines.proofs.crossing.Crossing.value.Goals as goal
+
+pub mixed-requires : goal.mixed-requires
+mixed-requires c = record {
+  begin = small_kept c.value_at_begin.result (2 ^ 45) (lit≤ tt) c.value_at_begin.ensures.size;
+  end = small_kept c.value_at_end.result (2 ^ 45) (lit≤ tt) c.value_at_end.ensures.size;
+}
 
 pub returns : goal.returns
 returns c =

@@ -1,0 +1,11 @@
+//! Where lines begin.
+
+use qm_portal::World;
+
+/// The portal of a world through which lines are drawn, and its spots.
+#[derive(Clone, Copy)]
+pub(crate) struct FirstPortal<'a> {
+    pub(crate) world: &'a World,
+    pub(crate) portal: u64,
+    pub(crate) spots: &'a [[i32; 3]],
+}
