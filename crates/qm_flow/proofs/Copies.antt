@@ -1,9 +1,12 @@
 -- Rows of which all places are set, and rows that are copied.
-use Rattle.std.proofs.Common.{◌≡◌, ◌⊎◌, ⊎_elim, ℕ, ◌+◌, ◌<◌, Bool, true, false, ◌||◌, List, length, get_or, set, replicate, sym, ap, ◌∙◌, subst, arith, inl, inr}
+use Rattle.std.proofs.Common.{◌≡◌, ◌⊎◌, ⊎_elim, ℕ, ◌+◌, ◌*◌, ◌<◌, Bool, true, false, ◌||◌, List, length, get_or, set, replicate, sym, ap, ◌∙◌, subst, arith, inl, inr}
 use Rattle.std.proofs.lemmas.Bool.{cases_eq}
 use Rattle.std.proofs.lemmas.List.{ext_get_or, length-replicate, get_or-replicate}
 use Rattle.qm_bits.specs.Union.{IsUnion}
+use Rattle.qm_bits.specs.Word.{IsWord}
+use Rattle.qm_bits.proofs.Bits.{has_bit-zero}
 use Rattle.qm_lists.specs.WorkList.{IsIn}
+use Rattle.qm_chains.specs.inner.Cone.{IsCutTo}
 use Rattle.qm_chains.proofs.TriedPortals.{clear_if_not_in, gains_one}
 use Rattle.qm_chains.proofs.Beginnings.{none_clear}
 
@@ -13,6 +16,17 @@ union_with_clear row clear new is union =
   where
     other : (place : ℕ) → (get_or clear place false || get_or row place false) ≡ get_or row place false
     other place = ap (λ (b : Bool). b || get_or row place false) (subst (λ (r : List Bool). get_or r place false ≡ false) (sym is) (clear_if_not_in (replicate (length row) false) place (none_clear (length row) place)))
+
+-- a word without a bit is one of a clear row, and a row that is cut to a clear one is clear
+pub clear_word : (n k : ℕ) → IsWord (replicate n false) k 0
+clear_word n k bit within = has_bit-zero bit ∙ sym (clear_if_not_in (replicate n false) (64 * k + bit) (none_clear n (64 * k + bit)))
+
+pub cut_to_none : (old new : List Bool) → IsCutTo (replicate (length old) false) old new → new ≡ replicate (length old) false
+cut_to_none old new cut =
+    ext_get_or false new (replicate (length old) false) (cut.same_length ∙ sym (length-replicate (length old) false)) (λ place within. both place)
+  where
+    both : (place : ℕ) → get_or new place false ≡ get_or (replicate (length old) false) place false
+    both place = clear_if_not_in new place (λ is. none_clear (length old) place ((cut.exactly place).0 is).1) ∙ sym (clear_if_not_in (replicate (length old) false) place (none_clear (length old) place))
 
 pub all_full : (row : List Bool) (n : ℕ) → length row ≡ n → ((place : ℕ) → place < n → IsIn row place) → row ≡ replicate n true
 all_full row n long all =

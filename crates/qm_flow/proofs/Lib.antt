@@ -1,10 +1,13 @@
 mod Barred
 mod BegunRows
 mod Copies
+mod FirstFrames
 mod FirstMasks
 mod FourLeaves
 mod OwnAnswers
 mod PairFrames
 mod PairsKept
+mod Pushed
 mod Rounds
+mod Spares
 mod Turns

@@ -1,8 +1,12 @@
+pub mod BegunPairs
 pub mod CutFrame
+pub mod FirstFrame
 pub mod FirstMask
+pub mod FreshStack
 pub mod LeadsBack
 pub mod OwnRow
 pub mod PairFrame
 pub mod PairsGoOn
+pub mod Spares
 pub mod UnseenVia
 pub mod WalkSoFar

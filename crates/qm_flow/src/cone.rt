@@ -1,6 +1,7 @@
 //! The cone of a frame: the leaves that its chain may still come to.
 
 ghost use Rattle.std.specs.Prelude.{ℕ, ◌≡◌, ◌<◌, [], ◌∷◌, length, All, IfOk, OnOk};
+ghost use Rattle.std.specs.Bool.{then_some};
 ghost use Rattle.qm_lists.specs.WorkList.{IsIn};
 ghost use Rattle.qm_contacts.specs.NumberedLeaves.{numbered_leaves};
 ghost use Rattle.qm_chains.specs.inner.Cone.{LeadsInto, IsInCone, IsLeftOf, AreEntered};
@@ -9,79 +10,88 @@ ghost use Rattle.qm_chains.specs.inner.Walk.{AreWide};
 ghost use Rattle.qm_flow.specs.inner.CutFrame.{IsCutFrame};
 
 use crate::frame::Frame;
-use crate::narrowing::{cut, may_show};
+use crate::narrowing::{clear, cut, may_show};
 use crate::pairs::Pairs;
+use crate::scratch::Scratch;
 use qm_bits::BitRow;
 use qm_narrow::may_pass;
 use qm_portal::World;
 use qm_sight::RowSource;
-use std::alloc::{AllocError, Global};
+use std::alloc::AllocError;
 
-/// What is left of a frame that has entered a leaf: its mask loses leaves that are not in its cone, and there is no frame
-/// where the mask has nothing then that was not found.
+/// Narrows the mask of a frame that has entered a leaf by its cone: whether the mask then still has a leaf that was not found.
 pub(crate) fn left_of<'a, S: RowSource>(
-    alloc: Global,
     world: &World,
     source: &mut S,
     pairs: &Pairs,
-    frame: Frame<'a>,
+    frame: &mut Frame<'a>,
     found: &BitRow,
     entered: u64,
-) -> Result<Option<Frame<'a>>, AllocError>
+    scratch: &mut Scratch,
+) -> Result<bool, AllocError>
     requires entered { entered < length (numbered_leaves world.now.tree) }
     requires same_world { S.world source.old ≡ world.now }
     requires pairs { ArePairs world.now found.now pairs.now }
-    requires wide { AreWide world.now frame found.now }
-    ensures left { IfOk result (λ left. IsLeftOf world.now pairs.now.first frame.entry found.now entered left) }
+    requires wide { AreWide world.now frame.old found.now }
+    requires spares { AreWide world.now frame.old scratch.old.cone }
+    ensures left { IfOk result (λ left. IsLeftOf world.now pairs.now.first frame.old found.now entered (then_some left frame.new)) }
+    ensures spares { OnOk result (AreWide world.now frame.new scratch.new.cone) }
     ensures on { S.goes_on source.old source.new }
 {
-    let cone = cone_of(alloc, world, source, pairs, &frame, found, entered)?;
-    Ok(cut_frame(frame, &cone, found))
+    cone_of(
+        world,
+        source,
+        pairs,
+        frame,
+        found,
+        entered,
+        &mut scratch.cone,
+        &mut scratch.due,
+    )?;
+    Ok(cut_frame(frame, &scratch.cone, found))
 }
 
-/// What is left of a frame when its mask loses leaves that a row does not have: no frame where the mask has nothing then that
-/// was not found.
-fn cut_frame<'a>(mut frame: Frame<'a>, cone: &BitRow, found: &BitRow) -> Option<Frame<'a>>
-    requires cone { length cone.now ≡ length frame.mask }
-    requires found { length found.now ≡ length frame.mask }
-    ensures { IsCutFrame cone.now found.now frame.entry result }
+/// Takes leaves that a row does not have from the mask of a frame: whether the mask has something then that was not found.
+fn cut_frame<'a>(frame: &mut Frame<'a>, cone: &BitRow, found: &BitRow) -> bool
+    requires cone { length cone.now ≡ length frame.old.mask }
+    requires found { length found.now ≡ length frame.old.mask }
+    ensures left { IsCutFrame cone.now found.now frame.old (then_some result frame.new) }
+    ensures met { frame.new.met ≡ frame.old.met }
+    ensures wide { length frame.new.mask ≡ length frame.old.mask }
 {
     cut(&mut frame.mask, cone);
-    if frame.mask.has_new(found) {
-        return Some(frame);
-    }
-    None
+    frame.mask.has_new(found)
 }
 
-/// A row that has the cone of a frame that has entered a leaf.
+/// Makes a row have the cone of a frame that has entered a leaf.
 pub(crate) fn cone_of<'a, S: RowSource>(
-    alloc: Global,
     world: &World,
     source: &mut S,
     pairs: &Pairs,
     frame: &Frame<'a>,
     found: &BitRow,
     entered: u64,
-) -> Result<BitRow, AllocError>
+    row: &mut BitRow,
+    due: &mut Vec<u64>,
+) -> Result<(), AllocError>
     requires entered { entered < length (numbered_leaves world.now.tree) }
     requires same_world { S.world source.old ≡ world.now }
     requires pairs { ArePairs world.now found.now pairs.now }
     requires wide { AreWide world.now frame.now found.now }
-    ensures wide { IfOk result (λ row. length row ≡ length (numbered_leaves world.now.tree)) }
-    ensures cone { IfOk result (λ row. (n : ℕ) → IsInCone world.now pairs.now.first frame.now found.now entered n → IsIn row n) }
+    requires row { length row.old ≡ length (numbered_leaves world.now.tree) }
+    ensures wide { OnOk result (length row.new ≡ length (numbered_leaves world.now.tree)) }
+    ensures cone { OnOk result ((n : ℕ) → IsInCone world.now pairs.now.first frame.now found.now entered n → IsIn row.new n) }
     ensures on { S.goes_on source.old source.new }
 {
-    let mut row = BitRow::with_len(alloc, world.leaves())?;
+    clear(row);
     row.set(entered);
-    let mut due = Vec::new(alloc);
+    due.clear();
     due.push(entered)?;
     while let Some(leaf) = due.pop() {
         let portals = world.leaving(leaf);
-        go_on(
-            world, source, pairs, frame, found, portals, &mut row, &mut due,
-        )?;
+        go_on(world, source, pairs, frame, found, portals, row, due)?;
     }
-    Ok(row)
+    Ok(())
 }
 
 /// Enters the leaves into which portals may lead on.

@@ -1,14 +1,24 @@
 //! The walk of open chains from one portal.
 
-ghost use Rattle.std.specs.Prelude.{ℕ, ◌≡◌, ◌<◌, length, IfOk};
+ghost use Rattle.std.specs.Prelude.{ℕ, ◌≡◌, ◌<◌, Bool, List, [], false, length, replicate, IfOk, OnOk};
 ghost use Rattle.qm_lists.specs.WorkList.{IsIn};
 ghost use Rattle.qm_contacts.specs.NumberedLeaves.{numbered_leaves};
 ghost use Rattle.qm_contacts.specs.Portals.{Portal};
 ghost use Rattle.qm_segments.specs.Sight.{IsSoundRow};
+ghost use Rattle.qm_contacts.specs.OwnPortals.{HasOwnPortals};
 ghost use Rattle.qm_chains.specs.Shown.{IsAt, IsShown};
 ghost use Rattle.qm_sight.specs.InCeiling.{IsInCeiling};
+ghost use Rattle.qm_sight.specs.WordInSight.{LieWithin};
+ghost use Rattle.qm_flow.specs.inner.BegunPairs.{ArePairsBegun};
+ghost use Rattle.qm_flow.specs.inner.FreshStack.{IsFreshStack};
+ghost use Rattle.qm_flow.specs.inner.FirstMask.{IsFirstMask, IsSomeFirstMask};
+ghost use Rattle.qm_flow.specs.inner.WalkSoFar.{HasEnded};
 
-use crate::walking::{begin_walk, go_round};
+use crate::barring::bar_unseen;
+use crate::beginning::begin_pairs;
+use crate::frame_stack::FrameStack;
+use crate::pairs::Pairs;
+use crate::walking::{begin_walk, end_walk};
 use qm_bits::BitRow;
 use qm_portal::World;
 use qm_sight::RowSource;
@@ -32,18 +42,74 @@ pub fn flow<S: RowSource>(
 {
     world.own_portals();
     let mut row = BitRow::with_len(alloc, world.leaves())?;
-    let mut frames = Vec::new(alloc);
-    let mut pairs = begin_walk(alloc, world, source, portal, &mut row, &mut frames)?;
-    while let Some(frame) = frames.pop() {
-        go_round(
-            alloc,
-            world,
-            source,
-            &mut pairs,
-            frame,
-            &mut row,
-            &mut frames,
-        )?;
-    }
+    walk_chains(alloc, world, source, portal, &mut row)?;
     Ok(row)
+}
+
+/// Makes what the flow knows of pairs, and walks.
+fn walk_chains<S: RowSource>(
+    alloc: Global,
+    world: &World,
+    source: &mut S,
+    portal: u64,
+    row: &mut BitRow,
+) -> Result<(), AllocError>
+    requires portal { portal < length world.now.portals }
+    requires own_portals { HasOwnPortals world.now }
+    requires same_world { S.world source.old ≡ world.now }
+    requires clear { row.old ≡ replicate (length (numbered_leaves world.now.tree)) false }
+    ensures walk { OnOk result (HasEnded world.now (S.ceilings source.old) portal row.new) }
+    ensures on { S.goes_on source.old source.new }
+{
+    let mut pairs = begin_pairs(alloc, world, source, portal)?;
+    walk_with_pairs(alloc, world, source, portal, row, &mut pairs)
+}
+
+/// Makes memory for frames, and walks.
+fn walk_with_pairs<S: RowSource>(
+    alloc: Global,
+    world: &World,
+    source: &mut S,
+    portal: u64,
+    row: &mut BitRow,
+    pairs: &mut Pairs,
+) -> Result<(), AllocError>
+    requires portal { portal < length world.now.portals }
+    requires own_portals { HasOwnPortals world.now }
+    requires same_world { S.world source.old ≡ world.now }
+    requires clear { row.old ≡ replicate (length (numbered_leaves world.now.tree)) false }
+    requires begun { ArePairsBegun world.now portal pairs.old }
+    requires seen { IsSomeFirstMask world.now (S.ceilings source.old) portal pairs.old.seen }
+    ensures walk { OnOk result ((ceilings : List (List Bool)) → LieWithin (S.ceilings source.old) ceilings → IsFirstMask world.now ceilings portal pairs.old.seen →
+        HasEnded world.now ceilings portal row.new) }
+    ensures on { S.goes_on source.old source.new }
+{
+    let mut stack = FrameStack::of(alloc, world, portal)?;
+    walk_with_frames(alloc, world, source, portal, row, pairs, &mut stack)
+}
+
+/// What lines show comes first, then portals are barred by the rows of portals back, and then the walk goes on to its end.
+fn walk_with_frames<'a, S: RowSource>(
+    alloc: Global,
+    world: &'a World,
+    source: &mut S,
+    portal: u64,
+    row: &mut BitRow,
+    pairs: &mut Pairs,
+    stack: &mut FrameStack<'a>,
+) -> Result<(), AllocError>
+    requires portal { portal < length world.now.portals }
+    requires own_portals { HasOwnPortals world.now }
+    requires same_world { S.world source.old ≡ world.now }
+    requires clear { row.old ≡ replicate (length (numbered_leaves world.now.tree)) false }
+    requires begun { ArePairsBegun world.now portal pairs.old }
+    requires seen { IsSomeFirstMask world.now (S.ceilings source.old) portal pairs.old.seen }
+    requires fresh { IsFreshStack world.now portal stack.old }
+    ensures walk { OnOk result ((ceilings : List (List Bool)) → LieWithin (S.ceilings source.old) ceilings → IsFirstMask world.now ceilings portal pairs.old.seen →
+        HasEnded world.now ceilings portal row.new) }
+    ensures on { S.goes_on source.old source.new }
+{
+    begin_walk(alloc, world, source, portal, pairs.seen(), row, stack)?;
+    bar_unseen(world, source, pairs);
+    end_walk(alloc, world, source, pairs, row, stack)
 }

@@ -1,10 +1,14 @@
 //! Where a walk of chains stands.
 
-ghost use Rattle.std.specs.Prelude.{◌≡◌, [], MatchOption};
+ghost use Rattle.std.specs.Prelude.{◌≡◌, ◌<◌, [], length, MatchOption, IfOk};
+ghost use Rattle.qm_contacts.specs.OwnPortals.{HasOwnPortals};
 ghost use Rattle.qm_chains.specs.inner.Frame.{put_back};
+ghost use Rattle.qm_flow.specs.inner.FirstFrame.{IsFirstFrame};
 
 use qm_bits::BitRow;
 use qm_narrow::ChainState;
+use qm_portal::World;
+use std::alloc::{AllocError, Global};
 use std::marker::Model;
 
 /// The end of a chain: the state to which it has led, the portals by which it is still to go on, the leaves in which it
@@ -26,9 +30,33 @@ impl<'a> Model for Frame<'a> {
 }
 
 impl<'a> Frame<'a> {
+    /// The frame of the chain with one portal.
+    pub(crate) fn first(
+        alloc: Global,
+        world: &'a World,
+        portal: u64,
+    ) -> Result<Frame<'a>, AllocError>
+        requires portal { portal < length world.now.portals }
+        requires own_portals { HasOwnPortals world.now }
+        ensures { IfOk result (IsFirstFrame world.now portal) }
+    {
+        let entered = world.to(portal);
+        let mask = BitRow::with_len(alloc, world.leaves())?;
+        let mut met = BitRow::with_len(alloc, world.leaves())?;
+        met.set(world.from(portal));
+        met.set(entered);
+        let state = ChainState::start(alloc, world.pane(portal))?;
+        Ok(Frame {
+            state,
+            untried: world.leaving(entered),
+            met,
+            mask,
+        })
+    }
+
     /// Takes off the portal that is to be tried next.
     pub(crate) fn take_next(&mut self) -> Option<u64>
-        ensures { MatchOption result (self.old.untried ≡ []) (λ number. self.old ≡ put_back number self.new) }
+        ensures { MatchOption result ((self.old.untried ≡ []) × (self.new ≡ self.old)) (λ number. self.old ≡ put_back number self.new) }
     {
         match self.untried.split_first() {
             None => None,

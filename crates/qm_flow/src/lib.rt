@@ -6,6 +6,7 @@ mod beginning;
 mod cone;
 mod flowing;
 mod frame;
+mod frame_stack;
 mod going;
 pub mod laws;
 mod narrowing;
@@ -13,6 +14,7 @@ mod own_rows;
 mod pairing;
 mod pairs;
 mod refining;
+mod scratch;
 mod trying;
 mod walking;
 

@@ -77,13 +77,22 @@ pub(crate) fn full(alloc: Global, len: u64) -> Result<BitRow, AllocError>
     Ok(row)
 }
 
-/// The same row once more.
-pub(crate) fn copy(alloc: Global, row: &BitRow) -> Result<BitRow, AllocError>
-    ensures { IfOk result (λ other. other ≡ row.now) }
+/// Clears all places of a row.
+pub(crate) fn clear(row: &mut BitRow)
+    ensures { row.new ≡ replicate (length row.old) false }
 {
-    let mut other = BitRow::with_len(alloc, row.len())?;
-    other.or_row(row);
-    Ok(other)
+    for k in 0..row.len().div_ceil(64) {
+        row.and_word(k, 0);
+    }
+}
+
+/// Makes a row the same as another one.
+pub(crate) fn copy(row: &mut BitRow, other: &BitRow)
+    requires { length other.now ≡ length row.old }
+    ensures { row.new ≡ other.now }
+{
+    clear(row);
+    row.or_row(other);
 }
 
 /// Sets a place of a row where the mask has it.

@@ -55,7 +55,7 @@ impl OwnRows {
     pub(crate) fn none(alloc: Global, portals: u64) -> Result<OwnRows, AllocError>
         ensures { IfOk result (λ own. own ≡ replicate portals None) }
     {
-        let mut rows = Vec::new(alloc);
+        let mut rows = Vec::with_capacity(alloc, portals as usize)?;
         for _portal in 0..portals {
             rows.push(OwnRow {
                 place: Place::NotYet,

@@ -9,7 +9,6 @@ ghost use Rattle.qm_segments.specs.Sight.{IsInSight};
 ghost use Rattle.qm_chains.specs.Shown.{IsAt};
 ghost use Rattle.qm_chains.specs.inner.Pairs.{ArePairs};
 
-use crate::narrowing::copy;
 use crate::own_rows::OwnRows;
 use qm_bits::BitRow;
 use qm_narrow::ChainState;
@@ -47,19 +46,19 @@ impl Pairs {
         alloc: Global,
         world: &World,
         first: u64,
-        seen: &BitRow,
+        seen: BitRow,
         own: OwnRows,
     ) -> Result<Pairs, AllocError>
         requires first { first < length world.now.portals }
         requires own_portals { HasOwnPortals world.now }
         requires none { own ≡ replicate (length world.now.portals) None }
-        requires wide { length seen.now ≡ length (numbered_leaves world.now.tree) }
-        requires sees { (portal : Portal) → IsAt world.now.portals first portal → (n : ℕ) → IsInSight world.now.tree portal n → IsIn seen.now n }
+        requires wide { length seen ≡ length (numbered_leaves world.now.tree) }
+        requires sees { (portal : Portal) → IsAt world.now.portals first portal → (n : ℕ) → IsInSight world.now.tree portal n → IsIn seen n }
         ensures pairs { IfOk result (λ pairs. (found : List Bool) → ArePairs world.now found pairs) }
         ensures first { IfOk result (λ pairs. pairs.first ≡ first) }
         ensures own { IfOk result (λ pairs. pairs.own ≡ own) }
+        ensures seen { IfOk result (λ pairs. pairs.seen ≡ seen) }
     {
-        let seen = copy(alloc, seen)?;
         let tried = BitRow::with_len(alloc, world.portals())?;
         let start = ChainState::start(alloc, world.pane(first))?;
         Ok(Pairs {

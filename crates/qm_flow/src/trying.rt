@@ -1,6 +1,7 @@
 //! One portal is tried at the end of a chain.
 
 ghost use Rattle.std.specs.Prelude.{◌≡◌, ◌<◌, Bool, List, length, false, None, IfOk, OnOk};
+ghost use Rattle.std.specs.Bool.{then_some};
 ghost use Rattle.qm_contacts.specs.OwnPortals.{HasOwnPortals};
 ghost use Rattle.qm_chains.specs.inner.Frame.{put_back, EndsChain};
 ghost use Rattle.qm_chains.specs.inner.Pairs.{ArePairs, LieWithinPairs};
@@ -14,14 +15,15 @@ use crate::going::go_through;
 use crate::narrowing::may_show;
 use crate::pairing::pair;
 use crate::pairs::Pairs;
+use crate::scratch::Scratch;
 use qm_bits::BitRow;
 use qm_narrow::may_pass;
 use qm_portal::World;
 use qm_sight::RowSource;
 use std::alloc::{AllocError, Global};
 
-/// Tries a portal at the end of a chain. Where the chain goes on, and may still show a leaf that was not found, there is a
-/// frame for it, and the leaf that the portal enters is found, where the chain may show it.
+/// Tries a portal at the end of a chain: whether the chain goes on and may still show a leaf that was not found, and then the
+/// next frame is its own. The leaf that the portal enters is found, where the chain may show it.
 pub(crate) fn try_portal<'a, S: RowSource>(
     alloc: Global,
     world: &'a World,
@@ -30,31 +32,39 @@ pub(crate) fn try_portal<'a, S: RowSource>(
     frame: &Frame<'a>,
     portal: u64,
     row: &mut BitRow,
-) -> Result<Option<Frame<'a>>, AllocError>
+    next: &mut Frame<'a>,
+    scratch: &mut Scratch,
+) -> Result<bool, AllocError>
     requires portal { portal < length world.now.portals }
     requires own_portals { HasOwnPortals world.now }
     requires same_world { S.world source.old ≡ world.now }
     requires wide { AreWide world.now frame.now row.old }
+    requires spares { AreWide world.now next.old scratch.old.cone }
     requires pairs { ArePairs world.now row.old pairs.old }
-    ensures tried { IfOk result (λ child. (ceilings : List (List Bool)) → LieWithin (S.ceilings source.old) ceilings → LieWithinPairs (IsInCeiling ceilings) pairs.old.own →
+    ensures tried { IfOk result (λ on. (ceilings : List (List Bool)) → LieWithin (S.ceilings source.old) ceilings → LieWithinPairs (IsInCeiling ceilings) pairs.old.own →
         EndsChain world.now (IsInCeiling ceilings) pairs.old.first (put_back portal frame.now) →
-        IsTried world.now (IsInCeiling ceilings) pairs.old.first frame.now portal row.old row.new child) }
+        IsTried world.now (IsInCeiling ceilings) pairs.old.first frame.now portal row.old row.new (then_some on next.new)) }
+    ensures spares { OnOk result (AreWide world.now next.new scratch.new.cone) }
     ensures pairs { OnOk result (PairsGoOn world.now (S.ceilings source.old) row.new pairs.old pairs.new) }
     ensures on { S.goes_on source.old source.new }
 {
     if frame.met.get(world.to(portal)) {
-        return Ok(None);
+        return Ok(false);
     }
-    let may = may_lead_on(alloc, world, source, pairs, frame, portal, row)?;
+    let may = may_lead_on(
+        alloc, world, source, pairs, frame, portal, row, next, scratch,
+    )?;
     if !may {
-        return Ok(None);
+        return Ok(false);
     }
-    let child = go_through(alloc, world, source, pairs, frame, portal, row)?;
-    Ok(child)
+    let on = go_through(
+        alloc, world, source, pairs, frame, portal, row, next, scratch,
+    )?;
+    Ok(on)
 }
 
 /// Whether a portal may lead on to a leaf that was not found. Where the first tests do not tell, the row of its pair is made if
-/// it is due.
+/// it is due, by a frame that is made in the next one.
 fn may_lead_on<'a, S: RowSource>(
     alloc: Global,
     world: &World,
@@ -63,14 +73,18 @@ fn may_lead_on<'a, S: RowSource>(
     frame: &Frame<'a>,
     portal: u64,
     row: &BitRow,
+    next: &mut Frame<'a>,
+    scratch: &mut Scratch,
 ) -> Result<bool, AllocError>
     requires portal { portal < length world.now.portals }
     requires own_portals { HasOwnPortals world.now }
     requires same_world { S.world source.old ≡ world.now }
     requires wide { AreWide world.now frame.now row.now }
+    requires spares { AreWide world.now next.old scratch.old.cone }
     requires pairs { ArePairs world.now row.now pairs.old }
     ensures none { IfOk result (λ may. may ≡ false → (ceilings : List (List Bool)) →
         IsTried world.now (IsInCeiling ceilings) pairs.old.first frame.now portal row.now row.now None) }
+    ensures spares { OnOk result (AreWide world.now next.new scratch.new.cone) }
     ensures pairs { OnOk result (PairsGoOn world.now (S.ceilings source.old) row.now pairs.old pairs.new) }
     ensures on { S.goes_on source.old source.new }
 {
@@ -84,7 +98,7 @@ fn may_lead_on<'a, S: RowSource>(
     if !pairs.is_due(portal) {
         return Ok(true);
     }
-    pair(alloc, world, source, pairs, portal, row)?;
+    pair(alloc, world, source, pairs, portal, row, next, scratch)?;
     let may = may_show(pairs.own(), source, portal, &frame.mask, row);
     Ok(may)
 }

@@ -1,20 +1,19 @@
-//! The walk of a flow: how it begins, and one round of it.
+//! The walk of a flow: how it begins, and its rounds until no frame is left.
 
-ghost use Rattle.std.specs.Prelude.{ℕ, ◌≡◌, ◌<◌, Bool, List, [], ◌∷◌, ◌++◌, false, length, replicate, IfOk, OnOk};
+ghost use Rattle.std.specs.Prelude.{ℕ, ◌≡◌, ◌<◌, Bool, List, [], false, length, replicate, IfOk, OnOk};
 ghost use Rattle.std.specs.List.{sum_by};
-ghost use Rattle.std.specs.Option.{option_to_list};
 ghost use Rattle.qm_contacts.specs.NumberedLeaves.{numbered_leaves};
 ghost use Rattle.qm_contacts.specs.OwnPortals.{HasOwnPortals};
 ghost use Rattle.qm_chains.specs.inner.Walk.{IsWalk, frame_weight};
 ghost use Rattle.qm_sight.specs.InCeiling.{IsInCeiling};
 ghost use Rattle.qm_sight.specs.WordInSight.{LieWithin};
+ghost use Rattle.qm_flow.specs.inner.FreshStack.{IsFreshStack};
 ghost use Rattle.qm_flow.specs.inner.FirstMask.{IsFirstMask};
+ghost use Rattle.qm_flow.specs.inner.Spares.{AreSparesWide};
 ghost use Rattle.qm_flow.specs.inner.WalkSoFar.{IsWalkSoFar, IsSomeWalk};
 
-use crate::barring::bar_unseen;
-use crate::beginning::{begin, first_mask};
-use crate::frame::Frame;
-use crate::own_rows::OwnRows;
+use crate::beginning::begin;
+use crate::frame_stack::FrameStack;
 use crate::pairs::Pairs;
 use crate::trying::try_portal;
 use qm_bits::BitRow;
@@ -23,99 +22,101 @@ use qm_portal::World;
 use qm_sight::RowSource;
 use std::alloc::{AllocError, Global};
 
-/// Begins a walk: its one frame, what lines show, and what is known of pairs.
+/// Begins with the frame of the first portal, which may show what may be in sight of it, and with what lines show.
 pub(crate) fn begin_walk<'a, S: RowSource>(
     alloc: Global,
     world: &'a World,
     source: &mut S,
     portal: u64,
+    seen: &BitRow,
     row: &mut BitRow,
-    frames: &mut Vec<Frame<'a>>,
-) -> Result<Pairs, AllocError>
-    requires portal { portal < length world.now.portals }
-    requires own_portals { HasOwnPortals world.now }
-    requires same_world { S.world source.old ≡ world.now }
-    requires clear { row.old ≡ replicate (length (numbered_leaves world.now.tree)) false }
-    requires none { frames.old.items ≡ [] }
-    ensures walk { IfOk result (λ pairs. IsWalkSoFar world.now (S.ceilings source.old) portal pairs frames.new.items row.new) }
-    ensures on { S.goes_on source.old source.new }
-{
-    let own = OwnRows::none(alloc, world.portals())?;
-    let mask = first_mask(alloc, world, source, &own, portal)?;
-    let mut pairs = Pairs::of(alloc, world, portal, &mask, own)?;
-    bar_unseen(world, source, &mut pairs);
-    open(alloc, world, source, portal, mask, row, frames)?;
-    Ok(pairs)
-}
-
-/// Begins with the frame of the first portal, which has this mask, and with what lines show.
-fn open<'a, S: RowSource>(
-    alloc: Global,
-    world: &'a World,
-    source: &mut S,
-    portal: u64,
-    mask: BitRow,
-    row: &mut BitRow,
-    frames: &mut Vec<Frame<'a>>,
+    stack: &mut FrameStack<'a>,
 ) -> Result<(), AllocError>
     requires portal { portal < length world.now.portals }
     requires own_portals { HasOwnPortals world.now }
     requires same_world { S.world source.old ≡ world.now }
-    requires wide { length mask ≡ length (numbered_leaves world.now.tree) }
+    requires wide { length seen.now ≡ length (numbered_leaves world.now.tree) }
     requires clear { row.old ≡ replicate (length (numbered_leaves world.now.tree)) false }
-    requires none { frames.old.items ≡ [] }
-    ensures walk { OnOk result ((ceilings : List (List Bool)) → LieWithin (S.ceilings source.old) ceilings → IsFirstMask world.now ceilings portal mask →
-        IsWalk world.now (IsInCeiling ceilings) portal frames.new.items row.new) }
+    requires fresh { IsFreshStack world.now portal stack.old }
+    ensures walk { OnOk result ((ceilings : List (List Bool)) → LieWithin (S.ceilings source.old) ceilings → IsFirstMask world.now ceilings portal seen.now →
+        IsWalk world.now (IsInCeiling ceilings) portal stack.new.frames.items row.new) }
+    ensures spares { OnOk result (AreSparesWide world.now stack.new) }
     ensures on { S.goes_on source.old source.new }
 {
-    let first = begin(alloc, world, portal, mask, row)?;
-    frames.push(first)?;
+    begin(world, portal, seen, &mut stack.next, row);
+    stack.push_next(alloc, world, portal)?;
     show_by_lines(alloc, world, source, portal, row)?;
     Ok(())
 }
 
-/// One round: a portal is tried at the last frame, which stands by itself here, or none is left there.
-pub(crate) fn go_round<'a, S: RowSource>(
+/// Goes on until no frame is left.
+pub(crate) fn end_walk<'a, S: RowSource>(
     alloc: Global,
     world: &'a World,
     source: &mut S,
     pairs: &mut Pairs,
-    mut frame: Frame<'a>,
     row: &mut BitRow,
-    frames: &mut Vec<Frame<'a>>,
+    stack: &mut FrameStack<'a>,
 ) -> Result<(), AllocError>
     requires own_portals { HasOwnPortals world.now }
     requires same_world { S.world source.old ≡ world.now }
-    requires walk { IsSomeWalk world.now (S.ceilings source.old) pairs.old (frames.old.items ++ frame ∷ []) row.old }
+    requires walk { IsSomeWalk world.now (S.ceilings source.old) pairs.old stack.old.frames.items row.old }
+    requires spares { AreSparesWide world.now stack.old }
     ensures walk { OnOk result ((p : ℕ) (ceilings : List (List Bool)) → LieWithin (S.ceilings source.old) ceilings →
-        IsWalkSoFar world.now ceilings p pairs.old (frames.old.items ++ frame.entry ∷ []) row.old →
-        IsWalkSoFar world.now ceilings p pairs.new frames.new.items row.new) }
-    ensures less { OnOk result (sum_by (frame_weight world.now) frames.new.items < sum_by (frame_weight world.now) (frames.old.items ++ frame.entry ∷ [])) }
+        IsWalkSoFar world.now ceilings p pairs.old stack.old.frames.items row.old →
+        IsWalkSoFar world.now ceilings p pairs.new [] row.new) }
     ensures on { S.goes_on source.old source.new }
 {
-    match frame.take_next() {
-        None => Ok(()),
-        Some(number) => {
-            let child = try_portal(alloc, world, source, pairs, &frame, number, row)?;
-            put_frames(frames, frame, child)?;
-            Ok(())
-        }
+    while !stack.frames.is_empty() {
+        go_round(alloc, world, source, pairs, row, stack)?;
     }
+    Ok(())
 }
 
-/// Puts a frame back, and then the one to which its chain has gone on.
-fn put_frames<'a>(
-    frames: &mut Vec<Frame<'a>>,
-    frame: Frame<'a>,
-    child: Option<Frame<'a>>,
+/// One round: a portal is tried at the last frame, or none is left there.
+fn go_round<'a, S: RowSource>(
+    alloc: Global,
+    world: &'a World,
+    source: &mut S,
+    pairs: &mut Pairs,
+    row: &mut BitRow,
+    stack: &mut FrameStack<'a>,
 ) -> Result<(), AllocError>
-    ensures { OnOk result (frames.new.items ≡ (frames.old.items ++ frame.entry ∷ []) ++ option_to_list child.entry) }
+    requires own_portals { HasOwnPortals world.now }
+    requires same_world { S.world source.old ≡ world.now }
+    requires walk { IsSomeWalk world.now (S.ceilings source.old) pairs.old stack.old.frames.items row.old }
+    requires not_ended { 0 < length stack.old.frames.items }
+    requires spares { AreSparesWide world.now stack.old }
+    ensures walk { OnOk result ((p : ℕ) (ceilings : List (List Bool)) → LieWithin (S.ceilings source.old) ceilings →
+        IsWalkSoFar world.now ceilings p pairs.old stack.old.frames.items row.old →
+        IsWalkSoFar world.now ceilings p pairs.new stack.new.frames.items row.new) }
+    ensures spares { OnOk result (AreSparesWide world.now stack.new) }
+    ensures less { OnOk result (sum_by (frame_weight world.now) stack.new.frames.items < sum_by (frame_weight world.now) stack.old.frames.items) }
+    ensures on { S.goes_on source.old source.new }
 {
-    frames.push(frame)?;
-    match child {
-        None => Ok(()),
-        Some(child) => {
-            frames.push(child)?;
+    let last = stack.frames.len() - 1;
+    match stack.frames[last].take_next() {
+        None => {
+            stack.end_last()?;
+            Ok(())
+        }
+        Some(portal) => {
+            let frame = &stack.frames[last];
+            let on = try_portal(
+                alloc,
+                world,
+                source,
+                pairs,
+                frame,
+                portal,
+                row,
+                &mut stack.next,
+                &mut stack.scratch,
+            )?;
+            if !on {
+                return Ok(());
+            }
+            stack.push_next(alloc, world, pairs.first())?;
             Ok(())
         }
     }

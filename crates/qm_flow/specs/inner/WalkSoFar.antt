@@ -1,4 +1,4 @@
-use Rattle.std.specs.Prelude.{◌≡◌, ℕ, Bool, List}
+use Rattle.std.specs.Prelude.{◌≡◌, ℕ, Bool, List, []}
 use Rattle.qm_contacts.specs.World.{World}
 use Rattle.qm_chains.specs.inner.Frame.{Frame}
 use Rattle.qm_chains.specs.inner.Pairs.{Pairs, ArePairs, LieWithinPairs}
@@ -19,3 +19,7 @@ pub record IsSomeWalk (world : World) (now : List (List Bool)) (pairs : Pairs) (
   pub ceilings : List (List Bool)
   pub below : LieWithin now ceilings
   pub so_far : IsWalkSoFar world ceilings p pairs frames row
+
+-- a walk from the portal of number p, with these ceilings, that has ended: no frame is left
+abbrev pub HasEnded : World → List (List Bool) → ℕ → List Bool → Type 0
+HasEnded world ceilings p row = IsWalk world (IsInCeiling ceilings) p [] row

@@ -1,18 +1,18 @@
-use Rattle.std.proofs.Common.{◌≡◌, true, [], ◌∷◌, ◌++◌, List, Bool, ℕ, set, ap, ◌∙◌, subst, arith}
+use Rattle.std.proofs.Common.{◌≡◌, true, [], List, Bool, ℕ, length, set, ap, ◌∙◌, subst, arith}
 use Rattle.std.proofs.lemmas.List.{nil_from_length}
 use Rattle.qm_lists.proofs.WorkLists.{place_within}
 use Rattle.qm_chains.specs.inner.Cone.{IsConeSoFar}
 use Rattle.qm_chains.proofs.Entering.{cone_begins, leaf_in, leaving_within, cone_more, cone_less, cone_ends}
+use Rattle.qm_flow.proofs.Pushed.{pushed_to}
 use Rattle.qm_flow.proofs.cone.cone_of.Goals as goal
 
 pub loop-leaf-init : goal.loop-leaf-init
 loop-leaf-init g c =
-    let count = c.leaves.ensures in
-    let within = c.requires.entered in
+    let wide = c.requires.row in
     record {
-      so_far = cone_begins c.args.world.now c.args.pairs.now.first c.args.frame.now c.args.found.now c.args.entered c.leaves.result c.set.new.self c.push.new.self.items count (omega (arith, count, within))
-          (c.set.ensures ∙ ap (λ (row : List Bool). set row c.args.entered true) c.in_ok-row.ensures)
-          (c.in_ok-push.ensures.items ∙ ap (λ (due : List ℕ). due ++ c.args.entered ∷ []) c.new-due.ensures.items);
+      so_far = cone_begins c.args.world.now c.args.pairs.now.first c.args.frame.now c.args.found.now c.args.entered (length c.args.row.now) c.set.new.self c.push.new.self.items wide (omega (arith, wide, c.requires.entered))
+          (c.set.ensures ∙ ap (λ (row : List Bool). set row c.args.entered true) c.clear.ensures)
+          (pushed_to [] c.clear-2.new.self.items c.push.new.self.items c.args.entered c.in_ok-push.ensures.items c.clear-2.ensures.items);
       on = g.met.S.RowSource.goes_on_itself c.args.source.now;
     }
 

@@ -1,7 +1,16 @@
+use Rattle.std.proofs.Common.{length, ap, ◌∙◌}
+use Rattle.std.specs.Bool.{then_some}
 use Rattle.qm_chains.proofs.Cones.{left_of_cut}
 use Rattle.qm_flow.proofs.cone.left_of.Goals as goal
 
 pub returns-clause-left : goal.returns-clause-left
 returns-clause-left g c =
-    let its = c.cut_frame.ensures in
-    left_of_cut c.args.world.now c.args.pairs.now.first c.args.frame c.args.found.now c.args.entered c.in_ok-cone.cone its.mask c.cut_frame.result c.in_ok-cone.ensures.cone its.cut its.left_is
+    let its = c.cut_frame.ensures.left in
+    left_of_cut c.args.world.now c.args.pairs.now.first c.args.frame.now c.args.found.now c.args.entered c.cone_of.new.row its.mask (then_some c.cut_frame.result c.cut_frame.new.frame) c.in_ok-cone_of.ensures.cone its.cut its.left_is
+
+pub returns-clause-spares : goal.returns-clause-spares
+returns-clause-spares g c = record {
+  met = ap length c.cut_frame.ensures.met ∙ c.requires.spares.met;
+  mask = c.cut_frame.ensures.wide ∙ c.requires.spares.mask;
+  found = c.in_ok-cone_of.ensures.wide;
+}

@@ -1,4 +1,5 @@
-use Rattle.std.proofs.Common.{◌≡◌, ◌⊎◌, ◌<◌, ℕ, true, List, Option, Bool, length, set, sym, ap, ◌∙◌, subst, arith}
+use Rattle.std.proofs.Common.{◌≡◌, ◌⊎◌, ◌<◌, ℕ, true, List, Option, Bool, length, set, sym, ap, ◌∙◌, subst, arith, ⊎_elim}
+use Rattle.std.specs.Bool.{then_some}
 use Rattle.qm_space.specs.Plane.{Plane}
 use Rattle.qm_lists.specs.WorkList.{IsIn}
 use Rattle.qm_convex.specs.Winding.{Winding}
@@ -18,6 +19,8 @@ use Rattle.qm_chains.proofs.TriedPortals.{same_portal, tried_stopped}
 use Rattle.qm_chains.proofs.Cones.{tried_on_left}
 use Rattle.qm_sight.specs.WordInSight.{ceiling_of}
 use Rattle.qm_sight.specs.InCeiling.{IsInCeiling}
+use Rattle.std.proofs.lemmas.List.{length-set}
+use Rattle.qm_contacts.specs.NumberedLeaves.{numbered_leaves}
 use Rattle.qm_flow.proofs.Copies.{found_stays}
 use Rattle.qm_flow.proofs.going.go_through.Goals as goal
 
@@ -39,61 +42,61 @@ left_of-requires-clause-pairs g c =
     pairs_stay c.args.world.now c.args.row.now c.find.new.row c.args.pairs.now
     (found_stays c.args.row.now c.find.new.row c.narrow.new.mask c.to-entered.result (omega (arith, within, wide)) c.find.ensures) c.requires.pairs
 
-pub returns-in-None-clause-tried : goal.returns-in-None-clause-tried
-returns-in-None-clause-tried g c ceilings lie within ends =
-    let pane = c.pane.ensures in
+pub returns-then-not-leads-clause-tried : goal.returns-then-not-leads-clause-tried
+returns-then-not-leads-clause-tried g c ceilings lie within ends =
+    let pane = c.pane-pane.ensures in
     tried_stopped c.args.world.now c.requires.own_portals (IsInCeiling ceilings) c.args.pairs.now.first c.args.frame.now c.args.portal c.args.row.now pane.0 pane.1
     (blocked
     (subst (λ (h : Plane). Blocks c.args.frame.now.state pane.0.winding h) pane.3
-    (subst (λ (w : Winding). Blocks c.args.frame.now.state w c.pane.result.now.into) pane.2
-    (subst (λ (state : ChainState). Blocks state c.pane.result.now.winding c.pane.result.now.into) (ap (λ (f : Frame). f.state) c.frame.view_is)
-    (rw c.in-None.is at c.in_ok-step.ensures)))))
+    (subst (λ (w : Winding). Blocks c.args.frame.now.state w c.pane-pane.result.now.into) pane.2
+    (subst (λ (state : ChainState). Blocks state c.pane-pane.result.now.winding c.pane-pane.result.now.into) (ap (λ (f : Frame). f.state) c.frame.view_is)
+    (c.in_ok-leads.ensures.blocks c.if-not-leads.true)))))
 
-pub returns-in_ok-left-in-Some-clause-tried : goal.returns-in_ok-left-in-Some-clause-tried
-returns-in_ok-left-in-Some-clause-tried g c ceilings lie lie_own ends =
+pub returns-clause-tried : goal.returns-clause-tried
+returns-clause-tried g c ceilings lie lie_own ends =
     let q = c.to-entered.ensures.value in
-    let pane = c.pane.ensures in
+    let pane = c.pane-pane.ensures in
     let frame = c.args.frame.now in
     let ceiling = ceiling_of (g.S.RowSource.ceilings c.args.source.now) c.args.portal in
     let world = c.args.world.now in
     let pairs = c.args.pairs.now in
     let portal = c.args.portal in
-    let narrowed_here = subst (λ (w : World). IsNarrowed (MustHave w c.own.result.now portal) (CanHave ceiling c.own.result.now portal) c.in_ok-mask-in-Some.mask c.narrow.new.mask) c.requires.same_world c.narrow.ensures.narrowed in
-    let narrowed_own = subst (λ (own : List (Option (List Bool))). IsNarrowed (MustHave world own portal) (CanHave ceiling own portal) c.in_ok-mask-in-Some.mask c.narrow.new.mask) c.own.ensures narrowed_here in
-    let narrowed_row = subst (λ (row : List Bool). IsNarrowed (MustHave world pairs.own portal) (CanHave ceiling pairs.own portal) row c.narrow.new.mask) (c.in_ok-mask-in-Some.ensures ∙ ap (λ (f : Frame). f.mask) c.frame.view_is) narrowed_own in
+    let narrowed_here = subst (λ (w : World). IsNarrowed (MustHave w c.own.result.now portal) (CanHave ceiling c.own.result.now portal) c.copy.new.row c.narrow.new.mask) c.requires.same_world c.narrow.ensures.narrowed in
+    let narrowed_own = subst (λ (own : List (Option (List Bool))). IsNarrowed (MustHave world own portal) (CanHave ceiling own portal) c.copy.new.row c.narrow.new.mask) c.own.ensures narrowed_here in
+    let narrowed_row = subst (λ (row : List Bool). IsNarrowed (MustHave world pairs.own portal) (CanHave ceiling pairs.own portal) row c.narrow.new.mask) (c.copy.ensures ∙ ap (λ (f : Frame). f.mask) c.frame.view_is) narrowed_own in
     let narrowed = narrowed_as (MustHave world pairs.own portal) (CanHave ceiling pairs.own portal) (IsWantedVia world pairs.first c.args.row.now portal) (λ n. IsInCeiling ceilings n portal) frame.mask c.narrow.new.mask
     (wanted_answered world c.args.row.now pairs c.requires.pairs portal)
     (λ n can. can_within (IsInCeiling ceilings) ceiling pairs.own portal n (λ m has. lie portal m has) lie_own can) narrowed_row in
-    let step = subst (λ (portal : Portal). GoesOn frame.state portal c.in-Some.state) (same_portal c.args.world.now.portals c.args.portal pane.0 q.0 pane.1 q.1)
-    (subst (λ (h : Plane). LeadsTo frame.state pane.0.winding h c.in-Some.state) pane.3
-    (subst (λ (w : Winding). LeadsTo frame.state w c.pane.result.now.into c.in-Some.state) pane.2
-    (subst (λ (state : ChainState). LeadsTo state c.pane.result.now.winding c.pane.result.now.into c.in-Some.state) (ap (λ (f : Frame). f.state) c.frame.view_is)
-    (rw c.in-Some.is at c.in_ok-step.ensures)))) in
-    let same_met = c.in_ok-met-in-Some.ensures ∙ ap (λ (f : Frame). f.met) c.frame.view_is in
+    let step = subst (λ (portal : Portal). GoesOn frame.state portal c.step_into.new.spare) (same_portal c.args.world.now.portals c.args.portal pane.0 q.0 pane.1 q.1)
+    (subst (λ (h : Plane). LeadsTo frame.state pane.0.winding h c.step_into.new.spare) pane.3
+    (subst (λ (w : Winding). LeadsTo frame.state w c.pane-pane.result.now.into c.step_into.new.spare) pane.2
+    (subst (λ (state : ChainState). LeadsTo state c.pane-pane.result.now.winding c.pane-pane.result.now.into c.step_into.new.spare) (ap (λ (f : Frame). f.state) c.frame.view_is)
+    (c.in_ok-leads.ensures.leads c.if-not-leads.false)))) in
+    let same_met = c.copy-2.ensures ∙ ap (λ (f : Frame). f.met) c.frame.view_is in
     let met_is = c.set.ensures ∙ ap (λ (row : List Bool). set row c.to-entered.result true) same_met ∙ ap (λ (n : ℕ). set frame.met n true) q.2 in
     let within = c.to-entered.ensures.within in
     let met_wide = c.requires.wide.met in
     let row_wide = c.requires.wide.found in
     let is = q.2 in
-    let child : Frame = record { state = c.in-Some.state; untried = c.leaving.result.now; met = c.set.new.self; mask = c.narrow.new.mask } in
+    let child : Frame = record { state = c.step_into.new.spare; untried = c.leaving-next-inside.result.now; met = c.set.new.self; mask = c.narrow.new.mask } in
     tried_on_left c.args.world.now c.requires.own_portals (IsInCeiling ceilings) pairs.first frame c.args.portal c.args.row.now q.0 q.1
     child (λ n. IsInCeiling ceilings n portal) narrowed (λ n has. has) ends step
     (c.requires.new q.0 q.1)
     (omega (arith, within, met_wide, is)) met_is
-    (subst (λ (n : ℕ). AreLeaving c.args.world.now.portals n c.leaving.result.now) q.2 c.leaving.ensures)
+    (subst (λ (n : ℕ). AreLeaving c.args.world.now.portals n c.leaving-next-inside.result.now) q.2 c.leaving-next-inside.ensures)
     (omega (arith, within, row_wide, is)) c.find.new.row
     (subst (λ (n : ℕ). (IsIn c.narrow.new.mask n × (c.find.new.row ≡ set c.args.row.now n true)) ⊎ ((IsIn c.narrow.new.mask n → ⊥) × (c.find.new.row ≡ c.args.row.now))) q.2 c.find.ensures)
-    c.in_ok-left-in-Some.left
-    (subst (λ (n : ℕ). IsLeftOf world pairs.first child c.find.new.row n c.in_ok-left-in-Some.left) q.2 c.in_ok-left-in-Some.ensures.left)
+    (then_some c.in_ok-left.left c.left_of.new.frame)
+    (subst (λ (n : ℕ). IsLeftOf world pairs.first child c.find.new.row n (then_some c.in_ok-left.left c.left_of.new.frame)) q.2 c.in_ok-left.ensures.left)
 
-pub returns-in_ok-left-in-Some-clause-stays : goal.returns-in_ok-left-in-Some-clause-stays
-returns-in_ok-left-in-Some-clause-stays g c =
+pub returns-clause-stays : goal.returns-clause-stays
+returns-clause-stays g c =
     let within = c.to-entered.ensures.within in
     let wide = c.requires.wide.found in
     found_stays c.args.row.now c.find.new.row c.narrow.new.mask c.to-entered.result (omega (arith, within, wide)) c.find.ensures
 
-pub returns-in_err-left-in-Some-clause-stays : goal.returns-in_err-left-in-Some-clause-stays
-returns-in_err-left-in-Some-clause-stays g c =
+pub returns-in_err-left-clause-stays : goal.returns-in_err-left-clause-stays
+returns-in_err-left-clause-stays g c =
     let within = c.to-entered.ensures.within in
     let wide = c.requires.wide.found in
     found_stays c.args.row.now c.find.new.row c.narrow.new.mask c.to-entered.result (omega (arith, within, wide)) c.find.ensures
@@ -101,8 +104,68 @@ returns-in_err-left-in-Some-clause-stays g c =
 pub left_of-requires-clause-same_world : goal.left_of-requires-clause-same_world
 left_of-requires-clause-same_world g c = g.met.S.RowSource.same_world c.args.source.now c.narrow.new.source c.narrow.ensures.on ∙ c.requires.same_world
 
-pub returns-in_err-left-in-Some-clause-on : goal.returns-in_err-left-in-Some-clause-on
-returns-in_err-left-in-Some-clause-on g c = g.met.S.RowSource.goes_on_in_turn c.args.source.now c.narrow.new.source c.left_of.new.source c.narrow.ensures.on c.left_of.ensures.on
+pub returns-in_err-left-clause-on : goal.returns-in_err-left-clause-on
+returns-in_err-left-clause-on g c = g.met.S.RowSource.goes_on_in_turn c.args.source.now c.narrow.new.source c.left_of.new.source c.narrow.ensures.on c.left_of.ensures.on
 
-pub returns-in_ok-left-in-Some-clause-on : goal.returns-in_ok-left-in-Some-clause-on
-returns-in_ok-left-in-Some-clause-on g c = g.met.S.RowSource.goes_on_in_turn c.args.source.now c.narrow.new.source c.left_of.new.source c.narrow.ensures.on c.left_of.ensures.on
+pub returns-clause-on : goal.returns-clause-on
+returns-clause-on g c = g.met.S.RowSource.goes_on_in_turn c.args.source.now c.narrow.new.source c.left_of.new.source c.narrow.ensures.on c.left_of.ensures.on
+
+-- what is asked and kept besides
+
+pub copy-requires : goal.copy-requires
+copy-requires g c = ap (λ (f : Frame). length f.mask) c.frame.view_is ∙ c.requires.wide.mask ∙ sym (ap (λ (f : Frame). length f.mask) c.next.view_is ∙ c.requires.spares.mask)
+
+pub narrow-requires-clause-wide : goal.narrow-requires-clause-wide
+narrow-requires-clause-wide g c =
+    ap length c.copy.ensures ∙ ap (λ (f : Frame). length f.mask) c.frame.view_is ∙ c.requires.wide.mask ∙ ap (λ (w : World). length (numbered_leaves w.tree)) (sym c.requires.same_world)
+
+pub copy-requires-2 : goal.copy-requires-2
+copy-requires-2 g c = ap (λ (f : Frame). length f.met) c.frame.view_is ∙ c.requires.wide.met ∙ sym (ap (λ (f : Frame). length f.met) c.next.view_is ∙ c.requires.spares.met)
+
+pub set-requires : goal.set-requires
+set-requires g c =
+    let within = c.to-entered.ensures.within in
+    let wide = ap length c.copy-2.ensures ∙ ap (λ (f : Frame). length f.met) c.frame.view_is ∙ c.requires.wide.met in
+    omega (arith, within, wide)
+
+pub find-requires-clause-row : goal.find-requires-clause-row
+find-requires-clause-row g c = let within = c.to-entered.ensures.within in let wide = c.requires.wide.found in omega (arith, within, wide)
+
+pub find-requires-clause-mask : goal.find-requires-clause-mask
+find-requires-clause-mask g c =
+    let within = c.to-entered.ensures.within in
+    let wide = c.narrow.ensures.narrowed.same_length ∙ ap length c.copy.ensures ∙ ap (λ (f : Frame). length f.mask) c.frame.view_is ∙ c.requires.wide.mask in
+    omega (arith, within, wide)
+
+pub left_of-requires-clause-entered : goal.left_of-requires-clause-entered
+left_of-requires-clause-entered g c = c.to-entered.ensures.within
+
+pub left_of-requires-clause-wide : goal.left_of-requires-clause-wide
+left_of-requires-clause-wide g c = record {
+  met = ap length c.set.ensures ∙ length-set c.copy-2.new.row c.to-entered.result true ∙ ap length c.copy-2.ensures ∙ ap (λ (f : Frame). length f.met) c.frame.view_is ∙ c.requires.wide.met;
+  mask = c.narrow.ensures.narrowed.same_length ∙ ap length c.copy.ensures ∙ ap (λ (f : Frame). length f.mask) c.frame.view_is ∙ c.requires.wide.mask;
+  found = ⊎_elim (λ it. ap length it.1 ∙ length-set c.args.row.now c.to-entered.result true) (λ kept. ap length kept.1) c.find.ensures ∙ c.requires.wide.found;
+}
+
+pub left_of-requires-clause-spares : goal.left_of-requires-clause-spares
+left_of-requires-clause-spares g c = record {
+  met = ap length c.set.ensures ∙ length-set c.copy-2.new.row c.to-entered.result true ∙ ap length c.copy-2.ensures ∙ ap (λ (f : Frame). length f.met) c.frame.view_is ∙ c.requires.wide.met;
+  mask = c.narrow.ensures.narrowed.same_length ∙ ap length c.copy.ensures ∙ ap (λ (f : Frame). length f.mask) c.frame.view_is ∙ c.requires.wide.mask;
+  found = c.requires.spares.found;
+}
+
+pub returns-then-not-leads-clause-spares : goal.returns-then-not-leads-clause-spares
+returns-then-not-leads-clause-spares g c = record {
+  met = ap (λ (f : Frame). length f.met) c.next.view_is ∙ c.requires.spares.met;
+  mask = ap (λ (f : Frame). length f.mask) c.next.view_is ∙ c.requires.spares.mask;
+  found = c.requires.spares.found;
+}
+
+pub returns-then-not-leads-clause-on : goal.returns-then-not-leads-clause-on
+returns-then-not-leads-clause-on g c = g.met.S.RowSource.goes_on_itself c.args.source.now
+
+pub returns-in_err-leads-clause-on : goal.returns-in_err-leads-clause-on
+returns-in_err-leads-clause-on g c = g.met.S.RowSource.goes_on_itself c.args.source.now
+
+pub returns-clause-spares : goal.returns-clause-spares
+returns-clause-spares g c = c.in_ok-left.ensures.spares

@@ -20,8 +20,8 @@ returns-clause-pairs g c =
     let inside = c.requires.portal in
     record {
       same_first = ap (λ (p : Pairs). p.first) c.put.ensures;
-      are = pairs_more world found old c.args.portal c.in_ok-row.row c.put.new.self c.put.ensures (omega (arith, one, inside)) c.requires.pairs c.in_ok-row.ensures.wide c.in_ok-row.ensures.has;
+      are = pairs_more world found old c.args.portal c.fill_row.new.row c.put.new.self c.put.ensures (omega (arith, one, inside)) c.requires.pairs c.in_ok-fill_row.ensures.wide c.in_ok-fill_row.ensures.has;
       within = λ ceilings lie within.
-          within_more world found old c.args.portal c.in_ok-row.row c.put.new.self c.put.ensures (omega (arith, one, inside)) (IsInCeiling ceilings) within
-          (λ n is. can_within (IsInCeiling ceilings) (ceiling_of (g.S.RowSource.ceilings c.args.source.now) c.args.portal) old.own c.args.portal n (λ m has. lie c.args.portal m has) within (c.in_ok-row.ensures.within n is));
+          within_more world found old c.args.portal c.fill_row.new.row c.put.new.self c.put.ensures (omega (arith, one, inside)) (IsInCeiling ceilings) within
+          (λ n is. can_within (IsInCeiling ceilings) (ceiling_of (g.S.RowSource.ceilings c.args.source.now) c.args.portal) old.own c.args.portal n (λ m has. lie c.args.portal m has) within (c.in_ok-fill_row.ensures.within n is));
     }

@@ -12,7 +12,7 @@ use Rattle.qm_chains.specs.inner.Walk.{IsTried}
 use Rattle.qm_chains.proofs.PairRows.{none_wanted}
 use Rattle.qm_chains.proofs.TriedPortals.{tried_stopped, tried_nothing}
 use Rattle.qm_sight.specs.InCeiling.{IsInCeiling}
-use Rattle.qm_chains.specs.inner.Pairs.{Pairs}
+use Rattle.qm_chains.specs.inner.Pairs.{Pairs, ArePairs}
 use Rattle.qm_flow.specs.inner.PairsGoOn.{PairsGoOn}
 use Rattle.qm_flow.proofs.PairsKept.{pairs_same, pairs_later}
 use Rattle.qm_flow.proofs.trying.may_lead_on.Goals as goal
@@ -120,3 +120,33 @@ returns-clause-pairs g c =
 pub returns-clause-on : goal.returns-clause-on
 returns-clause-on g c = g.met.S.RowSource.goes_on_in_turn c.args.source.now c.pair.new.source c.may_show-may.new.source
     (g.met.S.RowSource.goes_on_in_turn c.args.source.now c.may_show.new.source c.pair.new.source c.may_show.ensures.on c.pair.ensures.on) c.may_show-may.ensures.on
+
+-- what is asked and kept besides
+
+pub may_show-requires-clause-wide : goal.may_show-requires-clause-wide
+may_show-requires-clause-wide g c =
+    ap (λ (f : Frame). length f.mask) c.frame.view_is ∙ c.requires.wide.mask ∙ ap (λ (w : World). length (numbered_leaves w.tree)) (sym c.requires.same_world)
+
+pub may_show-requires-clause-found : goal.may_show-requires-clause-found
+may_show-requires-clause-found g c = c.requires.wide.found ∙ sym (ap (λ (f : Frame). length f.mask) c.frame.view_is ∙ c.requires.wide.mask)
+
+pub returns-then-not-may_show-clause-spares : goal.returns-then-not-may_show-clause-spares
+returns-then-not-may_show-clause-spares g c = c.requires.spares
+
+pub returns-then-not-may_pass-clause-spares : goal.returns-then-not-may_pass-clause-spares
+returns-then-not-may_pass-clause-spares g c = c.requires.spares
+
+pub returns-then-not-is_due-clause-spares : goal.returns-then-not-is_due-clause-spares
+returns-then-not-is_due-clause-spares g c = c.requires.spares
+
+pub pair-requires-clause-found : goal.pair-requires-clause-found
+pair-requires-clause-found g c = c.requires.wide.found
+
+pub pair-requires-clause-pairs : goal.pair-requires-clause-pairs
+pair-requires-clause-pairs g c = subst (ArePairs c.args.world.now c.args.row.now) (sym c.is_due.ensures) c.requires.pairs
+
+pub may_show-may-requires-clause-found : goal.may_show-may-requires-clause-found
+may_show-may-requires-clause-found g c = c.requires.wide.found ∙ sym (ap (λ (f : Frame). length f.mask) c.frame.view_is ∙ c.requires.wide.mask)
+
+pub returns-clause-spares : goal.returns-clause-spares
+returns-clause-spares g c = c.in_ok-pair.ensures.spares

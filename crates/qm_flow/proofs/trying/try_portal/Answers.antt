@@ -1,4 +1,5 @@
-use Rattle.std.proofs.Common.{◌≡◌, ℕ, true, false, get_or, sym, ap, ◌∙◌, subst}
+use Rattle.std.proofs.Common.{◌≡◌, ℕ, true, false, get_or, sym, ap, ◌∙◌, subst, length, arith}
+use Rattle.std.specs.Bool.{then_some}
 use Rattle.qm_chains.specs.inner.Frame.{Frame, put_back, EndsChain}
 use Rattle.qm_chains.specs.inner.Walk.{IsTried}
 use Rattle.qm_contacts.specs.Portals.{Portal}
@@ -39,8 +40,8 @@ returns-clause-tried g c ceilings lie within ends =
     let old = c.args.pairs.now in
     let new = c.may_lead_on.new.pairs in
     let kept = c.in_ok-may.ensures.pairs in
-    subst (λ (first : ℕ). IsTried world (IsInCeiling ceilings) first frame c.args.portal c.args.row.now c.go_through.new.row c.in_ok-child.child) kept.same_first
-    (c.in_ok-child.ensures.tried ceilings
+    subst (λ (first : ℕ). IsTried world (IsInCeiling ceilings) first frame c.args.portal c.args.row.now c.go_through.new.row (then_some c.in_ok-on.on c.go_through.new.next)) kept.same_first
+    (c.in_ok-on.ensures.tried ceilings
     (λ place n is. lie place n (g.met.S.RowSource.narrower c.args.source.now c.may_lead_on.new.source c.may_lead_on.ensures.on place n is))
     (kept.within ceilings lie within)
     (subst (λ (first : ℕ). EndsChain world (IsInCeiling ceilings) first (put_back c.args.portal frame)) (sym kept.same_first) ends))
@@ -51,5 +52,28 @@ returns-clause-pairs g c = pairs_found c.args.world.now (g.S.RowSource.ceilings 
 pub returns-clause-on : goal.returns-clause-on
 returns-clause-on g c = g.met.S.RowSource.goes_on_in_turn c.args.source.now c.may_lead_on.new.source c.go_through.new.source c.may_lead_on.ensures.on c.go_through.ensures.on
 
-pub returns-in_err-child-clause-on : goal.returns-in_err-child-clause-on
-returns-in_err-child-clause-on g c = g.met.S.RowSource.goes_on_in_turn c.args.source.now c.may_lead_on.new.source c.go_through.new.source c.may_lead_on.ensures.on c.go_through.ensures.on
+pub returns-in_err-on-clause-on : goal.returns-in_err-on-clause-on
+returns-in_err-on-clause-on g c = g.met.S.RowSource.goes_on_in_turn c.args.source.now c.may_lead_on.new.source c.go_through.new.source c.may_lead_on.ensures.on c.go_through.ensures.on
+
+-- what is asked and kept besides
+
+pub get-requires : goal.get-requires
+get-requires g c =
+    let within = c.to.ensures.within in
+    let wide = ap (λ (f : Frame). length f.met) c.frame.view_is ∙ c.requires.wide.met in
+    omega (arith, within, wide)
+
+pub go_through-requires-clause-spares : goal.go_through-requires-clause-spares
+go_through-requires-clause-spares g c = c.in_ok-may.ensures.spares
+
+pub go_through-requires-clause-pairs : goal.go_through-requires-clause-pairs
+go_through-requires-clause-pairs g c = c.in_ok-may.ensures.pairs.are
+
+pub returns-clause-spares : goal.returns-clause-spares
+returns-clause-spares g c = c.in_ok-on.ensures.spares
+
+pub returns-then-not-may-clause-spares : goal.returns-then-not-may-clause-spares
+returns-then-not-may-clause-spares g c = c.in_ok-may.ensures.spares
+
+pub returns-then-not-may-clause-pairs : goal.returns-then-not-may-clause-pairs
+returns-then-not-may-clause-pairs g c = c.in_ok-may.ensures.pairs

@@ -1,8 +1,7 @@
-use Rattle.std.proofs.Common.{◌≡◌, Bool, List, length, refl, sym, ap, ◌∙◌, subst}
+use Rattle.std.proofs.Common.{◌≡◌, length, refl, sym, ap, ◌∙◌, subst}
 use Rattle.qm_space.specs.Plane.{Plane}
 use Rattle.qm_space.specs.Turned.{turned}
 use Rattle.qm_convex.specs.Winding.{Winding}
-use Rattle.qm_lists.specs.WorkList.{IsIn}
 use Rattle.qm_contacts.specs.Portals.{Portal}
 use Rattle.qm_separators.specs.ChainState.{first_state}
 use Rattle.qm_separators.specs.PortalSteps.{BeginsWith}
@@ -22,15 +21,14 @@ returns-clause-pairs c found =
     let world = c.args.world.now in
     let pane = c.pane.ensures in
     let count = length world.portals in
-    let same = c.in_ok-seen.ensures in
     record {
       begun = λ first at.
           let is = same_portal world.portals c.args.first pane.0 first pane.1 at in
           let state : c.in_ok-start.start ≡ first_state first.winding first.into =
           c.in_ok-start.ensures ∙ ap (λ (w : Winding). first_state w c.pane.result.now.into) (pane.2 ∙ ap (λ (r : Portal). r.winding) is) ∙ ap (λ (h : Plane). first_state first.winding h) (pane.3 ∙ ap (λ (r : Portal). r.into) is) in
           subst (BeginsWith first) (sym state) (begins_first world c.requires.own_portals c.args.first first at);
-      seen_wide = ap length same ∙ c.requires.wide;
-      sees = λ first at n sight. subst (λ (row : List Bool). IsIn row n) (sym same) (c.requires.sees first at n sight);
+      seen_wide = c.requires.wide;
+      sees = c.requires.sees;
       first_within = c.requires.first;
       own_are = fresh_own c.args.own count c.requires.none world refl;
       rows_are = λ number row is. absurd (fresh_some c.args.own count c.requires.none number row is);

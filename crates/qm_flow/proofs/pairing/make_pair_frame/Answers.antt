@@ -1,14 +1,15 @@
-use Rattle.std.proofs.Common.{◌<◌, ℕ, true, false, Bool, List, Option, length, replicate, set, refl, sym, ap, ◌∙◌, subst, arith}
+use Rattle.std.proofs.Common.{◌<◌, ℕ, true, false, Bool, List, Option, length, replicate, set, sym, ap, ◌∙◌, subst, arith}
 use Rattle.qm_contacts.specs.NumberedLeaves.{numbered_leaves}
 use Rattle.qm_contacts.specs.Portals.{Portal}
 use Rattle.qm_contacts.specs.World.{World}
 use Rattle.qm_chains.specs.Shown.{IsAt}
+use Rattle.qm_chains.specs.inner.Frame.{Frame}
 use Rattle.qm_chains.specs.inner.Narrowing.{IsNarrowed}
 use Rattle.qm_chains.specs.inner.OwnRows.{AreOwnRows, MustHave, CanHave}
 use Rattle.qm_chains.proofs.TriedPortals.{same_portal}
 use Rattle.qm_sight.specs.WordInSight.{ceiling_of}
 use Rattle.qm_flow.proofs.FourLeaves.{four_wide, four_met}
-use Rattle.qm_flow.proofs.pairing.frame_of.Goals as goal
+use Rattle.qm_flow.proofs.pairing.make_pair_frame.Goals as goal
 
 pub narrow-requires-clause-portal : goal.narrow-requires-clause-portal
 narrow-requires-clause-portal g c =
@@ -27,22 +28,29 @@ returns-clause-frame g c =
     let pairs = c.args.pairs.now in
     let leaves = length (numbered_leaves world.tree) in
     let ceiling = ceiling_of (g.S.RowSource.ceilings c.args.source.now) c.args.portal in
-    let met_is = c.set-4.ensures ∙ ap (λ (row : List Bool). set row c.to-entered.result true) (c.set-3.ensures ∙ ap (λ (row : List Bool). set row c.from-2.result true) (c.set-2.ensures ∙ ap (λ (row : List Bool). set row c.to.result true) (c.set.ensures ∙ ap (λ (row : List Bool). set row c.from.result true) (c.in_ok-met.ensures ∙ ap (λ (n : ℕ). replicate n false) c.leaves.ensures)))) in
+    let met_is = c.set-4.ensures ∙ ap (λ (row : List Bool). set row c.to-2.result true) (c.set-3.ensures ∙ ap (λ (row : List Bool). set row c.from-2.result true) (c.set-2.ensures ∙ ap (λ (row : List Bool). set row c.to.result true) (c.set.ensures ∙ ap (λ (row : List Bool). set row c.from.result true) (c.clear.ensures ∙ ap (λ (row : List Bool). replicate (length row) false) (ap (λ (f : Frame). f.met) c.frame.view_is) ∙ ap (λ (n : ℕ). replicate n false) c.requires.met)))) in
     let from = c.from.ensures.value in
     let to = c.to.ensures.value in
     let q_from = c.from-2.ensures.value in
-    let q_to = c.to-entered.ensures.value in
-    let narrowed_here = subst (λ (w : World). IsNarrowed (MustHave w c.own.result.now c.args.portal) (CanHave ceiling c.own.result.now c.args.portal) c.in_ok-mask.mask c.narrow.new.mask) c.requires.same_world c.narrow.ensures.narrowed in
-    let narrowed_own = subst (λ (own : List (Option (List Bool))). IsNarrowed (MustHave world own c.args.portal) (CanHave ceiling own c.args.portal) c.in_ok-mask.mask c.narrow.new.mask) c.own.ensures narrowed_here in
+    let q_to = c.to-2.ensures.value in
+    let narrowed_here = subst (λ (w : World). IsNarrowed (MustHave w c.own.result.now c.args.portal) (CanHave ceiling c.own.result.now c.args.portal) c.copy.new.row c.narrow.new.mask) c.requires.same_world c.narrow.ensures.narrowed in
+    let narrowed_own = subst (λ (own : List (Option (List Bool))). IsNarrowed (MustHave world own c.args.portal) (CanHave ceiling own c.args.portal) c.copy.new.row c.narrow.new.mask) c.own.ensures narrowed_here in
     record {
-      state_is = refl;
-      met_wide = four_wide leaves c.from.result c.to.result c.from-2.result c.to-entered.result _ met_is;
+      state_is = ap (λ (f : Frame). f.state) c.frame.view_is;
+      met_wide = four_wide leaves c.from.result c.to.result c.from-2.result c.to-2.result _ met_is;
       met_is = λ first q first_is q_is.
           let at = subst (λ (m : ℕ). IsAt world.portals m first) (sym c.first-first.ensures) first_is in
-          four_met leaves c.from.result c.to.result c.from-2.result c.to-entered.result _ met_is first.from first.to q.from q.to
+          four_met leaves c.from.result c.to.result c.from-2.result c.to-2.result _ met_is first.from first.to q.from q.to
           (from.2 ∙ ap (λ (r : Portal). r.from) (same_portal world.portals c.first-first.result from.0 first from.1 at))
           (to.2 ∙ ap (λ (r : Portal). r.to) (same_portal world.portals c.first-first.result to.0 first to.1 at))
           (q_from.2 ∙ ap (λ (r : Portal). r.from) (same_portal world.portals c.args.portal q_from.0 q q_from.1 q_is))
           (q_to.2 ∙ ap (λ (r : Portal). r.to) (same_portal world.portals c.args.portal q_to.0 q q_to.1 q_is));
-      narrowed = subst (λ (row : List Bool). IsNarrowed (MustHave world pairs.own c.args.portal) (CanHave ceiling pairs.own c.args.portal) row c.narrow.new.mask) (c.in_ok-mask.ensures ∙ c.seen.ensures) narrowed_own;
+      narrowed = subst (λ (row : List Bool). IsNarrowed (MustHave world pairs.own c.args.portal) (CanHave ceiling pairs.own c.args.portal) row c.narrow.new.mask) (c.copy.ensures ∙ c.seen.ensures) narrowed_own;
     }
+
+pub copy-requires : goal.copy-requires
+copy-requires g c = ap length c.seen.ensures ∙ c.requires.seen ∙ sym (ap (λ (f : Frame). length f.mask) c.frame.view_is ∙ c.requires.mask)
+
+pub narrow-requires-clause-wide : goal.narrow-requires-clause-wide
+narrow-requires-clause-wide g c =
+    ap length c.copy.ensures ∙ ap length c.seen.ensures ∙ c.requires.seen ∙ ap (λ (w : World). length (numbered_leaves w.tree)) (sym c.requires.same_world)

@@ -1,0 +1,19 @@
+use Rattle.std.proofs.Common.{ℕ, Bool, List}
+use Rattle.std.specs.List.{sum_by}
+use Rattle.qm_chains.specs.inner.Walk.{frame_weight}
+use Rattle.qm_sight.specs.WordInSight.{LieWithin}
+use Rattle.qm_flow.specs.inner.Spares.{AreSparesWide}
+use Rattle.qm_flow.specs.inner.WalkSoFar.{IsWalkSoFar}
+use Rattle.qm_flow.proofs.walking.end_walk.Given as goal
+
+-- each walk that it was goes on so far, over the same ceilings; and the source goes on from what it was
+abbrev pub invariant-loop-alloc : goal.invariant-loop-alloc
+invariant-loop-alloc g l = record {
+  so_far : (p : ℕ) (ceilings : List (List Bool)) → LieWithin (g.S.RowSource.ceilings l.fn.source) ceilings → IsWalkSoFar l.world ceilings p l.fn.pairs l.fn.stack.frames.items l.fn.row →
+      IsWalkSoFar l.world ceilings p l.pairs l.stack.frames.items l.row;
+  spares : AreSparesWide l.world l.stack;
+  on : g.S.RowSource.goes_on l.fn.source l.source;
+}
+
+abbrev pub decreases-loop-alloc : goal.decreases-loop-alloc
+decreases-loop-alloc g l = sum_by (frame_weight l.world) l.stack.frames.items

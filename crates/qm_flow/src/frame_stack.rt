@@ -1,0 +1,100 @@
+//! The frames of a walk, and spare ones for those to come.
+
+ghost use Rattle.std.specs.Prelude.{◌≡◌, ◌<◌, Bool, List, [], ◌∷◌, ◌++◌, length, IfOk, OnOk, All};
+ghost use Rattle.qm_contacts.specs.NumberedLeaves.{numbered_leaves};
+ghost use Rattle.qm_contacts.specs.OwnPortals.{HasOwnPortals};
+ghost use Rattle.qm_chains.specs.inner.Frame.{Frame};
+ghost use Rattle.qm_chains.specs.inner.Walk.{AreWide};
+ghost use Rattle.qm_flow.specs.inner.FreshStack.{IsFreshStack};
+ghost use Rattle.qm_flow.specs.inner.Spares.{AreSparesWide};
+
+use crate::frame::Frame;
+use crate::scratch::Scratch;
+use qm_portal::World;
+use std::alloc::{AllocError, Global};
+use std::mem;
+
+/// The frames of a walk, and what is used again: the next frame, which is filled where a chain may go on, frames that have
+/// ended, and memory for tries.
+#[derive(Drop)]
+pub(crate) struct FrameStack<'a> {
+    pub(crate) frames: Vec<Frame<'a>>,
+    pub(crate) next: Frame<'a>,
+    pub(crate) ended: Vec<Frame<'a>>,
+    pub(crate) scratch: Scratch,
+}
+
+impl<'a> FrameStack<'a> {
+    /// No frame yet. The next one is that of the chain with one portal.
+    pub(crate) fn of(
+        alloc: Global,
+        world: &'a World,
+        portal: u64,
+    ) -> Result<FrameStack<'a>, AllocError>
+        requires portal { portal < length world.now.portals }
+        requires own_portals { HasOwnPortals world.now }
+        ensures fresh { IfOk result (IsFreshStack world.now portal) }
+    {
+        let scratch = Scratch::of(alloc, world.leaves())?;
+        let next = Frame::first(alloc, world, portal)?;
+        Ok(FrameStack {
+            frames: Vec::new(alloc),
+            next,
+            ended: Vec::new(alloc),
+            scratch,
+        })
+    }
+
+    /// The next frame becomes the last one. One that has ended takes its place, or a new one.
+    pub(crate) fn push_next(
+        &mut self,
+        alloc: Global,
+        world: &'a World,
+        portal: u64,
+    ) -> Result<(), AllocError>
+        requires portal { portal < length world.now.portals }
+        requires own_portals { HasOwnPortals world.now }
+        requires spares { AreSparesWide world.now self.old }
+        ensures frames { OnOk result (self.new.frames.items ≡ self.old.frames.items ++ self.old.next ∷ []) }
+        ensures spares { OnOk result (AreSparesWide world.now self.new) }
+    {
+        let spare = spare_frame(alloc, world, portal, &mut self.ended)?;
+        let next = mem::replace(&mut self.next, spare);
+        self.frames.push(next)?;
+        Ok(())
+    }
+
+    /// The last frame has ended, and is to be used again.
+    pub(crate) fn end_last(&mut self) -> Result<(), AllocError>
+        ensures frames { OnOk result ((below : List Frame) (last : Frame) → self.old.frames.items ≡ below ++ last ∷ [] →
+            (self.new.frames.items ≡ below) × (self.new.ended.items ≡ self.old.ended.items ++ last ∷ [])) }
+        ensures next { self.new.next ≡ self.old.next }
+        ensures cone { self.new.scratch.cone ≡ self.old.scratch.cone }
+    {
+        match self.frames.pop() {
+            None => Ok(()),
+            Some(frame) => {
+                self.ended.push(frame)?;
+                Ok(())
+            }
+        }
+    }
+}
+
+/// A frame to be filled: one that has ended, or a new one, which until then is that of the chain with a portal; any will do.
+fn spare_frame<'a>(
+    alloc: Global,
+    world: &'a World,
+    portal: u64,
+    ended: &mut Vec<Frame<'a>>,
+) -> Result<Frame<'a>, AllocError>
+    requires portal { portal < length world.now.portals }
+    requires own_portals { HasOwnPortals world.now }
+    ensures wide { IfOk result (λ frame. (cone : List Bool) → length cone ≡ length (numbered_leaves world.now.tree) → All (λ f. AreWide world.now f cone) ended.old.items →
+        AreWide world.now frame cone × All (λ f. AreWide world.now f cone) ended.new.items) }
+{
+    match ended.pop() {
+        Some(frame) => Ok(frame),
+        None => Frame::first(alloc, world, portal),
+    }
+}
