@@ -17,3 +17,11 @@ spares_stay_wide world old new last row spares wide same_next same_cone more =
       next_is = subst (λ (f : Frame). AreWide world f new.scratch.cone) (sym same_next) (subst (AreWide world old.next) (sym same_cone) spares.next_is);
       ended_are = subst (λ (cone : List Bool). All (λ (f : Frame). AreWide world f cone) new.ended.items) (sym same_cone) ended;
     }
+
+-- the next frame was filled, and the row for cones was used
+pub spares_after_try : (world : World) (old new : FrameStack) → AreSparesWide world old → AreWide world new.next new.scratch.cone → new.ended.items ≡ old.ended.items → AreSparesWide world new
+spares_after_try world old new spares wide same_ended = record {
+  next_is = wide;
+  ended_are = subst (All (λ (f : Frame). AreWide world f new.scratch.cone)) (sym same_ended)
+      (λ k d within. let it = spares.ended_are k d within in record { met = it.met; mask = it.mask; found = wide.found });
+}

@@ -42,54 +42,16 @@ pub fn flow<S: RowSource>(
 {
     world.own_portals();
     let mut row = BitRow::with_len(alloc, world.leaves())?;
-    walk_chains(alloc, world, source, portal, &mut row)?;
+    let mut pairs = begin_pairs(alloc, world, source, portal)?;
+    let mut stack = FrameStack::of(alloc, world, portal)?;
+    walk(
+        alloc, world, source, portal, &mut row, &mut pairs, &mut stack,
+    )?;
     Ok(row)
 }
 
-/// Makes what the flow knows of pairs, and walks.
-fn walk_chains<S: RowSource>(
-    alloc: Global,
-    world: &World,
-    source: &mut S,
-    portal: u64,
-    row: &mut BitRow,
-) -> Result<(), AllocError>
-    requires portal { portal < length world.now.portals }
-    requires own_portals { HasOwnPortals world.now }
-    requires same_world { S.world source.old ≡ world.now }
-    requires clear { row.old ≡ replicate (length (numbered_leaves world.now.tree)) false }
-    ensures walk { OnOk result (HasEnded world.now (S.ceilings source.old) portal row.new) }
-    ensures on { S.goes_on source.old source.new }
-{
-    let mut pairs = begin_pairs(alloc, world, source, portal)?;
-    walk_with_pairs(alloc, world, source, portal, row, &mut pairs)
-}
-
-/// Makes memory for frames, and walks.
-fn walk_with_pairs<S: RowSource>(
-    alloc: Global,
-    world: &World,
-    source: &mut S,
-    portal: u64,
-    row: &mut BitRow,
-    pairs: &mut Pairs,
-) -> Result<(), AllocError>
-    requires portal { portal < length world.now.portals }
-    requires own_portals { HasOwnPortals world.now }
-    requires same_world { S.world source.old ≡ world.now }
-    requires clear { row.old ≡ replicate (length (numbered_leaves world.now.tree)) false }
-    requires begun { ArePairsBegun world.now portal pairs.old }
-    requires seen { IsSomeFirstMask world.now (S.ceilings source.old) portal pairs.old.seen }
-    ensures walk { OnOk result ((ceilings : List (List Bool)) → LieWithin (S.ceilings source.old) ceilings → IsFirstMask world.now ceilings portal pairs.old.seen →
-        HasEnded world.now ceilings portal row.new) }
-    ensures on { S.goes_on source.old source.new }
-{
-    let mut stack = FrameStack::of(alloc, world, portal)?;
-    walk_with_frames(alloc, world, source, portal, row, pairs, &mut stack)
-}
-
 /// What lines show comes first, then portals are barred by the rows of portals back, and then the walk goes on to its end.
-fn walk_with_frames<'a, S: RowSource>(
+fn walk<'a, S: RowSource>(
     alloc: Global,
     world: &'a World,
     source: &mut S,

@@ -13,7 +13,6 @@ use std::marker::Model;
 
 /// The end of a chain: the state to which it has led, the portals by which it is still to go on, the leaves in which it
 /// has been, and the leaves that it may still show.
-#[derive(Drop)]
 pub(crate) struct Frame<'a> {
     pub(crate) state: ChainState,
     pub(crate) untried: &'a [u64],
@@ -27,6 +26,18 @@ impl<'a> Model for Frame<'a> {
     ghost Value = { Frame };
 
     ghost view = { λ f. record { state = f.state; untried = f.untried.now; met = f.met; mask = f.mask } };
+}
+
+// Written out, so that a function that owns one calls this where it ends: a derived drop would be proved anew at each exit.
+impl<'a> Drop for Frame<'a> {
+    fn drop(self) {
+        let Frame {
+            state: _,
+            untried: _,
+            met: _,
+            mask: _,
+        } = self;
+    }
 }
 
 impl<'a> Frame<'a> {

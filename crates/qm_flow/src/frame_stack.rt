@@ -16,12 +16,23 @@ use std::mem;
 
 /// The frames of a walk, and what is used again: the next frame, which is filled where a chain may go on, frames that have
 /// ended, and memory for tries.
-#[derive(Drop)]
 pub(crate) struct FrameStack<'a> {
     pub(crate) frames: Vec<Frame<'a>>,
     pub(crate) next: Frame<'a>,
     pub(crate) ended: Vec<Frame<'a>>,
     pub(crate) scratch: Scratch,
+}
+
+// Written out, so that a function that owns one calls this where it ends: a derived drop would be proved anew at each exit.
+impl<'a> Drop for FrameStack<'a> {
+    fn drop(self) {
+        let FrameStack {
+            frames: _,
+            next: _,
+            ended: _,
+            scratch: _,
+        } = self;
+    }
 }
 
 impl<'a> FrameStack<'a> {

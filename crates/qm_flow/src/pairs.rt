@@ -19,7 +19,6 @@ use std::marker::Model;
 /// The first portal of a flow, the state of its chain, the leaves that may be in sight of it, and the rows of the flow's own:
 /// that of a portal is the row of its pair with the first. It is made when the portal is tried for the second time, since it
 /// would not pay for one that is tried once; where nothing can be seen via the portal, it is barred before the first.
-#[derive(Drop)]
 pub(crate) struct Pairs {
     first: u64,
     start: ChainState,
@@ -38,6 +37,19 @@ impl Model for Pairs {
     ghost view = { λ p. record { first = p.first; start = p.start; seen = p.seen; own = p.own } };
 
     ghost invariant = { λ p. length p.tried ≡ length p.own };
+}
+
+// Written out, so that a function that owns one calls this where it ends: a derived drop would be proved anew at each exit.
+impl Drop for Pairs {
+    fn drop(self) {
+        let Pairs {
+            first: _,
+            start: _,
+            seen: _,
+            own: _,
+            tried: _,
+        } = self;
+    }
 }
 
 impl Pairs {

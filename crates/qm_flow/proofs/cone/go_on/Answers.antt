@@ -39,3 +39,6 @@ pub returns-clause-entered : goal.returns-clause-entered
 returns-clause-entered g c =
     subst (λ (numbers : List ℕ). AreEntered (LeadsInto c.args.world.now c.args.pairs.now.first c.args.frame.now c.args.found.now numbers) c.args.row.now c.loop-portal.row c.args.due.now.items c.loop-portal.due.items)
     (take_all c.loop-portal.portal-index c.args.portals.now c.loop-portal-test.false) c.loop-portal.invariant.entered
+
+pub enter-requires-clause-portal : goal.enter-requires-clause-portal
+enter-requires-clause-portal g c = c.requires.portals c.loop-portal.portal-index 0 c.loop-portal-test.true

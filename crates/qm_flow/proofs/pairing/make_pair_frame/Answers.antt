@@ -8,6 +8,7 @@ use Rattle.qm_chains.specs.inner.Narrowing.{IsNarrowed}
 use Rattle.qm_chains.specs.inner.OwnRows.{AreOwnRows, MustHave, CanHave}
 use Rattle.qm_chains.proofs.TriedPortals.{same_portal}
 use Rattle.qm_sight.specs.WordInSight.{ceiling_of}
+use Rattle.std.proofs.lemmas.List.{length-set, length-replicate}
 use Rattle.qm_flow.proofs.FourLeaves.{four_wide, four_met}
 use Rattle.qm_flow.proofs.pairing.make_pair_frame.Goals as goal
 
@@ -54,3 +55,27 @@ copy-requires g c = ap length c.seen.ensures ∙ c.requires.seen ∙ sym (ap (λ
 pub narrow-requires-clause-wide : goal.narrow-requires-clause-wide
 narrow-requires-clause-wide g c =
     ap length c.copy.ensures ∙ ap length c.seen.ensures ∙ c.requires.seen ∙ ap (λ (w : World). length (numbered_leaves w.tree)) (sym c.requires.same_world)
+
+pub set-requires : goal.set-requires
+set-requires g c =
+    let within = c.from.ensures.within in
+    let wide = ap length c.clear.ensures ∙ length-replicate (length c.frame.inside.met) false ∙ ap (λ (f : Frame). length f.met) c.frame.view_is ∙ c.requires.met in
+    omega (arith, within, wide)
+
+pub set-requires-2 : goal.set-requires-2
+set-requires-2 g c =
+    let within = c.to.ensures.within in
+    let wide = ap length c.set.ensures ∙ length-set c.clear.new.row c.from.result true ∙ ap length c.clear.ensures ∙ length-replicate (length c.frame.inside.met) false ∙ ap (λ (f : Frame). length f.met) c.frame.view_is ∙ c.requires.met in
+    omega (arith, within, wide)
+
+pub set-requires-3 : goal.set-requires-3
+set-requires-3 g c =
+    let within = c.from-2.ensures.within in
+    let wide = ap length c.set-2.ensures ∙ length-set c.set.new.self c.to.result true ∙ ap length c.set.ensures ∙ length-set c.clear.new.row c.from.result true ∙ ap length c.clear.ensures ∙ length-replicate (length c.frame.inside.met) false ∙ ap (λ (f : Frame). length f.met) c.frame.view_is ∙ c.requires.met in
+    omega (arith, within, wide)
+
+pub set-requires-4 : goal.set-requires-4
+set-requires-4 g c =
+    let within = c.to-2.ensures.within in
+    let wide = ap length c.set-3.ensures ∙ length-set c.set-2.new.self c.from-2.result true ∙ ap length c.set-2.ensures ∙ length-set c.set.new.self c.to.result true ∙ ap length c.set.ensures ∙ length-set c.clear.new.row c.from.result true ∙ ap length c.clear.ensures ∙ length-replicate (length c.frame.inside.met) false ∙ ap (λ (f : Frame). length f.met) c.frame.view_is ∙ c.requires.met in
+    omega (arith, within, wide)

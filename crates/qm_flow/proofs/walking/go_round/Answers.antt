@@ -1,10 +1,10 @@
-use Rattle.std.proofs.Common.{◌≡◌, ◌+◌, ◌-◌, ◌++◌, ◌∷◌, [], ℕ, List, length, set, sym, ◌∙◌, subst, arith}
+use Rattle.std.proofs.Common.{◌≡◌, ◌+◌, ◌-◌, ◌++◌, ◌∷◌, [], ℕ, List, length, set, refl, sym, ◌∙◌, subst, arith}
 use Rattle.std.specs.Bool.{then_some}
 use Rattle.qm_chains.specs.inner.Frame.{Frame, put_back, EndsChain}
 use Rattle.qm_chains.specs.inner.Walk.{AreWide, IsWalk, IsTried}
 use Rattle.qm_chains.proofs.Walks.{last_wide}
 use Rattle.qm_sight.specs.InCeiling.{IsInCeiling}
-use Rattle.qm_flow.proofs.Spares.{spares_stay_wide}
+use Rattle.qm_flow.proofs.Spares.{spares_stay_wide, spares_after_try}
 use Rattle.qm_flow.proofs.Rounds.{round_done, less_done, round_within, round_ends, round_wide, round_tried, less_tried, after_none, after_child, below_last, set_there, read_there, ends_with}
 use Rattle.qm_flow.proofs.Pushed.{pushed_to}
 use Rattle.qm_flow.proofs.walking.go_round.Goals as goal
@@ -208,3 +208,20 @@ returns-in_ok-push_next-in-Some-clause-less g c =
     (subst (λ (first : ℕ). EndsChain world (IsInCeiling its.ceilings) first (put_back number frame)) (sym its.so_far.first) chain)))) in
     less_tried world (IsInCeiling its.ceilings) its.p frames below last c.args.row.now ends its.so_far.walk number frame c.in-Some.ensures c.try_portal.new.row child tried c.push_next.new.self.frames.items
     (after_child (below ++ frame ∷ []) c.push_next.new.self.frames.items c.in_ok-on-in-Some.on c.try_portal.new.next c.if-not-on.false (pushed_to (below ++ frame ∷ []) (set frames place frame) c.push_next.new.self.frames.items c.try_portal.new.next c.in_ok-push_next-in-Some.ensures.frames (set_there frames place end frame)))
+
+-- what is asked and kept besides
+
+pub try_portal-requires-clause-spares : goal.try_portal-requires-clause-spares
+try_portal-requires-clause-spares g c = c.requires.spares.next_is
+
+pub try_portal-requires-clause-pairs : goal.try_portal-requires-clause-pairs
+try_portal-requires-clause-pairs g c = c.requires.walk.so_far.pairs_are
+
+pub returns-then-not-on-clause-spares : goal.returns-then-not-on-clause-spares
+returns-then-not-on-clause-spares g c = spares_after_try c.args.world.now c.args.stack.now _ c.requires.spares c.in_ok-on-in-Some.ensures.spares refl
+
+pub push_next-requires-clause-spares : goal.push_next-requires-clause-spares
+push_next-requires-clause-spares g c = spares_after_try c.args.world.now c.args.stack.now _ c.requires.spares c.in_ok-on-in-Some.ensures.spares refl
+
+pub returns-in_ok-push_next-in-Some-clause-spares : goal.returns-in_ok-push_next-in-Some-clause-spares
+returns-in_ok-push_next-in-Some-clause-spares g c = c.in_ok-push_next-in-Some.ensures.spares

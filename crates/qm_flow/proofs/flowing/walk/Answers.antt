@@ -5,7 +5,7 @@ use Rattle.qm_flow.specs.inner.FirstMask.{IsFirstMask}
 use Rattle.qm_flow.specs.inner.WalkSoFar.{IsWalkSoFar, HasEnded}
 use Rattle.std.proofs.lemmas.Result.{on_ok_weaker}
 use Rattle.qm_flow.proofs.OwnAnswers.{fresh_within}
-use Rattle.qm_flow.proofs.flowing.walk_with_frames.Goals as goal
+use Rattle.qm_flow.proofs.flowing.walk.Goals as goal
 
 pub begin_walk-requires-clause-wide : goal.begin_walk-requires-clause-wide
 begin_walk-requires-clause-wide g c = ap length c.seen.ensures ∙ (c.requires.begun.are []).seen_wide
