@@ -19,28 +19,12 @@ pub(crate) fn bar_unseen<S: RowSource>(world: &World, source: &mut S, pairs: &mu
     ensures pairs { (found : List Bool) → PairsGoOn world.now (S.ceilings source.old) found pairs.old pairs.new }
     ensures on { S.goes_on source.old source.new }
 {
-    for leaf in 0..world.leaves() {
-        bar_leaving(world, source, pairs, leaf);
+    for portal in 0..world.portals() {
+        bar_portal(world, source, pairs, portal);
     }
 }
 
-/// Bars portals that leave a leaf, where it may be in sight of the first.
-fn bar_leaving<S: RowSource>(world: &World, source: &mut S, pairs: &mut Pairs, leaf: u64)
-    requires leaf { leaf < length (numbered_leaves world.now.tree) }
-    requires same_world { S.world source.old ≡ world.now }
-    requires pairs { (found : List Bool) → ArePairs world.now found pairs.old }
-    ensures pairs { (found : List Bool) → PairsGoOn world.now (S.ceilings source.old) found pairs.old pairs.new }
-    ensures on { S.goes_on source.old source.new }
-{
-    if !pairs.seen().get(leaf) {
-        return;
-    }
-    for portal in world.leaving(leaf) {
-        bar_portal(world, source, pairs, *portal);
-    }
-}
-
-/// Bars a portal, where nothing is seen via it.
+/// Bars a portal, where it leaves such a leaf and nothing is seen via it.
 fn bar_portal<S: RowSource>(world: &World, source: &mut S, pairs: &mut Pairs, portal: u64)
     requires portal { portal < length world.now.portals }
     requires same_world { S.world source.old ≡ world.now }
@@ -48,6 +32,9 @@ fn bar_portal<S: RowSource>(world: &World, source: &mut S, pairs: &mut Pairs, po
     ensures pairs { (found : List Bool) → PairsGoOn world.now (S.ceilings source.old) found pairs.old pairs.new }
     ensures on { S.goes_on source.old source.new }
 {
+    if !pairs.seen().get(world.from(portal)) {
+        return;
+    }
     if !is_unseen(world, source, pairs.first(), portal) {
         return;
     }

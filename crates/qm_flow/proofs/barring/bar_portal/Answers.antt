@@ -1,8 +1,17 @@
-use Rattle.std.proofs.Common.{◌<◌, ℕ, [], length, sym, subst, arith}
+use Rattle.std.proofs.Common.{◌<◌, ℕ, List, Bool, [], length, sym, subst, arith}
 use Rattle.qm_flow.proofs.PairsKept.{pairs_same}
 use Rattle.qm_flow.proofs.Barred.{pairs_barred}
 use Rattle.qm_flow.specs.inner.UnseenVia.{IsUnseenVia}
 use Rattle.qm_flow.proofs.barring.bar_portal.Goals as goal
+
+pub get-requires : goal.get-requires
+get-requires g c =
+    let wide = (c.requires.pairs []).seen_wide in
+    let within = c.from.ensures.within in
+    subst (λ (row : List Bool). c.from.result < length row) (sym c.seen.ensures) (omega (arith, wide, within))
+
+pub returns-then-not-get-clause-pairs : goal.returns-then-not-get-clause-pairs
+returns-then-not-get-clause-pairs g c found = pairs_same c.args.world.now (g.S.RowSource.ceilings c.args.source.now) found c.args.pairs.now (c.requires.pairs found)
 
 pub is_unseen-requires-clause-first : goal.is_unseen-requires-clause-first
 is_unseen-requires-clause-first g c = subst (λ (p : ℕ). p < length c.args.world.now.portals) (sym c.first.ensures) (c.requires.pairs []).first_within

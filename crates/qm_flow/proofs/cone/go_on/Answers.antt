@@ -42,3 +42,15 @@ returns-clause-entered g c =
 
 pub enter-requires-clause-portal : goal.enter-requires-clause-portal
 enter-requires-clause-portal g c = c.requires.portals c.loop-portal.portal-index 0 c.loop-portal-test.true
+
+pub enter-requires-clause-pairs : goal.enter-requires-clause-pairs
+enter-requires-clause-pairs g c = c.requires.pairs
+
+pub enter-requires-clause-wide : goal.enter-requires-clause-wide
+enter-requires-clause-wide g c = c.requires.wide
+
+pub returns-in_err-enter-clause-on : goal.returns-in_err-enter-clause-on
+returns-in_err-enter-clause-on g c = g.met.S.RowSource.goes_on_in_turn c.args.source.now c.loop-portal.source c.enter.new.source c.loop-portal.invariant.on c.enter.ensures.on
+
+pub returns-clause-on : goal.returns-clause-on
+returns-clause-on g c = c.loop-portal.invariant.on

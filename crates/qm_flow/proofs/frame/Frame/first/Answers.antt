@@ -1,5 +1,5 @@
-use Rattle.std.proofs.Common.{◌<◌, ℕ, true, false, List, Bool, length, replicate, set, sym, ap, ◌∙◌, subst}
-use Rattle.std.proofs.lemmas.List.{length-replicate}
+use Rattle.std.proofs.Common.{◌<◌, ℕ, true, false, List, Bool, length, replicate, set, sym, ap, ◌∙◌, subst, arith}
+use Rattle.std.proofs.lemmas.List.{length-replicate, length-set}
 use Rattle.qm_space.specs.Plane.{Plane}
 use Rattle.qm_space.specs.Turned.{turned}
 use Rattle.qm_convex.specs.Winding.{Winding}
@@ -37,3 +37,18 @@ returns c =
       leaving = subst (λ (n : ℕ). AreLeaving world.portals n c.leaving.result.now) q.2 c.leaving.ensures;
       mask_wide = ap length c.in_ok-mask.ensures ∙ length-replicate c.leaves.result false ∙ c.leaves.ensures;
     }
+
+pub from-requires : goal.from-requires
+from-requires c = c.requires.portal
+
+pub set-requires : goal.set-requires
+set-requires c =
+    let within = c.from.ensures.within in
+    let wide = ap length c.in_ok-met.ensures ∙ length-replicate c.leaves-2.result false ∙ c.leaves-2.ensures in
+    omega (arith, within, wide)
+
+pub set-requires-2 : goal.set-requires-2
+set-requires-2 c =
+    let within = c.to-entered.ensures.within in
+    let wide = ap length c.set.ensures ∙ length-set c.in_ok-met.met c.from.result true ∙ ap length c.in_ok-met.ensures ∙ length-replicate c.leaves-2.result false ∙ c.leaves-2.ensures in
+    omega (arith, within, wide)
