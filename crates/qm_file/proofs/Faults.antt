@@ -1,31 +1,19 @@
--- A fault of a part is the fault of what begins with it.
-use Rattle.std.proofs.Common.{ℕ, ap}
-use Rattle.qm_formats.specs.Layout.{Answer, answer_map, answer_then}
-use Rattle.qm_formats.specs.FileParts.{FileFaultKind}
+-- A fault of a part is the fault of the whole, where what reading gives passes from the one to the other.
+use Rattle.qm_formats.specs.Layout.{Answer}
+use Rattle.qm_formats.specs.FileParts.{FileFaultKind, short, magic, counts, plane_form, node_order, leaf_form, row_form, trailing, too_long}
+use Rattle.qm_formats.proofs.ReadLists.{PassesFault}
 use Rattle.qm_file.specs.declared.file_fault.FileFault.{FileFault}
 use Rattle.qm_file.specs.declared.file_fault.FileFault.TheVariants as faults
 use Rattle.qm_file.specs.Answers.{IsFault}
 
-pub fault_map : {X Y : Type 0} (f : X → Y) (fault : FileFault) (answer : Answer FileFaultKind X) → IsFault fault answer → IsFault fault (answer_map f answer)
-fault_map f (faults.Short offset) answer is = ap (answer_map f) is
-fault_map f (faults.Magic offset) answer is = ap (answer_map f) is
-fault_map f (faults.Counts offset) answer is = ap (answer_map f) is
-fault_map f (faults.PlaneForm offset) answer is = ap (answer_map f) is
-fault_map f (faults.NodeOrder offset) answer is = ap (answer_map f) is
-fault_map f (faults.LeafForm offset) answer is = ap (answer_map f) is
-fault_map f (faults.RowForm offset) answer is = ap (answer_map f) is
-fault_map f (faults.Trailing offset) answer is = ap (answer_map f) is
-fault_map f (faults.TooLong offset) answer is = ap (answer_map f) is
-fault_map f faults.Memory answer is = tt
-
-pub fault_then : {X Y : Type 0} (behind : X → ℕ → Answer FileFaultKind Y) (fault : FileFault) (answer : Answer FileFaultKind X) → IsFault fault answer → IsFault fault (answer_then answer behind)
-fault_then behind (faults.Short offset) answer is = ap (λ (a : Answer FileFaultKind _). answer_then a behind) is
-fault_then behind (faults.Magic offset) answer is = ap (λ (a : Answer FileFaultKind _). answer_then a behind) is
-fault_then behind (faults.Counts offset) answer is = ap (λ (a : Answer FileFaultKind _). answer_then a behind) is
-fault_then behind (faults.PlaneForm offset) answer is = ap (λ (a : Answer FileFaultKind _). answer_then a behind) is
-fault_then behind (faults.NodeOrder offset) answer is = ap (λ (a : Answer FileFaultKind _). answer_then a behind) is
-fault_then behind (faults.LeafForm offset) answer is = ap (λ (a : Answer FileFaultKind _). answer_then a behind) is
-fault_then behind (faults.RowForm offset) answer is = ap (λ (a : Answer FileFaultKind _). answer_then a behind) is
-fault_then behind (faults.Trailing offset) answer is = ap (λ (a : Answer FileFaultKind _). answer_then a behind) is
-fault_then behind (faults.TooLong offset) answer is = ap (λ (a : Answer FileFaultKind _). answer_then a behind) is
-fault_then behind faults.Memory answer is = tt
+pub fault_passes : {X Y : Type 0} (fault : FileFault) {part : Answer FileFaultKind X} {whole : Answer FileFaultKind Y} → PassesFault part whole → IsFault fault part → IsFault fault whole
+fault_passes (faults.Short offset) passes is = passes short offset is
+fault_passes (faults.Magic offset) passes is = passes magic offset is
+fault_passes (faults.Counts offset) passes is = passes counts offset is
+fault_passes (faults.PlaneForm offset) passes is = passes plane_form offset is
+fault_passes (faults.NodeOrder offset) passes is = passes node_order offset is
+fault_passes (faults.LeafForm offset) passes is = passes leaf_form offset is
+fault_passes (faults.RowForm offset) passes is = passes row_form offset is
+fault_passes (faults.Trailing offset) passes is = passes trailing offset is
+fault_passes (faults.TooLong offset) passes is = passes too_long offset is
+fault_passes faults.Memory passes is = tt

@@ -1,7 +1,6 @@
 pub mod RowWords
 pub mod WrittenFile
 pub mod Faults
-pub mod ReadLists
 pub mod Unpacking
 pub mod NumberedTest
 pub mod Answered

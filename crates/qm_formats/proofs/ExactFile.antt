@@ -1,7 +1,7 @@
 -- A tree file is read exactly.
-use Rattle.std.proofs.Common.{◌≡◌, ℕ, zero, suc, ◌+◌, ◌^◌, Bool, true, false, eqb, ltb, leb, ◌&&◌, List, [], ◌∷◌, length, Option, Some, None, codes, refl, sym, ap, ◌∙◌, arith}
+use Rattle.std.proofs.Common.{◌≡◌, ◌<◌, ℕ, zero, suc, ◌+◌, ◌^◌, Bool, true, false, eqb, ltb, leb, ◌&&◌, List, [], ◌∷◌, length, Option, Some, None, codes, refl, sym, ap, ◌∙◌, arith}
 use Rattle.std.specs.Prelude.{is_some, count_by}
-use Rattle.std.proofs.lemmas.Bool.{and_parts, eqb-true}
+use Rattle.std.proofs.lemmas.Bool.{and_parts, ltb-true, eqb-true}
 use Rattle.std.specs.Int.{w8, w64}
 use Rattle.std.specs.List.{list_all}
 use Rattle.qm_space.specs.Plane.{Plane}
@@ -75,9 +75,14 @@ right_option_there layout true None right = absurd cc
 right_option_there layout false (Some x) right = absurd cc
 right_option_there layout false None right = refl
 
-header_leaves : (header : Header) → header_layout.right header ≡ true → header.leaves ≡ header.nodes + 1
+-- the counts of planes and of leaves in a header that can stand in a file
+pub record AreRightCounts (header : Header) : Type 0 where
+  pub few_planes : header.planes < 2 ^ 32
+  pub one_leaf_more : header.leaves ≡ header.nodes + 1
+
+pub right_counts : (header : Header) → header_layout.right header ≡ true → AreRightCounts header
 unfolding header_layout
-header_leaves header right =
+right_counts header right =
     let numbered = (pair (count_layout (λ numbered. leb numbered header.leaves)) flag_layout).right (header.numbered, header.has_rows) in
     let leaves = (count_layout (λ leaves. eqb leaves (header.nodes + 1))).right header.leaves in
     let nodes = (unsigned short w64).right header.nodes in
@@ -86,7 +91,43 @@ header_leaves header right =
     let behind_planes = and_parts planes (nodes && (leaves && numbered)) behind_magic.1 in
     let behind_nodes = and_parts nodes (leaves && numbered) behind_planes.1 in
     let behind_leaves = and_parts leaves numbered behind_nodes.1 in
-    eqb-true header.leaves (header.nodes + 1) (and_parts ((unsigned short w64).right header.leaves) (eqb header.leaves (header.nodes + 1)) behind_leaves.0).1
+    record {
+      few_planes = ltb-true header.planes (2 ^ 32) (and_parts ((unsigned short w64).right header.planes) (ltb header.planes (2 ^ 32)) behind_planes.0).1;
+      one_leaf_more = eqb-true header.leaves (header.nodes + 1) (and_parts ((unsigned short w64).right header.leaves) (eqb header.leaves (header.nodes + 1)) behind_leaves.0).1;
+    }
+
+-- the tests of each part, where the parts can stand in a file
+pub record AreRight (header : Header) (planes : List Plane) (nodes : List NodeRecord) (leaves : List LeafRecord) (rows : Option (List (List Bool))) : Type 0 where
+  pub of_planes : (many plane_layout header.planes).right planes ≡ true
+  pub of_nodes : (many node_layout header.nodes).right nodes ≡ true
+  pub named : list_all (λ here. ltb here.plane header.planes) nodes ≡ true
+  pub numbered : are_numbered nodes ≡ true
+  pub of_leaves : (many leaf_layout header.leaves).right leaves ≡ true
+  pub counted : eqb (count_by is_numbered leaves) header.numbered ≡ true
+  pub of_rows : right_option (each (own_row header.numbered) header.numbered) header.has_rows rows ≡ true
+
+pub right_parts : (header : Header) (planes : List Plane) (nodes : List NodeRecord) (leaves : List LeafRecord) (rows : Option (List (List Bool))) → (parts_layout header).right (planes, (nodes, (leaves, rows))) ≡ true → AreRight header planes nodes leaves rows
+unfolding parts_layout planes_layout nodes_layout leaves_layout rows_layout are_ordered
+right_parts header planes nodes leaves rows right =
+    let of_planes = (planes_layout header).right planes in
+    let of_nodes = (nodes_layout header).right nodes in
+    let of_leaves = (leaves_layout header).right leaves in
+    let of_rows = (rows_layout header).right rows in
+    let behind_planes = and_parts of_planes (of_nodes && (of_leaves && of_rows)) right in
+    let behind_nodes = and_parts of_nodes (of_leaves && of_rows) behind_planes.1 in
+    let behind_leaves = and_parts of_leaves of_rows behind_nodes.1 in
+    let test_nodes = and_parts ((many node_layout header.nodes).right nodes) (are_ordered header.planes nodes) behind_nodes.0 in
+    let test_leaves = and_parts ((many leaf_layout header.leaves).right leaves) (eqb (count_by is_numbered leaves) header.numbered) behind_leaves.0 in
+    let ordered = and_parts (list_all (λ here. ltb here.plane header.planes) nodes) (are_numbered nodes) test_nodes.1 in
+    record {
+      of_planes = behind_planes.0;
+      of_nodes = test_nodes.0;
+      named = ordered.0;
+      numbered = ordered.1;
+      of_leaves = test_leaves.0;
+      counted = test_leaves.1;
+      of_rows = behind_leaves.1;
+    }
 
 -- what parts that can stand in a file are
 pub record AreCounted (header : Header) (planes : List Plane) (nodes : List NodeRecord) (leaves : List LeafRecord) (rows : Option (List (List Bool))) : Type 0 where
@@ -97,28 +138,19 @@ pub record AreCounted (header : Header) (planes : List Plane) (nodes : List Node
   pub numbered_count : count_by is_numbered leaves ≡ header.numbered
   pub has_rows : is_some rows ≡ header.has_rows
 
-pub right_parts : (header : Header) (planes : List Plane) (nodes : List NodeRecord) (leaves : List LeafRecord) (rows : Option (List (List Bool))) → header_layout.right header ≡ true → (parts_layout header).right (planes, (nodes, (leaves, rows))) ≡ true → AreCounted header planes nodes leaves rows
-unfolding parts_layout planes_layout nodes_layout leaves_layout rows_layout are_ordered
-right_parts header planes nodes leaves rows right_header right =
-    let of_planes = (planes_layout header).right planes in
-    let of_nodes = (nodes_layout header).right nodes in
-    let of_leaves = (leaves_layout header).right leaves in
-    let of_rows = (rows_layout header).right rows in
-    let behind_planes = and_parts of_planes (of_nodes && (of_leaves && of_rows)) right in
-    let behind_nodes = and_parts of_nodes (of_leaves && of_rows) behind_planes.1 in
-    let behind_leaves = and_parts of_leaves of_rows behind_nodes.1 in
-    let test_nodes = and_parts ((many node_layout header.nodes).right nodes) (are_ordered header.planes nodes) behind_nodes.0 in
-    let test_leaves = and_parts ((many leaf_layout header.leaves).right leaves) (eqb (count_by is_numbered leaves) header.numbered) behind_leaves.0 in
-    let node_count = right_each_length (λ _. node_layout) 0 header.nodes nodes test_nodes.0 in
-    let leaf_count = right_each_length (λ _. leaf_layout) 0 header.leaves leaves test_leaves.0 in
-    let test = (and_parts (list_all (λ here. ltb here.plane header.planes) nodes) (are_numbered nodes) test_nodes.1).1 in
+pub counted_parts : (header : Header) (planes : List Plane) (nodes : List NodeRecord) (leaves : List LeafRecord) (rows : Option (List (List Bool))) → header_layout.right header ≡ true → (parts_layout header).right (planes, (nodes, (leaves, rows))) ≡ true → AreCounted header planes nodes leaves rows
+counted_parts header planes nodes leaves rows right_header right =
+    let are = right_parts header planes nodes leaves rows right in
+    let node_count = right_each_length (λ _. node_layout) 0 header.nodes nodes are.of_nodes in
+    let leaf_count = right_each_length (λ _. leaf_layout) 0 header.leaves leaves are.of_leaves in
+    let counts = right_counts header right_header in
     record {
-      plane_count = right_each_length (λ _. plane_layout) 0 header.planes planes behind_planes.0;
+      plane_count = right_each_length (λ _. plane_layout) 0 header.planes planes are.of_planes;
       node_count = node_count;
       leaf_count = leaf_count;
-      numbered = numbered-partition nodes leaves test (omega (arith, node_count, leaf_count, header_leaves header right_header));
-      numbered_count = eqb-true (count_by is_numbered leaves) header.numbered test_leaves.1;
-      has_rows = right_option_there (each (own_row header.numbered) header.numbered) header.has_rows rows behind_leaves.1;
+      numbered = numbered-partition nodes leaves are.numbered (omega (arith, node_count, leaf_count, counts.one_leaf_more));
+      numbered_count = eqb-true (count_by is_numbered leaves) header.numbered are.counted;
+      has_rows = right_option_there (each (own_row header.numbered) header.numbered) header.has_rows rows are.of_rows;
     }
 
 pub own_tree : (tree : Tree) → tree_of tree.planes (nodes_of tree.shape 0 0) (leaves_of tree.shape) ≡ tree
@@ -131,7 +163,7 @@ unfolding file_layout
 file_exact =
     recast_exact _ _ _ (both_exact header_layout parts_layout header_exact parts_exact) (λ v right.
     let both = and_parts (header_layout.right v.0) ((parts_layout v.0).right v.1) right in
-    let are = right_parts v.0 v.1.0 v.1.1.0 v.1.1.1.0 v.1.1.1.1 both.0 both.1 in
+    let are = counted_parts v.0 v.1.0 v.1.1.0 v.1.1.1.0 v.1.1.1.1 both.0 both.1 in
     let nodes = sym are.numbered.nodes_are in
     let leaves = sym are.numbered.leaves_are in
     let node_count = ap length nodes ∙ are.node_count in

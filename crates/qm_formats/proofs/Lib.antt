@@ -4,6 +4,8 @@ pub mod ReadParts
 pub mod FirstFaults
 pub mod Standing
 pub mod ExactParts
+pub mod ReadToEnd
+pub mod ReadLists
 pub mod ExactFields
 pub mod PackedRows
 pub mod ExactRows

@@ -1,7 +1,6 @@
 -- A file of at most the limit can be written and read again exactly where it is valid.
-use Rattle.std.proofs.Common.{◌≡◌, ◌<◌, ◌≤◌, ℕ, ◌+◌, ◌^◌, Bool, true, false, cond, eqb, ltb, leb, ◌&&◌, List, [], ◌∷◌, ◌++◌, length, All, Option, Some, None, codes, get_or, refl, ap, subst, ◌∙◌, arith}
+use Rattle.std.proofs.Common.{◌≡◌, ◌<◌, ◌≤◌, ℕ, ◌+◌, ◌^◌, Bool, true, false, cond, eqb, ltb, leb, ◌&&◌, List, [], ◌∷◌, ◌++◌, length, All, Option, Some, None, get_or, refl, ap, subst, ◌∙◌, arith}
 use Rattle.std.specs.Prelude.{IfSome, is_some, count_by}
-use Rattle.std.specs.Int.{w64}
 use Rattle.std.specs.List.{list_all}
 use Rattle.std.proofs.lemmas.Bool.{and_parts, and_from, lt-ltb, ltb-true, le-leb, eq-eqb}
 use Rattle.std.proofs.lemmas.List.{length-append, get_or_default}
@@ -19,14 +18,14 @@ use Rattle.qm_partition.specs.inner.Parts.{AreParts}
 use Rattle.qm_partition.proofs.Counts.{one_leaf_more, length-nodes_of}
 use Rattle.qm_partition.proofs.MadeTrees.{made_of_parts, parts_of_made}
 use Rattle.qm_contacts.specs.NumberedLeaves.{is_numbered}
-use Rattle.qm_formats.specs.Layout.{Layout, bytes_of_each, right_option, many, each, pair}
+use Rattle.qm_formats.specs.Layout.{Layout, bytes_of_each, right_option, many, each}
 use Rattle.qm_formats.specs.Fields.{unsigned, signed, fixed, raw}
-use Rattle.qm_formats.specs.FileParts.{short, magic, plane_layout, node_layout, leaf_layout}
-use Rattle.qm_formats.specs.TreeFile.{Header, count_layout, flag_layout, header_layout, are_numbered, are_ordered, own_row, planes_layout, nodes_layout, leaves_layout, rows_layout, parts_layout, FileContent, header_of, file_layout, file_bytes, file_limit, AreRows, IsValid}
+use Rattle.qm_formats.specs.FileParts.{plane_layout, node_layout, leaf_layout}
+use Rattle.qm_formats.specs.TreeFile.{Header, header_layout, are_numbered, are_ordered, own_row, planes_layout, nodes_layout, leaves_layout, rows_layout, parts_layout, FileContent, header_of, file_layout, file_bytes, file_limit, AreRows, IsValid}
 use Rattle.qm_formats.proofs.NumberedNodes.{numbered-test}
 use Rattle.qm_formats.proofs.RightParts.{right_each_at, right_each_from, reduced_plane, right_plane, plane_right, node_right, leaf_right, right_leaf, row_right, right_row}
 use Rattle.qm_formats.proofs.ChildNumbers.{children_below}
-use Rattle.qm_formats.proofs.ExactFile.{right_each_length, right_parts, own_tree}
+use Rattle.qm_formats.proofs.ExactFile.{right_each_length, right_counts, right_parts, counted_parts, own_tree}
 
 -- a test that each element passes
 list_all-passed : {X : Type 0} (test : X → Bool) (xs : List X) → list_all test xs ≡ true → All (λ x. test x ≡ true) xs
@@ -42,17 +41,6 @@ list_all-from test (x ∷ xs) each =
     and_from (test x) (list_all test xs) (All-head P x xs each) (list_all-from test xs (All-tail P x xs each))
 
 -- ---- what is right is valid
-
-header_planes : (header : Header) → header_layout.right header ≡ true → header.planes < 2 ^ 32
-unfolding header_layout unsigned
-header_planes header right =
-    let numbered = (pair (count_layout (λ numbered. leb numbered header.leaves)) flag_layout).right (header.numbered, header.has_rows) in
-    let leaves = (count_layout (λ leaves. eqb leaves (header.nodes + 1))).right header.leaves in
-    let nodes = (unsigned short w64).right header.nodes in
-    let planes = (count_layout (λ planes. ltb planes (2 ^ 32))).right header.planes in
-    let behind_magic = and_parts ((fixed short magic (codes "QMTREE01")).right tt) (planes && (nodes && (leaves && numbered))) right in
-    let behind_planes = and_parts planes (nodes && (leaves && numbered)) behind_magic.1 in
-    ltb-true header.planes (2 ^ 32) (and_parts ((unsigned short w64).right header.planes) (ltb header.planes (2 ^ 32)) behind_planes.0).1
 
 -- the rows of an option
 rows_valid : (numbered : ℕ) (rows : Option (List (List Bool))) (has_rows : Bool) → right_option (each (own_row numbered) numbered) has_rows rows ≡ true → IfSome rows (AreRows numbered)
@@ -84,22 +72,14 @@ record AreOfTree (planes : List Plane) (nodes : List NodeRecord) (leaves : List 
   reduced : All IsReduced planes
 
 of_tree : (header : Header) (planes : List Plane) (nodes : List NodeRecord) (leaves : List LeafRecord) (rows : Option (List (List Bool))) → header_layout.right header ≡ true → (parts_layout header).right (planes, (nodes, (leaves, rows))) ≡ true → AreOfTree planes nodes leaves
-unfolding parts_layout planes_layout nodes_layout leaves_layout rows_layout are_ordered
 of_tree header planes nodes leaves rows right_header right =
-    let counted = right_parts header planes nodes leaves rows right_header right in
-    let of_planes = (planes_layout header).right planes in
-    let of_nodes = (nodes_layout header).right nodes in
-    let of_leaves = (leaves_layout header).right leaves in
-    let of_rows = (rows_layout header).right rows in
-    let behind_planes = and_parts of_planes (of_nodes && (of_leaves && of_rows)) right in
-    let behind_nodes = and_parts of_nodes (of_leaves && of_rows) behind_planes.1 in
-    let behind_leaves = and_parts of_leaves of_rows behind_nodes.1 in
-    let each_plane = right_each_at (λ _. plane_layout) 0 header.planes planes behind_planes.0 in
-    let each_leaf = right_each_at (λ _. leaf_layout) 0 header.leaves leaves (and_parts ((many leaf_layout header.leaves).right leaves) (eqb (count_by is_numbered leaves) header.numbered) behind_leaves.0).0 in
-    let test_nodes = and_parts ((many node_layout header.nodes).right nodes) (are_ordered header.planes nodes) behind_nodes.0 in
-    let named = list_all-passed (λ here. ltb here.plane header.planes) nodes (and_parts (list_all (λ here. ltb here.plane header.planes) nodes) (are_numbered nodes) test_nodes.1).0 in
+    let counted = counted_parts header planes nodes leaves rows right_header right in
+    let are = right_parts header planes nodes leaves rows right in
+    let each_plane = right_each_at (λ _. plane_layout) 0 header.planes planes are.of_planes in
+    let each_leaf = right_each_at (λ _. leaf_layout) 0 header.leaves leaves are.of_leaves in
+    let named = list_all-passed (λ here. ltb here.plane header.planes) nodes are.named in
     let parts : AreParts planes nodes leaves = record {
-      few = omega (arith, header_planes header right_header, counted.plane_count);
+      few = omega (arith, (right_counts header right_header).few_planes, counted.plane_count);
       leads = λ k d within. (reduced_plane (get_or planes k d) (right_plane (get_or planes k d) (each_plane k d within))).1;
       named = λ k d within. omega (arith, ltb-true (get_or nodes k d).plane header.planes (named k d within), counted.plane_count);
       solid = λ k d within. right_leaf (get_or leaves k d) (each_leaf k d within);
@@ -113,22 +93,18 @@ pub made_of_right : (header : Header) (planes : List Plane) (nodes : List NodeRe
 made_of_right header planes nodes leaves rows right_header right = (of_tree header planes nodes leaves rows right_header right).made
 
 pub right_valid : (file : FileContent) → file_layout.right file ≡ true → IsValid file
-unfolding file_layout parts_layout rows_layout
+unfolding file_layout
 right_valid file right =
     let header = header_of file in
     let nodes = nodes_of file.0.shape 0 0 in
     let leaves = leaves_of file.0.shape in
-    let of_planes = (planes_layout header).right file.0.planes in
-    let of_nodes = (nodes_layout header).right nodes in
-    let of_leaves = (leaves_layout header).right leaves in
-    let of_rows = (rows_layout header).right file.1 in
-    let both = and_parts (header_layout.right header) (of_planes && (of_nodes && (of_leaves && of_rows))) right in
+    let both = and_parts (header_layout.right header) ((parts_layout header).right (file.0.planes, (nodes, (leaves, file.1)))) right in
     let tree = of_tree header file.0.planes nodes leaves file.1 both.0 both.1 in
-    let rows = (and_parts of_leaves of_rows (and_parts of_nodes (of_leaves && of_rows) (and_parts of_planes (of_nodes && (of_leaves && of_rows)) both.1).1).1).1 in
+    let are = right_parts header file.0.planes nodes leaves file.1 both.1 in
     record {
       well_made = subst IsWellMade (own_tree file.0) tree.made.well_made;
       reduced = tree.reduced;
-      rows = rows_valid header.numbered file.1 header.has_rows rows;
+      rows = rows_valid header.numbered file.1 header.has_rows are.of_rows;
     }
 
 -- ---- what is valid and not too long is right

@@ -1,4 +1,3 @@
 pub mod Faults
-pub mod ReadLists
 pub mod Answered
 pub mod DigitSteps
