@@ -20,7 +20,7 @@ use Rattle.qm_segments.proofs.Betweenness.{between_value}
 use Rattle.qm_chains.specs.Shown.{IsAt}
 use Rattle.qm_chains.proofs.Beginnings.{turned_of_portal}
 use Rattle.qm_chains.proofs.TriedPortals.{same_portal}
-use Rattle.qm_lines.specs.inner.Crossing.{Crossing, IsCrossing, crossing_point, mixed, value_where, CrossesPlane, MissesPlane, CrossesAt, MissesAt}
+use Rattle.qm_lines.specs.inner.Crossing.{Crossing, IsCrossing, crossing_point, mixed, value_where, CrossesPlane, CrossesAt, MissesAt}
 
 -- the value of a plane where the line crosses another one
 pub value_is : (s : Segment) (e g : Plane) (c : Crossing) → c.at_begin ≡ value e s.from → c.at_end ≡ value e s.to → value_where c s g ≡ value g (crossing_point s e)
@@ -79,9 +79,6 @@ module _ (s : Segment) (q : Portal) (side : Bool) (into_is : q.into ≡ turned s
   -- ---- where the line goes through the portal, the tests hold
 
   module _ (x : Point) (at : GoesThrough s q x) where
-    pub begin_below : a <ℤ pos 0
-    begin_below = subst (λ (z : ℤ). z <ℤ pos 0) (sym a_is) at.behind
-
     pub end_above : pos 0 <ℤ b
     end_above = subst (λ (z : ℤ). pos 0 <ℤ z) (sym b_is) at.in_front
 
@@ -147,13 +144,7 @@ module _ (world : World) (own : HasOwnPortals world) (number : ℕ) (q : Portal)
         end_is = at.end_is;
       }
 
-  -- one that misses the plane does not
-  pub misses_plane : MissesPlane q.into s → MissesAt world.portals number s
-  misses_plane misses r x r_is at =
-      let same = sym (same_portal world.portals number q r q_is r_is) in
-      misses (subst (λ (p : Portal). IsBehind p.into s.from) same at.behind) (subst (λ (p : Portal). IsInFront p.into s.to) same at.in_front)
-
-  -- and neither does one that crosses it elsewhere
+  -- one that crosses it elsewhere does not
   pub misses_edges : (crossing : Crossing) → CrossesPlane q.into s crossing → (All (λ g. pos 0 <ℤ value_where crossing s g) q.winding.edges → ⊥) → MissesAt world.portals number s
   misses_edges crossing at outside r x r_is through =
       let side = turned_of_portal world own number q q_is in
@@ -203,6 +194,3 @@ value_computed s g crossing v w v_small w_small v_is w_is = rw (passed_on v v_sm
 -- the crossing with these values
 abbrev pub crossing_with : ℤ → ℤ → Crossing
 crossing_with a b = record { at_begin = a; at_end = b }
-
-pub crossing_kept : (a b : ℤ) → unsigned_abs a ≤ 2 ^ 45 → unsigned_abs b ≤ 2 ^ 45 → crossing_with (kept w64 a) (kept w64 b) ≡ crossing_with a b
-crossing_kept a b h k = rw (passed_on a h, passed_on b k) refl

@@ -14,6 +14,7 @@ use Rattle.qm_separators.specs.ChainState.{ChainState}
 use Rattle.qm_separators.specs.PortalSteps.{BeginsWith, GoesOn}
 use Rattle.qm_separators.proofs.ChainLaws.{lets, lead}
 use Rattle.qm_chains.specs.Shown.{IsAt, IsShown}
+use Rattle.qm_chains.proofs.TurnLaws.{shown_weaker}
 use Rattle.qm_chains.proofs.TriedPortals.{same_portal, gains_one}
 use Rattle.qm_sight.specs.WordInSight.{LieWithin}
 use Rattle.qm_sight.specs.InCeiling.{IsInCeiling}
@@ -181,18 +182,7 @@ onward_through world own s trace number q q_is from_here new crossing at beyond 
 
 -- what is shown over ceilings is shown over larger ones
 pub shown_wider : (portals : List Portal) (less more : List (List Bool)) (p n : ℕ) → LieWithin less more → IsShown portals (IsInCeiling less n) p n → IsShown portals (IsInCeiling more n) p n
-shown_wider portals less more p n lie shown = record {
-  first = shown.first;
-  first_is = shown.first_is;
-  last = shown.last;
-  before = shown.before;
-  state = shown.state;
-  open_chain = shown.open_chain;
-  ends = shown.ends;
-  later = shown.later;
-  numbers_are = shown.numbers_are;
-  each_has = λ place d within. lie (get_or (shown.later ++ p ∷ []) place d) n (shown.each_has place d within);
-}
+shown_wider portals less more p n lie shown = shown_weaker portals (IsInCeiling less n) (IsInCeiling more n) (λ q. lie q n) p n shown
 
 -- a row that has gained over larger ceilings, and then over smaller ones
 pub gains_on : (portals : List Portal) (more less : List (List Bool)) (p : ℕ) (a b c : List Bool) → LieWithin less more → HasGainedShown portals (IsInCeiling more) p a b → HasGainedShown portals (IsInCeiling less) p b c → HasGainedShown portals (IsInCeiling more) p a c

@@ -1,6 +1,6 @@
 //! From which points lines are drawn, and to which. Nothing that is promised of lines rests on this choice.
 
-ghost use Rattle.std.specs.Prelude.{◌<◌, length};
+ghost use Rattle.std.specs.Prelude.{◌<◌, ◌≤◌, length};
 ghost use Rattle.qm_space.specs.Point.{IsCoordinate, AreCoordinates};
 
 use crate::line::Line;
@@ -14,15 +14,25 @@ const EXTENT: i64 = WORLD_EXTENT as i64;
 /// The spots of a winding, through which lines are drawn: its middle, and one near each corner.
 pub(crate) fn spots_of(alloc: Global, winding: &Winding) -> Result<Vec<[i32; 3]>, AllocError> {
     let mut spots = Vec::new(alloc);
-    spots.push(middle_of(winding))?;
-    for i in 0..winding.len() {
-        spots.push(spot_near_corner(winding, i))?;
+    for place in 0..=winding.len() {
+        spots.push(spot_at(winding, place))?;
     }
     Ok(spots)
 }
 
+/// One of them: the middle at 0, and then those near the corners.
+pub(crate) fn spot_at(winding: &Winding, place: usize) -> [i32; 3]
+    requires { place ≤ length winding.now.edges }
+    ensures { AreCoordinates result }
+{
+    if place == 0 {
+        return middle_of(winding);
+    }
+    spot_near_corner(winding, place - 1)
+}
+
 /// The spot near a corner: 15 of 16 parts of the way to it from the middle.
-pub(crate) fn spot_near_corner(winding: &Winding, i: usize) -> [i32; 3]
+fn spot_near_corner(winding: &Winding, i: usize) -> [i32; 3]
     requires { i < length winding.now.edges }
     ensures { AreCoordinates result }
 {
@@ -30,7 +40,7 @@ pub(crate) fn spot_near_corner(winding: &Winding, i: usize) -> [i32; 3]
 }
 
 /// The middle of the cuboid round a winding, to whole numbers.
-pub(crate) fn middle_of(winding: &Winding) -> [i32; 3]
+fn middle_of(winding: &Winding) -> [i32; 3]
     ensures { AreCoordinates result }
 {
     let cuboid = winding.cuboid();

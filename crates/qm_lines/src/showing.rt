@@ -7,7 +7,7 @@ ghost use Rattle.qm_sight.specs.InCeiling.{IsInCeiling};
 ghost use Rattle.qm_lines.specs.Gained.{HasGainedShown};
 ghost use Rattle.qm_lines.specs.inner.Drawing.{MayDraw, HasGainedFrom};
 
-use crate::aiming::{line_through, middle_of, spot_near_corner, spots_of};
+use crate::aiming::{line_through, spot_at, spots_of};
 use crate::crossing::crossing_of;
 use crate::first_portal::FirstPortal;
 use crate::following::follow;
@@ -180,12 +180,11 @@ fn aim_within<S: RowSource>(
     ensures shown { OnOk result (HasGainedFrom first.now (S.ceilings source.old) row.old row.new) }
     ensures on { S.goes_on source.old source.new }
 {
-    aim_at(first, source, &middle_of(winding), target, trace, row)?;
-    for i in 0..winding.len() {
+    for place in 0..=winding.len() {
         if row.get(target) {
             return Ok(());
         }
-        let end = spot_near_corner(winding, i);
+        let end = spot_at(winding, place);
         aim_at(first, source, &end, target, trace, row)?;
     }
     Ok(())

@@ -8,7 +8,7 @@ use Rattle.qm_numbers.proofs.Kept.{kept, fits_64}
 use Rattle.qm_space.specs.Bounds.{world_extent, normal_bound}
 use Rattle.qm_space.specs.Point.{Point, IsCoordinate, IsWholePoint}
 use Rattle.qm_space.specs.Vector.{normal_of}
-use Rattle.qm_space.specs.Cuboid.{least_product, greatest_product}
+use Rattle.qm_space.specs.Cuboid.{least_product}
 use Rattle.qm_space.specs.ThreePoints.{outward_plane}
 use Rattle.qm_space.proofs.PlanesThroughPoints.{coordinate_small, outward_sizes}
 use Rattle.qm_space.proofs.Cuboids.{product_small}
@@ -48,7 +48,7 @@ sum_kept a b c h k l = omega (arith, ints)
 pub sum_small : (a b c : ℤ) → unsigned_abs a ≤ 2 ^ 38 → unsigned_abs b ≤ 2 ^ 38 → unsigned_abs c ≤ 2 ^ 38 → unsigned_abs ((a +ℤ b) +ℤ c) ≤ 2 ^ 40
 sum_small a b c h k l = omega (arith, ints)
 
--- ---- the least and the greatest product with a coordinate of a span
+-- ---- the least product with a coordinate of a span
 
 module _ (n low high r : ℤ) (small : unsigned_abs n ≤ 2 ^ 26) (low_in : IsCoordinate low) (high_in : IsCoordinate high) where
   n_kept : kept w64 n ≡ n
@@ -80,10 +80,6 @@ module _ (n low high r : ℤ) (small : unsigned_abs n ≤ 2 ^ 26) (low_in : IsCo
 
   pub least_is : r ≡ least_product (kept w64 n) (record { low = kept w32 low; high = kept w32 high }) → r ≡ least_product n (record { low = low; high = high })
   least_is e = e ∙ (λ i. least_product (n_kept i) (record { low = low_kept i; high = high_kept i }))
-
-  pub greatest_is : r ≡ least_product (kept w64 n) (record { low = kept w32 low; high = kept w32 high }) → r ≡ greatest_product n (record { low = high; high = low })
-  unfolding least_product greatest_product
-  greatest_is e = least_is e
 
 pub three_are : (a b c r p q s : ℤ) → unsigned_abs r ≤ 2 ^ 40 → r ≡ (kept w64 a +ℤ kept w64 b) +ℤ kept w64 c → unsigned_abs a ≤ 2 ^ 38 → unsigned_abs b ≤ 2 ^ 38 → unsigned_abs c ≤ 2 ^ 38 → a ≡ p → b ≡ q → c ≡ s → kept w64 r ≡ (p +ℤ q) +ℤ s
 three_are a b c r p q s size e h k l x y z =

@@ -12,3 +12,5 @@ pub mod Nearness
 pub mod ListedNormals
 pub mod ParallelNormals
 pub mod RaisedDistances
+pub mod SoughtCorners
+pub mod MixedCandidates

@@ -15,7 +15,7 @@ use Rattle.qm_geom.specs.declared.vector.Vector.{Vector}
 use Rattle.qm_narrow.specs.declared.reach.Reach.{Reach}
 use Rattle.qm_narrow.specs.declared.spot.Spot.{Spot}
 use Rattle.qm_narrow.specs.inner.Trace.{IsSpotOf}
-use Rattle.qm_narrow.specs.inner.Look.{least_along, greatest_along, IsReach, IsOutlook, PartsNowhere}
+use Rattle.qm_narrow.specs.inner.Look.{least_between, least_along, greatest_along, IsReach, IsOutlook, PartsNowhere}
 use Rattle.qm_narrow.proofs.Outlooks.{reach_begins, outlook_begins, outlook_more, none_back}
 
 -- ---- whole corners
@@ -79,7 +79,7 @@ abbrev reach : Reach
 reach = record { low = pos 32768; high = pos 32768 }
 
 near_low : least_along across near ≡ pos 32768
-unfolding least_along least_product
+unfolding least_between least_product
 near_low = refl
 
 near_high : greatest_along across near ≡ pos 32768

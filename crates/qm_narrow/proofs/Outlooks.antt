@@ -33,7 +33,7 @@ use Rattle.qm_narrow.specs.declared.reach.Reach.{Reach}
 use Rattle.qm_narrow.specs.declared.outlook.Outlook.{Outlook}
 use Rattle.qm_narrow.specs.declared.spot.Spot.{Spot}
 use Rattle.qm_narrow.specs.inner.Trace.{IsSpotOf}
-use Rattle.qm_narrow.specs.inner.Look.{at_distance, span_of, least_along, greatest_along, IsReach, PartsNowhere, IsOutlook}
+use Rattle.qm_narrow.specs.inner.Look.{at_distance, span_of, least_between, least_along, greatest_along, IsReach, PartsNowhere, IsOutlook}
 
 -- ---- one corner
 
@@ -55,7 +55,7 @@ module _ (n : Vector) (p : Point) (spot : Spot) (weight : pos 0 <ℤ p.w) (is : 
   value_is d = refl
 
   least_bound : (least_along n spot *ℤ p.w) ≤ℤ total
-  unfolding least_along
+  unfolding least_between
   least_bound =
       let a = least_product n.x (span_of spot 0) in let b = least_product n.y (span_of spot 1) in let c = least_product n.z (span_of spot 2) in
       let e = +ℤ-*ℤ (a +ℤ b) c p.w in let f = +ℤ-*ℤ a b p.w in

@@ -4,3 +4,4 @@ pub mod Edge
 pub mod Near
 pub mod FoundPlanes
 pub mod LastPoint
+pub mod WholeCandidates

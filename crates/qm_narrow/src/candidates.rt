@@ -6,9 +6,10 @@ ghost use Rattle.qm_convex.specs.Winding.{corners, next_place};
 ghost use Rattle.qm_separators.specs.Gains.{Gains};
 ghost use Rattle.qm_separators.specs.Across.{HasNormalAcross};
 ghost use Rattle.qm_separators.specs.Separator.{IsSeparator};
-ghost use Rattle.qm_separators.specs.inner.Found.{AreBoth, AreCandidates, SeparatesByMix, SeparatesAt, SeparatesByEdge};
+ghost use Rattle.qm_separators.specs.inner.Found.{AreBoth, SeparatesByMix, SeparatesAt, SeparatesByEdge};
 ghost use Rattle.qm_narrow.specs.inner.Edge.{HasEdge, IsOwner, IsEdgeOf};
 ghost use Rattle.qm_narrow.specs.inner.FoundPlanes.{AreAtLeastDistance};
+ghost use Rattle.qm_narrow.specs.inner.WholeCandidates.{AreWholeCandidates};
 
 use crate::across::gain_through;
 use crate::edge::Edge;
@@ -145,35 +146,15 @@ fn gain_mixed(
     to: [i32; 3],
 ) -> Result<(), AllocError>
     requires edge { IsEdgeOf source.now pass.now edge.now }
-    requires below_in_cube { AreCoordinates below }
-    requires above_in_cube { AreCoordinates above }
-    requires from_in_cube { AreCoordinates from }
-    requires to_in_cube { AreCoordinates to }
-    requires candidates { AreCandidates source.now pass.now (whole_point below) (whole_point above) (whole_point from) (whole_point to) }
+    requires points { AreWholeCandidates source.now pass.now below above from to }
     requires found { AreAtLeastDistance source.now planes.now.items }
     ensures { OnOk result (Gains (SeparatesByMix source.now pass.now (whole_point below) (whole_point above) (whole_point from) (whole_point to)) planes.old.items planes.new.items) }
 {
-    gain_layer(
-        planes,
-        source,
-        pass,
-        edge,
-        below,
-        with_x_of(above, below),
-        from,
-        to,
-    )?;
+    let high = with_x_of(above, below);
+    gain_layer(planes, source, pass, edge, below, high, from, to)?;
     if below[0] != above[0] {
-        gain_layer(
-            planes,
-            source,
-            pass,
-            edge,
-            with_x_of(below, above),
-            above,
-            from,
-            to,
-        )?;
+        let low = with_x_of(below, above);
+        gain_layer(planes, source, pass, edge, low, above, from, to)?;
     }
     Ok(())
 }
@@ -190,36 +171,16 @@ fn gain_layer(
     to: [i32; 3],
 ) -> Result<(), AllocError>
     requires edge { IsEdgeOf source.now pass.now edge.now }
-    requires below_in_cube { AreCoordinates below }
-    requires above_in_cube { AreCoordinates above }
-    requires from_in_cube { AreCoordinates from }
-    requires to_in_cube { AreCoordinates to }
-    requires candidates { AreCandidates source.now pass.now (whole_point below) (whole_point above) (whole_point from) (whole_point to) }
+    requires points { AreWholeCandidates source.now pass.now below above from to }
     requires found { AreAtLeastDistance source.now planes.now.items }
     requires flat { (whole_point below).x ≡ (whole_point above).x }
     ensures { OnOk result (Gains (SeparatesByMix source.now pass.now (whole_point below) (whole_point above) (whole_point from) (whole_point to)) planes.old.items planes.new.items) }
 {
-    gain_row(
-        planes,
-        source,
-        pass,
-        edge,
-        below,
-        with_z_of(below, above),
-        from,
-        to,
-    )?;
+    let high = with_z_of(below, above);
+    gain_row(planes, source, pass, edge, below, high, from, to)?;
     if below[1] != above[1] {
-        gain_row(
-            planes,
-            source,
-            pass,
-            edge,
-            with_z_of(above, below),
-            above,
-            from,
-            to,
-        )?;
+        let low = with_z_of(above, below);
+        gain_row(planes, source, pass, edge, low, above, from, to)?;
     }
     Ok(())
 }
@@ -236,11 +197,7 @@ fn gain_row(
     to: [i32; 3],
 ) -> Result<(), AllocError>
     requires edge { IsEdgeOf source.now pass.now edge.now }
-    requires below_in_cube { AreCoordinates below }
-    requires above_in_cube { AreCoordinates above }
-    requires from_in_cube { AreCoordinates from }
-    requires to_in_cube { AreCoordinates to }
-    requires candidates { AreCandidates source.now pass.now (whole_point below) (whole_point above) (whole_point from) (whole_point to) }
+    requires points { AreWholeCandidates source.now pass.now below above from to }
     requires found { AreAtLeastDistance source.now planes.now.items }
     requires flat { (whole_point below).x ≡ (whole_point above).x }
     requires straight { (whole_point below).y ≡ (whole_point above).y }

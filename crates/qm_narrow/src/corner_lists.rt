@@ -9,10 +9,19 @@ use qm_wind::Winding;
 use std::alloc::{AllocError, Global};
 
 /// Corners, and the whole points near each of them.
-#[derive(Drop)]
 pub(crate) struct CornerLists {
     pub(crate) corners: Vec<Corner>,
     pub(crate) spots: Vec<Spot>,
+}
+
+// Written out, so that a function that owns some calls this where it ends: a derived drop would be proved anew at each exit.
+impl Drop for CornerLists {
+    fn drop(self) {
+        let CornerLists {
+            corners: _,
+            spots: _,
+        } = self;
+    }
 }
 
 impl CornerLists {

@@ -5,6 +5,8 @@ ghost use Rattle.qm_space.specs.Cube.{IsInClosedCube};
 ghost use Rattle.qm_space.specs.Point.{IsCoordinate, AreCoordinates};
 ghost use Rattle.qm_space.specs.Cuboid.{least_product, greatest_product};
 ghost use Rattle.qm_geom.specs.Rounding.{HasSmallCoordinates};
+ghost use Rattle.qm_geom.specs.Vectors.{IsWithin};
+ghost use Rattle.qm_narrow.specs.inner.Look.{least_between};
 ghost use Rattle.qm_narrow.specs.inner.Trace.{IsSpotOf};
 
 use crate::near::Near;
@@ -49,12 +51,7 @@ impl Spot {
         ensures exact { result ≡ least_along normal.now self.now }
         ensures size { unsigned_abs result ≤ 2 ^ 40 }
     {
-        let products = Vector {
-            x: least_product(normal.x, self.below[0], self.above[0]),
-            y: least_product(normal.y, self.below[1], self.above[1]),
-            z: least_product(normal.z, self.below[2], self.above[2]),
-        };
-        sum(&products)
+        least_between(normal, &self.below, &self.above)
     }
 
     /// The greatest that it has.
@@ -65,12 +62,7 @@ impl Spot {
         ensures exact { result ≡ greatest_along normal.now self.now }
         ensures size { unsigned_abs result ≤ 2 ^ 40 }
     {
-        let products = Vector {
-            x: least_product(normal.x, self.above[0], self.below[0]),
-            y: least_product(normal.y, self.above[1], self.below[1]),
-            z: least_product(normal.z, self.above[2], self.below[2]),
-        };
-        sum(&products)
+        least_between(normal, &self.above, &self.below)
     }
 }
 
@@ -91,6 +83,22 @@ fn divided(corner: &Corner) -> Spot
         below: [near_x.below, near_y.below, near_z.below],
         above: [near_x.above, near_y.above, near_z.above],
     }
+}
+
+/// The sum of what a normal has along each axis of the one point, or of the other one where its component is below 0.
+fn least_between(normal: &Vector, low: &[i32; 3], high: &[i32; 3]) -> i64
+    requires low_in { AreCoordinates low.now }
+    requires high_in { AreCoordinates high.now }
+    requires small { IsWithin normal.now (2 ^ 26) }
+    ensures exact { result ≡ least_between normal.now low.now high.now }
+    ensures size { unsigned_abs result ≤ 2 ^ 40 }
+{
+    let products = Vector {
+        x: least_product(normal.x, low[0], high[0]),
+        y: least_product(normal.y, low[1], high[1]),
+        z: least_product(normal.z, low[2], high[2]),
+    };
+    sum(&products)
 }
 
 /// A component times the one coordinate, or times the other one where it is below 0.

@@ -17,3 +17,8 @@ pub record MayDraw (first : FirstPortal) (answered : World) (row : List Bool) : 
 -- the row has gained leaves that open chains from the portal show, over these ceilings
 abbrev pub HasGainedFrom : FirstPortal → List (List Bool) → List Bool → List Bool → Type 0
 HasGainedFrom first ceilings old new = HasGainedShown first.world.now.portals (IsInCeiling ceilings) first.portal old new
+
+-- lines were drawn: what the row has gained is shown over these ceilings, and the source went on
+pub record HasDrawn (first : FirstPortal) (ceilings : List (List Bool)) (WentOn : Type 0) (old new : List Bool) : Type 0 where
+  pub shown : HasGainedFrom first ceilings old new
+  pub on : WentOn

@@ -1,4 +1,4 @@
-use Rattle.std.specs.Prelude.{◌≡◌, false, ℤ, pos, ◌+ℤ◌, ◌≤ℤ◌, ℕ, slice_index_or}
+use Rattle.std.specs.Prelude.{◌≡◌, false, List, ℤ, pos, ◌+ℤ◌, ◌≤ℤ◌, ℕ, slice_index_or}
 use Rattle.qm_space.specs.Plane.{Plane}
 use Rattle.qm_space.specs.Cuboid.{Span, least_product, greatest_product}
 use Rattle.qm_convex.specs.Winding.{Winding}
@@ -15,13 +15,21 @@ use Rattle.qm_narrow.specs.declared.spot.Spot.{Spot}
 abbrev pub at_distance : Vector → ℤ → Plane
 at_distance n d = record { nx = n.x; ny = n.y; nz = n.z; d = d }
 
--- across one axis, from a coordinate rounded down to it rounded up
-abbrev pub span_of : Spot → ℕ → Span
-span_of spot axis = record { low = slice_index_or spot.below axis (pos 0); high = slice_index_or spot.above axis (pos 0) }
+-- across one axis, from the coordinate of the one whole point to that of the other
+abbrev pub span_between : List ℤ → List ℤ → ℕ → Span
+span_between low high axis = record { low = slice_index_or low axis (pos 0); high = slice_index_or high axis (pos 0) }
 
--- the least and the greatest that the normal has along a point between the whole points below and above a corner
-unfoldable pub least_along : Vector → Spot → ℤ
-least_along n spot = (least_product n.x (span_of spot 0) +ℤ least_product n.y (span_of spot 1)) +ℤ least_product n.z (span_of spot 2)
+-- from a coordinate rounded down to it rounded up
+abbrev pub span_of : Spot → ℕ → Span
+span_of spot axis = span_between spot.below spot.above axis
+
+-- the least that the normal has along a point between two whole points
+unfoldable pub least_between : Vector → List ℤ → List ℤ → ℤ
+least_between n low high = (least_product n.x (span_between low high 0) +ℤ least_product n.y (span_between low high 1)) +ℤ least_product n.z (span_between low high 2)
+
+-- the least and the greatest that it has along a point between the whole points below and above a corner
+abbrev pub least_along : Vector → Spot → ℤ
+least_along n spot = least_between n spot.below spot.above
 
 unfoldable pub greatest_along : Vector → Spot → ℤ
 greatest_along n spot = (greatest_product n.x (span_of spot 0) +ℤ greatest_product n.y (span_of spot 1)) +ℤ greatest_product n.z (span_of spot 2)

@@ -1,17 +1,14 @@
 use Rattle.std.proofs.Common.{get_or}
 use Rattle.std.proofs.lemmas.List.Elements.{Contains-get_or}
 use Rattle.std.proofs.lemmas.Option.{slice_get_within}
-use Rattle.qm_lines.proofs.Drawing.{may_draw_on, gained_none, gained_on, nothing_at_err}
+use Rattle.qm_lines.proofs.Drawing.{may_draw_on, drawn_none, drawn_on, nothing_at_err}
 use Rattle.qm_lines.proofs.showing.aim_out.Goals as goal
 
 pub leaving-other-items-requires : goal.leaving-other-items-requires
 leaving-other-items-requires g c = c.requires.leaf
 
 pub loop-other-init : goal.loop-other-init
-loop-other-init g c = record {
-  shown = gained_none c.args.first.now (g.S.RowSource.ceilings c.args.source.now) c.args.row.now;
-  on = g.met.S.RowSource.goes_on_itself c.args.source.now;
-}
+loop-other-init g c = drawn_none (g.met.S.RowSource.goes_on_itself _)
 
 pub aim_through-requires : goal.aim_through-requires
 aim_through-requires g c =
@@ -19,25 +16,20 @@ aim_through-requires g c =
     let other = get_or items c.loop-other.other-index 0 in
     let q = (c.leaving-other-items.ensures.leave other).0 (Contains-get_or items c.loop-other.other-index 0 c.loop-other-test.true) in
     record {
-      may_draw = may_draw_on c.args.first.now (g.S.RowSource.world c.args.source.now) (g.S.RowSource.world c.loop-other.source) c.args.row.now c.loop-other.row c.requires.may_draw
-          (g.met.S.RowSource.same_world c.args.source.now c.loop-other.source c.loop-other.invariant.on) c.loop-other.invariant.shown.same_length;
+      may_draw = may_draw_on c.requires.may_draw (g.met.S.RowSource.same_world _ _ c.loop-other.invariant.on) c.loop-other.invariant.shown.same_length;
       other = slice_get_within c.args.first.now.world.now.portals other q.0 q.1;
     }
 
 pub returns-in_err-aim_through : goal.returns-in_err-aim_through
 returns-in_err-aim_through g c = record {
-  shown = nothing_at_err _ c.from_residual.result c.from_residual.ensures.0;
-  on = g.met.S.RowSource.goes_on_in_turn c.args.source.now c.loop-other.source c.aim_through.new.source c.loop-other.invariant.on c.aim_through.ensures.on;
+  shown = nothing_at_err _ _ c.from_residual.ensures.0;
+  on = g.met.S.RowSource.goes_on_in_turn _ _ _ c.loop-other.invariant.on c.aim_through.ensures.on;
 }
 
 pub loop-other-preserved : goal.loop-other-preserved
 loop-other-preserved g c =
     let on = c.loop-other.invariant.on in
-    record {
-      shown = gained_on c.args.first.now (g.S.RowSource.ceilings c.args.source.now) (g.S.RowSource.ceilings c.loop-other.source) c.args.row.now c.loop-other.row c.aim_through.new.row
-          (g.met.S.RowSource.narrower c.args.source.now c.loop-other.source on) c.loop-other.invariant.shown c.in_ok-aim_through.ensures.shown;
-      on = g.met.S.RowSource.goes_on_in_turn c.args.source.now c.loop-other.source c.aim_through.new.source on c.aim_through.ensures.on;
-    }
+    drawn_on _ (g.met.S.RowSource.narrower _ _ on) c.loop-other.invariant c.in_ok-aim_through.ensures.shown (g.met.S.RowSource.goes_on_in_turn _ _ _ on c.aim_through.ensures.on)
 
 pub returns : goal.returns
 returns g c = record { shown = c.loop-other.invariant.shown; on = c.loop-other.invariant.on }

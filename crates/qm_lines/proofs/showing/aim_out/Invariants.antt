@@ -1,9 +1,5 @@
-use Rattle.qm_lines.specs.inner.Drawing.{HasGainedFrom}
+use Rattle.qm_lines.specs.inner.Drawing.{HasDrawn}
 use Rattle.qm_lines.proofs.showing.aim_out.Given as goal
 
--- what the row has gained so far is shown, and the source goes on from what it was
 abbrev pub invariant-loop-other : goal.invariant-loop-other
-invariant-loop-other g l = record {
-  shown : HasGainedFrom l.first (g.S.RowSource.ceilings l.fn.source) l.fn.row l.row;
-  on : g.S.RowSource.goes_on l.fn.source l.source;
-}
+invariant-loop-other g l = HasDrawn l.first (g.S.RowSource.ceilings l.fn.source) (g.S.RowSource.goes_on l.fn.source l.source) l.fn.row l.row

@@ -7,7 +7,7 @@ pub to-target-requires : goal.to-target-requires
 to-target-requires g c = c.requires.other
 
 pub get-requires : goal.get-requires
-get-requires g c = has_place c.args.first.now (g.S.RowSource.world c.args.source.now) c.args.row.now c.args.row.now c.to-target.result c.requires.may_draw refl c.to-target.ensures.within
+get-requires g c = has_place _ c.requires.may_draw refl c.to-target.ensures.within
 
 pub returns-then-get : goal.returns-then-get
 returns-then-get g c = record {
@@ -34,8 +34,7 @@ pane-requires g c = c.requires.other
 
 pub aim_within-requires : goal.aim_within-requires
 aim_within-requires g c = record {
-  may_draw = may_draw_on c.args.first.now (g.S.RowSource.world c.args.source.now) (g.S.RowSource.world c.may_lead.new.source) c.args.row.now c.args.row.now c.requires.may_draw
-      (g.met.S.RowSource.same_world c.args.source.now c.may_lead.new.source c.may_lead.ensures) refl;
+  may_draw = may_draw_on c.requires.may_draw (g.met.S.RowSource.same_world _ _ c.may_lead.ensures) refl;
   target = c.to-target.ensures.within;
 }
 
@@ -48,5 +47,5 @@ returns g c =
           (λ shown. gained_on c.args.first.now ceilings (g.S.RowSource.ceilings c.may_lead.new.source) c.args.row.now c.args.row.now c.aim_within.new.row
           (g.met.S.RowSource.narrower c.args.source.now c.may_lead.new.source on) (gained_none c.args.first.now ceilings c.args.row.now) shown)
           c.aim_within.ensures.shown;
-      on = g.met.S.RowSource.goes_on_in_turn c.args.source.now c.may_lead.new.source c.aim_within.new.source on c.aim_within.ensures.on;
+      on = g.met.S.RowSource.goes_on_in_turn _ _ _ on c.aim_within.ensures.on;
     }

@@ -1,9 +1,5 @@
-use Rattle.qm_lines.specs.inner.Drawing.{HasGainedFrom}
+use Rattle.qm_lines.specs.inner.Drawing.{HasDrawn}
 use Rattle.qm_lines.proofs.showing.aim_within.Given as goal
 
--- what the row has gained so far is shown, and the source goes on from what it was
-abbrev pub invariant-loop-i : goal.invariant-loop-i
-invariant-loop-i g l = record {
-  shown : HasGainedFrom l.first (g.S.RowSource.ceilings l.fn.source) l.fn.row l.row;
-  on : g.S.RowSource.goes_on l.fn.source l.source;
-}
+abbrev pub invariant-loop-place : goal.invariant-loop-place
+invariant-loop-place g l = HasDrawn l.first (g.S.RowSource.ceilings l.fn.source) (g.S.RowSource.goes_on l.fn.source l.source) l.fn.row l.row

@@ -1,11 +1,9 @@
 use Rattle.std.proofs.Common.{◌≡◌, length}
-use Rattle.qm_lines.specs.inner.Drawing.{HasGainedFrom}
+use Rattle.qm_lines.specs.inner.Drawing.{HasDrawn}
 use Rattle.qm_lines.proofs.showing.flood.Given as goal
 
--- what the row has gained so far is shown, and the source goes on from what it was
 abbrev pub invariant-loop : goal.invariant-loop
 invariant-loop g l = record {
-  shown : HasGainedFrom l.first (g.S.RowSource.ceilings l.fn.source) l.fn.row l.row;
-  on : g.S.RowSource.goes_on l.fn.source l.source;
+  drawn : HasDrawn l.first (g.S.RowSource.ceilings l.fn.source) (g.S.RowSource.goes_on l.fn.source l.source) l.fn.row l.row;
   wide : length l.gone ≡ length l.fn.gone;
 }

@@ -16,7 +16,7 @@ begin-requires g c = record { portal = c.requires.may_draw.portal; own_portals =
 
 pub returns-in_err-begin-in-Some : goal.returns-in_err-begin-in-Some
 returns-in_err-begin-in-Some g c = record {
-  shown = nothing_at_err _ c.from_residual.result c.from_residual.ensures.0;
+  shown = nothing_at_err _ _ c.from_residual.ensures.0;
   on = g.met.S.RowSource.goes_on_itself c.args.source.now;
 }
 

@@ -8,13 +8,13 @@ pane-requires g c = c.requires.portal
 
 pub returns-in_err-spots : goal.returns-in_err-spots
 returns-in_err-spots g c = record {
-  shown = nothing_at_err _ c.from_residual.result c.from_residual.ensures.0;
+  shown = nothing_at_err _ _ c.from_residual.ensures.0;
   on = g.met.S.RowSource.goes_on_itself c.args.source.now;
 }
 
 pub returns-in_err-gone : goal.returns-in_err-gone
 returns-in_err-gone g c = record {
-  shown = nothing_at_err _ c.from_residual-in_err-gone.result c.from_residual-in_err-gone.ensures.0;
+  shown = nothing_at_err _ _ c.from_residual-in_err-gone.ensures.0;
   on = g.met.S.RowSource.goes_on_itself c.args.source.now;
 }
 

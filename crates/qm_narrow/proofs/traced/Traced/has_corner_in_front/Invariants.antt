@@ -1,8 +1,6 @@
-use Rattle.std.proofs.Common.{ℕ, ◌<◌}
 use Rattle.qm_space.specs.Plane.{IsInFront}
-use Rattle.qm_convex.specs.Winding.{corner_at}
+use Rattle.qm_narrow.proofs.SoughtCorners.{NoneBefore}
 use Rattle.qm_narrow.proofs.traced.Traced.has_corner_in_front.Given as goal
 
--- none of those before is so
 abbrev pub invariant-loop-i : goal.invariant-loop-i
-invariant-loop-i l = (k : ℕ) → k < l.i → IsInFront l.plane (corner_at l.self k) → ⊥
+invariant-loop-i l = NoneBefore l.self (IsInFront l.plane) l.i
