@@ -5,48 +5,19 @@ use crate::slow::{Left, Place, clip};
 use qm_geom::Plane;
 use qm_wind::{Clip, Side, Winding};
 use std::alloc::{AllocError, Global};
+use test_numbers::Random;
 
-/// A stream of numbers that look random: a linear congruential generator of 64 bits.
-#[derive(Drop)]
-struct Numbers {
-    state: u64,
+/// A plane through three points whose coordinates go from -reach to reach.
+fn random_plane(random: &mut Random, reach: u16) -> Plane {
+    through(random.points(reach))
 }
 
-impl Numbers {
-    /// The next number, of 31 bits.
-    fn next(&mut self) -> u32 {
-        self.state = self
-            .state
-            .wrapping_mul(6364136223846793005)
-            .wrapping_add(1442695040888963407);
-        (self.state >> 33) as u32
-    }
-
-    /// A whole coordinate from -reach to reach.
-    fn coordinate(&mut self, reach: u16) -> i32 {
-        (self.next() % (2 * u32::from(reach) + 1)) as i32 - i32::from(reach)
-    }
-
-    fn point(&mut self, reach: u16) -> [i32; 3] {
-        [
-            self.coordinate(reach),
-            self.coordinate(reach),
-            self.coordinate(reach),
-        ]
-    }
-
-    /// A plane through three such points.
-    fn plane(&mut self, reach: u16) -> Plane {
-        through([self.point(reach), self.point(reach), self.point(reach)])
-    }
-
-    /// One of a plane's two sides.
-    fn side(&mut self) -> Side {
-        if self.next() % 2 == 0 {
-            Side::Front
-        } else {
-            Side::Back
-        }
+/// One of a plane's two sides.
+fn random_side(random: &mut Random) -> Side {
+    if random.next() % 2 == 0 {
+        Side::Front
+    } else {
+        Side::Back
     }
 }
 
@@ -116,11 +87,11 @@ impl Walker {
 
 /// Clips the part of a plane inside the cube by eight random planes, one after another. How many cuts
 /// there were; `None` where the slow program does not agree.
-fn walk(alloc: Global, plane: &Plane, numbers: &mut Numbers, reach: u16) -> Option<u32> {
+fn walk(alloc: Global, plane: &Plane, random: &mut Random, reach: u16) -> Option<u32> {
     let mut walker = Walker::on(alloc, plane)?;
     for _ in 0..8 {
-        let plane = numbers.plane(reach);
-        let side = numbers.side();
+        let plane = random_plane(random, reach);
+        let side = random_side(random);
         if walker.clip(alloc, &plane, side) != Some(true) {
             return None;
         }
@@ -131,12 +102,10 @@ fn walk(alloc: Global, plane: &Plane, numbers: &mut Numbers, reach: u16) -> Opti
 /// Whether 100 walks from a plane cut often, and all agree.
 fn walks_agree(alloc: Global, points: [[i32; 3]; 3], reach: u16) -> Option<bool> {
     let plane = through(points);
-    let mut numbers = Numbers {
-        state: u64::from(reach),
-    };
+    let mut random = Random::new(u64::from(reach));
     let mut cuts = 0_u32;
     for _ in 0..100 {
-        cuts = cuts.wrapping_add(walk(alloc, &plane, &mut numbers, reach)?);
+        cuts = cuts.wrapping_add(walk(alloc, &plane, &mut random, reach)?);
     }
     Some(cuts > 100)
 }

@@ -7,5 +7,3 @@ mod altered;
 mod printed;
 #[cfg(test)]
 mod rooms;
-#[cfg(test)]
-mod worlds;

@@ -1,12 +1,14 @@
 //! Listings of generated worlds, read again and held to the portals.
 
-use crate::worlds::{cut_box, world_of};
-use qm_geom::{Corner, Point};
+use qm_geom::Corner;
 use qm_portal::World;
 use qm_prt::{Coordinate, PrtFault, PrtPortal, print, read};
 use qm_wind::Winding;
 use std::alloc::{AllocError, Global};
 use std::test::Fail;
+use test_numbers::Random;
+use test_texts::{points_across, put_face};
+use test_worlds::world_of;
 
 /// Whether a coordinate is that of a fraction, to the nearest millionth.
 fn is_near(coordinate: &Coordinate, over: i128, under: i128) -> bool {
@@ -87,44 +89,42 @@ fn is_listed(alloc: Global, world: &World) -> Result<bool, AllocError> {
     )
 }
 
-/// Numbers that look random, by the steps of a shift register.
-fn next(state: u64) -> u64 {
-    let first = state ^ (state << 13);
-    let second = first ^ (first >> 7);
-    second ^ (second << 17)
+/// The text of a world of one box between -64 and 64, each of its sides cut by the plane through three points.
+fn cut_box(alloc: Global, cuts: &[[[i32; 3]; 3]]) -> Result<String, AllocError> {
+    let mut text = String::new(alloc);
+    text.push_str("{\n{\n")?;
+    for side in 0..6 {
+        let at = if side % 2 == 0 { -64 } else { 64 };
+        put_face(&mut text, "stone", points_across(side, at))?;
+    }
+    for points in cuts {
+        put_face(&mut text, "stone", *points)?;
+    }
+    text.push_str("}\n}\n")?;
+    Ok(text)
 }
 
-/// A coordinate near to a number, from some bits.
-fn near(middle: i32, bits: u64) -> i32 {
-    middle.saturating_add((bits % 24) as i32)
+/// A coordinate near to -48.
+fn near(random: &mut Random) -> i32 {
+    random.below(24) as i32 - 48
 }
 
 /// A plane that cuts one corner off.
-fn cut(state: u64) -> [[i32; 3]; 3] {
+fn cut(random: &mut Random) -> [[i32; 3]; 3] {
     [
-        [near(-48, state >> 8), 64, 64],
-        [64, 64, near(-48, state >> 24)],
-        [64, near(-48, state >> 40), 64],
+        [near(random), 64, 64],
+        [64, 64, near(random)],
+        [64, near(random), 64],
     ]
 }
 
 #[test]
 fn listings_say_what_worlds_do(rt: HostRuntime) -> Result<(), Fail> {
-    let mut state = 0x9E37_79B9_7F4A_7C15;
+    let mut random = Random::new(1);
     let mut right = true;
     for _ in 0..6 {
-        state = next(state);
-        let text = cut_box(rt.alloc(), &[cut(state), cut(next(state))])?;
-        let world = world_of(
-            rt.alloc(),
-            text.as_str(),
-            Point {
-                x: 0,
-                y: 0,
-                z: 200,
-                w: 1,
-            },
-        )?;
+        let text = cut_box(rt.alloc(), &[cut(&mut random), cut(&mut random)])?;
+        let world = world_of(rt.alloc(), text.as_str(), [0, 0, 200])?;
         right &= world.portals() > 24 && is_listed(rt.alloc(), &world)?;
     }
     assert!(rt; right);

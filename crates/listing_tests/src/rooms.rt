@@ -1,22 +1,11 @@
 //! Two rooms with a doorway, and their listing, worked out by hand.
 
-use crate::worlds::{BoxRow, text, world_of};
-use qm_geom::Point;
 use qm_lists::Items;
 use qm_prt::{Coordinate, Listing, PrtPortal, print, read};
 use std::alloc::{AllocError, Global};
 use std::test::Fail;
-
-pub static ROOMS: [BoxRow; 8] = [
-    ([-3600, -80, -16], [-3360, 80, 0]),
-    ([-3600, -80, 96], [-3360, 80, 112]),
-    ([-3600, -80, 0], [-3360, -64, 96]),
-    ([-3600, 64, 0], [-3360, 80, 96]),
-    ([-3600, -64, 0], [-3584, 64, 96]),
-    ([-3488, -32, 0], [-3472, 64, 96]),
-    ([-3488, -64, 64], [-3472, -32, 96]),
-    ([-3376, -64, 0], [-3360, 64, 96]),
-];
+use test_texts::{TWO_ROOMS, text_of};
+use test_worlds::world_of;
 
 /// The listing: the doorway is leaf 1, between the rooms 0 and 2.
 pub static LISTING: [u8; 147] =
@@ -83,14 +72,8 @@ fn is_listing(listing: &Listing) -> bool {
 
 /// Whether the listing is read, and printed for the rooms, also behind other bytes.
 fn holds(alloc: Global) -> Result<bool, AllocError> {
-    let text = text(alloc, &ROOMS)?;
-    let at = Point {
-        x: -3536,
-        y: 0,
-        z: 24,
-        w: 1,
-    };
-    let world = world_of(alloc, text.as_str(), at)?;
+    let text = text_of(alloc, &TWO_ROOMS)?;
+    let world = world_of(alloc, text.as_str(), [-3536, 0, 24])?;
     let mut alone = Vec::new(alloc);
     print(alloc, &world, &mut alone)?;
     let mut behind = Vec::from_slice(alloc, b"12")?;

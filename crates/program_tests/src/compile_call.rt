@@ -2,11 +2,11 @@
 
 use super::boxes::world;
 use super::cube::{END, FIRST, OTHERS, joined};
-use super::rooms::HOLE_ROOM;
 use qm_compile::{Compiled, Options, Summary, compile};
 use qm_map::{MapFault, parse};
 use std::alloc::{AllocError, Global};
 use std::test::Fail;
+use test_texts::HOLE_ROOM;
 
 /// What a text compiles to; `None` where it is no map.
 fn compiled(alloc: Global, text: &[u8], fast: bool) -> Result<Option<Compiled>, AllocError> {

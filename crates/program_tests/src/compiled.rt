@@ -1,14 +1,13 @@
-use super::boxes::{BoxRow, world};
+use super::boxes::world;
 use super::cube::{END, FIRST, OTHERS, joined};
 use super::cube_file::CUBE_FILE;
 use super::empty_file::{EMPTY_FILE, EMPTY_SUMMARY};
 use super::outside::{Outside, gives};
 use super::printed::SUMMARY;
-use super::rooms::{CORNER_ROOMS, HOLE_ROOM, SEALED_ROOM};
 use std::alloc::{AllocError, Global};
 use std::test::Fail;
 use std::thread::Threads;
-use test_texts::put_box;
+use test_texts::{APART, CORNER_ROOMS, CUBE, HOLE_ROOM, ROOM, put_box};
 
 /// The end of the cube, with a face on its first plane once more.
 const AGAIN: &str = "( 0 7 9 ) ( 0 8 9 ) ( 0 7 10 ) stone 0 0 0 1 1\n}\n}\n";
@@ -24,12 +23,6 @@ const DOOR: &str =
 /// A brush of two faces that are turned against each other on one plane.
 const OPPOSED: &str = "{\n( 0 0 0 ) ( 0 1 0 ) ( 0 0 1 ) stone 0 0 0 1 1\n\
     ( 0 0 1 ) ( 0 1 0 ) ( 0 0 0 ) stone 0 0 0 1 1\n}\n";
-
-/// A brush of two faces that look away from each other, with nothing behind both.
-const APART: &str = "{\n( 0 0 0 ) ( 0 1 0 ) ( 1 0 0 ) stone 0 0 0 1 1\n\
-    ( 0 0 128 ) ( 1 0 128 ) ( 0 1 128 ) stone 0 0 0 1 1\n}\n";
-
-const CUBE: BoxRow = ([0, 0, 0], [64, 64, 64]);
 
 /// Texts that mean the cube, and a world without brushes.
 #[test]
@@ -178,7 +171,7 @@ fn counts_what_two_contents_give(rt: HostRuntime) -> Result<(), Fail> {
 /// A room, the room with a hole in a wall, and three rooms round a corner, each without an entity.
 #[test]
 fn counts_what_rooms_give(rt: HostRuntime) -> Result<(), Fail> {
-    let room = world(rt.alloc(), "", &SEALED_ROOM)?;
+    let room = world(rt.alloc(), "", &ROOM)?;
     let hole = world(rt.alloc(), "", &HOLE_ROOM)?;
     let corner = world(rt.alloc(), "", &CORNER_ROOMS)?;
     assert!(rt; counts(&rt, &room, [6, 0, 12, 12, 13, 7, 12, 35], 593)?);

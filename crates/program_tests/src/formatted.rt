@@ -1,5 +1,5 @@
 use super::outside::gives;
-use super::room::{PRINTED_ROOM, ROOM};
+use super::room::{printed_room, written_room};
 use std::alloc::{AllocError, Global};
 use std::test::Fail;
 use std::thread::Threads;
@@ -27,9 +27,10 @@ fn long_key(alloc: Global, end: usize) -> Result<Vec<u8>, AllocError> {
 /// A room as an editor writes it, the room as it is printed, and a key of a million bytes.
 #[test]
 fn formats_a_room_and_canonical_texts(rt: HostRuntime) -> Result<(), Fail> {
-    let written = with_returns(rt.alloc(), ROOM)?;
+    let written = with_returns(rt.alloc(), &written_room(rt.alloc())?)?;
+    let printed = printed_room(rt.alloc())?;
     let key = long_key(rt.alloc(), 1_000_003)?;
-    let room = PRINTED_ROOM.as_bytes();
+    let room = printed.as_bytes();
     let rows = [
         (written.as_slice(), "entities 3\nbrushes 7\n", room),
         (room, "entities 3\nbrushes 7\n", room),

@@ -1,18 +1,18 @@
-use super::boxes::{BoxRow, world};
+use super::boxes::world;
 use super::outside::Outside;
-use super::room::ROOM;
-use super::rooms::Room;
+use super::room::written_room;
 use std::alloc::{AllocError, Global};
 use std::test::Fail;
 use std::thread::Threads;
-use test_texts::put_box;
+use test_texts::{BoxRow, CORNER_ROOMS, CUBE, HOLE_ROOM, ROOM, put_boxes};
 
 /// A world, and what comes of it.
 struct Row {
     /// Boxes of another texture, before those of stone.
     texture: &'static str,
     first: &'static [BoxRow],
-    room: Room,
+    /// Boxes of stone.
+    room: &'static [BoxRow],
     /// Where the entities stand; an empty one has no origin.
     origins: &'static [&'static str],
     status: u8,
@@ -22,203 +22,171 @@ struct Row {
     rows: &'static [u8],
 }
 
-const ROOM_SUMMARY: &str =
-    "sealed\nbrushes 6\nflat 0\nplanes 12\nnodes 12\nleaves 13\nnumbered 1\nfilled 6\nportals 0\nseen 1\n";
+/// A room whose two corners to the north are open to the outside, and meet the room in an edge alone.
+const EDGE_ROOM: [BoxRow; 6] = [
+    ([-80, -80, -16], [80, 80, 0]),
+    ([-80, -80, 96], [80, 80, 112]),
+    ([-80, -80, 0], [80, -64, 96]),
+    ([-80, -64, 0], [-64, 64, 96]),
+    ([64, -64, 0], [80, 64, 96]),
+    ([-64, 64, 0], [64, 80, 96]),
+];
+
+/// A box that fills the space.
+const ALL: BoxRow = ([-4096, -4096, -4096], [4096, 4096, 4096]);
+
+/// The room, with an entity in it.
+const SEALED: Row = Row {
+    texture: "",
+    first: &[],
+    room: &ROOM,
+    origins: &["0 0 24"],
+    status: 0,
+    printed: "sealed\nbrushes 6\nflat 0\nplanes 12\nnodes 12\nleaves 13\nnumbered 1\nfilled 6\nportals 0\nseen 1\n",
+    length: 587,
+    rows: &[0x01],
+};
+
+/// The room with a hole, and an entity in it.
+const LEAKING: Row = Row {
+    room: &HOLE_ROOM,
+    status: 3,
+    printed: "leak: entity 1\ntrail: 8 6 0\n",
+    length: 676,
+    rows: &[],
+    ..SEALED
+};
+
+/// Three rooms round a corner, with an entity in the first one.
+const CORNER: Row = Row {
+    room: &CORNER_ROOMS,
+    origins: &["-64 0 24"],
+    printed: "sealed\nbrushes 12\nflat 0\nplanes 19\nnodes 22\nleaves 23\nnumbered 5\nfilled 6\nportals 4\nseen 25\n",
+    length: 981,
+    rows: &[0x1F, 0x1F, 0x1F, 0x1F, 0x1F],
+    ..SEALED
+};
 
 static ROWS: [Row; 16] = [
-    Row {
-        texture: "",
-        first: &[],
-        room: Room::Sealed,
-        origins: &["0 0 24"],
-        status: 0,
-        printed: ROOM_SUMMARY,
-        length: 587,
-        rows: &[0x01],
-    },
+    SEALED,
     // in a wall
     Row {
-        texture: "",
-        first: &[],
-        room: Room::Sealed,
         origins: &["72 0 24"],
-        status: 0,
         printed: "no entity\nbrushes 6\nflat 0\nplanes 12\nnodes 12\nleaves 13\nnumbered 7\nfilled 0\nportals 12\nseen 35\n",
         length: 593,
         rows: &[0x77, 0x77, 0x67, 0x08, 0x73, 0x77, 0x77],
+        ..SEALED
     },
-    Row {
-        texture: "",
-        first: &[],
-        room: Room::Hole,
-        origins: &["0 0 24"],
-        status: 3,
-        printed: "leak: entity 1\ntrail: 8 6 0\n",
-        length: 676,
-        rows: &[],
-    },
+    LEAKING,
     // in the hole, on the plane of a node
     Row {
-        texture: "",
-        first: &[],
-        room: Room::Hole,
         origins: &["64 0.5 24"],
-        status: 3,
         printed: "leak: entity 1\ntrail: 6 0\n",
-        length: 676,
-        rows: &[],
+        ..LEAKING
     },
     // the first of two entities stands in a wall
     Row {
-        texture: "",
-        first: &[],
-        room: Room::Hole,
         origins: &["-72 0 24", "0 0 24"],
-        status: 3,
         printed: "leak: entity 2\ntrail: 8 6 0\n",
-        length: 676,
-        rows: &[],
+        ..LEAKING
     },
     // the first of two entities stands nowhere
     Row {
-        texture: "",
-        first: &[],
-        room: Room::Hole,
         origins: &["", "0 0 24"],
-        status: 3,
         printed: "leak: entity 2\ntrail: 8 6 0\n",
-        length: 676,
-        rows: &[],
+        ..LEAKING
     },
     // both leak
     Row {
-        texture: "",
-        first: &[],
-        room: Room::Hole,
         origins: &["0 0 24", "64 0.5 24"],
-        status: 3,
-        printed: "leak: entity 1\ntrail: 8 6 0\n",
-        length: 676,
-        rows: &[],
+        ..LEAKING
     },
     // sky closes the hole
     Row {
         texture: "sky",
         first: &[([64, 0, 0], [80, 1, 96])],
-        room: Room::Hole,
-        origins: &["0 0 24"],
-        status: 0,
+        room: &HOLE_ROOM,
         printed: "sealed\nbrushes 8\nflat 0\nplanes 14\nnodes 38\nleaves 39\nnumbered 2\nfilled 24\nportals 0\nseen 2\n",
         length: 1278,
         rows: &[0x01, 0x02],
+        ..SEALED
     },
     // lava does not
     Row {
         texture: "*lava",
         first: &[([64, 0, 0], [80, 1, 96])],
-        room: Room::Hole,
-        origins: &["0 0 24"],
-        status: 3,
         printed: "leak: entity 1\ntrail: 29 11 0\n",
         length: 1276,
-        rows: &[],
+        ..LEAKING
     },
     Row {
-        texture: "",
-        first: &[],
-        room: Room::Edge,
-        origins: &["0 0 24"],
-        status: 0,
+        room: &EDGE_ROOM,
         printed: "sealed\nbrushes 6\nflat 0\nplanes 12\nnodes 14\nleaves 15\nnumbered 1\nfilled 8\nportals 0\nseen 1\n",
         length: 637,
-        rows: &[0x01],
+        ..SEALED
     },
-    Row {
-        texture: "",
-        first: &[],
-        room: Room::Corner,
-        origins: &["-64 0 24"],
-        status: 0,
-        printed: "sealed\nbrushes 12\nflat 0\nplanes 19\nnodes 22\nleaves 23\nnumbered 5\nfilled 6\nportals 4\nseen 25\n",
-        length: 981,
-        rows: &[0x1F, 0x1F, 0x1F, 0x1F, 0x1F],
-    },
+    CORNER,
     // in sky, in the open
     Row {
         texture: "sky1",
-        first: &[([0, 0, 0], [64, 64, 64])],
-        room: Room::Nothing,
+        first: &[CUBE],
+        room: &[],
         origins: &["32 32 32"],
-        status: 0,
         printed: "sealed\nbrushes 1\nflat 0\nplanes 6\nnodes 6\nleaves 7\nnumbered 1\nfilled 6\nportals 0\nseen 1\n",
         length: 317,
-        rows: &[0x01],
+        ..SEALED
     },
     // in sky that fills the cube
     Row {
         texture: "sky",
-        first: &[([-4096, -4096, -4096], [4096, 4096, 4096])],
-        room: Room::Nothing,
+        first: &[ALL],
+        room: &[],
         origins: &["0 0 0"],
-        status: 0,
         printed: "sealed\nbrushes 1\nflat 0\nplanes 6\nnodes 0\nleaves 1\nnumbered 1\nfilled 0\nportals 0\nseen 1\n",
         length: 167,
-        rows: &[0x01],
+        ..SEALED
     },
     // water under a room
     Row {
         texture: "*water1",
         first: &[([-80, -80, -64], [80, 80, -16])],
-        room: Room::Sealed,
-        origins: &["0 0 24"],
-        status: 0,
         printed: "sealed\nbrushes 7\nflat 0\nplanes 13\nnodes 13\nleaves 14\nnumbered 1\nfilled 7\nportals 0\nseen 1\n",
         length: 632,
-        rows: &[0x01],
+        ..SEALED
     },
     // solid fills the cube
     Row {
         texture: "stone",
-        first: &[([-4096, -4096, -4096], [4096, 4096, 4096])],
-        room: Room::Nothing,
+        first: &[ALL],
+        room: &[],
         origins: &[],
-        status: 0,
         printed: "no entity\nbrushes 1\nflat 0\nplanes 6\nnodes 0\nleaves 1\nnumbered 0\nfilled 0\nportals 0\nseen 0\n",
         length: 166,
         rows: &[],
+        ..SEALED
     },
     // an entity in an empty world
     Row {
-        texture: "",
-        first: &[],
-        room: Room::Nothing,
+        room: &[],
         origins: &["0 0 0"],
-        status: 3,
         printed: "leak: entity 1\ntrail: 0\n",
         length: 46,
-        rows: &[],
+        ..LEAKING
     },
 ];
 
 /// The three rooms, of whose rows each is found in its turn.
 static FINE: Row = Row {
-    texture: "",
-    first: &[],
-    room: Room::Corner,
-    origins: &["-64 0 24"],
-    status: 0,
     printed: "sealed\nbrushes 12\nflat 0\nplanes 19\nnodes 22\nleaves 23\nnumbered 5\nfilled 6\nportals 4\nseen 21\n",
-    length: 981,
     rows: &[0x0F, 0x0F, 0x1F, 0x1F, 0x1C],
+    ..CORNER
 };
 
 /// The text of a row.
 fn text_of(alloc: Global, row: &Row) -> Result<String, AllocError> {
     let mut first = String::new(alloc);
-    for (least, greatest) in row.first {
-        put_box(&mut first, row.texture, *least, *greatest)?;
-    }
-    let mut text = world(alloc, &first, row.room.boxes())?;
+    put_boxes(&mut first, row.texture, row.first)?;
+    let mut text = world(alloc, &first, row.room)?;
     for origin in row.origins {
         text.push_str("{\n\"classname\" \"light\"\n")?;
         if !origin.is_empty() {
@@ -252,7 +220,8 @@ fn is_right<R: AllocGlobal + Threads + Sync>(
 #[test]
 fn finds_leaks_and_fills(rt: HostRuntime) -> Result<(), Fail> {
     let fast = ["compile", "map", "--fast", "out"];
-    let mut right = is_right(&rt, &fast, ROOM, &ROWS[0])?;
+    let written = written_room(rt.alloc())?;
+    let mut right = is_right(&rt, &fast, &written, &ROWS[0])?;
     for row in &ROWS {
         let text = text_of(rt.alloc(), row)?;
         right &= is_right(&rt, &fast, &text, row)?;

@@ -39,8 +39,6 @@ mod printed;
 #[cfg(test)]
 mod room;
 #[cfg(test)]
-mod rooms;
-#[cfg(test)]
 mod sampled;
 #[cfg(test)]
 mod sure_forms;

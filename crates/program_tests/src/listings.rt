@@ -1,15 +1,16 @@
 //! Listings that are written beside a tree.
 
-use super::boxes::{BoxRow, world};
+use self::Held::{Empty, Nothing, Whole};
+use super::boxes::world;
 use super::cube::{END, FIRST, OTHERS, joined};
 use super::cube_file::CUBE_FILE;
 use super::cube_listing::CUBE_LISTING;
 use super::outside::{Answer, Outside};
 use super::printed::{READ_FAULT, SUMMARY, WRITE_FAULT};
-use super::rooms::{HOLE_ROOM, TWO_ROOMS};
 use std::alloc::{AllocError, Global};
 use std::test::Fail;
 use std::thread::Threads;
+use test_texts::{BoxRow, HOLE_ROOM, TWO_ROOMS};
 
 const ROOMS_SUMMARY: &str =
     "sealed\nbrushes 8\nflat 0\nplanes 16\nnodes 16\nleaves 17\nnumbered 3\nfilled 6\nportals 2\nseen 9\n";
@@ -67,9 +68,9 @@ enum Held {
 /// Whether a file holds this, of these bytes.
 fn has(file: Option<&[u8]>, held: Held, whole: &[u8]) -> bool {
     match held {
-        Held::Nothing => file.is_none(),
-        Held::Empty => file.is_some_and(|bytes| bytes.is_empty()),
-        Held::Whole => file == Some(whole),
+        Nothing => file.is_none(),
+        Empty => file.is_some_and(|bytes| bytes.is_empty()),
+        Whole => file == Some(whole),
     }
 }
 
@@ -84,57 +85,17 @@ const UNREAD: Answer = (5, READ_FAULT, [1, 0, 0]);
 
 const UNWRITTEN: Answer = (6, WRITE_FAULT, [0, 1, 0]);
 
-/// What is answered where one call fails, and what `out` and `list` then hold. The calls are two reads, the creation of
-/// `out` and the addition of its bytes, and the same of `list`.
-static FAULTS: [(Failing, Answer, Held, Held); 8] = [
-    (
-        Failing { call: 0, write: 9 },
-        UNREAD,
-        Held::Nothing,
-        Held::Nothing,
-    ),
-    (
-        Failing { call: 1, write: 9 },
-        UNREAD,
-        Held::Nothing,
-        Held::Nothing,
-    ),
-    (
-        Failing { call: 2, write: 9 },
-        UNWRITTEN,
-        Held::Nothing,
-        Held::Nothing,
-    ),
-    (
-        Failing { call: 3, write: 9 },
-        UNWRITTEN,
-        Held::Empty,
-        Held::Nothing,
-    ),
-    (
-        Failing { call: 4, write: 9 },
-        UNWRITTEN,
-        Held::Whole,
-        Held::Nothing,
-    ),
-    (
-        Failing { call: 5, write: 9 },
-        UNWRITTEN,
-        Held::Whole,
-        Held::Empty,
-    ),
-    (
-        Failing { call: 6, write: 0 },
-        (6, "", [0, 0, 1]),
-        Held::Whole,
-        Held::Whole,
-    ),
-    (
-        Failing { call: 6, write: 9 },
-        (0, SUMMARY, [0, 0, 0]),
-        Held::Whole,
-        Held::Whole,
-    ),
+/// The call and the write that fail, what is answered, and what `out` and `list` then hold. The calls are two reads, the creation
+/// of `out` and the addition of its bytes, and the same of `list`.
+static FAULTS: [(u64, u64, Answer, Held, Held); 8] = [
+    (0, 9, UNREAD, Nothing, Nothing),
+    (1, 9, UNREAD, Nothing, Nothing),
+    (2, 9, UNWRITTEN, Nothing, Nothing),
+    (3, 9, UNWRITTEN, Empty, Nothing),
+    (4, 9, UNWRITTEN, Whole, Nothing),
+    (5, 9, UNWRITTEN, Whole, Empty),
+    (6, 0, (6, "", [0, 0, 1]), Whole, Whole),
+    (6, 9, (0, SUMMARY, [0, 0, 0]), Whole, Whole),
 ];
 
 /// Whether a run that lists the cube gives this answer where this fails, and the files then hold this.
@@ -163,8 +124,8 @@ fn fails_so<R: AllocGlobal + Threads + Sync>(
 #[test]
 fn answers_each_fault_beside_a_listing(rt: HostRuntime) -> Result<(), Fail> {
     let mut right = true;
-    for &(failing, answer, out, list) in &FAULTS {
-        right &= fails_so(&rt, failing, answer, out, list)?;
+    for &(call, write, answer, out, list) in &FAULTS {
+        right &= fails_so(&rt, Failing { call, write }, answer, out, list)?;
     }
     assert!(rt; right);
     Ok(())

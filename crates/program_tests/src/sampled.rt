@@ -7,7 +7,8 @@ use qm_file::{TreeFile, decode};
 use std::alloc::{AllocError, Global};
 use std::test::Fail;
 use std::thread::Threads;
-use test_worlds::{Random, Segment, maze, point, row_of};
+use test_numbers::Random;
+use test_worlds::{Segment, maze, point, row_of};
 
 /// How many segments are tried in each file.
 const SAMPLES: u64 = 1000;

@@ -2,16 +2,15 @@
 
 ghost use Rattle.std.specs.Prelude.{◌<◌, length};
 
-use crate::rooms::CORNER_ROOMS;
 use qm_base::base;
 use qm_bits::BitRow;
-use qm_geom::Point;
 use qm_lines::show_by_lines;
 use qm_portal::World;
 use qm_sight::Rows;
 use std::alloc::{AllocError, Global};
 use std::test::Fail;
-use test_worlds::{text_of, world_of};
+use test_texts::{CORNER_ROOMS, text_of};
+use test_worlds::world_of;
 
 /// What open chains show of the leaves, seen from each of them, worked out by hand; the first leaf in the lowest bit.
 static SHOWN: [u64; 5] = [0x0F, 0x0F, 0x1F, 0x1F, 0x1C];
@@ -43,13 +42,7 @@ fn lies_within(row: &BitRow, places: u64) -> bool {
 fn lines_show_what_is_seen(rt: HostRuntime) -> Result<(), Fail> {
     let alloc = rt.alloc();
     let text = text_of(alloc, &CORNER_ROOMS)?;
-    let point = Point {
-        x: -64,
-        y: 0,
-        z: 24,
-        w: 1,
-    };
-    let world = world_of(alloc, text.as_str(), point)?;
+    let world = world_of(alloc, text.as_str(), [-64, 0, 24])?;
     let mut right = true;
     let mut shown: u64 = 0;
     for portal in 0..world.portals() {

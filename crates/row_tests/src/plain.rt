@@ -1,13 +1,15 @@
 //! Coarse rows of generated worlds, beside a flood that goes through all portals again and again, and tests corners.
 
 use qm_base::base;
-use qm_geom::{Plane, Point};
+use qm_geom::Plane;
 use qm_portal::World;
 use qm_wind::Winding;
 use std::alloc::{AllocError, Global};
 use std::cmp::Ordering;
 use std::test::Fail;
-use test_worlds::{BoxRow, text_of, world_of};
+use test_numbers::Random;
+use test_texts::{BoxRow, text_of};
+use test_worlds::world_of;
 
 /// Whether a winding has a corner on a side of a plane.
 fn has_corner(winding: &Winding, plane: &Plane, side: Ordering) -> bool {
@@ -67,13 +69,6 @@ fn are_right(alloc: Global, world: &World) -> Result<bool, AllocError> {
     Ok(right)
 }
 
-/// Numbers that look random, by the steps of a shift register.
-fn next(state: u64) -> u64 {
-    let first = state ^ (state << 13);
-    let second = first ^ (first >> 7);
-    second ^ (second << 17)
-}
-
 /// Boxes at places of a grid of three by three.
 fn boxes(alloc: Global, places: u64) -> Result<Vec<BoxRow>, AllocError> {
     let mut boxes = Vec::new(alloc);
@@ -97,22 +92,12 @@ fn boxes(alloc: Global, places: u64) -> Result<Vec<BoxRow>, AllocError> {
 
 #[test]
 fn rows_are_as_a_plain_flood_says(rt: HostRuntime) -> Result<(), Fail> {
-    let mut state = 0x9E37_79B9_7F4A_7C15;
+    let mut random = Random::new(1);
     let mut right = true;
     for _ in 0..8 {
-        state = next(state);
-        let boxes = boxes(rt.alloc(), state)?;
+        let boxes = boxes(rt.alloc(), random.next())?;
         let text = text_of(rt.alloc(), &boxes)?;
-        let world = world_of(
-            rt.alloc(),
-            text.as_str(),
-            Point {
-                x: 0,
-                y: 0,
-                z: 200,
-                w: 1,
-            },
-        )?;
+        let world = world_of(rt.alloc(), text.as_str(), [0, 0, 200])?;
         right &= are_right(rt.alloc(), &world)?;
     }
     assert!(rt; right);

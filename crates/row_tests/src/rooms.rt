@@ -3,16 +3,16 @@
 use qm_base::base;
 use qm_bits::BitRow;
 use qm_flow::refine;
-use qm_geom::Point;
 use qm_rows::{leaf_rows, seen};
 use std::alloc::{AllocError, Global};
 use std::test::Fail;
-use test_worlds::{BoxRow, text_of, world_of};
+use test_texts::{BoxRow, CORNER_ROOMS, CUBE, ROOM, text_of};
+use test_worlds::world_of;
 
 struct Sample {
     boxes: &'static [BoxRow],
     /// Where the entity stands.
-    at: (i64, i64, i64),
+    at: [i64; 3],
     portals: usize,
     /// The row of each leaf, its first place in the lowest bit.
     rows: &'static [u64],
@@ -21,38 +21,11 @@ struct Sample {
     fine: &'static [u64],
 }
 
-const CUBE: BoxRow = ([0, 0, 0], [64, 64, 64]);
-
-const ROOM: [BoxRow; 6] = [
-    ([-80, -80, -16], [80, 80, 0]),
-    ([-80, -80, 96], [80, 80, 112]),
-    ([-80, -80, 0], [80, -64, 96]),
-    ([-80, 64, 0], [80, 80, 96]),
-    ([-80, -64, 0], [-64, 64, 96]),
-    ([64, -64, 0], [80, 64, 96]),
-];
-
-/// Three rooms round a corner.
-pub(crate) const CORNER_ROOMS: [BoxRow; 12] = [
-    ([-144, -80, -16], [112, 192, 0]),
-    ([-144, -80, 96], [112, 192, 112]),
-    ([-144, -80, 0], [112, -64, 96]),
-    ([-144, -64, 0], [-128, 192, 96]),
-    ([96, -64, 0], [112, 192, 96]),
-    ([-128, 64, 0], [-16, 192, 96]),
-    ([-16, 64, 0], [0, 192, 96]),
-    ([0, 176, 0], [96, 192, 96]),
-    ([0, 64, 64], [96, 80, 96]),
-    ([-16, -64, 64], [0, 64, 96]),
-    ([-16, -32, 0], [0, 64, 64]),
-    ([32, 64, 0], [96, 80, 64]),
-];
-
 /// Worked out by hand, and by a program that was written for this alone.
 static SAMPLES: [Sample; 5] = [
     Sample {
         boxes: &[],
-        at: (0, 0, 0),
+        at: [0, 0, 0],
         portals: 0,
         rows: &[1],
         seen: 1,
@@ -60,7 +33,7 @@ static SAMPLES: [Sample; 5] = [
     },
     Sample {
         boxes: &[CUBE],
-        at: (-8, 0, 0),
+        at: [-8, 0, 0],
         portals: 24,
         rows: &[0x3F, 0x3F, 0x37, 0x3B, 0x3F, 0x3F],
         seen: 34,
@@ -68,7 +41,7 @@ static SAMPLES: [Sample; 5] = [
     },
     Sample {
         boxes: &ROOM,
-        at: (0, 0, 24),
+        at: [0, 0, 24],
         portals: 0,
         rows: &[1],
         seen: 1,
@@ -76,7 +49,7 @@ static SAMPLES: [Sample; 5] = [
     },
     Sample {
         boxes: &ROOM,
-        at: (0, 0, -8),
+        at: [0, 0, -8],
         portals: 24,
         rows: &[0x7F & !8, 0x77, 0x67, 8, 0x73, 0x77, 0x77],
         seen: 35,
@@ -84,7 +57,7 @@ static SAMPLES: [Sample; 5] = [
     },
     Sample {
         boxes: &CORNER_ROOMS,
-        at: (-64, 0, 24),
+        at: [-64, 0, 24],
         portals: 8,
         rows: &[0x1F, 0x1F, 0x1F, 0x1F, 0x1F],
         seen: 25,
@@ -107,8 +80,7 @@ fn are_rows(rows: &[BitRow], places: &[u64]) -> bool {
 
 fn holds(alloc: Global, sample: &Sample) -> Result<bool, AllocError> {
     let text = text_of(alloc, sample.boxes)?;
-    let (x, y, z) = sample.at;
-    let world = world_of(alloc, text.as_str(), Point { x, y, z, w: 1 })?;
+    let world = world_of(alloc, text.as_str(), sample.at)?;
     let coarse = base(alloc, &world)?;
     let rows = leaf_rows(alloc, &world, coarse.as_slice())?;
     let right = coarse.len() == sample.portals

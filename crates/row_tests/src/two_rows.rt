@@ -4,6 +4,7 @@ ghost use Rattle.qm_partition.specs.inner.TreeCode.{tree_code};
 ghost use Rattle.row_tests.specs.inner.SameRows.{AreSameRows, itself, in_turn, one_world, none_narrower};
 
 use qm_sight::{RowSource, Rows};
+use test_numbers::Random;
 
 /// A source that holds two rows of each portal. A word is that of the wide row, or what both rows have of it; which of the two
 /// is told by a generator that each call moves on. The wide rows are its ceilings.
@@ -11,7 +12,7 @@ use qm_sight::{RowSource, Rows};
 pub struct TwoRows<'a> {
     wide: Rows<'a>,
     narrow: Rows<'a>,
-    state: u64,
+    random: Random,
     ghost of_one_world: { narrow.world ≡ wide.world } by { Prim.hlevel (codes, tree_code) },
 }
 
@@ -24,7 +25,7 @@ impl<'a> TwoRows<'a> {
         TwoRows {
             wide,
             narrow,
-            state: 1,
+            random: Random::new(1),
         }
     }
 }
@@ -39,11 +40,7 @@ impl<'a> RowSource for TwoRows<'a> {
     fn word(&mut self, portal: u64, k: u64) -> u64 {
         let wide = self.wide.word(portal, k);
         let narrow = self.narrow.word(portal, k);
-        self.state = self
-            .state
-            .wrapping_mul(6_364_136_223_846_793_005)
-            .wrapping_add(1_442_695_040_888_963_407);
-        if self.state >> 63 == 0 {
+        if self.random.next() >> 30 == 0 {
             wide
         } else {
             wide & narrow

@@ -4,13 +4,13 @@ use crate::two_rows::TwoRows;
 use qm_base::base;
 use qm_bits::BitRow;
 use qm_flow::{flow, refine};
-use qm_geom::Point;
 use qm_narrow::{ChainState, step};
 use qm_portal::World;
 use qm_sight::Rows;
 use std::alloc::{AllocError, Global};
 use std::test::Fail;
-use test_worlds::{Random, Segment, maze, point, row_of, world_of};
+use test_numbers::Random;
+use test_worlds::{Segment, maze, point, row_of, world_of};
 
 /// How many segments are tried in each world.
 const SAMPLES: u64 = 1000;
@@ -217,17 +217,11 @@ fn crossing(
 #[test]
 fn wavering_answers_keep_both_sides(rt: HostRuntime) -> Result<(), Fail> {
     let mut random = Random::new(0x0DD5);
-    let at = Point {
-        x: -184,
-        y: -184,
-        z: 8,
-        w: 1,
-    };
     let mut right = true;
     let mut least = SAMPLES;
     for _ in 0..3 {
         let text = maze(rt.alloc(), &mut random, 2)?;
-        let world = world_of(rt.alloc(), text.as_str(), at)?;
+        let world = world_of(rt.alloc(), text.as_str(), [-184, -184, 8])?;
         let coarse = base(rt.alloc(), &world)?;
         let rows = wavering_rows(rt.alloc(), &world)?;
         right &= lie_within(rt.alloc(), &world, coarse.as_slice(), &rows)?;

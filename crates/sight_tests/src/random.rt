@@ -6,47 +6,22 @@ use qm_narrow::separators;
 use qm_wind::{Side, Winding};
 use std::alloc::{AllocError, Global};
 use std::test::Fail;
+use test_numbers::Random;
 
-/// A stream of numbers that look random: a linear congruential generator of 64 bits.
-#[derive(Drop)]
-struct Stream {
-    state: u64,
-}
-
-impl Stream {
-    /// A whole coordinate from -reach to reach.
-    fn coordinate(&mut self, reach: u16) -> i32 {
-        self.state = self
-            .state
-            .wrapping_mul(6364136223846793005)
-            .wrapping_add(1442695040888963407);
-        let number = (self.state >> 33) as u32;
-        (number % (2 * u32::from(reach) + 1)) as i32 - i32::from(reach)
+/// The part of a random plane inside the cube, cut by four others.
+fn random_winding(
+    alloc: Global,
+    random: &mut Random,
+    reach: u16,
+) -> Result<Option<Winding>, AllocError> {
+    let Some(mut winding) = Winding::on(alloc, &through(random.points(reach)))? else {
+        return Ok(None);
+    };
+    for _ in 0..4 {
+        let plane = through(random.points(reach));
+        winding = cut(winding, &plane, Side::Front)?;
     }
-
-    fn point(&mut self, reach: u16) -> [i32; 3] {
-        [
-            self.coordinate(reach),
-            self.coordinate(reach),
-            self.coordinate(reach),
-        ]
-    }
-
-    fn points(&mut self, reach: u16) -> [[i32; 3]; 3] {
-        [self.point(reach), self.point(reach), self.point(reach)]
-    }
-
-    /// The part of a random plane inside the cube, cut by four others.
-    fn winding(&mut self, alloc: Global, reach: u16) -> Result<Option<Winding>, AllocError> {
-        let Some(mut winding) = Winding::on(alloc, &through(self.points(reach)))? else {
-            return Ok(None);
-        };
-        for _ in 0..4 {
-            let plane = through(self.points(reach));
-            winding = cut(winding, &plane, Side::Front)?;
-        }
-        Ok(Some(winding))
-    }
+    Ok(Some(winding))
 }
 
 /// How many separators two windings have; `None` where the slow program does not find the same.
@@ -72,14 +47,12 @@ fn agree(alloc: Global, source: &Winding, pass: &Winding) -> Result<Option<usize
 
 /// Whether 12 pairs of windings agree, and have separators.
 fn all_agree(alloc: Global, reach: u16) -> Result<bool, AllocError> {
-    let mut stream = Stream {
-        state: u64::from(reach),
-    };
+    let mut random = Random::new(u64::from(reach));
     let mut planes = 0_usize;
     for _ in 0..12 {
         let (Some(source), Some(pass)) = (
-            stream.winding(alloc, reach)?,
-            stream.winding(alloc, reach)?,
+            random_winding(alloc, &mut random, reach)?,
+            random_winding(alloc, &mut random, reach)?,
         ) else {
             return Ok(false);
         };

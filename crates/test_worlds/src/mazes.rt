@@ -1,9 +1,8 @@
 //! Generated worlds: a room that two walls with doors divide, and pillars, some of them askew, and some of water.
 
-use crate::boxes::BoxRow;
-use crate::random::Random;
 use std::alloc::{AllocError, Global};
-use test_texts::{points_across, put_box, put_face};
+use test_numbers::Random;
+use test_texts::{BoxRow, points_across, put_box, put_boxes, put_face};
 
 /// The floor, the ceiling and the four walls around.
 static SHELL: [BoxRow; 6] = [
@@ -29,9 +28,7 @@ static TEXTURES: [&str; 4] = ["stone", "*water1", "stone", "stone"];
 pub fn maze(alloc: Global, random: &mut Random, pillars: u64) -> Result<String, AllocError> {
     let mut text = String::new(alloc);
     text.push_str("{\n")?;
-    for &(least, greatest) in &SHELL {
-        put_box(&mut text, "stone", least, greatest)?;
-    }
+    put_boxes(&mut text, "stone", &SHELL)?;
     put_walls(&mut text, random)?;
     for _ in 0..pillars {
         put_pillar(&mut text, random)?;

@@ -13,7 +13,7 @@ use qm_tree::Tree;
 use std::alloc::{AllocError, Global};
 
 /// The tree of a text, which has to be a map.
-fn tree_of(alloc: Global, text: &str) -> Result<Tree, AllocError>
+pub fn tree_of(alloc: Global, text: &str) -> Result<Tree, AllocError>
     ensures { IfOk result HasPoints }
 {
     let Ok(map) = parse(alloc, text.as_bytes()) else {
@@ -24,10 +24,11 @@ fn tree_of(alloc: Global, text: &str) -> Result<Tree, AllocError>
     build(alloc, &list, &book)
 }
 
-/// The world of a text with an entity at a point: filled from the outside, where the entity does not leak.
-pub fn world_of(alloc: Global, text: &str, point: Point) -> Result<World, AllocError> {
+/// The world of a text with an entity at a whole point: filled from the outside, where the entity does not leak.
+pub fn world_of(alloc: Global, text: &str, [x, y, z]: [i64; 3]) -> Result<World, AllocError> {
     let tree = tree_of(alloc, text)?;
     let contacts = touches(alloc, &tree)?;
+    let point = Point { x, y, z, w: 1 };
     let origins = [Origin { entity: 1, point }];
     match flood(alloc, &contacts, &tree, &origins)? {
         Flood::Sealed(filled) => {

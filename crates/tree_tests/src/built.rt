@@ -3,7 +3,7 @@
 ghost use Rattle.std.specs.Prelude.{IfSome};
 ghost use Rattle.qm_solids.specs.InBook.{IsBookOf};
 
-use crate::worlds::{Numbers, random_world};
+use crate::worlds::random_world;
 use qm_brush::{BrushList, brushes};
 use qm_build::build;
 use qm_contents::Contents;
@@ -14,7 +14,8 @@ use qm_tree::Tree;
 use std::alloc::{AllocError, Global};
 use std::cmp::Ordering;
 use std::test::Fail;
-use test_texts::put_box;
+use test_numbers::Random;
+use test_texts::{APART, put_box};
 
 /// The brushes of a world, and the tree that is built of them.
 #[derive(Drop)]
@@ -76,22 +77,22 @@ impl Built {
 }
 
 /// A point beside the brushes of a random world, whole or not.
-fn random_point(numbers: &mut Numbers) -> Point {
-    let w = numbers.below(5) as i64 + 1;
-    let x = numbers.below(1000) as i64 - 500;
-    let y = numbers.below(1000) as i64 - 500;
-    let z = numbers.below(1000) as i64 - 500;
+fn random_point(random: &mut Random) -> Point {
+    let w = random.below(5) as i64 + 1;
+    let x = random.below(1000) as i64 - 500;
+    let y = random.below(1000) as i64 - 500;
+    let z = random.below(1000) as i64 - 500;
     Point { x, y, z, w }
 }
 
 /// Whether a random world is built, and its tree and its brushes agree at many points.
-fn agree_in_world(alloc: Global, numbers: &mut Numbers) -> Result<bool, AllocError> {
-    let text = random_world(alloc, numbers)?;
+fn agree_in_world(alloc: Global, random: &mut Random) -> Result<bool, AllocError> {
+    let text = random_world(alloc, random)?;
     let Some(built) = Built::of(alloc, &text) else {
         return Ok(false);
     };
     for _ in 0..50 {
-        if !built.agrees(&random_point(numbers)) {
+        if !built.agrees(&random_point(random)) {
             return Ok(false);
         }
     }
@@ -101,16 +102,12 @@ fn agree_in_world(alloc: Global, numbers: &mut Numbers) -> Result<bool, AllocErr
 /// In many random worlds, the tree gives points off its node planes what the brushes hold.
 #[test]
 fn random_worlds_are_built(rt: HostRuntime) -> Result<(), Fail> {
-    let mut numbers = Numbers::new();
+    let mut random = Random::new(1);
     for _ in 0..200 {
-        assert!(rt; agree_in_world(rt.alloc(), &mut numbers)?);
+        assert!(rt; agree_in_world(rt.alloc(), &mut random)?);
     }
     Ok(())
 }
-
-/// A flat brush, whose planes have the first numbers, so that the node between the solids behind it is joined away.
-const APART: &str = "{\n( 0 0 0 ) ( 0 1 0 ) ( 1 0 0 ) stone 0 0 0 1 1\n\
-    ( 0 0 128 ) ( 1 0 128 ) ( 0 1 128 ) stone 0 0 0 1 1\n}\n";
 
 /// Whether a world is built, and its tree and its brushes give a point these contents.
 fn is_built(alloc: Global, text: &str, [x, y, z]: [i64; 3], contents: Contents) -> bool {
@@ -120,7 +117,8 @@ fn is_built(alloc: Global, text: &str, [x, y, z]: [i64; 3], contents: Contents) 
     built.gives(&Point { x, y, z, w: 1 }, contents)
 }
 
-/// Two solids that share a face, behind the flat brush.
+/// Two solids that share a face, behind a flat brush, whose planes have the first numbers, so that the node between the solids is
+/// joined away.
 fn shared_face(alloc: Global) -> Result<String, AllocError> {
     let mut text = String::new(alloc);
     text.push_str("{\n")?;

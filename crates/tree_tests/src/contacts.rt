@@ -1,36 +1,16 @@
 //! Contacts of the leaves of built trees, beside those that the cells of a grid show.
 
-ghost use Rattle.std.specs.Prelude.{◌<◌, IfSome};
-ghost use Rattle.qm_partition.specs.Ways.{HasPoints};
+ghost use Rattle.std.specs.Prelude.{◌<◌};
 
-use crate::worlds::Numbers;
-use qm_brush::brushes;
-use qm_build::build;
 use qm_contents::Contents::Solid;
-use qm_geom::{PlaneBook, Point};
-use qm_map::parse;
+use qm_geom::Point;
 use qm_portal::{TouchList, touches};
 use qm_tree::Tree;
 use std::alloc::{AllocError, Global};
 use std::test::Fail;
-use test_texts::put_box;
-
-/// The tree that is built of a world.
-fn tree_of(alloc: Global, text: &str) -> Option<Tree>
-    ensures { IfSome result (λ tree. HasPoints tree) }
-{
-    let Ok(map) = parse(alloc, text.as_bytes()) else {
-        return None;
-    };
-    let mut book = PlaneBook::new(alloc);
-    let Ok(list) = brushes(alloc, &map, &mut book) else {
-        return None;
-    };
-    let Ok(tree) = build(alloc, &list, &book) else {
-        return None;
-    };
-    Some(tree)
-}
+use test_numbers::Random;
+use test_texts::{BoxRow, CUBE, put_box, text_of};
+use test_worlds::tree_of;
 
 /// A tree with its contacts.
 #[derive(Drop)]
@@ -40,12 +20,10 @@ struct Touching {
 }
 
 impl Touching {
-    fn of(alloc: Global, text: &str) -> Option<Touching> {
+    fn of(alloc: Global, text: &str) -> Result<Touching, AllocError> {
         let tree = tree_of(alloc, text)?;
-        let Ok(contacts) = touches(alloc, &tree) else {
-            return None;
-        };
-        Some(Touching { tree, contacts })
+        let contacts = touches(alloc, &tree)?;
+        Ok(Touching { tree, contacts })
     }
 
     /// The leaf of a cell of the grid: its middle is 8 past a multiple of 16.
@@ -145,16 +123,16 @@ impl Seen {
 }
 
 /// A world of boxes, some of which hold air, so that there are rooms.
-fn random_rooms(alloc: Global, numbers: &mut Numbers) -> Result<String, AllocError> {
+fn random_rooms(alloc: Global, random: &mut Random) -> Result<String, AllocError> {
     let mut text = String::new(alloc);
     text.push_str("{\n")?;
-    for _ in 0..=numbers.below(5) {
-        let least = [at(numbers, 5), at(numbers, 5), at(numbers, 5)];
+    for _ in 0..=random.below(5) {
+        let least = [at(random, 5), at(random, 5), at(random, 5)];
         let [x, y, z] = least;
         let greatest = [
-            x.saturating_add(at(numbers, 4).saturating_add(80)),
-            y.saturating_add(at(numbers, 4).saturating_add(80)),
-            z.saturating_add(at(numbers, 4).saturating_add(80)),
+            x.saturating_add(at(random, 4).saturating_add(80)),
+            y.saturating_add(at(random, 4).saturating_add(80)),
+            z.saturating_add(at(random, 4).saturating_add(80)),
         ];
         put_box(&mut text, "stone", least, greatest)?;
     }
@@ -163,17 +141,15 @@ fn random_rooms(alloc: Global, numbers: &mut Numbers) -> Result<String, AllocErr
 }
 
 /// One of some multiples of 16, from -64 on.
-fn at(numbers: &mut Numbers, count: u8) -> i32
+fn at(random: &mut Random, count: u8) -> i32
     requires { 0 < count }
 {
-    16 * (numbers.below(u64::from(count)) as i32) - 64
+    16 * (random.below(u64::from(count)) as i32) - 64
 }
 
 /// Whether the contacts of a world are those that the grid shows.
 fn agree(alloc: Global, text: &str) -> Result<bool, AllocError> {
-    let Some(found) = Touching::of(alloc, text) else {
-        return Ok(false);
-    };
+    let found = Touching::of(alloc, text)?;
     let seen = Seen::of(alloc, &found)?;
     let (neighbours, outside) = found.counts();
     Ok(
@@ -187,16 +163,16 @@ fn agree(alloc: Global, text: &str) -> Result<bool, AllocError> {
 /// In many random worlds of boxes, the contacts are those that the cells of a grid show.
 #[test]
 fn contacts_agree_with_grid(rt: HostRuntime) -> Result<(), Fail> {
-    let mut numbers = Numbers::new();
+    let mut random = Random::new(3);
     for _ in 0..40 {
-        let text = random_rooms(rt.alloc(), &mut numbers)?;
+        let text = random_rooms(rt.alloc(), &mut random)?;
         assert!(rt; agree(rt.alloc(), &text)?);
     }
     Ok(())
 }
 
 /// The walls of a room, which meet in edges alone.
-static WALLS: [([i32; 3], [i32; 3]); 6] = [
+static WALLS: [BoxRow; 6] = [
     ([-16, 0, 0], [0, 64, 64]),
     ([64, 0, 0], [80, 64, 64]),
     ([0, -16, 0], [64, 0, 64]),
@@ -205,23 +181,10 @@ static WALLS: [([i32; 3], [i32; 3]); 6] = [
     ([0, 0, 64], [64, 64, 80]),
 ];
 
-/// A world with some of the walls.
-fn room(alloc: Global, walls: usize) -> Result<String, AllocError> {
-    let mut text = String::new(alloc);
-    text.push_str("{\n")?;
-    for (least, greatest) in WALLS.iter().take(walls) {
-        put_box(&mut text, "stone", *least, *greatest)?;
-    }
-    text.push_str("}\n")?;
-    Ok(text)
-}
-
-/// Whether the room with some of its walls has no neighbours but six solid leaves, and does not touch the outside.
-fn is_closed(alloc: Global, walls: usize) -> Result<bool, AllocError> {
-    let text = room(alloc, walls)?;
-    let Some(found) = Touching::of(alloc, &text) else {
-        return Ok(false);
-    };
+/// Whether the room inside some walls has no neighbours but six solid leaves, and does not touch the outside.
+fn is_closed(alloc: Global, walls: &[BoxRow]) -> Result<bool, AllocError> {
+    let text = text_of(alloc, walls)?;
+    let found = Touching::of(alloc, &text)?;
     let inside = found.leaf_of([7, 7, 7]);
     if inside >= found.contacts.leaves() || found.contacts.outside(inside) {
         return Ok(false);
@@ -236,13 +199,8 @@ fn is_closed(alloc: Global, walls: usize) -> Result<bool, AllocError> {
 
 /// Whether the seven leaves of one cube have eighteen contacts, and all but the stone touch the outside.
 fn cube_is_counted(alloc: Global) -> Result<bool, AllocError> {
-    let mut text = String::new(alloc);
-    text.push_str("{\n")?;
-    put_box(&mut text, "stone", [0, 0, 0], [64, 64, 64])?;
-    text.push_str("}\n")?;
-    let Some(found) = Touching::of(alloc, &text) else {
-        return Ok(false);
-    };
+    let text = text_of(alloc, &[CUBE])?;
+    let found = Touching::of(alloc, &text)?;
     Ok(found.counts() == (36, 6))
 }
 
@@ -250,6 +208,8 @@ fn cube_is_counted(alloc: Global) -> Result<bool, AllocError> {
 #[test]
 fn rooms_and_cube(rt: HostRuntime) -> Result<(), Fail> {
     let alloc = rt.alloc();
-    assert!(rt; is_closed(alloc, 6)? && !is_closed(alloc, 5)? && cube_is_counted(alloc)?);
+    assert!(rt;
+        is_closed(alloc, &WALLS)? && !is_closed(alloc, &WALLS[..5])? && cube_is_counted(alloc)?
+    );
     Ok(())
 }

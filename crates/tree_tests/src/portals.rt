@@ -1,20 +1,10 @@
 //! The numbered leaves of small worlds, and the portals between them.
 
-ghost use Rattle.std.specs.Prelude.{IfSome};
-ghost use Rattle.qm_partition.specs.Ways.{HasPoints};
-
 use qm_bits::BitRow;
-use qm_brush::brushes;
-use qm_build::build;
-use qm_geom::PlaneBook;
-use qm_map::parse;
 use qm_portal::{World, touches, world};
-use qm_tree::Tree;
-use std::alloc::{AllocError, Global};
-use test_texts::put_box;
-
-/// A box of stone, by its least corner and its greatest.
-type BoxRow = ([i32; 3], [i32; 3]);
+use std::alloc::Global;
+use test_texts::{BoxRow, CUBE, HOLE_ROOM, ROOM, text_of};
+use test_worlds::tree_of;
 
 struct Sample {
     boxes: &'static [BoxRow],
@@ -25,29 +15,6 @@ struct Sample {
     /// Both leaves of each passage by their numbers, the one in front first.
     passages: &'static [(u64, u64)],
 }
-
-const CUBE: BoxRow = ([0, 0, 0], [64, 64, 64]);
-
-/// A room of six walls.
-const ROOM: [BoxRow; 6] = [
-    ([-80, -80, -16], [80, 80, 0]),
-    ([-80, -80, 96], [80, 80, 112]),
-    ([-80, -80, 0], [80, -64, 96]),
-    ([-80, 64, 0], [80, 80, 96]),
-    ([-80, -64, 0], [-64, 64, 96]),
-    ([64, -64, 0], [80, 64, 96]),
-];
-
-/// The room with a slit in a wall.
-const SLIT: [BoxRow; 7] = [
-    ([-80, -80, -16], [80, 80, 0]),
-    ([-80, -80, 96], [80, 80, 112]),
-    ([-80, -80, 0], [80, -64, 96]),
-    ([-80, 64, 0], [80, 80, 96]),
-    ([-80, -64, 0], [-64, 64, 96]),
-    ([64, -64, 0], [80, 0, 96]),
-    ([64, 1, 0], [80, 64, 96]),
-];
 
 /// What the leaves of the trees come to, as boxes, in a program that was written for this alone.
 static SAMPLES: [Sample; 4] = [
@@ -96,7 +63,7 @@ static SAMPLES: [Sample; 4] = [
         passages: &[],
     },
     Sample {
-        boxes: &SLIT,
+        boxes: &HOLE_ROOM,
         filled: &[],
         numbered: &[0, 1, 2, 6, 8, 12, 13, 14],
         passages: &[
@@ -118,29 +85,6 @@ static SAMPLES: [Sample; 4] = [
     },
 ];
 
-fn text(alloc: Global, boxes: &[BoxRow]) -> Result<String, AllocError> {
-    let mut text = String::new(alloc);
-    text.push_str("{\n")?;
-    for (least, greatest) in boxes {
-        put_box(&mut text, "stone", *least, *greatest)?;
-    }
-    text.push_str("}\n")?;
-    Ok(text)
-}
-
-fn tree(alloc: Global, boxes: &[BoxRow]) -> Option<Tree>
-    ensures { IfSome result HasPoints }
-{
-    let text = text(alloc, boxes).ok()?;
-    let map = parse(alloc, text.as_bytes()).ok()?;
-    let mut book = PlaneBook::new(alloc);
-    let list = brushes(alloc, &map, &mut book).ok()?;
-    let Ok(tree) = build(alloc, &list, &book) else {
-        return None;
-    };
-    Some(tree)
-}
-
 /// A row of so many places, of which these are set.
 fn row(alloc: Global, len: u64, places: &[u64]) -> Option<BitRow> {
     let mut row = BitRow::with_len(alloc, len).ok()?;
@@ -153,7 +97,10 @@ fn row(alloc: Global, len: u64, places: &[u64]) -> Option<BitRow> {
 }
 
 fn world_of(alloc: Global, sample: &Sample) -> Option<World> {
-    let tree = tree(alloc, sample.boxes)?;
+    let text = text_of(alloc, sample.boxes).ok()?;
+    let Ok(tree) = tree_of(alloc, &text) else {
+        return None;
+    };
     let Ok(contacts) = touches(alloc, &tree) else {
         return None;
     };

@@ -1,16 +1,15 @@
 //! Leaks and filled leaves of small generated worlds, beside all chains of leaves.
 
-use crate::worlds::{Numbers, random_world};
-use qm_brush::brushes;
-use qm_build::build;
+use crate::worlds::random_world;
 use qm_contents::Contents;
 use qm_flood::{Flood, Origin, flood};
-use qm_geom::{PlaneBook, Point};
-use qm_map::parse;
+use qm_geom::Point;
 use qm_portal::{TouchList, touches};
 use qm_tree::Tree;
 use std::alloc::{AllocError, Global};
 use std::test::Fail;
+use test_numbers::Random;
+use test_worlds::tree_of;
 
 /// Trees of more leaves have too many chains.
 const MOST_LEAVES: u64 = 9;
@@ -108,12 +107,7 @@ fn fills_what_leads_out(
 
 /// Whether what is found of a world and an entity at a point is what all chains say. `None` where its tree is too large.
 fn is_right(alloc: Global, text: &str, point: Point) -> Result<Option<bool>, AllocError> {
-    let Ok(map) = parse(alloc, text.as_bytes()) else {
-        return Ok(Some(false));
-    };
-    let mut book = PlaneBook::new(alloc);
-    let list = brushes(alloc, &map, &mut book)?;
-    let tree = build(alloc, &list, &book)?;
+    let tree = tree_of(alloc, text)?;
     if tree.leaves() > MOST_LEAVES {
         return Ok(None);
     }
@@ -141,15 +135,15 @@ const WORLDS: (u64, u64) = (400, 60);
 
 #[test]
 fn leaks_are_as_all_chains_say(rt: HostRuntime) -> Result<(), Fail> {
-    let mut numbers = Numbers::new();
+    let mut random = Random::new(9);
     let mut right = true;
     let mut tried = 0u64;
     for _ in 0..WORLDS.0 {
-        let text = random_world(rt.alloc(), &mut numbers)?;
+        let text = random_world(rt.alloc(), &mut random)?;
         let point = Point {
-            x: 8 * (numbers.below(21) as i64 - 10),
-            y: 8 * (numbers.below(21) as i64 - 10),
-            z: 8 * (numbers.below(21) as i64 - 10),
+            x: 8 * (random.below(21) as i64 - 10),
+            y: 8 * (random.below(21) as i64 - 10),
+            z: 8 * (random.below(21) as i64 - 10),
             w: 1,
         };
         if let Some(is_right) = is_right(rt.alloc(), &text, point)? {

@@ -1,30 +1,12 @@
-//! Rooms of boxes.
+//! Parts of worlds that several tests have: rooms of boxes, and brushes.
 
-use super::boxes::BoxRow;
+use crate::boxes::BoxRow;
 
-/// Boxes of a world.
-#[derive(Clone, Copy)]
-pub enum Room {
-    Sealed,
-    Hole,
-    Edge,
-    Corner,
-    Nothing,
-}
+/// A box of which many worlds are made.
+pub const CUBE: BoxRow = ([0, 0, 0], [64, 64, 64]);
 
-impl Room {
-    pub fn boxes(&self) -> &'static [BoxRow] {
-        match self {
-            Room::Sealed => &SEALED_ROOM,
-            Room::Hole => &HOLE_ROOM,
-            Room::Edge => &EDGE_ROOM,
-            Room::Corner => &CORNER_ROOMS,
-            Room::Nothing => &[],
-        }
-    }
-}
-
-pub static SEALED_ROOM: [BoxRow; 6] = [
+/// A room of six walls.
+pub const ROOM: [BoxRow; 6] = [
     ([-80, -80, -16], [80, 80, 0]),
     ([-80, -80, 96], [80, 80, 112]),
     ([-80, -80, 0], [80, -64, 96]),
@@ -34,7 +16,7 @@ pub static SEALED_ROOM: [BoxRow; 6] = [
 ];
 
 /// The room with a hole one unit wide in the wall to the east.
-pub static HOLE_ROOM: [BoxRow; 7] = [
+pub const HOLE_ROOM: [BoxRow; 7] = [
     ([-80, -80, -16], [80, 80, 0]),
     ([-80, -80, 96], [80, 80, 112]),
     ([-80, -80, 0], [80, -64, 96]),
@@ -44,18 +26,8 @@ pub static HOLE_ROOM: [BoxRow; 7] = [
     ([64, 1, 0], [80, 64, 96]),
 ];
 
-/// A room whose two corners to the north are open to the outside, and meet the room in an edge alone.
-static EDGE_ROOM: [BoxRow; 6] = [
-    ([-80, -80, -16], [80, 80, 0]),
-    ([-80, -80, 96], [80, 80, 112]),
-    ([-80, -80, 0], [80, -64, 96]),
-    ([-80, -64, 0], [-64, 64, 96]),
-    ([64, -64, 0], [80, 64, 96]),
-    ([-64, 64, 0], [64, 80, 96]),
-];
-
 /// Three rooms round a corner.
-pub static CORNER_ROOMS: [BoxRow; 12] = [
+pub const CORNER_ROOMS: [BoxRow; 12] = [
     ([-144, -80, -16], [112, 192, 0]),
     ([-144, -80, 96], [112, 192, 112]),
     ([-144, -80, 0], [112, -64, 96]),
@@ -71,7 +43,7 @@ pub static CORNER_ROOMS: [BoxRow; 12] = [
 ];
 
 /// Two rooms with a doorway, far in the west.
-pub static TWO_ROOMS: [BoxRow; 8] = [
+pub const TWO_ROOMS: [BoxRow; 8] = [
     ([-3600, -80, -16], [-3360, 80, 0]),
     ([-3600, -80, 96], [-3360, 80, 112]),
     ([-3600, -80, 0], [-3360, -64, 96]),
@@ -81,3 +53,7 @@ pub static TWO_ROOMS: [BoxRow; 8] = [
     ([-3488, -64, 64], [-3472, -32, 96]),
     ([-3376, -64, 0], [-3360, 64, 96]),
 ];
+
+/// A flat brush of two faces that look away from each other, with nothing behind both.
+pub const APART: &str = "{\n( 0 0 0 ) ( 0 1 0 ) ( 1 0 0 ) stone 0 0 0 1 1\n\
+    ( 0 0 128 ) ( 1 0 128 ) ( 0 1 128 ) stone 0 0 0 1 1\n}\n";
