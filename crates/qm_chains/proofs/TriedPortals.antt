@@ -1,5 +1,4 @@
--- What becomes of a portal that is tried at the end of a chain: its leaf was met, nothing new may be shown, the step blocks, or
--- the chain goes on.
+-- What becomes of a portal that is tried at the end of a chain: it does not lead on, the chain stops there, or it goes on.
 use Rattle.std.proofs.Common.{◌≡◌, ◌⊎◌, inl, inr, ⊎_elim, ℕ, ◌+◌, ◌<◌, Bool, true, false, not, List, length, get_or, set, Some, None, refl, sym, ap, ◌∙◌, subst, arith}
 use Rattle.std.specs.List.{count_by}
 use Rattle.std.proofs.lemmas.Bool.{cases_eq}
@@ -12,7 +11,8 @@ use Rattle.qm_contacts.specs.World.{World, AreLeaving}
 use Rattle.qm_separators.specs.PortalSteps.{GoesOn}
 use Rattle.qm_contacts.specs.OwnPortals.{HasOwnPortals}
 use Rattle.qm_chains.specs.Shown.{IsAt, IsShown}
-use Rattle.qm_chains.specs.inner.Frame.{Frame, put_back, EndsChain, StopsAt, IsNextTo}
+use Rattle.qm_chains.specs.inner.Cone.{LeadsOn}
+use Rattle.qm_chains.specs.inner.Frame.{Frame, put_back, EndsChain, StopsAt, not_passed, IsNextTo}
 use Rattle.qm_chains.specs.inner.Narrowing.{IsNarrowed}
 use Rattle.qm_chains.specs.inner.Wanted.{IsWantedVia}
 use Rattle.qm_chains.specs.inner.Walk.{IsFoundOrAhead, IsTried}
@@ -70,33 +70,39 @@ module _ (portals : List Portal) (leaf : ℕ) (numbers : List ℕ) (leaving : Ar
 
 -- ---- a portal
 
-module _ (world : World) (own : HasOwnPortals world) (MayHave : ℕ → ℕ → Type 0) (p : ℕ) (frame : Frame) (number : ℕ) (row : List Bool) (q : Portal) (q_is : IsAt world.portals number q) where
-  -- a leaf for which the portal is next, and that was not found, is wanted via it
-  pub next_wanted : (first : Portal) → IsAt world.portals p first → (n : ℕ) → IsNextTo world.tree first frame n q → (IsIn row n → ⊥) → IsWantedVia world p row number n
-  next_wanted first first_is n next never = record { portal = q; portal_is = q_is; wanted = record { first = first; first_is = first_is; via = next.via; not_found = never } }
-
+module _ (world : World) (MayHave : ℕ → ℕ → Type 0) (p : ℕ) (frame : Frame) (number : ℕ) (row : List Bool) where
   -- nothing is found, where no leaf that may still be shown is lost
-  none_found : ((first : Portal) → IsAt world.portals p first → (n : ℕ) → IsIn frame.mask n → IsNextTo world.tree first frame n q → IsIn row n) → IsTried world MayHave p frame number row row None
+  none_found : ((first q : Portal) → IsAt world.portals p first → IsAt world.portals number q → (n : ℕ) → IsIn frame.mask n → IsNextTo world.tree first frame n q → IsIn row n) → IsTried world MayHave p frame number row row None
   none_found none_lost = record {
     same_length = refl;
     stays = λ n is. is;
     gained = λ n is. inl is;
     chain = tt;
     fewer = tt;
-    none_missed = λ first other first_is at n in_mask next. inl (none_lost first first_is n in_mask (subst (IsNextTo world.tree first frame n) (same_portal world.portals number other q at q_is) next));
+    none_missed = λ first q first_is at n in_mask next. inl (none_lost first q first_is at n in_mask next);
   }
 
-  pub tried_met : IsIn frame.met q.to → IsTried world MayHave p frame number row row None
-  tried_met met = none_found (λ first first_is n in_mask next. absurd (next.new met))
+  -- and so where the portal does not lead on
+  pub tried_not_led : ((q : Portal) → IsAt world.portals number q → LeadsOn world p frame row q → ⊥) → IsTried world MayHave p frame number row row None
+  tried_not_led never = none_found (λ first q first_is at n in_mask next. ⊎_elim
+      (λ is. is)
+      (λ clear. absurd (next.not_stopped (not_passed (λ passed. never q at (record {
+        passed = passed;
+        new = next.new;
+        leaf = n;
+        in_mask = in_mask;
+        wanted = record { first = first; first_is = first_is; via = next.via; not_found = not_in_if_clear row n clear };
+      })))))
+      (in_or_clear row n))
+
+module _ (world : World) (own : HasOwnPortals world) (MayHave : ℕ → ℕ → Type 0) (p : ℕ) (frame : Frame) (number : ℕ) (row : List Bool) (q : Portal) (q_is : IsAt world.portals number q) where
+  -- a leaf for which the portal is next, and that was not found, is wanted via it
+  pub next_wanted : (first : Portal) → IsAt world.portals p first → (n : ℕ) → IsNextTo world.tree first frame n q → (IsIn row n → ⊥) → IsWantedVia world p row number n
+  next_wanted first first_is n next never = record { portal = q; portal_is = q_is; wanted = record { first = first; first_is = first_is; via = next.via; not_found = never } }
 
   pub tried_stopped : StopsAt frame.state q → IsTried world MayHave p frame number row row None
-  tried_stopped stops = none_found (λ first first_is n in_mask next. absurd (next.not_stopped stops))
-
-  pub tried_nothing : ((n : ℕ) → IsIn frame.mask n → IsWantedVia world p row number n → ⊥) → IsTried world MayHave p frame number row row None
-  tried_nothing none_new = none_found (λ first first_is n in_mask next. ⊎_elim
-      (λ is. is)
-      (λ clear. absurd (none_new n in_mask (next_wanted first first_is n next (not_in_if_clear row n clear))))
-      (in_or_clear row n))
+  tried_stopped stops = none_found world MayHave p frame number row
+      (λ first other first_is at n in_mask next. absurd (next.not_stopped (subst (StopsAt frame.state) (same_portal world.portals number q other q_is at) stops)))
 
   module _ (child : Frame) (Can : ℕ → Type 0) (narrowed : IsNarrowed (IsWantedVia world p row number) Can frame.mask child.mask) (may : (n : ℕ) → Can n → MayHave n number) (ends : EndsChain world MayHave p (put_back number frame))
       (step : GoesOn frame.state q child.state) (new : IsIn frame.met q.to → ⊥) (within : q.to < length frame.met) (met_is : child.met ≡ set frame.met q.to true) (leaving : AreLeaving world.portals q.to child.untried) where

@@ -3,6 +3,7 @@ use Rattle.std.proofs.Common.{◌≡◌, ℕ, ◌<◌, Bool, false, List, length
 use Rattle.std.proofs.lemmas.List.{length-replicate}
 use Rattle.qm_contacts.specs.Portals.{Portal}
 use Rattle.qm_contacts.specs.World.{World}
+use Rattle.qm_contacts.specs.NumberedLeaves.{numbered_leaves}
 use Rattle.qm_segments.specs.SeenVia.{IsSeenVia}
 use Rattle.qm_segments.proofs.ViaLaws.{first_in_sight_back}
 use Rattle.qm_sight.specs.WordInSight.{LieWithin}
@@ -29,14 +30,14 @@ unseen_via world p number back first first_is leads unseen other q other_is q_is
 -- ---- pairs
 
 -- a clear row is a row of the pair, and lies within all ceilings
-pub pairs_barred : (world : World) (now : List (List Bool)) (old new : Pairs) (number : ℕ) → new ≡ record { first = old.first; start = old.start; seen = old.seen; own = set old.own number (Some (replicate (length old.seen) false)) } → number < length old.own →
+pub pairs_barred : (world : World) (now : List (List Bool)) (old new : Pairs) (number leaves : ℕ) → leaves ≡ length (numbered_leaves world.tree) → new ≡ record { first = old.first; start = old.start; seen = old.seen; own = set old.own number (Some (replicate leaves false)) } → number < length old.own →
     IsUnseenVia world old.first number → (found : List Bool) → ArePairs world found old → PairsGoOn world now found old new
-pairs_barred world now old new number new_is within unseen found are =
-    let clear : List Bool = replicate (length old.seen) false in
+pairs_barred world now old new number leaves count new_is within unseen found are =
+    let clear : List Bool = replicate leaves false in
     record {
       same_first = ap (λ (p : Pairs). p.first) new_is;
-      are = pairs_more world found old number clear new new_is within are (length-replicate (length old.seen) false ∙ are.seen_wide) (λ n wanted. absurd (unseen wanted.wanted.first wanted.portal wanted.wanted.first_is wanted.portal_is n wanted.wanted.via));
-      within = λ ceilings lie lies. within_more world found old number clear new new_is within (IsInCeiling ceilings) lies (λ n is. absurd (none_clear (length old.seen) n is));
+      are = pairs_more world found old number clear new new_is within are (length-replicate leaves false ∙ count) (λ n wanted. absurd (unseen wanted.wanted.first wanted.portal wanted.wanted.first_is wanted.portal_is n wanted.wanted.via));
+      within = λ ceilings lie lies. within_more world found old number clear new new_is within (IsInCeiling ceilings) lies (λ n is. absurd (none_clear leaves n is));
     }
 
 -- pairs go on in turn, over a source that has gone on

@@ -1,13 +1,14 @@
 mod Barred
-mod BegunRows
+mod BegunWalks
 mod Copies
 mod FirstFrames
 mod FirstMasks
 mod FourLeaves
+mod LastElements
 mod OwnAnswers
 mod PairFrames
 mod PairsKept
-mod Pushed
+mod Panes
 mod Rounds
 mod Spares
 mod Turns

@@ -8,6 +8,7 @@ ghost use Rattle.qm_flow.specs.inner.LeadsBack.{LeadsBack};
 ghost use Rattle.qm_flow.specs.inner.PairsGoOn.{PairsGoOn};
 ghost use Rattle.qm_flow.specs.inner.UnseenVia.{IsUnseenVia};
 
+use crate::own_rows::Place;
 use crate::pairs::Pairs;
 use qm_portal::World;
 use qm_sight::RowSource;
@@ -38,7 +39,7 @@ fn bar_portal<S: RowSource>(world: &World, source: &mut S, pairs: &mut Pairs, po
     if !is_unseen(world, source, pairs.first(), portal) {
         return;
     }
-    pairs.bar(portal);
+    pairs.put(portal, Place::Barred(world.leaves()));
 }
 
 /// Whether nothing is seen from the first portal via another one, as the row of the portal back tells.

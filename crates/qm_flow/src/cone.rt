@@ -10,11 +10,11 @@ ghost use Rattle.qm_chains.specs.inner.Walk.{AreWide};
 ghost use Rattle.qm_flow.specs.inner.CutFrame.{IsCutFrame};
 
 use crate::frame::Frame;
-use crate::narrowing::{clear, cut, may_show};
+use crate::leading::may_lead_on;
+use crate::narrowing::{clear, cut};
 use crate::pairs::Pairs;
 use crate::scratch::Scratch;
 use qm_bits::BitRow;
-use qm_narrow::may_pass;
 use qm_portal::World;
 use qm_sight::RowSource;
 use std::alloc::AllocError;
@@ -38,16 +38,7 @@ pub(crate) fn left_of<'a, S: RowSource>(
     ensures spares { OnOk result (AreWide world.now frame.new scratch.new.cone) }
     ensures on { S.goes_on source.old source.new }
 {
-    cone_of(
-        world,
-        source,
-        pairs,
-        frame,
-        found,
-        entered,
-        &mut scratch.cone,
-        &mut scratch.due,
-    )?;
+    cone_of(world, source, pairs, frame, found, entered, scratch)?;
     Ok(cut_frame(frame, &scratch.cone, found))
 }
 
@@ -63,7 +54,7 @@ fn cut_frame<'a>(frame: &mut Frame<'a>, cone: &BitRow, found: &BitRow) -> bool
     frame.mask.has_new(found)
 }
 
-/// Makes a row have the cone of a frame that has entered a leaf.
+/// Makes the row for cones have that of a frame that has entered a leaf.
 pub(crate) fn cone_of<'a, S: RowSource>(
     world: &World,
     source: &mut S,
@@ -71,25 +62,24 @@ pub(crate) fn cone_of<'a, S: RowSource>(
     frame: &Frame<'a>,
     found: &BitRow,
     entered: u64,
-    row: &mut BitRow,
-    due: &mut Vec<u64>,
+    scratch: &mut Scratch,
 ) -> Result<(), AllocError>
     requires entered { entered < length (numbered_leaves world.now.tree) }
     requires same_world { S.world source.old ≡ world.now }
     requires pairs { ArePairs world.now found.now pairs.now }
     requires wide { AreWide world.now frame.now found.now }
-    requires row { length row.old ≡ length (numbered_leaves world.now.tree) }
-    ensures wide { OnOk result (length row.new ≡ length (numbered_leaves world.now.tree)) }
-    ensures cone { OnOk result ((n : ℕ) → IsInCone world.now pairs.now.first frame.now found.now entered n → IsIn row.new n) }
+    requires cone { length scratch.old.cone ≡ length (numbered_leaves world.now.tree) }
+    ensures wide { OnOk result (length scratch.new.cone ≡ length (numbered_leaves world.now.tree)) }
+    ensures cone { OnOk result ((n : ℕ) → IsInCone world.now pairs.now.first frame.now found.now entered n → IsIn scratch.new.cone n) }
     ensures on { S.goes_on source.old source.new }
 {
-    clear(row);
-    row.set(entered);
-    due.clear();
-    due.push(entered)?;
-    while let Some(leaf) = due.pop() {
+    clear(&mut scratch.cone);
+    scratch.cone.set(entered);
+    scratch.due.clear();
+    scratch.due.push(entered)?;
+    while let Some(leaf) = scratch.due.pop() {
         let portals = world.leaving(leaf);
-        go_on(world, source, pairs, frame, found, portals, row, due)?;
+        go_on(world, source, pairs, frame, found, portals, scratch)?;
     }
     Ok(())
 }
@@ -102,19 +92,18 @@ fn go_on<'a, S: RowSource>(
     frame: &Frame<'a>,
     found: &BitRow,
     portals: &[u64],
-    row: &mut BitRow,
-    due: &mut Vec<u64>,
+    scratch: &mut Scratch,
 ) -> Result<(), AllocError>
     requires portals { All (λ p. p < length world.now.portals) portals.now }
     requires same_world { S.world source.old ≡ world.now }
     requires pairs { ArePairs world.now found.now pairs.now }
     requires wide { AreWide world.now frame.now found.now }
-    requires row { length row.old ≡ length (numbered_leaves world.now.tree) }
-    ensures entered { OnOk result (AreEntered (LeadsInto world.now pairs.now.first frame.now found.now portals.now) row.old row.new due.old.items due.new.items) }
+    requires cone { length scratch.old.cone ≡ length (numbered_leaves world.now.tree) }
+    ensures entered { OnOk result (AreEntered (LeadsInto world.now pairs.now.first frame.now found.now portals.now) scratch.old.cone scratch.new.cone scratch.old.due.items scratch.new.due.items) }
     ensures on { S.goes_on source.old source.new }
 {
     for portal in portals {
-        enter(world, source, pairs, frame, found, *portal, row, due)?;
+        enter(world, source, pairs, frame, found, *portal, scratch)?;
     }
     Ok(())
 }
@@ -127,31 +116,24 @@ fn enter<'a, S: RowSource>(
     frame: &Frame<'a>,
     found: &BitRow,
     portal: u64,
-    row: &mut BitRow,
-    due: &mut Vec<u64>,
+    scratch: &mut Scratch,
 ) -> Result<(), AllocError>
     requires portal { portal < length world.now.portals }
     requires same_world { S.world source.old ≡ world.now }
     requires pairs { ArePairs world.now found.now pairs.now }
     requires wide { AreWide world.now frame.now found.now }
-    requires row { length row.old ≡ length (numbered_leaves world.now.tree) }
-    ensures entered { OnOk result (AreEntered (LeadsInto world.now pairs.now.first frame.now found.now (portal ∷ [])) row.old row.new due.old.items due.new.items) }
+    requires cone { length scratch.old.cone ≡ length (numbered_leaves world.now.tree) }
+    ensures entered { OnOk result (AreEntered (LeadsInto world.now pairs.now.first frame.now found.now (portal ∷ [])) scratch.old.cone scratch.new.cone scratch.old.due.items scratch.new.due.items) }
     ensures on { S.goes_on source.old source.new }
 {
     let to = world.to(portal);
-    if row.get(to) {
+    if scratch.cone.get(to) {
         return Ok(());
     }
-    if frame.met.get(to) {
+    if !may_lead_on(world, source, pairs, frame, portal, found) {
         return Ok(());
     }
-    if !may_show(pairs.own(), source, portal, &frame.mask, found) {
-        return Ok(());
-    }
-    if !may_pass(&frame.state, world.pane(portal)) {
-        return Ok(());
-    }
-    row.set(to);
-    due.push(to)?;
+    scratch.cone.set(to);
+    scratch.due.push(to)?;
     Ok(())
 }

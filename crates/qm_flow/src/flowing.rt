@@ -1,6 +1,6 @@
 //! The walk of open chains from one portal.
 
-ghost use Rattle.std.specs.Prelude.{ℕ, ◌≡◌, ◌<◌, Bool, List, [], false, length, replicate, IfOk, OnOk};
+ghost use Rattle.std.specs.Prelude.{ℕ, ◌≡◌, ◌<◌, Bool, List, length, IfOk};
 ghost use Rattle.qm_lists.specs.WorkList.{IsIn};
 ghost use Rattle.qm_contacts.specs.NumberedLeaves.{numbered_leaves};
 ghost use Rattle.qm_contacts.specs.Portals.{Portal};
@@ -15,11 +15,12 @@ ghost use Rattle.qm_flow.specs.inner.FirstMask.{IsFirstMask, IsSomeFirstMask};
 ghost use Rattle.qm_flow.specs.inner.WalkSoFar.{HasEnded};
 
 use crate::barring::bar_unseen;
-use crate::beginning::begin_pairs;
 use crate::frame_stack::FrameStack;
+use crate::narrowing::{copy, find};
 use crate::pairs::Pairs;
-use crate::walking::{begin_walk, end_walk};
+use crate::walking::end_walk;
 use qm_bits::BitRow;
+use qm_lines::show_by_lines;
 use qm_portal::World;
 use qm_sight::RowSource;
 use std::alloc::{AllocError, Global};
@@ -41,37 +42,37 @@ pub fn flow<S: RowSource>(
     ensures on { S.goes_on source.old source.new }
 {
     world.own_portals();
-    let mut row = BitRow::with_len(alloc, world.leaves())?;
-    let mut pairs = begin_pairs(alloc, world, source, portal)?;
+    let mut pairs = Pairs::of(alloc, world, source, portal)?;
     let mut stack = FrameStack::of(alloc, world, portal)?;
-    walk(
-        alloc, world, source, portal, &mut row, &mut pairs, &mut stack,
-    )?;
-    Ok(row)
+    walk(alloc, world, source, portal, &mut pairs, &mut stack)
 }
 
-/// What lines show comes first, then portals are barred by the rows of portals back, and then the walk goes on to its end.
+/// The walk begins with the frame of the first portal, which may show what may be in sight of it. The leaf that the portal enters
+/// is found, where it may be seen, and what lines show; then portals are barred by the rows of portals back, and then the walk
+/// goes on to its end.
 fn walk<'a, S: RowSource>(
     alloc: Global,
     world: &'a World,
     source: &mut S,
     portal: u64,
-    row: &mut BitRow,
     pairs: &mut Pairs,
     stack: &mut FrameStack<'a>,
-) -> Result<(), AllocError>
+) -> Result<BitRow, AllocError>
     requires portal { portal < length world.now.portals }
     requires own_portals { HasOwnPortals world.now }
     requires same_world { S.world source.old ≡ world.now }
-    requires clear { row.old ≡ replicate (length (numbered_leaves world.now.tree)) false }
     requires begun { ArePairsBegun world.now portal pairs.old }
     requires seen { IsSomeFirstMask world.now (S.ceilings source.old) portal pairs.old.seen }
     requires fresh { IsFreshStack world.now portal stack.old }
-    ensures walk { OnOk result ((ceilings : List (List Bool)) → LieWithin (S.ceilings source.old) ceilings → IsFirstMask world.now ceilings portal pairs.old.seen →
-        HasEnded world.now ceilings portal row.new) }
+    ensures walk { IfOk result (λ row. (ceilings : List (List Bool)) → LieWithin (S.ceilings source.old) ceilings → IsFirstMask world.now ceilings portal pairs.old.seen →
+        HasEnded world.now ceilings portal row) }
     ensures on { S.goes_on source.old source.new }
 {
-    begin_walk(alloc, world, source, portal, pairs.seen(), row, stack)?;
+    copy(&mut stack.next.mask, pairs.seen());
+    stack.push_next(alloc, world, portal)?;
+    let mut row = BitRow::with_len(alloc, world.leaves())?;
+    find(&mut row, pairs.seen(), world.to(portal));
+    show_by_lines(alloc, world, source, portal, &mut row)?;
     bar_unseen(world, source, pairs);
     end_walk(alloc, world, source, pairs, row, stack)
 }

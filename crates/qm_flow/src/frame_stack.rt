@@ -10,6 +10,8 @@ ghost use Rattle.qm_flow.specs.inner.Spares.{AreSparesWide};
 
 use crate::frame::Frame;
 use crate::scratch::Scratch;
+use qm_bits::BitRow;
+use qm_narrow::StepBuffers;
 use qm_portal::World;
 use std::alloc::{AllocError, Global};
 use std::mem;
@@ -46,13 +48,17 @@ impl<'a> FrameStack<'a> {
         requires own_portals { HasOwnPortals world.now }
         ensures fresh { IfOk result (IsFreshStack world.now portal) }
     {
-        let scratch = Scratch::of(alloc, world.leaves())?;
+        let cone = BitRow::with_len(alloc, world.leaves())?;
         let next = Frame::first(alloc, world, portal)?;
         Ok(FrameStack {
             frames: Vec::new(alloc),
             next,
             ended: Vec::new(alloc),
-            scratch,
+            scratch: Scratch {
+                steps: StepBuffers::new(alloc),
+                cone,
+                due: Vec::new(alloc),
+            },
         })
     }
 

@@ -64,6 +64,5 @@ pub(crate) fn go_through<'a, S: RowSource>(
     copy(&mut next.met, &frame.met);
     next.met.set(entered);
     find(row, &next.mask, entered);
-    let left = left_of(world, source, pairs, next, row, entered, scratch)?;
-    Ok(left)
+    left_of(world, source, pairs, next, row, entered, scratch)
 }

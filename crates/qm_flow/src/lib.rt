@@ -2,13 +2,13 @@
 #![tactic(auto)]
 
 mod barring;
-mod beginning;
 mod cone;
 mod flowing;
 mod frame;
 mod frame_stack;
 mod going;
 pub mod laws;
+mod leading;
 mod narrowing;
 mod own_rows;
 mod pairing;

@@ -1,10 +1,11 @@
 //! The rows that a flow has of its own, and how a row is read.
 
-ghost use Rattle.std.specs.Prelude.{ℕ, ◌≡◌, ◌<◌, ◌+◌, ◌*◌, length, replicate, true, false, None, Some, slice_index_or, slice_set, IfOk, IsTrue};
+ghost use Rattle.std.specs.Prelude.{ℕ, ◌≡◌, ◌<◌, ◌+◌, ◌*◌, length, replicate, true, None, slice_set, IfOk};
 ghost use Rattle.qm_bits.specs.Word.{has_bit};
 ghost use Rattle.qm_contacts.specs.NumberedLeaves.{numbered_leaves};
 ghost use Rattle.qm_chains.specs.inner.OwnRows.{AreOwnRows, MustHave, CanHave};
 ghost use Rattle.qm_sight.specs.WordInSight.{ceiling_of};
+ghost use Rattle.qm_flow.specs.inner.OwnRow.{own_row};
 
 use qm_bits::BitRow;
 use qm_sight::RowSource;
@@ -13,8 +14,9 @@ use std::marker::Model;
 
 /// What stands for a row of the flow's own.
 #[derive(Drop)]
-enum Place {
-    NotYet,
+pub(crate) enum Place {
+    /// There is none yet. Was the portal tried before?
+    NotYet { tried: bool },
     /// The portal is barred: its row has so many places, all of them clear.
     Barred(u64),
     Row(BitRow),
@@ -37,7 +39,6 @@ impl Model for OwnRow {
 }
 
 /// For each portal a row of the flow's own, or none yet, and then the source answers.
-#[derive(Drop)]
 pub(crate) struct OwnRows {
     rows: Vec<OwnRow>,
 }
@@ -50,6 +51,13 @@ impl Model for OwnRows {
     ghost view = { λ own. own.rows.items };
 }
 
+// Written out, so that a function that owns one calls this where it ends: a derived drop would be proved anew at each exit.
+impl Drop for OwnRows {
+    fn drop(self) {
+        let OwnRows { rows: _ } = self;
+    }
+}
+
 impl OwnRows {
     /// No row yet for any of so many portals.
     pub(crate) fn none(alloc: Global, portals: u64) -> Result<OwnRows, AllocError>
@@ -58,37 +66,36 @@ impl OwnRows {
         let mut rows = Vec::with_capacity(alloc, portals as usize)?;
         for _portal in 0..portals {
             rows.push(OwnRow {
-                place: Place::NotYet,
+                place: Place::NotYet { tried: false },
             })?;
         }
         Ok(OwnRows { rows })
     }
 
-    /// Whether there is a row for a portal.
-    pub(crate) fn has(&self, portal: u64) -> bool
-        requires { portal < length self.now }
+    /// Whether the row of a portal is to be made: there is none yet, and the portal was tried before. It is noted that it was
+    /// tried.
+    pub(crate) fn is_due(&mut self, portal: u64) -> bool
+        requires { portal < length self.old }
+        ensures { self.new ≡ self.old }
     {
-        !matches!(self.rows[portal as usize].place, Place::NotYet)
+        match &self.rows[portal as usize].place {
+            Place::NotYet { tried } => {
+                if *tried {
+                    return true;
+                }
+            }
+            _ => return false,
+        }
+        self.put(portal, Place::NotYet { tried: true });
+        false
     }
 
-    /// Puts the row of a portal.
-    pub(crate) fn put(&mut self, portal: u64, row: BitRow)
+    /// Puts what stands for the row of a portal.
+    pub(crate) fn put(&mut self, portal: u64, place: Place)
         requires { portal < length self.old }
-        ensures { self.new ≡ slice_set self.old portal (Some row) }
+        ensures { self.new ≡ slice_set self.old portal (own_row place) }
     {
-        self.rows[portal as usize] = OwnRow {
-            place: Place::Row(row),
-        };
-    }
-
-    /// Bars a portal: a row of so many places, all of them clear, is put. It takes no memory.
-    pub(crate) fn bar(&mut self, portal: u64, leaves: u64)
-        requires { portal < length self.old }
-        ensures { self.new ≡ slice_set self.old portal (Some (replicate leaves false)) }
-    {
-        self.rows[portal as usize] = OwnRow {
-            place: Place::Barred(leaves),
-        };
+        self.rows[portal as usize] = OwnRow { place };
     }
 
     /// Word `k` of the row of a portal: of the one that is there, and else as the source answers it.
@@ -101,7 +108,7 @@ impl OwnRows {
         ensures on { S.goes_on source.old source.new }
     {
         match &self.rows[portal as usize].place {
-            Place::NotYet => source.word(portal, k),
+            Place::NotYet { .. } => source.word(portal, k),
             Place::Barred(_) => 0,
             Place::Row(row) => row.word(k),
         }

@@ -14,6 +14,7 @@ ghost use Rattle.qm_flow.specs.inner.PairsGoOn.{PairsGoOn};
 use crate::cone::cone_of;
 use crate::frame::Frame;
 use crate::narrowing::{clear, copy, cut, narrow};
+use crate::own_rows::Place;
 use crate::pairs::Pairs;
 use crate::scratch::Scratch;
 use qm_bits::BitRow;
@@ -43,16 +44,16 @@ pub(crate) fn pair<'a, S: RowSource>(
     ensures spares { OnOk result (AreWide world.now spare.new scratch.new.cone) }
     ensures on { S.goes_on source.old source.new }
 {
+    cone_of_pair(alloc, world, source, pairs, portal, found, spare, scratch)?;
     let mut row = BitRow::with_len(alloc, world.leaves())?;
-    fill_row(
-        alloc, world, source, pairs, portal, found, spare, scratch, &mut row,
-    )?;
-    pairs.put(portal, row);
+    row.or_row(&scratch.cone);
+    pairs.put(portal, Place::Row(row));
     Ok(())
 }
 
-/// Makes a clear row that of the pair with a portal: the cone of the chain with these two, and no leaf where the step blocks.
-fn fill_row<'a, S: RowSource>(
+/// Makes the row for cones that of the pair with a portal: the cone of the chain with these two, and no leaf where the step
+/// blocks.
+fn cone_of_pair<'a, S: RowSource>(
     alloc: Global,
     world: &World,
     source: &mut S,
@@ -61,7 +62,6 @@ fn fill_row<'a, S: RowSource>(
     found: &BitRow,
     spare: &mut Frame<'a>,
     scratch: &mut Scratch,
-    row: &mut BitRow,
 ) -> Result<(), AllocError>
     requires portal { portal < length world.now.portals }
     requires own_portals { HasOwnPortals world.now }
@@ -69,10 +69,8 @@ fn fill_row<'a, S: RowSource>(
     requires found { length found.now ≡ length (numbered_leaves world.now.tree) }
     requires spares { AreWide world.now spare.old scratch.old.cone }
     requires pairs { ArePairs world.now found.now pairs.now }
-    requires clear { row.old ≡ replicate (length (numbered_leaves world.now.tree)) false }
-    ensures wide { OnOk result (length row.new ≡ length (numbered_leaves world.now.tree)) }
-    ensures has { OnOk result (IsPairRow world.now pairs.now.first found.now portal row.new) }
-    ensures within { OnOk result ((n : ℕ) → IsIn row.new n → CanHave (ceiling_of (S.ceilings source.old) portal) pairs.now.own portal n) }
+    ensures has { OnOk result (IsPairRow world.now pairs.now.first found.now portal scratch.new.cone) }
+    ensures within { OnOk result ((n : ℕ) → IsIn scratch.new.cone n → CanHave (ceiling_of (S.ceilings source.old) portal) pairs.now.own portal n) }
     ensures spares { OnOk result (AreWide world.now spare.new scratch.new.cone) }
     ensures on { S.goes_on source.old source.new }
 {
@@ -80,13 +78,13 @@ fn fill_row<'a, S: RowSource>(
     let buffers = &mut scratch.steps;
     let leads = step_into(alloc, buffers, &mut spare.state, pairs.start(), pane)?;
     if !leads {
+        clear(&mut scratch.cone);
         return Ok(());
     }
     make_pair_frame(world, source, pairs, portal, spare);
     let entered = world.to(portal);
-    let due = &mut scratch.due;
-    cone_of(world, source, pairs, spare, found, entered, row, due)?;
-    cut(row, &spare.mask);
+    cone_of(world, source, pairs, spare, found, entered, scratch)?;
+    cut(&mut scratch.cone, &spare.mask);
     Ok(())
 }
 

@@ -1,84 +1,76 @@
 //! What a flow knows of its first portal and another one, a pair.
 
-ghost use Rattle.std.specs.Prelude.{ℕ, ◌≡◌, ◌<◌, Bool, List, length, replicate, false, None, Some, slice_set, IfOk};
-ghost use Rattle.qm_lists.specs.WorkList.{IsIn};
-ghost use Rattle.qm_contacts.specs.NumberedLeaves.{numbered_leaves};
+ghost use Rattle.std.specs.Prelude.{◌≡◌, ◌<◌, length, slice_set, IfOk};
 ghost use Rattle.qm_contacts.specs.OwnPortals.{HasOwnPortals};
-ghost use Rattle.qm_contacts.specs.Portals.{Portal};
-ghost use Rattle.qm_segments.specs.Sight.{IsInSight};
-ghost use Rattle.qm_chains.specs.Shown.{IsAt};
-ghost use Rattle.qm_chains.specs.inner.Pairs.{ArePairs};
+ghost use Rattle.qm_flow.specs.inner.BegunPairs.{ArePairsBegun};
+ghost use Rattle.qm_flow.specs.inner.FirstMask.{IsFirstMask};
+ghost use Rattle.qm_flow.specs.inner.OwnRow.{own_row};
 
-use crate::own_rows::OwnRows;
+use crate::frame::Frame;
+use crate::narrowing::{full, narrow};
+use crate::own_rows::{OwnRows, Place};
 use qm_bits::BitRow;
 use qm_narrow::ChainState;
 use qm_portal::World;
+use qm_sight::RowSource;
 use std::alloc::{AllocError, Global};
 use std::marker::Model;
 
-/// The first portal of a flow, the state of its chain, the leaves that may be in sight of it, and the rows of the flow's own:
-/// that of a portal is the row of its pair with the first. It is made when the portal is tried for the second time, since it
-/// would not pay for one that is tried once; where nothing can be seen via the portal, it is barred before the first.
-pub(crate) struct Pairs {
+/// The first portal of a flow, the frame of the chain with it alone, the leaves that may be in sight of it, and the rows of the
+/// flow's own: that of a portal is the row of its pair with the first. It is made when the portal is tried for the second time,
+/// since it would not pay for one that is tried once; where nothing can be seen via the portal, it is barred before the first.
+pub(crate) struct Pairs<'a> {
     first: u64,
-    start: ChainState,
+    start: Frame<'a>,
     seen: BitRow,
     own: OwnRows,
-    /// For each portal, whether it has passed the cheap tests before.
-    tried: BitRow,
 }
 
-impl Model for Pairs {
-    ghost use Rattle.std.specs.Prelude.{◌≡◌, length};
+impl<'a> Model for Pairs<'a> {
     ghost use Rattle.qm_chains.specs.inner.Pairs.{Pairs};
 
     ghost Value = { Pairs };
 
-    ghost view = { λ p. record { first = p.first; start = p.start; seen = p.seen; own = p.own } };
-
-    ghost invariant = { λ p. length p.tried ≡ length p.own };
+    ghost view = { λ p. record { first = p.first; start = p.start.state; seen = p.seen; own = p.own } };
 }
 
 // Written out, so that a function that owns one calls this where it ends: a derived drop would be proved anew at each exit.
-impl Drop for Pairs {
+impl<'a> Drop for Pairs<'a> {
     fn drop(self) {
         let Pairs {
             first: _,
             start: _,
             seen: _,
             own: _,
-            tried: _,
         } = self;
     }
 }
 
-impl Pairs {
-    /// The pairs of a portal, of none of which there is a row.
-    pub(crate) fn of(
+impl<'a> Pairs<'a> {
+    /// What a flow from a portal knows when it begins: the leaves that may be in sight of the portal, as the source answers its
+    /// row, and no row of a pair.
+    pub(crate) fn of<S: RowSource>(
         alloc: Global,
-        world: &World,
+        world: &'a World,
+        source: &mut S,
         first: u64,
-        seen: BitRow,
-        own: OwnRows,
-    ) -> Result<Pairs, AllocError>
+    ) -> Result<Pairs<'a>, AllocError>
         requires first { first < length world.now.portals }
         requires own_portals { HasOwnPortals world.now }
-        requires none { own ≡ replicate (length world.now.portals) None }
-        requires wide { length seen ≡ length (numbered_leaves world.now.tree) }
-        requires sees { (portal : Portal) → IsAt world.now.portals first portal → (n : ℕ) → IsInSight world.now.tree portal n → IsIn seen n }
-        ensures pairs { IfOk result (λ pairs. (found : List Bool) → ArePairs world.now found pairs) }
-        ensures first { IfOk result (λ pairs. pairs.first ≡ first) }
-        ensures own { IfOk result (λ pairs. pairs.own ≡ own) }
-        ensures seen { IfOk result (λ pairs. pairs.seen ≡ seen) }
+        requires same_world { S.world source.old ≡ world.now }
+        ensures begun { IfOk result (ArePairsBegun world.now first) }
+        ensures seen { IfOk result (λ pairs. IsFirstMask world.now (S.ceilings source.old) first pairs.seen) }
+        ensures on { S.goes_on source.old source.new }
     {
-        let tried = BitRow::with_len(alloc, world.portals())?;
-        let start = ChainState::start(alloc, world.pane(first))?;
+        let own = OwnRows::none(alloc, world.portals())?;
+        let mut seen = full(alloc, world.leaves())?;
+        narrow(&own, source, first, &mut seen);
+        let start = Frame::first(alloc, world, first)?;
         Ok(Pairs {
             first,
             start,
             seen,
             own,
-            tried,
         })
     }
 
@@ -93,7 +85,7 @@ impl Pairs {
     pub(crate) fn start(&self) -> &ChainState
         ensures { result.now ≡ self.now.start }
     {
-        &self.start
+        &self.start.state
     }
 
     /// The leaves that may be in sight of the first portal.
@@ -116,30 +108,14 @@ impl Pairs {
         requires { portal < length self.old.own }
         ensures { self.new ≡ self.old }
     {
-        if self.own.has(portal) {
-            return false;
-        }
-        if self.tried.get(portal) {
-            return true;
-        }
-        self.tried.set(portal);
-        false
+        self.own.is_due(portal)
     }
 
-    /// Puts the row of the pair with a portal.
-    pub(crate) fn put(&mut self, portal: u64, row: BitRow)
+    /// Puts what stands for the row of the pair with a portal.
+    pub(crate) fn put(&mut self, portal: u64, place: Place)
         requires { portal < length self.old.own }
-        ensures { self.new ≡ record { first = self.old.first; start = self.old.start; seen = self.old.seen; own = slice_set self.old.own portal (Some row) } }
+        ensures { self.new ≡ record { first = self.old.first; start = self.old.start; seen = self.old.seen; own = slice_set self.old.own portal (own_row place) } }
     {
-        self.own.put(portal, row);
-    }
-
-    /// Bars a portal: the row of its pair is a clear one. It takes no memory.
-    pub(crate) fn bar(&mut self, portal: u64)
-        requires { portal < length self.old.own }
-        ensures { self.new ≡ record { first = self.old.first; start = self.old.start; seen = self.old.seen; own = slice_set self.old.own portal (Some (replicate (length self.old.seen) false)) } }
-    {
-        let leaves = self.seen.len();
-        self.own.bar(portal, leaves);
+        self.own.put(portal, place);
     }
 }

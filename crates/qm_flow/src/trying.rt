@@ -1,8 +1,11 @@
 //! One portal is tried at the end of a chain.
 
-ghost use Rattle.std.specs.Prelude.{◌≡◌, ◌<◌, Bool, List, length, false, None, IfOk, OnOk};
+ghost use Rattle.std.specs.Prelude.{◌≡◌, ◌<◌, Bool, List, length, false, IfOk, OnOk};
 ghost use Rattle.std.specs.Bool.{then_some};
 ghost use Rattle.qm_contacts.specs.OwnPortals.{HasOwnPortals};
+ghost use Rattle.qm_contacts.specs.Portals.{Portal};
+ghost use Rattle.qm_chains.specs.Shown.{IsAt};
+ghost use Rattle.qm_chains.specs.inner.Cone.{LeadsOn};
 ghost use Rattle.qm_chains.specs.inner.Frame.{put_back, EndsChain};
 ghost use Rattle.qm_chains.specs.inner.Pairs.{ArePairs, LieWithinPairs};
 ghost use Rattle.qm_chains.specs.inner.Walk.{AreWide, IsTried};
@@ -12,12 +15,12 @@ ghost use Rattle.qm_flow.specs.inner.PairsGoOn.{PairsGoOn};
 
 use crate::frame::Frame;
 use crate::going::go_through;
+use crate::leading::may_lead_on;
 use crate::narrowing::may_show;
 use crate::pairing::pair;
 use crate::pairs::Pairs;
 use crate::scratch::Scratch;
 use qm_bits::BitRow;
-use qm_narrow::may_pass;
 use qm_portal::World;
 use qm_sight::RowSource;
 use std::alloc::{AllocError, Global};
@@ -48,24 +51,23 @@ pub(crate) fn try_portal<'a, S: RowSource>(
     ensures pairs { OnOk result (PairsGoOn world.now (S.ceilings source.old) row.new pairs.old pairs.new) }
     ensures on { S.goes_on source.old source.new }
 {
-    if frame.met.get(world.to(portal)) {
+    if !may_lead_on(world, source, pairs, frame, portal, row) {
         return Ok(false);
     }
-    let may = may_lead_on(
+    let may = pair_may_show(
         alloc, world, source, pairs, frame, portal, row, next, scratch,
     )?;
     if !may {
         return Ok(false);
     }
-    let on = go_through(
+    go_through(
         alloc, world, source, pairs, frame, portal, row, next, scratch,
-    )?;
-    Ok(on)
+    )
 }
 
-/// Whether a portal may lead on to a leaf that was not found. Where the first tests do not tell, the row of its pair is made if
-/// it is due, by a frame that is made in the next one.
-fn may_lead_on<'a, S: RowSource>(
+/// Whether the row of the pair with a portal may show a leaf that was not found, where there is one. It is made if it is due, by
+/// a frame that is made in the next one.
+fn pair_may_show<'a, S: RowSource>(
     alloc: Global,
     world: &World,
     source: &mut S,
@@ -82,19 +84,11 @@ fn may_lead_on<'a, S: RowSource>(
     requires wide { AreWide world.now frame.now row.now }
     requires spares { AreWide world.now next.old scratch.old.cone }
     requires pairs { ArePairs world.now row.now pairs.old }
-    ensures none { IfOk result (λ may. may ≡ false → (ceilings : List (List Bool)) →
-        IsTried world.now (IsInCeiling ceilings) pairs.old.first frame.now portal row.now row.now None) }
+    ensures none { IfOk result (λ may. may ≡ false → (q : Portal) → IsAt world.now.portals portal q → LeadsOn world.now pairs.old.first frame.now row.now q → ⊥) }
     ensures spares { OnOk result (AreWide world.now next.new scratch.new.cone) }
     ensures pairs { OnOk result (PairsGoOn world.now (S.ceilings source.old) row.now pairs.old pairs.new) }
     ensures on { S.goes_on source.old source.new }
 {
-    let pane = world.pane(portal);
-    if !may_show(pairs.own(), source, portal, &frame.mask, row) {
-        return Ok(false);
-    }
-    if !may_pass(&frame.state, pane) {
-        return Ok(false);
-    }
     if !pairs.is_due(portal) {
         return Ok(true);
     }

@@ -1,6 +1,6 @@
-//! The walk of a flow: how it begins, and its rounds until no frame is left.
+//! The rounds of a walk, until no frame is left.
 
-ghost use Rattle.std.specs.Prelude.{ℕ, ◌≡◌, ◌<◌, Bool, List, [], false, length, replicate, IfOk, OnOk};
+ghost use Rattle.std.specs.Prelude.{ℕ, ◌≡◌, ◌<◌, Bool, List, [], length, IfOk, OnOk};
 ghost use Rattle.std.specs.List.{sum_by};
 ghost use Rattle.qm_contacts.specs.NumberedLeaves.{numbered_leaves};
 ghost use Rattle.qm_contacts.specs.OwnPortals.{HasOwnPortals};
@@ -12,65 +12,37 @@ ghost use Rattle.qm_flow.specs.inner.FirstMask.{IsFirstMask};
 ghost use Rattle.qm_flow.specs.inner.Spares.{AreSparesWide};
 ghost use Rattle.qm_flow.specs.inner.WalkSoFar.{IsWalkSoFar, IsSomeWalk};
 
-use crate::beginning::begin;
 use crate::frame_stack::FrameStack;
 use crate::pairs::Pairs;
 use crate::trying::try_portal;
 use qm_bits::BitRow;
-use qm_lines::show_by_lines;
 use qm_portal::World;
 use qm_sight::RowSource;
 use std::alloc::{AllocError, Global};
 
-/// Begins with the frame of the first portal, which may show what may be in sight of it, and with what lines show.
-pub(crate) fn begin_walk<'a, S: RowSource>(
-    alloc: Global,
-    world: &'a World,
-    source: &mut S,
-    portal: u64,
-    seen: &BitRow,
-    row: &mut BitRow,
-    stack: &mut FrameStack<'a>,
-) -> Result<(), AllocError>
-    requires portal { portal < length world.now.portals }
-    requires own_portals { HasOwnPortals world.now }
-    requires same_world { S.world source.old ≡ world.now }
-    requires wide { length seen.now ≡ length (numbered_leaves world.now.tree) }
-    requires clear { row.old ≡ replicate (length (numbered_leaves world.now.tree)) false }
-    requires fresh { IsFreshStack world.now portal stack.old }
-    ensures walk { OnOk result ((ceilings : List (List Bool)) → LieWithin (S.ceilings source.old) ceilings → IsFirstMask world.now ceilings portal seen.now →
-        IsWalk world.now (IsInCeiling ceilings) portal stack.new.frames.items row.new) }
-    ensures spares { OnOk result (AreSparesWide world.now stack.new) }
-    ensures on { S.goes_on source.old source.new }
-{
-    begin(world, portal, seen, &mut stack.next, row);
-    stack.push_next(alloc, world, portal)?;
-    show_by_lines(alloc, world, source, portal, row)?;
-    Ok(())
-}
-
-/// Goes on until no frame is left.
+/// Goes on until no frame is left, and gives the row of what is found.
 pub(crate) fn end_walk<'a, S: RowSource>(
     alloc: Global,
     world: &'a World,
     source: &mut S,
     pairs: &mut Pairs,
-    row: &mut BitRow,
+    row: BitRow,
     stack: &mut FrameStack<'a>,
-) -> Result<(), AllocError>
+) -> Result<BitRow, AllocError>
     requires own_portals { HasOwnPortals world.now }
     requires same_world { S.world source.old ≡ world.now }
-    requires walk { IsSomeWalk world.now (S.ceilings source.old) pairs.old stack.old.frames.items row.old }
+    requires walk { IsSomeWalk world.now (S.ceilings source.old) pairs.old stack.old.frames.items row }
     requires spares { AreSparesWide world.now stack.old }
-    ensures walk { OnOk result ((p : ℕ) (ceilings : List (List Bool)) → LieWithin (S.ceilings source.old) ceilings →
-        IsWalkSoFar world.now ceilings p pairs.old stack.old.frames.items row.old →
-        IsWalkSoFar world.now ceilings p pairs.new [] row.new) }
+    ensures walk { IfOk result (λ ended. (p : ℕ) (ceilings : List (List Bool)) → LieWithin (S.ceilings source.old) ceilings →
+        IsWalkSoFar world.now ceilings p pairs.old stack.old.frames.items row →
+        IsWalkSoFar world.now ceilings p pairs.new [] ended) }
     ensures on { S.goes_on source.old source.new }
 {
+    let mut row = row;
     while !stack.frames.is_empty() {
-        go_round(alloc, world, source, pairs, row, stack)?;
+        go_round(alloc, world, source, pairs, &mut row, stack)?;
     }
-    Ok(())
+    Ok(row)
 }
 
 /// One round: a portal is tried at the last frame, or none is left there.
@@ -96,10 +68,7 @@ fn go_round<'a, S: RowSource>(
 {
     let last = stack.frames.len() - 1;
     match stack.frames[last].take_next() {
-        None => {
-            stack.end_last()?;
-            Ok(())
-        }
+        None => stack.end_last(),
         Some(portal) => {
             let frame = &stack.frames[last];
             let on = try_portal(
@@ -116,8 +85,7 @@ fn go_round<'a, S: RowSource>(
             if !on {
                 return Ok(());
             }
-            stack.push_next(alloc, world, pairs.first())?;
-            Ok(())
+            stack.push_next(alloc, world, pairs.first())
         }
     }
 }

@@ -19,8 +19,8 @@ is_unseen-requires-clause-first g c = subst (λ (p : ℕ). p < length c.args.wor
 pub returns-then-not-is_unseen-clause-pairs : goal.returns-then-not-is_unseen-clause-pairs
 returns-then-not-is_unseen-clause-pairs g c found = pairs_same c.args.world.now (g.S.RowSource.ceilings c.args.source.now) found c.args.pairs.now (c.requires.pairs found)
 
-pub bar-requires : goal.bar-requires
-bar-requires g c =
+pub put-requires : goal.put-requires
+put-requires g c =
     let one = (c.requires.pairs []).own_are.one_each in
     let within = c.requires.portal in
     omega (arith, one, within)
@@ -29,5 +29,5 @@ pub returns-clause-pairs : goal.returns-clause-pairs
 returns-clause-pairs g c found =
     let one = (c.requires.pairs []).own_are.one_each in
     let within = c.requires.portal in
-    pairs_barred c.args.world.now (g.S.RowSource.ceilings c.args.source.now) c.args.pairs.now c.bar.new.self c.args.portal c.bar.ensures (omega (arith, one, within))
+    pairs_barred c.args.world.now (g.S.RowSource.ceilings c.args.source.now) c.args.pairs.now c.put.new.self c.args.portal c.leaves.result c.leaves.ensures c.put.ensures (omega (arith, one, within))
     (subst (λ (p : ℕ). IsUnseenVia c.args.world.now p c.args.portal) c.first.ensures (c.is_unseen.ensures.unseen c.if-not-is_unseen.false)) found (c.requires.pairs found)

@@ -1,16 +1,16 @@
-use Rattle.std.proofs.Common.{◌≡◌, true, [], List, Bool, ℕ, length, set, ap, ◌∙◌, subst, arith}
-use Rattle.std.proofs.lemmas.List.{nil_from_length}
+use Rattle.std.proofs.Common.{◌≡◌, true, false, [], List, Bool, ℕ, length, set, ap, ◌∙◌, subst, arith}
+use Rattle.std.proofs.lemmas.List.{nil_from_length, length-replicate}
 use Rattle.qm_lists.proofs.WorkLists.{place_within}
 use Rattle.qm_chains.specs.inner.Cone.{IsConeSoFar}
 use Rattle.qm_chains.proofs.Entering.{cone_begins, leaf_in, leaving_within, cone_more, cone_less, cone_ends}
-use Rattle.qm_flow.proofs.Pushed.{pushed_to}
+use Rattle.qm_flow.proofs.LastElements.{pushed_to}
 use Rattle.qm_flow.proofs.cone.cone_of.Goals as goal
 
 pub loop-leaf-init : goal.loop-leaf-init
 loop-leaf-init g c =
-    let wide = c.requires.row in
+    let wide = c.requires.cone in
     record {
-      so_far = cone_begins c.args.world.now c.args.pairs.now.first c.args.frame.now c.args.found.now c.args.entered (length c.args.row.now) c.set.new.self c.push.new.self.items wide (omega (arith, wide, c.requires.entered))
+      so_far = cone_begins c.args.world.now c.args.pairs.now.first c.args.frame.now c.args.found.now c.args.entered (length c.args.scratch.now.cone) c.set.new.self c.push.new.self.items wide (omega (arith, wide, c.requires.entered))
           (c.set.ensures ∙ ap (λ (row : List Bool). set row c.args.entered true) c.clear.ensures)
           (pushed_to [] c.clear-2.new.self.items c.push.new.self.items c.args.entered c.in_ok-push.ensures.items c.clear-2.ensures.items);
       on = g.met.S.RowSource.goes_on_itself c.args.source.now;
@@ -18,7 +18,7 @@ loop-leaf-init g c =
 
 pub leaving-portals-requires : goal.leaving-portals-requires
 leaving-portals-requires g c =
-    let inside = place_within c.loop-leaf.row c.in-Some.leaf (leaf_in c.args.world.now c.args.pairs.now.first c.args.frame.now c.args.found.now c.args.entered c.loop-leaf.row c.loop-leaf.row c.loop-leaf.due.items c.pop.new.self.items c.pop.new.self.items c.in-Some.leaf c.in-Some.ensures.items c.loop-leaf.invariant.so_far) in
+    let inside = place_within c.loop-leaf.scratch.cone c.in-Some.leaf (leaf_in c.args.world.now c.args.pairs.now.first c.args.frame.now c.args.found.now c.args.entered c.loop-leaf.scratch.cone c.loop-leaf.scratch.cone c.loop-leaf.scratch.due.items c.pop.new.self.items c.pop.new.self.items c.in-Some.leaf c.in-Some.ensures.items c.loop-leaf.invariant.so_far) in
     let wide = c.loop-leaf.invariant.so_far.wide in
     omega (arith, inside, wide)
 
@@ -30,18 +30,47 @@ go_on-requires-clause-same_world g c = g.met.S.RowSource.same_world c.args.sourc
 
 pub loop-leaf-preserved : goal.loop-leaf-preserved
 loop-leaf-preserved g c = record {
-  so_far = cone_more c.args.world.now c.args.pairs.now.first c.args.frame.now c.args.found.now c.args.entered c.loop-leaf.row c.go_on.new.row c.loop-leaf.due.items c.pop.new.self.items c.go_on.new.due.items c.in-Some.leaf c.in-Some.ensures.items c.loop-leaf.invariant.so_far
+  so_far = cone_more c.args.world.now c.args.pairs.now.first c.args.frame.now c.args.found.now c.args.entered c.loop-leaf.scratch.cone c.go_on.new.scratch.cone c.loop-leaf.scratch.due.items c.pop.new.self.items c.go_on.new.scratch.due.items c.in-Some.leaf c.in-Some.ensures.items c.loop-leaf.invariant.so_far
       c.leaving-portals.result.now c.leaving-portals.ensures c.in_ok-go_on.ensures.entered;
   on = g.met.S.RowSource.goes_on_in_turn c.args.source.now c.loop-leaf.source c.go_on.new.source c.loop-leaf.invariant.on c.go_on.ensures.on;
 }
 
 pub loop-leaf-smaller : goal.loop-leaf-smaller
 loop-leaf-smaller g c =
-    cone_less c.args.world.now c.args.pairs.now.first c.args.frame.now c.args.found.now c.args.entered c.loop-leaf.row c.go_on.new.row c.loop-leaf.due.items c.pop.new.self.items c.go_on.new.due.items c.in-Some.leaf c.in-Some.ensures.items c.loop-leaf.invariant.so_far
+    cone_less c.args.world.now c.args.pairs.now.first c.args.frame.now c.args.found.now c.args.entered c.loop-leaf.scratch.cone c.go_on.new.scratch.cone c.loop-leaf.scratch.due.items c.pop.new.self.items c.go_on.new.scratch.due.items c.in-Some.leaf c.in-Some.ensures.items c.loop-leaf.invariant.so_far
     c.leaving-portals.result.now c.leaving-portals.ensures c.in_ok-go_on.ensures.entered
 
 pub returns-clause-cone : goal.returns-clause-cone
 returns-clause-cone g c =
-    let none : c.loop-leaf.due.items ≡ [] = nil_from_length c.loop-leaf.due.items (omega (arith, c.loop-leaf.due.ok.0, c.in_default.ensures.cases.0)) in
-    cone_ends c.args.world.now c.args.pairs.now.first c.args.frame.now c.args.found.now c.args.entered c.loop-leaf.row
-    (subst (λ (due : List ℕ). IsConeSoFar c.args.world.now c.args.pairs.now.first c.args.frame.now c.args.found.now c.args.entered c.loop-leaf.row due) none c.loop-leaf.invariant.so_far)
+    let none : c.loop-leaf.scratch.due.items ≡ [] = nil_from_length c.loop-leaf.scratch.due.items (omega (arith, c.loop-leaf.scratch.due.ok.0, c.in_default.ensures.cases.0)) in
+    cone_ends c.args.world.now c.args.pairs.now.first c.args.frame.now c.args.found.now c.args.entered c.loop-leaf.scratch.cone
+    (subst (λ (due : List ℕ). IsConeSoFar c.args.world.now c.args.pairs.now.first c.args.frame.now c.args.found.now c.args.entered c.loop-leaf.scratch.cone due) none c.loop-leaf.invariant.so_far)
+
+-- what is asked and kept besides
+
+pub set-requires : goal.set-requires
+set-requires g c =
+    let within = c.requires.entered in
+    let wide = ap length c.clear.ensures ∙ length-replicate (length c.args.scratch.now.cone) false ∙ c.requires.cone in
+    omega (arith, within, wide)
+
+pub go_on-requires-clause-pairs : goal.go_on-requires-clause-pairs
+go_on-requires-clause-pairs g c = c.requires.pairs
+
+pub go_on-requires-clause-wide : goal.go_on-requires-clause-wide
+go_on-requires-clause-wide g c = c.requires.wide
+
+pub go_on-requires-clause-cone : goal.go_on-requires-clause-cone
+go_on-requires-clause-cone g c = c.loop-leaf.invariant.so_far.wide
+
+pub returns-in_err-push-clause-on : goal.returns-in_err-push-clause-on
+returns-in_err-push-clause-on g c = g.met.S.RowSource.goes_on_itself c.args.source.now
+
+pub returns-in_err-go_on-clause-on : goal.returns-in_err-go_on-clause-on
+returns-in_err-go_on-clause-on g c = g.met.S.RowSource.goes_on_in_turn c.args.source.now c.loop-leaf.source c.go_on.new.source c.loop-leaf.invariant.on c.go_on.ensures.on
+
+pub returns-clause-wide : goal.returns-clause-wide
+returns-clause-wide g c = c.loop-leaf.invariant.so_far.wide
+
+pub returns-clause-on : goal.returns-clause-on
+returns-clause-on g c = c.loop-leaf.invariant.on

@@ -6,10 +6,10 @@ use Rattle.qm_flow.proofs.cone.cone_of.Given as goal
 -- the cone so far, and the source goes on from what it was
 abbrev pub invariant-loop-leaf : goal.invariant-loop-leaf
 invariant-loop-leaf g l = record {
-  so_far : IsConeSoFar l.world l.pairs.first l.frame l.found l.entered l.row l.due.items;
+  so_far : IsConeSoFar l.world l.pairs.first l.frame l.found l.entered l.scratch.cone l.scratch.due.items;
   on : g.S.RowSource.goes_on l.fn.source l.source;
 }
 
 -- each leaf that is entered is due once
 abbrev pub decreases-loop-leaf : goal.decreases-loop-leaf
-decreases-loop-leaf g l = count_by not l.row + length l.due.items
+decreases-loop-leaf g l = count_by not l.scratch.cone + length l.scratch.due.items

@@ -7,15 +7,15 @@ use Rattle.qm_flow.proofs.cone.go_on.Goals as goal
 
 pub loop-portal-init : goal.loop-portal-init
 loop-portal-init g c = record {
-  entered = none_entered (LeadsInto c.args.world.now c.args.pairs.now.first c.args.frame.now c.args.found.now []) c.args.row.now c.args.due.now.items (λ to leads. absurd (into_none c.args.world.now c.args.pairs.now.first c.args.frame.now c.args.found.now to leads));
+  entered = none_entered (LeadsInto c.args.world.now c.args.pairs.now.first c.args.frame.now c.args.found.now []) c.args.scratch.now.cone c.args.scratch.now.due.items (λ to leads. absurd (into_none c.args.world.now c.args.pairs.now.first c.args.frame.now c.args.found.now to leads));
   on = g.met.S.RowSource.goes_on_itself c.args.source.now;
 }
 
 pub enter-requires-clause-same_world : goal.enter-requires-clause-same_world
 enter-requires-clause-same_world g c = g.met.S.RowSource.same_world c.args.source.now c.loop-portal.source c.loop-portal.invariant.on ∙ c.requires.same_world
 
-pub enter-requires-clause-row : goal.enter-requires-clause-row
-enter-requires-clause-row g c = c.loop-portal.invariant.entered.same_length ∙ c.requires.row
+pub enter-requires-clause-cone : goal.enter-requires-clause-cone
+enter-requires-clause-cone g c = c.loop-portal.invariant.entered.same_length ∙ c.requires.cone
 
 pub loop-portal-preserved : goal.loop-portal-preserved
 loop-portal-preserved g c =
@@ -27,17 +27,17 @@ loop-portal-preserved g c =
     let number = get_or c.args.portals.now c.loop-portal.portal-index 0 in
     record {
       entered =
-          subst (λ (numbers : List ℕ). AreEntered (LeadsInto world first frame found numbers) c.args.row.now c.enter.new.row c.args.due.now.items c.enter.new.due.items)
+          subst (λ (numbers : List ℕ). AreEntered (LeadsInto world first frame found numbers) c.args.scratch.now.cone c.enter.new.scratch.cone c.args.scratch.now.due.items c.enter.new.scratch.due.items)
           (sym (take-read c.args.portals.now c.loop-portal.portal-index number c.loop-portal-test.true (get_or_default c.args.portals.now c.loop-portal.portal-index 0 number c.loop-portal-test.true)))
           (then_entered (LeadsInto world first frame found before) (LeadsInto world first frame found (number ∷ [])) (LeadsInto world first frame found (before ++ number ∷ []))
-          c.args.row.now c.loop-portal.row c.enter.new.row c.args.due.now.items c.loop-portal.due.items c.enter.new.due.items
+          c.args.scratch.now.cone c.loop-portal.scratch.cone c.enter.new.scratch.cone c.args.scratch.now.due.items c.loop-portal.scratch.due.items c.enter.new.scratch.due.items
           (into_cases world first frame found before number) c.loop-portal.invariant.entered c.in_ok-enter.ensures.entered);
       on = g.met.S.RowSource.goes_on_in_turn c.args.source.now c.loop-portal.source c.enter.new.source c.loop-portal.invariant.on c.enter.ensures.on;
     }
 
 pub returns-clause-entered : goal.returns-clause-entered
 returns-clause-entered g c =
-    subst (λ (numbers : List ℕ). AreEntered (LeadsInto c.args.world.now c.args.pairs.now.first c.args.frame.now c.args.found.now numbers) c.args.row.now c.loop-portal.row c.args.due.now.items c.loop-portal.due.items)
+    subst (λ (numbers : List ℕ). AreEntered (LeadsInto c.args.world.now c.args.pairs.now.first c.args.frame.now c.args.found.now numbers) c.args.scratch.now.cone c.loop-portal.scratch.cone c.args.scratch.now.due.items c.loop-portal.scratch.due.items)
     (take_all c.loop-portal.portal-index c.args.portals.now c.loop-portal-test.false) c.loop-portal.invariant.entered
 
 pub enter-requires-clause-portal : goal.enter-requires-clause-portal

@@ -1,65 +1,104 @@
-use Rattle.std.proofs.Common.{ℕ, List, Bool, [], length, ap, sym, ◌∙◌, subst}
+use Rattle.std.proofs.Common.{◌≡◌, ◌<◌, ⊎_elim, ℕ, List, Bool, true, false, [], length, replicate, ap, sym, ◌∙◌, subst}
+use Rattle.std.proofs.lemmas.Result.{IfOk-weaker}
+use Rattle.std.proofs.lemmas.List.{length-replicate, length-set}
+use Rattle.qm_chains.specs.inner.Cone.{with_mask}
 use Rattle.qm_sight.specs.WordInSight.{LieWithin}
-use Rattle.qm_sight.specs.InCeiling.{IsInCeiling}
+use Rattle.qm_flow.specs.declared.frame_stack.FrameStack.{FrameStack}
 use Rattle.qm_flow.specs.inner.FirstMask.{IsFirstMask}
+use Rattle.qm_flow.specs.inner.Spares.{AreSparesWide}
 use Rattle.qm_flow.specs.inner.WalkSoFar.{IsWalkSoFar, HasEnded}
-use Rattle.std.proofs.lemmas.Result.{on_ok_weaker}
-use Rattle.qm_flow.proofs.OwnAnswers.{fresh_within}
+use Rattle.qm_flow.proofs.BegunWalks.{first_pushed, first_begun, rounds_begin}
 use Rattle.qm_flow.proofs.flowing.walk.Goals as goal
 
-pub begin_walk-requires-clause-wide : goal.begin_walk-requires-clause-wide
-begin_walk-requires-clause-wide g c = ap length c.seen.ensures ∙ (c.requires.begun.are []).seen_wide
+pub copy-requires : goal.copy-requires
+copy-requires g c = ap length c.seen.ensures ∙ (c.requires.begun.are []).seen_wide ∙ sym (ap (λ (stack : FrameStack). length stack.next.mask) c.stack.view_is ∙ c.requires.fresh.first.mask_wide)
+
+pub push_next-requires-clause-spares : goal.push_next-requires-clause-spares
+push_next-requires-clause-spares g c =
+    let world = c.args.world.now in
+    let spares = c.requires.fresh.spares in
+    subst (λ (stack : FrameStack). AreSparesWide world (record { frames = stack.frames; next = with_mask c.copy.new.row stack.next; ended = stack.ended; scratch = stack.scratch })) (sym c.stack.view_is)
+    (record {
+      next_is = record { met = spares.next_is.met; mask = ap length (c.copy.ensures ∙ c.seen.ensures) ∙ (c.requires.begun.are []).seen_wide; found = spares.next_is.found };
+      ended_are = spares.ended_are;
+    })
+
+pub find-requires-clause-row : goal.find-requires-clause-row
+find-requires-clause-row g c =
+    let clear : length {A = Bool} (replicate c.leaves.result false) ≡ c.leaves.result = length-replicate c.leaves.result false in
+    subst (λ (n : ℕ). c.to.result < n) (sym (ap length c.in_ok-row.ensures ∙ clear ∙ c.leaves.ensures)) c.to.ensures.within
+
+pub find-requires-clause-mask : goal.find-requires-clause-mask
+find-requires-clause-mask g c = subst (λ (n : ℕ). c.to.result < n) (sym (ap length c.seen-2.ensures ∙ (c.requires.begun.are []).seen_wide)) c.to.ensures.within
+
+pub show_by_lines-requires-clause-row : goal.show_by_lines-requires-clause-row
+show_by_lines-requires-clause-row g c =
+    let clear : length {A = Bool} (replicate c.leaves.result false) ≡ c.leaves.result = length-replicate c.leaves.result false in
+    let wide = ap length c.in_ok-row.ensures ∙ clear ∙ c.leaves.ensures in
+    ⊎_elim (λ it. ap length it.1 ∙ length-set c.in_ok-row.row c.to.result true ∙ wide) (λ kept. ap length kept.1 ∙ wide) c.find.ensures
 
 pub bar_unseen-requires-clause-same_world : goal.bar_unseen-requires-clause-same_world
-bar_unseen-requires-clause-same_world g c = g.met.S.RowSource.same_world c.args.source.now c.begin_walk.new.source c.begin_walk.ensures.on ∙ c.requires.same_world
+bar_unseen-requires-clause-same_world g c = g.met.S.RowSource.same_world c.args.source.now c.show_by_lines.new.source c.show_by_lines.ensures.on ∙ c.requires.same_world
 
 pub bar_unseen-requires-clause-pairs : goal.bar_unseen-requires-clause-pairs
 bar_unseen-requires-clause-pairs g c = c.requires.begun.are
 
 pub end_walk-requires-clause-same_world : goal.end_walk-requires-clause-same_world
-end_walk-requires-clause-same_world g c = g.met.S.RowSource.same_world c.begin_walk.new.source c.bar_unseen.new.source c.bar_unseen.ensures.on
-    ∙ g.met.S.RowSource.same_world c.args.source.now c.begin_walk.new.source c.begin_walk.ensures.on ∙ c.requires.same_world
+end_walk-requires-clause-same_world g c = g.met.S.RowSource.same_world c.show_by_lines.new.source c.bar_unseen.new.source c.bar_unseen.ensures.on
+    ∙ g.met.S.RowSource.same_world c.args.source.now c.show_by_lines.new.source c.show_by_lines.ensures.on ∙ c.requires.same_world
 
 pub end_walk-requires-clause-walk : goal.end_walk-requires-clause-walk
 end_walk-requires-clause-walk g c =
     let world = c.args.world.now in
+    let now = g.S.RowSource.ceilings c.args.source.now in
     let seen = c.requires.seen in
-    let on = g.met.S.RowSource.narrower c.args.source.now c.begin_walk.new.source c.begin_walk.ensures.on in
-    let both = g.met.S.RowSource.narrower c.args.source.now c.bar_unseen.new.source (g.met.S.RowSource.goes_on_in_turn c.args.source.now c.begin_walk.new.source c.bar_unseen.new.source c.begin_walk.ensures.on c.bar_unseen.ensures.on) in
-    let barred = c.bar_unseen.ensures.pairs c.begin_walk.new.row in
+    let lines = g.met.S.RowSource.narrower c.args.source.now c.show_by_lines.new.source c.show_by_lines.ensures.on in
+    let both = g.met.S.RowSource.narrower c.args.source.now c.bar_unseen.new.source (g.met.S.RowSource.goes_on_in_turn c.args.source.now c.show_by_lines.new.source c.bar_unseen.new.source c.show_by_lines.ensures.on c.bar_unseen.ensures.on) in
+    let frame = with_mask c.copy.new.row c.args.stack.now.next in
     record {
       p = c.args.portal;
       ceilings = seen.ceilings;
       below = λ place n is. seen.below place n (both place n is);
-      so_far = record {
-        walk = c.in_ok-begin_walk.ensures.walk seen.ceilings seen.below (subst (IsFirstMask world seen.ceilings c.args.portal) (sym c.seen.ensures) seen.mask);
-        pairs_are = barred.are;
-        first = barred.same_first ∙ c.requires.begun.first_is;
-        within = barred.within seen.ceilings (λ place n is. seen.below place n (on place n is))
-            (fresh_within c.args.pairs.now.own (length world.portals) c.requires.begun.no_rows (IsInCeiling seen.ceilings));
-      };
+      so_far = rounds_begin world seen.ceilings now (g.S.RowSource.ceilings c.show_by_lines.new.source) c.args.portal frame c.push_next.new.self.frames.items c.find.new.row c.show_by_lines.new.row c.args.pairs.now c.bar_unseen.new.pairs
+          (first_pushed _ c.args.stack.now c.copy.new.row c.push_next.new.self.frames.items c.stack.view_is c.in_ok-push_next.ensures.frames c.requires.fresh.none) seen.below lines
+          (first_begun world c.requires.own_portals seen.ceilings c.args.portal c.args.stack.now.next c.requires.fresh.first c.copy.new.row c.seen-2.result.now c.in_ok-row.row c.find.new.row c.to.result
+          (c.copy.ensures ∙ c.seen.ensures ∙ sym c.seen-2.ensures) (subst (IsFirstMask world seen.ceilings c.args.portal) (sym c.seen-2.ensures) seen.mask)
+          (c.in_ok-row.ensures ∙ ap (λ (n : ℕ). replicate n false) c.leaves.ensures) c.to.ensures.value c.find.ensures) c.in_ok-show_by_lines.ensures.shown
+          c.requires.begun (c.bar_unseen.ensures.pairs c.show_by_lines.new.row);
     }
+
+pub end_walk-requires-clause-spares : goal.end_walk-requires-clause-spares
+end_walk-requires-clause-spares g c = c.in_ok-push_next.ensures.spares
+
+pub returns-in_err-push_next-clause-on : goal.returns-in_err-push_next-clause-on
+returns-in_err-push_next-clause-on g c = g.met.S.RowSource.goes_on_itself c.args.source.now
+
+pub returns-in_err-row-clause-on : goal.returns-in_err-row-clause-on
+returns-in_err-row-clause-on g c = g.met.S.RowSource.goes_on_itself c.args.source.now
+
+pub returns-in_err-show_by_lines-clause-on : goal.returns-in_err-show_by_lines-clause-on
+returns-in_err-show_by_lines-clause-on g c = c.show_by_lines.ensures.on
 
 pub returns-clause-walk : goal.returns-clause-walk
 returns-clause-walk g c =
     let world = c.args.world.now in
-    let on = g.met.S.RowSource.narrower c.args.source.now c.begin_walk.new.source c.begin_walk.ensures.on in
-    let both = g.met.S.RowSource.narrower c.args.source.now c.bar_unseen.new.source (g.met.S.RowSource.goes_on_in_turn c.args.source.now c.begin_walk.new.source c.bar_unseen.new.source c.begin_walk.ensures.on c.bar_unseen.ensures.on) in
-    let barred = c.bar_unseen.ensures.pairs c.begin_walk.new.row in
-    let frames = c.begin_walk.new.stack.frames.items in
-    on_ok_weaker {P = (p : ℕ) (ceilings : List (List Bool)) → LieWithin (g.S.RowSource.ceilings c.bar_unseen.new.source) ceilings → IsWalkSoFar world ceilings p c.bar_unseen.new.pairs frames c.begin_walk.new.row →
-    IsWalkSoFar world ceilings p c.end_walk.new.pairs [] c.end_walk.new.row}
-    {Q = (ceilings : List (List Bool)) → LieWithin (g.S.RowSource.ceilings c.args.source.now) ceilings → IsFirstMask world ceilings c.args.portal c.args.pairs.now.seen → HasEnded world ceilings c.args.portal c.end_walk.new.row} c.end_walk.result
-    (λ all ceilings below mask. (all c.args.portal ceilings (λ place n is. below place n (both place n is)) (record {
-      walk = c.in_ok-begin_walk.ensures.walk ceilings below (subst (IsFirstMask world ceilings c.args.portal) (sym c.seen.ensures) mask);
-      pairs_are = barred.are;
-      first = barred.same_first ∙ c.requires.begun.first_is;
-      within = barred.within ceilings (λ place n is. below place n (on place n is))
-          (fresh_within c.args.pairs.now.own (length world.portals) c.requires.begun.no_rows (IsInCeiling ceilings));
-    })).walk)
+    let now = g.S.RowSource.ceilings c.args.source.now in
+    let lines = g.met.S.RowSource.narrower c.args.source.now c.show_by_lines.new.source c.show_by_lines.ensures.on in
+    let both = g.met.S.RowSource.narrower c.args.source.now c.bar_unseen.new.source (g.met.S.RowSource.goes_on_in_turn c.args.source.now c.show_by_lines.new.source c.bar_unseen.new.source c.show_by_lines.ensures.on c.bar_unseen.ensures.on) in
+    let frame = with_mask c.copy.new.row c.args.stack.now.next in
+    IfOk-weaker c.end_walk.result (λ row. (p : ℕ) (ceilings : List (List Bool)) → LieWithin (g.S.RowSource.ceilings c.bar_unseen.new.source) ceilings → IsWalkSoFar world ceilings p c.bar_unseen.new.pairs c.push_next.new.self.frames.items c.show_by_lines.new.row →
+    IsWalkSoFar world ceilings p c.end_walk.new.pairs [] row)
+    (λ row. (ceilings : List (List Bool)) → LieWithin now ceilings → IsFirstMask world ceilings c.args.portal c.args.pairs.now.seen → HasEnded world ceilings c.args.portal row)
+    (λ row all ceilings below mask. (all c.args.portal ceilings (λ place n is. below place n (both place n is))
+    (rounds_begin world ceilings now (g.S.RowSource.ceilings c.show_by_lines.new.source) c.args.portal frame c.push_next.new.self.frames.items c.find.new.row c.show_by_lines.new.row c.args.pairs.now c.bar_unseen.new.pairs
+    (first_pushed _ c.args.stack.now c.copy.new.row c.push_next.new.self.frames.items c.stack.view_is c.in_ok-push_next.ensures.frames c.requires.fresh.none) below lines
+    (first_begun world c.requires.own_portals ceilings c.args.portal c.args.stack.now.next c.requires.fresh.first c.copy.new.row c.seen-2.result.now c.in_ok-row.row c.find.new.row c.to.result
+    (c.copy.ensures ∙ c.seen.ensures ∙ sym c.seen-2.ensures) (subst (IsFirstMask world ceilings c.args.portal) (sym c.seen-2.ensures) mask)
+    (c.in_ok-row.ensures ∙ ap (λ (n : ℕ). replicate n false) c.leaves.ensures) c.to.ensures.value c.find.ensures) c.in_ok-show_by_lines.ensures.shown
+    c.requires.begun (c.bar_unseen.ensures.pairs c.show_by_lines.new.row))).walk)
     c.end_walk.ensures.walk
 
 pub returns-clause-on : goal.returns-clause-on
 returns-clause-on g c =
     g.met.S.RowSource.goes_on_in_turn c.args.source.now c.bar_unseen.new.source c.end_walk.new.source
-    (g.met.S.RowSource.goes_on_in_turn c.args.source.now c.begin_walk.new.source c.bar_unseen.new.source c.begin_walk.ensures.on c.bar_unseen.ensures.on) c.end_walk.ensures.on
+    (g.met.S.RowSource.goes_on_in_turn c.args.source.now c.show_by_lines.new.source c.bar_unseen.new.source c.show_by_lines.ensures.on c.bar_unseen.ensures.on) c.end_walk.ensures.on

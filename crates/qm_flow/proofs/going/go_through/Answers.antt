@@ -1,27 +1,25 @@
 use Rattle.std.proofs.Common.{◌≡◌, ◌⊎◌, ◌<◌, ℕ, true, List, Option, Bool, length, set, sym, ap, ◌∙◌, subst, arith, ⊎_elim}
 use Rattle.std.specs.Bool.{then_some}
-use Rattle.qm_space.specs.Plane.{Plane}
+use Rattle.std.proofs.lemmas.Result.{IfOk-weaker}
 use Rattle.qm_lists.specs.WorkList.{IsIn}
-use Rattle.qm_convex.specs.Winding.{Winding}
-use Rattle.qm_separators.specs.ChainState.{ChainState}
-use Rattle.qm_separators.specs.ChainStep.{Blocks, LeadsTo}
-use Rattle.qm_separators.specs.PortalSteps.{GoesOn}
-use Rattle.qm_contacts.specs.Portals.{Portal}
 use Rattle.qm_contacts.specs.World.{World, AreLeaving}
 use Rattle.qm_chains.specs.inner.Cone.{IsLeftOf}
-use Rattle.qm_chains.specs.inner.Frame.{Frame, blocked}
+use Rattle.qm_chains.specs.inner.Frame.{Frame, put_back, EndsChain, blocked}
 use Rattle.qm_chains.specs.inner.Narrowing.{IsNarrowed}
 use Rattle.qm_chains.specs.inner.OwnRows.{AreOwnRows, MustHave, CanHave}
+use Rattle.qm_chains.specs.inner.Pairs.{LieWithinPairs}
+use Rattle.qm_chains.specs.inner.Walk.{IsTried}
 use Rattle.qm_chains.specs.inner.Wanted.{IsWantedVia}
 use Rattle.qm_chains.proofs.Narrowing.{narrowed_as}
 use Rattle.qm_chains.proofs.PairRows.{wanted_answered, can_within, pairs_stay}
-use Rattle.qm_chains.proofs.TriedPortals.{same_portal, tried_stopped}
+use Rattle.qm_chains.proofs.TriedPortals.{tried_stopped}
 use Rattle.qm_chains.proofs.Cones.{tried_on_left}
-use Rattle.qm_sight.specs.WordInSight.{ceiling_of}
+use Rattle.qm_sight.specs.WordInSight.{ceiling_of, LieWithin}
 use Rattle.qm_sight.specs.InCeiling.{IsInCeiling}
 use Rattle.std.proofs.lemmas.List.{length-set}
 use Rattle.qm_contacts.specs.NumberedLeaves.{numbered_leaves}
 use Rattle.qm_flow.proofs.Copies.{found_stays}
+use Rattle.qm_flow.proofs.Panes.{steps_on, blocked_there}
 use Rattle.qm_flow.proofs.going.go_through.Goals as goal
 
 pub narrow-requires-clause-portal : goal.narrow-requires-clause-portal
@@ -46,16 +44,12 @@ pub returns-then-not-leads-clause-tried : goal.returns-then-not-leads-clause-tri
 returns-then-not-leads-clause-tried g c ceilings lie within ends =
     let pane = c.pane-pane.ensures in
     tried_stopped c.args.world.now c.requires.own_portals (IsInCeiling ceilings) c.args.pairs.now.first c.args.frame.now c.args.portal c.args.row.now pane.0 pane.1
-    (blocked
-    (subst (λ (h : Plane). Blocks c.args.frame.now.state pane.0.winding h) pane.3
-    (subst (λ (w : Winding). Blocks c.args.frame.now.state w c.pane-pane.result.now.into) pane.2
-    (subst (λ (state : ChainState). Blocks state c.pane-pane.result.now.winding c.pane-pane.result.now.into) (ap (λ (f : Frame). f.state) c.frame.view_is)
-    (c.in_ok-leads.ensures.blocks c.if-not-leads.true)))))
+    (blocked (blocked_there c.args.world.now.portals c.args.portal c.pane-pane.result.now.winding c.pane-pane.result.now.into pane c.frame.inside.state c.args.frame.now.state (ap (λ (f : Frame). f.state) c.frame.view_is)
+    (c.in_ok-leads.ensures.blocks c.if-not-leads.true)))
 
 pub returns-clause-tried : goal.returns-clause-tried
-returns-clause-tried g c ceilings lie lie_own ends =
+returns-clause-tried g c =
     let q = c.to-entered.ensures.value in
-    let pane = c.pane-pane.ensures in
     let frame = c.args.frame.now in
     let ceiling = ceiling_of (g.S.RowSource.ceilings c.args.source.now) c.args.portal in
     let world = c.args.world.now in
@@ -64,14 +58,13 @@ returns-clause-tried g c ceilings lie lie_own ends =
     let narrowed_here = subst (λ (w : World). IsNarrowed (MustHave w c.own.result.now portal) (CanHave ceiling c.own.result.now portal) c.copy.new.row c.narrow.new.mask) c.requires.same_world c.narrow.ensures.narrowed in
     let narrowed_own = subst (λ (own : List (Option (List Bool))). IsNarrowed (MustHave world own portal) (CanHave ceiling own portal) c.copy.new.row c.narrow.new.mask) c.own.ensures narrowed_here in
     let narrowed_row = subst (λ (row : List Bool). IsNarrowed (MustHave world pairs.own portal) (CanHave ceiling pairs.own portal) row c.narrow.new.mask) (c.copy.ensures ∙ ap (λ (f : Frame). f.mask) c.frame.view_is) narrowed_own in
-    let narrowed = narrowed_as (MustHave world pairs.own portal) (CanHave ceiling pairs.own portal) (IsWantedVia world pairs.first c.args.row.now portal) (λ n. IsInCeiling ceilings n portal) frame.mask c.narrow.new.mask
+    let Goal = λ (on : Bool). (ceilings : List (List Bool)) → LieWithin (g.S.RowSource.ceilings c.args.source.now) ceilings → LieWithinPairs (IsInCeiling ceilings) pairs.own →
+    EndsChain world (IsInCeiling ceilings) pairs.first (put_back portal frame) → IsTried world (IsInCeiling ceilings) pairs.first frame portal c.args.row.now c.find.new.row (then_some on c.left_of.new.frame) in
+    let narrowed = λ (ceilings : List (List Bool)) (lie : LieWithin (g.S.RowSource.ceilings c.args.source.now) ceilings) (lie_own : LieWithinPairs (IsInCeiling ceilings) pairs.own). narrowed_as (MustHave world pairs.own portal) (CanHave ceiling pairs.own portal) (IsWantedVia world pairs.first c.args.row.now portal) (λ n. IsInCeiling ceilings n portal) frame.mask c.narrow.new.mask
     (wanted_answered world c.args.row.now pairs c.requires.pairs portal)
     (λ n can. can_within (IsInCeiling ceilings) ceiling pairs.own portal n (λ m has. lie portal m has) lie_own can) narrowed_row in
-    let step = subst (λ (portal : Portal). GoesOn frame.state portal c.step_into.new.spare) (same_portal c.args.world.now.portals c.args.portal pane.0 q.0 pane.1 q.1)
-    (subst (λ (h : Plane). LeadsTo frame.state pane.0.winding h c.step_into.new.spare) pane.3
-    (subst (λ (w : Winding). LeadsTo frame.state w c.pane-pane.result.now.into c.step_into.new.spare) pane.2
-    (subst (λ (state : ChainState). LeadsTo state c.pane-pane.result.now.winding c.pane-pane.result.now.into c.step_into.new.spare) (ap (λ (f : Frame). f.state) c.frame.view_is)
-    (c.in_ok-leads.ensures.leads c.if-not-leads.false)))) in
+    let step = steps_on world.portals portal c.pane-pane.result.now.winding c.pane-pane.result.now.into c.pane-pane.ensures c.frame.inside.state frame.state (ap (λ (f : Frame). f.state) c.frame.view_is) q.0 q.1 c.step_into.new.spare
+    (c.in_ok-leads.ensures.leads c.if-not-leads.false) in
     let same_met = c.copy-2.ensures ∙ ap (λ (f : Frame). f.met) c.frame.view_is in
     let met_is = c.set.ensures ∙ ap (λ (row : List Bool). set row c.to-entered.result true) same_met ∙ ap (λ (n : ℕ). set frame.met n true) q.2 in
     let within = c.to-entered.ensures.within in
@@ -79,15 +72,17 @@ returns-clause-tried g c ceilings lie lie_own ends =
     let row_wide = c.requires.wide.found in
     let is = q.2 in
     let child : Frame = record { state = c.step_into.new.spare; untried = c.leaving-next-inside.result.now; met = c.set.new.self; mask = c.narrow.new.mask } in
-    tried_on_left c.args.world.now c.requires.own_portals (IsInCeiling ceilings) pairs.first frame c.args.portal c.args.row.now q.0 q.1
-    child (λ n. IsInCeiling ceilings n portal) narrowed (λ n has. has) ends step
+    IfOk-weaker c.left_of.result (λ left. IsLeftOf world pairs.first child c.find.new.row c.to-entered.result (then_some left c.left_of.new.frame)) Goal
+    (λ left its ceilings lie lie_own ends. tried_on_left c.args.world.now c.requires.own_portals (IsInCeiling ceilings) pairs.first frame c.args.portal c.args.row.now q.0 q.1
+    child (λ n. IsInCeiling ceilings n portal) (narrowed ceilings lie lie_own) (λ n has. has) ends step
     (c.requires.new q.0 q.1)
     (omega (arith, within, met_wide, is)) met_is
     (subst (λ (n : ℕ). AreLeaving c.args.world.now.portals n c.leaving-next-inside.result.now) q.2 c.leaving-next-inside.ensures)
     (omega (arith, within, row_wide, is)) c.find.new.row
     (subst (λ (n : ℕ). (IsIn c.narrow.new.mask n × (c.find.new.row ≡ set c.args.row.now n true)) ⊎ ((IsIn c.narrow.new.mask n → ⊥) × (c.find.new.row ≡ c.args.row.now))) q.2 c.find.ensures)
-    (then_some c.in_ok-left.left c.left_of.new.frame)
-    (subst (λ (n : ℕ). IsLeftOf world pairs.first child c.find.new.row n (then_some c.in_ok-left.left c.left_of.new.frame)) q.2 c.in_ok-left.ensures.left)
+    (then_some left c.left_of.new.frame)
+    (subst (λ (n : ℕ). IsLeftOf world pairs.first child c.find.new.row n (then_some left c.left_of.new.frame)) q.2 its))
+    c.left_of.ensures.left
 
 pub returns-clause-stays : goal.returns-clause-stays
 returns-clause-stays g c =
@@ -95,17 +90,8 @@ returns-clause-stays g c =
     let wide = c.requires.wide.found in
     found_stays c.args.row.now c.find.new.row c.narrow.new.mask c.to-entered.result (omega (arith, within, wide)) c.find.ensures
 
-pub returns-in_err-left-clause-stays : goal.returns-in_err-left-clause-stays
-returns-in_err-left-clause-stays g c =
-    let within = c.to-entered.ensures.within in
-    let wide = c.requires.wide.found in
-    found_stays c.args.row.now c.find.new.row c.narrow.new.mask c.to-entered.result (omega (arith, within, wide)) c.find.ensures
-
 pub left_of-requires-clause-same_world : goal.left_of-requires-clause-same_world
 left_of-requires-clause-same_world g c = g.met.S.RowSource.same_world c.args.source.now c.narrow.new.source c.narrow.ensures.on ∙ c.requires.same_world
-
-pub returns-in_err-left-clause-on : goal.returns-in_err-left-clause-on
-returns-in_err-left-clause-on g c = g.met.S.RowSource.goes_on_in_turn c.args.source.now c.narrow.new.source c.left_of.new.source c.narrow.ensures.on c.left_of.ensures.on
 
 pub returns-clause-on : goal.returns-clause-on
 returns-clause-on g c = g.met.S.RowSource.goes_on_in_turn c.args.source.now c.narrow.new.source c.left_of.new.source c.narrow.ensures.on c.left_of.ensures.on
@@ -168,4 +154,4 @@ pub returns-in_err-leads-clause-on : goal.returns-in_err-leads-clause-on
 returns-in_err-leads-clause-on g c = g.met.S.RowSource.goes_on_itself c.args.source.now
 
 pub returns-clause-spares : goal.returns-clause-spares
-returns-clause-spares g c = c.in_ok-left.ensures.spares
+returns-clause-spares g c = c.left_of.ensures.spares

@@ -1,8 +1,11 @@
-use Rattle.std.proofs.Common.{ap, arith}
-use Rattle.qm_chains.specs.inner.Pairs.{Pairs}
+use Rattle.std.proofs.Common.{◌≡◌, ℕ, false, List, Bool, length, replicate, sym, ap, ◌∙◌, subst, arith}
+use Rattle.std.proofs.lemmas.List.{length-replicate}
+use Rattle.qm_lists.specs.WorkList.{IsIn}
+use Rattle.qm_chains.specs.inner.Pairs.{Pairs, IsPairRow}
 use Rattle.qm_chains.proofs.PairRows.{pairs_more, within_more, can_within}
 use Rattle.qm_sight.specs.WordInSight.{ceiling_of}
 use Rattle.qm_sight.specs.InCeiling.{IsInCeiling}
+use Rattle.qm_flow.proofs.Copies.{union_with_clear}
 use Rattle.qm_flow.proofs.pairing.pair.Goals as goal
 
 pub put-requires : goal.put-requires
@@ -11,6 +14,9 @@ put-requires g c =
     let within = c.requires.portal in
     omega (arith, one, within)
 
+pub or_row-requires : goal.or_row-requires
+or_row-requires g c = c.in_ok-cone_of_pair.ensures.spares.found ∙ sym (ap length c.in_ok-row.ensures ∙ length-replicate c.leaves.result false ∙ c.leaves.ensures)
+
 pub returns-clause-pairs : goal.returns-clause-pairs
 returns-clause-pairs g c =
     let world = c.args.world.now in
@@ -18,10 +24,13 @@ returns-clause-pairs g c =
     let found = c.args.found.now in
     let one = c.requires.pairs.own_are.one_each in
     let inside = c.requires.portal in
+    let cone = c.cone_of_pair.new.scratch.cone in
+    let wide = c.in_ok-cone_of_pair.ensures.spares.found in
+    let same : c.or_row.new.self ≡ cone = union_with_clear cone c.in_ok-row.row c.or_row.new.self (c.in_ok-row.ensures ∙ ap (λ (n : ℕ). replicate n false) (c.leaves.ensures ∙ sym wide)) c.or_row.ensures in
     record {
       same_first = ap (λ (p : Pairs). p.first) c.put.ensures;
-      are = pairs_more world found old c.args.portal c.fill_row.new.row c.put.new.self c.put.ensures (omega (arith, one, inside)) c.requires.pairs c.in_ok-fill_row.ensures.wide c.in_ok-fill_row.ensures.has;
+      are = pairs_more world found old c.args.portal c.or_row.new.self c.put.new.self c.put.ensures (omega (arith, one, inside)) c.requires.pairs (ap length same ∙ wide) (subst (IsPairRow world old.first found c.args.portal) (sym same) c.in_ok-cone_of_pair.ensures.has);
       within = λ ceilings lie within.
-          within_more world found old c.args.portal c.fill_row.new.row c.put.new.self c.put.ensures (omega (arith, one, inside)) (IsInCeiling ceilings) within
-          (λ n is. can_within (IsInCeiling ceilings) (ceiling_of (g.S.RowSource.ceilings c.args.source.now) c.args.portal) old.own c.args.portal n (λ m has. lie c.args.portal m has) within (c.in_ok-fill_row.ensures.within n is));
+          within_more world found old c.args.portal c.or_row.new.self c.put.new.self c.put.ensures (omega (arith, one, inside)) (IsInCeiling ceilings) within
+          (λ n is. can_within (IsInCeiling ceilings) (ceiling_of (g.S.RowSource.ceilings c.args.source.now) c.args.portal) old.own c.args.portal n (λ m has. lie c.args.portal m has) within (c.in_ok-cone_of_pair.ensures.within n (subst (λ (row : List Bool). IsIn row n) same is)));
     }

@@ -1,67 +1,44 @@
-use Rattle.std.proofs.Common.{◌≡◌, ℕ, true, false, get_or, sym, ap, ◌∙◌, subst, length, arith}
+use Rattle.std.proofs.Common.{ℕ, Bool, List, sym, ◌∙◌, subst}
 use Rattle.std.specs.Bool.{then_some}
-use Rattle.qm_chains.specs.inner.Frame.{Frame, put_back, EndsChain}
-use Rattle.qm_chains.specs.inner.Walk.{IsTried}
-use Rattle.qm_contacts.specs.Portals.{Portal}
-use Rattle.qm_chains.proofs.TriedPortals.{same_portal, tried_met}
+use Rattle.std.proofs.lemmas.Result.{IfOk-weaker, on_ok_weaker}
+use Rattle.qm_chains.specs.inner.Frame.{put_back, EndsChain}
+use Rattle.qm_chains.specs.inner.Pairs.{LieWithinPairs}
+use Rattle.qm_chains.specs.inner.Walk.{AreWide, IsTried}
+use Rattle.qm_chains.proofs.TriedPortals.{tried_not_led}
+use Rattle.qm_sight.specs.WordInSight.{LieWithin}
 use Rattle.qm_sight.specs.InCeiling.{IsInCeiling}
-use Rattle.qm_flow.proofs.PairsKept.{pairs_same, pairs_found}
+use Rattle.qm_flow.specs.inner.PairsGoOn.{PairsGoOn}
+use Rattle.qm_flow.proofs.PairsKept.{pairs_same, pairs_later, pairs_found}
 use Rattle.qm_flow.proofs.trying.try_portal.Goals as goal
 
-pub returns-then-get-clause-tried : goal.returns-then-get-clause-tried
-returns-then-get-clause-tried g c ceilings lie within ends =
-    let q = c.to.ensures.value in
-    let frame = c.args.frame.now in
-    tried_met c.args.world.now c.requires.own_portals (IsInCeiling ceilings) c.args.pairs.now.first frame c.args.portal c.args.row.now q.0 q.1
-    (sym (c.get.ensures ∙ ap (λ (f : Frame). get_or f.met c.to.result false) c.frame.view_is ∙ ap (λ (n : ℕ). get_or frame.met n false) q.2) ∙ c.if-get.true)
+pub returns-then-not-may_lead_on-clause-tried : goal.returns-then-not-may_lead_on-clause-tried
+returns-then-not-may_lead_on-clause-tried g c ceilings lie within ends =
+    tried_not_led c.args.world.now (IsInCeiling ceilings) c.args.pairs.now.first c.args.frame.now c.args.portal c.args.row.now (c.may_lead_on.ensures.none c.if-not-may_lead_on.true)
 
-pub returns-then-get-clause-pairs : goal.returns-then-get-clause-pairs
-returns-then-get-clause-pairs g c = pairs_same c.args.world.now (g.S.RowSource.ceilings c.args.source.now) c.args.row.now c.args.pairs.now c.requires.pairs
+pub returns-then-not-may_lead_on-clause-pairs : goal.returns-then-not-may_lead_on-clause-pairs
+returns-then-not-may_lead_on-clause-pairs g c = pairs_same c.args.world.now (g.S.RowSource.ceilings c.args.source.now) c.args.row.now c.args.pairs.now c.requires.pairs
+
+pub returns-then-not-may_lead_on-clause-spares : goal.returns-then-not-may_lead_on-clause-spares
+returns-then-not-may_lead_on-clause-spares g c = c.requires.spares
+
+pub pair_may_show-requires-clause-same_world : goal.pair_may_show-requires-clause-same_world
+pair_may_show-requires-clause-same_world g c = g.met.S.RowSource.same_world c.args.source.now c.may_lead_on.new.source c.may_lead_on.ensures.on ∙ c.requires.same_world
 
 pub returns-then-not-may-clause-tried : goal.returns-then-not-may-clause-tried
-returns-then-not-may-clause-tried g c ceilings lie within ends = c.in_ok-may.ensures.none c.if-not-may.true ceilings
+returns-then-not-may-clause-tried g c ceilings lie within ends =
+    tried_not_led c.args.world.now (IsInCeiling ceilings) c.args.pairs.now.first c.args.frame.now c.args.portal c.args.row.now (c.in_ok-may.ensures.none c.if-not-may.true)
+
+pub returns-then-not-may-clause-spares : goal.returns-then-not-may-clause-spares
+returns-then-not-may-clause-spares g c = c.in_ok-may.ensures.spares
+
+pub returns-then-not-may-clause-pairs : goal.returns-then-not-may-clause-pairs
+returns-then-not-may-clause-pairs g c = pairs_later c.args.world.now (g.S.RowSource.ceilings c.args.source.now) (g.S.RowSource.ceilings c.may_lead_on.new.source) c.args.row.now c.args.pairs.now c.pair_may_show.new.pairs
+    (g.met.S.RowSource.narrower c.args.source.now c.may_lead_on.new.source c.may_lead_on.ensures.on) c.in_ok-may.ensures.pairs
 
 pub go_through-requires-clause-same_world : goal.go_through-requires-clause-same_world
-go_through-requires-clause-same_world g c = g.met.S.RowSource.same_world c.args.source.now c.may_lead_on.new.source c.may_lead_on.ensures.on ∙ c.requires.same_world
-
-pub go_through-requires-clause-new : goal.go_through-requires-clause-new
-go_through-requires-clause-new g c q at is =
-    let p = c.to.ensures.value in
-    let same = ap (λ (r : Portal). r.to) (same_portal c.args.world.now.portals c.args.portal p.0 q p.1 at) in
-    let frame = c.args.frame.now in
-    let clear = sym (c.get.ensures ∙ ap (λ (f : Frame). get_or f.met c.to.result false) c.frame.view_is ∙ ap (λ (n : ℕ). get_or frame.met n false) (p.2 ∙ same)) ∙ c.if-get.false in
-    let never : false ≡ true = sym clear ∙ is in
-    absurd (let e : false ≡ true = never in cc)
-
-pub returns-clause-tried : goal.returns-clause-tried
-returns-clause-tried g c ceilings lie within ends =
-    let world = c.args.world.now in
-    let frame = c.args.frame.now in
-    let old = c.args.pairs.now in
-    let new = c.may_lead_on.new.pairs in
-    let kept = c.in_ok-may.ensures.pairs in
-    subst (λ (first : ℕ). IsTried world (IsInCeiling ceilings) first frame c.args.portal c.args.row.now c.go_through.new.row (then_some c.in_ok-on.on c.go_through.new.next)) kept.same_first
-    (c.in_ok-on.ensures.tried ceilings
-    (λ place n is. lie place n (g.met.S.RowSource.narrower c.args.source.now c.may_lead_on.new.source c.may_lead_on.ensures.on place n is))
-    (kept.within ceilings lie within)
-    (subst (λ (first : ℕ). EndsChain world (IsInCeiling ceilings) first (put_back c.args.portal frame)) (sym kept.same_first) ends))
-
-pub returns-clause-pairs : goal.returns-clause-pairs
-returns-clause-pairs g c = pairs_found c.args.world.now (g.S.RowSource.ceilings c.args.source.now) c.args.row.now c.go_through.new.row c.args.pairs.now c.may_lead_on.new.pairs c.go_through.ensures.stays c.in_ok-may.ensures.pairs
-
-pub returns-clause-on : goal.returns-clause-on
-returns-clause-on g c = g.met.S.RowSource.goes_on_in_turn c.args.source.now c.may_lead_on.new.source c.go_through.new.source c.may_lead_on.ensures.on c.go_through.ensures.on
-
-pub returns-in_err-on-clause-on : goal.returns-in_err-on-clause-on
-returns-in_err-on-clause-on g c = g.met.S.RowSource.goes_on_in_turn c.args.source.now c.may_lead_on.new.source c.go_through.new.source c.may_lead_on.ensures.on c.go_through.ensures.on
-
--- what is asked and kept besides
-
-pub get-requires : goal.get-requires
-get-requires g c =
-    let within = c.to.ensures.within in
-    let wide = ap (λ (f : Frame). length f.met) c.frame.view_is ∙ c.requires.wide.met in
-    omega (arith, within, wide)
+go_through-requires-clause-same_world g c =
+    g.met.S.RowSource.same_world c.may_lead_on.new.source c.pair_may_show.new.source c.pair_may_show.ensures.on
+    ∙ g.met.S.RowSource.same_world c.args.source.now c.may_lead_on.new.source c.may_lead_on.ensures.on ∙ c.requires.same_world
 
 pub go_through-requires-clause-spares : goal.go_through-requires-clause-spares
 go_through-requires-clause-spares g c = c.in_ok-may.ensures.spares
@@ -69,11 +46,50 @@ go_through-requires-clause-spares g c = c.in_ok-may.ensures.spares
 pub go_through-requires-clause-pairs : goal.go_through-requires-clause-pairs
 go_through-requires-clause-pairs g c = c.in_ok-may.ensures.pairs.are
 
+pub go_through-requires-clause-new : goal.go_through-requires-clause-new
+go_through-requires-clause-new g c = c.may_lead_on.ensures.new c.if-not-may_lead_on.false
+
+pub returns-clause-tried : goal.returns-clause-tried
+returns-clause-tried g c =
+    let world = c.args.world.now in
+    let frame = c.args.frame.now in
+    let old = c.args.pairs.now in
+    let new = c.pair_may_show.new.pairs in
+    let now = g.S.RowSource.ceilings c.args.source.now in
+    let later = g.S.RowSource.ceilings c.may_lead_on.new.source in
+    let before = g.S.RowSource.ceilings c.pair_may_show.new.source in
+    let kept = c.in_ok-may.ensures.pairs in
+    let Tried = λ (first : ℕ) (ceilings : List (List Bool)) (on : Bool). IsTried world (IsInCeiling ceilings) first frame c.args.portal c.args.row.now c.go_through.new.row (then_some on c.go_through.new.next) in
+    let Ends = λ (first : ℕ) (ceilings : List (List Bool)). EndsChain world (IsInCeiling ceilings) first (put_back c.args.portal frame) in
+    IfOk-weaker c.go_through.result
+    (λ on. (ceilings : List (List Bool)) → LieWithin before ceilings → LieWithinPairs (IsInCeiling ceilings) new.own → Ends new.first ceilings → Tried new.first ceilings on)
+    (λ on. (ceilings : List (List Bool)) → LieWithin now ceilings → LieWithinPairs (IsInCeiling ceilings) old.own → Ends old.first ceilings → Tried old.first ceilings on)
+    (λ on tried ceilings lie within ends.
+    let lie_later : LieWithin later ceilings = λ place n is. lie place n (g.met.S.RowSource.narrower c.args.source.now c.may_lead_on.new.source c.may_lead_on.ensures.on place n is) in
+    subst (λ (first : ℕ). Tried first ceilings on) kept.same_first
+    (tried ceilings (λ place n is. lie_later place n (g.met.S.RowSource.narrower c.may_lead_on.new.source c.pair_may_show.new.source c.pair_may_show.ensures.on place n is))
+    (kept.within ceilings lie_later within) (subst (λ (first : ℕ). Ends first ceilings) (sym kept.same_first) ends)))
+    c.go_through.ensures.tried
+
 pub returns-clause-spares : goal.returns-clause-spares
-returns-clause-spares g c = c.in_ok-on.ensures.spares
+returns-clause-spares g c = c.go_through.ensures.spares
 
-pub returns-then-not-may-clause-spares : goal.returns-then-not-may-clause-spares
-returns-then-not-may-clause-spares g c = c.in_ok-may.ensures.spares
+pub returns-clause-pairs : goal.returns-clause-pairs
+returns-clause-pairs g c =
+    let world = c.args.world.now in
+    let now = g.S.RowSource.ceilings c.args.source.now in
+    on_ok_weaker {P = AreWide world c.go_through.new.next c.go_through.new.scratch.cone} {Q = PairsGoOn world now c.go_through.new.row c.args.pairs.now c.pair_may_show.new.pairs} c.go_through.result
+    (λ wide. pairs_found world now c.args.row.now c.go_through.new.row c.args.pairs.now c.pair_may_show.new.pairs c.go_through.ensures.stays
+    (pairs_later world now (g.S.RowSource.ceilings c.may_lead_on.new.source) c.args.row.now c.args.pairs.now c.pair_may_show.new.pairs
+    (g.met.S.RowSource.narrower c.args.source.now c.may_lead_on.new.source c.may_lead_on.ensures.on) c.in_ok-may.ensures.pairs))
+    c.go_through.ensures.spares
 
-pub returns-then-not-may-clause-pairs : goal.returns-then-not-may-clause-pairs
-returns-then-not-may-clause-pairs g c = c.in_ok-may.ensures.pairs
+pub returns-in_err-may-clause-on : goal.returns-in_err-may-clause-on
+returns-in_err-may-clause-on g c = g.met.S.RowSource.goes_on_in_turn c.args.source.now c.may_lead_on.new.source c.pair_may_show.new.source c.may_lead_on.ensures.on c.pair_may_show.ensures.on
+
+pub returns-then-not-may-clause-on : goal.returns-then-not-may-clause-on
+returns-then-not-may-clause-on g c = g.met.S.RowSource.goes_on_in_turn c.args.source.now c.may_lead_on.new.source c.pair_may_show.new.source c.may_lead_on.ensures.on c.pair_may_show.ensures.on
+
+pub returns-clause-on : goal.returns-clause-on
+returns-clause-on g c = g.met.S.RowSource.goes_on_in_turn c.args.source.now c.pair_may_show.new.source c.go_through.new.source
+    (g.met.S.RowSource.goes_on_in_turn c.args.source.now c.may_lead_on.new.source c.pair_may_show.new.source c.may_lead_on.ensures.on c.pair_may_show.ensures.on) c.go_through.ensures.on

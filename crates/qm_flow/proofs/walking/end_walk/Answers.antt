@@ -5,6 +5,13 @@ use Rattle.qm_chains.specs.inner.Frame.{Frame}
 use Rattle.qm_flow.specs.inner.WalkSoFar.{IsWalkSoFar}
 use Rattle.qm_flow.proofs.walking.end_walk.Goals as goal
 
+pub loop-alloc-init : goal.loop-alloc-init
+loop-alloc-init g c = record {
+  so_far = λ p ceilings lie before. before;
+  spares = c.requires.spares;
+  on = g.met.S.RowSource.goes_on_itself c.args.source.now;
+}
+
 pub go_round-requires-clause-walk : goal.go_round-requires-clause-walk
 go_round-requires-clause-walk g c =
     let its = c.requires.walk in
@@ -26,6 +33,12 @@ loop-alloc-preserved g c = record {
   spares = c.in_ok-go_round.ensures.spares;
   on = g.met.S.RowSource.goes_on_in_turn c.args.source.now c.loop-alloc.source c.go_round.new.source c.loop-alloc.invariant.on c.go_round.ensures.on;
 }
+
+pub returns-clause-on : goal.returns-clause-on
+returns-clause-on g c = c.loop-alloc.invariant.on
+
+pub returns-in_err-go_round-clause-on : goal.returns-in_err-go_round-clause-on
+returns-in_err-go_round-clause-on g c = g.met.S.RowSource.goes_on_in_turn c.args.source.now c.loop-alloc.source c.go_round.new.source c.loop-alloc.invariant.on c.go_round.ensures.on
 
 pub returns-clause-walk : goal.returns-clause-walk
 returns-clause-walk g c p ceilings lie before =

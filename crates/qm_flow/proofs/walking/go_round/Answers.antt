@@ -1,213 +1,151 @@
-use Rattle.std.proofs.Common.{◌≡◌, ◌+◌, ◌-◌, ◌++◌, ◌∷◌, [], ℕ, List, length, set, refl, sym, ◌∙◌, subst, arith}
+use Rattle.std.proofs.Common.{◌≡◌, ◌-◌, List, [], ◌∷◌, ◌++◌, set, refl, sym, subst, arith}
 use Rattle.std.specs.Bool.{then_some}
-use Rattle.qm_chains.specs.inner.Frame.{Frame, put_back, EndsChain}
-use Rattle.qm_chains.specs.inner.Walk.{AreWide, IsWalk, IsTried}
-use Rattle.qm_chains.proofs.Walks.{last_wide}
-use Rattle.qm_sight.specs.InCeiling.{IsInCeiling}
+use Rattle.std.proofs.lemmas.Result.{on_ok_weaker}
+use Rattle.qm_chains.specs.inner.Frame.{Frame}
+use Rattle.qm_chains.specs.inner.Walk.{AreWide}
+use Rattle.qm_flow.proofs.LastElements.{last_read, set_at}
+use Rattle.qm_flow.proofs.Rounds.{last_is_wide, done_so_far, less_done, round_within, round_wide, tried_so_far, less_tried, after_none, after_child}
 use Rattle.qm_flow.proofs.Spares.{spares_stay_wide, spares_after_try}
-use Rattle.qm_flow.proofs.Rounds.{round_done, less_done, round_within, round_ends, round_wide, round_tried, less_tried, after_none, after_child, below_last, set_there, read_there, ends_with}
-use Rattle.qm_flow.proofs.Pushed.{pushed_to}
 use Rattle.qm_flow.proofs.walking.go_round.Goals as goal
 
 pub try_portal-requires-clause-portal : goal.try_portal-requires-clause-portal
 try_portal-requires-clause-portal g c =
-    let world = c.args.world.now in
     let frames = c.args.stack.now.frames.items in
-    let count = c.len-last.ensures in
-    let some = c.requires.not_ended in
-    let place = c.len-last.result - 1 in
-    let end : place + 1 ≡ length frames = omega (arith, count, some) in
-    let below = below_last frames place end in
     let last = c.index_mut.result.now in
-    let frame = c.take_next.new.self in
-    let ends = ends_with frames place end last _ c.index_mut.ensures.value in
+    let counted = c.len-last.ensures in
+    let at = last_read frames c.len-last.result (omega (arith, counted)) c.requires.not_ended last _ c.index_mut.ensures.value in
     let its = c.requires.walk in
-    round_within world (IsInCeiling its.ceilings) its.p frames below last c.args.row.now ends its.so_far.walk c.in-Some.portal frame c.in-Some.ensures
+    round_within c.args.world.now its.ceilings its.p c.args.pairs.now frames c.args.row.now its.so_far (c.len-last.result - 1) last at c.in-Some.portal c.take_next.new.self c.in-Some.ensures
 
 pub try_portal-requires-clause-wide : goal.try_portal-requires-clause-wide
 try_portal-requires-clause-wide g c =
-    let world = c.args.world.now in
     let frames = c.args.stack.now.frames.items in
-    let count = c.len-last.ensures in
-    let some = c.requires.not_ended in
-    let place = c.len-last.result - 1 in
-    let end : place + 1 ≡ length frames = omega (arith, count, some) in
-    let below = below_last frames place end in
     let last = c.index_mut.result.now in
-    let frame = c.take_next.new.self in
-    let ends = ends_with frames place end last _ c.index_mut.ensures.value in
+    let counted = c.len-last.ensures in
+    let at = last_read frames c.len-last.result (omega (arith, counted)) c.requires.not_ended last _ c.index_mut.ensures.value in
     let its = c.requires.walk in
-    subst (λ (f : Frame). AreWide world f c.args.row.now) (sym (c.index-frame.ensures ∙ read_there frames place end frame _))
-    (round_wide world (IsInCeiling its.ceilings) its.p frames below last c.args.row.now ends its.so_far.walk c.in-Some.portal frame c.in-Some.ensures)
+    round_wide c.args.world.now its.ceilings its.p c.args.pairs.now frames c.args.row.now its.so_far (c.len-last.result - 1) last at c.in-Some.portal c.take_next.new.self c.in-Some.ensures
+    c.index-frame.result.now _ c.index-frame.ensures
 
 -- no portal is left at the frame
 
-pub returns-in_ok-end_last-in-None-clause-walk : goal.returns-in_ok-end_last-in-None-clause-walk
-returns-in_ok-end_last-in-None-clause-walk g c p ceilings lie so_far =
-    let world = c.args.world.now in
+pub returns-in-None-clause-walk : goal.returns-in-None-clause-walk
+returns-in-None-clause-walk g c =
     let frames = c.args.stack.now.frames.items in
-    let count = c.len-last.ensures in
-    let some = c.requires.not_ended in
-    let place = c.len-last.result - 1 in
-    let end : place + 1 ≡ length frames = omega (arith, count, some) in
-    let below = below_last frames place end in
     let last = c.index_mut.result.now in
+    let place = c.len-last.result - 1 in
+    let counted = c.len-last.ensures in
+    let at = last_read frames c.len-last.result (omega (arith, counted)) c.requires.not_ended last _ c.index_mut.ensures.value in
     let frame = c.take_next.new.self in
-    let ends = ends_with frames place end last _ c.index_mut.ensures.value in
-    let kept = c.in_ok-end_last-in-None.ensures.frames below frame (set_there frames place end frame) in
-    record {
-      walk = round_done world (IsInCeiling ceilings) p frames below last c.args.row.now ends so_far.walk c.in-None.ensures.0 c.end_last.new.self.frames.items kept.0;
-      pairs_are = so_far.pairs_are;
-      first = so_far.first;
-      within = so_far.within;
-    }
+    let after = c.end_last.new.self in
+    on_ok_weaker {P = (below : List Frame) (last : Frame) → set frames place frame ≡ below ++ last ∷ [] → (after.frames.items ≡ below) × (after.ended.items ≡ c.args.stack.now.ended.items ++ last ∷ [])} c.end_last.result
+    (λ kept p ceilings lie so_far. done_so_far c.args.world.now ceilings p c.args.pairs.now frames c.args.row.now so_far place last at c.in-None.ensures.0 after.frames.items
+    (kept at.below frame (set_at frames place last at frame)).0)
+    c.end_last.ensures.frames
 
-pub returns-in_ok-end_last-in-None-clause-spares : goal.returns-in_ok-end_last-in-None-clause-spares
-returns-in_ok-end_last-in-None-clause-spares g c =
+pub returns-in-None-clause-spares : goal.returns-in-None-clause-spares
+returns-in-None-clause-spares g c =
     let world = c.args.world.now in
     let frames = c.args.stack.now.frames.items in
-    let count = c.len-last.ensures in
-    let some = c.requires.not_ended in
-    let place = c.len-last.result - 1 in
-    let end : place + 1 ≡ length frames = omega (arith, count, some) in
-    let below = below_last frames place end in
     let last = c.index_mut.result.now in
+    let place = c.len-last.result - 1 in
+    let counted = c.len-last.ensures in
+    let at = last_read frames c.len-last.result (omega (arith, counted)) c.requires.not_ended last _ c.index_mut.ensures.value in
     let frame = c.take_next.new.self in
-    let ends = ends_with frames place end last _ c.index_mut.ensures.value in
+    let after = c.end_last.new.self in
     let its = c.requires.walk in
-    let kept = c.in_ok-end_last-in-None.ensures.frames below frame (set_there frames place end frame) in
-    let wide = last_wide world (IsInCeiling its.ceilings) its.p below last c.args.row.now
-    (subst (λ (all : List Frame). IsWalk world (IsInCeiling its.ceilings) its.p all c.args.row.now) ends its.so_far.walk) in
-    spares_stay_wide world c.args.stack.now c.end_last.new.self frame c.args.row.now c.requires.spares
-    (subst (λ (f : Frame). AreWide world f c.args.row.now) (sym c.in-None.ensures.1) wide) c.end_last.ensures.next c.end_last.ensures.cone kept.1
+    on_ok_weaker {P = (below : List Frame) (last : Frame) → set frames place frame ≡ below ++ last ∷ [] → (after.frames.items ≡ below) × (after.ended.items ≡ c.args.stack.now.ended.items ++ last ∷ [])} c.end_last.result
+    (λ kept. spares_stay_wide world c.args.stack.now after frame c.args.row.now c.requires.spares
+    (subst (λ (f : Frame). AreWide world f c.args.row.now) (sym c.in-None.ensures.1) (last_is_wide world its.ceilings its.p c.args.pairs.now frames c.args.row.now its.so_far place last at))
+    c.end_last.ensures.next c.end_last.ensures.cone (kept at.below frame (set_at frames place last at frame)).1)
+    c.end_last.ensures.frames
 
-pub returns-in_ok-end_last-in-None-clause-less : goal.returns-in_ok-end_last-in-None-clause-less
-returns-in_ok-end_last-in-None-clause-less g c =
-    let world = c.args.world.now in
+pub returns-in-None-clause-less : goal.returns-in-None-clause-less
+returns-in-None-clause-less g c =
     let frames = c.args.stack.now.frames.items in
-    let count = c.len-last.ensures in
-    let some = c.requires.not_ended in
-    let place = c.len-last.result - 1 in
-    let end : place + 1 ≡ length frames = omega (arith, count, some) in
-    let below = below_last frames place end in
     let last = c.index_mut.result.now in
+    let place = c.len-last.result - 1 in
+    let counted = c.len-last.ensures in
+    let at = last_read frames c.len-last.result (omega (arith, counted)) c.requires.not_ended last _ c.index_mut.ensures.value in
     let frame = c.take_next.new.self in
-    let ends = ends_with frames place end last _ c.index_mut.ensures.value in
+    let after = c.end_last.new.self in
     let its = c.requires.walk in
-    let kept = c.in_ok-end_last-in-None.ensures.frames below frame (set_there frames place end frame) in
-    less_done world (IsInCeiling its.ceilings) its.p frames below last c.args.row.now ends its.so_far.walk c.end_last.new.self.frames.items kept.0
+    on_ok_weaker {P = (below : List Frame) (last : Frame) → set frames place frame ≡ below ++ last ∷ [] → (after.frames.items ≡ below) × (after.ended.items ≡ c.args.stack.now.ended.items ++ last ∷ [])} c.end_last.result
+    (λ kept. less_done c.args.world.now its.ceilings its.p c.args.pairs.now frames c.args.row.now its.so_far place last at after.frames.items
+    (kept at.below frame (set_at frames place last at frame)).0)
+    c.end_last.ensures.frames
 
 -- a portal is tried, and the chain does not go on
 
 pub returns-then-not-on-clause-walk : goal.returns-then-not-on-clause-walk
 returns-then-not-on-clause-walk g c p ceilings lie so_far =
-    let world = c.args.world.now in
     let frames = c.args.stack.now.frames.items in
-    let count = c.len-last.ensures in
-    let some = c.requires.not_ended in
-    let place = c.len-last.result - 1 in
-    let end : place + 1 ≡ length frames = omega (arith, count, some) in
-    let below = below_last frames place end in
     let last = c.index_mut.result.now in
+    let place = c.len-last.result - 1 in
+    let counted = c.len-last.ensures in
+    let at = last_read frames c.len-last.result (omega (arith, counted)) c.requires.not_ended last _ c.index_mut.ensures.value in
     let frame = c.take_next.new.self in
-    let ends = ends_with frames place end last _ c.index_mut.ensures.value in
-    let number = c.in-Some.portal in
-    let chain = round_ends world (IsInCeiling ceilings) p frames below last c.args.row.now ends so_far.walk number frame c.in-Some.ensures in
-    let same = read_there frames place end frame _ in
-    let child = then_some c.in_ok-on-in-Some.on c.try_portal.new.next in
-    let tried = subst (λ (f : Frame). IsTried world (IsInCeiling ceilings) p f number c.args.row.now c.try_portal.new.row child) (c.index-frame.ensures ∙ same)
-    (subst (λ (first : ℕ). IsTried world (IsInCeiling ceilings) first c.index-frame.result.now number c.args.row.now c.try_portal.new.row child) so_far.first
-    (c.in_ok-on-in-Some.ensures.tried ceilings lie so_far.within
-    (subst (λ (f : Frame). EndsChain world (IsInCeiling ceilings) c.args.pairs.now.first (put_back number f)) (sym (c.index-frame.ensures ∙ same))
-    (subst (λ (first : ℕ). EndsChain world (IsInCeiling ceilings) first (put_back number frame)) (sym so_far.first) chain)))) in
-    record {
-      walk = round_tried world (IsInCeiling ceilings) p frames below last c.args.row.now ends so_far.walk number frame c.in-Some.ensures c.try_portal.new.row child tried (set frames place frame)
-          (after_none (below ++ frame ∷ []) (set frames place frame) c.in_ok-on-in-Some.on c.try_portal.new.next c.if-not-on.true (set_there frames place end frame));
-      pairs_are = c.in_ok-on-in-Some.ensures.pairs.are;
-      first = c.in_ok-on-in-Some.ensures.pairs.same_first ∙ so_far.first;
-      within = c.in_ok-on-in-Some.ensures.pairs.within ceilings lie so_far.within;
-    }
+    let kept = set frames place frame in
+    let on = c.in_ok-on-in-Some.on in
+    let next = c.try_portal.new.next in
+    tried_so_far c.args.world.now ceilings p c.args.pairs.now frames c.args.row.now so_far place last at c.in-Some.portal frame c.in-Some.ensures
+    c.index-frame.result.now _ c.index-frame.ensures c.try_portal.new.row (then_some on next) (c.in_ok-on-in-Some.ensures.tried ceilings lie)
+    kept (after_none kept on next c.if-not-on.true) (g.S.RowSource.ceilings c.args.source.now) lie c.try_portal.new.pairs c.in_ok-on-in-Some.ensures.pairs
 
 pub returns-then-not-on-clause-less : goal.returns-then-not-on-clause-less
 returns-then-not-on-clause-less g c =
-    let world = c.args.world.now in
     let frames = c.args.stack.now.frames.items in
-    let count = c.len-last.ensures in
-    let some = c.requires.not_ended in
-    let place = c.len-last.result - 1 in
-    let end : place + 1 ≡ length frames = omega (arith, count, some) in
-    let below = below_last frames place end in
     let last = c.index_mut.result.now in
+    let place = c.len-last.result - 1 in
+    let counted = c.len-last.ensures in
+    let at = last_read frames c.len-last.result (omega (arith, counted)) c.requires.not_ended last _ c.index_mut.ensures.value in
     let frame = c.take_next.new.self in
-    let ends = ends_with frames place end last _ c.index_mut.ensures.value in
+    let kept = set frames place frame in
     let its = c.requires.walk in
-    let number = c.in-Some.portal in
-    let chain = round_ends world (IsInCeiling its.ceilings) its.p frames below last c.args.row.now ends its.so_far.walk number frame c.in-Some.ensures in
-    let same = read_there frames place end frame _ in
-    let child = then_some c.in_ok-on-in-Some.on c.try_portal.new.next in
-    let tried = subst (λ (f : Frame). IsTried world (IsInCeiling its.ceilings) its.p f number c.args.row.now c.try_portal.new.row child) (c.index-frame.ensures ∙ same)
-    (subst (λ (first : ℕ). IsTried world (IsInCeiling its.ceilings) first c.index-frame.result.now number c.args.row.now c.try_portal.new.row child) its.so_far.first
-    (c.in_ok-on-in-Some.ensures.tried its.ceilings its.below its.so_far.within
-    (subst (λ (f : Frame). EndsChain world (IsInCeiling its.ceilings) c.args.pairs.now.first (put_back number f)) (sym (c.index-frame.ensures ∙ same))
-    (subst (λ (first : ℕ). EndsChain world (IsInCeiling its.ceilings) first (put_back number frame)) (sym its.so_far.first) chain)))) in
-    less_tried world (IsInCeiling its.ceilings) its.p frames below last c.args.row.now ends its.so_far.walk number frame c.in-Some.ensures c.try_portal.new.row child tried (set frames place frame)
-    (after_none (below ++ frame ∷ []) (set frames place frame) c.in_ok-on-in-Some.on c.try_portal.new.next c.if-not-on.true (set_there frames place end frame))
+    let on = c.in_ok-on-in-Some.on in
+    let next = c.try_portal.new.next in
+    less_tried c.args.world.now its.ceilings its.p c.args.pairs.now frames c.args.row.now its.so_far place last at c.in-Some.portal frame c.in-Some.ensures
+    c.index-frame.result.now _ c.index-frame.ensures c.try_portal.new.row (then_some on next) (c.in_ok-on-in-Some.ensures.tried its.ceilings its.below)
+    kept (after_none kept on next c.if-not-on.true)
 
 -- a portal is tried, and the chain goes on
 
-pub returns-in_ok-push_next-in-Some-clause-walk : goal.returns-in_ok-push_next-in-Some-clause-walk
-returns-in_ok-push_next-in-Some-clause-walk g c p ceilings lie so_far =
-    let world = c.args.world.now in
+pub returns-else-not-on-clause-walk : goal.returns-else-not-on-clause-walk
+returns-else-not-on-clause-walk g c =
     let frames = c.args.stack.now.frames.items in
-    let count = c.len-last.ensures in
-    let some = c.requires.not_ended in
-    let place = c.len-last.result - 1 in
-    let end : place + 1 ≡ length frames = omega (arith, count, some) in
-    let below = below_last frames place end in
     let last = c.index_mut.result.now in
+    let place = c.len-last.result - 1 in
+    let counted = c.len-last.ensures in
+    let at = last_read frames c.len-last.result (omega (arith, counted)) c.requires.not_ended last _ c.index_mut.ensures.value in
     let frame = c.take_next.new.self in
-    let ends = ends_with frames place end last _ c.index_mut.ensures.value in
-    let number = c.in-Some.portal in
-    let chain = round_ends world (IsInCeiling ceilings) p frames below last c.args.row.now ends so_far.walk number frame c.in-Some.ensures in
-    let same = read_there frames place end frame _ in
-    let child = then_some c.in_ok-on-in-Some.on c.try_portal.new.next in
-    let tried = subst (λ (f : Frame). IsTried world (IsInCeiling ceilings) p f number c.args.row.now c.try_portal.new.row child) (c.index-frame.ensures ∙ same)
-    (subst (λ (first : ℕ). IsTried world (IsInCeiling ceilings) first c.index-frame.result.now number c.args.row.now c.try_portal.new.row child) so_far.first
-    (c.in_ok-on-in-Some.ensures.tried ceilings lie so_far.within
-    (subst (λ (f : Frame). EndsChain world (IsInCeiling ceilings) c.args.pairs.now.first (put_back number f)) (sym (c.index-frame.ensures ∙ same))
-    (subst (λ (first : ℕ). EndsChain world (IsInCeiling ceilings) first (put_back number frame)) (sym so_far.first) chain)))) in
-    record {
-      walk = round_tried world (IsInCeiling ceilings) p frames below last c.args.row.now ends so_far.walk number frame c.in-Some.ensures c.try_portal.new.row child tried c.push_next.new.self.frames.items
-          (after_child (below ++ frame ∷ []) c.push_next.new.self.frames.items c.in_ok-on-in-Some.on c.try_portal.new.next c.if-not-on.false (pushed_to (below ++ frame ∷ []) (set frames place frame) c.push_next.new.self.frames.items c.try_portal.new.next c.in_ok-push_next-in-Some.ensures.frames (set_there frames place end frame)));
-      pairs_are = c.in_ok-on-in-Some.ensures.pairs.are;
-      first = c.in_ok-on-in-Some.ensures.pairs.same_first ∙ so_far.first;
-      within = c.in_ok-on-in-Some.ensures.pairs.within ceilings lie so_far.within;
-    }
+    let kept = set frames place frame in
+    let after = c.push_next.new.self.frames.items in
+    let on = c.in_ok-on-in-Some.on in
+    let next = c.try_portal.new.next in
+    on_ok_weaker {P = after ≡ kept ++ next ∷ []} c.push_next.result
+    (λ pushed p ceilings lie so_far. tried_so_far c.args.world.now ceilings p c.args.pairs.now frames c.args.row.now so_far place last at c.in-Some.portal frame c.in-Some.ensures
+    c.index-frame.result.now _ c.index-frame.ensures c.try_portal.new.row (then_some on next) (c.in_ok-on-in-Some.ensures.tried ceilings lie)
+    after (after_child kept after on next c.if-not-on.false pushed) (g.S.RowSource.ceilings c.args.source.now) lie c.try_portal.new.pairs c.in_ok-on-in-Some.ensures.pairs)
+    c.push_next.ensures.frames
 
-pub returns-in_ok-push_next-in-Some-clause-less : goal.returns-in_ok-push_next-in-Some-clause-less
-returns-in_ok-push_next-in-Some-clause-less g c =
-    let world = c.args.world.now in
+pub returns-else-not-on-clause-less : goal.returns-else-not-on-clause-less
+returns-else-not-on-clause-less g c =
     let frames = c.args.stack.now.frames.items in
-    let count = c.len-last.ensures in
-    let some = c.requires.not_ended in
-    let place = c.len-last.result - 1 in
-    let end : place + 1 ≡ length frames = omega (arith, count, some) in
-    let below = below_last frames place end in
     let last = c.index_mut.result.now in
+    let place = c.len-last.result - 1 in
+    let counted = c.len-last.ensures in
+    let at = last_read frames c.len-last.result (omega (arith, counted)) c.requires.not_ended last _ c.index_mut.ensures.value in
     let frame = c.take_next.new.self in
-    let ends = ends_with frames place end last _ c.index_mut.ensures.value in
+    let kept = set frames place frame in
+    let after = c.push_next.new.self.frames.items in
     let its = c.requires.walk in
-    let number = c.in-Some.portal in
-    let chain = round_ends world (IsInCeiling its.ceilings) its.p frames below last c.args.row.now ends its.so_far.walk number frame c.in-Some.ensures in
-    let same = read_there frames place end frame _ in
-    let child = then_some c.in_ok-on-in-Some.on c.try_portal.new.next in
-    let tried = subst (λ (f : Frame). IsTried world (IsInCeiling its.ceilings) its.p f number c.args.row.now c.try_portal.new.row child) (c.index-frame.ensures ∙ same)
-    (subst (λ (first : ℕ). IsTried world (IsInCeiling its.ceilings) first c.index-frame.result.now number c.args.row.now c.try_portal.new.row child) its.so_far.first
-    (c.in_ok-on-in-Some.ensures.tried its.ceilings its.below its.so_far.within
-    (subst (λ (f : Frame). EndsChain world (IsInCeiling its.ceilings) c.args.pairs.now.first (put_back number f)) (sym (c.index-frame.ensures ∙ same))
-    (subst (λ (first : ℕ). EndsChain world (IsInCeiling its.ceilings) first (put_back number frame)) (sym its.so_far.first) chain)))) in
-    less_tried world (IsInCeiling its.ceilings) its.p frames below last c.args.row.now ends its.so_far.walk number frame c.in-Some.ensures c.try_portal.new.row child tried c.push_next.new.self.frames.items
-    (after_child (below ++ frame ∷ []) c.push_next.new.self.frames.items c.in_ok-on-in-Some.on c.try_portal.new.next c.if-not-on.false (pushed_to (below ++ frame ∷ []) (set frames place frame) c.push_next.new.self.frames.items c.try_portal.new.next c.in_ok-push_next-in-Some.ensures.frames (set_there frames place end frame)))
+    let on = c.in_ok-on-in-Some.on in
+    let next = c.try_portal.new.next in
+    on_ok_weaker {P = after ≡ kept ++ next ∷ []} c.push_next.result
+    (λ pushed. less_tried c.args.world.now its.ceilings its.p c.args.pairs.now frames c.args.row.now its.so_far place last at c.in-Some.portal frame c.in-Some.ensures
+    c.index-frame.result.now _ c.index-frame.ensures c.try_portal.new.row (then_some on next) (c.in_ok-on-in-Some.ensures.tried its.ceilings its.below)
+    after (after_child kept after on next c.if-not-on.false pushed))
+    c.push_next.ensures.frames
 
 -- what is asked and kept besides
 
@@ -223,5 +161,5 @@ returns-then-not-on-clause-spares g c = spares_after_try c.args.world.now c.args
 pub push_next-requires-clause-spares : goal.push_next-requires-clause-spares
 push_next-requires-clause-spares g c = spares_after_try c.args.world.now c.args.stack.now _ c.requires.spares c.in_ok-on-in-Some.ensures.spares refl
 
-pub returns-in_ok-push_next-in-Some-clause-spares : goal.returns-in_ok-push_next-in-Some-clause-spares
-returns-in_ok-push_next-in-Some-clause-spares g c = c.in_ok-push_next-in-Some.ensures.spares
+pub returns-else-not-on-clause-spares : goal.returns-else-not-on-clause-spares
+returns-else-not-on-clause-spares g c = c.push_next.ensures.spares

@@ -1,4 +1,5 @@
-use Rattle.std.proofs.Common.{All, sym, ◌∙◌, subst}
+use Rattle.std.proofs.Common.{◌≡◌, Bool, false, All, length, replicate, sym, ap, ◌∙◌, subst}
+use Rattle.std.proofs.lemmas.List.{length-replicate}
 use Rattle.std.proofs.lemmas.List.Elements.{All-nil}
 use Rattle.qm_chains.specs.inner.Frame.{Frame}
 use Rattle.qm_chains.specs.inner.Walk.{AreWide}
@@ -8,14 +9,16 @@ use Rattle.qm_flow.proofs.frame_stack.FrameStack.of.Goals as goal
 pub returns : goal.returns
 returns c =
     let world = c.args.world.now in
-    let cone = c.in_ok-scratch.scratch.cone in
+    let cone = c.in_ok-cone.cone in
+    let clear : length {A = Bool} (replicate c.leaves.result false) ≡ c.leaves.result = length-replicate c.leaves.result false in
+    let wide = ap length c.in_ok-cone.ensures ∙ clear in
     let Wide = λ (f : Frame). AreWide world f cone in
     record {
       fresh = record {
         none = c.new.ensures.items;
         first = c.in_ok-next.ensures;
         spares = record {
-          next_is = first_frame_wide world c.args.portal c.in_ok-next.next c.in_ok-next.ensures cone (c.in_ok-scratch.ensures ∙ c.leaves.ensures);
+          next_is = first_frame_wide world c.args.portal c.in_ok-next.next c.in_ok-next.ensures cone (wide ∙ c.leaves.ensures);
           ended_are = subst (All Wide) (sym c.new-2.ensures.items) (All-nil Wide);
         };
       };

@@ -1,6 +1,6 @@
 use Rattle.std.proofs.Common.{List, Option, Bool, None, replicate, ◌∙◌}
 use Rattle.std.proofs.lemmas.List.{replicate-append-replicate}
-use Rattle.qm_flow.proofs.Pushed.{pushed_to}
+use Rattle.qm_flow.proofs.LastElements.{pushed_to}
 use Rattle.qm_flow.proofs.own_rows.OwnRows.none.Goals as goal
 
 pub loop-portal-preserved : goal.loop-portal-preserved

@@ -1,35 +1,25 @@
-use Rattle.std.proofs.Common.{ℕ, Bool, List, length, ap, ◌∙◌, subst, false}
-use Rattle.qm_space.specs.Plane.{Plane}
-use Rattle.qm_convex.specs.Winding.{Winding}
+use Rattle.std.proofs.Common.{ℕ, Bool, List, length, sym, ap, ◌∙◌, subst, false}
 use Rattle.qm_lists.specs.WorkList.{IsIn}
-use Rattle.qm_contacts.specs.NumberedLeaves.{numbered_leaves}
-use Rattle.qm_contacts.specs.Portals.{Portal}
-use Rattle.qm_separators.specs.ChainState.{ChainState}
-use Rattle.qm_separators.specs.ChainStep.{Blocks, LeadsTo}
-use Rattle.qm_separators.specs.PortalSteps.{GoesOn}
 use Rattle.qm_chains.specs.inner.Cone.{IsInCone, IsCutTo}
 use Rattle.qm_chains.specs.inner.Frame.{Frame}
 use Rattle.qm_chains.proofs.PairRows.{none_behind_block}
 use Rattle.qm_chains.proofs.Beginnings.{none_clear}
-use Rattle.qm_chains.proofs.TriedPortals.{same_portal}
 use Rattle.qm_sight.specs.WordInSight.{ceiling_of}
 use Rattle.std.proofs.lemmas.List.{length-replicate}
 use Rattle.qm_flow.proofs.PairFrames.{row_of_pair}
-use Rattle.qm_flow.proofs.pairing.fill_row.Goals as goal
+use Rattle.qm_flow.proofs.Panes.{steps_on, blocked_there}
+use Rattle.qm_flow.proofs.pairing.cone_of_pair.Goals as goal
 
 pub returns-then-not-leads-clause-has : goal.returns-then-not-leads-clause-has
 returns-then-not-leads-clause-has g c n wanted =
     let pairs = c.args.pairs.now in
     let pane = c.pane-pane.ensures in
     absurd (none_behind_block c.args.world.now c.requires.own_portals c.args.found.now pairs c.requires.pairs c.args.portal pane.0 pane.1
-    (subst (λ (h : Plane). Blocks pairs.start pane.0.winding h) pane.3
-    (subst (λ (w : Winding). Blocks pairs.start w c.pane-pane.result.now.into) pane.2
-    (subst (λ (state : ChainState). Blocks state c.pane-pane.result.now.winding c.pane-pane.result.now.into) c.start.ensures
-    (c.in_ok-leads.ensures.blocks c.if-not-leads.true)))) n wanted)
+    (blocked_there c.args.world.now.portals c.args.portal c.pane-pane.result.now.winding c.pane-pane.result.now.into pane c.start.result.now pairs.start c.start.ensures (c.in_ok-leads.ensures.blocks c.if-not-leads.true)) n wanted)
 
 pub returns-then-not-leads-clause-within : goal.returns-then-not-leads-clause-within
 returns-then-not-leads-clause-within g c n is =
-    absurd (none_clear (length (numbered_leaves c.args.world.now.tree)) n (subst (λ (row : List Bool). IsIn row n) c.requires.clear is))
+    absurd (none_clear (length c.args.scratch.now.cone) n (subst (λ (row : List Bool). IsIn row n) c.clear.ensures is))
 
 pub cone_of-requires-clause-wide : goal.cone_of-requires-clause-wide
 cone_of-requires-clause-wide g c = record {
@@ -46,17 +36,12 @@ returns-clause-has g c =
     let frame = c.make_pair_frame.new.frame in
     let state = c.step_into.new.spare in
     let q = c.to-entered.ensures.value in
-    let pane = c.pane-pane.ensures in
-    let step = subst (λ (portal : Portal). GoesOn pairs.start portal state) (same_portal world.portals c.args.portal pane.0 q.0 pane.1 q.1)
-    (subst (λ (h : Plane). LeadsTo pairs.start pane.0.winding h state) pane.3
-    (subst (λ (w : Winding). LeadsTo pairs.start w c.pane-pane.result.now.into state) pane.2
-    (subst (λ (start : ChainState). LeadsTo start c.pane-pane.result.now.winding c.pane-pane.result.now.into state) c.start.ensures
-    (c.in_ok-leads.ensures.leads c.if-not-leads.false)))) in
+    let step = steps_on world.portals c.args.portal c.pane-pane.result.now.winding c.pane-pane.result.now.into c.pane-pane.ensures c.start.result.now pairs.start c.start.ensures q.0 q.1 state (c.in_ok-leads.ensures.leads c.if-not-leads.false) in
     row_of_pair world c.requires.own_portals found pairs c.requires.pairs c.args.portal q.0 q.1
     (ceiling_of (g.S.RowSource.ceilings c.args.source.now) c.args.portal) state frame c.make_pair_frame.ensures.frame step
-    c.cone_of.new.row c.cut.new.row
-    (subst (λ (m : ℕ). (n : ℕ) → IsInCone world pairs.first frame found m n → IsIn c.cone_of.new.row n) q.2 c.in_ok-cone_of.ensures.cone)
-    (subst (λ (mask : List Bool). IsCutTo mask c.cone_of.new.row c.cut.new.row) (ap (λ (f : Frame). f.mask) c.spare-2.view_is) c.cut.ensures)
+    c.cone_of.new.scratch.cone c.cut.new.row
+    (subst (λ (m : ℕ). (n : ℕ) → IsInCone world pairs.first frame found m n → IsIn c.cone_of.new.scratch.cone n) q.2 c.in_ok-cone_of.ensures.cone)
+    (subst (λ (mask : List Bool). IsCutTo mask c.cone_of.new.scratch.cone c.cut.new.row) (ap (λ (f : Frame). f.mask) c.spare-2.view_is) c.cut.ensures)
 
 pub returns-clause-within : goal.returns-clause-within
 returns-clause-within g c n there =
@@ -85,20 +70,17 @@ cone_of-requires-clause-entered g c = c.to-entered.ensures.within
 pub cone_of-requires-clause-same_world : goal.cone_of-requires-clause-same_world
 cone_of-requires-clause-same_world g c = g.met.S.RowSource.same_world c.args.source.now c.make_pair_frame.new.source c.make_pair_frame.ensures.on ∙ c.requires.same_world
 
-pub cone_of-requires-clause-row : goal.cone_of-requires-clause-row
-cone_of-requires-clause-row g c = ap length c.requires.clear ∙ length-replicate (length (numbered_leaves c.args.world.now.tree)) false
+pub cone_of-requires-clause-cone : goal.cone_of-requires-clause-cone
+cone_of-requires-clause-cone g c = c.requires.spares.found
 
 pub returns-in_err-leads-clause-on : goal.returns-in_err-leads-clause-on
 returns-in_err-leads-clause-on g c = g.met.S.RowSource.goes_on_itself c.args.source.now
-
-pub returns-then-not-leads-clause-wide : goal.returns-then-not-leads-clause-wide
-returns-then-not-leads-clause-wide g c = ap length c.requires.clear ∙ length-replicate (length (numbered_leaves c.args.world.now.tree)) false
 
 pub returns-then-not-leads-clause-spares : goal.returns-then-not-leads-clause-spares
 returns-then-not-leads-clause-spares g c = record {
   met = ap (λ (f : Frame). length f.met) c.spare.view_is ∙ c.requires.spares.met;
   mask = ap (λ (f : Frame). length f.mask) c.spare.view_is ∙ c.requires.spares.mask;
-  found = c.requires.spares.found;
+  found = ap length c.clear.ensures ∙ length-replicate (length c.args.scratch.now.cone) false ∙ c.requires.spares.found;
 }
 
 pub returns-then-not-leads-clause-on : goal.returns-then-not-leads-clause-on
@@ -107,15 +89,30 @@ returns-then-not-leads-clause-on g c = g.met.S.RowSource.goes_on_itself c.args.s
 pub returns-in_err-cone_of-clause-on : goal.returns-in_err-cone_of-clause-on
 returns-in_err-cone_of-clause-on g c = g.met.S.RowSource.goes_on_in_turn c.args.source.now c.make_pair_frame.new.source c.cone_of.new.source c.make_pair_frame.ensures.on c.cone_of.ensures.on
 
-pub returns-clause-wide : goal.returns-clause-wide
-returns-clause-wide g c = c.cut.ensures.same_length ∙ c.in_ok-cone_of.ensures.wide
-
 pub returns-clause-spares : goal.returns-clause-spares
 returns-clause-spares g c = record {
   met = c.make_pair_frame.ensures.frame.met_wide;
   mask = c.make_pair_frame.ensures.frame.narrowed.same_length ∙ c.requires.pairs.seen_wide;
-  found = c.requires.spares.found;
+  found = c.cut.ensures.same_length ∙ c.in_ok-cone_of.ensures.wide;
 }
 
 pub returns-clause-on : goal.returns-clause-on
 returns-clause-on g c = g.met.S.RowSource.goes_on_in_turn c.args.source.now c.make_pair_frame.new.source c.cone_of.new.source c.make_pair_frame.ensures.on c.cone_of.ensures.on
+
+pub pane-pane-requires : goal.pane-pane-requires
+pane-pane-requires g c = c.requires.portal
+
+pub make_pair_frame-requires-clause-portal : goal.make_pair_frame-requires-clause-portal
+make_pair_frame-requires-clause-portal g c = c.requires.portal
+
+pub make_pair_frame-requires-clause-same_world : goal.make_pair_frame-requires-clause-same_world
+make_pair_frame-requires-clause-same_world g c = c.requires.same_world
+
+pub to-entered-requires : goal.to-entered-requires
+to-entered-requires g c = c.requires.portal
+
+pub cone_of-requires-clause-pairs : goal.cone_of-requires-clause-pairs
+cone_of-requires-clause-pairs g c = c.requires.pairs
+
+pub cut-requires : goal.cut-requires
+cut-requires g c = ap (λ (f : Frame). length f.mask) c.spare-2.view_is ∙ c.make_pair_frame.ensures.frame.narrowed.same_length ∙ c.requires.pairs.seen_wide ∙ sym c.in_ok-cone_of.ensures.wide
