@@ -15,8 +15,8 @@ use std::marker::Model;
 /// What stands for a row of the flow's own.
 #[derive(Drop)]
 pub(crate) enum Place {
-    /// There is none yet. Was the portal tried before?
-    NotYet { tried: bool },
+    /// There is none yet; whether the portal has passed the cheap tests before.
+    NotYet { passed: bool },
     /// The portal is barred: its row has so many places, all of them clear.
     Barred(u64),
     Row(BitRow),
@@ -66,27 +66,27 @@ impl OwnRows {
         let mut rows = Vec::with_capacity(alloc, portals as usize)?;
         for _portal in 0..portals {
             rows.push(OwnRow {
-                place: Place::NotYet { tried: false },
+                place: Place::NotYet { passed: false },
             })?;
         }
         Ok(OwnRows { rows })
     }
 
-    /// Whether the row of a portal is to be made: there is none yet, and the portal was tried before. It is noted that it was
-    /// tried.
+    /// Whether the row of a portal that has passed the cheap tests is to be made: there is none yet, and it has passed them
+    /// before. It is noted that it did.
     pub(crate) fn is_due(&mut self, portal: u64) -> bool
         requires { portal < length self.old }
         ensures { self.new ≡ self.old }
     {
         match &self.rows[portal as usize].place {
-            Place::NotYet { tried } => {
-                if *tried {
+            Place::NotYet { passed } => {
+                if *passed {
                     return true;
                 }
             }
             _ => return false,
         }
-        self.put(portal, Place::NotYet { tried: true });
+        self.put(portal, Place::NotYet { passed: true });
         false
     }
 

@@ -17,10 +17,12 @@ use std::alloc::{AllocError, Global};
 use std::marker::Model;
 
 /// The first portal of a flow, the frame of the chain with it alone, the leaves that may be in sight of it, and the rows of the
-/// flow's own: that of a portal is the row of its pair with the first. It is made when the portal is tried for the second time,
-/// since it would not pay for one that is tried once; where nothing can be seen via the portal, it is barred before the first.
+/// flow's own: that of a portal is the row of its pair with the first. It is made when the portal passes the cheap tests of a try
+/// for the second time, since it would not pay for one that passes them once; where nothing can be seen via the portal, it is
+/// barred before the first.
 pub(crate) struct Pairs<'a> {
     first: u64,
+    // Its state alone is read; a frame has a drop of its own.
     start: Frame<'a>,
     seen: BitRow,
     own: OwnRows,
@@ -102,8 +104,8 @@ impl<'a> Pairs<'a> {
         &self.own
     }
 
-    /// Whether the row of the pair with a portal is to be made, since there is none yet and the portal was tried before. It is
-    /// noted that it was tried.
+    /// Whether the row of the pair with a portal that has passed the cheap tests is to be made: there is none yet, and it has
+    /// passed them before. It is noted that it did.
     pub(crate) fn is_due(&mut self, portal: u64) -> bool
         requires { portal < length self.old.own }
         ensures { self.new ≡ self.old }

@@ -65,8 +65,8 @@ pub(crate) fn try_portal<'a, S: RowSource>(
     )
 }
 
-/// Whether the row of the pair with a portal may show a leaf that was not found, where there is one. It is made if it is due, by
-/// a frame that is made in the next one.
+/// Makes the row of the pair with a portal if it is due, by a frame that is made in the next one: whether that row may show a
+/// leaf that was not found. Where none is made, it may.
 fn pair_may_show<'a, S: RowSource>(
     alloc: Global,
     world: &World,

@@ -13,7 +13,7 @@ const OPPOSED: &str = "{ ( 0 0 0 ) ( 0 1 0 ) ( 0 0 1 ) stone 0 0 0 1 1
 ";
 
 /// Behind x = 0 and in front of x = 64 at once.
-const APART: &str = "{ ( 0 0 0 ) ( 0 0 1 ) ( 0 1 0 ) stone 0 0 0 1 1
+const NOWHERE: &str = "{ ( 0 0 0 ) ( 0 0 1 ) ( 0 1 0 ) stone 0 0 0 1 1
 ( 64 0 0 ) ( 64 1 0 ) ( 64 0 1 ) stone 0 0 0 1 1 }
 ";
 
@@ -93,8 +93,8 @@ fn brushes_of_worlds(rt: HostRuntime) -> Result<(), Fail> {
     let wide = boxed(alloc, [0, 0, 0], [4096, 64, 64], "stone")?;
     let rows = [
         (OPPOSED, "", [0, 32, 32], has(1, 0, 1, Contents::Empty)),
-        (APART, "", [32, 32, 32], has(1, 0, 2, Contents::Empty)),
-        (APART, &cube, [0, 32, 32], has(2, 1, 6, Contents::Solid)),
+        (NOWHERE, "", [32, 32, 32], has(1, 0, 2, Contents::Empty)),
+        (NOWHERE, &cube, [0, 32, 32], has(2, 1, 6, Contents::Solid)),
         (&cube, &above, [32, 32, 64], has(2, 2, 7, Contents::Solid)),
         (&above, &cube, [32, 32, 64], has(2, 2, 7, Contents::Solid)),
         (&above, &cube, [32, 32, 65], has(2, 2, 7, Contents::Lava)),

@@ -96,7 +96,7 @@ fn row(alloc: Global, len: u64, places: &[u64]) -> Option<BitRow> {
     Some(row)
 }
 
-fn world_of(alloc: Global, sample: &Sample) -> Option<World> {
+fn filled_world(alloc: Global, sample: &Sample) -> Option<World> {
     let text = text_of(alloc, sample.boxes).ok()?;
     let Ok(tree) = tree_of(alloc, &text) else {
         return None;
@@ -145,7 +145,7 @@ fn leads(world: &World, passages: &[(u64, u64)]) -> bool {
 }
 
 fn holds(alloc: Global, sample: &Sample) -> bool {
-    match world_of(alloc, sample) {
+    match filled_world(alloc, sample) {
         Some(world) => numbers(&world, sample.numbered) && leads(&world, sample.passages),
         None => false,
     }
