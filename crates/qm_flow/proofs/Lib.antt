@@ -5,6 +5,7 @@ mod FirstFrames
 mod FirstMasks
 mod FourLeaves
 mod LastElements
+mod OfWorlds
 mod OwnAnswers
 mod PairFrames
 mod PairsKept
@@ -12,3 +13,4 @@ mod Panes
 mod Rounds
 mod Spares
 mod Turns
+mod WaySamples

@@ -1,5 +1,6 @@
--- Pairs that go on: with no row more, over a source that has gone on, and where more is found.
-use Rattle.std.proofs.Common.{ℕ, Bool, List, refl}
+-- Pairs that go on: with no row more, over a source that has gone on, and where more is found; and pairs whose rows are changed
+-- in their place.
+use Rattle.std.proofs.Common.{◌≡◌, ℕ, Bool, List, Option, set, refl, ap, ◌∙◌}
 use Rattle.qm_lists.specs.WorkList.{IsIn}
 use Rattle.qm_contacts.specs.World.{World}
 use Rattle.qm_chains.specs.inner.Pairs.{Pairs, ArePairs}
@@ -15,3 +16,13 @@ pairs_later world now later found old new narrower go = record { same_first = go
 
 pub pairs_found : (world : World) (now : List (List Bool)) (found more : List Bool) (old new : Pairs) → ((n : ℕ) → IsIn found n → IsIn more n) → PairsGoOn world now found old new → PairsGoOn world now more old new
 pairs_found world now found more old new stays go = record { same_first = go.same_first; are = pairs_stay world found more new stays go.are; within = go.within }
+
+-- pairs with other own rows: the same where these are the same, and one put where one is put
+abbrev with_own : List (Option (List Bool)) → Pairs → Pairs
+with_own own pairs = record { first = pairs.first; start = pairs.start; seen = pairs.seen; own = own }
+
+pub own_same : (inside old : Pairs) (own : List (Option (List Bool))) → inside ≡ old → own ≡ inside.own → with_own own inside ≡ old
+own_same inside old own same is = ap (λ (rows : List (Option (List Bool))). with_own rows inside) is ∙ same
+
+pub own_put : (inside old : Pairs) (own : List (Option (List Bool))) (number : ℕ) (row : Option (List Bool)) → inside ≡ old → own ≡ set inside.own number row → with_own own inside ≡ with_own (set old.own number row) old
+own_put inside old own number row same is = ap (λ (rows : List (Option (List Bool))). with_own rows inside) is ∙ ap (λ (pairs : Pairs). with_own (set pairs.own number row) pairs) same

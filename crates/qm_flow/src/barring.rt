@@ -1,6 +1,6 @@
 //! Portals via which nothing is seen from the first one of a flow, since the portals back do not show its leaf.
 
-ghost use Rattle.std.specs.Prelude.{ℕ, ◌≡◌, ◌<◌, Bool, List, false, length, IfSome, IsTrue};
+ghost use Rattle.std.specs.Prelude.{◌≡◌, ◌<◌, Bool, List, false, length, IfSome, IsTrue};
 ghost use Rattle.qm_contacts.specs.NumberedLeaves.{numbered_leaves};
 ghost use Rattle.qm_chains.specs.inner.OwnRows.{IsInSightAt};
 ghost use Rattle.qm_chains.specs.inner.Pairs.{ArePairs};
@@ -33,13 +33,18 @@ fn bar_portal<S: RowSource>(world: &World, source: &mut S, pairs: &mut Pairs, po
     ensures pairs { (found : List Bool) → PairsGoOn world.now (S.ceilings source.old) found pairs.old pairs.new }
     ensures on { S.goes_on source.old source.new }
 {
-    if !pairs.seen().get(world.from(portal)) {
+    if !pairs.seen.get(world.from(portal)) {
         return;
     }
-    if !is_unseen(world, source, pairs.first(), portal) {
+    if !is_unseen(world, source, pairs.first, portal) {
         return;
     }
-    pairs.put(portal, Place::Barred(world.leaves()));
+    pairs.own.put(
+        portal,
+        Place::Barred {
+            leaves: world.leaves(),
+        },
+    );
 }
 
 /// Whether nothing is seen from the first portal via another one, as the row of the portal back tells.

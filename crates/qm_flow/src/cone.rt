@@ -5,9 +5,9 @@ ghost use Rattle.std.specs.Bool.{then_some};
 ghost use Rattle.qm_lists.specs.WorkList.{IsIn};
 ghost use Rattle.qm_contacts.specs.NumberedLeaves.{numbered_leaves};
 ghost use Rattle.qm_chains.specs.inner.Cone.{LeadsInto, IsInCone, IsLeftOf, AreEntered};
-ghost use Rattle.qm_chains.specs.inner.Pairs.{ArePairs};
 ghost use Rattle.qm_chains.specs.inner.Walk.{AreWide};
 ghost use Rattle.qm_flow.specs.inner.CutFrame.{IsCutFrame};
+ghost use Rattle.qm_flow.specs.inner.OfWorld.{AreOfWorld};
 
 use crate::frame::Frame;
 use crate::leading::may_lead_on;
@@ -30,12 +30,10 @@ pub(crate) fn left_of<'a, S: RowSource>(
     scratch: &mut Scratch,
 ) -> Result<bool, AllocError>
     requires entered { entered < length (numbered_leaves world.now.tree) }
-    requires same_world { S.world source.old ≡ world.now }
-    requires pairs { ArePairs world.now found.now pairs.now }
-    requires wide { AreWide world.now frame.old found.now }
-    requires spares { AreWide world.now frame.old scratch.old.cone }
+    requires of_world { AreOfWorld world.now (S.world source.old) pairs.now frame.old found.now }
+    requires cone { length scratch.old.cone ≡ length (numbered_leaves world.now.tree) }
     ensures left { IfOk result (λ left. IsLeftOf world.now pairs.now.first frame.old found.now entered (then_some left frame.new)) }
-    ensures spares { OnOk result (AreWide world.now frame.new scratch.new.cone) }
+    ensures wide { OnOk result (AreWide world.now frame.new scratch.new.cone) }
     ensures on { S.goes_on source.old source.new }
 {
     cone_of(world, source, pairs, frame, found, entered, scratch)?;
@@ -65,9 +63,7 @@ pub(crate) fn cone_of<'a, S: RowSource>(
     scratch: &mut Scratch,
 ) -> Result<(), AllocError>
     requires entered { entered < length (numbered_leaves world.now.tree) }
-    requires same_world { S.world source.old ≡ world.now }
-    requires pairs { ArePairs world.now found.now pairs.now }
-    requires wide { AreWide world.now frame.now found.now }
+    requires of_world { AreOfWorld world.now (S.world source.old) pairs.now frame.now found.now }
     requires cone { length scratch.old.cone ≡ length (numbered_leaves world.now.tree) }
     ensures wide { OnOk result (length scratch.new.cone ≡ length (numbered_leaves world.now.tree)) }
     ensures cone { OnOk result ((n : ℕ) → IsInCone world.now pairs.now.first frame.now found.now entered n → IsIn scratch.new.cone n) }
@@ -95,9 +91,7 @@ fn go_on<'a, S: RowSource>(
     scratch: &mut Scratch,
 ) -> Result<(), AllocError>
     requires portals { All (λ p. p < length world.now.portals) portals.now }
-    requires same_world { S.world source.old ≡ world.now }
-    requires pairs { ArePairs world.now found.now pairs.now }
-    requires wide { AreWide world.now frame.now found.now }
+    requires of_world { AreOfWorld world.now (S.world source.old) pairs.now frame.now found.now }
     requires cone { length scratch.old.cone ≡ length (numbered_leaves world.now.tree) }
     ensures entered { OnOk result (AreEntered (LeadsInto world.now pairs.now.first frame.now found.now portals.now) scratch.old.cone scratch.new.cone scratch.old.due.items scratch.new.due.items) }
     ensures on { S.goes_on source.old source.new }
@@ -119,9 +113,7 @@ fn enter<'a, S: RowSource>(
     scratch: &mut Scratch,
 ) -> Result<(), AllocError>
     requires portal { portal < length world.now.portals }
-    requires same_world { S.world source.old ≡ world.now }
-    requires pairs { ArePairs world.now found.now pairs.now }
-    requires wide { AreWide world.now frame.now found.now }
+    requires of_world { AreOfWorld world.now (S.world source.old) pairs.now frame.now found.now }
     requires cone { length scratch.old.cone ≡ length (numbered_leaves world.now.tree) }
     ensures entered { OnOk result (AreEntered (LeadsInto world.now pairs.now.first frame.now found.now (portal ∷ [])) scratch.old.cone scratch.new.cone scratch.old.due.items scratch.new.due.items) }
     ensures on { S.goes_on source.old source.new }

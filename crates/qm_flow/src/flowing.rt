@@ -68,11 +68,11 @@ fn walk<'a, S: RowSource>(
         HasEnded world.now ceilings portal row) }
     ensures on { S.goes_on source.old source.new }
 {
-    copy(&mut stack.next.mask, pairs.seen());
+    copy(&mut stack.next.mask, &pairs.seen);
     stack.push_next(alloc, world, portal)?;
-    let mut row = BitRow::with_len(alloc, world.leaves())?;
-    find(&mut row, pairs.seen(), world.to(portal));
-    show_by_lines(alloc, world, source, portal, &mut row)?;
+    let mut found = BitRow::with_len(alloc, world.leaves())?;
+    find(&mut found, &pairs.seen, world.to(portal));
+    show_by_lines(alloc, world, source, portal, &mut found)?;
     bar_unseen(world, source, pairs);
-    end_walk(alloc, world, source, pairs, row, stack)
+    end_walk(alloc, world, source, pairs, found, stack)
 }

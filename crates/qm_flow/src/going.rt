@@ -1,16 +1,17 @@
 //! A chain goes on through a portal.
 
-ghost use Rattle.std.specs.Prelude.{ℕ, ◌≡◌, ◌<◌, Bool, List, length, IfOk, OnOk};
+ghost use Rattle.std.specs.Prelude.{ℕ, ◌<◌, Bool, List, length, IfOk, OnOk};
 ghost use Rattle.std.specs.Bool.{then_some};
 ghost use Rattle.qm_lists.specs.WorkList.{IsIn};
 ghost use Rattle.qm_contacts.specs.OwnPortals.{HasOwnPortals};
 ghost use Rattle.qm_contacts.specs.Portals.{Portal};
 ghost use Rattle.qm_chains.specs.Shown.{IsAt};
 ghost use Rattle.qm_chains.specs.inner.Frame.{put_back, EndsChain};
-ghost use Rattle.qm_chains.specs.inner.Pairs.{ArePairs, LieWithinPairs};
+ghost use Rattle.qm_chains.specs.inner.Pairs.{LieWithinPairs};
 ghost use Rattle.qm_chains.specs.inner.Walk.{AreWide, IsTried};
 ghost use Rattle.qm_sight.specs.WordInSight.{LieWithin};
 ghost use Rattle.qm_sight.specs.InCeiling.{IsInCeiling};
+ghost use Rattle.qm_flow.specs.inner.OfWorld.{AreOfWorld};
 
 use crate::cone::left_of;
 use crate::frame::Frame;
@@ -33,22 +34,20 @@ pub(crate) fn go_through<'a, S: RowSource>(
     pairs: &Pairs,
     frame: &Frame<'a>,
     portal: u64,
-    row: &mut BitRow,
+    found: &mut BitRow,
     next: &mut Frame<'a>,
     scratch: &mut Scratch,
 ) -> Result<bool, AllocError>
     requires portal { portal < length world.now.portals }
     requires own_portals { HasOwnPortals world.now }
-    requires same_world { S.world source.old ≡ world.now }
-    requires wide { AreWide world.now frame.now row.old }
+    requires of_world { AreOfWorld world.now (S.world source.old) pairs.now frame.now found.old }
     requires spares { AreWide world.now next.old scratch.old.cone }
-    requires pairs { ArePairs world.now row.old pairs.now }
     requires new { (q : Portal) → IsAt world.now.portals portal q → IsIn frame.now.met q.to → ⊥ }
     ensures tried { IfOk result (λ on. (ceilings : List (List Bool)) → LieWithin (S.ceilings source.old) ceilings → LieWithinPairs (IsInCeiling ceilings) pairs.now.own →
         EndsChain world.now (IsInCeiling ceilings) pairs.now.first (put_back portal frame.now) →
-        IsTried world.now (IsInCeiling ceilings) pairs.now.first frame.now portal row.old row.new (then_some on next.new)) }
+        IsTried world.now (IsInCeiling ceilings) pairs.now.first frame.now portal found.old found.new (then_some on next.new)) }
     ensures spares { OnOk result (AreWide world.now next.new scratch.new.cone) }
-    ensures stays { (n : ℕ) → IsIn row.old n → IsIn row.new n }
+    ensures stays { (n : ℕ) → IsIn found.old n → IsIn found.new n }
     ensures on { S.goes_on source.old source.new }
 {
     let pane = world.pane(portal);
@@ -60,9 +59,9 @@ pub(crate) fn go_through<'a, S: RowSource>(
     let entered = world.to(portal);
     next.untried = world.leaving(entered);
     copy(&mut next.mask, &frame.mask);
-    narrow(pairs.own(), source, portal, &mut next.mask);
+    narrow(&pairs.own, source, portal, &mut next.mask);
     copy(&mut next.met, &frame.met);
     next.met.set(entered);
-    find(row, &next.mask, entered);
-    left_of(world, source, pairs, next, row, entered, scratch)
+    find(found, &next.mask, entered);
+    left_of(world, source, pairs, next, found, entered, scratch)
 }

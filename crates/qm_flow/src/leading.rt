@@ -5,8 +5,7 @@ ghost use Rattle.qm_lists.specs.WorkList.{IsIn};
 ghost use Rattle.qm_contacts.specs.Portals.{Portal};
 ghost use Rattle.qm_chains.specs.Shown.{IsAt};
 ghost use Rattle.qm_chains.specs.inner.Cone.{LeadsOn};
-ghost use Rattle.qm_chains.specs.inner.Pairs.{ArePairs};
-ghost use Rattle.qm_chains.specs.inner.Walk.{AreWide};
+ghost use Rattle.qm_flow.specs.inner.OfWorld.{AreOfWorld};
 
 use crate::frame::Frame;
 use crate::narrowing::may_show;
@@ -16,8 +15,8 @@ use qm_narrow::may_pass;
 use qm_portal::World;
 use qm_sight::RowSource;
 
-/// Whether a portal may lead on: it enters a leaf in which the chain was not, it may show a leaf that was not found, and the
-/// state lets it pass.
+/// Whether a portal may lead on: it enters a leaf in which the chain was not, it may show a leaf of the mask that was not
+/// found, and the state lets it pass.
 pub(crate) fn may_lead_on<'a, S: RowSource>(
     world: &World,
     source: &mut S,
@@ -27,9 +26,7 @@ pub(crate) fn may_lead_on<'a, S: RowSource>(
     found: &BitRow,
 ) -> bool
     requires portal { portal < length world.now.portals }
-    requires same_world { S.world source.old ≡ world.now }
-    requires pairs { ArePairs world.now found.now pairs.now }
-    requires wide { AreWide world.now frame.now found.now }
+    requires of_world { AreOfWorld world.now (S.world source.old) pairs.now frame.now found.now }
     ensures new { result ≡ true → (q : Portal) → IsAt world.now.portals portal q → IsIn frame.now.met q.to → ⊥ }
     ensures none { result ≡ false → (q : Portal) → IsAt world.now.portals portal q → LeadsOn world.now pairs.now.first frame.now found.now q → ⊥ }
     ensures on { S.goes_on source.old source.new }
@@ -37,7 +34,7 @@ pub(crate) fn may_lead_on<'a, S: RowSource>(
     if frame.met.get(world.to(portal)) {
         return false;
     }
-    if !may_show(pairs.own(), source, portal, &frame.mask, found) {
+    if !may_show(&pairs.own, source, portal, &frame.mask, found) {
         return false;
     }
     may_pass(&frame.state, world.pane(portal))

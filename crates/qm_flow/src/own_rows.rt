@@ -15,14 +15,15 @@ use std::marker::Model;
 /// What stands for a row of the flow's own.
 #[derive(Drop)]
 pub(crate) enum Place {
-    /// There is none yet; whether the portal has passed the cheap tests before.
-    NotYet { passed: bool },
-    /// The portal is barred: its row has so many places, all of them clear.
-    Barred(u64),
+    /// There is none yet; whether it is noted that the portal has passed the cheap tests.
+    NotYet { noted: bool },
+    /// The portal is barred: its row is clear, with so many leaves.
+    Barred { leaves: u64 },
+    /// The row that was made.
     Row(BitRow),
 }
 
-/// The row of the flow's own for one portal, or none yet. A clear row takes no memory.
+/// The row of the flow's own for one portal, or none yet. The row of a barred portal takes no memory.
 #[derive(Drop)]
 struct OwnRow {
     place: Place,
@@ -66,27 +67,27 @@ impl OwnRows {
         let mut rows = Vec::with_capacity(alloc, portals as usize)?;
         for _portal in 0..portals {
             rows.push(OwnRow {
-                place: Place::NotYet { passed: false },
+                place: Place::NotYet { noted: false },
             })?;
         }
         Ok(OwnRows { rows })
     }
 
-    /// Whether the row of a portal that has passed the cheap tests is to be made: there is none yet, and it has passed them
-    /// before. It is noted that it did.
-    pub(crate) fn is_due(&mut self, portal: u64) -> bool
+    /// Notes that a portal has passed the cheap tests: whether its row is to be made, since that was noted before and there is
+    /// none yet.
+    pub(crate) fn note(&mut self, portal: u64) -> bool
         requires { portal < length self.old }
         ensures { self.new ≡ self.old }
     {
         match &self.rows[portal as usize].place {
-            Place::NotYet { passed } => {
-                if *passed {
+            Place::NotYet { noted } => {
+                if *noted {
                     return true;
                 }
             }
             _ => return false,
         }
-        self.put(portal, Place::NotYet { passed: true });
+        self.put(portal, Place::NotYet { noted: true });
         false
     }
 
@@ -109,7 +110,7 @@ impl OwnRows {
     {
         match &self.rows[portal as usize].place {
             Place::NotYet { .. } => source.word(portal, k),
-            Place::Barred(_) => 0,
+            Place::Barred { .. } => 0,
             Place::Row(row) => row.word(k),
         }
     }

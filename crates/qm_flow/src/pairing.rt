@@ -1,13 +1,14 @@
 //! The row of a pair: what may be seen from the first portal via the other one.
 
-ghost use Rattle.std.specs.Prelude.{ℕ, ◌≡◌, ◌<◌, false, length, replicate, OnOk};
+ghost use Rattle.std.specs.Prelude.{ℕ, ◌≡◌, ◌<◌, length, OnOk};
 ghost use Rattle.qm_lists.specs.WorkList.{IsIn};
 ghost use Rattle.qm_contacts.specs.NumberedLeaves.{numbered_leaves};
 ghost use Rattle.qm_contacts.specs.OwnPortals.{HasOwnPortals};
 ghost use Rattle.qm_chains.specs.inner.OwnRows.{AreOwnRows, CanHave};
-ghost use Rattle.qm_chains.specs.inner.Pairs.{IsPairRow, ArePairs};
+ghost use Rattle.qm_chains.specs.inner.Pairs.{IsPairRow};
 ghost use Rattle.qm_sight.specs.WordInSight.{ceiling_of};
 ghost use Rattle.qm_chains.specs.inner.Walk.{AreWide};
+ghost use Rattle.qm_flow.specs.inner.OfWorld.{AreOfWorld};
 ghost use Rattle.qm_flow.specs.inner.PairFrame.{IsPairFrame};
 ghost use Rattle.qm_flow.specs.inner.PairsGoOn.{PairsGoOn};
 
@@ -36,10 +37,8 @@ pub(crate) fn pair<'a, S: RowSource>(
 ) -> Result<(), AllocError>
     requires portal { portal < length world.now.portals }
     requires own_portals { HasOwnPortals world.now }
-    requires same_world { S.world source.old ≡ world.now }
-    requires found { length found.now ≡ length (numbered_leaves world.now.tree) }
-    requires spares { AreWide world.now spare.old scratch.old.cone }
-    requires pairs { ArePairs world.now found.now pairs.old }
+    requires of_world { AreOfWorld world.now (S.world source.old) pairs.old spare.old found.now }
+    requires cone { length scratch.old.cone ≡ length (numbered_leaves world.now.tree) }
     ensures pairs { OnOk result (PairsGoOn world.now (S.ceilings source.old) found.now pairs.old pairs.new) }
     ensures spares { OnOk result (AreWide world.now spare.new scratch.new.cone) }
     ensures on { S.goes_on source.old source.new }
@@ -47,12 +46,12 @@ pub(crate) fn pair<'a, S: RowSource>(
     cone_of_pair(alloc, world, source, pairs, portal, found, spare, scratch)?;
     let mut row = BitRow::with_len(alloc, world.leaves())?;
     row.or_row(&scratch.cone);
-    pairs.put(portal, Place::Row(row));
+    pairs.own.put(portal, Place::Row(row));
     Ok(())
 }
 
-/// Makes the row for cones that of the pair with a portal: the cone of the chain with these two, and no leaf where the step
-/// blocks.
+/// Makes the row for cones that of the pair with a portal: what the cone of the chain with these two has of its mask, and no
+/// leaf where the step blocks.
 fn cone_of_pair<'a, S: RowSource>(
     alloc: Global,
     world: &World,
@@ -65,10 +64,8 @@ fn cone_of_pair<'a, S: RowSource>(
 ) -> Result<(), AllocError>
     requires portal { portal < length world.now.portals }
     requires own_portals { HasOwnPortals world.now }
-    requires same_world { S.world source.old ≡ world.now }
-    requires found { length found.now ≡ length (numbered_leaves world.now.tree) }
-    requires spares { AreWide world.now spare.old scratch.old.cone }
-    requires pairs { ArePairs world.now found.now pairs.now }
+    requires of_world { AreOfWorld world.now (S.world source.old) pairs.now spare.old found.now }
+    requires cone { length scratch.old.cone ≡ length (numbered_leaves world.now.tree) }
     ensures has { OnOk result (IsPairRow world.now pairs.now.first found.now portal scratch.new.cone) }
     ensures within { OnOk result ((n : ℕ) → IsIn scratch.new.cone n → CanHave (ceiling_of (S.ceilings source.old) portal) pairs.now.own portal n) }
     ensures spares { OnOk result (AreWide world.now spare.new scratch.new.cone) }
@@ -76,7 +73,7 @@ fn cone_of_pair<'a, S: RowSource>(
 {
     let pane = world.pane(portal);
     let buffers = &mut scratch.steps;
-    let leads = step_into(alloc, buffers, &mut spare.state, pairs.start(), pane)?;
+    let leads = step_into(alloc, buffers, &mut spare.state, &pairs.start.state, pane)?;
     if !leads {
         clear(&mut scratch.cone);
         return Ok(());
@@ -101,15 +98,13 @@ fn make_pair_frame<'a, S: RowSource>(
     requires same_world { S.world source.old ≡ world.now }
     requires first { pairs.now.first < length world.now.portals }
     requires own { AreOwnRows world.now pairs.now.own }
-    requires seen { length pairs.now.seen ≡ length (numbered_leaves world.now.tree) }
-    requires met { length frame.old.met ≡ length (numbered_leaves world.now.tree) }
-    requires mask { length frame.old.mask ≡ length (numbered_leaves world.now.tree) }
+    requires wide { AreWide world.now frame.old pairs.now.seen }
     ensures frame { IsPairFrame world.now (ceiling_of (S.ceilings source.old) portal) pairs.now frame.old.state portal frame.new }
     ensures on { S.goes_on source.old source.new }
 {
-    copy(&mut frame.mask, pairs.seen());
-    narrow(pairs.own(), source, portal, &mut frame.mask);
-    let first = pairs.first();
+    copy(&mut frame.mask, &pairs.seen);
+    narrow(&pairs.own, source, portal, &mut frame.mask);
+    let first = pairs.first;
     clear(&mut frame.met);
     frame.met.set(world.from(first));
     frame.met.set(world.to(first));

@@ -1,16 +1,14 @@
 //! What a flow knows of its first portal and another one, a pair.
 
-ghost use Rattle.std.specs.Prelude.{◌≡◌, ◌<◌, length, slice_set, IfOk};
+ghost use Rattle.std.specs.Prelude.{◌≡◌, ◌<◌, length, IfOk};
 ghost use Rattle.qm_contacts.specs.OwnPortals.{HasOwnPortals};
 ghost use Rattle.qm_flow.specs.inner.BegunPairs.{ArePairsBegun};
 ghost use Rattle.qm_flow.specs.inner.FirstMask.{IsFirstMask};
-ghost use Rattle.qm_flow.specs.inner.OwnRow.{own_row};
 
 use crate::frame::Frame;
 use crate::narrowing::{full, narrow};
-use crate::own_rows::{OwnRows, Place};
+use crate::own_rows::OwnRows;
 use qm_bits::BitRow;
-use qm_narrow::ChainState;
 use qm_portal::World;
 use qm_sight::RowSource;
 use std::alloc::{AllocError, Global};
@@ -21,11 +19,11 @@ use std::marker::Model;
 /// for the second time, since it would not pay for one that passes them once; where nothing can be seen via the portal, it is
 /// barred before the first.
 pub(crate) struct Pairs<'a> {
-    first: u64,
+    pub(crate) first: u64,
     // Its state alone is read; a frame has a drop of its own.
-    start: Frame<'a>,
-    seen: BitRow,
-    own: OwnRows,
+    pub(crate) start: Frame<'a>,
+    pub(crate) seen: BitRow,
+    pub(crate) own: OwnRows,
 }
 
 impl<'a> Model for Pairs<'a> {
@@ -74,50 +72,5 @@ impl<'a> Pairs<'a> {
             seen,
             own,
         })
-    }
-
-    /// The number of the first portal.
-    pub(crate) fn first(&self) -> u64
-        ensures { result ≡ self.now.first }
-    {
-        self.first
-    }
-
-    /// The state of the chain with the first portal alone.
-    pub(crate) fn start(&self) -> &ChainState
-        ensures { result.now ≡ self.now.start }
-    {
-        &self.start.state
-    }
-
-    /// The leaves that may be in sight of the first portal.
-    pub(crate) fn seen(&self) -> &BitRow
-        ensures { result.now ≡ self.now.seen }
-    {
-        &self.seen
-    }
-
-    /// The rows of the flow's own.
-    pub(crate) fn own(&self) -> &OwnRows
-        ensures { result.now ≡ self.now.own }
-    {
-        &self.own
-    }
-
-    /// Whether the row of the pair with a portal that has passed the cheap tests is to be made: there is none yet, and it has
-    /// passed them before. It is noted that it did.
-    pub(crate) fn is_due(&mut self, portal: u64) -> bool
-        requires { portal < length self.old.own }
-        ensures { self.new ≡ self.old }
-    {
-        self.own.is_due(portal)
-    }
-
-    /// Puts what stands for the row of the pair with a portal.
-    pub(crate) fn put(&mut self, portal: u64, place: Place)
-        requires { portal < length self.old.own }
-        ensures { self.new ≡ record { first = self.old.first; start = self.old.start; seen = self.old.seen; own = slice_set self.old.own portal (own_row place) } }
-    {
-        self.own.put(portal, place);
     }
 }

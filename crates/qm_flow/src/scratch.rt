@@ -3,7 +3,7 @@
 use qm_bits::BitRow;
 use qm_narrow::StepBuffers;
 
-/// Memory that each try uses again: that of steps, a row for a cone, and the leaves from which it is still to go on.
+/// Memory that each try uses again: that of steps, a row for a cone, and the leaves from which a flood is still to go on.
 #[derive(Drop)]
 pub(crate) struct Scratch {
     pub(crate) steps: StepBuffers,

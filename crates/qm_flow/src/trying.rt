@@ -7,10 +7,11 @@ ghost use Rattle.qm_contacts.specs.Portals.{Portal};
 ghost use Rattle.qm_chains.specs.Shown.{IsAt};
 ghost use Rattle.qm_chains.specs.inner.Cone.{LeadsOn};
 ghost use Rattle.qm_chains.specs.inner.Frame.{put_back, EndsChain};
-ghost use Rattle.qm_chains.specs.inner.Pairs.{ArePairs, LieWithinPairs};
+ghost use Rattle.qm_chains.specs.inner.Pairs.{LieWithinPairs};
 ghost use Rattle.qm_chains.specs.inner.Walk.{AreWide, IsTried};
 ghost use Rattle.qm_sight.specs.WordInSight.{LieWithin};
 ghost use Rattle.qm_sight.specs.InCeiling.{IsInCeiling};
+ghost use Rattle.qm_flow.specs.inner.OfWorld.{AreOfWorld};
 ghost use Rattle.qm_flow.specs.inner.PairsGoOn.{PairsGoOn};
 
 use crate::frame::Frame;
@@ -34,34 +35,32 @@ pub(crate) fn try_portal<'a, S: RowSource>(
     pairs: &mut Pairs,
     frame: &Frame<'a>,
     portal: u64,
-    row: &mut BitRow,
+    found: &mut BitRow,
     next: &mut Frame<'a>,
     scratch: &mut Scratch,
 ) -> Result<bool, AllocError>
     requires portal { portal < length world.now.portals }
     requires own_portals { HasOwnPortals world.now }
-    requires same_world { S.world source.old ≡ world.now }
-    requires wide { AreWide world.now frame.now row.old }
+    requires of_world { AreOfWorld world.now (S.world source.old) pairs.old frame.now found.old }
     requires spares { AreWide world.now next.old scratch.old.cone }
-    requires pairs { ArePairs world.now row.old pairs.old }
     ensures tried { IfOk result (λ on. (ceilings : List (List Bool)) → LieWithin (S.ceilings source.old) ceilings → LieWithinPairs (IsInCeiling ceilings) pairs.old.own →
         EndsChain world.now (IsInCeiling ceilings) pairs.old.first (put_back portal frame.now) →
-        IsTried world.now (IsInCeiling ceilings) pairs.old.first frame.now portal row.old row.new (then_some on next.new)) }
+        IsTried world.now (IsInCeiling ceilings) pairs.old.first frame.now portal found.old found.new (then_some on next.new)) }
     ensures spares { OnOk result (AreWide world.now next.new scratch.new.cone) }
-    ensures pairs { OnOk result (PairsGoOn world.now (S.ceilings source.old) row.new pairs.old pairs.new) }
+    ensures pairs { OnOk result (PairsGoOn world.now (S.ceilings source.old) found.new pairs.old pairs.new) }
     ensures on { S.goes_on source.old source.new }
 {
-    if !may_lead_on(world, source, pairs, frame, portal, row) {
+    if !may_lead_on(world, source, pairs, frame, portal, found) {
         return Ok(false);
     }
     let may = pair_may_show(
-        alloc, world, source, pairs, frame, portal, row, next, scratch,
+        alloc, world, source, pairs, frame, portal, found, next, scratch,
     )?;
     if !may {
         return Ok(false);
     }
     go_through(
-        alloc, world, source, pairs, frame, portal, row, next, scratch,
+        alloc, world, source, pairs, frame, portal, found, next, scratch,
     )
 }
 
@@ -74,25 +73,23 @@ fn pair_may_show<'a, S: RowSource>(
     pairs: &mut Pairs,
     frame: &Frame<'a>,
     portal: u64,
-    row: &BitRow,
+    found: &BitRow,
     next: &mut Frame<'a>,
     scratch: &mut Scratch,
 ) -> Result<bool, AllocError>
     requires portal { portal < length world.now.portals }
     requires own_portals { HasOwnPortals world.now }
-    requires same_world { S.world source.old ≡ world.now }
-    requires wide { AreWide world.now frame.now row.now }
+    requires of_world { AreOfWorld world.now (S.world source.old) pairs.old frame.now found.now }
     requires spares { AreWide world.now next.old scratch.old.cone }
-    requires pairs { ArePairs world.now row.now pairs.old }
-    ensures none { IfOk result (λ may. may ≡ false → (q : Portal) → IsAt world.now.portals portal q → LeadsOn world.now pairs.old.first frame.now row.now q → ⊥) }
+    ensures none { IfOk result (λ may. may ≡ false → (q : Portal) → IsAt world.now.portals portal q → LeadsOn world.now pairs.old.first frame.now found.now q → ⊥) }
     ensures spares { OnOk result (AreWide world.now next.new scratch.new.cone) }
-    ensures pairs { OnOk result (PairsGoOn world.now (S.ceilings source.old) row.now pairs.old pairs.new) }
+    ensures pairs { OnOk result (PairsGoOn world.now (S.ceilings source.old) found.now pairs.old pairs.new) }
     ensures on { S.goes_on source.old source.new }
 {
-    if !pairs.is_due(portal) {
+    if !pairs.own.note(portal) {
         return Ok(true);
     }
-    pair(alloc, world, source, pairs, portal, row, next, scratch)?;
-    let may = may_show(pairs.own(), source, portal, &frame.mask, row);
+    pair(alloc, world, source, pairs, portal, found, next, scratch)?;
+    let may = may_show(&pairs.own, source, portal, &frame.mask, found);
     Ok(may)
 }

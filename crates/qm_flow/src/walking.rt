@@ -2,13 +2,9 @@
 
 ghost use Rattle.std.specs.Prelude.{ℕ, ◌≡◌, ◌<◌, Bool, List, [], length, IfOk, OnOk};
 ghost use Rattle.std.specs.List.{sum_by};
-ghost use Rattle.qm_contacts.specs.NumberedLeaves.{numbered_leaves};
 ghost use Rattle.qm_contacts.specs.OwnPortals.{HasOwnPortals};
-ghost use Rattle.qm_chains.specs.inner.Walk.{IsWalk, frame_weight};
-ghost use Rattle.qm_sight.specs.InCeiling.{IsInCeiling};
+ghost use Rattle.qm_chains.specs.inner.Walk.{frame_weight};
 ghost use Rattle.qm_sight.specs.WordInSight.{LieWithin};
-ghost use Rattle.qm_flow.specs.inner.FreshStack.{IsFreshStack};
-ghost use Rattle.qm_flow.specs.inner.FirstMask.{IsFirstMask};
 ghost use Rattle.qm_flow.specs.inner.Spares.{AreSparesWide};
 ghost use Rattle.qm_flow.specs.inner.WalkSoFar.{IsWalkSoFar, IsSomeWalk};
 
@@ -26,23 +22,22 @@ pub(crate) fn end_walk<'a, S: RowSource>(
     world: &'a World,
     source: &mut S,
     pairs: &mut Pairs,
-    row: BitRow,
+    mut found: BitRow,
     stack: &mut FrameStack<'a>,
 ) -> Result<BitRow, AllocError>
     requires own_portals { HasOwnPortals world.now }
     requires same_world { S.world source.old ≡ world.now }
-    requires walk { IsSomeWalk world.now (S.ceilings source.old) pairs.old stack.old.frames.items row }
+    requires walk { IsSomeWalk world.now (S.ceilings source.old) pairs.old stack.old.frames.items found }
     requires spares { AreSparesWide world.now stack.old }
     ensures walk { IfOk result (λ ended. (p : ℕ) (ceilings : List (List Bool)) → LieWithin (S.ceilings source.old) ceilings →
-        IsWalkSoFar world.now ceilings p pairs.old stack.old.frames.items row →
+        IsWalkSoFar world.now ceilings p pairs.old stack.old.frames.items found →
         IsWalkSoFar world.now ceilings p pairs.new [] ended) }
     ensures on { S.goes_on source.old source.new }
 {
-    let mut row = row;
     while !stack.frames.is_empty() {
-        go_round(alloc, world, source, pairs, &mut row, stack)?;
+        go_round(alloc, world, source, pairs, &mut found, stack)?;
     }
-    Ok(row)
+    Ok(found)
 }
 
 /// One round: a portal is tried at the last frame, or none is left there.
@@ -51,17 +46,17 @@ fn go_round<'a, S: RowSource>(
     world: &'a World,
     source: &mut S,
     pairs: &mut Pairs,
-    row: &mut BitRow,
+    found: &mut BitRow,
     stack: &mut FrameStack<'a>,
 ) -> Result<(), AllocError>
     requires own_portals { HasOwnPortals world.now }
     requires same_world { S.world source.old ≡ world.now }
-    requires walk { IsSomeWalk world.now (S.ceilings source.old) pairs.old stack.old.frames.items row.old }
+    requires walk { IsSomeWalk world.now (S.ceilings source.old) pairs.old stack.old.frames.items found.old }
     requires not_ended { 0 < length stack.old.frames.items }
     requires spares { AreSparesWide world.now stack.old }
     ensures walk { OnOk result ((p : ℕ) (ceilings : List (List Bool)) → LieWithin (S.ceilings source.old) ceilings →
-        IsWalkSoFar world.now ceilings p pairs.old stack.old.frames.items row.old →
-        IsWalkSoFar world.now ceilings p pairs.new stack.new.frames.items row.new) }
+        IsWalkSoFar world.now ceilings p pairs.old stack.old.frames.items found.old →
+        IsWalkSoFar world.now ceilings p pairs.new stack.new.frames.items found.new) }
     ensures spares { OnOk result (AreSparesWide world.now stack.new) }
     ensures less { OnOk result (sum_by (frame_weight world.now) stack.new.frames.items < sum_by (frame_weight world.now) stack.old.frames.items) }
     ensures on { S.goes_on source.old source.new }
@@ -78,14 +73,14 @@ fn go_round<'a, S: RowSource>(
                 pairs,
                 frame,
                 portal,
-                row,
+                found,
                 &mut stack.next,
                 &mut stack.scratch,
             )?;
             if !on {
                 return Ok(());
             }
-            stack.push_next(alloc, world, pairs.first())
+            stack.push_next(alloc, world, pairs.first)
         }
     }
 }

@@ -4,6 +4,7 @@ use Rattle.qm_lists.proofs.WorkLists.{place_within}
 use Rattle.qm_chains.specs.inner.Cone.{IsConeSoFar}
 use Rattle.qm_chains.proofs.Entering.{cone_begins, leaf_in, leaving_within, cone_more, cone_less, cone_ends}
 use Rattle.qm_flow.proofs.LastElements.{pushed_to}
+use Rattle.qm_flow.proofs.OfWorlds.{of_world_later}
 use Rattle.qm_flow.proofs.cone.cone_of.Goals as goal
 
 pub loop-leaf-init : goal.loop-leaf-init
@@ -25,8 +26,9 @@ leaving-portals-requires g c =
 pub go_on-requires-clause-portals : goal.go_on-requires-clause-portals
 go_on-requires-clause-portals g c = leaving_within c.args.world.now c.args.pairs.now.first c.args.frame.now c.args.found.now c.in-Some.leaf c.leaving-portals.result.now c.leaving-portals.ensures
 
-pub go_on-requires-clause-same_world : goal.go_on-requires-clause-same_world
-go_on-requires-clause-same_world g c = g.met.S.RowSource.same_world c.args.source.now c.loop-leaf.source c.loop-leaf.invariant.on ∙ c.requires.same_world
+pub go_on-requires-clause-of_world : goal.go_on-requires-clause-of_world
+go_on-requires-clause-of_world g c = of_world_later c.args.world.now (g.S.RowSource.world c.args.source.now) (g.S.RowSource.world c.loop-leaf.source) c.args.pairs.now c.args.frame.now c.args.found.now
+    (g.met.S.RowSource.same_world c.args.source.now c.loop-leaf.source c.loop-leaf.invariant.on) c.requires.of_world
 
 pub loop-leaf-preserved : goal.loop-leaf-preserved
 loop-leaf-preserved g c = record {
@@ -53,12 +55,6 @@ set-requires g c =
     let within = c.requires.entered in
     let wide = ap length c.clear.ensures ∙ length-replicate (length c.args.scratch.now.cone) false ∙ c.requires.cone in
     omega (arith, within, wide)
-
-pub go_on-requires-clause-pairs : goal.go_on-requires-clause-pairs
-go_on-requires-clause-pairs g c = c.requires.pairs
-
-pub go_on-requires-clause-wide : goal.go_on-requires-clause-wide
-go_on-requires-clause-wide g c = c.requires.wide
 
 pub go_on-requires-clause-cone : goal.go_on-requires-clause-cone
 go_on-requires-clause-cone g c = c.loop-leaf.invariant.so_far.wide

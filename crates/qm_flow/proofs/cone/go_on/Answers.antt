@@ -3,6 +3,7 @@ use Rattle.std.proofs.lemmas.List.{take_all, get_or_default}
 use Rattle.qm_lists.proofs.Places.{take-read}
 use Rattle.qm_chains.specs.inner.Cone.{LeadsInto, AreEntered}
 use Rattle.qm_chains.proofs.Entering.{none_entered, then_entered, into_none, into_cases}
+use Rattle.qm_flow.proofs.OfWorlds.{of_world_later}
 use Rattle.qm_flow.proofs.cone.go_on.Goals as goal
 
 pub loop-portal-init : goal.loop-portal-init
@@ -11,8 +12,9 @@ loop-portal-init g c = record {
   on = g.met.S.RowSource.goes_on_itself c.args.source.now;
 }
 
-pub enter-requires-clause-same_world : goal.enter-requires-clause-same_world
-enter-requires-clause-same_world g c = g.met.S.RowSource.same_world c.args.source.now c.loop-portal.source c.loop-portal.invariant.on ∙ c.requires.same_world
+pub enter-requires-clause-of_world : goal.enter-requires-clause-of_world
+enter-requires-clause-of_world g c = of_world_later c.args.world.now (g.S.RowSource.world c.args.source.now) (g.S.RowSource.world c.loop-portal.source) c.args.pairs.now c.args.frame.now c.args.found.now
+    (g.met.S.RowSource.same_world c.args.source.now c.loop-portal.source c.loop-portal.invariant.on) c.requires.of_world
 
 pub enter-requires-clause-cone : goal.enter-requires-clause-cone
 enter-requires-clause-cone g c = c.loop-portal.invariant.entered.same_length ∙ c.requires.cone
@@ -42,12 +44,6 @@ returns-clause-entered g c =
 
 pub enter-requires-clause-portal : goal.enter-requires-clause-portal
 enter-requires-clause-portal g c = c.requires.portals c.loop-portal.portal-index 0 c.loop-portal-test.true
-
-pub enter-requires-clause-pairs : goal.enter-requires-clause-pairs
-enter-requires-clause-pairs g c = c.requires.pairs
-
-pub enter-requires-clause-wide : goal.enter-requires-clause-wide
-enter-requires-clause-wide g c = c.requires.wide
 
 pub returns-in_err-enter-clause-on : goal.returns-in_err-enter-clause-on
 returns-in_err-enter-clause-on g c = g.met.S.RowSource.goes_on_in_turn c.args.source.now c.loop-portal.source c.enter.new.source c.loop-portal.invariant.on c.enter.ensures.on

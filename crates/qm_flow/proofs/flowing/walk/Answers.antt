@@ -2,6 +2,7 @@ use Rattle.std.proofs.Common.{◌≡◌, ◌<◌, ⊎_elim, ℕ, List, Bool, tru
 use Rattle.std.proofs.lemmas.Result.{IfOk-weaker}
 use Rattle.std.proofs.lemmas.List.{length-replicate, length-set}
 use Rattle.qm_chains.specs.inner.Cone.{with_mask}
+use Rattle.qm_chains.specs.inner.Pairs.{Pairs}
 use Rattle.qm_sight.specs.WordInSight.{LieWithin}
 use Rattle.qm_flow.specs.declared.frame_stack.FrameStack.{FrameStack}
 use Rattle.qm_flow.specs.inner.FirstMask.{IsFirstMask}
@@ -11,7 +12,7 @@ use Rattle.qm_flow.proofs.BegunWalks.{first_pushed, first_begun, rounds_begin}
 use Rattle.qm_flow.proofs.flowing.walk.Goals as goal
 
 pub copy-requires : goal.copy-requires
-copy-requires g c = ap length c.seen.ensures ∙ (c.requires.begun.are []).seen_wide ∙ sym (ap (λ (stack : FrameStack). length stack.next.mask) c.stack.view_is ∙ c.requires.fresh.first.mask_wide)
+copy-requires g c = ap length (ap (λ (p : Pairs). p.seen) c.pairs.view_is) ∙ (c.requires.begun.are []).seen_wide ∙ sym (ap (λ (stack : FrameStack). length stack.next.mask) c.stack.view_is ∙ c.requires.fresh.first.mask_wide)
 
 pub push_next-requires-clause-spares : goal.push_next-requires-clause-spares
 push_next-requires-clause-spares g c =
@@ -19,23 +20,23 @@ push_next-requires-clause-spares g c =
     let spares = c.requires.fresh.spares in
     subst (λ (stack : FrameStack). AreSparesWide world (record { frames = stack.frames; next = with_mask c.copy.new.row stack.next; ended = stack.ended; scratch = stack.scratch })) (sym c.stack.view_is)
     (record {
-      next_is = record { met = spares.next_is.met; mask = ap length (c.copy.ensures ∙ c.seen.ensures) ∙ (c.requires.begun.are []).seen_wide; found = spares.next_is.found };
+      next_is = record { met = spares.next_is.met; mask = ap length (c.copy.ensures ∙ (ap (λ (p : Pairs). p.seen) c.pairs.view_is)) ∙ (c.requires.begun.are []).seen_wide; found = spares.next_is.found };
       ended_are = spares.ended_are;
     })
 
 pub find-requires-clause-row : goal.find-requires-clause-row
 find-requires-clause-row g c =
     let clear : length {A = Bool} (replicate c.leaves.result false) ≡ c.leaves.result = length-replicate c.leaves.result false in
-    subst (λ (n : ℕ). c.to.result < n) (sym (ap length c.in_ok-row.ensures ∙ clear ∙ c.leaves.ensures)) c.to.ensures.within
+    subst (λ (n : ℕ). c.to.result < n) (sym (ap length c.in_ok-found.ensures ∙ clear ∙ c.leaves.ensures)) c.to.ensures.within
 
 pub find-requires-clause-mask : goal.find-requires-clause-mask
-find-requires-clause-mask g c = subst (λ (n : ℕ). c.to.result < n) (sym (ap length c.seen-2.ensures ∙ (c.requires.begun.are []).seen_wide)) c.to.ensures.within
+find-requires-clause-mask g c = subst (λ (n : ℕ). c.to.result < n) (sym (ap length (ap (λ (p : Pairs). p.seen) c.pairs.view_is) ∙ (c.requires.begun.are []).seen_wide)) c.to.ensures.within
 
 pub show_by_lines-requires-clause-row : goal.show_by_lines-requires-clause-row
 show_by_lines-requires-clause-row g c =
     let clear : length {A = Bool} (replicate c.leaves.result false) ≡ c.leaves.result = length-replicate c.leaves.result false in
-    let wide = ap length c.in_ok-row.ensures ∙ clear ∙ c.leaves.ensures in
-    ⊎_elim (λ it. ap length it.1 ∙ length-set c.in_ok-row.row c.to.result true ∙ wide) (λ kept. ap length kept.1 ∙ wide) c.find.ensures
+    let wide = ap length c.in_ok-found.ensures ∙ clear ∙ c.leaves.ensures in
+    ⊎_elim (λ it. ap length it.1 ∙ length-set c.in_ok-found.found c.to.result true ∙ wide) (λ kept. ap length kept.1 ∙ wide) c.find.ensures
 
 pub bar_unseen-requires-clause-same_world : goal.bar_unseen-requires-clause-same_world
 bar_unseen-requires-clause-same_world g c = g.met.S.RowSource.same_world c.args.source.now c.show_by_lines.new.source c.show_by_lines.ensures.on ∙ c.requires.same_world
@@ -61,9 +62,9 @@ end_walk-requires-clause-walk g c =
       below = λ place n is. seen.below place n (both place n is);
       so_far = rounds_begin world seen.ceilings now (g.S.RowSource.ceilings c.show_by_lines.new.source) c.args.portal frame c.push_next.new.self.frames.items c.find.new.row c.show_by_lines.new.row c.args.pairs.now c.bar_unseen.new.pairs
           (first_pushed _ c.args.stack.now c.copy.new.row c.push_next.new.self.frames.items c.stack.view_is c.in_ok-push_next.ensures.frames c.requires.fresh.none) seen.below lines
-          (first_begun world c.requires.own_portals seen.ceilings c.args.portal c.args.stack.now.next c.requires.fresh.first c.copy.new.row c.seen-2.result.now c.in_ok-row.row c.find.new.row c.to.result
-          (c.copy.ensures ∙ c.seen.ensures ∙ sym c.seen-2.ensures) (subst (IsFirstMask world seen.ceilings c.args.portal) (sym c.seen-2.ensures) seen.mask)
-          (c.in_ok-row.ensures ∙ ap (λ (n : ℕ). replicate n false) c.leaves.ensures) c.to.ensures.value c.find.ensures) c.in_ok-show_by_lines.ensures.shown
+          (first_begun world c.requires.own_portals seen.ceilings c.args.portal c.args.stack.now.next c.requires.fresh.first c.copy.new.row c.pairs.inside.seen c.in_ok-found.found c.find.new.row c.to.result
+          c.copy.ensures (subst (IsFirstMask world seen.ceilings c.args.portal) (sym (ap (λ (p : Pairs). p.seen) c.pairs.view_is)) seen.mask)
+          (c.in_ok-found.ensures ∙ ap (λ (n : ℕ). replicate n false) c.leaves.ensures) c.to.ensures.value c.find.ensures) c.in_ok-show_by_lines.ensures.shown
           c.requires.begun (c.bar_unseen.ensures.pairs c.show_by_lines.new.row);
     }
 
@@ -73,8 +74,8 @@ end_walk-requires-clause-spares g c = c.in_ok-push_next.ensures.spares
 pub returns-in_err-push_next-clause-on : goal.returns-in_err-push_next-clause-on
 returns-in_err-push_next-clause-on g c = g.met.S.RowSource.goes_on_itself c.args.source.now
 
-pub returns-in_err-row-clause-on : goal.returns-in_err-row-clause-on
-returns-in_err-row-clause-on g c = g.met.S.RowSource.goes_on_itself c.args.source.now
+pub returns-in_err-found-clause-on : goal.returns-in_err-found-clause-on
+returns-in_err-found-clause-on g c = g.met.S.RowSource.goes_on_itself c.args.source.now
 
 pub returns-in_err-show_by_lines-clause-on : goal.returns-in_err-show_by_lines-clause-on
 returns-in_err-show_by_lines-clause-on g c = c.show_by_lines.ensures.on
@@ -92,9 +93,9 @@ returns-clause-walk g c =
     (λ row all ceilings below mask. (all c.args.portal ceilings (λ place n is. below place n (both place n is))
     (rounds_begin world ceilings now (g.S.RowSource.ceilings c.show_by_lines.new.source) c.args.portal frame c.push_next.new.self.frames.items c.find.new.row c.show_by_lines.new.row c.args.pairs.now c.bar_unseen.new.pairs
     (first_pushed _ c.args.stack.now c.copy.new.row c.push_next.new.self.frames.items c.stack.view_is c.in_ok-push_next.ensures.frames c.requires.fresh.none) below lines
-    (first_begun world c.requires.own_portals ceilings c.args.portal c.args.stack.now.next c.requires.fresh.first c.copy.new.row c.seen-2.result.now c.in_ok-row.row c.find.new.row c.to.result
-    (c.copy.ensures ∙ c.seen.ensures ∙ sym c.seen-2.ensures) (subst (IsFirstMask world ceilings c.args.portal) (sym c.seen-2.ensures) mask)
-    (c.in_ok-row.ensures ∙ ap (λ (n : ℕ). replicate n false) c.leaves.ensures) c.to.ensures.value c.find.ensures) c.in_ok-show_by_lines.ensures.shown
+    (first_begun world c.requires.own_portals ceilings c.args.portal c.args.stack.now.next c.requires.fresh.first c.copy.new.row c.pairs.inside.seen c.in_ok-found.found c.find.new.row c.to.result
+    c.copy.ensures (subst (IsFirstMask world ceilings c.args.portal) (sym (ap (λ (p : Pairs). p.seen) c.pairs.view_is)) mask)
+    (c.in_ok-found.ensures ∙ ap (λ (n : ℕ). replicate n false) c.leaves.ensures) c.to.ensures.value c.find.ensures) c.in_ok-show_by_lines.ensures.shown
     c.requires.begun (c.bar_unseen.ensures.pairs c.show_by_lines.new.row))).walk)
     c.end_walk.ensures.walk
 

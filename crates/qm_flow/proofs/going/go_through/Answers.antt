@@ -7,7 +7,7 @@ use Rattle.qm_chains.specs.inner.Cone.{IsLeftOf}
 use Rattle.qm_chains.specs.inner.Frame.{Frame, put_back, EndsChain, blocked}
 use Rattle.qm_chains.specs.inner.Narrowing.{IsNarrowed}
 use Rattle.qm_chains.specs.inner.OwnRows.{AreOwnRows, MustHave, CanHave}
-use Rattle.qm_chains.specs.inner.Pairs.{LieWithinPairs}
+use Rattle.qm_chains.specs.inner.Pairs.{Pairs, LieWithinPairs}
 use Rattle.qm_chains.specs.inner.Walk.{IsTried}
 use Rattle.qm_chains.specs.inner.Wanted.{IsWantedVia}
 use Rattle.qm_chains.proofs.Narrowing.{narrowed_as}
@@ -24,26 +24,19 @@ use Rattle.qm_flow.proofs.going.go_through.Goals as goal
 
 pub narrow-requires-clause-portal : goal.narrow-requires-clause-portal
 narrow-requires-clause-portal g c =
-    let one = c.requires.pairs.own_are.one_each in
+    let one = c.requires.of_world.pairs_are.own_are.one_each in
     let within = c.requires.portal in
-    subst (λ (own : List (Option (List Bool))). c.args.portal < length own) (sym c.own.ensures) (omega (arith, one, within))
+    subst (λ (own : List (Option (List Bool))). c.args.portal < length own) (sym (ap (λ (p : Pairs). p.own) c.pairs.view_is)) (omega (arith, one, within))
 
 pub narrow-requires-clause-own : goal.narrow-requires-clause-own
 narrow-requires-clause-own g c =
-    subst (λ (own : List (Option (List Bool))). AreOwnRows (g.S.RowSource.world c.args.source.now) own) (sym c.own.ensures)
-    (subst (λ (w : World). AreOwnRows w c.args.pairs.now.own) (sym c.requires.same_world) c.requires.pairs.own_are)
-
-pub left_of-requires-clause-pairs : goal.left_of-requires-clause-pairs
-left_of-requires-clause-pairs g c =
-    let within = c.to-entered.ensures.within in
-    let wide = c.requires.wide.found in
-    pairs_stay c.args.world.now c.args.row.now c.find.new.row c.args.pairs.now
-    (found_stays c.args.row.now c.find.new.row c.narrow.new.mask c.to-entered.result (omega (arith, within, wide)) c.find.ensures) c.requires.pairs
+    subst (λ (own : List (Option (List Bool))). AreOwnRows (g.S.RowSource.world c.args.source.now) own) (sym (ap (λ (p : Pairs). p.own) c.pairs.view_is))
+    (subst (λ (w : World). AreOwnRows w c.args.pairs.now.own) (sym c.requires.of_world.same_world) c.requires.of_world.pairs_are.own_are)
 
 pub returns-then-not-leads-clause-tried : goal.returns-then-not-leads-clause-tried
 returns-then-not-leads-clause-tried g c ceilings lie within ends =
     let pane = c.pane-pane.ensures in
-    tried_stopped c.args.world.now c.requires.own_portals (IsInCeiling ceilings) c.args.pairs.now.first c.args.frame.now c.args.portal c.args.row.now pane.0 pane.1
+    tried_stopped c.args.world.now c.requires.own_portals (IsInCeiling ceilings) c.args.pairs.now.first c.args.frame.now c.args.portal c.args.found.now pane.0 pane.1
     (blocked (blocked_there c.args.world.now.portals c.args.portal c.pane-pane.result.now.winding c.pane-pane.result.now.into pane c.frame.inside.state c.args.frame.now.state (ap (λ (f : Frame). f.state) c.frame.view_is)
     (c.in_ok-leads.ensures.blocks c.if-not-leads.true)))
 
@@ -55,31 +48,31 @@ returns-clause-tried g c =
     let world = c.args.world.now in
     let pairs = c.args.pairs.now in
     let portal = c.args.portal in
-    let narrowed_here = subst (λ (w : World). IsNarrowed (MustHave w c.own.result.now portal) (CanHave ceiling c.own.result.now portal) c.copy.new.row c.narrow.new.mask) c.requires.same_world c.narrow.ensures.narrowed in
-    let narrowed_own = subst (λ (own : List (Option (List Bool))). IsNarrowed (MustHave world own portal) (CanHave ceiling own portal) c.copy.new.row c.narrow.new.mask) c.own.ensures narrowed_here in
+    let narrowed_here = subst (λ (w : World). IsNarrowed (MustHave w c.pairs.inside.own portal) (CanHave ceiling c.pairs.inside.own portal) c.copy.new.row c.narrow.new.mask) c.requires.of_world.same_world c.narrow.ensures.narrowed in
+    let narrowed_own = subst (λ (own : List (Option (List Bool))). IsNarrowed (MustHave world own portal) (CanHave ceiling own portal) c.copy.new.row c.narrow.new.mask) (ap (λ (p : Pairs). p.own) c.pairs.view_is) narrowed_here in
     let narrowed_row = subst (λ (row : List Bool). IsNarrowed (MustHave world pairs.own portal) (CanHave ceiling pairs.own portal) row c.narrow.new.mask) (c.copy.ensures ∙ ap (λ (f : Frame). f.mask) c.frame.view_is) narrowed_own in
     let Goal = λ (on : Bool). (ceilings : List (List Bool)) → LieWithin (g.S.RowSource.ceilings c.args.source.now) ceilings → LieWithinPairs (IsInCeiling ceilings) pairs.own →
-    EndsChain world (IsInCeiling ceilings) pairs.first (put_back portal frame) → IsTried world (IsInCeiling ceilings) pairs.first frame portal c.args.row.now c.find.new.row (then_some on c.left_of.new.frame) in
-    let narrowed = λ (ceilings : List (List Bool)) (lie : LieWithin (g.S.RowSource.ceilings c.args.source.now) ceilings) (lie_own : LieWithinPairs (IsInCeiling ceilings) pairs.own). narrowed_as (MustHave world pairs.own portal) (CanHave ceiling pairs.own portal) (IsWantedVia world pairs.first c.args.row.now portal) (λ n. IsInCeiling ceilings n portal) frame.mask c.narrow.new.mask
-    (wanted_answered world c.args.row.now pairs c.requires.pairs portal)
+    EndsChain world (IsInCeiling ceilings) pairs.first (put_back portal frame) → IsTried world (IsInCeiling ceilings) pairs.first frame portal c.args.found.now c.find.new.row (then_some on c.left_of.new.frame) in
+    let narrowed = λ (ceilings : List (List Bool)) (lie : LieWithin (g.S.RowSource.ceilings c.args.source.now) ceilings) (lie_own : LieWithinPairs (IsInCeiling ceilings) pairs.own). narrowed_as (MustHave world pairs.own portal) (CanHave ceiling pairs.own portal) (IsWantedVia world pairs.first c.args.found.now portal) (λ n. IsInCeiling ceilings n portal) frame.mask c.narrow.new.mask
+    (wanted_answered world c.args.found.now pairs c.requires.of_world.pairs_are portal)
     (λ n can. can_within (IsInCeiling ceilings) ceiling pairs.own portal n (λ m has. lie portal m has) lie_own can) narrowed_row in
     let step = steps_on world.portals portal c.pane-pane.result.now.winding c.pane-pane.result.now.into c.pane-pane.ensures c.frame.inside.state frame.state (ap (λ (f : Frame). f.state) c.frame.view_is) q.0 q.1 c.step_into.new.spare
     (c.in_ok-leads.ensures.leads c.if-not-leads.false) in
     let same_met = c.copy-2.ensures ∙ ap (λ (f : Frame). f.met) c.frame.view_is in
     let met_is = c.set.ensures ∙ ap (λ (row : List Bool). set row c.to-entered.result true) same_met ∙ ap (λ (n : ℕ). set frame.met n true) q.2 in
     let within = c.to-entered.ensures.within in
-    let met_wide = c.requires.wide.met in
-    let row_wide = c.requires.wide.found in
+    let met_wide = c.requires.of_world.wide.met in
+    let row_wide = c.requires.of_world.wide.found in
     let is = q.2 in
     let child : Frame = record { state = c.step_into.new.spare; untried = c.leaving-next-inside.result.now; met = c.set.new.self; mask = c.narrow.new.mask } in
     IfOk-weaker c.left_of.result (λ left. IsLeftOf world pairs.first child c.find.new.row c.to-entered.result (then_some left c.left_of.new.frame)) Goal
-    (λ left its ceilings lie lie_own ends. tried_on_left c.args.world.now c.requires.own_portals (IsInCeiling ceilings) pairs.first frame c.args.portal c.args.row.now q.0 q.1
+    (λ left its ceilings lie lie_own ends. tried_on_left c.args.world.now c.requires.own_portals (IsInCeiling ceilings) pairs.first frame c.args.portal c.args.found.now q.0 q.1
     child (λ n. IsInCeiling ceilings n portal) (narrowed ceilings lie lie_own) (λ n has. has) ends step
     (c.requires.new q.0 q.1)
     (omega (arith, within, met_wide, is)) met_is
     (subst (λ (n : ℕ). AreLeaving c.args.world.now.portals n c.leaving-next-inside.result.now) q.2 c.leaving-next-inside.ensures)
     (omega (arith, within, row_wide, is)) c.find.new.row
-    (subst (λ (n : ℕ). (IsIn c.narrow.new.mask n × (c.find.new.row ≡ set c.args.row.now n true)) ⊎ ((IsIn c.narrow.new.mask n → ⊥) × (c.find.new.row ≡ c.args.row.now))) q.2 c.find.ensures)
+    (subst (λ (n : ℕ). (IsIn c.narrow.new.mask n × (c.find.new.row ≡ set c.args.found.now n true)) ⊎ ((IsIn c.narrow.new.mask n → ⊥) × (c.find.new.row ≡ c.args.found.now))) q.2 c.find.ensures)
     (then_some left c.left_of.new.frame)
     (subst (λ (n : ℕ). IsLeftOf world pairs.first child c.find.new.row n (then_some left c.left_of.new.frame)) q.2 its))
     c.left_of.ensures.left
@@ -87,11 +80,8 @@ returns-clause-tried g c =
 pub returns-clause-stays : goal.returns-clause-stays
 returns-clause-stays g c =
     let within = c.to-entered.ensures.within in
-    let wide = c.requires.wide.found in
-    found_stays c.args.row.now c.find.new.row c.narrow.new.mask c.to-entered.result (omega (arith, within, wide)) c.find.ensures
-
-pub left_of-requires-clause-same_world : goal.left_of-requires-clause-same_world
-left_of-requires-clause-same_world g c = g.met.S.RowSource.same_world c.args.source.now c.narrow.new.source c.narrow.ensures.on ∙ c.requires.same_world
+    let wide = c.requires.of_world.wide.found in
+    found_stays c.args.found.now c.find.new.row c.narrow.new.mask c.to-entered.result (omega (arith, within, wide)) c.find.ensures
 
 pub returns-clause-on : goal.returns-clause-on
 returns-clause-on g c = g.met.S.RowSource.goes_on_in_turn c.args.source.now c.narrow.new.source c.left_of.new.source c.narrow.ensures.on c.left_of.ensures.on
@@ -99,46 +89,47 @@ returns-clause-on g c = g.met.S.RowSource.goes_on_in_turn c.args.source.now c.na
 -- what is asked and kept besides
 
 pub copy-requires : goal.copy-requires
-copy-requires g c = ap (λ (f : Frame). length f.mask) c.frame.view_is ∙ c.requires.wide.mask ∙ sym (ap (λ (f : Frame). length f.mask) c.next.view_is ∙ c.requires.spares.mask)
+copy-requires g c = ap (λ (f : Frame). length f.mask) c.frame.view_is ∙ c.requires.of_world.wide.mask ∙ sym (ap (λ (f : Frame). length f.mask) c.next.view_is ∙ c.requires.spares.mask)
 
 pub narrow-requires-clause-wide : goal.narrow-requires-clause-wide
 narrow-requires-clause-wide g c =
-    ap length c.copy.ensures ∙ ap (λ (f : Frame). length f.mask) c.frame.view_is ∙ c.requires.wide.mask ∙ ap (λ (w : World). length (numbered_leaves w.tree)) (sym c.requires.same_world)
+    ap length c.copy.ensures ∙ ap (λ (f : Frame). length f.mask) c.frame.view_is ∙ c.requires.of_world.wide.mask ∙ ap (λ (w : World). length (numbered_leaves w.tree)) (sym c.requires.of_world.same_world)
 
 pub copy-requires-2 : goal.copy-requires-2
-copy-requires-2 g c = ap (λ (f : Frame). length f.met) c.frame.view_is ∙ c.requires.wide.met ∙ sym (ap (λ (f : Frame). length f.met) c.next.view_is ∙ c.requires.spares.met)
+copy-requires-2 g c = ap (λ (f : Frame). length f.met) c.frame.view_is ∙ c.requires.of_world.wide.met ∙ sym (ap (λ (f : Frame). length f.met) c.next.view_is ∙ c.requires.spares.met)
 
 pub set-requires : goal.set-requires
 set-requires g c =
     let within = c.to-entered.ensures.within in
-    let wide = ap length c.copy-2.ensures ∙ ap (λ (f : Frame). length f.met) c.frame.view_is ∙ c.requires.wide.met in
+    let wide = ap length c.copy-2.ensures ∙ ap (λ (f : Frame). length f.met) c.frame.view_is ∙ c.requires.of_world.wide.met in
     omega (arith, within, wide)
 
 pub find-requires-clause-row : goal.find-requires-clause-row
-find-requires-clause-row g c = let within = c.to-entered.ensures.within in let wide = c.requires.wide.found in omega (arith, within, wide)
+find-requires-clause-row g c = let within = c.to-entered.ensures.within in let wide = c.requires.of_world.wide.found in omega (arith, within, wide)
 
 pub find-requires-clause-mask : goal.find-requires-clause-mask
 find-requires-clause-mask g c =
     let within = c.to-entered.ensures.within in
-    let wide = c.narrow.ensures.narrowed.same_length ∙ ap length c.copy.ensures ∙ ap (λ (f : Frame). length f.mask) c.frame.view_is ∙ c.requires.wide.mask in
+    let wide = c.narrow.ensures.narrowed.same_length ∙ ap length c.copy.ensures ∙ ap (λ (f : Frame). length f.mask) c.frame.view_is ∙ c.requires.of_world.wide.mask in
     omega (arith, within, wide)
 
 pub left_of-requires-clause-entered : goal.left_of-requires-clause-entered
 left_of-requires-clause-entered g c = c.to-entered.ensures.within
 
-pub left_of-requires-clause-wide : goal.left_of-requires-clause-wide
-left_of-requires-clause-wide g c = record {
-  met = ap length c.set.ensures ∙ length-set c.copy-2.new.row c.to-entered.result true ∙ ap length c.copy-2.ensures ∙ ap (λ (f : Frame). length f.met) c.frame.view_is ∙ c.requires.wide.met;
-  mask = c.narrow.ensures.narrowed.same_length ∙ ap length c.copy.ensures ∙ ap (λ (f : Frame). length f.mask) c.frame.view_is ∙ c.requires.wide.mask;
-  found = ⊎_elim (λ it. ap length it.1 ∙ length-set c.args.row.now c.to-entered.result true) (λ kept. ap length kept.1) c.find.ensures ∙ c.requires.wide.found;
+pub left_of-requires-clause-of_world : goal.left_of-requires-clause-of_world
+left_of-requires-clause-of_world g c = let within = c.to-entered.ensures.within in let row_wide = c.requires.of_world.wide.found in record {
+  same_world = g.met.S.RowSource.same_world c.args.source.now c.narrow.new.source c.narrow.ensures.on ∙ c.requires.of_world.same_world;
+  pairs_are = pairs_stay c.args.world.now c.args.found.now c.find.new.row c.args.pairs.now
+      (found_stays c.args.found.now c.find.new.row c.narrow.new.mask c.to-entered.result (omega (arith, within, row_wide)) c.find.ensures) c.requires.of_world.pairs_are;
+  wide = record {
+    met = ap length c.set.ensures ∙ length-set c.copy-2.new.row c.to-entered.result true ∙ ap length c.copy-2.ensures ∙ ap (λ (f : Frame). length f.met) c.frame.view_is ∙ c.requires.of_world.wide.met;
+    mask = c.narrow.ensures.narrowed.same_length ∙ ap length c.copy.ensures ∙ ap (λ (f : Frame). length f.mask) c.frame.view_is ∙ c.requires.of_world.wide.mask;
+    found = ⊎_elim (λ it. ap length it.1 ∙ length-set c.args.found.now c.to-entered.result true) (λ kept. ap length kept.1) c.find.ensures ∙ c.requires.of_world.wide.found;
+  };
 }
 
-pub left_of-requires-clause-spares : goal.left_of-requires-clause-spares
-left_of-requires-clause-spares g c = record {
-  met = ap length c.set.ensures ∙ length-set c.copy-2.new.row c.to-entered.result true ∙ ap length c.copy-2.ensures ∙ ap (λ (f : Frame). length f.met) c.frame.view_is ∙ c.requires.wide.met;
-  mask = c.narrow.ensures.narrowed.same_length ∙ ap length c.copy.ensures ∙ ap (λ (f : Frame). length f.mask) c.frame.view_is ∙ c.requires.wide.mask;
-  found = c.requires.spares.found;
-}
+pub left_of-requires-clause-cone : goal.left_of-requires-clause-cone
+left_of-requires-clause-cone g c = c.requires.spares.found
 
 pub returns-then-not-leads-clause-spares : goal.returns-then-not-leads-clause-spares
 returns-then-not-leads-clause-spares g c = record {
@@ -154,4 +145,4 @@ pub returns-in_err-leads-clause-on : goal.returns-in_err-leads-clause-on
 returns-in_err-leads-clause-on g c = g.met.S.RowSource.goes_on_itself c.args.source.now
 
 pub returns-clause-spares : goal.returns-clause-spares
-returns-clause-spares g c = c.left_of.ensures.spares
+returns-clause-spares g c = c.left_of.ensures.wide

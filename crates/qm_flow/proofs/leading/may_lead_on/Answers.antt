@@ -8,12 +8,13 @@ use Rattle.qm_chains.specs.inner.OwnRows.{AreOwnRows, MustHave}
 use Rattle.qm_chains.proofs.PairRows.{none_wanted}
 use Rattle.qm_chains.proofs.TriedPortals.{same_portal, not_in_if_clear}
 use Rattle.qm_flow.proofs.Panes.{passes_there}
+use Rattle.qm_chains.specs.inner.Pairs.{Pairs}
 use Rattle.qm_flow.proofs.leading.may_lead_on.Goals as goal
 
 pub get-requires : goal.get-requires
 get-requires g c =
     let within = c.to.ensures.within in
-    let wide = ap (λ (f : Frame). length f.met) c.frame.view_is ∙ c.requires.wide.met in
+    let wide = ap (λ (f : Frame). length f.met) c.frame.view_is ∙ c.requires.of_world.wide.met in
     omega (arith, within, wide)
 
 -- its leaf was met
@@ -31,21 +32,21 @@ returns-then-get-clause-on g c = g.met.S.RowSource.goes_on_itself c.args.source.
 
 pub may_show-requires-clause-portal : goal.may_show-requires-clause-portal
 may_show-requires-clause-portal g c =
-    let one = c.requires.pairs.own_are.one_each in
+    let one = c.requires.of_world.pairs_are.own_are.one_each in
     let within = c.requires.portal in
-    subst (λ (own : List (Option (List Bool))). c.args.portal < length own) (sym c.own.ensures) (omega (arith, one, within))
+    subst (λ (own : List (Option (List Bool))). c.args.portal < length own) (sym (ap (λ (p : Pairs). p.own) c.pairs.view_is)) (omega (arith, one, within))
 
 pub may_show-requires-clause-own : goal.may_show-requires-clause-own
 may_show-requires-clause-own g c =
-    subst (λ (own : List (Option (List Bool))). AreOwnRows (g.S.RowSource.world c.args.source.now) own) (sym c.own.ensures)
-    (subst (λ (w : World). AreOwnRows w c.args.pairs.now.own) (sym c.requires.same_world) c.requires.pairs.own_are)
+    subst (λ (own : List (Option (List Bool))). AreOwnRows (g.S.RowSource.world c.args.source.now) own) (sym (ap (λ (p : Pairs). p.own) c.pairs.view_is))
+    (subst (λ (w : World). AreOwnRows w c.args.pairs.now.own) (sym c.requires.of_world.same_world) c.requires.of_world.pairs_are.own_are)
 
 pub may_show-requires-clause-wide : goal.may_show-requires-clause-wide
 may_show-requires-clause-wide g c =
-    ap (λ (f : Frame). length f.mask) c.frame.view_is ∙ c.requires.wide.mask ∙ ap (λ (w : World). length (numbered_leaves w.tree)) (sym c.requires.same_world)
+    ap (λ (f : Frame). length f.mask) c.frame.view_is ∙ c.requires.of_world.wide.mask ∙ ap (λ (w : World). length (numbered_leaves w.tree)) (sym c.requires.of_world.same_world)
 
 pub may_show-requires-clause-found : goal.may_show-requires-clause-found
-may_show-requires-clause-found g c = c.requires.wide.found ∙ sym (ap (λ (f : Frame). length f.mask) c.frame.view_is ∙ c.requires.wide.mask)
+may_show-requires-clause-found g c = c.requires.of_world.wide.found ∙ sym (ap (λ (f : Frame). length f.mask) c.frame.view_is ∙ c.requires.of_world.wide.mask)
 
 pub returns-then-not-may_show-clause-none : goal.returns-then-not-may_show-clause-none
 returns-then-not-may_show-clause-none g c is q at leads =
@@ -54,9 +55,9 @@ returns-then-not-may_show-clause-none g c is q at leads =
     let found = c.args.found.now in
     let portal = c.args.portal in
     let nothing = subst (λ (mask : List Bool). ShowsNothingNew (MustHave world pairs.own portal) mask found) (ap (λ (f : Frame). f.mask) c.frame.view_is)
-    (subst (λ (own : List (Option (List Bool))). ShowsNothingNew (MustHave world own portal) c.frame.inside.mask found) c.own.ensures
-    (subst (λ (w : World). ShowsNothingNew (MustHave w c.own.result.now portal) c.frame.inside.mask found) c.requires.same_world (c.may_show.ensures.none c.if-not-may_show.true))) in
-    none_wanted world found pairs c.requires.pairs portal c.args.frame.now.mask nothing leads.leaf leads.in_mask (record { portal = q; portal_is = at; wanted = leads.wanted })
+    (subst (λ (own : List (Option (List Bool))). ShowsNothingNew (MustHave world own portal) c.frame.inside.mask found) (ap (λ (p : Pairs). p.own) c.pairs.view_is)
+    (subst (λ (w : World). ShowsNothingNew (MustHave w c.pairs.inside.own portal) c.frame.inside.mask found) c.requires.of_world.same_world (c.may_show.ensures.none c.if-not-may_show.true))) in
+    none_wanted world found pairs c.requires.of_world.pairs_are portal c.args.frame.now.mask nothing leads.leaf leads.in_mask (record { portal = q; portal_is = at; wanted = leads.wanted })
 
 -- the state does not let it pass, or does
 

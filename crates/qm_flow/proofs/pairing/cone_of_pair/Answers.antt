@@ -6,26 +6,32 @@ use Rattle.qm_chains.proofs.PairRows.{none_behind_block}
 use Rattle.qm_chains.proofs.Beginnings.{none_clear}
 use Rattle.qm_sight.specs.WordInSight.{ceiling_of}
 use Rattle.std.proofs.lemmas.List.{length-replicate}
+use Rattle.qm_flow.specs.declared.pairs.Pairs.TheInside.{Inside}
 use Rattle.qm_flow.proofs.PairFrames.{row_of_pair}
 use Rattle.qm_flow.proofs.Panes.{steps_on, blocked_there}
+use Rattle.qm_chains.specs.inner.Pairs.{Pairs}
 use Rattle.qm_flow.proofs.pairing.cone_of_pair.Goals as goal
 
 pub returns-then-not-leads-clause-has : goal.returns-then-not-leads-clause-has
 returns-then-not-leads-clause-has g c n wanted =
     let pairs = c.args.pairs.now in
     let pane = c.pane-pane.ensures in
-    absurd (none_behind_block c.args.world.now c.requires.own_portals c.args.found.now pairs c.requires.pairs c.args.portal pane.0 pane.1
-    (blocked_there c.args.world.now.portals c.args.portal c.pane-pane.result.now.winding c.pane-pane.result.now.into pane c.start.result.now pairs.start c.start.ensures (c.in_ok-leads.ensures.blocks c.if-not-leads.true)) n wanted)
+    absurd (none_behind_block c.args.world.now c.requires.own_portals c.args.found.now pairs c.requires.of_world.pairs_are c.args.portal pane.0 pane.1
+    (blocked_there c.args.world.now.portals c.args.portal c.pane-pane.result.now.winding c.pane-pane.result.now.into pane _ pairs.start (ap (λ (inside : Inside). inside.start.state) c.pairs-inside.view_is ∙ ap (λ (p : Pairs). p.start) c.pairs.view_is) (c.in_ok-leads.ensures.blocks c.if-not-leads.true)) n wanted)
 
 pub returns-then-not-leads-clause-within : goal.returns-then-not-leads-clause-within
 returns-then-not-leads-clause-within g c n is =
     absurd (none_clear (length c.args.scratch.now.cone) n (subst (λ (row : List Bool). IsIn row n) c.clear.ensures is))
 
-pub cone_of-requires-clause-wide : goal.cone_of-requires-clause-wide
-cone_of-requires-clause-wide g c = record {
-  met = c.make_pair_frame.ensures.frame.met_wide;
-  mask = c.make_pair_frame.ensures.frame.narrowed.same_length ∙ c.requires.pairs.seen_wide;
-  found = c.requires.found;
+pub cone_of-requires-clause-of_world : goal.cone_of-requires-clause-of_world
+cone_of-requires-clause-of_world g c = record {
+  same_world = g.met.S.RowSource.same_world c.args.source.now c.make_pair_frame.new.source c.make_pair_frame.ensures.on ∙ c.requires.of_world.same_world;
+  pairs_are = c.requires.of_world.pairs_are;
+  wide = record {
+    met = c.make_pair_frame.ensures.frame.met_wide;
+    mask = c.make_pair_frame.ensures.frame.narrowed.same_length ∙ c.requires.of_world.pairs_are.seen_wide;
+    found = c.requires.of_world.wide.found;
+  };
 }
 
 pub returns-clause-has : goal.returns-clause-has
@@ -36,8 +42,8 @@ returns-clause-has g c =
     let frame = c.make_pair_frame.new.frame in
     let state = c.step_into.new.spare in
     let q = c.to-entered.ensures.value in
-    let step = steps_on world.portals c.args.portal c.pane-pane.result.now.winding c.pane-pane.result.now.into c.pane-pane.ensures c.start.result.now pairs.start c.start.ensures q.0 q.1 state (c.in_ok-leads.ensures.leads c.if-not-leads.false) in
-    row_of_pair world c.requires.own_portals found pairs c.requires.pairs c.args.portal q.0 q.1
+    let step = steps_on world.portals c.args.portal c.pane-pane.result.now.winding c.pane-pane.result.now.into c.pane-pane.ensures _ pairs.start (ap (λ (inside : Inside). inside.start.state) c.pairs-inside.view_is ∙ ap (λ (p : Pairs). p.start) c.pairs.view_is) q.0 q.1 state (c.in_ok-leads.ensures.leads c.if-not-leads.false) in
+    row_of_pair world c.requires.own_portals found pairs c.requires.of_world.pairs_are c.args.portal q.0 q.1
     (ceiling_of (g.S.RowSource.ceilings c.args.source.now) c.args.portal) state frame c.make_pair_frame.ensures.frame step
     c.cone_of.new.scratch.cone c.cut.new.row
     (subst (λ (m : ℕ). (n : ℕ) → IsInCone world pairs.first frame found m n → IsIn c.cone_of.new.scratch.cone n) q.2 c.in_ok-cone_of.ensures.cone)
@@ -50,37 +56,32 @@ returns-clause-within g c n there =
 -- what is asked and kept besides
 
 pub make_pair_frame-requires-clause-first : goal.make_pair_frame-requires-clause-first
-make_pair_frame-requires-clause-first g c = c.requires.pairs.first_within
+make_pair_frame-requires-clause-first g c = c.requires.of_world.pairs_are.first_within
 
 pub make_pair_frame-requires-clause-own : goal.make_pair_frame-requires-clause-own
-make_pair_frame-requires-clause-own g c = c.requires.pairs.own_are
+make_pair_frame-requires-clause-own g c = c.requires.of_world.pairs_are.own_are
 
-pub make_pair_frame-requires-clause-seen : goal.make_pair_frame-requires-clause-seen
-make_pair_frame-requires-clause-seen g c = c.requires.pairs.seen_wide
-
-pub make_pair_frame-requires-clause-met : goal.make_pair_frame-requires-clause-met
-make_pair_frame-requires-clause-met g c = ap (λ (f : Frame). length f.met) c.spare.view_is ∙ c.requires.spares.met
-
-pub make_pair_frame-requires-clause-mask : goal.make_pair_frame-requires-clause-mask
-make_pair_frame-requires-clause-mask g c = ap (λ (f : Frame). length f.mask) c.spare.view_is ∙ c.requires.spares.mask
+pub make_pair_frame-requires-clause-wide : goal.make_pair_frame-requires-clause-wide
+make_pair_frame-requires-clause-wide g c = record {
+  met = ap (λ (f : Frame). length f.met) c.spare.view_is ∙ c.requires.of_world.wide.met;
+  mask = ap (λ (f : Frame). length f.mask) c.spare.view_is ∙ c.requires.of_world.wide.mask;
+  found = c.requires.of_world.pairs_are.seen_wide;
+}
 
 pub cone_of-requires-clause-entered : goal.cone_of-requires-clause-entered
 cone_of-requires-clause-entered g c = c.to-entered.ensures.within
 
-pub cone_of-requires-clause-same_world : goal.cone_of-requires-clause-same_world
-cone_of-requires-clause-same_world g c = g.met.S.RowSource.same_world c.args.source.now c.make_pair_frame.new.source c.make_pair_frame.ensures.on ∙ c.requires.same_world
-
 pub cone_of-requires-clause-cone : goal.cone_of-requires-clause-cone
-cone_of-requires-clause-cone g c = c.requires.spares.found
+cone_of-requires-clause-cone g c = c.requires.cone
 
 pub returns-in_err-leads-clause-on : goal.returns-in_err-leads-clause-on
 returns-in_err-leads-clause-on g c = g.met.S.RowSource.goes_on_itself c.args.source.now
 
 pub returns-then-not-leads-clause-spares : goal.returns-then-not-leads-clause-spares
 returns-then-not-leads-clause-spares g c = record {
-  met = ap (λ (f : Frame). length f.met) c.spare.view_is ∙ c.requires.spares.met;
-  mask = ap (λ (f : Frame). length f.mask) c.spare.view_is ∙ c.requires.spares.mask;
-  found = ap length c.clear.ensures ∙ length-replicate (length c.args.scratch.now.cone) false ∙ c.requires.spares.found;
+  met = ap (λ (f : Frame). length f.met) c.spare.view_is ∙ c.requires.of_world.wide.met;
+  mask = ap (λ (f : Frame). length f.mask) c.spare.view_is ∙ c.requires.of_world.wide.mask;
+  found = ap length c.clear.ensures ∙ length-replicate (length c.args.scratch.now.cone) false ∙ c.requires.cone;
 }
 
 pub returns-then-not-leads-clause-on : goal.returns-then-not-leads-clause-on
@@ -92,7 +93,7 @@ returns-in_err-cone_of-clause-on g c = g.met.S.RowSource.goes_on_in_turn c.args.
 pub returns-clause-spares : goal.returns-clause-spares
 returns-clause-spares g c = record {
   met = c.make_pair_frame.ensures.frame.met_wide;
-  mask = c.make_pair_frame.ensures.frame.narrowed.same_length ∙ c.requires.pairs.seen_wide;
+  mask = c.make_pair_frame.ensures.frame.narrowed.same_length ∙ c.requires.of_world.pairs_are.seen_wide;
   found = c.cut.ensures.same_length ∙ c.in_ok-cone_of.ensures.wide;
 }
 
@@ -106,13 +107,10 @@ pub make_pair_frame-requires-clause-portal : goal.make_pair_frame-requires-claus
 make_pair_frame-requires-clause-portal g c = c.requires.portal
 
 pub make_pair_frame-requires-clause-same_world : goal.make_pair_frame-requires-clause-same_world
-make_pair_frame-requires-clause-same_world g c = c.requires.same_world
+make_pair_frame-requires-clause-same_world g c = c.requires.of_world.same_world
 
 pub to-entered-requires : goal.to-entered-requires
 to-entered-requires g c = c.requires.portal
 
-pub cone_of-requires-clause-pairs : goal.cone_of-requires-clause-pairs
-cone_of-requires-clause-pairs g c = c.requires.pairs
-
 pub cut-requires : goal.cut-requires
-cut-requires g c = ap (λ (f : Frame). length f.mask) c.spare-2.view_is ∙ c.make_pair_frame.ensures.frame.narrowed.same_length ∙ c.requires.pairs.seen_wide ∙ sym c.in_ok-cone_of.ensures.wide
+cut-requires g c = ap (λ (f : Frame). length f.mask) c.spare-2.view_is ∙ c.make_pair_frame.ensures.frame.narrowed.same_length ∙ c.requires.of_world.pairs_are.seen_wide ∙ sym c.in_ok-cone_of.ensures.wide

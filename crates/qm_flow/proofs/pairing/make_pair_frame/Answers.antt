@@ -10,17 +10,18 @@ use Rattle.qm_chains.proofs.TriedPortals.{same_portal}
 use Rattle.qm_sight.specs.WordInSight.{ceiling_of}
 use Rattle.std.proofs.lemmas.List.{length-set, length-replicate}
 use Rattle.qm_flow.proofs.FourLeaves.{four_wide, four_met}
+use Rattle.qm_chains.specs.inner.Pairs.{Pairs}
 use Rattle.qm_flow.proofs.pairing.make_pair_frame.Goals as goal
 
 pub narrow-requires-clause-portal : goal.narrow-requires-clause-portal
 narrow-requires-clause-portal g c =
     let one = c.requires.own.one_each in
     let within = c.requires.portal in
-    subst (λ (own : List (Option (List Bool))). c.args.portal < length own) (sym c.own.ensures) (omega (arith, one, within))
+    subst (λ (own : List (Option (List Bool))). c.args.portal < length own) (sym (ap (λ (p : Pairs). p.own) c.pairs.view_is)) (omega (arith, one, within))
 
 pub narrow-requires-clause-own : goal.narrow-requires-clause-own
 narrow-requires-clause-own g c =
-    subst (λ (own : List (Option (List Bool))). AreOwnRows (g.S.RowSource.world c.args.source.now) own) (sym c.own.ensures)
+    subst (λ (own : List (Option (List Bool))). AreOwnRows (g.S.RowSource.world c.args.source.now) own) (sym (ap (λ (p : Pairs). p.own) c.pairs.view_is))
     (subst (λ (w : World). AreOwnRows w c.args.pairs.now.own) (sym c.requires.same_world) c.requires.own)
 
 pub returns-clause-frame : goal.returns-clause-frame
@@ -29,53 +30,53 @@ returns-clause-frame g c =
     let pairs = c.args.pairs.now in
     let leaves = length (numbered_leaves world.tree) in
     let ceiling = ceiling_of (g.S.RowSource.ceilings c.args.source.now) c.args.portal in
-    let met_is = c.set-4.ensures ∙ ap (λ (row : List Bool). set row c.to-2.result true) (c.set-3.ensures ∙ ap (λ (row : List Bool). set row c.from-2.result true) (c.set-2.ensures ∙ ap (λ (row : List Bool). set row c.to.result true) (c.set.ensures ∙ ap (λ (row : List Bool). set row c.from.result true) (c.clear.ensures ∙ ap (λ (row : List Bool). replicate (length row) false) (ap (λ (f : Frame). f.met) c.frame.view_is) ∙ ap (λ (n : ℕ). replicate n false) c.requires.met)))) in
+    let met_is = c.set-4.ensures ∙ ap (λ (row : List Bool). set row c.to-2.result true) (c.set-3.ensures ∙ ap (λ (row : List Bool). set row c.from-2.result true) (c.set-2.ensures ∙ ap (λ (row : List Bool). set row c.to.result true) (c.set.ensures ∙ ap (λ (row : List Bool). set row c.from.result true) (c.clear.ensures ∙ ap (λ (row : List Bool). replicate (length row) false) (ap (λ (f : Frame). f.met) c.frame.view_is) ∙ ap (λ (n : ℕ). replicate n false) c.requires.wide.met)))) in
     let from = c.from.ensures.value in
     let to = c.to.ensures.value in
     let q_from = c.from-2.ensures.value in
     let q_to = c.to-2.ensures.value in
-    let narrowed_here = subst (λ (w : World). IsNarrowed (MustHave w c.own.result.now c.args.portal) (CanHave ceiling c.own.result.now c.args.portal) c.copy.new.row c.narrow.new.mask) c.requires.same_world c.narrow.ensures.narrowed in
-    let narrowed_own = subst (λ (own : List (Option (List Bool))). IsNarrowed (MustHave world own c.args.portal) (CanHave ceiling own c.args.portal) c.copy.new.row c.narrow.new.mask) c.own.ensures narrowed_here in
+    let narrowed_here = subst (λ (w : World). IsNarrowed (MustHave w c.pairs.inside.own c.args.portal) (CanHave ceiling c.pairs.inside.own c.args.portal) c.copy.new.row c.narrow.new.mask) c.requires.same_world c.narrow.ensures.narrowed in
+    let narrowed_own = subst (λ (own : List (Option (List Bool))). IsNarrowed (MustHave world own c.args.portal) (CanHave ceiling own c.args.portal) c.copy.new.row c.narrow.new.mask) (ap (λ (p : Pairs). p.own) c.pairs.view_is) narrowed_here in
     record {
       state_is = ap (λ (f : Frame). f.state) c.frame.view_is;
       met_wide = four_wide leaves c.from.result c.to.result c.from-2.result c.to-2.result _ met_is;
       met_is = λ first q first_is q_is.
-          let at = subst (λ (m : ℕ). IsAt world.portals m first) (sym c.first-first.ensures) first_is in
+          let at = subst (λ (m : ℕ). IsAt world.portals m first) (sym (ap (λ (p : Pairs). p.first) c.pairs.view_is)) first_is in
           four_met leaves c.from.result c.to.result c.from-2.result c.to-2.result _ met_is first.from first.to q.from q.to
-          (from.2 ∙ ap (λ (r : Portal). r.from) (same_portal world.portals c.first-first.result from.0 first from.1 at))
-          (to.2 ∙ ap (λ (r : Portal). r.to) (same_portal world.portals c.first-first.result to.0 first to.1 at))
+          (from.2 ∙ ap (λ (r : Portal). r.from) (same_portal world.portals c.pairs.inside.first from.0 first from.1 at))
+          (to.2 ∙ ap (λ (r : Portal). r.to) (same_portal world.portals c.pairs.inside.first to.0 first to.1 at))
           (q_from.2 ∙ ap (λ (r : Portal). r.from) (same_portal world.portals c.args.portal q_from.0 q q_from.1 q_is))
           (q_to.2 ∙ ap (λ (r : Portal). r.to) (same_portal world.portals c.args.portal q_to.0 q q_to.1 q_is));
-      narrowed = subst (λ (row : List Bool). IsNarrowed (MustHave world pairs.own c.args.portal) (CanHave ceiling pairs.own c.args.portal) row c.narrow.new.mask) (c.copy.ensures ∙ c.seen.ensures) narrowed_own;
+      narrowed = subst (λ (row : List Bool). IsNarrowed (MustHave world pairs.own c.args.portal) (CanHave ceiling pairs.own c.args.portal) row c.narrow.new.mask) (c.copy.ensures ∙ (ap (λ (p : Pairs). p.seen) c.pairs.view_is)) narrowed_own;
     }
 
 pub copy-requires : goal.copy-requires
-copy-requires g c = ap length c.seen.ensures ∙ c.requires.seen ∙ sym (ap (λ (f : Frame). length f.mask) c.frame.view_is ∙ c.requires.mask)
+copy-requires g c = ap length (ap (λ (p : Pairs). p.seen) c.pairs.view_is) ∙ c.requires.wide.found ∙ sym (ap (λ (f : Frame). length f.mask) c.frame.view_is ∙ c.requires.wide.mask)
 
 pub narrow-requires-clause-wide : goal.narrow-requires-clause-wide
 narrow-requires-clause-wide g c =
-    ap length c.copy.ensures ∙ ap length c.seen.ensures ∙ c.requires.seen ∙ ap (λ (w : World). length (numbered_leaves w.tree)) (sym c.requires.same_world)
+    ap length c.copy.ensures ∙ ap length (ap (λ (p : Pairs). p.seen) c.pairs.view_is) ∙ c.requires.wide.found ∙ ap (λ (w : World). length (numbered_leaves w.tree)) (sym c.requires.same_world)
 
 pub set-requires : goal.set-requires
 set-requires g c =
     let within = c.from.ensures.within in
-    let wide = ap length c.clear.ensures ∙ length-replicate (length c.frame.inside.met) false ∙ ap (λ (f : Frame). length f.met) c.frame.view_is ∙ c.requires.met in
+    let wide = ap length c.clear.ensures ∙ length-replicate (length c.frame.inside.met) false ∙ ap (λ (f : Frame). length f.met) c.frame.view_is ∙ c.requires.wide.met in
     omega (arith, within, wide)
 
 pub set-requires-2 : goal.set-requires-2
 set-requires-2 g c =
     let within = c.to.ensures.within in
-    let wide = ap length c.set.ensures ∙ length-set c.clear.new.row c.from.result true ∙ ap length c.clear.ensures ∙ length-replicate (length c.frame.inside.met) false ∙ ap (λ (f : Frame). length f.met) c.frame.view_is ∙ c.requires.met in
+    let wide = ap length c.set.ensures ∙ length-set c.clear.new.row c.from.result true ∙ ap length c.clear.ensures ∙ length-replicate (length c.frame.inside.met) false ∙ ap (λ (f : Frame). length f.met) c.frame.view_is ∙ c.requires.wide.met in
     omega (arith, within, wide)
 
 pub set-requires-3 : goal.set-requires-3
 set-requires-3 g c =
     let within = c.from-2.ensures.within in
-    let wide = ap length c.set-2.ensures ∙ length-set c.set.new.self c.to.result true ∙ ap length c.set.ensures ∙ length-set c.clear.new.row c.from.result true ∙ ap length c.clear.ensures ∙ length-replicate (length c.frame.inside.met) false ∙ ap (λ (f : Frame). length f.met) c.frame.view_is ∙ c.requires.met in
+    let wide = ap length c.set-2.ensures ∙ length-set c.set.new.self c.to.result true ∙ ap length c.set.ensures ∙ length-set c.clear.new.row c.from.result true ∙ ap length c.clear.ensures ∙ length-replicate (length c.frame.inside.met) false ∙ ap (λ (f : Frame). length f.met) c.frame.view_is ∙ c.requires.wide.met in
     omega (arith, within, wide)
 
 pub set-requires-4 : goal.set-requires-4
 set-requires-4 g c =
     let within = c.to-2.ensures.within in
-    let wide = ap length c.set-3.ensures ∙ length-set c.set-2.new.self c.from-2.result true ∙ ap length c.set-2.ensures ∙ length-set c.set.new.self c.to.result true ∙ ap length c.set.ensures ∙ length-set c.clear.new.row c.from.result true ∙ ap length c.clear.ensures ∙ length-replicate (length c.frame.inside.met) false ∙ ap (λ (f : Frame). length f.met) c.frame.view_is ∙ c.requires.met in
+    let wide = ap length c.set-3.ensures ∙ length-set c.set-2.new.self c.from-2.result true ∙ ap length c.set-2.ensures ∙ length-set c.set.new.self c.to.result true ∙ ap length c.set.ensures ∙ length-set c.clear.new.row c.from.result true ∙ ap length c.clear.ensures ∙ length-replicate (length c.frame.inside.met) false ∙ ap (λ (f : Frame). length f.met) c.frame.view_is ∙ c.requires.wide.met in
     omega (arith, within, wide)

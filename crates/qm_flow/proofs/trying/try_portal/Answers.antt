@@ -9,42 +9,44 @@ use Rattle.qm_sight.specs.WordInSight.{LieWithin}
 use Rattle.qm_sight.specs.InCeiling.{IsInCeiling}
 use Rattle.qm_flow.specs.inner.PairsGoOn.{PairsGoOn}
 use Rattle.qm_flow.proofs.PairsKept.{pairs_same, pairs_later, pairs_found}
+use Rattle.qm_flow.proofs.OfWorlds.{of_world_later}
 use Rattle.qm_flow.proofs.trying.try_portal.Goals as goal
 
 pub returns-then-not-may_lead_on-clause-tried : goal.returns-then-not-may_lead_on-clause-tried
 returns-then-not-may_lead_on-clause-tried g c ceilings lie within ends =
-    tried_not_led c.args.world.now (IsInCeiling ceilings) c.args.pairs.now.first c.args.frame.now c.args.portal c.args.row.now (c.may_lead_on.ensures.none c.if-not-may_lead_on.true)
+    tried_not_led c.args.world.now (IsInCeiling ceilings) c.args.pairs.now.first c.args.frame.now c.args.portal c.args.found.now (c.may_lead_on.ensures.none c.if-not-may_lead_on.true)
 
 pub returns-then-not-may_lead_on-clause-pairs : goal.returns-then-not-may_lead_on-clause-pairs
-returns-then-not-may_lead_on-clause-pairs g c = pairs_same c.args.world.now (g.S.RowSource.ceilings c.args.source.now) c.args.row.now c.args.pairs.now c.requires.pairs
+returns-then-not-may_lead_on-clause-pairs g c = pairs_same c.args.world.now (g.S.RowSource.ceilings c.args.source.now) c.args.found.now c.args.pairs.now c.requires.of_world.pairs_are
 
 pub returns-then-not-may_lead_on-clause-spares : goal.returns-then-not-may_lead_on-clause-spares
 returns-then-not-may_lead_on-clause-spares g c = c.requires.spares
 
-pub pair_may_show-requires-clause-same_world : goal.pair_may_show-requires-clause-same_world
-pair_may_show-requires-clause-same_world g c = g.met.S.RowSource.same_world c.args.source.now c.may_lead_on.new.source c.may_lead_on.ensures.on ∙ c.requires.same_world
+pub pair_may_show-requires-clause-of_world : goal.pair_may_show-requires-clause-of_world
+pair_may_show-requires-clause-of_world g c = of_world_later c.args.world.now (g.S.RowSource.world c.args.source.now) (g.S.RowSource.world c.may_lead_on.new.source) c.args.pairs.now c.args.frame.now c.args.found.now
+    (g.met.S.RowSource.same_world c.args.source.now c.may_lead_on.new.source c.may_lead_on.ensures.on) c.requires.of_world
 
 pub returns-then-not-may-clause-tried : goal.returns-then-not-may-clause-tried
 returns-then-not-may-clause-tried g c ceilings lie within ends =
-    tried_not_led c.args.world.now (IsInCeiling ceilings) c.args.pairs.now.first c.args.frame.now c.args.portal c.args.row.now (c.in_ok-may.ensures.none c.if-not-may.true)
+    tried_not_led c.args.world.now (IsInCeiling ceilings) c.args.pairs.now.first c.args.frame.now c.args.portal c.args.found.now (c.in_ok-may.ensures.none c.if-not-may.true)
 
 pub returns-then-not-may-clause-spares : goal.returns-then-not-may-clause-spares
 returns-then-not-may-clause-spares g c = c.in_ok-may.ensures.spares
 
 pub returns-then-not-may-clause-pairs : goal.returns-then-not-may-clause-pairs
-returns-then-not-may-clause-pairs g c = pairs_later c.args.world.now (g.S.RowSource.ceilings c.args.source.now) (g.S.RowSource.ceilings c.may_lead_on.new.source) c.args.row.now c.args.pairs.now c.pair_may_show.new.pairs
+returns-then-not-may-clause-pairs g c = pairs_later c.args.world.now (g.S.RowSource.ceilings c.args.source.now) (g.S.RowSource.ceilings c.may_lead_on.new.source) c.args.found.now c.args.pairs.now c.pair_may_show.new.pairs
     (g.met.S.RowSource.narrower c.args.source.now c.may_lead_on.new.source c.may_lead_on.ensures.on) c.in_ok-may.ensures.pairs
 
-pub go_through-requires-clause-same_world : goal.go_through-requires-clause-same_world
-go_through-requires-clause-same_world g c =
-    g.met.S.RowSource.same_world c.may_lead_on.new.source c.pair_may_show.new.source c.pair_may_show.ensures.on
-    ∙ g.met.S.RowSource.same_world c.args.source.now c.may_lead_on.new.source c.may_lead_on.ensures.on ∙ c.requires.same_world
+pub go_through-requires-clause-of_world : goal.go_through-requires-clause-of_world
+go_through-requires-clause-of_world g c = record {
+  same_world = g.met.S.RowSource.same_world c.may_lead_on.new.source c.pair_may_show.new.source c.pair_may_show.ensures.on
+      ∙ g.met.S.RowSource.same_world c.args.source.now c.may_lead_on.new.source c.may_lead_on.ensures.on ∙ c.requires.of_world.same_world;
+  pairs_are = c.in_ok-may.ensures.pairs.are;
+  wide = c.requires.of_world.wide;
+}
 
 pub go_through-requires-clause-spares : goal.go_through-requires-clause-spares
 go_through-requires-clause-spares g c = c.in_ok-may.ensures.spares
-
-pub go_through-requires-clause-pairs : goal.go_through-requires-clause-pairs
-go_through-requires-clause-pairs g c = c.in_ok-may.ensures.pairs.are
 
 pub go_through-requires-clause-new : goal.go_through-requires-clause-new
 go_through-requires-clause-new g c = c.may_lead_on.ensures.new c.if-not-may_lead_on.false
@@ -59,7 +61,7 @@ returns-clause-tried g c =
     let later = g.S.RowSource.ceilings c.may_lead_on.new.source in
     let before = g.S.RowSource.ceilings c.pair_may_show.new.source in
     let kept = c.in_ok-may.ensures.pairs in
-    let Tried = λ (first : ℕ) (ceilings : List (List Bool)) (on : Bool). IsTried world (IsInCeiling ceilings) first frame c.args.portal c.args.row.now c.go_through.new.row (then_some on c.go_through.new.next) in
+    let Tried = λ (first : ℕ) (ceilings : List (List Bool)) (on : Bool). IsTried world (IsInCeiling ceilings) first frame c.args.portal c.args.found.now c.go_through.new.found (then_some on c.go_through.new.next) in
     let Ends = λ (first : ℕ) (ceilings : List (List Bool)). EndsChain world (IsInCeiling ceilings) first (put_back c.args.portal frame) in
     IfOk-weaker c.go_through.result
     (λ on. (ceilings : List (List Bool)) → LieWithin before ceilings → LieWithinPairs (IsInCeiling ceilings) new.own → Ends new.first ceilings → Tried new.first ceilings on)
@@ -78,9 +80,9 @@ pub returns-clause-pairs : goal.returns-clause-pairs
 returns-clause-pairs g c =
     let world = c.args.world.now in
     let now = g.S.RowSource.ceilings c.args.source.now in
-    on_ok_weaker {P = AreWide world c.go_through.new.next c.go_through.new.scratch.cone} {Q = PairsGoOn world now c.go_through.new.row c.args.pairs.now c.pair_may_show.new.pairs} c.go_through.result
-    (λ wide. pairs_found world now c.args.row.now c.go_through.new.row c.args.pairs.now c.pair_may_show.new.pairs c.go_through.ensures.stays
-    (pairs_later world now (g.S.RowSource.ceilings c.may_lead_on.new.source) c.args.row.now c.args.pairs.now c.pair_may_show.new.pairs
+    on_ok_weaker {P = AreWide world c.go_through.new.next c.go_through.new.scratch.cone} {Q = PairsGoOn world now c.go_through.new.found c.args.pairs.now c.pair_may_show.new.pairs} c.go_through.result
+    (λ wide. pairs_found world now c.args.found.now c.go_through.new.found c.args.pairs.now c.pair_may_show.new.pairs c.go_through.ensures.stays
+    (pairs_later world now (g.S.RowSource.ceilings c.may_lead_on.new.source) c.args.found.now c.args.pairs.now c.pair_may_show.new.pairs
     (g.met.S.RowSource.narrower c.args.source.now c.may_lead_on.new.source c.may_lead_on.ensures.on) c.in_ok-may.ensures.pairs))
     c.go_through.ensures.spares
 

@@ -43,5 +43,5 @@ returns-in_err-go_round-clause-on g c = g.met.S.RowSource.goes_on_in_turn c.args
 pub returns-clause-walk : goal.returns-clause-walk
 returns-clause-walk g c p ceilings lie before =
     let none : c.loop-alloc.stack.frames.items ≡ [] = nil_from_length c.loop-alloc.stack.frames.items (let empty = c.is_empty.ensures in let test = c.loop-alloc-test.false in let ok = c.loop-alloc.stack.frames.ok.0 in grind (arith, common_steps)) in
-    subst (λ (frames : List Frame). IsWalkSoFar c.args.world.now ceilings p c.loop-alloc.pairs frames c.loop-alloc.row) none
+    subst (λ (frames : List Frame). IsWalkSoFar c.args.world.now ceilings p c.loop-alloc.pairs frames c.loop-alloc.found) none
     (c.loop-alloc.invariant.so_far p ceilings lie before)

@@ -9,8 +9,8 @@ use Rattle.qm_flow.proofs.walking.end_walk.Given as goal
 -- each walk that it was goes on so far, over the same ceilings; and the source goes on from what it was
 abbrev pub invariant-loop-alloc : goal.invariant-loop-alloc
 invariant-loop-alloc g l = record {
-  so_far : (p : ℕ) (ceilings : List (List Bool)) → LieWithin (g.S.RowSource.ceilings l.fn.source) ceilings → IsWalkSoFar l.world ceilings p l.fn.pairs l.fn.stack.frames.items l.fn.row →
-      IsWalkSoFar l.world ceilings p l.pairs l.stack.frames.items l.row;
+  so_far : (p : ℕ) (ceilings : List (List Bool)) → LieWithin (g.S.RowSource.ceilings l.fn.source) ceilings → IsWalkSoFar l.world ceilings p l.fn.pairs l.fn.stack.frames.items l.fn.found →
+      IsWalkSoFar l.world ceilings p l.pairs l.stack.frames.items l.found;
   spares : AreSparesWide l.world l.stack;
   on : g.S.RowSource.goes_on l.fn.source l.source;
 }

@@ -15,17 +15,21 @@ try_portal-requires-clause-portal g c =
     let counted = c.len-last.ensures in
     let at = last_read frames c.len-last.result (omega (arith, counted)) c.requires.not_ended last _ c.index_mut.ensures.value in
     let its = c.requires.walk in
-    round_within c.args.world.now its.ceilings its.p c.args.pairs.now frames c.args.row.now its.so_far (c.len-last.result - 1) last at c.in-Some.portal c.take_next.new.self c.in-Some.ensures
+    round_within c.args.world.now its.ceilings its.p c.args.pairs.now frames c.args.found.now its.so_far (c.len-last.result - 1) last at c.in-Some.portal c.take_next.new.self c.in-Some.ensures
 
-pub try_portal-requires-clause-wide : goal.try_portal-requires-clause-wide
-try_portal-requires-clause-wide g c =
+pub try_portal-requires-clause-of_world : goal.try_portal-requires-clause-of_world
+try_portal-requires-clause-of_world g c =
     let frames = c.args.stack.now.frames.items in
     let last = c.index_mut.result.now in
     let counted = c.len-last.ensures in
     let at = last_read frames c.len-last.result (omega (arith, counted)) c.requires.not_ended last _ c.index_mut.ensures.value in
     let its = c.requires.walk in
-    round_wide c.args.world.now its.ceilings its.p c.args.pairs.now frames c.args.row.now its.so_far (c.len-last.result - 1) last at c.in-Some.portal c.take_next.new.self c.in-Some.ensures
-    c.index-frame.result.now _ c.index-frame.ensures
+    record {
+      same_world = c.requires.same_world;
+      pairs_are = its.so_far.pairs_are;
+      wide = round_wide c.args.world.now its.ceilings its.p c.args.pairs.now frames c.args.found.now its.so_far (c.len-last.result - 1) last at c.in-Some.portal c.take_next.new.self c.in-Some.ensures
+          c.index-frame.result.now _ c.index-frame.ensures;
+    }
 
 -- no portal is left at the frame
 
@@ -39,7 +43,7 @@ returns-in-None-clause-walk g c =
     let frame = c.take_next.new.self in
     let after = c.end_last.new.self in
     on_ok_weaker {P = (below : List Frame) (last : Frame) → set frames place frame ≡ below ++ last ∷ [] → (after.frames.items ≡ below) × (after.ended.items ≡ c.args.stack.now.ended.items ++ last ∷ [])} c.end_last.result
-    (λ kept p ceilings lie so_far. done_so_far c.args.world.now ceilings p c.args.pairs.now frames c.args.row.now so_far place last at c.in-None.ensures.0 after.frames.items
+    (λ kept p ceilings lie so_far. done_so_far c.args.world.now ceilings p c.args.pairs.now frames c.args.found.now so_far place last at c.in-None.ensures.0 after.frames.items
     (kept at.below frame (set_at frames place last at frame)).0)
     c.end_last.ensures.frames
 
@@ -55,8 +59,8 @@ returns-in-None-clause-spares g c =
     let after = c.end_last.new.self in
     let its = c.requires.walk in
     on_ok_weaker {P = (below : List Frame) (last : Frame) → set frames place frame ≡ below ++ last ∷ [] → (after.frames.items ≡ below) × (after.ended.items ≡ c.args.stack.now.ended.items ++ last ∷ [])} c.end_last.result
-    (λ kept. spares_stay_wide world c.args.stack.now after frame c.args.row.now c.requires.spares
-    (subst (λ (f : Frame). AreWide world f c.args.row.now) (sym c.in-None.ensures.1) (last_is_wide world its.ceilings its.p c.args.pairs.now frames c.args.row.now its.so_far place last at))
+    (λ kept. spares_stay_wide world c.args.stack.now after frame c.args.found.now c.requires.spares
+    (subst (λ (f : Frame). AreWide world f c.args.found.now) (sym c.in-None.ensures.1) (last_is_wide world its.ceilings its.p c.args.pairs.now frames c.args.found.now its.so_far place last at))
     c.end_last.ensures.next c.end_last.ensures.cone (kept at.below frame (set_at frames place last at frame)).1)
     c.end_last.ensures.frames
 
@@ -71,7 +75,7 @@ returns-in-None-clause-less g c =
     let after = c.end_last.new.self in
     let its = c.requires.walk in
     on_ok_weaker {P = (below : List Frame) (last : Frame) → set frames place frame ≡ below ++ last ∷ [] → (after.frames.items ≡ below) × (after.ended.items ≡ c.args.stack.now.ended.items ++ last ∷ [])} c.end_last.result
-    (λ kept. less_done c.args.world.now its.ceilings its.p c.args.pairs.now frames c.args.row.now its.so_far place last at after.frames.items
+    (λ kept. less_done c.args.world.now its.ceilings its.p c.args.pairs.now frames c.args.found.now its.so_far place last at after.frames.items
     (kept at.below frame (set_at frames place last at frame)).0)
     c.end_last.ensures.frames
 
@@ -88,8 +92,8 @@ returns-then-not-on-clause-walk g c p ceilings lie so_far =
     let kept = set frames place frame in
     let on = c.in_ok-on-in-Some.on in
     let next = c.try_portal.new.next in
-    tried_so_far c.args.world.now ceilings p c.args.pairs.now frames c.args.row.now so_far place last at c.in-Some.portal frame c.in-Some.ensures
-    c.index-frame.result.now _ c.index-frame.ensures c.try_portal.new.row (then_some on next) (c.in_ok-on-in-Some.ensures.tried ceilings lie)
+    tried_so_far c.args.world.now ceilings p c.args.pairs.now frames c.args.found.now so_far place last at c.in-Some.portal frame c.in-Some.ensures
+    c.index-frame.result.now _ c.index-frame.ensures c.try_portal.new.found (then_some on next) (c.in_ok-on-in-Some.ensures.tried ceilings lie)
     kept (after_none kept on next c.if-not-on.true) (g.S.RowSource.ceilings c.args.source.now) lie c.try_portal.new.pairs c.in_ok-on-in-Some.ensures.pairs
 
 pub returns-then-not-on-clause-less : goal.returns-then-not-on-clause-less
@@ -104,8 +108,8 @@ returns-then-not-on-clause-less g c =
     let its = c.requires.walk in
     let on = c.in_ok-on-in-Some.on in
     let next = c.try_portal.new.next in
-    less_tried c.args.world.now its.ceilings its.p c.args.pairs.now frames c.args.row.now its.so_far place last at c.in-Some.portal frame c.in-Some.ensures
-    c.index-frame.result.now _ c.index-frame.ensures c.try_portal.new.row (then_some on next) (c.in_ok-on-in-Some.ensures.tried its.ceilings its.below)
+    less_tried c.args.world.now its.ceilings its.p c.args.pairs.now frames c.args.found.now its.so_far place last at c.in-Some.portal frame c.in-Some.ensures
+    c.index-frame.result.now _ c.index-frame.ensures c.try_portal.new.found (then_some on next) (c.in_ok-on-in-Some.ensures.tried its.ceilings its.below)
     kept (after_none kept on next c.if-not-on.true)
 
 -- a portal is tried, and the chain goes on
@@ -123,8 +127,8 @@ returns-else-not-on-clause-walk g c =
     let on = c.in_ok-on-in-Some.on in
     let next = c.try_portal.new.next in
     on_ok_weaker {P = after ≡ kept ++ next ∷ []} c.push_next.result
-    (λ pushed p ceilings lie so_far. tried_so_far c.args.world.now ceilings p c.args.pairs.now frames c.args.row.now so_far place last at c.in-Some.portal frame c.in-Some.ensures
-    c.index-frame.result.now _ c.index-frame.ensures c.try_portal.new.row (then_some on next) (c.in_ok-on-in-Some.ensures.tried ceilings lie)
+    (λ pushed p ceilings lie so_far. tried_so_far c.args.world.now ceilings p c.args.pairs.now frames c.args.found.now so_far place last at c.in-Some.portal frame c.in-Some.ensures
+    c.index-frame.result.now _ c.index-frame.ensures c.try_portal.new.found (then_some on next) (c.in_ok-on-in-Some.ensures.tried ceilings lie)
     after (after_child kept after on next c.if-not-on.false pushed) (g.S.RowSource.ceilings c.args.source.now) lie c.try_portal.new.pairs c.in_ok-on-in-Some.ensures.pairs)
     c.push_next.ensures.frames
 
@@ -142,8 +146,8 @@ returns-else-not-on-clause-less g c =
     let on = c.in_ok-on-in-Some.on in
     let next = c.try_portal.new.next in
     on_ok_weaker {P = after ≡ kept ++ next ∷ []} c.push_next.result
-    (λ pushed. less_tried c.args.world.now its.ceilings its.p c.args.pairs.now frames c.args.row.now its.so_far place last at c.in-Some.portal frame c.in-Some.ensures
-    c.index-frame.result.now _ c.index-frame.ensures c.try_portal.new.row (then_some on next) (c.in_ok-on-in-Some.ensures.tried its.ceilings its.below)
+    (λ pushed. less_tried c.args.world.now its.ceilings its.p c.args.pairs.now frames c.args.found.now its.so_far place last at c.in-Some.portal frame c.in-Some.ensures
+    c.index-frame.result.now _ c.index-frame.ensures c.try_portal.new.found (then_some on next) (c.in_ok-on-in-Some.ensures.tried its.ceilings its.below)
     after (after_child kept after on next c.if-not-on.false pushed))
     c.push_next.ensures.frames
 
@@ -151,9 +155,6 @@ returns-else-not-on-clause-less g c =
 
 pub try_portal-requires-clause-spares : goal.try_portal-requires-clause-spares
 try_portal-requires-clause-spares g c = c.requires.spares.next_is
-
-pub try_portal-requires-clause-pairs : goal.try_portal-requires-clause-pairs
-try_portal-requires-clause-pairs g c = c.requires.walk.so_far.pairs_are
 
 pub returns-then-not-on-clause-spares : goal.returns-then-not-on-clause-spares
 returns-then-not-on-clause-spares g c = spares_after_try c.args.world.now c.args.stack.now _ c.requires.spares c.in_ok-on-in-Some.ensures.spares refl
