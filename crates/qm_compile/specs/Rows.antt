@@ -35,8 +35,8 @@ pub record IsShownFrom (portals : List Portal) (m n : ℕ) : Type 0 where
   pub in_reuse : IsInReuse portals number n
   pub in_bound : IsInChainBound portals portal n
 
--- the rows of the numbered leaves, over rows of the portals that were found in turns, each portal's once, in the order of
--- their numbers: they have all that is in sight, and each other leaf only by open chains over the rows as they stood
+-- the rows of the numbered leaves, over rows of the portals that have all that is in sight, and lie within the reuse: what turns
+-- of all portals may leave, each portal's once, in the order of their numbers, by open chains over the rows as they stood before
 pub record AreRowsOverTurns (world : World) (rows : List (List Bool)) : Type 0 where
   pub portal_rows : List (List Bool)
   pub are_sound : AreSoundRows world.tree world.portals portal_rows
@@ -44,7 +44,7 @@ pub record AreRowsOverTurns (world : World) (rows : List (List Bool)) : Type 0 w
   pub are_leaf_rows : AreLeafRows world.portals portal_rows (length (numbered_leaves world.tree)) rows
   pub only_shown : (m n : ℕ) → IsIn (slice_index_or rows m []) n → (n ≡ m) ⊎ IsShownFrom world.portals m n
 
--- rows are coarse with `--fast`, and found in turns without it
+-- rows are coarse with `--fast`, and lie within those bounds without it
 abbrev pub AreRowsAsAsked : Bool → World → List (List Bool) → Type 0
 AreRowsAsAsked true world rows = AreRowsOverCoarse world rows
 AreRowsAsAsked false world rows = AreRowsOverTurns world rows
