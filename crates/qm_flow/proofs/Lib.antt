@@ -5,6 +5,7 @@ mod FirstFrames
 mod FirstMasks
 mod FourLeaves
 mod LastElements
+mod NewWords
 mod OfWorlds
 mod OwnAnswers
 mod PairFrames

@@ -4,6 +4,7 @@ pub mod FirstFrame
 pub mod FirstMask
 pub mod FreshStack
 pub mod LeadsBack
+pub mod NewWords
 pub mod OfWorld
 pub mod OwnRow
 pub mod PairFrame

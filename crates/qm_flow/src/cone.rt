@@ -7,11 +7,12 @@ ghost use Rattle.qm_contacts.specs.NumberedLeaves.{numbered_leaves};
 ghost use Rattle.qm_chains.specs.inner.Cone.{LeadsInto, IsInCone, IsLeftOf, AreEntered};
 ghost use Rattle.qm_chains.specs.inner.Walk.{AreWide};
 ghost use Rattle.qm_flow.specs.inner.CutFrame.{IsCutFrame};
+ghost use Rattle.qm_flow.specs.inner.NewWords.{HaveAllNew};
 ghost use Rattle.qm_flow.specs.inner.OfWorld.{AreOfWorld};
 
 use crate::frame::Frame;
 use crate::leading::may_lead_on;
-use crate::narrowing::{clear, cut};
+use crate::narrowing::{clear, cut, list_new};
 use crate::pairs::Pairs;
 use crate::scratch::Scratch;
 use qm_bits::BitRow;
@@ -73,6 +74,7 @@ pub(crate) fn cone_of<'a, S: RowSource>(
     scratch.cone.set(entered);
     scratch.due.clear();
     scratch.due.push(entered)?;
+    list_new(&frame.mask, found, &mut scratch.words)?;
     while let Some(leaf) = scratch.due.pop() {
         let portals = world.leaving(leaf);
         go_on(world, source, pairs, frame, found, portals, scratch)?;
@@ -93,7 +95,9 @@ fn go_on<'a, S: RowSource>(
     requires portals { All (λ p. p < length world.now.portals) portals.now }
     requires of_world { AreOfWorld world.now (S.world source.old) pairs.now frame.now found.now }
     requires cone { length scratch.old.cone ≡ length (numbered_leaves world.now.tree) }
+    requires words { HaveAllNew frame.now.mask found.now scratch.old.words.items }
     ensures entered { OnOk result (AreEntered (LeadsInto world.now pairs.now.first frame.now found.now portals.now) scratch.old.cone scratch.new.cone scratch.old.due.items scratch.new.due.items) }
+    ensures words { OnOk result (scratch.new.words.items ≡ scratch.old.words.items) }
     ensures on { S.goes_on source.old source.new }
 {
     for portal in portals {
@@ -115,14 +119,17 @@ fn enter<'a, S: RowSource>(
     requires portal { portal < length world.now.portals }
     requires of_world { AreOfWorld world.now (S.world source.old) pairs.now frame.now found.now }
     requires cone { length scratch.old.cone ≡ length (numbered_leaves world.now.tree) }
+    requires words { HaveAllNew frame.now.mask found.now scratch.old.words.items }
     ensures entered { OnOk result (AreEntered (LeadsInto world.now pairs.now.first frame.now found.now (portal ∷ [])) scratch.old.cone scratch.new.cone scratch.old.due.items scratch.new.due.items) }
+    ensures words { OnOk result (scratch.new.words.items ≡ scratch.old.words.items) }
     ensures on { S.goes_on source.old source.new }
 {
     let to = world.to(portal);
     if scratch.cone.get(to) {
         return Ok(());
     }
-    if !may_lead_on(world, source, pairs, frame, portal, found) {
+    let words = &scratch.words;
+    if !may_lead_on(world, source, pairs, frame, portal, found, words) {
         return Ok(());
     }
     scratch.cone.set(to);

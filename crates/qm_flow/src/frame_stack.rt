@@ -58,6 +58,7 @@ impl<'a> FrameStack<'a> {
                 steps: StepBuffers::new(alloc),
                 cone,
                 due: Vec::new(alloc),
+                words: Vec::new(alloc),
             },
         })
     }

@@ -5,6 +5,7 @@ ghost use Rattle.qm_lists.specs.WorkList.{IsIn};
 ghost use Rattle.qm_contacts.specs.Portals.{Portal};
 ghost use Rattle.qm_chains.specs.Shown.{IsAt};
 ghost use Rattle.qm_chains.specs.inner.Cone.{LeadsOn};
+ghost use Rattle.qm_flow.specs.inner.NewWords.{HaveAllNew};
 ghost use Rattle.qm_flow.specs.inner.OfWorld.{AreOfWorld};
 
 use crate::frame::Frame;
@@ -24,9 +25,11 @@ pub(crate) fn may_lead_on<'a, S: RowSource>(
     frame: &Frame<'a>,
     portal: u64,
     found: &BitRow,
+    words: &[u64],
 ) -> bool
     requires portal { portal < length world.now.portals }
     requires of_world { AreOfWorld world.now (S.world source.old) pairs.now frame.now found.now }
+    requires words { HaveAllNew frame.now.mask found.now words.now }
     ensures new { result ≡ true → (q : Portal) → IsAt world.now.portals portal q → IsIn frame.now.met q.to → ⊥ }
     ensures none { result ≡ false → (q : Portal) → IsAt world.now.portals portal q → LeadsOn world.now pairs.now.first frame.now found.now q → ⊥ }
     ensures on { S.goes_on source.old source.new }
@@ -34,7 +37,7 @@ pub(crate) fn may_lead_on<'a, S: RowSource>(
     if frame.met.get(world.to(portal)) {
         return false;
     }
-    if !may_show(&pairs.own, source, portal, &frame.mask, found) {
+    if !may_show(&pairs.own, source, portal, &frame.mask, found, words) {
         return false;
     }
     may_pass(&frame.state, world.pane(portal))

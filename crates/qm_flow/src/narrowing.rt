@@ -1,12 +1,13 @@
 //! Rows of a flow, word by word.
 
-ghost use Rattle.std.specs.Prelude.{◌≡◌, ◌⊎◌, ◌<◌, true, false, length, replicate, slice_set, IfOk};
+ghost use Rattle.std.specs.Prelude.{◌≡◌, ◌⊎◌, ◌<◌, true, false, length, replicate, slice_set, IfOk, OnOk};
 ghost use Rattle.qm_lists.specs.WorkList.{IsIn};
 ghost use Rattle.qm_contacts.specs.NumberedLeaves.{numbered_leaves};
 ghost use Rattle.qm_chains.specs.inner.Cone.{IsCutTo};
 ghost use Rattle.qm_chains.specs.inner.Narrowing.{IsNarrowed, ShowsNothingNew};
 ghost use Rattle.qm_chains.specs.inner.OwnRows.{AreOwnRows, MustHave, CanHave};
 ghost use Rattle.qm_sight.specs.WordInSight.{ceiling_of};
+ghost use Rattle.qm_flow.specs.inner.NewWords.{HaveAllNew};
 
 use crate::own_rows::OwnRows;
 use qm_bits::BitRow;
@@ -29,28 +30,46 @@ pub(crate) fn narrow<S: RowSource>(own: &OwnRows, source: &mut S, portal: u64, m
     }
 }
 
-/// Whether a portal may show a leaf that the mask has, and that was not found.
+/// Lists the words in which a mask has a leaf that was not found.
+pub(crate) fn list_new(
+    mask: &BitRow,
+    found: &BitRow,
+    words: &mut Vec<u64>,
+) -> Result<(), AllocError>
+    requires { length found.now ≡ length mask.now }
+    ensures { OnOk result (HaveAllNew mask.now found.now words.new.items) }
+{
+    words.clear();
+    for k in 0..mask.len().div_ceil(64) {
+        if mask.word(k) & !found.word(k) != 0 {
+            words.push(k)?;
+        }
+    }
+    Ok(())
+}
+
+/// Whether a portal may show a leaf that the mask has, and that was not found. All words that have such a leaf are listed.
 pub(crate) fn may_show<S: RowSource>(
     own: &OwnRows,
     source: &mut S,
     portal: u64,
     mask: &BitRow,
     found: &BitRow,
+    words: &[u64],
 ) -> bool
     requires portal { portal < length own.now }
     requires own { AreOwnRows (S.world source.old) own.now }
     requires wide { length mask.now ≡ length (numbered_leaves (S.world source.old).tree) }
     requires found { length found.now ≡ length mask.now }
+    requires words { HaveAllNew mask.now found.now words.now }
     ensures none { result ≡ false → ShowsNothingNew (MustHave (S.world source.old) own.now portal) mask.now found.now }
     ensures on { S.goes_on source.old source.new }
 {
-    for k in 0..mask.len().div_ceil(64) {
-        let left = mask.word(k) & !found.word(k);
-        if left != 0 {
-            let word = own.word(source, portal, k);
-            if word & left != 0 {
-                return true;
-            }
+    for k in words {
+        let left = mask.word(*k) & !found.word(*k);
+        let word = own.word(source, portal, *k);
+        if word & left != 0 {
+            return true;
         }
     }
     false

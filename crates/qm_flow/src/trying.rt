@@ -17,7 +17,7 @@ ghost use Rattle.qm_flow.specs.inner.PairsGoOn.{PairsGoOn};
 use crate::frame::Frame;
 use crate::going::go_through;
 use crate::leading::may_lead_on;
-use crate::narrowing::may_show;
+use crate::narrowing::{list_new, may_show};
 use crate::pairing::pair;
 use crate::pairs::Pairs;
 use crate::scratch::Scratch;
@@ -50,7 +50,9 @@ pub(crate) fn try_portal<'a, S: RowSource>(
     ensures pairs { OnOk result (PairsGoOn world.now (S.ceilings source.old) found.new pairs.old pairs.new) }
     ensures on { S.goes_on source.old source.new }
 {
-    if !may_lead_on(world, source, pairs, frame, portal, found) {
+    list_new(&frame.mask, found, &mut scratch.words)?;
+    let words = &scratch.words;
+    if !may_lead_on(world, source, pairs, frame, portal, found, words) {
         return Ok(false);
     }
     let may = pair_may_show(
@@ -90,6 +92,8 @@ fn pair_may_show<'a, S: RowSource>(
         return Ok(true);
     }
     pair(alloc, world, source, pairs, portal, found, next, scratch)?;
-    let may = may_show(&pairs.own, source, portal, &frame.mask, found);
+    list_new(&frame.mask, found, &mut scratch.words)?;
+    let words = &scratch.words;
+    let may = may_show(&pairs.own, source, portal, &frame.mask, found, words);
     Ok(may)
 }

@@ -1,9 +1,11 @@
-use Rattle.std.proofs.Common.{◌≡◌, true, false, [], List, Bool, ℕ, length, set, ap, ◌∙◌, subst, arith}
+use Rattle.std.proofs.Common.{◌≡◌, true, false, [], List, Bool, ℕ, length, set, sym, ap, ◌∙◌, subst, arith}
 use Rattle.std.proofs.lemmas.List.{nil_from_length, length-replicate}
 use Rattle.qm_lists.proofs.WorkLists.{place_within}
 use Rattle.qm_chains.specs.inner.Cone.{IsConeSoFar}
 use Rattle.qm_chains.proofs.Entering.{cone_begins, leaf_in, leaving_within, cone_more, cone_less, cone_ends}
 use Rattle.qm_flow.proofs.LastElements.{pushed_to}
+use Rattle.qm_chains.specs.inner.Frame.{Frame}
+use Rattle.qm_flow.specs.inner.NewWords.{HaveAllNew}
 use Rattle.qm_flow.proofs.OfWorlds.{of_world_later}
 use Rattle.qm_flow.proofs.cone.cone_of.Goals as goal
 
@@ -14,8 +16,12 @@ loop-leaf-init g c =
       so_far = cone_begins c.args.world.now c.args.pairs.now.first c.args.frame.now c.args.found.now c.args.entered (length c.args.scratch.now.cone) c.set.new.self c.push.new.self.items wide (omega (arith, wide, c.requires.entered))
           (c.set.ensures ∙ ap (λ (row : List Bool). set row c.args.entered true) c.clear.ensures)
           (pushed_to [] c.clear-2.new.self.items c.push.new.self.items c.args.entered c.in_ok-push.ensures.items c.clear-2.ensures.items);
+      words = subst (λ (mask : List Bool). HaveAllNew mask c.args.found.now c.list_new.new.words.items) (ap (λ (f : Frame). f.mask) c.frame.view_is) c.in_ok-list_new.ensures;
       on = g.met.S.RowSource.goes_on_itself c.args.source.now;
     }
+
+pub list_new-requires : goal.list_new-requires
+list_new-requires g c = c.requires.of_world.wide.found ∙ sym (ap (λ (f : Frame). length f.mask) c.frame.view_is ∙ c.requires.of_world.wide.mask)
 
 pub leaving-portals-requires : goal.leaving-portals-requires
 leaving-portals-requires g c =
@@ -34,6 +40,7 @@ pub loop-leaf-preserved : goal.loop-leaf-preserved
 loop-leaf-preserved g c = record {
   so_far = cone_more c.args.world.now c.args.pairs.now.first c.args.frame.now c.args.found.now c.args.entered c.loop-leaf.scratch.cone c.go_on.new.scratch.cone c.loop-leaf.scratch.due.items c.pop.new.self.items c.go_on.new.scratch.due.items c.in-Some.leaf c.in-Some.ensures.items c.loop-leaf.invariant.so_far
       c.leaving-portals.result.now c.leaving-portals.ensures c.in_ok-go_on.ensures.entered;
+  words = subst (HaveAllNew c.args.frame.now.mask c.args.found.now) (sym c.in_ok-go_on.ensures.words) c.loop-leaf.invariant.words;
   on = g.met.S.RowSource.goes_on_in_turn c.args.source.now c.loop-leaf.source c.go_on.new.source c.loop-leaf.invariant.on c.go_on.ensures.on;
 }
 
@@ -58,6 +65,12 @@ set-requires g c =
 
 pub go_on-requires-clause-cone : goal.go_on-requires-clause-cone
 go_on-requires-clause-cone g c = c.loop-leaf.invariant.so_far.wide
+
+pub go_on-requires-clause-words : goal.go_on-requires-clause-words
+go_on-requires-clause-words g c = c.loop-leaf.invariant.words
+
+pub returns-in_err-list_new-clause-on : goal.returns-in_err-list_new-clause-on
+returns-in_err-list_new-clause-on g c = g.met.S.RowSource.goes_on_itself c.args.source.now
 
 pub returns-in_err-push-clause-on : goal.returns-in_err-push-clause-on
 returns-in_err-push-clause-on g c = g.met.S.RowSource.goes_on_itself c.args.source.now

@@ -1,14 +1,16 @@
-use Rattle.std.proofs.Common.{[], ◌∷◌, ◌++◌, take, get_or, List, ℕ, sym, ◌∙◌, subst}
+use Rattle.std.proofs.Common.{[], ◌∷◌, ◌++◌, take, get_or, List, ℕ, refl, sym, ◌∙◌, subst}
 use Rattle.std.proofs.lemmas.List.{take_all, get_or_default}
 use Rattle.qm_lists.proofs.Places.{take-read}
 use Rattle.qm_chains.specs.inner.Cone.{LeadsInto, AreEntered}
 use Rattle.qm_chains.proofs.Entering.{none_entered, then_entered, into_none, into_cases}
+use Rattle.qm_flow.specs.inner.NewWords.{HaveAllNew}
 use Rattle.qm_flow.proofs.OfWorlds.{of_world_later}
 use Rattle.qm_flow.proofs.cone.go_on.Goals as goal
 
 pub loop-portal-init : goal.loop-portal-init
 loop-portal-init g c = record {
   entered = none_entered (LeadsInto c.args.world.now c.args.pairs.now.first c.args.frame.now c.args.found.now []) c.args.scratch.now.cone c.args.scratch.now.due.items (λ to leads. absurd (into_none c.args.world.now c.args.pairs.now.first c.args.frame.now c.args.found.now to leads));
+  words = refl;
   on = g.met.S.RowSource.goes_on_itself c.args.source.now;
 }
 
@@ -34,6 +36,7 @@ loop-portal-preserved g c =
           (then_entered (LeadsInto world first frame found before) (LeadsInto world first frame found (number ∷ [])) (LeadsInto world first frame found (before ++ number ∷ []))
           c.args.scratch.now.cone c.loop-portal.scratch.cone c.enter.new.scratch.cone c.args.scratch.now.due.items c.loop-portal.scratch.due.items c.enter.new.scratch.due.items
           (into_cases world first frame found before number) c.loop-portal.invariant.entered c.in_ok-enter.ensures.entered);
+      words = c.in_ok-enter.ensures.words ∙ c.loop-portal.invariant.words;
       on = g.met.S.RowSource.goes_on_in_turn c.args.source.now c.loop-portal.source c.enter.new.source c.loop-portal.invariant.on c.enter.ensures.on;
     }
 
@@ -41,6 +44,12 @@ pub returns-clause-entered : goal.returns-clause-entered
 returns-clause-entered g c =
     subst (λ (numbers : List ℕ). AreEntered (LeadsInto c.args.world.now c.args.pairs.now.first c.args.frame.now c.args.found.now numbers) c.args.scratch.now.cone c.loop-portal.scratch.cone c.args.scratch.now.due.items c.loop-portal.scratch.due.items)
     (take_all c.loop-portal.portal-index c.args.portals.now c.loop-portal-test.false) c.loop-portal.invariant.entered
+
+pub enter-requires-clause-words : goal.enter-requires-clause-words
+enter-requires-clause-words g c = subst (HaveAllNew c.args.frame.now.mask c.args.found.now) (sym c.loop-portal.invariant.words) c.requires.words
+
+pub returns-clause-words : goal.returns-clause-words
+returns-clause-words g c = c.loop-portal.invariant.words
 
 pub enter-requires-clause-portal : goal.enter-requires-clause-portal
 enter-requires-clause-portal g c = c.requires.portals c.loop-portal.portal-index 0 c.loop-portal-test.true

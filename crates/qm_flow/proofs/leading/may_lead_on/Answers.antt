@@ -7,6 +7,7 @@ use Rattle.qm_chains.specs.inner.Narrowing.{ShowsNothingNew}
 use Rattle.qm_chains.specs.inner.OwnRows.{AreOwnRows, MustHave}
 use Rattle.qm_chains.proofs.PairRows.{none_wanted}
 use Rattle.qm_chains.proofs.TriedPortals.{same_portal, not_in_if_clear}
+use Rattle.qm_flow.specs.inner.NewWords.{HaveAllNew}
 use Rattle.qm_flow.proofs.Panes.{passes_there}
 use Rattle.qm_chains.specs.inner.Pairs.{Pairs}
 use Rattle.qm_flow.proofs.leading.may_lead_on.Goals as goal
@@ -44,6 +45,9 @@ may_show-requires-clause-own g c =
 pub may_show-requires-clause-wide : goal.may_show-requires-clause-wide
 may_show-requires-clause-wide g c =
     ap (λ (f : Frame). length f.mask) c.frame.view_is ∙ c.requires.of_world.wide.mask ∙ ap (λ (w : World). length (numbered_leaves w.tree)) (sym c.requires.of_world.same_world)
+
+pub may_show-requires-clause-words : goal.may_show-requires-clause-words
+may_show-requires-clause-words g c = subst (λ (mask : List Bool). HaveAllNew mask c.args.found.now c.args.words.now) (sym (ap (λ (f : Frame). f.mask) c.frame.view_is)) c.requires.words
 
 pub may_show-requires-clause-found : goal.may_show-requires-clause-found
 may_show-requires-clause-found g c = c.requires.of_world.wide.found ∙ sym (ap (λ (f : Frame). length f.mask) c.frame.view_is ∙ c.requires.of_world.wide.mask)

@@ -41,6 +41,9 @@ may_show-may-requires-clause-wide g c =
     let same = g.met.S.RowSource.same_world c.args.source.now c.pair.new.source c.pair.ensures.on ∙ c.requires.of_world.same_world in
     ap (λ (f : Frame). length f.mask) c.frame.view_is ∙ c.requires.of_world.wide.mask ∙ ap (λ (w : World). length (numbered_leaves w.tree)) (sym same)
 
+pub list_new-requires : goal.list_new-requires
+list_new-requires g c = c.requires.of_world.wide.found ∙ sym (ap (λ (f : Frame). length f.mask) c.frame.view_is ∙ c.requires.of_world.wide.mask)
+
 pub returns-clause-none : goal.returns-clause-none
 returns-clause-none g c is q at leads =
     let world = c.args.world.now in

@@ -1,16 +1,27 @@
-use Rattle.std.proofs.Common.{ℕ, Bool, List, sym, ◌∙◌, subst}
+use Rattle.std.proofs.Common.{ℕ, Bool, List, length, sym, ap, ◌∙◌, subst}
 use Rattle.std.specs.Bool.{then_some}
 use Rattle.std.proofs.lemmas.Result.{IfOk-weaker, on_ok_weaker}
-use Rattle.qm_chains.specs.inner.Frame.{put_back, EndsChain}
+use Rattle.qm_chains.specs.inner.Frame.{Frame, put_back, EndsChain}
 use Rattle.qm_chains.specs.inner.Pairs.{LieWithinPairs}
 use Rattle.qm_chains.specs.inner.Walk.{AreWide, IsTried}
 use Rattle.qm_chains.proofs.TriedPortals.{tried_not_led}
 use Rattle.qm_sight.specs.WordInSight.{LieWithin}
 use Rattle.qm_sight.specs.InCeiling.{IsInCeiling}
+use Rattle.qm_flow.specs.inner.NewWords.{HaveAllNew}
 use Rattle.qm_flow.specs.inner.PairsGoOn.{PairsGoOn}
 use Rattle.qm_flow.proofs.PairsKept.{pairs_same, pairs_later, pairs_found}
 use Rattle.qm_flow.proofs.OfWorlds.{of_world_later}
 use Rattle.qm_flow.proofs.trying.try_portal.Goals as goal
+
+pub list_new-requires : goal.list_new-requires
+list_new-requires g c = c.requires.of_world.wide.found ∙ sym (ap (λ (f : Frame). length f.mask) c.frame.view_is ∙ c.requires.of_world.wide.mask)
+
+pub may_lead_on-requires-clause-words : goal.may_lead_on-requires-clause-words
+may_lead_on-requires-clause-words g c = subst (HaveAllNew c.args.frame.now.mask c.args.found.now) (sym c.deref.ensures.value)
+    (subst (λ (mask : List Bool). HaveAllNew mask c.args.found.now c.list_new.new.words.items) (ap (λ (f : Frame). f.mask) c.frame.view_is) c.in_ok-list_new.ensures)
+
+pub returns-in_err-list_new-clause-on : goal.returns-in_err-list_new-clause-on
+returns-in_err-list_new-clause-on g c = g.met.S.RowSource.goes_on_itself c.args.source.now
 
 pub returns-then-not-may_lead_on-clause-tried : goal.returns-then-not-may_lead_on-clause-tried
 returns-then-not-may_lead_on-clause-tried g c ceilings lie within ends =
