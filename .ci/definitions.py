@@ -271,7 +271,9 @@ class Repository:
             source = self.source(crate, str(file.relative_to(folder).with_suffix("")))
             open_module = re.search(rf"(?m)^pub mod {source.module}\b", lib.text)
             for owner, is_public, name, text in source.calls():
-                seen = open_module or (owner[0] if owner else name) in lib.types
-                if seen and (is_public or owner and owner[1]) and re.search(r"\b(?:ensures|requires)\b", text):
-                    owned = f"{owner[0]}::{name}" if owner else name
-                    yield Call(source, owned, f"{text} {owner[0] if owner else ''}")
+                listed = (owner[0] if owner else name) in lib.types
+                if not (listed or open_module) or not re.search(r"\b(?:ensures|requires)\b", text):
+                    continue
+                if is_public or owner and owner[1]:
+                    path = [*([] if listed else [source.module]), *(owner[:1] if owner else []), name]
+                    yield Call(source, "::".join(path), f"{text} {owner[0] if owner else ''}")

@@ -1,8 +1,9 @@
 #!/usr/bin/env python3
-"""Writes the part of docs/PROOF.md that says what stands behind the contract of `run`, and holds it to the sources.
+"""Writes the parts of docs/PROOF.md that say which definitions stand behind the contract of `run`, which others there
+are, and which calls require something; and holds them to the sources.
 
     python3 .ci/reading_order.py           says what is wrong, and ends with 1 if anything is
-    python3 .ci/reading_order.py --write   writes the part anew
+    python3 .ci/reading_order.py --write   writes the parts anew
     python3 .ci/reading_order.py --names   prints the order with the name of each definition that is reached
 
 `run` is the public call of that name in a crate on which the program stands. Each file of definitions has one line: the
@@ -14,11 +15,11 @@ import re
 import sys
 
 from check_crates import rows
-from definitions import Call, Missing, Repository, source_file, specs_file
+from definitions import Missing, Repository, source_file, specs_file
 
 PROGRAM, TOP = "qmapc", "run"
 PAGE, LINES = Path("docs/PROOF.md"), Path(".ci/reading_lines")
-BEGIN, END = "<!-- written by .ci/reading_order.py: begin -->\n", "<!-- written by .ci/reading_order.py: end -->\n"
+BEGIN, END = "<!-- begin {}, written by .ci/reading_order.py -->\n", "<!-- end {} -->\n"
 
 
 def top(repository):
@@ -90,7 +91,7 @@ class Order:
         """The definitions of a file that say what it is about: the one named as it, or those that no other one names."""
         names = self.names(file)
         word = file[2].split(".")[-1]
-        same = [f"{before}{word}" for before in ("", "Is", "Are", "Has") if f"{before}{word}" in names]
+        same = [f"{before}{word}" for before in ("", "Is", "Are", "Has", "IsIn") if f"{before}{word}" in names]
         below = {other.name for named in self.steps if named[:3] == file for other in self.repository.below(named) if other[:3] == file}
         return [name for name in same[:1] or [name for name in names if name not in below] if name in having]
 
@@ -125,11 +126,8 @@ class Order:
             yield from (self.file_line(file, with_names) for file in self.files if file[1] == crate)
 
     def of_library(self):
-        modules = {}
-        for named in self.library:
-            modules.setdefault(named.module, set()).add(named.name)
-        listed = (f"{module} ({', '.join(f'`{name}`' for name in sorted(names))})" for module, names in sorted(modules.items()))
-        return "Of the standard library's definitions these are named: " + "; ".join(listed) + "."
+        modules = sorted({named.module for named in self.library})
+        return "Beside these they name definitions of the standard library, in its modules " + ", ".join(modules) + "."
 
     def calls_to(self):
         """The nearest public call that leads to each file."""
@@ -154,28 +152,46 @@ class Order:
             if listed:
                 yield f"- `{crate}`: {', '.join(listed)}."
 
-    def stale_lines(self):
+    def other_faults(self):
         for name in self.lines:
             crate, _, module = name.partition("/")
             if ("definition", crate, module) not in self.files:
                 yield f"{LINES} has a line for {name}, which is no file of the reading order"
+        for kind, crate, module in self.files:
+            if kind == "definition" and module.startswith("inner."):
+                yield f"the contract of {TOP} leads to {specs_file(crate, module)}, which therefore has to stand outside specs/inner"
 
-    def text(self):
+    def required(self):
+        """A line for each crate with the public calls that require something."""
+        for crate in self.repository.crates:
+            names = [call.name for call in self.repository.public_calls(crate) if re.search(r"\brequires\b", call.text)]
+            if names:
+                yield f"- `{crate}`: {', '.join(f'`{name}`' for name in dict.fromkeys(names))}."
+
+    def parts(self):
+        """What is written into the page, by the name of each part."""
         definitions = [file for file in self.files if file[0] == "definition"]
-        return "\n".join([
+        head = (
             f"The contract of `{TOP}` stands in [{self.call.source.file.name}](../{self.call.source.file}). It leads to "
-            f"{len(definitions)} files of definitions, and to types in {len(self.files) - len(definitions)} files of sources:",
-            *self.reading(),
-            "",
-            self.of_library(),
-            "",
-            "### Definitions to which no clause of `run` leads",
-            "",
-            "Each with the nearest public call whose contract leads there.",
-            "",
-            *self.apart(),
-            "",
-        ])
+            f"{len(definitions)} files of definitions, and to types in {len(self.files) - len(definitions)} files of `src`."
+        )
+        return {
+            "reading order": [head, *self.reading(), "", self.of_library()],
+            "apart": [*self.apart()],
+            "required": [*self.required()],
+        }
+
+
+def written(page, parts):
+    """The page with its parts written anew."""
+    for name, lines in parts.items():
+        begin, end = BEGIN.format(name), END.format(name)
+        before, found, rest = page.partition(begin)
+        _, found_end, after = rest.partition(end)
+        if not found or not found_end:
+            raise Missing(f"{PAGE} has not the two lines between which the part '{name}' stands")
+        page = before + begin + "\n".join(lines) + "\n" + end + after
+    return page
 
 
 def main():
@@ -183,16 +199,13 @@ def main():
     if sys.argv[1:] == ["--names"]:
         print("\n".join(order.reading(with_names=True)))
         return
-    text = order.text()
-    faults = [*order.faults, *order.stale_lines()]
-    before, begin, rest = PAGE.read_text().partition(BEGIN)
-    old, end, after = rest.partition(END)
-    if not begin or not end:
-        faults.append(f"{PAGE} has not the two lines between which the reading order stands")
-    elif sys.argv[1:] == ["--write"]:
-        PAGE.write_text(before + BEGIN + text + END + after)
-    elif old != text:
-        faults.append(f"{PAGE} does not say what the definitions say: write it anew by python3 .ci/reading_order.py --write")
+    page = PAGE.read_text()
+    now = written(page, order.parts())
+    faults = [*order.faults, *order.other_faults()]
+    if sys.argv[1:] == ["--write"]:
+        PAGE.write_text(now)
+    elif now != page:
+        faults.append(f"{PAGE} does not say what the sources say: write it anew by python3 .ci/reading_order.py --write")
     print("\n".join(faults), end="\n" if faults else "")
     sys.exit(1 if faults else 0)
 
