@@ -47,6 +47,7 @@ class Definitions:
         self.crate, self.module, self.file = crate, module, specs_file(crate, module)
         self.names, self.modules = {}, {}
         self.head, self.texts, self.docs, self.home = "", {}, {}, {}
+        self.around = ""
         comment, name = [], None
         for line in self.file.read_text().splitlines():
             bare = line.strip()
@@ -62,11 +63,15 @@ class Definitions:
             comment = []
 
     def take(self, line, name, comment):
-        """Reads one line of a definition, and answers the name of the one that it belongs to."""
+        """Reads one line of a definition, and answers the name of the one that it belongs to. What stands around several
+        definitions belongs to each of them."""
+        if line.startswith("module "):
+            self.around = line + "\n"
+            return None
         found = BEGINS.match(line)
         if found:
             name = next(filter(None, found.groups()))
-            self.texts.setdefault(name, "")
+            self.texts.setdefault(name, self.around if line.startswith(" ") else "")
             self.home[name] = name
             if comment:
                 self.docs[name] = comment

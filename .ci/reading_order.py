@@ -120,9 +120,9 @@ class Order:
 
     def reading(self, with_names=False):
         """The lines of the reading order, crate by crate."""
-        kinds = {name: cells[1] for name, cells in rows()}
+        kinds = {name: f": {sentence(cells[1])}" for name, cells in rows()}
         for crate in self.crates:
-            yield f"\n**`{crate}`**: {sentence(kinds.get(crate, ''))}\n"
+            yield f"\n**`{crate}`**{kinds.get(crate, '')}\n"
             yield from (self.file_line(file, with_names) for file in self.files if file[1] == crate)
 
     def of_library(self):
