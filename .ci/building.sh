@@ -49,27 +49,63 @@ jobs_here() {
     } 2>/dev/null | least
 }
 
-# passes on what is printed, and says on standard error with each crate how far it is
-tell_progress() { # tell_progress CRATES
-    local line done=0
-    while IFS= read -r line; do
+# the last crates of a crates.txt, each of which stands on all before it: beside them nothing else can be proved
+last_crates() { # last_crates FILE
+    awk '
+        { name = $1; sub(/:.*/, "", name); order[NR] = name; sub(/^[^:]*:/, ""); below[name] = $0 }
+        function take(name, parts, number, at, found) {
+            if (name in taken || !(name in below)) return 0
+            taken[name] = 1
+            found = 1
+            number = split(below[name], parts, " ")
+            for (at = 1; at <= number; at++) found += take(parts[at])
+            return found
+        }
+        END {
+            for (at = NR; at > 0; at--) {
+                delete taken
+                if (take(order[at]) != at) break
+                last = order[at] "\n" last
+            }
+            printf "%s", last
+        }' "$1"
+}
+
+tell() { # tell DONE CRATES
+    echo "qmapc: $1 of $2 crates" >&2
+}
+
+# Proves the crates and builds the program in the folder; what is printed goes to its log. The toolchain gives each crate
+# one processor where it proves several side by side, so it is stopped before the last ones, which get all.
+prove_and_build() { # prove_and_build FOLDER
+    local folder=$1 last line name count done=0 log=$1/log prover
+    count=$(wc -l <"$folder/crates.txt")
+    mapfile -t last < <(last_crates "$folder/crates.txt")
+    exec 8< <(cd "$folder" && exec rt all check --jobs "$(jobs_here)" 2>&1 </dev/null)
+    prover=$!
+    while ((done < count - ${#last[@]})) && IFS= read -r -u 8 line; do
         printf '%s\n' "$line"
         if [[ $line == "== "* && $line != "== summary" ]]; then
             done=$((done + 1))
-            echo "qmapc: $done of $1 crates" >&2
+            tell "$done" "$count"
         fi
-    done
-}
-
-# proves the crates and builds the program in the folder; what is printed goes to its log
-prove_and_build() { # prove_and_build FOLDER
-    local folder=$1 count
-    count=$(wc -l <"$folder/crates.txt") || return
-    {
-        # the run itself, without words, only prints the usage line
-        (cd "$folder" && rt all check --jobs "$(jobs_here)") 2>&1 </dev/null | tell_progress "$count" &&
-            (cd "$folder/crates/qmapc" && rt run) 2>&1 </dev/null
-    } >"$folder/log"
+    done >"$log"
+    # what it still says of the last of them
+    while IFS= read -r -t 1 -u 8 line; do printf '%s\n' "$line"; done >>"$log"
+    kill "$prover" 2>/dev/null || true
+    ((done == count - ${#last[@]})) || return
+    for name in "${last[@]}"; do
+        echo "== $name"
+        cd "$folder/crates/$name" || break
+        if [[ $name != qmapc ]]; then
+            rt lib 2>&1 </dev/null || break
+        else
+            # the run itself, without words, only prints the usage line and ends with 2
+            rt run 2>&1 </dev/null || [[ -x out/qmapc ]] || break
+        fi
+        done=$((done + 1))
+        tell "$done" "$count"
+    done >>"$log"
 }
 
 # runs a command in a process group of its own, which ends with this process where that is told to end
@@ -85,14 +121,15 @@ run_while_here() {
     trap - INT HUP TERM
 }
 
-# what was printed of the crates that failed, or the last lines where none is named
+# what was printed of the crates that failed, or of the last one that was tried
 tell_failure() { # tell_failure LOG
-    local said
-    said=$(awk '
-        NR == FNR { if (in_summary && / failed \(/) { sub(/:.*/, ""); failed[$0] = 1 } in_summary = in_summary || $0 == "== summary"; next }
-        /^== / { inside = substr($0, 4) in failed }
-        inside' "$1" "$1")
-    if [[ -n $said ]]; then printf '%s\n' "$said"; else tail -n 40 "$1"; fi
+    awk '
+        NR == FNR && in_summary && / failed \(/ { sub(/:.*/, ""); failed[$0] = 1; known = 1 }
+        NR == FNR && $0 == "== summary" { in_summary = 1 }
+        NR == FNR && /^== / { last = substr($0, 4) }
+        NR == FNR { next }
+        /^== / { inside = known ? substr($0, 4) in failed : substr($0, 4) == last }
+        inside || last == ""' "$1" "$1"
 }
 
 # makes the program of the sources: it is put in its place whole, or not at all

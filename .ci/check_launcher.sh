@@ -33,34 +33,43 @@ installs_what_runs_alone() {
     [[ $status == 2 ]] && grep -q '^install: usage' "$folder/said"
 }
 
-# a tree with the launcher, three crates of which the program stands on one, and an `rt` that keeps what it proved and
+# a tree with the launcher and five crates, of which the program stands on three, and an `rt` that keeps what it proved and
 # builds a program which prints its words
 make_a_small_tree() {
+    local crate
     small="$folder/small"
     rm -rf "$small" "$folder/cache"
-    mkdir -p "$small/.ci" "$small/crates/qmapc/src" "$small/crates/low/src" "$small/crates/other/src" "$folder/bin"
+    mkdir -p "$small/.ci" "$folder/bin"
     cp qmapc "$small/" && cp .ci/built.sh .ci/building.sh "$small/.ci/" || return 1
-    printf 'low: kit\nother: low\nqmapc: low # the program\n' >"$small/crates.txt"
-    echo 'one' | tee "$small/crates/qmapc/src/main.rt" "$small/crates/low/src/lib.rt" >"$small/crates/other/src/lib.rt"
+    printf '%s\n' 'low: kit' 'beside:' 'other: low' 'near: low beside' 'qmapc: near # the program' >"$small/crates.txt"
+    for crate in low beside other near qmapc; do
+        mkdir -p "$small/crates/$crate/src"
+        echo 'one' >"$small/crates/$crate/src/main.rt"
+    done
     echo 'kit one' >"$folder/version"
     cat >"$folder/bin/rt" <<END
-#!/bin/sh
+#!/bin/bash
+prove() {
+    mkdir -p out
+    cat src/main.rt >>out/kept
+    echo "what the prover says of \${PWD##*/}"
+    while [[ -e $folder/slow ]]; do sleep 0.1; done
+    ! grep -q wrong src/main.rt
+}
 case "\$1" in
 version) cat "$folder/version" ;;
 all)
-    [ ! -d crates/other ] || exit 2
-    for crate in low qmapc; do
-        mkdir -p crates/\$crate/out
-        cat crates/\$crate/src/* >>crates/\$crate/out/kept
+    [[ ! -d crates/other && "\$2 \$3 \$4" == "check --jobs "[1-9]* ]] || exit 2
+    for crate in low beside; do
         echo "== \$crate"
-        echo "what the prover says of \$crate"
-        while [ -e "$folder/slow" ]; do sleep 0.1; done
+        (cd crates/\$crate && prove) || { printf '== summary\n%s: failed (1)\n' \$crate && exit 1; }
     done
-    grep -q wrong crates/qmapc/src/main.rt || exit 0
-    printf '== summary\nlow: ok\nqmapc: failed (1)\n1 of 2 crates ok\n'
-    exit 1
+    # it is stopped here, before the crates beside which nothing can be proved
+    exec sleep 60
     ;;
+lib) ! grep -q wrong ../{low,beside}/src/main.rt && prove ;;
 run)
+    ! grep -q wrong ../near/src/main.rt && prove || exit 1
     echo built >>"$folder/builds"
     printf '#!/bin/sh\necho "\$*"\n' >out/qmapc
     chmod +x out/qmapc
@@ -86,7 +95,7 @@ builds_where_something_changed() {
     echo 'two' >"$small/crates/qmapc/src/main.rt"
     launch again && has_built 2 && grep -q 'proving and building' "$folder/said" || return 1
     # a crate on which the program does not stand
-    echo 'two' >"$small/crates/other/src/lib.rt"
+    echo 'two' >"$small/crates/other/src/main.rt"
     launch again && has_built 2 && [[ ! -s $folder/said ]] || return 1
     echo 'kit two' >"$folder/version"
     launch again && has_built 3 || return 1
@@ -121,7 +130,7 @@ launch_without_rt() {
 
 tells_how_far_it_is() {
     make_a_small_tree || return 1
-    launch again && grep -q '^qmapc: 1 of 2 crates$' "$folder/said" && grep -q '^qmapc: 2 of 2 crates$' "$folder/said"
+    launch again && [[ $(grep -o '[1-9] of 4 crates$' "$folder/said" | tr '\n' ' ') == '1 of 4 crates 2 of 4 crates 3 of 4 crates 4 of 4 crates ' ]]
 }
 
 # what an earlier build proved is there for the next one, also where the earlier one was interrupted
@@ -131,7 +140,10 @@ goes_on_where_it_was() {
     touch "$folder/slow"
     : >"$folder/said"
     PATH="$folder/bin:$PATH" XDG_CACHE_HOME="$folder/cache" "$small/qmapc" again >"$folder/printed" 2>"$folder/said" &
-    while ! grep -qs '1 of 2 crates' "$folder/said"; do sleep 0.1; done
+    for _ in {1..100}; do
+        ! grep -qs '1 of 4 crates' "$folder/said" || break
+        sleep 0.1
+    done
     kill -TERM $! && ! wait $! || return 1
     [[ ! -e $small/crates/qmapc/out/qmapc ]] || return 1
     rm "$folder/slow"
@@ -141,12 +153,15 @@ goes_on_where_it_was() {
 }
 
 says_why_it_fails() {
-    make_a_small_tree || return 1
-    echo 'wrong' >"$small/crates/qmapc/src/main.rt"
-    fails_with_words 'was not proved' launch again && has_built 0 || return 1
-    grep -q '^what the prover says of qmapc' "$folder/said" && ! grep -q 'of low' "$folder/said" || return 1
+    local wrong
+    for wrong in qmapc near beside; do
+        make_a_small_tree || return 1
+        echo 'wrong' >"$small/crates/$wrong/src/main.rt"
+        fails_with_words 'was not proved' launch again && has_built 0 || return 1
+        grep -q "^what the prover says of $wrong" "$folder/said" && ! grep -q 'of low' "$folder/said" || return 1
+    done
     fails_with_words 'not on the PATH' launch_without_rt || return 1
-    echo 'one' >"$small/crates/qmapc/src/main.rt"
+    echo 'one' >"$small/crates/beside/src/main.rt"
     launch again && launch_without_rt && [[ $(<"$folder/printed") == 'compile a b' ]] || return 1
     fails_with_words 'do not stand beside the launcher' launch_alone
 }
