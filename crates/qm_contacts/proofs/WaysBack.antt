@@ -1,5 +1,5 @@
 -- The portals of a tree stand in pairs, one each way: the one behind or before leads back.
-use Rattle.std.proofs.Common.{◌≡◌, ℕ, zero, suc, ◌+◌, ◌-◌, ◌*◌, ◌%◌, ◌<◌, List, [], ◌∷◌, Some, length, slice_get, flat_map, filter, refl, sym, subst, ◌∙◌, ◌⊎◌, inl, inr, arith}
+use Rattle.std.proofs.Common.{◌≡◌, ℕ, zero, suc, ◌+◌, ◌-◌, ◌*◌, ◌%◌, ◌<◌, true, false, List, [], ◌∷◌, Some, length, slice_get, flat_map, filter, refl, sym, subst, ◌∙◌, ◌⊎◌, inl, inr, arith}
 use Rattle.std.proofs.lemmas.Option.{slice_get_within}
 use Rattle.qm_space.specs.Plane.{flipped}
 use Rattle.qm_space.proofs.ReducedPlanes.{flipped_twice}
@@ -10,17 +10,17 @@ use Rattle.qm_contacts.specs.World.{LeadsBack}
 use Rattle.qm_contacts.specs.OwnPortals.{HasOwnPortals}
 
 -- the other number of a pair
-partner : ℕ → ℕ
+abbrev partner : ℕ → ℕ
 partner zero = 1
 partner (suc zero) = 0
 partner (suc (suc n)) = suc (suc (partner n))
 
-pub partner_behind : (n : ℕ) → n % 2 ≡ 0 → partner n ≡ n + 1
+partner_behind : (n : ℕ) → n % 2 ≡ 0 → partner n ≡ n + 1
 partner_behind zero even = refl
 partner_behind (suc zero) even = absurd (omega (arith, even))
 partner_behind (suc (suc n)) even = let rest = partner_behind n (omega (arith, even)) in omega (arith, rest)
 
-pub partner_before : (n : ℕ) → n % 2 ≡ 1 → partner n ≡ n - 1
+partner_before : (n : ℕ) → n % 2 ≡ 1 → partner n ≡ n - 1
 partner_before zero odd = absurd (omega (arith, odd))
 partner_before (suc zero) odd = refl
 partner_before (suc (suc zero)) odd = absurd (omega (arith, odd))
