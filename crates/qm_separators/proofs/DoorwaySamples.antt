@@ -177,7 +177,7 @@ around_row : IsAround (record { x = pos 1; y = neg_ℤ (pos 1); z = pos 3; w = p
 around_row = record { x = inl (record { at_most = omega (arith, ints); next = omega (arith, ints) }); y = inl (record { at_most = omega (arith, ints); next = omega (arith, ints) }); z = inr (record { at_least = omega (arith, ints); previous = omega (arith, ints) }); weight = refl }
 
 gains_row : Gains (λ h. h ≡ left_right) (right_left ∷ []) (right_left ∷ left_right ∷ [])
-gains_row = gains_one (right_left ∷ []) left_right
+gains_row = gains_one (right_left ∷ []) left_right (λ there. ⊎_elim (λ same. absurd (let e = ap (λ (h : Plane). h.nx) same in cc)) (λ none. no_element left_right none) (Contains-cons_cases right_left left_right [] there))
 
 -- it is found along its own normal, and through the points of an edge and a corner
 found_row : PartsAlong (doorway (pos 0)) (doorway (pos 64)) left_right left_right
