@@ -3,7 +3,7 @@ use Rattle.std.proofs.Common.{◌≡◌, ℕ, ◌+◌, Bool, List, [], ◌∷◌
 use Rattle.std.specs.List.{flat_map}
 use Rattle.qm_partition.specs.Counting.{leaves_of}
 use Rattle.qm_partition.specs.Numbering.{nodes_of}
-use Rattle.qm_formats.specs.Layout.{Layout, bytes_of_each}
+use Rattle.qm_formats.specs.Layout.{bytes_of_each}
 use Rattle.qm_formats.specs.Runs.{runs_of, in_runs}
 use Rattle.qm_formats.specs.RowBits.{packed, row_bits}
 use Rattle.qm_formats.specs.FileParts.{plane_layout, node_layout, leaf_layout}

@@ -9,7 +9,7 @@ use Rattle.qm_convex.specs.Sides.{HasNoneInFront, IsWhollyInFront, LiesIn, HasCo
 use Rattle.qm_convex.specs.Cut.{IsPartInFront}
 use Rattle.qm_separators.specs.Part.{IsPartBy, HasNoPartBy}
 use Rattle.qm_separators.specs.ChainState.{ChainState, IsChainState}
-use Rattle.qm_separators.specs.ChainStep.{IsCutByPlanes, LeadsTo, Blocks, target_cut_away, source_cut_away}
+use Rattle.qm_separators.specs.ChainStep.{IsCutByPlanes, LeadsTo, Blocks, third_cut, fourth_cut}
 use Rattle.qm_separators.proofs.Parts.{part_by_none, no_part_after}
 use Rattle.qm_separators.specs.inner.Found.{HasCornersBeyond}
 use Rattle.qm_separators.specs.inner.Narrowed.{NarrowsTo, CutsAway, target_gone, source_gone}
@@ -49,7 +49,7 @@ one_beyond v done g are front h there = ⊎_elim
     (λ last. ⊎_elim (λ same. subst (λ (k : Plane). HasCornerInFront v k) same front) (λ none. absurd (Contains-nil h none)) (Contains-cons_cases g h [] last))
     (Contains-append_cases done (g ∷ []) h there)
 
--- ---- the last two points
+-- ---- the last two cuts
 
 module _ (state : ChainState) (target : Winding) (into : Plane) (near far : Winding) (far_is : IsPartInFront far target state.into) (near_is : IsPartInFront near state.source (flipped into)) where
   cut : IsCutByPlanes state target into near far
@@ -59,8 +59,8 @@ module _ (state : ChainState) (target : Winding) (into : Plane) (near far : Wind
   leads_by next is = record { near = near; far = far; cut = cut; pass = is.pass; pass_is = is.pass_is; narrowed = is.narrowed; source = is.source; into_is = is.into_is }
 
   pub blocks_by : CutsAway state near far → Blocks state target into
-  blocks_by (target_gone none) = target_cut_away cut none
-  blocks_by (source_gone narrowed none) = source_cut_away cut narrowed none
+  blocks_by (target_gone none) = third_cut cut none
+  blocks_by (source_gone narrowed none) = fourth_cut cut narrowed none
 
   -- what is left of the source lies in its plane
   pub near_lies : IsChainState state → LiesIn near state.into
