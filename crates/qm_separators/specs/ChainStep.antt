@@ -25,7 +25,7 @@ abbrev pub IsCutToSource : ChainState → Winding → Winding → Winding → Ty
 IsCutToSource state near pass source = IsPartBy source near (IsSeparatorFrom state.pass pass)
 
 -- the step leads to the state: each cut leaves something
-pub record LeadsTo (state : ChainState) (target : Winding) (into : Plane) (next : ChainState) : Type 0 where
+pub record StepsTo (state : ChainState) (target : Winding) (into : Plane) (next : ChainState) : Type 0 where
   pub near : Winding
   pub far : Winding
   pub cut : IsCutByPlanes state target into near far
