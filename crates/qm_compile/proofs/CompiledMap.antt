@@ -5,7 +5,7 @@ use Rattle.std.specs.List.{All, AllZip}
 use Rattle.std.proofs.lemmas.List.{length-map}
 use Rattle.std.proofs.lemmas.List.Elements.{length_all_zip}
 use Rattle.qm_space.specs.Plane.{Plane}
-use Rattle.qm_geom.specs.Planes.{AreEntered}
+use Rattle.qm_geom.specs.Planes.{AreEnteredInBook}
 use Rattle.qm_geom.proofs.EnteredPlanes.{one_book}
 use Rattle.qm_mapfile.specs.declared.entity.MapFile.{MapFile}
 use Rattle.qm_brush.specs.Planes.{drawn_planes}
@@ -79,7 +79,7 @@ module _ (map : MapFile) (book : List Plane) (list : List BookSolid) (alike : Al
   as_many = length_all_zip IsAlike (drawn_solids map) (solids_in book list) alike ∙ length-map list (solid_in book)
 
   -- the tree that is built of the brushes is the map's, and the brushes are counted
-  pub counted_map : (tree : Tree) → AreEntered [] (drawn_planes map) book → IsTreeOf (solids_in book list) book tree → GivesContents tree (solids_in book list) → HasPoints tree → IsCounted map tree (length list) (flat_count list)
+  pub counted_map : (tree : Tree) → AreEnteredInBook [] (drawn_planes map) book → IsTreeOf (solids_in book list) book tree → GivesContents tree (solids_in book list) → HasPoints tree → IsCounted map tree (length list) (flat_count list)
   counted_map tree entered is_tree gives points = record {
     is_tree = record { book = book; entered = entered; is_tree = tree_back (drawn_solids map) (solids_in book list) alike book tree is_tree };
     is_true = gives_drawn tree gives;

@@ -1,6 +1,6 @@
 use Rattle.std.specs.Prelude.{◌≡◌, ℕ, IsTrue, List, Some}
 use Rattle.qm_shelf.specs.Counts.{Rose}
-use Rattle.qm_shelf.specs.Outside.{Outside}
+use Rattle.qm_shelf.specs.Outside.{Surroundings}
 use Rattle.qm_shelf.specs.ShelfState.{text_under}
 use Rattle.qm_mapfile.specs.declared.entity.MapFile.{MapFile}
 use Rattle.qm_grammar.specs.Meaning.{IsMapText}
@@ -18,7 +18,7 @@ use Rattle.qm_compile.specs.CompiledMap.{NoneLeaks}
 
 -- none of the counts of faults rose that the command can raise: those of reading MAP, of writing OUT and FILE and of
 -- printing
-pub record MetNone (before after : Outside) (files : FileNames) : Type 0 where
+pub record MetNone (before after : Surroundings) (files : FileNames) : Type 0 where
   pub reading : Rose (before.shelf.read_faults files.map_name) (after.shelf.read_faults files.map_name) → ⊥
   pub writing : Rose (before.shelf.write_faults files.out_name) (after.shelf.write_faults files.out_name) → ⊥
   pub listing : (name : List ℕ) → files.listing_name ≡ Some name → Rose (before.shelf.write_faults name) (after.shelf.write_faults name) → ⊥
@@ -45,7 +45,7 @@ IsDoneOrMemory _ = ⊥
 
 -- where the words are a command that meets no fault, the status is one of these; and where the text that the shelf holds
 -- is a map that can be done, it is done or memory ran out
-pub record IsComplete (words : List (List ℕ)) (before after : Outside) (status : Status) : Type 0 where
+pub record IsComplete (words : List (List ℕ)) (before after : Surroundings) (status : Status) : Type 0 where
   pub ends : (command : Command) (files : FileNames) → IsCommand words command files →
       MetNone before after files → CanEnd status command
   pub done : IsTrue before.shelf.tells → (command : Command) (files : FileNames) → IsCommand words command files →

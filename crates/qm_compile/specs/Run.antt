@@ -1,5 +1,5 @@
 use Rattle.std.specs.Prelude.{ℕ, ◌⊎◌, List, []}
-use Rattle.qm_shelf.specs.Outside.{Outside}
+use Rattle.qm_shelf.specs.Outside.{Surroundings}
 use Rattle.qm_shelf.specs.Printing.{IsPrinted, IsPartlyPrinted, PrintedWithoutFault, FailedToPrint}
 use Rattle.qm_shelf.specs.ShelfState.{ShelfState}
 use Rattle.qm_shelf.specs.ShelfChanges.{IsKept, MetNoFault}
@@ -24,31 +24,31 @@ pub data Due (words : List (List ℕ)) (before after : ShelfState) : Status → 
       Due words before after status text
 
 -- a status was due, and its text was printed
-abbrev pub Reports : List (List ℕ) → Outside → Outside → Status → Type 0
+abbrev pub Reports : List (List ℕ) → Surroundings → Surroundings → Status → Type 0
 Reports words before after status =
     (text : List ℕ) × Due words before.shelf after.shelf status text × IsPrinted before.sink after.sink text
 
 -- a status was due, and some of its text was printed
-abbrev pub ReportsPart : List (List ℕ) → Outside → Outside → Type 0
+abbrev pub ReportsPart : List (List ℕ) → Surroundings → Surroundings → Type 0
 ReportsPart words before after =
     (status : Status) × (text : List ℕ) × Due words before.shelf after.shelf status text × IsPartlyPrinted before.sink after.sink text
 
 -- printing failed, whatever was due
-abbrev pub FailsToReport : List (List ℕ) → Outside → Outside → Type 0
+abbrev pub FailsToReport : List (List ℕ) → Surroundings → Surroundings → Type 0
 FailsToReport words before after = FailedToPrint before.sink after.sink × ReportsPart words before after
 
 -- memory ran out while printing, whatever was due, and no fault of printing was counted
-abbrev pub RunsOutReporting : List (List ℕ) → Outside → Outside → Type 0
+abbrev pub RunsOutReporting : List (List ℕ) → Surroundings → Surroundings → Type 0
 RunsOutReporting words before after = PrintedWithoutFault before.sink after.sink × ReportsPart words before after
 
 -- memory ran out on the way of a command, before a status was due, and nothing was printed
-abbrev pub RunsOut : List (List ℕ) → Outside → Outside → Type 0
+abbrev pub RunsOut : List (List ℕ) → Surroundings → Surroundings → Type 0
 RunsOut words before after =
     (command : Command) × (files : FileNames) × IsCommand words command files
     × IsCutShort before.shelf after.shelf command files × IsPrinted before.sink after.sink []
 
 -- what each answer of a run says of the outside before it and after it
-unfoldable pub Answers : List (List ℕ) → Outside → Outside → Status → Type 0
+unfoldable pub Answers : List (List ℕ) → Surroundings → Surroundings → Status → Type 0
 Answers words before after Done = Reports words before after Done
 Answers words before after Usage = Reports words before after Usage
 Answers words before after Leak = Reports words before after Leak

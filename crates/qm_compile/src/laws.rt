@@ -1,6 +1,6 @@
 //! How the program ends over forms that never fail.
 
-ghost use Rattle.qm_shelf.specs.Outside.{outside};
+ghost use Rattle.qm_shelf.specs.Outside.{surroundings};
 ghost use Rattle.qm_compile.specs.declared.command.Command.{Command};
 ghost use Rattle.qm_compile.specs.Command.{FileNames, IsCommand, words_of};
 ghost use Rattle.qm_compile.specs.Complete.{CanEnd};
@@ -21,8 +21,8 @@ pub fn run_surely<R: Threads + Sync>(
     shelf: &mut SureShelf,
     out: &mut SureSink,
 ) -> Status
-    ensures answers { Answers (words_of words.now) (outside ⟦<SureShelf as Shelf>⟧ ⟦<SureSink as Sink>⟧ shelf.old out.old)
-        (outside ⟦<SureShelf as Shelf>⟧ ⟦<SureSink as Sink>⟧ shelf.new out.new) result }
+    ensures answers { Answers (words_of words.now) (surroundings ⟦<SureShelf as Shelf>⟧ ⟦<SureSink as Sink>⟧ shelf.old out.old)
+        (surroundings ⟦<SureShelf as Shelf>⟧ ⟦<SureSink as Sink>⟧ shelf.new out.new) result }
     ensures ends { (command : Command) (files : FileNames) → IsCommand (words_of words.now) command files → CanEnd result command }
 {
     run(rt, alloc, words, shelf, out)

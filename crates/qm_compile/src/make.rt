@@ -1,7 +1,7 @@
 //! From a text to the file that a command makes of it.
 
 ghost use Rattle.std.specs.Prelude.{IfOk};
-ghost use Rattle.qm_grammar.specs.Valid.{IsValid};
+ghost use Rattle.qm_grammar.specs.Valid.{IsValidMap};
 ghost use Rattle.qm_compile.specs.inner.Made.{ComesOfMap, ComesOfText, IsFaultAlone};
 
 use crate::command::Command;
@@ -47,7 +47,7 @@ fn make_of_map(
     listed: bool,
     map: &MapFile,
 ) -> Result<Made, AllocError>
-    requires { IsValid map.now }
+    requires { IsValidMap map.now }
     ensures { IfOk result (λ made. ComesOfMap command listed map.now made) }
 {
     match command {

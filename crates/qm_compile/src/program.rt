@@ -1,7 +1,7 @@
 //! All that the program does.
 
 ghost use Rattle.std.specs.Prelude.{IfOk, OnErr};
-ghost use Rattle.qm_shelf.specs.Outside.{outside};
+ghost use Rattle.qm_shelf.specs.Outside.{surroundings};
 ghost use Rattle.qm_shelf.specs.ShelfState.{shelf_state};
 ghost use Rattle.qm_compile.specs.declared.command.Command.{Command};
 ghost use Rattle.qm_compile.specs.Command.{FileNames, AreDifferent, IsCommand, names_of, words_of};
@@ -33,8 +33,8 @@ pub fn run<R: Threads + Sync, H: Shelf, S: Sink>(
     shelf: &mut H,
     out: &mut S,
 ) -> Status
-    ensures answers { Answers (words_of words.now) (outside H.Shelf S.Sink shelf.old out.old) (outside H.Shelf S.Sink shelf.new out.new) result }
-    ensures complete { IsComplete (words_of words.now) (outside H.Shelf S.Sink shelf.old out.old) (outside H.Shelf S.Sink shelf.new out.new) result }
+    ensures answers { Answers (words_of words.now) (surroundings H.Shelf S.Sink shelf.old out.old) (surroundings H.Shelf S.Sink shelf.new out.new) result }
+    ensures complete { IsComplete (words_of words.now) (surroundings H.Shelf S.Sink shelf.old out.old) (surroundings H.Shelf S.Sink shelf.new out.new) result }
 {
     let Ok(outcome) = carry_out(alloc, words, shelf) else {
         return Status::Memory;

@@ -1,7 +1,7 @@
 //! From a map to the bytes of its tree file and its listing, and what is printed of it.
 
 ghost use Rattle.std.specs.Prelude.{IfOk};
-ghost use Rattle.qm_grammar.specs.Valid.{IsValid};
+ghost use Rattle.qm_grammar.specs.Valid.{IsValidMap};
 ghost use Rattle.std.specs.Option.{option_map};
 ghost use Rattle.qm_compile.specs.Product.{IsCompiledFile, IsListed, IsPutOut};
 ghost use Rattle.qm_compile.specs.inner.Made.{output_of};
@@ -25,7 +25,7 @@ pub fn compile_to_file(
     options: Options,
     listed: bool,
 ) -> Result<Product, AllocError>
-    requires { IsValid map.now }
+    requires { IsValidMap map.now }
     ensures { IfOk result (λ product. IsCompiledFile options listed map.now (output_of product)) }
 {
     let compiled = compile(alloc, map, &options)?;

@@ -25,8 +25,8 @@ abbrev pub leaf_record : Tree → ℕ → Leaf
 leaf_record tree k = slice_index_or (leaves_of tree.shape) k (record { contents = Solid; filled = false })
 
 -- the number of a numbered leaf: how many come before it
-abbrev pub number_of : Tree → ℕ → ℕ
-number_of tree k = count_by is_numbered (take k (leaves_of tree.shape))
+abbrev pub leaf_number : Tree → ℕ → ℕ
+leaf_number tree k = count_by is_numbered (take k (leaves_of tree.shape))
 
 -- both leaves are numbered, and their contents are equal; no two kinds of contents are equally strong
 abbrev pub is_passage : Tree → Touching → Bool
@@ -40,8 +40,8 @@ abbrev pub portal : Tree → Touching → Bool → ℕ → ℕ → Portal
 portal tree found to_front from to = record {
   winding = found.winding;
   into = turned to_front found.winding.plane;
-  from = number_of tree from;
-  to = number_of tree to;
+  from = leaf_number tree from;
+  to = leaf_number tree to;
 }
 
 -- the portal from the leaf in front to the leaf behind, and the one back

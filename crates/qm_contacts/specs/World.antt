@@ -4,7 +4,7 @@ use Rattle.qm_space.specs.Point.{Point}
 use Rattle.qm_space.specs.Plane.{IsInFront, IsBehind}
 use Rattle.qm_space.specs.Cell.{IsInCell}
 use Rattle.qm_partition.specs.Tree.{Tree}
-use Rattle.qm_partition.specs.Ways.{Way, ways, cell_of}
+use Rattle.qm_partition.specs.Ways.{Way, ways, cell_of_way}
 use Rattle.qm_contacts.specs.NumberedLeaves.{numbered_leaves}
 use Rattle.qm_contacts.specs.Portals.{Portal}
 
@@ -25,7 +25,7 @@ pub record IsInCellOf (tree : Tree) (n : ℕ) (x : Point) : Type 0 where
   pub way : Way
   pub leaf_is : slice_get (numbered_leaves tree) n ≡ Some leaf
   pub way_is : slice_get (ways tree.shape) leaf ≡ Some way
-  pub inside : IsInCell (cell_of tree.planes way) x
+  pub inside : IsInCell (cell_of_way tree.planes way) x
 
 -- the plane of a portal has the cell of the leaf that one enters in front of it, and that of the leaf that one leaves behind it
 pub record PartsItsLeaves (tree : Tree) (portal : Portal) : Type 0 where

@@ -2,7 +2,7 @@
 use Rattle.std.proofs.Common.{◌≡◌, ◌<◌, ◌≤◌, ℕ, ◌+◌, ◌*◌, ◌⊎◌, inl, inr, min, ℤ, pos, negsuc, neg_ℤ, ◌*ℤ◌, suc, zero, Bool, if◌then◌else◌, sym, ◌∙◌, ap, arith, le_of_mul-le-mul_right, lt_of_mul-lt-mul_right, mul-lt-mul_of_pos_right, mul-le-mul_right, mul-pos}
 use Rattle.std.proofs.lemmas.Int.{ints}
 use Rattle.std.proofs.Math.IntN.{pos-*ℤ-pos, negsuc-*ℤ-pos}
-use Rattle.qm_decimal.specs.Number.{Sign, missing, plus, minus, signed}
+use Rattle.qm_decimal.specs.Number.{Sign, missing, plus, minus, signed_by}
 use Rattle.qm_decimal.specs.inner.Parts.{is_minus}
 
 -- one number is at most the other, or above it
@@ -56,12 +56,12 @@ times_negative : (n k m : ℕ) → n * k ≡ m → neg_ℤ (pos n) *ℤ pos k �
 times_negative zero k m e = pos-*ℤ-pos zero k ∙ (let z : m ≡ 0 = omega arith in omega (arith, ints))
 times_negative (suc n) k m e = negsuc-*ℤ-pos n k ∙ ap (λ (x : ℕ). neg_ℤ (pos x)) e
 
-pub signed_times : (s : Sign) (n k m : ℕ) → n * k ≡ m → signed s n *ℤ pos k ≡ signed s m
+pub signed_times : (s : Sign) (n k m : ℕ) → n * k ≡ m → signed_by s n *ℤ pos k ≡ signed_by s m
 signed_times missing n k m e = pos-*ℤ-pos n k ∙ ap pos e
 signed_times plus n k m e = pos-*ℤ-pos n k ∙ ap pos e
 signed_times minus n k m e = times_negative n k m e
 
-pub with_sign_is : (s : Sign) (negative : Bool) (z : ℤ) (n : ℕ) → negative ≡ is_minus s → z ≡ (if negative then neg_ℤ (pos n) else pos n) → z ≡ signed s n
+pub with_sign_is : (s : Sign) (negative : Bool) (z : ℤ) (n : ℕ) → negative ≡ is_minus s → z ≡ (if negative then neg_ℤ (pos n) else pos n) → z ≡ signed_by s n
 with_sign_is missing negative z n e f = f ∙ ap (λ (b : Bool). if b then neg_ℤ (pos n) else pos n) e
 with_sign_is plus negative z n e f = f ∙ ap (λ (b : Bool). if b then neg_ℤ (pos n) else pos n) e
 with_sign_is minus negative z n e f = f ∙ ap (λ (b : Bool). if b then neg_ℤ (pos n) else pos n) e

@@ -4,7 +4,7 @@ use Rattle.std.specs.Char.{digit_value}
 use Rattle.std.specs.List.{All}
 use Rattle.std.specs.Str.Parse.{AllDigits}
 use Rattle.std.proofs.lemmas.Str.Parse.{digit_from_value}
-use Rattle.qm_decimal.specs.Number.{Sign, missing, plus, minus, sign_text, IsTail, IsUnsigned, Number, Spells}
+use Rattle.qm_decimal.specs.Number.{Sign, missing, plus, minus, sign_text, IsTail, IsUnsigned, Number, SpellsNumber}
 
 pub digit_within : (ds : List ℕ) (i : ℕ) → AllDigits 10 ds → i < length ds → digit_value (get_or ds i 0) < 10
 digit_within [] i h l = absurd (omega arith)
@@ -111,7 +111,7 @@ same_parts a b p q r =
     ap (λ (s : Sign). number_of s a.whole a.decimals) p
     ∙ (ap (λ (w : List ℕ). number_of b.sign w a.decimals) q ∙ ap (λ (d : List ℕ). number_of b.sign b.whole d) r)
 
-pub same_number : (text : List ℕ) (a b : Number) → Spells text a → Spells text b → a ≡ b
+pub same_number : (text : List ℕ) (a b : Number) → SpellsNumber text a → SpellsNumber text b → a ≡ b
 same_number text a b h k =
     let signs = same_sign a.sign b.sign h.unsigned k.unsigned (λ _. no_sign_unsigned h.unsigned a.whole a.decimals h.digits) (λ _. no_sign_unsigned k.unsigned b.whole b.decimals k.digits) (sym h.signed_text ∙ k.signed_text) in
     let u : h.unsigned ≡ k.unsigned = signs.1 in

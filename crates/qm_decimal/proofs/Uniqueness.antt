@@ -4,18 +4,18 @@ use Rattle.std.specs.List.{All, Any}
 use Rattle.qm_decimal.specs.declared.fraction.Fraction.{Fraction}
 use Rattle.qm_decimal.specs.declared.fraction.NumberFault.{NumberFault}
 use Rattle.qm_decimal.specs.declared.fraction.NumberFault.TheVariants.{Form, TooFine, TooLarge}
-use Rattle.qm_decimal.specs.Number.{IsUnsigned, Number, Spells, all_digits, signed}
+use Rattle.qm_decimal.specs.Number.{IsUnsigned, Number, SpellsNumber, all_digits, signed_by}
 use Rattle.qm_decimal.specs.Answer.{IsAnswer, IsValue, IsFine, IsTooFine, limit}
 use Rattle.qm_decimal.specs.inner.Parts.{IsSignSplit, IsMagnitude, IsMagnitudeAnswer}
 use Rattle.qm_decimal.proofs.Scaling.{signed_times, with_sign_is, cancel_times}
 use Rattle.qm_decimal.proofs.Texts.{number_of, same_number, same_sign, no_sign_unsigned}
 use Rattle.qm_decimal.proofs.Values.{power_positive}
 
-spells_signed : (text : List ℕ) (negative : Bool) (u w d : List ℕ) (s : IsSignSplit text negative u) → IsUnsigned u w d → Spells text (number_of s.sign w d)
+spells_signed : (text : List ℕ) (negative : Bool) (u w d : List ℕ) (s : IsSignSplit text negative u) → IsUnsigned u w d → SpellsNumber text (number_of s.sign w d)
 spells_signed text negative u w d s h = record { unsigned = u; signed_text = s.spelled; digits = h }
 
 -- a number behind the sign is the unsigned text
-unsigned_behind : (text : List ℕ) (negative : Bool) (u : List ℕ) → IsSignSplit text negative u → (number : Number) → Spells text number → IsUnsigned u number.whole number.decimals
+unsigned_behind : (text : List ℕ) (negative : Bool) (u : List ℕ) → IsSignSplit text negative u → (number : Number) → SpellsNumber text number → IsUnsigned u number.whole number.decimals
 unsigned_behind text negative u s number h =
     let both = same_sign s.sign number.sign u h.unsigned s.no_more (λ _. no_sign_unsigned h.unsigned number.whole number.decimals h.digits) (sym s.spelled ∙ h.signed_text) in
     let same : u ≡ h.unsigned = both.1 in
@@ -63,18 +63,18 @@ same_fields f g n p =
 same_value : (text : List ℕ) (p : ℕ) (f g : Fraction) → IsValue text p f → IsValue text p g → f ≡ g
 same_value text p f g a b =
     let same = same_number text a.number b.number a.spelled b.spelled in
-    let value = subst (λ (n : Number). f.numerator *ℤ pos (10 ^ length n.decimals) ≡ signed n.sign (all_digits n.whole n.decimals * 10 ^ p)) same a.value in
+    let value = subst (λ (n : Number). f.numerator *ℤ pos (10 ^ length n.decimals) ≡ signed_by n.sign (all_digits n.whole n.decimals * 10 ^ p)) same a.value in
     same_fields f g
     (cancel_times f.numerator g.numerator (10 ^ length b.number.decimals) (power_positive (length b.number.decimals)) (value ∙ sym b.value))
     (a.places_kept ∙ sym b.places_kept)
 
 -- the number of one spelling is fine, and of another too fine
-fine_once : (text : List ℕ) (p : ℕ) (a b : Number) → Spells text a → Spells text b → IsFine p a.decimals → IsTooFine p b.decimals → ⊥
+fine_once : (text : List ℕ) (p : ℕ) (a b : Number) → SpellsNumber text a → SpellsNumber text b → IsFine p a.decimals → IsTooFine p b.decimals → ⊥
 fine_once text p a b h k fine too_fine =
     let same = same_number text a b h k in
     fine_apart (drop p b.decimals) (subst (λ (n : Number). IsFine p n.decimals) same fine) too_fine
 
-large_once : (text : List ℕ) (a b : Number) → Spells text a → Spells text b → all_digits a.whole a.decimals ≤ limit * 10 ^ length a.decimals → limit * 10 ^ length b.decimals < all_digits b.whole b.decimals → ⊥
+large_once : (text : List ℕ) (a b : Number) → SpellsNumber text a → SpellsNumber text b → all_digits a.whole a.decimals ≤ limit * 10 ^ length a.decimals → limit * 10 ^ length b.decimals < all_digits b.whole b.decimals → ⊥
 large_once text a b h k small large =
     let same = same_number text a b h k in
     let moved = subst (λ (n : Number). all_digits n.whole n.decimals ≤ limit * 10 ^ length n.decimals) same small in

@@ -1,5 +1,5 @@
 use Rattle.std.specs.Prelude.{◌≡◌, ◌≢◌, ◌≤◌, ◌<◌, ℕ, ◌*◌, ◌^◌, List, drop, length, pos, ◌*ℤ◌, All, Any, Ok, Err, Result}
-use Rattle.qm_decimal.specs.Number.{Number, Spells, all_digits, signed}
+use Rattle.qm_decimal.specs.Number.{Number, SpellsNumber, all_digits, signed_by}
 use Rattle.qm_decimal.specs.declared.fraction.Fraction.{Fraction}
 use Rattle.qm_decimal.specs.declared.fraction.NumberFault.{NumberFault}
 use Rattle.qm_decimal.specs.declared.fraction.NumberFault.TheVariants.{Form, TooFine, TooLarge}
@@ -28,28 +28,28 @@ IsTooLarge whole decimals = limit * 10 ^ length decimals < all_digits whole deci
 -- numerator / 10 ^ places is all digits / 10 ^ (count of decimals), with the sign
 pub record IsValue (text : List ℕ) (places : ℕ) (fraction : Fraction) : Type 0 where
   pub number : Number
-  pub spelled : Spells text number
+  pub spelled : SpellsNumber text number
   pub fine : IsFine places number.decimals
   pub small : IsSmall number.whole number.decimals
   pub places_kept : fraction.places ≡ places
-  pub value : fraction.numerator *ℤ pos (10 ^ length number.decimals) ≡ signed number.sign (all_digits number.whole number.decimals * 10 ^ places)
+  pub value : fraction.numerator *ℤ pos (10 ^ length number.decimals) ≡ signed_by number.sign (all_digits number.whole number.decimals * 10 ^ places)
 
 -- the text spells a number with a digit other than 0 past that many decimals
 pub record IsTooFineText (text : List ℕ) (places : ℕ) : Type 0 where
   pub number : Number
-  pub spelled : Spells text number
+  pub spelled : SpellsNumber text number
   pub too_fine : IsTooFine places number.decimals
 
 -- the text spells a number that is not too fine, and whose absolute value is above the limit
 pub record IsTooLargeText (text : List ℕ) (places : ℕ) : Type 0 where
   pub number : Number
-  pub spelled : Spells text number
+  pub spelled : SpellsNumber text number
   pub fine : IsFine places number.decimals
   pub too_large : IsTooLarge number.whole number.decimals
 
 -- the text spells no number
 abbrev pub IsNoNumber : List ℕ → Type 0
-IsNoNumber text = (number : Number) → Spells text number → ⊥
+IsNoNumber text = (number : Number) → SpellsNumber text number → ⊥
 
 -- what reading the text at that many places answers
 abbrev pub IsAnswer : List ℕ → ℕ → Result Fraction NumberFault → Type 0

@@ -14,10 +14,10 @@ sign_text plus = 43 ∷ []
 sign_text minus = 45 ∷ []
 
 -- n with the sign before it
-abbrev pub signed : Sign → ℕ → ℤ
-signed missing n = pos n
-signed plus n = pos n
-signed minus n = neg_ℤ (pos n)
+abbrev pub signed_by : Sign → ℕ → ℤ
+signed_by missing n = pos n
+signed_by plus n = pos n
+signed_by minus n = neg_ℤ (pos n)
 
 -- what stands behind the digits before the point: the point and the decimals, or nothing where there are none
 abbrev pub IsTail : List ℕ → List ℕ → Type 0
@@ -39,7 +39,7 @@ pub record Number : Type 0 where
   pub decimals : List ℕ
 
 -- the text is the number's sign, and behind it `unsigned`, its digits and point
-pub record Spells (text : List ℕ) (number : Number) : Type 0 where
+pub record SpellsNumber (text : List ℕ) (number : Number) : Type 0 where
   pub unsigned : List ℕ
   pub signed_text : text ≡ sign_text number.sign ++ unsigned
   pub digits : IsUnsigned unsigned number.whole number.decimals

@@ -20,8 +20,8 @@ abbrev pub with_six_decimals : Bool → ℕ → List ℕ
 with_six_decimals negative n = shown_sign negative n ++ (decimal (n / 1000000) ++ (46 ∷ last_digits 6 (n % 1000000)))
 
 -- over / under, negative or not: a whole value as a whole number, any other with six decimals
-abbrev pub printed : Bool → ℕ → ℕ → List ℕ
-printed negative over under =
+abbrev pub printed_fraction : Bool → ℕ → ℕ → List ℕ
+printed_fraction negative over under =
     if over % under == 0 then shown_sign negative (over / under) ++ decimal (over / under)
     else with_six_decimals negative (millionths over under)
 

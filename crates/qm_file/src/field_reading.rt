@@ -4,7 +4,7 @@ ghost use Rattle.std.specs.Prelude.{◌≡◌, ◌≤◌, length, IfOk, codes};
 ghost use Rattle.std.specs.Int.{w8, w32, w64};
 ghost use Rattle.qm_formats.specs.Fields.{signed, unsigned, fixed};
 ghost use Rattle.qm_formats.specs.FileParts.{short, magic};
-ghost use Rattle.qm_file.specs.Answers.{IsFault, Gives};
+ghost use Rattle.qm_file.specs.Answers.{IsFaultOfFile, GivesOfFile};
 
 use crate::file_fault::FileFault;
 
@@ -20,7 +20,7 @@ pub(crate) fn short(bytes: &[u8]) -> FileFault
 #[tactic(auto, unfolding(qm_formats::specs::Fields::unsigned, qm_formats::specs::Fields::raw))]
 pub(crate) fn u8_at(bytes: &[u8], at: usize) -> Result<(u8, usize), FileFault>
     requires { at ≤ length bytes.now }
-    ensures gives { Gives (λ read. read.0) (λ read. read.1) result ((unsigned short w8).read bytes.now at) }
+    ensures gives { GivesOfFile (λ read. read.0) (λ read. read.1) result ((unsigned short w8).read bytes.now at) }
     ensures within { IfOk result (λ read. read.1 ≤ length bytes.now) }
 {
     if bytes.len() - at < 1 {
@@ -32,7 +32,7 @@ pub(crate) fn u8_at(bytes: &[u8], at: usize) -> Result<(u8, usize), FileFault>
 #[tactic(auto, unfolding(qm_formats::specs::Fields::unsigned, qm_formats::specs::Fields::raw))]
 pub(crate) fn u32_at(bytes: &[u8], at: usize) -> Result<(u32, usize), FileFault>
     requires { at ≤ length bytes.now }
-    ensures gives { Gives (λ read. read.0) (λ read. read.1) result ((unsigned short w32).read bytes.now at) }
+    ensures gives { GivesOfFile (λ read. read.0) (λ read. read.1) result ((unsigned short w32).read bytes.now at) }
     ensures within { IfOk result (λ read. read.1 ≤ length bytes.now) }
 {
     if bytes.len() - at < 4 {
@@ -46,7 +46,7 @@ pub(crate) fn u32_at(bytes: &[u8], at: usize) -> Result<(u32, usize), FileFault>
 #[tactic(auto, unfolding(qm_formats::specs::Fields::unsigned, qm_formats::specs::Fields::raw))]
 pub(crate) fn u64_at(bytes: &[u8], at: usize) -> Result<(u64, usize), FileFault>
     requires { at ≤ length bytes.now }
-    ensures gives { Gives (λ read. read.0) (λ read. read.1) result ((unsigned short w64).read bytes.now at) }
+    ensures gives { GivesOfFile (λ read. read.0) (λ read. read.1) result ((unsigned short w64).read bytes.now at) }
     ensures within { IfOk result (λ read. read.1 ≤ length bytes.now) }
 {
     if bytes.len() - at < 8 {
@@ -62,7 +62,7 @@ pub(crate) fn u64_at(bytes: &[u8], at: usize) -> Result<(u64, usize), FileFault>
 #[tactic(auto, unfolding(qm_formats::specs::Fields::signed))]
 pub(crate) fn i32_at(bytes: &[u8], at: usize) -> Result<(i32, usize), FileFault>
     requires { at ≤ length bytes.now }
-    ensures gives { Gives (λ read. read.0) (λ read. read.1) result ((signed short w32).read bytes.now at) }
+    ensures gives { GivesOfFile (λ read. read.0) (λ read. read.1) result ((signed short w32).read bytes.now at) }
     ensures within { IfOk result (λ read. read.1 ≤ length bytes.now) }
 {
     let (number, next) = u32_at(bytes, at)?;
@@ -72,7 +72,7 @@ pub(crate) fn i32_at(bytes: &[u8], at: usize) -> Result<(i32, usize), FileFault>
 #[tactic(auto, unfolding(qm_formats::specs::Fields::signed))]
 pub(crate) fn i64_at(bytes: &[u8], at: usize) -> Result<(i64, usize), FileFault>
     requires { at ≤ length bytes.now }
-    ensures gives { Gives (λ read. read.0) (λ read. read.1) result ((signed short w64).read bytes.now at) }
+    ensures gives { GivesOfFile (λ read. read.0) (λ read. read.1) result ((signed short w64).read bytes.now at) }
     ensures within { IfOk result (λ read. read.1 ≤ length bytes.now) }
 {
     let (number, next) = u64_at(bytes, at)?;

@@ -5,7 +5,7 @@ ghost use Rattle.std.specs.List.{list_all};
 ghost use Rattle.qm_partition.specs.Arrays.{tree_of};
 ghost use Rattle.qm_partition.specs.WellMade.{IsMadeOf};
 ghost use Rattle.qm_formats.specs.TreeFile.{are_ordered, nodes_layout, leaves_layout};
-ghost use Rattle.qm_file.specs.Answers.{IsFault, Gives};
+ghost use Rattle.qm_file.specs.Answers.{IsFaultOfFile, GivesOfFile};
 ghost use Rattle.qm_file.specs.inner.SeenHeader.{seen_header};
 
 use crate::file_fault::FileFault;
@@ -30,7 +30,7 @@ pub(crate) fn nodes_at(
 ) -> Result<(Vec<Node>, usize), FileFault>
     requires within { at ≤ length bytes.now }
     requires one_more { header.now.leaves ≡ header.now.nodes + 1 }
-    ensures gives { Gives (λ read. read.0.items) (λ read. read.1) result ((nodes_layout (seen_header header.now)).read bytes.now at) }
+    ensures gives { GivesOfFile (λ read. read.0.items) (λ read. read.1) result ((nodes_layout (seen_header header.now)).read bytes.now at) }
     ensures within { IfOk result (λ read. read.1 ≤ length bytes.now) }
 {
     let (nodes, next) = read_all::<NodeRecord>(alloc, bytes, at, header.nodes)?;
@@ -68,7 +68,7 @@ pub(crate) fn leaves_at(
     header: &Header,
 ) -> Result<(Vec<Leaf>, usize), FileFault>
     requires { at ≤ length bytes.now }
-    ensures gives { Gives (λ read. read.0.items) (λ read. read.1) result ((leaves_layout (seen_header header.now)).read bytes.now at) }
+    ensures gives { GivesOfFile (λ read. read.0.items) (λ read. read.1) result ((leaves_layout (seen_header header.now)).read bytes.now at) }
     ensures within { IfOk result (λ read. read.1 ≤ length bytes.now) }
 {
     let (leaves, next) = read_all::<LeafRecord>(alloc, bytes, at, header.leaves)?;

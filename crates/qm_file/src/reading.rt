@@ -1,6 +1,6 @@
 ghost use Rattle.std.specs.Prelude.{◌≡◌, ◌≤◌, ◌+◌, length, IfOk, MatchResult};
-ghost use Rattle.qm_formats.specs.TreeFile.{FileContent, IsValid, planes_layout, parts_layout, file_layout, file_bytes, file_limit, read_file};
-ghost use Rattle.qm_file.specs.Answers.{IsFault, Gives};
+ghost use Rattle.qm_formats.specs.TreeFile.{FileContent, IsValidFile, planes_layout, parts_layout, file_layout, file_bytes, file_limit, read_file};
+ghost use Rattle.qm_file.specs.Answers.{IsFaultOfFile, GivesOfFile};
 ghost use Rattle.qm_file.specs.inner.SeenHeader.{seen_header};
 ghost use Rattle.qm_file.specs.inner.SeenParts.{seen_parts};
 
@@ -22,18 +22,18 @@ const FILE_LIMIT: usize = 1 << 30;
 /// The tree file of bytes, or the first fault in the order of the file. Bytes past the limit are a fault before any other.
 pub fn decode(alloc: Global, bytes: &[u8]) -> Result<TreeFile, FileFault>
     // What is read is valid and written so.
-    ensures found { IfOk result (λ file. IsValid (file.tree, file.rows) × (bytes.now ≡ file_bytes (file.tree, file.rows)) × (length bytes.now ≤ file_limit)) }
+    ensures found { IfOk result (λ file. IsValidFile (file.tree, file.rows) × (bytes.now ≡ file_bytes (file.tree, file.rows)) × (length bytes.now ≤ file_limit)) }
     // What is valid and written so is read, unless memory runs out.
-    ensures only { (content : FileContent) → IsValid content → bytes.now ≡ file_bytes content → length bytes.now ≤ file_limit → MatchResult result (λ file. (file.tree, file.rows) ≡ content) (λ fault. fault ≡ FileFault.Memory) }
+    ensures only { (content : FileContent) → IsValidFile content → bytes.now ≡ file_bytes content → length bytes.now ≤ file_limit → MatchResult result (λ file. (file.tree, file.rows) ≡ content) (λ fault. fault ≡ FileFault.Memory) }
     // Which fault it is.
-    ensures exact { Gives (λ file. (file.tree, file.rows)) (λ _. length bytes.now) result (read_file bytes.now) }
+    ensures exact { GivesOfFile (λ file. (file.tree, file.rows)) (λ _. length bytes.now) result (read_file bytes.now) }
 {
     whole_file(alloc, bytes)
 }
 
 #[tactic(auto, unfolding(qm_formats::specs::TreeFile::read_file))]
 fn whole_file(alloc: Global, bytes: &[u8]) -> Result<TreeFile, FileFault>
-    ensures { Gives (λ file. (file.tree, file.rows)) (λ _. length bytes.now) result (read_file bytes.now) }
+    ensures { GivesOfFile (λ file. (file.tree, file.rows)) (λ _. length bytes.now) result (read_file bytes.now) }
 {
     if bytes.len() > FILE_LIMIT {
         return Err(FileFault::TooLong {
@@ -52,7 +52,7 @@ fn whole_file(alloc: Global, bytes: &[u8]) -> Result<TreeFile, FileFault>
 /// The file with which bytes begin, and where it ends.
 #[tactic(auto, unfolding(qm_formats::specs::TreeFile::file_layout))]
 fn file_at_start(alloc: Global, bytes: &[u8]) -> Result<(TreeFile, usize), FileFault>
-    ensures gives { Gives (λ read. (read.0.tree, read.0.rows)) (λ read. read.1) result (file_layout.read bytes.now 0) }
+    ensures gives { GivesOfFile (λ read. (read.0.tree, read.0.rows)) (λ read. read.1) result (file_layout.read bytes.now 0) }
     ensures within { IfOk result (λ read. read.1 ≤ length bytes.now) }
 {
     let (header, at) = header_at_start(bytes)?;
@@ -86,7 +86,7 @@ fn parts_at(
 ) -> Result<(Parts, usize), FileFault>
     requires within { at ≤ length bytes.now }
     requires one_more { header.now.leaves ≡ header.now.nodes + 1 }
-    ensures gives { Gives (λ read. seen_parts read.0) (λ read. read.1) result ((parts_layout (seen_header header.now)).read bytes.now at) }
+    ensures gives { GivesOfFile (λ read. seen_parts read.0) (λ read. read.1) result ((parts_layout (seen_header header.now)).read bytes.now at) }
     ensures within { IfOk result (λ read. read.1 ≤ length bytes.now) }
 {
     let (planes, next) = read_all::<PlaneRecord>(alloc, bytes, at, header.planes)?;

@@ -17,7 +17,7 @@ use Rattle.qm_formats.specs.Layout.{Layout, right_each, right_option, pair, each
 use Rattle.qm_formats.specs.Fields.{unsigned, fixed}
 use Rattle.qm_formats.specs.Exact.{IsExact}
 use Rattle.qm_formats.specs.FileParts.{short, magic, counts, node_order, plane_layout, node_layout, leaf_layout}
-use Rattle.qm_formats.specs.TreeFile.{Header, count_layout, flag_layout, header_layout, are_numbered, are_ordered, own_row, planes_layout, nodes_layout, leaves_layout, rows_layout, parts_layout, file_layout}
+use Rattle.qm_formats.specs.TreeFile.{Header, count_layout, flag_layout, file_header_layout, are_numbered, are_ordered, own_row_layout, planes_layout, nodes_layout, leaves_layout, rows_layout, parts_layout, file_layout}
 use Rattle.qm_formats.proofs.ExactParts.{recast_exact, tested_exact, both_exact, pair_exact, each_exact, present_exact}
 use Rattle.qm_formats.proofs.ExactFields.{byte_exact, unsigned_64_exact, fixed_exact}
 use Rattle.qm_formats.proofs.ExactRecords.{plane_exact, node_exact, leaf_exact, flag_number, number_flag}
@@ -31,8 +31,8 @@ flag_exact : IsExact flag_layout
 flag_exact =
     recast_exact _ _ _ (tested_exact (λ n. leb n 1) counts (λ _ at. at) (unsigned short w8) (byte_exact short)) (λ n right. flag_number n (and_parts ((unsigned short w8).right n) (leb n 1) right).1) (λ flag right. number_flag flag)
 
-pub header_exact : IsExact header_layout
-unfolding header_layout
+pub header_exact : IsExact file_header_layout
+unfolding file_header_layout
 header_exact =
     recast_exact _ _ _ (
     pair_exact _ _ (fixed_exact short magic (codes "QMTREE01") refl) (
@@ -56,7 +56,7 @@ leaves_exact header =
 
 pub rows_exact : (header : Header) → IsExact (rows_layout header)
 unfolding rows_layout
-rows_exact header = present_exact (each (own_row header.numbered) header.numbered) (each_exact (own_row header.numbered) (own_row_exact header.numbered) 0 header.numbered) header.has_rows
+rows_exact header = present_exact (each (own_row_layout header.numbered) header.numbered) (each_exact (own_row_layout header.numbered) (own_row_exact header.numbered) 0 header.numbered) header.has_rows
 
 pub parts_exact : (header : Header) → IsExact (parts_layout header)
 unfolding parts_layout
@@ -80,8 +80,8 @@ pub record AreRightCounts (header : Header) : Type 0 where
   pub few_planes : header.planes < 2 ^ 32
   pub one_leaf_more : header.leaves ≡ header.nodes + 1
 
-pub right_counts : (header : Header) → header_layout.right header ≡ true → AreRightCounts header
-unfolding header_layout
+pub right_counts : (header : Header) → file_header_layout.right header ≡ true → AreRightCounts header
+unfolding file_header_layout
 right_counts header right =
     let numbered = (pair (count_layout (λ numbered. leb numbered header.leaves)) flag_layout).right (header.numbered, header.has_rows) in
     let leaves = (count_layout (λ leaves. eqb leaves (header.nodes + 1))).right header.leaves in
@@ -104,7 +104,7 @@ pub record AreRight (header : Header) (planes : List Plane) (nodes : List NodeRe
   pub numbered : are_numbered nodes ≡ true
   pub of_leaves : (many leaf_layout header.leaves).right leaves ≡ true
   pub counted : eqb (count_by is_numbered leaves) header.numbered ≡ true
-  pub of_rows : right_option (each (own_row header.numbered) header.numbered) header.has_rows rows ≡ true
+  pub of_rows : right_option (each (own_row_layout header.numbered) header.numbered) header.has_rows rows ≡ true
 
 pub right_parts : (header : Header) (planes : List Plane) (nodes : List NodeRecord) (leaves : List LeafRecord) (rows : Option (List (List Bool))) → (parts_layout header).right (planes, (nodes, (leaves, rows))) ≡ true → AreRight header planes nodes leaves rows
 unfolding parts_layout planes_layout nodes_layout leaves_layout rows_layout are_ordered
@@ -138,7 +138,7 @@ pub record AreCounted (header : Header) (planes : List Plane) (nodes : List Node
   pub numbered_count : count_by is_numbered leaves ≡ header.numbered
   pub has_rows : is_some rows ≡ header.has_rows
 
-pub counted_parts : (header : Header) (planes : List Plane) (nodes : List NodeRecord) (leaves : List LeafRecord) (rows : Option (List (List Bool))) → header_layout.right header ≡ true → (parts_layout header).right (planes, (nodes, (leaves, rows))) ≡ true → AreCounted header planes nodes leaves rows
+pub counted_parts : (header : Header) (planes : List Plane) (nodes : List NodeRecord) (leaves : List LeafRecord) (rows : Option (List (List Bool))) → file_header_layout.right header ≡ true → (parts_layout header).right (planes, (nodes, (leaves, rows))) ≡ true → AreCounted header planes nodes leaves rows
 counted_parts header planes nodes leaves rows right_header right =
     let are = right_parts header planes nodes leaves rows right in
     let node_count = right_each_length (λ _. node_layout) 0 header.nodes nodes are.of_nodes in
@@ -150,7 +150,7 @@ counted_parts header planes nodes leaves rows right_header right =
       leaf_count = leaf_count;
       numbered = numbered-partition nodes leaves are.numbered (omega (arith, node_count, leaf_count, counts.one_leaf_more));
       numbered_count = eqb-true (count_by is_numbered leaves) header.numbered are.counted;
-      has_rows = right_option_there (each (own_row header.numbered) header.numbered) header.has_rows rows are.of_rows;
+      has_rows = right_option_there (each (own_row_layout header.numbered) header.numbered) header.has_rows rows are.of_rows;
     }
 
 pub own_tree : (tree : Tree) → tree_of tree.planes (nodes_of tree.shape 0 0) (leaves_of tree.shape) ≡ tree
@@ -161,8 +161,8 @@ own_tree tree =
 pub file_exact : IsExact file_layout
 unfolding file_layout
 file_exact =
-    recast_exact _ _ _ (both_exact header_layout parts_layout header_exact parts_exact) (λ v right.
-    let both = and_parts (header_layout.right v.0) ((parts_layout v.0).right v.1) right in
+    recast_exact _ _ _ (both_exact file_header_layout parts_layout header_exact parts_exact) (λ v right.
+    let both = and_parts (file_header_layout.right v.0) ((parts_layout v.0).right v.1) right in
     let are = counted_parts v.0 v.1.0 v.1.1.0 v.1.1.1.0 v.1.1.1.1 both.0 both.1 in
     let nodes = sym are.numbered.nodes_are in
     let leaves = sym are.numbered.leaves_are in

@@ -14,7 +14,7 @@ use Rattle.qm_partition.specs.Numbering.{nodes_of}
 use Rattle.qm_partition.specs.Arrays.{partition_of, tree_of}
 use Rattle.qm_partition.specs.WellMade.{IsWellMade}
 use Rattle.qm_contacts.specs.NumberedLeaves.{is_numbered}
-use Rattle.qm_formats.specs.Layout.{Answer, Layout, recast, tested, both, pair, each, many, present, read_whole}
+use Rattle.qm_formats.specs.Layout.{Answer, Layout, recast, tested, both, pair, each, many, present, read_whole_file}
 use Rattle.qm_formats.specs.Fields.{unsigned, fixed}
 use Rattle.qm_formats.specs.RowBits.{row_bits}
 use Rattle.qm_formats.specs.FileParts.{FileFaultKind, short, magic, counts, node_order, row_form, trailing, too_long, plane_layout, node_layout, leaf_layout}
@@ -39,8 +39,8 @@ flag_layout = recast (λ n. n == 1) (λ flag. if flag then 1 else 0) (tested (λ
 
 -- the magic bytes; how many planes there are, fewer than 2^32; how many nodes; how many leaves, one more; how many of them
 -- are numbered; and whether rows are there
-unfoldable pub header_layout : Layout FileFaultKind Header
-header_layout =
+unfoldable pub file_header_layout : Layout FileFaultKind Header
+file_header_layout =
     recast (λ h. record { planes = h.1.0; nodes = h.1.1.0; leaves = h.1.1.1.0; numbered = h.1.1.1.1.0; has_rows = h.1.1.1.1.1 }) (λ h. (tt, (h.planes, (h.nodes, (h.leaves, (h.numbered, h.has_rows))))))
     (pair (fixed short magic (codes "QMTREE01"))
     (pair (count_layout (λ planes. nat_lt planes (2 ^ 32)))
@@ -74,8 +74,8 @@ unfoldable pub are_ordered : ℕ → List NodeRecord → Bool
 are_ordered planes nodes = list_all (λ here. nat_lt here.plane planes) nodes && are_numbered nodes
 
 -- a row of so many places in which the place k is set
-unfoldable pub own_row : ℕ → ℕ → Layout FileFaultKind (List Bool)
-own_row places k = tested (λ row. slice_index_or row k false) row_form (λ _ at. at) (row_bits short row_form places)
+unfoldable pub own_row_layout : ℕ → ℕ → Layout FileFaultKind (List Bool)
+own_row_layout places k = tested (λ row. slice_index_or row k false) row_form (λ _ at. at) (row_bits short row_form places)
 
 unfoldable pub planes_layout : Header → Layout FileFaultKind (List Plane)
 planes_layout header = many plane_layout header.planes
@@ -90,7 +90,7 @@ leaves_layout header = tested (λ found. count_by is_numbered found == header.nu
 
 -- a row for each numbered leaf, with a place for each, and its own place set
 unfoldable pub rows_layout : Header → Layout FileFaultKind (Option (List (List Bool)))
-rows_layout header = present (each (own_row header.numbered) header.numbered) header.has_rows
+rows_layout header = present (each (own_row_layout header.numbered) header.numbered) header.has_rows
 
 -- what stands behind the header
 unfoldable pub parts_layout : Header → Layout FileFaultKind (List Plane × (List NodeRecord × (List LeafRecord × Option (List (List Bool)))))
@@ -114,7 +114,7 @@ header_of file =
 unfoldable pub file_layout : Layout FileFaultKind FileContent
 file_layout =
     recast (λ v. (tree_of v.1.0 v.1.1.0 v.1.1.1.0, v.1.1.1.1)) (λ file. (header_of file, (file.0.planes, (nodes_of file.0.shape 0 0, (leaves_of file.0.shape, file.1)))))
-    (both header_layout parts_layout)
+    (both file_header_layout parts_layout)
 
 -- the bytes of the tree file of a tree, with or without rows
 unfoldable pub file_bytes : FileContent → List ℕ
@@ -126,7 +126,7 @@ file_limit = 1073741824
 
 -- what is read in a file: a tree with or without rows, or the first fault
 unfoldable pub read_file : List ℕ → Answer FileFaultKind FileContent
-read_file file = read_whole file_layout file_limit too_long trailing file
+read_file file = read_whole_file file_layout file_limit too_long trailing file
 
 -- a row for each of so many leaves, with a place for each, and its own place set
 pub record AreRows (numbered : ℕ) (rows : List (List Bool)) : Type 0 where
@@ -135,7 +135,7 @@ pub record AreRows (numbered : ℕ) (rows : List (List Bool)) : Type 0 where
   pub own : (k : ℕ) → k < numbered → slice_index_or (slice_index_or rows k []) k false ≡ true
 
 -- what can stand in a tree file
-pub record IsValid (file : FileContent) : Type 0 where
+pub record IsValidFile (file : FileContent) : Type 0 where
   pub well_made : IsWellMade file.0
   pub reduced : All IsReduced file.0.planes
   pub rows : IfSome file.1 (AreRows (count_by is_numbered (leaves_of file.0.shape)))

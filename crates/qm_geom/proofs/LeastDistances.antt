@@ -12,7 +12,7 @@ use Rattle.qm_numbers.proofs.IntegerProducts.{linear}
 use Rattle.qm_numbers.proofs.Signs.{by_least, times_at_most, abs_sum, abs_product_bound}
 use Rattle.qm_geom.specs.LeastDistance.{plane_at_distance, IsComponent, IsLeastDistance}
 use Rattle.qm_geom.specs.inner.LeastDistanceOf.{IsLeastDistanceOf}
-use Rattle.qm_geom.specs.Vectors.{vector_of, step_to, dot, IsWithin}
+use Rattle.qm_geom.specs.Vectors.{vector_of, step_to, dot, HasSmallComponents}
 use Rattle.qm_geom.specs.declared.vector.Vector.{Vector}
 use Rattle.qm_numbers.specs.Rounding.{IsRoundedUp}
 use Rattle.qm_geom.specs.Rounding.{HasSmallCoordinates}
@@ -35,7 +35,7 @@ up_is_least normal p q h r = record {
 }
 
 -- the dot product is at most 3 · 2^42 denominators
-pub along_small : (v : Vector) (p : Point) → IsWithin v (2 ^ 26) → HasSmallCoordinates p → unsigned_abs (dot v (step_to p)) ≤ 2 ^ 44 * unsigned_abs p.w
+pub along_small : (v : Vector) (p : Point) → HasSmallComponents v (2 ^ 26) → HasSmallCoordinates p → unsigned_abs (dot v (step_to p)) ≤ 2 ^ 44 * unsigned_abs p.w
 unfolding dot
 along_small v p i s =
     let n = 65536 * unsigned_abs p.w in
@@ -46,7 +46,7 @@ along_small v p i s =
     let u = abs_sum ((v.x *ℤ p.x) +ℤ (v.y *ℤ p.y)) (v.z *ℤ p.z) in
     omega arith
 
-pub components_small : (normal : List ℤ) → IsComponent (slice_index_or normal 0 (pos 0)) → IsComponent (slice_index_or normal 1 (pos 0)) → IsComponent (slice_index_or normal 2 (pos 0)) → IsWithin (vector_of normal) (2 ^ 26)
+pub components_small : (normal : List ℤ) → IsComponent (slice_index_or normal 0 (pos 0)) → IsComponent (slice_index_or normal 1 (pos 0)) → IsComponent (slice_index_or normal 2 (pos 0)) → HasSmallComponents (vector_of normal) (2 ^ 26)
 components_small normal x y z = record { x_small = x; y_small = y; z_small = z }
 
 -- ---- of several corners, one after another

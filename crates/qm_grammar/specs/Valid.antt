@@ -63,7 +63,7 @@ abbrev pub face_count : Entity → ℕ
 face_count entity = sum_by (λ brush. length brush.faces) entity.brushes
 
 -- a map that some text could mean, if texts had no limit, and of which no number can run over
-unfoldable pub IsValid : MapFile → Type 0
-IsValid map =
+unfoldable pub IsValidMap : MapFile → Type 0
+IsValidMap map =
     (map.entities ≢ []) × All IsValidEntity map.entities × OriginsAreGood map.entities
     × (sum_by face_count map.entities ≤ face_limit)

@@ -4,7 +4,7 @@ use Rattle.std.specs.Prelude.{All}
 use Rattle.std.proofs.lemmas.Bool.{cases_eq, cases_lt}
 use Rattle.std.proofs.lemmas.List.{nil_from_length}
 use Rattle.std.proofs.lemmas.List.Elements.{All-nil, All-cons}
-use Rattle.qm_lex.specs.Piece.{Piece, blank, comment, word, quoted, unclosed, bytes_of, EndsLine, EndsWord, OpensWord, IsPiece, ArePiecesOf}
+use Rattle.qm_lex.specs.Piece.{TextPiece, blank, comment, word, quoted, unclosed, bytes_of_piece, EndsLine, EndsWord, OpensWord, IsTextPiece, ArePiecesOf}
 
 -- the bytes begin with one that is not of a sort, or are none
 abbrev StopsAt : (ℕ → Type 0) → List ℕ → Type 0
@@ -45,10 +45,10 @@ is_above byte = ⊎_elim (λ above. inl above) (λ blank. inr (λ above. omega a
 
 -- one piece, and what follows it
 record FirstPiece (text : List ℕ) : Type 0 where
-  piece : Piece
+  piece : TextPiece
   after : List ℕ
-  joined : text ≡ bytes_of piece ++ after
-  is_piece : IsPiece piece after
+  joined : text ≡ bytes_of_piece piece ++ after
+  is_piece : IsTextPiece piece after
   shorter : length after < length text
 
 -- a quote opens a token, or is not closed
@@ -138,7 +138,7 @@ first_piece byte bytes =
     (λ is_blank. record { piece = blank byte; after = bytes; joined = refl; is_piece = is_blank; shorter = omega arith })
     (cases_lt 32 byte)
 
-cut_up : (n : ℕ) (text : List ℕ) → length text ≤ n → (pieces : List Piece) × ArePiecesOf text pieces
+cut_up : (n : ℕ) (text : List ℕ) → length text ≤ n → (pieces : List TextPiece) × ArePiecesOf text pieces
 cut_up zero text fits = ([], nil_from_length text (omega arith))
 cut_up (suc n) [] fits = ([], refl)
 cut_up (suc n) (byte ∷ bytes) fits =
@@ -147,5 +147,5 @@ cut_up (suc n) (byte ∷ bytes) fits =
     (first.piece ∷ rest.0, (first.after, first.joined, first.is_piece, rest.1))
 
 -- the pieces of a text
-pub pieces_of : (text : List ℕ) → (pieces : List Piece) × ArePiecesOf text pieces
+pub pieces_of : (text : List ℕ) → (pieces : List TextPiece) × ArePiecesOf text pieces
 pieces_of text = cut_up (length text) text (omega arith)

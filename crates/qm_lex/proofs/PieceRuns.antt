@@ -8,7 +8,7 @@ use Rattle.std.proofs.lemmas.List.Sums.{sum_by-append}
 use Rattle.qm_lex.specs.Lexeme.{line_ends}
 use Rattle.qm_lex.specs.Lexing.{Lexing, unclosed_on, lexeme_then, lexing_from}
 use Rattle.qm_lex.specs.inner.Modes.{between, slash, in_comment, in_word, in_quote, word_before, quoted_before, read}
-use Rattle.qm_lex.specs.Piece.{Piece, blank, comment, word, quoted, unclosed, EndsLine, EndsWord, OpensWord, ArePiecesOf}
+use Rattle.qm_lex.specs.Piece.{TextPiece, blank, comment, word, quoted, unclosed, EndsLine, EndsWord, OpensWord, ArePiecesOf}
 use Rattle.qm_lex.proofs.ByteSteps.{slash_begins, word_begins, same_line}
 
 -- the lines that end in two parts
@@ -128,7 +128,7 @@ unclosed_piece offset line bytes after inside none =
     quote_begins offset line (bytes ++ after) ∙ rw (none, append-nil bytes) (open_run [] (offset + 1) line (offset + 1) line bytes inside)
 
 -- the pieces of a text, one after another
-pub read_pieces : (text : List ℕ) (pieces : List Piece) (offset line : ℕ) → ArePiecesOf text pieces → read between offset line text ≡ lexing_from offset line pieces
+pub read_pieces : (text : List ℕ) (pieces : List TextPiece) (offset line : ℕ) → ArePiecesOf text pieces → read between offset line text ≡ lexing_from offset line pieces
 unfolding read
 read_pieces text [] offset line are = rw are refl
 read_pieces text (blank byte ∷ pieces) offset line (after, joined, is_blank, rest) =

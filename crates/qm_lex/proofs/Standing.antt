@@ -5,7 +5,7 @@ use Rattle.std.proofs.lemmas.List.{drop_at, take_at}
 use Rattle.std.proofs.lemmas.List.Elements.{All-nil, All-cons}
 use Rattle.qm_lex.specs.Lexeme.{Lexeme, StandsIn, line_ends}
 use Rattle.qm_lex.specs.Lexing.{Lexing, prepend, lexeme_at, lexing_from}
-use Rattle.qm_lex.specs.Piece.{Piece, blank, comment, word, quoted, unclosed, bytes_of, ArePiecesOf}
+use Rattle.qm_lex.specs.Piece.{TextPiece, blank, comment, word, quoted, unclosed, bytes_of_piece, ArePiecesOf}
 use Rattle.qm_lex.proofs.PieceRuns.{line_ends-append}
 
 -- the prefix of a text is read, up to an offset on a line
@@ -35,7 +35,7 @@ line_at text prefix rest offset line reached n n_is =
     let taken = ap (take n) reached.joined ∙ take_at prefix rest n (omega (arith, reached.offset_is)) in
     reached.line_is ∙ ap (λ bytes. 1 + line_ends bytes) (sym taken)
 
-piece_stands : (text prefix rest : List ℕ) (offset line : ℕ) → Reached text prefix rest offset line → (piece : Piece) (after : List ℕ) → rest ≡ bytes_of piece ++ after → IfSome (lexeme_at offset line piece) (StandsIn text)
+piece_stands : (text prefix rest : List ℕ) (offset line : ℕ) → Reached text prefix rest offset line → (piece : TextPiece) (after : List ℕ) → rest ≡ bytes_of_piece piece ++ after → IfSome (lexeme_at offset line piece) (StandsIn text)
 piece_stands text prefix rest offset line reached (blank byte) after joined = tt
 piece_stands text prefix rest offset line reached (comment bytes) after joined = tt
 piece_stands text prefix rest offset line reached (word bytes) after joined =
@@ -64,14 +64,14 @@ pub all_prepended : (P : Lexeme → Type 0) (first : Option Lexeme) (rest : Lexi
 all_prepended P None rest holds others = others
 all_prepended P (Some lexeme) rest holds others = All-cons P lexeme rest.lexemes holds others
 
-stand_behind : (text prefix rest : List ℕ) (offset line : ℕ) → Reached text prefix rest offset line → (pieces : List Piece) → ArePiecesOf rest pieces → All (StandsIn text) (lexing_from offset line pieces).lexemes
+stand_behind : (text prefix rest : List ℕ) (offset line : ℕ) → Reached text prefix rest offset line → (pieces : List TextPiece) → ArePiecesOf rest pieces → All (StandsIn text) (lexing_from offset line pieces).lexemes
 stand_behind text prefix rest offset line reached [] are = All-nil (StandsIn text)
 stand_behind text prefix rest offset line reached (unclosed bytes ∷ pieces) are = All-nil (StandsIn text)
 stand_behind text prefix rest offset line reached (piece ∷ pieces) (after, joined, is_piece, are) =
-    all_prepended (StandsIn text) (lexeme_at offset line piece) (lexing_from (offset + length (bytes_of piece)) (line + line_ends (bytes_of piece)) pieces)
+    all_prepended (StandsIn text) (lexeme_at offset line piece) (lexing_from (offset + length (bytes_of_piece piece)) (line + line_ends (bytes_of_piece piece)) pieces)
     (piece_stands text prefix rest offset line reached piece after joined)
-    (stand_behind text (prefix ++ bytes_of piece) after (offset + length (bytes_of piece)) (line + line_ends (bytes_of piece)) (reached_next text prefix rest offset line reached (bytes_of piece) after joined) pieces are)
+    (stand_behind text (prefix ++ bytes_of_piece piece) after (offset + length (bytes_of_piece piece)) (line + line_ends (bytes_of_piece piece)) (reached_next text prefix rest offset line reached (bytes_of_piece piece) after joined) pieces are)
 
-pub pieces_stand : (text : List ℕ) (pieces : List Piece) → ArePiecesOf text pieces → All (StandsIn text) (lexing_from 0 1 pieces).lexemes
+pub pieces_stand : (text : List ℕ) (pieces : List TextPiece) → ArePiecesOf text pieces → All (StandsIn text) (lexing_from 0 1 pieces).lexemes
 pieces_stand text pieces are =
     stand_behind text [] text 0 1 (record { joined = refl; offset_is = refl; line_is = refl }) pieces are

@@ -10,19 +10,19 @@ use Rattle.qm_listing.specs.declared.listing.Coordinate.{Coordinate}
 use Rattle.qm_listing.specs.declared.listing.PrtPortal.{PrtPortal}
 use Rattle.qm_listing.specs.Numerals.{before}
 use Rattle.qm_listing.specs.Numbers.{counts, coordinates}
-use Rattle.qm_listing.specs.Grammar.{ListingFaultKind, header, number, shape, due, header_layout, count_line, points_layout, leaf0_layout, leaf1_layout, coordinate_layout, corner_layout, portal_layout, listing_layout}
+use Rattle.qm_listing.specs.Grammar.{ListingFaultKind, header, number, shape, due, first_line_layout, count_line_layout, points_layout, leaf0_layout, leaf1_layout, coordinate_layout, corner_layout, portal_layout, listing_layout}
 use Rattle.qm_listing.proofs.ExactNumerals.{literal_exact, numeral_exact, before_exact, behind_exact}
 use Rattle.qm_listing.proofs.ExactNumbers.{counts_spelling, coordinates_spelling}
 
 due_exact : (byte : ℕ) → IsExact (due byte)
 due_exact byte = literal_exact shape (byte ∷ [])
 
-pub header_exact : IsExact header_layout
-unfolding header_layout
+pub header_exact : IsExact first_line_layout
+unfolding first_line_layout
 header_exact = literal_exact header (codes "PRT1" ++ 10 ∷ [])
 
-pub count_line_exact : IsExact count_line
-unfolding count_line
+pub count_line_exact : IsExact count_line_layout
+unfolding count_line_layout
 count_line_exact = numeral_exact number shape counts counts_spelling (λ _. true) 10 refl
 
 pub points_exact : IsExact points_layout
@@ -71,20 +71,20 @@ portal_exact leaves =
 
 -- what stands behind the first line
 abbrev behind_header : Layout ListingFaultKind (ℕ × (ℕ × List PrtPortal))
-behind_header = both count_line (λ leaves. both count_line (λ portals. many (portal_layout leaves) portals))
+behind_header = both count_line_layout (λ leaves. both count_line_layout (λ portals. many (portal_layout leaves) portals))
 
 listed_portals : (leaves count : ℕ) (portals : List PrtPortal) → behind_header.right (leaves, (count, portals)) ≡ true → length portals ≡ count
 listed_portals leaves count portals right =
     let of_portals = (many (portal_layout leaves) count).right portals in
-    let first = and_parts (count_line.right leaves) (count_line.right count && of_portals) right in
-    let second = and_parts (count_line.right count) of_portals first.1 in
+    let first = and_parts (count_line_layout.right leaves) (count_line_layout.right count && of_portals) right in
+    let second = and_parts (count_line_layout.right count) of_portals first.1 in
     right_each_length (λ _. portal_layout leaves) 0 count portals second.1
 
 pub listing_exact : IsExact listing_layout
 unfolding listing_layout
 listing_exact =
     recast_exact _ _ _
-    (pair_exact header_layout behind_header header_exact
+    (pair_exact first_line_layout behind_header header_exact
     (both_exact _ _ count_line_exact (λ leaves.
     both_exact _ _ count_line_exact (λ count. each_exact (λ _. portal_layout leaves) (λ _. portal_exact leaves) 0 count))))
-    (λ v right. ap (λ (n : ℕ). (tt, (v.1.0, (n, v.1.1.1)))) (listed_portals v.1.0 v.1.1.0 v.1.1.1 (and_parts (header_layout.right v.0) (behind_header.right v.1) right).1)) (λ found right. refl)
+    (λ v right. ap (λ (n : ℕ). (tt, (v.1.0, (n, v.1.1.1)))) (listed_portals v.1.0 v.1.1.0 v.1.1.1 (and_parts (first_line_layout.right v.0) (behind_header.right v.1) right).1)) (λ found right. refl)

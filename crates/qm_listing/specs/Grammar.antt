@@ -25,12 +25,12 @@ abbrev pub number_before : {X : Type 0} → Spelling X → (X → Bool) → ℕ 
 number_before spelling test byte = before (tested test shape (λ _ at. at) (numeral number spelling)) (due byte)
 
 -- the first line: `PRT1`
-unfoldable pub header_layout : Layout ListingFaultKind (Unit {0})
-header_layout = literal header (codes "PRT1" ++ 10 ∷ [])
+unfoldable pub first_line_layout : Layout ListingFaultKind (Unit {0})
+first_line_layout = literal header (codes "PRT1" ++ 10 ∷ [])
 
 -- a count on a line of its own
-unfoldable pub count_line : Layout ListingFaultKind ℕ
-count_line = number_before counts (λ _. true) 10
+unfoldable pub count_line_layout : Layout ListingFaultKind ℕ
+count_line_layout = number_before counts (λ _. true) 10
 
 -- how many corners a portal has: at least three
 unfoldable pub points_layout : Layout ListingFaultKind ℕ
@@ -62,7 +62,7 @@ portal_layout leaves =
 unfoldable pub listing_layout : Layout ListingFaultKind Listing
 listing_layout =
     recast (λ v. record { leaves = v.1.0; portals = v.1.1.1 }) (λ found. (tt, (found.leaves, (length found.portals, found.portals))))
-    (pair header_layout (both count_line (λ leaves. both count_line (λ portals. many (portal_layout leaves) portals))))
+    (pair first_line_layout (both count_line_layout (λ leaves. both count_line_layout (λ portals. many (portal_layout leaves) portals))))
 
 -- the text of a listing
 unfoldable pub listing_text : Listing → List ℕ

@@ -18,12 +18,12 @@ is_count_numeral numeral =
     nat_le 1 (length numeral) && (nat_le (length numeral) most_digits && (list_all is_ascii_digit numeral && ((length numeral == 1) || not (slice_index_or numeral 0 0 == 48))))
 
 -- the number that such a numeral spells
-unfoldable pub count_of : List ℕ → Option ℕ
-count_of numeral = if is_count_numeral numeral then Some (digits_value 10 numeral) else None
+unfoldable pub count_of_numeral : List ℕ → Option ℕ
+count_of_numeral numeral = if is_count_numeral numeral then Some (digits_value 10 numeral) else None
 
 -- counts and numbers of leaves, in decimal digits
 abbrev pub counts : Spelling ℕ
-counts = record { numeral_of = decimal; right = λ n. nat_lt n (10 ^ most_digits); value_of = count_of }
+counts = record { numeral_of = decimal; right = λ n. nat_lt n (10 ^ most_digits); value_of = count_of_numeral }
 
 -- the greatest absolute value of a coordinate, 32,768, in millionths
 abbrev pub most_millionths : ℕ
@@ -65,12 +65,12 @@ coordinate_of_parts negative (Some n) (point ∷ decimals) =
 unfoldable pub unsigned_coordinate : Bool → List ℕ → Option Coordinate
 unsigned_coordinate negative numeral =
     let count = prefix_len is_ascii_digit numeral in
-    coordinate_of_parts negative (count_of (take count numeral)) (drop count numeral)
+    coordinate_of_parts negative (count_of_numeral (take count numeral)) (drop count numeral)
 
 -- the coordinate that a numeral spells
-unfoldable pub coordinate_of : List ℕ → Option Coordinate
-coordinate_of [] = None
-coordinate_of (byte ∷ bytes) = if byte == 45 then unsigned_coordinate true bytes else unsigned_coordinate false (byte ∷ bytes)
+unfoldable pub coordinate_of_numeral : List ℕ → Option Coordinate
+coordinate_of_numeral [] = None
+coordinate_of_numeral (byte ∷ bytes) = if byte == 45 then unsigned_coordinate true bytes else unsigned_coordinate false (byte ∷ bytes)
 
 abbrev pub coordinates : Spelling Coordinate
-coordinates = record { numeral_of = coordinate_numeral; right = is_coordinate; value_of = coordinate_of }
+coordinates = record { numeral_of = coordinate_numeral; right = is_coordinate; value_of = coordinate_of_numeral }

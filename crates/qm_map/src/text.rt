@@ -6,7 +6,7 @@ ghost use Rattle.qm_grammar.specs.declared.fault.MapFault.{MapFault};
 ghost use Rattle.qm_grammar.specs.Faults.{fault_of};
 ghost use Rattle.qm_grammar.specs.inner.Machine.{refused_at, closed_by_end, ended, meaning_of};
 ghost use Rattle.qm_grammar.specs.Meaning.{Means, IsMapText, IsFaultText};
-ghost use Rattle.qm_grammar.specs.Valid.{IsValid};
+ghost use Rattle.qm_grammar.specs.Valid.{IsValidMap};
 ghost use Rattle.qm_map.specs.inner.Taking.{IsTaken};
 
 use crate::lines::{last_line, line_at};
@@ -156,7 +156,7 @@ pub fn parse(alloc: Global, text: &[u8]) -> Result<MapFile, MapFault>
     // The text means nothing else.
     ensures only { result ≢ Err MapFault.Memory → (other : Result MapFile MapFault) → Means text.now other → other ≡ result }
 
-    ensures valid { IfOk result IsValid }
+    ensures valid { IfOk result IsValidMap }
 {
     meaning_of(alloc, text)
 }

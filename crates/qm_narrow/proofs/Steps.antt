@@ -13,7 +13,7 @@ use Rattle.qm_separators.specs.Gains.{HasExactly}
 use Rattle.qm_separators.specs.Separator.{IsSeparatorFrom}
 use Rattle.qm_separators.specs.Part.{IsPartBy, HasNoPartBy}
 use Rattle.qm_separators.specs.ChainState.{ChainState}
-use Rattle.qm_separators.specs.ChainStep.{LeadsTo, Blocks, source_beyond}
+use Rattle.qm_separators.specs.ChainStep.{StepsTo, Blocks, source_beyond}
 use Rattle.qm_separators.specs.inner.Narrowed.{NarrowsTo, CutsAway, source_gone}
 use Rattle.qm_separators.proofs.Parts.{part_by_alike, no_part_alike}
 use Rattle.qm_separators.proofs.NarrowedSteps.{whole_part, step_by}
@@ -66,7 +66,7 @@ module _ (state : ChainState) (target far : Winding) (into : Plane) (far_is : Is
   part_lies near e lies p r = lies p (((part_is near e).points p).0 r).0
 
   abbrev pub IsStep : Option ChainState → Type 0
-  IsStep after = MatchOption after (Blocks state target into) (LeadsTo state target into)
+  IsStep after = MatchOption after (Blocks state target into) (StepsTo state target into)
 
   pub stepped_whole : {E : Type 0} (answer : Result (Option ChainState) E) → clip ≡ Whole → IsConvex state.source → IfOk answer (IsNarrowed state state.source far) → IfOk answer IsStep
   stepped_whole answer e convex = IfOk-weaker answer (IsNarrowed state state.source far) IsStep

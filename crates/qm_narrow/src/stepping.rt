@@ -6,7 +6,7 @@ ghost use Rattle.qm_convex.specs.Cut.{IsPartInFront};
 ghost use Rattle.qm_separators.specs.Part.{IsPartBy, HasNoPartBy};
 ghost use Rattle.qm_separators.specs.Separator.{IsSeparatorFrom};
 ghost use Rattle.qm_separators.specs.ChainState.{IsChainState};
-ghost use Rattle.qm_separators.specs.ChainStep.{LeadsTo, Blocks};
+ghost use Rattle.qm_separators.specs.ChainStep.{StepsTo, Blocks};
 ghost use Rattle.qm_separators.specs.inner.Narrowed.{NarrowsTo, CutsAway};
 ghost use Rattle.qm_narrow.specs.inner.LastPoint.{EndsAt};
 
@@ -26,7 +26,7 @@ pub fn step(
     state: &ChainState,
     next: &Pane,
 ) -> Result<Option<ChainState>, AllocError>
-    ensures { IfOk result (λ after. MatchOption after (Blocks state.now next.now.winding next.now.into) (LeadsTo state.now next.now.winding next.now.into)) }
+    ensures { IfOk result (λ after. MatchOption after (Blocks state.now next.now.winding next.now.into) (StepsTo state.now next.now.winding next.now.into)) }
 {
     let mut buffers = StepBuffers::new(alloc);
     let after = step_with(alloc, &mut buffers, state, next)?;
@@ -42,7 +42,7 @@ pub fn step_into(
     state: &ChainState,
     next: &Pane,
 ) -> Result<bool, AllocError>
-    ensures leads { IfOk result (λ leads. leads ≡ true → LeadsTo state.now next.now.winding next.now.into spare.new) }
+    ensures leads { IfOk result (λ leads. leads ≡ true → StepsTo state.now next.now.winding next.now.into spare.new) }
     ensures blocks { IfOk result (λ leads. leads ≡ false → Blocks state.now next.now.winding next.now.into) }
     ensures stays { IfOk result (λ leads. leads ≡ false → spare.new ≡ spare.old) }
     ensures kept { OnErr result (spare.new ≡ spare.old) }
@@ -64,7 +64,7 @@ fn step_with(
     state: &ChainState,
     next: &Pane,
 ) -> Result<Option<ChainState>, AllocError>
-    ensures { IfOk result (λ after. MatchOption after (Blocks state.now next.now.winding next.now.into) (LeadsTo state.now next.now.winding next.now.into)) }
+    ensures { IfOk result (λ after. MatchOption after (Blocks state.now next.now.winding next.now.into) (StepsTo state.now next.now.winding next.now.into)) }
 {
     let copy = next.winding.copy()?;
     match kept(copy, state.into())? {
@@ -82,7 +82,7 @@ fn after_far_cut(
     far: Winding,
 ) -> Result<Option<ChainState>, AllocError>
     requires { IsPartInFront far next.now.winding state.now.into }
-    ensures { IfOk result (λ after. MatchOption after (Blocks state.now next.now.winding next.now.into) (LeadsTo state.now next.now.winding next.now.into)) }
+    ensures { IfOk result (λ after. MatchOption after (Blocks state.now next.now.winding next.now.into) (StepsTo state.now next.now.winding next.now.into)) }
 {
     match state.source().clip(&next.into, Side::Back)? {
         Clip::Gone => Ok(None),

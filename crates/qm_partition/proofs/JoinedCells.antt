@@ -13,7 +13,7 @@ use Rattle.qm_contents.specs.declared.contents.Contents.{Contents}
 use Rattle.qm_partition.specs.declared.node.Leaf.{Leaf}
 use Rattle.qm_partition.specs.Partition.{Partition, leaf, node}
 use Rattle.qm_partition.specs.Counting.{leaves_of, node_planes}
-use Rattle.qm_partition.specs.Ways.{Way, after_step, ways, cell_of, HasPoints}
+use Rattle.qm_partition.specs.Ways.{Way, after_step, ways, cell_of_way, HasPoints}
 use Rattle.qm_partition.specs.Joining.{are_equal, joined_node, joined}
 use Rattle.qm_partition.proofs.JoinedLeaves.{are_equal-contents}
 
@@ -68,7 +68,7 @@ has_only (node n front back) a is = elim (joined_node_is n (joined front) (joine
 pub record HasPointWith (planes : List Plane) (Has : Point → Type 0) (way : Way) : Type 0 where
   pub point : Point
   pub has : Has point
-  pub in_cell : IsInCell (cell_of planes way) point
+  pub in_cell : IsInCell (cell_of_way planes way) point
 
 -- of the ways of a partition there is one
 pub some_way : (P : Way → Type 0) (shape : Partition) → All P (ways shape) → (way : Way) × P way
@@ -87,15 +87,15 @@ module _ (planes : List Plane) (Has : Point → Type 0) (n : ℕ) (to_front : Bo
       let h = turned to_front (plane_at planes n) in
       record {
         point = at.point;
-        has = (at.has, All-head (λ h. IsInFront h at.point) h (cell_of planes way) at.in_cell);
-        in_cell = All-tail (λ h. IsInFront h at.point) h (cell_of planes way) at.in_cell;
+        has = (at.has, All-head (λ h. IsInFront h at.point) h (cell_of_way planes way) at.in_cell);
+        in_cell = All-tail (λ h. IsInFront h at.point) h (cell_of_way planes way) at.in_cell;
       }
 
   pub step_on : (way : Way) → HasPointWith planes HasBehindStep way → HasPointWith planes Has (after_step n to_front way)
   step_on way at = record {
     point = at.point;
     has = at.has.0;
-    in_cell = All-cons (λ h. IsInFront h at.point) (turned to_front (plane_at planes n)) (cell_of planes way) at.has.1 at.in_cell;
+    in_cell = All-cons (λ h. IsInFront h at.point) (turned to_front (plane_at planes n)) (cell_of_way planes way) at.has.1 at.in_cell;
   }
 
   pub steps_off : (below : List Way) → All (HasPointWith planes Has) (map (after_step n to_front) below) → All (HasPointWith planes HasBehindStep) below

@@ -3,8 +3,8 @@
 ghost use Rattle.std.specs.Prelude.{◌≡◌, ◌≤◌, ◌∷◌, [], length, IfOk};
 ghost use Rattle.qm_listing.specs.Numerals.{numeral};
 ghost use Rattle.qm_listing.specs.Numbers.{counts, coordinates};
-ghost use Rattle.qm_listing.specs.Grammar.{number, due, header_layout};
-ghost use Rattle.qm_prt.specs.Answers.{IsFault, Gives};
+ghost use Rattle.qm_listing.specs.Grammar.{number, due, first_line_layout};
+ghost use Rattle.qm_prt.specs.Answers.{IsFaultOfListing, GivesOfListing};
 
 use crate::numbers::{coordinate_of, count_of, numeral_ahead};
 use crate::prt_fault::PrtFault;
@@ -13,9 +13,9 @@ use qm_listing::Coordinate;
 const HEADER: [u8; 5] = *b"PRT1\n";
 
 /// Tests the first line, and answers where it ends.
-#[tactic(auto, unfolding(qm_listing::specs::Grammar::header_layout, qm_listing::specs::Numerals::literal))]
+#[tactic(auto, unfolding(qm_listing::specs::Grammar::first_line_layout, qm_listing::specs::Numerals::literal))]
 pub(crate) fn header_at_start(text: &[u8]) -> Result<usize, PrtFault>
-    ensures gives { Gives (λ _. tt) (λ next. next) result (header_layout.read text.now 0) }
+    ensures gives { GivesOfListing (λ _. tt) (λ next. next) result (first_line_layout.read text.now 0) }
     ensures within { IfOk result (λ next. next ≤ length text.now) }
 {
     if text.starts_with(&HEADER) {
@@ -29,7 +29,7 @@ pub(crate) fn header_at_start(text: &[u8]) -> Result<usize, PrtFault>
 #[tactic(auto, unfolding(qm_listing::specs::Numerals::literal))]
 pub(crate) fn byte_at(text: &[u8], at: usize, byte: u8) -> Result<usize, PrtFault>
     requires { at ≤ length text.now }
-    ensures gives { Gives (λ _. tt) (λ next. next) result ((due byte).read text.now at) }
+    ensures gives { GivesOfListing (λ _. tt) (λ next. next) result ((due byte).read text.now at) }
     ensures within { IfOk result (λ next. next ≤ length text.now) }
 {
     if at < text.len() {
@@ -44,7 +44,7 @@ pub(crate) fn byte_at(text: &[u8], at: usize, byte: u8) -> Result<usize, PrtFaul
 #[tactic(auto, unfolding(qm_listing::specs::Numerals::numeral))]
 pub(crate) fn count_at(text: &[u8], at: usize) -> Result<(u64, usize), PrtFault>
     requires { at ≤ length text.now }
-    ensures gives { Gives (λ read. read.0) (λ read. read.1) result ((numeral number counts).read text.now at) }
+    ensures gives { GivesOfListing (λ read. read.0) (λ read. read.1) result ((numeral number counts).read text.now at) }
     ensures within { IfOk result (λ read. read.1 ≤ length text.now) }
 {
     let numeral = numeral_ahead(text, at);
@@ -58,7 +58,7 @@ pub(crate) fn count_at(text: &[u8], at: usize) -> Result<(u64, usize), PrtFault>
 #[tactic(auto, unfolding(qm_listing::specs::Numerals::numeral))]
 pub(crate) fn coordinate_at(text: &[u8], at: usize) -> Result<(Coordinate, usize), PrtFault>
     requires { at ≤ length text.now }
-    ensures gives { Gives (λ read. read.0) (λ read. read.1) result ((numeral number coordinates).read text.now at) }
+    ensures gives { GivesOfListing (λ read. read.0) (λ read. read.1) result ((numeral number coordinates).read text.now at) }
     ensures within { IfOk result (λ read. read.1 ≤ length text.now) }
 {
     let numeral = numeral_ahead(text, at);

@@ -2,8 +2,8 @@
 
 ghost use Rattle.std.specs.Prelude.{◌≡◌, ◌≤◌, length, IfOk};
 ghost use Rattle.qm_formats.specs.Layout.{many};
-ghost use Rattle.qm_listing.specs.Grammar.{count_line, points_layout, leaf0_layout, leaf1_layout, coordinate_layout, corner_layout, portal_layout};
-ghost use Rattle.qm_prt.specs.Answers.{IsFault, Gives};
+ghost use Rattle.qm_listing.specs.Grammar.{count_line_layout, points_layout, leaf0_layout, leaf1_layout, coordinate_layout, corner_layout, portal_layout};
+ghost use Rattle.qm_prt.specs.Answers.{IsFaultOfListing, GivesOfListing};
 
 use crate::places::{byte_at, coordinate_at, count_at};
 use crate::prt_fault::PrtFault;
@@ -15,10 +15,10 @@ use std::alloc::Global;
 const FEWEST: u64 = 3;
 
 /// A count on a line of its own.
-#[tactic(auto, unfolding(qm_listing::specs::Grammar::count_line))]
+#[tactic(auto, unfolding(qm_listing::specs::Grammar::count_line_layout))]
 pub(crate) fn count_line_at(text: &[u8], at: usize) -> Result<(u64, usize), PrtFault>
     requires { at ≤ length text.now }
-    ensures gives { Gives (λ read. read.0) (λ read. read.1) result (count_line.read text.now at) }
+    ensures gives { GivesOfListing (λ read. read.0) (λ read. read.1) result (count_line_layout.read text.now at) }
     ensures within { IfOk result (λ read. read.1 ≤ length text.now) }
 {
     let (count, next) = count_at(text, at)?;
@@ -30,7 +30,7 @@ pub(crate) fn count_line_at(text: &[u8], at: usize) -> Result<(u64, usize), PrtF
 #[tactic(auto, unfolding(qm_listing::specs::Grammar::points_layout))]
 fn points_at(text: &[u8], at: usize) -> Result<(u64, usize), PrtFault>
     requires { at ≤ length text.now }
-    ensures gives { Gives (λ read. read.0) (λ read. read.1) result (points_layout.read text.now at) }
+    ensures gives { GivesOfListing (λ read. read.0) (λ read. read.1) result (points_layout.read text.now at) }
     ensures within { IfOk result (λ read. read.1 ≤ length text.now) }
 {
     let (points, next) = count_at(text, at)?;
@@ -45,7 +45,7 @@ fn points_at(text: &[u8], at: usize) -> Result<(u64, usize), PrtFault>
 #[tactic(auto, unfolding(qm_listing::specs::Grammar::leaf0_layout))]
 fn leaf0_at(text: &[u8], at: usize, leaves: u64) -> Result<(u64, usize), PrtFault>
     requires { at ≤ length text.now }
-    ensures gives { Gives (λ read. read.0) (λ read. read.1) result ((leaf0_layout leaves).read text.now at) }
+    ensures gives { GivesOfListing (λ read. read.0) (λ read. read.1) result ((leaf0_layout leaves).read text.now at) }
     ensures within { IfOk result (λ read. read.1 ≤ length text.now) }
 {
     let (leaf, next) = count_at(text, at)?;
@@ -60,7 +60,7 @@ fn leaf0_at(text: &[u8], at: usize, leaves: u64) -> Result<(u64, usize), PrtFaul
 #[tactic(auto, unfolding(qm_listing::specs::Grammar::leaf1_layout))]
 fn leaf1_at(text: &[u8], at: usize, leaves: u64, leaf0: u64) -> Result<(u64, usize), PrtFault>
     requires { at ≤ length text.now }
-    ensures gives { Gives (λ read. read.0) (λ read. read.1) result ((leaf1_layout leaves leaf0).read text.now at) }
+    ensures gives { GivesOfListing (λ read. read.0) (λ read. read.1) result ((leaf1_layout leaves leaf0).read text.now at) }
     ensures within { IfOk result (λ read. read.1 ≤ length text.now) }
 {
     let (leaf, next) = count_at(text, at)?;
@@ -75,7 +75,7 @@ fn leaf1_at(text: &[u8], at: usize, leaves: u64, leaf0: u64) -> Result<(u64, usi
 #[tactic(auto, unfolding(qm_listing::specs::Grammar::coordinate_layout))]
 fn spaced_coordinate_at(text: &[u8], at: usize) -> Result<(Coordinate, usize), PrtFault>
     requires { at ≤ length text.now }
-    ensures gives { Gives (λ read. read.0) (λ read. read.1) result (coordinate_layout.read text.now at) }
+    ensures gives { GivesOfListing (λ read. read.0) (λ read. read.1) result (coordinate_layout.read text.now at) }
     ensures within { IfOk result (λ read. read.1 ≤ length text.now) }
 {
     let (coordinate, next) = coordinate_at(text, at)?;
@@ -86,7 +86,7 @@ fn spaced_coordinate_at(text: &[u8], at: usize) -> Result<(Coordinate, usize), P
 /// Three coordinates.
 fn coordinates_at(text: &[u8], at: usize) -> Result<([Coordinate; 3], usize), PrtFault>
     requires { at ≤ length text.now }
-    ensures gives { Gives (λ read. read.0) (λ read. read.1) result ((many coordinate_layout 3).read text.now at) }
+    ensures gives { GivesOfListing (λ read. read.0) (λ read. read.1) result ((many coordinate_layout 3).read text.now at) }
     ensures within { IfOk result (λ read. read.1 ≤ length text.now) }
 {
     let (x, next) = spaced_coordinate_at(text, at)?;
@@ -99,7 +99,7 @@ fn coordinates_at(text: &[u8], at: usize) -> Result<([Coordinate; 3], usize), Pr
 #[tactic(auto, unfolding(qm_listing::specs::Grammar::corner_layout))]
 fn corner_at(text: &[u8], at: usize) -> Result<([Coordinate; 3], usize), PrtFault>
     requires { at ≤ length text.now }
-    ensures gives { Gives (λ read. read.0) (λ read. read.1) result (corner_layout.read text.now at) }
+    ensures gives { GivesOfListing (λ read. read.0) (λ read. read.1) result (corner_layout.read text.now at) }
     ensures within { IfOk result (λ read. read.1 ≤ length text.now) }
 {
     let next = byte_at(text, at, b'(')?;
@@ -117,7 +117,7 @@ fn corners_at(
     points: u64,
 ) -> Result<(Vec<[Coordinate; 3]>, usize), PrtFault>
     requires { at ≤ length text.now }
-    ensures gives { Gives (λ read. read.0.items) (λ read. read.1) result ((many corner_layout points).read text.now at) }
+    ensures gives { GivesOfListing (λ read. read.0.items) (λ read. read.1) result ((many corner_layout points).read text.now at) }
     ensures within { IfOk result (λ read. read.1 ≤ length text.now) }
 {
     let mut corners = Vec::new(alloc);
@@ -139,7 +139,7 @@ fn portal_at(
     leaves: u64,
 ) -> Result<(PrtPortal, usize), PrtFault>
     requires { at ≤ length text.now }
-    ensures gives { Gives (λ read. read.0) (λ read. read.1) result ((portal_layout leaves).read text.now at) }
+    ensures gives { GivesOfListing (λ read. read.0) (λ read. read.1) result ((portal_layout leaves).read text.now at) }
     ensures within { IfOk result (λ read. read.1 ≤ length text.now) }
 {
     let (points, next) = points_at(text, at)?;
@@ -164,7 +164,7 @@ pub(crate) fn portals_at(
     count: u64,
 ) -> Result<(Vec<PrtPortal>, usize), PrtFault>
     requires { at ≤ length text.now }
-    ensures gives { Gives (λ read. read.0.items) (λ read. read.1) result ((many (portal_layout leaves) count).read text.now at) }
+    ensures gives { GivesOfListing (λ read. read.0.items) (λ read. read.1) result ((many (portal_layout leaves) count).read text.now at) }
     ensures within { IfOk result (λ read. read.1 ≤ length text.now) }
 {
     let mut portals = Vec::new(alloc);

@@ -13,7 +13,7 @@ use Rattle.qm_segments.specs.Segment.{Segment}
 use Rattle.qm_segments.proofs.Betweenness.{between_turned, earlier_between, farther_between, between_in_front, behind_before}
 use Rattle.qm_separators.specs.Separator.{IsSeparatorFrom}
 use Rattle.qm_separators.specs.ChainState.{ChainState, IsChainState}
-use Rattle.qm_separators.specs.ChainStep.{IsCutByPlanes, IsCutToPass, LeadsTo, Blocks, target_behind, source_beyond, target_cut_away, source_cut_away}
+use Rattle.qm_separators.specs.ChainStep.{IsCutByPlanes, IsCutToPass, StepsTo, Blocks, target_behind, source_beyond, target_cut_away, source_cut_away}
 use Rattle.qm_separators.specs.Meets.{Meets}
 use Rattle.qm_separators.proofs.SeparatorLaw.{beyond_separator}
 
@@ -70,7 +70,7 @@ module _ (state : ChainState) (target : Winding) (into : Plane) (s : Segment) (x
       near_before = before met.at x y s.to pass narrowed.convex after state.pass valid.pass_convex met.last in_pass
 
   -- it meets the state to which the step leads
-  pub meets_next : (next : ChainState) → LeadsTo state target into next → Meets s y next
+  pub meets_next : (next : ChainState) → StepsTo state target into next → Meets s y next
   meets_next next leads = record {
     at = met.at;
     between = met.between;

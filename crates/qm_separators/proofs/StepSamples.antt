@@ -19,7 +19,7 @@ use Rattle.qm_segments.specs.Segment.{Segment}
 use Rattle.qm_segments.proofs.RoomSights.{at_value}
 use Rattle.qm_separators.specs.Separator.{IsSeparatorFrom}
 use Rattle.qm_separators.specs.ChainState.{ChainState, first_state, IsChainState}
-use Rattle.qm_separators.specs.ChainStep.{LeadsTo, Blocks, target_behind, target_cut_away}
+use Rattle.qm_separators.specs.ChainStep.{StepsTo, Blocks, target_behind, target_cut_away}
 use Rattle.qm_separators.specs.MayPass.{MayPass}
 use Rattle.qm_separators.specs.Meets.{Meets}
 use Rattle.qm_separators.proofs.Parts.{part_by_none, part_or_none}
@@ -60,7 +60,7 @@ through_two_is : IsChainState through_two
 through_two_is = record { source_convex = doorway_convex (pos 0); source_lies = λ p r. r.on; pass_convex = doorway_convex (pos 64) }
 
 -- nothing is cut away
-pub step_row : LeadsTo started (doorway (pos 64)) (at (pos 64)) through_two
+pub step_row : StepsTo started (doorway (pos 64)) (at (pos 64)) through_two
 step_row = record {
   near = doorway (pos 0);
   far = doorway (pos 64);
@@ -110,7 +110,7 @@ ahead_of_third = omega (arith, ints)
 third_may_pass : MayPass through_two (doorway (pos 128)) (at (pos 128))
 third_may_pass = may_pass through_two (doorway (pos 128)) (at (pos 128)) straight (spot (pos 64) (pos 0) (pos 0)) (spot (pos 128) (pos 0) (pos 0)) through_two_is (doorway_convex (pos 128)) (λ p r. r.on) met_row (in_doorway (pos 128)) ahead_of_third third_after
 
-pub goes_on_row : (next : ChainState) × LeadsTo through_two (doorway (pos 128)) (at (pos 128)) next
+pub goes_on_row : (next : ChainState) × StepsTo through_two (doorway (pos 128)) (at (pos 128)) next
 goes_on_row = ⊎_elim (λ leads. leads)
     (λ blocks. absurd (not_blocked through_two (doorway (pos 128)) (at (pos 128)) straight (spot (pos 64) (pos 0) (pos 0)) (spot (pos 128) (pos 0) (pos 0)) through_two_is (λ p r. r.on) met_row (in_doorway (pos 128)) ahead_of_third third_after blocks))
     (leads_on_or_blocks through_two (doorway (pos 128)) (at (pos 128)) through_two_is (doorway_convex (pos 128)))

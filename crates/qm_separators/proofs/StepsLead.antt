@@ -6,8 +6,8 @@ use Rattle.qm_contacts.specs.Portals.{Portal}
 use Rattle.qm_segments.specs.Steps.{LeadOnOrBlock}
 use Rattle.qm_separators.specs.Separator.{IsSeparatorFrom}
 use Rattle.qm_separators.specs.ChainState.{ChainState, IsChainState}
-use Rattle.qm_separators.specs.ChainStep.{IsCutByPlanes, LeadsTo, Blocks, target_behind, source_beyond, target_cut_away, source_cut_away}
-use Rattle.qm_separators.specs.PortalSteps.{BeginsWith, GoesOn, BlocksAt, AreConvexPortals}
+use Rattle.qm_separators.specs.ChainStep.{IsCutByPlanes, StepsTo, Blocks, target_behind, source_beyond, target_cut_away, source_cut_away}
+use Rattle.qm_separators.specs.PortalSteps.{BeginsWith, StepsThrough, BlocksAt, AreConvexPortals}
 use Rattle.qm_separators.proofs.ListedSeparators.{listed_from_pass}
 use Rattle.qm_separators.proofs.Parts.{part_or_none, part_by_listed}
 use Rattle.qm_separators.proofs.SameSteps.{leads_or_blocks}
@@ -15,7 +15,7 @@ use Rattle.qm_separators.proofs.PortalStepLaws.{open_chain_state, begins_all}
 
 module _ (state : ChainState) (target : Winding) (into : Plane) (valid : IsChainState state) (convex : IsConvex target) where
   abbrev LeadsOrBlocks : Type 0
-  LeadsOrBlocks = ((next : ChainState) × LeadsTo state target into next) ⊎ Blocks state target into
+  LeadsOrBlocks = ((next : ChainState) × StepsTo state target into next) ⊎ Blocks state target into
 
   -- once both are cut by the turned planes
   after_planes : (near far : Winding) → IsCutByPlanes state target into near far → LeadsOrBlocks
@@ -37,13 +37,13 @@ module _ (state : ChainState) (target : Winding) (into : Plane) (valid : IsChain
       (part_or_none target state.into convex)
 
   -- a step blocks exactly where it leads to no state
-  pub blocks_exactly : Blocks state target into ↔ ((next : ChainState) → LeadsTo state target into next → ⊥)
+  pub blocks_exactly : Blocks state target into ↔ ((next : ChainState) → StepsTo state target into next → ⊥)
   blocks_exactly = (
     (λ blocks next leads. leads_or_blocks state target into next valid leads blocks),
     (λ none. ⊎_elim (λ leads. absurd (none leads.0 leads.1)) (λ blocks. blocks) leads_on_or_blocks),
   )
 
-pub lead_on_or_block : (portals : List Portal) → AreConvexPortals portals → LeadOnOrBlock BeginsWith GoesOn BlocksAt portals
+pub lead_on_or_block : (portals : List Portal) → AreConvexPortals portals → LeadOnOrBlock BeginsWith StepsThrough BlocksAt portals
 lead_on_or_block portals convex = record {
   begin_all = begins_all portals convex;
   go_on = λ p chain state q is_open listed. leads_on_or_blocks state q.winding q.into (open_chain_state portals p chain state is_open) (convex q listed).0;

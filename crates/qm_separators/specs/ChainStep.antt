@@ -21,7 +21,7 @@ IsCutToPass state near far pass = IsPartBy pass far (IsSeparatorFrom state.pass 
 
 -- the step leads to the state: the fourth leaves of the source what is in front of the separators of portal and pass; the
 -- new source is what is left of the old one, and the new pass what is left of the portal
-pub record LeadsTo (state : ChainState) (target : Winding) (into : Plane) (next : ChainState) : Type 0 where
+pub record StepsTo (state : ChainState) (target : Winding) (into : Plane) (next : ChainState) : Type 0 where
   pub near : Winding
   pub far : Winding
   pub cut : IsCutByPlanes state target into near far

@@ -30,7 +30,7 @@ use Rattle.qm_solids.proofs.UniformCells.{contains_throughout}
 use Rattle.qm_solids.proofs.PlanesInCommon.{turned_lies_on, same_face}
 use Rattle.qm_solids.proofs.BookFaces.{stands_at, same_number}
 use Rattle.qm_split.specs.declared.piece.Piece.{Piece}
-use Rattle.qm_split.specs.Pieces.{IsPiece, HasPointOfFace, ArePieces, IsHeldWithin}
+use Rattle.qm_split.specs.Pieces.{IsPieceInCell, HasPointOfFace, ArePiecesInCell, IsHeldWithin}
 use Rattle.qm_split.specs.inner.PieceParts.{IsNumberedPiece}
 use Rattle.qm_split.specs.inner.FacePieces.{solid_behind, IsFacePoint, IsFacePiece, HasNoFacePoint, IsPieceOfFace, HasPieceOfFace, HasFacePieces, HasAllBehind}
 use Rattle.qm_split.proofs.ListedItems.{all_of_listed}
@@ -174,7 +174,7 @@ module _ (book : List Plane) (faces : List FaceRef) (contents : Contents) (plane
         (λ lies. apart (same_number book planes r.plane f.plane (within_book r listed) (within_book f among) r.out_is_front true lies));
   }
 
-  sound_piece : (p : Piece) → Contains ps p → IsPiece book [] solid p
+  sound_piece : (p : Piece) → Contains ps p → IsPieceInCell book [] solid p
   sound_piece p among =
       let e = are.each p among in
       let f = e.face in
@@ -207,8 +207,8 @@ module _ (book : List Plane) (faces : List FaceRef) (contents : Contents) (plane
       })
       (are.all r.0 r.1)
 
-  pub pieces_in_cube : ArePieces book [] solid ps
-  pieces_in_cube = record { sound = all_of_listed (IsPiece book [] solid) ps sound_piece; complete = complete_at_face }
+  pub pieces_in_cube : ArePiecesInCell book [] solid ps
+  pieces_in_cube = record { sound = all_of_listed (IsPieceInCell book [] solid) ps sound_piece; complete = complete_at_face }
 
 -- ---- what a full solid is to the cube
 
@@ -223,7 +223,7 @@ outward_reduced book faces planes numbered = all_of_listed IsReduced (outward_pl
         subst IsReduced r.2 (turned_is_reduced r.0.out_is_front (plane_at book r.0.plane) (planes.reduced r.0.plane (plane_at book r.0.plane) (stands_at book r.0.plane within)))
 
 -- a full solid without pieces contains the cube
-pub contains_cube : (book : List Plane) (solid : Solid) → IsFull solid → ArePieces book [] solid [] → ContainsCell solid []
+pub contains_cube : (book : List Plane) (solid : Solid) → IsFull solid → ArePiecesInCell book [] solid [] → ContainsCell solid []
 contains_cube book solid full are = contains_throughout solid [] (meets_no_face book [] solid are) full.within full.in_cube (All-nil (λ h. IsInFront h full.within)) full.inside
 
 -- a cuboid that has all of the cube behind the outward planes has what the solid holds of it

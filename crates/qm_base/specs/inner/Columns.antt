@@ -5,7 +5,7 @@ use Rattle.qm_bits.specs.Word.{has_bit}
 use Rattle.qm_base.specs.inner.Sweeping.{IsInLane}
 
 -- the row has all of so many places
-pub record IsFull (count : ℕ) (row : List Bool) : Type 0 where
+pub record IsFullRow (count : ℕ) (row : List Bool) : Type 0 where
   pub wide : length row ≡ count
   pub each : (place : ℕ) → place < count → IsIn row place
 

@@ -1,5 +1,5 @@
 use Rattle.std.proofs.Common.{rules, ◌≡◌, ◌^◌, ◌<ℤ◌, ◌∙◌, pos, ap, arith, lit≤, sym, subst}
-use Rattle.qm_geom.specs.Vectors.{IsWithin, vector_of, step_to, dot}
+use Rattle.qm_geom.specs.Vectors.{HasSmallComponents, vector_of, step_to, dot}
 use Rattle.qm_geom.specs.declared.vector.Vector.{Vector}
 use Rattle.qm_numbers.specs.Rounding.{IsRoundedUp}
 use Rattle.qm_geom.proofs.LeastDistances.{along_small, components_small, up_is_least}
@@ -8,13 +8,13 @@ use Rattle.qm_geom.proofs.corner.Corner.least_distance.Goals as goal
 
 pub along-requires : goal.along-requires
 along-requires c =
-    subst (λ (v : Vector). IsWithin v (2 ^ 26)) (sym c.of.ensures)
+    subst (λ (v : Vector). HasSmallComponents v (2 ^ 26)) (sym c.of.ensures)
     (components_small c.args.normal (c.requires.normal_small 0 (pos 0) (search rules)) (c.requires.normal_small 1 (pos 0) (search rules)) (c.requires.normal_small 2 (pos 0) (search rules)))
 
 pub rounded_up-requires : goal.rounded_up-requires
 rounded_up-requires c =
     let weight : pos 0 <ℤ c.args.self.now.w = rw (← c.self.view_is) c.self.invariant.weight in
-    let normal = subst (λ (v : Vector). IsWithin v (2 ^ 26)) (sym c.of.ensures)
+    let normal = subst (λ (v : Vector). HasSmallComponents v (2 ^ 26)) (sym c.of.ensures)
     (components_small c.args.normal (c.requires.normal_small 0 (pos 0) (search rules)) (c.requires.normal_small 1 (pos 0) (search rules)) (c.requires.normal_small 2 (pos 0) (search rules))) in
     let small = along_small c.of.result c.args.self.now normal c.requires.corner_small in
     let size = c.along.ensures.size in

@@ -1,5 +1,5 @@
 use Rattle.std.proofs.Common.{◌≡◌, ◌≤◌, ◌*◌, ◌^◌, ◌*ℤ◌, ◌∙◌, ℤ, ap₂, sym, subst, lit≤, unsigned_abs}
-use Rattle.qm_space.specs.CommonLine.{turning}
+use Rattle.qm_space.specs.CommonLine.{moment_about}
 use Rattle.qm_numbers.proofs.Kept.{factors_small, factors_answered, first_two_fit, three_fit, three_is, three_size}
 use Rattle.qm_geom.proofs.line.Line.turning.Goals as goal
 
@@ -36,10 +36,10 @@ overflow_add-result-2 c =
     three_fit c.times-of_x.result c.times-of_y.result c.times-of_z.result (2 ^ 124) c.times-of_x.ensures.size c.times-of_y.ensures.size c.times-of_z.ensures.size (lit≤ tt)
 
 pub returns-clause-exact : goal.returns-clause-exact
-unfolding turning
+unfolding moment_about
 returns-clause-exact c =
     three_is c.times-of_x.result c.times-of_y.result c.times-of_z.result (2 ^ 124) c.times-of_x.ensures.size c.times-of_y.ensures.size c.times-of_z.ensures.size (lit≤ tt)
-    ∙ cc (of_x_is c, of_y_is c, of_z_is c) ∙ ap₂ turning c.self.view_is c.other.view_is
+    ∙ cc (of_x_is c, of_y_is c, of_z_is c) ∙ ap₂ moment_about c.self.view_is c.other.view_is
 
 pub returns-clause-size : goal.returns-clause-size
 returns-clause-size c =
