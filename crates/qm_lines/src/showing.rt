@@ -140,7 +140,7 @@ fn aim_through<S: RowSource>(
 }
 
 /// Whether a line may lead through one portal and then another to a leaf: both rows have it, and that of the portal back
-/// through the other one has the leaf that the first portal leaves. Portals stand in pairs, one each way; nothing rests on that.
+/// through the other one has the leaf that the first portal leaves.
 fn may_lead<S: RowSource>(world: &World, source: &mut S, portal: u64, other: u64, leaf: u64) -> bool
     requires portal { portal < length world.now.portals }
     requires other { other < length world.now.portals }
@@ -154,10 +154,7 @@ fn may_lead<S: RowSource>(world: &World, source: &mut S, portal: u64, other: u64
     if !has_leaf(source, other, leaf) {
         return false;
     }
-    let back = other ^ 1;
-    if back >= world.portals() {
-        return true;
-    }
+    let back = world.back(other);
     has_leaf(source, back, world.from(portal))
 }
 

@@ -4,16 +4,6 @@ use Rattle.qm_lists.specs.WorkList.{IsIn}
 use Rattle.qm_bits.specs.Word.{has_bit}
 use Rattle.qm_base.specs.inner.Sweeping.{IsInLane}
 
--- the row has all of so many places
-pub record IsFullRow (count : ℕ) (row : List Bool) : Type 0 where
-  pub wide : length row ≡ count
-  pub each : (place : ℕ) → place < count → IsIn row place
-
--- the places before one are set
-pub record FullSoFar (count place : ℕ) (row : List Bool) : Type 0 where
-  pub wide : length row ≡ count
-  pub each : (k : ℕ) → k < place → IsIn row k
-
 -- the bits of the word are the bits at one place of some words
 abbrev pub IsGathered : List ℕ → ℕ → ℕ → Type 0
 IsGathered words bit word = (i : ℕ) → (has_bit word i ≡ true) ↔ IsInLane words bit i
