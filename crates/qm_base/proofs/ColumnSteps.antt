@@ -4,8 +4,8 @@ use Rattle.std.proofs.lemmas.Bool.{cases_eq, cases_lt}
 use Rattle.std.proofs.lemmas.Nat.{and_mask}
 use Rattle.std.proofs.lemmas.List.{length-replicate, get_or-replicate, get_or_past, get_or-take, get_or-drop}
 use Rattle.qm_lists.specs.WorkList.{IsIn}
-use Rattle.qm_bits.specs.Word.{has_bit, IsMasked}
-use Rattle.qm_bits.proofs.Bits.{has_bit-or, has_bit-zero}
+use Rattle.qm_lists.specs.Word.{has_bit, IsMasked}
+use Rattle.qm_lists.proofs.Bits.{has_bit-or, has_bit-zero}
 use Rattle.qm_base.specs.inner.Sweeping.{IsInLane, IsColumn}
 use Rattle.qm_base.specs.inner.Columns.{IsGathered, GatheredSoFar, ColumnSoFar}
 use Rattle.qm_base.specs.inner.Ways.{block_of}

@@ -6,8 +6,8 @@ use Rattle.std.proofs.lemmas.List.{length-set, length-replicate, get_or-set_same
 use Rattle.std.proofs.lemmas.List.Elements.{Contains-append_left, Contains-push, Contains-push_cases, Contains-get_or, All-from_get_or}
 use Rattle.std.proofs.lemmas.List.Sums.{sum_by-set, sum_by-le}
 use Rattle.std.proofs.lemmas.Option.{slice_get_within}
-use Rattle.qm_bits.specs.Word.{has_bit}
-use Rattle.qm_bits.proofs.Bits.{has_bit-zero, has_bit-and}
+use Rattle.qm_lists.specs.Word.{has_bit}
+use Rattle.qm_lists.proofs.Bits.{has_bit-zero, has_bit-and}
 use Rattle.qm_lists.specs.Reach.{Reach, start, onward}
 use Rattle.qm_lists.proofs.Cases.{both_yes}
 use Rattle.qm_lists.proofs.Reached.{least}

@@ -8,8 +8,8 @@ use Rattle.std.proofs.lemmas.Option.{slice_get-get_or, slice_get_within}
 use Rattle.qm_lists.specs.WorkList.{IsIn}
 use Rattle.qm_lists.proofs.Cases.{both_yes}
 use Rattle.qm_lists.proofs.Elements.{Contains-nil}
-use Rattle.qm_bits.specs.Word.{has_bit, IsWord}
-use Rattle.qm_bits.proofs.Bits.{has_bit-or, has_bit-and, has_bit-zero}
+use Rattle.qm_lists.specs.Word.{has_bit, IsWord}
+use Rattle.qm_lists.proofs.Bits.{has_bit-or, has_bit-and, has_bit-zero}
 use Rattle.qm_space.specs.Turned.{turned}
 use Rattle.qm_convex.specs.Sides.{HasCornerInFront, HasCornerBehind}
 use Rattle.qm_contacts.specs.Portals.{Portal}

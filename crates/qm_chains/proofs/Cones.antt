@@ -2,7 +2,7 @@
 use Rattle.std.proofs.Common.{◌≡◌, ◌⊎◌, inl, inr, ⊎_elim, ℕ, ◌+◌, ◌<◌, Bool, true, not, List, ◌∷◌, length, set, Contains, Option, Some, None, refl, sym, ◌∙◌, subst}
 use Rattle.std.specs.Prelude.{MatchOption}
 use Rattle.std.specs.List.{count_by}
-use Rattle.qm_bits.specs.Unseen.{HasUnseen}
+use Rattle.qm_lists.specs.Unseen.{HasUnseen}
 use Rattle.qm_lists.specs.WorkList.{IsIn}
 use Rattle.qm_lists.specs.Reach.{start, onward}
 use Rattle.qm_contacts.specs.OwnPortals.{HasOwnPortals}
@@ -15,7 +15,8 @@ use Rattle.qm_segments.specs.Route.{Route, arrived, over}
 use Rattle.qm_separators.specs.PortalSteps.{StepsThrough, LetsPass, MeetsState}
 use Rattle.qm_separators.proofs.ChainLaws.{route_on}
 use Rattle.qm_chains.specs.Shown.{IsAt}
-use Rattle.qm_chains.specs.inner.Cone.{IsInCone, IsCutTo, IsLeftOf, with_mask}
+use Rattle.qm_lists.specs.CutTo.{IsCutTo}
+use Rattle.qm_chains.specs.inner.Cone.{IsInCone, IsLeftOf, with_mask}
 use Rattle.qm_chains.specs.inner.Frame.{Frame, put_back, EndsChain, IsNextTo, IsAwaited}
 use Rattle.qm_chains.specs.inner.Narrowing.{IsNarrowed}
 use Rattle.qm_chains.specs.inner.Wanted.{IsWantedVia}

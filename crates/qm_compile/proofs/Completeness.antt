@@ -3,7 +3,7 @@ use Rattle.std.proofs.Common.{◌≡◌, ℕ, Bool, List, Ok, Err, Result, sym, 
 use Rattle.std.specs.Prelude.{IsTrue}
 use Rattle.std.specs.Option.{is_some}
 use Rattle.qm_shelf.specs.Counts.{Rose}
-use Rattle.qm_shelf.specs.Outside.{Surroundings}
+use Rattle.qm_shelf.specs.Surroundings.{Surroundings}
 use Rattle.qm_shelf.specs.ShelfState.{text_under}
 use Rattle.qm_mapfile.specs.declared.entity.MapFile.{MapFile}
 use Rattle.qm_grammar.specs.declared.fault.MapFault.{MapFault}

@@ -1,6 +1,6 @@
 use Rattle.std.specs.Prelude.{◌≡◌, ℕ, IsTrue, List, Some}
 use Rattle.qm_shelf.specs.Counts.{Rose}
-use Rattle.qm_shelf.specs.Outside.{Surroundings}
+use Rattle.qm_shelf.specs.Surroundings.{Surroundings}
 use Rattle.qm_shelf.specs.ShelfState.{text_under}
 use Rattle.qm_mapfile.specs.declared.entity.MapFile.{MapFile}
 use Rattle.qm_grammar.specs.Meaning.{IsMapText}
@@ -14,7 +14,7 @@ use Rattle.qm_compile.specs.Built.{IsBuilt}
 use Rattle.qm_compile.specs.Command.{FileNames, IsCommand}
 use Rattle.qm_compile.specs.CompiledMap.{NoneLeaks}
 
--- How a command ends that meets no fault of the outside.
+-- How a command ends that meets no fault of the surroundings.
 
 -- none of the counts of faults rose that the command can raise: those of reading MAP, of writing OUT and FILE and of
 -- printing

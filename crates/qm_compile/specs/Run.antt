@@ -1,5 +1,5 @@
 use Rattle.std.specs.Prelude.{ℕ, ◌⊎◌, List, []}
-use Rattle.qm_shelf.specs.Outside.{Surroundings}
+use Rattle.qm_shelf.specs.Surroundings.{Surroundings}
 use Rattle.qm_shelf.specs.Printing.{IsPrinted, IsPartlyPrinted, PrintedWithoutFault, FailedToPrint}
 use Rattle.qm_shelf.specs.ShelfState.{ShelfState}
 use Rattle.qm_shelf.specs.ShelfChanges.{IsKept, MetNoFault}
@@ -11,7 +11,7 @@ use Rattle.qm_compile.specs.Command.{FileNames, IsCommand, IsNoCommand}
 use Rattle.qm_compile.specs.ComesOf.{ComesOf, IsCutShort}
 use Rattle.qm_compile.specs.Texts.{usage_text}
 
--- What a run of the program does to the outside: to a shelf of named files and to a sink for printed text.
+-- What a run of the program does to its surroundings: to a shelf of named files and to a sink for printed text.
 
 -- what comes of the words: they are no command, and the shelf is as it was; or what comes of the command
 pub data Due (words : List (List ℕ)) (before after : ShelfState) : Status → List ℕ → Type 0 where
@@ -47,7 +47,7 @@ RunsOut words before after =
     (command : Command) × (files : FileNames) × IsCommand words command files
     × IsCutShort before.shelf after.shelf command files × IsPrinted before.sink after.sink []
 
--- what each answer of a run says of the outside before it and after it
+-- what each answer of a run says of the surroundings before it and after it
 unfoldable pub Answers : List (List ℕ) → Surroundings → Surroundings → Status → Type 0
 Answers words before after Done = Reports words before after Done
 Answers words before after Usage = Reports words before after Usage

@@ -1,6 +1,6 @@
 //! How the program ends over forms that never fail.
 
-ghost use Rattle.qm_shelf.specs.Outside.{surroundings};
+ghost use Rattle.qm_shelf.specs.Surroundings.{surroundings};
 ghost use Rattle.qm_compile.specs.declared.command.Command.{Command};
 ghost use Rattle.qm_compile.specs.Command.{FileNames, IsCommand, words_of};
 ghost use Rattle.qm_compile.specs.Complete.{CanEnd};

@@ -1,7 +1,7 @@
 //! All that the program does.
 
 ghost use Rattle.std.specs.Prelude.{IfOk, OnErr};
-ghost use Rattle.qm_shelf.specs.Outside.{surroundings};
+ghost use Rattle.qm_shelf.specs.Surroundings.{surroundings};
 ghost use Rattle.qm_shelf.specs.ShelfState.{shelf_state};
 ghost use Rattle.qm_compile.specs.declared.command.Command.{Command};
 ghost use Rattle.qm_compile.specs.Command.{FileNames, AreDifferent, IsCommand, names_of, words_of};

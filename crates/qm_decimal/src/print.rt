@@ -1,5 +1,5 @@
 ghost use Rattle.std.specs.Prelude.{◌≡◌, ◌^◌, ◌<◌, ◌≤◌, ◌++◌, ◌<ℤ◌, pos, int_lt, unsigned_abs, decimal, OnOk, OnErr};
-ghost use Rattle.qm_decimal.specs.Printed.{IsNearestMillionths, millionths, printed_fraction, shown_sign, with_six_decimals};
+ghost use Rattle.qm_numerals.specs.Printed.{IsNearestMillionths, millionths, printed_fraction, shown_sign, with_six_decimals};
 
 use crate::backward::Backward;
 use std::alloc::AllocError;

@@ -7,7 +7,8 @@ use Rattle.qm_contacts.specs.World.{World}
 use Rattle.qm_separators.specs.ChainState.{ChainState}
 use Rattle.qm_separators.specs.PortalSteps.{StepsThrough}
 use Rattle.qm_chains.specs.Shown.{IsAt}
-use Rattle.qm_chains.specs.inner.Cone.{IsInCone, IsCutTo}
+use Rattle.qm_lists.specs.CutTo.{IsCutTo}
+use Rattle.qm_chains.specs.inner.Cone.{IsInCone}
 use Rattle.qm_chains.specs.inner.Frame.{Frame}
 use Rattle.qm_chains.specs.inner.OwnRows.{CanHave}
 use Rattle.qm_chains.specs.inner.Pairs.{Pairs, IsPairRow, ArePairs}

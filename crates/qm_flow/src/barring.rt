@@ -52,6 +52,5 @@ fn is_unseen<S: RowSource>(world: &World, source: &mut S, first: u64, portal: u6
     ensures unseen { IsTrue result → IsUnseenVia world.now first portal }
     ensures on { S.goes_on source.old source.new }
 {
-    let back = world.back(portal);
-    !has_leaf(source, back, world.from(first))
+    !has_leaf(source, world.back(portal), world.from(first))
 }

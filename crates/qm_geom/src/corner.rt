@@ -5,11 +5,11 @@ ghost use Rattle.qm_space.specs.Point.{Point};
 ghost use Rattle.qm_space.specs.Plane.{value, IsOn};
 ghost use Rattle.qm_space.specs.Meet.{meet, HasMeetSizes};
 ghost use Rattle.qm_geom.specs.Corners.{numerator, with_positive_weight, MeetBeside, MeetOnlyIn};
-ghost use Rattle.qm_geom.specs.LeastDistance.{IsComponent};
-ghost use Rattle.qm_geom.specs.inner.LeastDistanceOf.{IsLeastDistanceOf};
+ghost use Rattle.qm_space.specs.LeastDistance.{IsComponent};
+ghost use Rattle.qm_space.specs.inner.LeastDistanceOf.{IsLeastDistanceOf};
 ghost use Rattle.qm_geom.specs.Vectors.{dot, step_to, HasSmallComponents};
 ghost use Rattle.qm_numbers.specs.Rounding.{IsNearest, IsRoundedDown, IsRoundedUp};
-ghost use Rattle.qm_geom.specs.Rounding.{AreCoordinatesBy, HasSmallCoordinates};
+ghost use Rattle.qm_space.specs.Coordinates.{AreCoordinatesBy, HasSmallCoordinates};
 
 use crate::meeting::Meeting;
 use crate::plane::Plane;

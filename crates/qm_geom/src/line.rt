@@ -60,10 +60,10 @@ impl Line {
     fn product(&self, other: &Line) -> i128
         ensures { result ≡ line_product self.now other.now }
     {
-        self.turning(other) + other.turning(self)
+        self.moment_about(other) + other.moment_about(self)
     }
 
-    fn turning(&self, other: &Line) -> i128
+    fn moment_about(&self, other: &Line) -> i128
         ensures exact { result ≡ moment_about self.now other.now }
         ensures size { unsigned_abs result ≤ 3 * 2 ^ 124 }
     {

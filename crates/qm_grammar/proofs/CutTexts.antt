@@ -5,10 +5,10 @@ use Rattle.std.proofs.lemmas.Bool.{lt-ltb, cases_lt}
 use Rattle.std.proofs.lemmas.List.{take_all, take-append-drop, take-append-le, length-take-le}
 use Rattle.std.proofs.lemmas.List.Elements.{All-head, All-tail}
 use Rattle.qm_lists.proofs.Cases.{by_result}
-use Rattle.qm_lex.specs.Lexeme.{Lexeme, line_ends}
-use Rattle.qm_lex.specs.Lexing.{Lexing, prepend}
-use Rattle.qm_lex.specs.inner.Modes.{Mode, between, mode_after, ended_by, read}
-use Rattle.qm_lex.proofs.LaterTokens.{EndsFrom, read_from}
+use Rattle.qm_tokens.specs.Lexeme.{Lexeme, line_ends}
+use Rattle.qm_tokens.specs.Lexing.{Lexing, prepend}
+use Rattle.qm_tokens.specs.inner.Modes.{Mode, between, mode_after, ended_by, read}
+use Rattle.qm_tokens.proofs.LaterTokens.{EndsFrom, read_from}
 use Rattle.qm_grammar.specs.declared.refusal.Refusal.{Refusal}
 use Rattle.qm_grammar.specs.declared.fault.MapFault.TheVariants as fault
 use Rattle.qm_mapfile.specs.declared.entity.MapFile.{MapFile}

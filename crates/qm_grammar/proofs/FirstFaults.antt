@@ -1,8 +1,8 @@
 -- Which tokens of a text are refused, and when a fault that stands is the first.
 use Rattle.std.proofs.Common.{◌≡◌, ℕ, ◌+◌, ◌<◌, ◌≤◌, List, [], length, map, Ok, Err, inl, inr, ⊎_elim, refl, ap, ap₂, arith, le_of_eq}
 use Rattle.std.proofs.lemmas.Bool.{cases_lt}
-use Rattle.qm_lex.specs.Lexeme.{Lexeme}
-use Rattle.qm_lex.specs.Lexing.{Lexing, IsLexingOf}
+use Rattle.qm_tokens.specs.Lexeme.{Lexeme}
+use Rattle.qm_tokens.specs.Lexing.{Lexing, IsLexingOf}
 use Rattle.qm_grammar.specs.declared.refusal.Refusal.{Refusal}
 use Rattle.qm_grammar.specs.declared.refusal.Refusal.TheVariants as refusal
 use Rattle.qm_grammar.specs.declared.fault.MapFault.{MapFault}

@@ -2,9 +2,9 @@
 use Rattle.std.proofs.Common.{◌≡◌, ◌≢◌, ℕ, ◌+◌, ◌<◌, ◌≤◌, Bool, true, false, ◌==◌, nat_lt, List, [], ◌∷◌, length, map, Option, Some, None, Result, Ok, Err, refl, sym, ap, subst, ◌∙◌, arith, if◌then◌else◌}
 use Rattle.std.proofs.lemmas.Bool.{ltb-true, ltb-false, eqb-true, both_ways, eq-eqb}
 use Rattle.std.proofs.lemmas.List.{nil_from_length}
-use Rattle.qm_lex.specs.Lexeme.{Lexeme}
-use Rattle.qm_lex.specs.Lexing.{Lexing, IsLexingOf}
-use Rattle.qm_lex.specs.inner.Modes.{between, read}
+use Rattle.qm_tokens.specs.Lexeme.{Lexeme}
+use Rattle.qm_tokens.specs.Lexing.{Lexing, IsLexingOf}
+use Rattle.qm_tokens.specs.inner.Modes.{between, read}
 use Rattle.qm_mapfile.specs.declared.entity.Entity.{Entity}
 use Rattle.qm_mapfile.specs.declared.entity.MapFile.{MapFile}
 use Rattle.qm_grammar.specs.declared.context.Context.TheVariants as context

@@ -2,10 +2,10 @@
 use Rattle.std.proofs.Common.{◌≡◌, ◌<◌, ℕ, ◌*◌, Bool, true, false, ℤ, pos, unsigned_abs, ltb, List, [], ◌∷◌, Option, Some, None, is_none, Result, Ok, Err, ap, refl, sym, subst, ◌∙◌}
 use Rattle.std.proofs.lemmas.Bool.{lt-ltb, ltb-true}
 use Rattle.qm_lists.proofs.Cases.{by_option}
-use Rattle.qm_decimal.specs.declared.fraction.Fraction.{Fraction}
-use Rattle.qm_decimal.specs.declared.fraction.NumberFault.{NumberFault}
-use Rattle.qm_decimal.specs.Answer.{IsAnswer}
-use Rattle.qm_decimal.specs.Computed.{read_at}
+use Rattle.qm_numerals.specs.declared.fraction.Fraction.{Fraction}
+use Rattle.qm_numerals.specs.declared.fraction.NumberFault.{NumberFault}
+use Rattle.qm_numerals.specs.Answer.{IsAnswer}
+use Rattle.qm_numerals.specs.Computed.{read_at}
 use Rattle.qm_space.specs.Bounds.{world_extent}
 use Rattle.qm_space.specs.Point.{Point}
 use Rattle.qm_grammar.specs.Words.{words_of_text}

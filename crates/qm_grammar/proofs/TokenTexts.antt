@@ -4,11 +4,11 @@ use Rattle.std.specs.Prelude.{All, IfSome}
 use Rattle.std.proofs.lemmas.List.{length-map}
 use Rattle.std.proofs.lemmas.List.Elements.{All-nil, All-cons, All-map, All-contains}
 use Rattle.qm_lists.proofs.Cases.{by_option}
-use Rattle.qm_lex.specs.declared.token.TokenKind.{TokenKind}
-use Rattle.qm_lex.specs.declared.token.TokenKind.TheVariants as kind
-use Rattle.qm_lex.specs.Lexeme.{Lexeme, line_ends}
-use Rattle.qm_lex.specs.Lexing.{Lexing, IsLexingOf, prepend, lexeme_at, lexing_from}
-use Rattle.qm_lex.specs.Piece.{TextPiece, blank, comment, word, quoted, unclosed, bytes_of_piece, OpensWord, IsTextPiece, ArePiecesOf}
+use Rattle.qm_tokens.specs.declared.token.TokenKind.{TokenKind}
+use Rattle.qm_tokens.specs.declared.token.TokenKind.TheVariants as kind
+use Rattle.qm_tokens.specs.Lexeme.{Lexeme, line_ends}
+use Rattle.qm_tokens.specs.Lexing.{Lexing, IsLexingOf, prepend, lexeme_at, lexing_from}
+use Rattle.qm_tokens.specs.Piece.{TextPiece, blank, comment, word, quoted, unclosed, bytes_of_piece, OpensWord, IsTextPiece, ArePiecesOf}
 use Rattle.qm_grammar.specs.declared.mark.Mark.{Mark}
 use Rattle.qm_grammar.specs.declared.mark.Sort.TheVariants as sort
 use Rattle.qm_grammar.specs.Symbol.{Symbol, symbol_of, mark_of, word_sort, sort_by_kind, sort_of}

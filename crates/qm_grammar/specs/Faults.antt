@@ -1,6 +1,6 @@
 use Rattle.std.specs.Prelude.{◌≡◌, ◌≢◌, ◌<◌, ◌≤◌, ◌⊎◌, ℕ, ◌+◌, List, [], ◌∷◌, ◌++◌, Some, None, length, map, take}
-use Rattle.qm_lex.specs.Lexeme.{Lexeme, quote_length, line_ends}
-use Rattle.qm_lex.specs.Lexing.{Lexing}
+use Rattle.qm_tokens.specs.Lexeme.{Lexeme, quote_length, line_ends}
+use Rattle.qm_tokens.specs.Lexing.{Lexing}
 use Rattle.qm_grammar.specs.declared.limit.TheConstants.{TEXT_LIMIT}
 use Rattle.qm_grammar.specs.declared.context.Context.TheVariants as context
 use Rattle.qm_grammar.specs.declared.refusal.Refusal.{Refusal}

@@ -9,11 +9,12 @@ use Rattle.std.proofs.lemmas.Fmt.{decimal-digits_value, digits_decimal, digits_v
 use Rattle.std.proofs.lemmas.List.{take_at, drop_at, take-append-drop, append-nil, length-append}
 use Rattle.std.proofs.lemmas.List.Folds.{list_all-append}
 use Rattle.std.proofs.lemmas.Str.Parse.{IsNumeralModel, numerals_by_value, tells_digits, digits_value_short, digit_from_value}
-use Rattle.qm_decimal.specs.Printed.{shown_sign, last_digits, with_six_decimals}
-use Rattle.qm_decimal.proofs.ByteTests.{digits_from_test, test_from_digits}
+use Rattle.qm_numerals.specs.Printed.{shown_sign, last_digits, with_six_decimals}
+use Rattle.qm_numerals.proofs.ByteTests.{digits_from_test, test_from_digits}
 use Rattle.qm_listing.specs.declared.listing.Coordinate.{Coordinate}
 use Rattle.qm_listing.specs.Numerals.{is_number_byte}
-use Rattle.qm_listing.specs.Numbers.{most_digits, is_count_numeral, count_of_numeral, counts, most_millionths, is_negative, with_sign, coordinate_numeral, is_coordinate, signed_coordinate, coordinate_of_parts, unsigned_coordinate, coordinate_of_numeral, coordinates}
+use Rattle.qm_numbers.specs.Sign.{is_negative}
+use Rattle.qm_listing.specs.Numbers.{most_digits, is_count_numeral, count_of_numeral, counts, most_millionths, with_sign, coordinate_numeral, is_coordinate, signed_coordinate, coordinate_of_parts, unsigned_coordinate, coordinate_of_numeral, coordinates}
 use Rattle.qm_listing.proofs.ExactNumerals.{IsSpelling}
 use Rattle.qm_listing.proofs.LastDigits.{last_of_value, last_digits-digits, last_digits-length, last_digits-value}
 

@@ -1,11 +1,11 @@
 -- How far the reading of a text has come, and what it then means.
 use Rattle.std.proofs.Common.{◌≡◌, ℕ, List, [], Option, Some, None, Ok, Err, ◌∙◌, ap}
-use Rattle.qm_lex.specs.Lexeme.{Lexeme}
-use Rattle.qm_lex.specs.Lexing.{Lexing, IsLexingOf, nothing, lexeme_then, unclosed_on}
-use Rattle.qm_lex.specs.inner.Modes.{between, read}
-use Rattle.qm_lex.specs.Reading.{Reading}
-use Rattle.qm_lex.proofs.Cutting.{pieces_of}
-use Rattle.qm_lex.proofs.PieceRuns.{read_pieces}
+use Rattle.qm_tokens.specs.Lexeme.{Lexeme}
+use Rattle.qm_tokens.specs.Lexing.{Lexing, IsLexingOf, nothing, lexeme_then, unclosed_on}
+use Rattle.qm_tokens.specs.inner.Modes.{between, read}
+use Rattle.qm_tokens.specs.Reading.{Reading}
+use Rattle.qm_tokens.proofs.Cutting.{pieces_of}
+use Rattle.qm_tokens.proofs.PieceRuns.{read_pieces}
 use Rattle.qm_grammar.specs.declared.refusal.Refusal.{Refusal}
 use Rattle.qm_grammar.specs.Symbol.{symbol_of}
 use Rattle.qm_grammar.specs.Prefix.{Prefix, between_entities}

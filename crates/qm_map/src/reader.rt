@@ -14,7 +14,7 @@ use crate::slots::{behind_bracket, behind_first, behind_word};
 use crate::sort::{is_same_mark, sort_of};
 use crate::stop::Stop;
 use qm_grammar::{Context, Mark, Refusal, Slot, Sort};
-use qm_lex::TokenKind;
+use qm_tokens::TokenKind;
 use qm_lists::Items;
 use qm_mapfile::{Brush, Entity, Face, MapFile, Pair, Text};
 use std::alloc::{AllocError, Global};

@@ -1,6 +1,6 @@
 ghost use Rattle.std.specs.Prelude.{◌≡◌, ◌≢◌, ◌≤◌, ◌+◌, length, None, Ok, Err, IfOk, IfErr, Result};
-ghost use Rattle.qm_lex.specs.Lexeme.{lexeme_of, quote_length};
-ghost use Rattle.qm_lex.specs.Lexing.{fault_line};
+ghost use Rattle.qm_tokens.specs.Lexeme.{lexeme_of, quote_length};
+ghost use Rattle.qm_tokens.specs.Lexing.{fault_line};
 ghost use Rattle.qm_mapfile.specs.declared.entity.MapFile.{MapFile};
 ghost use Rattle.qm_grammar.specs.declared.fault.MapFault.{MapFault};
 ghost use Rattle.qm_grammar.specs.Faults.{fault_of};
@@ -13,7 +13,8 @@ use crate::lines::{last_line, line_at};
 use crate::reader::Reader;
 use crate::stop::Stop;
 use qm_grammar::{Context, MapFault, Refusal, TEXT_LIMIT};
-use qm_lex::{LexFault, Lexer, Token, TokenKind};
+use qm_lex::Lexer;
+use qm_tokens::{LexFault, Token, TokenKind};
 use qm_mapfile::MapFile;
 use std::alloc::Global;
 

@@ -2,11 +2,11 @@
 use Rattle.std.proofs.Common.{◌≡◌, ◌≢◌, ◌<◌, ◌≤◌, ℕ, List, [], ◌∷◌, ◌++◌, None, refl, ap, append_assoc, map}
 use Rattle.std.specs.Prelude.{All}
 use Rattle.std.specs.List.{AllByRecursion}
-use Rattle.qm_lex.specs.declared.token.TokenKind.{TokenKind}
-use Rattle.qm_lex.specs.declared.token.TokenKind.TheVariants as kind
-use Rattle.qm_lex.specs.Lexing.{Lexing, lexing_from}
-use Rattle.qm_lex.specs.Piece.{TextPiece, blank, quoted, bytes_of_piece, OpensWord, ArePiecesOf}
-use Rattle.qm_lex.specs.Piece as piece
+use Rattle.qm_tokens.specs.declared.token.TokenKind.{TokenKind}
+use Rattle.qm_tokens.specs.declared.token.TokenKind.TheVariants as kind
+use Rattle.qm_tokens.specs.Lexing.{Lexing, lexing_from}
+use Rattle.qm_tokens.specs.Piece.{TextPiece, blank, quoted, bytes_of_piece, OpensWord, ArePiecesOf}
+use Rattle.qm_tokens.specs.Piece as piece
 use Rattle.qm_grammar.specs.Symbol.{Symbol, symbol_of}
 use Rattle.qm_mapout.specs.Lines.{spelled_as, spelling}
 

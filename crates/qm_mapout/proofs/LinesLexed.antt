@@ -3,8 +3,8 @@ use Rattle.std.proofs.Common.{◌≡◌, ℕ, List, [], ◌∷◌, ◌++◌, Non
 use Rattle.std.specs.List.{AllByRecursion}
 use Rattle.std.proofs.lemmas.List.Concat.{flat_map-cons}
 use Rattle.std.proofs.lemmas.List.{map-append}
-use Rattle.qm_lex.specs.Lexing.{Lexing, IsLexingOf, lexing_from}
-use Rattle.qm_lex.specs.Piece.{ArePiecesOf}
+use Rattle.qm_tokens.specs.Lexing.{Lexing, IsLexingOf, lexing_from}
+use Rattle.qm_tokens.specs.Piece.{ArePiecesOf}
 use Rattle.qm_grammar.specs.Symbol.{Symbol, symbol_of}
 use Rattle.qm_lists.proofs.Elements.{AllByRecursion-append, AllByRecursion-parts}
 use Rattle.qm_mapout.specs.Lines.{TokenLine, spelling, spaced, line_text, text_of_lines, symbols_of_line, symbols_of}

@@ -1,6 +1,6 @@
 use Rattle.std.specs.Prelude.{ℕ, List, [], ◌∷◌, ◌++◌, flat_map}
-use Rattle.qm_lex.specs.declared.token.TokenKind.{TokenKind}
-use Rattle.qm_lex.specs.declared.token.TokenKind.TheVariants as kind
+use Rattle.qm_tokens.specs.declared.token.TokenKind.{TokenKind}
+use Rattle.qm_tokens.specs.declared.token.TokenKind.TheVariants as kind
 use Rattle.qm_grammar.specs.Symbol.{Symbol}
 
 -- A text of lines: each has one token or more, parted by single spaces, and ends with the byte 10.

@@ -8,7 +8,7 @@ ghost use Rattle.qm_separators.specs.Separator.{IsSeparatorFrom};
 ghost use Rattle.qm_separators.specs.ChainState.{IsChainState};
 ghost use Rattle.qm_separators.specs.ChainStep.{StepsTo, Blocks};
 ghost use Rattle.qm_separators.specs.inner.Narrowed.{NarrowsTo, CutsAway};
-ghost use Rattle.qm_narrow.specs.inner.LastPoint.{EndsAt};
+ghost use Rattle.qm_narrow.specs.inner.LastCut.{EndsAt};
 
 use crate::chain_state::ChainState;
 use crate::narrowing::{kept, within};
@@ -91,7 +91,7 @@ fn after_far_cut(
     }
 }
 
-/// The last two points of a step that has left the source whole: the separators are those of the state.
+/// The last two cuts of a step that has left the source whole: the separators are those of the state.
 fn narrowed_whole(
     alloc: Global,
     buffers: &mut StepBuffers,
@@ -119,7 +119,7 @@ fn last_point_whole(
     last_point(alloc, buffers, state, near, pass)
 }
 
-/// The last two points of a step that has left a part of the source: the separators are those of this part.
+/// The last two cuts of a step that has left a part of the source: the separators are those of this part.
 fn narrowed_part(
     alloc: Global,
     buffers: &mut StepBuffers,
@@ -139,7 +139,7 @@ fn narrowed_part(
     }
 }
 
-/// The last point of a step, from what the others have left.
+/// The last cut of a step, from what the others have left.
 fn last_point(
     alloc: Global,
     buffers: &mut StepBuffers,

@@ -1,8 +1,8 @@
 //! Windings with what is wanted of their corners again and again.
 
 ghost use Rattle.std.specs.Prelude.{◌≡◌, ◌<◌, ◌≤◌, ◌^◌, pos, ◌<ℤ◌, [], ◌∷◌, length, IfOk, OnOk, IsTrue, ◌↔◌};
-ghost use Rattle.qm_geom.specs.LeastDistance.{IsLeastDistance};
-ghost use Rattle.qm_geom.specs.Rounding.{HasSmallCoordinates};
+ghost use Rattle.qm_space.specs.LeastDistance.{IsLeastDistance};
+ghost use Rattle.qm_space.specs.Coordinates.{HasSmallCoordinates};
 ghost use Rattle.qm_convex.specs.Winding.{corner_at, corners};
 ghost use Rattle.qm_convex.specs.World.{IsInWorld};
 ghost use Rattle.qm_convex.specs.Sides.{HasCornerBehind, HasCornerInFront};

@@ -14,8 +14,8 @@ use Rattle.qm_partition.specs.declared.node.Leaf.{Leaf}
 use Rattle.qm_partition.specs.Partition.{Partition, leaf, node}
 use Rattle.qm_partition.specs.Counting.{leaves_of, node_planes}
 use Rattle.qm_partition.specs.Ways.{Way, after_step, ways, cell_of_way, HasPoints}
-use Rattle.qm_partition.specs.Joining.{are_equal, joined_node, joined}
-use Rattle.qm_partition.proofs.JoinedLeaves.{are_equal-contents}
+use Rattle.qm_partition.specs.Joining.{have_same_contents, joined_node, joined}
+use Rattle.qm_partition.proofs.JoinedLeaves.{same_contents_equal}
 
 -- ---- one node
 
@@ -28,15 +28,15 @@ pub record AreOneLeaf (front back whole : Partition) : Type 0 where
   pub equal : b.contents ≡ a.contents
   pub whole_is : whole ≡ leaf a
 
-of_leaves : (n : ℕ) (a b : Leaf) (test : Bool) → are_equal a b ≡ test →
+of_leaves : (n : ℕ) (a b : Leaf) (test : Bool) → have_same_contents a b ≡ test →
     let whole : Partition = if test then leaf a else node n (leaf a) (leaf b) in
     AreOneLeaf (leaf a) (leaf b) whole ⊎ (whole ≡ node n (leaf a) (leaf b))
-of_leaves n a b true same = inl (record { a = a; b = b; front_is = refl; back_is = refl; equal = sym (are_equal-contents a b same); whole_is = refl })
+of_leaves n a b true same = inl (record { a = a; b = b; front_is = refl; back_is = refl; equal = sym (same_contents_equal a b same); whole_is = refl })
 of_leaves n a b false same = inr refl
 
 -- a node becomes a leaf, where its sides are leaves of equal contents, or stays
 pub joined_node_is : (n : ℕ) (front back : Partition) → AreOneLeaf front back (joined_node n front back) ⊎ (joined_node n front back ≡ node n front back)
-joined_node_is n (leaf a) (leaf b) = of_leaves n a b (are_equal a b) refl
+joined_node_is n (leaf a) (leaf b) = of_leaves n a b (have_same_contents a b) refl
 joined_node_is n (leaf a) (node m front back) = inr refl
 joined_node_is n (node m front back) behind = inr refl
 

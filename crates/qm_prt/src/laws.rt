@@ -2,7 +2,7 @@
 
 ghost use Rattle.std.specs.Prelude.{◌≡◌, ◌<◌, ℕ, ℤ, pos, int_lt, unsigned_abs, length, IsTrue};
 ghost use Rattle.qm_convex.specs.Winding.{Winding, next_place, corner_at, IsConvex};
-ghost use Rattle.qm_decimal.specs.Printed.{printed_fraction};
+ghost use Rattle.qm_numerals.specs.Printed.{printed_fraction};
 ghost use Rattle.qm_formats.specs.Exact.{IsExact};
 ghost use Rattle.qm_listing.specs.declared.listing.Listing.{Listing};
 ghost use Rattle.qm_listing.specs.Numbers.{coordinate_numeral};

@@ -1,7 +1,7 @@
 //! The parts of a listing's text, put behind bytes.
 
 ghost use Rattle.std.specs.Prelude.{◌≡◌, ◌++◌, ◌+◌, ◌%◌, ◌∷◌, [], flat_map, decimal, OnOk};
-ghost use Rattle.qm_decimal.specs.Printed.{last_digits};
+ghost use Rattle.qm_numerals.specs.Printed.{last_digits};
 ghost use Rattle.qm_listing.specs.Grammar.{first_line_layout, count_line_layout, coordinate_layout, corner_layout, portal_layout};
 
 use itoa::Buffer;

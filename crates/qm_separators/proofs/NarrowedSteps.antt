@@ -1,4 +1,4 @@
--- How a step is made: windings cut down plane by plane, and the last two points of a step after the first two.
+-- How a step is made: windings cut down plane by plane, and the last two cuts of a step after the first two.
 use Rattle.std.specs.Option.{MatchOption}
 use Rattle.std.proofs.Common.{List, [], ◌∷◌, ◌++◌, Contains, Option, Some, None, refl, subst, ◌∙◌, ⊎_elim}
 use Rattle.std.proofs.lemmas.List.Elements.{Contains-append_left, Contains-append_right, Contains-append_cases}
@@ -49,7 +49,7 @@ one_beyond v done g are front h there = ⊎_elim
     (λ last. ⊎_elim (λ same. subst (λ (k : Plane). HasCornerInFront v k) same front) (λ none. absurd (Contains-nil h none)) (Contains-cons_cases g h [] last))
     (Contains-append_cases done (g ∷ []) h there)
 
--- ---- the last two points
+-- ---- the last two cuts
 
 module _ (state : ChainState) (target : Winding) (into : Plane) (near far : Winding) (far_is : IsPartInFront far target state.into) (near_is : IsPartInFront near state.source (flipped into)) where
   cut : IsCutByPlanes state target into near far

@@ -127,7 +127,7 @@ leads_or_blocks state target into next valid leads blocks = leads_not_blocks sta
 
 -- ---- separators that are kept
 
--- where the first point of a step leaves the source whole, the separators of what it leaves are those of the source
+-- where the first cut of a step leaves the source whole, the separators of what it leaves are those of the source
 pub separators_kept : (state : ChainState) (near : Winding) (g : Plane) → IsChainState state → IsPartInFront near state.source g → IsWhollyInFront state.source g → (h : Plane) → IsSeparatorFrom state.pass state.source h ↔ IsSeparatorFrom state.pass near h
 separators_kept state near g valid is whole =
     separators_alike state.pass state.pass state.source near (pass_itself state.pass) valid.pass_convex valid.pass_convex valid.source_convex is.convex

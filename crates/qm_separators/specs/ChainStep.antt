@@ -7,7 +7,7 @@ use Rattle.qm_separators.specs.Separator.{IsSeparatorFrom}
 use Rattle.qm_separators.specs.Part.{IsPartBy, HasNoPartBy}
 use Rattle.qm_separators.specs.ChainState.{ChainState}
 
--- A step of a chain to a portal, given by its winding and its turned plane. It has four points, one after another; each
+-- A step of a chain to a portal, given by its winding and its turned plane. It has four cuts, one after another; each
 -- takes what those before it have left.
 
 -- the first two: of the portal what is in front of the source's turned plane, and of the source what is behind the portal's
@@ -31,7 +31,7 @@ pub record StepsTo (state : ChainState) (target : Winding) (into : Plane) (next 
   pub source : IsPartBy next.source near (IsSeparatorFrom state.pass pass)
   pub into_is : next.into ≡ state.into
 
--- the step blocks: at one of its points nothing is left
+-- the step blocks: at one of its cuts nothing is left
 pub data Blocks (state : ChainState) (target : Winding) (into : Plane) : Type 0 where
   target_behind : HasNoneInFront target state.into → Blocks state target into
   source_beyond : HasNoneInFront state.source (flipped into) → Blocks state target into

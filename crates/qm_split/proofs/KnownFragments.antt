@@ -11,7 +11,7 @@ use Rattle.qm_contents.specs.declared.contents.Contents.{Contents}
 use Rattle.qm_contents.specs.declared.contents.Contents.TheVariants.{Empty}
 use Rattle.qm_solids.specs.Solid.{Solid}
 use Rattle.qm_solids.specs.Cells.{ContainsCell, CellHasContents}
-use Rattle.qm_solids.specs.Candidates.{LiesOn, IsOnFace, IsOutdone, IsCandidate}
+use Rattle.qm_solids.specs.Candidates.{IsSamePlane, IsOnFace, IsOutdone, IsCandidate}
 use Rattle.qm_solids.specs.Least.{IsAxial, IsNumberedCandidate, ComesFirst, IsLeastCandidate}
 use Rattle.qm_solids.proofs.Insides.{behind_all}
 use Rattle.qm_solids.proofs.CellLaws.{holds_points_of_cell}
@@ -134,7 +134,7 @@ module _ (solids : List Solid) (book cell : List Plane) (fragments : Fragments) 
       c : IsCandidate solids cell h
       c = is.candidate
 
-      by_piece : (q : Contender) (p : Piece) → Contains contenders q → Contains q.body.value.pieces.items p → LiesOn c.face p.winding.value.plane → HasCandidate n h
+      by_piece : (q : Contender) (p : Piece) → Contains contenders q → Contains q.body.value.pieces.items p → IsSamePlane c.face p.winding.value.plane → HasCandidate n h
       by_piece q p among among_pieces lies =
           let piece = All-contains (IsPieceInCell book cell (solid_of_contender q)) q.body.value.pieces.items p (kept_one q among).contends.pieces.sound among_pieces in
           let number = one_number book n p.number h p.winding.value.plane are.book_planes is.numbered piece.numbered (lies_on_through h c.face p.winding.value.plane (lies_on_back c.face h c.lies_on) lies) in

@@ -15,7 +15,7 @@ use Rattle.qm_convex.specs.Cut.{IsPartInFront}
 use Rattle.qm_convex.proofs.Central.{has_a_point}
 use Rattle.qm_wind.specs.Split.{IsFrontOf}
 use Rattle.qm_solids.specs.Solid.{Solid}
-use Rattle.qm_solids.specs.Candidates.{LiesOn, IsOnFace}
+use Rattle.qm_solids.specs.Candidates.{IsSamePlane, IsOnFace}
 use Rattle.qm_solids.specs.Uniform.{MeetsNoFace}
 use Rattle.qm_split.specs.declared.piece.Piece.{Piece}
 use Rattle.qm_split.specs.Pieces.{IsPieceInCell, HasPointOfFace, ArePiecesInCell}
@@ -136,7 +136,7 @@ module _ (book cell : List Plane) (solid : Solid) (ps qs : List Piece) (g : Plan
     numbered = ap (slice_get book) part.number ∙ is.numbered ∙ ap (λ (h : Plane). Some h) (sym part.part.plane);
     face = is.face;
     has_face = is.has_face;
-    lies_on = subst (λ (h : Plane). LiesOn is.face h) (sym part.part.plane) is.lies_on;
+    lies_on = subst (λ (h : Plane). IsSamePlane is.face h) (sym part.part.plane) is.lies_on;
     convex = part.part.convex;
     reduced = subst IsReduced (sym part.part.plane) is.reduced;
     points = λ x. (
@@ -160,7 +160,7 @@ module _ (book cell : List Plane) (solid : Solid) (ps qs : List Piece) (g : Plan
       (λ goes. record {
         piece = goes.piece;
         listed = goes.listed;
-        lies_on = subst (λ (h : Plane). LiesOn face h) (sym goes.is.part.plane) found.lies_on;
+        lies_on = subst (λ (h : Plane). IsSamePlane face h) (sym goes.is.part.plane) found.lies_on;
         has = (goes.is.part.points x).1 (found.has, in_front_of_beyond x on.in_cell);
       })
       (front.all found.piece found.listed)

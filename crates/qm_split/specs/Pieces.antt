@@ -7,7 +7,7 @@ use Rattle.qm_space.specs.Cuboid.{Cuboid, IsInCuboid}
 use Rattle.qm_convex.specs.Winding.{IsInRegion, IsConvex}
 use Rattle.qm_solids.specs.Solid.{Solid}
 use Rattle.qm_solids.specs.Holding.{IsFull, Holds}
-use Rattle.qm_solids.specs.Candidates.{LiesOn, IsOnFace}
+use Rattle.qm_solids.specs.Candidates.{IsSamePlane, IsOnFace}
 use Rattle.qm_split.specs.declared.piece.Piece.{Piece}
 use Rattle.qm_split.specs.declared.contender.Contender.{Contender}
 use Rattle.qm_split.specs.inner.Ranked.{IsLesser}
@@ -23,7 +23,7 @@ pub record IsPieceInCell (book cell : List Plane) (solid : Solid) (piece : Piece
   pub numbered : slice_get book piece.number ≡ Some piece.winding.value.plane
   pub face : Plane
   pub has_face : Contains solid.outward face
-  pub lies_on : LiesOn face piece.winding.value.plane
+  pub lies_on : IsSamePlane face piece.winding.value.plane
   pub convex : IsConvex piece.winding.value
   pub reduced : IsReduced piece.winding.value.plane
   pub points : (x : Point) → IsInRegion piece.winding.value x ↔ IsOnFace solid cell piece.winding.value.plane x
@@ -32,7 +32,7 @@ pub record IsPieceInCell (book cell : List Plane) (solid : Solid) (piece : Piece
 pub record HasPointOfFace (face : Plane) (x : Point) (pieces : List Piece) : Type 0 where
   pub piece : Piece
   pub listed : Contains pieces piece
-  pub lies_on : LiesOn face piece.winding.value.plane
+  pub lies_on : IsSamePlane face piece.winding.value.plane
   pub has : IsInRegion piece.winding.value x
 
 -- the pieces are what the cell has of the solid's faces

@@ -5,7 +5,7 @@ ghost use Rattle.qm_space.specs.Reduced.{IsReduced};
 ghost use Rattle.qm_space.specs.Cuboid.{Cuboid};
 ghost use Rattle.qm_convex.specs.Winding.{IsConvex};
 ghost use Rattle.qm_split.specs.Pieces.{solid_of_contender, IsContender};
-ghost use Rattle.qm_split.specs.inner.Parts.{LiesInCell, IsPartIn, IsFoundPart, HasNoneBehind, IsAhead, IsNotAhead, HasAhead, part_count, IsShortened};
+ghost use Rattle.qm_split.specs.inner.Parts.{LiesInCell, IsPartIn, IsFoundPart, HasNoneBehind, KeepsOut, IsNotAhead, HasAhead, part_count, IsShortened};
 ghost use Rattle.qm_split.specs.inner.Ranked.{IsLesser, IsWindingOf};
 
 use crate::piece::{Piece, split_pieces};
@@ -261,7 +261,7 @@ fn has_surely_ahead(outward: &[Plane], section: &Winding, plane: &Plane) -> bool
 /// Whether some of a winding is in front of a face's plane, or the face's plane is the other one.
 fn is_ahead(face: &Plane, section: &Winding, plane: &Plane) -> bool
     ensures { IsConvex section.now →
-        MatchBool result (IsAhead section.now plane.now face.now) (IsNotAhead section.now plane.now face.now) }
+        MatchBool result (KeepsOut section.now plane.now face.now) (IsNotAhead section.now plane.now face.now) }
 {
     if *face == *plane {
         return true;

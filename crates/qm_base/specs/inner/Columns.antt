@@ -1,7 +1,7 @@
 -- How the rows of lanes are made of words for leaves.
 use Rattle.std.specs.Prelude.{◌≡◌, ℕ, ◌*◌, ◌<◌, ◌≤◌, ◌↔◌, true, Bool, List, length}
 use Rattle.qm_lists.specs.WorkList.{IsIn}
-use Rattle.qm_bits.specs.Word.{has_bit}
+use Rattle.qm_lists.specs.Word.{has_bit}
 use Rattle.qm_base.specs.inner.Sweeping.{IsInLane}
 
 -- the bits of the word are the bits at one place of some words

@@ -2,7 +2,7 @@
 use Rattle.std.specs.Prelude.{◌≡◌, ℕ, ◌<◌, ◌≤◌, ◌↔◌, ◌⊎◌, Bool, true, false, List, Some, sum, length, slice_get, slice_index_or, Contains}
 use Rattle.qm_lists.specs.Reach.{Reach}
 use Rattle.qm_lists.specs.WorkList.{IsIn}
-use Rattle.qm_bits.specs.Word.{has_bit}
+use Rattle.qm_lists.specs.Word.{has_bit}
 use Rattle.qm_contacts.specs.Portals.{Portal}
 use Rattle.qm_contacts.specs.World.{World}
 use Rattle.qm_base.specs.declared.lane.Lane.{Lane}

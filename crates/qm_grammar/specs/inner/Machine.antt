@@ -2,12 +2,12 @@
 -- next, or is refused.
 use Rattle.std.specs.Prelude.{ℕ, ◌*◌, ℤ, pos, neg_ℤ, unsigned_abs, int_le, nat_lt, ◌==◌, Bool, not, ◌&&◌, ◌||◌, if◌then◌else◌, List, [], ◌∷◌, ◌++◌, length, drop, Option, Some, None, is_none, option_and_then, Result, Ok, Err, bytes_eq}
 use Rattle.std.specs.Ordering.{int_eq}
-use Rattle.qm_decimal.specs.declared.fraction.Fraction.{Fraction}
-use Rattle.qm_decimal.specs.declared.fraction.NumberFault.{NumberFault}
-use Rattle.qm_decimal.specs.declared.fraction.NumberFault.TheVariants as number
-use Rattle.qm_decimal.specs.Computed.{read_at}
-use Rattle.qm_lex.specs.Lexeme.{Lexeme}
-use Rattle.qm_lex.specs.inner.Modes.{between, read}
+use Rattle.qm_numerals.specs.declared.fraction.Fraction.{Fraction}
+use Rattle.qm_numerals.specs.declared.fraction.NumberFault.{NumberFault}
+use Rattle.qm_numerals.specs.declared.fraction.NumberFault.TheVariants as number
+use Rattle.qm_numerals.specs.Computed.{read_at}
+use Rattle.qm_tokens.specs.Lexeme.{Lexeme}
+use Rattle.qm_tokens.specs.inner.Modes.{between, read}
 use Rattle.qm_space.specs.Point.{Point}
 use Rattle.qm_space.specs.Bounds.{world_extent, extent}
 use Rattle.qm_space.specs.Plane.{Plane}

@@ -5,7 +5,7 @@ use Rattle.qm_separators.specs.Part.{IsPartBy, HasNoPartBy}
 use Rattle.qm_separators.specs.ChainState.{ChainState}
 use Rattle.qm_separators.specs.ChainStep.{IsCutToPass}
 
--- The last two points of a step, from what the first two have left.
+-- The last two cuts of a step, from what the first two have left.
 
 -- they lead to the state
 pub record NarrowsTo (state : ChainState) (near far : Winding) (next : ChainState) : Type 0 where

@@ -47,8 +47,8 @@ abbrev pub HasNoneBehind : Contender → Plane → Type 0
 HasNoneBehind contender g = (p : Piece) → Contains contender.body.value.pieces.items p → HasNoneInFront p.winding.value (flipped g)
 
 -- the plane o, outward of a solid, shows that the winding w or what is in front of the plane g is not inside the solid
-abbrev pub IsAhead : Winding → Plane → Plane → Type 0
-IsAhead w g o = HasSomeInFront w o ⊎ (o ≡ g)
+abbrev pub KeepsOut : Winding → Plane → Plane → Type 0
+KeepsOut w g o = HasSomeInFront w o ⊎ (o ≡ g)
 
 abbrev pub IsNotAhead : Winding → Plane → Plane → Type 0
 IsNotAhead w g o = HasNoneInFront w o × (o ≢ g)
@@ -56,7 +56,7 @@ IsNotAhead w g o = HasNoneInFront w o × (o ≢ g)
 pub record HasAhead (outward : List Plane) (w : Winding) (g : Plane) : Type 0 where
   pub face : Plane
   pub has_face : Contains outward face
-  pub ahead : IsAhead w g face
+  pub ahead : KeepsOut w g face
 
 -- some piece lies in the plane
 pub record HasPieceIn (pieces : List Piece) (h : Plane) : Type 0 where

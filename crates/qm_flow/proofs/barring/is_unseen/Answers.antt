@@ -8,9 +8,9 @@ use Rattle.qm_flow.proofs.barring.is_unseen.Goals as goal
 pub returns-clause-unseen : goal.returns-clause-unseen
 returns-clause-unseen g c is =
     let world = c.args.world.now in
-    let back = c.back-back.result in
+    let back = c.back.result in
     let from = c.from.ensures.value in
-    unseen_via world c.args.first c.args.portal back from.0 from.1 c.back-back.ensures
+    unseen_via world c.args.first c.args.portal back from.0 from.1 c.back.ensures.back
     (λ seen.
     let at = subst (λ (w : World). IsInSightAt w back c.from.result) (sym c.requires.same_world) (subst (IsInSightAt world back) (sym from.2) seen) in
     let never : true ≡ false = sym (c.has_leaf.ensures.sound at.portal at.portal_is at.sight) ∙ not-true c.has_leaf.result is in

@@ -1,5 +1,4 @@
 use Rattle.std.proofs.Common.{◌∙◌}
-use Rattle.std.proofs.lemmas.Option.{slice_get_within}
 use Rattle.qm_lines.proofs.Asking.{asked_portal, asked_leaf}
 use Rattle.qm_lines.proofs.showing.may_lead.Goals as goal
 
@@ -34,7 +33,7 @@ has_leaf-requires-3 g c =
     let on = g.met.S.RowSource.goes_on_in_turn c.args.source.now c.has_leaf.new.source c.has_leaf-2.new.source c.has_leaf.ensures.on c.has_leaf-2.ensures.on in
     let same = g.met.S.RowSource.same_world c.args.source.now c.has_leaf-2.new.source on ∙ c.requires.same_world in
     record {
-      portal = asked_portal c.args.world.now answered same c.back-back.result (slice_get_within c.args.world.now.portals c.back-back.result _ c.back-back.ensures.again_is);
+      portal = asked_portal c.args.world.now answered same c.back.result c.back.ensures.within;
       leaf = asked_leaf c.args.world.now answered same c.from.result c.from.ensures.within;
     }
 

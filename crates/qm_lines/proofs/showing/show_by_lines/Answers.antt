@@ -7,8 +7,8 @@ use Rattle.qm_lines.proofs.showing.show_by_lines.Goals as goal
 pub pane-requires : goal.pane-requires
 pane-requires g c = c.requires.portal
 
-pub returns-in_err-spots : goal.returns-in_err-spots
-returns-in_err-spots g c = record {
+pub returns-in_err-anchors : goal.returns-in_err-anchors
+returns-in_err-anchors g c = record {
   shown = gains_none c.args.world.now.portals (IsInCeiling (g.S.RowSource.ceilings c.args.source.now)) c.args.portal c.args.row.now;
   on = g.met.S.RowSource.goes_on_itself c.args.source.now;
 }

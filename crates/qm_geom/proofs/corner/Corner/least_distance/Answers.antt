@@ -2,7 +2,7 @@ use Rattle.std.proofs.Common.{rules, ◌≡◌, ◌^◌, ◌<ℤ◌, ◌∙◌, 
 use Rattle.qm_geom.specs.Vectors.{HasSmallComponents, vector_of, step_to, dot}
 use Rattle.qm_geom.specs.declared.vector.Vector.{Vector}
 use Rattle.qm_numbers.specs.Rounding.{IsRoundedUp}
-use Rattle.qm_geom.proofs.LeastDistances.{along_small, components_small, up_is_least}
+use Rattle.qm_geom.proofs.LeastDistances.{along_small, components_small, dot_up_is_least}
 use Rattle.qm_numbers.proofs.Bits.{kept_128, kept_64}
 use Rattle.qm_geom.proofs.corner.Corner.least_distance.Goals as goal
 
@@ -27,4 +27,4 @@ returns c =
     let along : c.along.result ≡ dot (vector_of c.args.normal) (step_to c.args.self.now) = c.along.ensures.exact ∙ ap (λ v. dot v (step_to c.args.self.now)) c.of.ensures in
     let up : IsRoundedUp (dot (vector_of c.args.normal) (step_to c.args.self.now)) c.args.self.now.w c.rounded_up.result =
     rw (kept_128 c.along.result _ c.along.ensures.size (lit≤ tt), kept_128 c.self.inside.w _ c.self.invariant.sizes.w_small (lit≤ tt), along, ap (λ p. p.w) c.self.view_is) at c.rounded_up.ensures.exact in
-    rw (kept_64 c.rounded_up.result _ c.rounded_up.ensures.size (lit≤ tt)) (up_is_least c.args.normal c.args.self.now c.rounded_up.result weight up)
+    rw (kept_64 c.rounded_up.result _ c.rounded_up.ensures.size (lit≤ tt)) (dot_up_is_least c.args.normal c.args.self.now c.rounded_up.result weight up)
