@@ -7,9 +7,21 @@ use Rattle.qm_lists.specs.WorkList.{IsIn}
 use Rattle.qm_lists.specs.Word.{has_bit, IsMasked}
 use Rattle.qm_lists.proofs.Bits.{has_bit-or, has_bit-zero}
 use Rattle.qm_base.specs.inner.Sweeping.{IsInLane, IsColumn}
-use Rattle.qm_base.specs.inner.Columns.{IsGathered, GatheredSoFar, ColumnSoFar}
+use Rattle.qm_base.specs.inner.Columns.{IsGathered}
 use Rattle.qm_base.specs.inner.Ways.{block_of}
 use Rattle.qm_base.proofs.Words.{or_true, one_bit}
+
+-- ---- how far loops have come
+
+-- the bits of the word are the bits at one place of the words before one
+abbrev pub GatheredSoFar : List ℕ → ℕ → ℕ → ℕ → Type 0
+GatheredSoFar words bit count word = (i : ℕ) → (has_bit word i ≡ true) ↔ ((i < count) × IsInLane words bit i)
+
+-- the places of the first words of a row are those of a column, and all others are set
+pub record ColumnSoFar (words : List ℕ) (bit k : ℕ) (row : List Bool) : Type 0 where
+  pub wide : length row ≡ length words
+  pub done : (leaf : ℕ) → leaf < 64 * k → leaf < length words → IsIn row leaf ↔ IsInLane words bit leaf
+  pub left : (leaf : ℕ) → 64 * k ≤ leaf → leaf < length words → IsIn row leaf
 
 -- ---- the bits of a word
 

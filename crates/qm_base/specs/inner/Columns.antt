@@ -7,13 +7,3 @@ use Rattle.qm_base.specs.inner.Sweeping.{IsInLane}
 -- the bits of the word are the bits at one place of some words
 abbrev pub IsGathered : List ℕ → ℕ → ℕ → Type 0
 IsGathered words bit word = (i : ℕ) → (has_bit word i ≡ true) ↔ IsInLane words bit i
-
--- of the words before one
-abbrev pub GatheredSoFar : List ℕ → ℕ → ℕ → ℕ → Type 0
-GatheredSoFar words bit count word = (i : ℕ) → (has_bit word i ≡ true) ↔ ((i < count) × IsInLane words bit i)
-
--- the places of the first words of a row are those of a column, and all others are set
-pub record ColumnSoFar (words : List ℕ) (bit k : ℕ) (row : List Bool) : Type 0 where
-  pub wide : length row ≡ length words
-  pub done : (leaf : ℕ) → leaf < 64 * k → leaf < length words → IsIn row leaf ↔ IsInLane words bit leaf
-  pub left : (leaf : ℕ) → 64 * k ≤ leaf → leaf < length words → IsIn row leaf
