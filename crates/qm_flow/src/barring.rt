@@ -8,7 +8,7 @@ ghost use Rattle.qm_flow.specs.inner.UnseenVia.{IsUnseenVia};
 use crate::own_rows::Place;
 use crate::pairs::Pairs;
 use qm_portal::World;
-use qm_sight::{has_leaf, RowSource};
+use qm_sight::{RowSource, has_leaf};
 
 /// Bars each portal that leaves a leaf which may be in sight of the first, and via which nothing is seen. It takes no memory.
 pub(crate) fn bar_unseen<S: RowSource>(world: &World, source: &mut S, pairs: &mut Pairs)

@@ -15,7 +15,7 @@ use crate::reading::all_have_leaf;
 use crate::trace::Trace;
 use qm_bits::BitRow;
 use qm_portal::World;
-use qm_sight::{has_leaf, RowSource};
+use qm_sight::{RowSource, has_leaf};
 use std::alloc::AllocError;
 
 /// The portal that is next on a line, and where the line goes through it.

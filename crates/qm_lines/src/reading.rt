@@ -5,7 +5,7 @@ ghost use Rattle.qm_lists.specs.WorkList.{IsIn};
 ghost use Rattle.qm_contacts.specs.NumberedLeaves.{numbered_leaves};
 ghost use Rattle.qm_sight.specs.InCeiling.{IsInCeiling};
 
-use qm_sight::{has_leaf, RowSource};
+use qm_sight::{RowSource, has_leaf};
 
 /// Whether the rows of some portals all have a leaf.
 pub(crate) fn all_have_leaf<S: RowSource>(source: &mut S, portals: &[u64], leaf: u64) -> bool

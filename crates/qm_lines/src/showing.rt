@@ -7,7 +7,7 @@ ghost use Rattle.qm_sight.specs.InCeiling.{IsInCeiling};
 ghost use Rattle.qm_lines.specs.Gained.{HasGainedShown};
 ghost use Rattle.qm_lines.specs.inner.Drawing.{MayDraw, HasDrawn};
 
-use crate::aiming::{line_through, anchor_at, anchors_of};
+use crate::aiming::{anchor_at, anchors_of, line_through};
 use crate::crossing::crossing_of;
 use crate::first_portal::FirstPortal;
 use crate::following::follow;
@@ -15,7 +15,7 @@ use crate::line::Line;
 use crate::trace::Trace;
 use qm_bits::BitRow;
 use qm_portal::World;
-use qm_sight::{has_leaf, RowSource};
+use qm_sight::{RowSource, has_leaf};
 use qm_wind::Winding;
 use std::alloc::{AllocError, Global};
 
