@@ -3,7 +3,7 @@ use Rattle.qm_lists.specs.Word.{has_bit}
 use Rattle.qm_lists.proofs.Bits.{has_bit-and}
 use Rattle.qm_contacts.specs.World.{World}
 use Rattle.qm_sight.specs.WordInSight.{LacksNoneInSight}
-use Rattle.row_tests.proofs.two_rows.TwoRowsRowSource.word.Goals as goal
+use Rattle.sight_tests.proofs.two_rows.TwoRowsRowSource.word.Goals as goal
 
 first_set : (a b : Bool) → (a && b) ≡ true → a ≡ true
 first_set true b set = refl

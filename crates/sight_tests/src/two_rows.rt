@@ -1,7 +1,7 @@
 ghost use Rattle.std.specs.Prelude.{◌≡◌};
 ghost use Rattle.std.specs.Coded.{codes};
 ghost use Rattle.qm_partition.specs.inner.TreeCode.{tree_code};
-ghost use Rattle.row_tests.specs.inner.SameRows.{AreSameRows, itself, in_turn, one_world, none_narrower};
+ghost use Rattle.sight_tests.specs.inner.SameRows.{AreSameRows, itself, in_turn, one_world, none_narrower};
 
 use qm_sight::{RowSource, Rows};
 use test_numbers::Random;

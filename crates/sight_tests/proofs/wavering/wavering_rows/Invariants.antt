@@ -1,5 +1,5 @@
 use Rattle.std.proofs.Common.{◌≡◌}
-use Rattle.row_tests.proofs.wavering.wavering_rows.Given as goal
+use Rattle.sight_tests.proofs.wavering.wavering_rows.Given as goal
 
 -- the source is over this world
 abbrev pub invariant-loop-portal : goal.invariant-loop-portal
