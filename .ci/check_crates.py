@@ -56,7 +56,7 @@ def all_below(name, known):
 def faults():
     known, table = crates(), list(rows())
     kinds = {name: cells[2] for name, cells in table if len(cells) == len(HEAD)}
-    code = {name for name, kind in kinds.items() if kind not in ("definitions", "lemma library")}
+    code = {name for name, kind in kinds.items() if kind not in WITHOUT_CODE}
     for name in sorted({name for name, _ in table} - set(known)):
         yield f"the table has a row for {name}, which crates.txt does not list"
     for name in known:
