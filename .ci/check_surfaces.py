@@ -6,7 +6,7 @@
 Each face of each leaf is found anew, plane by plane, and cut where the leaves beyond it end. What a face of a solid leaf has
 before a leaf that is not solid is filled once by the surfaces of that leaf there, and all surfaces before solid leaves have
 no more area than this. What a leaf that is not solid has of other contents beyond each of its faces is filled by its surfaces
-of these contents, and no surface lies elsewhere."""
+of these contents, and no surface lies elsewhere. And the leaves of other contents that it is said to touch are those it touches."""
 
 from collections import defaultdict
 from pathlib import Path
@@ -93,11 +93,13 @@ def by_place(seen):
 
 
 def faults(tree):
-    found, due, due_of_solid, given_to_solid = by_place(surfaces.seen(tree)), defaultdict(int), 0, 0
+    seen, due, due_of_solid, given_to_solid = surfaces.seen(tree), defaultdict(int), 0, 0
+    found, touched = by_place(seen), defaultdict(set)
     for leaf, other, plane, piece in contacts(tree, Cells(tree)):
         one, two = tree.leaves[leaf], tree.leaves[other]
         if one.number is not None and one.contents != two.contents:
             due[leaf, plane, two.contents] += area(piece)
+            touched[leaf] |= {other} if two.number is not None else set()
         if one.number is None and two.number is not None:
             polygons = found[other, turned(plane, False), "solid"]
             if sum(overlap(piece, polygon) for polygon in polygons) != area(piece):
@@ -108,6 +110,9 @@ def faults(tree):
         if given != due[place]:
             yield f"leaf {place[0]} has surfaces of the area {given} before {place[2]} on the plane {place[1]}, and a border of {due[place]}"
         given_to_solid += given if place[2] == "solid" else 0
+    for leaf, what in seen.items():
+        if what.touched != touched[leaf]:
+            yield f"leaf {leaf} is said to touch {sorted(what.touched)}, and touches {sorted(touched[leaf])}"
     if given_to_solid != due_of_solid:
         yield f"surfaces before solid leaves have the area {given_to_solid}, and the borders {due_of_solid}"
     if not due:

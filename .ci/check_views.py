@@ -5,9 +5,11 @@
 
 Of each tree, from some places: what the picture has along each of many rays is what a slow painter finds who looks at every
 surface, and sorts by depth. And along many more rays, which begin in leaves and end where contents change: each leaf that is
-passed is in the row of the first, where the tree has rows, and the last has one surface there, before what comes next."""
+passed is in the row of the first, where the tree has rows, and the last has one surface there, before what comes next. That is
+drawn too, by the row of the first, where it is not solid."""
 
 from fractions import Fraction
+from functools import lru_cache
 from operator import mul
 from pathlib import Path
 import random
@@ -151,7 +153,7 @@ def passed(tree, place, way):
             waiting += [(far, cut, high, last), (near, low, cut, child)]
 
 
-def faults_of_ray(tree, seen, leaf, place, way):
+def faults_of_ray(tree, seen, held, leaf, place, way):
     """What is wrong along a ray that begins in a leaf, if rounding has not moved its place, and ends where contents change; and at
     last None where all of it was held to the tree."""
     row = None if tree.rows is None else set(tree.row(tree.leaves[leaf].number))
@@ -164,6 +166,8 @@ def faults_of_ray(tree, seen, leaf, place, way):
             return
         if tree.leaves[other].contents != own:
             yield from faults_of_end(tree, seen[before], tree.leaves[other].contents, node, place, way)
+            if row is not None and tree.leaves[other].number is not None and other not in held(leaf):
+                yield f"by the row of leaf {leaf} leaf {other} is not drawn, which is seen along {way} from {place}"
             break
         if row is not None and tree.leaves[other].number not in row:
             middle = tuple(number + (high + (at or 0)) / 2 * part for number, part in zip(corners.point(place), way))
@@ -206,17 +210,18 @@ def faults(tree, rng):
 
 def faults_through(tree, seen, rng):
     """What is wrong along rays from leaf to leaf."""
-    numbered, held = sorted(seen), 0
+    numbered, whole = sorted(seen), 0
+    held = lru_cache(None)(lambda leaf: surfaces.held(tree, seen, leaf))
     for _ in range(THROUGH):
         leaf = rng.choice(numbered)
         place = corners.corner(point_inside(seen[leaf].faces, rng))
         way = tuple(rng.randrange(1, FINE) * rng.choice((-1, 1)) for _ in range(3))
-        for fault in faults_of_ray(tree, seen, leaf, place, way):
-            held += fault is None
+        for fault in faults_of_ray(tree, seen, held, leaf, place, way):
+            whole += fault is None
             if fault:
                 yield fault
-    if held < THROUGH * 9 // 10:
-        yield f"only {held} rays of {THROUGH} meet no rim"
+    if whole < THROUGH * 9 // 10:
+        yield f"only {whole} rays of {THROUGH} meet no rim"
 
 
 def main():

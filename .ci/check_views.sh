@@ -33,13 +33,20 @@ draws_what_a_row_holds() {
     looked && [[ $(grep -c 'class="surface"' "$folder/printed") -lt $(grep -c 'class="surface"' "$folder/whole") ]]
 }
 
+# from above, and from inside
 draws_each_kind_in_its_colour() {
-    local kind
-    for kind in water:3570b4 slime:608a28 lava:ce5818; do
-        look picture "${kind%:*}.tree" --from 392,-176,110 --to 60,60,50
-        looked && grep -q "fill=\"#${kind#*:}\" fill-opacity" "$folder/printed" || return 1
-        [[ $(grep -c '>sky</text>' "$folder/printed") == 1 && $(grep -c ">${kind%:*}</text>" "$folder/printed") == 1 ]] || return 1
-    done
+    local kind above below
+    while read -r kind above below; do
+        look picture "$kind.tree" --from 392,-176,110 --to 60,60,50
+        looked && grep -q "fill=\"#$above\" fill-opacity" "$folder/printed" || return 1
+        [[ $(grep -c '>sky</text>' "$folder/printed") == 1 && $(grep -c ">$kind</text>" "$folder/printed") == 1 ]] || return 1
+        look picture "$kind.tree" --from 160,-40,20 --to 160,-40,60
+        looked && grep -q "fill=\"#$below\" fill-opacity" "$folder/printed" || return 1
+    done <<'END'
+water 3570b4 20446e
+slime 608a28 3a5419
+lava ce5818 7d360f
+END
 }
 
 fills_the_borders_of_solid_leaves() {
