@@ -21,7 +21,7 @@ refused() { # refused LINE
 
 compiles_the_samples() {
     local name
-    for name in cube rooms courtyard; do
+    for name in cube room rooms courtyard; do
         run_program compile $name.map $name.tree
         [[ $status == 0 ]] || return 1
     done

@@ -4,14 +4,21 @@ import argparse
 from fractions import Fraction
 import json
 import os
+import re
 import sys
 
+from bodies import largest
 from cells import Cells, NoContact
+from eyes import Eye
 import listing
+import origins
+import page
+import picture
 import plan
 from points import leak_line, printed
 from polygons import BOUND
 import slices
+import surfaces
 import treefile
 
 
@@ -29,6 +36,18 @@ def words_of(parser, words):
     plan_words.add_argument("--prt", metavar="FILE", help="shows the portals of a listing")
     points_words = command(commands, "points", "the line of a leak, as a point file for editors")
     points_words.add_argument("--leak", metavar="TRAIL", type=trail, required=True, help="the same")
+    view_words = command(commands, "view", "a page in which one walks through the level, for a browser")
+    begins = view_words.add_mutually_exclusive_group()
+    begins.add_argument("--at", metavar="X,Y,Z", type=place, help="where one begins")
+    begins.add_argument("--map", metavar="MAP", help="begins at its first entity that does not stand in solid")
+    view_words.add_argument("--leak", metavar="TRAIL", type=trail, help="has the line of a leak")
+    view_words.add_argument("--prt", metavar="FILE", help="has the portals of a listing")
+    picture_words = command(commands, "picture", "a view from a place, as an SVG picture")
+    picture_words.add_argument("--from", metavar="X,Y,Z", type=place, required=True, dest="eye", help="where one stands")
+    picture_words.add_argument("--to", metavar="X,Y,Z", type=place, required=True, dest="aim", help="where one looks")
+    picture_words.add_argument("--row", metavar="X,Y,Z", type=place, nargs="?", const=True,
+                               help="shows what the row of the leaf there holds; without a place, of one's own leaf")
+    picture_words.add_argument("--leak", metavar="TRAIL", type=trail, help="has the line of a leak")
     command(commands, "json", "planes, nodes, leaves and rows, for other programs")
     return parser.parse_args(words)
 
@@ -58,6 +77,25 @@ def number(word):
     return int(word)
 
 
+def place(words):
+    """Three numbers parted by commas: a point strictly inside the cube."""
+    numbers = tuple(height(word) for word in words.split(","))
+    if len(numbers) != 3:
+        raise ValueError
+    return numbers
+
+
+def with_places(words):
+    """The words of a command line, where a place that begins with a hyphen is joined to the word before it."""
+    joined = []
+    for word in words:
+        if re.match(r"-[\d.]", word) and "," in word and joined and joined[-1] in ("--at", "--from", "--to", "--row"):
+            joined[-1] += "=" + word
+        else:
+            joined.append(word)
+    return joined
+
+
 def trail(words):
     """The numbers of a trail, with or without the `trail: ` before them."""
     numbers = [number(word) for word in words.removeprefix("trail:").split()]
@@ -74,14 +112,14 @@ def plan_of(words):
     line = leak_line(Cells(tree), words.leak) if words.leak else None
     z = words.z if words.z is not None else height_of(tree, line, own)
     found = slices.pieces(tree, z)
-    picture = plan.Picture(tree, z, found, plan.View(slices.extent(tree, found)))
+    drawn = plan.Picture(tree, z, found, plan.View(slices.extent(tree, found)))
     if own is not None:
-        picture.hold(words.row)
+        drawn.hold(words.row)
     if portals is not None:
-        picture.join(portals)
+        drawn.join(portals)
     if line:
-        picture.follow(line)
-    return [plan.drawn(picture, os.path.basename(words.tree))]
+        drawn.follow(line)
+    return [plan.drawn(drawn, plain_name(words.tree))]
 
 
 def height_of(tree, line, own):
@@ -106,6 +144,69 @@ def points_of(words):
     return [printed(Cells(tree_of(words.tree)), words.leak)]
 
 
+def view_of(words):
+    """The page that the words ask for, part by part."""
+    tree = tree_of(words.tree)
+    seen = surfaces.seen(tree)
+    if not seen:
+        raise Refused(f"{words.tree} has nothing but solid leaves")
+    portals = None if words.prt is None else page.portals_of(portals_of(words.prt, tree))
+    line = leak_line(Cells(tree), words.leak) if words.leak else None
+    level = {**page.level_of(tree, seen), "portals": portals, "leak": line and [[float(x) for x in point] for point in line],
+             "at": [float(number) for number in start(words, tree, seen, line)], "to": None}
+    return page.page(plain_name(words.tree), level)
+
+
+def start(words, tree, seen, line):
+    """Where one begins: at the place that is asked for, at the first entity of the map, where a leak begins, or in the middle of
+    the largest leaf."""
+    if words.map is not None:
+        return origin_of(words.map, tree)
+    if words.at or line:
+        return words.at or line[0]
+    return Cells(tree).middle(largest({leaf: what.faces for leaf, what in seen.items()}))
+
+
+def origin_of(name, tree):
+    """Where the first entity of a map stands that does not stand in solid."""
+    try:
+        places = origins.load(name)
+    except origins.NoMap as fault:
+        raise Refused(f"{name} is no map: {fault}") from None
+    within = (place for place in places if max(map(abs, place)) < BOUND)
+    found = next((place for place in within if tree.leaves[tree.leaf_at(place)].number is not None), None)
+    if found is None:
+        raise Refused(f"{name} has no entity that stands in the open")
+    return found
+
+
+def picture_of(words):
+    """The view that the words ask for, in one part."""
+    tree = tree_of(words.tree)
+    if words.eye == words.aim:
+        raise Refused("the place from which one looks is the one to which one looks")
+    seen, row, mark = surfaces.seen(tree), None, None
+    line = leak_line(Cells(tree), words.leak) if words.leak else None
+    shown = {leaf: what.surfaces for leaf, what in seen.items()}
+    if words.row:
+        mark = None if words.row is True else words.row
+        own = leaf_with_row(words, tree, mark or words.eye)
+        row = tree.leaves[own].number
+        shown = {leaf: shown[leaf] for leaf in surfaces.held(tree, seen, own) if leaf in shown}
+    drawn = picture.Picture(tree, Eye(words.eye, words.aim), shown, line, words.leak, mark)
+    return [picture.drawn(drawn, picture.titled(plain_name(words.tree), words.eye, words.aim, row))]
+
+
+def leaf_with_row(words, tree, where):
+    """The leaf at a place, which has a row."""
+    if tree.rows is None:
+        raise Refused(f"{words.tree} has no rows")
+    leaf = tree.leaf_at(where)
+    if tree.leaves[leaf].number is None:
+        raise Refused(f"{picture.written(where)} is in leaf {leaf}, which is solid and has no row")
+    return leaf
+
+
 def json_of(words):
     """The whole file as an object of JSON, row by row, since rows are long."""
     tree = tree_of(words.tree)
@@ -119,6 +220,11 @@ def json_of(words):
     for own in range(len(tree.rows)):
         yield f"{',' if own else ''}\n{json.dumps(tree.row(own))}"
     yield "]}\n"
+
+
+def plain_name(name):
+    """The name of a file without its folders, in ASCII."""
+    return "".join(letter if " " <= letter <= "~" else "?" for letter in os.path.basename(name))
 
 
 def tree_of(name):
@@ -144,9 +250,10 @@ def portals_of(name, tree):
 def run(words):
     """Does what the words ask for, and answers the exit status: 0, or 1 where it cannot be done."""
     parser = argparse.ArgumentParser(prog="qmlook", description="Looks at a compiled map.", allow_abbrev=False)
-    given = words_of(parser, words)
+    given = words_of(parser, with_places(words))
+    does = {"plan": plan_of, "points": points_of, "view": view_of, "picture": picture_of, "json": json_of}
     try:
-        sys.stdout.writelines({"plan": plan_of, "points": points_of, "json": json_of}[given.command](given))
+        sys.stdout.writelines(does[given.command](given))
         sys.stdout.flush()
     except (Refused, NoContact) as refused:
         print(f"qmlook: {refused}", file=sys.stderr)

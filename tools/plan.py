@@ -160,10 +160,9 @@ def drawn(picture, name):
 
 
 def titled(picture, name):
-    """What stands above the picture, in ASCII."""
-    plain = "".join(letter if " " <= letter <= "~" else "?" for letter in name)
+    """What stands above the picture."""
     view = picture.view
-    return (f"{plain}, slice at z = {decimal(picture.height, 6)}, "
+    return (f"{name}, slice at z = {decimal(picture.height, 6)}, "
             f"x {span(view.west, view.east)}, y {span(view.south, view.north)}")
 
 

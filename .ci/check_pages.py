@@ -1,0 +1,200 @@
+#!/usr/bin/env python3
+"""Holds a page of `tools/qmlook view` to the tree from which it was written, and opens it.
+
+    .ci/check_pages.py PAGE TREE LISTING
+
+The page needs no other file; what it holds, read back from its text, is the tree, its rows, and the surfaces with each corner
+rounded to a float. Where there is a browser, Chromium or Chrome, it is opened without a window: at three places of the
+courtyard the colours of wall, water and sky stand where they should, keys change what the page counts to what is counted
+here of the tree and its rows, and without WebGL a line says so."""
+
+from array import array
+from base64 import b64decode
+import json
+from pathlib import Path
+import re
+import shutil
+import struct
+import subprocess
+import sys
+import tempfile
+import zlib
+
+sys.path.insert(0, str(Path(__file__).resolve().parent.parent / "tools"))
+
+from check_views import Painter
+import colours
+import corners
+from eyes import Eye
+import listing
+import surfaces
+import treefile
+
+BROWSERS = ["chromium", "chromium-browser", "google-chrome", "google-chrome-stable"]
+WORDS = ["--headless", "--no-sandbox", "--hide-scrollbars", "--window-size=1000,750", "--virtual-time-budget=4000",
+         "--use-angle=swiftshader", "--enable-unsafe-swiftshader", "--ignore-gpu-blocklist"]
+FILLS = ["empty", "solid", "water", "slime", "lava", "sky", "filled"]
+# where one stands in the courtyard, and what stands where one looks
+PLACE, AIM = (40, -150, 90), (300, 40, 20)
+TARGETS = {"wall": (200, 192, 150), "water": (200, -50, 36), "sky": (416, 100, 150)}
+# by how much a part of a colour may differ
+NEAR = 4
+
+
+def list_of(layout, text):
+    """The numbers of a part of the page."""
+    return [number for number, in struct.iter_unpack(f"<{layout}", b64decode(text))]
+
+
+def drawn_of(tree, seen, leaf):
+    """The surfaces of a leaf that are drawn."""
+    own = tree.leaves[leaf].contents
+    return [surface for surface in seen[leaf].surfaces if colours.kind(own, surface.beyond)] if leaf in seen else []
+
+
+def faults_of_text(text, tree, seen):
+    """What is wrong with what a page holds."""
+    if re.search(r"https?:|\bsrc=|\bhref=|@import|fetch\(|XMLHttp|\bimport\b", text):
+        yield "it asks for something from elsewhere"
+    level = json.loads(re.search(r"^const LEVEL = (.*);$", text, re.M).group(1))
+    drawn = [drawn_of(tree, seen, leaf) for leaf in range(len(tree.leaves))]
+    polygons = [surface.polygon for those in drawn for surface in those]
+    floats = list(array("f", (number for polygon in polygons for corner in polygon for number in corners.rounded(corner))))
+    kept = list_of("f", level["corners"])
+    wanted = {
+        "planes": ("d", [number for plane in tree.planes for number in plane]),
+        "nodes": ("i", [number for node in tree.nodes for number in node]),
+        "leaves": ("B", [FILLS.index("filled" if leaf.filled else leaf.contents) for leaf in tree.leaves]),
+        "surfaces": ("I", list(map(len, drawn))),
+        "lengths": ("H", list(map(len, polygons))),
+        "touched": ("I", [other for leaf in sorted(seen) for other in sorted(seen[leaf].touched)]),
+    }
+    for part, (layout, numbers) in wanted.items():
+        if list_of(layout, level[part]) != numbers:
+            yield f"its {part} are not those of the tree"
+    if [number for at in list_of("I", level["rounds"]) for number in kept[3 * at:3 * at + 3]] != floats:
+        yield "its corners are not those of the surfaces"
+    if b64decode(level["rows"]) != b"".join(tree.rows):
+        yield "its rows are not those of the tree"
+
+
+class Browser:
+    """A browser without a window, which opens a page with words behind # in its address."""
+
+    def __init__(self, name, page, folder):
+        self.words, self.page, self.folder = [name, *WORDS, f"--user-data-dir={folder}/profile"], page, folder
+
+    def run(self, words, more):
+        address = f"{self.page.resolve().as_uri()}#{words}"
+        return subprocess.run([*self.words, *more, address], capture_output=True, text=True, timeout=120, check=True).stdout
+
+    def told(self, words, *more):
+        """What stands at the edge of the page."""
+        match = re.search(r'<pre id="told">(.*?)</pre>', self.run(words, ["--dump-dom", *more]), re.S)
+        return match.group(1) if match else ""
+
+    def pixels(self, words):
+        """The width, and the rows of pixels, each three or four bytes a pixel, and how many."""
+        picture = Path(self.folder, "page.png")
+        self.run(words, [f"--screenshot={picture}"])
+        return unpacked(picture.read_bytes())
+
+
+def unpacked(data):
+    """The rows of a PNG picture of 8 bits a part, and how many bytes a pixel has."""
+    at, packed, head = 8, b"", None
+    while at < len(data):
+        size, name = struct.unpack(">I4s", data[at:at + 8])
+        body = data[at + 8:at + 8 + size]
+        head, packed = body if name == b"IHDR" else head, packed + (body if name == b"IDAT" else b"")
+        at += size + 12
+    wide, high, _, kind = struct.unpack(">IIBB", head[:10])
+    step, raw = {2: 3, 6: 4}[kind], zlib.decompress(packed)
+    rows, before = [], bytes(wide * step)
+    for at in range(0, high * (wide * step + 1), wide * step + 1):
+        row = bytearray(raw[at + 1:at + 1 + wide * step])
+        for place in range(len(row)):
+            left = row[place - step] if place >= step else 0
+            slanted = before[place - step] if place >= step else 0
+            row[place] = row[place] + foretold(raw[at], left, before[place], slanted) & 255
+        rows.append(row)
+        before = row
+    return rows, step
+
+
+def foretold(way, left, above, slanted):
+    """What a byte is foretold to be by its neighbours, in one of the five ways of PNG."""
+    if way == 4:
+        middle = left + above - slanted
+        return min((left, above, slanted), key=lambda number: abs(middle - number))
+    return (0, left, above, (left + above) // 2)[way]
+
+
+def colour_along(painter, target):
+    """The kinds that are seen where a target stands, and the colour there."""
+    seen = painter.along(tuple(a - b for a, b in zip(target, PLACE)))
+    colour = colours.GROUND
+    for _, kind, plane in reversed(seen):
+        part = colours.KINDS[kind][1]
+        colour = tuple(part * above + (1 - part) * below for above, below in zip(colours.colour(kind, plane), colour))
+    return seen[0][1], colour
+
+
+def faults_of_pixels(browser, tree, seen):
+    """What is wrong with what the page draws in the courtyard."""
+    eye = Eye(PLACE, AIM)
+    painter = Painter(tree, {leaf: what.surfaces for leaf, what in seen.items()}, eye.corner)
+    rows, step = browser.pixels("from={}&to={}&keys=H".format(*(",".join(map(str, place)) for place in (PLACE, AIM))))
+    wide, high = len(rows[0]) // step, len(rows)
+    for name, target in TARGETS.items():
+        kind, wanted = colour_along(painter, target)
+        right, up = eye.at(corners.corner(target))
+        x, y = round(wide / 2 * (1 + right)), round(high / 2 - wide / 2 * up)
+        found = tuple(rows[y][step * x:step * x + 3])
+        if kind != name or any(abs(a - b) > NEAR for a, b in zip(found, wanted)):
+            yield f"at {x},{y} of the page {name} should stand with the colour {wanted}, and there is {found}"
+
+
+def count_told(text, words):
+    """The numbers of a line of the page."""
+    match = re.search(words, text)
+    return tuple(map(int, match.groups())) if match else None
+
+
+def faults_of_keys(browser, tree, seen, portals):
+    """What is wrong with what the page counts before and after keys."""
+    leaf = tree.leaf_at(PLACE)
+    number = tree.leaves[leaf].number
+    numbered = [other for other, what in enumerate(tree.leaves) if what.number is not None]
+    held = surfaces.held(tree, seen, leaf)
+    for keys, shown in (("", numbered), ("VP", sorted(held)), ("VPV", numbered), ("f", sorted(held))):
+        text = browser.told("from={},{},{}&keys={}".format(*PLACE, keys))
+        triangles = sum(len(surface.polygon) - 2 for other in shown for surface in drawn_of(tree, seen, other))
+        outlined = sum(numbered[front] in shown and numbered[back] in shown for front, back, _ in portals)
+        wanted = {
+            r"leaf (\d+), empty, number (\d+)": (leaf, number), r"row: (\d+) leaves": (len(tree.row(number)),),
+            r"drawn: (\d+) leaves, (\d+) triangles": (len(shown), triangles),
+            r"portals: (\d+)": (outlined,) if "P" in keys else None,
+        }
+        for words, numbers in wanted.items():
+            if count_told(text, words) != numbers:
+                yield f"with the keys {keys!r} the page tells {text!r}, and {numbers} should stand in {words!r}"
+    if "WebGL 2" not in browser.told("", "--disable-3d-apis"):
+        yield "without WebGL it does not say so"
+
+
+def main():
+    page, tree = Path(sys.argv[1]), treefile.load(sys.argv[2])
+    seen, portals = surfaces.seen(tree), listing.load(sys.argv[3])[1]
+    found = list(faults_of_text(page.read_text(encoding="ascii"), tree, seen))
+    browser = next((path for path in map(shutil.which, BROWSERS) if path), None)
+    if browser is None:
+        print("no browser is here: the page of qmlook view was not opened")
+    else:
+        with tempfile.TemporaryDirectory() as folder:
+            opened = Browser(browser, page, folder)
+            found += [*faults_of_pixels(opened, tree, seen), *faults_of_keys(opened, tree, seen, portals)]
+    sys.exit("\n".join(found) or 0)
+
+
+main()

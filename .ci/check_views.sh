@@ -1,0 +1,134 @@
+# shellcheck shell=bash disable=SC2154
+# Sourced by .ci/checks, behind check_tools.sh, whose functions and trees it uses: the page and the pictures in which one looks
+# at a level from inside.
+
+compiles_a_made_level() {
+    python3 .ci/made_levels.py 1 10 >"$folder/made.map" || return 1
+    run_program compile made.map made.tree
+    [[ $status == 0 ]] || return 1
+    run_program compile courtyard.map courtyard.tree --prt courtyard.prt
+    [[ $status == 0 ]]
+}
+
+draws_the_views_of_the_pages() {
+    look picture courtyard.tree --from 392,-176,110 --to 60,60,50
+    looked && cmp "$folder/printed" docs/courtyard_view.svg || return 1
+    look picture courtyard_leak.tree --from 60,560,330 --to -130,250,30 --leak "$(<"$folder/courtyard_leak.trail")"
+    looked && cmp "$folder/printed" docs/courtyard_leak_view.svg || return 1
+    look picture courtyard.tree --from 40,-420,520 --to 70,50,0 --row -208,-128,24
+    looked && cmp "$folder/printed" docs/courtyard_row.svg
+}
+
+draws_what_a_row_holds() {
+    look picture courtyard.tree --from -208,-128,24 --to 0,0,32
+    looked && python3 -c 'import sys, xml.dom.minidom as dom; dom.parse(sys.argv[1])' "$folder/printed" || return 1
+    sed '/<text/d' "$folder/printed" >"$folder/whole"
+    # the row leaves nothing out that is seen from its own leaf; the title alone says that it is asked for
+    look picture courtyard.tree --from -208,-128,24 --to 0,0,32 --row
+    looked && grep -q 'what row 53 holds' "$folder/printed" && sed '/<text/d' "$folder/printed" | cmp - "$folder/whole" || return 1
+    # the third room is not seen from the first
+    look picture seen.tree --from 0,0,600 --to 0,0,0
+    looked && cp "$folder/printed" "$folder/whole" || return 1
+    look picture seen.tree --from 0,0,600 --to 0,0,0 --row=-64,0,32
+    looked && [[ $(grep -c 'class="surface"' "$folder/printed") -lt $(grep -c 'class="surface"' "$folder/whole") ]]
+}
+
+# from above, and from inside
+draws_each_kind_in_its_colour() {
+    local kind above below
+    while read -r kind above below; do
+        look picture "$kind.tree" --from 392,-176,110 --to 60,60,50
+        looked && grep -q "fill=\"#$above\" fill-opacity" "$folder/printed" || return 1
+        [[ $(grep -c '>sky</text>' "$folder/printed") == 1 && $(grep -c ">$kind</text>" "$folder/printed") == 1 ]] || return 1
+        look picture "$kind.tree" --from 160,-40,20 --to 160,-40,60
+        looked && grep -q "fill=\"#$below\" fill-opacity" "$folder/printed" || return 1
+    done <<'END'
+water 3570b4 20446e
+slime 608a28 3a5419
+lava ce5818 7d360f
+END
+}
+
+fills_the_borders_of_solid_leaves() {
+    (cd "$folder" && python3 "$top/.ci/check_surfaces.py" cube.tree hole.tree rooms.tree courtyard.tree made.tree)
+}
+
+shows_what_is_seen_along_rays() {
+    (cd "$folder" && python3 "$top/.ci/check_views.py" rooms.tree courtyard.tree made.tree)
+}
+
+# the page of a tree begins at this place
+begins_at() { # begins_at PLACE
+    looked && grep -q "^const LEVEL = .*\"at\": \[$1\]" "$folder/printed"
+}
+
+writes_a_page() {
+    look view courtyard.tree --at=-208,1/2,24
+    begins_at '-208.0, 0.5, 24.0' || return 1
+    look view courtyard_leak.tree --leak "$(<"$folder/courtyard_leak.trail")"
+    begins_at '-192.0, -112.0, 64.0' || return 1
+    # without a place, in the middle of the largest leaf that is not solid
+    look view room.tree
+    begins_at '0.0, 0.0, 48.0' || return 1
+    look view courtyard.tree --map courtyard.map --prt courtyard.prt
+    begins_at '-208.0, -128.0, 24.0' && cp "$folder/printed" "$folder/page.html" || return 1
+    python3 .ci/check_pages.py "$folder/page.html" "$folder/courtyard.tree" "$folder/courtyard.prt"
+}
+
+says_how_views_are_used() {
+    local words
+    for words in 'view' 'picture hole.tree' 'picture hole.tree --from 1,2,3' 'view hole.tree --at 1,2' 'view hole.tree --at 1,2,3,4' \
+        'view hole.tree --at 1,2,5000' 'view hole.tree --at=1,x,3' 'view hole.tree --at 1,2,3 --map hole.map' \
+        'view hole.tree --leak=' 'picture hole.tree --from 1,2,3 --to 1,2,3/0' 'picture hole.tree --from 1,2,3 --to 4,5,6 --row=1'; do
+        # shellcheck disable=SC2086  # the words of a command
+        look $words
+        [[ $status == 2 && ! -s $folder/printed ]] && grep -q '^usage: qmlook' "$folder/said" || return 1
+    done
+    look picture --help
+    looked && grep -q '^usage: qmlook picture' "$folder/printed"
+}
+
+says_why_there_is_no_view() {
+    local words
+    for words in view 'picture --from 0,0,0 --to 1,0,0'; do
+        # shellcheck disable=SC2086
+        look $words cut.tree
+        refused "cut.tree is no tree file: short at byte 100" || return 1
+        # shellcheck disable=SC2086
+        look $words hole.tree --leak "8 0"
+        refused "leaf 8 does not touch leaf 0" || return 1
+    done
+    look picture hole.tree --from 1,2,3 --to 1,2,3
+    refused "the place from which one looks is the one to which one looks" || return 1
+    look picture hole.tree --from 1,2,3 --to 4,5,6 --row
+    refused "hole.tree has no rows" || return 1
+    look picture courtyard.tree --from 0,0,4000 --to 0,0,0 --row
+    refused "0,0,4000 is in leaf $(leaf_at courtyard.tree 0 0 4000), which is solid and has no row" || return 1
+    look view hole.tree --map cube.tree
+    refused "cube.tree is no map: it has no entity" || return 1
+    head -c 200 "$folder/room.map" >"$folder/cut.map"
+    look view hole.tree --map cut.map
+    refused "cut.map is no map: it ends inside an entity" || return 1
+    look view cube.tree --map cube.map
+    refused "cube.map has no entity that stands in the open" || return 1
+    look view hole.tree --prt rooms.prt
+    refused "rooms.prt is a listing of another tree: it has 5 leaves, and the tree $(numbered_of hole.tree)" || return 1
+    look view cube.tree --map missing.map
+    refused "missing.map: No such file or directory"
+}
+
+# the leaf at a point of a tree, and how many leaves of a tree are not solid
+leaf_at() { python3 -c 'import sys; sys.path.insert(0, "tools"); import treefile
+print(treefile.load(sys.argv[1]).leaf_at(tuple(map(int, sys.argv[2:]))))' "$folder/$1" "${@:2}"; }
+numbered_of() { python3 -c 'import sys; sys.path.insert(0, "tools"); import treefile
+print(sum(leaf.number is not None for leaf in treefile.load(sys.argv[1]).leaves))' "$folder/$1"; }
+
+check "a made level with slanted brushes compiles" compiles_a_made_level
+check "views: the pictures of the pages are those of the samples" draws_the_views_of_the_pages
+check "views: a row leaves out what is not seen, and nothing else" draws_what_a_row_holds
+check "views: each kind of contents has a colour of its own" draws_each_kind_in_its_colour
+check "views: surfaces fill the borders of solid leaves once" fills_the_borders_of_solid_leaves
+check "views: pictures and rows have what is seen along rays" shows_what_is_seen_along_rays
+check "views: a page holds its tree, and draws it" writes_a_page
+check "views: words that are no command get the usage line, and status 2" says_how_views_are_used
+check "views: what cannot be shown is refused by a line" says_why_there_is_no_view

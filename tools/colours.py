@@ -1,0 +1,43 @@
+"""How surfaces look, in the page and in a picture: each by what it bounds, and darker or lighter by where it faces."""
+
+from math import hypot
+
+# of each kind its colour, and how much of it is seen: water, slime and lava are seen through
+KINDS = {
+    "wall": ((186, 174, 156), 1.0),
+    "water": ((58, 122, 196), 0.55),
+    "slime": ((104, 150, 44), 0.7),
+    "lava": ((224, 96, 26), 0.8),
+    "sky": ((150, 198, 238), 1.0),
+}
+# what lies behind all
+GROUND = (52, 50, 48)
+# how bright a surface is that faces neither way of any axis, and how much more for facing along each
+MEAN, EAST, NORTH, UP = 0.74, 0.12, 0.07, 0.18
+
+
+def kind(own, beyond):
+    """As what a surface is drawn that is seen from some contents and has others beyond, or None where it is not drawn: sky
+    ends nothing for one who stands in it."""
+    if beyond == "solid":
+        return "wall"
+    if own == "sky":
+        return None
+    return own if beyond == "empty" else beyond
+
+
+def shade(plane):
+    """How bright a surface is, by its plane, which is turned to where it is seen from."""
+    nx, ny, nz = plane[:3]
+    return MEAN + (EAST * nx + NORTH * ny + UP * nz) / hypot(nx, ny, nz)
+
+
+def colour(name, plane):
+    """The red, green and blue of a surface, from 0 to 255. Sky is as bright everywhere."""
+    bright = 1 if name == "sky" else shade(plane)
+    return tuple(round(part * bright) for part in KINDS[name][0])
+
+
+def hexadecimal(colour):
+    """A colour as six digits."""
+    return "".join(f"{part:02x}" for part in colour)

@@ -1,0 +1,91 @@
+"""The page of a level: one HTML file in which one walks through it, with all that the page needs inside.
+
+What is written of the level for the scripts, numbers as bytes in base64, little-endian:
+planes (four doubles each), nodes (plane, front, back: 4 bytes, signed), leaves (a byte: the place of what fills it in `FILLS`),
+middles (three floats each); corners (three floats each); of each surface, leaf by leaf, how many corners it has (2 bytes), its
+corners by their numbers (4 bytes each), its kind and its red, green and blue (a byte each); of each leaf how many surfaces
+it has, how many leaves it touches that hold other contents, and these (4 bytes each); and the rows, bit by bit."""
+
+from base64 import b64encode
+from html import escape
+import json
+from pathlib import Path
+from struct import pack
+
+from bodies import middle
+import colours
+from corners import rounded
+from patterns import FILLED, kind as fill_of
+
+FOLDER = Path(__file__).resolve().parent / "web"
+SCRIPTS = ["level.js", "walking.js", "drawing.js", "marks.js", "main.js"]
+FILLS = ["empty", "solid", "water", "slime", "lava", "sky", FILLED]
+KINDS = list(colours.KINDS)
+
+
+def spelled(layout, numbers):
+    """Numbers as bytes, in base64."""
+    numbers = list(numbers)
+    return b64encode(pack(f"<{len(numbers)}{layout}", *numbers)).decode()
+
+
+def flat(points):
+    """The coordinates of some points, one after another."""
+    return [float(number) for point in points for number in point]
+
+
+def level_of(tree, seen):
+    """The tree, its surfaces and its rows, as the page reads them."""
+    everyone = [seen.get(leaf) for leaf in range(len(tree.leaves))]
+    drawn = [surfaces_drawn(tree, leaf, what) for leaf, what in enumerate(everyone)]
+    surfaces = [surface for those in drawn for surface in those]
+    numbers = {}
+    rounds = [numbers.setdefault(corner, len(numbers)) for surface, _ in surfaces for corner in surface.polygon]
+    return {
+        "planes": spelled("d", (number for plane in tree.planes for number in plane)),
+        "nodes": spelled("i", (number for node in tree.nodes for number in node)),
+        "leaves": spelled("B", (FILLS.index(fill_of(leaf)) for leaf in tree.leaves)),
+        "middles": spelled("f", flat(middle(what.faces) if what else (0, 0, 0) for what in everyone)),
+        "corners": spelled("f", flat(map(rounded, numbers))),
+        "rounds": spelled("I", rounds),
+        "lengths": spelled("H", (len(surface.polygon) for surface, _ in surfaces)),
+        "kinds": spelled("B", (KINDS.index(name) for _, name in surfaces)),
+        "colours": spelled("B", (part for surface, name in surfaces for part in colours.colour(name, surface.plane))),
+        "surfaces": spelled("I", map(len, drawn)),
+        "touches": spelled("I", (len(what.touched) if what else 0 for what in everyone)),
+        "touched": spelled("I", (other for what in everyone if what for other in sorted(what.touched))),
+        "rows": None if tree.rows is None else b64encode(b"".join(tree.rows)).decode(),
+        "kind": [{"name": name, "part": part} for name, (_, part) in colours.KINDS.items()],
+        "ground": colours.GROUND,
+    }
+
+
+def surfaces_drawn(tree, leaf, what):
+    """The surfaces of a leaf that are drawn, each with its kind."""
+    own = tree.leaves[leaf].contents
+    named = [(surface, colours.kind(own, surface.beyond)) for surface in what.surfaces] if what else []
+    return [(surface, name) for surface, name in named if name]
+
+
+def portals_of(portals):
+    """The portals of a listing: of each its two leaves, by their numbers, how many corners it has, and these as floats."""
+    return {
+        "sides": spelled("I", (number for front, back, _ in portals for number in (front, back))),
+        "lengths": spelled("H", (len(corners) for _, _, corners in portals)),
+        "corners": spelled("f", flat(corner for _, _, corners in portals for corner in corners)),
+    }
+
+
+def page(name, level):
+    """The text of the page, part by part."""
+    parts = {
+        "TITLE": escape(name),
+        "DATA": json.dumps({"name": name, **level}).replace("<", "\\u003c"),
+        "SCRIPT": "\n".join((FOLDER / script).read_text(encoding="ascii") for script in SCRIPTS),
+    }
+    rest = (FOLDER / "page.html").read_text(encoding="ascii")
+    for place, part in parts.items():
+        before, _, rest = rest.partition(place)
+        yield before
+        yield part
+    yield rest

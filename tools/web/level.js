@@ -1,0 +1,83 @@
+// What the level is. LEVEL is made by page.py, which says what each part of it holds: numbers as bytes in base64.
+
+const NAMES = ["empty", "solid", "water", "slime", "lava", "sky", "filled"], SOLID = 1, FILLED = 6;
+
+function read(Kind, text) {
+    const raw = atob(text), bytes = new Uint8Array(raw.length);
+    for (let at = 0; at < raw.length; at++) bytes[at] = raw.charCodeAt(at);
+    return new Kind(bytes.buffer);
+}
+
+// where each part begins, of parts with these lengths, and where the last one ends
+function begins(lengths) {
+    const from = new Uint32Array(lengths.length + 1);
+    lengths.forEach((length, at) => { from[at + 1] = from[at] + length; });
+    return from;
+}
+
+const planes = read(Float64Array, LEVEL.planes), nodes = read(Int32Array, LEVEL.nodes), root = nodes.length ? 0 : -1;
+const leaves = read(Uint8Array, LEVEL.leaves), middles = read(Float32Array, LEVEL.middles);
+const corners = read(Float32Array, LEVEL.corners), rounds = read(Uint32Array, LEVEL.rounds);
+const roundFrom = begins(read(Uint16Array, LEVEL.lengths)), kinds = read(Uint8Array, LEVEL.kinds);
+const colours = read(Uint8Array, LEVEL.colours), surfaceFrom = begins(read(Uint32Array, LEVEL.surfaces));
+const touched = read(Uint32Array, LEVEL.touched), touchedFrom = begins(read(Uint32Array, LEVEL.touches));
+const rows = LEVEL.rows === null ? null : read(Uint8Array, LEVEL.rows);
+const portals = LEVEL.portals && {
+    sides: read(Uint32Array, LEVEL.portals.sides), corners: read(Float32Array, LEVEL.portals.corners),
+    from: begins(read(Uint16Array, LEVEL.portals.lengths)),
+};
+// of each leaf its number among those that are not solid, or -1; and the other way round
+const numbers = new Int32Array(leaves.length).fill(-1), numbered = [];
+leaves.forEach((what, leaf) => { if (!isSolid(leaf)) numbers[leaf] = numbered.push(leaf) - 1; });
+const rowBytes = (numbered.length + 7) >> 3;
+
+function isSolid(leaf) { return leaves[leaf] === SOLID || leaves[leaf] === FILLED; }
+
+function isSeenThrough(surface) { return LEVEL.kind[kinds[surface]].part < 1; }
+
+// how far in front of a node's plane a point is, as a multiple of the normal's length
+function sideOf(node, point) {
+    const at = 4 * nodes[3 * node];
+    return planes[at] * point[0] + planes[at + 1] * point[1] + planes[at + 2] * point[2] - planes[at + 3];
+}
+
+function child(node, toFront) { return nodes[3 * node + (toFront ? 1 : 2)]; }
+
+function leafAt(point) {
+    let at = root;
+    while (at >= 0) at = child(at, sideOf(at, point) >= 0);
+    return -1 - at;
+}
+
+// the leaves through which a straight way goes from one point to another, each with the part of the way at which it begins
+function passed(first, second) {
+    const found = [], waiting = [[root, 0, 1]];
+    while (waiting.length) {
+        const [at, low, high] = waiting.pop();
+        if (at < 0) { found.push([-1 - at, low]); continue; }
+        const here = sideOf(at, first), there = sideOf(at, second);
+        const near = here + low * (there - here) >= 0, far = here + high * (there - here) >= 0;
+        if (near === far) { waiting.push([child(at, near), low, high]); continue; }
+        const cut = Math.max(low, Math.min(high, here / (here - there)));
+        waiting.push([child(at, far), cut, high], [child(at, near), low, cut]);
+    }
+    return found;
+}
+
+// the numbers that the row of a leaf holds
+function row(leaf) {
+    const from = rowBytes * numbers[leaf];
+    return numbered.map((_, number) => number).filter(number => rows[from + (number >> 3)] >> (number & 7) & 1);
+}
+
+// the leaves that a row holds, and those that touch them and hold other contents, since a row knows one contents: of each
+// leaf 1 or 0
+function held(leaf) {
+    const found = new Uint8Array(leaves.length);
+    for (const number of row(leaf)) {
+        const other = numbered[number];
+        found[other] = 1;
+        for (let at = touchedFrom[other]; at < touchedFrom[other + 1]; at++) found[touched[at]] = 1;
+    }
+    return found;
+}

@@ -1,0 +1,114 @@
+// Where one stands and looks, by keys, by the mouse, and by what stands behind # in the page's address. Units are those of the
+// map, seconds, and right angles' parts as radians.
+
+const SPEED = 320, FAST = 4, TURN = 1.8, STEP = 32, DRAG = 0.004, STEEPEST = 1.57, FARTHEST = 8191, WAYS = 16;
+
+// `frozen` is the place whose row is shown while one walks on, or null
+const state = {
+    eye: LEVEL.at, yaw: 0, pitch: 0, frozen: null,
+    row: false, portals: false, leak: LEVEL.leak !== null, numbers: false, help: true, changed: true,
+};
+const held_down = new Set();
+
+const KEYS = {
+    v() { state.row = !state.row; },
+    f() { freeze(state.frozen ? null : state.eye); },
+    p() { state.portals = !state.portals; },
+    l() { state.leak = !state.leak; },
+    n() { state.numbers = !state.numbers; },
+    h() { state.help = !state.help; },
+};
+
+function freeze(place) {
+    state.frozen = place;
+    if (place) state.row = true;
+}
+
+function dot(a, b) { return a[0] * b[0] + a[1] * b[1] + a[2] * b[2]; }
+function cross(a, b) { return [a[1] * b[2] - a[2] * b[1], a[2] * b[0] - a[0] * b[2], a[0] * b[1] - a[1] * b[0]]; }
+function moved(point, way, by) { return point.map((number, axis) => number + by * way[axis]); }
+
+function ahead() {
+    const level = Math.cos(state.pitch);
+    return [level * Math.cos(state.yaw), level * Math.sin(state.yaw), Math.sin(state.pitch)];
+}
+
+function aside() { return [Math.sin(state.yaw), -Math.cos(state.yaw), 0]; }
+
+function turn(left, up) {
+    state.yaw += left;
+    state.pitch = Math.max(-STEEPEST, Math.min(STEEPEST, state.pitch + up));
+}
+
+function go(way, by) {
+    state.eye = moved(state.eye, way, by).map(number => Math.max(-FARTHEST, Math.min(FARTHEST, number)));
+}
+
+function lookTo(point) {
+    const [x, y, z] = moved(point, state.eye, -1);
+    state.yaw = x || y ? Math.atan2(y, x) : Math.PI / 2;
+    state.pitch = 0;
+    turn(0, Math.atan2(z, Math.hypot(x, y)));
+}
+
+// looks along the level way that goes on longest before the contents change
+function lookFarthest() {
+    const own = leaves[leafAt(state.eye)];
+    let longest = -1;
+    for (let at = 0; at < WAYS; at++) {
+        const yaw = 2 * Math.PI * at / WAYS, end = moved(state.eye, [Math.cos(yaw), Math.sin(yaw), 0], FARTHEST);
+        const [, part] = passed(state.eye, end).find(([leaf]) => leaves[leaf] !== own) || [null, 1];
+        if (part > longest) { longest = part; state.yaw = yaw; }
+    }
+}
+
+// from=X,Y,Z and to=X,Y,Z, frozen=X,Y,Z, and keys=.. as if they were pressed
+function obey(words) {
+    const place = name => {
+        const found = (words.get(name) || "").split(",").map(Number);
+        return found.length === 3 && found.every(isFinite) ? found : null;
+    };
+    state.eye = place("from") || state.eye;
+    const to = place("to") || LEVEL.to;
+    if (to) lookTo(to); else lookFarthest();
+    if (place("frozen")) freeze(place("frozen"));
+    for (const key of words.get("keys") || "") press(key);
+}
+
+function press(key) {
+    if (KEYS[key.toLowerCase()]) KEYS[key.toLowerCase()]();
+    state.changed = true;
+}
+
+function walk(seconds) {
+    const is = code => +held_down.has(code), fast = is("ShiftLeft") || is("ShiftRight");
+    const by = seconds * SPEED * (fast ? FAST : 1);
+    turn(seconds * TURN * (is("ArrowLeft") - is("ArrowRight")), seconds * TURN * (is("ArrowUp") - is("ArrowDown")));
+    go(ahead(), by * (is("KeyW") - is("KeyS")));
+    go(aside(), by * (is("KeyD") - is("KeyA")));
+    go([0, 0, 1], by * (is("KeyQ") - is("KeyE")));
+    state.changed = true;
+}
+
+function listen(view) {
+    addEventListener("keydown", event => {
+        if (event.ctrlKey || event.metaKey || event.altKey) return;
+        if (!/^(Key[WASDQE]|Shift|Arrow)/.test(event.code)) { if (!event.repeat) press(event.key); return; }
+        held_down.add(event.code);
+        event.preventDefault();
+    });
+    addEventListener("keyup", event => held_down.delete(event.code));
+    addEventListener("blur", () => held_down.clear());
+    addEventListener("resize", () => { state.changed = true; });
+    view.addEventListener("contextmenu", event => event.preventDefault());
+    view.addEventListener("pointerdown", event => view.setPointerCapture(event.pointerId));
+    view.addEventListener("pointermove", event => {
+        if (!event.buttons) return;
+        turn(-DRAG * event.movementX, -DRAG * event.movementY);
+        state.changed = true;
+    });
+    view.addEventListener("wheel", event => {
+        go(ahead(), -STEP * Math.sign(event.deltaY));
+        state.changed = true;
+    }, { passive: true });
+}
