@@ -1,4 +1,4 @@
-use qm_compile::{Status, run};
+use qm_compile::{Status, exit_number, run};
 use qm_shelf::{MemShelf, MemSink};
 use std::alloc::{AllocError, Global};
 use std::thread::Threads;
@@ -30,7 +30,7 @@ impl Outside {
         printed: &str,
     ) -> bool {
         let answer: Status = run(rt, rt.alloc(), words, &mut self.shelf, &mut self.sink);
-        answer.number() == status && self.sink.bytes() == printed.as_bytes()
+        exit_number(answer) == status && self.sink.bytes() == printed.as_bytes()
     }
 
     /// Whether `out` holds so many bytes.

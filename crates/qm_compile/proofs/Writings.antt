@@ -6,9 +6,9 @@ use Rattle.qm_shelf.specs.ShelfChanges.{IsKept, IsKeptElsewhere, MetNoFault, Wri
 use Rattle.qm_shelf.specs.WholeFiles.{HoldsExactly, HoldsUnfinished}
 use Rattle.qm_shelf.specs.declared.shelf.ShelfFault.{ShelfFault}
 use Rattle.qm_shelf.proofs.Counted.{no_fault_twice, write_fault_twice}
-use Rattle.qm_compile.specs.Command.{FileNames, AreDifferent}
-use Rattle.qm_compile.specs.Product.{Output}
-use Rattle.qm_compile.specs.Written.{AreOthersKept}
+use Rattle.qm_statement.specs.FileNames.{FileNames, AreDifferent}
+use Rattle.qm_statement.specs.Output.{Output}
+use Rattle.qm_statement.specs.Written.{AreOthersKept}
 use Rattle.qm_compile.specs.inner.Writing.{IsAllWritten, StopsInOut, StopsInListing}
 
 -- what is kept beside OUT is kept beside all that is written
