@@ -1,9 +1,9 @@
 //! The header of a tree file.
 
-ghost use Rattle.std.specs.Prelude.{◌≡◌, ◌≤◌, ◌<◌, ◌+◌, ◌^◌, ◌==◌, nat_lt, nat_le, length, IfOk, codes, take, slice_index};
+ghost use Rattle.std.specs.Prelude.{◌≡◌, ◌≤◌, ◌<◌, ◌+◌, ◌^◌, ◌==◌, nat_lt, nat_le, length, IfOk, IsTrue, codes, take, slice_index};
 ghost use Rattle.qm_formats.specs.Fields.{first_difference, fixed};
 ghost use Rattle.qm_formats.specs.FileParts.{short, magic};
-ghost use Rattle.qm_formats.specs.TreeFile.{count_layout, flag_layout, header_layout};
+ghost use Rattle.qm_formats.specs.FileLayout.{count_layout, flag_layout, header_layout};
 ghost use Rattle.qm_file.specs.Answers.{IsFault, Gives};
 ghost use Rattle.qm_file.specs.inner.SeenHeader.{seen_header};
 
@@ -23,11 +23,11 @@ pub(crate) struct Header {
 const MAGIC: [u8; 8] = *b"QMTREE01";
 
 /// The header, and where it ends.
-#[tactic(auto, unfolding(qm_formats::specs::TreeFile::header_layout))]
+#[tactic(auto, unfolding(qm_formats::specs::FileLayout::header_layout))]
 pub(crate) fn header_at_start(bytes: &[u8]) -> Result<(Header, usize), FileFault>
     ensures gives { Gives (λ read. seen_header read.0) (λ read. read.1) result (header_layout.read bytes.now 0) }
     ensures within { IfOk result (λ read. read.1 ≤ length bytes.now) }
-    ensures one_more { IfOk result (λ read. read.0.leaves ≡ read.0.nodes + 1) }
+    ensures right { IfOk result (λ read. IsTrue (header_layout.right (seen_header read.0))) }
 {
     let next = magic_at_start(bytes)?;
     let (planes, next) = plane_count_at(bytes, next)?;
@@ -95,7 +95,6 @@ fn leaf_count_at(bytes: &[u8], at: usize, nodes: u64) -> Result<(u64, usize), Fi
     requires { at ≤ length bytes.now }
     ensures gives { Gives (λ read. read.0) (λ read. read.1) result ((count_layout (λ leaves. leaves == nodes + 1)).read bytes.now at) }
     ensures within { IfOk result (λ read. read.1 ≤ length bytes.now) }
-    ensures one_more { IfOk result (λ read. read.0 ≡ nodes + 1) }
 {
     let (leaves, next) = u64_at(bytes, at)?;
     if leaves == 0 || leaves - 1 != nodes {

@@ -5,7 +5,7 @@ ghost use Rattle.qm_formats.specs.Layout.{each, present};
 ghost use Rattle.qm_formats.specs.Runs.{RunFaultKind, in_runs, row_answer};
 ghost use Rattle.qm_formats.specs.RowBits.{row_width, unpacked, is_clear_past, row_bits};
 ghost use Rattle.qm_formats.specs.FileParts.{short, row_form};
-ghost use Rattle.qm_formats.specs.TreeFile.{own_row, rows_layout};
+ghost use Rattle.qm_formats.specs.FileLayout.{own_row, rows_layout};
 ghost use Rattle.qm_runs.specs.Answers.{IsRunFault};
 ghost use Rattle.qm_file.specs.Answers.{IsFault, Gives};
 ghost use Rattle.qm_file.specs.inner.SeenHeader.{seen_header};
@@ -19,7 +19,7 @@ use qm_runs::RunFault;
 use std::alloc::{AllocError, Global};
 
 /// The rows of a file of this header where they are there, and where they end.
-#[tactic(auto, unfolding(qm_formats::specs::TreeFile::rows_layout))]
+#[tactic(auto, unfolding(qm_formats::specs::FileLayout::rows_layout))]
 pub(crate) fn rows_at(
     alloc: Global,
     bytes: &[u8],
@@ -59,7 +59,7 @@ fn all_rows_at(
 }
 
 /// A row of so many places in which place `k` is set, and where it ends.
-#[tactic(auto, unfolding(qm_formats::specs::TreeFile::own_row))]
+#[tactic(auto, unfolding(qm_formats::specs::FileLayout::own_row))]
 fn own_row_at(
     alloc: Global,
     bytes: &[u8],

@@ -6,7 +6,8 @@ use Rattle.qm_formats.specs.Layout.{got, bad, Layout, read_to_end, read_whole}
 use Rattle.qm_formats.specs.Fields.{AreBytes}
 use Rattle.qm_formats.specs.Exact.{IsExact}
 use Rattle.qm_formats.specs.FileParts.{trailing, too_long}
-use Rattle.qm_formats.specs.TreeFile.{FileContent, file_layout, file_bytes, file_limit, read_file, IsValid}
+use Rattle.qm_formats.specs.TreeFile.{TreeFile, IsValid}
+use Rattle.qm_formats.specs.FileLayout.{file_layout, file_bytes, file_limit, read_file}
 use Rattle.qm_formats.proofs.ReadToEnd.{IsAll, all_found, all_again}
 use Rattle.qm_formats.proofs.ExactFile.{file_exact}
 use Rattle.qm_formats.proofs.ValidFiles.{right_valid, valid_right}
@@ -26,18 +27,18 @@ module _ {F X : Type 0} (layout : Layout F X) (exact : IsExact layout) (limit : 
   whole_again x right bytes fits = read_small fits ∙ all_again layout exact behind file x right bytes
 
 -- what is read in a file is valid, and the file is written so
-pub record IsFileOf (file : List ℕ) (content : FileContent) : Type 0 where
+pub record IsFileOf (file : List ℕ) (content : TreeFile) : Type 0 where
   pub valid : IsValid content
   pub bytes : file ≡ file_bytes content
   pub fits : length file ≤ file_limit
 
-pub read_file_found : (file : List ℕ) (content : FileContent) (next : ℕ) → AreBytes file → read_file file ≡ got content next → IsFileOf file content
+pub read_file_found : (file : List ℕ) (content : TreeFile) (next : ℕ) → AreBytes file → read_file file ≡ got content next → IsFileOf file content
 unfolding read_file file_bytes
 read_file_found file content next are is =
     let whole = whole_found file_layout file_exact file_limit too_long trailing file content next are is in
     record { valid = right_valid content whole.1.right; bytes = whole.1.bytes; fits = whole.0 }
 
-pub read_file_again : (file : List ℕ) (content : FileContent) → IsFileOf file content → read_file file ≡ got content (length file)
+pub read_file_again : (file : List ℕ) (content : TreeFile) → IsFileOf file content → read_file file ≡ got content (length file)
 unfolding read_file file_bytes
 read_file_again file content is =
     whole_again file_layout file_exact file_limit too_long trailing file content (valid_right content is.valid (subst (λ (n : ℕ). n ≤ file_limit) (ap length is.bytes) is.fits)) is.bytes is.fits

@@ -1,5 +1,5 @@
 use Rattle.std.proofs.lemmas.Result.{err_from_is_err_and}
-use Rattle.qm_formats.specs.TreeFile.{own_row}
+use Rattle.qm_formats.specs.FileLayout.{own_row}
 use Rattle.qm_formats.proofs.ReadLists.{one_more, one_fault}
 use Rattle.qm_file.proofs.Faults.{fault_passes}
 use Rattle.qm_file.proofs.rows_reading.all_rows_at.Goals as goal

@@ -1,6 +1,6 @@
 use Rattle.std.proofs.Common.{◌≤◌, length}
 use Rattle.qm_formats.specs.Layout.{each}
-use Rattle.qm_formats.specs.TreeFile.{own_row}
+use Rattle.qm_formats.specs.FileLayout.{own_row}
 use Rattle.qm_formats.proofs.ReadLists.{IsReadSoFar}
 use Rattle.qm_file.proofs.rows_reading.all_rows_at.Given as goal
 

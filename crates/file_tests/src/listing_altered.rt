@@ -1,6 +1,6 @@
 //! Alterations of a listing, each with its fault and place.
 
-use crate::rooms::LISTING;
+use crate::listing_of_rooms::LISTING;
 use qm_prt::{PrtFault, read};
 use std::alloc::{AllocError, Global};
 
