@@ -11,38 +11,28 @@ use Rattle.qm_formats.specs.Fields.{AreBytes}
 use Rattle.qm_formats.specs.FileParts.{FileFaultKind}
 use Rattle.qm_formats.specs.TreeFile.{TreeFile, IsValid}
 use Rattle.qm_formats.specs.FileLayout.{Header, header_layout, planes_layout, nodes_layout, leaves_layout, file_bytes, file_limit, read_file}
-use Rattle.qm_formats.proofs.ExactFile.{planes_exact, nodes_exact, leaves_exact}
+use Rattle.qm_formats.proofs.ExactFile.{header_exact, planes_exact, nodes_exact, leaves_exact}
 use Rattle.qm_formats.proofs.ValidFiles.{made_of_right}
 use Rattle.qm_formats.proofs.WholeFile.{read_file_found, read_file_again}
 use Rattle.qm_file.specs.declared.file_fault.FileFault.{FileFault}
 use Rattle.qm_file.specs.declared.file_fault.FileFault.TheVariants as faults
 use Rattle.qm_file.specs.Answers.{IsFault, Gives}
 
--- planes, nodes and leaves are read, one behind the other
-pub record AreRead (file : List ℕ) (header : Header) (at : ℕ) (planes : List Plane) (of_nodes : ℕ) (nodes : List Node) (of_leaves : ℕ) (leaves : List Leaf) (next : ℕ) : Type 0 where
-  pub planes : (planes_layout header).read file at ≡ got planes of_nodes
-  pub nodes : (nodes_layout header).read file of_nodes ≡ got nodes of_leaves
-  pub leaves : (leaves_layout header).read file of_leaves ≡ got leaves next
-  pub within_planes : at ≤ length file
-  pub within_nodes : of_nodes ≤ length file
-  pub within_leaves : of_leaves ≤ length file
-
--- they are those of a tree, where the header can stand in a file
+-- planes, nodes and leaves that are read behind a header are those of a tree
 pub made_of_read :
     (file : List ℕ) (header : Header) {at of_nodes of_leaves next : ℕ} {planes : List Plane} {nodes : List Node} {leaves : List Leaf} →
-    header_layout.right header ≡ true →
     AreBytes file →
-    AreRead file header at planes of_nodes nodes of_leaves leaves next →
+    header_layout.read file 0 ≡ got header at →
+    (planes_layout header).read file at ≡ got planes of_nodes →
+    (nodes_layout header).read file of_nodes ≡ got nodes of_leaves →
+    (leaves_layout header).read file of_leaves ≡ got leaves next →
     IsMadeOf (tree_of planes nodes leaves) planes nodes leaves
-made_of_read file header right are read =
-    made_of_right header _ _ _ (
-    record {
-      of_header = right;
-      of_planes = ((planes_exact header).found file _ _ _ are read.within_planes read.planes).right;
-      of_nodes = ((nodes_exact header).found file _ _ _ are read.within_nodes read.nodes).right;
-      of_leaves = ((leaves_exact header).found file _ _ _ are read.within_leaves read.leaves).right;
-    }
-    )
+made_of_read file header {at} {of_nodes} {of_leaves} {next} {planes} {nodes} {leaves} are read_header read_planes read_nodes read_leaves =
+    let front = header_exact.found file 0 header at are (omega arith) read_header in
+    let first = (planes_exact header).found file at planes of_nodes are front.stands.within read_planes in
+    let second = (nodes_exact header).found file of_nodes nodes of_leaves are first.stands.within read_nodes in
+    let third = (leaves_exact header).found file of_leaves leaves next are second.stands.within read_leaves in
+    made_of_right header planes nodes leaves (record { of_header = front.right; of_planes = first.right; of_nodes = second.right; of_leaves = third.right })
 
 -- a fault but want of memory is none where a file is read
 no_fault : (fault : FileFault) (answer : Answer FileFaultKind TreeFile) (file : TreeFile) (next : ℕ) → answer ≡ got file next → IsFault fault answer → fault ≡ faults.Memory

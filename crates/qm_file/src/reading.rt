@@ -1,4 +1,4 @@
-ghost use Rattle.std.specs.Prelude.{◌≡◌, ◌≤◌, ◌+◌, length, IfOk, MatchResult};
+ghost use Rattle.std.specs.Prelude.{◌≡◌, ◌≤◌, length, IfOk, MatchResult};
 ghost use Rattle.qm_formats.specs.FileLayout.{file_layout, file_bytes, file_limit, read_file};
 ghost use Rattle.qm_formats.specs.TreeFile.{TreeFile, IsValid};
 ghost use Rattle.qm_file.specs.Answers.{IsFault, Gives};
@@ -46,8 +46,7 @@ fn whole_file(alloc: Global, bytes: &[u8]) -> Result<TreeFile, FileFault>
 /// The file with which bytes begin, and where it ends.
 #[tactic(auto, unfolding(qm_formats::specs::TreeFile::file_layout))]
 fn file_at_start(alloc: Global, bytes: &[u8]) -> Result<(TreeFile, usize), FileFault>
-    ensures gives { Gives (λ read. read.0) (λ read. read.1) result (file_layout.read bytes.now 0) }
-    ensures within { IfOk result (λ read. read.1 ≤ length bytes.now) }
+    ensures { Gives (λ read. read.0) (λ read. read.1) result (file_layout.read bytes.now 0) }
 {
     let (header, next) = header_at_start(bytes)?;
     let (tree, next) = tree_at(alloc, bytes, next, &header)?;

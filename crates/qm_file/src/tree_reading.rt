@@ -1,9 +1,10 @@
 //! The planes, nodes and leaves of a file, and the tree that they make.
 
-ghost use Rattle.std.specs.Prelude.{◌≡◌, ◌≤◌, ◌+◌, ◌↔◌, nat_lt, length, IfOk, IsTrue};
+ghost use Rattle.std.specs.Prelude.{◌≡◌, ◌+◌, ◌↔◌, nat_lt, length, IfOk, IsTrue};
 ghost use Rattle.std.specs.List.{list_all};
 ghost use Rattle.qm_partition.specs.Arrays.{tree_of};
 ghost use Rattle.qm_partition.specs.WellMade.{IsMadeOf};
+ghost use Rattle.qm_formats.specs.Layout.{got};
 ghost use Rattle.qm_formats.specs.FileLayout.{header_layout, are_ordered, planes_layout, nodes_layout, leaves_layout, tree_layout};
 ghost use Rattle.qm_file.specs.Answers.{IsFault, Gives};
 ghost use Rattle.qm_file.specs.inner.SeenHeader.{seen_header};
@@ -28,10 +29,8 @@ pub(crate) fn tree_at(
     at: usize,
     header: &Header,
 ) -> Result<(Tree, usize), FileFault>
-    requires within { at ≤ length bytes.now }
-    requires right { IsTrue (header_layout.right (seen_header header.now)) }
-    ensures gives { Gives (λ read. read.0) (λ read. read.1) result ((tree_layout (seen_header header.now)).read bytes.now at) }
-    ensures within { IfOk result (λ read. read.1 ≤ length bytes.now) }
+    requires { header_layout.read bytes.now 0 ≡ got (seen_header header.now) at }
+    ensures { Gives (λ read. read.0) (λ read. read.1) result ((tree_layout (seen_header header.now)).read bytes.now at) }
 {
     let (planes, next) = read_all::<PlaneRecord>(alloc, bytes, at, header.planes)?;
     let (nodes, next) = nodes_at(alloc, bytes, next, header)?;
@@ -48,10 +47,8 @@ fn nodes_at(
     at: usize,
     header: &Header,
 ) -> Result<(Vec<Node>, usize), FileFault>
-    requires within { at ≤ length bytes.now }
-    requires one_more { header.now.leaves ≡ header.now.nodes + 1 }
-    ensures gives { Gives (λ read. read.0.items) (λ read. read.1) result ((nodes_layout (seen_header header.now)).read bytes.now at) }
-    ensures within { IfOk result (λ read. read.1 ≤ length bytes.now) }
+    requires { header.now.leaves ≡ header.now.nodes + 1 }
+    ensures { Gives (λ read. read.0.items) (λ read. read.1) result ((nodes_layout (seen_header header.now)).read bytes.now at) }
 {
     let (nodes, next) = read_all::<NodeRecord>(alloc, bytes, at, header.nodes)?;
     if !are_ordered(alloc, &nodes, header.planes, header.leaves)? {
@@ -87,9 +84,7 @@ fn leaves_at(
     at: usize,
     header: &Header,
 ) -> Result<(Vec<Leaf>, usize), FileFault>
-    requires { at ≤ length bytes.now }
-    ensures gives { Gives (λ read. read.0.items) (λ read. read.1) result ((leaves_layout (seen_header header.now)).read bytes.now at) }
-    ensures within { IfOk result (λ read. read.1 ≤ length bytes.now) }
+    ensures { Gives (λ read. read.0.items) (λ read. read.1) result ((leaves_layout (seen_header header.now)).read bytes.now at) }
 {
     let (leaves, next) = read_all::<LeafRecord>(alloc, bytes, at, header.leaves)?;
     if count_numbered(&leaves) as u64 != header.numbered {

@@ -18,7 +18,7 @@ use Rattle.qm_formats.specs.Fields.{unsigned, fixed}
 use Rattle.qm_formats.specs.Exact.{IsExact}
 use Rattle.qm_formats.specs.FileParts.{short, magic, counts, node_order, plane_layout, node_layout, leaf_layout}
 use Rattle.qm_formats.specs.FileLayout.{Header, count_layout, flag_layout, header_layout, are_numbered, are_ordered, own_row, planes_layout, nodes_layout, leaves_layout, rows_layout, tree_layout, header_of, file_layout}
-use Rattle.qm_formats.proofs.ExactParts.{recast_exact, tested_exact, part_exact, last_part_exact, exact_of_parts, each_exact, present_exact}
+use Rattle.qm_formats.proofs.ExactParts.{recast_exact, tested_exact, part_exact, last_part_exact, IsAny, exact_of_parts, each_exact, present_exact}
 use Rattle.qm_formats.proofs.ExactFields.{byte_exact, unsigned_64_exact, fixed_exact}
 use Rattle.qm_formats.proofs.ExactRecords.{plane_exact, node_exact, leaf_exact, flag_number, number_flag}
 use Rattle.qm_formats.proofs.ExactRows.{own_row_exact}
@@ -175,9 +175,9 @@ pub tree_exact : (header : Header) → header_layout.right header ≡ true → I
 unfolding tree_layout
 tree_exact header of_header =
     exact_of_parts _ (
-    part_exact _ _ _ _ (planes_exact header) (λ planes of_planes.
-    part_exact _ _ _ _ (nodes_exact header) (λ nodes of_nodes.
-    last_part_exact _ _ _ _ (leaves_exact header) (λ leaves of_leaves.
+    part_exact IsAny (λ tree. tree.planes) (planes_layout header) _ (planes_exact header) (λ planes of_planes.
+    part_exact _ (λ tree. nodes_of tree.shape 0 0) (nodes_layout header) _ (nodes_exact header) (λ nodes of_nodes.
+    last_part_exact _ (λ tree. leaves_of tree.shape) (leaves_layout header) (λ leaves. tree_of planes nodes leaves) (leaves_exact header) (λ leaves of_leaves.
     let are = counted_parts header planes nodes leaves (record { of_header = of_header; of_planes = of_planes; of_nodes = of_nodes; of_leaves = of_leaves }) in
     record { before = record { before = record { before = tt; is = refl }; is = sym are.numbered.nodes_are }; is = sym are.numbered.leaves_are }) (λ tree known.
     (λ i. tree_of (sym known.before.is i) (sym known.is i) (leaves_of tree.shape)) ∙ own_tree tree))))

@@ -115,8 +115,7 @@ module _ {F X Y : Type 0} (holds : Y → Type 0) (of : Y → X) where
             let one = then_got (first.read file at) (λ x mid. (behind x).read file mid) y next is in
             let front = exact.found file at one.0 one.1 are within one.2 in
             let rest = (exact_behind one.0 front.right).found file one.1 y next are front.stands.within one.3 in
-            let same = sym rest.0.is in
-            (
+            let same = sym rest.0.is in (
               rest.0.before,
               record {
                 right = and_from (first.right (of y)) ((behind (of y)).right y) (subst (λ (x : X). IsTrue (first.right x)) same front.right) (subst (λ (x : X). IsTrue ((behind x).right y)) same rest.1.right);

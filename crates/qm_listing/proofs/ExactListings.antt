@@ -4,7 +4,7 @@ use Rattle.std.proofs.lemmas.Bool.{and_parts}
 use Rattle.std.specs.Prelude.{codes}
 use Rattle.qm_formats.specs.Layout.{many}
 use Rattle.qm_formats.specs.Exact.{IsExact}
-use Rattle.qm_formats.proofs.ExactParts.{part_exact, last_part_exact, exact_of_parts, each_exact}
+use Rattle.qm_formats.proofs.ExactParts.{part_exact, last_part_exact, IsAny, exact_of_parts, each_exact}
 use Rattle.qm_formats.proofs.ExactFile.{right_each_length}
 use Rattle.qm_listing.specs.declared.listing.Coordinate.{Coordinate}
 use Rattle.qm_listing.specs.declared.listing.PrtPortal.{PrtPortal}
@@ -59,7 +59,7 @@ portal_exact leaves =
     part_exact _ _ _ _ (leaf0_exact leaves) (λ leaf0 _.
     part_exact _ _ _ _ (leaf1_exact leaves leaf0) (λ leaf1 _.
     last_part_exact _ _ _ _ (before_exact _ _ (each_exact (λ _. corner_layout) (λ _. corner_exact) 0 points) (due_exact 10)) (λ corners right. record {
-      before = record { before = record { before = tt; is = corner_count points corners right }; is = refl }; is = refl };
+      before = record { before = record { before = record { before = tt; is = corner_count points corners right }; is = refl }; is = refl };
       is = refl;
     }) (λ found known. λ i. record { leaf0 = sym known.before.is i; leaf1 = sym known.is i; corners = found.corners })))))
 
@@ -67,10 +67,10 @@ pub listing_exact : IsExact listing_layout
 unfolding listing_layout
 listing_exact =
     exact_of_parts _ (
-    part_exact _ _ _ _ header_exact (λ line _.
-    part_exact _ _ _ _ count_line_exact (λ leaves _.
-    part_exact _ _ _ _ count_line_exact (λ count _.
-    last_part_exact _ _ _ _ (each_exact (λ _. portal_layout leaves) (λ _. portal_exact leaves) 0 count) (λ portals right. record {
+    part_exact IsAny (λ _. tt) header_layout _ header_exact (λ line _.
+    part_exact _ (λ found. found.leaves) count_line _ count_line_exact (λ leaves _.
+    part_exact _ (λ found. length found.portals) count_line _ count_line_exact (λ count _.
+    last_part_exact _ (λ found. found.portals) (many (portal_layout leaves) count) (λ portals. record { leaves = leaves; portals = portals }) (each_exact (λ _. portal_layout leaves) (λ _. portal_exact leaves) 0 count) (λ portals right. record {
       before = record { before = record { before = record { before = tt; is = refl }; is = refl }; is = right_each_length (λ _. portal_layout leaves) 0 count portals right };
       is = refl;
     }) (λ found known. λ i. record { leaves = sym known.before.is i; portals = found.portals })))))

@@ -25,8 +25,8 @@ none_found s planes e = record {
 
 pub found_still : (Has : Plane → Type 0) (s : Winding) (old new : List Plane) → ((h : Plane) → Has h → IsLeastDistance (h.nx ∷ h.ny ∷ h.nz ∷ []) (corners s) h.d) → ((h : Plane) → Has h → HasLowestNormal h) → Gains Has old new → AreAtLeastDistance s old → AreAtLeastDistance s new
 found_still Has s old new least lowest gains are = record {
-  each = λ h there. ⊎_elim (λ before. are.each h before) (λ has. least h has) ((gains h).0 there);
-  lowest = λ h there. ⊎_elim (λ before. are.lowest h before) (λ has. lowest h has) ((gains h).0 there);
+  each = λ h there. ⊎_elim (λ before. are.each h before) (λ has. least h has) ((gains.members h).0 there);
+  lowest = λ h there. ⊎_elim (λ before. are.lowest h before) (λ has. lowest h has) ((gains.members h).0 there);
 }
 
 module _ (s p : Winding) (old new : List Plane) where
@@ -67,4 +67,4 @@ has_along planes i one along below is normal = (one, (i, below, sym is), normal)
 
 -- so do the planes that part both windings along a normal that one of them has
 pub listed_along : (s p : Winding) (along g h : Plane) (planes : List Plane) → AreAtLeastDistance s planes → Contains planes g → normal_of along ≡ normal_of g → PartsAlong s p along h → Contains planes h
-listed_along s p along g h planes are there normal is = (gains_along_listed s p along planes are (g, there, sym normal) h).1 (inr is)
+listed_along s p along g h planes are there normal is = ((gains_along_listed s p along planes are (g, there, sym normal)).members h).1 (inr is)

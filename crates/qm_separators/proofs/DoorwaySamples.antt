@@ -1,5 +1,5 @@
 -- Worked rows: two doorways one behind the other, their separators, and steps of a chain that goes through both.
-use Rattle.std.proofs.Common.{◌≡◌, ℕ, ◌<◌, ℤ, pos, neg_ℤ, ◌*◌, ◌≤◌, ◌-ℤ◌, ◌*ℤ◌, ◌<ℤ◌, List, [], ◌∷◌, length, get_or, All, Contains, slice_get, refl, ap, sym, subst, arith, unsigned_abs, inl, inr}
+use Rattle.std.proofs.Common.{◌≡◌, ℕ, ◌<◌, ℤ, pos, neg_ℤ, ◌*◌, ◌≤◌, ◌-ℤ◌, ◌*ℤ◌, ◌<ℤ◌, List, [], ◌∷◌, length, get_or, All, Contains, slice_get, refl, ap, sym, subst, arith, unsigned_abs, inl, inr, ⊎_elim}
 use Rattle.std.proofs.lemmas.Int.{ints}
 use Rattle.std.proofs.lemmas.List.Elements.{All-from_recursion}
 use Rattle.std.proofs.Math.Nat.{eq-one_of_dvd-one}
@@ -18,6 +18,8 @@ use Rattle.qm_separators.specs.WholePoints.{IsNearestPoint, IsAround}
 use Rattle.qm_separators.specs.Across.{HasLowestNormal, HasNormalOf, HasNormalAcross}
 use Rattle.qm_separators.specs.Separator.{IsSeparator}
 use Rattle.qm_separators.specs.Gains.{Gains}
+use Rattle.qm_lists.proofs.Elements.{Contains-cons_cases}
+use Rattle.qm_separators.proofs.ListedPlanes.{no_element}
 use Rattle.qm_separators.proofs.GainedPlanes.{gains_one}
 use Rattle.qm_separators.proofs.CornerLists.{all_corners}
 use Rattle.qm_separators.proofs.Distances.{least_by_neighbours}
@@ -177,7 +179,7 @@ around_row : IsAround (record { x = pos 1; y = neg_ℤ (pos 1); z = pos 3; w = p
 around_row = record { x = inl (record { at_most = omega (arith, ints); next = omega (arith, ints) }); y = inl (record { at_most = omega (arith, ints); next = omega (arith, ints) }); z = inr (record { at_least = omega (arith, ints); previous = omega (arith, ints) }); weight = refl }
 
 gains_row : Gains (λ h. h ≡ left_right) (right_left ∷ []) (right_left ∷ left_right ∷ [])
-gains_row = gains_one (right_left ∷ []) left_right
+gains_row = gains_one (right_left ∷ []) left_right (λ there. ⊎_elim (λ same. absurd (let e = ap (λ (h : Plane). h.ny) same in cc)) (λ none. no_element left_right none) (Contains-cons_cases right_left left_right [] there))
 
 -- it is found along its own normal, and through the points of an edge and a corner
 found_row : PartsAlong (doorway (pos 0)) (doorway (pos 64)) left_right left_right

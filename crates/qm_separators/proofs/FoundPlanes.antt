@@ -67,10 +67,10 @@ module _ (s p : Winding) (along h : Plane) (normal : normal_of h ≡ normal_of a
   pub gains_along_none : (old : List Plane) → (Parts s p h → ⊥) → Gains (PartsAlong s p along) old old
   gains_along_none old not = gains_none (PartsAlong s p along) old (λ g is. not (subst (Parts s p) (along_alone g is) is.parts))
 
-  pub gains_along_one : (old : List Plane) → Parts s p h → Gains (PartsAlong s p along) old (old ++ h ∷ [])
-  gains_along_one old parts = gains_alike (λ g. g ≡ h) (PartsAlong s p along) old (old ++ h ∷ [])
+  pub gains_along_one : (old : List Plane) → (Contains old h → ⊥) → Parts s p h → Gains (PartsAlong s p along) old (old ++ h ∷ [])
+  gains_along_one old new parts = gains_alike (λ g. g ≡ h) (PartsAlong s p along) old (old ++ h ∷ [])
       (λ g. ((λ e. subst (PartsAlong s p along) (sym e) (record { normal = normal; least = least_of_it; parts = parts })), along_alone g))
-      (gains_one old h)
+      (gains_one old h new)
 
 -- ---- through three whole points
 
