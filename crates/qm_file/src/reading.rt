@@ -25,7 +25,7 @@ pub fn decode(alloc: Global, bytes: &[u8]) -> Result<TreeFile, FileFault>
     whole_file(alloc, bytes)
 }
 
-#[tactic(auto, unfolding(qm_formats::specs::TreeFile::read_file))]
+#[tactic(auto, unfolding(qm_formats::specs::FileLayout::read_file))]
 fn whole_file(alloc: Global, bytes: &[u8]) -> Result<TreeFile, FileFault>
     ensures { Gives (λ file. file) (λ _. length bytes.now) result (read_file bytes.now) }
 {
@@ -44,7 +44,7 @@ fn whole_file(alloc: Global, bytes: &[u8]) -> Result<TreeFile, FileFault>
 }
 
 /// The file with which bytes begin, and where it ends.
-#[tactic(auto, unfolding(qm_formats::specs::TreeFile::file_layout))]
+#[tactic(auto, unfolding(qm_formats::specs::FileLayout::file_layout))]
 fn file_at_start(alloc: Global, bytes: &[u8]) -> Result<(TreeFile, usize), FileFault>
     ensures { Gives (λ read. read.0) (λ read. read.1) result (file_layout.read bytes.now 0) }
 {

@@ -11,9 +11,13 @@ pub struct TreeFile {
 }
 
 impl Model for TreeFile {
+    ghost use Rattle.std.specs.Coded.{codes};
+    ghost use Rattle.qm_partition.specs.inner.TreeCode.{tree_code};
     ghost use Rattle.qm_formats.specs.TreeFile.{TreeFile};
 
     ghost Value = { TreeFile };
+
+    ghost coded = { Prim.hlevel (codes, tree_code) };
 
     ghost view = { λ file. record { tree = file.tree; rows = file.rows } };
 }

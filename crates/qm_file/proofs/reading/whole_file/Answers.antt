@@ -3,4 +3,4 @@ use Rattle.qm_formats.proofs.WholeFile.{read_file_ends}
 use Rattle.qm_file.proofs.reading.whole_file.Goals as goal
 
 pub returns : goal.returns
-returns c = read_file_ends c.args.bytes.now _ _ (λ i. omega (arith, c.type_inv.bytes i)) c.in_ok-file.ensures (omega (arith, c.len.ensures, c.if-bytes-gt.false)) (omega (arith, c.len-2.ensures, c.if-next-bytes.false))
+returns c = read_file_ends c.args.bytes.now _ _ (λ i. omega (arith, c.type_inv.bytes i)) c.in_ok-file.ensures c.if-bytes-gt-FILE_LIMIT.false c.if-next-bytes.false

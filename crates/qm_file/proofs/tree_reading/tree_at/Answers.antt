@@ -1,4 +1,5 @@
 use Rattle.std.proofs.Common.{arith}
+use Rattle.qm_formats.specs.FileLayout.{planes_layout}
 use Rattle.qm_formats.proofs.ExactFile.{header_exact, right_counts}
 use Rattle.qm_file.specs.inner.SeenHeader.{seen_header}
 use Rattle.qm_file.proofs.Answered.{made_of_read}
@@ -11,5 +12,6 @@ nodes_at-requires c =
     (right_counts header found.right).one_leaf_more
 
 pub tree_of-requires : goal.tree_of-requires
+unfolding planes_layout
 tree_of-requires c =
     made_of_read c.args.bytes.now (seen_header c.args.header.now) (λ i. omega (arith, c.type_inv.bytes i)) c.requires c.in_ok-planes.ensures.gives c.in_ok-nodes.ensures c.in_ok-leaves.ensures
