@@ -1,6 +1,7 @@
 #!/usr/bin/env python3
 """Holds crates.txt to docs/ARCHITECTURE.md: each crate has one row in the table and each row a crate, the row says
-what the crate stands on, and nothing below the crate is something on which it may not stand; in the picture of the
+what the crate stands on, and nothing below the crate is something on which it may not stand; definitions, lemmas and
+types stand on no code; in the picture of the
 layers each crate stands once, above or to the right of what it stands on. Each crate has a page docs/crates/NAME.md
 and a row in docs/GATE.md. README.md names as trusted exactly the spec modules of each crate but those below
 specs/inner."""
@@ -10,7 +11,8 @@ import re
 import sys
 
 HEAD = ["crate", "what it is", "kind", "stands on", "may not stand on"]
-KINDS = {"definitions", "lemma library", "code", "tests", "program"}
+KINDS = {"definitions", "lemma library", "types", "code", "tests", "program"}
+WITHOUT_CODE = {"definitions", "lemma library", "types"}
 
 
 def crates():
@@ -71,6 +73,9 @@ def faults():
         forbidden = names(never) | (code if re.search(r"\bany code\b", never) else set())
         for other in sorted(all_below(name, known) & forbidden):
             yield f"{name} may not stand on {other}, and does"
+        for other in sorted(known[name]):
+            if kind in WITHOUT_CODE and kinds.get(other, kind) not in WITHOUT_CODE:
+                yield f"{name}, whose kind is '{kind}', stands on {other}, whose kind is '{kinds[other]}'"
         for other in sorted(names(never) - set(known)):
             yield f"{name}: the table names {other}, which is no crate"
     pages = {page.stem for page in Path("docs/crates").glob("*.md")}

@@ -50,4 +50,5 @@ check "no word looks like a label" has_no_labels
 check "no path of a machine is named" has_no_paths_of_a_machine
 check "README.md is below 120 lines" has_a_short_readme
 check "docs/ARCHITECTURE.md has each crate with what it stands on" python3 .ci/check_crates.py
+check "each name has one meaning" python3 .ci/check_names.py
 check "each file that a page names is there" python3 .ci/check_links.py

@@ -7,7 +7,7 @@
 
 mod rows;
 
-ghost use Rattle.qm_grammar.specs.Valid.{IsValid};
+ghost use Rattle.qm_grammar.specs.Valid.{IsValidMap};
 ghost use Rattle.qm_contacts.specs.Contacts.{AreContacts};
 
 use crate::rows::rows_up_to;
@@ -54,7 +54,7 @@ fn run_up_to<R: AllocGlobal + Files + Print>(rt: &R, phase: &str, name: &str) ->
 
 /// Goes on with a map to a phase.
 fn go_on<R: AllocGlobal + Print>(rt: &R, phase: &str, map: &MapFile) -> io::Result<()>
-    requires { IsValid map.now }
+    requires { IsValidMap map.now }
 {
     if phase == "parse" {
         return println!(rt; "entities {}", map.entities.len());

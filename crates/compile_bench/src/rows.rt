@@ -1,7 +1,7 @@
 //! From a tree to the rows of its leaves.
 
 ghost use Rattle.std.specs.Prelude.{◌≡◌, length, IfOk, IfSome};
-ghost use Rattle.qm_grammar.specs.Valid.{IsValid};
+ghost use Rattle.qm_grammar.specs.Valid.{IsValidMap};
 ghost use Rattle.qm_partition.specs.Counting.{leaf_count};
 ghost use Rattle.qm_partition.specs.Ways.{HasPoints};
 ghost use Rattle.qm_contacts.specs.Contacts.{AreContacts};
@@ -24,7 +24,7 @@ pub fn rows_up_to<R: AllocGlobal + Print>(
     map: &MapFile,
     tree: Tree,
 ) -> io::Result<()>
-    requires map { IsValid map.now }
+    requires map { IsValidMap map.now }
     requires points { HasPoints tree }
 {
     let world = filled_world(rt.alloc(), map, tree)?;
@@ -41,7 +41,7 @@ pub fn rows_up_to<R: AllocGlobal + Print>(
 
 /// The world of the tree, filled where an entity is that does not leak.
 fn filled_world(alloc: Global, map: &MapFile, tree: Tree) -> Result<World, AllocError>
-    requires map { IsValid map.now }
+    requires map { IsValidMap map.now }
     requires points { HasPoints tree }
 {
     let contacts = touches(alloc, &tree)?;
@@ -58,7 +58,7 @@ fn filled(
     tree: &Tree,
     contacts: &TouchList,
 ) -> Result<Option<BitRow>, AllocError>
-    requires map { IsValid map.now }
+    requires map { IsValidMap map.now }
     requires contacts { AreContacts tree.now contacts.now }
     ensures { IfOk result (λ found. IfSome found (λ row. length row ≡ leaf_count tree.now.shape)) }
 {

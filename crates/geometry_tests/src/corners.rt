@@ -1,6 +1,6 @@
 //! Corners at halves and thirds, rounded by hand.
 
-ghost use Rattle.qm_geom.specs.Rounding.{HasSmallCoordinates};
+ghost use Rattle.qm_space.specs.Coordinates.{HasSmallCoordinates};
 
 use crate::shapes::{cut_by, floor, on, through};
 use qm_geom::{Corner, least_distance};

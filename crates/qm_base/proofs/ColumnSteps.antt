@@ -4,11 +4,11 @@ use Rattle.std.proofs.lemmas.Bool.{cases_eq, cases_lt}
 use Rattle.std.proofs.lemmas.Nat.{and_mask}
 use Rattle.std.proofs.lemmas.List.{length-set, length-replicate, get_or-set_same, get_or-set_other, get_or_past, get_or-take, get_or-drop}
 use Rattle.qm_lists.specs.WorkList.{IsIn}
-use Rattle.qm_bits.specs.Word.{has_bit, IsMasked}
-use Rattle.qm_bits.specs.Union.{IsUnion}
-use Rattle.qm_bits.proofs.Bits.{has_bit-or, has_bit-zero}
+use Rattle.qm_lists.specs.Word.{has_bit, IsMasked}
+use Rattle.qm_lists.specs.Union.{IsUnion}
+use Rattle.qm_lists.proofs.Bits.{has_bit-or, has_bit-zero}
 use Rattle.qm_base.specs.inner.Sweeping.{IsInLane, IsColumn}
-use Rattle.qm_base.specs.inner.Columns.{IsFull, FullSoFar, IsGathered, GatheredSoFar, ColumnSoFar}
+use Rattle.qm_base.specs.inner.Columns.{IsFullRow, FullSoFar, IsGathered, GatheredSoFar, ColumnSoFar}
 use Rattle.qm_base.specs.inner.Ways.{block_of}
 use Rattle.qm_base.proofs.Words.{or_true, one_bit}
 
@@ -26,7 +26,7 @@ full_more count place row within so_far = record {
       (cases_eq k place);
 }
 
-pub full_all : (count place : ℕ) (row : List Bool) → count ≤ place → FullSoFar count place row → IsFull count row
+pub full_all : (count place : ℕ) (row : List Bool) → count ≤ place → FullSoFar count place row → IsFullRow count row
 full_all count place row all so_far = record { wide = so_far.wide; each = λ k less. so_far.each k (omega (arith, less, all)) }
 
 -- ---- the bits of a word
@@ -86,7 +86,7 @@ module _ (words : List ℕ) (bit : ℕ) where
 -- ---- a row, word by word
 
 module _ (words : List ℕ) (bit : ℕ) where
-  pub column_none : (row all new : List Bool) → length row ≡ length words → IsFull (length words) all → IsUnion row all new → ColumnSoFar words bit 0 new
+  pub column_none : (row all new : List Bool) → length row ≡ length words → IsFullRow (length words) all → IsUnion row all new → ColumnSoFar words bit 0 new
   column_none row all new wide full union = record {
     wide = union.same_length ∙ wide;
     done = λ leaf less within. absurd (omega (arith, less));

@@ -8,7 +8,7 @@ use Rattle.std.proofs.lemmas.Option.{slice_get_within}
 use Rattle.qm_contacts.specs.Portals.{Portal}
 use Rattle.qm_contacts.specs.World.{World, AreLeaving}
 use Rattle.qm_base.specs.inner.Following.{leaves_of_world}
-use Rattle.qm_base.specs.inner.Entering.{AreEntered, EnteredSoFar}
+use Rattle.qm_base.specs.inner.Entering.{AreEnteredLeaves, EnteredSoFar}
 use Rattle.qm_base.proofs.SweepSteps.{leaving_within}
 
 module _ (world : World) where
@@ -42,7 +42,7 @@ module _ (world : World) where
           let each = so_far.one_each in
           get_or_append_left entered (leaf ∷ []) 0 q (omega (arith, less, each)) ∙ so_far.each q other less is
 
-  pub entered_all : (place : ℕ) (entered : List ℕ) → length world.portals ≡ place → EnteredSoFar world place entered → AreEntered world entered
+  pub entered_all : (place : ℕ) (entered : List ℕ) → length world.portals ≡ place → EnteredSoFar world place entered → AreEnteredLeaves world entered
   entered_all place entered all so_far = record {
     one_each = so_far.one_each ∙ sym all;
     within = so_far.within;
@@ -50,7 +50,7 @@ module _ (world : World) where
   }
 
 -- of a portal that leaves a leaf: its place is one of theirs, and it enters a leaf
-module _ (world : World) (entered : List ℕ) (are : AreEntered world entered) (leaf : ℕ) (places : List ℕ) (leaving : AreLeaving world.portals leaf places) (i : ℕ) (within : i < length places) where
+module _ (world : World) (entered : List ℕ) (are : AreEnteredLeaves world entered) (leaf : ℕ) (places : List ℕ) (leaving : AreLeaving world.portals leaf places) (i : ℕ) (within : i < length places) where
   pub place_entered : get_or places i 0 < length entered
   place_entered =
       let one = leaving_within world.portals leaf places leaving i 0 within in

@@ -15,7 +15,7 @@ use Rattle.qm_base.specs.declared.lane.Lane.{Lane}
 use Rattle.qm_base.specs.inner.Following.{leaves_of_world, IsCoarseRowAt}
 use Rattle.qm_base.specs.inner.Lanes.{IsLane, AreLanes}
 use Rattle.qm_base.specs.inner.Ways.{block_of, AreWays}
-use Rattle.qm_base.specs.inner.Sweeping.{GoesBy, Enters, AreFlooded, IsColumn}
+use Rattle.qm_base.specs.inner.Sweeping.{LeadsInLane, EntersInLane, AreFlooded, IsColumn}
 use Rattle.qm_base.specs.inner.Blocks.{HasCoarseRow, AreWritten, WrittenSoFar, BlocksSoFar}
 use Rattle.qm_base.proofs.LaneSteps.{lane_at}
 use Rattle.qm_base.proofs.WaySteps.{of_block, in_block}
@@ -29,13 +29,13 @@ module _ (world : World) (lanes : List Lane) (are : AreLanes world.portals lanes
   own : IsLane world.portals lane
   own = let at = of_block block lanes j lane lane_is in lane_at world.portals lanes are.each (64 * block + j) lane at.1
 
-  begins : (n : ℕ) → Enters world.portals (block_of block lanes) j n → n ≡ own.portal.to
+  begins : (n : ℕ) → EntersInLane world.portals (block_of block lanes) j n → n ≡ own.portal.to
   begins n enters =
       let same = same_of (block_of block lanes) j enters.lane lane enters.lane_is lane_is in
       let portal = same_of world.portals lane.portal enters.portal own.portal (ap (λ (l : Lane). slice_get world.portals l.portal) (sym same) ∙ enters.portal_is) own.portal_is in
       sym enters.to ∙ ap (λ (p : Portal). p.to) portal
 
-  goes : (a b : ℕ) → GoesBy world.portals ways j a b → GoesOnFrom world.portals own.portal a b
+  goes : (a b : ℕ) → LeadsInLane world.portals ways j a b → GoesOnFrom world.portals own.portal a b
   goes a b one =
       let within = slice_get_within world.portals one.place one.portal one.portal_is in
       let follows = (words.each one.place within j).0 one.passes in
@@ -50,7 +50,7 @@ module _ (world : World) (lanes : List Lane) (are : AreLanes world.portals lanes
         follows = subst (λ (p : Portal). MayFollow p one.portal) first (subst (MayFollow follows.follows.first) second follows.follows.follows);
       }
 
-  goes_back : (a b : ℕ) → GoesOnFrom world.portals own.portal a b → GoesBy world.portals ways j a b
+  goes_back : (a b : ℕ) → GoesOnFrom world.portals own.portal a b → LeadsInLane world.portals ways j a b
   goes_back a b one =
       let place = one.listed.0 in
       let there : slice_get world.portals place ≡ Some one.portal = slice_get-get_or world.portals place one.portal one.listed.1 ∙ ap Some one.listed.2 in
@@ -74,9 +74,9 @@ module _ (world : World) (lanes : List Lane) (are : AreLanes world.portals lanes
     is = record {
       one_each = column.wide ∙ flooded.wide;
       exactly = λ n. (
-        (λ is. least (Enters world.portals (block_of block lanes) j) (GoesBy world.portals ways j) (Reach (λ m. m ≡ own.portal.to) (GoesOnFrom world.portals own.portal))
+        (λ is. least (EntersInLane world.portals (block_of block lanes) j) (LeadsInLane world.portals ways j) (Reach (λ m. m ≡ own.portal.to) (GoesOnFrom world.portals own.portal))
             (λ m enters. start (begins m enters)) (λ a b reached one. onward reached (goes a b one)) n ((flooded.exactly j n).0 ((column.exactly n).0 is))),
-        (λ reached. (column.exactly n).1 ((flooded.exactly j n).1 (least (λ m. m ≡ own.portal.to) (GoesOnFrom world.portals own.portal) (Reach (Enters world.portals (block_of block lanes) j) (GoesBy world.portals ways j))
+        (λ reached. (column.exactly n).1 ((flooded.exactly j n).1 (least (λ m. m ≡ own.portal.to) (GoesOnFrom world.portals own.portal) (Reach (EntersInLane world.portals (block_of block lanes) j) (LeadsInLane world.portals ways j))
             (λ m at. start (record { lane = lane; portal = own.portal; lane_is = lane_is; portal_is = own.portal_is; to = sym at })) (λ a b before one. onward before (goes_back a b one)) n reached))),
       );
     };

@@ -5,8 +5,8 @@ use Rattle.std.proofs.lemmas.Bool.{cases_eq}
 use Rattle.std.proofs.lemmas.List.Elements.{Contains-append_left, Contains-push, Contains-push_cases}
 use Rattle.std.proofs.lemmas.Option.{slice_get_within}
 use Rattle.qm_lists.proofs.Elements.{Contains-at, Contains-nil}
-use Rattle.qm_bits.specs.Word.{has_bit}
-use Rattle.qm_bits.proofs.Bits.{has_bit-or, has_bit-zero}
+use Rattle.qm_lists.specs.Word.{has_bit}
+use Rattle.qm_lists.proofs.Bits.{has_bit-or, has_bit-zero}
 use Rattle.qm_base.specs.declared.table.Kind.{Kind}
 use Rattle.qm_base.specs.declared.runs.Run.{Run}
 use Rattle.qm_base.specs.inner.Runs.{IsOfKind, HasRun, AreRuns, RunsSoFar, LanesSoFar}

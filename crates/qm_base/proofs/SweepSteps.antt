@@ -6,8 +6,8 @@ use Rattle.std.proofs.lemmas.List.{length-set, length-replicate, get_or-set_same
 use Rattle.std.proofs.lemmas.List.Elements.{Contains-append_left, Contains-push, Contains-push_cases, Contains-get_or, All-from_get_or}
 use Rattle.std.proofs.lemmas.List.Sums.{sum_by-set, sum_by-le}
 use Rattle.std.proofs.lemmas.Option.{slice_get_within}
-use Rattle.qm_bits.specs.Word.{has_bit}
-use Rattle.qm_bits.proofs.Bits.{has_bit-zero, has_bit-and}
+use Rattle.qm_lists.specs.Word.{has_bit}
+use Rattle.qm_lists.proofs.Bits.{has_bit-zero, has_bit-and}
 use Rattle.qm_lists.specs.Reach.{Reach, start, onward}
 use Rattle.qm_lists.proofs.Cases.{both_yes}
 use Rattle.qm_lists.proofs.Reached.{least}
@@ -16,7 +16,7 @@ use Rattle.qm_contacts.specs.Portals.{Portal}
 use Rattle.qm_contacts.specs.World.{World, AreLeaving}
 use Rattle.qm_base.specs.declared.lane.Lane.{Lane}
 use Rattle.qm_base.specs.inner.Following.{leaves_of_world}
-use Rattle.qm_base.specs.inner.Sweeping.{IsInLane, GoesBy, Enters, EntersBy, AreBegun, ArePassed, IsGrown, IsSpread, IsSpreadBy, IsPassed, IsPassing, IsSweep, IsFlooded, AreFlooded, BegunSoFar, SweepUpTo, SweepDownTo}
+use Rattle.qm_base.specs.inner.Sweeping.{IsInLane, LeadsInLane, EntersInLane, EntersBy, AreBegun, ArePassed, IsGrown, IsSpread, IsSpreadBy, IsPassed, IsPassing, IsSweep, IsFlooded, AreFlooded, BegunSoFar, SweepUpTo, SweepDownTo}
 use Rattle.qm_base.proofs.Words.{bits_set, one_bit, has_due, due_or_not, more_bits, none_due}
 
 same_of : {X : Type 0} (xs : List X) (k : ℕ) (a b : X) → slice_get xs k ≡ Some a → slice_get xs k ≡ Some b → a ≡ b
@@ -54,20 +54,20 @@ module _ (world : World) (lanes : List Lane) where
       in_seen : portal.to < length seen
       in_seen = let wide = so_far.wide in omega (arith, within, wide)
 
-      there : (bit leaf : ℕ) → IsInLane (set seen portal.to word) bit leaf → (bit < place + 1) × Enters world.portals lanes bit leaf
+      there : (bit leaf : ℕ) → IsInLane (set seen portal.to word) bit leaf → (bit < place + 1) × EntersInLane world.portals lanes bit leaf
       there bit leaf is = ⊎_elim
           (λ was. let both = (so_far.exactly bit leaf).0 was in (omega (arith, both.0), both.1))
           (λ now. let here = (one_bit place bit few).0 now.1 in
           (omega (arith, here), record { lane = lane; portal = portal; lane_is = ap (slice_get lanes) here ∙ lane_is; portal_is = portal_is; to = sym now.0 }))
           ((bits_set seen portal.to (1 * 2 ^ place % 2 ^ 64) in_seen bit leaf).0 is)
 
-      at_place : (bit leaf : ℕ) → Enters world.portals lanes bit leaf → bit ≡ place → IsInLane seen bit leaf ⊎ ((leaf ≡ portal.to) × (has_bit (1 * 2 ^ place % 2 ^ 64) bit ≡ true))
+      at_place : (bit leaf : ℕ) → EntersInLane world.portals lanes bit leaf → bit ≡ place → IsInLane seen bit leaf ⊎ ((leaf ≡ portal.to) × (has_bit (1 * 2 ^ place % 2 ^ 64) bit ≡ true))
       at_place bit leaf enters here =
           let lane_of = same_of lanes place enters.lane lane (ap (slice_get lanes) (sym here) ∙ enters.lane_is) lane_is in
           let portal_of = same_of world.portals lane.portal enters.portal portal (ap (λ (l : Lane). slice_get world.portals l.portal) (sym lane_of) ∙ enters.portal_is) portal_is in
           inr (sym enters.to ∙ ap (λ (p : Portal). p.to) portal_of, (one_bit place bit few).1 here)
 
-      back : (bit leaf : ℕ) → (bit < place + 1) × Enters world.portals lanes bit leaf → IsInLane (set seen portal.to word) bit leaf
+      back : (bit leaf : ℕ) → (bit < place + 1) × EntersInLane world.portals lanes bit leaf → IsInLane (set seen portal.to word) bit leaf
       back bit leaf both = (bits_set seen portal.to (1 * 2 ^ place % 2 ^ 64) in_seen bit leaf).1 (⊎_elim (at_place bit leaf both.1) (λ other. inl ((so_far.exactly bit leaf).1 (omega (arith, both.0, other), both.1))) (cases_eq bit place))
 
   pub begun_all : (place : ℕ) (seen : List ℕ) → length lanes ≤ place → BegunSoFar world lanes place seen → AreBegun world lanes seen
@@ -163,13 +163,13 @@ module _ (portals : List Portal) (ways : List ℕ) (due : ℕ) (old : List ℕ) 
     );
   }
     where
-      goes : (bit b : ℕ) → EntersBy portals ways places bit b → GoesBy portals ways bit leaf b
+      goes : (bit b : ℕ) → EntersBy portals ways places bit b → LeadsInLane portals ways bit leaf b
       goes bit b one =
           let leaves = (leaving.leave one.place).0 one.listed in
           let same = same_of portals one.place leaves.0 one.portal leaves.1 one.portal_is in
           record { place = one.place; portal = one.portal; portal_is = one.portal_is; from = sym (ap (λ (p : Portal). p.from) same) ∙ leaves.2; to = one.to; passes = one.passes }
 
-      enters : (bit b : ℕ) → GoesBy portals ways bit leaf b → EntersBy portals ways places bit b
+      enters : (bit b : ℕ) → LeadsInLane portals ways bit leaf b → EntersBy portals ways places bit b
       enters bit b one = record {
         place = one.place;
         portal = one.portal;
@@ -187,7 +187,7 @@ grown_none portals ways words = record { stays = λ bit leaf is. is; reached = �
 pub grown_twice : (portals : List Portal) (ways old middle new : List ℕ) → IsGrown portals ways old middle → IsGrown portals ways middle new → IsGrown portals ways old new
 grown_twice portals ways old middle new first second = record {
   stays = λ bit leaf is. second.stays bit leaf (first.stays bit leaf is);
-  reached = λ bit leaf is. least (IsInLane middle bit) (GoesBy portals ways bit) (Reach (IsInLane old bit) (GoesBy portals ways bit)) (λ m was. first.reached bit m was) (λ from to reached goes. onward reached goes) leaf (second.reached bit leaf is);
+  reached = λ bit leaf is. least (IsInLane middle bit) (LeadsInLane portals ways bit) (Reach (IsInLane old bit) (LeadsInLane portals ways bit)) (λ m was. first.reached bit m was) (λ from to reached goes. onward reached goes) leaf (second.reached bit leaf is);
 }
 
 -- ---- a leaf is passed
@@ -259,13 +259,13 @@ module _ (world : World) (ways : List ℕ) (leaf : ℕ) (seen passed : List ℕ)
       only : (bit m : ℕ) → IsInLane new_passed bit m → IsInLane new bit m
       only bit m is = (spread.exactly bit m).1 (inl (⊎_elim (λ was. are.only_seen bit m was) (λ both. subst (IsInLane seen bit) (sym both.0) both.1) (known bit m is)))
 
-      from_leaf : (bit a b : ℕ) → (a ≡ leaf) × IsInLane seen bit leaf → GoesBy world.portals ways bit a b → IsInLane seen bit b ⊎ ((has_bit (bit_xor (get_or seen leaf 0) (get_or passed leaf 0)) bit ≡ true) × GoesBy world.portals ways bit leaf b)
+      from_leaf : (bit a b : ℕ) → (a ≡ leaf) × IsInLane seen bit leaf → LeadsInLane world.portals ways bit a b → IsInLane seen bit b ⊎ ((has_bit (bit_xor (get_or seen leaf 0) (get_or passed leaf 0)) bit ≡ true) × LeadsInLane world.portals ways bit leaf b)
       from_leaf bit a b both goes = ⊎_elim
-          (λ before. inl (are.closed bit leaf b before (subst (λ (n : ℕ). GoesBy world.portals ways bit n b) both.0 goes)))
-          (λ due. inr (due, subst (λ (n : ℕ). GoesBy world.portals ways bit n b) both.0 goes))
+          (λ before. inl (are.closed bit leaf b before (subst (λ (n : ℕ). LeadsInLane world.portals ways bit n b) both.0 goes)))
+          (λ due. inr (due, subst (λ (n : ℕ). LeadsInLane world.portals ways bit n b) both.0 goes))
           (due_or_not (get_or seen leaf 0) (get_or passed leaf 0) bit both.1)
 
-      closed_now : (bit a b : ℕ) → IsInLane new_passed bit a → GoesBy world.portals ways bit a b → IsInLane new bit b
+      closed_now : (bit a b : ℕ) → IsInLane new_passed bit a → LeadsInLane world.portals ways bit a b → IsInLane new bit b
       closed_now bit a b is goes =
           (spread.exactly bit b).1 (⊎_elim (λ was. inl (are.closed bit a b was goes)) (λ both. from_leaf bit a b both goes) (known bit a is))
 
@@ -365,9 +365,9 @@ pub lanes_flooded : (world : World) (ways : List ℕ) (lanes : List Lane) (first
 lanes_flooded world ways lanes first seen begun flooded = record {
   wide = flooded.wide;
   exactly = λ bit leaf. (
-    (λ is. least (IsInLane first bit) (GoesBy world.portals ways bit) (Reach (Enters world.portals lanes bit) (GoesBy world.portals ways bit))
+    (λ is. least (IsInLane first bit) (LeadsInLane world.portals ways bit) (Reach (EntersInLane world.portals lanes bit) (LeadsInLane world.portals ways bit))
         (λ m was. start ((begun.exactly bit m).0 was)) (λ from to reached goes. onward reached goes) leaf (flooded.grown.reached bit leaf is)),
-    (λ reached. least (Enters world.portals lanes bit) (GoesBy world.portals ways bit) (IsInLane seen bit)
+    (λ reached. least (EntersInLane world.portals lanes bit) (LeadsInLane world.portals ways bit) (IsInLane seen bit)
         (λ m enters. flooded.grown.stays bit m ((begun.exactly bit m).1 enters)) (λ from to is goes. flooded.closed bit from to is goes) leaf reached),
   );
 }

@@ -8,8 +8,8 @@ use Rattle.std.proofs.lemmas.Option.{slice_get-get_or, slice_get_within}
 use Rattle.qm_lists.specs.WorkList.{IsIn}
 use Rattle.qm_lists.proofs.Cases.{both_yes}
 use Rattle.qm_lists.proofs.Elements.{Contains-nil}
-use Rattle.qm_bits.specs.Word.{has_bit, IsWord}
-use Rattle.qm_bits.proofs.Bits.{has_bit-or, has_bit-and, has_bit-zero}
+use Rattle.qm_lists.specs.Word.{has_bit, IsWord}
+use Rattle.qm_lists.proofs.Bits.{has_bit-or, has_bit-and, has_bit-zero}
 use Rattle.qm_space.specs.Turned.{turned}
 use Rattle.qm_convex.specs.Sides.{HasCornerInFront, HasCornerBehind}
 use Rattle.qm_contacts.specs.Portals.{Portal}
@@ -19,7 +19,7 @@ use Rattle.qm_base.specs.declared.table.Kind.{Kind}
 use Rattle.qm_base.specs.declared.runs.Run.{Run}
 use Rattle.qm_base.specs.inner.Tables.{ahead, back, AreKinds, IsTable}
 use Rattle.qm_base.specs.inner.Runs.{AreRuns}
-use Rattle.qm_base.specs.inner.Ways.{block_of, IsAheadOf, MayPass, IsWay, FollowsLane, AreWays, WaysSoFar, BeforeSoFar}
+use Rattle.qm_base.specs.inner.Ways.{block_of, IsAheadOf, MayFollowInBlock, IsWay, FollowsLane, AreWays, WaysSoFar, BeforeSoFar}
 use Rattle.qm_base.proofs.Words.{or_true}
 use Rattle.qm_base.proofs.LaneSteps.{lane_at}
 use Rattle.qm_base.proofs.TableSteps.{ahead_says, back_says}
@@ -128,7 +128,7 @@ module _ (kinds : List Kind) (table : List Beside) (block k word : ℕ) (own : K
     pub one_way : IsWay kinds table block k (bit_and word before)
     one_way = record { exactly = λ j. (there j, back_from j) }
       where
-        there : (j : ℕ) → has_bit (bit_and word before) j ≡ true → MayPass kinds table block k j
+        there : (j : ℕ) → has_bit (bit_and word before) j ≡ true → MayFollowInBlock kinds table block k j
         there j is =
             let both = both_yes (has_bit word j) (has_bit before j) (sym (has_bit-and word before j) ∙ is) in
             let of = (says j).0 both.1 in
@@ -136,7 +136,7 @@ module _ (kinds : List Kind) (table : List Beside) (block k word : ℕ) (own : K
             let within = (of_block block kinds j of.run.kind kind_is).0 in
             record { kind = of.run.kind; own = own; kind_is = kind_is; own_is = own_is; back = sym (reads j within) ∙ both.0; ahead = of.is }
 
-        back_from : (j : ℕ) → MayPass kinds table block k j → has_bit (bit_and word before) j ≡ true
+        back_from : (j : ℕ) → MayFollowInBlock kinds table block k j → has_bit (bit_and word before) j ≡ true
         back_from j passes =
             let within = (of_block block kinds j passes.kind passes.kind_is).0 in
             let same = same_of kinds k passes.own own passes.own_is own_is in
@@ -158,7 +158,7 @@ module _ (portals : List Portal) (lanes : List Lane) (kinds : List Kind) (table 
   pub way_follows : (j : ℕ) → (has_bit word j ≡ true) ↔ FollowsLane portals lanes block lane.portal j
   way_follows j = ((λ is. there ((way.exactly j).0 is)), (λ follows. (way.exactly j).1 (back_from follows)))
     where
-      there : MayPass kinds table block k j → FollowsLane portals lanes block lane.portal j
+      there : MayFollowInBlock kinds table block k j → FollowsLane portals lanes block lane.portal j
       there passes =
           let at = of_block block kinds j passes.kind passes.kind_is in
           let first = get_or lanes (64 * block + j) lane in
@@ -186,7 +186,7 @@ module _ (portals : List Portal) (lanes : List Lane) (kinds : List Kind) (table 
             };
           }
 
-      back_from : FollowsLane portals lanes block lane.portal j → MayPass kinds table block k j
+      back_from : FollowsLane portals lanes block lane.portal j → MayFollowInBlock kinds table block k j
       back_from one =
           let at = of_block block lanes j one.lane one.lane_is in
           let first = one.lane in

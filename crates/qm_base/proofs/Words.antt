@@ -6,8 +6,8 @@ use Rattle.std.proofs.lemmas.Bool.{cases_eq}
 use Rattle.std.proofs.lemmas.Nat.{le_or_l}
 use Rattle.std.proofs.lemmas.List.{get_or-set_same, get_or-set_other}
 use Rattle.std.proofs.lemmas.Nat.Bits.{bit_at_or, bit_at_xor, bit_at-lt, bit_at-zero, same_from_bits}
-use Rattle.qm_bits.specs.Word.{has_bit}
-use Rattle.qm_bits.proofs.Bits.{has_bit-or, has_bit-set_same, has_bit-set_other, has_bit-zero}
+use Rattle.qm_lists.specs.Word.{has_bit}
+use Rattle.qm_lists.proofs.Bits.{has_bit-or, has_bit-set_same, has_bit-set_other, has_bit-zero}
 use Rattle.qm_base.specs.inner.Sweeping.{IsInLane}
 
 -- ---- both bits

@@ -2,14 +2,14 @@
 
 ghost use Rattle.std.specs.Prelude.{◌<◌, ◌≤◌, length, IfOk};
 ghost use Rattle.qm_base.specs.inner.Sweeping.{IsColumn};
-ghost use Rattle.qm_base.specs.inner.Columns.{IsFull, IsGathered};
+ghost use Rattle.qm_base.specs.inner.Columns.{IsFullRow, IsGathered};
 
 use qm_bits::BitRow;
 use std::alloc::{AllocError, Global};
 
 /// A row with all of so many places.
 pub(crate) fn full(alloc: Global, count: u64) -> Result<BitRow, AllocError>
-    ensures { IfOk result (IsFull count) }
+    ensures { IfOk result (IsFullRow count) }
 {
     let mut row = BitRow::with_len(alloc, count)?;
     for place in 0..count {
@@ -26,7 +26,7 @@ pub(crate) fn column(
     bit: usize,
 ) -> Result<BitRow, AllocError>
     requires bit { bit < 64 }
-    requires all { IsFull (length seen.now) all.now }
+    requires all { IsFullRow (length seen.now) all.now }
     ensures { IfOk result (λ row. IsColumn seen.now bit row) }
 {
     let mut row = BitRow::with_len(alloc, seen.len() as u64)?;

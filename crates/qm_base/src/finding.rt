@@ -3,7 +3,7 @@ ghost use Rattle.qm_contacts.specs.NumberedLeaves.{numbered_leaves};
 ghost use Rattle.qm_coarse_rows.specs.CoarseRow.{AreCoarseRows};
 ghost use Rattle.qm_segments.specs.Sight.{AreSoundRows};
 ghost use Rattle.qm_base.specs.inner.Tables.{IsTable};
-ghost use Rattle.qm_base.specs.inner.Entering.{AreEntered};
+ghost use Rattle.qm_base.specs.inner.Entering.{AreEnteredLeaves};
 ghost use Rattle.qm_base.specs.inner.Blocks.{IsBlockDone};
 
 use crate::column::{column, full};
@@ -57,7 +57,7 @@ fn add_block(
     rows: &mut [BitRow],
 ) -> Result<(), AllocError>
     requires table { IsTable world.now.portals table.now.lanes.items table.now.kinds.items table.now.beside.items }
-    requires entered { AreEntered world.now entered.now }
+    requires entered { AreEnteredLeaves world.now entered.now }
     requires block { 64 * block < length world.now.portals }
     requires ways { length ways.old ≡ length world.now.portals }
     requires rows { length rows.old ≡ length world.now.portals }

@@ -1,7 +1,7 @@
 //! The kinds of some lanes, each once.
 
 ghost use Rattle.std.specs.Prelude.{◌≡◌, ◌≤◌, ◌<◌, ◌↔◌, ℕ, true, Some, slice_get, length, IfOk, IsTrue};
-ghost use Rattle.qm_bits.specs.Word.{has_bit};
+ghost use Rattle.qm_lists.specs.Word.{has_bit};
 ghost use Rattle.qm_base.specs.inner.Runs.{AreRuns, IsOfKind, IsRepeated};
 
 use crate::table::Kind;

@@ -3,7 +3,7 @@
 ghost use Rattle.std.specs.Prelude.{◌≡◌, ◌<◌, ◌≤◌, All, length, IfOk};
 ghost use Rattle.qm_contacts.specs.NumberedLeaves.{numbered_leaves};
 ghost use Rattle.qm_base.specs.inner.Sweeping.{ArePassed, IsPassing, IsSweep, IsSpread, IsFlooded, AreBegun, AreFlooded};
-ghost use Rattle.qm_base.specs.inner.Entering.{AreEntered};
+ghost use Rattle.qm_base.specs.inner.Entering.{AreEnteredLeaves};
 
 use crate::lane::Lane;
 use qm_portal::World;
@@ -19,7 +19,7 @@ pub(crate) fn flooded(
 ) -> Result<Vec<u64>, AllocError>
     requires few { length lanes.now ≤ 64 }
     requires lanes { All (λ lane. lane.portal < length world.now.portals) lanes.now }
-    requires entered { AreEntered world.now entered.now }
+    requires entered { AreEnteredLeaves world.now entered.now }
     requires one_each { length ways.now ≡ length world.now.portals }
     ensures { IfOk result (λ seen. AreFlooded world.now ways.now lanes.now seen.items) }
 {
@@ -45,7 +45,7 @@ fn begun(alloc: Global, world: &World, lanes: &[Lane]) -> Result<Vec<u64>, Alloc
 
 /// Sweeps over the leaves, up and down in turn, until a sweep finds all leaves passed.
 fn flood(world: &World, entered: &[usize], ways: &[u64], seen: &mut [u64], passed: &mut [u64])
-    requires entered { AreEntered world.now entered.now }
+    requires entered { AreEnteredLeaves world.now entered.now }
     requires one_each { length ways.now ≡ length world.now.portals }
     requires passed { ArePassed world.now ways.now seen.old passed.old }
     ensures { IsFlooded world.now ways.now seen.old seen.new }
@@ -68,7 +68,7 @@ fn sweep_up(
     seen: &mut [u64],
     passed: &mut [u64],
 ) -> bool
-    requires entered { AreEntered world.now entered.now }
+    requires entered { AreEnteredLeaves world.now entered.now }
     requires one_each { length ways.now ≡ length world.now.portals }
     requires passed { ArePassed world.now ways.now seen.old passed.old }
     ensures { IsSweep world.now ways.now seen.old seen.new passed.old passed.new result }
@@ -88,7 +88,7 @@ fn sweep_down(
     seen: &mut [u64],
     passed: &mut [u64],
 ) -> bool
-    requires entered { AreEntered world.now entered.now }
+    requires entered { AreEnteredLeaves world.now entered.now }
     requires one_each { length ways.now ≡ length world.now.portals }
     requires passed { ArePassed world.now ways.now seen.old passed.old }
     ensures { IsSweep world.now ways.now seen.old seen.new passed.old passed.new result }
@@ -109,7 +109,7 @@ fn pass(
     seen: &mut [u64],
     passed: &mut [u64],
 ) -> bool
-    requires entered { AreEntered world.now entered.now }
+    requires entered { AreEnteredLeaves world.now entered.now }
     requires one_each { length ways.now ≡ length world.now.portals }
     requires leaf { leaf < length (numbered_leaves world.now.tree) }
     requires passed { ArePassed world.now ways.now seen.old passed.old }
@@ -126,7 +126,7 @@ fn pass(
 
 /// Finds in the lanes that are due what they come to from a leaf.
 fn spread(world: &World, entered: &[usize], ways: &[u64], leaf: usize, due: u64, seen: &mut [u64])
-    requires entered { AreEntered world.now entered.now }
+    requires entered { AreEnteredLeaves world.now entered.now }
     requires one_each { length ways.now ≡ length world.now.portals }
     requires leaf { leaf < length (numbered_leaves world.now.tree) }
     requires wide { length seen.old ≡ length (numbered_leaves world.now.tree) }

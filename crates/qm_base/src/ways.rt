@@ -2,7 +2,7 @@
 
 ghost use Rattle.std.specs.Prelude.{◌≡◌, ◌<◌, ◌*◌, ◌↔◌, ℕ, List, true, length, All, Contains, OnOk};
 ghost use Rattle.qm_contacts.specs.Portals.{Portal};
-ghost use Rattle.qm_bits.specs.Word.{has_bit};
+ghost use Rattle.qm_lists.specs.Word.{has_bit};
 ghost use Rattle.qm_base.specs.inner.Tables.{IsTable, AreKinds};
 ghost use Rattle.qm_base.specs.inner.Runs.{AreRuns};
 ghost use Rattle.qm_base.specs.inner.Ways.{AreWays, IsWay, IsAheadOf, block_of};

@@ -1,20 +1,19 @@
 -- What becomes of a row where its words are written.
-use Rattle.std.proofs.Common.{◌≡◌, ◌≢◌, ℕ, ◌+◌, ◌*◌, ◌/◌, ◌%◌, ◌^◌, ◌<◌, ◌≤◌, Bool, true, false, ◌&&◌, ◌||◌, List, length, get_or, set, replicate, bit_and, bit_or, refl, ap, sym, subst, ◌∙◌, arith, ⊎_elim, ◌⊎◌, inl, inr}
+use Rattle.std.proofs.Common.{◌≡◌, ◌≢◌, ℕ, ◌+◌, ◌*◌, ◌/◌, ◌%◌, ◌^◌, ◌<◌, ◌≤◌, Bool, true, false, ◌&&◌, ◌||◌, List, length, get_or, set, replicate, bit_and, bit_or, refl, ap, ap₂, sym, subst, ◌∙◌, arith, ⊎_elim, ◌⊎◌, inl, inr}
 use Rattle.std.specs.Int.{div_ceil}
-use Rattle.std.proofs.lemmas.Bool.{cases_eq, cases_lt}
-use Rattle.std.proofs.lemmas.List.{length-set, get_or-set_same, get_or-set_other, get_or-replicate, length-replicate}
-use Rattle.qm_bits.specs.Union.{IsUnion}
-use Rattle.qm_bits.specs.Word.{has_bit, IsWord, IsMasked}
+use Rattle.std.proofs.lemmas.Bool.{cases_eq, cases_lt, and_parts}
+use Rattle.std.proofs.lemmas.List.{ext_get_or, length-set, get_or-set_same, get_or-set_other, get_or-replicate, length-replicate}
+use Rattle.qm_lists.specs.CutTo.{IsCutTo}
+use Rattle.qm_lists.specs.Union.{IsUnion}
+use Rattle.qm_lists.specs.WorkList.{IsIn}
+use Rattle.qm_lists.specs.Word.{has_bit, IsWord, IsMasked}
 use Rattle.qm_bits.specs.inner.Rows.{is_set, row_of, IsRow}
-use Rattle.qm_bits.specs.inner.Words.{IsOr}
-use Rattle.qm_bits.proofs.Bits.{has_bit-and, has_bit-or, has_bit-set_same, has_bit-set_other}
+use Rattle.qm_bits.specs.inner.Words.{IsOfBoth}
+use Rattle.qm_lists.proofs.Bits.{has_bit-and, has_bit-or, has_bit-set_same, has_bit-set_other}
 use Rattle.qm_bits.proofs.Rows.{length-row_of, place_of, same_row, word_within, word_number_within, is_set-at, is_set-past, is_set-other_word, is_set-written, is_set-in, is_set-zeros, same_counts}
 
 and_same : {a b c d : Bool} → a ≡ b → c ≡ d → (a && c) ≡ (b && d)
 and_same {a} {b} {c} {d} e f = ap (λ (x : Bool). x && c) e ∙ ap (λ (x : Bool). b && x) f
-
-or_same : {a b c d : Bool} → a ≡ b → c ≡ d → (a || c) ≡ (b || d)
-or_same {a} {b} {c} {d} e f = ap (λ (x : Bool). x || c) e ∙ ap (λ (x : Bool). b || x) f
 
 -- ---- words of zeros
 
@@ -117,42 +116,96 @@ module _ (words : List ℕ) (len k mask : ℕ) (row : IsRow words len) (within :
       both : (bit : ℕ) → bit < 64 → (is_set words (64 * k + bit) && has_bit mask ((64 * k + bit) % 64)) ≡ (get_or (row_of words len) (64 * k + bit) false && has_bit mask bit)
       both bit inside = and_same (sym (place_of words len row (64 * k + bit))) (bit_number bit ((64 * k + bit) % 64) (omega arith))
 
--- ---- a row is added
+-- ---- a row is made of two
 
-module _ (old other new : List ℕ) (len : ℕ) (row : IsRow old len) (added : IsRow other len) (is : IsOr old other new) where
-  in_one : (place : ℕ) → is_set new place ≡ (is_set old place || is_set other place)
-  in_one place = ⊎_elim (λ within. in_a_word within) (λ past. in_none past) (cases_lt (place / 64) (length old))
+-- what is made of two words, bit by bit
+record IsBitwise (of : ℕ → ℕ → ℕ) (op : Bool → Bool → Bool) : Type 0 where
+  pub of_bits : (a b i : ℕ) → has_bit (of a b) i ≡ op (has_bit a i) (has_bit b i)
+  pub of_clear : op false false ≡ false
+
+or_bitwise : IsBitwise bit_or (λ a b. a || b)
+or_bitwise = record { of_bits = has_bit-or; of_clear = refl }
+
+and_bitwise : IsBitwise bit_and (λ a b. a && b)
+and_bitwise = record { of_bits = has_bit-and; of_clear = refl }
+
+module _ (of : ℕ → ℕ → ℕ) (op : Bool → Bool → Bool) (bitwise : IsBitwise of op) (old other new : List ℕ) (len : ℕ) (row : IsRow old len) (added : IsRow other len) (is : IsOfBoth of old other new) where
+  at_place : (place : ℕ) → is_set new place ≡ op (is_set old place) (is_set other place)
+  at_place place = ⊎_elim (λ within. in_a_word within) (λ past. in_none past) (cases_lt (place / 64) (length old))
     where
-      in_a_word : place / 64 < length old → is_set new place ≡ (is_set old place || is_set other place)
+      in_a_word : place / 64 < length old → is_set new place ≡ op (is_set old place) (is_set other place)
       in_a_word within =
-          is_set-in new (place / 64) place refl ∙ ap (λ (w : ℕ). has_bit w (place % 64)) (is.each (place / 64) within) ∙ has_bit-or (get_or old (place / 64) 0) (get_or other (place / 64) 0) (place % 64) ∙ or_same (sym (is_set-in old (place / 64) place refl)) (sym (is_set-in other (place / 64) place refl))
+          is_set-in new (place / 64) place refl ∙ ap (λ (w : ℕ). has_bit w (place % 64)) (is.each (place / 64) within) ∙ bitwise.of_bits (get_or old (place / 64) 0) (get_or other (place / 64) 0) (place % 64) ∙ ap₂ op (sym (is_set-in old (place / 64) place refl)) (sym (is_set-in other (place / 64) place refl))
 
-      in_none : length old ≤ place / 64 → is_set new place ≡ (is_set old place || is_set other place)
+      in_none : length old ≤ place / 64 → is_set new place ≡ op (is_set old place) (is_set other place)
       in_none past =
           let same = is.same_count in
           let count = row.word_count in
           let other_count = added.word_count in
-          is_set-past new place (omega arith) ∙ sym (or_same (is_set-past old place past) (is_set-past other place (omega arith)))
+          is_set-past new place (omega arith) ∙ sym (ap₂ op (is_set-past old place past) (is_set-past other place (omega arith)) ∙ bitwise.of_clear)
 
-  pub union_row : IsRow new len
-  union_row = record {
+  row_of_both : IsRow new len
+  row_of_both = record {
     counted = row.counted;
     word_count = is.same_count ∙ row.word_count;
-    clear_past = λ place past. in_one place ∙ or_same (row.clear_past place past) (added.clear_past place past);
+    clear_past = λ place past. at_place place ∙ ap₂ op (row.clear_past place past) (added.clear_past place past) ∙ bitwise.of_clear;
   }
 
-  pub union_places : IsUnion (row_of old len) (row_of other len) (row_of new len)
-  union_places = record {
-    same_length = length-row_of new len ∙ sym (length-row_of old len);
-    in_one = λ place. place_of new len union_row place ∙ in_one place ∙ sym (or_same (place_of old len row place) (place_of other len added place));
-  }
+  places_of_both : (place : ℕ) → get_or (row_of new len) place false ≡ op (get_or (row_of old len) place false) (get_or (row_of other len) place false)
+  places_of_both place = place_of new len row_of_both place ∙ at_place place ∙ sym (ap₂ op (place_of old len row place) (place_of other len added place))
 
-pub union_of_lists : (old other new : List ℕ) (len other_len : ℕ) (list other_list : List Bool) → row_of old len ≡ list → row_of other other_len ≡ other_list → IsRow old len → IsRow other other_len → length other_list ≡ length list → IsOr old other new → IsRow new len × IsUnion list other_list (row_of new len)
-union_of_lists old other new len other_len list other_list view other_view row other_row same is =
-    (union_row old other new len row added is, rw (sym view) (rw (sym other_view) (subst (λ (n : ℕ). IsUnion (row_of old len) (row_of other n) (row_of new len)) (sym lens) (union_places old other new len row added is))))
+-- the new words are those of a row, each of whose places is made of those of both
+record IsMadeOf (op : Bool → Bool → Bool) (list other_list : List Bool) (new : List ℕ) (len : ℕ) : Type 0 where
+  pub row : IsRow new len
+  pub same_length : length (row_of new len) ≡ length list
+  pub places : (place : ℕ) → get_or (row_of new len) place false ≡ op (get_or list place false) (get_or other_list place false)
+
+made_of_lists : (of : ℕ → ℕ → ℕ) (op : Bool → Bool → Bool) → IsBitwise of op → (old other new : List ℕ) (len other_len : ℕ) (list other_list : List Bool) → row_of old len ≡ list → row_of other other_len ≡ other_list → IsRow old len → IsRow other other_len → length other_list ≡ length list → IsOfBoth of old other new → IsMadeOf op list other_list new len
+made_of_lists of op bitwise old other new len other_len list other_list view other_view row other_row same is = record {
+  row = row_of_both of op bitwise old other new len row added is;
+  same_length = length-row_of new len ∙ sym (length-row_of old len) ∙ ap (λ (l : List Bool). length l) view;
+  places = λ place. places_of_both of op bitwise old other new len row added is place ∙ ap₂ op (ap (λ (l : List Bool). get_or l place false) view) (ap (λ (l : List Bool). get_or l place false) other_list_is);
+}
   where
     lens : other_len ≡ len
     lens = (same_counts old other len other_len list other_list view other_view row other_row same).0
 
     added : IsRow other len
     added = subst (IsRow other) lens other_row
+
+    other_list_is : row_of other len ≡ other_list
+    other_list_is = ap (row_of other) (sym lens) ∙ other_view
+
+pub union_of_lists : (old other new : List ℕ) (len other_len : ℕ) (list other_list : List Bool) → row_of old len ≡ list → row_of other other_len ≡ other_list → IsRow old len → IsRow other other_len → length other_list ≡ length list → IsOfBoth bit_or old other new → IsRow new len × IsUnion list other_list (row_of new len)
+union_of_lists old other new len other_len list other_list view other_view row other_row same is =
+    let made = made_of_lists bit_or (λ a b. a || b) or_bitwise old other new len other_len list other_list view other_view row other_row same is in
+    (made.row, record { same_length = made.same_length; in_one = made.places })
+
+pub cut_of_lists : (old other new : List ℕ) (len other_len : ℕ) (list other_list : List Bool) → row_of old len ≡ list → row_of other other_len ≡ other_list → IsRow old len → IsRow other other_len → length other_list ≡ length list → IsOfBoth bit_and old other new → IsRow new len × IsCutTo other_list list (row_of new len)
+cut_of_lists old other new len other_len list other_list view other_view row other_row same is =
+    let made = made_of_lists bit_and (λ a b. a && b) and_bitwise old other new len other_len list other_list view other_view row other_row same is in
+    (made.row, record {
+      same_length = made.same_length;
+      exactly = λ place. (
+        λ set. and_parts (get_or list place false) (get_or other_list place false) (sym (made.places place) ∙ set),
+        λ both. made.places place ∙ ap₂ (λ (a b : Bool). a && b) both.0 both.1,
+      );
+    })
+
+-- ---- a row is copied, or all its places are set
+
+pub copied : (old other : List ℕ) (len other_len : ℕ) (list other_list : List Bool) → row_of old len ≡ list → row_of other other_len ≡ other_list → IsRow old len → IsRow other other_len → length other_list ≡ length list → IsRow other len × (row_of other len ≡ other_list)
+copied old other len other_len list other_list view other_view row other_row same =
+    let lens = (same_counts old other len other_len list other_list view other_view row other_row same).0 in
+    (subst (IsRow other) lens other_row, ap (row_of other) (sym lens) ∙ other_view)
+
+pub all_full : (row : List Bool) (n : ℕ) → length row ≡ n → ((place : ℕ) → place < n → IsIn row place) → row ≡ replicate n true
+all_full row n long all =
+    ext_get_or false row (replicate n true) (long ∙ sym (length-replicate n true)) (λ place within. let inside : place < n = omega (arith, within, long) in all place inside ∙ sym (get_or-replicate n place true false inside))
+
+-- one place more is set
+pub one_more_set : (row : List Bool) (n : ℕ) → n < length row → ((place : ℕ) → place < n → IsIn row place) → (place : ℕ) → place < n + 1 → IsIn (set row n true) place
+one_more_set row n within all place below = ⊎_elim
+    (λ here. rw here (get_or-set_same row n true false within))
+    (λ other. get_or-set_other row n place true false other ∙ all place (omega (arith, below, other)))
+    (cases_eq place n)

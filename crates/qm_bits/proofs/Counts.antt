@@ -2,10 +2,10 @@
 use Rattle.std.proofs.Common.{◌≡◌, ℕ, zero, suc, ◌+◌, ◌-◌, ◌*◌, ◌^◌, ◌<◌, ◌≤◌, Bool, false, cond, List, [], ◌∷◌, ◌++◌, map, length, get_or, count_ones, refl, ap, sym, ◌∙◌, arith}
 use Rattle.std.specs.List.{count_by, range_with_len}
 use Rattle.std.proofs.lemmas.List.Sums.{count_by-le-length, sum_by-append}
-use Rattle.qm_bits.specs.Word.{has_bit}
+use Rattle.qm_lists.specs.Word.{has_bit}
 use Rattle.qm_bits.specs.inner.Rows.{is_set, row_of, IsRow}
 use Rattle.qm_bits.specs.inner.Words.{ones_of}
-use Rattle.qm_bits.proofs.Bits.{count_ones-bits}
+use Rattle.qm_lists.proofs.Bits.{count_ones-bits}
 use Rattle.qm_bits.proofs.Rows.{length-row_of, is_set-at}
 
 -- one number, and then the others

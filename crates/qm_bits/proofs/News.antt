@@ -2,11 +2,11 @@
 use Rattle.std.proofs.Common.{◌≡◌, ◌↔◌, ℕ, ◌+◌, ◌*◌, ◌/◌, ◌%◌, ◌^◌, ◌<◌, Bool, true, false, not, List, length, get_or, bit_and, w64, refl, ap, sym, ◌∙◌, arith, ⊎_elim}
 use Rattle.std.specs.Int.{bit_not}
 use Rattle.std.proofs.lemmas.Bool.{cases_lt, both_ways, and_parts, not-true}
-use Rattle.qm_bits.specs.Unseen.{HasUnseen}
-use Rattle.qm_bits.specs.Word.{has_bit}
+use Rattle.qm_lists.specs.Unseen.{HasUnseen}
+use Rattle.qm_lists.specs.Word.{has_bit}
 use Rattle.qm_bits.specs.inner.Rows.{is_set, row_of, IsRow}
 use Rattle.qm_bits.specs.inner.Words.{HaveUnseen, NoneIsUnseen}
-use Rattle.qm_bits.proofs.Bits.{has_bit-and, has_bit-not, has_bit-zero, some_bit}
+use Rattle.qm_lists.proofs.Bits.{has_bit-and, has_bit-not, has_bit-zero, some_bit}
 use Rattle.qm_bits.proofs.Rows.{place_of, is_set-at, is_set-in, is_set-past}
 
 -- a bit of what is set in a word and clear in the one that was seen

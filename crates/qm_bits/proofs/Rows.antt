@@ -4,9 +4,9 @@ use Rattle.std.proofs.lemmas.Bool.{cases_lt}
 use Rattle.std.proofs.lemmas.List.{ext_get_or, get_or_past, get_or-set_same, get_or-set_other, get_or-replicate, length-replicate, get_or_default}
 use Rattle.std.proofs.lemmas.Nat.Bits.{shr_and_one}
 use Rattle.std.proofs.lemmas.List.FromFn.{get_or-map-range_with_len, length-map-range_with_len}
-use Rattle.qm_bits.specs.Word.{has_bit}
+use Rattle.qm_lists.specs.Word.{has_bit}
 use Rattle.qm_bits.specs.inner.Rows.{is_set, row_of, IsRow}
-use Rattle.qm_bits.proofs.Bits.{has_bit-zero}
+use Rattle.qm_lists.proofs.Bits.{has_bit-zero}
 
 pub length-row_of : (words : List ℕ) (len : ℕ) → length (row_of words len) ≡ len
 unfolding row_of

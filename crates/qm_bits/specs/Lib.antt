@@ -1,4 +1,1 @@
-pub mod Word
-pub mod Union
-pub mod Unseen
 pub mod inner

@@ -1,8 +1,9 @@
 ghost use Rattle.std.specs.Prelude.{◌≡◌, ◌<◌, ◌*◌, ◌↔◌, length, replicate, slice_index_or, slice_set, true, false, IfOk};
 ghost use Rattle.std.specs.List.{count_by};
-ghost use Rattle.qm_bits.specs.Union.{IsUnion};
-ghost use Rattle.qm_bits.specs.Unseen.{HasUnseen};
-ghost use Rattle.qm_bits.specs.Word.{IsMasked, IsWord};
+ghost use Rattle.qm_lists.specs.CutTo.{IsCutTo};
+ghost use Rattle.qm_lists.specs.Union.{IsUnion};
+ghost use Rattle.qm_lists.specs.Unseen.{HasUnseen};
+ghost use Rattle.qm_lists.specs.Word.{IsMasked, IsWord};
 
 use crate::words;
 use std::alloc::{AllocError, Global};
@@ -36,6 +37,17 @@ impl BitRow {
     {
         let words = vec![in alloc; 0; bits.div_ceil(64) as usize]?;
         Ok(BitRow { words, len: bits })
+    }
+
+    /// A row of `bits` places, all of them set.
+    pub fn full(alloc: Global, bits: u64) -> Result<BitRow, AllocError>
+        ensures { IfOk result (λ row. row ≡ replicate bits true) }
+    {
+        let mut row = BitRow::with_len(alloc, bits)?;
+        for place in 0..bits {
+            row.set(place);
+        }
+        Ok(row)
     }
 
     /// How many places there are.
@@ -90,6 +102,29 @@ impl BitRow {
         ensures { IsUnion self.old other.now self.new }
     {
         words::set_all(&mut self.words, &other.words)
+    }
+
+    /// Clears each place that is clear in `other`. All others stay.
+    pub fn and_row(&mut self, other: &BitRow)
+        requires { length other.now ≡ length self.old }
+        ensures { IsCutTo other.now self.old self.new }
+    {
+        words::keep_all(&mut self.words, &other.words)
+    }
+
+    /// Clears all places.
+    pub fn clear(&mut self)
+        ensures { self.new ≡ replicate (length self.old) false }
+    {
+        words::clear_all(&mut self.words)
+    }
+
+    /// Makes the row the same as `other`.
+    pub fn copy_from(&mut self, other: &BitRow)
+        requires { length other.now ≡ length self.old }
+        ensures { self.new ≡ other.now }
+    {
+        self.words.copy_from_slice(&other.words)
     }
 
     /// Whether some place is set here and clear in `seen`.

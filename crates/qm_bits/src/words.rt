@@ -1,7 +1,7 @@
 //! The words of rows, one beside another.
 
-ghost use Rattle.std.specs.Prelude.{◌≡◌, ◌<◌, ◌*◌, ◌↔◌, ◌^◌, length, true};
-ghost use Rattle.qm_bits.specs.inner.Words.{ones_of, IsOr, HaveUnseen};
+ghost use Rattle.std.specs.Prelude.{◌≡◌, ◌<◌, ◌*◌, ◌↔◌, ◌^◌, length, replicate, bit_and, bit_or, true};
+ghost use Rattle.qm_bits.specs.inner.Words.{ones_of, IsOfBoth, HaveUnseen};
 
 /// How many bits of the words are set.
 pub(crate) fn count(words: &[u64]) -> u64
@@ -18,10 +18,29 @@ pub(crate) fn count(words: &[u64]) -> u64
 /// Sets the bits that are set in the words of `other`.
 pub(crate) fn set_all(words: &mut [u64], other: &[u64])
     requires { length other.now ≡ length words.old }
-    ensures { IsOr words.old other.now words.new }
+    ensures { IsOfBoth bit_or words.old other.now words.new }
 {
     for i in 0..words.len() {
         words[i] |= other[i];
+    }
+}
+
+/// Clears the bits that are clear in the words of `other`.
+pub(crate) fn keep_all(words: &mut [u64], other: &[u64])
+    requires { length other.now ≡ length words.old }
+    ensures { IsOfBoth bit_and words.old other.now words.new }
+{
+    for i in 0..words.len() {
+        words[i] &= other[i];
+    }
+}
+
+/// Clears all bits of the words.
+pub(crate) fn clear_all(words: &mut [u64])
+    ensures { words.new ≡ replicate (length words.old) 0 }
+{
+    for word in words.iter_mut() {
+        *word = 0;
     }
 }
 

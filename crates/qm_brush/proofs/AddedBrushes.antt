@@ -25,7 +25,7 @@ use Rattle.qm_brush.specs.declared.entry.Entry.{Entry}
 use Rattle.qm_brush.specs.inner.Entries.{faces_of_entry, solid_of_entry, solids_of_entries, IsWithin, AreWithin}
 use Rattle.qm_brush.specs.inner.Entered.{turned_outward, AreFacesEntered}
 use Rattle.qm_brush.specs.inner.Fullness.{solid_behind}
-use Rattle.qm_brush.specs.inner.Added.{IsAdded}
+use Rattle.qm_brush.specs.inner.Added.{IsBrushAdded}
 
 -- ---- the planes of a face
 
@@ -122,7 +122,7 @@ module _ (brush : Brush) (faces after : List FaceRef) (entries : List Entry) (en
 
   pub brush_added : AreWithin faces entries → AreBookPlanes new →
       MatchBool entry.full (IsFull (solid_behind new (faces_of_entry after entry))) (IsFull (solid_behind new (faces_of_entry after entry)) → ⊥) →
-      IsAdded brush entry.contents (solids_of_entries faces entries) (solids_of_entries after (entries ++ entry ∷ [])) old new
+      IsBrushAdded brush entry.contents (solids_of_entries faces entries) (solids_of_entries after (entries ++ entry ∷ [])) old new
   brush_added within book full = record {
     its = solid_of_entry after entry;
     added =

@@ -9,7 +9,7 @@ use Rattle.qm_space.specs.Plane.{Plane}
 use Rattle.qm_space.specs.Turned.{turned}
 use Rattle.qm_space.specs.Book.{plane_at}
 use Rattle.qm_space.proofs.Books.{plane_at_from}
-use Rattle.qm_geom.specs.Planes.{AreEntered, none}
+use Rattle.qm_geom.specs.Planes.{AreEnteredInBook, none}
 use Rattle.qm_geom.proofs.Entering.{entered_at, earlier_stay}
 use Rattle.qm_geom.proofs.EnteredPlanes.{one_entered, more_entered, length-all_entered}
 use Rattle.qm_mapfile.specs.declared.face.Face.{Face}
@@ -75,7 +75,7 @@ module _ (faces : List Face) (face : Face) (before middle after : List FaceRef) 
             ∙ ap (λ (h : Plane). mapped turned_outward faces ++ turned (is_out_front face) h ∷ []) (plane_at_from new this.number (plane_of_face face) at)
             ∙ sym (map-append turned_outward faces (face ∷ []));
         entered =
-            subst (λ (planes : List Plane). AreEntered old planes new) (sym (map-append plane_of_face faces (face ∷ [])))
+            subst (λ (planes : List Plane). AreEnteredInBook old planes new) (sym (map-append plane_of_face faces (face ∷ [])))
             (more_entered old mid new (mapped plane_of_face faces) (plane_of_face face ∷ []) those.entered (one_entered mid new (plane_of_face face) this.number this.enters));
       }
 

@@ -8,7 +8,7 @@ use Rattle.std.proofs.lemmas.List.Sums.{sum_by-cons, sum_by-take-le}
 use Rattle.std.proofs.lemmas.List.Elements.{AllZip-push, All-nil, All-push, All-head, All-tail, filter_map-append, filter-append}
 use Rattle.qm_space.specs.Plane.{Plane}
 use Rattle.qm_space.specs.Book.{AreBookPlanes}
-use Rattle.qm_geom.specs.Planes.{AreEntered, none}
+use Rattle.qm_geom.specs.Planes.{AreEnteredInBook, none}
 use Rattle.qm_geom.proofs.EnteredPlanes.{more_entered, all_stay, length-all_entered}
 use Rattle.qm_mapfile.specs.declared.entity.Brush.{Brush}
 use Rattle.qm_contents.specs.declared.contents.Contents.{Contents}
@@ -16,9 +16,9 @@ use Rattle.qm_solids.specs.Solid.{Solid}
 use Rattle.qm_solids.specs.Alike.{IsAlike}
 use Rattle.qm_solids.specs.InBook.{BookSolid, solid_in, solids_in, IsKeptIn}
 use Rattle.qm_brush.specs.Brushes.{contents_of_brush, is_drawn}
-use Rattle.qm_brush.specs.Solids.{filled_with, solid_of}
+use Rattle.qm_brush.specs.Solids.{filled_with, solid_of_brush}
 use Rattle.qm_brush.specs.Planes.{plane_of_face, planes_of_brush}
-use Rattle.qm_brush.specs.inner.Added.{IsAdded, IsLeftOut, AreAdded}
+use Rattle.qm_brush.specs.inner.Added.{IsBrushAdded, IsLeftOut, AreAdded}
 use Rattle.qm_brush.specs.inner.Entered.{AreFirstEntered}
 use Rattle.qm_brush.proofs.EnteredFaces.{Stay, still_numbered, same_outward}
 use Rattle.qm_brush.proofs.AddedBrushes.{flag_with_planes}
@@ -49,15 +49,15 @@ module _ (old new : List Plane) (stay : Stay old new) where
 -- ---- one brush
 
 module _ (brush : Brush) where
-  its_solids : (contents : Option Contents) → contents_of_brush brush ≡ contents → filter_map solid_of (brush ∷ []) ≡ cons_option (option_map (filled_with brush) contents) []
+  its_solids : (contents : Option Contents) → contents_of_brush brush ≡ contents → filter_map solid_of_brush (brush ∷ []) ≡ cons_option (option_map (filled_with brush) contents) []
   its_solids contents is = ap (λ (o : Option Contents). cons_option (option_map (filled_with brush) o) []) is
 
   its_planes : (contents : Option Contents) → contents_of_brush brush ≡ contents → flat_map planes_of_brush (filter is_drawn (brush ∷ [])) ≡ flat_map planes_of_brush (cond (is_some contents) (brush ∷ []) [])
   its_planes contents is = ap (λ (o : Option Contents). flat_map planes_of_brush (cond (is_some o) (brush ∷ []) [])) is
 
 module _ (brushes : List Brush) (brush : Brush) (list after : List BookSolid) (old mid new : List Plane) (those : AreAdded brushes list old mid) where
-  solids_more : (contents : Option Contents) → contents_of_brush brush ≡ contents → filter_map solid_of (brushes ++ brush ∷ []) ≡ filter_map solid_of brushes ++ cons_option (option_map (filled_with brush) contents) []
-  solids_more contents is = filter_map-append solid_of brushes (brush ∷ []) ∙ ap (λ (s : List Solid). filter_map solid_of brushes ++ s) (its_solids brush contents is)
+  solids_more : (contents : Option Contents) → contents_of_brush brush ≡ contents → filter_map solid_of_brush (brushes ++ brush ∷ []) ≡ filter_map solid_of_brush brushes ++ cons_option (option_map (filled_with brush) contents) []
+  solids_more contents is = filter_map-append solid_of_brush brushes (brush ∷ []) ∙ ap (λ (s : List Solid). filter_map solid_of_brush brushes ++ s) (its_solids brush contents is)
 
   planes_more : (contents : Option Contents) → contents_of_brush brush ≡ contents → flat_map planes_of_brush (filter is_drawn (brushes ++ brush ∷ [])) ≡ flat_map planes_of_brush (filter is_drawn brushes) ++ flat_map planes_of_brush (cond (is_some contents) (brush ∷ []) [])
   planes_more contents is =
@@ -65,15 +65,15 @@ module _ (brushes : List Brush) (brush : Brush) (list after : List BookSolid) (o
       ∙ flat_map-append planes_of_brush (filter is_drawn brushes) (filter is_drawn (brush ∷ []))
       ∙ ap (λ (p : List Plane). flat_map planes_of_brush (filter is_drawn brushes) ++ p) (its_planes brush contents is)
 
-  one_more_added : (contents : Option Contents) → contents_of_brush brush ≡ contents → MatchOption contents (IsLeftOut list after mid new) (λ c. IsAdded brush c list after mid new) → AreAdded (brushes ++ brush ∷ []) after old new
+  one_more_added : (contents : Option Contents) → contents_of_brush brush ≡ contents → MatchOption contents (IsLeftOut list after mid new) (λ c. IsBrushAdded brush c list after mid new) → AreAdded (brushes ++ brush ∷ []) after old new
   one_more_added None is left =
-      let solids = solids_more None is ∙ append-nil (filter_map solid_of brushes) in
+      let solids = solids_more None is ∙ append-nil (filter_map solid_of_brush brushes) in
       let planes = planes_more None is ∙ append-nil (flat_map planes_of_brush (filter is_drawn brushes)) in
       rw (left.same_brushes, left.same_book) (record {
         solids = subst (λ (s : List Solid). AllZip IsAlike s (solids_in mid list)) (sym solids) those.solids;
         kept = those.kept;
         planes = those.planes;
-        entered = subst (λ (p : List Plane). AreEntered old p mid) (sym planes) those.entered;
+        entered = subst (λ (p : List Plane). AreEnteredInBook old p mid) (sym planes) those.entered;
       })
   one_more_added (Some contents) is added =
       let stay : Stay mid new = all_stay mid new (planes_of_brush brush) added.entered in
@@ -83,12 +83,12 @@ module _ (brushes : List Brush) (brush : Brush) (list after : List BookSolid) (o
       record {
         solids =
             subst (λ (s : List Solid). AllZip IsAlike s (solids_in new after)) (sym (solids_more (Some contents) is))
-            (subst (λ (s : List Solid). AllZip IsAlike (filter_map solid_of brushes ++ filled_with brush contents ∷ []) s) (sym list_solids)
-            (AllZip-push IsAlike (filter_map solid_of brushes) (solids_in mid list) (filled_with brush contents) (solid_in new added.its) those.solids added.alike));
+            (subst (λ (s : List Solid). AllZip IsAlike (filter_map solid_of_brush brushes ++ filled_with brush contents ∷ []) s) (sym list_solids)
+            (AllZip-push IsAlike (filter_map solid_of_brush brushes) (solids_in mid list) (filled_with brush contents) (solid_in new added.its) those.solids added.alike));
         kept = subst (All (IsKeptIn new)) (sym added.added) (All-push (IsKeptIn new) list added.its (all_kept mid new stay list those.kept) added.kept);
         planes = added.planes;
         entered =
-            subst (λ (p : List Plane). AreEntered old p new) (sym (planes_more (Some contents) is ∙ ap (λ (p : List Plane). flat_map planes_of_brush (filter is_drawn brushes) ++ p) its_planes_all))
+            subst (λ (p : List Plane). AreEnteredInBook old p new) (sym (planes_more (Some contents) is ∙ ap (λ (p : List Plane). flat_map planes_of_brush (filter is_drawn brushes) ++ p) its_planes_all))
             (more_entered old mid new (flat_map planes_of_brush (filter is_drawn brushes)) (planes_of_brush brush) those.entered added.entered);
       }
 
@@ -110,7 +110,7 @@ planes_few (brush ∷ brushes) = by_drawn (is_drawn brush) (planes_few brushes)
     by_drawn false rest = omega (arith, rest, sum_by-cons (λ (b : Brush). length b.faces) brush brushes)
 
 module _ (brushes : List Brush) (i : ℕ) (list : List BookSolid) (old mid : List Plane) (those : AreAdded (take i brushes) list old mid) where
-  pub next_added : (brush : Brush) (after : List BookSolid) (new : List Plane) → i < length brushes → brush ≡ get_or brushes i brush → MatchOption (contents_of_brush brush) (IsLeftOut list after mid new) (λ c. IsAdded brush c list after mid new) → AreAdded (take (i + 1) brushes) after old new
+  pub next_added : (brush : Brush) (after : List BookSolid) (new : List Plane) → i < length brushes → brush ≡ get_or brushes i brush → MatchOption (contents_of_brush brush) (IsLeftOut list after mid new) (λ c. IsBrushAdded brush c list after mid new) → AreAdded (take (i + 1) brushes) after old new
   next_added brush after new within is this =
       subst (λ (bs : List Brush). AreAdded bs after old new) (sym (take_more brushes i brush within ∙ ap (λ (b : Brush). take i brushes ++ b ∷ []) (sym is)))
       (one_more_added (take i brushes) brush list after old mid new those (contents_of_brush brush) refl this)
@@ -124,7 +124,7 @@ module _ (brushes : List Brush) (i : ℕ) (list : List BookSolid) (old mid : Lis
       omega (arith, n, few, part)
 
   -- want of memory at a brush
-  pub part_entered : (brush : Brush) (new : List Plane) → i < length brushes → brush ≡ get_or brushes i brush → IsTrue (is_drawn brush) → AreFirstEntered mid (planes_of_brush brush) new → (k : ℕ) × AreEntered old (take k (flat_map planes_of_brush (filter is_drawn brushes))) new
+  pub part_entered : (brush : Brush) (new : List Plane) → i < length brushes → brush ≡ get_or brushes i brush → IsTrue (is_drawn brush) → AreFirstEntered mid (planes_of_brush brush) new → (k : ℕ) × AreEnteredInBook old (take k (flat_map planes_of_brush (filter is_drawn brushes))) new
   part_entered brush new within is drawn part =
       let before : List Plane = flat_map planes_of_brush (filter is_drawn (take i brushes)) in
       let behind : List Plane = flat_map planes_of_brush (filter is_drawn (drop (i + 1) brushes)) in
@@ -141,4 +141,4 @@ module _ (brushes : List Brush) (i : ℕ) (list : List BookSolid) (old mid : Lis
       ∙ sym (append_assoc before part.first (part.rest ++ behind)) in
       let front : take (length (before ++ part.first)) (flat_map planes_of_brush (filter is_drawn brushes)) ≡ before ++ part.first =
       ap (take (length (before ++ part.first))) whole ∙ take_at (before ++ part.first) (part.rest ++ behind) (length (before ++ part.first)) refl in
-      (length (before ++ part.first), subst (λ (p : List Plane). AreEntered old p new) (sym front) (more_entered old mid new before part.first those.entered part.entered))
+      (length (before ++ part.first), subst (λ (p : List Plane). AreEnteredInBook old p new) (sym front) (more_entered old mid new before part.first those.entered part.entered))

@@ -5,7 +5,7 @@ use Rattle.std.proofs.lemmas.List.Sums.{sum_by-cons}
 use Rattle.qm_mapfile.specs.declared.entity.Brush.{Brush}
 use Rattle.qm_mapfile.specs.declared.entity.Entity.{Entity}
 use Rattle.qm_mapfile.specs.declared.entity.MapFile.{MapFile}
-use Rattle.qm_grammar.specs.Valid.{IsValid, IsValidFace, IsValidEntity, IsValidBrush, face_count, face_limit}
+use Rattle.qm_grammar.specs.Valid.{IsValidMap, IsValidFace, IsValidEntity, IsValidBrush, face_count, face_limit}
 use Rattle.qm_brush.specs.Brushes.{brushes_of_first, world_brushes}
 
 -- the faces of a brush of a valid map
@@ -36,8 +36,8 @@ world_brush_valid [] valid = λ k d within. absurd (omega arith)
 world_brush_valid (world ∷ others) valid = (valid 0 world (omega arith)).brushes
 
 -- the brushes of the world have valid faces
-pub valid_brushes : (map : MapFile) → IsValid map → HasValidBrushes map
-unfolding IsValid
+pub valid_brushes : (map : MapFile) → IsValidMap map → HasValidBrushes map
+unfolding IsValidMap
 valid_brushes map valid = λ k d within.
     let few = world_few map.entities k d within in
     let brush = world_brush_valid map.entities valid.1 k d within in
@@ -48,11 +48,11 @@ faces_of_first : (entities : List Entity) → sum_by (λ brush. length brush.fac
 faces_of_first [] = omega arith
 faces_of_first (world ∷ others) = omega (arith, sum_by-cons face_count world others)
 
-pub world_faces : (map : MapFile) → IsValid map → sum_by (λ brush. length brush.faces) (world_brushes map) ≤ face_limit
-unfolding IsValid
+pub world_faces : (map : MapFile) → IsValidMap map → sum_by (λ brush. length brush.faces) (world_brushes map) ≤ face_limit
+unfolding IsValidMap
 world_faces map valid = let few = faces_of_first map.entities in omega (arith, few, valid.3)
 
 -- a brush of the world, by its place
-pub valid_brush_at : (map : MapFile) → IsValid map → (brushes : List Brush) (k : ℕ) (brush : Brush) → brushes ≡ world_brushes map → k < length brushes → brush ≡ get_or brushes k brush → HasValidFaces brush
+pub valid_brush_at : (map : MapFile) → IsValidMap map → (brushes : List Brush) (k : ℕ) (brush : Brush) → brushes ≡ world_brushes map → k < length brushes → brush ≡ get_or brushes k brush → HasValidFaces brush
 valid_brush_at map valid brushes k brush are within is =
     subst HasValidFaces (sym is) (subst (λ (bs : List Brush). All HasValidFaces bs) (sym are) (valid_brushes map valid) k brush within)

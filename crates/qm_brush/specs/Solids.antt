@@ -13,9 +13,9 @@ abbrev pub filled_with : Brush → Contents → Solid
 filled_with brush contents = record { contents = contents; outward = mapped face_outward brush.faces }
 
 -- the solid that a brush is; a brush that is clip is none
-abbrev pub solid_of : Brush → Option Solid
-solid_of brush = option_map (filled_with brush) (contents_of_brush brush)
+abbrev pub solid_of_brush : Brush → Option Solid
+solid_of_brush brush = option_map (filled_with brush) (contents_of_brush brush)
 
 -- the solids of the world's brushes that are not clip, in the order of the text
 abbrev pub drawn_solids : MapFile → List Solid
-drawn_solids map = filter_map solid_of (world_brushes map)
+drawn_solids map = filter_map solid_of_brush (world_brushes map)

@@ -3,7 +3,7 @@ ghost use Rattle.qm_grammar.specs.Valid.{IsValidFace};
 ghost use Rattle.qm_solids.specs.InBook.{solid_at, solid_in, solids_in, IsKeptIn, IsBookOf};
 ghost use Rattle.qm_solids.specs.Contents.{HasContents};
 ghost use Rattle.qm_brush.specs.Planes.{planes_of_brush};
-ghost use Rattle.qm_brush.specs.inner.Added.{IsAdded};
+ghost use Rattle.qm_brush.specs.inner.Added.{IsBrushAdded};
 ghost use Rattle.qm_brush.specs.inner.Entered.{AreFirstEntered};
 ghost use Rattle.qm_brush.specs.inner.Entries.{solid_of_entry, IsWithin};
 
@@ -58,7 +58,7 @@ impl BrushList {
     ) -> Result<(), AllocError>
         requires valid { All IsValidFace brush.now.faces }
         requires room { length book.old + length brush.now.faces < 2 ^ 32 - 1 }
-        ensures ok { IfOk result (λ _. IsAdded brush.now contents self.old self.new book.old book.new) }
+        ensures ok { IfOk result (λ _. IsBrushAdded brush.now contents self.old self.new book.old book.new) }
         ensures err { OnErr result (AreFirstEntered book.old (planes_of_brush brush.now) book.new) }
     {
         let start = self.faces.len();

@@ -9,7 +9,7 @@ use Rattle.qm_partition.specs.declared.visit.Visit.{Visit}
 use Rattle.qm_partition.specs.Partition.{Partition, node}
 use Rattle.qm_solid_tree.specs.Division.{Divides, undivided, divided, front_of, back_of}
 use Rattle.qm_split.specs.declared.fragments.Fragments.{Fragments}
-use Rattle.qm_split.specs.CellFragments.{AreFragmentsOf, cell_of}
+use Rattle.qm_split.specs.CellFragments.{AreFragmentsOf, cell_of_fragments}
 use Rattle.qm_build.specs.inner.Waiting.{Completes, IsWalk}
 use Rattle.qm_build.specs.inner.UnderWay.{AreFragments, IsUnderWay}
 use Rattle.qm_build.specs.inner.Visited.{IsVisited, is_leaf, is_node}
@@ -23,7 +23,7 @@ module _ (solids : List Solid) (book : List Plane) where
   -- what is under way, with the next one first
   record IsReady (waiting : List Fragments) (walk : List Visit) : Type 0 where
     are : AllByRecursion (AreFragments solids book) waiting
-    completes : Completes (Divides solids book) [] (map cell_of waiting) walk
+    completes : Completes (Divides solids book) [] (map cell_of_fragments waiting) walk
 
   ready : (pending waiting : List Fragments) (walk : List Visit) → reverse pending ≡ waiting → IsUnderWay solids book pending walk → IsReady waiting walk
   ready pending waiting walk is way =
@@ -53,17 +53,17 @@ module _ (solids : List Solid) (book : List Plane) where
   module _ (fragments : Fragments) (pending : List Fragments) (walk : List Visit) where
     visited_ready : (pending' : List Fragments) (walk' : List Visit) → IsVisited solids book fragments pending walk pending' walk' → IsReady (fragments ∷ reverse pending) walk → IsUnderWay solids book pending' walk'
     visited_ready pending' walk' (is_leaf {found = found} none has unfilled waits wrote) way =
-        let completes = completes_leaf (Divides solids book) [] (cell_of fragments) (map cell_of (reverse pending)) walk found (undivided none has unfilled) way.completes in
+        let completes = completes_leaf (Divides solids book) [] (cell_of_fragments fragments) (map cell_of_fragments (reverse pending)) walk found (undivided none has unfilled) way.completes in
         under_way pending' (reverse pending) walk' (ap (λ (p : List Fragments). reverse p) waits) (record { are = way.are.1; completes = rw wrote completes })
     visited_ready pending' walk' (is_node {n = n} {h = h} {front = front} {back = back} least in_front fewer behind less waits wrote) way =
-        let parts : (s t : Partition) → Divides solids book (cell_of front) s → Divides solids book (cell_of back) t → Divides solids book (cell_of fragments) (node n s t) =
+        let parts : (s t : Partition) → Divides solids book (cell_of_fragments front) s → Divides solids book (cell_of_fragments back) t → Divides solids book (cell_of_fragments fragments) (node n s t) =
         λ s t its others. divided least
         (subst (λ (c : List Plane). Divides solids book c s) in_front.cell_is its)
         (subst (λ (c : List Plane). Divides solids book c t) behind.cell_is others) in
-        let completes = completes_node (Divides solids book) [] (cell_of fragments) (cell_of front) (cell_of back) n parts (map cell_of (reverse pending)) walk way.completes in
+        let completes = completes_node (Divides solids book) [] (cell_of_fragments fragments) (cell_of_fragments front) (cell_of_fragments back) n parts (map cell_of_fragments (reverse pending)) walk way.completes in
         let order = ap (λ (p : List Fragments). reverse p) waits ∙ next_first (pending ++ back ∷ []) front ∙ ap (λ (p : List Fragments). front ∷ p) (next_first pending back) in
         under_way pending' (front ∷ back ∷ reverse pending) walk' order (record {
-          are = (named (front_of (cell_of fragments) h) front in_front, (named (back_of (cell_of fragments) h) back behind, way.are.1));
+          are = (named (front_of (cell_of_fragments fragments) h) front in_front, (named (back_of (cell_of_fragments fragments) h) back behind, way.are.1));
           completes = rw wrote completes;
         })
 

@@ -15,7 +15,7 @@ use Rattle.qm_segments.specs.Ahead.{IsAhead}
 use Rattle.qm_segments.specs.Steps.{LetSegmentsThrough}
 use Rattle.qm_segments.proofs.AheadLaws.{IsNext, next_ahead}
 use Rattle.qm_separators.specs.ChainState.{ChainState}
-use Rattle.qm_separators.specs.PortalSteps.{BeginsWith, GoesOn, MeetsState}
+use Rattle.qm_separators.specs.PortalSteps.{BeginsWith, StepsThrough, MeetsState}
 use Rattle.qm_separators.proofs.PortalStepLaws.{are_convex, lets_pass}
 use Rattle.qm_separators.proofs.ChainLaws.{lets, ahead_at_start}
 use Rattle.qm_contacts.specs.OwnPortals.{HasOwnPortals}
@@ -39,7 +39,7 @@ module _ (world : World) (own : HasOwnPortals world) (first : Portal) where
   listed_own q there = subst (λ (all : List Portal). Contains all q) own.portals_are there
 
   -- no chain stops before a portal that a segment goes through which has met its state
-  none_stops : LetSegmentsThrough BeginsWith GoesOn StopsAt (portals_of world.tree own.touchings) MeetsState
+  none_stops : LetSegmentsThrough BeginsWith StepsThrough StopsAt (portals_of world.tree own.touchings) MeetsState
   none_stops =
       let its = lets world.tree own.have_points own.touchings own.are_touchings in
       record {
@@ -69,7 +69,7 @@ module _ (world : World) (own : HasOwnPortals world) (first : Portal) where
   }
 
   module _ (frame : Frame) (leaf n : ℕ) (met : List ℕ) (met_is : (m : ℕ) → IsIn frame.met m ↔ Contains met m) (in_mask : IsIn frame.mask n) (leaving : HasAllLeaving world.portals leaf frame.untried) where
-    awaited : IsNext world.tree own.have_points own.touchings own.are_touchings BeginsWith GoesOn StopsAt MeetsState none_stops first frame.state leaf met n → IsAwaited world first n frame
+    awaited : IsNext world.tree own.have_points own.touchings own.are_touchings BeginsWith StepsThrough StopsAt MeetsState none_stops first frame.state leaf met n → IsAwaited world first n frame
     awaited next =
         let at = number_of_listed world.portals next.portal (listed next.portal next.listed) in
         record {
@@ -94,7 +94,7 @@ module _ (world : World) (own : HasOwnPortals world) (first : Portal) where
     -- it is the leaf that was entered last, or awaited
     pub reached_or_awaited : IsAhead MeetsState world.tree first frame.state leaf met n → (leaf ≡ n) ⊎ IsAwaited world first n frame
     reached_or_awaited ahead = ⊎_elim (λ here. inl here) (λ next. inr (awaited next))
-        (next_ahead world.tree own.have_points own.touchings own.are_touchings BeginsWith GoesOn StopsAt MeetsState none_stops first frame.state leaf met n ahead)
+        (next_ahead world.tree own.have_points own.touchings own.are_touchings BeginsWith StepsThrough StopsAt MeetsState none_stops first frame.state leaf met n ahead)
 
   -- ---- at the start
 
@@ -118,7 +118,7 @@ module _ (world : World) (own : HasOwnPortals world) (first : Portal) where
 
   -- ---- after a step through the portal that is next
 
-  pub next_awaited : (MayHave : ℕ → ℕ → Type 0) (p : ℕ) (frame child : Frame) (q : Portal) (n : ℕ) → IsNextTo world.tree first frame n q → GoesOn frame.state q child.state →
+  pub next_awaited : (MayHave : ℕ → ℕ → Type 0) (p : ℕ) (frame child : Frame) (q : Portal) (n : ℕ) → IsNextTo world.tree first frame n q → StepsThrough frame.state q child.state →
       EndsChain world MayHave p child → GainsOne q.to frame.met child.met → HasAllLeaving world.portals q.to child.untried →
       IsIn child.mask n → (q.to ≡ n) ⊎ IsAwaited world first n child
   next_awaited MayHave p frame child q n next step ends gains leaving in_mask =

@@ -7,7 +7,7 @@ use Rattle.qm_contacts.specs.NumberedLeaves.{numbered_leaves}
 use Rattle.qm_contacts.specs.Portals.{Portal}
 use Rattle.qm_contacts.specs.World.{World}
 use Rattle.qm_segments.specs.OpenChain.{leaves_met, alone, longer}
-use Rattle.qm_separators.specs.PortalSteps.{BeginsWith, GoesOn}
+use Rattle.qm_separators.specs.PortalSteps.{BeginsWith, StepsThrough}
 use Rattle.qm_chains.specs.Shown.{IsAt, IsShown}
 use Rattle.qm_chains.specs.inner.Frame.{Frame, EndsChain}
 
@@ -88,7 +88,7 @@ module _ (world : World) (MayHave : ℕ → ℕ → Type 0) (p : ℕ) where
           let same : q ≡ other.0 = let both = sym q_is ∙ other.1 in cc in
           subst (λ (r : Portal). r.from ≡ ends.last.to) (sym same) other.2
 
-      abbrev pub step_ends : (next : Frame) → GoesOn frame.state q next.state → (IsIn frame.met q.to → ⊥) →
+      abbrev pub step_ends : (next : Frame) → StepsThrough frame.state q next.state → (IsIn frame.met q.to → ⊥) →
           AllLeave world.portals q.to next.untried → GainsOne q.to frame.met next.met →
           ((n : ℕ) → IsIn next.mask n → IsIn frame.mask n × MayHave n number) →
           length next.met ≡ length frame.met → length next.mask ≡ length frame.mask →

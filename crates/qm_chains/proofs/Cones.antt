@@ -2,7 +2,7 @@
 use Rattle.std.proofs.Common.{◌≡◌, ◌⊎◌, inl, inr, ⊎_elim, ℕ, ◌+◌, ◌<◌, Bool, true, not, List, ◌∷◌, length, set, Contains, Option, Some, None, refl, sym, ◌∙◌, subst}
 use Rattle.std.specs.Prelude.{MatchOption}
 use Rattle.std.specs.List.{count_by}
-use Rattle.qm_bits.specs.Unseen.{HasUnseen}
+use Rattle.qm_lists.specs.Unseen.{HasUnseen}
 use Rattle.qm_lists.specs.WorkList.{IsIn}
 use Rattle.qm_lists.specs.Reach.{start, onward}
 use Rattle.qm_contacts.specs.OwnPortals.{HasOwnPortals}
@@ -12,10 +12,11 @@ use Rattle.qm_segments.specs.SeenVia.{IsSeenVia}
 use Rattle.qm_segments.specs.Ahead.{IsAhead}
 use Rattle.qm_segments.specs.OpenChain.{leaves_met}
 use Rattle.qm_segments.specs.Route.{Route, arrived, over}
-use Rattle.qm_separators.specs.PortalSteps.{GoesOn, LetsPass, MeetsState}
+use Rattle.qm_separators.specs.PortalSteps.{StepsThrough, LetsPass, MeetsState}
 use Rattle.qm_separators.proofs.ChainLaws.{route_on}
 use Rattle.qm_chains.specs.Shown.{IsAt}
-use Rattle.qm_chains.specs.inner.Cone.{IsInCone, IsCutTo, IsLeftOf, with_mask}
+use Rattle.qm_lists.specs.CutTo.{IsCutTo}
+use Rattle.qm_chains.specs.inner.Cone.{IsInCone, IsLeftOf, with_mask}
 use Rattle.qm_chains.specs.inner.Frame.{Frame, put_back, EndsChain, IsNextTo, IsAwaited}
 use Rattle.qm_chains.specs.inner.Narrowing.{IsNarrowed}
 use Rattle.qm_chains.specs.inner.Wanted.{IsWantedVia}
@@ -62,7 +63,7 @@ left_of_cut world p frame found entered cone mask left has cut left_is = record 
 
 module _ (world : World) (own : HasOwnPortals world) (MayHave : ℕ → ℕ → Type 0) (p : ℕ) (frame child : Frame) (number : ℕ) (row found : List Bool) (q : Portal) (q_is : IsAt world.portals number q)
     (tried : IsTried world MayHave p frame number row found (Some child)) (in_child : (n : ℕ) → IsIn frame.mask n → IsWantedVia world p row number n → IsIn child.mask n)
-    (step : GoesOn frame.state q child.state) (gains : GainsOne q.to frame.met child.met) (leaving : HasAllLeaving world.portals q.to child.untried) (last_found : IsIn child.mask q.to → IsIn found q.to)
+    (step : StepsThrough frame.state q child.state) (gains : GainsOne q.to frame.met child.met) (leaving : HasAllLeaving world.portals q.to child.untried) (last_found : IsIn child.mask q.to → IsIn found q.to)
     (left : Option Frame) (is_left : IsLeftOf world p child found q.to left) where
   abbrev narrowed : Frame
   narrowed = with_mask is_left.mask child
@@ -132,7 +133,7 @@ module _ (world : World) (own : HasOwnPortals world) (MayHave : ℕ → ℕ → 
 -- a chain that goes on through a portal, and finds the leaf that it enters, narrowed by its cone
 module _ (world : World) (own : HasOwnPortals world) (MayHave : ℕ → ℕ → Type 0) (p : ℕ) (frame : Frame) (number : ℕ) (row : List Bool) (q : Portal) (q_is : IsAt world.portals number q)
     (child : Frame) (Can : ℕ → Type 0) (by_row : IsNarrowed (IsWantedVia world p row number) Can frame.mask child.mask) (may : (n : ℕ) → Can n → MayHave n number) (ends : EndsChain world MayHave p (put_back number frame))
-    (step : GoesOn frame.state q child.state) (new : IsIn frame.met q.to → ⊥) (within : q.to < length frame.met) (met_is : child.met ≡ set frame.met q.to true) (leaving : AreLeaving world.portals q.to child.untried)
+    (step : StepsThrough frame.state q child.state) (new : IsIn frame.met q.to → ⊥) (within : q.to < length frame.met) (met_is : child.met ≡ set frame.met q.to true) (leaving : AreLeaving world.portals q.to child.untried)
     (wide : q.to < length row) (found : List Bool) (finds : (IsIn child.mask q.to × (found ≡ set row q.to true)) ⊎ ((IsIn child.mask q.to → ⊥) × (found ≡ row)))
     (left : Option Frame) (is_left : IsLeftOf world p child found q.to left) where
   pub tried_on_left : IsTried world MayHave p frame number row found left

@@ -1,8 +1,8 @@
 -- Masks are narrowed word by word.
 use Rattle.std.proofs.Common.{◌≡◌, ⊎_elim, ℕ, ◌+◌, ◌*◌, ◌/◌, ◌%◌, ◌<◌, ◌≤◌, Bool, true, false, ◌&&◌, List, length, get_or, refl, sym, ap, ◌∙◌, subst, arith}
 use Rattle.std.proofs.lemmas.Bool.{cases_eq}
-use Rattle.qm_bits.specs.Word.{has_bit, IsWord, IsMasked}
-use Rattle.qm_bits.proofs.Bits.{has_bit-zero}
+use Rattle.qm_lists.specs.Word.{has_bit, IsWord, IsMasked}
+use Rattle.qm_lists.proofs.Bits.{has_bit-zero}
 use Rattle.qm_lists.proofs.Cases.{both_yes}
 use Rattle.qm_lists.proofs.WorkLists.{place_within}
 use Rattle.qm_chains.specs.inner.Narrowing.{IsNarrowed, IsNarrowedUpTo}

@@ -11,7 +11,7 @@ use Rattle.qm_contacts.specs.Portals.{Portal, portals_of}
 use Rattle.qm_contacts.specs.World.{World}
 use Rattle.qm_segments.specs.SeenVia.{IsSeenVia}
 use Rattle.qm_segments.proofs.ViaLaws.{via_in_sight}
-use Rattle.qm_separators.specs.PortalSteps.{GoesOn, BlocksAt}
+use Rattle.qm_separators.specs.PortalSteps.{StepsThrough, BlocksAt}
 use Rattle.qm_separators.proofs.ChainLaws.{straight_on}
 use Rattle.qm_chains.specs.Shown.{IsAt}
 use Rattle.qm_chains.specs.inner.Cone.{IsInCone}
@@ -122,7 +122,7 @@ module _ (world : World) (own : HasOwnPortals world) (found : List Bool) (pairs 
       (straight_on world.tree own.have_points own.touchings own.are_touchings first q pairs.start n (listed first pairs.first wanted.wanted.first_is) (listed q number q_is) (are.begun first wanted.wanted.first_is) (via_q n wanted)).not_blocked blocks
 
   -- else what is wanted is in the cone of the chain with these two portals
-  module _ (frame : Frame) (step : GoesOn pairs.start q frame.state) (met_is : (first : Portal) → IsAt world.portals pairs.first first → (m : ℕ) → IsIn frame.met m → Contains (q.to ∷ q.from ∷ first.to ∷ first.from ∷ []) m) where
+  module _ (frame : Frame) (step : StepsThrough pairs.start q frame.state) (met_is : (first : Portal) → IsAt world.portals pairs.first first → (m : ℕ) → IsIn frame.met m → Contains (q.to ∷ q.from ∷ first.to ∷ first.from ∷ []) m) where
     pub wanted_in_cone : (n : ℕ) → IsIn frame.mask n → IsWantedVia world pairs.first found number n → IsInCone world pairs.first frame found q.to n
     wanted_in_cone n in_mask wanted =
         let first = wanted.wanted.first in

@@ -8,7 +8,7 @@ use Rattle.qm_lists.specs.WorkList.{IsIn}
 use Rattle.qm_lists.proofs.Elements.{Contains-first}
 use Rattle.qm_contacts.specs.Portals.{Portal}
 use Rattle.qm_contacts.specs.World.{World, AreLeaving}
-use Rattle.qm_separators.specs.PortalSteps.{GoesOn}
+use Rattle.qm_separators.specs.PortalSteps.{StepsThrough}
 use Rattle.qm_contacts.specs.OwnPortals.{HasOwnPortals}
 use Rattle.qm_chains.specs.Shown.{IsAt, IsShown}
 use Rattle.qm_chains.specs.inner.Cone.{LeadsOn}
@@ -105,7 +105,7 @@ module _ (world : World) (own : HasOwnPortals world) (MayHave : ℕ → ℕ → 
       (λ first other first_is at n in_mask next. absurd (next.not_stopped (subst (StopsAt frame.state) (same_portal world.portals number q other q_is at) stops)))
 
   module _ (child : Frame) (Can : ℕ → Type 0) (narrowed : IsNarrowed (IsWantedVia world p row number) Can frame.mask child.mask) (may : (n : ℕ) → Can n → MayHave n number) (ends : EndsChain world MayHave p (put_back number frame))
-      (step : GoesOn frame.state q child.state) (new : IsIn frame.met q.to → ⊥) (within : q.to < length frame.met) (met_is : child.met ≡ set frame.met q.to true) (leaving : AreLeaving world.portals q.to child.untried) where
+      (step : StepsThrough frame.state q child.state) (new : IsIn frame.met q.to → ⊥) (within : q.to < length frame.met) (met_is : child.met ≡ set frame.met q.to true) (leaving : AreLeaving world.portals q.to child.untried) where
     met_gains : GainsOne q.to frame.met child.met
     met_gains = subst (GainsOne q.to frame.met) (sym met_is) (gains_one frame.met q.to within)
 

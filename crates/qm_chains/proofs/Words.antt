@@ -2,10 +2,11 @@
 use Rattle.std.proofs.Common.{◌≡◌, ⊎_elim, ℕ, ◌+◌, ◌*◌, ◌/◌, ◌%◌, ◌^◌, ◌<◌, ◌≤◌, Bool, true, false, ◌&&◌, List, length, get_or, bit_and, w64, refl, sym, ap, ◌∙◌, subst, arith}
 use Rattle.std.specs.Int.{bit_not}
 use Rattle.std.proofs.lemmas.Bool.{cases_eq, and_parts}
-use Rattle.qm_bits.specs.Word.{has_bit, IsWord, IsMasked}
-use Rattle.qm_bits.proofs.Bits.{has_bit-and, has_bit-not, has_bit-zero}
+use Rattle.qm_lists.specs.Word.{has_bit, IsWord, IsMasked}
+use Rattle.qm_lists.proofs.Bits.{has_bit-and, has_bit-not, has_bit-zero}
 use Rattle.qm_lists.proofs.WorkLists.{place_within}
-use Rattle.qm_chains.specs.inner.Cone.{IsCutTo, IsCutUpTo}
+use Rattle.qm_lists.specs.CutTo.{IsCutTo}
+use Rattle.qm_chains.specs.inner.Cone.{IsCutUpTo}
 use Rattle.qm_chains.specs.inner.Narrowing.{ShowsNothingNew, ShowsNothingNewUpTo}
 use Rattle.qm_chains.proofs.TriedPortals.{in_or_clear}
 

@@ -3,7 +3,7 @@ use Rattle.std.specs.List.{AllZip}
 use Rattle.qm_contacts.specs.Portals.{Portal}
 use Rattle.qm_segments.specs.OpenChain.{IsOpenChain}
 use Rattle.qm_separators.specs.ChainState.{ChainState}
-use Rattle.qm_separators.specs.PortalSteps.{BeginsWith, GoesOn}
+use Rattle.qm_separators.specs.PortalSteps.{BeginsWith, StepsThrough}
 
 -- Open chains whose portals each have a property. A portal is known by its number, its place in the list of portals.
 
@@ -19,7 +19,7 @@ pub record IsShown (portals : List Portal) (Has : ℕ → Type 0) (p n : ℕ) : 
   pub last : Portal
   pub before : List Portal
   pub state : ChainState
-  pub open_chain : IsOpenChain BeginsWith GoesOn portals first (last ∷ before) state
+  pub open_chain : IsOpenChain BeginsWith StepsThrough portals first (last ∷ before) state
   pub ends : last.to ≡ n
   pub later : List ℕ
   pub numbers_are : AllZip (IsAt portals) (later ++ p ∷ []) (last ∷ before)

@@ -5,7 +5,7 @@ use Rattle.qm_mapfile.specs.declared.face.Face.{Face}
 use Rattle.qm_mapfile.specs.declared.entity.Brush.{Brush}
 use Rattle.qm_mapfile.specs.declared.entity.Entity.{Entity}
 use Rattle.qm_mapfile.specs.declared.entity.MapFile.{MapFile}
-use Rattle.qm_grammar.specs.Valid.{IsValid, IsValidEntity, IsValidBrush, face_count}
+use Rattle.qm_grammar.specs.Valid.{IsValidMap, IsValidEntity, IsValidBrush, face_count}
 use Rattle.qm_statement.specs.Summary.{brush_count}
 
 -- A map has no more brushes than faces.
@@ -31,6 +31,6 @@ few_of_entities (entity ∷ entities) valid =
     let rest = few_of_entities entities (all_rest IsValidEntity entity entities valid) in
     omega (arith, here, rest, sum_by-cons (λ (e : Entity). length e.brushes) entity entities, sum_by-cons face_count entity entities)
 
-pub brush_count-few : (map : MapFile) → IsValid map → brush_count map < 2 ^ 64
-unfolding IsValid
+pub brush_count-few : (map : MapFile) → IsValidMap map → brush_count map < 2 ^ 64
+unfolding IsValidMap
 brush_count-few map valid = let few = few_of_entities map.entities valid.1 in omega (arith, few, valid.3)

@@ -1,5 +1,5 @@
 use Rattle.std.proofs.Common.{◌≡◌, ℕ, List, sym, subst, inl, inr}
-use Rattle.qm_shelf.specs.Outside.{Outside}
+use Rattle.qm_shelf.specs.Surroundings.{Surroundings}
 use Rattle.qm_compile.specs.declared.outcome.Outcome.{Outcome}
 use Rattle.qm_compile.specs.declared.outcome.Outcome.TheVariants.{Done, Usage, Leak, ReadFault, MapFault, WriteFault}
 use Rattle.qm_statement.specs.declared.status.Status.{Status}
@@ -9,7 +9,7 @@ use Rattle.qm_statement.specs.Run.{Answers, EndsPrinted, EndsByPrintFault, EndsS
 
 -- The ways in which a run ends.
 
-module _ (words : List (List ℕ)) (before after : Outside) where
+module _ (words : List (List ℕ)) (before after : Surroundings) where
   answers_due : (outcome : Outcome) → EndsPrinted words before after (due_status outcome) → Answers words before after (due_status outcome)
   unfolding Answers
   answers_due (Done summary) reports = reports

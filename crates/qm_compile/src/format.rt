@@ -1,7 +1,7 @@
 //! From a map to its canonical text.
 
 ghost use Rattle.std.specs.Prelude.{◌≡◌, ◌<◌, ◌^◌, ◌++◌, length, IfOk, codes, string_bytes};
-ghost use Rattle.qm_grammar.specs.Valid.{IsValid};
+ghost use Rattle.qm_grammar.specs.Valid.{IsValidMap};
 ghost use Rattle.qm_statement.specs.Output.{IsFormatOutput};
 ghost use Rattle.qm_statement.specs.Summary.{brush_count, format_summary};
 ghost use Rattle.qm_compile.specs.inner.Made.{output_of};
@@ -15,7 +15,7 @@ use std::alloc::{AllocError, Global};
 
 /// The canonical text of a map, with the number of its entities and of their brushes.
 pub fn format(alloc: Global, map: &MapFile) -> Result<Product, AllocError>
-    requires { IsValid map.now }
+    requires { IsValidMap map.now }
     ensures { IfOk result (λ product. IsFormatOutput map.now (output_of product)) }
 {
     let summary = summary(alloc, map)?;

@@ -1,6 +1,6 @@
 //! How the program ends over forms that never fail.
 
-ghost use Rattle.qm_shelf.specs.Outside.{outside};
+ghost use Rattle.qm_shelf.specs.Surroundings.{surroundings};
 ghost use Rattle.qm_statement.specs.declared.command.Command.{Command};
 ghost use Rattle.qm_statement.specs.Command.{IsCommand};
 ghost use Rattle.qm_statement.specs.FileNames.{FileNames};
@@ -23,8 +23,8 @@ pub fn run_surely<R: Threads + Sync>(
     shelf: &mut SureShelf,
     out: &mut SureSink,
 ) -> Status
-    ensures answers { Answers (bytes_of_words words.now) (outside ⟦<SureShelf as Shelf>⟧ ⟦<SureSink as Sink>⟧ shelf.old out.old)
-        (outside ⟦<SureShelf as Shelf>⟧ ⟦<SureSink as Sink>⟧ shelf.new out.new) result }
+    ensures answers { Answers (bytes_of_words words.now) (surroundings ⟦<SureShelf as Shelf>⟧ ⟦<SureSink as Sink>⟧ shelf.old out.old)
+        (surroundings ⟦<SureShelf as Shelf>⟧ ⟦<SureSink as Sink>⟧ shelf.new out.new) result }
     ensures ends { (command : Command) (files : FileNames) → IsCommand (bytes_of_words words.now) command files → EndsWithoutFault result command }
 {
     run(rt, alloc, words, shelf, out)

@@ -1,7 +1,7 @@
 //! From a text to the file that a command makes of it.
 
 ghost use Rattle.std.specs.Prelude.{IfOk};
-ghost use Rattle.qm_grammar.specs.Valid.{IsValid};
+ghost use Rattle.qm_grammar.specs.Valid.{IsValidMap};
 ghost use Rattle.qm_compile.specs.inner.Made.{ComesOfMap, ComesOfText, IsFaultAlone};
 
 use crate::format::format;
@@ -37,7 +37,7 @@ fn fault_of_text(fault: MapFault) -> Result<Made, AllocError>
 /// Makes of a map what a command asks for.
 #[tactic(auto, unfolding(qm_statement::specs::Output::IsOutputOf))]
 fn make_of_map(alloc: Global, command: Command, map: &MapFile) -> Result<Made, AllocError>
-    requires { IsValid map.now }
+    requires { IsValidMap map.now }
     ensures { IfOk result (λ made. ComesOfMap command map.now made) }
 {
     match command {

@@ -1,7 +1,7 @@
 //! All that the program does.
 
 ghost use Rattle.std.specs.Prelude.{IfOk, OnErr};
-ghost use Rattle.qm_shelf.specs.Outside.{outside};
+ghost use Rattle.qm_shelf.specs.Surroundings.{surroundings};
 ghost use Rattle.qm_shelf.specs.ShelfState.{shelf_state};
 ghost use Rattle.qm_statement.specs.declared.command.Command.{Command};
 ghost use Rattle.qm_statement.specs.Command.{IsCommand};
@@ -33,8 +33,8 @@ pub fn run<R: Threads + Sync, H: Shelf, S: Sink>(
     shelf: &mut H,
     out: &mut S,
 ) -> Status
-    ensures answers { Answers (bytes_of_words words.now) (outside H.Shelf S.Sink shelf.old out.old) (outside H.Shelf S.Sink shelf.new out.new) result }
-    ensures complete { IsComplete (bytes_of_words words.now) (outside H.Shelf S.Sink shelf.old out.old) (outside H.Shelf S.Sink shelf.new out.new) result }
+    ensures answers { Answers (bytes_of_words words.now) (surroundings H.Shelf S.Sink shelf.old out.old) (surroundings H.Shelf S.Sink shelf.new out.new) result }
+    ensures complete { IsComplete (bytes_of_words words.now) (surroundings H.Shelf S.Sink shelf.old out.old) (surroundings H.Shelf S.Sink shelf.new out.new) result }
 {
     let Ok(outcome) = carry_out(alloc, words, shelf) else {
         return Status::Memory;

@@ -1,7 +1,7 @@
 //! From a map to the bytes of its tree file and its listing, and what is printed of it.
 
 ghost use Rattle.std.specs.Prelude.{IfOk};
-ghost use Rattle.qm_grammar.specs.Valid.{IsValid};
+ghost use Rattle.qm_grammar.specs.Valid.{IsValidMap};
 ghost use Rattle.std.specs.Option.{option_map};
 ghost use Rattle.qm_statement.specs.declared.command.Command.TheVariants.{Compile};
 ghost use Rattle.qm_statement.specs.Output.{IsListed, IsOutputOf};
@@ -26,7 +26,7 @@ pub fn compile_to_file(
     options: Options,
     listed: bool,
 ) -> Result<Product, AllocError>
-    requires { IsValid map.now }
+    requires { IsValidMap map.now }
     ensures { IfOk result (λ product. IsOutputOf (Compile options listed) map.now (output_of product)) }
 {
     let compiled = compile(alloc, map, &options)?;

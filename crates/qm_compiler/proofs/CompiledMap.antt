@@ -6,7 +6,7 @@ use Rattle.std.proofs.lemmas.List.{length-map}
 use Rattle.std.proofs.lemmas.List.Elements.{length_all_zip}
 use Rattle.qm_space.specs.Plane.{Plane}
 use Rattle.qm_space.specs.Reduced.{IsReduced}
-use Rattle.qm_geom.specs.Planes.{AreEntered}
+use Rattle.qm_geom.specs.Planes.{AreEnteredInBook}
 use Rattle.qm_geom.proofs.EnteredPlanes.{one_book}
 use Rattle.qm_mapfile.specs.declared.entity.MapFile.{MapFile}
 use Rattle.qm_brush.specs.Planes.{drawn_planes}
@@ -48,7 +48,7 @@ use Rattle.qm_segments.specs.Ends.{HoldLinesOfSight}
 use Rattle.qm_segments.specs.LedByPortals.{IsLedByPortals}
 use Rattle.qm_segments.proofs.EndRows.{sound_rows_hold_ends, coarse_rows_hold_ends}
 use Rattle.qm_segments.proofs.FilledRows.{filled_row_closed}
-use Rattle.qm_formats.specs.TreeFile.{TreeFile, IsValid}
+use Rattle.qm_formats.specs.TreeFile.{TreeFile, IsValidFile}
 use Rattle.qm_compiler.specs.declared.compiled.Compiled.{Compiled}
 use Rattle.qm_compiler.specs.declared.compiled.Compiled.TheVariants.{Done, Leak}
 use Rattle.qm_statement.specs.declared.options.Options.{Options}
@@ -88,7 +88,7 @@ module _ (map : MapFile) (book : List Plane) (list : List BookSolid) (alike : Al
   as_many = length_all_zip IsAlike (drawn_solids map) (solids_in book list) alike ∙ length-map list (solid_in book)
 
   -- the tree that is built of the brushes is the map's, and the brushes are counted
-  pub counted_map : (tree : Tree) → AreEntered [] (drawn_planes map) book → IsTreeOf (solids_in book list) book tree → GivesContents tree (solids_in book list) → HasPoints tree → IsTreeOfBrushes map tree (length list) (flat_count list)
+  pub counted_map : (tree : Tree) → AreEnteredInBook [] (drawn_planes map) book → IsTreeOf (solids_in book list) book tree → GivesContents tree (solids_in book list) → HasPoints tree → IsTreeOfBrushes map tree (length list) (flat_count list)
   counted_map tree entered is_tree gives points = record {
     is_tree = record { book = book; entered = entered; is_tree = tree_back (drawn_solids map) (solids_in book list) alike book tree is_tree };
     gives_contents = gives_drawn tree gives;
@@ -196,7 +196,7 @@ module _ (map : MapFile) (options : Options) (tree : Tree) (brushes flat : ℕ) 
           contacts.touchings are.touching s sight)
 
       -- the tree with its rows can stand in a file
-      valid : {summary : Summary} (file : TreeFile) (world : World) → IsFilledFile options.fast sealed tree brushes flat row contacts file world summary → IsValid file
+      valid : {summary : Summary} (file : TreeFile) (world : World) → IsFilledFile options.fast sealed tree brushes flat row contacts file world summary → IsValidFile file
       valid file world made =
           let same : world.tree ≡ file.tree = ap (λ (w : World). w.tree) made.is_world ∙ sym made.is_tree in
           valid_with_rows file

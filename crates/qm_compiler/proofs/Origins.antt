@@ -9,7 +9,7 @@ use Rattle.qm_mapfile.specs.declared.entity.Pair.{Pair}
 use Rattle.qm_mapfile.specs.declared.entity.Entity.{Entity}
 use Rattle.qm_mapfile.specs.declared.entity.MapFile.{MapFile}
 use Rattle.qm_grammar.specs.Origin.{origin_key, value_of, HasGoodOrigin, OriginsAreGood}
-use Rattle.qm_grammar.specs.Valid.{IsValid}
+use Rattle.qm_grammar.specs.Valid.{IsValidMap}
 use Rattle.qm_grammar.specs.inner.Machine.{origin_of}
 use Rattle.qm_grammar.proofs.OriginTexts.{spelled_origin}
 use Rattle.qm_map.specs.OriginPoint.{IsOriginPoint}
@@ -91,6 +91,6 @@ good_among [] k entity good later within at = absurd (omega (arith, within))
 good_among (world ∷ others) zero entity good later within at = absurd (omega (arith, later))
 good_among (world ∷ others) (suc k) entity good later within at = subst (λ (e : Entity). HasGoodOrigin e.pairs) at (good k entity (omega (arith, within)))
 
-pub good_origin_at : (map : MapFile) (k : ℕ) (entity : Entity) → IsValid map → 1 ≤ k → k < length map.entities → get_or map.entities k entity ≡ entity → HasGoodOrigin entity.pairs
-unfolding IsValid
+pub good_origin_at : (map : MapFile) (k : ℕ) (entity : Entity) → IsValidMap map → 1 ≤ k → k < length map.entities → get_or map.entities k entity ≡ entity → HasGoodOrigin entity.pairs
+unfolding IsValidMap
 good_origin_at map k entity valid later within at = good_among map.entities k entity valid.2 later within at

@@ -10,7 +10,7 @@ use Rattle.qm_contacts.specs.NumberedLeaves.{is_numbered, numbered_leaves}
 use Rattle.qm_contacts.specs.Portals.{Portal}
 use Rattle.qm_contacts.specs.World.{World}
 use Rattle.qm_coarse_rows.specs.LeafRow.{AreLeafRows}
-use Rattle.qm_formats.specs.TreeFile.{TreeFile, AreRows, IsValid}
+use Rattle.qm_formats.specs.TreeFile.{TreeFile, AreRows, IsValidFile}
 use Rattle.qm_statement.specs.Rows.{AreRowsAsAsked}
 use Rattle.qm_compiler.proofs.NumberedCounts.{as_many_numbered}
 
@@ -37,10 +37,10 @@ module _ (file : TreeFile) (well : IsWellMade file.tree) (reduced : All IsReduce
   abbrev fits : Option (List (List Bool)) → Type 0
   fits rows = IfSome rows (AreRows (count_by is_numbered (leaves_of file.tree.shape)))
 
-  pub valid_without_rows : file.rows ≡ None → IsValid file
+  pub valid_without_rows : file.rows ≡ None → IsValidFile file
   valid_without_rows none = record { well_made = well; reduced = reduced; rows = subst fits (sym none) tt }
 
-  pub valid_with_rows : (world : World) (rows : List (List Bool)) → world.tree ≡ file.tree → file.rows ≡ Some rows → AreOverSome world rows → IsValid file
+  pub valid_with_rows : (world : World) (rows : List (List Bool)) → world.tree ≡ file.tree → file.rows ≡ Some rows → AreOverSome world rows → IsValidFile file
   valid_with_rows world rows same has over =
       let are = subst (λ (t : Tree). AreLeafRows world.portals over.portal_rows (length (numbered_leaves t)) rows) same over.are in
       record { well_made = well; reduced = reduced; rows = subst fits (sym has) (leaf_rows_fit file.tree world.portals over.portal_rows rows are) }

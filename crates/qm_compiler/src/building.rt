@@ -1,7 +1,7 @@
 //! What a map gives before the outside is looked for.
 
 ghost use Rattle.std.specs.Prelude.{◌≡◌, IfOk};
-ghost use Rattle.qm_grammar.specs.Valid.{IsValid};
+ghost use Rattle.qm_grammar.specs.Valid.{IsValidMap};
 ghost use Rattle.qm_compiler.specs.inner.Counted.{IsTreeOfBrushes};
 ghost use Rattle.qm_compiler.specs.inner.FlatCount.{flat_count};
 
@@ -22,7 +22,7 @@ pub struct Built {
 
 /// Builds the tree of a map. The brushes are let go of.
 pub fn build_map(alloc: Global, map: &MapFile) -> Result<Built, AllocError>
-    requires { IsValid map.now }
+    requires { IsValidMap map.now }
     ensures { IfOk result (λ built. IsTreeOfBrushes map.now built.tree built.brushes built.flat) }
 {
     let mut book = PlaneBook::new(alloc);

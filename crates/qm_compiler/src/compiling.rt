@@ -1,7 +1,7 @@
 //! From a map to its tree with rows.
 
 ghost use Rattle.std.specs.Prelude.{◌≡◌, IfOk, length};
-ghost use Rattle.qm_grammar.specs.Valid.{IsValid};
+ghost use Rattle.qm_grammar.specs.Valid.{IsValidMap};
 ghost use Rattle.qm_partition.specs.Counting.{leaf_count};
 ghost use Rattle.qm_contacts.specs.Contacts.{AreContacts};
 ghost use Rattle.qm_compiler.specs.Answers.{IsCompiled};
@@ -28,7 +28,7 @@ use std::alloc::{AllocError, Global};
 /// reaches are filled, and each numbered leaf has a row. Rows are coarse where the options ask for it; else each portal is
 /// flowed once, in order.
 pub fn compile(alloc: Global, map: &MapFile, options: &Options) -> Result<Compiled, AllocError>
-    requires { IsValid map.now }
+    requires { IsValidMap map.now }
     ensures { IfOk result (λ compiled. IsCompiled map.now options.now compiled) }
 {
     let built = build_map(alloc, map)?;

@@ -1,7 +1,7 @@
 //! Where the entities of a map stand.
 
 ghost use Rattle.std.specs.Prelude.{IfOk};
-ghost use Rattle.qm_grammar.specs.Valid.{IsValid};
+ghost use Rattle.qm_grammar.specs.Valid.{IsValidMap};
 ghost use Rattle.qm_statement.specs.Origins.{AreOriginsOf};
 
 use qm_flood::Origin;
@@ -11,7 +11,7 @@ use std::alloc::{AllocError, Global};
 
 /// Where the entities of a map stand that have the key `origin`, but for the world.
 pub fn origins_of(alloc: Global, map: &MapFile) -> Result<Vec<Origin>, AllocError>
-    requires { IsValid map.now }
+    requires { IsValidMap map.now }
     ensures { IfOk result (λ origins. AreOriginsOf map.now origins.items) }
 {
     let entities = map.entities.as_slice();

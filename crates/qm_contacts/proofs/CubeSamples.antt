@@ -12,7 +12,7 @@ use Rattle.qm_numbers.proofs.IntegerProducts.{linear, one_*ℤ, zero_*ℤ, +ℤ-
 use Rattle.qm_numbers.proofs.Signs.{product_positive}
 use Rattle.qm_space.proofs.Planes.{value_flipped}
 use Rattle.qm_space.proofs.Cubes.{cube_is_cell, x_low, x_high, y_low, y_high, z_low, z_high}
-use Rattle.qm_partition.specs.Ways.{cell_of, Way, ways}
+use Rattle.qm_partition.specs.Ways.{cell_of_way, Way, ways}
 use Rattle.qm_partition.proofs.Samples.{cube_tree, way_in}
 use Rattle.qm_contacts.specs.Meeting.{Meeting, meeting_at, meetings}
 use Rattle.qm_contacts.specs.Contact.{IsContact, TouchAcross}
@@ -58,15 +58,15 @@ in_cell_from (h ∷ cell) x test =
 -- whether a point is a contact of a meeting of the tree
 abbrev is_contact : Meeting → Point → Bool
 is_contact m x =
-    is_in_cell cube_walls x && (is_zero (value (plane_at cube_tree.planes m.plane) x) && (is_in_cell (cell_of cube_tree.planes m.above) x
-    && (is_in_cell (cell_of cube_tree.planes m.front.way) x && is_in_cell (cell_of cube_tree.planes m.back.way) x)))
+    is_in_cell cube_walls x && (is_zero (value (plane_at cube_tree.planes m.plane) x) && (is_in_cell (cell_of_way cube_tree.planes m.above) x
+    && (is_in_cell (cell_of_way cube_tree.planes m.front.way) x && is_in_cell (cell_of_way cube_tree.planes m.back.way) x)))
 
 contact_from : (m : Meeting) (x : Point) → is_contact m x ≡ true → IsContact cube_tree.planes m x
 contact_from m x test =
     let on_test = is_zero (value (plane_at cube_tree.planes m.plane) x) in
-    let above_test = is_in_cell (cell_of cube_tree.planes m.above) x in
-    let front_test = is_in_cell (cell_of cube_tree.planes m.front.way) x in
-    let back_test = is_in_cell (cell_of cube_tree.planes m.back.way) x in
+    let above_test = is_in_cell (cell_of_way cube_tree.planes m.above) x in
+    let front_test = is_in_cell (cell_of_way cube_tree.planes m.front.way) x in
+    let back_test = is_in_cell (cell_of_way cube_tree.planes m.back.way) x in
     let first = both_yes (is_in_cell cube_walls x) (on_test && (above_test && (front_test && back_test))) test in
     let second = both_yes on_test (above_test && (front_test && back_test)) first.1 in
     let third = both_yes above_test (front_test && back_test) second.1 in
@@ -74,9 +74,9 @@ contact_from m x test =
     record {
       in_cube = (cube_is_cell x).1 (in_cell_from cube_walls x first.0);
       on = zero_from (value (plane_at cube_tree.planes m.plane) x) second.0;
-      above = in_cell_from (cell_of cube_tree.planes m.above) x third.0;
-      in_front = in_cell_from (cell_of cube_tree.planes m.front.way) x fourth.0;
-      behind = in_cell_from (cell_of cube_tree.planes m.back.way) x fourth.1;
+      above = in_cell_from (cell_of_way cube_tree.planes m.above) x third.0;
+      in_front = in_cell_from (cell_of_way cube_tree.planes m.front.way) x fourth.0;
+      behind = in_cell_from (cell_of_way cube_tree.planes m.back.way) x fourth.1;
     }
 
 -- ---- the 21 meetings of the seven leaves
@@ -190,12 +190,12 @@ beside_from (suc place) (h ∷ rest) wall x is test =
 
 -- whether a point on a wall shows that the leaf at the end of a way touches the outside
 abbrev is_outside : ℕ → Plane → Way → Point → Bool
-is_outside place wall way x = is_zero (value wall x) && (is_beside place cube_walls x && is_in_cell (cell_of cube_tree.planes way) x)
+is_outside place wall way x = is_zero (value wall x) && (is_beside place cube_walls x && is_in_cell (cell_of_way cube_tree.planes way) x)
 
 beyond : (k place : ℕ) (way : Way) (wall : Plane) (x : Point) → slice_get (ways cube_tree.shape) k ≡ Some way → place < 6 → get_or cube_walls place wall ≡ wall → pos 0 <ℤ x.w → is_outside place wall way x ≡ true → TouchesOutside cube_tree k
 beyond k place way wall x way_is within is weight test =
-    let first = both_yes (is_zero (value wall x)) (is_beside place cube_walls x && is_in_cell (cell_of cube_tree.planes way) x) test in
-    let second = both_yes (is_beside place cube_walls x) (is_in_cell (cell_of cube_tree.planes way) x) first.1 in
+    let first = both_yes (is_zero (value wall x)) (is_beside place cube_walls x && is_in_cell (cell_of_way cube_tree.planes way) x) test in
+    let second = both_yes (is_beside place cube_walls x) (is_in_cell (cell_of_way cube_tree.planes way) x) first.1 in
     record {
       way = way;
       way_is = way_is;
@@ -203,7 +203,7 @@ beyond k place way wall x way_is within is weight test =
       is_wall = (place, within, is);
       point = x;
       on_face = record { weight = weight; on = zero_from (value wall x) first.0; inside = beside_from place cube_walls wall x is second.0 };
-      in_cell = in_cell_from (cell_of cube_tree.planes way) x second.1;
+      in_cell = in_cell_from (cell_of_way cube_tree.planes way) x second.1;
     }
 
 -- six leaves reach to a face of the cube of the world
@@ -238,8 +238,8 @@ stone_row outside = All-contains (λ wall. IsOn wall p → ⊥) cube_walls outsi
     same : outside.way ≡ way_in
     same = let e : Some outside.way ≡ Some way_in = sym outside.way_is in cc
 
-    inside : IsInCell (cell_of cube_tree.planes way_in) outside.point
-    inside = subst (λ (way : Way). IsInCell (cell_of cube_tree.planes way) outside.point) same outside.in_cell
+    inside : IsInCell (cell_of_way cube_tree.planes way_in) outside.point
+    inside = subst (λ (way : Way). IsInCell (cell_of_way cube_tree.planes way) outside.point) same outside.in_cell
 
     wide : pos 0 <ℤ (extent *ℤ outside.point.w)
     wide = product_positive extent outside.point.w (omega (arith, ints)) outside.on_face.weight

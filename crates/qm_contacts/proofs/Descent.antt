@@ -27,7 +27,7 @@ use Rattle.qm_convex.proofs.Facets.{crosses_cell, left_of_side}
 use Rattle.qm_convex.proofs.CubeFacets.{face_is_facet, cube_facets}
 use Rattle.qm_partition.specs.Partition.{Partition, leaf, node}
 use Rattle.qm_partition.specs.Tree.{Tree}
-use Rattle.qm_partition.specs.Ways.{Way, after_step, ways, turned_to, cell_of, HasPoints}
+use Rattle.qm_partition.specs.Ways.{Way, after_step, ways, turned_to, cell_of_way, HasPoints}
 use Rattle.qm_contacts.specs.Meeting.{then_step}
 use Rattle.qm_contacts.specs.Outside.{TouchesOutside}
 use Rattle.qm_contacts.specs.inner.Pieces.{walled_cell}
@@ -35,7 +35,7 @@ use Rattle.qm_contacts.specs.inner.Descent.{HasPointsBelow, AreBounds, AreWallFa
 use Rattle.qm_contacts.proofs.Pieces.{walled_split}
 
 -- one step more
-pub cell-then_step : (planes : List Plane) (above : Way) (n : ℕ) (side : Bool) → cell_of planes (then_step above n side) ≡ cell_of planes above ++ turned side (plane_at planes n) ∷ []
+pub cell-then_step : (planes : List Plane) (above : Way) (n : ℕ) (side : Bool) → cell_of_way planes (then_step above n side) ≡ cell_of_way planes above ++ turned side (plane_at planes n) ∷ []
 cell-then_step planes above n side = map-append (turned_to planes) above (record { plane = n; front = side } ∷ [])
 
 pub walled-then_step : (planes : List Plane) (above : Way) (n : ℕ) (side : Bool) → walled_cell planes (then_step above n side) ≡ walled_cell planes above ++ turned side (plane_at planes n) ∷ []
@@ -49,14 +49,14 @@ points_at_root tree have way listed =
     (found.0, (walled_split tree.planes [] found.0).1 (found.1.in_cube, All-nil (λ h. IsInFront h found.0)), found.1.in_cell)
 
 module _ (planes : List Plane) (above : Way) (n : ℕ) (front back : Partition) (have : HasPointsBelow planes above (node n front back)) where
-  side_point : (side : Bool) (way : Way) → Contains (ways (node n front back)) (after_step n side way) → (x : Point) × IsInCell (walled_cell planes (then_step above n side)) x × IsInCell (cell_of planes way) x
+  side_point : (side : Bool) (way : Way) → Contains (ways (node n front back)) (after_step n side way) → (x : Point) × IsInCell (walled_cell planes (then_step above n side)) x × IsInCell (cell_of_way planes way) x
   side_point side way listed =
       let found = have (after_step n side way) listed in
       let x = found.0 in
       let h = turned side (plane_at planes n) in (
         x,
-        subst (λ (cell : List Plane). IsInCell cell x) (sym (walled-then_step planes above n side)) (All-push (λ g. IsInFront g x) (walled_cell planes above) h found.1 (All-head (λ g. IsInFront g x) h (cell_of planes way) found.2)),
-        All-tail (λ g. IsInFront g x) h (cell_of planes way) found.2,
+        subst (λ (cell : List Plane). IsInCell cell x) (sym (walled-then_step planes above n side)) (All-push (λ g. IsInFront g x) (walled_cell planes above) h found.1 (All-head (λ g. IsInFront g x) h (cell_of_way planes way) found.2)),
+        All-tail (λ g. IsInFront g x) h (cell_of_way planes way) found.2,
       )
 
   pub points_in_front : HasPointsBelow planes (then_step above n true) front
@@ -119,7 +119,7 @@ pub facets_below : (planes : List Plane) (above : Way) (n : ℕ) (side : Bool) (
 facets_below planes above n side section on_walls walls is are cut_walls = record {
   walls = subst (λ (c : List Plane). AreFacetsOn c cube_walls walls) (sym (walled-then_step planes above n side)) (left_of_side (walled_cell planes above) (plane_at planes n) side section is cube_walls on_walls walls (λ x inside. (cube_is_cell x).0 (in_cube x inside)) are.walls cut_walls);
   apart = subst (All (λ g. (wall : Plane) → Contains cube_walls wall → HasSameSides g wall → ⊥)) (sym (cell-then_step planes above n side))
-      (All-push (λ g. (wall : Plane) → Contains cube_walls wall → HasSameSides g wall → ⊥) (cell_of planes above) (turned side (plane_at planes n)) are.apart
+      (All-push (λ g. (wall : Plane) → Contains cube_walls wall → HasSameSides g wall → ⊥) (cell_of_way planes above) (turned side (plane_at planes n)) are.apart
       (λ wall is_wall same. section_is_no_wall planes above n side wall point.0 ((is.points point.0).0 point.1).0 (in_cube point.0 ((is.points point.0).0 point.1).1) is_wall same));
 }
   where
@@ -147,22 +147,22 @@ bounds_below planes above n side bounds half are added x weight = (
 
 -- ---- the outside
 
-module _ (planes : List Plane) (way : Way) (wall : Plane) (is_wall : Contains cube_walls wall) (apart : All (λ g. (wall : Plane) → Contains cube_walls wall → HasSameSides g wall → ⊥) (cell_of planes way)) (x : Point) where
+module _ (planes : List Plane) (way : Way) (wall : Plane) (is_wall : Contains cube_walls wall) (apart : All (λ g. (wall : Plane) → Contains cube_walls wall → HasSameSides g wall → ⊥) (cell_of_way planes way)) (x : Point) where
   abbrev Beside : Plane → Type 0
   Beside g = HasSameSides g wall ⊎ IsInFront g x
 
   -- a point of a facet on a wall is strictly inside a face of the cube, and in the cell
-  pub facet_outside : IsOnFacet (walled_cell planes way) wall x ↔ (IsOnCubeFace wall x × IsInCell (cell_of planes way) x)
+  pub facet_outside : IsOnFacet (walled_cell planes way) wall x ↔ (IsOnCubeFace wall x × IsInCell (cell_of_way planes way) x)
   facet_outside = (
     (λ f.
-        let on_cube = All-first_part Beside cube_walls (cell_of planes way) f.inside in
-        let in_steps = All-last_part Beside cube_walls (cell_of planes way) f.inside in (
+        let on_cube = All-first_part Beside cube_walls (cell_of_way planes way) f.inside in
+        let in_steps = All-last_part Beside cube_walls (cell_of_way planes way) f.inside in (
           (face_is_facet wall x is_wall).1 (record { weight = f.weight; on = f.on; inside = on_cube }),
           λ place d there. ⊎_elim (λ same. absurd (apart place d there wall is_wall same)) (λ front. front) (in_steps place d there),
         )),
     (λ both.
         let f = (face_is_facet wall x is_wall).0 both.0 in
-        record { weight = f.weight; on = f.on; inside = All-append Beside cube_walls (cell_of planes way) f.inside (beside_of_cell (cell_of planes way) wall x both.1) }),
+        record { weight = f.weight; on = f.on; inside = All-append Beside cube_walls (cell_of_way planes way) f.inside (beside_of_cell (cell_of_way planes way) wall x both.1) }),
   )
 
 first_wall : (cell planes : List Plane) (found : Facet) (rest : List Facet) → All (Contains cube_walls) planes → AreFacetsOn cell planes (found ∷ rest) → Contains cube_walls found.inward × IsFacet cell found
@@ -184,7 +184,7 @@ touches_outside tree k way found rest way_is are =
 pub not_outside : (tree : Tree) (k : ℕ) (way : Way) → slice_get (ways tree.shape) k ≡ Some way → AreWallFacets tree.planes way [] → TouchesOutside tree k → ⊥
 not_outside tree k way way_is are outside =
     let none_there = All-contains (HasNoFacet (walled_cell tree.planes way)) cube_walls outside.wall (none_on (walled_cell tree.planes way) cube_walls are.walls) outside.is_wall in
-    none_there outside.point ((facet_outside tree.planes way outside.wall outside.is_wall are.apart outside.point).1 (outside.on_face, subst (λ (w : Way). IsInCell (cell_of tree.planes w) outside.point) same outside.in_cell))
+    none_there outside.point ((facet_outside tree.planes way outside.wall outside.is_wall are.apart outside.point).1 (outside.on_face, subst (λ (w : Way). IsInCell (cell_of_way tree.planes w) outside.point) same outside.in_cell))
   where
     same : outside.way ≡ way
     same = let e = sym outside.way_is ∙ way_is in cc

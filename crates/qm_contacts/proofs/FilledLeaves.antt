@@ -7,7 +7,7 @@ use Rattle.qm_partition.specs.declared.node.Leaf.{Leaf}
 use Rattle.qm_partition.specs.Tree.{Tree}
 use Rattle.qm_contacts.specs.NumberedLeaves.{is_solid}
 use Rattle.qm_contacts.specs.Reached.{is_passable, IsPassable, IsReached}
-use Rattle.qm_contacts.specs.Leak.{Origin, leaf_of, TakesPart}
+use Rattle.qm_contacts.specs.Leak.{Origin, leaf_of_origin, TakesPart}
 use Rattle.qm_contacts.specs.Filled.{IsToBeFilled}
 use Rattle.qm_contacts.specs.PortalChain.{IsPortalBetween, IsChained}
 use Rattle.qm_contacts.proofs.Touchings.{touch_back}
@@ -59,6 +59,6 @@ chained_reached tree a b reached chain =
     b chain
 
 -- so it leads to no entity that takes part
-pub filled_apart : (tree : Tree) (origins : List Origin) (origin : Origin) (k : ℕ) → IsToBeFilled tree origins k → Contains origins origin → TakesPart tree origin → IsChained tree k (leaf_of tree origin) → ⊥
+pub filled_apart : (tree : Tree) (origins : List Origin) (origin : Origin) (k : ℕ) → IsToBeFilled tree origins k → Contains origins origin → TakesPart tree origin → IsChained tree k (leaf_of_origin tree origin) → ⊥
 filled_apart tree origins origin k fill listed takes_part chain =
-    fill.sealed.tight origin listed (record { takes_part = takes_part; reached = chained_reached tree k (leaf_of tree origin) fill.reached chain })
+    fill.sealed.tight origin listed (record { takes_part = takes_part; reached = chained_reached tree k (leaf_of_origin tree origin) fill.reached chain })

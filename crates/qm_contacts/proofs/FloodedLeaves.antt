@@ -21,10 +21,10 @@ use Rattle.qm_partition.proofs.LeafNumbers.{leaf_of_number}
 use Rattle.qm_contacts.specs.Meeting.{meetings}
 use Rattle.qm_contacts.specs.Contact.{TouchAcross, Touch}
 use Rattle.qm_contacts.specs.Contacts.{AreNeighbours}
-use Rattle.qm_contacts.specs.Reached.{is_passable, IsPassable, Begins, GoesOn}
-use Rattle.qm_contacts.specs.Leak.{Origin, leaf_of, TakesPart, Leaks, AreInOrder, IsFirstLeak}
+use Rattle.qm_contacts.specs.Reached.{is_passable, IsPassable, Begins, FloodsInto}
+use Rattle.qm_contacts.specs.Leak.{Origin, leaf_of_origin, TakesPart, Leaks, AreInOrder, IsFirstLeak}
 use Rattle.qm_contacts.specs.Filled.{NoneTakesPart, IsSealed, IsFilledRow}
-use Rattle.qm_contacts.specs.inner.Descends.{IsNearest}
+use Rattle.qm_contacts.specs.inner.Descends.{IsNextOfTrail}
 use Rattle.qm_contacts.proofs.Meetings.{IsBetween, meetings_between}
 use Rattle.qm_contacts.proofs.Trails.{reached_passable, next_down}
 
@@ -47,9 +47,9 @@ passable_within tree k can = slice_get_within (leaves_of tree.shape) k can.found
 -- ---- the neighbours of a leaf
 
 -- that a leaf goes to those of its neighbours that can be passed is that it goes on
-pub goes_to_neighbours : (tree : Tree) (k : ℕ) (neighbours old_steps steps old_found found : List ℕ) → AreNeighbours tree k neighbours → SpreadsOn (λ from to. Contains neighbours to × IsPassable tree to) k old_steps steps old_found found → SpreadsOn (GoesOn tree) k old_steps steps old_found found
+pub goes_to_neighbours : (tree : Tree) (k : ℕ) (neighbours old_steps steps old_found found : List ℕ) → AreNeighbours tree k neighbours → SpreadsOn (λ from to. Contains neighbours to × IsPassable tree to) k old_steps steps old_found found → SpreadsOn (FloodsInto tree) k old_steps steps old_found found
 goes_to_neighbours tree k neighbours old_steps steps old_found found are step =
-    spreads_skip (λ from to. Contains neighbours to × IsPassable tree to) (GoesOn tree) k old_steps steps old_found found step
+    spreads_skip (λ from to. Contains neighbours to × IsPassable tree to) (FloodsInto tree) k old_steps steps old_found found step
     (λ to both. record { touch = (are.touch to).0 both.0; passable = both.1 })
     (λ to on. inl ((are.touch to).1 on.touch, on.passable))
 
@@ -60,7 +60,7 @@ module _ (tree : Tree) (k : ℕ) (neighbours : List ℕ) (are : AreNeighbours tr
       (listed.0, listed.1, sym (get_or_default neighbours listed.0 other 0 listed.1) ∙ listed.2)
 
   -- the first neighbour of so many steps is the nearest
-  pub nearest_at : (i next : ℕ) → i < length neighbours → get_or neighbours i 0 ≡ next → ((j : ℕ) → j < i → steps_of steps (get_or neighbours j 0) ≢ wanted) → steps_of steps next ≡ wanted → IsNearest tree steps k next
+  pub nearest_at : (i next : ℕ) → i < length neighbours → get_or neighbours i 0 ≡ next → ((j : ℕ) → j < i → steps_of steps (get_or neighbours j 0) ≢ wanted) → steps_of steps next ≡ wanted → IsNextOfTrail tree steps k next
   nearest_at i next within at none has = record {
     some = omega (arith, some, has);
     one_less = omega (arith, one_less, has);
@@ -80,7 +80,7 @@ module _ (tree : Tree) (k : ℕ) (neighbours : List ℕ) (are : AreNeighbours tr
           (cases_lt there.0 i)
 
   -- and one of them has as many
-  pub none_nearer : AreSteps (Begins tree) (GoesOn tree) steps → ((j : ℕ) → j < length neighbours → steps_of steps (get_or neighbours j 0) ≢ wanted) → ⊥
+  pub none_nearer : AreSteps (Begins tree) (FloodsInto tree) steps → ((j : ℕ) → j < length neighbours → steps_of steps (get_or neighbours j 0) ≢ wanted) → ⊥
   none_nearer are_steps none =
       let next = next_down tree steps are_steps k (omega (arith, one_less, some)) in
       let there = place_of next.0 next.3 in
@@ -93,25 +93,25 @@ All-before : {X : Type 0} (P : X → Type 0) (xs : List X) (i j : ℕ) (d : X) �
 All-before P xs i j d within before all = subst P (get_or-take i xs j d before) (All-get_or P (take i xs) j d (let long = length-take i xs in omega (arith, long, within, before)) all)
 
 -- a leaf that can be passed is not solid
-passable_not_solid : (tree : Tree) (origin : Origin) → IsPassable tree (leaf_of tree origin) → TakesPart tree origin
+passable_not_solid : (tree : Tree) (origin : Origin) → IsPassable tree (leaf_of_origin tree origin) → TakesPart tree origin
 passable_not_solid tree origin can solid =
     let e : Some can.found ≡ Some (leaf_record_at tree.planes tree.shape origin.point) = sym can.leaf_is ∙ leaf_of_number tree.planes tree.shape origin.point in
     let same : can.found ≡ leaf_record_at tree.planes tree.shape origin.point = cc in
     let never : is_passable Solid ≡ true = subst (λ (contents : Contents). is_passable contents ≡ true) (ap (λ (found : Leaf). found.contents) same ∙ solid) can.passable in
     cc
 
-module _ (tree : Tree) (steps : List ℕ) (are : AreSteps (Begins tree) (GoesOn tree) steps) where
+module _ (tree : Tree) (steps : List ℕ) (are : AreSteps (Begins tree) (FloodsInto tree) steps) where
   -- an entity leaks exactly where its leaf has steps
-  pub leaks_by_steps : (origin : Origin) → Leaks tree origin ↔ (0 < steps_of steps (leaf_of tree origin))
+  pub leaks_by_steps : (origin : Origin) → Leaks tree origin ↔ (0 < steps_of steps (leaf_of_origin tree origin))
   leaks_by_steps origin = (
-    (λ leaks. (are.reached (leaf_of tree origin)).1 leaks.reached),
+    (λ leaks. (are.reached (leaf_of_origin tree origin)).1 leaks.reached),
     (λ some.
-        let reached = (are.reached (leaf_of tree origin)).0 some in
-        record { takes_part = passable_not_solid tree origin (reached_passable tree (leaf_of tree origin) reached); reached = reached }),
+        let reached = (are.reached (leaf_of_origin tree origin)).0 some in
+        record { takes_part = passable_not_solid tree origin (reached_passable tree (leaf_of_origin tree origin) reached); reached = reached }),
   )
 
   -- the first of the entities whose leaf has steps
-  pub first_leak : (origins : List Origin) (i : ℕ) (origin : Origin) → AreInOrder origins → i < length origins → get_or origins i origin ≡ origin → 0 < steps_of steps (leaf_of tree origin) → All (λ other. steps_of steps (leaf_of tree other) ≡ 0) (take i origins) → IsFirstLeak tree origins origin
+  pub first_leak : (origins : List Origin) (i : ℕ) (origin : Origin) → AreInOrder origins → i < length origins → get_or origins i origin ≡ origin → 0 < steps_of steps (leaf_of_origin tree origin) → All (λ other. steps_of steps (leaf_of_origin tree other) ≡ 0) (take i origins) → IsFirstLeak tree origins origin
   first_leak origins i origin order within at some none = record {
     listed = (i, within, at);
     leaks = (leaks_by_steps origin).1 some;
@@ -121,9 +121,9 @@ module _ (tree : Tree) (steps : List ℕ) (are : AreSteps (Begins tree) (GoesOn 
       first : (other : Origin) → Contains origins other → Leaks tree other → origin.entity ≤ other.entity
       first other listed leaks = ⊎_elim
           (λ before.
-          let zero = All-before (λ o. steps_of steps (leaf_of tree o) ≡ 0) origins i listed.0 other listed.1 before none in
+          let zero = All-before (λ o. steps_of steps (leaf_of_origin tree o) ≡ 0) origins i listed.0 other listed.1 before none in
           let has = (leaks_by_steps other).0 leaks in
-          let is = ap (λ (o : Origin). steps_of steps (leaf_of tree o)) listed.2 in
+          let is = ap (λ (o : Origin). steps_of steps (leaf_of_origin tree o)) listed.2 in
           absurd (omega (arith, zero, has, is)))
           (λ not_before. ⊎_elim
           (λ here.
@@ -140,9 +140,9 @@ module _ (tree : Tree) (steps : List ℕ) (are : AreSteps (Begins tree) (GoesOn 
           (cases_lt listed.0 i)
 
   -- and where none has, none leaks
-  pub no_leak : (origins : List Origin) → All (λ other. steps_of steps (leaf_of tree other) ≡ 0) origins → (origin : Origin) → Contains origins origin → Leaks tree origin → ⊥
+  pub no_leak : (origins : List Origin) → All (λ other. steps_of steps (leaf_of_origin tree other) ≡ 0) origins → (origin : Origin) → Contains origins origin → Leaks tree origin → ⊥
   no_leak origins none origin listed leaks =
-      let zero = All-contains (λ other. steps_of steps (leaf_of tree other) ≡ 0) origins origin none listed in
+      let zero = All-contains (λ other. steps_of steps (leaf_of_origin tree other) ≡ 0) origins origin none listed in
       let has = (leaks_by_steps origin).0 leaks in
       omega (arith, zero, has)
 

@@ -20,13 +20,13 @@ use Rattle.qm_partition.specs.Partition.{leaf, node}
 use Rattle.qm_partition.specs.Tree.{Tree}
 use Rattle.qm_partition.specs.LeafOfPoint.{node_value}
 use Rattle.qm_partition.specs.Marked.{filled_leaf, marked_tree}
-use Rattle.qm_partition.specs.Ways.{Way, ways, cell_of, IsInLeaf, HasPoints}
+use Rattle.qm_partition.specs.Ways.{Way, ways, cell_of_way, IsInLeaf, HasPoints}
 use Rattle.qm_contacts.specs.Meeting.{meetings, Meeting, meeting_at}
 use Rattle.qm_contacts.specs.Touching.{Touching, IsTouching, AreTouchings, none, touching}
 use Rattle.qm_contacts.specs.Contacts.{AreContacts}
 use Rattle.qm_contacts.specs.Outside.{TouchesOutside}
 use Rattle.qm_contacts.specs.Reached.{is_passable, IsReached}
-use Rattle.qm_contacts.specs.Leak.{Origin, leaf_of, Leaks, IsWayOut, out, on, IsNotAfter, IsTrail, IsLeak}
+use Rattle.qm_contacts.specs.Leak.{Origin, leaf_of_origin, Leaks, IsWayOut, out, on, IsNotAfter, IsTrail, IsLeak}
 use Rattle.qm_contacts.specs.Filled.{IsSealed, IsToBeFilled, IsFilledRow}
 use Rattle.qm_contacts.specs.NumberedLeaves.{numbered_leaves}
 use Rattle.qm_contacts.specs.Portals.{portals_of}
@@ -124,7 +124,7 @@ module _ (contents : Contents) where
       inside = All-from_recursion (λ g. (g ≡ mirrored wall_x → ⊥) → IsInFront g (point (pos 4096) (pos 0) (pos 0))) cube_walls
           ((λ other. omega (arith, ints)), ((λ other. omega (arith, ints)), ((λ other. omega (arith, ints)), ((λ other. absurd (other refl)), ((λ other. omega (arith, ints)), ((λ other. omega (arith, ints)), tt))))));
     };
-    in_cell = All-from_recursion (λ g. IsInFront g (point (pos 4096) (pos 0) (pos 0))) (cell_of (half ∷ []) (record { plane = 0; front = true } ∷ [])) (omega (arith, ints), tt);
+    in_cell = All-from_recursion (λ g. IsInFront g (point (pos 4096) (pos 0) (pos 0))) (cell_of_way (half ∷ []) (record { plane = 0; front = true } ∷ [])) (omega (arith, ints), tt);
   }
 
   back_outside : TouchesOutside (halves contents) 1
@@ -141,7 +141,7 @@ module _ (contents : Contents) where
       inside = All-from_recursion (λ g. (g ≡ wall_x → ⊥) → IsInFront g (point (neg_ℤ (pos 4096)) (pos 0) (pos 0))) cube_walls
           ((λ other. absurd (other refl)), ((λ other. omega (arith, ints)), ((λ other. omega (arith, ints)), ((λ other. omega (arith, ints)), ((λ other. omega (arith, ints)), ((λ other. omega (arith, ints)), tt))))));
     };
-    in_cell = All-from_recursion (λ g. IsInFront g (point (neg_ℤ (pos 4096)) (pos 0) (pos 0))) (cell_of (half ∷ []) (record { plane = 0; front = false } ∷ [])) (omega (arith, ints), tt);
+    in_cell = All-from_recursion (λ g. IsInFront g (point (neg_ℤ (pos 4096)) (pos 0) (pos 0))) (cell_of_way (half ∷ []) (record { plane = 0; front = false } ∷ [])) (omega (arith, ints), tt);
   }
 
   -- these are all contacts
@@ -166,7 +166,7 @@ origin entity x = record { entity = entity; point = point x (pos 5) (pos 5) }
 front_reached : IsReached (halves Empty) 0
 front_reached = start (record { outside = front_outside Empty; passable = record { found = of Empty; leaf_is = refl; passable = refl } })
 
-leaf_row : leaf_of (halves Empty) (origin 1 (pos 64)) ≡ 0
+leaf_row : leaf_of_origin (halves Empty) (origin 1 (pos 64)) ≡ 0
 unfolding node_value value
 leaf_row = refl
 
@@ -218,7 +218,7 @@ sealed_row = record {
   listed = Contains-first (origin 1 (pos 64)) [];
   takes_part = λ solid. cc;
   tight = λ other listed leaks. ⊎_elim
-      (λ same. sky_not_reached (subst (λ (o : Origin). IsReached (halves Sky) (leaf_of (halves Sky) o)) (sym same) leaks.reached))
+      (λ same. sky_not_reached (subst (λ (o : Origin). IsReached (halves Sky) (leaf_of_origin (halves Sky) o)) (sym same) leaks.reached))
       (λ more. absurd (let within = more.1 in omega arith))
       (Contains-cons_cases (origin 1 (pos 64)) other [] listed);
 }

@@ -10,7 +10,7 @@ use Rattle.qm_lists.proofs.Places.{slice_get-push_old, slice_get-push_last, take
 use Rattle.qm_partition.specs.declared.node.Leaf.{Leaf}
 use Rattle.qm_partition.specs.Tree.{Tree}
 use Rattle.qm_partition.specs.Counting.{leaves_of, leaf_count}
-use Rattle.qm_contacts.specs.Portals.{number_of}
+use Rattle.qm_contacts.specs.Portals.{leaf_number}
 use Rattle.qm_contacts.specs.NumberedLeaves.{is_numbered, numbered_from}
 use Rattle.qm_contacts.specs.inner.LeafNumbers.{AreBefore, AreNumbersOf}
 use Rattle.qm_contacts.proofs.Numbers.{count_yes, count_no, from_yes, from_no}
@@ -95,5 +95,5 @@ pub none_numbered : AreNumbersOf [] [] []
 none_numbered = record { numbered_are = refl; before_are = record { one_each = refl; counts = λ k within. absurd (omega (arith, within)) } }
 
 -- how many come before a leaf is its number
-pub number_before : (tree : Tree) (before : List ℕ) (k : ℕ) → AreBefore (leaves_of tree.shape) before → k < leaf_count tree.shape → get_or before k 0 ≡ number_of tree k
-number_before tree before k are there = get_or_from_slice_get before k (number_of tree k) 0 (are.counts k there)
+pub number_before : (tree : Tree) (before : List ℕ) (k : ℕ) → AreBefore (leaves_of tree.shape) before → k < leaf_count tree.shape → get_or before k 0 ≡ leaf_number tree k
+number_before tree before k are there = get_or_from_slice_get before k (leaf_number tree k) 0 (are.counts k there)

@@ -8,7 +8,7 @@ use Rattle.qm_partition.specs.declared.node.Leaf.{Leaf}
 use Rattle.qm_partition.specs.Tree.{Tree}
 use Rattle.qm_partition.specs.Counting.{leaves_of, leaf_count}
 use Rattle.qm_contacts.specs.NumberedLeaves.{is_numbered, numbered_from, numbered_leaves}
-use Rattle.qm_contacts.specs.Portals.{number_of}
+use Rattle.qm_contacts.specs.Portals.{leaf_number}
 
 -- one leaf more in front
 
@@ -75,15 +75,15 @@ from_its_number (first ∷ all) j n k at = by_cases (is_numbered first)
 -- ---- of a tree
 
 -- a numbered leaf stands at its number
-pub leaf_at_number : (tree : Tree) (k : ℕ) (found : Leaf) → slice_get (leaves_of tree.shape) k ≡ Some found → is_numbered found ≡ true → slice_get (numbered_leaves tree) (number_of tree k) ≡ Some k
+pub leaf_at_number : (tree : Tree) (k : ℕ) (found : Leaf) → slice_get (leaves_of tree.shape) k ≡ Some found → is_numbered found ≡ true → slice_get (numbered_leaves tree) (leaf_number tree k) ≡ Some k
 leaf_at_number tree k found at numbered = at_its_number (leaves_of tree.shape) 0 k found at numbered ∙ ap Some {x = 0 + k} {y = k} (omega arith)
 
 -- and what stands at a number is a numbered leaf of that number
-pub number_at_leaf : (tree : Tree) (n k : ℕ) → slice_get (numbered_leaves tree) n ≡ Some k → (found : Leaf) × (slice_get (leaves_of tree.shape) k ≡ Some found) × (is_numbered found ≡ true) × (number_of tree k ≡ n)
+pub number_at_leaf : (tree : Tree) (n k : ℕ) → slice_get (numbered_leaves tree) n ≡ Some k → (found : Leaf) × (slice_get (leaves_of tree.shape) k ≡ Some found) × (is_numbered found ≡ true) × (leaf_number tree k ≡ n)
 number_at_leaf tree n k at =
     let is = from_its_number (leaves_of tree.shape) 0 n k at in
     let same : k ≡ is.i = omega (arith, is.place) in
-    (is.found, ap (slice_get (leaves_of tree.shape)) same ∙ is.leaf_is, is.numbered, ap (number_of tree) same ∙ sym is.number)
+    (is.found, ap (slice_get (leaves_of tree.shape)) same ∙ is.leaf_is, is.numbered, ap (leaf_number tree) same ∙ sym is.number)
 
 pub leaf_within : (tree : Tree) (n k : ℕ) → slice_get (numbered_leaves tree) n ≡ Some k → k < leaf_count tree.shape
 leaf_within tree n k at = let is = number_at_leaf tree n k at in slice_get_within (leaves_of tree.shape) k is.0 is.1

@@ -23,7 +23,7 @@ use Rattle.qm_partition.specs.Partition.{Partition, leaf, node}
 use Rattle.qm_partition.specs.Tree.{Tree}
 use Rattle.qm_partition.specs.Counting.{leaf_count}
 use Rattle.qm_partition.specs.Numbering.{nodes_after, leaves_after}
-use Rattle.qm_partition.specs.Ways.{Way, after_step, ways, turned_to, cell_of, HasPoints}
+use Rattle.qm_partition.specs.Ways.{Way, after_step, ways, turned_to, cell_of_way, HasPoints}
 use Rattle.qm_partition.proofs.Counts.{leaves_after-count, leaf_count-node}
 use Rattle.qm_partition.proofs.Cells.{length-ways}
 use Rattle.qm_contacts.specs.Meeting.{LeafBelow, leaves_below, Meeting, meeting_at, meetings_at, then_step, meetings_below, meetings}
@@ -148,10 +148,10 @@ node_of_meeting planes (node plane front back) n k above m have listed =
 -- ---- a node below has points on both sides of its plane
 
 -- for each plane of a way down there is a point of the cell above that is behind it
-pub other_side : (planes : List Plane) (above : Way) (shape : Partition) (i : ℕ) (way : Way) (g : Plane) → HasPointsBelow planes above shape → slice_get (ways shape) i ≡ Some way → Contains (cell_of planes way) g → (x : Point) × IsInCell (walled_cell planes above) x × IsBehind g x
+pub other_side : (planes : List Plane) (above : Way) (shape : Partition) (i : ℕ) (way : Way) (g : Plane) → HasPointsBelow planes above shape → slice_get (ways shape) i ≡ Some way → Contains (cell_of_way planes way) g → (x : Point) × IsInCell (walled_cell planes above) x × IsBehind g x
 other_side planes above (leaf found) zero way g have at listed =
     let none : [] ≡ way = cc in
-    absurd (let within = (subst (λ (w : Way). Contains (cell_of planes w) g) (sym none) listed).1 in omega arith)
+    absurd (let within = (subst (λ (w : Way). Contains (cell_of_way planes w) g) (sym none) listed).1 in omega arith)
 other_side planes above (leaf found) (suc i) way g have at listed = absurd cc
 other_side planes above (node n front back) i way g have at listed = ⊎_elim
     (λ here.
@@ -165,14 +165,14 @@ other_side planes above (node n front back) i way g have at listed = ⊎_elim
     before : (side : Bool) (x : Point) → IsInCell (walled_cell planes (then_step above n side)) x → IsInCell (walled_cell planes above) x × IsInFront (turned side (plane_at planes n)) x
     before side x inside = All-pop (λ h. IsInFront h x) (walled_cell planes (then_step above n side)) (walled_cell planes above) (Some (turned side (plane_at planes n))) (walled-then_step planes above n side) inside
 
-    on_side : (side : Bool) (near far : Partition) → HasPointsBelow planes (then_step above n side) near → HasPointsBelow planes (then_step above n (not side)) far → (rest : Way) → after_step n side rest ≡ way → (Contains (cell_of planes rest) g → (x : Point) × IsInCell (walled_cell planes (then_step above n side)) x × IsBehind g x) → (x : Point) × IsInCell (walled_cell planes above) x × IsBehind g x
+    on_side : (side : Bool) (near far : Partition) → HasPointsBelow planes (then_step above n side) near → HasPointsBelow planes (then_step above n (not side)) far → (rest : Way) → after_step n side rest ≡ way → (Contains (cell_of_way planes rest) g → (x : Point) × IsInCell (walled_cell planes (then_step above n side)) x × IsBehind g x) → (x : Point) × IsInCell (walled_cell planes above) x × IsBehind g x
     on_side side near far have_near have_far rest is later = ⊎_elim
         (λ same.
         let found = cell_point planes (then_step above n (not side)) far have_far in
         let both = before (not side) found.0 found.1 in
         (found.0, both.0, subst (λ (h : Plane). IsBehind h found.0) same ((turned_other_in_front side (plane_at planes n) found.0).0 both.1)))
         (λ in_rest. let found = later in_rest in (found.0, (before side found.0 found.1).0, found.2))
-        (Contains-cons_cases (turned side (plane_at planes n)) g (cell_of planes rest) (subst (λ (w : Way). Contains (cell_of planes w) g) (sym is) listed))
+        (Contains-cons_cases (turned side (plane_at planes n)) g (cell_of_way planes rest) (subst (λ (w : Way). Contains (cell_of_way planes w) g) (sym is) listed))
 
 -- ---- crossings
 
@@ -185,34 +185,34 @@ by_same_side false false same other = same refl
 
 -- a point that is not behind the planes of a way, and on none of them that does not hold it for a reason that cannot be,
 -- is in the cell of the way
-not_behind_in_cell : (planes : List Plane) (way : Way) (h : Plane) (x : Point) → All (λ g. IsNotBehind g x) (cell_of planes way) → ((step : Step) → Contains way step → IsOn (plane_at planes step.plane) x → plane_at planes step.plane ≡ h) → ((side : Bool) → Contains (cell_of planes way) (turned side h) → ⊥) → IsInCell (cell_of planes way) x
-not_behind_in_cell planes way h x not_behind only never place d there = by_sign (value (get_or (cell_of planes way) place d) x)
+not_behind_in_cell : (planes : List Plane) (way : Way) (h : Plane) (x : Point) → All (λ g. IsNotBehind g x) (cell_of_way planes way) → ((step : Step) → Contains way step → IsOn (plane_at planes step.plane) x → plane_at planes step.plane ≡ h) → ((side : Bool) → Contains (cell_of_way planes way) (turned side h) → ⊥) → IsInCell (cell_of_way planes way) x
+not_behind_in_cell planes way h x not_behind only never place d there = by_sign (value (get_or (cell_of_way planes way) place d) x)
     (λ below. let not_below = not_behind place d there in absurd (omega (arith, linear)))
-    (λ zero. absurd (on_it zero (Contains-map_from (turned_to planes) way (get_or (cell_of planes way) place d) (Contains-get_or (cell_of planes way) place d there))))
+    (λ zero. absurd (on_it zero (Contains-map_from (turned_to planes) way (get_or (cell_of_way planes way) place d) (Contains-get_or (cell_of_way planes way) place d there))))
     (λ front. front)
   where
-    on_it : IsOn (get_or (cell_of planes way) place d) x → (step : Step) × Contains way step × (turned_to planes step ≡ get_or (cell_of planes way) place d) → ⊥
+    on_it : IsOn (get_or (cell_of_way planes way) place d) x → (step : Step) × Contains way step × (turned_to planes step ≡ get_or (cell_of_way planes way) place d) → ⊥
     on_it is_on (step, listed, is) =
         let on = (turned_on step.front (plane_at planes step.plane) x).0 (subst (λ (g : Plane). IsOn g x) (sym is) is_on) in
         let same = only step listed on in
         never step.front
-        (subst (λ (g : Plane). Contains (cell_of planes way) g) (ap (turned step.front) same) (Contains-map (turned_to planes) way step listed))
+        (subst (λ (g : Plane). Contains (cell_of_way planes way) g) (ap (turned step.front) same) (Contains-map (turned_to planes) way step listed))
 
 module _ (planes : List Plane) (m : Meeting) (x : Point) (at : IsAtNode planes m) (crossing : IsCrossing planes m x) where
   abbrev h : Plane
   h = plane_at planes m.plane
 
   -- the plane is none of those above
-  never_above : (side : Bool) → Contains (cell_of planes m.above) (turned side h) → ⊥
+  never_above : (side : Bool) → Contains (cell_of_way planes m.above) (turned side h) → ⊥
   never_above side listed =
       let point = section_point planes m.above m.plane at.front at.back at.have in
       let inside = ((walled_split planes m.above point.0).0 point.2).1 in
-      let front = All-contains (λ g. IsInFront g point.0) (cell_of planes m.above) (turned side h) inside listed in
+      let front = All-contains (λ g. IsInFront g point.0) (cell_of_way planes m.above) (turned side h) inside listed in
       let on = (turned_on side h point.0).1 point.1 in
       absurd (omega (arith, linear))
 
   -- and none of those on a way further down
-  never_below : (to_front : Bool) (shape : Partition) (i : ℕ) (way : Way) → HasPointsBelow planes (then_step m.above m.plane to_front) shape → slice_get (ways shape) i ≡ Some way → (side : Bool) → Contains (cell_of planes way) (turned side h) → ⊥
+  never_below : (to_front : Bool) (shape : Partition) (i : ℕ) (way : Way) → HasPointsBelow planes (then_step m.above m.plane to_front) shape → slice_get (ways shape) i ≡ Some way → (side : Bool) → Contains (cell_of_way planes way) (turned side h) → ⊥
   never_below to_front shape i way have at_i side listed =
       by_same_side to_front side
       (λ same.
@@ -223,7 +223,7 @@ module _ (planes : List Plane) (m : Meeting) (x : Point) (at : IsAtNode planes m
       (λ other.
       let near = have way (Contains-at (ways shape) i way at_i) in
       let front = last near.0 near.1 in
-      let ahead = subst (λ (s : Bool). IsInFront (turned s h) near.0) (sym other) (All-contains (λ g. IsInFront g near.0) (cell_of planes way) (turned side h) near.2 listed) in
+      let ahead = subst (λ (s : Bool). IsInFront (turned s h) near.0) (sym other) (All-contains (λ g. IsInFront g near.0) (cell_of_way planes way) (turned side h) near.2 listed) in
       let behind = (turned_other_in_front to_front h near.0).0 ahead in
       absurd (omega (arith, linear)))
     where

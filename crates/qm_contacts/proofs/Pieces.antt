@@ -18,24 +18,24 @@ use Rattle.qm_convex.specs.Section.{IsSection}
 use Rattle.qm_convex.proofs.Cutting.{all_at_first}
 use Rattle.qm_partition.specs.declared.node.Leaf.{Leaf}
 use Rattle.qm_partition.specs.Partition.{leaf}
-use Rattle.qm_partition.specs.Ways.{Way, after_step, cell_of}
+use Rattle.qm_partition.specs.Ways.{Way, after_step, cell_of_way}
 use Rattle.qm_contacts.specs.Meeting.{LeafBelow, Meeting, seen_from, leaves_below, meeting_at, meetings_at}
 use Rattle.qm_contacts.specs.Contact.{IsContact}
 use Rattle.qm_contacts.specs.Touching.{Touching, AreTouchings, none, touching, apart}
-use Rattle.qm_contacts.specs.inner.Pieces.{walled_cell, Piece, HasNoPiece, ArePieces, no_pieces, piece, nothing, touching_at, AreRows, no_rows, row}
+use Rattle.qm_contacts.specs.inner.Pieces.{walled_cell, LeafPiece, HasNoPiece, ArePieces, no_pieces, piece, nothing, touching_at, ArePiecesOfEach, no_rows, row}
 
 -- ---- a cell with the walls of the cube
 
-pub walled_split : (planes : List Plane) (way : Way) (x : Point) → IsInCell (walled_cell planes way) x ↔ (IsInCube x × IsInCell (cell_of planes way) x)
+pub walled_split : (planes : List Plane) (way : Way) (x : Point) → IsInCell (walled_cell planes way) x ↔ (IsInCube x × IsInCell (cell_of_way planes way) x)
 walled_split planes way x = (
-  (λ inside. ((cube_is_cell x).1 (All-first_part (λ h. IsInFront h x) cube_walls (cell_of planes way) inside), All-last_part (λ h. IsInFront h x) cube_walls (cell_of planes way) inside)),
-  (λ both. All-append (λ h. IsInFront h x) cube_walls (cell_of planes way) ((cube_is_cell x).0 both.0) both.1),
+  (λ inside. ((cube_is_cell x).1 (All-first_part (λ h. IsInFront h x) cube_walls (cell_of_way planes way) inside), All-last_part (λ h. IsInFront h x) cube_walls (cell_of_way planes way) inside)),
+  (λ both. All-append (λ h. IsInFront h x) cube_walls (cell_of_way planes way) ((cube_is_cell x).0 both.0) both.1),
 )
 
 -- ---- the pieces of a polygon
 
 module _ (planes : List Plane) where
-  pub pieces_append : (whole : Winding) (first second : List LeafBelow) (pieces others : List Piece) → ArePieces planes whole first pieces → ArePieces planes whole second others → ArePieces planes whole (first ++ second) (pieces ++ others)
+  pub pieces_append : (whole : Winding) (first second : List LeafBelow) (pieces others : List LeafPiece) → ArePieces planes whole first pieces → ArePieces planes whole second others → ArePieces planes whole (first ++ second) (pieces ++ others)
   pieces_append whole first second pieces others no_pieces more = more
   pieces_append whole first second pieces others (piece part have) more = piece part (pieces_append whole _ second _ others have more)
   pieces_append whole first second pieces others (nothing never have) more = nothing never (pieces_append whole _ second _ others have more)
@@ -48,7 +48,7 @@ module _ (planes : List Plane) where
     abbrev h : Plane
     h = turned side (plane_at planes n)
 
-    seen_part : (winding : Winding) (way : Way) → IsPartWithin winding part (cell_of planes way) → IsPartWithin winding whole (cell_of planes (after_step n side way))
+    seen_part : (winding : Winding) (way : Way) → IsPartWithin winding part (cell_of_way planes way) → IsPartWithin winding whole (cell_of_way planes (after_step n side way))
     seen_part winding way within = record {
       convex = within.convex;
       plane = within.plane ∙ is_part.plane;
@@ -56,24 +56,24 @@ module _ (planes : List Plane) where
         (λ r.
             let q = (within.points x).0 r in
             let p = (is_part.points x).0 q.0 in
-            (p.0, All-cons (λ g. IsInFront g x) h (cell_of planes way) p.1 q.1)),
-        (λ q. (within.points x).1 ((is_part.points x).1 (q.0, All-head (λ g. IsInFront g x) h (cell_of planes way) q.1), All-tail (λ g. IsInFront g x) h (cell_of planes way) q.1)),
+            (p.0, All-cons (λ g. IsInFront g x) h (cell_of_way planes way) p.1 q.1)),
+        (λ q. (within.points x).1 ((is_part.points x).1 (q.0, All-head (λ g. IsInFront g x) h (cell_of_way planes way) q.1), All-tail (λ g. IsInFront g x) h (cell_of_way planes way) q.1)),
       );
     }
 
     -- the pieces of its part in front of a node's plane are pieces of the polygon
-    pub seen_through : (leaves : List LeafBelow) (pieces : List Piece) → ArePieces planes part leaves pieces → ArePieces planes whole (map (seen_from n side) leaves) pieces
+    pub seen_through : (leaves : List LeafBelow) (pieces : List LeafPiece) → ArePieces planes part leaves pieces → ArePieces planes whole (map (seen_from n side) leaves) pieces
     seen_through leaves pieces no_pieces = no_pieces
     seen_through leaves pieces (piece {below = below} {winding = winding} within have) = piece (seen_part winding below.way within) (seen_through _ _ have)
     seen_through leaves pieces (nothing {below = below} never have) =
-        nothing (λ x r inside. never x ((is_part.points x).1 (r, All-head (λ g. IsInFront g x) h (cell_of planes below.way) inside)) (All-tail (λ g. IsInFront g x) h (cell_of planes below.way) inside)) (seen_through _ _ have)
+        nothing (λ x r inside. never x ((is_part.points x).1 (r, All-head (λ g. IsInFront g x) h (cell_of_way planes below.way) inside)) (All-tail (λ g. IsInFront g x) h (cell_of_way planes below.way) inside)) (seen_through _ _ have)
 
   -- and where nothing of it is in front there are none
   pub none_seen : (n : ℕ) (side : Bool) (whole : Winding) (leaves : List LeafBelow) → HasNoneInFront whole (turned side (plane_at planes n)) → ArePieces planes whole (map (seen_from n side) leaves) []
   none_seen n side whole [] none_ahead = no_pieces
   none_seen n side whole (below ∷ leaves) none_ahead =
       nothing (λ x r inside.
-      let front = All-head (λ g. IsInFront g x) (turned side (plane_at planes n)) (cell_of planes below.way) inside in
+      let front = All-head (λ g. IsInFront g x) (turned side (plane_at planes n)) (cell_of_way planes below.way) inside in
       let not = none_ahead x r in
       absurd (omega (arith, linear)))
       (none_seen n side whole leaves none_ahead)
@@ -87,7 +87,7 @@ touchings_append planes first second touchings others (apart never have) more = 
 
 module _ (planes : List Plane) (n plane : ℕ) (above : Way) (section : Winding) (is_section : IsSection (walled_cell planes above) (plane_at planes plane) section) where
   -- a point of the section that is in both leaves' cells is a contact
-  contact_point : (front back : LeafBelow) (x : Point) → IsContact planes (meeting_at n plane above front back) x ↔ ((IsInRegion section x × IsInCell (cell_of planes front.way) x) × IsInCell (cell_of planes back.way) x)
+  contact_point : (front back : LeafBelow) (x : Point) → IsContact planes (meeting_at n plane above front back) x ↔ ((IsInRegion section x × IsInCell (cell_of_way planes front.way) x) × IsInCell (cell_of_way planes back.way) x)
   contact_point front back x = (
     (λ c. (((is_section.points x).1 (c.on, (walled_split planes above x).1 (c.in_cube, c.above)), c.in_front), c.behind)),
     (λ q.
@@ -103,7 +103,7 @@ module _ (planes : List Plane) (n plane : ℕ) (above : Way) (section : Winding)
     no_front never (back ∷ backs) = apart (λ x c. let q = (contact_point front back x).0 c in never x q.0.0 q.0.1) (no_front never backs)
 
     -- or a piece of it, which is pushed down the back
-    with_front : (winding : Winding) → IsPartWithin winding section (cell_of planes front.way) → (backs : List LeafBelow) (pieces : List Piece) → ArePieces planes winding backs pieces → AreTouchings planes (map (meeting_at n plane above front) backs) (map (touching_at n front.leaf) pieces)
+    with_front : (winding : Winding) → IsPartWithin winding section (cell_of_way planes front.way) → (backs : List LeafBelow) (pieces : List LeafPiece) → ArePieces planes winding backs pieces → AreTouchings planes (map (meeting_at n plane above front) backs) (map (touching_at n front.leaf) pieces)
     with_front winding part backs pieces no_pieces = none
     with_front winding part backs pieces (piece {below = back} {winding = found} within have) = touching (record {
       node = refl;
@@ -120,7 +120,7 @@ module _ (planes : List Plane) (n plane : ℕ) (above : Way) (section : Winding)
         apart (λ x c. let q = (contact_point front back x).0 c in never x ((part.points x).1 q.0) q.1) (with_front winding part _ _ have)
 
   -- all contacts at the node: of each leaf in front that has a piece of the section, what the leaves behind have of the piece
-  pub touchings_at_node : (fronts backs : List LeafBelow) (pieces : List Piece) (touchings : List Touching) → ArePieces planes section fronts pieces → AreRows planes n backs pieces touchings → AreTouchings planes (meetings_at n plane above fronts backs) touchings
+  pub touchings_at_node : (fronts backs : List LeafBelow) (pieces : List LeafPiece) (touchings : List Touching) → ArePieces planes section fronts pieces → ArePiecesOfEach planes n backs pieces touchings → AreTouchings planes (meetings_at n plane above fronts backs) touchings
   touchings_at_node [] backs pieces touchings no_pieces no_rows = none
   touchings_at_node (front ∷ fronts) backs pieces touchings (piece {winding = winding} part have) (row found rows) =
       subst (λ (ms : List Meeting). AreTouchings planes ms touchings) (sym (flat_map-cons (λ f. map (meeting_at n plane above f) backs) front fronts))

@@ -16,7 +16,7 @@ use Rattle.qm_partition.specs.Tree.{Tree}
 use Rattle.qm_contacts.specs.Meeting.{Meeting, meetings}
 use Rattle.qm_contacts.specs.NumberedLeaves.{numbered_leaves}
 use Rattle.qm_contacts.specs.Touching.{Touching, AreTouchings, IsTouching}
-use Rattle.qm_contacts.specs.Portals.{Portal, number_of, is_passage, portal, both_ways, portals_of}
+use Rattle.qm_contacts.specs.Portals.{Portal, leaf_number, is_passage, portal, both_ways, portals_of}
 use Rattle.qm_contacts.specs.PortalChain.{IsPortalBetween}
 use Rattle.qm_contacts.specs.World.{IsInCellOf, PartsItsLeaves}
 use Rattle.qm_contacts.specs.inner.WorldParts.{IsAmong}
@@ -90,30 +90,30 @@ module _ (tree : Tree) where
 
     -- both leaves of a passage stand at their numbers
 
-    number_from : (a b : ℕ) → IsPortalBetween tree a b → slice_get (numbered_leaves tree) (number_of tree a) ≡ Some a
+    number_from : (a b : ℕ) → IsPortalBetween tree a b → slice_get (numbered_leaves tree) (leaf_number tree a) ≡ Some a
     number_from a b is = leaf_at_number tree a is.from is.from_is is.numbered
 
-    number_to : (a b : ℕ) → IsPortalBetween tree a b → slice_get (numbered_leaves tree) (number_of tree b) ≡ Some b
+    number_to : (a b : ℕ) → IsPortalBetween tree a b → slice_get (numbered_leaves tree) (leaf_number tree b) ≡ Some b
     number_to a b is = number_from b a (portal_back tree a b is)
 
     -- the leaves of each portal are there
     pub portals_among : All (IsAmong (length (numbered_leaves tree))) (portals_of tree touchings)
     portals_among = each_portal (IsAmong (length (numbered_leaves tree))) touchings (λ found listed test.
         let is = passage_is_portal tree touchings are found listed test in
-        let front = slice_get_within (numbered_leaves tree) (number_of tree found.front) found.front (number_from found.front found.back is) in
-        let back = slice_get_within (numbered_leaves tree) (number_of tree found.back) found.back (number_to found.front found.back is) in
+        let front = slice_get_within (numbered_leaves tree) (leaf_number tree found.front) found.front (number_from found.front found.back is) in
+        let back = slice_get_within (numbered_leaves tree) (leaf_number tree found.back) found.back (number_to found.front found.back is) in
         (record { from = front; to = back }, record { from = back; to = front }))
 
     -- the cell of the leaf in front is in front of the polygon's plane, and that of the leaf behind is behind it
 
-    in_front : (found : Touching) (m : Meeting) (x : Point) → Contains (meetings tree) m → IsTouching tree.planes m found → slice_get (numbered_leaves tree) (number_of tree found.front) ≡ Some found.front → IsInCellOf tree (number_of tree found.front) x → IsInFront found.winding.plane x
+    in_front : (found : Touching) (m : Meeting) (x : Point) → Contains (meetings tree) m → IsTouching tree.planes m found → slice_get (numbered_leaves tree) (leaf_number tree found.front) ≡ Some found.front → IsInCellOf tree (leaf_number tree found.front) x → IsInFront found.winding.plane x
     in_front found m x listed is at inside =
         let e : Some found.front ≡ Some inside.leaf = sym at ∙ inside.leaf_is in
         let same : found.front ≡ inside.leaf = cc in
         let leaf_is : m.front.leaf ≡ inside.leaf = sym is.front ∙ same in
         subst (λ (h : Plane). IsInFront h x) (sym is.plane) (leaf_in_front tree m inside.way x listed (ap (slice_get _) leaf_is ∙ inside.way_is) inside.inside)
 
-    behind : (found : Touching) (m : Meeting) (x : Point) → Contains (meetings tree) m → IsTouching tree.planes m found → slice_get (numbered_leaves tree) (number_of tree found.back) ≡ Some found.back → IsInCellOf tree (number_of tree found.back) x → IsInFront (turned false found.winding.plane) x
+    behind : (found : Touching) (m : Meeting) (x : Point) → Contains (meetings tree) m → IsTouching tree.planes m found → slice_get (numbered_leaves tree) (leaf_number tree found.back) ≡ Some found.back → IsInCellOf tree (leaf_number tree found.back) x → IsInFront (turned false found.winding.plane) x
     behind found m x listed is at inside =
         let e : Some found.back ≡ Some inside.leaf = sym at ∙ inside.leaf_is in
         let same : found.back ≡ inside.leaf = cc in

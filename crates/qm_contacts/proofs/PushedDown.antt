@@ -20,7 +20,7 @@ use Rattle.qm_partition.specs.Numbering.{nodes_after, leaves_after, child_of, no
 use Rattle.qm_partition.specs.inner.PlacedPart.{IsPart}
 use Rattle.qm_partition.proofs.PlacedParts.{top_node, whole_part, part_node, part_front, part_back}
 use Rattle.qm_contacts.specs.Meeting.{seen_from, leaves_below}
-use Rattle.qm_contacts.specs.inner.Pieces.{Piece, ArePieces}
+use Rattle.qm_contacts.specs.inner.Pieces.{LeafPiece, ArePieces}
 use Rattle.qm_contacts.specs.inner.Due.{StandsFor, DueBelow, ComesToPieces, half_due}
 use Rattle.qm_contacts.proofs.Pieces.{pieces_append, piece_at_leaf, seen_through, none_seen}
 
@@ -78,9 +78,9 @@ node_within whole (node p front back) n k j stands =
 -- ---- the pieces of a polygon
 
 -- at a leaf all of it is the piece
-pub piece_due_at_leaf : (planes : List Plane) (entry : DueBelow) (j : ℕ) (rest : List Piece) → IsConvex entry.due.winding → IsLeafPart entry.part entry.k j → ComesTo (ComesToPieces planes) [] rest → ComesToPieces planes entry (record { leaf = j; winding = entry.due.winding } ∷ [] ++ rest)
+pub piece_due_at_leaf : (planes : List Plane) (entry : DueBelow) (j : ℕ) (rest : List LeafPiece) → IsConvex entry.due.winding → IsLeafPart entry.part entry.k j → ComesTo (ComesToPieces planes) [] rest → ComesToPieces planes entry (record { leaf = j; winding = entry.due.winding } ∷ [] ++ rest)
 piece_due_at_leaf planes entry j rest convex is none =
-    subst (λ (all : List Piece). ComesToPieces planes entry (record { leaf = j; winding = entry.due.winding } ∷ all)) (sym none)
+    subst (λ (all : List LeafPiece). ComesToPieces planes entry (record { leaf = j; winding = entry.due.winding } ∷ all)) (sym none)
     (subst (λ (m : ℕ). ArePieces planes entry.due.winding (leaves_below entry.part entry.k) (record { leaf = m; winding = entry.due.winding } ∷ [])) is.number_is
     (subst (λ (p : Partition). ArePieces planes entry.due.winding (leaves_below p entry.k) (record { leaf = entry.k; winding = entry.due.winding } ∷ [])) (sym is.part_is)
     (piece_at_leaf planes entry.due.winding is.found entry.k convex)))
@@ -90,14 +90,14 @@ module _ (planes : List Plane) (p : ℕ) (side : Bool) (whole : Winding) (child 
   abbrev h : Plane
   h = turned side (plane_at planes p)
 
-  by_half : (half : Option Winding) (own : List Piece) → MatchOption half (HasNoneInFront whole h) (λ w. IsPartInFront w whole h) → ComesTo (ComesToPieces planes) (half_due half child part n k) own → ArePieces planes whole (map (seen_from p side) (leaves_below part k)) own
-  by_half None own not comes = subst (λ (all : List Piece). ArePieces planes whole (map (seen_from p side) (leaves_below part k)) all) (sym comes) (none_seen planes p side whole (leaves_below part k) not)
+  by_half : (half : Option Winding) (own : List LeafPiece) → MatchOption half (HasNoneInFront whole h) (λ w. IsPartInFront w whole h) → ComesTo (ComesToPieces planes) (half_due half child part n k) own → ArePieces planes whole (map (seen_from p side) (leaves_below part k)) own
+  by_half None own not comes = subst (λ (all : List LeafPiece). ArePieces planes whole (map (seen_from p side) (leaves_below part k)) all) (sym comes) (none_seen planes p side whole (leaves_below part k) not)
   by_half (Some w) own is_part (its, others, by, none, is) =
-      subst (λ (all : List Piece). ArePieces planes whole (map (seen_from p side) (leaves_below part k)) all) (sym (is ∙ ap (λ first. first ++ its) none))
+      subst (λ (all : List LeafPiece). ArePieces planes whole (map (seen_from p side) (leaves_below part k)) all) (sym (is ∙ ap (λ first. first ++ its) none))
       (seen_through planes p side w whole is_part (leaves_below part k) its by)
 
 -- at a node its halves are due: that in front next, so that it stands on top
-pub halves_due_at_node : (planes : List Plane) (whole : Partition) (entry : DueBelow) (here : NodeRecord) (front back : Option Winding) (rest : List Piece) (is : IsNodePart whole entry.part entry.n entry.k here) → MatchOption front (HasNoneInFront entry.due.winding (plane_at planes here.plane)) (λ w. IsPartInFront w entry.due.winding (plane_at planes here.plane)) → MatchOption back (HasNoneInFront entry.due.winding (turned false (plane_at planes here.plane))) (λ w. IsPartInFront w entry.due.winding (turned false (plane_at planes here.plane))) → ComesTo (ComesToPieces planes) (half_due back here.back is.back (nodes_after is.front (entry.n + 1)) (leaves_after is.front entry.k) ++ half_due front here.front is.front (entry.n + 1) entry.k) rest → ComesToPieces planes entry rest
+pub halves_due_at_node : (planes : List Plane) (whole : Partition) (entry : DueBelow) (here : NodeRecord) (front back : Option Winding) (rest : List LeafPiece) (is : IsNodePart whole entry.part entry.n entry.k here) → MatchOption front (HasNoneInFront entry.due.winding (plane_at planes here.plane)) (λ w. IsPartInFront w entry.due.winding (plane_at planes here.plane)) → MatchOption back (HasNoneInFront entry.due.winding (turned false (plane_at planes here.plane))) (λ w. IsPartInFront w entry.due.winding (turned false (plane_at planes here.plane))) → ComesTo (ComesToPieces planes) (half_due back here.back is.back (nodes_after is.front (entry.n + 1)) (leaves_after is.front entry.k) ++ half_due front here.front is.front (entry.n + 1) entry.k) rest → ComesToPieces planes entry rest
 halves_due_at_node planes whole entry here front back rest is front_half back_half comes =
     let behind = half_due back here.back is.back (nodes_after is.front (entry.n + 1)) (leaves_after is.front entry.k) in
     let ahead = half_due front here.front is.front (entry.n + 1) entry.k in
@@ -105,5 +105,5 @@ halves_due_at_node planes whole entry here front back rest is front_half back_ha
     let in_front = by_half planes here.plane true entry.due.winding here.front is.front (entry.n + 1) entry.k front parts.0 front_half parts.2 in
     let in_back = by_half planes here.plane false entry.due.winding here.back is.back (nodes_after is.front (entry.n + 1)) (leaves_after is.front entry.k) back parts.1 back_half parts.3 in
     subst (λ (part : Partition). ArePieces planes entry.due.winding (leaves_below part entry.k) rest) (sym is.part_is)
-    (subst (λ (all : List Piece). ArePieces planes entry.due.winding (leaves_below (node here.plane is.front is.back) entry.k) all) (sym parts.4)
+    (subst (λ (all : List LeafPiece). ArePieces planes entry.due.winding (leaves_below (node here.plane is.front is.back) entry.k) all) (sym parts.4)
     (pieces_append planes entry.due.winding (map (seen_from here.plane true) (leaves_below is.front entry.k)) (map (seen_from here.plane false) (leaves_below is.back (leaves_after is.front entry.k))) parts.0 parts.1 in_front in_back))

@@ -6,7 +6,7 @@ use Rattle.qm_lists.specs.inner.Steps.{steps_of, AreSteps}
 use Rattle.qm_partition.specs.Tree.{Tree}
 use Rattle.qm_contacts.specs.Contact.{Touch}
 use Rattle.qm_contacts.specs.Outside.{TouchesOutside}
-use Rattle.qm_contacts.specs.Reached.{IsPassable, Begins, GoesOn, IsReached}
+use Rattle.qm_contacts.specs.Reached.{IsPassable, Begins, FloodsInto, IsReached}
 use Rattle.qm_contacts.specs.Leak.{IsWayOut, out, on, IsNotAfter, IsTrail}
 use Rattle.qm_contacts.specs.inner.Descends.{Descends, out as at_exit, down}
 use Rattle.qm_contacts.proofs.Touchings.{touch_back}
@@ -16,7 +16,7 @@ pub reached_passable : (tree : Tree) (k : ℕ) → IsReached tree k → IsPassab
 reached_passable tree k (start begins) = begins.passable
 reached_passable tree k (onward reached goes) = goes.passable
 
-module _ (tree : Tree) (steps : List ℕ) (are : AreSteps (Begins tree) (GoesOn tree) steps) where
+module _ (tree : Tree) (steps : List ℕ) (are : AreSteps (Begins tree) (FloodsInto tree) steps) where
   -- a reached leaf that touches the outside has one step
   one_step : (k : ℕ) → IsReached tree k → TouchesOutside tree k → steps_of steps k ≡ 1
   one_step k reached outside = (are.first k).1 (record { outside = outside; passable = reached_passable tree k reached })

@@ -15,7 +15,7 @@ use Rattle.qm_partition.specs.declared.step.Step.{Step}
 use Rattle.qm_partition.specs.Partition.{Partition, leaf, node}
 use Rattle.qm_partition.specs.Tree.{Tree}
 use Rattle.qm_partition.specs.Numbering.{nodes_after, leaves_after}
-use Rattle.qm_partition.specs.Ways.{Way, after_step, ways, turned_to, cell_of}
+use Rattle.qm_partition.specs.Ways.{Way, after_step, ways, turned_to, cell_of_way}
 use Rattle.qm_partition.proofs.Counts.{leaves_after-count}
 use Rattle.qm_partition.proofs.Cells.{to_front-count}
 use Rattle.qm_contacts.specs.Meeting.{LeafBelow, leaves_below, Meeting, meeting_at, meetings_at, then_step, meetings_below, meetings}
@@ -76,21 +76,21 @@ tree_meeting_ways tree m listed = ways_of_meeting tree.shape tree.shape 0 0 [] m
 -- ---- the sides of the leaves
 
 -- the points in the cell of a way with a step are on the step's side of its plane
-on_side_of_step : (planes : List Plane) (above rest : Way) (step : Step) (way : Way) (x : Point) → above ++ step ∷ rest ≡ way → IsInCell (cell_of planes way) x → IsInFront (turned step.front (plane_at planes step.plane)) x
+on_side_of_step : (planes : List Plane) (above rest : Way) (step : Step) (way : Way) (x : Point) → above ++ step ∷ rest ≡ way → IsInCell (cell_of_way planes way) x → IsInFront (turned step.front (plane_at planes step.plane)) x
 on_side_of_step planes above rest step way x is inside =
-    let here = subst (λ (w : Way). IsInCell (cell_of planes w) x) (sym is) inside in
+    let here = subst (λ (w : Way). IsInCell (cell_of_way planes w) x) (sym is) inside in
     let split = subst (λ (cell : List Plane). IsInCell cell x) (map-append (turned_to planes) above (step ∷ rest)) here in
-    All-head (λ h. IsInFront h x) (turned_to planes step) (cell_of planes rest) (All-last_part (λ h. IsInFront h x) (cell_of planes above) (cell_of planes (step ∷ rest)) split)
+    All-head (λ h. IsInFront h x) (turned_to planes step) (cell_of_way planes rest) (All-last_part (λ h. IsInFront h x) (cell_of_way planes above) (cell_of_way planes (step ∷ rest)) split)
 
 -- the points of the leaf in front are in front of the parting plane, and those of the leaf behind are in front of it
 -- flipped: so the plane of a portal has the entered leaf in front
-pub leaf_in_front : (tree : Tree) (m : Meeting) (way : Way) (x : Point) → Contains (meetings tree) m → slice_get (ways tree.shape) m.front.leaf ≡ Some way → IsInCell (cell_of tree.planes way) x → IsInFront (plane_at tree.planes m.plane) x
+pub leaf_in_front : (tree : Tree) (m : Meeting) (way : Way) (x : Point) → Contains (meetings tree) m → slice_get (ways tree.shape) m.front.leaf ≡ Some way → IsInCell (cell_of_way tree.planes way) x → IsInFront (plane_at tree.planes m.plane) x
 leaf_in_front tree m way x listed at inside =
     let its = tree_meeting_ways tree m listed in
     let e : Some (m.above ++ record { plane = m.plane; front = true } ∷ m.front.way) ≡ Some way = sym its.to_front ∙ at in
     on_side_of_step tree.planes m.above m.front.way (record { plane = m.plane; front = true }) way x (cc) inside
 
-pub leaf_behind : (tree : Tree) (m : Meeting) (way : Way) (x : Point) → Contains (meetings tree) m → slice_get (ways tree.shape) m.back.leaf ≡ Some way → IsInCell (cell_of tree.planes way) x → IsInFront (turned false (plane_at tree.planes m.plane)) x
+pub leaf_behind : (tree : Tree) (m : Meeting) (way : Way) (x : Point) → Contains (meetings tree) m → slice_get (ways tree.shape) m.back.leaf ≡ Some way → IsInCell (cell_of_way tree.planes way) x → IsInFront (turned false (plane_at tree.planes m.plane)) x
 leaf_behind tree m way x listed at inside =
     let its = tree_meeting_ways tree m listed in
     let e : Some (m.above ++ record { plane = m.plane; front = false } ∷ m.back.way) ≡ Some way = sym its.to_back ∙ at in

@@ -4,7 +4,7 @@ use Rattle.qm_space.specs.Plane.{Plane, IsOn}
 use Rattle.qm_space.specs.Cell.{IsInCell}
 use Rattle.qm_space.specs.Book.{plane_at}
 use Rattle.qm_partition.specs.Tree.{Tree}
-use Rattle.qm_partition.specs.Ways.{cell_of}
+use Rattle.qm_partition.specs.Ways.{cell_of_way}
 use Rattle.qm_contacts.specs.Meeting.{Meeting, meetings}
 
 -- a point at which the two leaves of a meeting touch: inside the cube, on the plane that parts them, and strictly on
@@ -12,9 +12,9 @@ use Rattle.qm_contacts.specs.Meeting.{Meeting, meetings}
 pub record IsContact (planes : List Plane) (meeting : Meeting) (x : Point) : Type 0 where
   pub in_cube : IsInCube x
   pub on : IsOn (plane_at planes meeting.plane) x
-  pub above : IsInCell (cell_of planes meeting.above) x
-  pub in_front : IsInCell (cell_of planes meeting.front.way) x
-  pub behind : IsInCell (cell_of planes meeting.back.way) x
+  pub above : IsInCell (cell_of_way planes meeting.above) x
+  pub in_front : IsInCell (cell_of_way planes meeting.front.way) x
+  pub behind : IsInCell (cell_of_way planes meeting.back.way) x
 
 -- the leaf a, in front of the node that parts them, touches the leaf b behind it
 pub record TouchAcross (tree : Tree) (a b : ℕ) : Type 0 where

@@ -19,8 +19,8 @@ pub record Origin : Type 0 where
 abbrev pub AreInOrder : List Origin → Type 0
 AreInOrder origins = AllPairs (λ first second. first.entity < second.entity) origins
 
-abbrev pub leaf_of : Tree → Origin → ℕ
-leaf_of tree origin = leaf_at tree.planes tree.shape origin.point
+abbrev pub leaf_of_origin : Tree → Origin → ℕ
+leaf_of_origin tree origin = leaf_at tree.planes tree.shape origin.point
 
 -- an entity takes part where it does not stand in solid
 abbrev pub TakesPart : Tree → Origin → Type 0
@@ -29,7 +29,7 @@ TakesPart tree origin = (leaf_record_at tree.planes tree.shape origin.point).con
 -- it leaks where it takes part and the outside reaches its leaf
 pub record Leaks (tree : Tree) (origin : Origin) : Type 0 where
   pub takes_part : TakesPart tree origin
-  pub reached : IsReached tree (leaf_of tree origin)
+  pub reached : IsReached tree (leaf_of_origin tree origin)
 
 -- the first entity that leaks
 pub record IsFirstLeak (tree : Tree) (origins : List Origin) (origin : Origin) : Type 0 where
@@ -58,4 +58,4 @@ pub record IsLeak (tree : Tree) (origins : List Origin) (entity : ℕ) (trail : 
   pub origin : Origin
   pub first : IsFirstLeak tree origins origin
   pub entity_is : entity ≡ origin.entity
-  pub trail_is : IsTrail tree (leaf_of tree origin) trail
+  pub trail_is : IsTrail tree (leaf_of_origin tree origin) trail

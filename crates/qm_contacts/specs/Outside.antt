@@ -4,7 +4,7 @@ use Rattle.qm_space.specs.Plane.{Plane}
 use Rattle.qm_space.specs.Cell.{IsInCell}
 use Rattle.qm_space.specs.Cube.{cube_walls, IsOnCubeFace}
 use Rattle.qm_partition.specs.Tree.{Tree}
-use Rattle.qm_partition.specs.Ways.{Way, ways, cell_of}
+use Rattle.qm_partition.specs.Ways.{Way, ways, cell_of_way}
 
 -- a leaf touches the outside: a point strictly inside a face of the cube is strictly on its side of all planes above it
 pub record TouchesOutside (tree : Tree) (k : ℕ) : Type 0 where
@@ -14,4 +14,4 @@ pub record TouchesOutside (tree : Tree) (k : ℕ) : Type 0 where
   pub is_wall : Contains cube_walls wall
   pub point : Point
   pub on_face : IsOnCubeFace wall point
-  pub in_cell : IsInCell (cell_of tree.planes way) point
+  pub in_cell : IsInCell (cell_of_way tree.planes way) point

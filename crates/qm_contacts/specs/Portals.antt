@@ -1,9 +1,9 @@
-use Rattle.std.specs.Prelude.{◌≡◌, ℕ, ◌==◌, ◌&&◌, Bool, true, false, List, [], ◌∷◌, take, filter, flat_map, count_by, slice_index_or}
+use Rattle.std.specs.Prelude.{◌≡◌, ℕ, ◌&&◌, Bool, true, false, List, [], ◌∷◌, take, filter, flat_map, count_by, slice_index_or}
 use Rattle.qm_space.specs.Plane.{Plane}
 use Rattle.qm_space.specs.Turned.{turned}
 use Rattle.qm_convex.specs.Winding.{Winding}
 use Rattle.qm_contents.specs.declared.contents.Contents.TheVariants.{Solid}
-use Rattle.qm_contents.specs.Precedence.{strength}
+use Rattle.qm_contents.specs.Precedence.{is_same_contents}
 use Rattle.qm_partition.specs.declared.node.Leaf.{Leaf}
 use Rattle.qm_partition.specs.Tree.{Tree}
 use Rattle.qm_partition.specs.Counting.{leaves_of}
@@ -25,23 +25,23 @@ abbrev pub leaf_record : Tree → ℕ → Leaf
 leaf_record tree k = slice_index_or (leaves_of tree.shape) k (record { contents = Solid; filled = false })
 
 -- the number of a numbered leaf: how many come before it
-abbrev pub number_of : Tree → ℕ → ℕ
-number_of tree k = count_by is_numbered (take k (leaves_of tree.shape))
+abbrev pub leaf_number : Tree → ℕ → ℕ
+leaf_number tree k = count_by is_numbered (take k (leaves_of tree.shape))
 
--- both leaves are numbered, and their contents are equal; no two kinds of contents are equally strong
+-- both leaves are numbered, and their contents are the same
 abbrev pub is_passage : Tree → Touching → Bool
 is_passage tree found =
     let front = leaf_record tree found.front in
     let back = leaf_record tree found.back in
-    is_numbered front && (strength front.contents == strength back.contents)
+    is_numbered front && is_same_contents front.contents back.contents
 
 -- the portal to the one side of the polygon's plane
 abbrev pub portal : Tree → Touching → Bool → ℕ → ℕ → Portal
 portal tree found to_front from to = record {
   winding = found.winding;
   into = turned to_front found.winding.plane;
-  from = number_of tree from;
-  to = number_of tree to;
+  from = leaf_number tree from;
+  to = leaf_number tree to;
 }
 
 -- the portal from the leaf in front to the leaf behind, and the one back

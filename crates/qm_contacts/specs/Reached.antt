@@ -27,10 +27,10 @@ pub record Begins (tree : Tree) (k : ℕ) : Type 0 where
   pub passable : IsPassable tree k
 
 -- and goes on from a leaf to the passable leaves that it touches
-pub record GoesOn (tree : Tree) (a b : ℕ) : Type 0 where
+pub record FloodsInto (tree : Tree) (a b : ℕ) : Type 0 where
   pub touch : Touch tree a b
   pub passable : IsPassable tree b
 
 -- the least set of leaves with these two
 abbrev pub IsReached : Tree → ℕ → Type 0
-IsReached tree k = Reach (Begins tree) (GoesOn tree) k
+IsReached tree k = Reach (Begins tree) (FloodsInto tree) k

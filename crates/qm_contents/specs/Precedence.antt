@@ -1,4 +1,4 @@
-use Rattle.std.specs.Prelude.{ℕ, ◌≤◌, nat_lt, if◌then◌else◌}
+use Rattle.std.specs.Prelude.{ℕ, ◌≤◌, ◌==◌, Bool, nat_lt, if◌then◌else◌}
 use Rattle.qm_contents.specs.declared.contents.Contents.{Contents}
 use Rattle.qm_contents.specs.declared.contents.Contents.TheVariants.{Empty, Solid, Water, Slime, Lava, Sky}
 
@@ -14,6 +14,10 @@ strength Solid = 5
 -- no stronger than others
 abbrev pub IsAtMost : Contents → Contents → Type 0
 IsAtMost a b = strength a ≤ strength b
+
+-- whether two kinds of contents are the same: no two kinds are equally strong
+abbrev pub is_same_contents : Contents → Contents → Bool
+is_same_contents a b = strength a == strength b
 
 -- the stronger of two
 abbrev pub stronger : Contents → Contents → Contents

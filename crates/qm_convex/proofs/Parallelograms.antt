@@ -14,7 +14,7 @@ use Rattle.qm_convex.specs.Winding.{Winding, next_place, edge_at, corner_at, IsC
 use Rattle.qm_convex.specs.Cut.{IsPartInFront}
 use Rattle.qm_convex.specs.Sides.{HasNoneInFront}
 use Rattle.qm_convex.specs.Section.{IsSection, MissesCell}
-use Rattle.qm_convex.specs.inner.Parallelogram.{facing, AreOpposite, AreApart, IsBetweenPlanes, parallelogram}
+use Rattle.qm_convex.specs.inner.Parallelogram.{facing, AreOpposite, LeaveRoom, IsBetweenPlanes, parallelogram}
 use Rattle.qm_convex.proofs.Corners.{corner_on_edge, corner_on_next}
 
 -- ---- planes that face one another
@@ -27,7 +27,7 @@ facing_sum a d p =
     solved (numbers_of_plane a (numbers_of_point p (d ∷ [])))
     (symbol_value e q ⊕ symbol_value (record { nx = negated e.nx; ny = negated e.ny; nz = negated e.nz; d = variable 8 }) q) (negated (e.d ⊕ variable 8) ⊗ q.w) tt
 
-module _ (a : Plane) (d : ℤ) (p : Point) (apart : AreApart a (facing a d)) (weight : pos 0 <ℤ p.w) where
+module _ (a : Plane) (d : ℤ) (p : Point) (apart : LeaveRoom a (facing a d)) (weight : pos 0 <ℤ p.w) where
   width : pos 0 <ℤ (neg_ℤ (a.d +ℤ d) *ℤ p.w)
   width = product_positive (neg_ℤ (a.d +ℤ d)) p.w (omega (arith, linear)) weight
 
@@ -40,7 +40,7 @@ module _ (a : Plane) (d : ℤ) (p : Point) (apart : AreApart a (facing a d)) (we
 
 module _ (near far : Plane) (opposite : AreOpposite near far) (p : Point) where
   -- where they leave room between them, a point there has a positive weight
-  pub weight_between : AreApart near far → IsBetweenPlanes near far p → pos 0 <ℤ p.w
+  pub weight_between : LeaveRoom near far → IsBetweenPlanes near far p → pos 0 <ℤ p.w
   weight_between apart between =
       let s = facing_sum near far.d p in
       let f = between.near in
@@ -104,7 +104,7 @@ module _ (h a b : Plane) (d e : ℤ) where
   unfolding next_place
   next_row = (refl, refl, refl, refl)
 
-  module _ (turn : pos 0 <ℤ (meet h a b).w) (a_apart : AreApart a (facing a d)) (b_apart : AreApart b (facing b e)) where
+  module _ (turn : pos 0 <ℤ (meet h a b).w) (a_apart : LeaveRoom a (facing a d)) (b_apart : LeaveRoom b (facing b e)) where
     parallelogram_weight : (i : ℕ) → i < 4 → pos 0 <ℤ (corner_at polygon i).w
     parallelogram_weight zero l = subst (λ p. pos 0 <ℤ p.w) (sym first_corner) turn
     parallelogram_weight (suc zero) l = subst (λ p. pos 0 <ℤ p.w) (sym second_corner) (let e = second_weight in omega (arith, linear, turn))
@@ -142,7 +142,7 @@ module _ (h a b : Plane) (d e : ℤ) where
 
 module _ (h a b c d : Plane) where
   -- it is convex where the planes' normals turn the right way
-  pub parallelogram_convex : AreOpposite a c → AreOpposite b d → AreApart a c → AreApart b d → pos 0 <ℤ (meet h a b).w → IsConvex (parallelogram h a b c d)
+  pub parallelogram_convex : AreOpposite a c → AreOpposite b d → LeaveRoom a c → LeaveRoom b d → pos 0 <ℤ (meet h a b).w → IsConvex (parallelogram h a b c d)
   parallelogram_convex of_a of_b a_apart b_apart turn =
       subst (λ (g : Plane). IsConvex (parallelogram h a b g d)) (sym of_a)
       (subst (λ (g : Plane). IsConvex (parallelogram h a b (facing a c.d) g)) (sym of_b)
@@ -176,7 +176,7 @@ module _ (cell : List Plane) (h a b c d e f : Plane)
       omega (arith, linear)
 
   -- else what both leave is the section
-  pub section_of_parallelogram : (v w : Winding) → AreOpposite a d → AreApart a d → IsPartInFront v (parallelogram h a b d e) c → IsPartInFront w v f → IsSection cell h w
+  pub section_of_parallelogram : (v w : Winding) → AreOpposite a d → LeaveRoom a d → IsPartInFront v (parallelogram h a b d e) c → IsPartInFront w v f → IsSection cell h w
   section_of_parallelogram v w of_a a_apart x y = record { convex = y.convex; plane = y.plane ∙ x.plane; points = λ p. (to_cell p, from_cell p) }
     where
       to_cell : (p : Point) → IsInRegion w p → IsOn h p × IsInCell cell p

@@ -1,5 +1,5 @@
 ghost use Rattle.std.specs.Prelude.{◌≡◌, ℕ, ◌+◌, ◌^◌, ◌<◌, ◌≤◌, List, [], ◌∷◌, ◌++◌, length, drop, decimal};
-ghost use Rattle.qm_decimal.specs.Printed.{last_digits, shown_sign};
+ghost use Rattle.qm_numerals.specs.Printed.{last_digits, shown_sign};
 
 use std::marker::Model;
 

@@ -2,9 +2,9 @@ ghost use Rattle.std.specs.Prelude.{◌≡◌, ◌==◌, ◌≤◌, ◌<◌, ◌
 ghost use Rattle.std.specs.Char.{is_ascii_digit};
 ghost use Rattle.std.specs.List.{list_all};
 ghost use Rattle.std.specs.Str.Parse.{digits_value, AllDigits};
-ghost use Rattle.qm_decimal.specs.inner.Parts.{IsDecimalAnswer, IsZerosAnswer};
+ghost use Rattle.qm_numerals.specs.inner.Parts.{IsDecimalAnswer, IsZerosAnswer};
 
-use crate::fraction::NumberFault;
+use qm_numerals::NumberFault;
 use crate::whole::digit;
 
 /// Ten to that power.

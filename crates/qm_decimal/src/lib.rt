@@ -3,11 +3,9 @@
 
 mod backward;
 mod decimals;
-mod fraction;
 mod print;
 mod reader;
 mod whole;
 
-pub use fraction::{Fraction, NumberFault};
 pub use print::{nearest_millionths, print6};
 pub use reader::read;

@@ -1,5 +1,5 @@
 ghost use Rattle.std.specs.Prelude.{◌≡◌, ◌^◌, ◌<◌, ◌≤◌, ◌++◌, ◌<ℤ◌, pos, int_lt, unsigned_abs, decimal, OnOk, OnErr};
-ghost use Rattle.qm_decimal.specs.Printed.{IsNearestMillionths, millionths, printed, shown_sign, with_six_decimals};
+ghost use Rattle.qm_numerals.specs.Printed.{IsNearestMillionths, millionths, printed_fraction, shown_sign, with_six_decimals};
 
 use crate::backward::Backward;
 use std::alloc::AllocError;
@@ -47,7 +47,7 @@ pub fn nearest_millionths(over: u128, under: u128) -> u128
 pub fn print6(numerator: i128, denominator: i128, out: &mut Vec<u8>) -> Result<(), AllocError>
     requires above_zero { pos 0 <ℤ denominator }
     requires bounded { unsigned_abs numerator ≤ 2 ^ 100 }
-    ensures ok { OnOk result (out.new.items ≡ out.old.items ++ printed (int_lt numerator (pos 0)) (unsigned_abs numerator) (unsigned_abs denominator)) }
+    ensures ok { OnOk result (out.new.items ≡ out.old.items ++ printed_fraction (int_lt numerator (pos 0)) (unsigned_abs numerator) (unsigned_abs denominator)) }
     ensures err { OnErr result (out.new.items ≡ out.old.items) }
 
     // What is printed with six decimals is the nearest such number.

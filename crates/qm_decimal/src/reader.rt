@@ -1,11 +1,11 @@
 ghost use Rattle.std.specs.Prelude.{◌≡◌, ◌≤◌, ◌<◌, ◌^◌, ℕ, pos, neg_ℤ, if◌then◌else◌, List, Result, IfSome, IfNone};
-ghost use Rattle.qm_decimal.specs.Answer.{IsAnswer};
-ghost use Rattle.qm_decimal.specs.Computed.{read_at};
-ghost use Rattle.qm_decimal.specs.Number.{Number, Spells, IsTail};
-ghost use Rattle.qm_decimal.specs.inner.Parts.{IsMagnitudeAnswer, IsSignSplit};
+ghost use Rattle.qm_numerals.specs.Answer.{IsAnswer};
+ghost use Rattle.qm_numerals.specs.Computed.{read_at};
+ghost use Rattle.qm_numerals.specs.Number.{Number, SpellsNumber, IsTail};
+ghost use Rattle.qm_numerals.specs.inner.Parts.{IsMagnitudeAnswer, IsSignSplit};
 
 use crate::decimals::{decimal_part, power_of_ten};
-use crate::fraction::{Fraction, NumberFault};
+use qm_numerals::{Fraction, NumberFault};
 use crate::whole::{LIMIT, whole_part};
 
 /// The text without its sign, and whether that is `-`.
@@ -78,7 +78,7 @@ pub fn read(text: &[u8], places: u8) -> Result<Fraction, NumberFault>
     ensures only { (other : Result Fraction NumberFault) → IsAnswer text.now places other → other ≡ result }
 
     // A text spells one number at most.
-    ensures one_number { (a b : Number) → Spells text.now a → Spells text.now b → a ≡ b }
+    ensures one_number { (a b : Number) → SpellsNumber text.now a → SpellsNumber text.now b → a ≡ b }
 {
     let (is_negative, unsigned) = split_sign(text);
     let magnitude = magnitude(unsigned, places)?;

@@ -1,6 +1,6 @@
 ghost use Rattle.std.specs.Prelude.{◌≡◌, ◌≤◌, ◌<◌, ◌^◌, length, slice_index, OnSome, IfSome, IfNone};
 ghost use Rattle.std.specs.Char.{digit_value};
-ghost use Rattle.qm_decimal.specs.inner.Parts.{IsWholePart};
+ghost use Rattle.qm_numerals.specs.inner.Parts.{IsWholePart};
 
 /// The greatest absolute value that is read.
 pub const LIMIT: u64 = 1_000_000_000;

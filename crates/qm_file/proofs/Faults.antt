@@ -4,9 +4,9 @@ use Rattle.qm_formats.specs.FileParts.{FileFaultKind, short, magic, counts, plan
 use Rattle.qm_formats.proofs.ReadLists.{PassesFault}
 use Rattle.qm_file.specs.declared.file_fault.FileFault.{FileFault}
 use Rattle.qm_file.specs.declared.file_fault.FileFault.TheVariants as faults
-use Rattle.qm_file.specs.Answers.{IsFault}
+use Rattle.qm_file.specs.Answers.{IsFaultOfFile}
 
-pub fault_passes : {X Y : Type 0} (fault : FileFault) {part : Answer FileFaultKind X} {whole : Answer FileFaultKind Y} → PassesFault part whole → IsFault fault part → IsFault fault whole
+pub fault_passes : {X Y : Type 0} (fault : FileFault) {part : Answer FileFaultKind X} {whole : Answer FileFaultKind Y} → PassesFault part whole → IsFaultOfFile fault part → IsFaultOfFile fault whole
 fault_passes (faults.Short offset) passes is = passes short offset is
 fault_passes (faults.Magic offset) passes is = passes magic offset is
 fault_passes (faults.Counts offset) passes is = passes counts offset is

@@ -3,7 +3,7 @@ use Rattle.std.proofs.Common.{◌≡◌, ◌<◌, ℕ, zero, suc, ◌+◌, ◌*�
 use Rattle.std.specs.Int.{bit_at, to_le_bytes}
 use Rattle.std.proofs.lemmas.Nat.{shr-shr, shr_split, mod_below}
 use Rattle.std.proofs.lemmas.Nat.Bits.{same_from_bits_below, bit_at_cat_low}
-use Rattle.qm_bits.specs.Word.{IsWord}
+use Rattle.qm_lists.specs.Word.{IsWord}
 use Rattle.qm_formats.specs.RowBits.{row_byte}
 use Rattle.qm_formats.proofs.PackedRows.{row_byte-bit, row_byte-byte, test_bit}
 

@@ -5,19 +5,19 @@ use Rattle.qm_file.specs.declared.file_fault.FileFault.{FileFault}
 use Rattle.qm_file.specs.declared.file_fault.FileFault.TheVariants as faults
 
 -- a fault is the one that reading gives, unless memory ran out
-abbrev pub IsFault : {X : Type 0} → FileFault → Answer FileFaultKind X → Type 0
-IsFault (faults.Short offset) answer = answer ≡ bad short offset
-IsFault (faults.Magic offset) answer = answer ≡ bad magic offset
-IsFault (faults.Counts offset) answer = answer ≡ bad counts offset
-IsFault (faults.PlaneForm offset) answer = answer ≡ bad plane_form offset
-IsFault (faults.NodeOrder offset) answer = answer ≡ bad node_order offset
-IsFault (faults.LeafForm offset) answer = answer ≡ bad leaf_form offset
-IsFault (faults.RowForm offset) answer = answer ≡ bad row_form offset
-IsFault (faults.Trailing offset) answer = answer ≡ bad trailing offset
-IsFault (faults.TooLong offset) answer = answer ≡ bad too_long offset
-IsFault faults.Memory answer = Unit {0}
+abbrev pub IsFaultOfFile : {X : Type 0} → FileFault → Answer FileFaultKind X → Type 0
+IsFaultOfFile (faults.Short offset) answer = answer ≡ bad short offset
+IsFaultOfFile (faults.Magic offset) answer = answer ≡ bad magic offset
+IsFaultOfFile (faults.Counts offset) answer = answer ≡ bad counts offset
+IsFaultOfFile (faults.PlaneForm offset) answer = answer ≡ bad plane_form offset
+IsFaultOfFile (faults.NodeOrder offset) answer = answer ≡ bad node_order offset
+IsFaultOfFile (faults.LeafForm offset) answer = answer ≡ bad leaf_form offset
+IsFaultOfFile (faults.RowForm offset) answer = answer ≡ bad row_form offset
+IsFaultOfFile (faults.Trailing offset) answer = answer ≡ bad trailing offset
+IsFaultOfFile (faults.TooLong offset) answer = answer ≡ bad too_long offset
+IsFaultOfFile faults.Memory answer = Unit {0}
 
 -- what is answered, seen as the value of a layout with the place where it ends, is what reading gives, unless memory ran out
-abbrev pub Gives : {X Y : Type 0} → (X → Y) → (X → ℕ) → Result X FileFault → Answer FileFaultKind Y → Type 0
-Gives value next (Ok x) answer = answer ≡ got (value x) (next x)
-Gives value next (Err fault) answer = IsFault fault answer
+abbrev pub GivesOfFile : {X Y : Type 0} → (X → Y) → (X → ℕ) → Result X FileFault → Answer FileFaultKind Y → Type 0
+GivesOfFile value next (Ok x) answer = answer ≡ got (value x) (next x)
+GivesOfFile value next (Err fault) answer = IsFaultOfFile fault answer

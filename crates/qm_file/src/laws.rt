@@ -10,7 +10,7 @@ ghost use Rattle.qm_partition.specs.Numbering.{AreNumbered};
 ghost use Rattle.qm_formats.specs.FileParts.{is_plane};
 ghost use Rattle.qm_formats.specs.Exact.{IsExact};
 ghost use Rattle.qm_formats.specs.FileLayout.{are_numbered, file_layout, file_bytes, file_limit};
-ghost use Rattle.qm_formats.specs.TreeFile.{TreeFile, IsValid};
+ghost use Rattle.qm_formats.specs.TreeFile.{TreeFile, IsValidFile};
 
 /// What is read in a file stands there and can stand there, and the other way round.
 pub fn exact_layout()
@@ -19,7 +19,7 @@ pub fn exact_layout()
 
 /// No two trees with their rows have the same file.
 pub fn one_tree_file()
-    ensures { (file other : TreeFile) → IsValid file → IsValid other → file_bytes file ≡ file_bytes other → length (file_bytes file) ≤ file_limit → file ≡ other }
+    ensures { (file other : TreeFile) → IsValidFile file → IsValidFile other → file_bytes file ≡ file_bytes other → length (file_bytes file) ≤ file_limit → file ≡ other }
 {}
 
 /// A plane passes its test where it is in lowest terms and leads with a positive component.

@@ -1,6 +1,6 @@
 ghost use Rattle.std.specs.Prelude.{◌≡◌, ◌++◌, IfOk, OnOk, length, count_by, is_some, Option};
 ghost use Rattle.qm_contacts.specs.NumberedLeaves.{is_numbered};
-ghost use Rattle.qm_formats.specs.FileLayout.{Header, header_layout, file_bytes};
+ghost use Rattle.qm_formats.specs.FileLayout.{Header, file_header_layout, file_bytes};
 
 use crate::field_bytes::{put_count, put_flag, put_magic};
 use crate::record_bytes::{LeafBytes, NodeBytes, PlaneBytes};
@@ -52,7 +52,7 @@ fn length_without_rows(planes: usize, nodes: usize, leaves: usize) -> usize {
         .saturating_add(leaves.saturating_mul(LEAF_LENGTH))
 }
 
-#[tactic(auto, unfolding(qm_formats::specs::FileLayout::header_layout))]
+#[tactic(auto, unfolding(qm_formats::specs::FileLayout::file_header_layout))]
 fn put_header(
     bytes: &mut Vec<u8>,
     planes: usize,
@@ -60,7 +60,7 @@ fn put_header(
     leaves: &[Leaf],
     has_rows: bool,
 ) -> Result<(), AllocError>
-    ensures { OnOk result (bytes.new.items ≡ bytes.old.items ++ header_layout.bytes_of (record { planes = planes; nodes = nodes; leaves = length leaves.now; numbered = count_by is_numbered leaves.now; has_rows = has_rows })) }
+    ensures { OnOk result (bytes.new.items ≡ bytes.old.items ++ file_header_layout.bytes_of (record { planes = planes; nodes = nodes; leaves = length leaves.now; numbered = count_by is_numbered leaves.now; has_rows = has_rows })) }
 {
     put_magic(bytes)?;
     put_count(bytes, planes)?;

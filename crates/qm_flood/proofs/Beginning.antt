@@ -10,7 +10,7 @@ use Rattle.qm_lists.proofs.SpreadSteps.{begun_yes, begun_no, begun_ends}
 use Rattle.qm_partition.specs.Tree.{Tree}
 use Rattle.qm_partition.specs.Counting.{leaf_count}
 use Rattle.qm_contacts.specs.Contacts.{AreNeighbours}
-use Rattle.qm_contacts.specs.Reached.{Begins, GoesOn}
+use Rattle.qm_contacts.specs.Reached.{Begins, FloodsInto}
 use Rattle.qm_contacts.proofs.FloodedLeaves.{touched_within, passable_within, goes_to_neighbours}
 use Rattle.qm_flood.specs.inner.Spreading.{AreLeafSteps, IsSpreading, CanGoOn, GoesOnToOneOf}
 
@@ -18,7 +18,7 @@ use Rattle.qm_flood.specs.inner.Spreading.{AreLeafSteps, IsSpreading, CanGoOn, G
 pub begun_spreading : (tree : Tree) (steps found : List ℕ) → length steps ≡ leaf_count tree.shape → IsBegun (Begins tree) steps found → IsSpreading tree steps found 0
 begun_spreading tree steps found one_each begun = record {
   one_each = one_each;
-  spread = begun_ends (Begins tree) steps found begun (GoesOn tree) (λ place is. let within = passable_within tree place is.passable in omega (arith, within, one_each));
+  spread = begun_ends (Begins tree) steps found begun (FloodsInto tree) (λ place is. let within = passable_within tree place is.passable in omega (arith, within, one_each));
 }
 
 -- ---- the leaf that is passed next
@@ -38,7 +38,7 @@ module _ (tree : Tree) (steps found : List ℕ) (passed leaf : ℕ) (spreading :
   can_go_on = record {
     one_each = spreading.one_each;
     within = let within = next_within in let each = spreading.one_each in omega (arith, within, each);
-    few = steps_at_most (Begins tree) (GoesOn tree) steps found passed leaf spreading.spread;
+    few = steps_at_most (Begins tree) (FloodsInto tree) steps found passed leaf spreading.spread;
     listed = spreading.spread.listed;
     once = spreading.spread.once;
   }
@@ -46,7 +46,7 @@ module _ (tree : Tree) (steps found : List ℕ) (passed leaf : ℕ) (spreading :
   pub is_passed : (neighbours new_steps new_found : List ℕ) → AreNeighbours tree leaf neighbours → GoesOnToOneOf tree neighbours leaf steps new_steps found new_found → IsSpreading tree new_steps new_found (passed + 1)
   is_passed neighbours new_steps new_found are goes = record {
     one_each = goes.same_length ∙ spreading.one_each;
-    spread = subst (λ (n : ℕ). IsSpread (Begins tree) (GoesOn tree) new_steps new_found n) one_more (spread_passes (Begins tree) (GoesOn tree) steps new_steps found new_found passed leaf spreading.spread stands (goes_to_neighbours tree leaf neighbours steps new_steps found new_found are goes.spreads));
+    spread = subst (λ (n : ℕ). IsSpread (Begins tree) (FloodsInto tree) new_steps new_found n) one_more (spread_passes (Begins tree) (FloodsInto tree) steps new_steps found new_found passed leaf spreading.spread stands (goes_to_neighbours tree leaf neighbours steps new_steps found new_found are goes.spreads));
   }
     where
       one_more : suc passed ≡ passed + 1
@@ -59,12 +59,12 @@ neighbours_within tree leaf neighbours are k d within = touched_within tree leaf
 -- ---- the end
 
 pub less_left : (tree : Tree) (steps found : List ℕ) (passed : ℕ) → IsSpreading tree steps found passed → length found ≤ length steps
-less_left tree steps found passed spreading = spread_at_most (Begins tree) (GoesOn tree) steps found passed spreading.spread
+less_left tree steps found passed spreading = spread_at_most (Begins tree) (FloodsInto tree) steps found passed spreading.spread
 
 pub all_passed : (tree : Tree) (steps found : List ℕ) (passed : ℕ) → IsSpreading tree steps found passed → length found ≤ passed → AreLeafSteps tree steps
 all_passed tree steps found passed spreading all = record {
   one_each = spreading.one_each;
-  are = spread_ends (Begins tree) (GoesOn tree) steps found (record {
+  are = spread_ends (Begins tree) (FloodsInto tree) steps found (record {
     listed = spread.listed;
     reached = spread.reached;
     first = spread.first;
@@ -77,7 +77,7 @@ all_passed tree steps found passed spreading all = record {
   });
 }
   where
-    spread : IsSpread (Begins tree) (GoesOn tree) steps found passed
+    spread : IsSpread (Begins tree) (FloodsInto tree) steps found passed
     spread = spreading.spread
 
 -- one leaf more is gone through

@@ -5,7 +5,7 @@ use Rattle.qm_lists.specs.inner.Steps.{steps_of}
 use Rattle.qm_partition.specs.Tree.{Tree}
 use Rattle.qm_contacts.specs.Contacts.{Contacts}
 use Rattle.qm_contacts.specs.Leak.{IsTrail}
-use Rattle.qm_contacts.specs.inner.Descends.{IsNearest, Descends, out, down}
+use Rattle.qm_contacts.specs.inner.Descends.{IsNextOfTrail, Descends, out, down}
 use Rattle.qm_contacts.proofs.Trails.{descends_is_trail}
 use Rattle.qm_flood.specs.inner.Stepping.{AreStepsOver}
 
@@ -13,7 +13,7 @@ use Rattle.qm_flood.specs.inner.Stepping.{AreStepsOver}
 abbrev pub IsUnderWay : Contacts → List ℕ → ℕ → ℕ → List ℕ → Type 0
 IsUnderWay contacts steps leaf last trail = (tree : Tree) → AreStepsOver tree contacts steps → (rest : List ℕ) → Descends tree steps last (last ∷ rest) → Descends tree steps leaf (trail ++ rest)
 
-pub goes_down : (contacts : Contacts) (steps : List ℕ) (leaf last next : ℕ) (trail : List ℕ) → IsUnderWay contacts steps leaf last trail → ((tree : Tree) → AreStepsOver tree contacts steps → IsNearest tree steps last next) → IsUnderWay contacts steps leaf next (trail ++ next ∷ [])
+pub goes_down : (contacts : Contacts) (steps : List ℕ) (leaf last next : ℕ) (trail : List ℕ) → IsUnderWay contacts steps leaf last trail → ((tree : Tree) → AreStepsOver tree contacts steps → IsNextOfTrail tree steps last next) → IsUnderWay contacts steps leaf next (trail ++ next ∷ [])
 goes_down contacts steps leaf last next trail completes near tree are rest descends =
     subst (λ (all : List ℕ). Descends tree steps leaf all) (sym (append_assoc trail (next ∷ []) rest)) (completes tree are (next ∷ rest) (down (near tree are) descends))
 

@@ -9,10 +9,10 @@ use Rattle.qm_partition.specs.Counting.{leaves_of}
 use Rattle.qm_partition.specs.LeafOfPoint.{leaf_record_at}
 use Rattle.qm_partition.proofs.LeafNumbers.{leaf_of_number}
 use Rattle.qm_contacts.specs.NumberedLeaves.{is_solid}
-use Rattle.qm_contacts.specs.Leak.{Origin, leaf_of, TakesPart}
+use Rattle.qm_contacts.specs.Leak.{Origin, leaf_of_origin, TakesPart}
 
 -- the leaf of that number is the one to which the point is led
-pub leaf_there : (tree : Tree) (origin : Origin) (k : ℕ) (found : Leaf) → k ≡ leaf_of tree origin → slice_get (leaves_of tree.shape) k ≡ Some found → found ≡ leaf_record_at tree.planes tree.shape origin.point
+pub leaf_there : (tree : Tree) (origin : Origin) (k : ℕ) (found : Leaf) → k ≡ leaf_of_origin tree origin → slice_get (leaves_of tree.shape) k ≡ Some found → found ≡ leaf_record_at tree.planes tree.shape origin.point
 leaf_there tree origin k found is at =
     let e : Some found ≡ Some (leaf_record_at tree.planes tree.shape origin.point) = sym at ∙ ap (slice_get (leaves_of tree.shape)) is ∙ leaf_of_number tree.planes tree.shape origin.point in
     cc

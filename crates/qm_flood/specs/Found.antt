@@ -7,7 +7,7 @@ use Rattle.qm_flood.specs.declared.answer.Flood.TheVariants.{Sealed, NoEntity, L
 
 -- what is found of a tree and of the entities that stand in it: the map is sealed, and the row has the leaves that are
 -- to be filled; or no entity takes part; or an entity leaks, and this is its trail
-abbrev pub IsFound : Tree → List Origin → Flood → Type 0
-IsFound tree origins (Sealed row) = IsSealed tree origins × IsFilledRow tree origins row
-IsFound tree origins NoEntity = NoneTakesPart tree origins
-IsFound tree origins (Leak entity trail) = IsLeak tree origins entity trail
+abbrev pub IsFloodOf : Tree → List Origin → Flood → Type 0
+IsFloodOf tree origins (Sealed row) = IsSealed tree origins × IsFilledRow tree origins row
+IsFloodOf tree origins NoEntity = NoneTakesPart tree origins
+IsFloodOf tree origins (Leak entity trail) = IsLeak tree origins entity trail

@@ -2,7 +2,7 @@ ghost use Rattle.std.specs.Prelude.{IfOk, IsTrue, ◌↔◌};
 ghost use Rattle.std.specs.List.{Any};
 ghost use Rattle.qm_contacts.specs.Contacts.{AreContacts};
 ghost use Rattle.qm_contacts.specs.Leak.{TakesPart, AreInOrder};
-ghost use Rattle.qm_flood.specs.Found.{IsFound};
+ghost use Rattle.qm_flood.specs.Found.{IsFloodOf};
 
 use crate::answer::Flood;
 use crate::filling::filled_row;
@@ -24,7 +24,7 @@ pub fn flood(
 ) -> Result<Flood, AllocError>
     requires contacts { AreContacts tree.now touches.now }
     requires in_order { AreInOrder origins.now }
-    ensures { IfOk result (λ flood. IsFound tree.now origins.now flood) }
+    ensures { IfOk result (λ flood. IsFloodOf tree.now origins.now flood) }
 {
     if !any_takes_part(tree, origins) {
         return Ok(Flood::NoEntity);

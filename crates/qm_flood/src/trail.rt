@@ -4,7 +4,7 @@ ghost use Rattle.std.specs.Prelude.{◌≡◌, ◌<◌, length, IfOk, IfSome, If
 ghost use Rattle.qm_lists.specs.inner.Steps.{steps_of};
 ghost use Rattle.qm_partition.specs.Tree.{Tree};
 ghost use Rattle.qm_contacts.specs.Leak.{IsTrail};
-ghost use Rattle.qm_contacts.specs.inner.Descends.{IsNearest};
+ghost use Rattle.qm_contacts.specs.inner.Descends.{IsNextOfTrail};
 ghost use Rattle.qm_flood.specs.inner.Stepping.{AreStepsOver};
 
 use qm_lists::Items;
@@ -36,7 +36,7 @@ pub(crate) fn trail_of(
 fn nearest(touches: &TouchList, steps: &[u64], leaf: u64) -> Option<u64>
     requires steps { (tree : Tree) × AreStepsOver tree touches.now steps.now }
     requires reached { 0 < steps_of steps.now leaf }
-    ensures some { (tree : Tree) → AreStepsOver tree touches.now steps.now → IfSome result (λ next. IsNearest tree steps.now leaf next) }
+    ensures some { (tree : Tree) → AreStepsOver tree touches.now steps.now → IfSome result (λ next. IsNextOfTrail tree steps.now leaf next) }
     ensures none { IfNone result (steps_of steps.now leaf ≡ 1) }
 {
     let wanted = steps_at(steps, leaf) - 1;

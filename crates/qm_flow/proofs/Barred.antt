@@ -14,7 +14,7 @@ use Rattle.qm_chains.specs.inner.Pairs.{Pairs, ArePairs}
 use Rattle.qm_chains.proofs.Beginnings.{none_clear}
 use Rattle.qm_chains.proofs.PairRows.{pairs_more, within_more}
 use Rattle.qm_chains.proofs.TriedPortals.{same_portal}
-use Rattle.qm_flow.specs.inner.LeadsBack.{LeadsBack}
+use Rattle.qm_contacts.specs.World.{LeadsBack}
 use Rattle.qm_flow.specs.inner.PairsGoOn.{PairsGoOn}
 use Rattle.qm_flow.specs.inner.UnseenVia.{IsUnseenVia}
 

@@ -2,11 +2,11 @@
 use Rattle.std.proofs.Common.{◌≡◌, ◌⊎◌, ⊎_elim, ℕ, ◌+◌, ◌*◌, ◌<◌, Bool, true, false, ◌||◌, List, length, get_or, set, replicate, sym, ap, ◌∙◌, subst, arith, inl, inr}
 use Rattle.std.proofs.lemmas.Bool.{cases_eq}
 use Rattle.std.proofs.lemmas.List.{ext_get_or, length-replicate, get_or-replicate}
-use Rattle.qm_bits.specs.Union.{IsUnion}
-use Rattle.qm_bits.specs.Word.{IsWord}
-use Rattle.qm_bits.proofs.Bits.{has_bit-zero}
+use Rattle.qm_lists.specs.Union.{IsUnion}
+use Rattle.qm_lists.specs.Word.{IsWord}
+use Rattle.qm_lists.proofs.Bits.{has_bit-zero}
 use Rattle.qm_lists.specs.WorkList.{IsIn}
-use Rattle.qm_chains.specs.inner.Cone.{IsCutTo}
+use Rattle.qm_lists.specs.CutTo.{IsCutTo}
 use Rattle.qm_chains.proofs.TriedPortals.{clear_if_not_in, gains_one}
 use Rattle.qm_chains.proofs.Beginnings.{none_clear}
 

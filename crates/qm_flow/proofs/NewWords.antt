@@ -2,7 +2,7 @@
 use Rattle.std.proofs.Common.{◌≡◌, ⊎_elim, ℕ, zero, suc, ◌+◌, ◌*◌, ◌/◌, ◌^◌, ◌<◌, Bool, true, false, List, [], ◌∷◌, ◌++◌, All, Contains, length, get_or, bit_and, w64, refl, sym, ap, ◌∙◌, subst, arith}
 use Rattle.std.specs.Int.{bit_not}
 use Rattle.std.proofs.lemmas.List.Elements.{All-push, Contains-append_left, Contains-append_right, Contains-append_cases}
-use Rattle.qm_bits.specs.Word.{has_bit, IsWord}
+use Rattle.qm_lists.specs.Word.{has_bit, IsWord}
 use Rattle.qm_lists.specs.WorkList.{IsIn}
 use Rattle.qm_lists.proofs.Elements.{Contains-first}
 use Rattle.qm_chains.specs.inner.Narrowing.{ShowsNothingNew, ShowsNothingNewUpTo}

@@ -2,7 +2,7 @@
 use Rattle.std.proofs.Common.{refl}
 use Rattle.qm_coarse_rows.proofs.RoomSamples.{out, in_again}
 use Rattle.qm_chains.proofs.ConeSamples.{world}
-use Rattle.qm_flow.specs.inner.LeadsBack.{LeadsBack}
+use Rattle.qm_contacts.specs.World.{LeadsBack}
 
 way_back : LeadsBack world.portals 0 1
-way_back = record { there = out; there_is = refl; again = in_again; again_is = refl; from_is = refl; to_is = refl }
+way_back = record { there = out; there_is = refl; again = in_again; again_is = refl; winding_is = refl; into_is = refl; from_is = refl; to_is = refl }

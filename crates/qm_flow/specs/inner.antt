@@ -3,7 +3,6 @@ pub mod CutFrame
 pub mod FirstFrame
 pub mod FirstMask
 pub mod FreshStack
-pub mod LeadsBack
 pub mod NewWords
 pub mod OfWorld
 pub mod OwnRow

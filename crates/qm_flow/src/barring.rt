@@ -4,7 +4,6 @@ ghost use Rattle.std.specs.Prelude.{◌≡◌, ◌<◌, Bool, List, false, lengt
 ghost use Rattle.qm_contacts.specs.NumberedLeaves.{numbered_leaves};
 ghost use Rattle.qm_chains.specs.inner.OwnRows.{IsInSightAt};
 ghost use Rattle.qm_chains.specs.inner.Pairs.{ArePairs};
-ghost use Rattle.qm_flow.specs.inner.LeadsBack.{LeadsBack};
 ghost use Rattle.qm_flow.specs.inner.PairsGoOn.{PairsGoOn};
 ghost use Rattle.qm_flow.specs.inner.UnseenVia.{IsUnseenVia};
 
@@ -55,29 +54,7 @@ fn is_unseen<S: RowSource>(world: &World, source: &mut S, first: u64, portal: u6
     ensures unseen { IsTrue result → IsUnseenVia world.now first portal }
     ensures on { S.goes_on source.old source.new }
 {
-    match portal_back(world, portal) {
-        None => false,
-        Some(back) => !may_see(source, back, world.from(first)),
-    }
-}
-
-/// The portal that leads back through another one. Portals stand in pairs, one each way.
-fn portal_back(world: &World, portal: u64) -> Option<u64>
-    requires { portal < length world.now.portals }
-    ensures back { IfSome result (LeadsBack world.now.portals portal) }
-    ensures within { IfSome result (λ back. back < length world.now.portals) }
-{
-    let back = portal ^ 1;
-    if back >= world.portals() {
-        return None;
-    }
-    if world.from(back) != world.to(portal) {
-        return None;
-    }
-    if world.to(back) != world.from(portal) {
-        return None;
-    }
-    Some(back)
+    !may_see(source, world.back(portal), world.from(first))
 }
 
 /// Whether a leaf may be in sight of a portal, as the source answers it.

@@ -3,7 +3,7 @@
 ghost use Rattle.std.specs.Prelude.{◌≡◌, ◌⊎◌, ◌<◌, true, false, length, replicate, slice_set, IfOk, OnOk};
 ghost use Rattle.qm_lists.specs.WorkList.{IsIn};
 ghost use Rattle.qm_contacts.specs.NumberedLeaves.{numbered_leaves};
-ghost use Rattle.qm_chains.specs.inner.Cone.{IsCutTo};
+ghost use Rattle.qm_lists.specs.CutTo.{IsCutTo};
 ghost use Rattle.qm_chains.specs.inner.Narrowing.{IsNarrowed, ShowsNothingNew};
 ghost use Rattle.qm_chains.specs.inner.OwnRows.{AreOwnRows, MustHave, CanHave};
 ghost use Rattle.qm_sight.specs.WordInSight.{ceiling_of};

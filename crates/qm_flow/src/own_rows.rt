@@ -1,7 +1,7 @@
 //! The rows that a flow has of its own, and how a row is read.
 
 ghost use Rattle.std.specs.Prelude.{ℕ, ◌≡◌, ◌<◌, ◌+◌, ◌*◌, length, replicate, true, None, slice_set, IfOk};
-ghost use Rattle.qm_bits.specs.Word.{has_bit};
+ghost use Rattle.qm_lists.specs.Word.{has_bit};
 ghost use Rattle.qm_contacts.specs.NumberedLeaves.{numbered_leaves};
 ghost use Rattle.qm_chains.specs.inner.OwnRows.{AreOwnRows, MustHave, CanHave};
 ghost use Rattle.qm_sight.specs.WordInSight.{ceiling_of};

@@ -8,7 +8,7 @@ use Rattle.std.proofs.lemmas.Nat.{le_bytes_4, le_bytes_8, from_le_bytes-to_le_by
 use Rattle.std.proofs.lemmas.Int.{to_z-of_z, of_z-to_z}
 use Rattle.qm_formats.specs.Fields.{AreBytes, are_bytes, raw, unsigned, signed, fits_signed, first_difference, fixed}
 use Rattle.qm_formats.specs.Layout.{got, bad, tested}
-use Rattle.qm_formats.specs.Exact.{StandsAt, IsFound, IsExact}
+use Rattle.qm_formats.specs.Exact.{StandsAt, IsRightAt, IsExact}
 use Rattle.qm_formats.proofs.ExactParts.{seen_as_exact, tested_exact}
 
 pub are_bytes-from : (bytes : List ℕ) → AreBytes bytes → are_bytes bytes ≡ true
@@ -37,7 +37,7 @@ part_stands file at n within =
     }
 
 module _ {F : Type 0} (short : F) (count : ℕ) where
-  found_raw : (file : List ℕ) (at : ℕ) (x : List ℕ) (next : ℕ) → AreBytes file → cond (ltb (length file) (at + count)) (bad short (length file)) (got (take count (drop at file)) (at + count)) ≡ got x next → IsFound (raw short count) file at x next
+  found_raw : (file : List ℕ) (at : ℕ) (x : List ℕ) (next : ℕ) → AreBytes file → cond (ltb (length file) (at + count)) (bad short (length file)) (got (take count (drop at file)) (at + count)) ≡ got x next → IsRightAt (raw short count) file at x next
   unfolding raw
   found_raw file at x next are is =
       elim (cases_lt (length file) (at + count)) [
@@ -47,14 +47,14 @@ module _ {F : Type 0} (short : F) (count : ℕ) where
             let value : take count (drop at file) ≡ x = cc in
             let place : at + count ≡ next = cc in
             let long : length (take count (drop at file)) ≡ count = omega (arith, length-take count (drop at file), length-drop at file, within) in
-            let found : IsFound (raw short count) file at (take count (drop at file)) (at + count) = record {
+            let found : IsRightAt (raw short count) file at (take count (drop at file)) (at + count) = record {
               right = and_from (eqb (length (take count (drop at file))) count) (are_bytes (take count (drop at file))) (eq-eqb (length (take count (drop at file))) count long) (are_bytes-from (take count (drop at file)) (bytes_of_part file at count are));
               stands = part_stands file at count within;
             } in
-            subst (λ (n : ℕ). IsFound (raw short count) file at x n) place (subst (λ (v : List ℕ). IsFound (raw short count) file at v (at + count)) value found)
+            subst (λ (n : ℕ). IsRightAt (raw short count) file at x n) place (subst (λ (v : List ℕ). IsRightAt (raw short count) file at v (at + count)) value found)
       ]
 
-  again_raw : (file : List ℕ) (at : ℕ) (x : List ℕ) (next : ℕ) → IsFound (raw short count) file at x next → cond (ltb (length file) (at + count)) (bad short (length file)) (got (take count (drop at file)) (at + count)) ≡ got x next
+  again_raw : (file : List ℕ) (at : ℕ) (x : List ℕ) (next : ℕ) → IsRightAt (raw short count) file at x next → cond (ltb (length file) (at + count)) (bad short (length file)) (got (take count (drop at file)) (at + count)) ≡ got x next
   unfolding raw
   again_raw file at x next found =
       let long : length x ≡ count = eqb-true (length x) count (and_parts (eqb (length x) count) (are_bytes x) found.right).0 in

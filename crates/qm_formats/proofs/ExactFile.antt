@@ -17,7 +17,7 @@ use Rattle.qm_formats.specs.Layout.{Layout, right_each, right_option, each, many
 use Rattle.qm_formats.specs.Fields.{unsigned, fixed}
 use Rattle.qm_formats.specs.Exact.{IsExact}
 use Rattle.qm_formats.specs.FileParts.{short, magic, counts, node_order, plane_layout, node_layout, leaf_layout}
-use Rattle.qm_formats.specs.FileLayout.{Header, count_layout, flag_layout, header_layout, are_numbered, are_ordered, own_row, planes_layout, nodes_layout, leaves_layout, rows_layout, tree_layout, header_of, file_layout}
+use Rattle.qm_formats.specs.FileLayout.{Header, count_layout, flag_layout, file_header_layout, are_numbered, are_ordered, own_row_layout, planes_layout, nodes_layout, leaves_layout, rows_layout, tree_layout, header_of, file_layout}
 use Rattle.qm_formats.proofs.ExactParts.{recast_exact, tested_exact, part_exact, last_part_exact, IsAny, exact_of_parts, each_exact, present_exact}
 use Rattle.qm_formats.proofs.ExactFields.{byte_exact, unsigned_64_exact, fixed_exact}
 use Rattle.qm_formats.proofs.ExactRecords.{plane_exact, node_exact, leaf_exact, flag_number, number_flag}
@@ -31,8 +31,8 @@ flag_exact : IsExact flag_layout
 flag_exact =
     recast_exact _ _ _ (tested_exact (λ n. leb n 1) counts (λ _ at. at) (unsigned short w8) (byte_exact short)) (λ n right. flag_number n (and_parts ((unsigned short w8).right n) (leb n 1) right).1) (λ flag right. number_flag flag)
 
-pub header_exact : IsExact header_layout
-unfolding header_layout
+pub header_exact : IsExact file_header_layout
+unfolding file_header_layout
 header_exact =
     exact_of_parts _ (
     part_exact _ _ _ _ (fixed_exact short magic (codes "QMTREE01") refl) (λ fixed_bytes _.
@@ -64,7 +64,7 @@ leaves_exact header =
 
 pub rows_exact : (header : Header) → IsExact (rows_layout header)
 unfolding rows_layout
-rows_exact header = present_exact (each (own_row header.numbered) header.numbered) (each_exact (own_row header.numbered) (own_row_exact header.numbered) 0 header.numbered) header.has_rows
+rows_exact header = present_exact (each (own_row_layout header.numbered) header.numbered) (each_exact (own_row_layout header.numbered) (own_row_exact header.numbered) 0 header.numbered) header.has_rows
 
 -- right values are as many as are due
 pub right_each_length : {F X : Type 0} (layout : ℕ → Layout F X) (k count : ℕ) (xs : List X) → right_each layout k count xs ≡ true → length xs ≡ count
@@ -84,8 +84,8 @@ pub record AreRightCounts (header : Header) : Type 0 where
   pub few_planes : header.planes < 2 ^ 32
   pub one_leaf_more : header.leaves ≡ header.nodes + 1
 
-pub right_counts : (header : Header) → header_layout.right header ≡ true → AreRightCounts header
-unfolding header_layout
+pub right_counts : (header : Header) → file_header_layout.right header ≡ true → AreRightCounts header
+unfolding file_header_layout
 right_counts header right =
     let flag = flag_layout.right header.has_rows in
     let numbered = (count_layout (λ numbered. leb numbered header.leaves)).right header.numbered && flag in
@@ -103,7 +103,7 @@ right_counts header right =
 
 -- planes, nodes and leaves that can stand in a file, each by itself
 pub record CanStand (header : Header) (planes : List Plane) (nodes : List NodeRecord) (leaves : List LeafRecord) : Type 0 where
-  pub of_header : header_layout.right header ≡ true
+  pub of_header : file_header_layout.right header ≡ true
   pub of_planes : (planes_layout header).right planes ≡ true
   pub of_nodes : (nodes_layout header).right nodes ≡ true
   pub of_leaves : (leaves_layout header).right leaves ≡ true
@@ -155,7 +155,7 @@ counted_parts header planes nodes leaves can =
     }
 
 -- the parts of a tree that can stand in a file can
-pub stand_of_tree : (header : Header) (tree : Tree) → header_layout.right header ≡ true → (tree_layout header).right tree ≡ true → CanStand header tree.planes (nodes_of tree.shape 0 0) (leaves_of tree.shape)
+pub stand_of_tree : (header : Header) (tree : Tree) → file_header_layout.right header ≡ true → (tree_layout header).right tree ≡ true → CanStand header tree.planes (nodes_of tree.shape 0 0) (leaves_of tree.shape)
 unfolding tree_layout
 stand_of_tree header tree right_header right =
     let nodes = nodes_of tree.shape 0 0 in
@@ -171,7 +171,7 @@ own_tree tree =
     let own = partition_of-numbered tree.shape (nodes_of tree.shape 0 0) (leaves_of tree.shape) (record { nodes_are = refl; leaves_are = refl }) in
     λ i. record { planes = tree.planes; shape = own i }
 
-pub tree_exact : (header : Header) → header_layout.right header ≡ true → IsExact (tree_layout header)
+pub tree_exact : (header : Header) → file_header_layout.right header ≡ true → IsExact (tree_layout header)
 unfolding tree_layout
 tree_exact header of_header =
     exact_of_parts _ (
@@ -183,11 +183,11 @@ tree_exact header of_header =
     (λ i. tree_of (sym known.before.is i) (sym known.is i) (leaves_of tree.shape)) ∙ own_tree tree))))
 
 -- the header is that of the tree and the rows behind it
-own_header : (header : Header) (tree : Tree) (rows : Option (List (List Bool))) → header_layout.right header ≡ true → (tree_layout header).right tree ≡ true → (rows_layout header).right rows ≡ true → header_of (record { tree = tree; rows = rows }) ≡ header
+own_header : (header : Header) (tree : Tree) (rows : Option (List (List Bool))) → file_header_layout.right header ≡ true → (tree_layout header).right tree ≡ true → (rows_layout header).right rows ≡ true → header_of (record { tree = tree; rows = rows }) ≡ header
 unfolding rows_layout
 own_header header tree rows of_header of_tree of_rows =
     let are = counted_parts header tree.planes (nodes_of tree.shape 0 0) (leaves_of tree.shape) (stand_of_tree header tree of_header of_tree) in
-    let there = right_option_there (each (own_row header.numbered) header.numbered) header.has_rows rows of_rows in
+    let there = right_option_there (each (own_row_layout header.numbered) header.numbered) header.has_rows rows of_rows in
     λ i. record { planes = are.plane_count i; nodes = are.node_count i; leaves = are.leaf_count i; numbered = are.numbered_count i; has_rows = there i }
 
 pub file_exact : IsExact file_layout

@@ -4,7 +4,7 @@ use Rattle.std.specs.Prelude.{IsTrue}
 use Rattle.std.proofs.lemmas.Bool.{and_parts, and_from}
 use Rattle.qm_formats.specs.Fields.{AreBytes}
 use Rattle.qm_formats.specs.Layout.{Answer, got, bad, Layout, answer_map, answer_then, seen_as, recast, tested, both, pair, part, last_part, each_from, present}
-use Rattle.qm_formats.specs.Exact.{StandsAt, IsFound, IsExact}
+use Rattle.qm_formats.specs.Exact.{StandsAt, IsRightAt, IsExact}
 use Rattle.qm_formats.proofs.Standing.{stands_nothing, stands_both, stands_first, stands_second}
 
 -- where an answer is a value, so were the answers that it was made of
@@ -24,9 +24,9 @@ chosen_got true x mid fault place y next is = (refl, cc, cc)
 chosen_got false x mid fault place y next is = absurd (cc)
 
 -- the value of what is found
-found_as : {F X : Type 0} (layout : Layout F X) (file : List ℕ) (at : ℕ) (x y : X) (mid next : ℕ) → x ≡ y → mid ≡ next → IsFound layout file at x mid → IsFound layout file at y next
+found_as : {F X : Type 0} (layout : Layout F X) (file : List ℕ) (at : ℕ) (x y : X) (mid next : ℕ) → x ≡ y → mid ≡ next → IsRightAt layout file at x mid → IsRightAt layout file at y next
 found_as layout file at x y mid next same place found =
-    subst (λ (n : ℕ). IsFound layout file at y n) place (subst (λ (v : _). IsFound layout file at v mid) same found)
+    subst (λ (n : ℕ). IsRightAt layout file at y n) place (subst (λ (v : _). IsRightAt layout file at v mid) same found)
 
 pub seen_as_exact :
     {F X Y : Type 0} (to : Y → X) (from : X → Y) (right : X → Bool) (inner : Layout F Y) →
@@ -80,11 +80,11 @@ both_exact first second exact exact_second =
           let other = map_got (λ (y : _). (one.0, y)) ((second one.0).read file one.1) v next one.3 in
           let front = exact.found file at one.0 one.1 are within one.2 in
           let behind = (exact_second one.0).found file one.1 other.0 next are front.stands.within other.1 in
-          let whole : IsFound (both first second) file at (one.0, other.0) next = record {
+          let whole : IsRightAt (both first second) file at (one.0, other.0) next = record {
             right = and_from (first.right one.0) ((second one.0).right other.0) front.right behind.right;
             stands = stands_both file at (first.bytes_of one.0) one.1 ((second one.0).bytes_of other.0) next front.stands behind.stands;
           } in
-          subst (λ (w : _). IsFound (both first second) file at w next) other.2 whole;
+          subst (λ (w : _). IsRightAt (both first second) file at w next) other.2 whole;
       again = λ file at v next found.
           let rights = and_parts (first.right v.0) ((second v.0).right v.1) found.right in
           let p = first.bytes_of v.0 in
@@ -99,8 +99,8 @@ pair_exact first second exact other = both_exact first (λ _. second) exact (λ 
 
 -- a value is read exactly where it is right, its bytes stand, and something more holds of it; what is read is so
 pub record IsExactWhere {F Y : Type 0} (holds : Y → Type 0) (layout : Layout F Y) : Type 0 where
-  pub found : (file : List ℕ) (at : ℕ) (y : Y) (next : ℕ) → AreBytes file → at ≤ length file → layout.read file at ≡ got y next → holds y × IsFound layout file at y next
-  pub again : (file : List ℕ) (at : ℕ) (y : Y) (next : ℕ) → holds y → IsFound layout file at y next → layout.read file at ≡ got y next
+  pub found : (file : List ℕ) (at : ℕ) (y : Y) (next : ℕ) → AreBytes file → at ≤ length file → layout.read file at ≡ got y next → holds y × IsRightAt layout file at y next
+  pub again : (file : List ℕ) (at : ℕ) (y : Y) (next : ℕ) → holds y → IsRightAt layout file at y next → layout.read file at ≡ got y next
 
 -- what more is known of a value, one of whose parts is read
 pub record IsKnown {X Y : Type 0} (holds : Y → Type 0) (of : Y → X) (x : X) (y : Y) : Type 0 where
@@ -139,11 +139,11 @@ module _ {F X Y : Type 0} (holds : Y → Type 0) (of : Y → X) where
             let front = exact.found file at value.0 next are within value.1 in
             let made = known value.0 front.right in
             let same = sym made.is in
-            let found : IsFound (last_part of last make) file at (make value.0) next = record {
+            let found : IsRightAt (last_part of last make) file at (make value.0) next = record {
               right = subst (λ (x : X). IsTrue (last.right x)) same front.right;
               stands = subst (λ (x : X). StandsAt file at (last.bytes_of x) next) same front.stands;
             } in
-            subst (λ (z : Y). holds z × IsFound (last_part of last make) file at z next) value.2 (made.before, found);
+            subst (λ (z : Y). holds z × IsRightAt (last_part of last make) file at z next) value.2 (made.before, found);
         again = λ file at y next held found.
             ap (answer_map make) (exact.again file at (of y) next (record { right = found.right; stands = found.stands })) ∙ ap (λ (z : Y). got z next) (back y held);
       }
@@ -160,7 +160,7 @@ exact_of_parts layout exact =
     }
 
 module _ {F X : Type 0} (layout : ℕ → Layout F X) (exact : (k : ℕ) → IsExact (layout k)) where
-  found_each : (k count : ℕ) (file : List ℕ) (at : ℕ) (xs : List X) (next : ℕ) → AreBytes file → at ≤ length file → (each_from layout k count).read file at ≡ got xs next → IsFound (each_from layout k count) file at xs next
+  found_each : (k count : ℕ) (file : List ℕ) (at : ℕ) (xs : List X) (next : ℕ) → AreBytes file → at ≤ length file → (each_from layout k count).read file at ≡ got xs next → IsRightAt (each_from layout k count) file at xs next
   found_each k zero file at xs next are within is =
       let none : [] ≡ xs = cc in
       let place : at ≡ next = cc in
@@ -177,7 +177,7 @@ module _ {F X : Type 0} (layout : ℕ → Layout F X) (exact : (k : ℕ) → IsE
       }
       )
 
-  again_each : (k count : ℕ) (file : List ℕ) (at : ℕ) (xs : List X) (next : ℕ) → IsFound (each_from layout k count) file at xs next → (each_from layout k count).read file at ≡ got xs next
+  again_each : (k count : ℕ) (file : List ℕ) (at : ℕ) (xs : List X) (next : ℕ) → IsRightAt (each_from layout k count) file at xs next → (each_from layout k count).read file at ≡ got xs next
   again_each k zero file at [] next found = ap (got []) (let e = found.stands.ends in omega (arith, e))
   again_each k zero file at (x ∷ xs) next found = absurd (let e = found.right in cc)
   again_each k (suc count) file at [] next found = absurd (let e = found.right in cc)
@@ -194,7 +194,7 @@ module _ {F X : Type 0} (layout : ℕ → Layout F X) (exact : (k : ℕ) → IsE
   each_exact k count = record { found = found_each k count; again = again_each k count }
 
 module _ {F X : Type 0} (layout : Layout F X) (exact : IsExact layout) where
-  found_option : (is_there : Bool) (file : List ℕ) (at : ℕ) (x : Option X) (next : ℕ) → AreBytes file → at ≤ length file → (present layout is_there).read file at ≡ got x next → IsFound (present layout is_there) file at x next
+  found_option : (is_there : Bool) (file : List ℕ) (at : ℕ) (x : Option X) (next : ℕ) → AreBytes file → at ≤ length file → (present layout is_there).read file at ≡ got x next → IsRightAt (present layout is_there) file at x next
   found_option true file at x next are within is =
       let value = map_got (λ (v : X). Some v) (layout.read file at) x next is in
       let found = exact.found file at value.0 next are within value.1 in
@@ -204,7 +204,7 @@ module _ {F X : Type 0} (layout : Layout F X) (exact : IsExact layout) where
       let place : at ≡ next = cc in
       found_as (present layout false) file at None x at next none place (record { right = refl; stands = stands_nothing file at within })
 
-  again_option : (is_there : Bool) (file : List ℕ) (at : ℕ) (x : Option X) (next : ℕ) → IsFound (present layout is_there) file at x next → (present layout is_there).read file at ≡ got x next
+  again_option : (is_there : Bool) (file : List ℕ) (at : ℕ) (x : Option X) (next : ℕ) → IsRightAt (present layout is_there) file at x next → (present layout is_there).read file at ≡ got x next
   again_option true file at (Some x) next found = ap (answer_map (λ (v : X). Some v)) (exact.again file at x next (record { right = found.right; stands = found.stands }))
   again_option true file at None next found = absurd (let e = found.right in cc)
   again_option false file at (Some x) next found = absurd (let e = found.right in cc)

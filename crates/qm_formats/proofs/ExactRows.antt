@@ -4,12 +4,12 @@ use Rattle.std.proofs.lemmas.Bool.{and_parts, and_from, lt-ltb, eq-eqb, eqb-true
 use Rattle.std.proofs.lemmas.List.{length-drop, get_or-drop}
 use Rattle.qm_formats.specs.Fields.{AreBytes, are_bytes}
 use Rattle.qm_formats.specs.Layout.{got}
-use Rattle.qm_formats.specs.Exact.{StandsAt, IsFound, IsExact}
-use Rattle.qm_formats.specs.Runs.{Spells, RunFaultKind, short, zero_count, split_run, overrun, read_runs, runs_of, row_answer, in_runs}
+use Rattle.qm_formats.specs.Exact.{StandsAt, IsRightAt, IsExact}
+use Rattle.qm_formats.specs.Runs.{SpellsRow, RunFaultKind, short, zero_count, split_run, overrun, read_runs, runs_of, row_answer, in_runs}
 use Rattle.qm_formats.specs.RowBits.{row_width, packed, unpacked, is_clear_past, row_bits}
 use Rattle.qm_formats.specs.FileParts.{row_form}
 use Rattle.qm_formats.specs.FileParts as parts
-use Rattle.qm_formats.specs.FileLayout.{own_row}
+use Rattle.qm_formats.specs.FileLayout.{own_row_layout}
 use Rattle.qm_formats.proofs.Spellings.{spells_runs_of, runs_of-spelt}
 use Rattle.qm_formats.proofs.ReadRows.{read_runs_found, read_runs_again}
 use Rattle.qm_formats.proofs.ExactParts.{seen_as_exact, tested_exact}
@@ -21,7 +21,7 @@ zeros_are_bytes zero row are = are
 zeros_are_bytes (suc n) row are = zeros_are_bytes n row are
 
 -- what bytes spell are bytes
-spelt_bytes : (bytes row : List ℕ) → AreBytes bytes → Spells bytes row → are_bytes row ≡ true
+spelt_bytes : (bytes row : List ℕ) → AreBytes bytes → SpellsRow bytes row → are_bytes row ≡ true
 spelt_bytes [] row are h = ap are_bytes h
 spelt_bytes (suc byte ∷ bytes) row are h =
     ap are_bytes h.1 ∙ and_from (ltb (suc byte) 256) (are_bytes h.0) (lt-ltb (suc byte) 256 (are 0)) (spelt_bytes bytes h.0 (λ i. are (suc i)) h.2)
@@ -36,7 +36,7 @@ row_answer_got end form file at (Err split_run) x next is = absurd (cc)
 row_answer_got end form file at (Err overrun) x next is = absurd (cc)
 
 module _ {F : Type 0} (end form : F) (width : ℕ) where
-  found_runs : (file : List ℕ) (at : ℕ) (x : List ℕ) (next : ℕ) → AreBytes file → at ≤ length file → row_answer end form file at (read_runs width (drop at file)) ≡ got x next → IsFound (in_runs end form width) file at x next
+  found_runs : (file : List ℕ) (at : ℕ) (x : List ℕ) (next : ℕ) → AreBytes file → at ≤ length file → row_answer end form file at (read_runs width (drop at file)) ≡ got x next → IsRightAt (in_runs end form width) file at x next
   unfolding in_runs
   found_runs file at x next are within is =
       let value = row_answer_got end form file at (read_runs width (drop at file)) x next is in
@@ -47,13 +47,13 @@ module _ {F : Type 0} (end form : F) (width : ℕ) where
       let part : AreBytes (take used (drop at file)) = bytes_of_part file at used are in
       let spelt = runs_of-spelt (take used (drop at file)) row read.spelt in
       let stands = part_stands file at used (omega (arith, read.within, length-drop at file, within)) in
-      let found : IsFound (in_runs end form width) file at row (at + used) = record {
+      let found : IsRightAt (in_runs end form width) file at row (at + used) = record {
         right = and_from (eqb (length row) width) (are_bytes row) (eq-eqb (length row) width read.width) (spelt_bytes (take used (drop at file)) row part read.spelt);
         stands = subst (λ (xs : List ℕ). StandsAt file at xs (at + used)) spelt stands;
       } in
-      subst (λ (n : ℕ). IsFound (in_runs end form width) file at x n) value.3 (subst (λ (v : List ℕ). IsFound (in_runs end form width) file at v (at + used)) value.2 found)
+      subst (λ (n : ℕ). IsRightAt (in_runs end form width) file at x n) value.3 (subst (λ (v : List ℕ). IsRightAt (in_runs end form width) file at v (at + used)) value.2 found)
 
-  again_runs : (file : List ℕ) (at : ℕ) (x : List ℕ) (next : ℕ) → IsFound (in_runs end form width) file at x next → row_answer end form file at (read_runs width (drop at file)) ≡ got x next
+  again_runs : (file : List ℕ) (at : ℕ) (x : List ℕ) (next : ℕ) → IsRightAt (in_runs end form width) file at x next → row_answer end form file at (read_runs width (drop at file)) ≡ got x next
   unfolding in_runs
   again_runs file at x next found =
       let long = eqb-true (length x) width (and_parts (eqb (length x) width) (are_bytes x) found.right).0 in
@@ -79,6 +79,6 @@ module _ {F : Type 0} (end form : F) (places : ℕ) where
         and_from (eqb (length (packed row)) (row_width places) && are_bytes (packed row)) (is_clear_past places (packed row)) (and_from (eqb (length (packed row)) (row_width places)) (are_bytes (packed row)) (eq-eqb (length (packed row)) (row_width places) wide) (are_bytes-from (packed row) (packed-bytes row))) (subst (λ (n : ℕ). is_clear_past n (packed row) ≡ true) long (packed-clear row)),
       ))
 
-pub own_row_exact : (places k : ℕ) → IsExact (own_row places k)
-unfolding own_row
+pub own_row_exact : (places k : ℕ) → IsExact (own_row_layout places k)
+unfolding own_row_layout
 own_row_exact places k = tested_exact (λ row. get_or row k false) row_form (λ _ at. at) (row_bits parts.short row_form places) (row_bits_exact parts.short row_form places)

@@ -3,7 +3,7 @@ use Rattle.std.proofs.Common.{◌≡◌, ◌<◌, ◌≤◌, ℕ, zero, suc, ◌
 use Rattle.std.proofs.lemmas.Bool.{cases_lt, lt-ltb, le-ltb}
 use Rattle.std.proofs.lemmas.List.{append-nil, length-append, length-replicate}
 use Rattle.qm_formats.specs.Fields.{AreBytes}
-use Rattle.qm_formats.specs.Runs.{BeginsNonzero, Spells, RunFaultKind, short, zero_count, split_run, overrun, read_behind, read_due, read_runs}
+use Rattle.qm_formats.specs.Runs.{BeginsNonzero, SpellsRow, RunFaultKind, short, zero_count, split_run, overrun, read_behind, read_due, read_runs}
 use Rattle.qm_formats.specs.FirstWrong.{BeginsSpelling, IsWrongAs, IsFirstWrong, EndTooEarly, IsFaultOf}
 use Rattle.qm_formats.proofs.ReadRows.{read_runs_again}
 
@@ -13,7 +13,7 @@ record GoesOn (due : ℕ) (behind_run : Bool) (front : List ℕ) : Type 0 where
   row : List ℕ
   long : length row ≡ due
   begins : behind_run ≡ true → BeginsNonzero row
-  spelt : Spells (front ++ more) row
+  spelt : SpellsRow (front ++ more) row
 
 -- where the first wrong byte stands, and that what stands behind it does not matter
 record WrongDue (due : ℕ) (behind_run : Bool) (bytes : List ℕ) (fault : RunFaultKind) : Type 0 where
@@ -22,7 +22,7 @@ record WrongDue (due : ℕ) (behind_run : Bool) (bytes : List ℕ) (fault : RunF
   begun : List ℕ
   byte : ℕ
   behind : List ℕ
-  spelt : Spells whole row
+  spelt : SpellsRow whole row
   begins : behind_run ≡ true → BeginsNonzero row
   wrong : IsWrongAs fault begun byte
   stands : bytes ≡ (whole ++ begun) ++ byte ∷ behind
@@ -35,7 +35,7 @@ FaultDue due behind_run bytes zero_count = WrongDue due behind_run bytes zero_co
 FaultDue due behind_run bytes split_run = WrongDue due behind_run bytes split_run
 FaultDue due behind_run bytes overrun = WrongDue due behind_run bytes overrun
 
-ones_spelt : (n : ℕ) → Spells (replicate n 1) (replicate n 1)
+ones_spelt : (n : ℕ) → SpellsRow (replicate n 1) (replicate n 1)
 ones_spelt zero = refl
 ones_spelt (suc n) = (replicate n 1, refl, ones_spelt n)
 
@@ -160,7 +160,7 @@ fault_due (suc due) false (zero ∷ suc count ∷ bytes) fault are is =
 begins_with : (width : ℕ) (front : List ℕ) → GoesOn width false front → BeginsSpelling width front
 begins_with width front on = (on.more, on.row, on.long, on.spelt)
 
-read_again : (width : ℕ) (spelling row : List ℕ) → Spells spelling row → length row ≡ width → read_due width false spelling ≡ Ok (row, length spelling)
+read_again : (width : ℕ) (spelling row : List ℕ) → SpellsRow spelling row → length row ≡ width → read_due width false spelling ≡ Ok (row, length spelling)
 unfolding read_runs
 read_again width spelling row spells long = ap (read_due width false) (sym (append-nil spelling)) ∙ read_runs_again spelling row [] width spells long
 

@@ -3,13 +3,13 @@ use Rattle.std.proofs.Common.{◌≡◌, ◌<◌, ◌≤◌, ℕ, zero, suc, ◌
 use Rattle.std.proofs.lemmas.Bool.{cases_lt, lt-ltb, le-ltb, ltb-true}
 use Rattle.std.proofs.lemmas.List.{length-append, length-replicate}
 use Rattle.qm_formats.specs.Fields.{AreBytes}
-use Rattle.qm_formats.specs.Runs.{BeginsNonzero, Spells, RunFaultKind, overrun, read_behind, read_due, read_runs}
+use Rattle.qm_formats.specs.Runs.{BeginsNonzero, SpellsRow, RunFaultKind, overrun, read_behind, read_due, read_runs}
 use Rattle.qm_formats.proofs.Spellings.{one_spelling}
 
 -- a row of that width is spelt by the first bytes
 pub record IsReadDue (due : ℕ) (behind_run : Bool) (bytes row : List ℕ) (used : ℕ) : Type 0 where
   pub within : used ≤ length bytes
-  pub spelt : Spells (take used bytes) row
+  pub spelt : SpellsRow (take used bytes) row
   pub width : length row ≡ due
   pub begins : behind_run ≡ true → BeginsNonzero row
 
@@ -41,7 +41,7 @@ read_due_found (suc due) behind_run (suc byte ∷ bytes) x are h =
     let one : x.1 ≡ suc read.0.1 = omega (arith, read.3) in
     record {
       within = omega (arith, one, behind.within);
-      spelt = subst (λ (n : ℕ). Spells (take n (suc byte ∷ bytes)) x.0) (sym one) (read.0.0, read.2, behind.spelt);
+      spelt = subst (λ (n : ℕ). SpellsRow (take n (suc byte ∷ bytes)) x.0) (sym one) (read.0.0, read.2, behind.spelt);
       width = ap length read.2 ∙ ap (λ (n : ℕ). suc n) behind.width;
       begins = λ _. subst BeginsNonzero (sym read.2) tt;
     }
@@ -56,12 +56,12 @@ read_due_found (suc due) false (zero ∷ suc count ∷ bytes) x are h =
     let small : suc count < 256 = are 1 in
     record {
       within = omega (arith, two, behind.within);
-      spelt = subst (λ (n : ℕ). Spells (take n (zero ∷ suc count ∷ bytes)) x.0) (sym two) (read.0.0, read.2, omega arith, omega (arith, small), λ less. behind.begins (lt-ltb (suc count) 255 less), behind.spelt);
+      spelt = subst (λ (n : ℕ). SpellsRow (take n (zero ∷ suc count ∷ bytes)) x.0) (sym two) (read.0.0, read.2, omega arith, omega (arith, small), λ less. behind.begins (lt-ltb (suc count) 255 less), behind.spelt);
       width = ap length read.2 ∙ length-append (replicate (suc count) zero) read.0.0 ∙ omega (arith, length-replicate (suc count) zero, behind.width, fits.0);
       begins = λ no. absurd (cc no);
     }
 
-read_due_row : (bytes row rest : List ℕ) (width : ℕ) (behind_run : Bool) → Spells bytes row → length row ≡ width → (behind_run ≡ true → BeginsNonzero row) → read_due width behind_run (bytes ++ rest) ≡ Ok (row, length bytes)
+read_due_row : (bytes row rest : List ℕ) (width : ℕ) (behind_run : Bool) → SpellsRow bytes row → length row ≡ width → (behind_run ≡ true → BeginsNonzero row) → read_due width behind_run (bytes ++ rest) ≡ Ok (row, length bytes)
 read_due_row [] row rest zero behind_run h long begins = ap (λ (xs : List ℕ). Ok (xs, 0)) (sym h)
 read_due_row [] row rest (suc width) behind_run h long begins = absurd (omega (arith, long, ap length h))
 read_due_row (suc byte ∷ bytes) row rest zero behind_run h long begins = absurd (omega (arith, long, ap length h.1))
@@ -82,7 +82,7 @@ read_due_row (zero ∷ suc count ∷ bytes) row rest (suc width) false h long be
     ∙ ap (read_behind run 2) behind
     ∙ ap (λ (v : List ℕ × ℕ). Ok v) (ap (λ (xs : List ℕ). (xs, 2 + length bytes)) (sym h.1) ∙ ap (λ (n : ℕ). (row, n)) (omega arith))
 
-pub read_runs_again : (bytes row rest : List ℕ) (width : ℕ) → Spells bytes row → length row ≡ width → read_runs width (bytes ++ rest) ≡ Ok (row, length bytes)
+pub read_runs_again : (bytes row rest : List ℕ) (width : ℕ) → SpellsRow bytes row → length row ≡ width → read_runs width (bytes ++ rest) ≡ Ok (row, length bytes)
 unfolding read_runs
 read_runs_again bytes row rest width h long = read_due_row bytes row rest width false h long (λ no. absurd (cc no))
 
@@ -91,11 +91,11 @@ unfolding read_runs
 read_runs_found width bytes x are h = read_due_found width false bytes x are h
 
 -- no spelling of a row begins that of another row of the same width
-pub no_prefix : (a b x y row other : List ℕ) → Spells a row → Spells b other → length row ≡ length other → a ++ x ≡ b ++ y → (a ≡ b) × (row ≡ other)
+pub no_prefix : (a b x y row other : List ℕ) → SpellsRow a row → SpellsRow b other → length row ≡ length other → a ++ x ≡ b ++ y → (a ≡ b) × (row ≡ other)
 no_prefix a b x y row other of_a of_b long same =
     let read_a = read_runs_again a row x (length row) of_a refl in
     let read_b = read_runs_again b other y (length row) of_b (sym long) in
     let read = sym read_a ∙ ap (read_runs (length row)) same ∙ read_b in
     let both : (row, length a) ≡ (other, length b) = cc read in
     let rows = ap (λ (v : List ℕ × ℕ). v.0) both in
-    (one_spelling a b row of_a (subst (Spells b) (sym rows) of_b), rows)
+    (one_spelling a b row of_a (subst (SpellsRow b) (sym rows) of_b), rows)

@@ -21,7 +21,7 @@ use Rattle.qm_formats.specs.Layout.{Layout, right_each}
 use Rattle.qm_formats.specs.Fields.{signed, unsigned, fits_signed}
 use Rattle.qm_formats.specs.RowBits.{row_bits}
 use Rattle.qm_formats.specs.FileParts.{is_plane, plane_layout, child_layout, node_layout, is_leaf, leaf_layout}
-use Rattle.qm_formats.specs.FileLayout.{own_row}
+use Rattle.qm_formats.specs.FileLayout.{own_row_layout}
 use Rattle.qm_formats.proofs.ChildNumbers.{IsBelow, HasBelow}
 
 -- ---- values one behind the other
@@ -161,12 +161,12 @@ right_leaf found right = contents_by_right found.contents found.filled right
 
 -- ---- rows
 
-pub row_right : (places k : ℕ) (row : List Bool) → length row ≡ places → get_or row k false ≡ true → (own_row places k).right row ≡ true
-unfolding own_row row_bits
+pub row_right : (places k : ℕ) (row : List Bool) → length row ≡ places → get_or row k false ≡ true → (own_row_layout places k).right row ≡ true
+unfolding own_row_layout row_bits
 row_right places k row long own = and_from (eqb (length row) places) (get_or row k false) (eq-eqb (length row) places long) own
 
-pub right_row : (places k : ℕ) (row : List Bool) → (own_row places k).right row ≡ true → (length row ≡ places) × (get_or row k false ≡ true)
-unfolding own_row row_bits
+pub right_row : (places k : ℕ) (row : List Bool) → (own_row_layout places k).right row ≡ true → (length row ≡ places) × (get_or row k false ≡ true)
+unfolding own_row_layout row_bits
 right_row places k row right =
     let both = and_parts (eqb (length row) places) (get_or row k false) right in
     (eqb-true (length row) places both.0, both.1)

@@ -3,30 +3,30 @@ use Rattle.std.proofs.Common.{◌≡◌, ◌≢◌, ◌<◌, ◌≤◌, Some, No
 use Rattle.std.proofs.lemmas.Bool.{cases_order, cases_eq, eq-eqb, ne_eqb}
 use Rattle.std.proofs.lemmas.List.{append_cancel_left}
 use Rattle.std.specs.List.{slice_get}
-use Rattle.qm_formats.specs.Runs.{BeginsNonzero, Spells, zero_before, runs_of}
+use Rattle.qm_formats.specs.Runs.{BeginsNonzero, SpellsRow, zero_before, runs_of}
 
 zero_through : (n : ℕ) (rest : List ℕ) → zero ∷ (replicate n zero ++ rest) ≡ replicate n zero ++ zero ∷ rest
 zero_through zero rest = refl
 zero_through (suc n) rest = ap (λ (xs : List ℕ). zero ∷ xs) (zero_through n rest)
 
 -- what is spelt is spelt with a zero in front
-spells_zero_before : (bytes row : List ℕ) → Spells bytes row → Spells (zero_before bytes) (zero ∷ row)
+spells_zero_before : (bytes row : List ℕ) → SpellsRow bytes row → SpellsRow (zero_before bytes) (zero ∷ row)
 spells_zero_before [] row h = (row, refl, omega arith, omega arith, λ _. subst BeginsNonzero (sym h) tt, h)
 spells_zero_before (suc byte ∷ bytes) row h = (row, refl, omega arith, omega arith, λ _. subst BeginsNonzero (sym h.1) tt, h)
 spells_zero_before (zero ∷ []) row h = absurd h
 spells_zero_before (zero ∷ count ∷ bytes) row h =
     elim (cases_eq count 255) [
       | inl full ↦
-          let behind : Spells (zero ∷ count ∷ zero_before bytes) (zero ∷ row) =
+          let behind : SpellsRow (zero ∷ count ∷ zero_before bytes) (zero ∷ row) =
           (zero ∷ h.0, ap (λ (xs : List ℕ). zero ∷ xs) h.1 ∙ zero_through count h.0, h.2, h.3, λ less. absurd (omega (arith, less, full)), spells_zero_before bytes h.0 h.5) in
-          subst (λ (b : Bool). Spells (cond b (zero ∷ count ∷ zero_before bytes) (zero ∷ (count + 1) ∷ bytes)) (zero ∷ row)) (sym (eq-eqb count 255 full)) behind
+          subst (λ (b : Bool). SpellsRow (cond b (zero ∷ count ∷ zero_before bytes) (zero ∷ (count + 1) ∷ bytes)) (zero ∷ row)) (sym (eq-eqb count 255 full)) behind
       | inr other ↦
-          let longer : Spells (zero ∷ (count + 1) ∷ bytes) (zero ∷ row) =
+          let longer : SpellsRow (zero ∷ (count + 1) ∷ bytes) (zero ∷ row) =
           (h.0, ap (λ (xs : List ℕ). zero ∷ xs) h.1 ∙ sym (ap (λ (n : ℕ). replicate n zero ++ h.0) (add-one count)), omega arith, omega (arith, h.3, other), λ less. h.4 (omega arith), h.5) in
-          subst (λ (b : Bool). Spells (cond b (zero ∷ count ∷ zero_before bytes) (zero ∷ (count + 1) ∷ bytes)) (zero ∷ row)) (sym (ne_eqb count 255 other)) longer
+          subst (λ (b : Bool). SpellsRow (cond b (zero ∷ count ∷ zero_before bytes) (zero ∷ (count + 1) ∷ bytes)) (zero ∷ row)) (sym (ne_eqb count 255 other)) longer
     ]
 
-pub spells_runs_of : (row : List ℕ) → Spells (runs_of row) row
+pub spells_runs_of : (row : List ℕ) → SpellsRow (runs_of row) row
 unfolding runs_of
 spells_runs_of [] = refl
 spells_runs_of (zero ∷ row) = spells_zero_before (runs_of row) row (spells_runs_of row)
@@ -60,7 +60,7 @@ no_run_of_others : (n byte : ℕ) (row rest more : List ℕ) → 0 < n → row �
 no_run_of_others zero byte row rest more some is other = absurd (omega arith)
 no_run_of_others (suc n) byte row rest more some is other = absurd (let e : zero ∷ (replicate n zero ++ rest) ≡ suc byte ∷ more = sym is ∙ other in cc)
 
-pub one_spelling : (a b row : List ℕ) → Spells a row → Spells b row → a ≡ b
+pub one_spelling : (a b row : List ℕ) → SpellsRow a row → SpellsRow b row → a ≡ b
 one_spelling [] [] row of_a of_b = refl
 one_spelling [] (suc byte ∷ b) row of_a of_b = absurd (let e = sym of_a ∙ of_b.1 in cc)
 one_spelling [] (zero ∷ []) row of_a of_b = absurd of_b
@@ -70,7 +70,7 @@ one_spelling (suc byte ∷ a) (suc other ∷ b) row of_a of_b =
     let e = sym of_a.1 ∙ of_b.1 in
     let same : of_a.0 ≡ of_b.0 = cc in
     let first : suc byte ≡ suc other = cc in
-    let behind = one_spelling a b of_a.0 of_a.2 (subst (Spells b) (sym same) of_b.2) in
+    let behind = one_spelling a b of_a.0 of_a.2 (subst (SpellsRow b) (sym same) of_b.2) in
     cc
 one_spelling (suc byte ∷ a) (zero ∷ []) row of_a of_b = absurd of_b
 one_spelling (suc byte ∷ a) (zero ∷ n ∷ b) row of_a of_b = absurd (no_run_of_others n byte row of_b.0 of_a.0 of_b.2 of_b.1 of_a.1)
@@ -80,11 +80,11 @@ one_spelling (zero ∷ n ∷ a) (suc byte ∷ b) row of_a of_b = absurd (no_run_
 one_spelling (zero ∷ n ∷ a) (zero ∷ []) row of_a of_b = absurd of_b
 one_spelling (zero ∷ n ∷ a) (zero ∷ m ∷ b) row of_a of_b =
     let same = same_run n m of_a.0 of_b.0 of_a.3 of_b.3 of_a.4 of_b.4 (sym of_a.1 ∙ of_b.1) in
-    let behind = one_spelling a b of_a.0 of_a.5 (subst (Spells b) (sym same.1) of_b.5) in
+    let behind = one_spelling a b of_a.0 of_a.5 (subst (SpellsRow b) (sym same.1) of_b.5) in
     let counts = same.0 in
     cc
 
-pub runs_of-spelt : (bytes row : List ℕ) → Spells bytes row → bytes ≡ runs_of row
+pub runs_of-spelt : (bytes row : List ℕ) → SpellsRow bytes row → bytes ≡ runs_of row
 runs_of-spelt bytes row h = one_spelling bytes (runs_of row) row h (spells_runs_of row)
 
 -- a run in front of a row

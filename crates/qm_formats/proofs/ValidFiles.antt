@@ -21,8 +21,8 @@ use Rattle.qm_contacts.specs.NumberedLeaves.{is_numbered}
 use Rattle.qm_formats.specs.Layout.{Layout, bytes_of_each, right_option, many, each}
 use Rattle.qm_formats.specs.Fields.{unsigned, signed, fixed, raw}
 use Rattle.qm_formats.specs.FileParts.{plane_layout, node_layout, leaf_layout}
-use Rattle.qm_formats.specs.TreeFile.{TreeFile, AreRows, IsValid}
-use Rattle.qm_formats.specs.FileLayout.{Header, header_layout, are_numbered, are_ordered, own_row, planes_layout, nodes_layout, leaves_layout, rows_layout, tree_layout, header_of, file_layout, file_bytes, file_limit}
+use Rattle.qm_formats.specs.TreeFile.{TreeFile, AreRows, IsValidFile}
+use Rattle.qm_formats.specs.FileLayout.{Header, file_header_layout, are_numbered, are_ordered, own_row_layout, planes_layout, nodes_layout, leaves_layout, rows_layout, tree_layout, header_of, file_layout, file_bytes, file_limit}
 use Rattle.qm_formats.proofs.NumberedNodes.{numbered-test}
 use Rattle.qm_formats.proofs.RightParts.{right_each_at, right_each_from, reduced_plane, right_plane, plane_right, node_right, leaf_right, right_leaf, row_right, right_row}
 use Rattle.qm_formats.proofs.ChildNumbers.{children_below}
@@ -44,11 +44,11 @@ list_all-from test (x ∷ xs) each =
 -- ---- what is right is valid
 
 -- the rows of an option
-rows_valid : (numbered : ℕ) (rows : Option (List (List Bool))) (has_rows : Bool) → right_option (each (own_row numbered) numbered) has_rows rows ≡ true → IfSome rows (AreRows numbered)
+rows_valid : (numbered : ℕ) (rows : Option (List (List Bool))) (has_rows : Bool) → right_option (each (own_row_layout numbered) numbered) has_rows rows ≡ true → IfSome rows (AreRows numbered)
 rows_valid numbered None has_rows right = tt
 rows_valid numbered (Some rows) true right =
-    let long = right_each_length (own_row numbered) 0 numbered rows right in
-    let at = right_each_at (own_row numbered) 0 numbered rows right in
+    let long = right_each_length (own_row_layout numbered) 0 numbered rows right in
+    let at = right_each_at (own_row_layout numbered) 0 numbered rows right in
     record {
       one_each = long;
       places = λ k d within. (right_row numbered (0 + k) (get_or rows k d) (at k d within)).0;
@@ -58,14 +58,14 @@ rows_valid numbered (Some rows) true right =
     }
 rows_valid numbered (Some rows) false right = absurd cc
 
-rows_right : (numbered : ℕ) (rows : Option (List (List Bool))) → IfSome rows (AreRows numbered) → right_option (each (own_row numbered) numbered) (is_some rows) rows ≡ true
+rows_right : (numbered : ℕ) (rows : Option (List (List Bool))) → IfSome rows (AreRows numbered) → right_option (each (own_row_layout numbered) numbered) (is_some rows) rows ≡ true
 rows_right numbered None are = refl
 rows_right numbered (Some rows) are =
-    right_each_from (own_row numbered) 0 numbered rows are.one_each (λ i d within.
+    right_each_from (own_row_layout numbered) 0 numbered rows are.one_each (λ i d within.
     let place : i ≡ 0 + i = omega arith in
     let same : get_or rows i d ≡ get_or rows i [] = get_or_default rows i d [] within in
     let own = ap (λ (row : List Bool). get_or row i false) same ∙ are.own i (omega (arith, within, are.one_each)) in
-    subst (λ (k : ℕ). (own_row numbered k).right (get_or rows i d) ≡ true) place (row_right numbered i (get_or rows i d) (are.places i d within) own))
+    subst (λ (k : ℕ). (own_row_layout numbered k).right (get_or rows i d) ≡ true) place (row_right numbered i (get_or rows i d) (are.places i d within) own))
 
 -- parts that can stand in a file are those of a tree, whose planes are in lowest terms
 record AreOfTree (planes : List Plane) (nodes : List NodeRecord) (leaves : List LeafRecord) : Type 0 where
@@ -93,7 +93,7 @@ of_tree header planes nodes leaves can =
 pub made_of_right : (header : Header) (planes : List Plane) (nodes : List NodeRecord) (leaves : List LeafRecord) → CanStand header planes nodes leaves → IsMadeOf (tree_of planes nodes leaves) planes nodes leaves
 made_of_right header planes nodes leaves can = (of_tree header planes nodes leaves can).made
 
-pub right_valid : (file : TreeFile) → file_layout.right file ≡ true → IsValid file
+pub right_valid : (file : TreeFile) → file_layout.right file ≡ true → IsValidFile file
 unfolding file_layout rows_layout
 right_valid file right =
     let header = header_of file in
@@ -101,7 +101,7 @@ right_valid file right =
     let leaves = leaves_of file.tree.shape in
     let of_tree_right = (tree_layout header).right file.tree in
     let of_rows = (rows_layout header).right file.rows in
-    let of_header = and_parts (header_layout.right header) (of_tree_right && of_rows) right in
+    let of_header = and_parts (file_header_layout.right header) (of_tree_right && of_rows) right in
     let parts = and_parts of_tree_right of_rows of_header.1 in
     let tree = of_tree header file.tree.planes nodes leaves (stand_of_tree header file.tree of_header.0 parts.0) in
     record {
@@ -133,7 +133,7 @@ counts_at_most file =
     let header = header_of file in
     let nodes = nodes_of file.tree.shape 0 0 in
     let leaves = leaves_of file.tree.shape in
-    let p = header_layout.bytes_of header in
+    let p = file_header_layout.bytes_of header in
     let q = (planes_layout header).bytes_of file.tree.planes in
     let r = bytes_of_each (λ _. node_layout) 0 nodes in
     let s = bytes_of_each (λ _. leaf_layout) 0 leaves in
@@ -150,8 +150,8 @@ flag_right : (flag : Bool) → ((ltb (cond flag 1 0) 256) && (leb (cond flag 1 0
 flag_right true = refl
 flag_right false = refl
 
-header_right : (header : Header) → header.planes < 2 ^ 32 → header.nodes < 2 ^ 62 → header.leaves ≡ header.nodes + 1 → header.numbered ≤ header.leaves → header_layout.right header ≡ true
-unfolding header_layout unsigned fixed
+header_right : (header : Header) → header.planes < 2 ^ 32 → header.nodes < 2 ^ 62 → header.leaves ≡ header.nodes + 1 → header.numbered ≤ header.leaves → file_header_layout.right header ≡ true
+unfolding file_header_layout unsigned fixed
 header_right header planes nodes leaves numbered =
     let of_planes = (ltb header.planes (2 ^ 64)) && (ltb header.planes (2 ^ 32)) in
     let of_nodes = ltb header.nodes (2 ^ 64) in
@@ -167,7 +167,7 @@ header_right header planes nodes leaves numbered =
     (and_from (ltb header.numbered (2 ^ 64)) (leb header.numbered header.leaves) (lt-ltb header.numbered (2 ^ 64) (omega (arith, nodes, leaves, numbered))) (le-leb header.numbered header.leaves numbered))
     (flag_right header.has_rows))))
 
-pub valid_right : (file : TreeFile) → IsValid file → length (file_bytes file) ≤ file_limit → file_layout.right file ≡ true
+pub valid_right : (file : TreeFile) → IsValidFile file → length (file_bytes file) ≤ file_limit → file_layout.right file ≡ true
 unfolding file_layout tree_layout planes_layout nodes_layout leaves_layout rows_layout are_ordered
 valid_right file valid small =
     let header = header_of file in
@@ -185,7 +185,7 @@ valid_right file valid small =
     let of_nodes = (nodes_layout header).right nodes in
     let of_leaves = (leaves_layout header).right leaves in
     let of_rows = (rows_layout header).right file.rows in
-    and_from (header_layout.right header) ((of_planes && (of_nodes && of_leaves)) && of_rows)
+    and_from (file_header_layout.right header) ((of_planes && (of_nodes && of_leaves)) && of_rows)
     (header_right header parts.few (omega (arith, few.0, small)) (omega (arith, count, more)) (count_by-le-length is_numbered leaves))
     (and_from (of_planes && (of_nodes && of_leaves)) of_rows
     (and_from of_planes (of_nodes && of_leaves)

@@ -2,36 +2,36 @@
 use Rattle.std.proofs.Common.{◌≡◌, ◌≤◌, ℕ, Bool, cond, List, length, sym, ap, subst, ◌∙◌, inl, inr}
 use Rattle.std.specs.Prelude.{IsTrue}
 use Rattle.std.proofs.lemmas.Bool.{cases_lt, lt-ltb, le-ltb}
-use Rattle.qm_formats.specs.Layout.{got, bad, Layout, read_to_end, read_whole}
+use Rattle.qm_formats.specs.Layout.{got, bad, Layout, read_to_end, read_whole_file}
 use Rattle.qm_formats.specs.Fields.{AreBytes}
 use Rattle.qm_formats.specs.Exact.{IsExact}
 use Rattle.qm_formats.specs.FileParts.{trailing, too_long}
-use Rattle.qm_formats.specs.TreeFile.{TreeFile, IsValid}
+use Rattle.qm_formats.specs.TreeFile.{TreeFile, IsValidFile}
 use Rattle.qm_formats.specs.FileLayout.{file_layout, file_bytes, file_limit, read_file}
 use Rattle.qm_formats.proofs.ReadToEnd.{IsAll, all_found, all_again, read_ends}
 use Rattle.qm_formats.proofs.ExactFile.{file_exact}
 use Rattle.qm_formats.proofs.ValidFiles.{right_valid, valid_right}
 
 module _ {F X : Type 0} (layout : Layout F X) (exact : IsExact layout) (limit : ℕ) (long behind : F) (file : List ℕ) where
-  read_small : length file ≤ limit → read_whole layout limit long behind file ≡ read_to_end layout behind file
+  read_small : length file ≤ limit → read_whole_file layout limit long behind file ≡ read_to_end layout behind file
   read_small fits = ap (λ (b : Bool). cond b (bad long limit) (read_to_end layout behind file)) (le-ltb limit (length file) fits)
 
-  whole_found : (x : X) (next : ℕ) → AreBytes file → read_whole layout limit long behind file ≡ got x next → (length file ≤ limit) × IsAll layout exact behind file x next
+  whole_found : (x : X) (next : ℕ) → AreBytes file → read_whole_file layout limit long behind file ≡ got x next → (length file ≤ limit) × IsAll layout exact behind file x next
   whole_found x next are is =
       elim (cases_lt limit (length file)) [
         | inl more ↦ absurd (let e = sym (ap (λ (b : Bool). cond b (bad long limit) (read_to_end layout behind file)) (lt-ltb limit (length file) more)) ∙ is in cc)
         | inr fits ↦ (fits, all_found layout exact behind file x next are (sym (read_small fits) ∙ is))
       ]
 
-  whole_again : (x : X) → IsTrue (layout.right x) → file ≡ layout.bytes_of x → length file ≤ limit → read_whole layout limit long behind file ≡ got x (length file)
+  whole_again : (x : X) → IsTrue (layout.right x) → file ≡ layout.bytes_of x → length file ≤ limit → read_whole_file layout limit long behind file ≡ got x (length file)
   whole_again x right bytes fits = read_small fits ∙ all_again layout exact behind file x right bytes
 
-  whole_ends : (x : X) (next : ℕ) → AreBytes file → layout.read file 0 ≡ got x next → length file ≤ limit → length file ≤ next → read_whole layout limit long behind file ≡ got x (length file)
+  whole_ends : (x : X) (next : ℕ) → AreBytes file → layout.read file 0 ≡ got x next → length file ≤ limit → length file ≤ next → read_whole_file layout limit long behind file ≡ got x (length file)
   whole_ends x next are is fits past = read_small fits ∙ read_ends layout exact behind file x next are is past
 
 -- what is read in a file is valid, and the file is written so
 pub record IsFileOf (file : List ℕ) (content : TreeFile) : Type 0 where
-  pub valid : IsValid content
+  pub valid : IsValidFile content
   pub bytes : file ≡ file_bytes content
   pub fits : length file ≤ file_limit
 

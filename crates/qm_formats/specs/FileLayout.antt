@@ -12,7 +12,7 @@ use Rattle.qm_partition.specs.Counting.{leaves_of}
 use Rattle.qm_partition.specs.Numbering.{nodes_of}
 use Rattle.qm_partition.specs.Arrays.{partition_of, tree_of}
 use Rattle.qm_contacts.specs.NumberedLeaves.{is_numbered}
-use Rattle.qm_formats.specs.Layout.{Answer, Layout, recast, tested, part, last_part, each, many, present, read_whole}
+use Rattle.qm_formats.specs.Layout.{Answer, Layout, recast, tested, part, last_part, each, many, present, read_whole_file}
 use Rattle.qm_formats.specs.Fields.{unsigned, fixed}
 use Rattle.qm_formats.specs.RowBits.{row_bits}
 use Rattle.qm_formats.specs.FileParts.{FileFaultKind, short, magic, counts, node_order, row_form, trailing, too_long, plane_layout, node_layout, leaf_layout}
@@ -38,8 +38,8 @@ flag_layout = recast (λ n. n == 1) (λ flag. if flag then 1 else 0) (tested (λ
 
 -- the magic bytes; how many planes there are, fewer than 2^32; how many nodes; how many leaves, one more; how many of them
 -- are numbered; and whether rows are there
-unfoldable pub header_layout : Layout FileFaultKind Header
-header_layout =
+unfoldable pub file_header_layout : Layout FileFaultKind Header
+file_header_layout =
     part (λ _. tt) (fixed short magic (codes "QMTREE01")) (λ _.
     part (λ header. header.planes) (count_layout (λ planes. nat_lt planes (2 ^ 32))) (λ planes.
     part (λ header. header.nodes) (unsigned short w64) (λ nodes.
@@ -73,8 +73,8 @@ unfoldable pub are_ordered : ℕ → List NodeRecord → Bool
 are_ordered planes nodes = list_all (λ here. nat_lt here.plane planes) nodes && are_numbered nodes
 
 -- a row of so many places in which the place k is set
-unfoldable pub own_row : ℕ → ℕ → Layout FileFaultKind (List Bool)
-own_row places k = tested (λ row. slice_index_or row k false) row_form (λ _ at. at) (row_bits short row_form places)
+unfoldable pub own_row_layout : ℕ → ℕ → Layout FileFaultKind (List Bool)
+own_row_layout places k = tested (λ row. slice_index_or row k false) row_form (λ _ at. at) (row_bits short row_form places)
 
 unfoldable pub planes_layout : Header → Layout FileFaultKind (List Plane)
 planes_layout header = many plane_layout header.planes
@@ -89,7 +89,7 @@ leaves_layout header = tested (λ found. count_by is_numbered found == header.nu
 
 -- a row for each numbered leaf, with a place for each, and its own place set
 unfoldable pub rows_layout : Header → Layout FileFaultKind (Option (List (List Bool)))
-rows_layout header = present (each (own_row header.numbered) header.numbered) header.has_rows
+rows_layout header = present (each (own_row_layout header.numbered) header.numbered) header.has_rows
 
 -- the planes, the nodes and the leaves of a tree
 unfoldable pub tree_layout : Header → Layout FileFaultKind Tree
@@ -112,7 +112,7 @@ header_of file =
 -- the header, the tree and the rows
 unfoldable pub file_layout : Layout FileFaultKind TreeFile
 file_layout =
-    part header_of header_layout (λ header.
+    part header_of file_header_layout (λ header.
     part (λ file. file.tree) (tree_layout header) (λ tree.
     last_part (λ file. file.rows) (rows_layout header) (λ rows. record { tree = tree; rows = rows })))
 
@@ -126,4 +126,4 @@ file_limit = 1073741824
 
 -- what is read in a file, or the first fault
 unfoldable pub read_file : List ℕ → Answer FileFaultKind TreeFile
-read_file file = read_whole file_layout file_limit too_long trailing file
+read_file file = read_whole_file file_layout file_limit too_long trailing file

@@ -126,6 +126,6 @@ read_to_end layout trailing file =
     answer_then (layout.read file 0) (λ x next. if nat_lt next (length file) then bad trailing next else got x next)
 
 -- a whole file, of so many bytes at most: its length is looked at first, and nothing stands behind the value
-abbrev pub read_whole : {F X : Type 0} → Layout F X → ℕ → F → F → List ℕ → Answer F X
-read_whole layout limit too_long trailing file =
+abbrev pub read_whole_file : {F X : Type 0} → Layout F X → ℕ → F → F → List ℕ → Answer F X
+read_whole_file layout limit too_long trailing file =
     if nat_lt limit (length file) then bad too_long limit else read_to_end layout trailing file

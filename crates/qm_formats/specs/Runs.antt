@@ -15,12 +15,12 @@ BeginsNonzero (zero ∷ row) = ⊥
 BeginsNonzero (suc byte ∷ row) = Unit {0}
 
 -- the bytes spell a row
-abbrev pub Spells : List ℕ → List ℕ → Type 0
-Spells [] row = row ≡ []
-Spells (suc byte ∷ bytes) row = (rest : List ℕ) × (row ≡ suc byte ∷ rest) × Spells bytes rest
-Spells (zero ∷ []) row = ⊥
-Spells (zero ∷ count ∷ bytes) row =
-    (rest : List ℕ) × (row ≡ replicate count zero ++ rest) × (0 < count) × (count ≤ longest_run) × (count < longest_run → BeginsNonzero rest) × Spells bytes rest
+abbrev pub SpellsRow : List ℕ → List ℕ → Type 0
+SpellsRow [] row = row ≡ []
+SpellsRow (suc byte ∷ bytes) row = (rest : List ℕ) × (row ≡ suc byte ∷ rest) × SpellsRow bytes rest
+SpellsRow (zero ∷ []) row = ⊥
+SpellsRow (zero ∷ count ∷ bytes) row =
+    (rest : List ℕ) × (row ≡ replicate count zero ++ rest) × (0 < count) × (count ≤ longest_run) × (count < longest_run → BeginsNonzero rest) × SpellsRow bytes rest
 
 -- one zero more in front of what is spelt
 abbrev pub zero_before : List ℕ → List ℕ

@@ -17,7 +17,7 @@ pub record AreRows (numbered : ℕ) (rows : List (List Bool)) : Type 0 where
   pub own : (k : ℕ) → k < numbered → slice_index_or (slice_index_or rows k []) k false ≡ true
 
 -- what can stand in a tree file
-pub record IsValid (file : TreeFile) : Type 0 where
+pub record IsValidFile (file : TreeFile) : Type 0 where
   pub well_made : IsWellMade file.tree
   pub reduced : All IsReduced file.tree.planes
   pub rows : IfSome file.rows (AreRows (count_by is_numbered (leaves_of file.tree.shape)))

@@ -9,27 +9,27 @@ use Rattle.qm_space.specs.Determinant.{determinant}
 use Rattle.qm_space.proofs.Planes.{same_point}
 use Rattle.qm_numbers.proofs.Ring.{◌⊕◌, ◌⊗◌, solved}
 use Rattle.qm_space.proofs.PlaneSymbols.{plane_from, numbers_of_plane, symbol_meet, symbol_along}
-use Rattle.qm_geom.specs.Vectors.{cross, dot, normal_of, IsWithin}
+use Rattle.qm_geom.specs.Vectors.{cross_vector, dot, normal_vector, HasSmallComponents}
 use Rattle.qm_geom.specs.declared.vector.Vector.{Vector}
 use Rattle.qm_numbers.proofs.Kept.{kept, fits_64, fits_128}
-use Rattle.qm_geom.proofs.Vectors.{vector, point, vector_kept, small_vector, IsWithin-more}
+use Rattle.qm_geom.proofs.Vectors.{vector, point, vector_kept, small_vector, HasSmallComponents-more}
 
 -- the cross products of the normals in pairs, by the distances, over the triple product
 abbrev by_crosses : Plane → Plane → Plane → Point
 by_crosses a b c =
-    let u = cross (normal_of b) (normal_of c) in
-    let v = cross (normal_of c) (normal_of a) in
-    let w = cross (normal_of a) (normal_of b) in
+    let u = cross_vector (normal_vector b) (normal_vector c) in
+    let v = cross_vector (normal_vector c) (normal_vector a) in
+    let w = cross_vector (normal_vector a) (normal_vector b) in
     let d = vector a.d b.d c.d in
     record {
       x = dot d (vector u.x v.x w.x);
       y = dot d (vector u.y v.y w.y);
       z = dot d (vector u.z v.z w.z);
-      w = dot (normal_of a) u;
+      w = dot (normal_vector a) u;
     }
 
 by_crosses_is : (a b c : Plane) → by_crosses a b c ≡ meet a b c
-unfolding meet determinant cross dot
+unfolding meet determinant cross_vector dot
 by_crosses_is a b c =
     let f = plane_from 0 in let g = plane_from 4 in let h = plane_from 8 in
     let zs = numbers_of_plane a (numbers_of_plane b (numbers_of_plane c [])) in
@@ -43,9 +43,9 @@ by_crosses_is a b c =
 
 -- ---- as the code computes it, from distances da, db and dc, crosses u, v and w, and the first normal n
 
-pub distances_small : (da db dc : ℤ) → unsigned_abs da ≤ 2 ^ 44 → unsigned_abs db ≤ 2 ^ 44 → unsigned_abs dc ≤ 2 ^ 44 → IsWithin (vector (kept w64 da) (kept w64 db) (kept w64 dc)) (2 ^ 53)
+pub distances_small : (da db dc : ℤ) → unsigned_abs da ≤ 2 ^ 44 → unsigned_abs db ≤ 2 ^ 44 → unsigned_abs dc ≤ 2 ^ 44 → HasSmallComponents (vector (kept w64 da) (kept w64 db) (kept w64 dc)) (2 ^ 53)
 distances_small da db dc a b c =
-    IsWithin-more _ (2 ^ 44) (2 ^ 53) (small_vector da db dc (2 ^ 44) (lit≤ tt) a b c) (lit≤ tt)
+    HasSmallComponents-more _ (2 ^ 44) (2 ^ 53) (small_vector da db dc (2 ^ 44) (lit≤ tt) a b c) (lit≤ tt)
 
 one_axis : (da db dc x y z r : ℤ) → unsigned_abs da ≤ 2 ^ 44 → unsigned_abs db ≤ 2 ^ 44 → unsigned_abs dc ≤ 2 ^ 44 → unsigned_abs x ≤ 2 ^ 53 → unsigned_abs y ≤ 2 ^ 53 → unsigned_abs z ≤ 2 ^ 53 → r ≡ dot (vector (kept w64 da) (kept w64 db) (kept w64 dc)) (vector (kept w64 x) (kept w64 y) (kept w64 z)) → unsigned_abs r ≤ 3 * 2 ^ 116 → kept w128 r ≡ dot (vector da db dc) (vector x y z)
 one_axis da db dc x y z r a b c k l m e s =
@@ -57,16 +57,16 @@ pub record AreMeetingParts (a b c : Plane) (da db dc : ℤ) (u v w n : Vector) :
   pub of_a : da ≡ a.d
   pub of_b : db ≡ b.d
   pub of_c : dc ≡ c.d
-  pub across_a : u ≡ cross (normal_of b) (normal_of c)
-  pub across_b : v ≡ cross (normal_of c) (normal_of a)
-  pub across_c : w ≡ cross (normal_of a) (normal_of b)
-  pub normal : n ≡ normal_of a
+  pub across_a : u ≡ cross_vector (normal_vector b) (normal_vector c)
+  pub across_b : v ≡ cross_vector (normal_vector c) (normal_vector a)
+  pub across_c : w ≡ cross_vector (normal_vector a) (normal_vector b)
+  pub normal : n ≡ normal_vector a
   pub a_small : unsigned_abs da ≤ 2 ^ 44
   pub b_small : unsigned_abs db ≤ 2 ^ 44
   pub c_small : unsigned_abs dc ≤ 2 ^ 44
-  pub u_small : IsWithin u (2 ^ 53)
-  pub v_small : IsWithin v (2 ^ 53)
-  pub w_small : IsWithin w (2 ^ 53)
+  pub u_small : HasSmallComponents u (2 ^ 53)
+  pub v_small : HasSmallComponents v (2 ^ 53)
+  pub w_small : HasSmallComponents w (2 ^ 53)
 
 pub record AreMeetingSums (da db dc : ℤ) (u v w n : Vector) (r s t q : ℤ) : Type 0 where
   pub of_x : r ≡ dot (vector (kept w64 da) (kept w64 db) (kept w64 dc)) (vector (kept w64 u.x) (kept w64 v.x) (kept w64 w.x))

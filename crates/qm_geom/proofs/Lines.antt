@@ -7,7 +7,7 @@ use Rattle.qm_space.specs.Plane.{Plane}
 use Rattle.qm_space.specs.Reduced.{IsReduced}
 use Rattle.qm_space.specs.CommonLine.{common_line, HasLineSizes}
 use Rattle.qm_geom.specs.declared.vector.Vector.{Vector}
-use Rattle.qm_geom.specs.Vectors.{normal_of, cross, IsWithin}
+use Rattle.qm_geom.specs.Vectors.{normal_vector, cross_vector, HasSmallComponents}
 
 -- ---- sizes
 
@@ -20,7 +20,7 @@ distance_small z h = subst (λ (n : ℤ). unsigned_abs n ≤ distance_bound) (sy
 moment_small : (z : ℤ) → unsigned_abs z ≤ 2 ^ 71 → unsigned_abs (to_z w128 (of_z w128 z)) ≤ 2 ^ 71
 moment_small z h = subst (λ (n : ℤ). unsigned_abs n ≤ 2 ^ 71) (sym (kept_128 z (2 ^ 71) h (lit≤ tt))) h
 
-pub line_sizes : (along : Vector) (x y z : ℤ) → IsWithin along (2 ^ 53) → unsigned_abs x ≤ 2 ^ 71 → unsigned_abs y ≤ 2 ^ 71 → unsigned_abs z ≤ 2 ^ 71 →
+pub line_sizes : (along : Vector) (x y z : ℤ) → HasSmallComponents along (2 ^ 53) → unsigned_abs x ≤ 2 ^ 71 → unsigned_abs y ≤ 2 ^ 71 → unsigned_abs z ≤ 2 ^ 71 →
     HasLineSizes (record { along_x = along.x; along_y = along.y; along_z = along.z; moment_x = to_z w128 (of_z w128 x); moment_y = to_z w128 (of_z w128 y); moment_z = to_z w128 (of_z w128 z) })
 line_sizes along x y z within hx hy hz = record {
   along_x = within.x_small;
@@ -41,15 +41,15 @@ moment_kept p m d n e hm hd hn he hp f =
     ∙ (λ i. (kept_32 m normal_bound hm (lit≤ tt) i *ℤ kept_64 e distance_bound he (lit≤ tt) i) -ℤ (kept_64 d distance_bound hd (lit≤ tt) i *ℤ kept_32 n normal_bound hn (lit≤ tt) i))
 
 module _ (a b a' b' : Plane) (n m along : Vector) (x y z : ℤ) (same_a : a' ≡ a) (same_b : b' ≡ b) (r : IsReduced a') (s : IsReduced b') where
-  of_own : n ≡ normal_of a → m ≡ normal_of b → along ≡ cross n m → along ≡ cross (normal_of a) (normal_of b)
-  of_own f g e = e ∙ ap₂ cross f g
+  of_own : n ≡ normal_vector a → m ≡ normal_vector b → along ≡ cross_vector n m → along ≡ cross_vector (normal_vector a) (normal_vector b)
+  of_own f g e = e ∙ ap₂ cross_vector f g
 
-  pub line_of : n ≡ normal_of a → m ≡ normal_of b → along ≡ cross n m → unsigned_abs x ≤ 2 ^ 71 → unsigned_abs y ≤ 2 ^ 71 → unsigned_abs z ≤ 2 ^ 71 →
+  pub line_of : n ≡ normal_vector a → m ≡ normal_vector b → along ≡ cross_vector n m → unsigned_abs x ≤ 2 ^ 71 → unsigned_abs y ≤ 2 ^ 71 → unsigned_abs z ≤ 2 ^ 71 →
       x ≡ (to_z w32 (of_z w32 a'.nx) *ℤ to_z w64 (of_z w64 b'.d)) -ℤ (to_z w64 (of_z w64 a'.d) *ℤ to_z w32 (of_z w32 b'.nx)) →
       y ≡ (to_z w32 (of_z w32 a'.ny) *ℤ to_z w64 (of_z w64 b'.d)) -ℤ (to_z w64 (of_z w64 a'.d) *ℤ to_z w32 (of_z w32 b'.ny)) →
       z ≡ (to_z w32 (of_z w32 a'.nz) *ℤ to_z w64 (of_z w64 b'.d)) -ℤ (to_z w64 (of_z w64 a'.d) *ℤ to_z w32 (of_z w32 b'.nz)) →
       record { along_x = along.x; along_y = along.y; along_z = along.z; moment_x = to_z w128 (of_z w128 x); moment_y = to_z w128 (of_z w128 y); moment_z = to_z w128 (of_z w128 z) } ≡ common_line a b
-  unfolding common_line cross
+  unfolding common_line cross_vector
   line_of f g e hx hy hz ex ey ez = λ i. record {
     along_x = (of_own f g e i).x;
     along_y = (of_own f g e i).y;

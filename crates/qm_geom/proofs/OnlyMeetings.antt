@@ -8,7 +8,8 @@ use Rattle.qm_numbers.proofs.IntegerProducts.{linear, *ℤ-+ℤ}
 use Rattle.qm_numbers.proofs.Signs.{by_sign, zero_beside_positive}
 use Rattle.qm_space.proofs.Planes.{first_holds_meet, second_holds_meet, third_holds_meet, meet_only, meet_exchanged}
 use Rattle.qm_space.proofs.Directions.{common_direction, another_point}
-use Rattle.qm_geom.specs.Corners.{is_negative, with_positive_weight, MeetBeside, MeetOnlyIn}
+use Rattle.qm_numbers.specs.Sign.{is_negative}
+use Rattle.qm_geom.specs.Corners.{with_positive_weight, MeetBeside, MeetOnlyIn}
 
 -- where w is above 0, the meeting point is the only one
 meet_is_only : (a b c : Plane) → pos 0 <ℤ (meet a b c).w → MeetOnlyIn a b c (meet a b c)

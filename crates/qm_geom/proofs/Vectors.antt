@@ -8,7 +8,7 @@ use Rattle.qm_space.specs.ThreePoints.{outward_plane}
 use Rattle.qm_space.specs.inner.OutwardSizes.{HasOutwardSizes}
 use Rattle.qm_numbers.proofs.Signs.{abs_difference}
 use Rattle.qm_space.proofs.PlanesThroughPoints.{coordinate_small, outward_sizes}
-use Rattle.qm_geom.specs.Vectors.{normal_of, step_to, step_between, cross, dot, IsWithin}
+use Rattle.qm_geom.specs.Vectors.{normal_vector, step_to, vector_between, cross_vector, dot, HasSmallComponents}
 use Rattle.qm_geom.specs.declared.vector.Vector.{Vector}
 use Rattle.qm_numbers.proofs.Kept.{kept, small_kept, fits_64, fits_128, answered, product_answered, apart_is}
 use Rattle.qm_numbers.proofs.Bits.{kept_32}
@@ -20,12 +20,12 @@ vector x y z = record { x = x; y = y; z = z }
 pub same_vector : (a b c p q r : ℤ) → a ≡ p → b ≡ q → c ≡ r → vector a b c ≡ vector p q r
 same_vector a b c p q r x y z = rw (x, y, z)
 
-pub small_vector : (a b c : ℤ) (n : ℕ) → n ≤ 2 ^ 63 - 1 → unsigned_abs a ≤ n → unsigned_abs b ≤ n → unsigned_abs c ≤ n → IsWithin (vector (kept w64 a) (kept w64 b) (kept w64 c)) n
+pub small_vector : (a b c : ℤ) (n : ℕ) → n ≤ 2 ^ 63 - 1 → unsigned_abs a ≤ n → unsigned_abs b ≤ n → unsigned_abs c ≤ n → HasSmallComponents (vector (kept w64 a) (kept w64 b) (kept w64 c)) n
 small_vector a b c n l x y z =
     record { x_small = small_kept a n l x; y_small = small_kept b n l y; z_small = small_kept c n l z }
 
-pub IsWithin-more : (v : Vector) (m n : ℕ) → IsWithin v m → m ≤ n → IsWithin v n
-IsWithin-more v m n h l = record {
+pub HasSmallComponents-more : (v : Vector) (m n : ℕ) → HasSmallComponents v m → m ≤ n → HasSmallComponents v n
+HasSmallComponents-more v m n h l = record {
   x_small = let s = h.x_small in omega arith;
   y_small = let s = h.y_small in omega arith;
   z_small = let s = h.z_small in omega arith;
@@ -39,12 +39,12 @@ pub vector_kept : (x y z : ℤ) → FitsSigned w64 x → FitsSigned w64 y → Fi
 vector_kept x y z f g h = same_vector _ _ _ _ _ _ (to_z-of_z w64 x f) (to_z-of_z w64 y g) (to_z-of_z w64 z h)
 
 -- a plane's value is a dot product with a product taken off
-pub value_is : (h : Plane) (p : Point) (r q : ℤ) → r ≡ dot (normal_of h) (step_to p) → q ≡ h.d *ℤ p.w → r -ℤ q ≡ value h p
+pub value_is : (h : Plane) (p : Point) (r q : ℤ) → r ≡ dot (normal_vector h) (step_to p) → q ≡ h.d *ℤ p.w → r -ℤ q ≡ value h p
 unfolding value dot
 value_is h p r q e f = rw (e, f) refl
 
 -- as the code computes it at a point of 64 bits
-pub value_at_point : (h : Plane) (p : Point) (n : Vector) (x y z w d r q : ℤ) → n ≡ normal_of h → point x y z w ≡ p → d ≡ h.d → FitsSigned w64 x → FitsSigned w64 y → FitsSigned w64 z → FitsSigned w64 w → FitsSigned w64 d → r ≡ dot n (vector (kept w64 x) (kept w64 y) (kept w64 z)) → q ≡ kept w64 d *ℤ kept w64 w → unsigned_abs r ≤ 3 * 2 ^ 116 → unsigned_abs q ≤ 2 ^ 126 → kept w128 (kept w128 r -ℤ kept w128 q) ≡ value h p
+pub value_at_point : (h : Plane) (p : Point) (n : Vector) (x y z w d r q : ℤ) → n ≡ normal_vector h → point x y z w ≡ p → d ≡ h.d → FitsSigned w64 x → FitsSigned w64 y → FitsSigned w64 z → FitsSigned w64 w → FitsSigned w64 d → r ≡ dot n (vector (kept w64 x) (kept w64 y) (kept w64 z)) → q ≡ kept w64 d *ℤ kept w64 w → unsigned_abs r ≤ 3 * 2 ^ 116 → unsigned_abs q ≤ 2 ^ 126 → kept w128 (kept w128 r -ℤ kept w128 q) ≡ value h p
 value_at_point h p n x y z w d r q of_h of_p of_d fx fy fz fw fd along times k l =
     apart_is r q (3 * 2 ^ 116) (2 ^ 126) k l (lit≤ tt)
     ∙ value_is h p r q (along ∙ rw (vector_kept x y z fx fy fz, of_h, ← of_p) refl) (product_answered w64 q d w fd fw times ∙ rw (of_d, ← of_p) refl)
@@ -65,8 +65,8 @@ difference_answered r a b h k e =
 abbrev pub plane : ℤ → ℤ → ℤ → ℤ → Plane
 plane nx ny nz d = record { nx = nx; ny = ny; nz = nz; d = d }
 
-outward_is : (p0 p1 p2 : Point) (n s t o : Vector) (d : ℤ) → s ≡ step_between p1 p0 → t ≡ step_between p1 p2 → n ≡ cross s t → o ≡ step_to p1 → d ≡ dot n o → plane n.x n.y n.z d ≡ outward_plane p0 p1 p2
-unfolding outward_plane step_between cross dot
+outward_is : (p0 p1 p2 : Point) (n s t o : Vector) (d : ℤ) → s ≡ vector_between p1 p0 → t ≡ vector_between p1 p2 → n ≡ cross_vector s t → o ≡ step_to p1 → d ≡ dot n o → plane n.x n.y n.z d ≡ outward_plane p0 p1 p2
+unfolding outward_plane vector_between cross_vector dot
 outward_is p0 p1 p2 n s t o d of_s of_t of_n of_o of_d = rw (of_d, of_n, of_s, of_t, of_o) refl
 
 wide_distance : (d : ℤ) → unsigned_abs d ≤ 3 * 2 ^ 38 → kept w128 d ≡ d
@@ -82,9 +82,9 @@ plane_kept nx ny nz d s =
 
 -- what the code's steps s and t, their cross product n, the second point's vector o and the distance d are
 pub record AreOutwardParts (p0 p1 p2 : Point) (s t n o : Vector) (d : ℤ) : Type 0 where
-  pub first_step : s ≡ step_between p1 p0
-  pub second_step : t ≡ step_between p1 p2
-  pub normal : n ≡ cross s t
+  pub first_step : s ≡ vector_between p1 p0
+  pub second_step : t ≡ vector_between p1 p2
+  pub normal : n ≡ cross_vector s t
   pub second_point : o ≡ step_to p1
   pub distance : d ≡ dot n o
   pub p0_whole : IsWholePoint p0

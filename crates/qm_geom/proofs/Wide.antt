@@ -7,7 +7,7 @@ use Rattle.qm_space.specs.Meet.{HasMeetSizes}
 use Rattle.qm_space.proofs.Planes.{same_point}
 use Rattle.qm_geom.specs.Corners.{IsCorner}
 use Rattle.qm_geom.specs.inner.SmallCoordinate.{IsSmallCoordinate}
-use Rattle.qm_geom.specs.Rounding.{HasSmallCoordinates}
+use Rattle.qm_space.specs.Coordinates.{HasSmallCoordinates}
 use Rattle.qm_numbers.proofs.Bits.{kept_128}
 
 -- what the code's `-z` gives

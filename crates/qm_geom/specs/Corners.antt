@@ -1,4 +1,5 @@
 use Rattle.std.specs.Prelude.{ℕ, [], ◌∷◌, slice_index_or, ℤ, pos, negsuc, Bool, true, false, if◌then◌else◌, ◌<ℤ◌}
+use Rattle.qm_numbers.specs.Sign.{is_negative}
 use Rattle.qm_space.specs.Point.{Point, point_times, IsSamePlace}
 use Rattle.qm_space.specs.Plane.{Plane, IsOn}
 use Rattle.qm_space.specs.Meet.{HasMeetSizes}
@@ -28,11 +29,6 @@ pub record MeetBeside (a b c : Plane) (p : Point) : Type 0 where
 -- the numerator of x, y or z, by the axis
 abbrev pub numerator : Point → ℕ → ℤ
 numerator p axis = slice_index_or (p.x ∷ p.y ∷ p.z ∷ []) axis (pos 0)
-
--- whether a number is below 0
-abbrev pub is_negative : ℤ → Bool
-is_negative (pos n) = false
-is_negative (negsuc n) = true
 
 -- the same place, its four numbers negated where w is negative
 unfoldable pub with_positive_weight : Point → Point

@@ -14,27 +14,27 @@ abbrev pub step_to : Point → Vector
 step_to p = record { x = p.x; y = p.y; z = p.z }
 
 -- the step from one whole point to another
-unfoldable pub step_between : Point → Point → Vector
-step_between from to = step_to (space.step_between from to)
+unfoldable pub vector_between : Point → Point → Vector
+vector_between from to = step_to (space.step_between from to)
 
 -- the normal of a plane
-abbrev pub normal_of : Plane → Vector
-normal_of h = step_to (space.normal_of h)
+abbrev pub normal_vector : Plane → Vector
+normal_vector h = step_to (space.normal_of h)
 
 -- the direction of three numbers, as a point
 abbrev pub direction_of : Vector → Point
 direction_of a = record { x = a.x; y = a.y; z = a.z; w = pos 0 }
 
 -- the cross product
-unfoldable pub cross : Vector → Vector → Vector
-cross a b = step_to (space.cross (direction_of a) (direction_of b))
+unfoldable pub cross_vector : Vector → Vector → Vector
+cross_vector a b = step_to (space.cross (direction_of a) (direction_of b))
 
 -- the dot product
 unfoldable pub dot : Vector → Vector → ℤ
 dot a b = ((a.x *ℤ b.x) +ℤ (a.y *ℤ b.y)) +ℤ (a.z *ℤ b.z)
 
 -- no component is greater than the bound, whatever its sign
-pub record IsWithin (v : Vector) (bound : ℕ) : Type 0 where
+pub record HasSmallComponents (v : Vector) (bound : ℕ) : Type 0 where
   pub x_small : unsigned_abs v.x ≤ bound
   pub y_small : unsigned_abs v.y ≤ bound
   pub z_small : unsigned_abs v.z ≤ bound

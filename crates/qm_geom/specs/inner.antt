@@ -1,4 +1,3 @@
-pub mod LeastDistanceOf
 pub mod Numbered
 pub mod SmallCoordinate
 pub mod Products

@@ -5,11 +5,11 @@ ghost use Rattle.qm_space.specs.Point.{Point};
 ghost use Rattle.qm_space.specs.Plane.{value, IsOn};
 ghost use Rattle.qm_space.specs.Meet.{meet, HasMeetSizes};
 ghost use Rattle.qm_geom.specs.Corners.{numerator, with_positive_weight, MeetBeside, MeetOnlyIn};
-ghost use Rattle.qm_geom.specs.LeastDistance.{IsComponent};
-ghost use Rattle.qm_geom.specs.inner.LeastDistanceOf.{IsLeastDistanceOf};
-ghost use Rattle.qm_geom.specs.Vectors.{dot, step_to, IsWithin};
+ghost use Rattle.qm_space.specs.LeastDistance.{IsComponent};
+ghost use Rattle.qm_space.specs.inner.LeastDistanceOf.{IsLeastDistanceOf};
+ghost use Rattle.qm_geom.specs.Vectors.{dot, step_to, HasSmallComponents};
 ghost use Rattle.qm_numbers.specs.Rounding.{IsNearest, IsRoundedDown, IsRoundedUp};
-ghost use Rattle.qm_geom.specs.Rounding.{AreCoordinatesBy, HasSmallCoordinates};
+ghost use Rattle.qm_space.specs.Coordinates.{AreCoordinatesBy, HasSmallCoordinates};
 
 use crate::meeting::Meeting;
 use crate::plane::Plane;
@@ -165,7 +165,7 @@ impl Corner {
 
     /// The dot product of a normal with the three numerators.
     fn along(&self, normal: &Vector) -> i128
-        requires { IsWithin normal.now (2 ^ 26) }
+        requires { HasSmallComponents normal.now (2 ^ 26) }
         ensures exact { result ≡ dot normal.now (step_to self.now) }
         ensures size { unsigned_abs result ≤ 9 * 2 ^ 123 }
     {

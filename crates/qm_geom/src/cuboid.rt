@@ -4,7 +4,7 @@ ghost use Rattle.qm_space.specs.Bounds.{normal_bound, distance_bound};
 ghost use Rattle.qm_space.specs.Point.{Point, IsCoordinate};
 ghost use Rattle.qm_space.specs.Plane.{value};
 ghost use Rattle.qm_space.specs.Cuboid.{IsInSpan, IsInCuboid, whole_span, whole_cuboid, least_product, greatest_product, least_value, greatest_value, IsTightened, IsTightenedOn, IsTightenedSpan, IsTightenedBetween};
-ghost use Rattle.qm_geom.specs.Vectors.{IsWithin};
+ghost use Rattle.qm_geom.specs.Vectors.{HasSmallComponents};
 ghost use Rattle.qm_geom.specs.inner.Products.{least_products, greatest_products, sum_less, left_of};
 
 use crate::plane::Plane;
@@ -257,7 +257,7 @@ impl Cuboid {
 
     fn least_products(&self, plane: &Plane) -> Vector
         ensures exact { result ≡ least_products plane.now self.now }
-        ensures size { IsWithin result (2 ^ 38) }
+        ensures size { HasSmallComponents result (2 ^ 38) }
     {
         Vector {
             x: self.x.least_product(plane.nx),
@@ -268,7 +268,7 @@ impl Cuboid {
 
     fn greatest_products(&self, plane: &Plane) -> Vector
         ensures exact { result ≡ greatest_products plane.now self.now }
-        ensures size { IsWithin result (2 ^ 38) }
+        ensures size { HasSmallComponents result (2 ^ 38) }
     {
         Vector {
             x: self.x.greatest_product(plane.nx),
@@ -280,7 +280,7 @@ impl Cuboid {
 
 /// The sum of three products, one for each axis, less a distance.
 fn sum_less(products: Vector, distance: i64) -> i64
-    requires products_small { IsWithin products (2 ^ 38) }
+    requires products_small { HasSmallComponents products (2 ^ 38) }
     requires distance_small { unsigned_abs distance ≤ distance_bound }
     ensures exact { result ≡ sum_less products distance }
     ensures size { unsigned_abs result ≤ 2 ^ 45 }
@@ -290,10 +290,10 @@ fn sum_less(products: Vector, distance: i64) -> i64
 
 /// What the products of the two other axes leave of a distance, for each axis.
 fn left_of(products: Vector, distance: i64) -> Vector
-    requires products_small { IsWithin products (2 ^ 38) }
+    requires products_small { HasSmallComponents products (2 ^ 38) }
     requires distance_small { unsigned_abs distance ≤ distance_bound }
     ensures exact { result ≡ left_of products distance }
-    ensures size { IsWithin result (2 ^ 45) }
+    ensures size { HasSmallComponents result (2 ^ 45) }
 {
     Vector {
         x: distance - products.y - products.z,

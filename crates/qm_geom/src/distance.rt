@@ -1,8 +1,8 @@
 ghost use Rattle.std.specs.Prelude.{◌≡◌, ◌<◌, ◌≤◌, ◌*◌, ◌^◌, pos, unsigned_abs, length};
 ghost use Rattle.std.specs.List.{All};
 ghost use Rattle.qm_space.specs.Plane.{value};
-ghost use Rattle.qm_geom.specs.LeastDistance.{plane_at_distance, IsComponent, IsLeastDistance};
-ghost use Rattle.qm_geom.specs.Rounding.{HasSmallCoordinates};
+ghost use Rattle.qm_space.specs.LeastDistance.{plane_at_distance, IsComponent, IsLeastDistance};
+ghost use Rattle.qm_space.specs.Coordinates.{HasSmallCoordinates};
 
 use crate::corner::Corner;
 

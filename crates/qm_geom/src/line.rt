@@ -2,7 +2,7 @@ ghost use Rattle.std.specs.Prelude.{◌≡◌, ◌≤◌, ◌*◌, ◌^◌, pos,
 ghost use Rattle.std.specs.Ordering.{int_cmp};
 ghost use Rattle.qm_space.specs.Plane.{Plane, value};
 ghost use Rattle.qm_space.specs.Meet.{meet};
-ghost use Rattle.qm_space.specs.CommonLine.{common_line, turning, line_product};
+ghost use Rattle.qm_space.specs.CommonLine.{common_line, moment_about, line_product};
 
 use crate::plane::Plane;
 use crate::vector::{Vector, product};
@@ -60,11 +60,11 @@ impl Line {
     fn product(&self, other: &Line) -> i128
         ensures { result ≡ line_product self.now other.now }
     {
-        self.turning(other) + other.turning(self)
+        self.moment_about(other) + other.moment_about(self)
     }
 
-    fn turning(&self, other: &Line) -> i128
-        ensures exact { result ≡ turning self.now other.now }
+    fn moment_about(&self, other: &Line) -> i128
+        ensures exact { result ≡ moment_about self.now other.now }
         ensures size { unsigned_abs result ≤ 3 * 2 ^ 124 }
     {
         let of_x = times(self.along.x, other.moment_x);

@@ -1,7 +1,7 @@
 ghost use Rattle.std.specs.Prelude.{◌≡◌, ◌^◌};
 ghost use Rattle.qm_space.specs.Meet.{meet};
 ghost use Rattle.qm_geom.specs.Corners.{with_positive_weight};
-ghost use Rattle.qm_geom.specs.Vectors.{cross, normal_of, IsWithin};
+ghost use Rattle.qm_geom.specs.Vectors.{cross_vector, normal_vector, HasSmallComponents};
 
 use crate::plane::Plane;
 use crate::vector::Vector;
@@ -82,8 +82,8 @@ impl Meeting {
 
 /// The cross product of the normals of two planes.
 fn normals_crossed(a: &Plane, b: &Plane) -> Vector
-    ensures exact { result ≡ cross (normal_of a.now) (normal_of b.now) }
-    ensures size { IsWithin result (2 ^ 53) }
+    ensures exact { result ≡ cross_vector (normal_vector a.now) (normal_vector b.now) }
+    ensures size { HasSmallComponents result (2 ^ 53) }
 {
     a.normal().cross(&b.normal())
 }

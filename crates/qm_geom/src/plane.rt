@@ -4,7 +4,7 @@ ghost use Rattle.qm_space.specs.Plane.{flipped, value};
 ghost use Rattle.qm_space.specs.Point.{whole_point, AreCoordinates};
 ghost use Rattle.qm_space.specs.ThreePoints.{plane_through, IsPlaneThrough};
 ghost use Rattle.qm_space.specs.Line.{AreOnOneLine};
-ghost use Rattle.qm_geom.specs.Vectors.{normal_of, IsWithin};
+ghost use Rattle.qm_geom.specs.Vectors.{normal_vector, HasSmallComponents};
 
 use crate::point::Point;
 use crate::unreduced::UnreducedPlane;
@@ -90,8 +90,8 @@ impl Plane {
 
     /// The normal.
     pub fn normal(&self) -> Vector
-        ensures exact { result ≡ normal_of self.now }
-        ensures size { IsWithin result (2 ^ 26) }
+        ensures exact { result ≡ normal_vector self.now }
+        ensures size { HasSmallComponents result (2 ^ 26) }
     {
         Vector {
             x: i64::from(self.nx),

@@ -1,7 +1,7 @@
 ghost use Rattle.std.specs.Prelude.{◌≡◌, ◌<◌, ◌≤◌, ◌+◌, ◌-◌, ◌^◌, ◌↔◌, [], IsTrue, Some, slice_get, length, IfOk, OnErr};
 ghost use Rattle.qm_space.specs.Reduced.{leads_positive, IsReduced};
 ghost use Rattle.qm_space.specs.Book.{AreBookPlanes};
-ghost use Rattle.qm_geom.specs.Planes.{Enters};
+ghost use Rattle.qm_geom.specs.Planes.{EntersBook};
 
 use crate::plane::Plane;
 use std::alloc::{AllocError, Global};
@@ -76,7 +76,7 @@ impl PlaneBook {
     pub fn number(&mut self, plane: Plane) -> Result<u32, AllocError>
         requires leads { IsTrue (leads_positive plane) }
         requires room { length self.old < 2 ^ 32 - 1 }
-        ensures ok { IfOk result (Enters self.old self.new plane) }
+        ensures ok { IfOk result (EntersBook self.old self.new plane) }
         ensures placed { IfOk result (λ n. slice_get self.new n ≡ Some plane) }
         ensures length { length self.new ≤ length self.old + 1 }
         ensures err { OnErr result (self.new ≡ self.old) }

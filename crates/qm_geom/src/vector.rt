@@ -10,7 +10,7 @@ pub struct Vector {
 }
 
 impl Vector {
-    ghost use Rattle.qm_geom.specs.Vectors.{vector_of, step_between, cross, dot, IsWithin};
+    ghost use Rattle.qm_geom.specs.Vectors.{vector_of, vector_between, cross_vector, dot, HasSmallComponents};
 
     /// Three numbers.
     pub(crate) fn of(numbers: [i32; 3]) -> Vector
@@ -27,8 +27,8 @@ impl Vector {
     pub fn between(from: [i32; 3], to: [i32; 3]) -> Vector
         requires from_in_cube { AreCoordinates from }
         requires to_in_cube { AreCoordinates to }
-        ensures exact { result ≡ step_between (whole_point from) (whole_point to) }
-        ensures size { IsWithin result (2 ^ 26) }
+        ensures exact { result ≡ vector_between (whole_point from) (whole_point to) }
+        ensures size { HasSmallComponents result (2 ^ 26) }
     {
         Vector {
             x: difference(from[0], to[0]),
@@ -39,10 +39,10 @@ impl Vector {
 
     /// The cross product of two steps or normals.
     pub fn cross(&self, other: &Vector) -> Vector
-        requires self_small { IsWithin self.now (2 ^ 26) }
-        requires other_small { IsWithin other.now (2 ^ 26) }
-        ensures exact { result ≡ cross self.now other.now }
-        ensures size { IsWithin result (2 ^ 53) }
+        requires self_small { HasSmallComponents self.now (2 ^ 26) }
+        requires other_small { HasSmallComponents other.now (2 ^ 26) }
+        ensures exact { result ≡ cross_vector self.now other.now }
+        ensures size { HasSmallComponents result (2 ^ 53) }
     {
         Vector {
             x: crossed(self.y, other.z, self.z, other.y),
@@ -53,7 +53,7 @@ impl Vector {
 
     /// The dot product.
     pub(crate) fn dot(&self, other: &Vector) -> i128
-        requires { IsWithin self.now (2 ^ 53) }
+        requires { HasSmallComponents self.now (2 ^ 53) }
         ensures exact { result ≡ dot self.now other.now }
         ensures size { unsigned_abs result ≤ 3 * 2 ^ 116 }
     {

@@ -5,16 +5,16 @@ use Rattle.std.proofs.lemmas.Bool.{lt-ltb, cases_lt}
 use Rattle.std.proofs.lemmas.List.{take_all, take-append-drop, take-append-le, length-take-le}
 use Rattle.std.proofs.lemmas.List.Elements.{All-head, All-tail}
 use Rattle.qm_lists.proofs.Cases.{by_result}
-use Rattle.qm_lex.specs.Lexeme.{Lexeme, line_ends}
-use Rattle.qm_lex.specs.Lexing.{Lexing, prepend}
-use Rattle.qm_lex.specs.inner.Modes.{Mode, between, mode_after, ended_by, read}
-use Rattle.qm_lex.proofs.LaterTokens.{EndsFrom, read_from}
+use Rattle.qm_tokens.specs.Lexeme.{Lexeme, line_ends}
+use Rattle.qm_tokens.specs.Lexing.{Lexing, prepend}
+use Rattle.qm_tokens.specs.inner.Modes.{Mode, between, mode_after, ended_by, read}
+use Rattle.qm_tokens.proofs.LaterTokens.{EndsFrom, read_from}
 use Rattle.qm_grammar.specs.declared.refusal.Refusal.{Refusal}
 use Rattle.qm_grammar.specs.declared.fault.MapFault.TheVariants as fault
 use Rattle.qm_mapfile.specs.declared.entity.MapFile.{MapFile}
 use Rattle.qm_grammar.specs.declared.fault.MapFault.{MapFault}
 use Rattle.qm_grammar.specs.Symbol.{symbol_of}
-use Rattle.qm_grammar.specs.Prefix.{Prefix, outside}
+use Rattle.qm_grammar.specs.Prefix.{Prefix, between_entities}
 use Rattle.qm_grammar.specs.Faults.{text_limit, line_at, end_of, fault_of}
 use Rattle.qm_grammar.specs.Meaning.{Means}
 use Rattle.qm_lists.specs.Limit.{up_to_one_past}
@@ -94,10 +94,10 @@ pub prefix_means : (prefix more : List ℕ) → text_limit < length prefix → m
 unfolding meaning_of
 prefix_means prefix more long =
     alike_is (prefix ++ more) prefix (read between 0 1 (prefix ++ more)).unclosed_line (read between 0 1 prefix).unclosed_line
-    (steps (outside []) (read between 0 1 (prefix ++ more)).lexemes) (steps (outside []) (read between 0 1 prefix).lexemes)
+    (steps (between_entities []) (read between 0 1 (prefix ++ more)).lexemes) (steps (between_entities []) (read between 0 1 prefix).lexemes)
     (omega (arith, length-append prefix more)) long
     (ap (λ bytes. 1 + line_ends bytes) (take-append-le text_limit prefix more (omega arith)))
-    (prefix_alike between 0 1 (outside []) prefix more (text_limit + 1) (omega arith))
+    (prefix_alike between 0 1 (between_entities []) prefix more (text_limit + 1) (omega arith))
 
 -- a text past the limit means what its prefix of one byte past the limit means
 pub cut_means : (text : List ℕ) → text_limit < length text → meaning_of (take (text_limit + 1) text) ≡ meaning_of text

@@ -1,15 +1,15 @@
 -- Which tokens of a text are refused, and when a fault that stands is the first.
 use Rattle.std.proofs.Common.{◌≡◌, ℕ, ◌+◌, ◌<◌, ◌≤◌, List, [], length, map, Ok, Err, inl, inr, ⊎_elim, refl, ap, ap₂, arith, le_of_eq}
 use Rattle.std.proofs.lemmas.Bool.{cases_lt}
-use Rattle.qm_lex.specs.Lexeme.{Lexeme}
-use Rattle.qm_lex.specs.Lexing.{Lexing, IsLexingOf}
+use Rattle.qm_tokens.specs.Lexeme.{Lexeme}
+use Rattle.qm_tokens.specs.Lexing.{Lexing, IsLexingOf}
 use Rattle.qm_grammar.specs.declared.refusal.Refusal.{Refusal}
 use Rattle.qm_grammar.specs.declared.refusal.Refusal.TheVariants as refusal
 use Rattle.qm_grammar.specs.declared.fault.MapFault.{MapFault}
 use Rattle.qm_grammar.specs.declared.fault.MapFault.TheVariants as fault
 use Rattle.qm_grammar.specs.Symbol.{symbol_of}
-use Rattle.qm_grammar.specs.Prefix.{Prefix, outside, IsPrefix}
-use Rattle.qm_grammar.specs.Faults.{text_limit, end_of, fault_of, Rank, of_length, of_end, rank_number, rank_of, IsRefused, EndsInside, Stands, too_long, refused, unclosed, end_inside, no_entity, ComesFirst, IsFirstFault}
+use Rattle.qm_grammar.specs.Prefix.{Prefix, between_entities, IsPrefix}
+use Rattle.qm_grammar.specs.Faults.{text_limit, end_of, fault_of, Rank, of_length, of_end, rank_number, rank_of, IsRefused, EndsInside, Stands, too_long, refused, unclosed, end_inside, no_entity, ComesNoLater, IsFirstFault}
 use Rattle.qm_grammar.specs.inner.Machine.{steps, runs}
 use Rattle.qm_grammar.proofs.Runs.{not_both, same_ok, same_err, IsFirstRefused, steps_first, first_steps, runs_steps}
 use Rattle.qm_grammar.proofs.PrefixRuns.{prefix_runs}
@@ -20,9 +20,9 @@ use Rattle.qm_grammar.proofs.Lexings.{ends_within}
 
 -- ---- the one refused token
 
-pub refused_steps : (lexemes : List Lexeme) (token : Lexeme) (reason : Refusal) → IsRefused lexemes token reason → steps (outside []) lexemes ≡ Err (reason, token)
+pub refused_steps : (lexemes : List Lexeme) (token : Lexeme) (reason : Refusal) → IsRefused lexemes token reason → steps (between_entities []) lexemes ≡ Err (reason, token)
 refused_steps lexemes token reason is =
-    first_steps (outside []) lexemes reason token (record {
+    first_steps (between_entities []) lexemes reason token (record {
       before = is.before;
       after = is.after;
       split = is.split;
@@ -31,9 +31,9 @@ refused_steps lexemes token reason is =
       refused = refused_step is.prefix (symbol_of token) reason is.refuses;
     })
 
-pub steps_refused : (lexemes : List Lexeme) (token : Lexeme) (reason : Refusal) → steps (outside []) lexemes ≡ Err (reason, token) → IsRefused lexemes token reason
+pub steps_refused : (lexemes : List Lexeme) (token : Lexeme) (reason : Refusal) → steps (between_entities []) lexemes ≡ Err (reason, token) → IsRefused lexemes token reason
 steps_refused lexemes token reason read =
-    let first : IsFirstRefused (outside []) lexemes reason token = steps_first (outside []) lexemes reason token read in
+    let first : IsFirstRefused (between_entities []) lexemes reason token = steps_first (between_entities []) lexemes reason token read in
     record {
       before = first.before;
       after = first.after;
@@ -46,20 +46,20 @@ steps_refused lexemes token reason read =
 -- at most one token of a text is refused, and for one reason
 pub one_refused : (lexemes : List Lexeme) (token other : Lexeme) (reason why : Refusal) → IsRefused lexemes token reason → IsRefused lexemes other why → (token ≡ other) × (reason ≡ why)
 one_refused lexemes token other reason why first second =
-    let both : (reason, token) ≡ (why, other) = same_err (steps (outside []) lexemes) (reason, token) (why, other) (refused_steps lexemes token reason first) (refused_steps lexemes other why second) in
+    let both : (reason, token) ≡ (why, other) = same_err (steps (between_entities []) lexemes) (reason, token) (why, other) (refused_steps lexemes token reason first) (refused_steps lexemes other why second) in
     (ap (λ (p : Refusal × Lexeme). p.1) both, ap (λ (p : Refusal × Lexeme). p.0) both)
 
 -- lexemes that are a prefix are read, so none of them is refused
-pub prefix_steps : (lexemes : List Lexeme) (prefix : Prefix) → IsPrefix (map symbol_of lexemes) prefix → steps (outside []) lexemes ≡ Ok prefix
-prefix_steps lexemes prefix is = runs_steps (outside []) prefix lexemes (prefix_runs (map symbol_of lexemes) prefix is)
+pub prefix_steps : (lexemes : List Lexeme) (prefix : Prefix) → IsPrefix (map symbol_of lexemes) prefix → steps (between_entities []) lexemes ≡ Ok prefix
+prefix_steps lexemes prefix is = runs_steps (between_entities []) prefix lexemes (prefix_runs (map symbol_of lexemes) prefix is)
 
-pub none_refused : (lexemes : List Lexeme) (prefix : Prefix) (token : Lexeme) (reason : Refusal) → steps (outside []) lexemes ≡ Ok prefix → IsRefused lexemes token reason → ⊥
+pub none_refused : (lexemes : List Lexeme) (prefix : Prefix) (token : Lexeme) (reason : Refusal) → steps (between_entities []) lexemes ≡ Ok prefix → IsRefused lexemes token reason → ⊥
 none_refused lexemes prefix token reason read is =
-    not_both (steps (outside []) lexemes) prefix (reason, token) read (refused_steps lexemes token reason is)
+    not_both (steps (between_entities []) lexemes) prefix (reason, token) read (refused_steps lexemes token reason is)
 
 -- ---- the order of faults
 
-comes : (at : ℕ) (rank : Rank) (other_at : ℕ) (other_rank : Rank) → at ≤ other_at → rank_number rank ≤ rank_number other_rank → ComesFirst at rank other_at other_rank
+comes : (at : ℕ) (rank : Rank) (other_at : ℕ) (other_rank : Rank) → at ≤ other_at → rank_number rank ≤ rank_number other_rank → ComesNoLater at rank other_at other_rank
 comes at rank other_at other_rank earlier before =
     ⊎_elim (λ less. inl less) (λ same. inr (omega arith, before)) (cases_lt at other_at)
 
@@ -74,7 +74,7 @@ rank_within refusal.BadOrigin = (omega arith, omega arith)
 
 module _ (text : List ℕ) (lexing : Lexing) where
   -- a text that is too long, where no token is refused that ends before
-  pub long_first : text_limit < length text → ((token : Lexeme) (reason : Refusal) → IsRefused lexing.lexemes token reason → text_limit < end_of token) → (at : ℕ) (rank : Rank) (other : MapFault) → Stands text lexing at rank other → ComesFirst (text_limit + 1) of_length at rank
+  pub long_first : text_limit < length text → ((token : Lexeme) (reason : Refusal) → IsRefused lexing.lexemes token reason → text_limit < end_of token) → (at : ℕ) (rank : Rank) (other : MapFault) → Stands text lexing at rank other → ComesNoLater (text_limit + 1) of_length at rank
   long_first long late at rank other (too_long is) = comes (text_limit + 1) of_length at rank (omega arith) (omega arith)
   long_first long late at rank other (refused {token = token} {reason = reason} is) =
       let later = late token reason is in
@@ -84,7 +84,7 @@ module _ (text : List ℕ) (lexing : Lexing) where
   long_first long late at rank other (no_entity closed is) = comes (text_limit + 1) of_length at rank (omega arith) (omega arith)
 
   -- a token that is refused and ends within the limit
-  pub token_first : IsLexingOf text lexing → (token : Lexeme) (reason : Refusal) → IsRefused lexing.lexemes token reason → end_of token ≤ text_limit → (at : ℕ) (rank : Rank) (other : MapFault) → Stands text lexing at rank other → ComesFirst (end_of token) (rank_of reason) at rank
+  pub token_first : IsLexingOf text lexing → (token : Lexeme) (reason : Refusal) → IsRefused lexing.lexemes token reason → end_of token ≤ text_limit → (at : ℕ) (rank : Rank) (other : MapFault) → Stands text lexing at rank other → ComesNoLater (end_of token) (rank_of reason) at rank
   token_first lexed token reason is early at rank other (too_long long) = inl (omega arith)
   token_first lexed token reason is early at rank other (refused {token = second} {reason = why} again) =
       let same = one_refused lexing.lexemes token second reason why is again in
@@ -104,7 +104,7 @@ module _ (text : List ℕ) (lexing : Lexing) where
       comes (end_of token) (rank_of reason) (length text) of_end within (omega arith)
 
   -- a fault at the end, where the text is not too long and all tokens are read
-  pub end_first : length text ≤ text_limit → (prefix : Prefix) → steps (outside []) lexing.lexemes ≡ Ok prefix → (at : ℕ) (rank : Rank) (other : MapFault) → Stands text lexing at rank other → ComesFirst (length text) of_end at rank
+  pub end_first : length text ≤ text_limit → (prefix : Prefix) → steps (between_entities []) lexing.lexemes ≡ Ok prefix → (at : ℕ) (rank : Rank) (other : MapFault) → Stands text lexing at rank other → ComesNoLater (length text) of_end at rank
   end_first short prefix read at rank other (too_long long) = absurd (omega arith)
   end_first short prefix read at rank other (refused {token = token} {reason = reason} is) = absurd (none_refused lexing.lexemes prefix token reason read is)
   end_first short prefix read at rank other (unclosed line) = comes (length text) of_end (length text) of_end (omega arith) (omega arith)
@@ -116,9 +116,9 @@ module _ (text : List ℕ) (lexing : Lexing) where
   -- a text that ends inside has a token
   not_inside : EndsInside lexing.lexemes → lexing.lexemes ≡ [] → ⊥
   not_inside ends none =
-      let read : runs (outside []) (map symbol_of lexing.lexemes) ≡ Ok ends.prefix = prefix_runs (map symbol_of lexing.lexemes) ends.prefix ends.is_prefix in
-      let nothing : runs (outside []) (map symbol_of lexing.lexemes) ≡ Ok (outside []) = ap (λ (l : List Lexeme). runs (outside []) (map symbol_of l)) none in
-      let same : ends.prefix ≡ outside [] = same_ok (runs (outside []) (map symbol_of lexing.lexemes)) ends.prefix (outside []) read nothing in
+      let read : runs (between_entities []) (map symbol_of lexing.lexemes) ≡ Ok ends.prefix = prefix_runs (map symbol_of lexing.lexemes) ends.prefix ends.is_prefix in
+      let nothing : runs (between_entities []) (map symbol_of lexing.lexemes) ≡ Ok (between_entities []) = ap (λ (l : List Lexeme). runs (between_entities []) (map symbol_of l)) none in
+      let same : ends.prefix ≡ between_entities [] = same_ok (runs (between_entities []) (map symbol_of lexing.lexemes)) ends.prefix (between_entities []) read nothing in
       ends.inside (ap (λ (f : Prefix). f.context) same)
 
   pub same_fault : (at other_at : ℕ) (rank other_rank : Rank) (one other : MapFault) → Stands text lexing at rank one → Stands text lexing other_at other_rank other → at ≡ other_at → rank_number rank ≡ rank_number other_rank → one ≡ other
@@ -152,7 +152,7 @@ module _ (text : List ℕ) (lexing : Lexing) where
   same_fault at other_at rank other_rank one other (no_entity closed none) (end_inside closed' ends) offsets ranks = absurd (not_inside ends none)
   same_fault at other_at rank other_rank one other (no_entity closed none) (no_entity closed' none') offsets ranks = refl
 
-  earliest : (at other_at : ℕ) (rank other_rank : Rank) → ComesFirst at rank other_at other_rank → ComesFirst other_at other_rank at rank → (at ≡ other_at) × (rank_number rank ≡ rank_number other_rank)
+  earliest : (at other_at : ℕ) (rank other_rank : Rank) → ComesNoLater at rank other_at other_rank → ComesNoLater other_at other_rank at rank → (at ≡ other_at) × (rank_number rank ≡ rank_number other_rank)
   earliest at other_at rank other_rank (inl less) (inl more) = absurd (omega arith)
   earliest at other_at rank other_rank (inl less) (inr same) = absurd (let e = same.0 in omega arith)
   earliest at other_at rank other_rank (inr same) (inl more) = absurd (let e = same.0 in omega arith)

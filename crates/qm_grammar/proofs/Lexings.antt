@@ -2,12 +2,12 @@
 use Rattle.std.proofs.Common.{◌≡◌, ℕ, ◌<◌, ◌≤◌, List, ◌∷◌, ◌++◌, length, refl, sym, subst, ◌∙◌, length-append, arith}
 use Rattle.std.specs.Prelude.{All}
 use Rattle.std.proofs.lemmas.List.{get_or_at}
-use Rattle.qm_lex.specs.Lexeme.{Lexeme, StandsIn}
-use Rattle.qm_lex.specs.Lexing.{Lexing, IsLexingOf}
-use Rattle.qm_lex.specs.inner.Modes.{between, read}
-use Rattle.qm_lex.proofs.Cutting.{pieces_of}
-use Rattle.qm_lex.proofs.PieceRuns.{read_pieces}
-use Rattle.qm_lex.proofs.Standing.{pieces_stand}
+use Rattle.qm_tokens.specs.Lexeme.{Lexeme, StandsIn}
+use Rattle.qm_tokens.specs.Lexing.{Lexing, IsLexingOf}
+use Rattle.qm_tokens.specs.inner.Modes.{between, read}
+use Rattle.qm_tokens.proofs.Cutting.{pieces_of}
+use Rattle.qm_tokens.proofs.PieceRuns.{read_pieces}
+use Rattle.qm_tokens.proofs.Standing.{pieces_stand}
 use Rattle.qm_grammar.specs.Faults.{end_of}
 
 pub read_lexing : (text : List ℕ) → IsLexingOf text (read between 0 1 text)

@@ -2,13 +2,13 @@
 use Rattle.std.proofs.Common.{◌≡◌, ℕ, Bool, true, false, ◌&&◌, ℤ, neg_ℤ, int_le, List, Result, Ok, Err, ap, refl, sym, subst, ◌∙◌, arith}
 use Rattle.std.proofs.lemmas.Bool.{and_parts, and_from, true_from_ne_false, false_from_ne_true, both_ways}
 use Rattle.std.proofs.lemmas.Int.{ints}
-use Rattle.qm_decimal.specs.declared.fraction.Fraction.{Fraction}
-use Rattle.qm_decimal.specs.declared.fraction.NumberFault.{NumberFault}
-use Rattle.qm_decimal.specs.declared.fraction.NumberFault.TheVariants as number
-use Rattle.qm_decimal.specs.Answer.{IsNoNumber, IsTooFineText, IsTooLargeText, IsAnswer}
-use Rattle.qm_decimal.specs.Computed.{read_at}
-use Rattle.qm_decimal.proofs.Computed.{read_at_answers}
-use Rattle.qm_decimal.proofs.Uniqueness.{same_answer}
+use Rattle.qm_numerals.specs.declared.fraction.Fraction.{Fraction}
+use Rattle.qm_numerals.specs.declared.fraction.NumberFault.{NumberFault}
+use Rattle.qm_numerals.specs.declared.fraction.NumberFault.TheVariants as number
+use Rattle.qm_numerals.specs.Answer.{IsNoNumber, IsTooFineText, IsTooLargeText, IsAnswer}
+use Rattle.qm_numerals.specs.Computed.{read_at}
+use Rattle.qm_numerals.proofs.Computed.{read_at_answers}
+use Rattle.qm_numerals.proofs.Uniqueness.{same_answer}
 use Rattle.qm_space.specs.Point.{IsCoordinate}
 use Rattle.qm_space.specs.Bounds.{extent}
 use Rattle.qm_grammar.specs.declared.refusal.Refusal.{Refusal}

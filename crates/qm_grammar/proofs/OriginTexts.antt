@@ -2,13 +2,13 @@
 use Rattle.std.proofs.Common.{◌≡◌, ◌<◌, ℕ, ◌*◌, Bool, true, false, ℤ, pos, unsigned_abs, ltb, List, [], ◌∷◌, Option, Some, None, is_none, Result, Ok, Err, ap, refl, sym, subst, ◌∙◌}
 use Rattle.std.proofs.lemmas.Bool.{lt-ltb, ltb-true}
 use Rattle.qm_lists.proofs.Cases.{by_option}
-use Rattle.qm_decimal.specs.declared.fraction.Fraction.{Fraction}
-use Rattle.qm_decimal.specs.declared.fraction.NumberFault.{NumberFault}
-use Rattle.qm_decimal.specs.Answer.{IsAnswer}
-use Rattle.qm_decimal.specs.Computed.{read_at}
+use Rattle.qm_numerals.specs.declared.fraction.Fraction.{Fraction}
+use Rattle.qm_numerals.specs.declared.fraction.NumberFault.{NumberFault}
+use Rattle.qm_numerals.specs.Answer.{IsAnswer}
+use Rattle.qm_numerals.specs.Computed.{read_at}
 use Rattle.qm_space.specs.Bounds.{world_extent}
 use Rattle.qm_space.specs.Point.{Point}
-use Rattle.qm_grammar.specs.Words.{words_of}
+use Rattle.qm_grammar.specs.Words.{words_of_text}
 use Rattle.qm_grammar.specs.Number.{SpellsMillionths, parts_of_unit}
 use Rattle.qm_grammar.specs.Origin.{SpellsOrigin, IsOriginText}
 use Rattle.qm_grammar.specs.inner.Machine.{millionths_in_range, millionths_of_answer, millionths_of, point_of_words, origin_of}
@@ -56,7 +56,7 @@ spelled_origin value point spells =
     (ap make (sym spells.w))
 
 -- the point of three numbers that are read
-three_read : (value a b c : List ℕ) (x y z : ℤ) (point : Point) → words_of value ≡ a ∷ b ∷ c ∷ [] → millionths_of a ≡ Some x → millionths_of b ≡ Some y → millionths_of c ≡ Some z → point_of_words (a ∷ b ∷ c ∷ []) ≡ Some point → SpellsOrigin value point
+three_read : (value a b c : List ℕ) (x y z : ℤ) (point : Point) → words_of_text value ≡ a ∷ b ∷ c ∷ [] → millionths_of a ≡ Some x → millionths_of b ≡ Some y → millionths_of c ≡ Some z → point_of_words (a ∷ b ∷ c ∷ []) ≡ Some point → SpellsOrigin value point
 three_read value a b c x y z point words first second third read =
     let made : Point = record { x = x; y = y; z = z; w = pos parts_of_unit } in
     let same : Some made ≡ Some point = rw (first, second, third) at read in
@@ -73,7 +73,7 @@ no_second a b c x point first none read = let never : None ≡ Some point = rw (
 no_third : (a b c : List ℕ) (x y : ℤ) (point : Point) → millionths_of a ≡ Some x → millionths_of b ≡ Some y → millionths_of c ≡ None → point_of_words (a ∷ b ∷ c ∷ []) ≡ Some point → ⊥
 no_third a b c x y point first second none read = let never : None ≡ Some point = rw (first, second, none) at read in cc
 
-words_read : (value : List ℕ) (point : Point) (words : List (List ℕ)) → words_of value ≡ words → point_of_words words ≡ Some point → SpellsOrigin value point
+words_read : (value : List ℕ) (point : Point) (words : List (List ℕ)) → words_of_text value ≡ words → point_of_words words ≡ Some point → SpellsOrigin value point
 words_read value point [] is read = absurd cc
 words_read value point (a ∷ []) is read = absurd cc
 words_read value point (a ∷ b ∷ []) is read = absurd cc
@@ -86,7 +86,7 @@ words_read value point (a ∷ b ∷ c ∷ d ∷ more) is read = absurd cc
 
 pub origin_spelled : (value : List ℕ) (point : Point) → origin_of value ≡ Some point → SpellsOrigin value point
 unfolding origin_of
-origin_spelled value point read = words_read value point (words_of value) refl read
+origin_spelled value point read = words_read value point (words_of_text value) refl read
 
 -- ---- whether a value gives a point
 

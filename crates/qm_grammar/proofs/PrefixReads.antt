@@ -18,7 +18,7 @@ use Rattle.qm_grammar.specs.Symbol.{Symbol, sort_of}
 use Rattle.qm_grammar.specs.Slots.{mark, none, more}
 use Rattle.qm_grammar.specs.Origin.{origin_key, value_of, IsOriginText}
 use Rattle.qm_grammar.specs.Grammar.{SpellsBrush, SpellsEntity, SpellsEntities}
-use Rattle.qm_grammar.specs.Prefix.{Prefix, outside, in_entity, behind_key, in_brush, in_face, IsOutside, IsInEntity, IsInBrush, IsInFace, IsBehindKey, IsPrefix, outside_prefix, entity_prefix, key_prefix, brush_prefix, face_prefix, in_head}
+use Rattle.qm_grammar.specs.Prefix.{Prefix, between_entities, in_entity, behind_key, in_brush, in_face, IsOutside, IsInEntity, IsInBrush, IsInFace, IsBehindKey, IsPrefix, outside_prefix, entity_prefix, key_prefix, brush_prefix, face_prefix, in_head}
 use Rattle.qm_grammar.specs.inner.Machine.{step, step_at, step_outside, step_entity, step_value, step_brush, is_bad_origin, origin_of, runs, behind_first}
 use Rattle.qm_grammar.proofs.Runs.{runs_step, runs_refused, not_both}
 use Rattle.qm_grammar.proofs.OriginTexts.{some_origin}
@@ -83,7 +83,7 @@ next_is symbols prefix next same is = let e : prefix ≡ next = cc in subst (IsP
 reassoc : (before inner : List Symbol) (opens symbol : Symbol) → (before ++ opens ∷ inner) ++ symbol ∷ [] ≡ before ++ opens ∷ (inner ++ symbol ∷ [])
 reassoc before inner opens symbol = append_assoc before (opens ∷ inner) (symbol ∷ [])
 
-outside_next : (symbols : List Symbol) (es : List Entity) (symbol : Symbol) (next : Prefix) (s : Sort) → sort_of symbol ≡ s → IsOutside symbols es → step_at (outside es).context (outside es) s symbol.bytes ≡ Ok next → IsPrefix (symbols ++ symbol ∷ []) next
+outside_next : (symbols : List Symbol) (es : List Entity) (symbol : Symbol) (next : Prefix) (s : Sort) → sort_of symbol ≡ s → IsOutside symbols es → step_at (between_entities es).context (between_entities es) s symbol.bytes ≡ Ok next → IsPrefix (symbols ++ symbol ∷ []) next
 unfolding step_outside
 outside_next symbols es symbol next (sort.Mark OpenBrace) opens is read =
     next_is (symbols ++ symbol ∷ []) (in_entity es [] []) next read
@@ -120,7 +120,7 @@ entity_next symbols es ps bs symbol next (sort.Mark OpenBrace) sorted is read =
     next_is (symbols ++ symbol ∷ []) (in_brush es ps bs []) next read
     (brush_prefix (record { before = symbols; open_brace = symbol; inner = []; split = refl; entity = is; opens = sorted; spelled = no_faces_spelled }))
 entity_next symbols es ps bs symbol next (sort.Mark CloseBrace) sorted is read =
-    next_is (symbols ++ symbol ∷ []) (outside (es ++ (record { pairs = ps; brushes = bs }) ∷ [])) next read
+    next_is (symbols ++ symbol ∷ []) (between_entities (es ++ (record { pairs = ps; brushes = bs }) ∷ [])) next read
     (outside_prefix (closed_entity symbols es ps bs symbol sorted is))
 entity_next symbols es ps bs symbol next s sorted is read = absurd cc
 
@@ -241,7 +241,7 @@ sorted prefix symbol next read = sym (step_sorted prefix symbol (sort_of symbol)
 -- a symbol that is read behind a prefix makes a prefix
 pub prefix_next : (symbols : List Symbol) (prefix next : Prefix) (symbol : Symbol) → IsPrefix symbols prefix → step prefix symbol ≡ Ok next → IsPrefix (symbols ++ symbol ∷ []) next
 prefix_next symbols prefix next symbol (outside_prefix {entities = es} is) read =
-    outside_next symbols es symbol next (sort_of symbol) refl is (sorted (outside es) symbol next read)
+    outside_next symbols es symbol next (sort_of symbol) refl is (sorted (between_entities es) symbol next read)
 prefix_next symbols prefix next symbol (entity_prefix {entities = es} {pairs = ps} {brushes = bs} is) read =
     entity_next symbols es ps bs symbol next (sort_of symbol) refl is (sorted (in_entity es ps bs) symbol next read)
 prefix_next symbols prefix next symbol (key_prefix {entities = es} {pairs = ps} {brushes = bs} {key = key} is) read =
@@ -262,6 +262,6 @@ runs_prefix_from before (symbol ∷ symbols) prefix next is read =
     (λ reason refused. not_both (runs prefix (symbol ∷ symbols)) next reason read (runs_refused prefix symbol symbols reason refused))
 
 -- what is read through is a prefix
-pub runs_prefix : (symbols : List Symbol) (prefix : Prefix) → runs (outside []) symbols ≡ Ok prefix → IsPrefix symbols prefix
+pub runs_prefix : (symbols : List Symbol) (prefix : Prefix) → runs (between_entities []) symbols ≡ Ok prefix → IsPrefix symbols prefix
 runs_prefix symbols prefix read =
-    runs_prefix_from [] symbols (outside []) prefix (outside_prefix (record { spelled = no_entities_spelled; origins = tt })) read
+    runs_prefix_from [] symbols (between_entities []) prefix (outside_prefix (record { spelled = no_entities_spelled; origins = tt })) read

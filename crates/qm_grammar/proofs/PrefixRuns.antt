@@ -14,7 +14,7 @@ use Rattle.qm_grammar.specs.declared.mark.Sort.TheVariants as sort
 use Rattle.qm_grammar.specs.Symbol.{Symbol, sort_of}
 use Rattle.qm_grammar.specs.Origin.{origin_key, value_of, IsOriginText, HasGoodOrigin, OriginsAreGood}
 use Rattle.qm_grammar.specs.Grammar.{SpellsFaces, none, more, SpellsBrush, SpellsParts, pair, brush, SpellsEntity, SpellsEntities}
-use Rattle.qm_grammar.specs.Prefix.{Prefix, outside, in_entity, behind_key, in_brush, in_face, IsOutside, IsInEntity, IsInBrush, IsPrefix, outside_prefix, entity_prefix, key_prefix, brush_prefix, face_prefix}
+use Rattle.qm_grammar.specs.Prefix.{Prefix, between_entities, in_entity, behind_key, in_brush, in_face, IsOutside, IsInEntity, IsInBrush, IsPrefix, outside_prefix, entity_prefix, key_prefix, brush_prefix, face_prefix}
 use Rattle.qm_grammar.specs.inner.Machine.{step, step_outside, step_entity, step_value, step_brush, is_bad_origin, origin_of, runs}
 use Rattle.qm_grammar.proofs.Parts.{all_prefix}
 use Rattle.qm_grammar.proofs.Runs.{runs_step, runs_then, runs_one}
@@ -24,16 +24,16 @@ use Rattle.qm_grammar.proofs.FaceRuns.{face_run, begun_run}
 
 -- ---- single steps
 
-pub entity_opens : (es : List Entity) (symbol : Symbol) → sort_of symbol ≡ sort.Mark OpenBrace → step (outside es) symbol ≡ Ok (in_entity es [] [])
+pub entity_opens : (es : List Entity) (symbol : Symbol) → sort_of symbol ≡ sort.Mark OpenBrace → step (between_entities es) symbol ≡ Ok (in_entity es [] [])
 unfolding step_outside
-entity_opens es symbol is = step_sorted (outside es) symbol (sort.Mark OpenBrace) is
+entity_opens es symbol is = step_sorted (between_entities es) symbol (sort.Mark OpenBrace) is
 
 module _ (es : List Entity) (ps : List Pair) (bs : List Brush) where
   pub brush_opens : (symbol : Symbol) → sort_of symbol ≡ sort.Mark OpenBrace → step (in_entity es ps bs) symbol ≡ Ok (in_brush es ps bs [])
   unfolding step_entity
   brush_opens symbol is = step_sorted (in_entity es ps bs) symbol (sort.Mark OpenBrace) is
 
-  pub entity_closes : (symbol : Symbol) → sort_of symbol ≡ sort.Mark CloseBrace → step (in_entity es ps bs) symbol ≡ Ok (outside (es ++ (record { pairs = ps; brushes = bs }) ∷ []))
+  pub entity_closes : (symbol : Symbol) → sort_of symbol ≡ sort.Mark CloseBrace → step (in_entity es ps bs) symbol ≡ Ok (between_entities (es ++ (record { pairs = ps; brushes = bs }) ∷ []))
   unfolding step_entity
   entity_closes symbol is = step_sorted (in_entity es ps bs) symbol (sort.Mark CloseBrace) is
 
@@ -138,60 +138,60 @@ parts_run es ps bs symbols pairs brushes (brush {symbols = first} {others = othe
 
 -- ---- entities
 
-entity_run : (es : List Entity) (symbols : List Symbol) (one : Entity) → SpellsEntity symbols one → IsGoodBehind es one.pairs → runs (outside es) symbols ≡ Ok (outside (es ++ one ∷ []))
+entity_run : (es : List Entity) (symbols : List Symbol) (one : Entity) → SpellsEntity symbols one → IsGoodBehind es one.pairs → runs (between_entities es) symbols ≡ Ok (between_entities (es ++ one ∷ []))
 entity_run es symbols one spells good =
-    ap (runs (outside es)) (spells.braced).spelled
-    ∙ runs_step (outside es) (in_entity es [] []) (spells.braced).open_brace (spells.inner ++ (spells.braced).close_brace ∷ []) (entity_opens es (spells.braced).open_brace (spells.braced).opens)
-    ∙ runs_then (in_entity es [] []) (in_entity es one.pairs one.brushes) (outside (es ++ one ∷ [])) spells.inner ((spells.braced).close_brace ∷ [])
+    ap (runs (between_entities es)) (spells.braced).spelled
+    ∙ runs_step (between_entities es) (in_entity es [] []) (spells.braced).open_brace (spells.inner ++ (spells.braced).close_brace ∷ []) (entity_opens es (spells.braced).open_brace (spells.braced).opens)
+    ∙ runs_then (in_entity es [] []) (in_entity es one.pairs one.brushes) (between_entities (es ++ one ∷ [])) spells.inner ((spells.braced).close_brace ∷ [])
     (parts_run es [] [] spells.inner one.pairs one.brushes spells.parts good)
-    (runs_one (in_entity es one.pairs one.brushes) (outside (es ++ one ∷ [])) (spells.braced).close_brace
+    (runs_one (in_entity es one.pairs one.brushes) (between_entities (es ++ one ∷ [])) (spells.braced).close_brace
     (entity_closes es one.pairs one.brushes (spells.braced).close_brace (spells.braced).closes))
 
-entities_run : (es : List Entity) (symbols : List Symbol) (entities : List Entity) → SpellsEntities symbols entities → OriginsAreGood (es ++ entities) → runs (outside es) symbols ≡ Ok (outside (es ++ entities))
-entities_run es symbols entities none good = ap (λ (l : List Entity). Ok (outside l)) (sym (append-nil es))
+entities_run : (es : List Entity) (symbols : List Symbol) (entities : List Entity) → SpellsEntities symbols entities → OriginsAreGood (es ++ entities) → runs (between_entities es) symbols ≡ Ok (between_entities (es ++ entities))
+entities_run es symbols entities none good = ap (λ (l : List Entity). Ok (between_entities l)) (sym (append-nil es))
 entities_run es symbols entities (more {symbols = first} {others = others} {entity = one} {entities = rest} spells spell_rest) good =
     let moved : OriginsAreGood ((es ++ one ∷ []) ++ rest) = subst OriginsAreGood (sym (append_assoc es (one ∷ []) rest)) good in
     let here : IsGoodBehind es one.pairs = good_last es one (good_prefix (es ++ one ∷ []) rest moved) in
-    runs_then (outside es) (outside (es ++ one ∷ [])) (outside ((es ++ one ∷ []) ++ rest)) first others
+    runs_then (between_entities es) (between_entities (es ++ one ∷ [])) (between_entities ((es ++ one ∷ []) ++ rest)) first others
     (entity_run es first one spells here)
     (entities_run (es ++ one ∷ []) others rest spell_rest moved)
-    ∙ ap (λ (l : List Entity). Ok (outside l)) (append_assoc es (one ∷ []) rest)
+    ∙ ap (λ (l : List Entity). Ok (between_entities l)) (append_assoc es (one ∷ []) rest)
 
 -- ---- prefixes
 
-outside_runs : (symbols : List Symbol) (es : List Entity) → IsOutside symbols es → runs (outside []) symbols ≡ Ok (outside es)
+outside_runs : (symbols : List Symbol) (es : List Entity) → IsOutside symbols es → runs (between_entities []) symbols ≡ Ok (between_entities es)
 outside_runs symbols es is = entities_run [] symbols es is.spelled is.origins
 
-entity_runs : (symbols : List Symbol) (es : List Entity) (ps : List Pair) (bs : List Brush) → IsInEntity symbols es ps bs → runs (outside []) symbols ≡ Ok (in_entity es ps bs)
+entity_runs : (symbols : List Symbol) (es : List Entity) (ps : List Pair) (bs : List Brush) → IsInEntity symbols es ps bs → runs (between_entities []) symbols ≡ Ok (in_entity es ps bs)
 entity_runs symbols es ps bs is =
     let last : Entity = record { pairs = ps; brushes = bs } in
-    ap (runs (outside [])) is.split
-    ∙ runs_then (outside []) (outside es) (in_entity es ps bs) is.before (is.open_brace ∷ is.inner)
+    ap (runs (between_entities [])) is.split
+    ∙ runs_then (between_entities []) (between_entities es) (in_entity es ps bs) is.before (is.open_brace ∷ is.inner)
     (entities_run [] is.before es is.spelled (good_before es last is.origins))
-    (runs_step (outside es) (in_entity es [] []) is.open_brace is.inner (entity_opens es is.open_brace is.opens)
+    (runs_step (between_entities es) (in_entity es [] []) is.open_brace is.inner (entity_opens es is.open_brace is.opens)
     ∙ parts_run es [] [] is.inner ps bs is.parts (good_last es last is.origins))
 
-brush_runs : (symbols : List Symbol) (es : List Entity) (ps : List Pair) (bs : List Brush) (fs : List Face) → IsInBrush symbols es ps bs fs → runs (outside []) symbols ≡ Ok (in_brush es ps bs fs)
+brush_runs : (symbols : List Symbol) (es : List Entity) (ps : List Pair) (bs : List Brush) (fs : List Face) → IsInBrush symbols es ps bs fs → runs (between_entities []) symbols ≡ Ok (in_brush es ps bs fs)
 brush_runs symbols es ps bs fs is =
-    ap (runs (outside [])) is.split
-    ∙ runs_then (outside []) (in_entity es ps bs) (in_brush es ps bs fs) is.before (is.open_brace ∷ is.inner)
+    ap (runs (between_entities [])) is.split
+    ∙ runs_then (between_entities []) (in_entity es ps bs) (in_brush es ps bs fs) is.before (is.open_brace ∷ is.inner)
     (entity_runs is.before es ps bs is.entity)
     (runs_step (in_entity es ps bs) (in_brush es ps bs []) is.open_brace is.inner (brush_opens es ps bs is.open_brace is.opens)
     ∙ faces_run es ps bs [] is.inner fs is.spelled)
 
 -- what is a prefix is read through, and gives what it has spelled
-pub prefix_runs : (symbols : List Symbol) (prefix : Prefix) → IsPrefix symbols prefix → runs (outside []) symbols ≡ Ok prefix
+pub prefix_runs : (symbols : List Symbol) (prefix : Prefix) → IsPrefix symbols prefix → runs (between_entities []) symbols ≡ Ok prefix
 prefix_runs symbols prefix (outside_prefix {entities = es} is) = outside_runs symbols es is
 prefix_runs symbols prefix (entity_prefix {entities = es} {pairs = ps} {brushes = bs} is) = entity_runs symbols es ps bs is
 prefix_runs symbols prefix (key_prefix {entities = es} {pairs = ps} {brushes = bs} {key = key} is) =
-    ap (runs (outside [])) is.split
-    ∙ runs_then (outside []) (in_entity es ps bs) (behind_key es ps bs key) is.before (is.key_symbol ∷ [])
+    ap (runs (between_entities [])) is.split
+    ∙ runs_then (between_entities []) (in_entity es ps bs) (behind_key es ps bs key) is.before (is.key_symbol ∷ [])
     (entity_runs is.before es ps bs is.entity)
     (runs_one (in_entity es ps bs) (behind_key es ps bs key) is.key_symbol
     (key_read es ps bs is.key_symbol is.quoted ∙ ap (λ (k : List ℕ). Ok (behind_key es ps bs k)) (sym is.is_key)))
 prefix_runs symbols prefix (brush_prefix {entities = es} {pairs = ps} {brushes = bs} {faces = fs} is) = brush_runs symbols es ps bs fs is
 prefix_runs symbols prefix (face_prefix {entities = es} {pairs = ps} {brushes = bs} {faces = fs} {numbers = ns} {texts = ts} {left = left} is) =
-    ap (runs (outside [])) is.split
-    ∙ runs_then (outside []) (in_brush es ps bs fs) (in_face es ps bs fs ns ts left) is.before is.begun
+    ap (runs (between_entities [])) is.split
+    ∙ runs_then (between_entities []) (in_brush es ps bs fs) (in_face es ps bs fs ns ts left) is.before is.begun
     (brush_runs is.before es ps bs fs is.brush)
     (begun_run es ps bs fs is.begun ns ts left is.begins)

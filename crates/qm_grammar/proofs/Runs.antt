@@ -1,7 +1,7 @@
 -- How a row of symbols is read, one by one, and how that goes with a row of lexemes.
 use Rattle.std.proofs.Common.{◌≡◌, List, [], ◌∷◌, ◌++◌, map, Result, Ok, Err, refl, sym, ap, ◌∙◌}
 use Rattle.qm_lists.proofs.Cases.{by_result}
-use Rattle.qm_lex.specs.Lexeme.{Lexeme}
+use Rattle.qm_tokens.specs.Lexeme.{Lexeme}
 use Rattle.qm_grammar.specs.declared.refusal.Refusal.{Refusal}
 use Rattle.qm_grammar.specs.Symbol.{Symbol, symbol_of}
 use Rattle.qm_grammar.specs.Prefix.{Prefix}

@@ -1,8 +1,8 @@
 -- Worked rows: what some short texts mean.
 use Rattle.std.proofs.Common.{◌≡◌, ℕ, pos, neg_ℤ, List, [], ◌∷◌, codes, Ok, Err, refl, subst}
-use Rattle.qm_lex.specs.inner.Modes.{read}
+use Rattle.qm_tokens.specs.inner.Modes.{read}
 use Rattle.qm_space.specs.ThreePoints.{outward_plane}
-use Rattle.qm_decimal.specs.Computed.{answer_of_parts, unsigned_at, read_at}
+use Rattle.qm_numerals.specs.Computed.{answer_of_parts, unsigned_at, read_at}
 use Rattle.qm_mapfile.specs.declared.face.Face.{Face}
 use Rattle.qm_mapfile.specs.declared.face.Mapping.TheVariants.{Standard, Valve}
 use Rattle.qm_mapfile.specs.declared.entity.MapFile.{MapFile}

@@ -4,11 +4,11 @@ use Rattle.std.specs.Prelude.{All, IfSome}
 use Rattle.std.proofs.lemmas.List.{length-map}
 use Rattle.std.proofs.lemmas.List.Elements.{All-nil, All-cons, All-map, All-contains}
 use Rattle.qm_lists.proofs.Cases.{by_option}
-use Rattle.qm_lex.specs.declared.token.TokenKind.{TokenKind}
-use Rattle.qm_lex.specs.declared.token.TokenKind.TheVariants as kind
-use Rattle.qm_lex.specs.Lexeme.{Lexeme, line_ends}
-use Rattle.qm_lex.specs.Lexing.{Lexing, IsLexingOf, prepend, lexeme_at, lexing_from}
-use Rattle.qm_lex.specs.Piece.{Piece, blank, comment, word, quoted, unclosed, bytes_of, OpensWord, IsPiece, ArePiecesOf}
+use Rattle.qm_tokens.specs.declared.token.TokenKind.{TokenKind}
+use Rattle.qm_tokens.specs.declared.token.TokenKind.TheVariants as kind
+use Rattle.qm_tokens.specs.Lexeme.{Lexeme, line_ends}
+use Rattle.qm_tokens.specs.Lexing.{Lexing, IsLexingOf, prepend, lexeme_at, lexing_from}
+use Rattle.qm_tokens.specs.Piece.{TextPiece, blank, comment, word, quoted, unclosed, bytes_of_piece, OpensWord, IsTextPiece, ArePiecesOf}
 use Rattle.qm_grammar.specs.declared.mark.Mark.{Mark}
 use Rattle.qm_grammar.specs.declared.mark.Sort.TheVariants as sort
 use Rattle.qm_grammar.specs.Symbol.{Symbol, symbol_of, mark_of, word_sort, sort_by_kind, sort_of}
@@ -27,7 +27,7 @@ IsLexemeText lexeme = IsKindText lexeme.kind lexeme.bytes
 
 -- ---- the tokens of a text
 
-piece_text : (offset line : ℕ) (piece : Piece) (after : List ℕ) → IsPiece piece after → IfSome (lexeme_at offset line piece) IsLexemeText
+piece_text : (offset line : ℕ) (piece : TextPiece) (after : List ℕ) → IsTextPiece piece after → IfSome (lexeme_at offset line piece) IsLexemeText
 piece_text offset line (blank byte) after is = tt
 piece_text offset line (comment bytes) after is = tt
 piece_text offset line (word bytes) after is = (is.0, is.1)
@@ -38,13 +38,13 @@ all_texts : (first : Option Lexeme) (rest : Lexing) → IfSome first IsLexemeTex
 all_texts None rest is others = others
 all_texts (Some lexeme) rest is others = All-cons IsLexemeText lexeme rest.lexemes is others
 
-pieces_texts : (offset line : ℕ) (text : List ℕ) (pieces : List Piece) → ArePiecesOf text pieces → All IsLexemeText (lexing_from offset line pieces).lexemes
+pieces_texts : (offset line : ℕ) (text : List ℕ) (pieces : List TextPiece) → ArePiecesOf text pieces → All IsLexemeText (lexing_from offset line pieces).lexemes
 pieces_texts offset line text [] are = All-nil IsLexemeText
 pieces_texts offset line text (unclosed bytes ∷ pieces) are = All-nil IsLexemeText
 pieces_texts offset line text (piece ∷ pieces) (after, joined, is, are) =
-    all_texts (lexeme_at offset line piece) (lexing_from (offset + length (bytes_of piece)) (line + line_ends (bytes_of piece)) pieces)
+    all_texts (lexeme_at offset line piece) (lexing_from (offset + length (bytes_of_piece piece)) (line + line_ends (bytes_of_piece piece)) pieces)
     (piece_text offset line piece after is)
-    (pieces_texts (offset + length (bytes_of piece)) (line + line_ends (bytes_of piece)) after pieces are)
+    (pieces_texts (offset + length (bytes_of_piece piece)) (line + line_ends (bytes_of_piece piece)) after pieces are)
 
 pub lexing_texts : (text : List ℕ) (lexing : Lexing) → IsLexingOf text lexing → All IsTokenText (map symbol_of lexing.lexemes)
 lexing_texts text lexing is =
@@ -52,7 +52,7 @@ lexing_texts text lexing is =
     (All-map IsTokenText symbol_of (lexing_from 0 1 is.0).lexemes (pieces_texts 0 1 text is.0 is.1))
 
 -- a piece that gives a token has a byte
-piece_counted : (offset line : ℕ) (piece : Piece) (after : List ℕ) (rest : Lexing) → IsPiece piece after → length rest.lexemes ≤ length after → length (prepend (lexeme_at offset line piece) rest).lexemes ≤ length (bytes_of piece) + length after
+piece_counted : (offset line : ℕ) (piece : TextPiece) (after : List ℕ) (rest : Lexing) → IsTextPiece piece after → length rest.lexemes ≤ length after → length (prepend (lexeme_at offset line piece) rest).lexemes ≤ length (bytes_of_piece piece) + length after
 piece_counted offset line (blank byte) after rest is few = omega arith
 piece_counted offset line (comment bytes) after rest is few = omega arith
 piece_counted offset line (word []) after rest is few = absurd is.0
@@ -60,14 +60,14 @@ piece_counted offset line (word (byte ∷ bytes)) after rest is few = omega arit
 piece_counted offset line (quoted bytes) after rest is few = omega arith
 piece_counted offset line (unclosed bytes) after rest is few = omega arith
 
-pieces_counted : (offset line : ℕ) (text : List ℕ) (pieces : List Piece) → ArePiecesOf text pieces → length (lexing_from offset line pieces).lexemes ≤ length text
+pieces_counted : (offset line : ℕ) (text : List ℕ) (pieces : List TextPiece) → ArePiecesOf text pieces → length (lexing_from offset line pieces).lexemes ≤ length text
 pieces_counted offset line text [] are = omega arith
 pieces_counted offset line text (unclosed bytes ∷ pieces) are = omega arith
 pieces_counted offset line text (piece ∷ pieces) (after, joined, is, are) =
-    let rest = lexing_from (offset + length (bytes_of piece)) (line + line_ends (bytes_of piece)) pieces in
-    let few = pieces_counted (offset + length (bytes_of piece)) (line + line_ends (bytes_of piece)) after pieces are in
+    let rest = lexing_from (offset + length (bytes_of_piece piece)) (line + line_ends (bytes_of_piece piece)) pieces in
+    let few = pieces_counted (offset + length (bytes_of_piece piece)) (line + line_ends (bytes_of_piece piece)) after pieces are in
     let count = piece_counted offset line piece after rest is few in
-    let whole : length text ≡ length (bytes_of piece) + length after = ap length joined ∙ length-append (bytes_of piece) after in
+    let whole : length text ≡ length (bytes_of_piece piece) + length after = ap length joined ∙ length-append (bytes_of_piece piece) after in
     omega (arith, whole, count)
 
 pub lexing_counted : (text : List ℕ) (lexing : Lexing) → IsLexingOf text lexing → length (map symbol_of lexing.lexemes) ≤ length text

@@ -12,7 +12,7 @@ use Rattle.qm_mapfile.specs.declared.entity.MapFile.{MapFile}
 use Rattle.qm_grammar.specs.Symbol.{Symbol, symbol_of}
 use Rattle.qm_grammar.specs.Grammar.{SpellsFaces, none, more, IsBraced, SpellsBrush, SpellsPair, SpellsParts, pair, brush, SpellsEntity, SpellsEntities, SpellsMap}
 use Rattle.qm_grammar.specs.Meaning.{IsMapText}
-use Rattle.qm_grammar.specs.Valid.{IsValidFace, IsValidBrush, IsValidPair, IsValidEntity, face_count, IsValid, face_limit}
+use Rattle.qm_grammar.specs.Valid.{IsValidFace, IsValidBrush, IsValidPair, IsValidEntity, face_count, IsValidMap, face_limit}
 use Rattle.qm_grammar.proofs.Parts.{all_prefix}
 use Rattle.qm_grammar.proofs.TokenTexts.{IsTokenText, quoted_text, lexing_texts, lexing_counted}
 use Rattle.qm_grammar.proofs.ValidFaces.{face_valid, face_counted}
@@ -115,8 +115,8 @@ entities_counted (more {symbols = first} {others = others} {entity = one} {entit
 -- ---- the map
 
 -- a map that a text means is valid
-pub map_valid : (text : List ℕ) (one : MapFile) → IsMapText text one → IsValid one
-unfolding IsValid
+pub map_valid : (text : List ℕ) (one : MapFile) → IsMapText text one → IsValidMap one
+unfolding IsValidMap
 map_valid text one is =
     let spells : SpellsMap (map symbol_of is.lexing.lexemes) one = is.spelled in
     let tokens = lexing_counted text is.lexing is.is_lexing in

@@ -1,6 +1,6 @@
 use Rattle.std.specs.Prelude.{◌≡◌, ◌≢◌, ◌<◌, ◌≤◌, ◌⊎◌, ℕ, ◌+◌, List, [], ◌∷◌, ◌++◌, Some, None, length, map, take}
-use Rattle.qm_lex.specs.Lexeme.{Lexeme, quote_length, line_ends}
-use Rattle.qm_lex.specs.Lexing.{Lexing}
+use Rattle.qm_tokens.specs.Lexeme.{Lexeme, quote_length, line_ends}
+use Rattle.qm_tokens.specs.Lexing.{Lexing}
 use Rattle.qm_grammar.specs.declared.limit.TheConstants.{TEXT_LIMIT}
 use Rattle.qm_grammar.specs.declared.context.Context.TheVariants as context
 use Rattle.qm_grammar.specs.declared.refusal.Refusal.{Refusal}
@@ -91,8 +91,8 @@ pub data Stands (text : List ℕ) (lexing : Lexing) : ℕ → Rank → MapFault 
       Stands text lexing (length text) of_end (fault.NoEntity (last_line text))
 
 -- an offset and a rank there come before others, or are the same
-abbrev pub ComesFirst : ℕ → Rank → ℕ → Rank → Type 0
-ComesFirst at rank other_at other_rank =
+abbrev pub ComesNoLater : ℕ → Rank → ℕ → Rank → Type 0
+ComesNoLater at rank other_at other_rank =
     (at < other_at) ⊎ ((at ≡ other_at) × (rank_number rank ≤ rank_number other_rank))
 
 -- a fault that stands, and before which none stands
@@ -102,4 +102,4 @@ pub record IsFirstFault (text : List ℕ) (lexing : Lexing) (found : MapFault) :
   pub stands : Stands text lexing at rank found
   pub first :
       (other_at : ℕ) (other_rank : Rank) (other : MapFault) → Stands text lexing other_at other_rank other →
-      ComesFirst at rank other_at other_rank
+      ComesNoLater at rank other_at other_rank

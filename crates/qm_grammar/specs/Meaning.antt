@@ -1,6 +1,6 @@
 use Rattle.std.specs.Prelude.{◌≡◌, ◌≤◌, ℕ, List, None, length, Result, Ok, Err}
 use Rattle.std.specs.Prelude.{map as mapped}
-use Rattle.qm_lex.specs.Lexing.{Lexing, IsLexingOf}
+use Rattle.qm_tokens.specs.Lexing.{Lexing, IsLexingOf}
 use Rattle.qm_mapfile.specs.declared.entity.MapFile.{MapFile}
 use Rattle.qm_grammar.specs.declared.fault.MapFault.{MapFault}
 use Rattle.qm_grammar.specs.Symbol.{symbol_of}

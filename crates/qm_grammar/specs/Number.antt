@@ -1,6 +1,6 @@
 use Rattle.std.specs.Prelude.{◌<◌, ℕ, ◌*◌, ℤ, List, Ok, unsigned_abs}
-use Rattle.qm_decimal.specs.declared.fraction.Fraction.{Fraction}
-use Rattle.qm_decimal.specs.Answer.{IsAnswer}
+use Rattle.qm_numerals.specs.declared.fraction.Fraction.{Fraction}
+use Rattle.qm_numerals.specs.Answer.{IsAnswer}
 use Rattle.qm_space.specs.Bounds.{world_extent}
 use Rattle.qm_space.specs.Point.{IsCoordinate}
 use Rattle.qm_grammar.specs.declared.unit.TheConstants.{PARTS_OF_UNIT}

@@ -1,6 +1,6 @@
 use Rattle.std.specs.Prelude.{◌≡◌, ℕ, pos, List, [], ◌∷◌, Option, Some, None, IfSome, All, codes, if◌then◌else◌, bytes_eq}
 use Rattle.qm_space.specs.Point.{Point}
-use Rattle.qm_grammar.specs.Words.{words_of}
+use Rattle.qm_grammar.specs.Words.{words_of_text}
 use Rattle.qm_mapfile.specs.declared.entity.Pair.{Pair}
 use Rattle.qm_mapfile.specs.declared.entity.Entity.{Entity}
 use Rattle.qm_grammar.specs.Number.{SpellsMillionths, parts_of_unit}
@@ -11,7 +11,7 @@ pub record SpellsOrigin (value : List ℕ) (point : Point) : Type 0 where
   pub first : List ℕ
   pub second : List ℕ
   pub third : List ℕ
-  pub words : words_of value ≡ first ∷ second ∷ third ∷ []
+  pub words : words_of_text value ≡ first ∷ second ∷ third ∷ []
   pub x : SpellsMillionths first point.x
   pub y : SpellsMillionths second point.y
   pub z : SpellsMillionths third point.z

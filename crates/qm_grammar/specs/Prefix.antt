@@ -31,8 +31,8 @@ pub record Prefix : Type 0 where
   pub left : List Slot
 
 -- between entities
-abbrev pub outside : List Entity → Prefix
-outside entities = record {
+abbrev pub between_entities : List Entity → Prefix
+between_entities entities = record {
   context = context.Outside;
   entities = entities;
   pairs = [];
@@ -47,7 +47,7 @@ outside entities = record {
 -- in an entity, between its parts
 abbrev pub in_entity : List Entity → List Pair → List Brush → Prefix
 in_entity entities pairs brushes =
-    record (outside entities) { context = context.Entity; pairs = pairs; brushes = brushes }
+    record (between_entities entities) { context = context.Entity; pairs = pairs; brushes = brushes }
 
 -- behind a key
 abbrev pub behind_key : List Entity → List Pair → List Brush → List ℕ → Prefix
@@ -126,7 +126,7 @@ pub record IsBehindKey
 
 -- the symbols are a prefix, and this is what they have spelled
 pub data IsPrefix (symbols : List Symbol) : Prefix → Type 0 where
-  outside_prefix : {entities : List Entity} → IsOutside symbols entities → IsPrefix symbols (outside entities)
+  outside_prefix : {entities : List Entity} → IsOutside symbols entities → IsPrefix symbols (between_entities entities)
   entity_prefix :
       {entities : List Entity} {pairs : List Pair} {brushes : List Brush} →
       IsInEntity symbols entities pairs brushes → IsPrefix symbols (in_entity entities pairs brushes)

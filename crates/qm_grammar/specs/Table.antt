@@ -1,5 +1,5 @@
 use Rattle.std.specs.Prelude.{◌≡◌, ◌≢◌, List, [], ◌∷◌, IsNone, length}
-use Rattle.qm_decimal.specs.Answer.{IsNoNumber, IsTooFineText, IsTooLargeText}
+use Rattle.qm_numerals.specs.Answer.{IsNoNumber, IsTooFineText, IsTooLargeText}
 use Rattle.qm_mapfile.specs.Face.{SpanPlane}
 use Rattle.qm_grammar.specs.declared.mark.Mark.TheVariants.{OpenBrace, CloseBrace, OpenParenthesis, CloseParenthesis, OpenBracket}
 use Rattle.qm_grammar.specs.declared.mark.Sort.{Sort}

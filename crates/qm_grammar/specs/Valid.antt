@@ -1,6 +1,6 @@
 use Rattle.std.specs.Prelude.{◌≡◌, ◌≢◌, ◌<◌, ◌≤◌, ◌⊎◌, ℕ, List, [], None, length, sum_by, All, Contains}
 use Rattle.qm_space.specs.Point.{AreCoordinates}
-use Rattle.qm_lex.specs.Piece.{OpensWord}
+use Rattle.qm_tokens.specs.Piece.{OpensWord}
 use Rattle.qm_mapfile.specs.declared.face.Face.{Face}
 use Rattle.qm_mapfile.specs.declared.face.Mapping.{Mapping}
 use Rattle.qm_mapfile.specs.declared.face.Mapping.TheVariants.{Standard, Valve}
@@ -63,7 +63,7 @@ abbrev pub face_count : Entity → ℕ
 face_count entity = sum_by (λ brush. length brush.faces) entity.brushes
 
 -- a map that some text could mean, if texts had no limit, and of which no number can run over
-unfoldable pub IsValid : MapFile → Type 0
-IsValid map =
+unfoldable pub IsValidMap : MapFile → Type 0
+IsValidMap map =
     (map.entities ≢ []) × All IsValidEntity map.entities × OriginsAreGood map.entities
     × (sum_by face_count map.entities ≤ face_limit)

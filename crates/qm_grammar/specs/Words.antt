@@ -19,8 +19,8 @@ lengthened byte [] = (byte ∷ []) ∷ []
 lengthened byte (word ∷ words) = (byte ∷ word) ∷ words
 
 -- the words of a text: the longest runs of bytes that are not blank, in order
-abbrev pub words_of : List ℕ → List Word
-words_of [] = []
-words_of (byte ∷ bytes) =
-    if parts_words byte then words_of bytes
-    else (if is_at_gap bytes then (byte ∷ []) ∷ words_of bytes else lengthened byte (words_of bytes))
+abbrev pub words_of_text : List ℕ → List Word
+words_of_text [] = []
+words_of_text (byte ∷ bytes) =
+    if parts_words byte then words_of_text bytes
+    else (if is_at_gap bytes then (byte ∷ []) ∷ words_of_text bytes else lengthened byte (words_of_text bytes))

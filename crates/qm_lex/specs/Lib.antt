@@ -1,5 +1,1 @@
-pub mod Lexeme
-pub mod Piece
-pub mod Lexing
-pub mod Reading
 pub mod inner

@@ -1,9 +1,9 @@
 ghost use Rattle.std.specs.Prelude.{◌≡◌, ◌+◌, ◌≤◌, [], All, IfOk, IfErr, IfSome, MatchOption, length};
-ghost use Rattle.qm_lex.specs.Lexeme.{StandsIn, lexeme_of, quote_length};
-ghost use Rattle.qm_lex.specs.Lexing.{Lexing, IsLexingOf, nothing, lexeme_then, unclosed_on, fault_line};
+ghost use Rattle.qm_tokens.specs.Lexeme.{StandsIn, lexeme_of, quote_length};
+ghost use Rattle.qm_tokens.specs.Lexing.{Lexing, IsLexingOf, nothing, lexeme_then, unclosed_on, fault_line};
 
 use crate::scan::{Position, gap_end, token_at};
-use crate::token::{LexFault, Token};
+use qm_tokens::{LexFault, Token};
 use std::marker::Model;
 
 /// Reads the tokens of a text, one after another. Contracts see it as the text, with what it gives from here on: the
@@ -15,7 +15,7 @@ pub struct Lexer<'a> {
 }
 
 impl<'a> Model for Lexer<'a> {
-    ghost use Rattle.qm_lex.specs.Reading.{Reading};
+    ghost use Rattle.qm_tokens.specs.Reading.{Reading};
 
     ghost Value = { Reading };
 

@@ -1,10 +1,10 @@
 ghost use Rattle.std.specs.Prelude.{◌≡◌, ℕ, ◌+◌, ◌-◌, ◌≤◌, ◌<◌, ◌^◌, ◌∷◌, ◌↔◌, [], IsTrue, IfNone, IfSome, MatchResult, drop, length, slice_index};
-ghost use Rattle.qm_lex.specs.Lexeme.{line_ends};
-ghost use Rattle.qm_lex.specs.Lexing.{unclosed_on, fault_line};
-ghost use Rattle.qm_lex.specs.inner.Modes.{read, between, in_comment, in_quote};
+ghost use Rattle.qm_tokens.specs.Lexeme.{line_ends};
+ghost use Rattle.qm_tokens.specs.Lexing.{unclosed_on, fault_line};
+ghost use Rattle.qm_tokens.specs.inner.Modes.{read, between, in_comment, in_quote};
 ghost use Rattle.qm_lex.specs.inner.Scan.{IsPositionIn, IsPast, StartsToken, IsWordEnd, IsClosedAt, IsFoundAt, left_at};
 
-use crate::token::{LexFault, Token, TokenKind};
+use qm_tokens::{LexFault, Token, TokenKind};
 
 /// Where a reader stands in a text: an offset, and the line there.
 #[derive(Clone, Copy)]

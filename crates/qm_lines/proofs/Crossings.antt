@@ -20,7 +20,7 @@ use Rattle.qm_segments.proofs.Betweenness.{between_value}
 use Rattle.qm_chains.specs.Shown.{IsAt}
 use Rattle.qm_chains.proofs.Beginnings.{turned_of_portal}
 use Rattle.qm_chains.proofs.TriedPortals.{same_portal}
-use Rattle.qm_lines.specs.inner.Crossing.{Crossing, IsCrossing, crossing_point, mixed, value_where, CrossesPlane, CrossesAt, MissesAt}
+use Rattle.qm_lines.specs.inner.Crossing.{Crossing, CrossesToFront, crossing_point, mixed, value_where, CrossesPlane, CrossesAt, MissesAt}
 
 -- the value of a plane where the line crosses another one
 pub value_is : (s : Segment) (e g : Plane) (c : Crossing) → c.at_begin ≡ value e s.from → c.at_end ≡ value e s.to → value_where c s g ≡ value g (crossing_point s e)
@@ -182,7 +182,7 @@ further_on s h g h_front g_front behind =
 passed_on : (z : ℤ) → unsigned_abs z ≤ 2 ^ 45 → kept w64 z ≡ z
 passed_on z h = to_z-of_z w64 z (fits_64 z (2 ^ 45) h (lit≤ tt))
 
-pub mixed_computed : (a b forward backward v w : ℤ) → IsCrossing (record { at_begin = a; at_end = b }) → unsigned_abs v ≤ 2 ^ 45 → unsigned_abs w ≤ 2 ^ 45 →
+pub mixed_computed : (a b forward backward v w : ℤ) → CrossesToFront (record { at_begin = a; at_end = b }) → unsigned_abs v ≤ 2 ^ 45 → unsigned_abs w ≤ 2 ^ 45 →
     forward ≡ kept w64 b *ℤ kept w64 v → backward ≡ kept w64 a *ℤ kept w64 w → forward -ℤ backward ≡ mixed (record { at_begin = a; at_end = b }) v w
 unfolding mixed
 mixed_computed a b forward backward v w is v_small w_small e f = rw (e, f, passed_on b is.end_small, passed_on a is.begin_small, passed_on v v_small, passed_on w w_small) refl

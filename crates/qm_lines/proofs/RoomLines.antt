@@ -13,7 +13,7 @@ use Rattle.qm_segments.proofs.RoomSights.{line}
 use Rattle.qm_segments.proofs.RoomRows.{are_touchings, have_points}
 use Rattle.qm_chains.specs.Shown.{IsShown}
 use Rattle.qm_chains.proofs.TriedPortals.{same_portal}
-use Rattle.qm_lines.specs.inner.Crossing.{Crossing, IsCrossing, mixed, value_where, CrossesAt}
+use Rattle.qm_lines.specs.inner.Crossing.{Crossing, CrossesToFront, mixed, value_where, CrossesAt}
 use Rattle.qm_lines.specs.inner.Trace.{IsTrace, IsOnward, HasEntered}
 use Rattle.qm_lines.specs.declared.trace.Trace.{Trace}
 use Rattle.qm_lines.proofs.Crossings.{crossing_with, goes_through}
@@ -33,7 +33,7 @@ first = crossing_with (negsuc 35) (pos 164)
 abbrev second : Crossing
 second = crossing_with (negsuc 99) (pos 100)
 
-first_is : IsCrossing first
+first_is : CrossesToFront first
 first_is = record { begins_behind = omega (arith, ints); ends_in_front = omega (arith, ints); begin_small = omega arith; end_small = omega arith }
 
 crosses_first : CrossesAt portals 0 line first

@@ -11,7 +11,7 @@ use Rattle.qm_contacts.specs.OwnPortals.{HasOwnPortals}
 use Rattle.qm_segments.specs.Segment.{Segment}
 use Rattle.qm_segments.specs.OpenChain.{IsOpenChain, alone, longer}
 use Rattle.qm_separators.specs.ChainState.{ChainState}
-use Rattle.qm_separators.specs.PortalSteps.{BeginsWith, GoesOn}
+use Rattle.qm_separators.specs.PortalSteps.{BeginsWith, StepsThrough}
 use Rattle.qm_separators.proofs.ChainLaws.{lets, lead}
 use Rattle.qm_chains.specs.Shown.{IsAt, IsShown}
 use Rattle.qm_chains.proofs.TurnLaws.{shown_weaker}
@@ -93,8 +93,8 @@ module _ (world : World) (own : HasOwnPortals world) (p : ℕ) (s : Segment) whe
       let chain = last ∷ trace.before in
       let behind : IsBehind q.into (crossing_point s last.into) = subst (λ (z : ℤ). z <ℤ pos 0) (value_is s last.into q.into old.last trace.begin_is trace.end_is) onward.further in
       let between = further_on s last.into q.into trace.goes_through.in_front onward.crosses.goes_through.in_front behind in
-      let own_chain = subst (λ (all : List Portal). IsOpenChain BeginsWith GoesOn all trace.first chain trace.state) own.portals_are trace.open_chain in
-      let step : (next : ChainState) × GoesOn trace.state q next = ⊎_elim (λ leads. leads)
+      let own_chain = subst (λ (all : List Portal). IsOpenChain BeginsWith StepsThrough all trace.first chain trace.state) own.portals_are trace.open_chain in
+      let step : (next : ChainState) × StepsThrough trace.state q next = ⊎_elim (λ leads. leads)
       (λ blocked. absurd ((lets world.tree own.have_points own.touchings own.are_touchings).not_blocked s q trace.state (crossing_point s last.into) (crossing_point s q.into) trace.meets there onward.crosses.goes_through between blocked))
       ((lead world.tree own.have_points own.touchings own.are_touchings).go_on trace.first chain trace.state q own_chain there) in
       let to_is = ap (λ (r : Portal). r.to) (same_portal world.portals number entered.portal q entered.portal_is q_is) in

@@ -11,28 +11,28 @@ use std::alloc::{AllocError, Global};
 /// The greatest coordinate of the closed cube, and the opposite of the least.
 const EXTENT: i64 = WORLD_EXTENT as i64;
 
-/// The spots of a winding, through which lines are drawn: its middle, and one near each corner.
-pub(crate) fn spots_of(alloc: Global, winding: &Winding) -> Result<Vec<[i32; 3]>, AllocError> {
-    let mut spots = Vec::new(alloc);
+/// The anchors of a winding, through which lines are drawn: its middle, and one near each corner.
+pub(crate) fn anchors_of(alloc: Global, winding: &Winding) -> Result<Vec<[i32; 3]>, AllocError> {
+    let mut anchors = Vec::new(alloc);
     for place in 0..=winding.len() {
-        spots.push(spot_at(winding, place))?;
+        anchors.push(anchor_at(winding, place))?;
     }
-    Ok(spots)
+    Ok(anchors)
 }
 
 /// One of them: the middle at 0, and then those near the corners.
-pub(crate) fn spot_at(winding: &Winding, place: usize) -> [i32; 3]
+pub(crate) fn anchor_at(winding: &Winding, place: usize) -> [i32; 3]
     requires { place ≤ length winding.now.edges }
     ensures { AreCoordinates result }
 {
     if place == 0 {
         return middle_of(winding);
     }
-    spot_near_corner(winding, place - 1)
+    anchor_near_corner(winding, place - 1)
 }
 
-/// The spot near a corner: 15 of 16 parts of the way to it from the middle.
-fn spot_near_corner(winding: &Winding, i: usize) -> [i32; 3]
+/// The anchor near a corner: 15 of 16 parts of the way to it from the middle.
+fn anchor_near_corner(winding: &Winding, i: usize) -> [i32; 3]
     requires { i < length winding.now.edges }
     ensures { AreCoordinates result }
 {

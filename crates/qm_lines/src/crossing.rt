@@ -18,13 +18,13 @@ pub(crate) struct Crossing {
 }
 
 impl Model for Crossing {
-    ghost use Rattle.qm_lines.specs.inner.Crossing.{Crossing, IsCrossing};
+    ghost use Rattle.qm_lines.specs.inner.Crossing.{Crossing, CrossesToFront};
 
     ghost Value = { Crossing };
 
     ghost view = { λ c. record { at_begin = c.at_begin; at_end = c.at_end } };
 
-    ghost invariant = { λ c. IsCrossing (record { at_begin = c.at_begin; at_end = c.at_end }) };
+    ghost invariant = { λ c. CrossesToFront (record { at_begin = c.at_begin; at_end = c.at_end }) };
 
     ghost inverse = { λ c. record { at_begin = c.at_begin; at_end = c.at_end } };
 }

@@ -7,7 +7,7 @@ ghost use Rattle.qm_sight.specs.InCeiling.{IsInCeiling};
 ghost use Rattle.qm_lines.specs.Gained.{HasGainedShown};
 ghost use Rattle.qm_lines.specs.inner.Drawing.{MayDraw, HasGainedFrom};
 
-use crate::aiming::{line_through, spot_at, spots_of};
+use crate::aiming::{line_through, anchor_at, anchors_of};
 use crate::crossing::crossing_of;
 use crate::first_portal::FirstPortal;
 use crate::following::follow;
@@ -37,13 +37,13 @@ pub fn show_by_lines<S: RowSource>(
     ensures on { S.goes_on source.old source.new }
 {
     world.own_portals();
-    let spots = spots_of(alloc, &world.pane(portal).winding)?;
+    let anchors = anchors_of(alloc, &world.pane(portal).winding)?;
     let mut gone = BitRow::with_len(alloc, world.leaves())?;
     let mut trace = Trace::new(alloc);
     let first = FirstPortal {
         world,
         portal,
-        spots: &spots,
+        anchors: &anchors,
     };
     flood(&first, source, &mut gone, &mut trace, row)
 }
@@ -145,7 +145,7 @@ fn aim_through<S: RowSource>(
 }
 
 /// Whether a line may lead through one portal and then another to a leaf: both rows have it, and that of the portal back
-/// through the other one has the leaf that the first portal leaves. Portals stand in pairs, one each way; nothing rests on that.
+/// through the other one has the leaf that the first portal leaves.
 fn may_lead<S: RowSource>(world: &World, source: &mut S, portal: u64, other: u64, leaf: u64) -> bool
     requires portal { portal < length world.now.portals }
     requires other { other < length world.now.portals }
@@ -159,14 +159,10 @@ fn may_lead<S: RowSource>(world: &World, source: &mut S, portal: u64, other: u64
     if !has_leaf(source, other, leaf) {
         return false;
     }
-    let back = other ^ 1;
-    if back >= world.portals() {
-        return true;
-    }
-    has_leaf(source, back, world.from(portal))
+    has_leaf(source, world.back(other), world.from(portal))
 }
 
-/// Aims at a target through the spots of another winding, until the row has it.
+/// Aims at a target through the anchors of another winding, until the row has it.
 fn aim_within<S: RowSource>(
     first: &FirstPortal,
     source: &mut S,
@@ -184,13 +180,13 @@ fn aim_within<S: RowSource>(
         if row.get(target) {
             return Ok(());
         }
-        let end = spot_at(winding, place);
+        let end = anchor_at(winding, place);
         aim_at(first, source, &end, target, trace, row)?;
     }
     Ok(())
 }
 
-/// Aims at a target from each spot through another one, until the row has it.
+/// Aims at a target from each anchor through another one, until the row has it.
 fn aim_at<S: RowSource>(
     first: &FirstPortal,
     source: &mut S,
@@ -204,11 +200,11 @@ fn aim_at<S: RowSource>(
     ensures shown { OnOk result (HasGainedFrom first.now (S.ceilings source.old) row.old row.new) }
     ensures on { S.goes_on source.old source.new }
 {
-    for spot in first.spots {
+    for anchor in first.anchors {
         if row.get(target) {
             return Ok(());
         }
-        let line = line_through(spot, end);
+        let line = line_through(anchor, end);
         show_along(first, source, &line, target, trace, row)?;
     }
     Ok(())

@@ -10,19 +10,19 @@ use Rattle.qm_listing.specs.declared.listing.Coordinate.{Coordinate}
 use Rattle.qm_listing.specs.declared.listing.PrtPortal.{PrtPortal}
 use Rattle.qm_listing.specs.Numerals.{before}
 use Rattle.qm_listing.specs.Numbers.{counts, coordinates}
-use Rattle.qm_listing.specs.Grammar.{ListingFaultKind, header, number, shape, due, header_layout, count_line, points_layout, leaf0_layout, leaf1_layout, coordinate_layout, corner_layout, portal_layout, listing_layout}
+use Rattle.qm_listing.specs.Grammar.{ListingFaultKind, header, number, shape, due, first_line_layout, count_line_layout, points_layout, leaf0_layout, leaf1_layout, coordinate_layout, corner_layout, portal_layout, listing_layout}
 use Rattle.qm_listing.proofs.ExactNumerals.{literal_exact, numeral_exact, before_exact, behind_exact}
 use Rattle.qm_listing.proofs.ExactNumbers.{counts_spelling, coordinates_spelling}
 
 due_exact : (byte : ℕ) → IsExact (due byte)
 due_exact byte = literal_exact shape (byte ∷ [])
 
-pub header_exact : IsExact header_layout
-unfolding header_layout
+pub header_exact : IsExact first_line_layout
+unfolding first_line_layout
 header_exact = literal_exact header (codes "PRT1" ++ 10 ∷ [])
 
-pub count_line_exact : IsExact count_line
-unfolding count_line
+pub count_line_exact : IsExact count_line_layout
+unfolding count_line_layout
 count_line_exact = numeral_exact number shape counts counts_spelling (λ _. true) 10 refl
 
 pub points_exact : IsExact points_layout
@@ -67,9 +67,9 @@ pub listing_exact : IsExact listing_layout
 unfolding listing_layout
 listing_exact =
     exact_of_parts _ (
-    part_exact IsAny (λ _. tt) header_layout _ header_exact (λ line _.
-    part_exact _ (λ found. found.leaves) count_line _ count_line_exact (λ leaves _.
-    part_exact _ (λ found. length found.portals) count_line _ count_line_exact (λ count _.
+    part_exact IsAny (λ _. tt) first_line_layout _ header_exact (λ line _.
+    part_exact _ (λ found. found.leaves) count_line_layout _ count_line_exact (λ leaves _.
+    part_exact _ (λ found. length found.portals) count_line_layout _ count_line_exact (λ count _.
     last_part_exact _ (λ found. found.portals) (many (portal_layout leaves) count) (λ portals. record { leaves = leaves; portals = portals }) (each_exact (λ _. portal_layout leaves) (λ _. portal_exact leaves) 0 count) (λ portals right. record {
       before = record { before = record { before = record { before = tt; is = refl }; is = refl }; is = right_each_length (λ _. portal_layout leaves) 0 count portals right };
       is = refl;

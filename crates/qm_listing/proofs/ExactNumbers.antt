@@ -9,11 +9,12 @@ use Rattle.std.proofs.lemmas.Fmt.{decimal-digits_value, digits_decimal, digits_v
 use Rattle.std.proofs.lemmas.List.{take_at, drop_at, take-append-drop, append-nil, length-append}
 use Rattle.std.proofs.lemmas.List.Folds.{list_all-append}
 use Rattle.std.proofs.lemmas.Str.Parse.{IsNumeralModel, numerals_by_value, tells_digits, digits_value_short, digit_from_value}
-use Rattle.qm_decimal.specs.Printed.{shown_sign, last_digits, with_six_decimals}
-use Rattle.qm_decimal.proofs.ByteTests.{digits_from_test, test_from_digits}
+use Rattle.qm_numerals.specs.Printed.{shown_sign, last_digits, with_six_decimals}
+use Rattle.qm_numerals.proofs.ByteTests.{digits_from_test, test_from_digits}
 use Rattle.qm_listing.specs.declared.listing.Coordinate.{Coordinate}
 use Rattle.qm_listing.specs.Numerals.{is_number_byte}
-use Rattle.qm_listing.specs.Numbers.{most_digits, is_count_numeral, count_of, counts, most_millionths, is_negative, with_sign, coordinate_numeral, is_coordinate, signed_coordinate, coordinate_of_parts, unsigned_coordinate, coordinate_of, coordinates}
+use Rattle.qm_numbers.specs.Sign.{is_negative}
+use Rattle.qm_listing.specs.Numbers.{most_digits, is_count_numeral, count_of_numeral, counts, most_millionths, with_sign, coordinate_numeral, is_coordinate, signed_coordinate, coordinate_of_parts, unsigned_coordinate, coordinate_of_numeral, coordinates}
 use Rattle.qm_listing.proofs.ExactNumerals.{IsSpelling}
 use Rattle.qm_listing.proofs.LastDigits.{last_of_value, last_digits-digits, last_digits-length, last_digits-value}
 
@@ -97,8 +98,8 @@ pub record IsCountOf (numeral : List ℕ) (n : ℕ) : Type 0 where
   pub spelled : decimal n ≡ numeral
   pub is_numeral : IsCountNumeral numeral
 
-pub count_found : (numeral : List ℕ) (n : ℕ) → count_of numeral ≡ Some n → IsCountOf numeral n
-unfolding count_of
+pub count_found : (numeral : List ℕ) (n : ℕ) → count_of_numeral numeral ≡ Some n → IsCountOf numeral n
+unfolding count_of_numeral
 count_found numeral n is =
     let passed = chosen (is_count_numeral numeral) (digits_value 10 numeral) n is in
     let numeral_is = count_numeral numeral passed.0 in
@@ -110,8 +111,8 @@ count_found numeral n is =
       is_numeral = numeral_is;
     }
 
-pub count_again : (n : ℕ) → n < 10 ^ 18 → count_of (decimal n) ≡ Some n
-unfolding count_of
+pub count_again : (n : ℕ) → n < 10 ^ 18 → count_of_numeral (decimal n) ≡ Some n
+unfolding count_of_numeral
 count_again n small =
     ap (λ (b : Bool). cond b (Some (digits_value 10 (decimal n))) None) (numeral_count (decimal n) (decimal_count n small))
     ∙ ap (λ (m : ℕ). Some m) (digits_value-decimal own n (below_64 n small))
@@ -224,7 +225,7 @@ parted_found negative n numeral decimals c written digits long is =
     in
     subst (λ (d : Coordinate). IsNumeralOf negative (numeral ++ (46 ∷ decimals)) d) is.value (record { right = right; spelled = spelled })
 
-parts_found : (negative : Bool) (whole : Option ℕ) (numeral tail : List ℕ) (c : Coordinate) → count_of numeral ≡ whole → coordinate_of_parts negative whole tail ≡ Some c → IsNumeralOf negative (numeral ++ tail) c
+parts_found : (negative : Bool) (whole : Option ℕ) (numeral tail : List ℕ) (c : Coordinate) → count_of_numeral numeral ≡ whole → coordinate_of_parts negative whole tail ≡ Some c → IsNumeralOf negative (numeral ++ tail) c
 parts_found negative None numeral tail c count is = absurd (cc)
 parts_found negative (Some n) numeral [] c count is =
     subst (λ (w : List ℕ). IsNumeralOf negative w c) (sym (append-nil numeral)) (whole_found negative n numeral c (count_found numeral n count).spelled (signed_found negative true (n * 1000000) c is))
@@ -244,7 +245,7 @@ unsigned_found : (negative : Bool) (numeral : List ℕ) (c : Coordinate) → uns
 unfolding unsigned_coordinate
 unsigned_found negative numeral c is =
     let k = prefix_len is_ascii_digit numeral in
-    subst (λ (w : List ℕ). IsNumeralOf negative w c) (take-append-drop k numeral) (parts_found negative (count_of (take k numeral)) (take k numeral) (drop k numeral) c refl is)
+    subst (λ (w : List ℕ). IsNumeralOf negative w c) (take-append-drop k numeral) (parts_found negative (count_of_numeral (take k numeral)) (take k numeral) (drop k numeral) c refl is)
 
 signed_by_head : (byte : ℕ) (bytes : List ℕ) (c : Coordinate) (b : Bool) → eqb byte 45 ≡ b → cond b (unsigned_coordinate true bytes) (unsigned_coordinate false (byte ∷ bytes)) ≡ Some c → (is_coordinate c ≡ true) × (coordinate_numeral c ≡ byte ∷ bytes)
 signed_by_head byte bytes c true head is =
@@ -252,8 +253,8 @@ signed_by_head byte bytes c true head is =
     (found.right, found.spelled ∙ ap (λ (x : ℕ). x ∷ bytes) (sym (eqb-true byte 45 head)))
 signed_by_head byte bytes c false head is = let found = unsigned_found false (byte ∷ bytes) c is in (found.right, found.spelled)
 
-coordinate_found : (numeral : List ℕ) (c : Coordinate) → coordinate_of numeral ≡ Some c → (is_coordinate c ≡ true) × (coordinate_numeral c ≡ numeral)
-unfolding coordinate_of
+coordinate_found : (numeral : List ℕ) (c : Coordinate) → coordinate_of_numeral numeral ≡ Some c → (is_coordinate c ≡ true) × (coordinate_numeral c ≡ numeral)
+unfolding coordinate_of_numeral
 coordinate_found [] c is = absurd (cc)
 coordinate_found (byte ∷ bytes) c is = signed_by_head byte bytes c (eqb byte 45) refl is
 
@@ -266,16 +267,16 @@ first_digit (x ∷ numeral) rest digits some byte bytes is =
     let range = digit_from_value x digits.0 in
     ne_eqb byte 45 (λ e. absurd (omega (arith, head, range.0, e)))
 
-unsigned_head : (text : List ℕ) → ((byte : ℕ) (bytes : List ℕ) → text ≡ byte ∷ bytes → eqb byte 45 ≡ false) → 0 < length text → coordinate_of text ≡ unsigned_coordinate false text
-unfolding coordinate_of
+unsigned_head : (text : List ℕ) → ((byte : ℕ) (bytes : List ℕ) → text ≡ byte ∷ bytes → eqb byte 45 ≡ false) → 0 < length text → coordinate_of_numeral text ≡ unsigned_coordinate false text
+unfolding coordinate_of_numeral
 unsigned_head [] no_sign some = absurd (omega (arith, some))
 unsigned_head (byte ∷ bytes) no_sign some = ap (λ (b : Bool). cond b (unsigned_coordinate true bytes) (unsigned_coordinate false (byte ∷ bytes))) (no_sign byte bytes refl)
 
-minus_head : (text : List ℕ) → coordinate_of (45 ∷ text) ≡ unsigned_coordinate true text
-unfolding coordinate_of
+minus_head : (text : List ℕ) → coordinate_of_numeral (45 ∷ text) ≡ unsigned_coordinate true text
+unfolding coordinate_of_numeral
 minus_head text = refl
 
-signed_again : (negative : Bool) (numeral rest : List ℕ) → AllDigits 10 numeral → 0 < length numeral → coordinate_of (sign_bytes negative ++ (numeral ++ rest)) ≡ unsigned_coordinate negative (numeral ++ rest)
+signed_again : (negative : Bool) (numeral rest : List ℕ) → AllDigits 10 numeral → 0 < length numeral → coordinate_of_numeral (sign_bytes negative ++ (numeral ++ rest)) ≡ unsigned_coordinate negative (numeral ++ rest)
 signed_again false numeral rest digits some = unsigned_head (numeral ++ rest) (first_digit numeral rest digits some) (omega (arith, length-append numeral rest, some))
 signed_again true numeral rest digits some = minus_head (numeral ++ rest)
 
@@ -296,8 +297,8 @@ unfolding unsigned_coordinate
 unsigned_again negative n rest small none =
     let w = decimal n in
     let count = digits_prefix w rest (test_from_digits w (decimal_count n small).digits) none in
-    ap (λ (k : ℕ). coordinate_of_parts negative (count_of (take k (w ++ rest))) (drop k (w ++ rest))) count
-    ∙ (λ i. coordinate_of_parts negative (count_of (take_at w rest (length w) refl i)) (drop_at w rest (length w) refl i))
+    ap (λ (k : ℕ). coordinate_of_parts negative (count_of_numeral (take k (w ++ rest))) (drop k (w ++ rest))) count
+    ∙ (λ i. coordinate_of_parts negative (count_of_numeral (take_at w rest (length w) refl i)) (drop_at w rest (length w) refl i))
     ∙ ap (λ (found : Option ℕ). coordinate_of_parts negative found rest) (count_again n small)
 
 no_rest : NoDigitFirst []
@@ -330,7 +331,7 @@ signed_made negative whole n m same small some =
 whole_part_small : (n : ℕ) → leb n most_millionths ≡ true → n / 1000000 < 10 ^ 18
 whole_part_small n small = let e = leb-true n most_millionths small in omega (arith, e)
 
-numeral_again : (z : ℤ) (whole : Bool) → IsRight (record { millionths = z; whole = whole }) → coordinate_of (coordinate_numeral (record { millionths = z; whole = whole })) ≡ Some (record { millionths = with_sign (is_negative z) (unsigned_abs z); whole = whole })
+numeral_again : (z : ℤ) (whole : Bool) → IsRight (record { millionths = z; whole = whole }) → coordinate_of_numeral (coordinate_numeral (record { millionths = z; whole = whole })) ≡ Some (record { millionths = with_sign (is_negative z) (unsigned_abs z); whole = whole })
 unfolding coordinate_numeral
 numeral_again z true right =
     let n = unsigned_abs z in
@@ -342,7 +343,7 @@ numeral_again z true right =
     let is = decimal_count q small in
     let value : q * 1000000 ≡ n = let e = right.whole refl in omega (arith, e) in
     let alone = sym (append-nil (decimal q)) in
-    (λ i. coordinate_of (sign.shown i ++ alone i))
+    (λ i. coordinate_of_numeral (sign.shown i ++ alone i))
     ∙ signed_again negative (decimal q) [] is.digits is.some
     ∙ unsigned_again negative q [] small no_rest
     ∙ signed_made negative true n (q * 1000000) value right.small some
@@ -359,13 +360,13 @@ numeral_again z false right =
     let spelled : digits_value 10 ds ≡ r = last_digits-value 6 r (omega arith) in
     let value : q * 1000000 + digits_value 10 ds ≡ n = omega (arith, spelled) in
     let test : (eqb (length ds) 6 && list_all is_ascii_digit ds) ≡ true = and_from (eqb (length ds) 6) (list_all is_ascii_digit ds) (eq-eqb (length ds) 6 (last_digits-length 6 r)) (test_from_digits ds (last_digits-digits 6 r)) in
-    (λ i. coordinate_of (sign.shown i ++ (decimal q ++ (46 ∷ ds))))
+    (λ i. coordinate_of_numeral (sign.shown i ++ (decimal q ++ (46 ∷ ds))))
     ∙ signed_again negative (decimal q) (46 ∷ ds) is.digits is.some
     ∙ unsigned_again negative q (46 ∷ ds) small (point_first ds)
     ∙ ap (λ (b : Bool). cond b (signed_coordinate negative false (q * 1000000 + digits_value 10 ds)) None) test
     ∙ signed_made negative false n (q * 1000000 + digits_value 10 ds) value right.small some
 
-coordinate_again : (c : Coordinate) → is_coordinate c ≡ true → coordinate_of (coordinate_numeral c) ≡ Some c
+coordinate_again : (c : Coordinate) → is_coordinate c ≡ true → coordinate_of_numeral (coordinate_numeral c) ≡ Some c
 coordinate_again c right = numeral_again c.millionths c.whole (right_parts c right) ∙ ap (λ (z : ℤ). Some (record { millionths = z; whole = c.whole })) (own_sign c.millionths)
 
 -- ---- the bytes of a coordinate

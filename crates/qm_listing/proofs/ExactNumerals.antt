@@ -7,7 +7,7 @@ use Rattle.std.proofs.lemmas.List.Folds.{length-prefix_len}
 use Rattle.std.proofs.lemmas.List.Sums.{prefix_len-le-length}
 use Rattle.qm_formats.specs.Layout.{Answer, got, bad, Layout, answer_map, answer_then, tested, pair}
 use Rattle.qm_formats.specs.Fields.{first_difference}
-use Rattle.qm_formats.specs.Exact.{StandsAt, IsFound, IsExact}
+use Rattle.qm_formats.specs.Exact.{StandsAt, IsRightAt, IsExact}
 use Rattle.qm_formats.proofs.ExactParts.{map_got, then_got, chosen_got, recast_exact, pair_exact}
 use Rattle.qm_formats.proofs.ExactFields.{part_stands}
 use Rattle.qm_formats.proofs.Standing.{stands_both, stands_first, stands_second}
@@ -87,7 +87,7 @@ spelled_got fault at next (Some y) x end is = (let same : y ≡ x = cc in ap (λ
 spelled_got fault at next None x end is = absurd (cc)
 
 module _ {F X : Type 0} (fault shape : F) (spelling : Spelling X) (is_spelling : IsSpelling spelling) (test : X → Bool) (byte : ℕ) (ends : is_number_byte byte ≡ false) where
-  found_numeral : (text : List ℕ) (at : ℕ) (x : X) (next : ℕ) → at ≤ length text → (numeral fault spelling).read text at ≡ got x next → IsFound (numeral fault spelling) text at x next
+  found_numeral : (text : List ℕ) (at : ℕ) (x : X) (next : ℕ) → at ≤ length text → (numeral fault spelling).read text at ≡ got x next → IsRightAt (numeral fault spelling) text at x next
   unfolding numeral numeral_ahead
   found_numeral text at x next within is =
       let run = prefix_len is_number_byte (drop at text) in
@@ -101,7 +101,7 @@ module _ {F X : Type 0} (fault shape : F) (spelling : Spelling X) (is_spelling :
         stands = subst (λ (n : ℕ). StandsAt text at (spelling.numeral_of x) n) place (subst (λ (w : List ℕ). StandsAt text at w (at + run)) (sym own.1) (part_stands text at run fits));
       }
 
-  again_numeral : (text : List ℕ) (at : ℕ) (x : X) (next : ℕ) (rest : List ℕ) → IsFound (numeral fault spelling) text at x next → drop next text ≡ byte ∷ rest → (numeral fault spelling).read text at ≡ got x next
+  again_numeral : (text : List ℕ) (at : ℕ) (x : X) (next : ℕ) (rest : List ℕ) → IsRightAt (numeral fault spelling) text at x next → drop next text ≡ byte ∷ rest → (numeral fault spelling).read text at ≡ got x next
   unfolding numeral
   again_numeral text at x next rest found stop =
       let stand : drop at text ≡ spelling.numeral_of x ++ (byte ∷ rest) = found.stands.stands ∙ ap (λ (xs : List ℕ). spelling.numeral_of x ++ xs) stop in
@@ -113,7 +113,7 @@ module _ {F X : Type 0} (fault shape : F) (spelling : Spelling X) (is_spelling :
   abbrev tested_numeral : Layout F X
   tested_numeral = tested test shape (λ _ at. at) (numeral fault spelling)
 
-  found_tested : (text : List ℕ) (at : ℕ) (x : X) (next : ℕ) → at ≤ length text → tested_numeral.read text at ≡ got x next → IsFound tested_numeral text at x next
+  found_tested : (text : List ℕ) (at : ℕ) (x : X) (next : ℕ) → at ≤ length text → tested_numeral.read text at ≡ got x next → IsRightAt tested_numeral text at x next
   found_tested text at x next within is =
       let value = then_got ((numeral fault spelling).read text at) (λ v mid. cond (test v) (got v mid) (bad shape at)) x next is in
       let passed = chosen_got (test value.0) value.0 value.1 shape at x next value.3 in
@@ -122,7 +122,7 @@ module _ {F X : Type 0} (fault shape : F) (spelling : Spelling X) (is_spelling :
       let found = found_numeral text at x next within read in
       record { right = and_from ((numeral fault spelling).right x) (test x) found.right (sym (ap test passed.1) ∙ passed.0); stands = found.stands }
 
-  again_tested : (text : List ℕ) (at : ℕ) (x : X) (next : ℕ) (rest : List ℕ) → IsFound tested_numeral text at x next → drop next text ≡ byte ∷ rest → tested_numeral.read text at ≡ got x next
+  again_tested : (text : List ℕ) (at : ℕ) (x : X) (next : ℕ) (rest : List ℕ) → IsRightAt tested_numeral text at x next → drop next text ≡ byte ∷ rest → tested_numeral.read text at ≡ got x next
   again_tested text at x next rest found stop =
       let both = and_parts ((numeral fault spelling).right x) (test x) found.right in
       ap (λ (answer : Answer F X). answer_then answer (λ v mid. cond (test v) (got v mid) (bad shape at))) (again_numeral text at x next rest (record { right = both.0; stands = found.stands }) stop)
@@ -143,11 +143,11 @@ module _ {F X : Type 0} (fault shape : F) (spelling : Spelling X) (is_spelling :
             let other = map_got (λ (y : Unit {0}). (one.0, y)) (last_byte.read text one.1) v next one.3 in
             let front = found_tested text at one.0 one.1 within one.2 in
             let back = (literal_exact shape (byte ∷ [])).found text one.1 other.0 next are front.stands.within other.1 in
-            let whole : IsFound (pair tested_numeral last_byte) text at (one.0, other.0) next = record {
+            let whole : IsRightAt (pair tested_numeral last_byte) text at (one.0, other.0) next = record {
               right = and_from (tested_numeral.right one.0) (last_byte.right other.0) front.right back.right;
               stands = stands_both text at (tested_numeral.bytes_of one.0) one.1 (last_byte.bytes_of other.0) next front.stands back.stands;
             } in
-            subst (λ (w : _). IsFound (pair tested_numeral last_byte) text at w next) other.2 whole;
+            subst (λ (w : _). IsRightAt (pair tested_numeral last_byte) text at w next) other.2 whole;
         again = λ text at v next found.
             let rights = and_parts (tested_numeral.right v.0) (last_byte.right v.1) found.right in
             let p = tested_numeral.bytes_of v.0 in

@@ -7,8 +7,8 @@ use Rattle.std.proofs.lemmas.Int.Digits.{digits_value_more, digits_value_push, d
 use Rattle.std.proofs.lemmas.List.{length-append, take_all}
 use Rattle.std.proofs.lemmas.Str.{digit_value_digit}
 use Rattle.std.proofs.lemmas.Str.Parse.{digit_from_value}
-use Rattle.qm_decimal.specs.Printed.{last_digits}
-use Rattle.qm_decimal.proofs.Texts.{digit_within}
+use Rattle.qm_numerals.specs.Printed.{last_digits}
+use Rattle.qm_numerals.proofs.Texts.{digit_within}
 
 digit_byte : (c : ℕ) → digit_value c < 10 → 48 + digit_value c ≡ c
 digit_byte c small = let e = digit_value_digit c (digit_from_value c small) in omega (arith, e)

@@ -10,7 +10,7 @@ use Rattle.qm_formats.proofs.ManyBytes.{many_bytes}
 use Rattle.qm_listing.specs.declared.listing.PrtPortal.{PrtPortal}
 use Rattle.qm_listing.specs.declared.listing.Listing.{Listing}
 use Rattle.qm_listing.specs.Numerals.{numeral, literal}
-use Rattle.qm_listing.specs.Grammar.{header_layout, count_line, points_layout, leaf0_layout, leaf1_layout, corner_layout, portal_layout, listing_layout, listing_text}
+use Rattle.qm_listing.specs.Grammar.{first_line_layout, count_line_layout, points_layout, leaf0_layout, leaf1_layout, corner_layout, portal_layout, listing_layout, listing_text}
 use Rattle.qm_listing.specs.WorldListing.{AreLinesOf, IsListingOf}
 use Rattle.qm_listing.specs.inner.PutLines.{HasLine, ArePutLines}
 
@@ -92,24 +92,24 @@ same_bytes : (leaves : ℕ) (portals : List PrtPortal) → flat_map (portal_layo
 unfolding portal_layout leaf0_layout leaf1_layout numeral literal
 same_bytes leaves portals = refl
 
-listing_bytes : (listing : Listing) → listing_text listing ≡ header_layout.bytes_of tt ++ (count_line.bytes_of listing.leaves ++ (count_line.bytes_of (length listing.portals) ++ flat_map (portal_layout 0).bytes_of listing.portals))
+listing_bytes : (listing : Listing) → listing_text listing ≡ first_line_layout.bytes_of tt ++ (count_line_layout.bytes_of listing.leaves ++ (count_line_layout.bytes_of (length listing.portals) ++ flat_map (portal_layout 0).bytes_of listing.portals))
 unfolding listing_text listing_layout
 listing_bytes listing =
-    ap (λ (lines : List ℕ). header_layout.bytes_of tt ++ (count_line.bytes_of listing.leaves ++ (count_line.bytes_of (length listing.portals) ++ lines)))
+    ap (λ (lines : List ℕ). first_line_layout.bytes_of tt ++ (count_line_layout.bytes_of listing.leaves ++ (count_line_layout.bytes_of (length listing.portals) ++ lines)))
     (many_bytes (portal_layout listing.leaves) 0 listing.portals ∙ same_bytes listing.leaves listing.portals)
 
 pub text_put :
     (world : World) (leaves count : ℕ) (one two three four : List ℕ) →
     leaves ≡ length (numbered_leaves world.tree) → count ≡ length world.portals / 2 →
-    one ≡ header_layout.bytes_of tt → two ≡ one ++ count_line.bytes_of leaves → three ≡ two ++ count_line.bytes_of count →
+    one ≡ first_line_layout.bytes_of tt → two ≡ one ++ count_line_layout.bytes_of leaves → three ≡ two ++ count_line_layout.bytes_of count →
     ArePutLines world.portals count three four →
     (listing : Listing) × IsListingOf world listing × (four ≡ listing_text listing)
 text_put world leaves count one two three four leaves_are count_is first second third put =
     let lines = put.0 in
     let are = put.1 in
-    let a = header_layout.bytes_of tt in
-    let b = count_line.bytes_of leaves in
-    let c = count_line.bytes_of count in
+    let a = first_line_layout.bytes_of tt in
+    let b = count_line_layout.bytes_of leaves in
+    let c = count_line_layout.bytes_of count in
     let d = flat_map (portal_layout 0).bytes_of lines in
     let listing : Listing = record { leaves = leaves; portals = lines } in (
       listing,
@@ -120,6 +120,6 @@ text_put world leaves count one two three four leaves_are count_is first second 
           ∙ ap (λ (xs : List ℕ). ((xs ++ b) ++ c) ++ d) first
           ∙ append_assoc (a ++ b) c d
           ∙ append_assoc a b (c ++ d)
-          ∙ ap (λ (n : ℕ). a ++ (b ++ (count_line.bytes_of n ++ d))) (sym are.count)
+          ∙ ap (λ (n : ℕ). a ++ (b ++ (count_line_layout.bytes_of n ++ d))) (sym are.count)
           ∙ sym (listing_bytes listing),
     )

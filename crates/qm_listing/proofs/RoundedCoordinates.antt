@@ -4,8 +4,9 @@ use Rattle.std.specs.Prelude.{unsigned_abs, int_lt, decimal}
 use Rattle.std.proofs.lemmas.Bool.{eqb-true}
 use Rattle.std.proofs.lemmas.Nat.{div-add-mod'}
 use Rattle.std.proofs.Math.Nat.{div-eq_of_lt-le, div-lt_iff_lt-mul}
-use Rattle.qm_decimal.specs.Printed.{last_digits, millionths, printed, shown_sign, with_six_decimals}
-use Rattle.qm_listing.specs.Numbers.{is_negative, with_sign, coordinate_numeral}
+use Rattle.qm_numerals.specs.Printed.{last_digits, millionths, printed_fraction, shown_sign, with_six_decimals}
+use Rattle.qm_numbers.specs.Sign.{is_negative}
+use Rattle.qm_listing.specs.Numbers.{with_sign, coordinate_numeral}
 use Rattle.qm_listing.specs.WorldListing.{coordinate_at}
 
 pub negative_test : (z : ℤ) → int_lt z (pos 0) ≡ is_negative z
@@ -57,7 +58,7 @@ true_or_false true = inl refl
 true_or_false false = inr refl
 
 -- a coordinate stands as its fraction is printed
-pub coordinate_printed : (over under : ℤ) → 0 < unsigned_abs under → coordinate_numeral (coordinate_at over under) ≡ printed (int_lt over (pos 0)) (unsigned_abs over) (unsigned_abs under)
+pub coordinate_printed : (over under : ℤ) → 0 < unsigned_abs under → coordinate_numeral (coordinate_at over under) ≡ printed_fraction (int_lt over (pos 0)) (unsigned_abs over) (unsigned_abs under)
 unfolding coordinate_numeral coordinate_at
 coordinate_printed over under some =
     let n = unsigned_abs over in

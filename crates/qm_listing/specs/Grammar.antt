@@ -25,12 +25,12 @@ abbrev pub number_before : {X : Type 0} → Spelling X → (X → Bool) → ℕ 
 number_before spelling test byte = before (tested test shape (λ _ at. at) (numeral number spelling)) (due byte)
 
 -- the first line: `PRT1`
-unfoldable pub header_layout : Layout ListingFaultKind (Unit {0})
-header_layout = literal header (codes "PRT1" ++ 10 ∷ [])
+unfoldable pub first_line_layout : Layout ListingFaultKind (Unit {0})
+first_line_layout = literal header (codes "PRT1" ++ 10 ∷ [])
 
 -- a count on a line of its own
-unfoldable pub count_line : Layout ListingFaultKind ℕ
-count_line = number_before counts (λ _. true) 10
+unfoldable pub count_line_layout : Layout ListingFaultKind ℕ
+count_line_layout = number_before counts (λ _. true) 10
 
 -- how many corners a portal has: at least three
 unfoldable pub points_layout : Layout ListingFaultKind ℕ
@@ -63,9 +63,9 @@ portal_layout leaves =
 -- the whole text
 unfoldable pub listing_layout : Layout ListingFaultKind Listing
 listing_layout =
-    part (λ _. tt) header_layout (λ _.
-    part (λ found. found.leaves) count_line (λ leaves.
-    part (λ found. length found.portals) count_line (λ count.
+    part (λ _. tt) first_line_layout (λ _.
+    part (λ found. found.leaves) count_line_layout (λ leaves.
+    part (λ found. length found.portals) count_line_layout (λ count.
     last_part (λ found. found.portals) (many (portal_layout leaves) count) (λ portals. record { leaves = leaves; portals = portals }))))
 
 -- the text of a listing

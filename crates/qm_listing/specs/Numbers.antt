@@ -1,8 +1,9 @@
-use Rattle.std.specs.Prelude.{ℕ, ◌+◌, ◌*◌, ◌/◌, ◌%◌, ◌^◌, ℤ, pos, negsuc, neg_ℤ, unsigned_abs, Bool, true, false, not, ◌&&◌, ◌||◌, ◌==◌, nat_lt, nat_le, List, [], ◌∷◌, ◌++◌, take, drop, length, slice_index_or, Option, Some, None, if◌then◌else◌, decimal}
+use Rattle.std.specs.Prelude.{ℕ, ◌+◌, ◌*◌, ◌/◌, ◌%◌, ◌^◌, ℤ, pos, neg_ℤ, unsigned_abs, Bool, true, false, not, ◌&&◌, ◌||◌, ◌==◌, nat_lt, nat_le, List, [], ◌∷◌, ◌++◌, take, drop, length, slice_index_or, Option, Some, None, if◌then◌else◌, decimal}
 use Rattle.std.specs.Char.{is_ascii_digit}
 use Rattle.std.specs.List.{list_all, prefix_len}
 use Rattle.std.specs.Str.Parse.{digits_value}
-use Rattle.qm_decimal.specs.Printed.{shown_sign, with_six_decimals}
+use Rattle.qm_numbers.specs.Sign.{is_negative}
+use Rattle.qm_numerals.specs.Printed.{shown_sign, with_six_decimals}
 use Rattle.qm_listing.specs.declared.listing.Coordinate.{Coordinate}
 use Rattle.qm_listing.specs.Numerals.{Spelling}
 
@@ -18,20 +19,16 @@ is_count_numeral numeral =
     nat_le 1 (length numeral) && (nat_le (length numeral) most_digits && (list_all is_ascii_digit numeral && ((length numeral == 1) || not (slice_index_or numeral 0 0 == 48))))
 
 -- the number that such a numeral spells
-unfoldable pub count_of : List ℕ → Option ℕ
-count_of numeral = if is_count_numeral numeral then Some (digits_value 10 numeral) else None
+unfoldable pub count_of_numeral : List ℕ → Option ℕ
+count_of_numeral numeral = if is_count_numeral numeral then Some (digits_value 10 numeral) else None
 
 -- counts and numbers of leaves, in decimal digits
 abbrev pub counts : Spelling ℕ
-counts = record { numeral_of = decimal; right = λ n. nat_lt n (10 ^ most_digits); value_of = count_of }
+counts = record { numeral_of = decimal; right = λ n. nat_lt n (10 ^ most_digits); value_of = count_of_numeral }
 
 -- the greatest absolute value of a coordinate, 32,768, in millionths
 abbrev pub most_millionths : ℕ
 most_millionths = 32768 * 1000000
-
-abbrev pub is_negative : ℤ → Bool
-is_negative (pos n) = false
-is_negative (negsuc n) = true
 
 abbrev pub with_sign : Bool → ℕ → ℤ
 with_sign negative n = if negative then neg_ℤ (pos n) else pos n
@@ -65,12 +62,12 @@ coordinate_of_parts negative (Some n) (point ∷ decimals) =
 unfoldable pub unsigned_coordinate : Bool → List ℕ → Option Coordinate
 unsigned_coordinate negative numeral =
     let count = prefix_len is_ascii_digit numeral in
-    coordinate_of_parts negative (count_of (take count numeral)) (drop count numeral)
+    coordinate_of_parts negative (count_of_numeral (take count numeral)) (drop count numeral)
 
 -- the coordinate that a numeral spells
-unfoldable pub coordinate_of : List ℕ → Option Coordinate
-coordinate_of [] = None
-coordinate_of (byte ∷ bytes) = if byte == 45 then unsigned_coordinate true bytes else unsigned_coordinate false (byte ∷ bytes)
+unfoldable pub coordinate_of_numeral : List ℕ → Option Coordinate
+coordinate_of_numeral [] = None
+coordinate_of_numeral (byte ∷ bytes) = if byte == 45 then unsigned_coordinate true bytes else unsigned_coordinate false (byte ∷ bytes)
 
 abbrev pub coordinates : Spelling Coordinate
-coordinates = record { numeral_of = coordinate_numeral; right = is_coordinate; value_of = coordinate_of }
+coordinates = record { numeral_of = coordinate_numeral; right = is_coordinate; value_of = coordinate_of_numeral }

@@ -2,14 +2,15 @@ use Rattle.std.specs.Prelude.{◌≡◌, ℕ, ◌+◌, ◌-◌, ◌*◌, ◌/◌
 use Rattle.std.specs.List.{range_with_len}
 use Rattle.qm_space.specs.Point.{Point}
 use Rattle.qm_convex.specs.Winding.{Winding, corner_at}
-use Rattle.qm_decimal.specs.Printed.{millionths}
+use Rattle.qm_numerals.specs.Printed.{millionths}
 use Rattle.qm_contacts.specs.NumberedLeaves.{numbered_leaves}
 use Rattle.qm_contacts.specs.Portals.{Portal}
 use Rattle.qm_contacts.specs.World.{World}
 use Rattle.qm_listing.specs.declared.listing.Coordinate.{Coordinate}
 use Rattle.qm_listing.specs.declared.listing.PrtPortal.{PrtPortal}
 use Rattle.qm_listing.specs.declared.listing.Listing.{Listing}
-use Rattle.qm_listing.specs.Numbers.{is_negative, with_sign}
+use Rattle.qm_numbers.specs.Sign.{is_negative}
+use Rattle.qm_listing.specs.Numbers.{with_sign}
 
 -- The listings of a world. It has more than one only where corners of a portal are the same to the nearest millionth.
 

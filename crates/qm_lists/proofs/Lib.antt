@@ -15,3 +15,4 @@ pub mod Stacks
 pub mod Taken
 pub mod SpreadSteps
 pub mod KeptStacks
+pub mod Bits

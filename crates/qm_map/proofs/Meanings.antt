@@ -1,14 +1,14 @@
 -- How far the reading of a text has come, and what it then means.
 use Rattle.std.proofs.Common.{◌≡◌, ℕ, List, [], Option, Some, None, Ok, Err, ◌∙◌, ap}
-use Rattle.qm_lex.specs.Lexeme.{Lexeme}
-use Rattle.qm_lex.specs.Lexing.{Lexing, IsLexingOf, nothing, lexeme_then, unclosed_on}
-use Rattle.qm_lex.specs.inner.Modes.{between, read}
-use Rattle.qm_lex.specs.Reading.{Reading}
-use Rattle.qm_lex.proofs.Cutting.{pieces_of}
-use Rattle.qm_lex.proofs.PieceRuns.{read_pieces}
+use Rattle.qm_tokens.specs.Lexeme.{Lexeme}
+use Rattle.qm_tokens.specs.Lexing.{Lexing, IsLexingOf, nothing, lexeme_then, unclosed_on}
+use Rattle.qm_tokens.specs.inner.Modes.{between, read}
+use Rattle.qm_tokens.specs.Reading.{Reading}
+use Rattle.qm_tokens.proofs.Cutting.{pieces_of}
+use Rattle.qm_tokens.proofs.PieceRuns.{read_pieces}
 use Rattle.qm_grammar.specs.declared.refusal.Refusal.{Refusal}
 use Rattle.qm_grammar.specs.Symbol.{symbol_of}
-use Rattle.qm_grammar.specs.Prefix.{Prefix, outside}
+use Rattle.qm_grammar.specs.Prefix.{Prefix, between_entities}
 use Rattle.qm_grammar.specs.inner.Machine.{step, steps, refused_at, ended, meaning_of}
 use Rattle.qm_grammar.proofs.Runs.{steps_refused}
 
@@ -21,13 +21,13 @@ lexing_is text lexing only =
 -- a reader has come to a prefix, and this is left of the text
 pub record IsUnderway (text : List ℕ) (prefix : Prefix) (reading : Reading) : Type 0 where
   pub text_is : reading.text ≡ text
-  pub rest : steps (outside []) (read between 0 1 text).lexemes ≡ steps prefix reading.left.lexemes
+  pub rest : steps (between_entities []) (read between 0 1 text).lexemes ≡ steps prefix reading.left.lexemes
   pub unclosed : (read between 0 1 text).unclosed_line ≡ reading.left.unclosed_line
 
-pub begun : (text : List ℕ) (reading : Reading) → reading.text ≡ text → read between 0 1 text ≡ reading.left → IsUnderway text (outside []) reading
+pub begun : (text : List ℕ) (reading : Reading) → reading.text ≡ text → read between 0 1 text ≡ reading.left → IsUnderway text (between_entities []) reading
 begun text reading same left = record {
   text_is = same;
-  rest = ap (λ (l : Lexing). steps (outside []) l.lexemes) left;
+  rest = ap (λ (l : Lexing). steps (between_entities []) l.lexemes) left;
   unclosed = ap (λ (l : Lexing). l.unclosed_line) left;
 }
 
@@ -40,7 +40,7 @@ refused_is text prefix reading rest lexeme reason u left refused =
 over_is : (text : List ℕ) (prefix : Prefix) (reading : Reading) (unclosed : Option ℕ) → IsUnderway text prefix reading → reading.left ≡ record { lexemes = []; unclosed_line = unclosed } → meaning_of text ≡ ended text unclosed (Ok prefix)
 unfolding meaning_of
 over_is text prefix reading unclosed u left =
-    let run : steps (outside []) (read between 0 1 text).lexemes ≡ Ok prefix = u.rest ∙ ap (λ (l : Lexing). steps prefix l.lexemes) left in
+    let run : steps (between_entities []) (read between 0 1 text).lexemes ≡ Ok prefix = u.rest ∙ ap (λ (l : Lexing). steps prefix l.lexemes) left in
     let quote : (read between 0 1 text).unclosed_line ≡ unclosed = u.unclosed ∙ ap (λ (l : Lexing). l.unclosed_line) left in
     ap (λ r. ended text (read between 0 1 text).unclosed_line r) run ∙ ap (λ (q : Option ℕ). ended text q (Ok prefix)) quote
 

@@ -5,7 +5,7 @@ use Rattle.qm_grammar.specs.declared.fault.MapFault.{MapFault}
 use Rattle.qm_grammar.specs.declared.fault.MapFault.TheVariants.{Memory}
 use Rattle.qm_grammar.specs.inner.Machine.{meaning_of}
 use Rattle.qm_grammar.specs.Meaning.{Means, IsMapText, IsFaultText}
-use Rattle.qm_grammar.specs.Valid.{IsValid}
+use Rattle.qm_grammar.specs.Valid.{IsValidMap}
 use Rattle.qm_grammar.proofs.Meanings.{means_meaning, meaning_only}
 use Rattle.qm_grammar.proofs.ValidMaps.{map_valid}
 
@@ -27,6 +27,6 @@ fault_is text (Err fault) h = λ other. means_answer text (Err fault) (h (λ e. 
 pub only_is : (text : List ℕ) (answer : Result MapFile MapFault) → IsMeaning text answer → answer ≢ Err Memory → (other : Result MapFile MapFault) → Means text other → other ≡ answer
 only_is text answer h apart other means = meaning_only text other means ∙ sym (h apart)
 
-pub valid_is : (text : List ℕ) (answer : Result MapFile MapFault) → IsMeaning text answer → IfOk answer IsValid
+pub valid_is : (text : List ℕ) (answer : Result MapFile MapFault) → IsMeaning text answer → IfOk answer IsValidMap
 valid_is text (Ok map) h = map_valid text map (means_answer text (Ok map) (h (λ e. cc)))
 valid_is text (Err fault) h = tt

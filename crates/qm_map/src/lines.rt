@@ -1,5 +1,5 @@
 ghost use Rattle.std.specs.Prelude.{◌≡◌, ◌≤◌, length};
-ghost use Rattle.qm_lex.specs.Lexeme.{line_ends};
+ghost use Rattle.qm_tokens.specs.Lexeme.{line_ends};
 ghost use Rattle.qm_grammar.specs.Faults.{line_at, last_line};
 
 /// How many lines end in the bytes.

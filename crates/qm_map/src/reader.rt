@@ -1,5 +1,5 @@
 ghost use Rattle.std.specs.Prelude.{◌≡◌, ◌+◌, ◌==◌, ◌&&◌, not, [], ◌∷◌, ◌++◌, Ok, IfOk, OnOk, length};
-ghost use Rattle.qm_grammar.specs.Prefix.{outside};
+ghost use Rattle.qm_grammar.specs.Prefix.{between_entities};
 ghost use Rattle.qm_grammar.specs.Slots.{points_of};
 ghost use Rattle.qm_grammar.specs.inner.Machine.{step, step_outside, step_entity, step_value, step_brush, step_face, step_slot, step_mark, with_value, without_brush, with_face, with_left, with_number, with_text, coordinate_of, span_plane, is_bad_origin};
 ghost use Rattle.qm_map.specs.inner.Steady.{HasDueParts};
@@ -14,7 +14,7 @@ use crate::slots::{behind_bracket, behind_first, behind_word};
 use crate::sort::{is_same_mark, sort_of};
 use crate::stop::Stop;
 use qm_grammar::{Context, Mark, Refusal, Slot, Sort};
-use qm_lex::TokenKind;
+use qm_tokens::TokenKind;
 use qm_lists::Items;
 use qm_mapfile::{Brush, Entity, Face, MapFile, Pair, Text};
 use std::alloc::{AllocError, Global};
@@ -69,7 +69,7 @@ impl Model for Reader {
 impl Reader {
     /// Before the first token.
     pub(crate) fn new(alloc: Global) -> Result<Reader, AllocError>
-        ensures { IfOk result (λ reader. reader ≡ outside []) }
+        ensures { IfOk result (λ reader. reader ≡ between_entities []) }
     {
         let empties = Empties::new(alloc)?;
         Ok(Reader {
@@ -160,7 +160,7 @@ impl Reader {
     /// Puts the open entity to the others.
     #[inline]
     fn end_entity(&mut self) -> Result<(), AllocError>
-        ensures { OnOk result (self.new ≡ outside (self.old.entities ++ (record { pairs = self.old.pairs; brushes = self.old.brushes }) ∷ [])) }
+        ensures { OnOk result (self.new ≡ between_entities (self.old.entities ++ (record { pairs = self.old.pairs; brushes = self.old.brushes }) ∷ [])) }
     {
         let pairs = take_all(self.alloc, &mut self.pairs)?;
         self.lacks_origin = true;

@@ -3,7 +3,7 @@ ghost use Rattle.qm_grammar.specs.Symbol.{mark_of_byte, mark_of, sort_of};
 ghost use Rattle.qm_grammar.specs.inner.Machine.{mark_byte, is_same_mark};
 
 use qm_grammar::{Mark, Sort};
-use qm_lex::TokenKind;
+use qm_tokens::TokenKind;
 
 #[tactic(auto, unfolding(qm_grammar::specs::Symbol::mark_of_byte))]
 fn mark_of_byte(byte: u8) -> Option<Mark>

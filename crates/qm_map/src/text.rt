@@ -1,19 +1,20 @@
 ghost use Rattle.std.specs.Prelude.{◌≡◌, ◌≢◌, ◌≤◌, ◌+◌, length, None, Ok, Err, IfOk, IfErr, Result};
-ghost use Rattle.qm_lex.specs.Lexeme.{lexeme_of, quote_length};
-ghost use Rattle.qm_lex.specs.Lexing.{fault_line};
+ghost use Rattle.qm_tokens.specs.Lexeme.{lexeme_of, quote_length};
+ghost use Rattle.qm_tokens.specs.Lexing.{fault_line};
 ghost use Rattle.qm_mapfile.specs.declared.entity.MapFile.{MapFile};
 ghost use Rattle.qm_grammar.specs.declared.fault.MapFault.{MapFault};
 ghost use Rattle.qm_grammar.specs.Faults.{fault_of};
 ghost use Rattle.qm_grammar.specs.inner.Machine.{refused_at, closed_by_end, ended, meaning_of};
 ghost use Rattle.qm_grammar.specs.Meaning.{Means, IsMapText, IsFaultText};
-ghost use Rattle.qm_grammar.specs.Valid.{IsValid};
+ghost use Rattle.qm_grammar.specs.Valid.{IsValidMap};
 ghost use Rattle.qm_map.specs.inner.Taking.{IsTaken};
 
 use crate::lines::{last_line, line_at};
 use crate::reader::Reader;
 use crate::stop::Stop;
 use qm_grammar::{Context, MapFault, Refusal, TEXT_LIMIT};
-use qm_lex::{LexFault, Lexer, Token, TokenKind};
+use qm_lex::Lexer;
+use qm_tokens::{LexFault, Token, TokenKind};
 use qm_mapfile::MapFile;
 use std::alloc::Global;
 
@@ -156,7 +157,7 @@ pub fn parse(alloc: Global, text: &[u8]) -> Result<MapFile, MapFault>
     // The text means nothing else.
     ensures only { result ≢ Err MapFault.Memory → (other : Result MapFile MapFault) → Means text.now other → other ≡ result }
 
-    ensures valid { IfOk result IsValid }
+    ensures valid { IfOk result IsValidMap }
 {
     meaning_of(alloc, text)
 }

@@ -1,6 +1,6 @@
 ghost use Rattle.std.specs.Prelude.{◌≡◌, ◌≤◌, [], ◌∷◌, length, not, MatchOption};
 ghost use Rattle.std.specs.List.{prefix_len};
-ghost use Rattle.qm_grammar.specs.Words.{words_of, parts_words};
+ghost use Rattle.qm_grammar.specs.Words.{words_of_text, parts_words};
 
 use std::marker::Model;
 
@@ -12,17 +12,17 @@ pub(crate) struct Words<'a> {
 
 impl<'a> Model for Words<'a> {
     ghost use Rattle.std.specs.Prelude.{List};
-    ghost use Rattle.qm_grammar.specs.Words.{Word, words_of};
+    ghost use Rattle.qm_grammar.specs.Words.{Word, words_of_text};
 
     ghost Value = { List Word };
 
-    ghost view = { λ words. words_of words.rest.now };
+    ghost view = { λ words. words_of_text words.rest.now };
 }
 
 impl<'a> Words<'a> {
     /// All the words of a text.
     pub(crate) fn new(text: &'a [u8]) -> Words<'a>
-        ensures { result ≡ words_of text.now }
+        ensures { result ≡ words_of_text text.now }
     {
         Words { rest: text }
     }

@@ -16,15 +16,15 @@ use Rattle.qm_grammar.specs.Grammar.{SpellsFaces, SpellsBrush, SpellsParts, Spel
 use Rattle.qm_grammar.specs.Grammar as grammar
 use Rattle.qm_grammar.specs.Valid.{IsValidFace, IsValidBrush, IsValidPair, IsValidEntity}
 use Rattle.qm_lists.proofs.Elements.{AllByRecursion-append}
-use Rattle.qm_mapout.specs.Lines.{Line, symbols_of_line, symbols_of}
+use Rattle.qm_mapout.specs.Lines.{TokenLine, symbols_of_line, symbols_of}
 use Rattle.qm_mapout.specs.Printed.{open_brace, close_brace, brace_line, pair_line, face_line, brush_lines, entity_lines}
 use Rattle.qm_mapout.proofs.LinesLexed.{IsWritableLine}
 use Rattle.qm_mapout.proofs.FacesAgain.{face_again, quotable, quoted_sort, mark_can_stand}
 
-symbols-cons : (line : Line) (lines : List Line) → symbols_of (line ∷ lines) ≡ symbols_of_line line ++ symbols_of lines
+symbols-cons : (line : TokenLine) (lines : List TokenLine) → symbols_of (line ∷ lines) ≡ symbols_of_line line ++ symbols_of lines
 symbols-cons line lines = flat_map-cons symbols_of_line line lines
 
-symbols-append : (xs ys : List Line) → symbols_of (xs ++ ys) ≡ symbols_of xs ++ symbols_of ys
+symbols-append : (xs ys : List TokenLine) → symbols_of (xs ++ ys) ≡ symbols_of xs ++ symbols_of ys
 symbols-append xs ys = flat_map-append symbols_of_line xs ys
 
 faces_spelled : (faces : List Face) → All IsValidFace faces → SpellsFaces (symbols_of (map face_line faces)) faces
@@ -48,16 +48,16 @@ unfolding sort_of mark_of_byte
 close_sort = refl
 
 -- lines between braces
-braced_lines : List Line → List Line
+braced_lines : List TokenLine → List TokenLine
 braced_lines lines = brace_line open_brace ∷ (lines ++ brace_line close_brace ∷ [])
 
-braced_symbols : (lines : List Line) → symbols_of (braced_lines lines) ≡ open_brace ∷ (symbols_of lines ++ close_brace ∷ [])
+braced_symbols : (lines : List TokenLine) → symbols_of (braced_lines lines) ≡ open_brace ∷ (symbols_of lines ++ close_brace ∷ [])
 unfolding braced_lines
 braced_symbols lines =
     symbols-cons (brace_line open_brace) (lines ++ brace_line close_brace ∷ [])
     ∙ ap (λ ss. open_brace ∷ ss) (symbols-append lines (brace_line close_brace ∷ []))
 
-is_braced : (lines : List Line) → IsBraced (symbols_of (braced_lines lines)) (symbols_of lines)
+is_braced : (lines : List TokenLine) → IsBraced (symbols_of (braced_lines lines)) (symbols_of lines)
 is_braced lines = record {
   open_brace = open_brace;
   close_brace = close_brace;
@@ -69,7 +69,7 @@ is_braced lines = record {
 brace_writable : IsWritableLine (brace_line open_brace) × IsWritableLine (brace_line close_brace)
 brace_writable = ((mark_can_stand 123 (lit< tt) (λ e. omega (arith, e)), tt), (mark_can_stand 125 (lit< tt) (λ e. omega (arith, e)), tt))
 
-braced_writable : (lines : List Line) → AllByRecursion IsWritableLine lines → AllByRecursion IsWritableLine (braced_lines lines)
+braced_writable : (lines : List TokenLine) → AllByRecursion IsWritableLine lines → AllByRecursion IsWritableLine (braced_lines lines)
 unfolding braced_lines
 braced_writable lines all =
     (brace_writable.0, AllByRecursion-append IsWritableLine lines (brace_line close_brace ∷ []) all (brace_writable.1, tt))
@@ -97,7 +97,7 @@ brushes_spelled (brush ∷ brushes) valid =
 brushes_writable : (brushes : List Brush) → All IsValidBrush brushes → AllByRecursion IsWritableLine (flat_map brush_lines brushes)
 brushes_writable [] valid = tt
 brushes_writable (brush ∷ brushes) valid =
-    let P : List Line → Type 0 = AllByRecursion IsWritableLine in
+    let P : List TokenLine → Type 0 = AllByRecursion IsWritableLine in
     subst P (sym (flat_map-cons brush_lines brush brushes))
     (AllByRecursion-append IsWritableLine (brush_lines brush) (flat_map brush_lines brushes)
     (brush_writable brush (All-head IsValidBrush brush brushes valid)) (brushes_writable brushes (All-tail IsValidBrush brush brushes valid)))
@@ -127,8 +127,8 @@ entity_as_braced entity =
 
 entity_spelled : (entity : Entity) → IsValidEntity entity → SpellsEntity (symbols_of (entity_lines entity)) entity
 entity_spelled entity valid =
-    let lines : List Line = map pair_line entity.pairs ++ flat_map brush_lines entity.brushes in
-    let P : List Line → Type 0 = λ ls. SpellsEntity (symbols_of ls) entity in
+    let lines : List TokenLine = map pair_line entity.pairs ++ flat_map brush_lines entity.brushes in
+    let P : List TokenLine → Type 0 = λ ls. SpellsEntity (symbols_of ls) entity in
     subst P (sym (entity_as_braced entity)) (record {
       inner = symbols_of lines;
       braced = is_braced lines;
@@ -137,8 +137,8 @@ entity_spelled entity valid =
 
 entity_writable : (entity : Entity) → IsValidEntity entity → AllByRecursion IsWritableLine (entity_lines entity)
 entity_writable entity valid =
-    let lines : List Line = map pair_line entity.pairs ++ flat_map brush_lines entity.brushes in
-    let P : List Line → Type 0 = AllByRecursion IsWritableLine in
+    let lines : List TokenLine = map pair_line entity.pairs ++ flat_map brush_lines entity.brushes in
+    let P : List TokenLine → Type 0 = AllByRecursion IsWritableLine in
     subst P (sym (entity_as_braced entity))
     (braced_writable lines (AllByRecursion-append IsWritableLine (map pair_line entity.pairs) (flat_map brush_lines entity.brushes)
     (pairs_writable entity.pairs valid.pairs) (brushes_writable entity.brushes valid.brushes)))
@@ -154,7 +154,7 @@ entities_spelled (entity ∷ entities) valid =
 pub entities_writable : (entities : List Entity) → All IsValidEntity entities → AllByRecursion IsWritableLine (flat_map entity_lines entities)
 entities_writable [] valid = tt
 entities_writable (entity ∷ entities) valid =
-    let P : List Line → Type 0 = AllByRecursion IsWritableLine in
+    let P : List TokenLine → Type 0 = AllByRecursion IsWritableLine in
     subst P (sym (flat_map-cons entity_lines entity entities))
     (AllByRecursion-append IsWritableLine (entity_lines entity) (flat_map entity_lines entities)
     (entity_writable entity (All-head IsValidEntity entity entities valid)) (entities_writable entities (All-tail IsValidEntity entity entities valid)))

@@ -8,7 +8,7 @@ use Rattle.std.proofs.lemmas.List.{get_or_default}
 use Rattle.std.proofs.lemmas.Bool.{leb-false}
 use Rattle.std.proofs.lemmas.Bool.Decides.{eqb_tells}
 use Rattle.qm_space.specs.Point.{IsCoordinate, AreCoordinates}
-use Rattle.qm_lex.specs.Piece.{OpensWord}
+use Rattle.qm_tokens.specs.Piece.{OpensWord}
 use Rattle.qm_mapfile.specs.declared.face.Face.{Face}
 use Rattle.qm_mapfile.specs.declared.face.Mapping.{Mapping}
 use Rattle.qm_mapfile.specs.declared.face.Mapping.TheVariants.{Standard, Valve}
@@ -24,7 +24,7 @@ use Rattle.qm_grammar.specs.Valid.{IsNameText, HasNoQuote, HasWords, IsValidFace
 use Rattle.qm_lists.proofs.Elements.{AllByRecursion-append}
 use Rattle.qm_lists.proofs.Options.{none_from_is_some}
 use Rattle.qm_mapout.specs.Lines.{symbols_of_line}
-use Rattle.qm_mapout.specs.Printed.{word, quoted, number, open_parenthesis, close_parenthesis, open_bracket, close_bracket, point_symbols, needs_quotes, begins_comment, texture_symbol, axis_symbols, mapping_prefix, mapping_last, face_line}
+use Rattle.qm_mapout.specs.Printed.{word_symbol, quoted, number_symbol, open_parenthesis, close_parenthesis, open_bracket, close_bracket, point_symbols, needs_quotes, begins_comment, texture_symbol, axis_symbols, mapping_prefix, mapping_last, face_line}
 use Rattle.qm_mapout.proofs.Lexed.{IsWritable}
 use Rattle.qm_mapout.proofs.LinesLexed.{IsWritableLine}
 use Rattle.qm_mapout.proofs.Numbers.{number_text}
@@ -55,13 +55,13 @@ pub stand_one : {s : Slot} {x : Symbol} {n : List ℤ} {t : List (List ℕ)} →
 stand_one one writable = record { fill = more one none; writable = (writable, tt) }
 
 -- a word of one byte can stand as a token
-pub mark_can_stand : (byte : ℕ) → 34 < byte → (byte ≡ 47 → ⊥) → IsWritable (word (byte ∷ []))
+pub mark_can_stand : (byte : ℕ) → 34 < byte → (byte ≡ 47 → ⊥) → IsWritable (word_symbol (byte ∷ []))
 mark_can_stand byte high other =
     ((λ e. omega (arith, high, e)), All-cons (λ b. 32 < b) byte [] (omega (arith, high)) (All-nil (λ b. 32 < b)))
 
 -- a mark
-mark_stand : (byte : ℕ) {m : _} → sort_of (word (byte ∷ [])) ≡ sort.Mark m → 34 < byte → (byte ≡ 47 → ⊥) →
-    Stand (slot.Mark m ∷ []) (word (byte ∷ []) ∷ []) [] []
+mark_stand : (byte : ℕ) {m : _} → sort_of (word_symbol (byte ∷ [])) ≡ sort.Mark m → 34 < byte → (byte ≡ 47 → ⊥) →
+    Stand (slot.Mark m ∷ []) (word_symbol (byte ∷ []) ∷ []) [] []
 mark_stand byte is_mark high other =
     stand_one (mark is_mark) (mark_can_stand byte high other)
 
@@ -81,16 +81,16 @@ close_bracket_stand : Stand (slot.Mark CloseBracket ∷ []) (close_bracket ∷ [
 unfolding sort_of mark_of_byte
 close_bracket_stand = mark_stand 93 refl (lit< tt) (λ e. omega (arith, e))
 
-name_sort : (bytes : List ℕ) → mark_of bytes ≡ None → sort_of (word bytes) ≡ sort.Name
+name_sort : (bytes : List ℕ) → mark_of bytes ≡ None → sort_of (word_symbol bytes) ≡ sort.Name
 unfolding sort_of
 name_sort bytes no_mark = rw no_mark refl
 
-number_stand : (n : ℤ) → IsCoordinate n → Stand (slot.Coordinate ∷ []) (number n ∷ []) (n ∷ []) []
+number_stand : (n : ℤ) → IsCoordinate n → Stand (slot.Coordinate ∷ []) (number_symbol n ∷ []) (n ∷ []) []
 number_stand n range =
     let text = number_text n range in
     stand_one (coordinate (name_sort (signed_decimal n) text.no_mark) text.spelled) (text.opens, text.visible)
 
-pub word_stand : (bytes : List ℕ) → IsNameText bytes → Stand (slot.Word ∷ []) (word bytes ∷ []) [] (bytes ∷ [])
+pub word_stand : (bytes : List ℕ) → IsNameText bytes → Stand (slot.Word ∷ []) (word_symbol bytes ∷ []) [] (bytes ∷ [])
 word_stand bytes name = stand_one (slots.word (name_sort bytes name.no_mark)) (name.opens, name.no_blank)
 
 point_stand : (x y z : ℤ) → IsCoordinate x → IsCoordinate y → IsCoordinate z →
@@ -198,7 +198,7 @@ unfolding sort_of
 quoted_sort bytes = refl
 
 texture_by_test : (name : List ℕ) (needs : Bool) → needs_quotes name ≡ needs → IsNameText name ⊎ HasNoQuote name →
-    Stand (slot.Texture ∷ []) ((if needs then quoted name else word name) ∷ []) [] (name ∷ [])
+    Stand (slot.Texture ∷ []) ((if needs then quoted name else word_symbol name) ∷ []) [] (name ∷ [])
 texture_by_test name true e valid = stand_one (quoted_texture (quoted_sort name)) (texture_quotable name e valid)
 texture_by_test name false e valid =
     let plain = plain_by_test name e in

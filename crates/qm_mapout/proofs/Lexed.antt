@@ -2,11 +2,11 @@
 use Rattle.std.proofs.Common.{◌≡◌, ◌≢◌, ◌<◌, ◌≤◌, ℕ, List, [], ◌∷◌, ◌++◌, None, refl, ap, append_assoc, map}
 use Rattle.std.specs.Prelude.{All}
 use Rattle.std.specs.List.{AllByRecursion}
-use Rattle.qm_lex.specs.declared.token.TokenKind.{TokenKind}
-use Rattle.qm_lex.specs.declared.token.TokenKind.TheVariants as kind
-use Rattle.qm_lex.specs.Lexing.{Lexing, lexing_from}
-use Rattle.qm_lex.specs.Piece.{Piece, blank, quoted, bytes_of, OpensWord, ArePiecesOf}
-use Rattle.qm_lex.specs.Piece as piece
+use Rattle.qm_tokens.specs.declared.token.TokenKind.{TokenKind}
+use Rattle.qm_tokens.specs.declared.token.TokenKind.TheVariants as kind
+use Rattle.qm_tokens.specs.Lexing.{Lexing, lexing_from}
+use Rattle.qm_tokens.specs.Piece.{TextPiece, blank, quoted, bytes_of_piece, OpensWord, ArePiecesOf}
+use Rattle.qm_tokens.specs.Piece as piece
 use Rattle.qm_grammar.specs.Symbol.{Symbol, symbol_of}
 use Rattle.qm_mapout.specs.Lines.{spelled_as, spelling}
 
@@ -31,20 +31,20 @@ unfoldable pub gapped_text : List Gapped → List ℕ
 gapped_text [] = []
 gapped_text (g ∷ gs) = (spelling g.symbol ++ g.gap ∷ []) ++ gapped_text gs
 
-unfoldable pub piece_of_kind : TokenKind → List ℕ → Piece
+unfoldable pub piece_of_kind : TokenKind → List ℕ → TextPiece
 piece_of_kind kind.Word bytes = piece.word bytes
 piece_of_kind kind.Quoted bytes = quoted bytes
 
-unfoldable pub piece_of : Symbol → Piece
+unfoldable pub piece_of : Symbol → TextPiece
 unfolding piece_of_kind
 piece_of symbol = piece_of_kind symbol.kind symbol.bytes
 
-unfoldable pub gapped_pieces : List Gapped → List Piece
+unfoldable pub gapped_pieces : List Gapped → List TextPiece
 gapped_pieces [] = []
 gapped_pieces (g ∷ gs) = piece_of g.symbol ∷ blank g.gap ∷ gapped_pieces gs
 
 -- a token, its gap and pieces of what follows
-one_more : (kind : TokenKind) (bytes rest : List ℕ) (gap : ℕ) (pieces : List Piece) → CanStand kind bytes → gap ≤ 32 →
+one_more : (kind : TokenKind) (bytes rest : List ℕ) (gap : ℕ) (pieces : List TextPiece) → CanStand kind bytes → gap ≤ 32 →
     ArePiecesOf rest pieces → ArePiecesOf ((spelled_as kind bytes ++ gap ∷ []) ++ rest) (piece_of_kind kind bytes ∷ blank gap ∷ pieces)
 unfolding piece_of_kind
 one_more kind.Word bytes rest gap pieces can small others =
@@ -61,7 +61,7 @@ pieces_stand (g ∷ gs) good =
 unfoldable pub symbols_at : Lexing → List Symbol
 symbols_at lexing = map symbol_of lexing.lexemes
 
-lexed_one : (kind : TokenKind) (bytes : List ℕ) (offset line gap : ℕ) (pieces : List Piece) (symbols : List Symbol) →
+lexed_one : (kind : TokenKind) (bytes : List ℕ) (offset line gap : ℕ) (pieces : List TextPiece) (symbols : List Symbol) →
     ((o l : ℕ) → (symbols_at (lexing_from o l pieces) ≡ symbols) × ((lexing_from o l pieces).unclosed_line ≡ None)) →
     (symbols_at (lexing_from offset line (piece_of_kind kind bytes ∷ blank gap ∷ pieces)) ≡ (record { kind = kind; bytes = bytes }) ∷ symbols)
     × ((lexing_from offset line (piece_of_kind kind bytes ∷ blank gap ∷ pieces)).unclosed_line ≡ None)

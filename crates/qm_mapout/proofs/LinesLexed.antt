@@ -3,11 +3,11 @@ use Rattle.std.proofs.Common.{◌≡◌, ℕ, List, [], ◌∷◌, ◌++◌, Non
 use Rattle.std.specs.List.{AllByRecursion}
 use Rattle.std.proofs.lemmas.List.Concat.{flat_map-cons}
 use Rattle.std.proofs.lemmas.List.{map-append}
-use Rattle.qm_lex.specs.Lexing.{Lexing, IsLexingOf, lexing_from}
-use Rattle.qm_lex.specs.Piece.{ArePiecesOf}
+use Rattle.qm_tokens.specs.Lexing.{Lexing, IsLexingOf, lexing_from}
+use Rattle.qm_tokens.specs.Piece.{ArePiecesOf}
 use Rattle.qm_grammar.specs.Symbol.{Symbol, symbol_of}
 use Rattle.qm_lists.proofs.Elements.{AllByRecursion-append, AllByRecursion-parts}
-use Rattle.qm_mapout.specs.Lines.{Line, spelling, spaced, line_text, text_of, symbols_of_line, symbols_of}
+use Rattle.qm_mapout.specs.Lines.{TokenLine, spelling, spaced, line_text, text_of_lines, symbols_of_line, symbols_of}
 use Rattle.qm_mapout.proofs.Lexed.{Gapped, IsGood, IsWritable, gapped_text, gapped_pieces, symbols_at, pieces_stand, lexed}
 
 space_behind : Symbol → Gapped
@@ -16,10 +16,10 @@ space_behind symbol = record { symbol = symbol; gap = 32 }
 line_end_behind : Symbol → Gapped
 line_end_behind symbol = record { symbol = symbol; gap = 10 }
 
-gapped_line : Line → List Gapped
+gapped_line : TokenLine → List Gapped
 gapped_line line = map space_behind line.prefix ++ line_end_behind line.last ∷ []
 
-gapped_lines : List Line → List Gapped
+gapped_lines : List TokenLine → List Gapped
 gapped_lines lines = flat_map gapped_line lines
 
 gapped_text-append : (xs ys : List Gapped) → gapped_text (xs ++ ys) ≡ gapped_text xs ++ gapped_text ys
@@ -35,14 +35,14 @@ prefix_text [] = refl
 prefix_text (symbol ∷ symbols) =
     ap (λ t. spaced symbol ++ t) (prefix_text symbols) ∙ sym (flat_map-cons spaced symbol symbols)
 
-line_gapped : (line : Line) → gapped_text (gapped_line line) ≡ line_text line
+line_gapped : (line : TokenLine) → gapped_text (gapped_line line) ≡ line_text line
 unfolding gapped_line gapped_text line_end_behind line_text
 line_gapped line =
     gapped_text-append (map space_behind line.prefix) (line_end_behind line.last ∷ [])
     ∙ ap (λ t. t ++ ((spelling line.last ++ 10 ∷ []) ++ [])) (prefix_text line.prefix)
     ∙ ap (λ t. flat_map spaced line.prefix ++ t) (append-nil (spelling line.last ++ 10 ∷ []))
 
-lines_gapped : (lines : List Line) → gapped_text (gapped_lines lines) ≡ text_of lines
+lines_gapped : (lines : List TokenLine) → gapped_text (gapped_lines lines) ≡ text_of_lines lines
 unfolding gapped_lines gapped_text
 lines_gapped [] = refl
 lines_gapped (line ∷ lines) =
@@ -57,13 +57,13 @@ unfolding space_behind
 prefix_symbols [] = refl
 prefix_symbols (symbol ∷ symbols) = ap (λ ss. symbol ∷ ss) (prefix_symbols symbols)
 
-line_symbols : (line : Line) → map (λ g. g.symbol) (gapped_line line) ≡ symbols_of_line line
+line_symbols : (line : TokenLine) → map (λ g. g.symbol) (gapped_line line) ≡ symbols_of_line line
 unfolding gapped_line line_end_behind
 line_symbols line =
     map-append (λ g. g.symbol) (map space_behind line.prefix) (line_end_behind line.last ∷ [])
     ∙ ap (λ ss. ss ++ line.last ∷ []) (prefix_symbols line.prefix)
 
-lines_symbols : (lines : List Line) → map (λ g. g.symbol) (gapped_lines lines) ≡ symbols_of lines
+lines_symbols : (lines : List TokenLine) → map (λ g. g.symbol) (gapped_lines lines) ≡ symbols_of lines
 unfolding gapped_lines
 lines_symbols [] = refl
 lines_symbols (line ∷ lines) =
@@ -78,7 +78,7 @@ unfolding space_behind
 prefix_good [] all = tt
 prefix_good (symbol ∷ symbols) all = (record { writable = all.0; parts = lit≤ tt }, prefix_good symbols all.1)
 
-line_good : (line : Line) → AllByRecursion IsWritable (symbols_of_line line) → AllByRecursion IsGood (gapped_line line)
+line_good : (line : TokenLine) → AllByRecursion IsWritable (symbols_of_line line) → AllByRecursion IsGood (gapped_line line)
 unfolding gapped_line line_end_behind
 line_good line all =
     let parts = AllByRecursion-parts IsWritable line.prefix (line.last ∷ []) all in
@@ -86,10 +86,10 @@ line_good line all =
     (record { writable = parts.1.0; parts = lit≤ tt }, tt)
 
 -- each token of the line can stand
-abbrev pub IsWritableLine : Line → Type 0
+abbrev pub IsWritableLine : TokenLine → Type 0
 IsWritableLine line = AllByRecursion IsWritable (symbols_of_line line)
 
-lines_good : (lines : List Line) → AllByRecursion IsWritableLine lines → AllByRecursion IsGood (gapped_lines lines)
+lines_good : (lines : List TokenLine) → AllByRecursion IsWritableLine lines → AllByRecursion IsGood (gapped_lines lines)
 unfolding gapped_lines
 lines_good [] all = tt
 lines_good (line ∷ lines) all =
@@ -104,7 +104,7 @@ pub record IsLexedAs (text : List ℕ) (symbols : List Symbol) : Type 0 where
   pub closed : lexing.unclosed_line ≡ None
   pub symbols_are : map symbol_of lexing.lexemes ≡ symbols
 
-pub lines_lexed : (lines : List Line) → AllByRecursion IsWritableLine lines → IsLexedAs (text_of lines) (symbols_of lines)
+pub lines_lexed : (lines : List TokenLine) → AllByRecursion IsWritableLine lines → IsLexedAs (text_of_lines lines) (symbols_of lines)
 unfolding symbols_at
 lines_lexed lines all =
     let gs = gapped_lines lines in

@@ -9,9 +9,9 @@ use Rattle.std.proofs.lemmas.List.Elements.{All-nil, All-cons}
 use Rattle.qm_space.specs.Bounds.{world_extent}
 use Rattle.qm_space.specs.Point.{IsCoordinate}
 use Rattle.qm_space.proofs.PlanesThroughPoints.{coordinate_small}
-use Rattle.qm_decimal.specs.Number.{Number, missing, minus}
-use Rattle.qm_decimal.specs.Answer.{IsValue}
-use Rattle.qm_lex.specs.Piece.{OpensWord}
+use Rattle.qm_numerals.specs.Number.{Number, missing, minus}
+use Rattle.qm_numerals.specs.Answer.{IsValue}
+use Rattle.qm_tokens.specs.Piece.{OpensWord}
 use Rattle.qm_grammar.specs.Symbol.{mark_of, mark_of_byte}
 use Rattle.qm_grammar.specs.Number.{whole_fraction, SpellsCoordinate}
 

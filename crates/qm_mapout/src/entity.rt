@@ -2,7 +2,7 @@
 
 ghost use Rattle.std.specs.Prelude.{◌≡◌, ◌++◌, flat_map, map, All, OnOk};
 ghost use Rattle.qm_grammar.specs.Valid.{IsValidBrush, IsValidEntity};
-ghost use Rattle.qm_mapout.specs.Lines.{line_text, text_of};
+ghost use Rattle.qm_mapout.specs.Lines.{line_text, text_of_lines};
 ghost use Rattle.qm_mapout.specs.Printed.{pair_line, face_line, brush_lines, entity_lines};
 
 use crate::face::FaceLine;
@@ -36,7 +36,7 @@ impl Encoding for BrushLines {
 
     ghost can_append = { IsValidBrush };
 
-    ghost bytes_of = { λ brush. text_of (brush_lines brush) };
+    ghost bytes_of = { λ brush. text_of_lines (brush_lines brush) };
 
     #[tactic(auto, unfolding(crate::specs::Printed::brush_lines))]
     fn append(out: &mut Vec<u8>, brush: &Brush) -> Result<(), AllocError> {
@@ -54,7 +54,7 @@ impl Encoding for EntityLines {
 
     ghost can_append = { IsValidEntity };
 
-    ghost bytes_of = { λ entity. text_of (entity_lines entity) };
+    ghost bytes_of = { λ entity. text_of_lines (entity_lines entity) };
 
     #[tactic(auto, unfolding(crate::specs::Printed::entity_lines))]
     fn append(out: &mut Vec<u8>, entity: &Entity) -> Result<(), AllocError> {

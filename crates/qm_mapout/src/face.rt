@@ -5,7 +5,7 @@ ghost use Rattle.std.specs.List.{list_any};
 ghost use Rattle.qm_mapout.specs.Lines.{spaced, spelling, line_text};
 ghost use Rattle.qm_grammar.specs.Symbol.{mark_of};
 ghost use Rattle.qm_grammar.specs.Valid.{HasWords, IsValidFace};
-ghost use Rattle.qm_mapout.specs.Printed.{word, point_symbols, begins_comment, needs_quotes, texture_symbol, axis_symbols, mapping_prefix, mapping_last, face_line};
+ghost use Rattle.qm_mapout.specs.Printed.{word_symbol, point_symbols, begins_comment, needs_quotes, texture_symbol, axis_symbols, mapping_prefix, mapping_last, face_line};
 
 use crate::line::{put_last_word, put_number, put_quoted, put_word};
 use qm_lists::{Encoding, append_all};
@@ -80,7 +80,7 @@ impl Encoding for SpacedWord {
 
     ghost can_append = { λ _. Unit {0} };
 
-    ghost bytes_of = { λ bytes. spaced (word bytes) };
+    ghost bytes_of = { λ bytes. spaced (word_symbol bytes) };
 
     fn append(out: &mut Vec<u8>, bytes: &Text) -> Result<(), AllocError> {
         put_word(out, bytes.as_slice())
@@ -89,7 +89,7 @@ impl Encoding for SpacedWord {
 
 /// Words, each with a space.
 fn put_words(out: &mut Vec<u8>, words: &[Text]) -> Result<(), AllocError>
-    ensures { OnOk result (out.new.items ≡ out.old.items ++ flat_map spaced (map word words.now)) }
+    ensures { OnOk result (out.new.items ≡ out.old.items ++ flat_map spaced (map word_symbol words.now)) }
 {
     append_all::<SpacedWord>(out, words)
 }

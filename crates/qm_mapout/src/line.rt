@@ -2,14 +2,14 @@
 
 ghost use Rattle.std.specs.Prelude.{◌≡◌, ◌∷◌, ◌++◌, [], OnOk};
 ghost use Rattle.qm_mapout.specs.Lines.{spaced, spelling, line_text};
-ghost use Rattle.qm_mapout.specs.Printed.{word, quoted, number, brace_line, open_brace, close_brace};
+ghost use Rattle.qm_mapout.specs.Printed.{word_symbol, quoted, number_symbol, brace_line, open_brace, close_brace};
 
 use itoa::Buffer;
 use std::alloc::AllocError;
 
 /// A word and a space.
 pub(crate) fn put_word(out: &mut Vec<u8>, bytes: &[u8]) -> Result<(), AllocError>
-    ensures { OnOk result (out.new.items ≡ out.old.items ++ spaced (word bytes.now)) }
+    ensures { OnOk result (out.new.items ≡ out.old.items ++ spaced (word_symbol bytes.now)) }
 {
     out.extend_from_slice(bytes)?;
     out.push(b' ')?;
@@ -18,7 +18,7 @@ pub(crate) fn put_word(out: &mut Vec<u8>, bytes: &[u8]) -> Result<(), AllocError
 
 /// The last word of a line.
 pub(crate) fn put_last_word(out: &mut Vec<u8>, bytes: &[u8]) -> Result<(), AllocError>
-    ensures { OnOk result (out.new.items ≡ out.old.items ++ (spelling (word bytes.now) ++ 10 ∷ [])) }
+    ensures { OnOk result (out.new.items ≡ out.old.items ++ (spelling (word_symbol bytes.now) ++ 10 ∷ [])) }
 {
     out.extend_from_slice(bytes)?;
     out.push(b'\n')?;
@@ -55,7 +55,7 @@ pub(crate) fn put_last_quoted(out: &mut Vec<u8>, bytes: &[u8]) -> Result<(), All
 
 /// A whole number and a space.
 pub(crate) fn put_number(out: &mut Vec<u8>, coordinate: i32) -> Result<(), AllocError>
-    ensures { OnOk result (out.new.items ≡ out.old.items ++ spaced (number coordinate)) }
+    ensures { OnOk result (out.new.items ≡ out.old.items ++ spaced (number_symbol coordinate)) }
 {
     let mut buffer = Buffer::new();
     put_word(out, buffer.format(coordinate).as_bytes())

@@ -13,10 +13,10 @@ use Rattle.qm_space.specs.ThreePoints.{outward_plane}
 use Rattle.qm_space.proofs.PlanesThroughPoints.{coordinate_small, outward_sizes}
 use Rattle.qm_space.proofs.Cuboids.{product_small}
 use Rattle.qm_geom.specs.declared.vector.Vector.{Vector}
-use Rattle.qm_geom.specs.Vectors.{direction_of, IsWithin}
+use Rattle.qm_geom.specs.Vectors.{direction_of, HasSmallComponents}
 
 -- the normal through three whole points of the cube is small
-pub through_small : (n : Vector) (at from to : Point) → IsWholePoint at → IsWholePoint from → IsWholePoint to → direction_of n ≡ normal_of (outward_plane at from to) → IsWithin n (2 ^ 26)
+pub through_small : (n : Vector) (at from to : Point) → IsWholePoint at → IsWholePoint from → IsWholePoint to → direction_of n ≡ normal_of (outward_plane at from to) → HasSmallComponents n (2 ^ 26)
 through_small n at from to a f t e =
     let s = outward_sizes at from to a f t in
     record {

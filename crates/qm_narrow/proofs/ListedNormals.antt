@@ -5,7 +5,7 @@ use Rattle.qm_lists.proofs.Elements.{Contains-nil}
 use Rattle.qm_space.specs.Point.{Point}
 use Rattle.qm_space.specs.Plane.{Plane}
 use Rattle.qm_space.specs.Vector.{normal_of}
-use Rattle.qm_geom.specs.LeastDistance.{IsLeastDistance}
+use Rattle.qm_space.specs.LeastDistance.{IsLeastDistance}
 use Rattle.qm_convex.specs.Winding.{Winding, corners}
 use Rattle.qm_separators.specs.Across.{HasLowestNormal}
 use Rattle.qm_separators.specs.Gains.{Gains}

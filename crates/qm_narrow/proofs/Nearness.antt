@@ -9,7 +9,7 @@ use Rattle.qm_numbers.proofs.Roundings.{down_small, up_small, nearest_small}
 use Rattle.qm_space.specs.Point.{Point}
 use Rattle.qm_space.specs.Cube.{IsInClosedCube}
 use Rattle.qm_space.specs.Meet.{HasMeetSizes}
-use Rattle.qm_geom.specs.Rounding.{HasSmallCoordinates}
+use Rattle.qm_space.specs.Coordinates.{HasSmallCoordinates}
 use Rattle.qm_numbers.proofs.Kept.{kept}
 use Rattle.qm_geom.specs.inner.SmallCoordinate.{IsSmallCoordinate}
 use Rattle.qm_narrow.specs.declared.near.Near.{Near}

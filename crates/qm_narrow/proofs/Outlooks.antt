@@ -27,7 +27,7 @@ use Rattle.qm_separators.specs.Across.{HasLowestNormal}
 use Rattle.qm_narrow.specs.inner.FoundPlanes.{AreAtLeastDistance, HasAlongAmong, HasAgainstAmong}
 use Rattle.qm_narrow.proofs.ListedNormals.{listed_along}
 use Rattle.qm_narrow.proofs.ParallelNormals.{same_normal}
-use Rattle.qm_geom.specs.Vectors.{direction_of, normal_of as own_normal}
+use Rattle.qm_geom.specs.Vectors.{direction_of, normal_vector as own_normal}
 use Rattle.qm_geom.specs.declared.vector.Vector.{Vector}
 use Rattle.qm_narrow.specs.declared.reach.Reach.{Reach}
 use Rattle.qm_narrow.specs.declared.outlook.Outlook.{Outlook}

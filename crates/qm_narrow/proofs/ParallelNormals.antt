@@ -10,7 +10,7 @@ use Rattle.qm_space.specs.Plane.{Plane, flipped}
 use Rattle.qm_space.specs.Vector.{normal_of}
 use Rattle.qm_space.proofs.Planes.{same_point}
 use Rattle.qm_geom.specs.declared.vector.Vector.{Vector}
-use Rattle.qm_geom.specs.Vectors.{cross, direction_of}
+use Rattle.qm_geom.specs.Vectors.{cross_vector, direction_of}
 use Rattle.qm_separators.specs.Across.{HasLowestNormal}
 use Rattle.qm_separators.proofs.Normals.{lowest_has_normal, normal_alone}
 use Rattle.qm_separators.specs.inner.NormalLike.{HasNormalLike, alike, opposite}
@@ -19,15 +19,15 @@ use Rattle.qm_narrow.specs.inner.FoundPlanes.{IsAlong}
 
 module _ (n : Vector) (g : Plane) (along : IsAlong n g) where
   yz : n.y *ℤ g.nz ≡ n.z *ℤ g.ny
-  unfolding cross
+  unfolding cross_vector
   yz = let e = along.x_zero in omega (arith, linear)
 
   zx : n.z *ℤ g.nx ≡ n.x *ℤ g.nz
-  unfolding cross
+  unfolding cross_vector
   zx = let e = along.y_zero in omega (arith, linear)
 
   xy : n.x *ℤ g.ny ≡ n.y *ℤ g.nx
-  unfolding cross
+  unfolding cross_vector
   xy = let e = along.z_zero in omega (arith, linear)
 
 -- where the parts of b beside those of a are the same, the sums of parts are

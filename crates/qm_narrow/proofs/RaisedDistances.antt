@@ -9,8 +9,8 @@ use Rattle.qm_numbers.proofs.IntegerProducts.{linear}
 use Rattle.qm_space.specs.Point.{Point}
 use Rattle.qm_space.specs.Plane.{Plane, value, IsInFront, IsNotInFront}
 use Rattle.qm_space.specs.Vector.{normal_of}
-use Rattle.qm_geom.specs.LeastDistance.{plane_at_distance, IsLeastDistance}
-use Rattle.qm_geom.proofs.LeastDistances.{IsLeastSoFar, so_far_gained}
+use Rattle.qm_space.specs.LeastDistance.{plane_at_distance, IsLeastDistance}
+use Rattle.qm_space.proofs.LeastDistances.{IsLeastSoFar, so_far_gained}
 use Rattle.qm_convex.specs.Winding.{Winding, corner_at, corners, IsConvex}
 use Rattle.qm_convex.specs.Sides.{HasNoCornerInFront}
 use Rattle.qm_convex.proofs.Corners.{corners_length, corner_in_list}

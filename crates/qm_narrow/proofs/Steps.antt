@@ -13,11 +13,11 @@ use Rattle.qm_separators.specs.Gains.{HasExactly}
 use Rattle.qm_separators.specs.Separator.{IsSeparatorFrom}
 use Rattle.qm_separators.specs.Part.{IsPartBy, HasNoPartBy}
 use Rattle.qm_separators.specs.ChainState.{ChainState}
-use Rattle.qm_separators.specs.ChainStep.{LeadsTo, Blocks, source_beyond}
+use Rattle.qm_separators.specs.ChainStep.{StepsTo, Blocks, second_cut}
 use Rattle.qm_separators.specs.inner.Narrowed.{NarrowsTo, CutsAway, source_gone}
 use Rattle.qm_separators.proofs.Parts.{part_by_alike, no_part_alike}
 use Rattle.qm_separators.proofs.NarrowedSteps.{whole_part, step_by}
-use Rattle.qm_narrow.specs.inner.LastPoint.{EndsAt}
+use Rattle.qm_narrow.specs.inner.LastCut.{EndsAt}
 
 -- what is left in front of planes
 
@@ -35,7 +35,7 @@ left_by answer v planes listed Has exactly e = IfOk-weaker answer (IsLeft v (Con
 pub left_some : (part : Option Winding) (v w : Winding) (Has : Plane → Type 0) → IsLeft v Has part → part ≡ Some w → IsPartBy w v Has
 left_some part v w Has is e = subst (IsLeft v Has) e is
 
--- the last two points, by the last one
+-- the last two cuts, by the last one
 
 abbrev pub IsEnd : ChainState → Winding → Winding → Option ChainState → Type 0
 IsEnd state near pass after = MatchOption after (HasNoPartBy near (IsSeparatorFrom state.pass pass)) (EndsAt state near pass)
@@ -50,14 +50,14 @@ ended state near far pass narrowed (Some next) ends = record { pass = pass; pass
 pub narrowed_by : {E : Type 0} (answer : Result (Option ChainState) E) (state : ChainState) (near far pass : Winding) → IsPartBy pass far (IsSeparatorFrom state.pass near) → IfOk answer (IsEnd state near pass) → IfOk answer (IsNarrowed state near far)
 narrowed_by answer state near far pass narrowed = IfOk-weaker answer (IsEnd state near pass) (IsNarrowed state near far) (ended state near far pass narrowed)
 
--- the step, by what its first two points leave
+-- the step, by what its first two cuts leave
 
 module _ (state : ChainState) (target far : Winding) (into : Plane) (far_is : IsPartInFront far target state.into) (v : Winding) (source_is : v ≡ state.source) (clip : Clip) (is : IsClip clip v (flipped into)) where
   clipped : IsClip clip state.source (flipped into)
   clipped = subst (λ (w : Winding). IsClip clip w (flipped into)) source_is is
 
   pub blocked_where_gone : clip ≡ Gone → Blocks state target into
-  blocked_where_gone e = source_beyond (subst (λ (o : Clip). IsClip o state.source (flipped into)) e clipped)
+  blocked_where_gone e = second_cut (subst (λ (o : Clip). IsClip o state.source (flipped into)) e clipped)
 
   part_is : (near : Winding) → clip ≡ Cut near → IsPartInFront near state.source (flipped into)
   part_is near e = (subst (λ (o : Clip). IsClip o state.source (flipped into)) e clipped).0
@@ -66,7 +66,7 @@ module _ (state : ChainState) (target far : Winding) (into : Plane) (far_is : Is
   part_lies near e lies p r = lies p (((part_is near e).points p).0 r).0
 
   abbrev pub IsStep : Option ChainState → Type 0
-  IsStep after = MatchOption after (Blocks state target into) (LeadsTo state target into)
+  IsStep after = MatchOption after (Blocks state target into) (StepsTo state target into)
 
   pub stepped_whole : {E : Type 0} (answer : Result (Option ChainState) E) → clip ≡ Whole → IsConvex state.source → IfOk answer (IsNarrowed state state.source far) → IfOk answer IsStep
   stepped_whole answer e convex = IfOk-weaker answer (IsNarrowed state state.source far) IsStep

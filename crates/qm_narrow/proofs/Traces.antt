@@ -3,7 +3,7 @@ use Rattle.std.proofs.Common.{◌≡◌, ℕ, pos, ◌+◌, ◌<◌, List, [], �
 use Rattle.std.proofs.lemmas.Bool.{cases_eq}
 use Rattle.std.proofs.lemmas.List.{length_push, get_or_push, get_or_append_left}
 use Rattle.qm_space.specs.Point.{Point}
-use Rattle.qm_geom.specs.Rounding.{HasSmallCoordinates}
+use Rattle.qm_space.specs.Coordinates.{HasSmallCoordinates}
 use Rattle.qm_convex.specs.Winding.{Winding, corner_at, corners}
 use Rattle.qm_convex.specs.World.{IsInWorld}
 use Rattle.qm_convex.proofs.Corners.{corners_by_place, corners_length, corner_in_list}

@@ -4,7 +4,7 @@ use Rattle.std.proofs.lemmas.Int.{ints}
 use Rattle.qm_numbers.specs.Rounding.{IsRoundedDown, IsRoundedUp, IsNearest}
 use Rattle.qm_space.specs.Point.{Point}
 use Rattle.qm_space.specs.Cube.{IsInClosedCube}
-use Rattle.qm_geom.specs.Rounding.{AreCoordinatesBy}
+use Rattle.qm_space.specs.Coordinates.{AreCoordinatesBy}
 use Rattle.qm_narrow.specs.inner.Trace.{IsSpotOf, IsWholeAt}
 use Rattle.qm_narrow.proofs.Coordinates.{spot_is}
 

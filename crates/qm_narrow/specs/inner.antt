@@ -3,5 +3,5 @@ pub mod Look
 pub mod Edge
 pub mod Near
 pub mod FoundPlanes
-pub mod LastPoint
+pub mod LastCut
 pub mod WholeCandidates

@@ -4,7 +4,7 @@ ghost use Rattle.std.specs.Prelude.{◌≡◌, false, ◌↔◌, IsTrue, [], ◌
 ghost use Rattle.qm_space.specs.Point.{whole_point, AreCoordinates};
 ghost use Rattle.qm_space.specs.Vector.{normal_of};
 ghost use Rattle.qm_space.specs.Plane.{Plane};
-ghost use Rattle.qm_geom.specs.LeastDistance.{IsLeastDistance};
+ghost use Rattle.qm_space.specs.LeastDistance.{IsLeastDistance};
 ghost use Rattle.qm_convex.specs.Winding.{corners};
 ghost use Rattle.qm_separators.specs.Across.{HasLowestNormal};
 ghost use Rattle.qm_separators.specs.Gains.{Gains};

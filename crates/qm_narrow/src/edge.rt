@@ -2,7 +2,7 @@
 
 ghost use Rattle.std.specs.Prelude.{◌^◌};
 ghost use Rattle.qm_convex.specs.Winding.{Winding};
-ghost use Rattle.qm_geom.specs.Vectors.{IsWithin};
+ghost use Rattle.qm_geom.specs.Vectors.{HasSmallComponents};
 ghost use Rattle.qm_narrow.specs.inner.Edge.{HasEdge};
 ghost use Rattle.qm_narrow.specs.inner.Look.{IsReach};
 
@@ -24,7 +24,7 @@ impl Edge {
     /// The reach by its two corners along a normal.
     pub(crate) fn reach(&self, normal: &Vector) -> Reach
         requires edge { (v : Winding) × HasEdge v self.now }
-        requires small { IsWithin normal.now (2 ^ 26) }
+        requires small { HasSmallComponents normal.now (2 ^ 26) }
         ensures { (v : Winding) → HasEdge v self.now → IsReach v normal.now result }
     {
         let first = Reach::of(&self.first, normal);

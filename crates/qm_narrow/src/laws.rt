@@ -8,20 +8,20 @@ ghost use Rattle.qm_segments.specs.Steps.{LetSegmentsThrough, LeadOnOrBlock};
 ghost use Rattle.qm_separators.specs.Part.{HasSameRegion};
 ghost use Rattle.qm_separators.specs.Separator.{IsSeparator};
 ghost use Rattle.qm_separators.specs.ChainState.{ChainState, IsChainState};
-ghost use Rattle.qm_separators.specs.ChainStep.{LeadsTo, Blocks};
-ghost use Rattle.qm_separators.specs.PortalSteps.{BeginsWith, GoesOn, BlocksAt, MeetsState, AreConvexPortals};
+ghost use Rattle.qm_separators.specs.ChainStep.{StepsTo, Blocks};
+ghost use Rattle.qm_separators.specs.PortalSteps.{BeginsWith, StepsThrough, BlocksAt, MeetsState, AreConvexPortals};
 
 /// No step takes a segment away that goes on through portals: a segment that has met a state and goes through a portal
 /// further on meets all that the step there leaves, which therefore does not block.
 pub fn steps_let_segments_through()
-    ensures { (portals : List Portal) → AreConvexPortals portals → LetSegmentsThrough BeginsWith GoesOn BlocksAt portals MeetsState }
+    ensures { (portals : List Portal) → AreConvexPortals portals → LetSegmentsThrough BeginsWith StepsThrough BlocksAt portals MeetsState }
 {}
 
 /// Each step of an open chain leads to a state or blocks, and no step does both.
 pub fn steps_lead_or_block()
-    ensures either { (portals : List Portal) → AreConvexPortals portals → LeadOnOrBlock BeginsWith GoesOn BlocksAt portals }
+    ensures either { (portals : List Portal) → AreConvexPortals portals → LeadOnOrBlock BeginsWith StepsThrough BlocksAt portals }
     ensures not_both { (state : ChainState) (target : Winding) (into : Plane) (next : ChainState) →
-        IsChainState state → LeadsTo state target into next → Blocks state target into → ⊥ }
+        IsChainState state → StepsTo state target into next → Blocks state target into → ⊥ }
 {}
 
 /// Separators do not depend on how windings are written: windings with the same points have the same ones.

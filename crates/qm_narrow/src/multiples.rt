@@ -2,14 +2,14 @@
 
 ghost use Rattle.std.specs.Prelude.{◌≡◌, ◌≤◌, ◌^◌, ◌*ℤ◌, true, int_lt, pos, unsigned_abs};
 ghost use Rattle.qm_space.specs.Plane.{flipped};
-ghost use Rattle.qm_geom.specs.Vectors.{IsWithin};
+ghost use Rattle.qm_geom.specs.Vectors.{HasSmallComponents};
 ghost use Rattle.qm_narrow.specs.inner.FoundPlanes.{IsAlong, HasAlongAmong, HasAgainstAmong};
 
 use qm_geom::{Plane, Vector};
 
 /// Whether some plane's normal points where this one does.
 pub(crate) fn has_along(planes: &[Plane], normal: &Vector) -> bool
-    requires { IsWithin normal.now (2 ^ 26) }
+    requires { HasSmallComponents normal.now (2 ^ 26) }
     ensures { result ≡ true → HasAlongAmong planes.now normal.now }
 {
     for plane in planes {
@@ -22,7 +22,7 @@ pub(crate) fn has_along(planes: &[Plane], normal: &Vector) -> bool
 
 /// Whether some plane's normal points where the opposite of this one does.
 pub(crate) fn has_against(planes: &[Plane], normal: &Vector) -> bool
-    requires { IsWithin normal.now (2 ^ 26) }
+    requires { HasSmallComponents normal.now (2 ^ 26) }
     ensures { result ≡ true → HasAgainstAmong planes.now normal.now }
 {
     for plane in planes {
@@ -37,7 +37,7 @@ pub(crate) fn has_against(planes: &[Plane], normal: &Vector) -> bool
 /// Whether a normal points where a plane's does: their cross product is zero, and their components have the same signs. Most
 /// listed planes are told by the first two components.
 fn is_along(normal: &Vector, plane: &Plane) -> bool
-    requires { IsWithin normal.now (2 ^ 26) }
+    requires { HasSmallComponents normal.now (2 ^ 26) }
     ensures { result ≡ true → IsAlong normal.now plane.now }
 {
     let other = plane.normal();

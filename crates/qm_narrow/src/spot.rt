@@ -4,8 +4,8 @@ ghost use Rattle.std.specs.Prelude.{◌≡◌, ◌≤◌, ◌^◌, ◌*ℤ◌, u
 ghost use Rattle.qm_space.specs.Cube.{IsInClosedCube};
 ghost use Rattle.qm_space.specs.Point.{IsCoordinate, AreCoordinates};
 ghost use Rattle.qm_space.specs.Cuboid.{least_product, greatest_product};
-ghost use Rattle.qm_geom.specs.Rounding.{HasSmallCoordinates};
-ghost use Rattle.qm_geom.specs.Vectors.{IsWithin};
+ghost use Rattle.qm_space.specs.Coordinates.{HasSmallCoordinates};
+ghost use Rattle.qm_geom.specs.Vectors.{HasSmallComponents};
 ghost use Rattle.qm_narrow.specs.inner.Look.{least_between};
 ghost use Rattle.qm_narrow.specs.inner.Trace.{IsSpotOf};
 
@@ -24,7 +24,7 @@ pub(crate) struct Spot {
 
 impl Spot {
     ghost use Rattle.qm_narrow.specs.inner.Trace.{IsSpotOf};
-    ghost use Rattle.qm_geom.specs.Vectors.{IsWithin};
+    ghost use Rattle.qm_geom.specs.Vectors.{HasSmallComponents};
     ghost use Rattle.qm_narrow.specs.inner.Look.{least_along, greatest_along};
 
     /// Those of a corner.
@@ -47,7 +47,7 @@ impl Spot {
     pub(crate) fn least(&self, normal: &Vector) -> i64
         requires below_in { AreCoordinates self.now.below }
         requires above_in { AreCoordinates self.now.above }
-        requires small { IsWithin normal.now (2 ^ 26) }
+        requires small { HasSmallComponents normal.now (2 ^ 26) }
         ensures exact { result ≡ least_along normal.now self.now }
         ensures size { unsigned_abs result ≤ 2 ^ 40 }
     {
@@ -58,7 +58,7 @@ impl Spot {
     pub(crate) fn greatest(&self, normal: &Vector) -> i64
         requires below_in { AreCoordinates self.now.below }
         requires above_in { AreCoordinates self.now.above }
-        requires small { IsWithin normal.now (2 ^ 26) }
+        requires small { HasSmallComponents normal.now (2 ^ 26) }
         ensures exact { result ≡ greatest_along normal.now self.now }
         ensures size { unsigned_abs result ≤ 2 ^ 40 }
     {
@@ -89,7 +89,7 @@ fn divided(corner: &Corner) -> Spot
 fn least_between(normal: &Vector, low: &[i32; 3], high: &[i32; 3]) -> i64
     requires low_in { AreCoordinates low.now }
     requires high_in { AreCoordinates high.now }
-    requires small { IsWithin normal.now (2 ^ 26) }
+    requires small { HasSmallComponents normal.now (2 ^ 26) }
     ensures exact { result ≡ least_between normal.now low.now high.now }
     ensures size { unsigned_abs result ≤ 2 ^ 40 }
 {

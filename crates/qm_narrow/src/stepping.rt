@@ -6,9 +6,9 @@ ghost use Rattle.qm_convex.specs.Cut.{IsPartInFront};
 ghost use Rattle.qm_separators.specs.Part.{IsPartBy, HasNoPartBy};
 ghost use Rattle.qm_separators.specs.Separator.{IsSeparatorFrom};
 ghost use Rattle.qm_separators.specs.ChainState.{IsChainState};
-ghost use Rattle.qm_separators.specs.ChainStep.{LeadsTo, Blocks};
+ghost use Rattle.qm_separators.specs.ChainStep.{StepsTo, Blocks};
 ghost use Rattle.qm_separators.specs.inner.Narrowed.{NarrowsTo, CutsAway};
-ghost use Rattle.qm_narrow.specs.inner.LastPoint.{EndsAt};
+ghost use Rattle.qm_narrow.specs.inner.LastCut.{EndsAt};
 
 use crate::chain_state::ChainState;
 use crate::narrowing::{kept, within};
@@ -26,7 +26,7 @@ pub fn step(
     state: &ChainState,
     next: &Pane,
 ) -> Result<Option<ChainState>, AllocError>
-    ensures { IfOk result (λ after. MatchOption after (Blocks state.now next.now.winding next.now.into) (LeadsTo state.now next.now.winding next.now.into)) }
+    ensures { IfOk result (λ after. MatchOption after (Blocks state.now next.now.winding next.now.into) (StepsTo state.now next.now.winding next.now.into)) }
 {
     let mut buffers = StepBuffers::new(alloc);
     let after = step_with(alloc, &mut buffers, state, next)?;
@@ -42,7 +42,7 @@ pub fn step_into(
     state: &ChainState,
     next: &Pane,
 ) -> Result<bool, AllocError>
-    ensures leads { IfOk result (λ leads. leads ≡ true → LeadsTo state.now next.now.winding next.now.into spare.new) }
+    ensures leads { IfOk result (λ leads. leads ≡ true → StepsTo state.now next.now.winding next.now.into spare.new) }
     ensures blocks { IfOk result (λ leads. leads ≡ false → Blocks state.now next.now.winding next.now.into) }
     ensures stays { IfOk result (λ leads. leads ≡ false → spare.new ≡ spare.old) }
     ensures kept { OnErr result (spare.new ≡ spare.old) }
@@ -64,7 +64,7 @@ fn step_with(
     state: &ChainState,
     next: &Pane,
 ) -> Result<Option<ChainState>, AllocError>
-    ensures { IfOk result (λ after. MatchOption after (Blocks state.now next.now.winding next.now.into) (LeadsTo state.now next.now.winding next.now.into)) }
+    ensures { IfOk result (λ after. MatchOption after (Blocks state.now next.now.winding next.now.into) (StepsTo state.now next.now.winding next.now.into)) }
 {
     let copy = next.winding.copy()?;
     match kept(copy, state.into())? {
@@ -82,7 +82,7 @@ fn after_far_cut(
     far: Winding,
 ) -> Result<Option<ChainState>, AllocError>
     requires { IsPartInFront far next.now.winding state.now.into }
-    ensures { IfOk result (λ after. MatchOption after (Blocks state.now next.now.winding next.now.into) (LeadsTo state.now next.now.winding next.now.into)) }
+    ensures { IfOk result (λ after. MatchOption after (Blocks state.now next.now.winding next.now.into) (StepsTo state.now next.now.winding next.now.into)) }
 {
     match state.source().clip(&next.into, Side::Back)? {
         Clip::Gone => Ok(None),
@@ -91,7 +91,7 @@ fn after_far_cut(
     }
 }
 
-/// The last two points of a step that has left the source whole: the separators are those of the state.
+/// The last two cuts of a step that has left the source whole: the separators are those of the state.
 fn narrowed_whole(
     alloc: Global,
     buffers: &mut StepBuffers,
@@ -102,12 +102,12 @@ fn narrowed_whole(
 {
     match within(far, state.separators())? {
         None => Ok(None),
-        Some(pass) => last_point_whole(alloc, buffers, state, pass),
+        Some(pass) => last_cut_whole(alloc, buffers, state, pass),
     }
 }
 
-/// The last point of such a step.
-fn last_point_whole(
+/// The last cut of such a step.
+fn last_cut_whole(
     alloc: Global,
     buffers: &mut StepBuffers,
     state: &ChainState,
@@ -116,10 +116,10 @@ fn last_point_whole(
     ensures { IfOk result (λ after. MatchOption after (HasNoPartBy state.now.source (IsSeparatorFrom state.now.pass pass)) (EndsAt state.now state.now.source pass)) }
 {
     let near = state.source().copy()?;
-    last_point(alloc, buffers, state, near, pass)
+    last_cut(alloc, buffers, state, near, pass)
 }
 
-/// The last two points of a step that has left a part of the source: the separators are those of this part.
+/// The last two cuts of a step that has left a part of the source: the separators are those of this part.
 fn narrowed_part(
     alloc: Global,
     buffers: &mut StepBuffers,
@@ -135,12 +135,12 @@ fn narrowed_part(
     let near = buffers.keep_source(near);
     match part {
         None => Ok(None),
-        Some(pass) => last_point(alloc, buffers, state, near, pass),
+        Some(pass) => last_cut(alloc, buffers, state, near, pass),
     }
 }
 
-/// The last point of a step, from what the others have left.
-fn last_point(
+/// The last cut of a step, from what the others have left.
+fn last_cut(
     alloc: Global,
     buffers: &mut StepBuffers,
     state: &ChainState,

@@ -1,8 +1,8 @@
 //! Windings with what is wanted of their corners again and again.
 
 ghost use Rattle.std.specs.Prelude.{◌≡◌, ◌<◌, ◌≤◌, ◌^◌, pos, ◌<ℤ◌, [], ◌∷◌, length, IfOk, OnOk, IsTrue, ◌↔◌};
-ghost use Rattle.qm_geom.specs.LeastDistance.{IsLeastDistance};
-ghost use Rattle.qm_geom.specs.Rounding.{HasSmallCoordinates};
+ghost use Rattle.qm_space.specs.LeastDistance.{IsLeastDistance};
+ghost use Rattle.qm_space.specs.Coordinates.{HasSmallCoordinates};
 ghost use Rattle.qm_convex.specs.Winding.{corner_at, corners};
 ghost use Rattle.qm_convex.specs.World.{IsInWorld};
 ghost use Rattle.qm_convex.specs.Sides.{HasCornerBehind, HasCornerInFront};
@@ -39,7 +39,7 @@ impl Model for Traced {
 
 impl Traced {
     ghost use Rattle.qm_narrow.specs.inner.Trace.{IsSpotOf};
-    ghost use Rattle.qm_geom.specs.Vectors.{IsWithin};
+    ghost use Rattle.qm_geom.specs.Vectors.{HasSmallComponents};
     ghost use Rattle.qm_narrow.specs.inner.Look.{IsReach, IsOutlook};
 
     /// A winding with these, in lists that are used again.
@@ -145,7 +145,7 @@ impl Traced {
 
     /// Its reach along a normal.
     pub(crate) fn reach(&self, normal: &Vector) -> Reach
-        requires { IsWithin normal.now (2 ^ 26) }
+        requires { HasSmallComponents normal.now (2 ^ 26) }
         ensures { IsReach self.now normal.now result }
     {
         let _corners = self.len();
@@ -158,7 +158,7 @@ impl Traced {
 
     /// Whether planes with a normal may part it and a source of this reach.
     pub(crate) fn outlook(&self, reach: &Reach, normal: &Vector) -> Outlook
-        requires { IsWithin normal.now (2 ^ 26) }
+        requires { HasSmallComponents normal.now (2 ^ 26) }
         ensures { IsOutlook self.now normal.now reach.now result }
     {
         let _corners = self.len();

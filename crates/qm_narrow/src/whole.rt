@@ -1,7 +1,7 @@
 //! Corners that are whole points.
 
 ghost use Rattle.std.specs.Prelude.{IfSome};
-ghost use Rattle.qm_geom.specs.Rounding.{HasSmallCoordinates};
+ghost use Rattle.qm_space.specs.Coordinates.{HasSmallCoordinates};
 ghost use Rattle.qm_narrow.specs.inner.Trace.{IsWholeAt};
 
 use qm_geom::Corner;

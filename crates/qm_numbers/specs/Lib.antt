@@ -2,3 +2,4 @@ pub mod Gcd
 pub mod FloorDivision
 pub mod Ratio
 pub mod Rounding
+pub mod Sign

@@ -14,7 +14,7 @@ use Rattle.qm_partition.specs.Partition.{Partition, leaf, node}
 use Rattle.qm_space.specs.Book.{plane_at}
 use Rattle.qm_partition.specs.Counting.{leaf_count}
 use Rattle.qm_partition.specs.LeafOfPoint.{node_value, leaf_record_at, leaf_at, IsOffNodePlanes}
-use Rattle.qm_partition.specs.Ways.{Way, after_step, ways, cell_of, LeadsTo}
+use Rattle.qm_partition.specs.Ways.{Way, after_step, ways, cell_of_way, LeadsTo}
 use Rattle.qm_partition.proofs.Counts.{leaf_count-node}
 use Rattle.qm_lists.proofs.Places.{slice_get-append_old, slice_get-append_past, slice_get-append_cases, slice_get-map_from}
 use Rattle.qm_numbers.proofs.Signs.{side_test, above_zero}
@@ -36,11 +36,11 @@ to_front-count n front = length-map (ways front) (after_step n true) ∙ length-
 record IsLed (planes : List Plane) (shape : Partition) (x : Point) : Type 0 where
   way : Way
   way_is : slice_get (ways shape) (leaf_at planes shape x) ≡ Some way
-  in_cell : IsInCell (cell_of planes way) x
+  in_cell : IsInCell (cell_of_way planes way) x
 
-one_step_more : (planes : List Plane) (n : ℕ) (to_front : Bool) (way : Way) (x : Point) → IsInFront (turned to_front (plane_at planes n)) x → IsInCell (cell_of planes way) x → IsInCell (cell_of planes (after_step n to_front way)) x
+one_step_more : (planes : List Plane) (n : ℕ) (to_front : Bool) (way : Way) (x : Point) → IsInFront (turned to_front (plane_at planes n)) x → IsInCell (cell_of_way planes way) x → IsInCell (cell_of_way planes (after_step n to_front way)) x
 one_step_more planes n to_front way x ahead inside =
-    All-cons (λ h. IsInFront h x) (turned to_front (plane_at planes n)) (cell_of planes way) ahead inside
+    All-cons (λ h. IsInFront h x) (turned to_front (plane_at planes n)) (cell_of_way planes way) ahead inside
 
 module _ (planes : List Plane) (n : ℕ) (front back : Partition) (x : Point) where
   abbrev h : Plane
@@ -49,7 +49,7 @@ module _ (planes : List Plane) (n : ℕ) (front back : Partition) (x : Point) wh
   abbrev all_ways : List Way
   all_ways = ways (node n front back)
 
-  led_back : IsBehind h x → (led : IsLed planes back x) → (slice_get all_ways (leaf_count front + leaf_at planes back x) ≡ Some (after_step n false led.way)) × IsInCell (cell_of planes (after_step n false led.way)) x
+  led_back : IsBehind h x → (led : IsLed planes back x) → (slice_get all_ways (leaf_count front + leaf_at planes back x) ≡ Some (after_step n false led.way)) × IsInCell (cell_of_way planes (after_step n false led.way)) x
   led_back behind led =
       let to_front = map (after_step n true) (ways front) in
       let to_back = map (after_step n false) (ways back) in
@@ -58,7 +58,7 @@ module _ (planes : List Plane) (n : ℕ) (front back : Partition) (x : Point) wh
       let its = slice_get-append_past to_front to_back k ∙ slice_get-map (after_step n false) (ways back) k ∙ ap (option_map (after_step n false)) led.way_is in
       (place ∙ its, one_step_more planes n false led.way x ((flipped_in_front h x).1 behind) led.in_cell)
 
-  led_front : IsInFront h x → (led : IsLed planes front x) → (slice_get all_ways (leaf_at planes front x) ≡ Some (after_step n true led.way)) × IsInCell (cell_of planes (after_step n true led.way)) x
+  led_front : IsInFront h x → (led : IsLed planes front x) → (slice_get all_ways (leaf_at planes front x) ≡ Some (after_step n true led.way)) × IsInCell (cell_of_way planes (after_step n true led.way)) x
   led_front ahead led =
       let to_front = map (after_step n true) (ways front) in
       let to_back = map (after_step n false) (ways back) in
@@ -81,7 +81,7 @@ is_led planes (node n front back) x off = elim (side_test (node_value planes n x
 ]
 
 -- the leaf of a point that is on no node plane is at the end of a way in whose cell the point lies
-pub leaf_of_point : (planes : List Plane) (shape : Partition) (x : Point) → IsOffNodePlanes planes shape x → (way : Way) × LeadsTo shape (leaf_at planes shape x) way (leaf_record_at planes shape x) × IsInCell (cell_of planes way) x
+pub leaf_of_point : (planes : List Plane) (shape : Partition) (x : Point) → IsOffNodePlanes planes shape x → (way : Way) × LeadsTo shape (leaf_at planes shape x) way (leaf_record_at planes shape x) × IsInCell (cell_of_way planes way) x
 leaf_of_point planes shape x off =
     let led = is_led planes shape x off in
     (led.way, record { way_is = led.way_is; leaf_is = leaf_of_number planes shape x }, led.in_cell)
@@ -89,14 +89,14 @@ leaf_of_point planes shape x off =
 -- ---- no other cell has the point
 
 -- the first step of a way in whose cell the point lies, and the rest of the way
-first_step : (planes : List Plane) (n : ℕ) (to_front : Bool) (rest way : Way) (x : Point) → after_step n to_front rest ≡ way → IsInCell (cell_of planes way) x → IsInFront (turned to_front (plane_at planes n)) x × IsInCell (cell_of planes rest) x
+first_step : (planes : List Plane) (n : ℕ) (to_front : Bool) (rest way : Way) (x : Point) → after_step n to_front rest ≡ way → IsInCell (cell_of_way planes way) x → IsInFront (turned to_front (plane_at planes n)) x × IsInCell (cell_of_way planes rest) x
 first_step planes n to_front rest way x is inside =
-    let here = subst (λ (w : Way). IsInCell (cell_of planes w) x) (sym is) inside in
+    let here = subst (λ (w : Way). IsInCell (cell_of_way planes w) x) (sym is) inside in
     let h = turned to_front (plane_at planes n) in
-    (All-head (λ h. IsInFront h x) h (cell_of planes rest) here, All-tail (λ h. IsInFront h x) h (cell_of planes rest) here)
+    (All-head (λ h. IsInFront h x) h (cell_of_way planes rest) here, All-tail (λ h. IsInFront h x) h (cell_of_way planes rest) here)
 
 -- a point in the cell of the way of number k has the leaf of number k
-pub number_of_cell : (planes : List Plane) (shape : Partition) (x : Point) (k : ℕ) (way : Way) → slice_get (ways shape) k ≡ Some way → IsInCell (cell_of planes way) x → leaf_at planes shape x ≡ k
+pub number_of_cell : (planes : List Plane) (shape : Partition) (x : Point) (k : ℕ) (way : Way) → slice_get (ways shape) k ≡ Some way → IsInCell (cell_of_way planes way) x → leaf_at planes shape x ≡ k
 unfolding node_value
 number_of_cell planes (leaf found) x zero way at inside = refl
 number_of_cell planes (leaf found) x (suc k) way at inside = absurd cc
@@ -123,6 +123,6 @@ number_of_cell planes (node n front back) x k way at inside =
     ]
 
 -- the cells of two different ways have no point in common
-pub cells_are_apart : (planes : List Plane) (shape : Partition) (x : Point) (j k : ℕ) (one other : Way) → slice_get (ways shape) j ≡ Some one → slice_get (ways shape) k ≡ Some other → IsInCell (cell_of planes one) x → IsInCell (cell_of planes other) x → j ≡ k
+pub cells_are_apart : (planes : List Plane) (shape : Partition) (x : Point) (j k : ℕ) (one other : Way) → slice_get (ways shape) j ≡ Some one → slice_get (ways shape) k ≡ Some other → IsInCell (cell_of_way planes one) x → IsInCell (cell_of_way planes other) x → j ≡ k
 cells_are_apart planes shape x j k one other at_j at_k in_one in_other =
     sym (number_of_cell planes shape x j one at_j in_one) ∙ number_of_cell planes shape x k other at_k in_other

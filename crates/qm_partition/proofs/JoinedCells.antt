@@ -13,9 +13,9 @@ use Rattle.qm_contents.specs.declared.contents.Contents.{Contents}
 use Rattle.qm_partition.specs.declared.node.Leaf.{Leaf}
 use Rattle.qm_partition.specs.Partition.{Partition, leaf, node}
 use Rattle.qm_partition.specs.Counting.{leaves_of, node_planes}
-use Rattle.qm_partition.specs.Ways.{Way, after_step, ways, cell_of, HasPoints}
-use Rattle.qm_partition.specs.Joining.{are_equal, joined_node, joined}
-use Rattle.qm_partition.proofs.JoinedLeaves.{are_equal-contents}
+use Rattle.qm_partition.specs.Ways.{Way, after_step, ways, cell_of_way, HasPoints}
+use Rattle.qm_partition.specs.Joining.{have_same_contents, joined_node, joined}
+use Rattle.qm_partition.proofs.JoinedLeaves.{same_contents_equal}
 
 -- ---- one node
 
@@ -28,15 +28,15 @@ pub record AreOneLeaf (front back whole : Partition) : Type 0 where
   pub equal : b.contents ≡ a.contents
   pub whole_is : whole ≡ leaf a
 
-of_leaves : (n : ℕ) (a b : Leaf) (test : Bool) → are_equal a b ≡ test →
+of_leaves : (n : ℕ) (a b : Leaf) (test : Bool) → have_same_contents a b ≡ test →
     let whole : Partition = if test then leaf a else node n (leaf a) (leaf b) in
     AreOneLeaf (leaf a) (leaf b) whole ⊎ (whole ≡ node n (leaf a) (leaf b))
-of_leaves n a b true same = inl (record { a = a; b = b; front_is = refl; back_is = refl; equal = sym (are_equal-contents a b same); whole_is = refl })
+of_leaves n a b true same = inl (record { a = a; b = b; front_is = refl; back_is = refl; equal = sym (same_contents_equal a b same); whole_is = refl })
 of_leaves n a b false same = inr refl
 
 -- a node becomes a leaf, where its sides are leaves of equal contents, or stays
 pub joined_node_is : (n : ℕ) (front back : Partition) → AreOneLeaf front back (joined_node n front back) ⊎ (joined_node n front back ≡ node n front back)
-joined_node_is n (leaf a) (leaf b) = of_leaves n a b (are_equal a b) refl
+joined_node_is n (leaf a) (leaf b) = of_leaves n a b (have_same_contents a b) refl
 joined_node_is n (leaf a) (node m front back) = inr refl
 joined_node_is n (node m front back) behind = inr refl
 
@@ -68,7 +68,7 @@ has_only (node n front back) a is = elim (joined_node_is n (joined front) (joine
 pub record HasPointWith (planes : List Plane) (Has : Point → Type 0) (way : Way) : Type 0 where
   pub point : Point
   pub has : Has point
-  pub in_cell : IsInCell (cell_of planes way) point
+  pub in_cell : IsInCell (cell_of_way planes way) point
 
 -- of the ways of a partition there is one
 pub some_way : (P : Way → Type 0) (shape : Partition) → All P (ways shape) → (way : Way) × P way
@@ -87,15 +87,15 @@ module _ (planes : List Plane) (Has : Point → Type 0) (n : ℕ) (to_front : Bo
       let h = turned to_front (plane_at planes n) in
       record {
         point = at.point;
-        has = (at.has, All-head (λ h. IsInFront h at.point) h (cell_of planes way) at.in_cell);
-        in_cell = All-tail (λ h. IsInFront h at.point) h (cell_of planes way) at.in_cell;
+        has = (at.has, All-head (λ h. IsInFront h at.point) h (cell_of_way planes way) at.in_cell);
+        in_cell = All-tail (λ h. IsInFront h at.point) h (cell_of_way planes way) at.in_cell;
       }
 
   pub step_on : (way : Way) → HasPointWith planes HasBehindStep way → HasPointWith planes Has (after_step n to_front way)
   step_on way at = record {
     point = at.point;
     has = at.has.0;
-    in_cell = All-cons (λ h. IsInFront h at.point) (turned to_front (plane_at planes n)) (cell_of planes way) at.has.1 at.in_cell;
+    in_cell = All-cons (λ h. IsInFront h at.point) (turned to_front (plane_at planes n)) (cell_of_way planes way) at.has.1 at.in_cell;
   }
 
   pub steps_off : (below : List Way) → All (HasPointWith planes Has) (map (after_step n to_front) below) → All (HasPointWith planes HasBehindStep) below

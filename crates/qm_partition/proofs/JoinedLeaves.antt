@@ -10,10 +10,10 @@ use Rattle.qm_contents.proofs.Strengths.{same_strength}
 use Rattle.qm_partition.specs.declared.node.Leaf.{Leaf}
 use Rattle.qm_partition.specs.Partition.{Partition, leaf, node}
 use Rattle.qm_partition.specs.LeafOfPoint.{node_value, leaf_record_at}
-use Rattle.qm_partition.specs.Joining.{are_equal, joined_node, joined}
+use Rattle.qm_partition.specs.Joining.{have_same_contents, joined_node, joined}
 
-pub are_equal-contents : (a b : Leaf) → are_equal a b ≡ true → a.contents ≡ b.contents
-are_equal-contents a b same =
+pub same_contents_equal : (a b : Leaf) → have_same_contents a b ≡ true → a.contents ≡ b.contents
+same_contents_equal a b same =
     let equal : strength a.contents ≡ strength b.contents = grind (arith, nat_tests, same) in
     same_strength a.contents b.contents (omega (arith, equal)) (omega (arith, equal))
 
@@ -37,12 +37,12 @@ module _ (planes : List Plane) (x : Point) where
   same_both true c d same = same
   same_both false c d same = refl
 
-  at_leaves : (n : ℕ) (a b : Leaf) (test : Bool) → are_equal a b ≡ test → contents_at (if test then leaf a else node n (leaf a) (leaf b)) ≡ contents_at (node n (leaf a) (leaf b))
-  at_leaves n a b true same = same_both (is_behind n) a.contents b.contents (are_equal-contents a b same) ∙ sym (at_node n (leaf a) (leaf b))
+  at_leaves : (n : ℕ) (a b : Leaf) (test : Bool) → have_same_contents a b ≡ test → contents_at (if test then leaf a else node n (leaf a) (leaf b)) ≡ contents_at (node n (leaf a) (leaf b))
+  at_leaves n a b true same = same_both (is_behind n) a.contents b.contents (same_contents_equal a b same) ∙ sym (at_node n (leaf a) (leaf b))
   at_leaves n a b false same = refl
 
   at_joined_node : (n : ℕ) (front back : Partition) → contents_at (joined_node n front back) ≡ contents_at (node n front back)
-  at_joined_node n (leaf a) (leaf b) = at_leaves n a b (are_equal a b) refl
+  at_joined_node n (leaf a) (leaf b) = at_leaves n a b (have_same_contents a b) refl
   at_joined_node n (leaf a) (node m front back) = refl
   at_joined_node n (node m front back) behind = refl
 

@@ -8,7 +8,7 @@ use Rattle.qm_partition.specs.declared.node.Leaf.{Leaf as LeafRecord}
 use Rattle.qm_partition.specs.declared.visit.Visit.{Visit}
 use Rattle.qm_partition.specs.Partition.{Partition, leaf, node}
 use Rattle.qm_partition.specs.Counting.{leaves_of}
-use Rattle.qm_partition.specs.Joining.{are_equal, joined_node, joined}
+use Rattle.qm_partition.specs.Joining.{have_same_contents, joined_node, joined}
 use Rattle.qm_partition.specs.Visits.{visits}
 use Rattle.qm_partition.specs.WellMade.{IsSolidIfFilled, IsWellMade}
 use Rattle.qm_partition.specs.inner.JoinedWalk.{joined_from}
@@ -21,7 +21,7 @@ module _ (P : LeafRecord → Type 0) where
   one_of_two n a b false of_a of_b = All-append P (a ∷ []) (b ∷ []) of_a of_b
 
   leaves_of_joined_node : (n : ℕ) (front back : Partition) → All P (leaves_of front) → All P (leaves_of back) → All P (leaves_of (joined_node n front back))
-  leaves_of_joined_node n (leaf a) (leaf b) in_front behind = one_of_two n a b (are_equal a b) in_front behind
+  leaves_of_joined_node n (leaf a) (leaf b) in_front behind = one_of_two n a b (have_same_contents a b) in_front behind
   leaves_of_joined_node n (leaf a) (node m front back) in_front behind = All-append P (a ∷ []) (leaves_of front ++ leaves_of back) in_front behind
   leaves_of_joined_node n (node m front back) beyond in_front behind = All-append P (leaves_of front ++ leaves_of back) (leaves_of beyond) in_front behind
 

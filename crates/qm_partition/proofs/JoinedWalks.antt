@@ -7,7 +7,7 @@ use Rattle.qm_partition.specs.declared.visit.Visit.{Visit}
 use Rattle.qm_partition.specs.declared.visit.Visit.TheVariants.{Node, Leaf}
 use Rattle.qm_partition.specs.Partition.{Partition, leaf, node}
 use Rattle.qm_partition.specs.Visits.{visits}
-use Rattle.qm_partition.specs.Joining.{are_equal, joined_node, joined}
+use Rattle.qm_partition.specs.Joining.{have_same_contents, joined_node, joined}
 use Rattle.qm_partition.specs.inner.JoinedWalk.{joint_of, node_joined, joined_by, joined_from}
 
 pub joined_from-append : (walk walk' done : List Visit) → joined_from (walk ++ walk') done ≡ joined_from walk (joined_from walk' done)
@@ -21,7 +21,7 @@ two_leaves n a b rest false = refl
 
 -- a node behind which both sides are joined
 at_joined_node : (n : ℕ) (front back : Partition) (rest : List Visit) → joined_by (Node n) (visits front ++ (visits back ++ rest)) ≡ visits (joined_node n front back) ++ rest
-at_joined_node n (leaf a) (leaf b) rest = two_leaves n a b rest (are_equal a b)
+at_joined_node n (leaf a) (leaf b) rest = two_leaves n a b rest (have_same_contents a b)
 at_joined_node n (leaf a) (node m front back) rest = refl
 at_joined_node n (node m front back) behind rest = ap (λ (walk : List Visit). Node n ∷ (Node m ∷ walk)) (sym (append_assoc (visits front ++ visits back) (visits behind) rest))
 

@@ -14,7 +14,7 @@ use Rattle.qm_partition.specs.Joining.{joined}
 use Rattle.qm_partition.specs.Counting.{leaf_count, node_count, leaves_of, node_planes}
 use Rattle.qm_partition.specs.Numbering.{nodes_of, AreNumbered}
 use Rattle.qm_partition.specs.LeafOfPoint.{node_value, leaf_record_at, leaf_at, IsOffNodePlanes}
-use Rattle.qm_partition.specs.Ways.{Way, cell_of, LeadsTo, IsInLeaf}
+use Rattle.qm_partition.specs.Ways.{Way, cell_of_way, LeadsTo, IsInLeaf}
 
 abbrev empty : LeafRecord
 empty = record { contents = Empty; filled = false }
@@ -83,15 +83,15 @@ way_row : LeadsTo cube_tree.shape 3 way_in stone
 way_row = record { way_is = refl; leaf_is = refl }
 
 -- its cell is the inside of the cube: two of its planes are turned
-cell_row : cell_of cube_tree.planes way_in ≡
+cell_row : cell_of_way cube_tree.planes way_in ≡
     plane_of (pos 1) (pos 0) (pos 0) (pos 0) ∷ plane_of (neg_ℤ (pos 1)) (pos 0) (pos 0) (neg_ℤ (pos 64)) ∷ plane_of (pos 0) (pos 1) (pos 0) (pos 0)
     ∷ plane_of (pos 0) (neg_ℤ (pos 1)) (pos 0) (neg_ℤ (pos 64)) ∷ plane_of (pos 0) (pos 0) (pos 1) (pos 0) ∷ plane_of (pos 0) (pos 0) (neg_ℤ (pos 1)) (neg_ℤ (pos 64)) ∷ []
 cell_row = refl
 
 -- and has the middle
-in_cell_row : IsInCell (cell_of cube_tree.planes way_in) middle
+in_cell_row : IsInCell (cell_of_way cube_tree.planes way_in) middle
 unfolding value
-in_cell_row = All-from_recursion (λ h. IsInFront h middle) (cell_of cube_tree.planes way_in) (grind (arith, ints))
+in_cell_row = All-from_recursion (λ h. IsInFront h middle) (cell_of_way cube_tree.planes way_in) (grind (arith, ints))
 
 -- so that the leaf has a point
 in_leaf_row : IsInLeaf cube_tree.planes way_in middle

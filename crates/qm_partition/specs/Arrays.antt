@@ -12,13 +12,13 @@ use Rattle.qm_partition.specs.Tree.{Tree}
 -- a node is the first partition that has no place yet.
 
 -- the leaf of a number; a number that is not there names an empty leaf
-abbrev pub leaf_of : List LeafRecord → ℕ → Partition
-leaf_of leaves k = leaf (slice_index_or leaves k (record { contents = Empty; filled = false }))
+abbrev pub listed_leaf : List LeafRecord → ℕ → Partition
+listed_leaf leaves k = leaf (slice_index_or leaves k (record { contents = Empty; filled = false }))
 
 -- the partition of a child, where these have no place yet
 abbrev pub placed : List LeafRecord → Child → List Partition → Partition
-placed leaves (Leaf k) waiting = leaf_of leaves k
-placed leaves (Node n) [] = leaf_of leaves 0
+placed leaves (Leaf k) waiting = listed_leaf leaves k
+placed leaves (Node n) [] = listed_leaf leaves 0
 placed leaves (Node n) (first ∷ waiting) = first
 
 -- those that have no place afterwards

@@ -33,13 +33,13 @@ abbrev pub turned_to : List Plane → Step → Plane
 turned_to planes step = turned step.front (plane_at planes step.plane)
 
 -- the cell of a way: the planes of its steps, each turned to the side to which the step leads
-abbrev pub cell_of : List Plane → Way → List Plane
-cell_of planes way = map (turned_to planes) way
+abbrev pub cell_of_way : List Plane → Way → List Plane
+cell_of_way planes way = map (turned_to planes) way
 
 -- the points of the leaf at the end of a way: inside the cube, and strictly on the way's side of each plane above it
 pub record IsInLeaf (planes : List Plane) (way : Way) (x : Point) : Type 0 where
   pub in_cube : IsInCube x
-  pub in_cell : IsInCell (cell_of planes way) x
+  pub in_cell : IsInCell (cell_of_way planes way) x
 
 -- each leaf has a point
 abbrev pub HasPoints : Tree → Type 0

@@ -26,12 +26,12 @@ use Rattle.qm_partition.specs.Counting.{node_count}
 use Rattle.qm_partition.specs.Numbering.{nodes_of, nodes_after, leaves_after}
 use Rattle.qm_partition.specs.inner.PlacedPart.{nodes_from}
 use Rattle.qm_partition.proofs.PlacedParts.{sides_come_later}
-use Rattle.qm_contacts.specs.inner.Pieces.{Piece}
+use Rattle.qm_contacts.specs.inner.Pieces.{LeafPiece}
 use Rattle.qm_contacts.specs.inner.Due.{StandsFor, DuePolygon, DueBelow, due_of, ComesToPieces, half_due}
 use Rattle.qm_contacts.proofs.PushedDown.{IsNodePart, node_part, leaf_part, node_within, piece_due_at_leaf, halves_due_at_node}
 use Rattle.qm_wind.specs.Split.{IsSplit}
 use Rattle.qm_wind.specs.declared.halves.Halves.{Halves}
-use Rattle.qm_portal.specs.inner.Pushes.{IsChildOf, HasPieces, IsDue, polygon_at, weight_at, polygon_weight, LeavesPolygons, IsPushed, MayBeDue, IsPushing, rest_at, GoesDown, half_at}
+use Rattle.qm_portal.specs.inner.Pushes.{IsChildOf, HasPieces, IsDueBelow, polygon_at, weight_at, polygon_weight, LeavesPolygons, IsPushed, MayBeDue, IsPushing, rest_at, GoesDown, half_at}
 
 -- a node that can be due is one of the tree
 pub due_within : (tree : Tree) (winding : Winding) (n : ℕ) → MayBeDue tree (polygon_at winding (Node n)) → n < node_count tree.shape
@@ -43,9 +43,9 @@ kept_half : (half : Option Winding) (child : Child) (part : Partition) (n k : �
 kept_half None child part n k = refl
 kept_half (Some winding) child part n k = refl
 
-known_half : (tree : Tree) (half : Option Winding) (child : Child) (part : Partition) (n k : ℕ) (whole : Winding) (g : Plane) → StandsFor tree.shape child part n k → MatchOption half (HasNoneInFront whole g) (λ w. IsPartInFront w whole g) → All (IsDue tree) (half_due half child part n k)
-known_half tree None child part n k whole g stands is = All-nil (IsDue tree)
-known_half tree (Some winding) child part n k whole g stands is = All-cons (IsDue tree) _ [] (record { stands = stands; convex = is.convex }) (All-nil (IsDue tree))
+known_half : (tree : Tree) (half : Option Winding) (child : Child) (part : Partition) (n k : ℕ) (whole : Winding) (g : Plane) → StandsFor tree.shape child part n k → MatchOption half (HasNoneInFront whole g) (λ w. IsPartInFront w whole g) → All (IsDueBelow tree) (half_due half child part n k)
+known_half tree None child part n k whole g stands is = All-nil (IsDueBelow tree)
+known_half tree (Some winding) child part n k whole g stands is = All-cons (IsDueBelow tree) _ [] (record { stands = stands; convex = is.convex }) (All-nil (IsDueBelow tree))
 
 -- at a node both halves are left
 module _ (tree : Tree) (n : ℕ) (here : NodeRecord) (g : Plane) (at : slice_get (nodes_of tree.shape 0 0) n ≡ Some here) (plane_is : slice_get tree.planes here.plane ≡ Some g) where
@@ -78,11 +78,11 @@ module _ (tree : Tree) (n : ℕ) (here : NodeRecord) (g : Plane) (at : slice_get
       ahead : List DueBelow
       ahead = half_due halves.front here.front is.front (entry.n + 1) entry.k
 
-      left : IsLeft due_of (IsDue tree) (ComesToPieces tree.planes) entry (half_at halves.back here.back ++ half_at halves.front here.front) []
+      left : IsLeft due_of (IsDueBelow tree) (ComesToPieces tree.planes) entry (half_at halves.back here.back ++ half_at halves.front here.front) []
       left = record {
         entries = behind ++ ahead;
         kept_is = map-append due_of behind ahead ∙ (λ i. kept_half halves.back here.back is.back (nodes_after is.front (entry.n + 1)) (leaves_after is.front entry.k) i ++ kept_half halves.front here.front is.front (entry.n + 1) entry.k i);
-        known = All-append (IsDue tree) behind ahead
+        known = All-append (IsDueBelow tree) behind ahead
             (known_half tree halves.back here.back is.back (nodes_after is.front (entry.n + 1)) (leaves_after is.front entry.k) entry.due.winding (turned false (plane_at tree.planes here.plane)) is.back_stands back_half)
             (known_half tree halves.front here.front is.front (entry.n + 1) entry.k entry.due.winding (plane_at tree.planes here.plane) is.front_stands front_half);
         rest = λ all comes. halves_due_at_node tree.planes tree.shape entry here halves.front halves.back all is front_half back_half comes;
@@ -93,7 +93,7 @@ pub done_at_leaf : (tree : Tree) (winding : Winding) (j : ℕ) → LeavesPolygon
 done_at_leaf tree winding j entry same known = record {
   entries = [];
   kept_is = refl;
-  known = All-nil (IsDue tree);
+  known = All-nil (IsDueBelow tree);
   rest = λ all comes.
       let winding_is = ap (λ (d : DuePolygon). d.winding) same in
       let part = leaf_part tree.shape entry.due.child entry.part entry.n entry.k j known.stands (ap (λ (d : DuePolygon). d.child) same) in
@@ -180,7 +180,7 @@ pub stays : (tree : Tree) (winding : Winding) (child : Child) (due : List DuePol
 stays tree winding child due = record {
   others = [];
   stack_is = sym (append-nil due);
-  leaves = leaves_itself due_of (IsDue tree) (ComesToPieces tree.planes) (polygon_at winding child);
+  leaves = leaves_itself due_of (IsDueBelow tree) (ComesToPieces tree.planes) (polygon_at winding child);
   lighter = omega arith;
 }
 
@@ -191,7 +191,7 @@ module _ (tree : Tree) (old middle : Winding) (from at : Child) (due middle_due 
     others = so_far.others ++ step.others;
     stack_is = step.stack_is ∙ ap (λ ds. ds ++ step.others) so_far.stack_is ∙ append_assoc due so_far.others step.others;
     leaves = subst (λ (ds : List DuePolygon). LeavesPolygons tree (polygon_at old from) ds []) (sym (append_assoc so_far.others step.others (rest_at to new)))
-        (leaves_then_last due_of (IsDue tree) (ComesToPieces tree.planes) (polygon_at old from) (polygon_at middle at) so_far.others (step.others ++ rest_at to new) [] so_far.leaves step.leaves);
+        (leaves_then_last due_of (IsDueBelow tree) (ComesToPieces tree.planes) (polygon_at old from) (polygon_at middle at) so_far.others (step.others ++ rest_at to new) [] so_far.leaves step.leaves);
     lighter = omega (arith, sum_by-append (polygon_weight tree) so_far.others step.others, so_far.lighter, step.lighter);
   }
 
@@ -200,7 +200,7 @@ module _ (tree : Tree) (old middle : Winding) (from at : Child) (due middle_due 
   due_further_down (entry, same, known) =
       let left = so_far.leaves entry same known in
       let last = last_of_map due_of left.entries so_far.others (polygon_at middle at) left.kept_is in
-      (last.1, last.4, (All-pop (IsDue tree) left.entries last.0 (Some last.1) last.2 left.known).1)
+      (last.1, last.4, (All-pop (IsDueBelow tree) left.entries last.0 (Some last.1) last.2 left.known).1)
 
 pub convex_of_due : (tree : Tree) (winding : Winding) (child : Child) → MayBeDue tree (polygon_at winding child) → IsConvex winding
 convex_of_due tree winding child (entry, same, known) = subst IsConvex (ap (λ (d : DuePolygon). d.winding) same) known.convex
@@ -227,12 +227,12 @@ module _ (tree : Tree) (old new : Winding) (from : Child) (due new_due : List Du
     stack_is = down.stack_is;
     done_is = refl;
     leaves = subst (λ (ds : List DuePolygon). LeavesPolygons tree (polygon_at old from) ds (record { leaf = j; winding = new } ∷ [])) (append-nil down.others)
-        (leaves_then_last due_of (IsDue tree) (ComesToPieces tree.planes) (polygon_at old from) (polygon_at new (Leaf j)) down.others [] (record { leaf = j; winding = new } ∷ []) down.leaves (done_at_leaf tree new j));
+        (leaves_then_last due_of (IsDueBelow tree) (ComesToPieces tree.planes) (polygon_at old from) (polygon_at new (Leaf j)) down.others [] (record { leaf = j; winding = new } ∷ []) down.leaves (done_at_leaf tree new j));
     lighter = omega (arith, down.lighter, some_power (nodes_from (node_count tree.shape) (Leaf j)));
   }
 
 -- pieces that are found after others
-pub pushed_after : (tree : Tree) (polygon : DuePolygon) (due new_due : List DuePolygon) (own pieces new : List Piece) → IsPushed tree polygon due new_due [] own → new ≡ pieces ++ own → IsPushed tree polygon due new_due pieces new
+pub pushed_after : (tree : Tree) (polygon : DuePolygon) (due new_due : List DuePolygon) (own pieces new : List LeafPiece) → IsPushed tree polygon due new_due [] own → new ≡ pieces ++ own → IsPushed tree polygon due new_due pieces new
 pushed_after tree polygon due new_due own pieces new is new_is = record {
   others = is.others;
   own = is.own;
@@ -248,11 +248,11 @@ pub child_is_due : (tree : Tree) (polygon : DuePolygon) → IsChildOf tree polyg
 child_is_due tree polygon is convex = (record { due = polygon; part = is.part; n = is.n; k = is.k }, refl, record { stands = is.stands; convex = convex })
 
 -- the first step
-pub push_begins : (tree : Tree) (polygon : DuePolygon) (due : List DuePolygon) (pieces : List Piece) → IsPushed tree polygon [] due [] pieces → IsPushing tree polygon due pieces
+pub push_begins : (tree : Tree) (polygon : DuePolygon) (due : List DuePolygon) (pieces : List LeafPiece) → IsPushed tree polygon [] due [] pieces → IsPushing tree polygon due pieces
 push_begins tree polygon due pieces first =
-    under_way_goes_on due_of (IsDue tree) (ComesToPieces tree.planes) polygon (polygon ∷ []) [] polygon [] refl (polygon_weight tree) due pieces first
-    (under_way_first due_of (IsDue tree) (ComesToPieces tree.planes) polygon)
+    under_way_goes_on due_of (IsDueBelow tree) (ComesToPieces tree.planes) polygon (polygon ∷ []) [] polygon [] refl (polygon_weight tree) due pieces first
+    (under_way_first due_of (IsDueBelow tree) (ComesToPieces tree.planes) polygon)
 
-pub push_ends : (tree : Tree) (polygon : DuePolygon) (pieces : List Piece) → IsConvex polygon.winding → IsPushing tree polygon [] pieces → HasPieces tree polygon.child polygon.winding pieces
+pub push_ends : (tree : Tree) (polygon : DuePolygon) (pieces : List LeafPiece) → IsConvex polygon.winding → IsPushing tree polygon [] pieces → HasPieces tree polygon.child polygon.winding pieces
 push_ends tree polygon pieces convex under part n k stands =
-    under_way_last due_of (IsDue tree) (ComesToPieces tree.planes) polygon pieces under (record { due = polygon; part = part; n = n; k = k }) refl (record { stands = stands; convex = convex })
+    under_way_last due_of (IsDueBelow tree) (ComesToPieces tree.planes) polygon pieces under (record { due = polygon; part = part; n = n; k = k }) refl (record { stands = stands; convex = convex })

@@ -28,7 +28,7 @@ use Rattle.qm_contacts.specs.Meeting.{leaves_below, then_step}
 use Rattle.qm_contacts.specs.Touching.{Touching}
 use Rattle.qm_contacts.specs.Outside.{TouchesOutside}
 use Rattle.qm_contacts.specs.inner.Descent.{AreBounds, AreWallFacets}
-use Rattle.qm_contacts.specs.inner.Pieces.{walled_cell, AreRows}
+use Rattle.qm_contacts.specs.inner.Pieces.{walled_cell, ArePiecesOfEach}
 use Rattle.qm_contacts.specs.inner.Due.{StandsFor, DueCell, DueCellBelow, IsDueCell, cell_due_of, ComesToTouchings, ComesToOutside}
 use Rattle.qm_contacts.proofs.Pieces.{walled_split, touchings_at_node}
 use Rattle.qm_contacts.proofs.Descent.{facets_below, bounds_below, touches_outside, not_outside}
@@ -151,7 +151,7 @@ module _ (tree : Tree) (cell : DueCell) (n : ℕ) (here : NodeRecord) (g : Plane
               (subst (λ (h : Plane). IsSection (walled_cell tree.planes entry.above) h section) (sym same_plane) is_section)
               (leaves_below is.front entry.k) (leaves_below is.back (leaves_after is.front entry.k)) added.fronts added.rows.own
               (added.have is.front (entry.n + 1) entry.k is.front_stands)
-              (subst (λ (m : ℕ). AreRows tree.planes m (leaves_below is.back (leaves_after is.front entry.k)) added.fronts added.rows.own) node_of_entry.0
+              (subst (λ (m : ℕ). ArePiecesOfEach tree.planes m (leaves_below is.back (leaves_after is.front entry.k)) added.fronts added.rows.own) node_of_entry.0
               (added.rows.rows is.back (nodes_after is.front (entry.n + 1)) (leaves_after is.front entry.k) is.back_stands)))
               comes;
         }

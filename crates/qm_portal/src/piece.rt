@@ -10,9 +10,9 @@ pub(crate) struct Piece {
 }
 
 impl Model for Piece {
-    ghost use Rattle.qm_contacts.specs.inner.Pieces.{Piece};
+    ghost use Rattle.qm_contacts.specs.inner.Pieces.{LeafPiece};
 
-    ghost Value = { Piece };
+    ghost Value = { LeafPiece };
 
     ghost view = { λ piece. record { leaf = piece.leaf; winding = piece.winding.value } };
 }

@@ -2,7 +2,7 @@ ghost use Rattle.std.specs.Prelude.{◌≡◌, ◌<◌, length, Contains, Some, 
 ghost use Rattle.qm_partition.specs.Counting.{leaf_count};
 ghost use Rattle.qm_contacts.specs.NumberedLeaves.{numbered_leaves};
 ghost use Rattle.qm_contacts.specs.Portals.{Portal as PortalRecord};
-ghost use Rattle.qm_contacts.specs.World.{AreLeaving};
+ghost use Rattle.qm_contacts.specs.World.{AreLeaving, LeadsBack};
 ghost use Rattle.qm_contacts.specs.OwnPortals.{HasOwnPortals};
 ghost use Rattle.qm_contacts.specs.inner.WorldParts.{AreWorldParts};
 
@@ -128,6 +128,16 @@ impl World {
     {
         let portal = &self.portals[p as usize];
         portal.to
+    }
+
+    /// The portal that leads back through a portal. Each passage has two, one each way, and they stand together.
+    pub fn back(&self, p: u64) -> u64
+        requires { p < length self.now.portals }
+        ensures back { LeadsBack self.now.portals p result }
+        ensures within { result < length self.now.portals }
+    {
+        let _ = &self.portals;
+        if p % 2 == 0 { p + 1 } else { p - 1 }
     }
 
     /// The portals that leave the leaf of a number, ascending.

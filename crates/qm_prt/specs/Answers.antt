@@ -5,14 +5,14 @@ use Rattle.qm_prt.specs.declared.prt_fault.PrtFault.{PrtFault}
 use Rattle.qm_prt.specs.declared.prt_fault.PrtFault.TheVariants as faults
 
 -- a fault is the one that reading gives, unless memory ran out
-abbrev pub IsFault : {X : Type 0} → PrtFault → Answer ListingFaultKind X → Type 0
-IsFault (faults.Header offset) answer = answer ≡ bad header offset
-IsFault (faults.Number offset) answer = answer ≡ bad number offset
-IsFault (faults.Shape offset) answer = answer ≡ bad shape offset
-IsFault (faults.Trailing offset) answer = answer ≡ bad trailing offset
-IsFault faults.Memory answer = Unit {0}
+abbrev pub IsFaultOfListing : {X : Type 0} → PrtFault → Answer ListingFaultKind X → Type 0
+IsFaultOfListing (faults.Header offset) answer = answer ≡ bad header offset
+IsFaultOfListing (faults.Number offset) answer = answer ≡ bad number offset
+IsFaultOfListing (faults.Shape offset) answer = answer ≡ bad shape offset
+IsFaultOfListing (faults.Trailing offset) answer = answer ≡ bad trailing offset
+IsFaultOfListing faults.Memory answer = Unit {0}
 
 -- what is answered, seen as the value of a layout with the place where it ends, is what reading gives, unless memory ran out
-abbrev pub Gives : {X Y : Type 0} → (X → Y) → (X → ℕ) → Result X PrtFault → Answer ListingFaultKind Y → Type 0
-Gives value next (Ok x) answer = answer ≡ got (value x) (next x)
-Gives value next (Err fault) answer = IsFault fault answer
+abbrev pub GivesOfListing : {X Y : Type 0} → (X → Y) → (X → ℕ) → Result X PrtFault → Answer ListingFaultKind Y → Type 0
+GivesOfListing value next (Ok x) answer = answer ≡ got (value x) (next x)
+GivesOfListing value next (Err fault) answer = IsFaultOfListing fault answer

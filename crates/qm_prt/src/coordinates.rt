@@ -2,8 +2,8 @@
 
 ghost use Rattle.std.specs.Prelude.{◌≡◌, ◌≤◌, ◌<◌, ◌*◌, ◌+◌, ◌<ℤ◌, ℕ, pos, false, unsigned_abs, [], length, slice_index_or, IfOk};
 ghost use Rattle.qm_space.specs.Bounds.{meet_bound, meet_weight_bound, rounded_bound};
-ghost use Rattle.qm_geom.specs.Rounding.{HasSmallCoordinates};
-ghost use Rattle.qm_decimal.specs.Printed.{millionths};
+ghost use Rattle.qm_space.specs.Coordinates.{HasSmallCoordinates};
+ghost use Rattle.qm_numerals.specs.Printed.{millionths};
 ghost use Rattle.qm_listing.specs.WorldListing.{coordinate_at, coordinates_at, come_before, place_back};
 ghost use Rattle.qm_listing.specs.inner.GoneRound.{corners_forward, steps_back};
 

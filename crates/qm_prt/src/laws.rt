@@ -2,7 +2,7 @@
 
 ghost use Rattle.std.specs.Prelude.{◌≡◌, ◌<◌, ℕ, ℤ, pos, int_lt, unsigned_abs, length, IsTrue};
 ghost use Rattle.qm_convex.specs.Winding.{Winding, next_place, corner_at, IsConvex};
-ghost use Rattle.qm_decimal.specs.Printed.{printed};
+ghost use Rattle.qm_numerals.specs.Printed.{printed_fraction};
 ghost use Rattle.qm_formats.specs.Exact.{IsExact};
 ghost use Rattle.qm_listing.specs.declared.listing.Listing.{Listing};
 ghost use Rattle.qm_listing.specs.Numbers.{coordinate_numeral};
@@ -22,7 +22,7 @@ pub fn one_listing()
 
 /// A coordinate of a corner stands in a text as `print6` prints its fraction.
 pub fn printed_coordinates()
-    ensures { (over under : ℤ) → 0 < unsigned_abs under → coordinate_numeral (coordinate_at over under) ≡ printed (int_lt over (pos 0)) (unsigned_abs over) (unsigned_abs under) }
+    ensures { (over under : ℤ) → 0 < unsigned_abs under → coordinate_numeral (coordinate_at over under) ≡ printed_fraction (int_lt over (pos 0)) (unsigned_abs over) (unsigned_abs under) }
 {}
 
 /// Each three neighbours of a listing's corners turn to the front of the polygon's plane.

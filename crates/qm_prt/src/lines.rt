@@ -1,8 +1,8 @@
 //! The parts of a listing's text, put behind bytes.
 
 ghost use Rattle.std.specs.Prelude.{◌≡◌, ◌++◌, ◌+◌, ◌%◌, ◌∷◌, [], flat_map, decimal, OnOk};
-ghost use Rattle.qm_decimal.specs.Printed.{last_digits};
-ghost use Rattle.qm_listing.specs.Grammar.{header_layout, count_line, coordinate_layout, corner_layout, portal_layout};
+ghost use Rattle.qm_numerals.specs.Printed.{last_digits};
+ghost use Rattle.qm_listing.specs.Grammar.{first_line_layout, count_line_layout, coordinate_layout, corner_layout, portal_layout};
 
 use itoa::Buffer;
 use qm_listing::{Coordinate, PrtPortal};
@@ -12,17 +12,17 @@ use std::alloc::AllocError;
 const MILLION: u64 = 1_000_000;
 
 /// The first line.
-#[tactic(auto, unfolding(qm_listing::specs::Grammar::header_layout, qm_listing::specs::Numerals::literal))]
+#[tactic(auto, unfolding(qm_listing::specs::Grammar::first_line_layout, qm_listing::specs::Numerals::literal))]
 pub(crate) fn put_header(out: &mut Vec<u8>) -> Result<(), AllocError>
-    ensures { OnOk result (out.new.items ≡ out.old.items ++ header_layout.bytes_of tt) }
+    ensures { OnOk result (out.new.items ≡ out.old.items ++ first_line_layout.bytes_of tt) }
 {
     out.extend_from_slice(b"PRT1\n")
 }
 
 /// A count on a line of its own.
-#[tactic(auto, unfolding(qm_listing::specs::Grammar::count_line, qm_listing::specs::Numerals::literal, qm_listing::specs::Numerals::numeral))]
+#[tactic(auto, unfolding(qm_listing::specs::Grammar::count_line_layout, qm_listing::specs::Numerals::literal, qm_listing::specs::Numerals::numeral))]
 pub(crate) fn put_count_line(out: &mut Vec<u8>, count: u64) -> Result<(), AllocError>
-    ensures { OnOk result (out.new.items ≡ out.old.items ++ count_line.bytes_of count) }
+    ensures { OnOk result (out.new.items ≡ out.old.items ++ count_line_layout.bytes_of count) }
 {
     put_number(out, count)?;
     out.push(b'\n')?;

@@ -5,7 +5,7 @@ ghost use Rattle.std.specs.List.{list_all, prefix_len};
 ghost use Rattle.std.specs.Char.{is_ascii_digit};
 ghost use Rattle.std.specs.Str.Parse.{digits_value, AllDigits};
 ghost use Rattle.qm_listing.specs.Numerals.{is_number_byte, numeral_ahead};
-ghost use Rattle.qm_listing.specs.Numbers.{is_count_numeral, count_of, with_sign, signed_coordinate, coordinate_of_parts, unsigned_coordinate, coordinate_of};
+ghost use Rattle.qm_listing.specs.Numbers.{is_count_numeral, count_of_numeral, with_sign, signed_coordinate, coordinate_of_parts, unsigned_coordinate, coordinate_of_numeral};
 
 use qm_listing::Coordinate;
 
@@ -71,9 +71,9 @@ fn is_count_numeral(numeral: &[u8]) -> bool
 }
 
 /// The count that a numeral spells.
-#[tactic(auto, unfolding(qm_listing::specs::Numbers::count_of))]
+#[tactic(auto, unfolding(qm_listing::specs::Numbers::count_of_numeral))]
 pub(crate) fn count_of(numeral: &[u8]) -> Option<u64>
-    ensures { result ≡ count_of numeral.now }
+    ensures { result ≡ count_of_numeral numeral.now }
 {
     if is_count_numeral(numeral) {
         Some(digits_value(numeral))
@@ -96,9 +96,9 @@ fn digits_value(digits: &[u8]) -> u64
 }
 
 /// The coordinate that a numeral spells.
-#[tactic(auto, unfolding(qm_listing::specs::Numbers::coordinate_of))]
+#[tactic(auto, unfolding(qm_listing::specs::Numbers::coordinate_of_numeral))]
 pub(crate) fn coordinate_of(numeral: &[u8]) -> Option<Coordinate>
-    ensures { result ≡ coordinate_of numeral.now }
+    ensures { result ≡ coordinate_of_numeral numeral.now }
 {
     match numeral {
         [] => None,

@@ -1,5 +1,5 @@
 ghost use Rattle.std.specs.Prelude.{◌≡◌, ◌<◌, [], length, All, slice_index_or, IfOk};
-ghost use Rattle.qm_bits.specs.Union.{IsUnion};
+ghost use Rattle.qm_lists.specs.Union.{IsUnion};
 ghost use Rattle.qm_contacts.specs.NumberedLeaves.{numbered_leaves};
 ghost use Rattle.qm_coarse_rows.specs.LeafRow.{AreLeafRows, IsLeafRow};
 

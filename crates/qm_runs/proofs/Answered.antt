@@ -2,7 +2,7 @@
 use Rattle.std.proofs.Common.{◌≡◌, ◌≤◌, ℕ, List, ◌++◌, length, take, Result, Ok, Err, refl, sym, ap, ◌∙◌}
 use Rattle.std.specs.Prelude.{IfOk, MatchResult}
 use Rattle.qm_formats.specs.Fields.{AreBytes}
-use Rattle.qm_formats.specs.Runs.{Spells, read_runs}
+use Rattle.qm_formats.specs.Runs.{SpellsRow, read_runs}
 use Rattle.qm_formats.proofs.ReadRows.{read_runs_again, read_runs_found}
 use Rattle.qm_runs.specs.Answers.{IsRunFault}
 use Rattle.qm_runs.specs.declared.run_fault.RunFault.{RunFault}
@@ -12,7 +12,7 @@ module _ {X : Type 0} (row_of : X → List ℕ) (used : X → ℕ) (width : ℕ)
   abbrev pub IsAnswer : Result X RunFault → Type 0
   IsAnswer answer = MatchResult answer (λ read. read_runs width bytes ≡ Ok (row_of read, used read)) (λ fault. IsRunFault fault (read_runs width bytes))
 
-  pub answer_found : (answer : Result X RunFault) → AreBytes bytes → IsAnswer answer → IfOk answer (λ read. (used read ≤ length bytes) × (length (row_of read) ≡ width) × Spells (take (used read) bytes) (row_of read))
+  pub answer_found : (answer : Result X RunFault) → AreBytes bytes → IsAnswer answer → IfOk answer (λ read. (used read ≤ length bytes) × (length (row_of read) ≡ width) × SpellsRow (take (used read) bytes) (row_of read))
   answer_found (Ok read) are is =
       let found = read_runs_found width bytes (row_of read, used read) are is in
       (found.within, found.width, found.spelt)
@@ -26,7 +26,7 @@ module _ {X : Type 0} (row_of : X → List ℕ) (used : X → ℕ) (width : ℕ)
   no_fault faults.Overrun read is fault = absurd (let e = sym is ∙ fault in cc)
   no_fault faults.Memory read is fault = refl
 
-  pub answer_only : (answer : Result X RunFault) → IsAnswer answer → (spelling row rest : List ℕ) → Spells spelling row → length row ≡ width → bytes ≡ spelling ++ rest → MatchResult answer (λ read. (row_of read ≡ row) × (used read ≡ length spelling)) (λ fault. fault ≡ faults.Memory)
+  pub answer_only : (answer : Result X RunFault) → IsAnswer answer → (spelling row rest : List ℕ) → SpellsRow spelling row → length row ≡ width → bytes ≡ spelling ++ rest → MatchResult answer (λ read. (row_of read ≡ row) × (used read ≡ length spelling)) (λ fault. fault ≡ faults.Memory)
   answer_only (Ok read) is spelling row rest spells long stand =
       let again = ap (read_runs width) stand ∙ read_runs_again spelling row rest width spells long in
       let both : (row_of read, used read) ≡ (row, length spelling) = let e = sym is ∙ again in cc in

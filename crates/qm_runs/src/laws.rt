@@ -3,16 +3,16 @@
 ghost use Rattle.std.specs.Prelude.{◌≡◌, ◌↔◌, List, ℕ, ◌++◌, length, Err};
 ghost use Rattle.qm_formats.specs.Fields.{AreBytes};
 ghost use Rattle.qm_formats.specs.FirstWrong.{IsFaultOf};
-ghost use Rattle.qm_formats.specs.Runs.{RunFaultKind, Spells, runs_of, read_runs};
+ghost use Rattle.qm_formats.specs.Runs.{RunFaultKind, SpellsRow, runs_of, read_runs};
 
 /// The bytes that are written for a row are its one spelling.
 pub fn one_spelling()
-    ensures { (bytes row : List ℕ) → Spells bytes row ↔ (bytes ≡ runs_of row) }
+    ensures { (bytes row : List ℕ) → SpellsRow bytes row ↔ (bytes ≡ runs_of row) }
 {}
 
 /// No spelling of a row is the beginning of a spelling of another row of the same width.
 pub fn no_prefix()
-    ensures { (a b x y row other : List ℕ) → Spells a row → Spells b other → length row ≡ length other → a ++ x ≡ b ++ y → (a ≡ b) × (row ≡ other) }
+    ensures { (a b x y row other : List ℕ) → SpellsRow a row → SpellsRow b other → length row ≡ length other → a ++ x ≡ b ++ y → (a ≡ b) × (row ≡ other) }
 {}
 
 /// A fault of reading tells the first byte that no spelling of a row of the width allows.

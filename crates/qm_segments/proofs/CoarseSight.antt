@@ -13,7 +13,7 @@ use Rattle.qm_partition.specs.Tree.{Tree}
 use Rattle.qm_partition.specs.Ways.{HasPoints}
 use Rattle.qm_contacts.specs.Meeting.{meetings}
 use Rattle.qm_contacts.specs.Touching.{Touching, AreTouchings}
-use Rattle.qm_contacts.specs.Portals.{Portal, number_of, portals_of}
+use Rattle.qm_contacts.specs.Portals.{Portal, leaf_number, portals_of}
 use Rattle.qm_contacts.proofs.Touchings.{meeting_of_touching}
 use Rattle.qm_contacts.proofs.Numbers.{number_at_leaf}
 use Rattle.qm_coarse_rows.specs.CoarseRow.{MayFollow, IsInCoarseRow}
@@ -98,11 +98,11 @@ module _ (tree : Tree) (touchings : List Touching) (are : AreTouchings tree.plan
     seen_along =
         let s = sight.segment in
         let whole = led tree have touchings are s sight.generic sight.contents sight.not_solid sight.clear s.from sight.left (sight.entered ∷ sight.rest) sight.passes (generic_none tree s sight.generic) (λ y b. b) in
-        from_chain (number_of tree sight.left) whole.to whole.chain
+        from_chain (leaf_number tree sight.left) whole.to whole.chain
         (number_at_leaf tree p.from sight.left sight.from_is).3
         (sym (number_at_leaf tree whole.to _ whole.to_is).3 ∙ (number_at_leaf tree n _ sight.last_is).3)
         whole.goes whole.numbers
-        (numbers_differ tree (number_of tree sight.left ∷ map (λ q. q.to) whole.chain) (sight.left ∷ sight.entered ∷ sight.rest) whole.numbers (leaves_once tree s.from s.to sight.left (sight.entered ∷ sight.rest) sight.passes))
+        (numbers_differ tree (leaf_number tree sight.left ∷ map (λ q. q.to) whole.chain) (sight.left ∷ sight.entered ∷ sight.rest) whole.numbers (leaves_once tree s.from s.to sight.left (sight.entered ∷ sight.rest) sight.passes))
 
     -- the coarse row of a portal holds all that is in sight of it
     pub coarse_holds_sight : IsInCoarseRow (portals_of tree touchings) p n

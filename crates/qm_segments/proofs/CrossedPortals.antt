@@ -17,7 +17,7 @@ use Rattle.qm_contents.specs.declared.contents.Contents.TheVariants.{Solid}
 use Rattle.qm_convex.specs.Winding.{IsInRegion, IsConvex}
 use Rattle.qm_partition.specs.declared.step.Step.{Step}
 use Rattle.qm_partition.specs.Tree.{Tree}
-use Rattle.qm_partition.specs.Ways.{Way, ways, turned_to, cell_of, HasPoints}
+use Rattle.qm_partition.specs.Ways.{Way, ways, turned_to, cell_of_way, HasPoints}
 use Rattle.qm_partition.proofs.Cells.{length-ways}
 use Rattle.qm_contacts.specs.Meeting.{Meeting, meetings}
 use Rattle.qm_contacts.specs.Contact.{IsContact}
@@ -36,7 +36,7 @@ module _ (tree : Tree) where
   pub record IsBesideLeaf (k : ℕ) (x : Point) : Type 0 where
     pub way : Way
     pub way_is : slice_get (ways tree.shape) k ≡ Some way
-    pub not_behind : All (λ g. IsNotBehind g x) (cell_of tree.planes way)
+    pub not_behind : All (λ g. IsNotBehind g x) (cell_of_way tree.planes way)
 
   -- on no two different node planes
   abbrev pub IsOnOnePlane : Point → Type 0
@@ -44,14 +44,14 @@ module _ (tree : Tree) where
 
   -- the three parts of a way with a step in it
   module _ (above rest way : Way) (step : Step) (x : Point) (is : above ++ step ∷ rest ≡ way) where
-    part_not_behind : All (λ g. IsNotBehind g x) (cell_of tree.planes way) → All (λ g. IsNotBehind g x) (cell_of tree.planes above) × IsNotBehind (turned_to tree.planes step) x × All (λ g. IsNotBehind g x) (cell_of tree.planes rest)
+    part_not_behind : All (λ g. IsNotBehind g x) (cell_of_way tree.planes way) → All (λ g. IsNotBehind g x) (cell_of_way tree.planes above) × IsNotBehind (turned_to tree.planes step) x × All (λ g. IsNotBehind g x) (cell_of_way tree.planes rest)
     part_not_behind all =
-        let here = subst (λ (w : Way). All (λ g. IsNotBehind g x) (cell_of tree.planes w)) (sym is) all in
+        let here = subst (λ (w : Way). All (λ g. IsNotBehind g x) (cell_of_way tree.planes w)) (sym is) all in
         let split = subst (λ (cell : List Plane). All (λ g. IsNotBehind g x) cell) (map-append (turned_to tree.planes) above (step ∷ rest)) here in
-        let later = All-last_part (λ g. IsNotBehind g x) (cell_of tree.planes above) (cell_of tree.planes (step ∷ rest)) split in (
-          All-first_part (λ g. IsNotBehind g x) (cell_of tree.planes above) (cell_of tree.planes (step ∷ rest)) split,
-          All-head (λ g. IsNotBehind g x) (turned_to tree.planes step) (cell_of tree.planes rest) later,
-          All-tail (λ g. IsNotBehind g x) (turned_to tree.planes step) (cell_of tree.planes rest) later,
+        let later = All-last_part (λ g. IsNotBehind g x) (cell_of_way tree.planes above) (cell_of_way tree.planes (step ∷ rest)) split in (
+          All-first_part (λ g. IsNotBehind g x) (cell_of_way tree.planes above) (cell_of_way tree.planes (step ∷ rest)) split,
+          All-head (λ g. IsNotBehind g x) (turned_to tree.planes step) (cell_of_way tree.planes rest) later,
+          All-tail (λ g. IsNotBehind g x) (turned_to tree.planes step) (cell_of_way tree.planes rest) later,
         )
 
     in_way : (other : Step) → Contains above other ⊎ Contains (step ∷ rest) other → Contains way other
@@ -126,7 +126,7 @@ module _ (tree : Tree) where
       pub to_is : slice_get (numbered_leaves tree) portal.to ≡ Some n
       pub convex : IsConvex portal.winding
       pub inside : IsInRegion portal.winding x
-      pub in_front : (way : Way) (y : Point) → slice_get (ways tree.shape) n ≡ Some way → IsInCell (cell_of tree.planes way) y → IsInFront portal.into y
+      pub in_front : (way : Way) (y : Point) → slice_get (ways tree.shape) n ≡ Some way → IsInCell (cell_of_way tree.planes way) y → IsInFront portal.into y
       pub on : IsOn portal.into x
 
     -- both ways at a contact

@@ -16,11 +16,11 @@ use Rattle.qm_space.proofs.ReducedPlanes.{flipped_twice}
 use Rattle.qm_convex.specs.Winding.{IsInRegion}
 use Rattle.qm_partition.specs.declared.step.Step.{Step}
 use Rattle.qm_partition.specs.Tree.{Tree}
-use Rattle.qm_partition.specs.Ways.{Way, ways, turned_to, cell_of}
+use Rattle.qm_partition.specs.Ways.{Way, ways, turned_to, cell_of_way}
 use Rattle.qm_contacts.specs.Meeting.{Meeting, meetings}
 use Rattle.qm_contacts.specs.Contact.{IsContact}
 use Rattle.qm_contacts.specs.Touching.{Touching, IsTouching, AreTouchings}
-use Rattle.qm_contacts.specs.Portals.{Portal, portals_of, is_passage, number_of}
+use Rattle.qm_contacts.specs.Portals.{Portal, portals_of, is_passage, leaf_number}
 use Rattle.qm_contacts.specs.NumberedLeaves.{numbered_leaves}
 use Rattle.qm_contacts.specs.PortalChain.{IsPortalBetween}
 use Rattle.qm_contacts.proofs.WaysBelow.{tree_meeting_ways}
@@ -103,9 +103,9 @@ record HasSides (tree : Tree) (p : Portal) (x : Point) : Type 0 where
   entered_way : slice_get (ways tree.shape) entered ≡ Some (above ++ step_entered ∷ rest_entered)
   left_plane : turned_to tree.planes step_left ≡ flipped p.into
   entered_plane : turned_to tree.planes step_entered ≡ p.into
-  above_in : IsInCell (cell_of tree.planes above) x
-  left_in : IsInCell (cell_of tree.planes rest_left) x
-  entered_in : IsInCell (cell_of tree.planes rest_entered) x
+  above_in : IsInCell (cell_of_way tree.planes above) x
+  left_in : IsInCell (cell_of_way tree.planes rest_left) x
+  entered_in : IsInCell (cell_of_way tree.planes rest_entered) x
 
 module _ (tree : Tree) (touchings : List Touching) (are : AreTouchings tree.planes (meetings tree) touchings) where
   module _ (found : Touching) (listed : Contains touchings found) (passage : is_passage tree found ≡ true) (x : Point) (m : Meeting) (m_listed : Contains (meetings tree) m) (is : IsTouching tree.planes m found) (inside : IsInRegion found.winding x) where
@@ -115,10 +115,10 @@ module _ (tree : Tree) (touchings : List Touching) (are : AreTouchings tree.plan
     between : IsPortalBetween tree found.front found.back
     between = passage_is_portal tree touchings are found listed passage
 
-    front_number : IsNumberOf tree (number_of tree found.front) found.front
+    front_number : IsNumberOf tree (leaf_number tree found.front) found.front
     front_number = leaf_at_number tree found.front between.from between.from_is between.numbered
 
-    back_number : IsNumberOf tree (number_of tree found.back) found.back
+    back_number : IsNumberOf tree (leaf_number tree found.back) found.back
     back_number = let turned = portal_back tree found.front found.back between in leaf_at_number tree found.back turned.from turned.from_is turned.numbered
 
     front_way : slice_get (ways tree.shape) found.front ≡ Some (m.above ++ record { plane = m.plane; front = true } ∷ m.front.way)
@@ -186,8 +186,8 @@ module _ (tree : Tree) (touchings : List Touching) (are : AreTouchings tree.plan
         let same : one.entered ≡ other.left = (let e : Some one.entered ≡ Some other.left = sym one.to_is ∙ ap (slice_get (numbered_leaves tree)) (sym leaves) ∙ other.from_is in cc) in
         let way : other.above ++ other.step_left ∷ other.rest_left ≡ one.above ++ one.step_entered ∷ one.rest_entered = (let e : Some (other.above ++ other.step_left ∷ other.rest_left) ≡ Some (one.above ++ one.step_entered ∷ one.rest_entered) = sym other.left_way ∙ ap (slice_get (ways tree.shape)) (sym same) ∙ one.entered_way in cc) in
         let there = subst (λ (w : Way). Contains w other.step_left) way (Contains-append_right other.above (other.step_left ∷ other.rest_left) other.step_left (Contains-first other.step_left other.rest_left)) in
-        let beside = λ (w : Way) (inside : IsInCell (cell_of tree.planes w) x) (listed : Contains w other.step_left).
-        subst (λ (h : Plane). IsInFront h x) other.left_plane (All-contains (λ h. IsInFront h x) (cell_of tree.planes w) (turned_to tree.planes other.step_left) inside (Contains-map (turned_to tree.planes) w other.step_left listed)) in
+        let beside = λ (w : Way) (inside : IsInCell (cell_of_way tree.planes w) x) (listed : Contains w other.step_left).
+        subst (λ (h : Plane). IsInFront h x) other.left_plane (All-contains (λ h. IsInFront h x) (cell_of_way tree.planes w) (turned_to tree.planes other.step_left) inside (Contains-map (turned_to tree.planes) w other.step_left listed)) in
         ⊎_elim
         (λ above. (flipped_in_front q.into x).0 (beside one.above one.above_in above))
         (λ more. ⊎_elim

@@ -16,7 +16,7 @@ use Rattle.qm_partition.specs.Partition.{Partition, leaf, node}
 use Rattle.qm_partition.specs.Tree.{Tree}
 use Rattle.qm_partition.specs.Counting.{node_planes}
 use Rattle.qm_partition.specs.LeafOfPoint.{node_value, leaf_at, IsOffNodePlanes}
-use Rattle.qm_partition.specs.Ways.{Way, after_step, ways, turned_to, cell_of}
+use Rattle.qm_partition.specs.Ways.{Way, after_step, ways, turned_to, cell_of_way}
 use Rattle.qm_partition.proofs.Cells.{number_of_cell}
 use Rattle.qm_partition.proofs.NodePlanes.{IsOff, off_node_planes}
 use Rattle.qm_segments.specs.Passes.{IsWithinLeaf, Passes, within, onward}
@@ -46,25 +46,25 @@ way_names_nodes (node n front back) k way step at there = ⊎_elim
 
 module _ (tree : Tree) where
   -- behind no plane of a way and on no node plane a point is in the way's cell
-  pub end_in_cell : (k : ℕ) (way : Way) (x : Point) → slice_get (ways tree.shape) k ≡ Some way → IsOffNodePlanes tree.planes tree.shape x → All (λ g. IsNotBehind g x) (cell_of tree.planes way) → IsInCell (cell_of tree.planes way) x
+  pub end_in_cell : (k : ℕ) (way : Way) (x : Point) → slice_get (ways tree.shape) k ≡ Some way → IsOffNodePlanes tree.planes tree.shape x → All (λ g. IsNotBehind g x) (cell_of_way tree.planes way) → IsInCell (cell_of_way tree.planes way) x
   unfolding node_value
-  end_in_cell k way x at off not_behind place d there = by_sign (value (get_or (cell_of tree.planes way) place d) x)
+  end_in_cell k way x at off not_behind place d there = by_sign (value (get_or (cell_of_way tree.planes way) place d) x)
       (λ below. let not_below = not_behind place d there in absurd (omega (arith, linear)))
-      (λ zero. absurd (off_it zero (Contains-map_from (turned_to tree.planes) way (get_or (cell_of tree.planes way) place d) (Contains-get_or (cell_of tree.planes way) place d there))))
+      (λ zero. absurd (off_it zero (Contains-map_from (turned_to tree.planes) way (get_or (cell_of_way tree.planes way) place d) (Contains-get_or (cell_of_way tree.planes way) place d there))))
       (λ front. front)
     where
-      off_it : IsOn (get_or (cell_of tree.planes way) place d) x → (step : Step) × Contains way step × (turned_to tree.planes step ≡ get_or (cell_of tree.planes way) place d) → ⊥
+      off_it : IsOn (get_or (cell_of_way tree.planes way) place d) x → (step : Step) × Contains way step × (turned_to tree.planes step ≡ get_or (cell_of_way tree.planes way) place d) → ⊥
       off_it is_on (step, listed, is) =
           All-contains (IsOff tree.planes x) (node_planes tree.shape) step.plane ((off_node_planes tree.planes x tree.shape).0 off) (way_names_nodes tree.shape k way step at listed)
           ((turned_on step.front (plane_at tree.planes step.plane) x).0 (subst (λ (g : Plane). IsOn g x) (sym is) is_on))
 
   -- ---- what is within a leaf is not behind its planes at the ends
 
-  pub not_behind_at_start : (p q : Point) (k : ℕ) (inside : IsWithinLeaf tree p q k) → All (λ g. IsNotBehind g p) (cell_of tree.planes inside.way)
-  not_behind_at_start p q k inside place d there = front_from_start (get_or (cell_of tree.planes inside.way) place d) p q (λ x b. inside.inside x b place d there)
+  pub not_behind_at_start : (p q : Point) (k : ℕ) (inside : IsWithinLeaf tree p q k) → All (λ g. IsNotBehind g p) (cell_of_way tree.planes inside.way)
+  not_behind_at_start p q k inside place d there = front_from_start (get_or (cell_of_way tree.planes inside.way) place d) p q (λ x b. inside.inside x b place d there)
 
-  pub not_behind_at_end : (p q : Point) (k : ℕ) (inside : IsWithinLeaf tree p q k) → All (λ g. IsNotBehind g q) (cell_of tree.planes inside.way)
-  not_behind_at_end p q k inside place d there = front_up_to_end (get_or (cell_of tree.planes inside.way) place d) p q (λ x b. inside.inside x b place d there)
+  pub not_behind_at_end : (p q : Point) (k : ℕ) (inside : IsWithinLeaf tree p q k) → All (λ g. IsNotBehind g q) (cell_of_way tree.planes inside.way)
+  not_behind_at_end p q k inside place d there = front_up_to_end (get_or (cell_of_way tree.planes inside.way) place d) p q (λ x b. inside.inside x b place d there)
 
   pub start_in_leaf : (p q : Point) (k : ℕ) → IsOffNodePlanes tree.planes tree.shape p → IsWithinLeaf tree p q k → leaf_at tree.planes tree.shape p ≡ k
   start_in_leaf p q k off inside = number_of_cell tree.planes tree.shape p k inside.way inside.way_is (end_in_cell k inside.way p inside.way_is off (not_behind_at_start p q k inside))

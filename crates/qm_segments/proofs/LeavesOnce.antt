@@ -8,7 +8,7 @@ use Rattle.qm_space.specs.Point.{Point, point_sum}
 use Rattle.qm_space.specs.Line.{IsBetween}
 use Rattle.qm_space.specs.Cell.{IsInCell}
 use Rattle.qm_partition.specs.Tree.{Tree}
-use Rattle.qm_partition.specs.Ways.{Way, cell_of}
+use Rattle.qm_partition.specs.Ways.{Way, cell_of_way}
 use Rattle.qm_partition.proofs.Cells.{cells_are_apart}
 use Rattle.qm_segments.specs.Passes.{IsWithinLeaf, Passes, within, onward}
 use Rattle.qm_segments.proofs.Betweenness.{sum_between, nearer_between, later_between, farther_between, earlier_between, between_in_cell}
@@ -29,9 +29,9 @@ module _ (tree : Tree) where
       let x_y = farther_between x q m y from_x on_y in
       let y_z = farther_between y q l z (later_between m q l y on in_y) in_z in
       let same : first.way ≡ again.inside.way = (let e : Some first.way ≡ Some again.inside.way = sym first.way_is ∙ again.inside.way_is in cc) in
-      let end_inside = subst (λ (way : Way). IsInCell (cell_of tree.planes way) z) (sym same) (again.inside.inside z (sum_between again.start again.end)) in
+      let end_inside = subst (λ (way : Way). IsInCell (cell_of_way tree.planes way) z) (sym same) (again.inside.inside z (sum_between again.start again.end)) in
       cells_are_apart tree.planes tree.shape y k n first.way other.way first.way_is other.way_is
-      (between_in_cell (cell_of tree.planes first.way) y x z (earlier_between x q y z x_y y_z) (first.inside x in_x) end_inside)
+      (between_in_cell (cell_of_way tree.planes first.way) y x z (earlier_between x q y z x_y y_z) (first.inside x in_x) end_inside)
       (other.inside y in_y)
 
   not_again : (p m q : Point) (k n : ℕ) (rest : List ℕ) → IsBetween m p q → IsWithinLeaf tree p m k → k ≢ n → Passes tree m q (n ∷ rest) → Contains rest k → k ≡ n

@@ -19,7 +19,7 @@ use Rattle.qm_partition.specs.Partition.{Partition, leaf, node}
 use Rattle.qm_partition.specs.Tree.{Tree}
 use Rattle.qm_partition.specs.Counting.{node_planes}
 use Rattle.qm_partition.specs.Numbering.{leaves_after}
-use Rattle.qm_partition.specs.Ways.{Way, ways, turned_to, cell_of}
+use Rattle.qm_partition.specs.Ways.{Way, ways, turned_to, cell_of_way}
 use Rattle.qm_partition.proofs.Counts.{leaves_after-count}
 use Rattle.qm_contacts.specs.Meeting.{then_step}
 use Rattle.qm_contacts.proofs.WaysBelow.{ways_in_front, ways_behind}
@@ -87,7 +87,7 @@ module _ (tree : Tree) where
 
   -- all points between are in the cell of a way
   abbrev pub AreInCell : Way → Point → Point → Type 0
-  AreInCell above p q = (x : Point) → IsBetween x p q → IsInCell (cell_of tree.planes above) x
+  AreInCell above p q = (x : Point) → IsBetween x p q → IsInCell (cell_of_way tree.planes above) x
 
   -- ---- at one node
 
@@ -101,7 +101,7 @@ module _ (tree : Tree) where
     in_both : (side : Bool) (p q : Point) → AreInCell above p q → ((x : Point) → IsBetween x p q → IsInFront (turned side h) x) → AreInCell (then_step above n side) p q
     in_both side p q inside front x b =
         subst (λ (cell : List Plane). IsInCell cell x) (sym (map-append (turned_to tree.planes) above (record { plane = n; front = side } ∷ [])))
-        (All-append (λ g. IsInFront g x) (cell_of tree.planes above) (turned side h ∷ []) (inside x b) (All-cons (λ g. IsInFront g x) (turned side h) [] (front x b) (All-nil (λ g. IsInFront g x))))
+        (All-append (λ g. IsInFront g x) (cell_of_way tree.planes above) (turned side h ∷ []) (inside x b) (All-cons (λ g. IsInFront g x) (turned side h) [] (front x b) (All-nil (λ g. IsInFront g x))))
 
     -- all on one side
     one_side : (side : Bool) (p q : Point) → NoneHasBoth numbers p q → AreInCell above p q → ((x : Point) → IsBetween x p q → IsInFront (turned side h) x) → Whole p q

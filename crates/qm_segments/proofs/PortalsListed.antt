@@ -16,7 +16,7 @@ use Rattle.qm_partition.specs.Counting.{leaves_of}
 use Rattle.qm_contacts.specs.Meeting.{meetings}
 use Rattle.qm_contacts.specs.NumberedLeaves.{is_solid, numbered_leaves}
 use Rattle.qm_contacts.specs.Touching.{Touching, AreTouchings}
-use Rattle.qm_contacts.specs.Portals.{Portal, leaf_record, number_of, is_passage, portal, both_ways, portals_of}
+use Rattle.qm_contacts.specs.Portals.{Portal, leaf_record, leaf_number, is_passage, portal, both_ways, portals_of}
 use Rattle.qm_contacts.specs.PortalChain.{IsPortalBetween}
 use Rattle.qm_contacts.proofs.Touchings.{ComesBefore, touchings_ascend, pair_order}
 use Rattle.qm_contacts.proofs.Passages.{passage_is_portal}
@@ -90,7 +90,7 @@ pub record HasLeaf (tree : Tree) (contents : Contents) (k : ℕ) : Type 0 where
   pub leaf_is : slice_get (leaves_of tree.shape) k ≡ Some found
   pub contents_are : found.contents ≡ contents
 
-pub number_of_leaf : (tree : Tree) (contents : Contents) (k : ℕ) → contents ≢ Solid → HasLeaf tree contents k → slice_get (numbered_leaves tree) (number_of tree k) ≡ Some k
+pub number_of_leaf : (tree : Tree) (contents : Contents) (k : ℕ) → contents ≢ Solid → HasLeaf tree contents k → slice_get (numbered_leaves tree) (leaf_number tree k) ≡ Some k
 number_of_leaf tree contents k not_solid has =
     leaf_at_number tree k has.found has.leaf_is (ap (λ (c : Contents). not (is_solid c)) has.contents_are ∙ numbered_from_contents contents not_solid)
 
@@ -146,7 +146,7 @@ module _ (tree : Tree) (touchings : List Touching) where
       }
 
   module _ (are : AreTouchings tree.planes (meetings tree) touchings) where
-    same_leaf : (a b c d : ℕ) → IsPortalBetween tree a b → IsPortalBetween tree c d → number_of tree a ≡ number_of tree c → a ≡ c
+    same_leaf : (a b c d : ℕ) → IsPortalBetween tree a b → IsPortalBetween tree c d → leaf_number tree a ≡ leaf_number tree c → a ≡ c
     same_leaf a b c d one other same =
         let e = leaf_at_number tree a one.from one.from_is one.numbered in
         let f = leaf_at_number tree c other.from other.from_is other.numbered in

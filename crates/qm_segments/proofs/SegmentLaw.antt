@@ -16,7 +16,7 @@ use Rattle.qm_partition.specs.Ways.{HasPoints}
 use Rattle.qm_contacts.specs.Meeting.{meetings}
 use Rattle.qm_contacts.specs.Touching.{Touching, AreTouchings}
 use Rattle.qm_contacts.specs.NumberedLeaves.{numbered_leaves}
-use Rattle.qm_contacts.specs.Portals.{Portal, number_of, portals_of}
+use Rattle.qm_contacts.specs.Portals.{Portal, leaf_number, portals_of}
 use Rattle.qm_contacts.proofs.Numbers.{number_at_leaf}
 use Rattle.qm_segments.specs.Segment.{Segment}
 use Rattle.qm_segments.specs.Generic.{IsGeneric}
@@ -57,8 +57,8 @@ module _ (tree : Tree) (have : HasPoints tree) (touchings : List Touching) (are 
   pub record IsLed (x : Point) (k : ℕ) (rest : List ℕ) : Type 0 where
     pub chain : List Portal
     pub to : ℕ
-    pub goes : GoesBy (portals_of tree touchings) s x (number_of tree k) chain to
-    pub numbers : AllZip (IsNumberOf tree) (number_of tree k ∷ map (λ q. q.to) chain) (k ∷ rest)
+    pub goes : GoesBy (portals_of tree touchings) s x (leaf_number tree k) chain to
+    pub numbers : AllZip (IsNumberOf tree) (leaf_number tree k ∷ map (λ q. q.to) chain) (k ∷ rest)
     pub to_is : IsNumberOf tree to (leaf_at tree.planes tree.shape s.to)
     pub sight : All (λ q. IsInSight tree q to) chain
 
@@ -83,11 +83,11 @@ module _ (tree : Tree) (have : HasPoints tree) (touchings : List Touching) (are 
       let number = number_of_leaf tree contents k not_solid (record { found = has.0; leaf_is = has.1; contents_are = has.2 }) in
       record {
         chain = [];
-        to = number_of tree k;
+        to = leaf_number tree k;
         goes = ends;
         numbers = (number, tt);
         to_is = number ∙ ap Some (sym (end_in_leaf tree x s.to k generic.to_off inside));
-        sight = All-nil (λ q. IsInSight tree q (number_of tree k));
+        sight = All-nil (λ q. IsInSight tree q (leaf_number tree k));
       }
   led x k rest (onward {m = m} {n = n} {rest = others} at inside apart more) none near =
       led_on x m k n others (record { at = at; inside = inside; apart = apart; more = more; none = none; near = near })
@@ -109,13 +109,13 @@ module _ (tree : Tree) (have : HasPoints tree) (touchings : List Touching) (are 
       let passed = generic_passes tree s generic in
       let whole = led s.from passed.0 passed.1 passed.2 (generic_none tree s generic) (λ y b. b) in
       record {
-        from = number_of tree passed.0;
+        from = leaf_number tree passed.0;
         to = whole.to;
         chain = whole.chain;
         from_is = whole.numbers.0 ∙ ap Some (sym (first_leaf tree s.from s.to passed.0 passed.1 generic.from_off passed.2));
         to_is = whole.to_is;
         goes = whole.goes;
-        once = numbers_differ tree (number_of tree passed.0 ∷ map (λ q. q.to) whole.chain) (passed.0 ∷ passed.1) whole.numbers (leaves_once tree s.from s.to passed.0 passed.1 passed.2);
+        once = numbers_differ tree (leaf_number tree passed.0 ∷ map (λ q. q.to) whole.chain) (passed.0 ∷ passed.1) whole.numbers (leaves_once tree s.from s.to passed.0 passed.1 passed.2);
         sight = whole.sight;
       }
 

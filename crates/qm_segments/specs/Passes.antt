@@ -3,7 +3,7 @@ use Rattle.qm_space.specs.Point.{Point}
 use Rattle.qm_space.specs.Line.{IsBetween}
 use Rattle.qm_space.specs.Cell.{IsInCell}
 use Rattle.qm_partition.specs.Tree.{Tree}
-use Rattle.qm_partition.specs.Ways.{Way, ways, cell_of}
+use Rattle.qm_partition.specs.Ways.{Way, ways, cell_of_way}
 
 -- The leaves through which one goes from one point to another, by their places in the tree.
 
@@ -11,7 +11,7 @@ use Rattle.qm_partition.specs.Ways.{Way, ways, cell_of}
 pub record IsWithinLeaf (tree : Tree) (p q : Point) (k : ℕ) : Type 0 where
   pub way : Way
   pub way_is : slice_get (ways tree.shape) k ≡ Some way
-  pub inside : (x : Point) → IsBetween x p q → IsInCell (cell_of tree.planes way) x
+  pub inside : (x : Point) → IsBetween x p q → IsInCell (cell_of_way tree.planes way) x
 
 -- these leaves in order: within the first one up to some point between, from there through the others
 pub data Passes (tree : Tree) : Point → Point → List ℕ → Type 0 where

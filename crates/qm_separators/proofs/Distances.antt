@@ -11,10 +11,9 @@ use Rattle.qm_space.specs.Bounds.{world_extent, normal_bound, outward_distance_b
 use Rattle.qm_space.specs.Point.{Point}
 use Rattle.qm_space.specs.Plane.{Plane, value, IsNotInFront, IsInFront}
 use Rattle.qm_space.specs.Cube.{IsUpToExtent, IsInClosedCube}
-use Rattle.qm_geom.specs.LeastDistance.{plane_at_distance, IsLeastDistance}
-use Rattle.qm_geom.specs.inner.LeastDistanceOf.{IsLeastDistanceOf}
-use Rattle.qm_geom.specs.Vectors.{vector_of, step_to, dot}
-use Rattle.qm_geom.proofs.LeastDistances.{up_is_least, IsLeastSoFar, so_far_begun, so_far_gained, so_far_ended}
+use Rattle.qm_space.specs.LeastDistance.{plane_at_distance, product_along, IsLeastDistance}
+use Rattle.qm_space.specs.inner.LeastDistanceOf.{IsLeastDistanceOf}
+use Rattle.qm_space.proofs.LeastDistances.{value_at_distance, up_is_least, IsLeastSoFar, so_far_begun, so_far_gained, so_far_ended}
 use Rattle.qm_separators.proofs.Roundings.{up}
 
 -- ---- one alone
@@ -38,7 +37,7 @@ module _ (normal : List ℤ) (corners : List Point) (some : 0 < length corners) 
   of_one : (i : ℕ) → i < length corners → (q : ℤ) × IsLeastDistanceOf normal (get_or corners i default) q
   of_one i h =
       let p = get_or corners i default in
-      let q = up (dot (vector_of normal) (step_to p)) p.w (weights i default h) in
+      let q = up (product_along normal p) p.w (weights i default h) in
       (q.0, up_is_least normal p q.0 (weights i default h) q.1)
 
   so_far : (i : ℕ) → i ≤ length corners → (least : ℤ) × IsLeastSoFar normal corners i least
@@ -117,10 +116,6 @@ module _ (h : Plane) (corners : List Point) (some : 0 < length corners) (inside 
       within d l k = omega (arith, ints)
 
 -- ---- a distance that is raised
-
-value_at_distance : (normal : List ℤ) (d : ℤ) (p : Point) → value (plane_at_distance normal d) p ≡ dot (vector_of normal) (step_to p) -ℤ (d *ℤ p.w)
-unfolding value dot
-value_at_distance normal d p = refl
 
 -- a corner that is not in front is not so at any greater distance
 pub not_in_front_raised : (normal : List ℤ) (p : Point) (d e : ℤ) → pos 0 <ℤ p.w → d ≤ℤ e → IsNotInFront (plane_at_distance normal d) p → IsNotInFront (plane_at_distance normal e) p

@@ -15,7 +15,7 @@ use Rattle.qm_space.proofs.Multiples.{multiple_value}
 use Rattle.qm_space.proofs.TurnedPlanes.{turned_on}
 use Rattle.qm_space.proofs.ReducedPlanes.{same_plane, flipped_twice}
 use Rattle.qm_space.proofs.PlanesThroughPoints.{one_line_no_normal}
-use Rattle.qm_geom.specs.LeastDistance.{IsLeastDistance}
+use Rattle.qm_space.specs.LeastDistance.{IsLeastDistance}
 use Rattle.qm_convex.specs.Winding.{Winding, corner_at, corners, next_place}
 use Rattle.qm_convex.specs.World.{IsInWorld}
 use Rattle.qm_convex.proofs.Corners.{corners_length}

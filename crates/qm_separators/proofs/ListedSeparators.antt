@@ -11,7 +11,7 @@ use Rattle.qm_space.specs.ThreePoints.{outward_plane, reduced}
 use Rattle.qm_space.proofs.Planes.{flipped_in_front, same_point}
 use Rattle.qm_space.proofs.PlanesThroughPoints.{by_normal}
 use Rattle.qm_space.proofs.ReducedPlanes.{same_plane}
-use Rattle.qm_geom.specs.LeastDistance.{IsLeastDistance}
+use Rattle.qm_space.specs.LeastDistance.{IsLeastDistance}
 use Rattle.qm_convex.specs.Winding.{Winding, next_place, corner_at, corners, IsConvex}
 use Rattle.qm_convex.specs.Sides.{HasNoCornerBehind, HasCornerBehind, HasCornerInFront}
 use Rattle.qm_convex.proofs.Places.{next_below}

@@ -4,7 +4,7 @@ use Rattle.qm_space.specs.Point.{Point}
 use Rattle.qm_space.specs.Plane.{Plane}
 use Rattle.qm_space.specs.Vector.{normal_of}
 use Rattle.qm_space.proofs.ReducedPlanes.{same_plane}
-use Rattle.qm_geom.specs.LeastDistance.{IsLeastDistance}
+use Rattle.qm_space.specs.LeastDistance.{IsLeastDistance}
 use Rattle.qm_convex.specs.Winding.{Winding, next_place, corner_at, corners, IsConvex}
 use Rattle.qm_convex.proofs.Places.{next_below}
 use Rattle.qm_convex.proofs.Corners.{corners_length}

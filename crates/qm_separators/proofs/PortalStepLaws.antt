@@ -19,9 +19,9 @@ use Rattle.qm_segments.specs.Steps.{LetSegmentsThrough}
 use Rattle.qm_segments.proofs.OpenChains.{NarrowsSource}
 use Rattle.qm_segments.proofs.CoarseSight.{portal_convex, portal_on}
 use Rattle.qm_separators.specs.ChainState.{ChainState, first_state, IsChainState}
-use Rattle.qm_separators.specs.ChainStep.{LeadsTo}
+use Rattle.qm_separators.specs.ChainStep.{StepsTo}
 use Rattle.qm_separators.specs.Meets.{Meets}
-use Rattle.qm_separators.specs.PortalSteps.{BeginsWith, GoesOn, BlocksAt, LetsPass, MeetsState, AreConvexPortals}
+use Rattle.qm_separators.specs.PortalSteps.{BeginsWith, StepsThrough, BlocksAt, LetsPass, MeetsState, AreConvexPortals}
 use Rattle.qm_separators.proofs.StepLaw.{meets_next, not_blocked}
 use Rattle.qm_separators.proofs.MayPassLaw.{may_pass}
 
@@ -31,7 +31,7 @@ are_convex tree touchings are q there = (portal_convex tree touchings are q ther
 
 -- ---- the rules of a state stay
 
-pub next_is_state : (state : ChainState) (target : Winding) (into : Plane) (next : ChainState) → IsChainState state → LeadsTo state target into next → IsChainState next
+pub next_is_state : (state : ChainState) (target : Winding) (into : Plane) (next : ChainState) → IsChainState state → StepsTo state target into next → IsChainState next
 next_is_state state target into next valid leads = record {
   source_convex = leads.source.convex;
   source_lies = λ x inside. subst (λ (h : Plane). IsOn h x) (sym leads.into_is) (valid.source_lies x ((leads.cut.near_is.points x).0 ((leads.source.points x).0 inside).0).0);
@@ -41,7 +41,7 @@ next_is_state state target into next valid leads = record {
 pub first_is_state : (p : Portal) → IsConvex p.winding → ((x : Point) → IsInRegion p.winding x → IsOn p.into x) → IsChainState (first_state p.winding p.into)
 first_is_state p convex lies = record { source_convex = convex; source_lies = lies; pass_convex = tt }
 
-pub open_chain_state : (portals : List Portal) (p : Portal) (chain : List Portal) (state : ChainState) → IsOpenChain BeginsWith GoesOn portals p chain state → IsChainState state
+pub open_chain_state : (portals : List Portal) (p : Portal) (chain : List Portal) (state : ChainState) → IsOpenChain BeginsWith StepsThrough portals p chain state → IsChainState state
 open_chain_state portals p chain state (alone begun) = begun.valid
 open_chain_state portals p chain state (longer {last = last} {q = q} {chain = rest} {state = old} is_open q_listed from new step) =
     next_is_state old q.winding q.into state (open_chain_state portals p (last ∷ rest) old is_open) step
@@ -52,7 +52,7 @@ module _ (portals : List Portal) (convex : AreConvexPortals portals) where
 
   -- ---- segments are let through
 
-  pub lets_segments_through : LetSegmentsThrough BeginsWith GoesOn BlocksAt portals MeetsState
+  pub lets_segments_through : LetSegmentsThrough BeginsWith StepsThrough BlocksAt portals MeetsState
   lets_segments_through = record {
     begun = λ s p state x listed at begun. (begun.valid, subst (Meets s x) (sym begun.state_is) (record { at = x; between = at.between; inside = at.inside; behind = at.behind; in_front = at.in_front; last = refl }));
     not_blocked = λ s q state x y met listed at after. not_blocked state q.winding q.into s x y met.0 (convex q listed).1 met.1 at.inside at.in_front after;
@@ -65,7 +65,7 @@ module _ (portals : List Portal) (convex : AreConvexPortals portals) where
 
 -- ---- the source is narrowed
 
-pub narrows_source : (portals : List Portal) → NarrowsSource BeginsWith GoesOn portals (λ state. state.source) (λ state. state.into)
+pub narrows_source : (portals : List Portal) → NarrowsSource BeginsWith StepsThrough portals (λ state. state.source) (λ state. state.into)
 narrows_source portals = record {
   begun = λ p state begun. (ap (λ (t : ChainState). t.into) begun.state_is, λ x inside. subst (λ (w : Winding). IsInRegion w x) (ap (λ (t : ChainState). t.source) begun.state_is) inside);
   kept = λ state next q leads. (leads.into_is, λ x inside. ((leads.cut.near_is.points x).0 ((leads.source.points x).0 inside).0).0);

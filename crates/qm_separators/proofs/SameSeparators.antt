@@ -2,7 +2,7 @@
 use Rattle.std.proofs.Common.{◌≡◌, ℕ, ◌<◌, ℤ, pos, ◌<ℤ◌, List, [], ◌∷◌, length, Some, slice_get, ap, sym, subst, ◌∙◌, inl, inr, ⊎_elim}
 use Rattle.qm_space.specs.Point.{Point, IsSamePlace}
 use Rattle.qm_space.specs.Plane.{Plane, IsInFront, IsBehind, IsNotBehind, IsNotInFront}
-use Rattle.qm_geom.specs.LeastDistance.{plane_at_distance, IsLeastDistance}
+use Rattle.qm_space.specs.LeastDistance.{plane_at_distance, IsLeastDistance}
 use Rattle.qm_convex.specs.Winding.{Winding, next_place, corner_at, corners, IsConvex}
 use Rattle.qm_convex.specs.Sides.{HasNoCornerBehind, HasCornerBehind, HasCornerInFront}
 use Rattle.qm_convex.specs.Vertex.{IsSomeCorner}

@@ -19,7 +19,7 @@ use Rattle.qm_segments.specs.Segment.{Segment}
 use Rattle.qm_segments.proofs.RoomSights.{at_value}
 use Rattle.qm_separators.specs.Separator.{IsSeparatorFrom}
 use Rattle.qm_separators.specs.ChainState.{ChainState, first_state, IsChainState}
-use Rattle.qm_separators.specs.ChainStep.{LeadsTo, Blocks, target_behind, target_cut_away}
+use Rattle.qm_separators.specs.ChainStep.{StepsTo, Blocks, first_cut, third_cut}
 use Rattle.qm_separators.specs.MayPass.{MayPass}
 use Rattle.qm_separators.specs.Meets.{Meets}
 use Rattle.qm_separators.proofs.Parts.{part_by_none, part_or_none}
@@ -60,7 +60,7 @@ through_two_is : IsChainState through_two
 through_two_is = record { source_convex = doorway_convex (pos 0); source_lies = λ p r. r.on; pass_convex = doorway_convex (pos 64) }
 
 -- nothing is cut away
-pub step_row : LeadsTo started (doorway (pos 64)) (at (pos 64)) through_two
+pub step_row : StepsTo started (doorway (pos 64)) (at (pos 64)) through_two
 step_row = record {
   near = doorway (pos 0);
   far = doorway (pos 64);
@@ -77,7 +77,7 @@ step_row = record {
 
 -- it does not go back
 pub back_row : Blocks started (doorway (neg_ℤ (pos 64))) (flipped (at (neg_ℤ (pos 64))))
-back_row = target_behind (λ p r. let e = doorway_at (neg_ℤ (pos 64)) (pos 0) p r in let m = product_positive (pos 64) p.w (omega (arith, ints)) r.weight in let n = neg-*ℤ (pos 64) p.w in let z : neg_ℤ (pos 64) -ℤ pos 0 ≡ neg_ℤ (pos 64) = refl in omega (arith, linear))
+back_row = first_cut (λ p r. let e = doorway_at (neg_ℤ (pos 64)) (pos 0) p r in let m = product_positive (pos 64) p.w (omega (arith, ints)) r.weight in let n = neg-*ℤ (pos 64) p.w in let z : neg_ℤ (pos 64) -ℤ pos 0 ≡ neg_ℤ (pos 64) = refl in omega (arith, linear))
 
 -- ---- a line through three doorways
 
@@ -110,7 +110,7 @@ ahead_of_third = omega (arith, ints)
 third_may_pass : MayPass through_two (doorway (pos 128)) (at (pos 128))
 third_may_pass = may_pass through_two (doorway (pos 128)) (at (pos 128)) straight (spot (pos 64) (pos 0) (pos 0)) (spot (pos 128) (pos 0) (pos 0)) through_two_is (doorway_convex (pos 128)) (λ p r. r.on) met_row (in_doorway (pos 128)) ahead_of_third third_after
 
-pub goes_on_row : (next : ChainState) × LeadsTo through_two (doorway (pos 128)) (at (pos 128)) next
+pub goes_on_row : (next : ChainState) × StepsTo through_two (doorway (pos 128)) (at (pos 128)) next
 goes_on_row = ⊎_elim (λ leads. leads)
     (λ blocks. absurd (not_blocked through_two (doorway (pos 128)) (at (pos 128)) straight (spot (pos 64) (pos 0) (pos 0)) (spot (pos 128) (pos 0) (pos 0)) through_two_is (λ p r. r.on) met_row (in_doorway (pos 128)) ahead_of_third third_after blocks))
     (leads_on_or_blocks through_two (doorway (pos 128)) (at (pos 128)) through_two_is (doorway_convex (pos 128)))
@@ -152,7 +152,7 @@ module _ (aside : Winding) (is : IsPartInFront aside (square (at (pos 128)) wall
       omega (arith, linear)
 
   blocked_row : Blocks through_two aside (at (pos 128))
-  blocked_row = target_cut_away
+  blocked_row = third_cut
       (record { far_is = whole_is_part aside (at (pos 0)) is.convex aside_in_front; near_is = whole_is_part (doorway (pos 0)) (flipped (at (pos 128))) (doorway_convex (pos 0)) (behind_doorway (pos 0) (pos 128) (omega (arith, ints))) })
       (λ p r all. beside_separator p r (all right_left right_left_row))
 

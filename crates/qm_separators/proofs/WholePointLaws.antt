@@ -10,7 +10,7 @@ use Rattle.qm_space.specs.Bounds.{world_extent}
 use Rattle.qm_space.specs.Point.{Point, whole_point, IsSamePlace, IsCoordinate, IsWholePoint}
 use Rattle.qm_space.specs.Cube.{IsUpToExtent, IsInClosedCube}
 use Rattle.qm_space.proofs.Planes.{same_point}
-use Rattle.qm_geom.specs.Rounding.{AreCoordinatesBy}
+use Rattle.qm_space.specs.Coordinates.{AreCoordinatesBy}
 use Rattle.qm_separators.specs.WholePoints.{IsRoundedEitherWay, IsWholeBy, IsNearestPoint, IsAround}
 use Rattle.qm_separators.proofs.Roundings.{one_up, one_nearest, down, up, nearest, either_too, nearest_too}
 use Rattle.qm_separators.specs.inner.Outline.{IsMixOf}

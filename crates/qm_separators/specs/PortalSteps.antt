@@ -6,7 +6,7 @@ use Rattle.qm_contacts.specs.Portals.{Portal}
 use Rattle.qm_segments.specs.Segment.{Segment}
 use Rattle.qm_segments.specs.OpenChain.{IsInBound}
 use Rattle.qm_separators.specs.ChainState.{ChainState, first_state, IsChainState}
-use Rattle.qm_separators.specs.ChainStep.{LeadsTo, Blocks}
+use Rattle.qm_separators.specs.ChainStep.{StepsTo, Blocks}
 use Rattle.qm_separators.specs.MayPass.{MayPass}
 use Rattle.qm_separators.specs.Meets.{Meets}
 
@@ -17,8 +17,8 @@ pub record BeginsWith (p : Portal) (state : ChainState) : Type 0 where
   pub state_is : state ≡ first_state p.winding p.into
   pub valid : IsChainState state
 
-abbrev pub GoesOn : ChainState → Portal → ChainState → Type 0
-GoesOn state q next = LeadsTo state q.winding q.into next
+abbrev pub StepsThrough : ChainState → Portal → ChainState → Type 0
+StepsThrough state q next = StepsTo state q.winding q.into next
 
 abbrev pub BlocksAt : ChainState → Portal → Type 0
 BlocksAt state q = Blocks state q.winding q.into
@@ -36,4 +36,4 @@ AreConvexPortals portals = (q : Portal) → Contains portals q → IsConvex q.wi
 
 -- the bound of a portal: the leaves that the last portals of open chains from it enter, by these steps
 abbrev pub IsInChainBound : List Portal → Portal → ℕ → Type 0
-IsInChainBound portals p n = IsInBound BeginsWith GoesOn portals p n
+IsInChainBound portals p n = IsInBound BeginsWith StepsThrough portals p n

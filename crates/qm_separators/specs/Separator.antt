@@ -1,6 +1,6 @@
 use Rattle.std.specs.Prelude.{◌⊎◌, [], ◌∷◌, Option, MatchOption}
 use Rattle.qm_space.specs.Plane.{Plane}
-use Rattle.qm_geom.specs.LeastDistance.{IsLeastDistance}
+use Rattle.qm_space.specs.LeastDistance.{IsLeastDistance}
 use Rattle.qm_convex.specs.Winding.{Winding, corners}
 use Rattle.qm_convex.specs.Sides.{HasNoCornerBehind, HasCornerBehind, HasCornerInFront}
 use Rattle.qm_separators.specs.Across.{HasNormalAcross}

@@ -3,7 +3,7 @@ pub mod Counts
 pub mod MemoryShelf
 pub mod MemorySink
 pub mod NamedFiles
-pub mod Outside
+pub mod Surroundings
 pub mod Printing
 pub mod Reads
 pub mod ShelfChanges

@@ -32,7 +32,7 @@ abbrev pub does_read_fail : MemShelf → List ℕ → Bool
 does_read_fail shelf name = is_next_listed shelf || is_none (held shelf name)
 
 -- one call more was made, and a count rose by one exactly where its kind of call failed
-pub record IsCounted (before after : MemShelf) (read_fails write_fails : Bool) : Type 0 where
+pub record IsCallCounted (before after : MemShelf) (read_fails write_fails : Bool) : Type 0 where
   pub calls_made : calls after ≡ one_more (calls before)
   pub listed : failing after ≡ failing before
   pub reads : read_faults after ≡ raised_if read_fails (read_faults before)

@@ -1,16 +1,16 @@
 use Rattle.std.specs.Prelude.{ℕ, ◌≡◌, ◌<◌, ◌≤◌, List, [], ◌++◌, length, take, drop, Option, unwrap_or}
 
 -- the bytes of a file: a name that is not held has none
-abbrev pub bytes_of : Option (List ℕ) → List ℕ
-bytes_of file = unwrap_or file []
+abbrev pub bytes_of_file : Option (List ℕ) → List ℕ
+bytes_of_file file = unwrap_or file []
 
 -- a read copied this many bytes of the file, from a place on, to the beginning of a buffer
 pub record IsRead (file : Option (List ℕ)) (place : ℕ) (before after : List ℕ) (count : ℕ) : Type 0 where
   -- the beginning is bytes of the file, and the rest of the buffer stays
-  pub copied : after ≡ take count (drop place (bytes_of file)) ++ drop count before
+  pub copied : after ≡ take count (drop place (bytes_of_file file)) ++ drop count before
   -- so many bytes are there
-  pub in_file : count ≤ length (drop place (bytes_of file))
+  pub in_file : count ≤ length (drop place (bytes_of_file file))
   -- and they fit
   pub in_buffer : count ≤ length before
   -- it copies none only at the file's end or into an empty buffer
-  pub progress : place < length (bytes_of file) → 0 < length before → 0 < count
+  pub progress : place < length (bytes_of_file file) → 0 < length before → 0 < count

@@ -1,5 +1,5 @@
 use Rattle.std.specs.Prelude.{ℕ, Bool, List, Option}
-use Rattle.qm_shelf.specs.Reads.{bytes_of}
+use Rattle.qm_shelf.specs.Reads.{bytes_of_file}
 use Rattle.qm_shelf.specs.declared.shelf.Shelf.{Ghosts}
 
 -- a shelf at one moment: whether it tells what it holds, the bytes under each name, and its counts of faults
@@ -21,4 +21,4 @@ module _ {H : Type 0} where
 
 -- the text under a name: a name that is not held has none
 abbrev pub text_under : ShelfState → List ℕ → List ℕ
-text_under shelf name = bytes_of (shelf.held name)
+text_under shelf name = bytes_of_file (shelf.held name)

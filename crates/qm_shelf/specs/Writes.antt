@@ -1,5 +1,5 @@
 use Rattle.std.specs.Prelude.{ℕ, ◌≡◌, ◌⊎◌, List, [], ◌++◌, take, Option, Some, IsSomeAnd}
-use Rattle.qm_shelf.specs.Reads.{bytes_of}
+use Rattle.qm_shelf.specs.Reads.{bytes_of_file}
 
 -- a text grew by some of the first of these bytes: none, all, or any number between
 abbrev pub ContinuesInto : List ℕ → List ℕ → List ℕ → Type 0
@@ -15,8 +15,8 @@ IsKeptOrEmptied before after = (after ≡ before) ⊎ IsEmptied after
 
 -- the file is held and grew by all of these bytes
 abbrev pub IsAdded : Option (List ℕ) → List ℕ → Option (List ℕ) → Type 0
-IsAdded before bytes after = after ≡ Some (bytes_of before ++ bytes)
+IsAdded before bytes after = after ≡ Some (bytes_of_file before ++ bytes)
 
 -- the file is held and grew by some of the first of these bytes
 abbrev pub IsPrefixAdded : Option (List ℕ) → List ℕ → Option (List ℕ) → Type 0
-IsPrefixAdded before bytes after = IsSomeAnd after (ContinuesInto (bytes_of before) bytes)
+IsPrefixAdded before bytes after = IsSomeAnd after (ContinuesInto (bytes_of_file before) bytes)

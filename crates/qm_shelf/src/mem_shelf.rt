@@ -6,7 +6,7 @@ ghost use Rattle.qm_shelf.specs.Counts.{Stays, StaysElsewhere};
 ghost use Rattle.qm_shelf.specs.CallNumbers.{one_more};
 ghost use Rattle.qm_shelf.specs.Reads.{IsRead};
 ghost use Rattle.qm_shelf.specs.Writes.{IsAdded};
-ghost use Rattle.qm_shelf.specs.MemoryShelf.{held, calls, failing, read_faults, write_faults, is_next_listed, does_read_fail, IsCounted, KeepsPlan};
+ghost use Rattle.qm_shelf.specs.MemoryShelf.{held, calls, failing, read_faults, write_faults, is_next_listed, does_read_fail, IsCallCounted, KeepsPlan};
 
 use crate::calls::{Calls, one_more};
 use crate::file_map;
@@ -116,7 +116,7 @@ impl Shelf for MemShelf {
         ensures ok { IfOk result (IsRead (held self.old name.now) at into.old into.new) }
         ensures err { OnErr result (into.new ≡ into.old) }
         ensures held_stays { Stays (held self.old) (held self.new) }
-        ensures counted { IsCounted self.old self.new (does_read_fail self.old name.now) false }
+        ensures counted { IsCallCounted self.old self.new (does_read_fail self.old name.now) false }
     {
         if !self.calls.begin()
             && let Some(bytes) = self.get(name)
@@ -132,7 +132,7 @@ impl Shelf for MemShelf {
         ensures ok { OnOk result (held self.new name.now ≡ Some []) }
         ensures err { OnErr result (Stays (held self.old) (held self.new)) }
         ensures others_stay { StaysElsewhere name.now (held self.old) (held self.new) }
-        ensures counted { IsCounted self.old self.new false (is_next_listed self.old) }
+        ensures counted { IsCallCounted self.old self.new false (is_next_listed self.old) }
     {
         if self.calls.begin() {
             return Err(self.write_fault());
@@ -147,7 +147,7 @@ impl Shelf for MemShelf {
         ensures ok { OnOk result (IsAdded (held self.old name.now) bytes.now (held self.new name.now)) }
         ensures err { OnErr result (Stays (held self.old) (held self.new)) }
         ensures others_stay { StaysElsewhere name.now (held self.old) (held self.new) }
-        ensures counted { IsCounted self.old self.new false (is_next_listed self.old) }
+        ensures counted { IsCallCounted self.old self.new false (is_next_listed self.old) }
     {
         if self.calls.begin() {
             return Err(self.write_fault());

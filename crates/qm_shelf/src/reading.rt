@@ -2,7 +2,7 @@
 
 ghost use Rattle.std.specs.Prelude.{◌≡◌, ◌≤◌, ◌+◌, ◌++◌, IsTrue, IfOk, IfErr, OnOk, length, take, drop, Ok, vec_len};
 ghost use Rattle.qm_shelf.specs.Counts.{Stays, ShelfCounted};
-ghost use Rattle.qm_shelf.specs.Reads.{bytes_of};
+ghost use Rattle.qm_shelf.specs.Reads.{bytes_of_file};
 ghost use Rattle.qm_shelf.specs.ShelfState.{shelf_state};
 ghost use Rattle.qm_shelf.specs.ShelfChanges.{IsKept, MetNoFault, ReadFaultMeans};
 ghost use Rattle.qm_shelf.specs.WholeFiles.{IsReadFrom};
@@ -57,10 +57,10 @@ fn read_piece<H: Shelf>(
     requires far { limit ≤ FARTHEST_PLACE }
     requires room { vec_len bytes.old ≤ limit }
     requires piece { length piece.old ≡ PIECE }
-    ensures bytes { IsTrue H.tells → IfOk result (λ count. bytes.new.items ≡ bytes.old.items ++ take count (drop (vec_len bytes.old) (bytes_of (H.held shelf.old name.now)))) }
+    ensures bytes { IsTrue H.tells → IfOk result (λ count. bytes.new.items ≡ bytes.old.items ++ take count (drop (vec_len bytes.old) (bytes_of_file (H.held shelf.old name.now)))) }
     ensures count { IfOk result (λ count. vec_len bytes.new ≡ vec_len bytes.old + count) }
     ensures limit { IfOk result (λ count. vec_len bytes.new ≤ limit + 1) }
-    ensures progress { IsTrue H.tells → result ≡ Ok 0 → length (bytes_of (H.held shelf.old name.now)) ≤ vec_len bytes.old }
+    ensures progress { IsTrue H.tells → result ≡ Ok 0 → length (bytes_of_file (H.held shelf.old name.now)) ≤ vec_len bytes.old }
     ensures held_stays { Stays (H.held shelf.old) (H.held shelf.new) }
     ensures write_faults_stay { Stays (H.write_faults shelf.old) (H.write_faults shelf.new) }
     ensures read_faults_counted { ShelfCounted result name.now (H.read_faults shelf.old) (H.read_faults shelf.new) }

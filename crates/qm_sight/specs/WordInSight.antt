@@ -1,5 +1,5 @@
 use Rattle.std.specs.Prelude.{◌≡◌, ℕ, ◌+◌, ◌*◌, ◌<◌, Bool, true, List, [], Some, slice_get, slice_index_or}
-use Rattle.qm_bits.specs.Word.{has_bit}
+use Rattle.qm_lists.specs.Word.{has_bit}
 use Rattle.qm_lists.specs.WorkList.{IsIn}
 use Rattle.qm_contacts.specs.Portals.{Portal}
 use Rattle.qm_contacts.specs.World.{World}

@@ -8,13 +8,13 @@ use Rattle.qm_space.proofs.Books.{stands_at}
 use Rattle.qm_solids.specs.declared.face.FaceRef.{FaceRef}
 use Rattle.qm_solids.specs.Outward.{outward_of}
 use Rattle.qm_solids.specs.InBook.{BookSolid, solid_in, solids_in, IsKeptIn, IsBookOf}
-use Rattle.qm_solids.specs.Candidates.{LiesOn}
+use Rattle.qm_solids.specs.Candidates.{IsSamePlane}
 use Rattle.qm_solids.proofs.PlanesInCommon.{turned_lies_on}
 use Rattle.qm_solid_tree.specs.Division.{HasPlanesOf}
 
 -- some plane of the book has the points of this one
 abbrev pub HasPlaneOf : List Plane → Plane → Type 0
-HasPlaneOf book face = (n : ℕ) × (h : Plane) × (slice_get book n ≡ Some h) × LiesOn face h
+HasPlaneOf book face = (n : ℕ) × (h : Plane) × (slice_get book n ≡ Some h) × IsSamePlane face h
 
 has_plane_of_face : (book : List Plane) (face : FaceRef) → face.plane < length book → HasPlaneOf book (outward_of book face)
 has_plane_of_face book face within =

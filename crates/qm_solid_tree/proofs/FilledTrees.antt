@@ -14,7 +14,7 @@ use Rattle.qm_partition.specs.Partition.{Partition, leaf, node}
 use Rattle.qm_partition.specs.Tree.{Tree}
 use Rattle.qm_partition.specs.Counting.{leaves_of}
 use Rattle.qm_partition.specs.LeafOfPoint.{leaf_at, leaf_record_at}
-use Rattle.qm_partition.specs.Joining.{are_equal, joined_node, joined}
+use Rattle.qm_partition.specs.Joining.{have_same_contents, joined_node, joined}
 use Rattle.qm_partition.specs.Marked.{marked_leaf, marked_tree}
 use Rattle.qm_partition.proofs.MarkedLeaves.{marked_leaf_of_point, marked_planes}
 use Rattle.qm_partition.proofs.FilledLeaves.{off_unmarked}
@@ -34,7 +34,7 @@ division_unfilled solids book cell shape (divided {h = h} {front = front} {back 
 -- nor has one that is joined
 node_unfilled : (n : ℕ) (front back : Partition) → HasNoneFilled front → HasNoneFilled back → HasNoneFilled (joined_node n front back)
 node_unfilled n (leaf a) (leaf b) in_front behind =
-    by_cases_of (λ (test : Bool). HasNoneFilled (if test then leaf a else node n (leaf a) (leaf b))) (are_equal a b)
+    by_cases_of (λ (test : Bool). HasNoneFilled (if test then leaf a else node n (leaf a) (leaf b))) (have_same_contents a b)
     (λ equal. in_front) (λ apart. All-append (λ (l : Leaf). l.filled ≡ false) (a ∷ []) (b ∷ []) in_front behind)
 node_unfilled n (leaf a) (node m front back) in_front behind = All-append (λ (l : Leaf). l.filled ≡ false) (a ∷ []) (leaves_of (node m front back)) in_front behind
 node_unfilled n (node m front back) other in_front behind = All-append (λ (l : Leaf). l.filled ≡ false) (leaves_of (node m front back)) (leaves_of other) in_front behind

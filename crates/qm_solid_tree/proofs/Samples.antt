@@ -25,7 +25,7 @@ use Rattle.qm_contents.proofs.Strengths.{at_most_solid, less_or_not}
 use Rattle.qm_solids.specs.Solid.{Solid, inward}
 use Rattle.qm_solids.specs.Holding.{IsInside, IsFull}
 use Rattle.qm_solids.specs.Cells.{ContainsCell, CellHasContents}
-use Rattle.qm_solids.specs.Candidates.{LiesOn, IsOnFace, IsOutdone, IsCandidate}
+use Rattle.qm_solids.specs.Candidates.{IsSamePlane, IsOnFace, IsOutdone, IsCandidate}
 use Rattle.qm_solids.specs.Least.{IsAxial, IsNumberedCandidate, IsLeastCandidate}
 use Rattle.qm_solids.proofs.Insides.{behind_all}
 use Rattle.qm_solids.proofs.ContentsLaws.{none_has}
@@ -79,8 +79,8 @@ none_before solid book cell outward has among = λ n h is.
     of_one solid (λ s. (x : Point) → IsOnFace s cell h x → ⊥) (λ x on. before_is_on_none solid cell outward h x has among on) one.solid one.listed one.point one.on_face
 
 -- a plane is a candidate where a point is on the face, and another one is outside the solid
-candidate_of_one : (solid : Solid) (cell : List Plane) (face h : Plane) (x y : Point) → IsFull solid → Contains solid.outward face → LiesOn face h → IsInCube x → IsInCell cell x → IsOn h x →
-    All (λ other. (LiesOn other h → ⊥) → IsBehind other x) solid.outward → IsInCube y → IsInCell cell y → (IsInside solid y → ⊥) → IsCandidate (solid ∷ []) cell h
+candidate_of_one : (solid : Solid) (cell : List Plane) (face h : Plane) (x y : Point) → IsFull solid → Contains solid.outward face → IsSamePlane face h → IsInCube x → IsInCell cell x → IsOn h x →
+    All (λ other. (IsSamePlane other h → ⊥) → IsBehind other x) solid.outward → IsInCube y → IsInCell cell y → (IsInside solid y → ⊥) → IsCandidate (solid ∷ []) cell h
 candidate_of_one solid cell face h x y full has lies x_in_cube x_in_cell on behind y_in_cube y_in_cell outside = record {
   solid = solid;
   listed = (0, omega arith, refl);
@@ -89,7 +89,7 @@ candidate_of_one solid cell face h x y full has lies x_in_cube x_in_cell on behi
   has_face = has;
   lies_on = lies;
   point = x;
-  on_face = record { in_cube = x_in_cube; in_cell = x_in_cell; on = on; behind_others = λ other among. All-contains (λ other. (LiesOn other h → ⊥) → IsBehind other x) solid.outward other behind among };
+  on_face = record { in_cube = x_in_cube; in_cell = x_in_cell; on = on; behind_others = λ other among. All-contains (λ other. (IsSamePlane other h → ⊥) → IsBehind other x) solid.outward other behind among };
   not_outdone = never_outdone solid cell y y_in_cube y_in_cell outside;
 }
 
@@ -112,7 +112,7 @@ floor_is_candidate : IsCandidate (ground ∷ []) [] floor
 unfolding value
 floor_is_candidate =
     let x = at (pos 0) (pos 0) (pos 0) in
-    let behind = All-from_recursion (λ other. (LiesOn other floor → ⊥) → IsBehind other x) ground.outward ((λ apart. absurd (apart (lies_on_itself floor))), tt) in
+    let behind = All-from_recursion (λ other. (IsSamePlane other floor → ⊥) → IsBehind other x) ground.outward ((λ apart. absurd (apart (lies_on_itself floor))), tt) in
     candidate_of_one ground [] floor floor x above ground_is_full (0, omega arith, refl) (lies_on_itself floor) (point_in_cube (pos 0) (pos 0) (pos 0) (omega arith) (omega arith) (omega arith)) (All-nil (λ h. IsInFront h x)) refl behind above_in_cube (All-nil (λ h. IsInFront h above)) above_outside
 
 floor_is_least : IsLeastCandidate (ground ∷ []) (floor ∷ []) [] 0 floor
@@ -165,7 +165,7 @@ floor_book = record {
 floor_has : HasPlanesOf (floor ∷ []) (ground ∷ [])
 floor_has solid face listed has =
     let same = All-contains (λ g. floor ≡ g) ground.outward face (All-from_recursion (λ g. floor ≡ g) ground.outward (refl, tt)) (of_one ground (λ s. Contains s.outward face → Contains ground.outward face) (λ has. has) solid listed has) in
-    (0, floor, refl, subst (λ (g : Plane). LiesOn g floor) same (lies_on_itself floor))
+    (0, floor, refl, subst (λ (g : Plane). IsSamePlane g floor) same (lies_on_itself floor))
 
 ground_points_row : HasPoints ground_tree
 ground_points_row = tree_has_points (ground ∷ []) (floor ∷ []) floor_book ground_tree ground_row
@@ -250,7 +250,7 @@ least_0 =
     let h = plane_of (pos 1) (pos 0) (pos 0) (pos 0) in
     let x = at (pos 0) (pos 32) (pos 32) in
     let y = at (pos 100) (pos 32) (pos 32) in
-    let behind = All-from_recursion (λ other. (LiesOn other h → ⊥) → IsBehind other x) cube.outward ((λ apart. omega (arith, ints)), ((λ apart. omega (arith, ints)), ((λ apart. omega (arith, ints)), ((λ apart. absurd (apart (turned_lies_on false h))), ((λ apart. omega (arith, ints)), ((λ apart. omega (arith, ints)), tt)))))) in
+    let behind = All-from_recursion (λ other. (IsSamePlane other h → ⊥) → IsBehind other x) cube.outward ((λ apart. omega (arith, ints)), ((λ apart. omega (arith, ints)), ((λ apart. omega (arith, ints)), ((λ apart. absurd (apart (turned_lies_on false h))), ((λ apart. omega (arith, ints)), ((λ apart. omega (arith, ints)), tt)))))) in
     let x_in = All-from_recursion (λ g. IsInFront g x) (inner 0) tt in
     let y_in = All-from_recursion (λ g. IsInFront g y) (inner 0) tt in
     next_is_least 0 h refl (inl (refl, refl))
@@ -262,7 +262,7 @@ least_1 =
     let h = plane_of (pos 1) (pos 0) (pos 0) (pos 64) in
     let x = at (pos 64) (pos 32) (pos 32) in
     let y = at (pos 100) (pos 32) (pos 32) in
-    let behind = All-from_recursion (λ other. (LiesOn other h → ⊥) → IsBehind other x) cube.outward ((λ apart. absurd (apart (lies_on_itself h))), ((λ apart. omega (arith, ints)), ((λ apart. omega (arith, ints)), ((λ apart. omega (arith, ints)), ((λ apart. omega (arith, ints)), ((λ apart. omega (arith, ints)), tt)))))) in
+    let behind = All-from_recursion (λ other. (IsSamePlane other h → ⊥) → IsBehind other x) cube.outward ((λ apart. absurd (apart (lies_on_itself h))), ((λ apart. omega (arith, ints)), ((λ apart. omega (arith, ints)), ((λ apart. omega (arith, ints)), ((λ apart. omega (arith, ints)), ((λ apart. omega (arith, ints)), tt)))))) in
     let x_in = All-from_recursion (λ g. IsInFront g x) (inner 1) (omega (arith, ints), tt) in
     let y_in = All-from_recursion (λ g. IsInFront g y) (inner 1) (omega (arith, ints), tt) in
     next_is_least 1 h refl (inl (refl, refl))
@@ -274,7 +274,7 @@ least_2 =
     let h = plane_of (pos 0) (pos 1) (pos 0) (pos 0) in
     let x = at (pos 32) (pos 0) (pos 32) in
     let y = at (pos 32) (pos 100) (pos 32) in
-    let behind = All-from_recursion (λ other. (LiesOn other h → ⊥) → IsBehind other x) cube.outward ((λ apart. omega (arith, ints)), ((λ apart. omega (arith, ints)), ((λ apart. omega (arith, ints)), ((λ apart. omega (arith, ints)), ((λ apart. absurd (apart (turned_lies_on false h))), ((λ apart. omega (arith, ints)), tt)))))) in
+    let behind = All-from_recursion (λ other. (IsSamePlane other h → ⊥) → IsBehind other x) cube.outward ((λ apart. omega (arith, ints)), ((λ apart. omega (arith, ints)), ((λ apart. omega (arith, ints)), ((λ apart. omega (arith, ints)), ((λ apart. absurd (apart (turned_lies_on false h))), ((λ apart. omega (arith, ints)), tt)))))) in
     let x_in = All-from_recursion (λ g. IsInFront g x) (inner 2) (omega (arith, ints), (omega (arith, ints), tt)) in
     let y_in = All-from_recursion (λ g. IsInFront g y) (inner 2) (omega (arith, ints), (omega (arith, ints), tt)) in
     next_is_least 2 h refl (inr (inl (refl, refl)))
@@ -286,7 +286,7 @@ least_3 =
     let h = plane_of (pos 0) (pos 1) (pos 0) (pos 64) in
     let x = at (pos 32) (pos 64) (pos 32) in
     let y = at (pos 32) (pos 100) (pos 32) in
-    let behind = All-from_recursion (λ other. (LiesOn other h → ⊥) → IsBehind other x) cube.outward ((λ apart. omega (arith, ints)), ((λ apart. absurd (apart (lies_on_itself h))), ((λ apart. omega (arith, ints)), ((λ apart. omega (arith, ints)), ((λ apart. omega (arith, ints)), ((λ apart. omega (arith, ints)), tt)))))) in
+    let behind = All-from_recursion (λ other. (IsSamePlane other h → ⊥) → IsBehind other x) cube.outward ((λ apart. omega (arith, ints)), ((λ apart. absurd (apart (lies_on_itself h))), ((λ apart. omega (arith, ints)), ((λ apart. omega (arith, ints)), ((λ apart. omega (arith, ints)), ((λ apart. omega (arith, ints)), tt)))))) in
     let x_in = All-from_recursion (λ g. IsInFront g x) (inner 3) (omega (arith, ints), (omega (arith, ints), (omega (arith, ints), tt))) in
     let y_in = All-from_recursion (λ g. IsInFront g y) (inner 3) (omega (arith, ints), (omega (arith, ints), (omega (arith, ints), tt))) in
     next_is_least 3 h refl (inr (inl (refl, refl)))
@@ -298,7 +298,7 @@ least_4 =
     let h = plane_of (pos 0) (pos 0) (pos 1) (pos 0) in
     let x = at (pos 32) (pos 32) (pos 0) in
     let y = at (pos 32) (pos 32) (pos 100) in
-    let behind = All-from_recursion (λ other. (LiesOn other h → ⊥) → IsBehind other x) cube.outward ((λ apart. omega (arith, ints)), ((λ apart. omega (arith, ints)), ((λ apart. omega (arith, ints)), ((λ apart. omega (arith, ints)), ((λ apart. omega (arith, ints)), ((λ apart. absurd (apart (turned_lies_on false h))), tt)))))) in
+    let behind = All-from_recursion (λ other. (IsSamePlane other h → ⊥) → IsBehind other x) cube.outward ((λ apart. omega (arith, ints)), ((λ apart. omega (arith, ints)), ((λ apart. omega (arith, ints)), ((λ apart. omega (arith, ints)), ((λ apart. omega (arith, ints)), ((λ apart. absurd (apart (turned_lies_on false h))), tt)))))) in
     let x_in = All-from_recursion (λ g. IsInFront g x) (inner 4) (omega (arith, ints), (omega (arith, ints), (omega (arith, ints), (omega (arith, ints), tt)))) in
     let y_in = All-from_recursion (λ g. IsInFront g y) (inner 4) (omega (arith, ints), (omega (arith, ints), (omega (arith, ints), (omega (arith, ints), tt)))) in
     next_is_least 4 h refl (inr (inr (refl, refl)))
@@ -310,7 +310,7 @@ least_5 =
     let h = plane_of (pos 0) (pos 0) (pos 1) (pos 64) in
     let x = at (pos 32) (pos 32) (pos 64) in
     let y = at (pos 32) (pos 32) (pos 100) in
-    let behind = All-from_recursion (λ other. (LiesOn other h → ⊥) → IsBehind other x) cube.outward ((λ apart. omega (arith, ints)), ((λ apart. omega (arith, ints)), ((λ apart. absurd (apart (lies_on_itself h))), ((λ apart. omega (arith, ints)), ((λ apart. omega (arith, ints)), ((λ apart. omega (arith, ints)), tt)))))) in
+    let behind = All-from_recursion (λ other. (IsSamePlane other h → ⊥) → IsBehind other x) cube.outward ((λ apart. omega (arith, ints)), ((λ apart. omega (arith, ints)), ((λ apart. absurd (apart (lies_on_itself h))), ((λ apart. omega (arith, ints)), ((λ apart. omega (arith, ints)), ((λ apart. omega (arith, ints)), tt)))))) in
     let x_in = All-from_recursion (λ g. IsInFront g x) (inner 5) (omega (arith, ints), (omega (arith, ints), (omega (arith, ints), (omega (arith, ints), (omega (arith, ints), tt))))) in
     let y_in = All-from_recursion (λ g. IsInFront g y) (inner 5) (omega (arith, ints), (omega (arith, ints), (omega (arith, ints), (omega (arith, ints), (omega (arith, ints), tt))))) in
     next_is_least 5 h refl (inr (inr (refl, refl)))

@@ -3,7 +3,7 @@ use Rattle.qm_space.specs.Plane.{Plane}
 use Rattle.qm_space.specs.Turned.{turned}
 use Rattle.qm_solids.specs.Solid.{Solid}
 use Rattle.qm_solids.specs.Cells.{CellHasContents}
-use Rattle.qm_solids.specs.Candidates.{LiesOn}
+use Rattle.qm_solids.specs.Candidates.{IsSamePlane}
 use Rattle.qm_solids.specs.Least.{IsNumberedCandidate, IsLeastCandidate}
 use Rattle.qm_partition.specs.declared.node.Leaf.{Leaf}
 use Rattle.qm_partition.specs.Partition.{Partition, leaf, node}
@@ -14,7 +14,7 @@ use Rattle.qm_partition.specs.Partition.{Partition, leaf, node}
 abbrev pub HasPlanesOf : List Plane → List Solid → Type 0
 HasPlanesOf book solids =
     (solid : Solid) (face : Plane) → Contains solids solid → Contains solid.outward face →
-    (n : ℕ) × (h : Plane) × (slice_get book n ≡ Some h) × LiesOn face h
+    (n : ℕ) × (h : Plane) × (slice_get book n ≡ Some h) × IsSamePlane face h
 
 -- no plane of the book is a candidate in the cell
 abbrev pub HasNoCandidate : List Solid → List Plane → List Plane → Type 0

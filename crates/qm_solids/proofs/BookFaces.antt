@@ -18,7 +18,7 @@ use Rattle.qm_space.proofs.Planes.{flipped_behind}
 pub use Rattle.qm_space.proofs.Books.{stands_at}
 use Rattle.qm_space.proofs.TurnedPlanes.{turned_other}
 use Rattle.qm_space.proofs.Openness.{ahead, ahead_in_front}
-use Rattle.qm_solids.specs.Candidates.{LiesOn, IsOnFace}
+use Rattle.qm_solids.specs.Candidates.{IsSamePlane, IsOnFace}
 use Rattle.qm_solids.proofs.FlatSolids.{AreOpposed}
 use Rattle.qm_solids.proofs.PlanesInCommon.{turned_lies_on, lies_on_from_turned, one_number, same_sides_lies_on}
 use Rattle.qm_space.proofs.SameSides.{same_sides_itself, same_behind}
@@ -57,7 +57,7 @@ module _ (book : List Plane) (are : AreBookPlanes book) (m n : ℕ) (m_within : 
   other = turned t (plane_at book n)
 
   -- faces that lie on one another have one number
-  pub same_number : LiesOn one other → m ≡ n
+  pub same_number : IsSamePlane one other → m ≡ n
   same_number lies =
       one_number book m n (plane_at book m) (plane_at book n) are (stands_at book m m_within) (stands_at book n n_within)
       (lies_on_from_turned s t (plane_at book m) (plane_at book n) lies)
@@ -94,10 +94,10 @@ module _ (book : List Plane) (are : AreBookPlanes book) (solid : Solid) (faces :
   has_number : (face : FaceRef) → Contains faces face → face.plane < length book
   has_number face among = All-contains (λ f. f.plane < length book) faces face numbered among
 
-  lies_by_number : (face : FaceRef) → face.plane ≡ n → LiesOn (outward_of book face) (plane_at book n)
-  lies_by_number face same = subst (λ (k : ℕ). LiesOn (outward_of book face) (plane_at book k)) same (turned_lies_on face.out_is_front (plane_at book face.plane))
+  lies_by_number : (face : FaceRef) → face.plane ≡ n → IsSamePlane (outward_of book face) (plane_at book n)
+  lies_by_number face same = subst (λ (k : ℕ). IsSamePlane (outward_of book face) (plane_at book k)) same (turned_lies_on face.out_is_front (plane_at book face.plane))
 
-  number_by_lies : (face : FaceRef) → Contains faces face → LiesOn (outward_of book face) (plane_at book n) → face.plane ≡ n
+  number_by_lies : (face : FaceRef) → Contains faces face → IsSamePlane (outward_of book face) (plane_at book n) → face.plane ≡ n
   number_by_lies face among lies = same_number book are face.plane n (has_number face among) n_within face.out_is_front true lies
 
   -- a face of the list is an outward plane
@@ -116,7 +116,7 @@ module _ (book : List Plane) (are : AreBookPlanes book) (solid : Solid) (faces :
   }
     where
       Unless : Plane → Type 0
-      Unless other = (LiesOn other (plane_at book n) → ⊥) → IsBehind other x
+      Unless other = (IsSamePlane other (plane_at book n) → ⊥) → IsBehind other x
 
       one : (face : FaceRef) → Contains faces face → Unless (outward_of book face)
       one face among apart = behind face among (λ same. apart (lies_by_number face same))

@@ -6,7 +6,7 @@ use Rattle.qm_space.specs.Point.{Point, IsInCube}
 use Rattle.qm_space.specs.Plane.{Plane, plane_of, value, IsBehind, IsInFront}
 use Rattle.qm_solids.specs.Solid.{inward}
 use Rattle.qm_solids.specs.Cells.{ContainsCell, CellHasContents}
-use Rattle.qm_solids.specs.Candidates.{LiesOn, IsOutdone, IsCandidate}
+use Rattle.qm_solids.specs.Candidates.{IsSamePlane, IsOutdone, IsCandidate}
 use Rattle.qm_solids.specs.Least.{IsLeastCandidate}
 use Rattle.qm_contents.specs.declared.contents.Contents.TheVariants.{Empty, Solid}
 use Rattle.qm_contents.proofs.Strengths.{at_most_solid}
@@ -50,12 +50,12 @@ point_in_cube x y z small_x small_y small_z = record {
 }
 
 -- the cube's plane x = 0, turned outward, lies on the book's
-turned_lies_on : LiesOn (plane_of (neg_ℤ (pos 1)) (pos 0) (pos 0) (neg_ℤ (pos 0))) first_plane
+turned_lies_on : IsSamePlane (plane_of (neg_ℤ (pos 1)) (pos 0) (pos 0) (neg_ℤ (pos 0))) first_plane
 turned_lies_on = record { times = pos 1; factor = neg_ℤ (pos 1); some_times = λ is. cc; some_factor = λ is. cc; multiple = refl }
 
 -- of each plane of the cube: the point is behind it, or it lies on the plane x = 0
 abbrev IsBehindOrLies : Plane → Type 0
-IsBehindOrLies other = (LiesOn other first_plane → ⊥) → IsBehind other on_first
+IsBehindOrLies other = (IsSamePlane other first_plane → ⊥) → IsBehind other on_first
 
 each_plane : All IsBehindOrLies cube.outward
 unfolding value

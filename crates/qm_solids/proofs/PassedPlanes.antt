@@ -8,7 +8,7 @@ use Rattle.qm_space.specs.Plane.{Plane, IsOn, IsInFront}
 use Rattle.qm_space.specs.Turned.{turned}
 use Rattle.qm_space.proofs.TurnedPlanes.{turned_on}
 use Rattle.qm_solids.specs.Solid.{Solid}
-use Rattle.qm_solids.specs.Candidates.{LiesOn, IsOnFace, IsCandidate}
+use Rattle.qm_solids.specs.Candidates.{IsSamePlane, IsOnFace, IsCandidate}
 use Rattle.qm_solids.proofs.PlanesInCommon.{lies_on_points}
 
 on_or_in_front : (h : Plane) (x : Point) → IsOn h x → IsInFront h x → ⊥
@@ -23,6 +23,6 @@ passed_is_none solids cell h side among is =
 pub before_is_on_none : (solid : Solid) (cell : List Plane) (outward h : Plane) (x : Point) → Contains solid.outward outward → Contains cell outward → IsOnFace solid cell h x → ⊥
 before_is_on_none solid cell outward h x has among on =
     let front = All-contains (λ g. IsInFront g x) cell outward on.in_cell among in
-    let apart : LiesOn outward h → ⊥ = λ lies. on_or_in_front outward x ((lies_on_points outward h x lies).1 on.on) front in
+    let apart : IsSamePlane outward h → ⊥ = λ lies. on_or_in_front outward x ((lies_on_points outward h x lies).1 on.on) front in
     let behind = on.behind_others outward has apart in
     absurd (omega (arith, linear, front, behind))

@@ -15,20 +15,20 @@ use Rattle.qm_space.proofs.ReducedPlanes.{same_plane, flipped_is_scaled, scaled_
 use Rattle.qm_space.proofs.TurnedPlanes.{turned_is_reduced}
 use Rattle.qm_space.proofs.Proportional.{by_proportional}
 use Rattle.qm_solids.specs.Solid.{Solid}
-use Rattle.qm_solids.specs.Candidates.{LiesOn, IsOnFace}
+use Rattle.qm_solids.specs.Candidates.{IsSamePlane, IsOnFace}
 
 -- ---- on one another
 
 not_zero : (a b : ℤ) → (a ≡ pos 0 → ⊥) → (b ≡ pos 0 → ⊥) → a *ℤ b ≡ pos 0 → ⊥
 not_zero a b some_a some_b e = some_b (zero_beside a b some_a e)
 
-pub lies_on_itself : (h : Plane) → LiesOn h h
+pub lies_on_itself : (h : Plane) → IsSamePlane h h
 lies_on_itself h = record { times = pos 1; factor = pos 1; some_times = λ e. cc; some_factor = λ e. cc; multiple = refl }
 
-pub lies_on_back : (a h : Plane) → LiesOn a h → LiesOn h a
+pub lies_on_back : (a h : Plane) → IsSamePlane a h → IsSamePlane h a
 lies_on_back a h l = record { times = l.factor; factor = l.times; some_times = l.some_factor; some_factor = l.some_times; multiple = sym l.multiple }
 
-pub lies_on_through : (a b c : Plane) → LiesOn a b → LiesOn b c → LiesOn a c
+pub lies_on_through : (a b c : Plane) → IsSamePlane a b → IsSamePlane b c → IsSamePlane a c
 lies_on_through a b c l m = record {
   times = m.times *ℤ l.times;
   factor = l.factor *ℤ m.factor;
@@ -43,24 +43,24 @@ lies_on_through a b c l m = record {
 pub one_scaled : (h : Plane) → scaled (pos 1) h ≡ h
 one_scaled h = same_plane (scaled (pos 1) h) h (one_*ℤ h.nx) (one_*ℤ h.ny) (one_*ℤ h.nz) (one_*ℤ h.d)
 
-pub turned_lies_on : (side : Bool) (h : Plane) → LiesOn (turned side h) h
+pub turned_lies_on : (side : Bool) (h : Plane) → IsSamePlane (turned side h) h
 turned_lies_on true h = lies_on_itself h
 turned_lies_on false h =
     record { times = pos 1; factor = negsuc 0; some_times = λ e. cc; some_factor = λ e. cc; multiple = one_scaled (flipped h) ∙ flipped_is_scaled h }
 
 -- planes that are turned to any sides lie on one another where the planes do
-pub lies_on_from_turned : (s t : Bool) (a h : Plane) → LiesOn (turned s a) (turned t h) → LiesOn a h
+pub lies_on_from_turned : (s t : Bool) (a h : Plane) → IsSamePlane (turned s a) (turned t h) → IsSamePlane a h
 lies_on_from_turned s t a h l =
     lies_on_through a (turned s a) h (lies_on_back (turned s a) a (turned_lies_on s a))
     (lies_on_through (turned s a) (turned t h) h l (turned_lies_on t h))
 
-pub lies_on_turned : (s t : Bool) (a h : Plane) → LiesOn a h → LiesOn (turned s a) (turned t h)
+pub lies_on_turned : (s t : Bool) (a h : Plane) → IsSamePlane a h → IsSamePlane (turned s a) (turned t h)
 lies_on_turned s t a h l =
     lies_on_through (turned s a) a (turned t h) (turned_lies_on s a)
     (lies_on_through a h (turned t h) l (lies_on_back (turned t h) h (turned_lies_on t h)))
 
 -- they have the same points
-holds_points : (a h : Plane) (x : Point) → LiesOn a h → IsOn a x → IsOn h x
+holds_points : (a h : Plane) (x : Point) → IsSamePlane a h → IsOn a x → IsOn h x
 holds_points a h x l on =
     let e = ap (λ (p : Plane). value p x) l.multiple in
     let s = value_scaled l.times a x in
@@ -68,11 +68,11 @@ holds_points a h x l on =
     let z : l.times *ℤ value a x ≡ pos 0 = ap (λ v. l.times *ℤ v) on ∙ *ℤ_zero l.times in
     zero_beside l.factor (value h x) l.some_factor (omega (arith, linear))
 
-pub lies_on_points : (a h : Plane) (x : Point) → LiesOn a h → IsOn a x ↔ IsOn h x
+pub lies_on_points : (a h : Plane) (x : Point) → IsSamePlane a h → IsOn a x ↔ IsOn h x
 lies_on_points a h x l = (holds_points a h x l, holds_points h a x (lies_on_back a h l))
 
 -- the one plane lies on the other, or the other holds four numbers that the one does not hold
-pub by_lies_on : {P : Type 0} (a h : Plane) (p q : Point) → (IsOn a p → ⊥) → (IsOn h q → ⊥) → (LiesOn a h → P) → ((v : Point) → IsOn h v → (IsOn a v → ⊥) → P) → P
+pub by_lies_on : {P : Type 0} (a h : Plane) (p q : Point) → (IsOn a p → ⊥) → (IsOn h q → ⊥) → (IsSamePlane a h → P) → ((v : Point) → IsOn h v → (IsOn a v → ⊥) → P) → P
 by_lies_on a h p q off_a off_h same apart = by_proportional a h
     (λ m.
     let e = m q in
@@ -87,7 +87,7 @@ by_lies_on a h p q off_a off_h same apart = by_proportional a h
         zero_beside (value h q) (value a p) off_h (omega (arith, linear))
 
 -- the points on a face are those on any plane that it lies on
-pub same_face : (solid : Solid) (cell : List Plane) (a h : Plane) (x : Point) → LiesOn a h → IsOnFace solid cell a x → IsOnFace solid cell h x
+pub same_face : (solid : Solid) (cell : List Plane) (a h : Plane) (x : Point) → IsSamePlane a h → IsOnFace solid cell a x → IsOnFace solid cell h x
 same_face solid cell a h x l on_face = record {
   in_cube = on_face.in_cube;
   in_cell = on_face.in_cell;
@@ -105,7 +105,7 @@ leading_side h r = by_lead (leads_positive h) refl
     by_lead true e = (true, e)
     by_lead false e = (false, leads_flipped h r.normal ∙ ap not e)
 
-same_leading : (a h : Plane) → IsReduced a → IsReduced h → IsTrue (leads_positive a) → IsTrue (leads_positive h) → LiesOn a h → a ≡ h
+same_leading : (a h : Plane) → IsReduced a → IsReduced h → IsTrue (leads_positive a) → IsTrue (leads_positive h) → IsSamePlane a h → a ≡ h
 same_leading a h r s leads_a leads_h l =
     (multiples_equal l.times l.factor a h l.some_times l.some_factor l.multiple r.lowest s.lowest leads_a leads_h).0
 
@@ -116,21 +116,21 @@ turned_back false true a h e = inr (sym (flipped_twice a) ∙ ap (λ (p : Plane)
 turned_back false false a h e = inl (sym (flipped_twice a) ∙ ap (λ (p : Plane). flipped p) e ∙ flipped_twice h)
 
 -- planes in lowest terms that lie on one another are equal, or the one is the other flipped
-pub reduced_lies_on : (a h : Plane) → IsReduced a → IsReduced h → LiesOn a h → (a ≡ h) ⊎ (a ≡ flipped h)
+pub reduced_lies_on : (a h : Plane) → IsReduced a → IsReduced h → IsSamePlane a h → (a ≡ h) ⊎ (a ≡ flipped h)
 reduced_lies_on a h r s l =
     let i = leading_side a r in
     let j = leading_side h s in
     turned_back i.0 j.0 a h (same_leading (turned i.0 a) (turned j.0 h) (turned_is_reduced i.0 a r) (turned_is_reduced j.0 h s) i.1 j.1 (lies_on_turned i.0 j.0 a h l))
 
 -- planes of a book that lie on one another have one number
-pub one_number : (book : List Plane) (m n : ℕ) (a h : Plane) → AreBookPlanes book → slice_get book m ≡ Some a → slice_get book n ≡ Some h → LiesOn a h → m ≡ n
+pub one_number : (book : List Plane) (m n : ℕ) (a h : Plane) → AreBookPlanes book → slice_get book m ≡ Some a → slice_get book n ≡ Some h → IsSamePlane a h → m ≡ n
 one_number book m n a h are at_m at_n l =
     let same = same_leading a h (are.reduced m a at_m) (are.reduced n h at_n) (are.leads m a at_m) (are.leads n h at_n) l in
     are.distinct m n h (subst (λ (p : Plane). slice_get book m ≡ Some p) same at_m) at_n
 
 -- ---- the same sides
 
-pub same_sides_lies_on : (a h : Plane) → HasSameSides a h → LiesOn a h
+pub same_sides_lies_on : (a h : Plane) → HasSameSides a h → IsSamePlane a h
 same_sides_lies_on a h same = record {
   times = same.times;
   factor = same.factor;
@@ -157,7 +157,7 @@ reduced_same_sides a h r s same = by_side (reduced_lies_on a h r s (same_sides_l
         absurd (s.normal (part a.nx h.nx (ap (λ (p : Plane). p.nx) m) (ap (λ (p : Plane). p.nx) e)) (part a.ny h.ny (ap (λ (p : Plane). p.ny) m) (ap (λ (p : Plane). p.ny) e)) (part a.nz h.nz (ap (λ (p : Plane). p.nz) m) (ap (λ (p : Plane). p.nz) e)))
 
 -- a plane on which another lies has the other's sides, or the opposite ones
-pub by_sides : {P : Type 0} (a h : Plane) → LiesOn a h → (HasSameSides a h → P) → (HasSameSides a (flipped h) → P) → P
+pub by_sides : {P : Type 0} (a h : Plane) → IsSamePlane a h → (HasSameSides a h → P) → (HasSameSides a (flipped h) → P) → P
 by_sides a h l same opposite = by_sign l.times
     (λ low. by_sign l.factor
     (λ under. same (record { times = neg_ℤ l.times; factor = neg_ℤ l.factor; some_times = omega (arith, linear); some_factor = omega (arith, linear); multiple = turned_times ∙ sym (scaled_neg l.factor h) }))

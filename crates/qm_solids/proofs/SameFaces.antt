@@ -14,7 +14,7 @@ use Rattle.qm_solids.specs.Solid.{Solid}
 use Rattle.qm_solids.specs.Holding.{IsInside, IsFull}
 use Rattle.qm_solids.specs.Strongest.{IsOneThat, AreGiven, AreStrongest}
 use Rattle.qm_solids.specs.Cells.{ContainsCell, CellHasContents}
-use Rattle.qm_solids.specs.Candidates.{LiesOn, IsOnFace, IsOutdone, IsCandidate}
+use Rattle.qm_solids.specs.Candidates.{IsSamePlane, IsOnFace, IsOutdone, IsCandidate}
 use Rattle.qm_solids.specs.Least.{IsNumberedCandidate, IsLeastCandidate}
 use Rattle.qm_solids.proofs.Insides.{behind_all, inside_of_behind}
 use Rattle.qm_space.proofs.SameSides.{same_sides_back, same_behind}
@@ -76,7 +76,7 @@ module _ (solid other : Solid) (same : HasSameFaces solid other) where
     on = on.on;
     behind_others = λ g among apart.
         let at = there g among in
-        let not_on : LiesOn at.0 h → ⊥ = λ lies. apart (lies_on_through g at.0 h (lies_on_back at.0 g (same_sides_lies_on at.0 g at.2)) lies) in
+        let not_on : IsSamePlane at.0 h → ⊥ = λ lies. apart (lies_on_through g at.0 h (lies_on_back at.0 g (same_sides_lies_on at.0 g at.2)) lies) in
         same_behind g at.0 x (same_sides_back at.0 g at.2) (on.behind_others at.0 at.1 not_on);
   }
 

@@ -17,7 +17,7 @@ use Rattle.qm_space.proofs.Openness.{moved, value_moved, reach, each_within_reac
 use Rattle.qm_solids.specs.Solid.{Solid}
 use Rattle.qm_solids.specs.Holding.{IsInside}
 use Rattle.qm_solids.specs.Cells.{ContainsCell}
-use Rattle.qm_solids.specs.Candidates.{LiesOn}
+use Rattle.qm_solids.specs.Candidates.{IsSamePlane}
 use Rattle.qm_solids.specs.Uniform.{MeetsNoFace, LiesOutside}
 use Rattle.qm_solids.proofs.Insides.{behind_all, inside_of_behind}
 use Rattle.qm_solids.proofs.PlanesInCommon.{lies_on_itself, lies_on_points, by_lies_on}
@@ -26,7 +26,7 @@ use Rattle.qm_solids.proofs.PlanesInCommon.{lies_on_itself, lies_on_points, by_l
 
 -- strictly behind the plane, unless it lies on the face's
 abbrev IsBehindUnlessOn : Plane → Point → Plane → Type 0
-IsBehindUnlessOn face x other = (LiesOn other face → ⊥) → IsBehind other x
+IsBehindUnlessOn face x other = (IsSamePlane other face → ⊥) → IsBehind other x
 
 -- a point of the cell on the face, and strictly behind the planes that lie on others
 record IsMet (planes cell : List Plane) (face : Plane) (x : Point) : Type 0 where

@@ -18,7 +18,7 @@ use Rattle.qm_space.proofs.ReducedPlanes.{flipped_is_reduced}
 use Rattle.qm_solids.specs.Solid.{Solid}
 use Rattle.qm_solids.specs.Holding.{IsFull}
 use Rattle.qm_solids.specs.Cells.{ContainsCell}
-use Rattle.qm_solids.specs.Candidates.{LiesOn, IsOnFace}
+use Rattle.qm_solids.specs.Candidates.{IsSamePlane, IsOnFace}
 use Rattle.qm_solids.specs.Uniform.{MeetsNoFace, LiesOutside}
 use Rattle.qm_contents.specs.declared.contents.Contents.TheVariants as contents
 use Rattle.qm_solids.proofs.Insides.{inside_of_behind, behind_all}
@@ -43,16 +43,16 @@ abbrev floor_down : Plane
 floor_down = plane_of (pos 0) (pos 0) (neg_ℤ (pos 3)) (pos 0)
 
 -- neither of the last two is a whole multiple of the other
-twice_lies_on_down : LiesOn floor_twice floor_down
+twice_lies_on_down : IsSamePlane floor_twice floor_down
 twice_lies_on_down = record { times = pos 3; factor = neg_ℤ (pos 2); some_times = λ e. cc; some_factor = λ e. cc; multiple = refl }
 
-floor_lies_on_twice : LiesOn floor floor_twice
+floor_lies_on_twice : IsSamePlane floor floor_twice
 floor_lies_on_twice = record { times = pos 2; factor = pos 1; some_times = λ e. cc; some_factor = λ e. cc; multiple = refl }
 
-floor_lies_on_down : LiesOn floor floor_down
+floor_lies_on_down : IsSamePlane floor floor_down
 floor_lies_on_down = lies_on_through floor floor_twice floor_down floor_lies_on_twice twice_lies_on_down
 
-down_lies_on_floor : LiesOn floor_down floor
+down_lies_on_floor : IsSamePlane floor_down floor
 down_lies_on_floor = lies_on_back floor floor_down floor_lies_on_down
 
 -- the floor as the one plane of a book
@@ -198,7 +198,7 @@ floor_has_middle = record {
   in_cube = point_in_cube (pos 0) (omega (arith, ints)) (omega (arith, ints));
   in_cell = All-nil (λ h. IsInFront h middle_of_cube);
   on = height middle_of_cube;
-  behind_others = λ other among. of_ground (λ h. (LiesOn h floor → ⊥) → IsBehind h middle_of_cube)
+  behind_others = λ other among. of_ground (λ h. (IsSamePlane h floor → ⊥) → IsBehind h middle_of_cube)
       (λ apart. absurd (apart (lies_on_itself floor))) other among;
 }
 

@@ -10,7 +10,7 @@ use Rattle.qm_solids.specs.Cells.{ContainsCell}
 -- Which planes part a cell. A plane is taken without regard to its side and its scale.
 
 -- both have the same points: a multiple of the first is a multiple of the second, on whichever side
-pub record LiesOn (a h : Plane) : Type 0 where
+pub record IsSamePlane (a h : Plane) : Type 0 where
   pub times : ℤ
   pub factor : ℤ
   pub some_times : times ≢ pos 0
@@ -22,7 +22,7 @@ pub record IsOnFace (solid : Solid) (cell : List Plane) (h : Plane) (x : Point) 
   pub in_cube : IsInCube x
   pub in_cell : IsInCell cell x
   pub on : IsOn h x
-  pub behind_others : (other : Plane) → Contains solid.outward other → (LiesOn other h → ⊥) → IsBehind other x
+  pub behind_others : (other : Plane) → Contains solid.outward other → (IsSamePlane other h → ⊥) → IsBehind other x
 
 -- a solid at least as strong as this one contains the cell
 pub record IsOutdone (solids : List Solid) (cell : List Plane) (solid : Solid) : Type 0 where
@@ -39,7 +39,7 @@ pub record IsCandidate (solids : List Solid) (cell : List Plane) (h : Plane) : T
   pub full : IsFull solid
   pub face : Plane
   pub has_face : Contains solid.outward face
-  pub lies_on : LiesOn face h
+  pub lies_on : IsSamePlane face h
   pub point : Point
   pub on_face : IsOnFace solid cell h point
   pub not_outdone : IsOutdone solids cell solid → ⊥

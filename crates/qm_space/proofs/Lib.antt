@@ -18,3 +18,4 @@ pub mod Openness
 pub mod Proportional
 pub mod ClosedCells
 pub mod Crossings
+pub mod LeastDistances

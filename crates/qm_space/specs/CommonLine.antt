@@ -22,12 +22,12 @@ common_line a b = record {
 }
 
 -- the direction of one line with the moment of another
-unfoldable pub turning : CommonLine → CommonLine → ℤ
-turning l m = ((l.along_x *ℤ m.moment_x) +ℤ (l.along_y *ℤ m.moment_y)) +ℤ (l.along_z *ℤ m.moment_z)
+unfoldable pub moment_about : CommonLine → CommonLine → ℤ
+moment_about l m = ((l.along_x *ℤ m.moment_x) +ℤ (l.along_y *ℤ m.moment_y)) +ℤ (l.along_z *ℤ m.moment_z)
 
 -- the product of two lines, which is 0 where they meet
 unfoldable pub line_product : CommonLine → CommonLine → ℤ
-line_product l m = turning l m +ℤ turning m l
+line_product l m = moment_about l m +ℤ moment_about m l
 
 -- the sizes of the numbers of a line in which two reduced planes meet
 pub record HasLineSizes (l : CommonLine) : Type 0 where

@@ -14,4 +14,6 @@ pub mod Turned
 pub mod Cell
 pub mod Cube
 pub mod Cuboid
+pub mod Coordinates
+pub mod LeastDistance
 pub mod inner

@@ -1,2 +1,3 @@
 pub mod CommonDirection
 pub mod OutwardSizes
+pub mod LeastDistanceOf

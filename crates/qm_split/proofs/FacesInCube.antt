@@ -25,12 +25,12 @@ use Rattle.qm_solids.specs.Outward.{outward_of, outward_planes, AreNumberedIn}
 use Rattle.qm_solids.specs.Solid.{Solid}
 use Rattle.qm_solids.specs.Holding.{IsFull}
 use Rattle.qm_solids.specs.Cells.{ContainsCell}
-use Rattle.qm_solids.specs.Candidates.{LiesOn, IsOnFace}
+use Rattle.qm_solids.specs.Candidates.{IsSamePlane, IsOnFace}
 use Rattle.qm_solids.proofs.UniformCells.{contains_throughout}
 use Rattle.qm_solids.proofs.PlanesInCommon.{turned_lies_on, same_face}
 use Rattle.qm_solids.proofs.BookFaces.{stands_at, same_number}
 use Rattle.qm_split.specs.declared.piece.Piece.{Piece}
-use Rattle.qm_split.specs.Pieces.{IsPiece, HasPointOfFace, ArePieces, IsHeldWithin}
+use Rattle.qm_split.specs.Pieces.{IsPieceInCell, HasPointOfFace, ArePiecesInCell, IsHeldWithin}
 use Rattle.qm_split.specs.inner.PieceParts.{IsNumberedPiece}
 use Rattle.qm_split.specs.inner.FacePieces.{solid_behind, IsFacePoint, IsFacePiece, HasNoFacePoint, IsPieceOfFace, HasPieceOfFace, HasFacePieces, HasAllBehind}
 use Rattle.qm_split.proofs.ListedItems.{all_of_listed}
@@ -152,7 +152,7 @@ module _ (book : List Plane) (faces : List FaceRef) (contents : Contents) (plane
   listed_outward : (f : FaceRef) → Contains faces f → Contains solid.outward (outward_of book f)
   listed_outward f among = Contains-map (outward_of book) faces f among
 
-  lies_on_its_plane : (f : FaceRef) → LiesOn (outward_of book f) (plane_at book f.plane)
+  lies_on_its_plane : (f : FaceRef) → IsSamePlane (outward_of book f) (plane_at book f.plane)
   lies_on_its_plane f = turned_lies_on f.out_is_front (plane_at book f.plane)
 
   on_face_of_point : (f : FaceRef) (x : Point) → IsFacePoint book f.plane faces x → IsOnFace solid [] (plane_at book f.plane) x
@@ -163,7 +163,7 @@ module _ (book : List Plane) (faces : List FaceRef) (contents : Contents) (plane
     behind_others = λ other among apart.
         let r = Contains-map_from (outward_of book) faces other among in
         subst (λ (h : Plane). IsBehind h x) r.2 (at.behind r.0 r.1
-        (λ same. apart (subst (λ (h : Plane). LiesOn h (plane_at book f.plane)) r.2 (subst (λ (n : ℕ). LiesOn (outward_of book r.0) (plane_at book n)) same (lies_on_its_plane r.0)))));
+        (λ same. apart (subst (λ (h : Plane). IsSamePlane h (plane_at book f.plane)) r.2 (subst (λ (n : ℕ). IsSamePlane (outward_of book r.0) (plane_at book n)) same (lies_on_its_plane r.0)))));
   }
 
   point_of_on_face : (f : FaceRef) (x : Point) → Contains faces f → IsOnFace solid [] (plane_at book f.plane) x → IsFacePoint book f.plane faces x
@@ -174,7 +174,7 @@ module _ (book : List Plane) (faces : List FaceRef) (contents : Contents) (plane
         (λ lies. apart (same_number book planes r.plane f.plane (within_book r listed) (within_book f among) r.out_is_front true lies));
   }
 
-  sound_piece : (p : Piece) → Contains ps p → IsPiece book [] solid p
+  sound_piece : (p : Piece) → Contains ps p → IsPieceInCell book [] solid p
   sound_piece p among =
       let e = are.each p among in
       let f = e.face in
@@ -183,7 +183,7 @@ module _ (book : List Plane) (faces : List FaceRef) (contents : Contents) (plane
         numbered = ap (slice_get book) e.is.number ∙ stands_at book f.plane (within_book f e.listed) ∙ ap (λ (h : Plane). Some h) (sym is.plane);
         face = outward_of book f;
         has_face = listed_outward f e.listed;
-        lies_on = subst (λ (h : Plane). LiesOn (outward_of book f) h) (sym is.plane) (lies_on_its_plane f);
+        lies_on = subst (λ (h : Plane). IsSamePlane (outward_of book f) h) (sym is.plane) (lies_on_its_plane f);
         convex = is.convex;
         reduced = subst IsReduced (sym is.plane) (planes.reduced f.plane (plane_at book f.plane) (stands_at book f.plane (within_book f e.listed)));
         points = λ x. (
@@ -195,20 +195,20 @@ module _ (book : List Plane) (faces : List FaceRef) (contents : Contents) (plane
   complete_at_face : (face : Plane) (x : Point) → Contains solid.outward face → IsOnFace solid [] face x → HasPointOfFace face x ps
   complete_at_face face x among on =
       let r = Contains-map_from (outward_of book) faces face among in
-      let lies = subst (λ (h : Plane). LiesOn h (plane_at book r.0.plane)) r.2 (lies_on_its_plane r.0) in
+      let lies = subst (λ (h : Plane). IsSamePlane h (plane_at book r.0.plane)) r.2 (lies_on_its_plane r.0) in
       let at = point_of_on_face r.0 x r.1 (same_face solid [] face (plane_at book r.0.plane) x lies on) in
       ⊎_elim
       (λ none. absurd (none x at))
       (λ has. record {
         piece = has.piece;
         listed = has.listed;
-        lies_on = subst (λ (h : Plane). LiesOn face h) (sym has.is.winding.plane) lies;
+        lies_on = subst (λ (h : Plane). IsSamePlane face h) (sym has.is.winding.plane) lies;
         has = (has.is.winding.points x).1 at;
       })
       (are.all r.0 r.1)
 
-  pub pieces_in_cube : ArePieces book [] solid ps
-  pieces_in_cube = record { sound = all_of_listed (IsPiece book [] solid) ps sound_piece; complete = complete_at_face }
+  pub pieces_in_cube : ArePiecesInCell book [] solid ps
+  pieces_in_cube = record { sound = all_of_listed (IsPieceInCell book [] solid) ps sound_piece; complete = complete_at_face }
 
 -- ---- what a full solid is to the cube
 
@@ -223,7 +223,7 @@ outward_reduced book faces planes numbered = all_of_listed IsReduced (outward_pl
         subst IsReduced r.2 (turned_is_reduced r.0.out_is_front (plane_at book r.0.plane) (planes.reduced r.0.plane (plane_at book r.0.plane) (stands_at book r.0.plane within)))
 
 -- a full solid without pieces contains the cube
-pub contains_cube : (book : List Plane) (solid : Solid) → IsFull solid → ArePieces book [] solid [] → ContainsCell solid []
+pub contains_cube : (book : List Plane) (solid : Solid) → IsFull solid → ArePiecesInCell book [] solid [] → ContainsCell solid []
 contains_cube book solid full are = contains_throughout solid [] (meets_no_face book [] solid are) full.within full.in_cube (All-nil (λ h. IsInFront h full.within)) full.inside
 
 -- a cuboid that has all of the cube behind the outward planes has what the solid holds of it

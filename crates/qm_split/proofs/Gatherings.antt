@@ -13,8 +13,8 @@ use Rattle.qm_solids.specs.Cells.{ContainsCell}
 use Rattle.qm_solids.specs.Uniform.{LiesOutside}
 use Rattle.qm_split.specs.declared.contender.Contender.{Contender}
 use Rattle.qm_split.specs.declared.gathering.Gathering.{Gathering}
-use Rattle.qm_split.specs.Pieces.{solid_of, IsContender}
-use Rattle.qm_split.specs.CellFragments.{pieces_of, IsReached, IsAccounted, IsKeptContender}
+use Rattle.qm_split.specs.Pieces.{solid_of_contender, IsContender}
+use Rattle.qm_split.specs.CellFragments.{pieces_of, IsAtMostKnown, IsAccounted, IsKeptContender}
 use Rattle.qm_split.specs.inner.Gathered.{IsGathered, is_stronger_than, Keeps, Raises}
 use Rattle.qm_split.specs.inner.Gathered.Keeps.{passed, gained}
 use Rattle.qm_split.specs.inner.Gathered.Raises.{known, risen}
@@ -24,15 +24,15 @@ use Rattle.qm_split.proofs.ListedItems.{all_of_listed}
 
 -- ---- what is reached
 
-pub reached_less : (strongest : Option Contents) (a b : Contents) → IsReached strongest b → strength a ≤ strength b → IsReached strongest a
+pub reached_less : (strongest : Option Contents) (a b : Contents) → IsAtMostKnown strongest b → strength a ≤ strength b → IsAtMostKnown strongest a
 reached_less None a b is less = is
 reached_less (Some k) a b is less = omega (arith, is)
 
-pub reached_raised : (old : Option Contents) (k c : Contents) → (IsReached old k → ⊥) → IsReached old c → IsReached (Some k) c
+pub reached_raised : (old : Option Contents) (k c : Contents) → (IsAtMostKnown old k → ⊥) → IsAtMostKnown old c → IsAtMostKnown (Some k) c
 reached_raised None k c not is = absurd is
 reached_raised (Some s) k c not is = by_order (nat_lt (strength s) (strength k)) refl
   where
-    by_order : (b : Bool) → nat_lt (strength s) (strength k) ≡ b → IsReached (Some k) c
+    by_order : (b : Bool) → nat_lt (strength s) (strength k) ≡ b → IsAtMostKnown (Some k) c
     by_order true e = let l : strength s < strength k = grind (arith, nat_tests) in omega (arith, is)
     by_order false e = let l : strength k ≤ strength s = grind (arith, nat_tests) in absurd (not l)
 
@@ -40,7 +40,7 @@ reached_raised (Some s) k c not is = by_order (nat_lt (strength s) (strength k))
 
 pub no_solids : (book cell : List Plane) (before : Option Contents) (gathering : Gathering) → gathering.strongest ≡ before → gathering.contenders.items ≡ [] → IsGathered book cell before [] gathering
 no_solids book cell before gathering same none = record {
-  no_weaker = λ c is. subst (λ (s : Option Contents). IsReached s c) (sym same) is;
+  no_weaker = λ c is. subst (λ (s : Option Contents). IsAtMostKnown s c) (sym same) is;
   given = inl same;
   kept = subst (λ (qs : List Contender). All (IsKeptContender [] book cell gathering.strongest) qs) (sym none) (All-nil (IsKeptContender [] book cell gathering.strongest));
   accounted = λ solid among full. absurd (Contains-nil solid among);
@@ -48,14 +48,14 @@ no_solids book cell before gathering same none = record {
 
 more_kept : (book cell : List Plane) (done : List Solid) (solid : Solid) (strongest : Option Contents) (contender : Contender) → IsKeptContender done book cell strongest contender → IsKeptContender (done ++ solid ∷ []) book cell strongest contender
 more_kept book cell done solid strongest contender is =
-    record { listed = Contains-append_left done (solid ∷ []) (solid_of contender) is.listed; contends = is.contends; stronger = is.stronger }
+    record { listed = Contains-append_left done (solid ∷ []) (solid_of_contender contender) is.listed; contends = is.contends; stronger = is.stronger }
 
 -- the new gathering has the same contents, and what was kept still is
 module _ (book cell : List Plane) (before : Option Contents) (done : List Solid) (solid : Solid) (old new : Gathering) (are : IsGathered book cell before done old) where
   -- nothing new is kept
   pub gathered_same : new.strongest ≡ old.strongest → new.contenders.items ≡ old.contenders.items → (IsFull solid → IsAccounted cell old.strongest old.contenders.items solid) → IsGathered book cell before (done ++ solid ∷ []) new
   gathered_same same all this = record {
-    no_weaker = λ c is. subst (λ (s : Option Contents). IsReached s c) (sym same) (are.no_weaker c is);
+    no_weaker = λ c is. subst (λ (s : Option Contents). IsAtMostKnown s c) (sym same) (are.no_weaker c is);
     given = ⊎_elim (λ e. inl (same ∙ e)) (λ by. inr (by.0, Contains-append_left done (solid ∷ []) by.0 by.1, by.2, same ∙ by.3)) are.given;
     kept = subst (λ (s : Option Contents). All (IsKeptContender (done ++ solid ∷ []) book cell s) new.contenders.items) (sym same)
         (subst (λ (qs : List Contender). All (IsKeptContender (done ++ solid ∷ []) book cell old.strongest) qs) (sym all)
@@ -68,9 +68,9 @@ module _ (book cell : List Plane) (before : Option Contents) (done : List Solid)
 
   -- one is kept
   pub gathered_kept : (contender : Contender) → new.strongest ≡ old.strongest → new.contenders.items ≡ old.contenders.items ++ contender ∷ [] →
-      (IsReached old.strongest contender.contents → ⊥) → IsContender book cell contender → solid_of contender ≡ solid → IsGathered book cell before (done ++ solid ∷ []) new
+      (IsAtMostKnown old.strongest contender.contents → ⊥) → IsContender book cell contender → solid_of_contender contender ≡ solid → IsGathered book cell before (done ++ solid ∷ []) new
   gathered_kept contender same all stronger contends stands = record {
-    no_weaker = λ c is. subst (λ (s : Option Contents). IsReached s c) (sym same) (are.no_weaker c is);
+    no_weaker = λ c is. subst (λ (s : Option Contents). IsAtMostKnown s c) (sym same) (are.no_weaker c is);
     given = ⊎_elim (λ e. inl (same ∙ e)) (λ by. inr (by.0, Contains-append_left done (solid ∷ []) by.0 by.1, by.2, same ∙ by.3)) are.given;
     kept = subst (λ (s : Option Contents). All (IsKeptContender (done ++ solid ∷ []) book cell s) new.contenders.items) (sym same)
         (subst (λ (qs : List Contender). All (IsKeptContender (done ++ solid ∷ []) book cell old.strongest) qs) (sym all)
@@ -79,16 +79,16 @@ module _ (book cell : List Plane) (before : Option Contents) (done : List Solid)
         (record { listed = subst (λ (s : Solid). Contains (done ++ solid ∷ []) s) (sym stands) (Contains-push done solid); contends = contends; stronger = stronger })));
     accounted = λ s among full. back s (⊎_elim
         (λ earlier. more s (are.accounted s earlier full))
-        (λ e. inr (inl (subst (λ (t : Solid). Contains (map solid_of (old.contenders.items ++ contender ∷ [])) t) (stands ∙ e) last)))
+        (λ e. inr (inl (subst (λ (t : Solid). Contains (map solid_of_contender (old.contenders.items ++ contender ∷ [])) t) (stands ∙ e) last)))
         (Contains-push_cases done solid s among));
   }
     where
-      last : Contains (map solid_of (old.contenders.items ++ contender ∷ [])) (solid_of contender)
-      last = subst (λ (ss : List Solid). Contains ss (solid_of contender)) (sym (map-append solid_of old.contenders.items (contender ∷ []))) (Contains-push (map solid_of old.contenders.items) (solid_of contender))
+      last : Contains (map solid_of_contender (old.contenders.items ++ contender ∷ [])) (solid_of_contender contender)
+      last = subst (λ (ss : List Solid). Contains ss (solid_of_contender contender)) (sym (map-append solid_of_contender old.contenders.items (contender ∷ []))) (Contains-push (map solid_of_contender old.contenders.items) (solid_of_contender contender))
 
       more : (s : Solid) → IsAccounted cell old.strongest old.contenders.items s → IsAccounted cell old.strongest (old.contenders.items ++ contender ∷ []) s
       more s (inl reached) = inl reached
-      more s (inr (inl stays)) = inr (inl (subst (λ (ss : List Solid). Contains ss s) (sym (map-append solid_of old.contenders.items (contender ∷ []))) (Contains-append_left (map solid_of old.contenders.items) (solid_of contender ∷ []) s stays)))
+      more s (inr (inl stays)) = inr (inl (subst (λ (ss : List Solid). Contains ss s) (sym (map-append solid_of_contender old.contenders.items (contender ∷ []))) (Contains-append_left (map solid_of_contender old.contenders.items) (solid_of_contender contender ∷ []) s stays)))
       more s (inr (inr outside)) = inr (inr outside)
 
       back : (s : Solid) → IsAccounted cell old.strongest (old.contenders.items ++ contender ∷ []) s → IsAccounted cell new.strongest new.contenders.items s
@@ -99,15 +99,15 @@ module _ (book cell : List Plane) (before : Option Contents) (done : List Solid)
 not_stronger : (a b : Contents) → nat_lt (strength a) (strength b) ≡ false → strength b ≤ strength a
 not_stronger a b weaker = grind (arith, nat_tests)
 
-still_or_weaker : (contents : Contents) (qs : List Contender) (solid : Solid) → Contains (map solid_of qs) solid → IsReached (Some contents) solid.contents ⊎ Contains (map solid_of (filter (is_stronger_than contents) qs)) solid
+still_or_weaker : (contents : Contents) (qs : List Contender) (solid : Solid) → Contains (map solid_of_contender qs) solid → IsAtMostKnown (Some contents) solid.contents ⊎ Contains (map solid_of_contender (filter (is_stronger_than contents) qs)) solid
 still_or_weaker contents qs solid among =
-    let at = Contains-map_from solid_of qs solid among in
+    let at = Contains-map_from solid_of_contender qs solid among in
     by_cases (is_stronger_than contents at.0)
-    (λ stronger. inr (subst (λ (s : Solid). Contains (map solid_of (filter (is_stronger_than contents) qs)) s) at.2 (Contains-map solid_of (filter (is_stronger_than contents) qs) at.0 (Contains-filter (is_stronger_than contents) qs at.0 at.1 stronger))))
-    (λ weaker. inl (subst (λ (s : Solid). IsReached (Some contents) s.contents) at.2 (not_stronger contents at.0.contents weaker)))
+    (λ stronger. inr (subst (λ (s : Solid). Contains (map solid_of_contender (filter (is_stronger_than contents) qs)) s) at.2 (Contains-map solid_of_contender (filter (is_stronger_than contents) qs) at.0 (Contains-filter (is_stronger_than contents) qs at.0 at.1 stronger))))
+    (λ weaker. inl (subst (λ (s : Solid). IsAtMostKnown (Some contents) s.contents) at.2 (not_stronger contents at.0.contents weaker)))
 
 module _ (book cell : List Plane) (before : Option Contents) (done : List Solid) (solid : Solid) (old new : Gathering) (are : IsGathered book cell before done old) where
-  pub gathered_risen : (contents : Contents) → (IsReached old.strongest contents → ⊥) → new.strongest ≡ Some contents → new.contenders.items ≡ filter (is_stronger_than contents) old.contenders.items →
+  pub gathered_risen : (contents : Contents) → (IsAtMostKnown old.strongest contents → ⊥) → new.strongest ≡ Some contents → new.contenders.items ≡ filter (is_stronger_than contents) old.contenders.items →
       contents ≡ solid.contents → ContainsCell solid cell → IsGathered book cell before (done ++ solid ∷ []) new
   gathered_risen contents above rises left same contains = record {
     no_weaker = λ c is. raised c (reached_raised old.strongest contents c above (are.no_weaker c is));
@@ -117,19 +117,19 @@ module _ (book cell : List Plane) (before : Option Contents) (done : List Solid)
         (all_of_listed (IsKeptContender (done ++ solid ∷ []) book cell (Some contents)) (filter (is_stronger_than contents) old.contenders.items) one));
     accounted = λ s among full. back s (⊎_elim
         (λ earlier. still s (are.accounted s earlier full))
-        (λ e. inl (subst (λ (t : Solid). IsReached (Some contents) t.contents) e (let m = ap strength same in omega arith)))
+        (λ e. inl (subst (λ (t : Solid). IsAtMostKnown (Some contents) t.contents) e (let m = ap strength same in omega arith)))
         (Contains-push_cases done solid s among));
   }
     where
-      raised : (c : Contents) → IsReached (Some contents) c → IsReached new.strongest c
-      raised c is = subst (λ (s : Option Contents). IsReached s c) (sym rises) is
+      raised : (c : Contents) → IsAtMostKnown (Some contents) c → IsAtMostKnown new.strongest c
+      raised c is = subst (λ (s : Option Contents). IsAtMostKnown s c) (sym rises) is
 
       one : (q : Contender) → Contains (filter (is_stronger_than contents) old.contenders.items) q → IsKeptContender (done ++ solid ∷ []) book cell (Some contents) q
       one q among =
           let was = All-contains (IsKeptContender done book cell old.strongest) (filter (is_stronger_than contents) old.contenders.items) q (All-filter (is_stronger_than contents) (IsKeptContender done book cell old.strongest) old.contenders.items are.kept) among in
           let passes : is_stronger_than contents q ≡ true = All-contains (λ r. is_stronger_than contents r ≡ true) (filter (is_stronger_than contents) old.contenders.items) q (filter_passes (is_stronger_than contents) old.contenders.items) among in
           record {
-            listed = Contains-append_left done (solid ∷ []) (solid_of q) was.listed;
+            listed = Contains-append_left done (solid ∷ []) (solid_of_contender q) was.listed;
             contends = was.contends;
             stronger = λ reached. let l : strength contents < strength q.contents = grind (arith, nat_tests) in absurd (omega (arith, reached));
           }
@@ -145,17 +145,17 @@ module _ (book cell : List Plane) (before : Option Contents) (done : List Solid)
 -- ---- by what code does
 
 module _ (book cell : List Plane) (before : Option Contents) (done : List Solid) (solid : Solid) (old new : Gathering) (are : IsGathered book cell before done old) where
-  pub gathered_by_keeping : (contender : Contender) → IsContender book cell contender × (solid_of contender ≡ solid) → Keeps old contender new → IsGathered book cell before (done ++ solid ∷ []) new
+  pub gathered_by_keeping : (contender : Contender) → IsContender book cell contender × (solid_of_contender contender ≡ solid) → Keeps old contender new → IsGathered book cell before (done ++ solid ∷ []) new
   gathered_by_keeping contender is (passed reached same) =
       gathered_same book cell before done solid old new are (ap (λ (g : Gathering). g.strongest) same) (ap (λ (g : Gathering). g.contenders.items) same)
-      (λ full. inl (subst (λ (s : Solid). IsReached old.strongest s.contents) is.1 reached))
+      (λ full. inl (subst (λ (s : Solid). IsAtMostKnown old.strongest s.contents) is.1 reached))
   gathered_by_keeping contender is (gained stronger same all) =
       gathered_kept book cell before done solid old new are contender same all stronger is.0 is.1
 
   pub gathered_by_raising : (contents : Contents) → (contents ≡ solid.contents) × ContainsCell solid cell → Raises old contents new → IsGathered book cell before (done ++ solid ∷ []) new
   gathered_by_raising contents is (known reached same) =
       gathered_same book cell before done solid old new are (ap (λ (g : Gathering). g.strongest) same) (ap (λ (g : Gathering). g.contenders.items) same)
-      (λ full. inl (subst (λ (c : Contents). IsReached old.strongest c) is.0 reached))
+      (λ full. inl (subst (λ (c : Contents). IsAtMostKnown old.strongest c) is.0 reached))
   gathered_by_raising contents is (risen above rises left) =
       gathered_risen book cell before done solid old new are contents above rises left is.0 is.1
 

@@ -20,7 +20,7 @@ use Rattle.qm_solids.specs.Uniform.{LiesOutside}
 use Rattle.qm_solids.proofs.PlanesInCommon.{lies_on_points}
 use Rattle.qm_split.specs.declared.piece.Piece.{Piece}
 use Rattle.qm_split.specs.declared.contender.Contender.{Contender}
-use Rattle.qm_split.specs.Pieces.{solid_of, IsPiece, IsHeldWithin, IsContender}
+use Rattle.qm_split.specs.Pieces.{solid_of_contender, IsPieceInCell, IsHeldWithin, IsContender}
 
 -- a full solid holds a point that is on a face of it
 pub holds_point_on_face : (solid : Solid) (cell : List Plane) (h : Plane) (x : Point) → IsFull solid → IsOnFace solid cell h x → Holds solid x
@@ -38,9 +38,9 @@ holds_point_on_face solid cell h x full on_face = record {
 pub pieces_within : (book cell : List Plane) (contender : Contender) → IsContender book cell contender → (p : Piece) → Contains contender.body.value.pieces.items p →
     LiesWithin p.winding.value contender.body.value.cuboid
 pieces_within book cell contender contends p among x r =
-    let is = All-contains (IsPiece book cell (solid_of contender)) contender.body.value.pieces.items p contends.pieces.sound among in
+    let is = All-contains (IsPieceInCell book cell (solid_of_contender contender)) contender.body.value.pieces.items p contends.pieces.sound among in
     let at = (is.points x).0 r in
-    contends.within x at.in_cube at.in_cell (holds_point_on_face (solid_of contender) cell p.winding.value.plane x contends.full at)
+    contends.within x at.in_cube at.in_cell (holds_point_on_face (solid_of_contender contender) cell p.winding.value.plane x contends.full at)
 
 module _ (c : Cuboid) (solid : Solid) (cell : List Plane) (held : IsHeldWithin c solid cell) (g : Plane) where
   in_cell_of_beyond : (f : Plane) (x : Point) → IsInCell (cell ++ f ∷ []) x → IsInCell cell x

@@ -20,34 +20,34 @@ use Rattle.qm_split.specs.declared.contender.Contender.{Contender}
 use Rattle.qm_convex.proofs.Within.{front_by_least, back_by_greatest, none_behind_by_least, none_in_front_by_greatest}
 use Rattle.qm_split.specs.declared.contender.Part.{Part}
 use Rattle.qm_split.specs.declared.contender.Part.TheVariants.{Kept, Outside}
-use Rattle.qm_split.specs.Pieces.{solid_of, IsPiece, ArePieces, IsHeldWithin, IsContender}
+use Rattle.qm_split.specs.Pieces.{solid_of_contender, IsPieceInCell, ArePiecesInCell, IsHeldWithin, IsContender}
 use Rattle.qm_split.specs.inner.PieceParts.{AreFront}
 use Rattle.qm_split.specs.inner.Ranked.{IsLesser}
-use Rattle.qm_split.specs.inner.Parts.{IsPartIn, IsSection, IsFoundPart, HasNoneBehind, IsNotAhead, HasAhead, part_count, IsShortened}
+use Rattle.qm_split.specs.inner.Parts.{IsPartIn, LiesInCell, IsFoundPart, HasNoneBehind, IsNotAhead, HasAhead, part_count, IsShortened}
 use Rattle.qm_split.proofs.HeldCuboids.{pieces_within, held_beyond}
 use Rattle.qm_split.proofs.BesidePieces.{stands_off, left_in_front}
 use Rattle.qm_split.proofs.PartedPieces.{meets_no_face, pieces_in_front, all_in_front}
 
 -- a contender that stands for a full solid, with the pieces of that solid and a cuboid in which it lies
-pub kept_contender : (book cell : List Plane) (contender : Contender) (solid : Solid) → solid_of contender ≡ solid → IsFull solid → All IsReduced solid.outward →
-    IsLesser None contender.body.value.pieces.items (Some contender.least) → ArePieces book cell solid contender.body.value.pieces.items → IsHeldWithin contender.body.value.cuboid solid cell →
-    IsContender book cell contender × (solid_of contender ≡ solid)
+pub kept_contender : (book cell : List Plane) (contender : Contender) (solid : Solid) → solid_of_contender contender ≡ solid → IsFull solid → All IsReduced solid.outward →
+    IsLesser None contender.body.value.pieces.items (Some contender.least) → ArePiecesInCell book cell solid contender.body.value.pieces.items → IsHeldWithin contender.body.value.cuboid solid cell →
+    IsContender book cell contender × (solid_of_contender contender ≡ solid)
 kept_contender book cell contender solid same full reduced first pieces within = (
   record {
     full = subst IsFull (sym same) full;
     reduced = subst (λ (s : Solid). All IsReduced s.outward) (sym same) reduced;
     first = first;
-    pieces = subst (λ (s : Solid). ArePieces book cell s contender.body.value.pieces.items) (sym same) pieces;
+    pieces = subst (λ (s : Solid). ArePiecesInCell book cell s contender.body.value.pieces.items) (sym same) pieces;
     within = subst (λ (s : Solid). IsHeldWithin contender.body.value.cuboid s cell) (sym same) within;
   },
   same,
 )
 
-section_part : (cell : List Plane) (g : Plane) (w : Winding) → IsSection cell g w → IsPartOn w cell g
+section_part : (cell : List Plane) (g : Plane) (w : Winding) → LiesInCell cell g w → IsPartOn w cell g
 section_part cell g w section = record { convex = section.convex; on = section.on; in_cube = section.in_cube; in_cell = section.in_cell }
 
 -- a full solid without pieces in front of a plane
-module _ (book cell : List Plane) (solid : Solid) (w : Winding) (g : Plane) (reduced : IsReduced g) (full : IsFull solid) (all_reduced : All IsReduced solid.outward) (section : IsSection cell g w) (pieces : ArePieces book (cell ++ g ∷ []) solid []) where
+module _ (book cell : List Plane) (solid : Solid) (w : Winding) (g : Plane) (reduced : IsReduced g) (full : IsFull solid) (all_reduced : All IsReduced solid.outward) (section : LiesInCell cell g w) (pieces : ArePiecesInCell book (cell ++ g ∷ []) solid []) where
   pub contains_beyond : All (IsNotAhead w g) solid.outward → ContainsCell solid (cell ++ g ∷ [])
   contains_beyond all =
       contains_front solid cell g w reduced all_reduced (section_part cell g w section) (meets_no_face book (cell ++ g ∷ []) solid pieces) full
@@ -69,15 +69,15 @@ shortened contender h g part qs are count none = record {
 
 -- ---- behind the plane, which is in front of it flipped
 
-pub section_flipped : (cell : List Plane) (g : Plane) (w : Winding) → IsSection cell g w → IsSection cell (flipped g) w
+pub section_flipped : (cell : List Plane) (g : Plane) (w : Winding) → LiesInCell cell g w → LiesInCell cell (flipped g) w
 section_flipped cell g w section =
     record { convex = section.convex; on = λ x r. (flipped_on g x).1 (section.on x r); in_cube = section.in_cube; in_cell = section.in_cell }
 
 module _ (contender : Contender) (w : Winding) (c : Cuboid) (qs : List Piece) (part : Part) (g : Plane) where
-  pub part_ahead : AreFront contender.body.value.pieces.items g qs → IsFoundPart (solid_of contender) w c qs part g → (book cell : List Plane) → IsContender book cell contender →
-      IsSection cell g w → IsHeldWithin c (solid_of contender) (cell ++ g ∷ []) → IsPartIn book (cell ++ g ∷ []) (solid_of contender) part
+  pub part_ahead : AreFront contender.body.value.pieces.items g qs → IsFoundPart (solid_of_contender contender) w c qs part g → (book cell : List Plane) → IsContender book cell contender →
+      LiesInCell cell g w → IsHeldWithin c (solid_of_contender contender) (cell ++ g ∷ []) → IsPartIn book (cell ++ g ∷ []) (solid_of_contender contender) part
   part_ahead are found book cell contends section held =
-      found book cell contends.full contends.reduced section held (pieces_in_front book cell (solid_of contender) contender.body.value.pieces.items qs g contends.pieces are)
+      found book cell contends.full contends.reduced section held (pieces_in_front book cell (solid_of_contender contender) contender.body.value.pieces.items qs g contends.pieces are)
 
 -- ---- a contender whose cuboid lies on one side of a plane
 
@@ -88,8 +88,8 @@ module _ (book cell : List Plane) (contender : Contender) (contends : IsContende
   abbrev pieces : List Piece
   pieces = contender.body.value.pieces.items
 
-  piece_of : (p : Piece) → Contains pieces p → IsPiece book cell (solid_of contender) p
-  piece_of p among = All-contains (IsPiece book cell (solid_of contender)) pieces p contends.pieces.sound among
+  piece_of : (p : Piece) → Contains pieces p → IsPieceInCell book cell (solid_of_contender contender) p
+  piece_of p among = All-contains (IsPieceInCell book cell (solid_of_contender contender)) pieces p contends.pieces.sound among
 
   pub moved_ahead : pos 0 <ℤ least_value h c → AreFront pieces h pieces
   moved_ahead above = all_in_front pieces h (λ p among. ((piece_of p among).convex, front_by_least p.winding.value c h (pieces_within book cell contender contends p among) above))
@@ -104,11 +104,11 @@ module _ (book cell : List Plane) (contender : Contender) (contends : IsContende
   none_ahead below p among = subst (HasNoneInFront p.winding.value) (sym (flipped_twice h)) (none_in_front_by_greatest p.winding.value c h (pieces_within book cell contender contends p among) below)
 
   -- a contender whose pieces are all in front of the plane is one there
-  pub kept_whole : AreFront pieces h pieces → IsPartIn book (cell ++ h ∷ []) (solid_of contender) (Kept contender)
+  pub kept_whole : AreFront pieces h pieces → IsPartIn book (cell ++ h ∷ []) (solid_of_contender contender) (Kept contender)
   kept_whole are =
-      kept_contender book (cell ++ h ∷ []) contender (solid_of contender) refl contends.full contends.reduced contends.first
-      (pieces_in_front book cell (solid_of contender) pieces pieces h contends.pieces are)
-      (held_beyond c (solid_of contender) cell contends.within h)
+      kept_contender book (cell ++ h ∷ []) contender (solid_of_contender contender) refl contends.full contends.reduced contends.first
+      (pieces_in_front book cell (solid_of_contender contender) pieces pieces h contends.pieces are)
+      (held_beyond c (solid_of_contender contender) cell contends.within h)
 
   -- where it has nothing behind the plane, what does not lie in it is in front
   pub left_pieces : IsReduced h → HasNoneBehind contender h → AreFront pieces h (filter (stands_off h) pieces)

@@ -11,7 +11,7 @@ use Rattle.qm_contents.specs.declared.contents.Contents.{Contents}
 use Rattle.qm_contents.specs.declared.contents.Contents.TheVariants.{Empty}
 use Rattle.qm_solids.specs.Solid.{Solid}
 use Rattle.qm_solids.specs.Cells.{ContainsCell, CellHasContents}
-use Rattle.qm_solids.specs.Candidates.{LiesOn, IsOnFace, IsOutdone, IsCandidate}
+use Rattle.qm_solids.specs.Candidates.{IsSamePlane, IsOnFace, IsOutdone, IsCandidate}
 use Rattle.qm_solids.specs.Least.{IsAxial, IsNumberedCandidate, ComesFirst, IsLeastCandidate}
 use Rattle.qm_solids.proofs.Insides.{behind_all}
 use Rattle.qm_solids.proofs.CellLaws.{holds_points_of_cell}
@@ -21,9 +21,9 @@ use Rattle.qm_split.specs.declared.piece.Piece.{Piece}
 use Rattle.qm_split.specs.declared.contender.Contender.{Contender}
 use Rattle.qm_split.specs.declared.fragments.Fragments.{Fragments}
 use Rattle.qm_split.specs.declared.rank.Rank.{Rank}
-use Rattle.qm_split.specs.Pieces.{solid_of, IsPiece, IsContender}
-use Rattle.qm_split.specs.CellFragments.{IsReached, IsKeptContender, AreFragmentsOf}
-use Rattle.qm_split.specs.inner.Ranks.{IsNotAfter}
+use Rattle.qm_split.specs.Pieces.{solid_of_contender, IsPieceInCell, IsContender}
+use Rattle.qm_split.specs.CellFragments.{IsAtMostKnown, IsKeptContender, AreFragmentsOf}
+use Rattle.qm_split.specs.inner.Ranks.{IsAsEarly}
 use Rattle.qm_split.specs.inner.Ranked.{IsRankOf, IsLeastRank}
 use Rattle.qm_lists.proofs.Elements.{Contains-map_from}
 use Rattle.qm_split.proofs.RankOrder.{first_one}
@@ -31,11 +31,11 @@ use Rattle.qm_split.proofs.Gatherings.{reached_less}
 use Rattle.qm_split.proofs.HeldCuboids.{holds_point_on_face}
 
 -- a contender does not contain its cell, since a point of the cell is on a face of it
-pub contender_does_not_contain : (book cell : List Plane) (contender : Contender) → IsContender book cell contender → ContainsCell (solid_of contender) cell → ⊥
+pub contender_does_not_contain : (book cell : List Plane) (contender : Contender) → IsContender book cell contender → ContainsCell (solid_of_contender contender) cell → ⊥
 contender_does_not_contain book cell contender contends contains =
     let first = first_one contender.body.value.pieces.items contender.least contends.first in
     let piece = first.piece in
-    let is = All-contains (IsPiece book cell (solid_of contender)) contender.body.value.pieces.items piece contends.pieces.sound first.listed in
+    let is = All-contains (IsPieceInCell book cell (solid_of_contender contender)) contender.body.value.pieces.items piece contends.pieces.sound first.listed in
     let at = has_a_point piece.winding.value is.convex in
     let on_face = (is.points at.0).0 at.1 in
     let on = (lies_on_points is.face piece.winding.value.plane at.0 is.lies_on).1 on_face.on in
@@ -64,12 +64,12 @@ module _ (solids : List Solid) (book cell : List Plane) (fragments : Fragments) 
 
   -- ---- contents
 
-  pub reached_if_contains : (solid : Solid) → Contains solids solid → ContainsCell solid cell → IsReached strongest solid.contents
+  pub reached_if_contains : (solid : Solid) → Contains solids solid → ContainsCell solid cell → IsAtMostKnown strongest solid.contents
   reached_if_contains solid listed contains = ⊎_elim
       (λ reached. reached)
       (λ rest. ⊎_elim
       (λ stays.
-      let at = Contains-map_from solid_of contenders solid stays in
+      let at = Contains-map_from solid_of_contender contenders solid stays in
       absurd (contender_does_not_contain book cell at.0 (kept_one at.0 at.1).contends (subst (λ (s : Solid). ContainsCell s cell) (sym at.2) contains)))
       (λ outside. absurd (outside are.inner.point are.inner.in_cube are.inner.in_cell (holds_points_of_cell solid cell are.inner.point contains are.inner.in_cube are.inner.in_cell)))
       rest)
@@ -79,13 +79,13 @@ module _ (solids : List Solid) (book cell : List Plane) (fragments : Fragments) 
   contents_known contents known = record {
     given = ⊎_elim (λ none. no_contents contents strongest none known)
         (λ by. inr (by.0, record { listed = by.1; has = by.2 }, same_contents by.0.contents contents strongest by.3 known)) are.given;
-    strongest = λ solid one. subst (λ (o : Option Contents). IsReached o solid.contents) known (reached_if_contains solid one.listed one.has);
+    strongest = λ solid one. subst (λ (o : Option Contents). IsAtMostKnown o solid.contents) known (reached_if_contains solid one.listed one.has);
   }
 
   pub contents_unknown : strongest ≡ None → CellHasContents solids cell Empty
   contents_unknown none = record {
     given = inl refl;
-    strongest = λ solid one. absurd (subst (λ (o : Option Contents). IsReached o solid.contents) none (reached_if_contains solid one.listed one.has));
+    strongest = λ solid one. absurd (subst (λ (o : Option Contents). IsAtMostKnown o solid.contents) none (reached_if_contains solid one.listed one.has));
   }
 
   -- ---- candidates
@@ -93,12 +93,12 @@ module _ (solids : List Solid) (book cell : List Plane) (fragments : Fragments) 
   pub candidate_of_piece : (q : Contender) (p : Piece) → Contains contenders q → Contains q.body.value.pieces.items p → IsNumberedCandidate solids book cell p.number p.winding.value.plane
   candidate_of_piece q p among among_pieces =
       let kept = kept_one q among in
-      let is = All-contains (IsPiece book cell (solid_of q)) q.body.value.pieces.items p kept.contends.pieces.sound among_pieces in
+      let is = All-contains (IsPieceInCell book cell (solid_of_contender q)) q.body.value.pieces.items p kept.contends.pieces.sound among_pieces in
       let at = has_a_point p.winding.value is.convex in
       record {
         numbered = is.numbered;
         candidate = record {
-          solid = solid_of q;
+          solid = solid_of_contender q;
           listed = kept.listed;
           full = kept.contends.full;
           face = is.face;
@@ -119,10 +119,10 @@ module _ (solids : List Solid) (book cell : List Plane) (fragments : Fragments) 
     pub number : n ≡ piece.number
     pub plane : h ≡ piece.winding.value.plane
 
-  outdone_if_reached : (solid : Solid) → IsReached strongest solid.contents → IsOutdone solids cell solid
+  outdone_if_reached : (solid : Solid) → IsAtMostKnown strongest solid.contents → IsOutdone solids cell solid
   outdone_if_reached solid reached = ⊎_elim
-      (λ none. absurd (subst (λ (o : Option Contents). IsReached o solid.contents) none reached))
-      (λ by. record { stronger = by.0; listed = by.1; at_least = subst (λ (o : Option Contents). IsReached o solid.contents) by.3 reached; contains = by.2 })
+      (λ none. absurd (subst (λ (o : Option Contents). IsAtMostKnown o solid.contents) none reached))
+      (λ by. record { stronger = by.0; listed = by.1; at_least = subst (λ (o : Option Contents). IsAtMostKnown o solid.contents) by.3 reached; contains = by.2 })
       are.given
 
   pub piece_of_candidate : (n : ℕ) (h : Plane) → IsNumberedCandidate solids book cell n h → HasCandidate n h
@@ -134,9 +134,9 @@ module _ (solids : List Solid) (book cell : List Plane) (fragments : Fragments) 
       c : IsCandidate solids cell h
       c = is.candidate
 
-      by_piece : (q : Contender) (p : Piece) → Contains contenders q → Contains q.body.value.pieces.items p → LiesOn c.face p.winding.value.plane → HasCandidate n h
+      by_piece : (q : Contender) (p : Piece) → Contains contenders q → Contains q.body.value.pieces.items p → IsSamePlane c.face p.winding.value.plane → HasCandidate n h
       by_piece q p among among_pieces lies =
-          let piece = All-contains (IsPiece book cell (solid_of q)) q.body.value.pieces.items p (kept_one q among).contends.pieces.sound among_pieces in
+          let piece = All-contains (IsPieceInCell book cell (solid_of_contender q)) q.body.value.pieces.items p (kept_one q among).contends.pieces.sound among_pieces in
           let number = one_number book n p.number h p.winding.value.plane are.book_planes is.numbered piece.numbered (lies_on_through h c.face p.winding.value.plane (lies_on_back c.face h c.lies_on) lies) in
           record {
             contender = q;
@@ -147,9 +147,9 @@ module _ (solids : List Solid) (book cell : List Plane) (fragments : Fragments) 
             plane = let e : Some h ≡ Some p.winding.value.plane = sym is.numbered ∙ ap (slice_get book) number ∙ piece.numbered in cc;
           }
 
-      found : Contains (map solid_of contenders) c.solid → HasCandidate n h
+      found : Contains (map solid_of_contender contenders) c.solid → HasCandidate n h
       found stays =
-          let at = Contains-map_from solid_of contenders c.solid stays in
+          let at = Contains-map_from solid_of_contender contenders c.solid stays in
           let has_face = subst (λ (s : Solid). Contains s.outward c.face) (sym at.2) c.has_face in
           let on_face = subst (λ (s : Solid). IsOnFace s cell c.face c.point) (sym at.2) (same_face c.solid cell h c.face c.point (lies_on_back c.face h c.lies_on) c.on_face) in
           let has = (kept_one at.0 at.1).contends.pieces.complete c.face c.point has_face on_face in
@@ -183,7 +183,7 @@ rank_of p = ⊎_elim
     (axial_or_not p.winding.value.plane)
 
 -- what comes no later by rank comes first
-comes_first : (p r : Piece) (a b : Rank) → IsRankOf p a → IsRankOf r b → IsNotAfter a b → ComesFirst p.number p.winding.value.plane r.number r.winding.value.plane
+comes_first : (p r : Piece) (a b : Rank) → IsRankOf p a → IsRankOf r b → IsAsEarly a b → ComesFirst p.number p.winding.value.plane r.number r.winding.value.plane
 comes_first p r a b is_a is_b not_after = record {
   axial_first = λ axial. by_axial a.axial refl (is_b.axial.1 axial);
   lesser_number = λ also. let l : a.number ≤ b.number = not_less (λ less. not_after (inr (same a.axial b.axial refl refl also, less))) in let m = is_a.number in let n = is_b.number in omega arith;

@@ -23,9 +23,9 @@ use Rattle.qm_solid_tree.proofs.PartedCells.{both_sides}
 use Rattle.qm_space.specs.Turned.{turned}
 use Rattle.qm_split.specs.declared.contender.Contender.{Contender}
 use Rattle.qm_split.specs.declared.fragments.Fragments.{Fragments}
-use Rattle.qm_split.specs.Pieces.{solid_of, IsPiece}
-use Rattle.qm_split.specs.CellFragments.{cell_of, HasPointOn, AreOfSomeSolid, IsKeptContender, AreFragmentsOf}
-use Rattle.qm_split.specs.inner.Parts.{IsSection}
+use Rattle.qm_split.specs.Pieces.{solid_of_contender, IsPieceInCell}
+use Rattle.qm_split.specs.CellFragments.{cell_of_fragments, HasPointOn, AreOfSomeSolid, IsKeptContender, AreFragmentsOf}
+use Rattle.qm_split.specs.inner.Parts.{LiesInCell}
 use Rattle.qm_split.specs.inner.Gathered.{IsGathered, HasContenderIn}
 use Rattle.qm_split.specs.inner.Ranked.{IsWindingOfSome}
 use Rattle.qm_split.proofs.KnownFragments.{kept_one, piece_of_candidate}
@@ -56,7 +56,7 @@ module _ (book : List Plane) (list : List BookSolid) (is_book : IsBookOf book li
 cube_has_point : HasPoint []
 cube_has_point = record { point = middle_of_cube; in_cube = middle_in_cube; in_cell = All-nil (λ h. IsInFront h middle_of_cube) }
 
-pub whole_fragments : (book : List Plane) (solids : List Solid) (fragments : Fragments) → AreBookPlanes book → cell_of fragments ≡ [] → IsGathered book [] None solids fragments.gathering → AreFragmentsOf solids book [] fragments
+pub whole_fragments : (book : List Plane) (solids : List Solid) (fragments : Fragments) → AreBookPlanes book → cell_of_fragments fragments ≡ [] → IsGathered book [] None solids fragments.gathering → AreFragmentsOf solids book [] fragments
 whole_fragments book solids fragments planes no_planes are = record {
   book_planes = planes;
   cell_is = no_planes;
@@ -75,22 +75,22 @@ module _ (solids : List Solid) (book cell : List Plane) (fragments : Fragments) 
   abbrev contenders : List Contender
   contenders = fragments.gathering.contenders.items
 
-  listed_solid : (solid : Solid) → Contains (map solid_of contenders) solid → Contains solids solid
+  listed_solid : (solid : Solid) → Contains (map solid_of_contender contenders) solid → Contains solids solid
   listed_solid solid among =
-      let at = Contains-map_from solid_of contenders solid among in
+      let at = Contains-map_from solid_of_contender contenders solid among in
       subst (λ (s : Solid). Contains solids s) at.2 (kept_one solids book cell fragments are at.0 at.1).listed
 
   -- a piece on the plane
-  pub section_of_piece : (h : Plane) (w : Winding) → IsWindingOfSome contenders h w → IsSection cell h w
-  section_of_piece h w has = subst (IsSection cell h) (sym has.one.is) (record {
+  pub section_of_piece : (h : Plane) (w : Winding) → IsWindingOfSome contenders h w → LiesInCell cell h w
+  section_of_piece h w has = subst (LiesInCell cell h) (sym has.one.is) (record {
     convex = is.convex;
     on = λ x r. subst (λ (g : Plane). IsOn g x) (ap (λ (v : Winding). v.plane) (sym has.one.is) ∙ has.one.on) r.on;
     in_cube = λ x r. ((is.points x).0 r).in_cube;
     in_cell = λ x r. ((is.points x).0 r).in_cell;
   })
     where
-      is : IsPiece book cell (solid_of has.contender) has.one.piece
-      is = All-contains (IsPiece book cell (solid_of has.contender)) has.contender.body.value.pieces.items has.one.piece (kept_one solids book cell fragments are has.contender has.listed).contends.pieces.sound has.one.listed
+      is : IsPieceInCell book cell (solid_of_contender has.contender) has.one.piece
+      is = All-contains (IsPieceInCell book cell (solid_of_contender has.contender)) has.contender.body.value.pieces.items has.one.piece (kept_one solids book cell fragments are has.contender has.listed).contends.pieces.sound has.one.listed
 
   -- a candidate has a piece in it
   pub contender_in_candidate : (n : ℕ) (h : Plane) → IsNumberedCandidate solids book cell n h → HasContenderIn contenders h
@@ -102,7 +102,7 @@ module _ (solids : List Solid) (book cell : List Plane) (fragments : Fragments) 
         piece = record { piece = at.piece; listed = at.listed_piece; lies_in = λ x r. subst (λ (g : Plane). IsOn g x) (sym at.plane) r.on };
       }
 
-  module _ (g : Plane) (half : Fragments) (cell_is : cell_of half ≡ cell_of fragments ++ g ∷ []) (inner : HasPoint (cell ++ g ∷ [])) (gathered : IsGathered book (cell ++ g ∷ []) before (map solid_of contenders) half.gathering) where
+  module _ (g : Plane) (half : Fragments) (cell_is : cell_of_fragments half ≡ cell_of_fragments fragments ++ g ∷ []) (inner : HasPoint (cell ++ g ∷ [])) (gathered : IsGathered book (cell ++ g ∷ []) before (map solid_of_contender contenders) half.gathering) where
     abbrev beyond : List Plane
     beyond = cell ++ g ∷ []
 
@@ -122,8 +122,8 @@ module _ (solids : List Solid) (book cell : List Plane) (fragments : Fragments) 
       cell_is = cell_is ∙ ap (λ (hs : List Plane). hs ++ g ∷ []) are.cell_is;
       inner = inner;
       given = ⊎_elim (λ same. still_given half.gathering.strongest same are.given) (λ by. inr (by.0, listed_solid by.0 by.1, by.2, by.3)) gathered.given;
-      kept = All-weaker (IsKeptContender (map solid_of contenders) book beyond half.gathering.strongest) (IsKeptContender solids book beyond half.gathering.strongest)
-          (λ q kept. record { listed = listed_solid (solid_of q) kept.listed; contends = kept.contends; stronger = kept.stronger }) half.gathering.contenders.items gathered.kept;
+      kept = All-weaker (IsKeptContender (map solid_of_contender contenders) book beyond half.gathering.strongest) (IsKeptContender solids book beyond half.gathering.strongest)
+          (λ q kept. record { listed = listed_solid (solid_of_contender q) kept.listed; contends = kept.contends; stronger = kept.stronger }) half.gathering.contenders.items gathered.kept;
       accounted = λ solid listed full. ⊎_elim
           (λ reached. inl (gathered.no_weaker solid.contents reached))
           (λ rest. ⊎_elim (λ stays. gathered.accounted solid stays full) (λ outside. inr (inr (λ x in_cube inside. outside x in_cube (in_cell_of_beyond x inside)))) rest)

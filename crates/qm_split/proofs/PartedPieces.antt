@@ -15,10 +15,10 @@ use Rattle.qm_convex.specs.Cut.{IsPartInFront}
 use Rattle.qm_convex.proofs.Central.{has_a_point}
 use Rattle.qm_wind.specs.Split.{IsFrontOf}
 use Rattle.qm_solids.specs.Solid.{Solid}
-use Rattle.qm_solids.specs.Candidates.{LiesOn, IsOnFace}
+use Rattle.qm_solids.specs.Candidates.{IsSamePlane, IsOnFace}
 use Rattle.qm_solids.specs.Uniform.{MeetsNoFace}
 use Rattle.qm_split.specs.declared.piece.Piece.{Piece}
-use Rattle.qm_split.specs.Pieces.{IsPiece, HasPointOfFace, ArePieces}
+use Rattle.qm_split.specs.Pieces.{IsPieceInCell, HasPointOfFace, ArePiecesInCell}
 use Rattle.qm_split.proofs.ListedItems.{all_of_listed}
 use Rattle.qm_split.specs.inner.PieceParts.{IsFrontPiece, IsPartOf, IsNumberedPiece, AreFront}
 
@@ -115,7 +115,7 @@ none_in_front ps g none = record {
 
 -- ---- the pieces of a cell
 
-module _ (book cell : List Plane) (solid : Solid) (ps qs : List Piece) (g : Plane) (are : ArePieces book cell solid ps) (front : AreFront ps g qs) where
+module _ (book cell : List Plane) (solid : Solid) (ps qs : List Piece) (g : Plane) (are : ArePiecesInCell book cell solid ps) (front : AreFront ps g qs) where
   abbrev beyond : List Plane
   beyond = cell ++ g ∷ []
 
@@ -131,12 +131,12 @@ module _ (book cell : List Plane) (solid : Solid) (ps qs : List Piece) (g : Plan
   face_beyond : (h : Plane) (x : Point) → IsOnFace solid cell h x → IsInFront g x → IsOnFace solid beyond h x
   face_beyond h x on ahead = record { in_cube = on.in_cube; in_cell = All-push (λ f. IsInFront f x) cell g on.in_cell ahead; on = on.on; behind_others = on.behind_others }
 
-  sound_one : (p q : Piece) → IsPiece book cell solid p → IsFrontPiece p g q → IsPiece book beyond solid q
+  sound_one : (p q : Piece) → IsPieceInCell book cell solid p → IsFrontPiece p g q → IsPieceInCell book beyond solid q
   sound_one p q is part = record {
     numbered = ap (slice_get book) part.number ∙ is.numbered ∙ ap (λ (h : Plane). Some h) (sym part.part.plane);
     face = is.face;
     has_face = is.has_face;
-    lies_on = subst (λ (h : Plane). LiesOn is.face h) (sym part.part.plane) is.lies_on;
+    lies_on = subst (λ (h : Plane). IsSamePlane is.face h) (sym part.part.plane) is.lies_on;
     convex = part.part.convex;
     reduced = subst IsReduced (sym part.part.plane) is.reduced;
     points = λ x. (
@@ -147,10 +147,10 @@ module _ (book cell : List Plane) (solid : Solid) (ps qs : List Piece) (g : Plan
     );
   }
 
-  sound_listed : (q : Piece) → Contains qs q → IsPiece book beyond solid q
+  sound_listed : (q : Piece) → Contains qs q → IsPieceInCell book beyond solid q
   sound_listed q among =
       let c = front.each q among in
-      sound_one c.piece q (All-contains (IsPiece book cell solid) ps c.piece are.sound c.listed) c.is
+      sound_one c.piece q (All-contains (IsPieceInCell book cell solid) ps c.piece are.sound c.listed) c.is
 
   complete_at : (face : Plane) (x : Point) → Contains solid.outward face → IsOnFace solid beyond face x → HasPointOfFace face x qs
   complete_at face x has on =
@@ -160,15 +160,15 @@ module _ (book cell : List Plane) (solid : Solid) (ps qs : List Piece) (g : Plan
       (λ goes. record {
         piece = goes.piece;
         listed = goes.listed;
-        lies_on = subst (λ (h : Plane). LiesOn face h) (sym goes.is.part.plane) found.lies_on;
+        lies_on = subst (λ (h : Plane). IsSamePlane face h) (sym goes.is.part.plane) found.lies_on;
         has = (goes.is.part.points x).1 (found.has, in_front_of_beyond x on.in_cell);
       })
       (front.all found.piece found.listed)
 
   -- what the pieces have in front of a plane are the pieces of the part of the cell there
-  pub pieces_in_front : ArePieces book beyond solid qs
-  pieces_in_front = record { sound = all_of_listed (IsPiece book beyond solid) qs sound_listed; complete = complete_at }
+  pub pieces_in_front : ArePiecesInCell book beyond solid qs
+  pieces_in_front = record { sound = all_of_listed (IsPieceInCell book beyond solid) qs sound_listed; complete = complete_at }
 
 -- a cell without pieces of a solid meets no face of it
-pub meets_no_face : (book cell : List Plane) (solid : Solid) → ArePieces book cell solid [] → MeetsNoFace solid cell
+pub meets_no_face : (book cell : List Plane) (solid : Solid) → ArePiecesInCell book cell solid [] → MeetsNoFace solid cell
 meets_no_face book cell solid are face x has on = let found = are.complete face x has on in absurd (Contains-nil found.piece found.listed)

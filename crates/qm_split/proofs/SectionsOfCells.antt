@@ -9,7 +9,7 @@ use Rattle.qm_convex.specs.Sides.{HasNoneInFront, IsWhollyInFront}
 use Rattle.qm_convex.specs.Cut.{IsPartInFront, IsPartWithin}
 use Rattle.qm_convex.specs.World.{MissesCube, IsWorldPart}
 use Rattle.qm_split.specs.CellFragments.{HasPointOn}
-use Rattle.qm_split.specs.inner.Parts.{IsSection, HasNoneWithin}
+use Rattle.qm_split.specs.inner.Parts.{LiesInCell, HasNoneWithin}
 
 -- a winding wholly in front of a plane is what it has there
 pub part_itself : (w : Winding) (g : Plane) → IsConvex w → IsWhollyInFront w g → IsPartInFront w w g
@@ -46,7 +46,7 @@ module _ (cell : List Plane) (h : Plane) (has : HasPointOn cell h) where
     pub some_within : HasNoneWithin whole cell → ⊥
     some_within none = none has.point ((part.points has.point).1 (has.on, has.in_cube)) has.in_cell
 
-    pub section_within : (w : Winding) → IsPartWithin w whole cell → IsSection cell h w
+    pub section_within : (w : Winding) → IsPartWithin w whole cell → LiesInCell cell h w
     section_within w are = record {
       convex = are.convex;
       on = λ x r. ((part.points x).0 ((are.points x).0 r).0).0;

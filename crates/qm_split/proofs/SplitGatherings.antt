@@ -10,21 +10,21 @@ use Rattle.qm_solids.specs.Solid.{Solid}
 use Rattle.qm_split.specs.declared.contender.Contender.{Contender}
 use Rattle.qm_split.specs.declared.contender.Part.{Part}
 use Rattle.qm_split.specs.declared.gathering.Gathering.{Gathering}
-use Rattle.qm_split.specs.Pieces.{solid_of, IsContender}
+use Rattle.qm_split.specs.Pieces.{solid_of_contender, IsContender}
 use Rattle.qm_split.specs.CellFragments.{pieces_of}
-use Rattle.qm_split.specs.inner.Parts.{IsSection, IsPartIn, part_count, HasPieceIn, IsShortened}
+use Rattle.qm_split.specs.inner.Parts.{LiesInCell, IsPartIn, part_count, HasPieceIn, IsShortened}
 use Rattle.qm_split.specs.inner.Gathered.{IsGathered, HasFewer}
 use Rattle.qm_split.proofs.Gatherings.{pieces_of-push}
 
 -- what is gathered in front of the plane g of a cell that the plane h parts
 abbrev pub IsGatheredSide : Option Contents → Plane → Plane → Winding → List Contender → Gathering → Type 0
 IsGatheredSide before h g w done gathering =
-    (book cell : List Plane) → All (IsContender book cell) done → IsSection cell h w → IsGathered book (cell ++ g ∷ []) before (map solid_of done) gathering
+    (book cell : List Plane) → All (IsContender book cell) done → LiesInCell cell h w → IsGathered book (cell ++ g ∷ []) before (map solid_of_contender done) gathering
 
 -- what one contender is there
 abbrev pub IsPartOfSide : Plane → Plane → Winding → Contender → Part → Type 0
 IsPartOfSide h g w contender part =
-    (book cell : List Plane) → IsContender book cell contender → IsSection cell h w → IsPartIn book (cell ++ g ∷ []) (solid_of contender) part
+    (book cell : List Plane) → IsContender book cell contender → LiesInCell cell h w → IsPartIn book (cell ++ g ∷ []) (solid_of_contender contender) part
 
 abbrev pub IsAddedTo : Gathering → Part → Gathering → Type 0
 IsAddedTo old part new =
@@ -38,8 +38,8 @@ module _ (before : Option Contents) (h g : Plane) (w : Winding) where
   pub side_more : (done : List Contender) (contender : Contender) (part : Part) (old new : Gathering) → IsGatheredSide before h g w done old → IsPartOfSide h g w contender part → IsAddedTo old part new →
       IsGatheredSide before h g w (done ++ contender ∷ []) new
   side_more done contender part old new are is added book cell all section =
-      subst (λ (ss : List Solid). IsGathered book (cell ++ g ∷ []) before ss new) (sym (map-append solid_of done (contender ∷ [])))
-      (added book (cell ++ g ∷ []) before (map solid_of done) (solid_of contender)
+      subst (λ (ss : List Solid). IsGathered book (cell ++ g ∷ []) before ss new) (sym (map-append solid_of_contender done (contender ∷ [])))
+      (added book (cell ++ g ∷ []) before (map solid_of_contender done) (solid_of_contender contender)
       (are book cell (All-first_part (IsContender book cell) done (contender ∷ []) all) section)
       (is book cell (All-contains (IsContender book cell) (done ++ contender ∷ []) contender all (Contains-push done contender)) section))
 

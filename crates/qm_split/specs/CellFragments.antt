@@ -11,13 +11,13 @@ use Rattle.qm_solids.specs.Cells.{ContainsCell}
 use Rattle.qm_solids.specs.Uniform.{LiesOutside}
 use Rattle.qm_split.specs.declared.contender.Contender.{Contender}
 use Rattle.qm_split.specs.declared.fragments.Fragments.{Fragments}
-use Rattle.qm_split.specs.Pieces.{solid_of, IsContender}
+use Rattle.qm_split.specs.Pieces.{solid_of_contender, IsContender}
 
 -- What fragments keep of a cell.
 
 -- the planes of the cell
-abbrev pub cell_of : Fragments → List Plane
-cell_of fragments = fragments.cell.items
+abbrev pub cell_of_fragments : Fragments → List Plane
+cell_of_fragments fragments = fragments.cell.items
 
 -- how many pieces some contenders have
 abbrev pub pieces_of : List Contender → ℕ
@@ -35,8 +35,8 @@ pub record HasPointOn (cell : List Plane) (h : Plane) : Type 0 where
   pub on : IsOn h point
 
 -- contents are known that are at least as strong
-abbrev pub IsReached : Option Contents → Contents → Type 0
-IsReached strongest contents = IsSomeAnd strongest (λ known. IsAtMost contents known)
+abbrev pub IsAtMostKnown : Option Contents → Contents → Type 0
+IsAtMostKnown strongest contents = IsSomeAnd strongest (λ known. IsAtMost contents known)
 
 -- contents are known, if any, only of a solid that contains the cell
 abbrev pub AreOfSomeSolid : List Solid → List Plane → Option Contents → Type 0
@@ -47,18 +47,18 @@ AreOfSomeSolid solids cell strongest =
 -- point of the cell
 abbrev pub IsAccounted : List Plane → Option Contents → List Contender → Solid → Type 0
 IsAccounted cell strongest contenders solid =
-    IsReached strongest solid.contents ⊎ (Contains (map solid_of contenders) solid ⊎ LiesOutside solid cell)
+    IsAtMostKnown strongest solid.contents ⊎ (Contains (map solid_of_contender contenders) solid ⊎ LiesOutside solid cell)
 
 -- one of the solids, with its pieces, stronger than what is known to fill the cell
 pub record IsKeptContender (solids : List Solid) (book cell : List Plane) (strongest : Option Contents) (contender : Contender) : Type 0 where
-  pub listed : Contains solids (solid_of contender)
+  pub listed : Contains solids (solid_of_contender contender)
   pub contends : IsContender book cell contender
-  pub stronger : IsReached strongest contender.contents → ⊥
+  pub stronger : IsAtMostKnown strongest contender.contents → ⊥
 
 -- fragments of the faces of solids in a cell, by the planes of a book
 pub record AreFragmentsOf (solids : List Solid) (book cell : List Plane) (fragments : Fragments) : Type 0 where
   pub book_planes : AreBookPlanes book
-  pub cell_is : cell_of fragments ≡ cell
+  pub cell_is : cell_of_fragments fragments ≡ cell
   pub inner : HasPoint cell
   pub given : AreOfSomeSolid solids cell fragments.gathering.strongest
   pub kept : All (IsKeptContender solids book cell fragments.gathering.strongest) fragments.gathering.contenders.items

@@ -6,9 +6,9 @@ ghost use Rattle.qm_solids.specs.Cells.{CellHasContents};
 ghost use Rattle.qm_solids.specs.Least.{IsLeastCandidate};
 ghost use Rattle.qm_solids.specs.InBook.{solids_in, IsBookOf};
 ghost use Rattle.qm_solid_tree.specs.Division.{HasNoCandidate, front_of, back_of};
-ghost use Rattle.qm_split.specs.CellFragments.{AreFragmentsOf, cell_of, piece_count, HasPointOn};
+ghost use Rattle.qm_split.specs.CellFragments.{AreFragmentsOf, cell_of_fragments, piece_count, HasPointOn};
 ghost use Rattle.qm_split.specs.SplitCounts.{IsCandidatePlane};
-ghost use Rattle.qm_split.specs.inner.Parts.{IsSection};
+ghost use Rattle.qm_split.specs.inner.Parts.{LiesInCell};
 ghost use Rattle.qm_split.specs.inner.Halves.{IsHalf};
 
 use crate::gathering::{Gathering, Gatherings};
@@ -61,7 +61,7 @@ impl Fragments {
     /// What the cell has in front of a plane and behind it, for a plane that has a point of the cell. Where the plane is a
     /// candidate in the cell, both halves have fewer pieces.
     pub fn split(self, plane: &Plane) -> Result<CellHalves, AllocError>
-        requires point { HasPointOn (cell_of self) plane.now }
+        requires point { HasPointOn (cell_of_fragments self) plane.now }
         ensures front { IfOk result (λ halves. (solids : List Solid) (book cell : List Plane) →
             AreFragmentsOf solids book cell self → AreFragmentsOf solids book (front_of cell plane.now) halves.front) }
         ensures back { IfOk result (λ halves. (solids : List Solid) (book cell : List Plane) →
@@ -78,9 +78,9 @@ impl Fragments {
 
     /// A winding on a plane in the cell.
     fn section(&self, plane: &Plane) -> Result<Winding, AllocError>
-        requires { HasPointOn (cell_of self.now) plane.now }
+        requires { HasPointOn (cell_of_fragments self.now) plane.now }
         ensures { IfOk result (λ w. (solids : List Solid) (book cell : List Plane) →
-            AreFragmentsOf solids book cell self.now → IsSection cell plane.now w) }
+            AreFragmentsOf solids book cell self.now → LiesInCell cell plane.now w) }
     {
         match self.gathering.winding_on(plane) {
             Some(winding) => winding.copy(),

@@ -4,7 +4,7 @@ ghost use Rattle.qm_contents.specs.declared.contents.Contents.{Contents};
 ghost use Rattle.qm_solids.specs.declared.face.FaceRef.{FaceRef};
 ghost use Rattle.qm_solids.specs.Holding.{IsFull};
 ghost use Rattle.qm_solids.specs.Outward.{outward_of, outward_planes, AreNumberedIn};
-ghost use Rattle.qm_split.specs.Pieces.{ArePieces};
+ghost use Rattle.qm_split.specs.Pieces.{ArePiecesInCell};
 ghost use Rattle.qm_split.specs.inner.Parts.{IsPartIn};
 ghost use Rattle.qm_split.specs.inner.FacePieces.{solid_behind, IsFacePiece, HasNoFacePoint, HasAllBehind};
 
@@ -98,7 +98,7 @@ fn pieces_in_cube(
 ) -> Result<Vec<Piece>, AllocError>
     requires numbered { AreNumberedIn book.now faces.now }
     ensures { IfOk result (λ pieces. (contents : Contents) → IsFull (solid_behind book.now faces.now contents) →
-        ArePieces book.now [] (solid_behind book.now faces.now contents) pieces.items) }
+        ArePiecesInCell book.now [] (solid_behind book.now faces.now contents) pieces.items) }
 {
     let _planes = book.len();
     let mut pieces = Vec::new(alloc);

@@ -7,7 +7,7 @@ ghost use Rattle.qm_convex.specs.Sides.{HasNoneInFront};
 ghost use Rattle.qm_convex.specs.Cut.{IsPartInFront, IsPartWithin};
 ghost use Rattle.qm_wind.specs.Clipped.{is_front};
 ghost use Rattle.qm_split.specs.CellFragments.{HasPointOn};
-ghost use Rattle.qm_split.specs.inner.Parts.{IsSection, HasNoneWithin};
+ghost use Rattle.qm_split.specs.inner.Parts.{LiesInCell, HasNoneWithin};
 
 use qm_geom::Plane;
 use qm_wind::{Clip, Side, Winding};
@@ -20,7 +20,7 @@ pub(crate) fn section_of_cell(
     plane: &Plane,
 ) -> Result<Winding, AllocError>
     requires { HasPointOn cell.now plane.now }
-    ensures { IfOk result (IsSection cell.now plane.now) }
+    ensures { IfOk result (LiesInCell cell.now plane.now) }
 {
     match Winding::on(alloc, plane)? {
         Some(whole) => match within(whole, cell)? {

@@ -1,8 +1,8 @@
--- How a command ends that meets no fault of the outside.
+-- How a command ends that meets no fault of the surroundings.
 use Rattle.std.proofs.Common.{◌≡◌, ℕ, Bool, List, Ok, Err, Result, sym, subst, inl, inr, arith}
 use Rattle.std.specs.Prelude.{IsTrue}
 use Rattle.qm_shelf.specs.Counts.{Rose}
-use Rattle.qm_shelf.specs.Outside.{Outside}
+use Rattle.qm_shelf.specs.Surroundings.{Surroundings}
 use Rattle.qm_shelf.specs.ShelfState.{text_under}
 use Rattle.qm_mapfile.specs.declared.entity.MapFile.{MapFile}
 use Rattle.qm_grammar.specs.declared.fault.MapFault.{MapFault}
@@ -39,7 +39,7 @@ product_done Format map output none made = subst EndsDoneOrShortOfMemory (sym ma
 
 -- ---- what comes of a command that meets no fault
 
-module _ (words : List (List ℕ)) (before after : Outside) (its : Command) (files : FileNames) (is : IsCommand words its files) (met : MetNone before after files) where
+module _ (words : List (List ℕ)) (before after : Surroundings) (its : Command) (files : FileNames) (is : IsCommand words its files) (met : MetNone before after files) where
   ends_of : (status : Status) (text : List ℕ) → ComesOf before.shelf after.shelf its files status text → EndsWithoutFault status its
   ends_of status text (read_fault failed kept) = absurd (met.reading failed.rose)
   ends_of status text (map_fault means kept unmet) = tt
@@ -101,7 +101,7 @@ module _ (words : List (List ℕ)) (before after : Outside) (its : Command) (fil
     is_done WriteFault (inr fails) = absurd (met.printing fails.0)
     is_done Memory answers = tt
 
-pub complete : (words : List (List ℕ)) (before after : Outside) (status : Status) → Answers words before after status → IsComplete words before after status
+pub complete : (words : List (List ℕ)) (before after : Surroundings) (status : Status) → Answers words before after status → IsComplete words before after status
 complete words before after status answers = record {
   ends = λ its files is met. ends_well words before after its files is met status answers;
   done = λ tells its files is met map means tight. is_done words before after its files is met tells map means tight status answers;

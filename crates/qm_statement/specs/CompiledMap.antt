@@ -9,7 +9,7 @@ use Rattle.qm_contacts.specs.World.{World}
 use Rattle.qm_segments.specs.Segment.{Segment}
 use Rattle.qm_segments.specs.Ends.{IsLineOfSight, HoldLinesOfSight}
 use Rattle.qm_segments.specs.LedByPortals.{IsLedByPortals}
-use Rattle.qm_formats.specs.TreeFile.{TreeFile, IsValid}
+use Rattle.qm_formats.specs.TreeFile.{TreeFile, IsValidFile}
 use Rattle.qm_statement.specs.declared.options.Options.{Options}
 use Rattle.qm_statement.specs.declared.summary.Summary.{Summary}
 use Rattle.qm_statement.specs.Built.{IsBuilt}
@@ -47,7 +47,7 @@ pub record IsWithoutLeak (map : MapFile) (options : Options) (file : TreeFile) (
   pub has_rows : file.rows ≡ Some rows
   pub are_rows : AreRowsAsAsked options.fast world rows
   pub hold_sight : HoldLinesOfSight (HasContents (drawn_solids map)) file.tree rows
-  pub is_valid : IsValid file
+  pub is_valid : IsValidFile file
   pub is_summary : IsSummary map tree origins file.tree rows summary
 
 -- An entity leaks: the first such entity, and its trail. The tree is the map's, without rows, and can stand in a tree file.
@@ -56,4 +56,4 @@ pub record IsLeaking (map : MapFile) (file : TreeFile) (entity : ℕ) (trail : L
   pub is_built : IsBuilt map file.tree origins
   pub is_leak : IsLeak file.tree origins entity trail
   pub has_no_rows : file.rows ≡ None
-  pub is_valid : IsValid file
+  pub is_valid : IsValidFile file

@@ -1,6 +1,6 @@
 use Rattle.std.specs.Prelude.{◌≡◌, ℕ, IsTrue, List, Some}
 use Rattle.qm_shelf.specs.Counts.{Rose}
-use Rattle.qm_shelf.specs.Outside.{Outside}
+use Rattle.qm_shelf.specs.Surroundings.{Surroundings}
 use Rattle.qm_shelf.specs.ShelfState.{text_under}
 use Rattle.qm_mapfile.specs.declared.entity.MapFile.{MapFile}
 use Rattle.qm_grammar.specs.Meaning.{IsMapText}
@@ -15,11 +15,11 @@ use Rattle.qm_statement.specs.Command.{IsCommand}
 use Rattle.qm_statement.specs.CompiledMap.{NoneLeaks}
 use Rattle.qm_statement.specs.FileNames.{FileNames}
 
--- How a command ends that meets no fault of the outside.
+-- How a command ends that meets no fault of the surroundings.
 
 -- none of the counts of faults rose that the command can raise: those of reading MAP, of writing OUT and FILE and of
 -- printing
-pub record MetNone (before after : Outside) (files : FileNames) : Type 0 where
+pub record MetNone (before after : Surroundings) (files : FileNames) : Type 0 where
   pub reading : Rose (before.shelf.read_faults files.map_name) (after.shelf.read_faults files.map_name) → ⊥
   pub writing : Rose (before.shelf.write_faults files.out_name) (after.shelf.write_faults files.out_name) → ⊥
   pub listing : (name : List ℕ) → files.listing_name ≡ Some name → Rose (before.shelf.write_faults name) (after.shelf.write_faults name) → ⊥
@@ -48,7 +48,7 @@ EndsDoneOrShortOfMemory _ = ⊥
 
 -- where the words are a command that meets no fault, the status is one of the first of these ends; and where the text that
 -- the shelf holds is a map, and no leak stops the command, it is one of the second
-pub record IsComplete (words : List (List ℕ)) (before after : Outside) (status : Status) : Type 0 where
+pub record IsComplete (words : List (List ℕ)) (before after : Surroundings) (status : Status) : Type 0 where
   pub ends : (command : Command) (files : FileNames) → IsCommand words command files →
       MetNone before after files → EndsWithoutFault status command
   pub done : IsTrue before.shelf.tells → (command : Command) (files : FileNames) → IsCommand words command files →

@@ -2,7 +2,7 @@ use Rattle.std.specs.Prelude.{◌≡◌, ◌≤◌, ◌⊎◌, ℕ, Bool, true, 
 use Rattle.qm_mapfile.specs.declared.entity.MapFile.{MapFile}
 use Rattle.qm_grammar.specs.Faults.{text_limit}
 use Rattle.qm_grammar.specs.Meaning.{IsMapText}
-use Rattle.qm_mapout.specs.Printed.{printed}
+use Rattle.qm_mapout.specs.Printed.{printed_map}
 use Rattle.qm_contacts.specs.World.{World}
 use Rattle.qm_formats.specs.TreeFile.{TreeFile}
 use Rattle.qm_listing.specs.declared.listing.Listing.{Listing}
@@ -58,8 +58,8 @@ pub record IsLeakOutput (map : MapFile) (output : Output) : Type 0 where
 
 -- `format`: the canonical text of the map, and its counts; the text means the map, where it is within the limit
 pub record IsFormatOutput (map : MapFile) (output : Output) : Type 0 where
-  pub is_file : output.file ≡ printed map
-  pub means_the_map : length (printed map) ≤ text_limit → IsMapText (printed map) map
+  pub is_file : output.file ≡ printed_map map
+  pub means_the_map : length (printed_map map) ≤ text_limit → IsMapText (printed_map map) map
   pub is_not_listed : output.listing ≡ None
   pub is_status : output.status ≡ Done
   pub is_text : output.text ≡ format_summary map

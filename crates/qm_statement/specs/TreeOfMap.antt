@@ -1,7 +1,7 @@
 use Rattle.std.specs.Prelude.{List, []}
 use Rattle.qm_space.specs.Plane.{Plane}
 use Rattle.qm_mapfile.specs.declared.entity.MapFile.{MapFile}
-use Rattle.qm_geom.specs.Planes.{AreEntered}
+use Rattle.qm_geom.specs.Planes.{AreEnteredInBook}
 use Rattle.qm_brush.specs.Planes.{drawn_planes}
 use Rattle.qm_brush.specs.Solids.{drawn_solids}
 use Rattle.qm_partition.specs.Tree.{Tree}
@@ -11,5 +11,5 @@ use Rattle.qm_solid_tree.specs.TreeOf.{IsTreeOf}
 -- tree is the one that the map's drawn solids define with that book
 pub record IsTreeOfMap (map : MapFile) (tree : Tree) : Type 0 where
   pub book : List Plane
-  pub entered : AreEntered [] (drawn_planes map) book
+  pub entered : AreEnteredInBook [] (drawn_planes map) book
   pub is_tree : IsTreeOf (drawn_solids map) book tree

@@ -3,7 +3,7 @@ use Rattle.std.proofs.Common.{◌≡◌, ℕ, ℤ, ◌<◌, ◌≤◌, ◌*◌, 
 use Rattle.std.proofs.lemmas.Int.{ints}
 use Rattle.qm_space.specs.Bounds.{rounded_bound}
 use Rattle.qm_space.specs.Point.{Point}
-use Rattle.qm_geom.specs.Rounding.{HasSmallCoordinates}
+use Rattle.qm_space.specs.Coordinates.{HasSmallCoordinates}
 use Rattle.qm_convex.specs.Winding.{Winding, corner_at}
 use Rattle.qm_convex.specs.Vertex.{IsVertex}
 use Rattle.qm_convex.specs.World.{IsInWorld}

@@ -2,7 +2,7 @@ ghost use Rattle.std.specs.Prelude.{◌≡◌, neg_ℤ, MatchBool};
 ghost use Rattle.qm_space.specs.Point.{IsCoordinate};
 ghost use Rattle.qm_space.specs.Cube.{mirrored, cube_walls};
 ghost use Rattle.qm_convex.specs.Section.{AreAxialBounds};
-ghost use Rattle.qm_convex.specs.inner.Parallelogram.{AreApart};
+ghost use Rattle.qm_convex.specs.inner.Parallelogram.{LeaveRoom};
 ghost use Rattle.qm_wind.specs.inner.AxialCells.{bounds_of, IsOpen, LeaveNone, IsShut, axial_cuboid};
 
 use crate::walls::{mirrored, wall_x, wall_y, wall_z};
@@ -36,7 +36,7 @@ impl Opposites {
 
     /// Whether there is room between them.
     fn stand_apart(&self) -> bool
-        ensures { MatchBool result (AreApart self.now.near self.now.far) (LeaveNone self.now) }
+        ensures { MatchBool result (LeaveRoom self.now.near self.now.far) (LeaveNone self.now) }
     {
         let _ = &self.near.d;
         let _ = &self.far.d;

@@ -1,6 +1,6 @@
 ghost use Rattle.std.specs.Prelude.{◌≡◌, ◌<◌, ◌≤◌, ◌↔◌, length, IsTrue, IfOk, OnOk, OnErr, MatchOption};
 ghost use Rattle.qm_space.specs.Turned.{turned};
-ghost use Rattle.qm_geom.specs.Rounding.{HasSmallCoordinates};
+ghost use Rattle.qm_space.specs.Coordinates.{HasSmallCoordinates};
 ghost use Rattle.qm_convex.specs.Winding.{Winding as WindingValue, corner_at};
 ghost use Rattle.qm_convex.specs.Vertex.{IsVertex, HasVerticesAsCorners};
 ghost use Rattle.qm_convex.specs.Cut.{IsPartInFront};

@@ -1,5 +1,5 @@
 ghost use Rattle.std.specs.Prelude.{IfOk};
-ghost use Rattle.qm_grammar.specs.Valid.{IsValid};
+ghost use Rattle.qm_grammar.specs.Valid.{IsValidMap};
 
 use qm_map::{MapFault, parse};
 use qm_mapfile::MapFile;
@@ -7,7 +7,7 @@ use std::alloc::{AllocError, Global};
 
 /// What a text means, unless memory runs out: so a test tells want of memory from a wrong answer.
 pub(crate) fn read(alloc: Global, text: &[u8]) -> Result<Result<MapFile, MapFault>, AllocError>
-    ensures { IfOk result (λ meaning. IfOk meaning IsValid) }
+    ensures { IfOk result (λ meaning. IfOk meaning IsValidMap) }
 {
     match parse(alloc, text) {
         Err(MapFault::Memory) => Err(AllocError),

@@ -1,4 +1,5 @@
-use qm_decimal::{Fraction, NumberFault, print6, read};
+use qm_decimal::{print6, read};
+use qm_numerals::{Fraction, NumberFault};
 use std::alloc::{AllocError, Global};
 use std::test::Fail;
 

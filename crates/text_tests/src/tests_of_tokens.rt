@@ -1,4 +1,5 @@
-use qm_lex::{LexFault, Lexer, Token, TokenKind};
+use qm_lex::Lexer;
+use qm_tokens::{LexFault, Token, TokenKind};
 
 /// The numbers of a token: 1 where it is quoted, its offsets and its line.
 fn numbers(token: Token) -> [u64; 4] {

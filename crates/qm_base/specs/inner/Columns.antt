@@ -1,11 +1,11 @@
 -- How the rows of lanes are made of words for leaves.
 use Rattle.std.specs.Prelude.{◌≡◌, ℕ, ◌*◌, ◌<◌, ◌≤◌, ◌↔◌, true, Bool, List, length}
 use Rattle.qm_lists.specs.WorkList.{IsIn}
-use Rattle.qm_bits.specs.Word.{has_bit}
+use Rattle.qm_lists.specs.Word.{has_bit}
 use Rattle.qm_base.specs.inner.Sweeping.{IsInLane}
 
 -- the row has all of so many places
-pub record IsFull (count : ℕ) (row : List Bool) : Type 0 where
+pub record IsFullRow (count : ℕ) (row : List Bool) : Type 0 where
   pub wide : length row ≡ count
   pub each : (place : ℕ) → place < count → IsIn row place
 

@@ -5,7 +5,7 @@ use Rattle.qm_contacts.specs.World.{World}
 use Rattle.qm_base.specs.inner.Following.{leaves_of_world}
 
 -- a leaf for each portal: the one that it enters
-pub record AreEntered (world : World) (entered : List ℕ) : Type 0 where
+pub record AreEnteredLeaves (world : World) (entered : List ℕ) : Type 0 where
   pub one_each : length entered ≡ length world.portals
   pub within : All (λ leaf. leaf < leaves_of_world world) entered
   pub each : (q : ℕ) (portal : Portal) → slice_get world.portals q ≡ Some portal → slice_index_or entered q 0 ≡ portal.to

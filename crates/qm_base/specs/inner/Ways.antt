@@ -1,7 +1,7 @@
 -- Which lanes of a block of 64 a portal may follow, as the bits of a word.
 use Rattle.std.specs.Prelude.{◌≡◌, ℕ, ◌+◌, ◌*◌, ◌<◌, ◌↔◌, true, List, Some, take, drop, length, slice_get, slice_index_or, Contains}
 use Rattle.qm_lists.specs.WorkList.{IsIn}
-use Rattle.qm_bits.specs.Word.{has_bit}
+use Rattle.qm_lists.specs.Word.{has_bit}
 use Rattle.qm_contacts.specs.Portals.{Portal}
 use Rattle.qm_base.specs.declared.lane.Lane.{Lane}
 use Rattle.qm_base.specs.declared.beside.Beside.{Beside}
@@ -23,7 +23,7 @@ pub record IsAheadOf (table : List Beside) (runs : List Run) (k j : ℕ) : Type 
 
 -- lane j of the block has a corner behind the turned plane of the lane at the place k, which has one in front of that of
 -- lane j
-pub record MayPass (kinds : List Kind) (table : List Beside) (block k j : ℕ) : Type 0 where
+pub record MayFollowInBlock (kinds : List Kind) (table : List Beside) (block k j : ℕ) : Type 0 where
   pub kind : Kind
   pub own : Kind
   pub kind_is : slice_get (block_of block kinds) j ≡ Some kind
@@ -32,7 +32,7 @@ pub record MayPass (kinds : List Kind) (table : List Beside) (block k j : ℕ) :
   pub ahead : IsIn (ahead table kind) k
 
 pub record IsWay (kinds : List Kind) (table : List Beside) (block k way : ℕ) : Type 0 where
-  pub exactly : (j : ℕ) → (has_bit way j ≡ true) ↔ MayPass kinds table block k j
+  pub exactly : (j : ℕ) → (has_bit way j ≡ true) ↔ MayFollowInBlock kinds table block k j
 
 -- the portal may follow the lane j of the block
 pub record FollowsLane (portals : List Portal) (lanes : List Lane) (block q j : ℕ) : Type 0 where

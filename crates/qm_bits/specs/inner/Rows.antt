@@ -2,7 +2,7 @@
 use Rattle.std.specs.Prelude.{◌≡◌, ℕ, ◌/◌, ◌%◌, ◌^◌, ◌<◌, ◌≤◌, Bool, false, List, map, length, slice_index_or}
 use Rattle.std.specs.Int.{div_ceil}
 use Rattle.std.specs.List.{range_with_len}
-use Rattle.qm_bits.specs.Word.{has_bit}
+use Rattle.qm_lists.specs.Word.{has_bit}
 
 -- whether the bit of the place is set, in the word in which it lies
 unfoldable pub is_set : List ℕ → ℕ → Bool

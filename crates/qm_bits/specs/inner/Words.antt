@@ -1,5 +1,5 @@
 -- What is done with words one by one.
-use Rattle.std.specs.Prelude.{◌≡◌, ℕ, ◌*◌, ◌<◌, ◌≤◌, true, false, List, length, slice_index_or, bit_or, bit_and}
+use Rattle.std.specs.Prelude.{◌≡◌, ℕ, ◌*◌, ◌<◌, ◌≤◌, true, false, List, length, slice_index_or, bit_and}
 use Rattle.std.specs.Int.{bit_not, w64}
 use Rattle.std.specs.List.{count_by}
 use Rattle.qm_bits.specs.inner.Rows.{is_set, row_of}
@@ -8,15 +8,15 @@ use Rattle.qm_bits.specs.inner.Rows.{is_set, row_of}
 unfoldable pub ones_of : ℕ → List ℕ → ℕ
 ones_of count words = count_by (λ set. set) (row_of words (64 * count))
 
--- each word has the bits of both
-pub record IsOr (old other new : List ℕ) : Type 0 where
+-- each word is made of those of both
+pub record IsOfBoth (of : ℕ → ℕ → ℕ) (old other new : List ℕ) : Type 0 where
   pub same_count : length new ≡ length old
-  pub each : (k : ℕ) → k < length old → slice_index_or new k 0 ≡ bit_or (slice_index_or old k 0) (slice_index_or other k 0)
+  pub each : (k : ℕ) → k < length old → slice_index_or new k 0 ≡ of (slice_index_or old k 0) (slice_index_or other k 0)
 
--- the first words have the bits of both, and the others are as they were
-pub record IsOrBelow (count : ℕ) (old other new : List ℕ) : Type 0 where
+-- so are the first words, and the others are as they were
+pub record IsOfBothBelow (of : ℕ → ℕ → ℕ) (count : ℕ) (old other new : List ℕ) : Type 0 where
   pub same_count : length new ≡ length old
-  pub done : (k : ℕ) → k < count → slice_index_or new k 0 ≡ bit_or (slice_index_or old k 0) (slice_index_or other k 0)
+  pub done : (k : ℕ) → k < count → slice_index_or new k 0 ≡ of (slice_index_or old k 0) (slice_index_or other k 0)
   pub left : (k : ℕ) → count ≤ k → slice_index_or new k 0 ≡ slice_index_or old k 0
 
 -- some place is set in the words and clear in those that were seen

@@ -3,23 +3,23 @@ use Rattle.std.specs.Prelude.{flat_map, filter}
 use Rattle.std.specs.List.{AllZip, filter_map}
 use Rattle.qm_space.specs.Plane.{Plane}
 use Rattle.qm_space.specs.Book.{AreBookPlanes}
-use Rattle.qm_geom.specs.Planes.{AreEntered}
+use Rattle.qm_geom.specs.Planes.{AreEnteredInBook}
 use Rattle.qm_mapfile.specs.declared.entity.Brush.{Brush}
 use Rattle.qm_contents.specs.declared.contents.Contents.{Contents}
 use Rattle.qm_solids.specs.Alike.{IsAlike}
 use Rattle.qm_solids.specs.InBook.{BookSolid, solid_in, solids_in, IsKeptIn}
 use Rattle.qm_brush.specs.Brushes.{contents_of_brush, is_drawn}
-use Rattle.qm_brush.specs.Solids.{filled_with, solid_of}
+use Rattle.qm_brush.specs.Solids.{filled_with, solid_of_brush}
 use Rattle.qm_brush.specs.Planes.{planes_of_brush}
 
 -- a brush with these contents was added at the end of a list, and the planes of its faces entered
-pub record IsAdded (brush : Brush) (contents : Contents) (before after : List BookSolid) (old new : List Plane) : Type 0 where
+pub record IsBrushAdded (brush : Brush) (contents : Contents) (before after : List BookSolid) (old new : List Plane) : Type 0 where
   pub its : BookSolid
   pub added : after ≡ before ++ its ∷ []
   pub kept : IsKeptIn new its
   pub alike : IsAlike (filled_with brush contents) (solid_in new its)
   pub planes : AreBookPlanes new
-  pub entered : AreEntered old (planes_of_brush brush) new
+  pub entered : AreEnteredInBook old (planes_of_brush brush) new
 
 -- a clip brush adds nothing
 pub record IsLeftOut (before after : List BookSolid) (old new : List Plane) : Type 0 where
@@ -28,11 +28,11 @@ pub record IsLeftOut (before after : List BookSolid) (old new : List Plane) : Ty
 
 abbrev pub IsAddedIfDrawn : Brush → List BookSolid → List BookSolid → List Plane → List Plane → Type 0
 IsAddedIfDrawn brush before after old new =
-    MatchOption (contents_of_brush brush) (IsLeftOut before after old new) (λ contents. IsAdded brush contents before after old new)
+    MatchOption (contents_of_brush brush) (IsLeftOut before after old new) (λ contents. IsBrushAdded brush contents before after old new)
 
 -- the list has the solids of those brushes that are drawn, and the planes of their faces entered
 pub record AreAdded (brushes : List Brush) (list : List BookSolid) (old new : List Plane) : Type 0 where
-  pub solids : AllZip IsAlike (filter_map solid_of brushes) (solids_in new list)
+  pub solids : AllZip IsAlike (filter_map solid_of_brush brushes) (solids_in new list)
   pub kept : All (IsKeptIn new) list
   pub planes : AreBookPlanes new
-  pub entered : AreEntered old (flat_map planes_of_brush (filter is_drawn brushes)) new
+  pub entered : AreEnteredInBook old (flat_map planes_of_brush (filter is_drawn brushes)) new

@@ -2,7 +2,7 @@ use Rattle.std.specs.Prelude.{◌≡◌, ℕ, Bool, List, [], ◌∷◌, ◌++�
 use Rattle.std.specs.Prelude.{map as mapped}
 use Rattle.qm_space.specs.Plane.{Plane}
 use Rattle.qm_space.specs.Turned.{turned}
-use Rattle.qm_geom.specs.Planes.{Enters, AreEntered}
+use Rattle.qm_geom.specs.Planes.{EntersBook, AreEnteredInBook}
 use Rattle.qm_mapfile.specs.declared.face.Face.{Face}
 use Rattle.qm_mapfile.specs.Face.{face_plane}
 use Rattle.qm_solids.specs.declared.face.FaceRef.{FaceRef}
@@ -24,12 +24,12 @@ pub record AreFirstEntered (old planes new : List Plane) : Type 0 where
   pub first : List Plane
   pub rest : List Plane
   pub parts : planes ≡ first ++ rest
-  pub entered : AreEntered old first new
+  pub entered : AreEnteredInBook old first new
 
 -- a face was added at the end of a list of faces, and its plane entered
 pub record IsFaceEntered (face : Face) (before after : List FaceRef) (old new : List Plane) : Type 0 where
   pub number : ℕ
-  pub enters : Enters old new (plane_of_face face) number
+  pub enters : EntersBook old new (plane_of_face face) number
   pub added : after ≡ before ++ record { plane = number; out_is_front = is_out_front face } ∷ []
 
 -- faces were added at the end of a list of faces, and their planes entered
@@ -38,4 +38,4 @@ pub record AreFacesEntered (faces : List Face) (before after : List FaceRef) (ol
   pub added : after ≡ before ++ its
   pub numbered : AreNumberedIn new its
   pub outward : outward_planes new its ≡ mapped turned_outward faces
-  pub entered : AreEntered old (mapped plane_of_face faces) new
+  pub entered : AreEnteredInBook old (mapped plane_of_face faces) new

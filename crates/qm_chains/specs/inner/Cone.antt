@@ -1,6 +1,6 @@
 use Rattle.std.specs.Prelude.{◌≡◌, ◌⊎◌, ◌↔◌, ℕ, ◌+◌, ◌/◌, ◌<◌, ◌≤◌, Bool, false, not, List, length, slice_index_or, Contains, Option, MatchOption}
 use Rattle.std.specs.List.{count_by}
-use Rattle.qm_bits.specs.Unseen.{HasUnseen}
+use Rattle.qm_lists.specs.Unseen.{HasUnseen}
 use Rattle.qm_lists.specs.Reach.{Reach}
 use Rattle.qm_lists.specs.WorkList.{IsIn}
 use Rattle.qm_contacts.specs.NumberedLeaves.{numbered_leaves}
@@ -76,12 +76,7 @@ pub record AreEntered (goes : ℕ → Type 0) (old new : List Bool) (old_due new
   pub all : (to : ℕ) → goes to → IsIn new to
   pub weight : count_by not new + length new_due ≡ count_by not old + length old_due
 
--- a row keeps those of its places that another one has
-pub record IsCutTo (other old new : List Bool) : Type 0 where
-  pub same_length : length new ≡ length old
-  pub exactly : (n : ℕ) → IsIn new n ↔ IsIn old n × IsIn other n
-
--- so far, by the first words of the rows
+-- a row is cut to another one so far, by the first words of both
 pub record IsCutUpTo (words : ℕ) (other old new : List Bool) : Type 0 where
   pub same_length : length new ≡ length old
   pub done : (n : ℕ) → n / 64 < words → IsIn new n ↔ IsIn old n × IsIn other n

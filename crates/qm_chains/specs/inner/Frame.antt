@@ -9,7 +9,7 @@ use Rattle.qm_segments.specs.SeenVia.{IsSeenVia}
 use Rattle.qm_segments.specs.OpenChain.{leaves_met, IsOpenChain}
 use Rattle.qm_segments.specs.Ahead.{IsAhead}
 use Rattle.qm_separators.specs.ChainState.{ChainState}
-use Rattle.qm_separators.specs.PortalSteps.{BeginsWith, GoesOn, BlocksAt, LetsPass, MeetsState}
+use Rattle.qm_separators.specs.PortalSteps.{BeginsWith, StepsThrough, BlocksAt, LetsPass, MeetsState}
 use Rattle.qm_chains.specs.Shown.{IsAt}
 
 -- A place in a walk of open chains.
@@ -33,7 +33,7 @@ pub record EndsChain (world : World) (MayHave : ℕ → ℕ → Type 0) (p : ℕ
   pub first_is : IsAt world.portals p first
   pub last : Portal
   pub before : List Portal
-  pub open_chain : IsOpenChain BeginsWith GoesOn world.portals first (last ∷ before) frame.state
+  pub open_chain : IsOpenChain BeginsWith StepsThrough world.portals first (last ∷ before) frame.state
   pub later : List ℕ
   pub numbers_are : AllZip (IsAt world.portals) (later ++ p ∷ []) (last ∷ before)
   pub each_may : (n : ℕ) → IsIn frame.mask n → All (MayHave n) (later ++ p ∷ [])
@@ -53,7 +53,7 @@ pub record IsNextTo (tree : Tree) (first : Portal) (frame : Frame) (n : ℕ) (q 
   pub new : IsIn frame.met q.to → ⊥
   pub via : IsSeenVia tree first q n
   pub not_stopped : StopsAt frame.state q → ⊥
-  pub ahead : (next : ChainState) → GoesOn frame.state q next → (met : List ℕ) →
+  pub ahead : (next : ChainState) → StepsThrough frame.state q next → (met : List ℕ) →
       ((m : ℕ) → Contains met m → (q.to ≡ m) ⊎ IsIn frame.met m) → IsAhead MeetsState tree first next q.to met n
 
 -- the leaf of number n is awaited here: it may still be shown, by some portal that is still to be tried

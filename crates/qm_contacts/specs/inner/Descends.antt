@@ -6,7 +6,7 @@ use Rattle.qm_contacts.specs.Contact.{Touch}
 -- Steps count how near a leaf is to the outside: one step where it touches the outside.
 
 -- of the leaves that a leaf touches, the least of those that have one step less
-pub record IsNearest (tree : Tree) (steps : List ℕ) (k next : ℕ) : Type 0 where
+pub record IsNextOfTrail (tree : Tree) (steps : List ℕ) (k next : ℕ) : Type 0 where
   pub some : 0 < steps_of steps next
   pub one_less : steps_of steps k ≡ steps_of steps next + 1
   pub touch : Touch tree k next
@@ -15,4 +15,4 @@ pub record IsNearest (tree : Tree) (steps : List ℕ) (k next : ℕ) : Type 0 wh
 -- a way that takes one step less with each leaf, and of several such leaves the least, is the trail
 pub data Descends (tree : Tree) (steps : List ℕ) : ℕ → List ℕ → Type 0 where
   out : {k : ℕ} → steps_of steps k ≡ 1 → Descends tree steps k (k ∷ [])
-  down : {k next : ℕ} {rest : List ℕ} → IsNearest tree steps k next → Descends tree steps next (next ∷ rest) → Descends tree steps k (k ∷ next ∷ rest)
+  down : {k next : ℕ} {rest : List ℕ} → IsNextOfTrail tree steps k next → Descends tree steps next (next ∷ rest) → Descends tree steps k (k ∷ next ∷ rest)

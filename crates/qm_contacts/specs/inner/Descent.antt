@@ -6,13 +6,13 @@ use Rattle.qm_space.specs.Multiple.{HasSameSides}
 use Rattle.qm_space.specs.Cube.{cube_walls}
 use Rattle.qm_convex.specs.inner.Facets.{Facet, AreFacetsOn}
 use Rattle.qm_partition.specs.Partition.{Partition}
-use Rattle.qm_partition.specs.Ways.{Way, ways, cell_of}
+use Rattle.qm_partition.specs.Ways.{Way, ways, cell_of_way}
 use Rattle.qm_contacts.specs.inner.Pieces.{walled_cell}
 
 -- each leaf below the end of a way has a point
 abbrev pub HasPointsBelow : List Plane → Way → Partition → Type 0
 HasPointsBelow planes above shape =
-    (way : Way) → Contains (ways shape) way → (x : Point) × IsInCell (walled_cell planes above) x × IsInCell (cell_of planes way) x
+    (way : Way) → Contains (ways shape) way → (x : Point) × IsInCell (walled_cell planes above) x × IsInCell (cell_of_way planes way) x
 
 -- these planes bound the cell at the end of a way
 abbrev pub AreBounds : List Plane → Way → List Plane → Type 0
@@ -21,4 +21,4 @@ AreBounds planes way bounds = (x : Point) → pos 0 <ℤ x.w → IsInCell (walle
 -- the facets of that cell on walls of the cube; none of the way's steps has the sides of a wall
 pub record AreWallFacets (planes : List Plane) (way : Way) (on_walls : List Facet) : Type 0 where
   pub walls : AreFacetsOn (walled_cell planes way) cube_walls on_walls
-  pub apart : All (λ g. (wall : Plane) → Contains cube_walls wall → HasSameSides g wall → ⊥) (cell_of planes way)
+  pub apart : All (λ g. (wall : Plane) → Contains cube_walls wall → HasSameSides g wall → ⊥) (cell_of_way planes way)

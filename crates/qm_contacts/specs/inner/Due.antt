@@ -12,7 +12,7 @@ use Rattle.qm_partition.specs.inner.PlacedPart.{IsPart}
 use Rattle.qm_contacts.specs.Meeting.{leaves_below, meetings_below}
 use Rattle.qm_contacts.specs.Touching.{Touching, AreTouchings}
 use Rattle.qm_contacts.specs.Outside.{TouchesOutside}
-use Rattle.qm_contacts.specs.inner.Pieces.{Piece, ArePieces}
+use Rattle.qm_contacts.specs.inner.Pieces.{LeafPiece, ArePieces}
 use Rattle.qm_contacts.specs.inner.Descent.{HasPointsBelow, AreBounds, AreWallFacets}
 
 -- a child stands for a part of a partition
@@ -37,7 +37,7 @@ abbrev pub due_of : DueBelow → DuePolygon
 due_of entry = entry.due
 
 -- what it comes to: the pieces of its polygon in the leaves of its part
-abbrev pub ComesToPieces : List Plane → DueBelow → List Piece → Type 0
+abbrev pub ComesToPieces : List Plane → DueBelow → List LeafPiece → Type 0
 ComesToPieces planes entry pieces = ArePieces planes entry.due.winding (leaves_below entry.part entry.k) pieces
 
 -- what is due of one half of a polygon, if there is one

@@ -13,8 +13,8 @@ abbrev pub AreOpposite : Plane → Plane → Type 0
 AreOpposite near far = far ≡ facing near far.d
 
 -- and leave room between them
-abbrev pub AreApart : Plane → Plane → Type 0
-AreApart near far = (near.d +ℤ far.d) <ℤ pos 0
+abbrev pub LeaveRoom : Plane → Plane → Type 0
+LeaveRoom near far = (near.d +ℤ far.d) <ℤ pos 0
 
 -- strictly between two planes
 pub record IsBetweenPlanes (g h : Plane) (p : Point) : Type 0 where

@@ -3,19 +3,19 @@ use Rattle.std.specs.List.{IsDistinct}
 use Rattle.qm_lists.specs.inner.Steps.{steps_of, AreSteps, IsSpread, SpreadsOn}
 use Rattle.qm_partition.specs.Tree.{Tree}
 use Rattle.qm_partition.specs.Counting.{leaf_count}
-use Rattle.qm_contacts.specs.Reached.{IsPassable, Begins, GoesOn}
+use Rattle.qm_contacts.specs.Reached.{IsPassable, Begins, FloodsInto}
 
 -- How the steps of a tree's leaves are found.
 
 -- the steps of all leaves of a tree
 pub record AreLeafSteps (tree : Tree) (steps : List ℕ) : Type 0 where
   pub one_each : length steps ≡ leaf_count tree.shape
-  pub are : AreSteps (Begins tree) (GoesOn tree) steps
+  pub are : AreSteps (Begins tree) (FloodsInto tree) steps
 
 -- those found so far, where the first of the leaves that were found are passed
 pub record IsSpreading (tree : Tree) (steps found : List ℕ) (passed : ℕ) : Type 0 where
   pub one_each : length steps ≡ leaf_count tree.shape
-  pub spread : IsSpread (Begins tree) (GoesOn tree) steps found passed
+  pub spread : IsSpread (Begins tree) (FloodsInto tree) steps found passed
 
 -- the leaf can be passed next
 pub record CanGoOn (tree : Tree) (leaf : ℕ) (steps found : List ℕ) : Type 0 where

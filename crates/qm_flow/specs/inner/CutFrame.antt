@@ -1,6 +1,7 @@
 use Rattle.std.specs.Prelude.{◌≡◌, Bool, List, Option, MatchOption}
-use Rattle.qm_bits.specs.Unseen.{HasUnseen}
-use Rattle.qm_chains.specs.inner.Cone.{with_mask, IsCutTo}
+use Rattle.qm_lists.specs.Unseen.{HasUnseen}
+use Rattle.qm_lists.specs.CutTo.{IsCutTo}
+use Rattle.qm_chains.specs.inner.Cone.{with_mask}
 use Rattle.qm_chains.specs.inner.Frame.{Frame}
 
 -- what is left of a frame whose mask was cut to a row: no frame where nothing new would be in it

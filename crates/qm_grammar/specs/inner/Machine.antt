@@ -2,19 +2,19 @@
 -- next, or is refused.
 use Rattle.std.specs.Prelude.{ℕ, ◌*◌, ℤ, pos, neg_ℤ, unsigned_abs, int_le, nat_lt, ◌==◌, Bool, not, ◌&&◌, ◌||◌, if◌then◌else◌, List, [], ◌∷◌, ◌++◌, length, drop, Option, Some, None, is_none, option_and_then, Result, Ok, Err, bytes_eq}
 use Rattle.std.specs.Ordering.{int_eq}
-use Rattle.qm_decimal.specs.declared.fraction.Fraction.{Fraction}
-use Rattle.qm_decimal.specs.declared.fraction.NumberFault.{NumberFault}
-use Rattle.qm_decimal.specs.declared.fraction.NumberFault.TheVariants as number
-use Rattle.qm_decimal.specs.Computed.{read_at}
-use Rattle.qm_lex.specs.Lexeme.{Lexeme}
-use Rattle.qm_lex.specs.inner.Modes.{between, read}
+use Rattle.qm_numerals.specs.declared.fraction.Fraction.{Fraction}
+use Rattle.qm_numerals.specs.declared.fraction.NumberFault.{NumberFault}
+use Rattle.qm_numerals.specs.declared.fraction.NumberFault.TheVariants as number
+use Rattle.qm_numerals.specs.Computed.{read_at}
+use Rattle.qm_tokens.specs.Lexeme.{Lexeme}
+use Rattle.qm_tokens.specs.inner.Modes.{between, read}
 use Rattle.qm_space.specs.Point.{Point}
 use Rattle.qm_space.specs.Bounds.{world_extent, extent}
 use Rattle.qm_space.specs.Plane.{Plane}
 use Rattle.qm_space.specs.ThreePoints.{outward_plane}
 use Rattle.qm_mapfile.specs.declared.entity.MapFile.{MapFile}
 use Rattle.qm_mapfile.specs.Face.{point_at}
-use Rattle.qm_grammar.specs.Words.{words_of}
+use Rattle.qm_grammar.specs.Words.{words_of_text}
 use Rattle.qm_grammar.specs.declared.mark.Mark.{Mark}
 use Rattle.qm_grammar.specs.declared.mark.Mark.TheVariants.{OpenBrace, CloseBrace, OpenParenthesis, CloseParenthesis, OpenBracket, CloseBracket}
 use Rattle.qm_grammar.specs.declared.mark.Sort.{Sort}
@@ -31,7 +31,7 @@ use Rattle.qm_grammar.specs.Symbol.{Symbol, symbol_of, sort_of}
 use Rattle.qm_grammar.specs.Number.{parts_of_unit}
 use Rattle.qm_grammar.specs.Origin.{origin_key, value_of}
 use Rattle.qm_grammar.specs.Slots.{open_slots, standard_slots, valve_slots, points_of, face_of}
-use Rattle.qm_grammar.specs.Prefix.{Prefix, outside}
+use Rattle.qm_grammar.specs.Prefix.{Prefix, between_entities}
 use Rattle.qm_grammar.specs.Faults.{text_limit, line_at, last_line, end_of, fault_of}
 
 -- the byte of a mark
@@ -84,7 +84,7 @@ point_of_words _ = None
 
 -- the point that the value of an origin gives
 unfoldable pub origin_of : List ℕ → Option Point
-origin_of value = point_of_words (words_of value)
+origin_of value = point_of_words (words_of_text value)
 
 -- whether the normal of an outward plane is not zero
 abbrev pub has_normal : Plane → Bool
@@ -104,7 +104,7 @@ unfoldable pub step_entity : Prefix → Sort → List ℕ → Result Prefix Refu
 step_entity prefix sort.Quoted bytes = Ok (record prefix { context = context.Value; key = bytes })
 step_entity prefix (sort.Mark OpenBrace) bytes = Ok (record prefix { context = context.Brush })
 step_entity prefix (sort.Mark CloseBrace) bytes =
-    Ok (outside (prefix.entities ++ (record { pairs = prefix.pairs; brushes = prefix.brushes }) ∷ []))
+    Ok (between_entities (prefix.entities ++ (record { pairs = prefix.pairs; brushes = prefix.brushes }) ∷ []))
 step_entity prefix _ bytes = Err refusal.Unexpected
 
 -- whether a value is the first one under the key `origin` in an entity that is not the first, and gives no point
@@ -235,4 +235,4 @@ ended text unclosed (Ok prefix) =
 unfoldable pub meaning_of : List ℕ → Result MapFile MapFault
 meaning_of text =
     let lexing = read between 0 1 text in
-    ended text lexing.unclosed_line (steps (outside []) lexing.lexemes)
+    ended text lexing.unclosed_line (steps (between_entities []) lexing.lexemes)

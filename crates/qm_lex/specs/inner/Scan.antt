@@ -1,10 +1,10 @@
 use Rattle.std.specs.Prelude.{◌≡◌, ◌≢◌, ℕ, ◌+◌, ◌<◌, ◌≤◌, List, [], drop, length, slice_index, slice_range}
 use Rattle.qm_lex.specs.declared.scan.Position.{Position}
 use Rattle.qm_lex.specs.declared.scan.Found.{Found}
-use Rattle.qm_lex.specs.Lexeme.{lexeme_of, quote_length}
-use Rattle.qm_lex.specs.Lexing.{Lexing, lexeme_then}
-use Rattle.qm_lex.specs.Reading.{Reading}
-use Rattle.qm_lex.specs.inner.Modes.{between, in_word, in_quote, read, word_before, quoted_before}
+use Rattle.qm_tokens.specs.Lexeme.{lexeme_of, quote_length}
+use Rattle.qm_tokens.specs.Lexing.{Lexing, lexeme_then}
+use Rattle.qm_tokens.specs.Reading.{Reading}
+use Rattle.qm_tokens.specs.inner.Modes.{between, in_word, in_quote, read, word_before, quoted_before}
 
 -- a position lies in the text, and its line is one that can be reached there
 pub record IsPositionIn (text : List ℕ) (position : Position) : Type 0 where

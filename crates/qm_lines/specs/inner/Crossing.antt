@@ -17,7 +17,7 @@ pub record Crossing : Type 0 where
   pub at_begin : ℤ
   pub at_end : ℤ
 
-pub record IsCrossing (crossing : Crossing) : Type 0 where
+pub record CrossesToFront (crossing : Crossing) : Type 0 where
   pub begins_behind : crossing.at_begin <ℤ pos 0
   pub ends_in_front : pos 0 <ℤ crossing.at_end
   pub begin_small : unsigned_abs crossing.at_begin ≤ 2 ^ 45

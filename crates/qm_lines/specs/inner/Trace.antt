@@ -8,7 +8,7 @@ use Rattle.qm_segments.specs.Segment.{Segment}
 use Rattle.qm_segments.specs.GoesThrough.{GoesThrough}
 use Rattle.qm_segments.specs.OpenChain.{leaves_met, IsOpenChain}
 use Rattle.qm_separators.specs.ChainState.{ChainState}
-use Rattle.qm_separators.specs.PortalSteps.{BeginsWith, GoesOn, MeetsState}
+use Rattle.qm_separators.specs.PortalSteps.{BeginsWith, StepsThrough, MeetsState}
 use Rattle.qm_chains.specs.Shown.{IsAt}
 use Rattle.qm_lines.specs.inner.Crossing.{Crossing, crossing_point, value_where, CrossesAt}
 use Rattle.qm_lines.specs.declared.trace.Trace.{Trace}
@@ -21,7 +21,7 @@ pub record IsTrace (world : World) (p : ℕ) (s : Segment) (trace : Trace) : Typ
   pub last : Portal
   pub before : List Portal
   pub state : ChainState
-  pub open_chain : IsOpenChain BeginsWith GoesOn world.portals first (last ∷ before) state
+  pub open_chain : IsOpenChain BeginsWith StepsThrough world.portals first (last ∷ before) state
   pub meets : MeetsState s (crossing_point s last.into) state
   pub goes_through : GoesThrough s last (crossing_point s last.into)
   pub begin_is : trace.last.at_begin ≡ value last.into s.from

@@ -1,9 +1,9 @@
 use Rattle.std.specs.Prelude.{◌≡◌, int_lt, pos, List, [], ◌∷◌, Contains}
 use Rattle.qm_space.specs.Plane.{Plane, flipped}
 use Rattle.qm_space.specs.Vector.{normal_of}
-use Rattle.qm_geom.specs.LeastDistance.{IsLeastDistance}
+use Rattle.qm_space.specs.LeastDistance.{IsLeastDistance}
 use Rattle.qm_geom.specs.declared.vector.Vector.{Vector}
-use Rattle.qm_geom.specs.Vectors.{cross, normal_of as own_normal}
+use Rattle.qm_geom.specs.Vectors.{cross_vector, normal_vector as own_normal}
 use Rattle.qm_convex.specs.Winding.{Winding, corners}
 use Rattle.qm_separators.specs.Across.{HasLowestNormal}
 
@@ -21,9 +21,9 @@ HasNormalAmong planes along = (h : Plane) × Contains planes h × (normal_of h �
 
 -- a normal points where a plane's does: their cross product is zero, and their components have the same signs
 pub record IsAlong (n : Vector) (h : Plane) : Type 0 where
-  pub x_zero : (cross n (own_normal h)).x ≡ pos 0
-  pub y_zero : (cross n (own_normal h)).y ≡ pos 0
-  pub z_zero : (cross n (own_normal h)).z ≡ pos 0
+  pub x_zero : (cross_vector n (own_normal h)).x ≡ pos 0
+  pub y_zero : (cross_vector n (own_normal h)).y ≡ pos 0
+  pub z_zero : (cross_vector n (own_normal h)).z ≡ pos 0
   pub x_sign : int_lt n.x (pos 0) ≡ int_lt h.nx (pos 0)
   pub y_sign : int_lt n.y (pos 0) ≡ int_lt h.ny (pos 0)
   pub z_sign : int_lt n.z (pos 0) ≡ int_lt h.nz (pos 0)

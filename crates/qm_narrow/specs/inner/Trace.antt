@@ -1,7 +1,7 @@
 use Rattle.std.specs.Prelude.{◌≡◌, ℕ, ℤ, pos, ◌<◌, List, length, get_or, slice_index_or}
 use Rattle.qm_numbers.specs.Rounding.{IsRoundedDown, IsRoundedUp, IsNearest}
 use Rattle.qm_space.specs.Point.{Point, AreCoordinates}
-use Rattle.qm_geom.specs.Rounding.{AreCoordinatesBy}
+use Rattle.qm_space.specs.Coordinates.{AreCoordinatesBy}
 use Rattle.qm_convex.specs.Winding.{Winding, corner_at, corners}
 use Rattle.qm_narrow.specs.declared.spot.Spot.{Spot}
 

@@ -2,7 +2,7 @@ use Rattle.std.specs.Prelude.{ℕ, List, [], ◌∷◌, Option, Some, None, drop
 use Rattle.qm_partition.specs.declared.node.Leaf.{Leaf as LeafRecord}
 use Rattle.qm_partition.specs.declared.visit.Visit.{Visit}
 use Rattle.qm_partition.specs.declared.visit.Visit.TheVariants.{Node, Leaf}
-use Rattle.qm_partition.specs.Joining.{are_equal}
+use Rattle.qm_partition.specs.Joining.{have_same_contents}
 
 -- Joining visits. They are gone through from the last one to the first: where the next two are leaves of equal contents, a
 -- node has them as its sides, and they become one leaf.
@@ -13,7 +13,7 @@ joint_of [] = None
 joint_of (Node n ∷ walk) = None
 joint_of (Leaf front ∷ []) = None
 joint_of (Leaf front ∷ (Node n ∷ walk)) = None
-joint_of (Leaf front ∷ (Leaf back ∷ walk)) = if are_equal front back then Some front else None
+joint_of (Leaf front ∷ (Leaf back ∷ walk)) = if have_same_contents front back then Some front else None
 
 -- a node in front of visits, and what they become
 abbrev pub node_joined : ℕ → List Visit → Option LeafRecord → List Visit

@@ -8,7 +8,7 @@ use Rattle.qm_partition.specs.Tree.{Tree}
 use Rattle.qm_partition.specs.Counting.{node_count}
 use Rattle.qm_partition.specs.inner.PlacedPart.{nodes_from}
 use Rattle.qm_contacts.specs.Meeting.{leaves_below}
-use Rattle.qm_contacts.specs.inner.Pieces.{Piece, ArePieces}
+use Rattle.qm_contacts.specs.inner.Pieces.{LeafPiece, ArePieces}
 use Rattle.qm_contacts.specs.inner.Due.{StandsFor, DuePolygon, DueBelow, due_of, ComesToPieces}
 
 -- the child stands for some part of the tree
@@ -19,12 +19,12 @@ pub record IsChildOf (tree : Tree) (child : Child) : Type 0 where
   pub stands : StandsFor tree.shape child part n k
 
 -- what the leaves below a child have of a polygon
-abbrev pub HasPieces : Tree → Child → Winding → List Piece → Type 0
+abbrev pub HasPieces : Tree → Child → Winding → List LeafPiece → Type 0
 HasPieces tree child winding pieces =
     (part : Partition) (n k : ℕ) → StandsFor tree.shape child part n k → ArePieces tree.planes winding (leaves_below part k) pieces
 
 -- what is known of a polygon that is due
-pub record IsDue (tree : Tree) (entry : DueBelow) : Type 0 where
+pub record IsDueBelow (tree : Tree) (entry : DueBelow) : Type 0 where
   pub stands : StandsFor tree.shape entry.due.child entry.part entry.n entry.k
   pub convex : IsConvex entry.due.winding
 
@@ -39,20 +39,20 @@ abbrev pub polygon_weight : Tree → DuePolygon → ℕ
 polygon_weight tree polygon = weight_at tree polygon.child
 
 -- the pieces of a polygon are some pieces, and those of others that are due
-abbrev pub LeavesPolygons : Tree → DuePolygon → List DuePolygon → List Piece → Type 0
-LeavesPolygons tree = Leaves due_of (IsDue tree) (ComesToPieces tree.planes)
+abbrev pub LeavesPolygons : Tree → DuePolygon → List DuePolygon → List LeafPiece → Type 0
+LeavesPolygons tree = Leaves due_of (IsDueBelow tree) (ComesToPieces tree.planes)
 
 -- a polygon is taken off those that are due
-abbrev pub IsPushed : Tree → DuePolygon → List DuePolygon → List DuePolygon → List Piece → List Piece → Type 0
-IsPushed tree = IsTakenOff due_of (IsDue tree) (ComesToPieces tree.planes) (polygon_weight tree)
+abbrev pub IsPushed : Tree → DuePolygon → List DuePolygon → List DuePolygon → List LeafPiece → List LeafPiece → Type 0
+IsPushed tree = IsTakenOff due_of (IsDueBelow tree) (ComesToPieces tree.planes) (polygon_weight tree)
 
 -- it can be due: its child is one of the tree
 abbrev pub MayBeDue : Tree → DuePolygon → Type 0
-MayBeDue tree = StandsForKnown due_of (IsDue tree) (ComesToPieces tree.planes)
+MayBeDue tree = StandsForKnown due_of (IsDueBelow tree) (ComesToPieces tree.planes)
 
 -- what is due and done on the way to all its pieces
-abbrev pub IsPushing : Tree → DuePolygon → List DuePolygon → List Piece → Type 0
-IsPushing tree = IsUnderWay due_of (IsDue tree) (ComesToPieces tree.planes)
+abbrev pub IsPushing : Tree → DuePolygon → List DuePolygon → List LeafPiece → Type 0
+IsPushing tree = IsUnderWay due_of (IsDueBelow tree) (ComesToPieces tree.planes)
 
 -- what is left of a polygon, at the child to which it came, if anything is
 abbrev pub rest_at : Option Child → Winding → List DuePolygon
@@ -71,7 +71,7 @@ pub record GoesDown (tree : Tree) (old : Winding) (from : Child) (new : Winding)
   pub lighter : sum_by (polygon_weight tree) others + rest_weight tree to ≤ weight_at tree from
 
 -- what is left of a polygon, as the piece of a leaf, if it came to one
-abbrev pub piece_in : Option ℕ → Winding → List Piece
+abbrev pub piece_in : Option ℕ → Winding → List LeafPiece
 piece_in None winding = []
 piece_in (Some leaf) winding = record { leaf = leaf; winding = winding } ∷ []
 

@@ -11,7 +11,7 @@ use Rattle.qm_partition.specs.Numbering.{child_of}
 use Rattle.qm_contacts.specs.Meeting.{leaves_below}
 use Rattle.qm_contacts.specs.Touching.{Touching}
 use Rattle.qm_contacts.specs.inner.Descent.{AreBounds, AreWallFacets}
-use Rattle.qm_contacts.specs.inner.Pieces.{Piece, touching_at, AreRows}
+use Rattle.qm_contacts.specs.inner.Pieces.{LeafPiece, touching_at, ArePiecesOfEach}
 use Rattle.qm_contacts.specs.inner.Due.{StandsFor, DueCell, IsDueCell, cell_due_of, ComesToTouchings, ComesToOutside}
 use Rattle.qm_portal.specs.declared.piece.Buffers.{Buffers}
 use Rattle.qm_portal.specs.inner.Pushes.{HasPieces, weight_at}
@@ -51,19 +51,19 @@ AreEmpty buffers = (buffers.due.items ≡ []) × (buffers.fronts.items ≡ []) �
 -- ---- the touching pairs at a node
 
 -- of the pieces of one leaf in front, what the leaves behind have of it
-pub record IsRowAdded (tree : Tree) (n : ℕ) (back : Child) (front : Piece) (old new : List Touching) : Type 0 where
-  pub pieces : List Piece
+pub record IsRowAdded (tree : Tree) (n : ℕ) (back : Child) (front : LeafPiece) (old new : List Touching) : Type 0 where
+  pub pieces : List LeafPiece
   pub added : new ≡ old ++ map (touching_at n front.leaf) pieces
   pub have : HasPieces tree back front.winding pieces
 
 -- of pieces of several leaves in front
-pub record AreRowsAdded (tree : Tree) (n : ℕ) (back : Child) (fronts : List Piece) (old new : List Touching) : Type 0 where
+pub record AreRowsAdded (tree : Tree) (n : ℕ) (back : Child) (fronts : List LeafPiece) (old new : List Touching) : Type 0 where
   pub own : List Touching
   pub added : new ≡ old ++ own
-  pub rows : (part : Partition) (m k : ℕ) → StandsFor tree.shape back part m k → AreRows tree.planes n (leaves_below part k) fronts own
+  pub rows : (part : Partition) (m k : ℕ) → StandsFor tree.shape back part m k → ArePiecesOfEach tree.planes n (leaves_below part k) fronts own
 
 -- of the section of the node
 pub record ArePairsAdded (tree : Tree) (n : ℕ) (here : Node) (section : Winding) (old new : List Touching) : Type 0 where
-  pub fronts : List Piece
+  pub fronts : List LeafPiece
   pub have : HasPieces tree here.front section fronts
   pub rows : AreRowsAdded tree n here.back fronts old new

@@ -4,7 +4,7 @@ use Rattle.qm_runs.specs.declared.reading.Part.{Part}
 use Rattle.qm_runs.specs.declared.reading.Part.TheVariants.{Byte, Zeros}
 
 -- so many bytes of the row, from that many of the file, are read before the rest
-pub record GoesOn (due : ℕ) (behind_run : Bool) (bytes part : List ℕ) (used : ℕ) (open_run : Bool) : Type 0 where
+pub record ReadsPart (due : ℕ) (behind_run : Bool) (bytes part : List ℕ) (used : ℕ) (open_run : Bool) : Type 0 where
   pub some : 0 < length part
   pub fits : length part ≤ due
   pub there : used ≤ length bytes
@@ -12,5 +12,5 @@ pub record GoesOn (due : ℕ) (behind_run : Bool) (bytes part : List ℕ) (used 
 
 -- a row goes on with this part
 abbrev pub IsNext : Part → ℕ → Bool → List ℕ → Type 0
-IsNext (Byte byte) due behind_run bytes = GoesOn due behind_run bytes (byte ∷ []) 1 false
-IsNext (Zeros count) due behind_run bytes = GoesOn due behind_run bytes (replicate count zero) 2 (nat_lt count longest_run)
+IsNext (Byte byte) due behind_run bytes = ReadsPart due behind_run bytes (byte ∷ []) 1 false
+IsNext (Zeros count) due behind_run bytes = ReadsPart due behind_run bytes (replicate count zero) 2 (nat_lt count longest_run)

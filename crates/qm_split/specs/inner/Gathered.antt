@@ -7,7 +7,7 @@ use Rattle.qm_solids.specs.Holding.{IsFull}
 use Rattle.qm_solids.specs.Cells.{ContainsCell}
 use Rattle.qm_split.specs.declared.contender.Contender.{Contender}
 use Rattle.qm_split.specs.declared.gathering.Gathering.{Gathering}
-use Rattle.qm_split.specs.CellFragments.{pieces_of, IsReached, IsAccounted, IsKeptContender}
+use Rattle.qm_split.specs.CellFragments.{pieces_of, IsAtMostKnown, IsAccounted, IsKeptContender}
 use Rattle.qm_split.specs.inner.Parts.{HasPieceIn}
 
 -- What is known of a cell while solids are looked at one after another.
@@ -19,7 +19,7 @@ IsRaisedBy done cell before strongest =
 
 -- after the solids that are done, where some contents were known before
 pub record IsGathered (book cell : List Plane) (before : Option Contents) (done : List Solid) (gathering : Gathering) : Type 0 where
-  pub no_weaker : (contents : Contents) → IsReached before contents → IsReached gathering.strongest contents
+  pub no_weaker : (contents : Contents) → IsAtMostKnown before contents → IsAtMostKnown gathering.strongest contents
   pub given : IsRaisedBy done cell before gathering.strongest
   pub kept : All (IsKeptContender done book cell gathering.strongest) gathering.contenders.items
   pub accounted : (solid : Solid) → Contains done solid → IsFull solid →
@@ -38,8 +38,8 @@ pub record HasFewer (contenders : List Contender) (h : Plane) (gathering : Gathe
 
 -- a contender is kept unless contents as strong are known
 pub data Keeps (old : Gathering) (contender : Contender) (new : Gathering) : Type 0 where
-  passed : IsReached old.strongest contender.contents → new ≡ old → Keeps old contender new
-  gained : (IsReached old.strongest contender.contents → ⊥) → new.strongest ≡ old.strongest →
+  passed : IsAtMostKnown old.strongest contender.contents → new ≡ old → Keeps old contender new
+  gained : (IsAtMostKnown old.strongest contender.contents → ⊥) → new.strongest ≡ old.strongest →
       new.contenders.items ≡ old.contenders.items ++ contender ∷ [] → Keeps old contender new
 
 abbrev pub is_stronger_than : Contents → Contender → Bool
@@ -47,6 +47,6 @@ is_stronger_than contents contender = nat_lt (strength contents) (strength conte
 
 -- contents are noted unless others as strong are known, and contenders that are not stronger are given up
 pub data Raises (old : Gathering) (contents : Contents) (new : Gathering) : Type 0 where
-  known : IsReached old.strongest contents → new ≡ old → Raises old contents new
-  risen : (IsReached old.strongest contents → ⊥) → new.strongest ≡ Some contents →
+  known : IsAtMostKnown old.strongest contents → new ≡ old → Raises old contents new
+  risen : (IsAtMostKnown old.strongest contents → ⊥) → new.strongest ≡ Some contents →
       new.contenders.items ≡ filter (is_stronger_than contents) old.contenders.items → Raises old contents new

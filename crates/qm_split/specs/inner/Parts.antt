@@ -14,12 +14,12 @@ use Rattle.qm_split.specs.declared.piece.Piece.{Piece}
 use Rattle.qm_split.specs.declared.contender.Contender.{Contender}
 use Rattle.qm_split.specs.declared.contender.Part.{Part}
 use Rattle.qm_split.specs.declared.contender.Part.TheVariants.{Kept, Containing, Outside}
-use Rattle.qm_split.specs.Pieces.{solid_of, ArePieces, IsHeldWithin, IsContender}
+use Rattle.qm_split.specs.Pieces.{solid_of_contender, ArePiecesInCell, IsHeldWithin, IsContender}
 
 -- What a solid is to a cell.
 
 abbrev pub IsPartIn : List Plane → List Plane → Solid → Part → Type 0
-IsPartIn book cell solid (Kept contender) = IsContender book cell contender × (solid_of contender ≡ solid)
+IsPartIn book cell solid (Kept contender) = IsContender book cell contender × (solid_of_contender contender ≡ solid)
 IsPartIn book cell solid (Containing contents) = (contents ≡ solid.contents) × ContainsCell solid cell
 IsPartIn book cell solid Outside = LiesOutside solid cell
 
@@ -30,7 +30,7 @@ part_count (Containing contents) = 0
 part_count Outside = 0
 
 -- a winding on a plane, each point of it in the cell
-pub record IsSection (cell : List Plane) (h : Plane) (w : Winding) : Type 0 where
+pub record LiesInCell (cell : List Plane) (h : Plane) (w : Winding) : Type 0 where
   pub convex : IsConvex w
   pub on : (x : Point) → IsInRegion w x → IsOn h x
   pub in_cube : (x : Point) → IsInRegion w x → IsInCube x
@@ -39,16 +39,16 @@ pub record IsSection (cell : List Plane) (h : Plane) (w : Winding) : Type 0 wher
 -- what a full solid with these pieces in front of a plane, which lies in the cuboid, is to what a cell has there
 abbrev pub IsFoundPart : Solid → Winding → Cuboid → List Piece → Part → Plane → Type 0
 IsFoundPart solid w cuboid pieces part g =
-    (book cell : List Plane) → IsFull solid → All IsReduced solid.outward → IsSection cell g w →
-    IsHeldWithin cuboid solid (cell ++ g ∷ []) → ArePieces book (cell ++ g ∷ []) solid pieces → IsPartIn book (cell ++ g ∷ []) solid part
+    (book cell : List Plane) → IsFull solid → All IsReduced solid.outward → LiesInCell cell g w →
+    IsHeldWithin cuboid solid (cell ++ g ∷ []) → ArePiecesInCell book (cell ++ g ∷ []) solid pieces → IsPartIn book (cell ++ g ∷ []) solid part
 
 -- no piece of the contender has a point behind the plane
 abbrev pub HasNoneBehind : Contender → Plane → Type 0
 HasNoneBehind contender g = (p : Piece) → Contains contender.body.value.pieces.items p → HasNoneInFront p.winding.value (flipped g)
 
 -- the plane o, outward of a solid, shows that the winding w or what is in front of the plane g is not inside the solid
-abbrev pub IsAhead : Winding → Plane → Plane → Type 0
-IsAhead w g o = HasSomeInFront w o ⊎ (o ≡ g)
+abbrev pub KeepsOut : Winding → Plane → Plane → Type 0
+KeepsOut w g o = HasSomeInFront w o ⊎ (o ≡ g)
 
 abbrev pub IsNotAhead : Winding → Plane → Plane → Type 0
 IsNotAhead w g o = HasNoneInFront w o × (o ≢ g)
@@ -56,7 +56,7 @@ IsNotAhead w g o = HasNoneInFront w o × (o ≢ g)
 pub record HasAhead (outward : List Plane) (w : Winding) (g : Plane) : Type 0 where
   pub face : Plane
   pub has_face : Contains outward face
-  pub ahead : IsAhead w g face
+  pub ahead : KeepsOut w g face
 
 -- some piece lies in the plane
 pub record HasPieceIn (pieces : List Piece) (h : Plane) : Type 0 where

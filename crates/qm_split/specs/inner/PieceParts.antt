@@ -18,7 +18,7 @@ abbrev pub IsPartOf : Piece → Plane → Option Piece → Type 0
 IsPartOf p g part = MatchOption part (HasNoneInFront p.winding.value g) (IsFrontPiece p g)
 
 -- a piece of a list that is in front of the plane in part
-pub record ComesOf (ps : List Piece) (g : Plane) (q : Piece) : Type 0 where
+pub record IsCutFrom (ps : List Piece) (g : Plane) (q : Piece) : Type 0 where
   pub piece : Piece
   pub listed : Contains ps piece
   pub is : IsFrontPiece piece g q
@@ -31,7 +31,7 @@ pub record GoesTo (qs : List Piece) (g : Plane) (p : Piece) : Type 0 where
 
 -- the pieces qs are what the pieces ps have in front of the plane, and they are fewer where one has nothing there
 pub record AreFront (ps : List Piece) (g : Plane) (qs : List Piece) : Type 0 where
-  pub each : (q : Piece) → Contains qs q → ComesOf ps g q
+  pub each : (q : Piece) → Contains qs q → IsCutFrom ps g q
   pub all : (p : Piece) → Contains ps p → HasNoneInFront p.winding.value g ⊎ GoesTo qs g p
   pub no_more : length qs ≤ length ps
   pub fewer : (p : Piece) → Contains ps p → HasNoneInFront p.winding.value g → length qs < length ps

@@ -3,23 +3,23 @@ use Rattle.qm_space.specs.Point.{Point}
 use Rattle.qm_space.specs.Plane.{Plane}
 use Rattle.qm_space.specs.Cell.{IsInCell}
 use Rattle.qm_space.specs.Meet.{meet}
-use Rattle.qm_convex.specs.inner.Parallelogram.{AreOpposite, AreApart, IsBetweenPlanes}
+use Rattle.qm_convex.specs.inner.Parallelogram.{AreOpposite, LeaveRoom, IsBetweenPlanes}
 use Rattle.qm_wind.specs.declared.axial_cell.Opposites.{Opposites}
 use Rattle.qm_wind.specs.declared.axial_cell.AxialCell.{AxialCell}
 use Rattle.qm_wind.specs.declared.across.Across.{Across}
 use Rattle.qm_wind.specs.inner.AxialCells.{bounds_of}
 
-abbrev pub IsBetween : Opposites → Point → Type 0
-IsBetween pair p = IsBetweenPlanes pair.near pair.far p
+abbrev pub IsBetweenOpposites : Opposites → Point → Type 0
+IsBetweenOpposites pair p = IsBetweenPlanes pair.near pair.far p
 
 -- two planes that face one another, with room between them
 pub record IsPair (pair : Opposites) : Type 0 where
   pub opposite : AreOpposite pair.near pair.far
-  pub apart : AreApart pair.near pair.far
+  pub apart : LeaveRoom pair.near pair.far
 
 -- three pairs are those of a cell
 pub record ArePairs (cell : AxialCell) (a b c : Opposites) : Type 0 where
-  pub inside : (p : Point) → IsInCell (bounds_of cell) p ↔ (IsBetween a p × IsBetween b p × IsBetween c p)
+  pub inside : (p : Point) → IsInCell (bounds_of cell) p ↔ (IsBetweenOpposites a p × IsBetweenOpposites b p × IsBetweenOpposites c p)
   pub first : IsPair a
   pub second : IsPair b
   pub third : IsPair c

@@ -1,7 +1,7 @@
 use Rattle.std.specs.Prelude.{pos, ◌+ℤ◌, ◌≤ℤ◌, ◌⊎◌, List, [], ◌∷◌}
 use Rattle.qm_space.specs.Plane.{Plane}
 use Rattle.qm_space.specs.Cuboid.{Cuboid}
-use Rattle.qm_convex.specs.inner.Parallelogram.{AreApart, cuboid_between}
+use Rattle.qm_convex.specs.inner.Parallelogram.{LeaveRoom, cuboid_between}
 use Rattle.qm_wind.specs.declared.axial_cell.Opposites.{Opposites}
 use Rattle.qm_wind.specs.declared.axial_cell.AxialCell.{AxialCell}
 
@@ -11,9 +11,9 @@ bounds_of r = r.x.near ∷ r.y.near ∷ r.z.near ∷ r.x.far ∷ r.y.far ∷ r.z
 
 -- each pair leaves room
 pub record IsOpen (r : AxialCell) : Type 0 where
-  pub x : AreApart r.x.near r.x.far
-  pub y : AreApart r.y.near r.y.far
-  pub z : AreApart r.z.near r.z.far
+  pub x : LeaveRoom r.x.near r.x.far
+  pub y : LeaveRoom r.y.near r.y.far
+  pub z : LeaveRoom r.z.near r.z.far
 
 -- a pair leaves none
 abbrev pub LeaveNone : Opposites → Type 0

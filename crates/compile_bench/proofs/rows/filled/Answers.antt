@@ -2,7 +2,7 @@ use Rattle.std.proofs.Common.{◌≡◌, ◌<◌, ◌≤◌, ℕ, zero, suc, [],
 use Rattle.qm_mapfile.specs.declared.entity.Entity.{Entity}
 use Rattle.qm_mapfile.specs.declared.entity.MapFile.{MapFile}
 use Rattle.qm_grammar.specs.Origin.{OriginsAreGood, HasGoodOrigin}
-use Rattle.qm_grammar.specs.Valid.{IsValid}
+use Rattle.qm_grammar.specs.Valid.{IsValidMap}
 use Rattle.compile_bench.proofs.rows.filled.Goals as goal
 
 good_among : (entities : List Entity) (k : ℕ) (entity : Entity) → OriginsAreGood entities → 1 ≤ k → k < length entities → get_or entities k entity ≡ entity → HasGoodOrigin entity.pairs
@@ -10,8 +10,8 @@ good_among [] k entity good later within at = absurd (omega (arith, within))
 good_among (world ∷ others) zero entity good later within at = absurd (omega (arith, later))
 good_among (world ∷ others) (suc k) entity good later within at = subst (λ (e : Entity). HasGoodOrigin e.pairs) at (good k entity (omega (arith, within)))
 
-good_origin_at : (map : MapFile) (k : ℕ) (entity : Entity) → IsValid map → 1 ≤ k → k < length map.entities → get_or map.entities k entity ≡ entity → HasGoodOrigin entity.pairs
-unfolding IsValid
+good_origin_at : (map : MapFile) (k : ℕ) (entity : Entity) → IsValidMap map → 1 ≤ k → k < length map.entities → get_or map.entities k entity ≡ entity → HasGoodOrigin entity.pairs
+unfolding IsValidMap
 good_origin_at map k entity valid later within at = good_among map.entities k entity valid.2 later within at
 
 pub origin-requires : goal.origin-requires

@@ -1,7 +1,7 @@
 use Rattle.std.proofs.Common.{◌<◌, Bool, List, length, refl, subst, arith}
 use Rattle.std.proofs.lemmas.Option.{slice_get_read}
 use Rattle.std.proofs.lemmas.List.Elements.{All-contains}
-use Rattle.qm_bits.specs.Word.{IsWord}
+use Rattle.qm_lists.specs.Word.{IsWord}
 use Rattle.qm_base.specs.declared.table.Kind.{Kind}
 use Rattle.qm_base.specs.inner.Ways.{block_of}
 use Rattle.qm_base.proofs.TableSteps.{back_wide}

@@ -1,5 +1,6 @@
-use Rattle.qm_bits.specs.inner.Words.{IsOrBelow}
+use Rattle.std.proofs.Common.{bit_or}
+use Rattle.qm_bits.specs.inner.Words.{IsOfBothBelow}
 use Rattle.qm_bits.proofs.words.set_all.Given as goal
 
 abbrev pub invariant-loop-i : goal.invariant-loop-i
-invariant-loop-i l = IsOrBelow l.i l.fn.words l.other l.words
+invariant-loop-i l = IsOfBothBelow bit_or l.i l.fn.words l.other l.words

@@ -1,9 +1,9 @@
 use Rattle.std.proofs.Common.{arith}
 use Rattle.std.proofs.lemmas.List.{take_rest}
 use Rattle.std.proofs.lemmas.Result.{err_from_is_err_and}
-use Rattle.qm_decimal.proofs.Texts.{first_digits}
-use Rattle.qm_decimal.proofs.Values.{units_below, unit_at_most}
-use Rattle.qm_decimal.proofs.Reading.{past_fault_cut, missing_fault, kept_decimals}
+use Rattle.qm_numerals.proofs.Texts.{first_digits}
+use Rattle.qm_numerals.proofs.Values.{units_below, unit_at_most}
+use Rattle.qm_numerals.proofs.Reading.{past_fault_cut, missing_fault, kept_decimals}
 use Rattle.qm_decimal.proofs.decimals.decimal_part.Goals as goal
 
 pub returns-in_err-value : goal.returns-in_err-value

@@ -2,8 +2,8 @@ use Rattle.std.proofs.Common.{◌<◌, get_or, take, arith}
 use Rattle.std.specs.Char.{digit_value}
 use Rattle.std.proofs.lemmas.Int.Digits.{digits_value_more, digits_more}
 use Rattle.std.proofs.lemmas.List.{length-take}
-use Rattle.qm_decimal.proofs.Texts.{digit_within}
-use Rattle.qm_decimal.proofs.Values.{six_digits}
+use Rattle.qm_numerals.proofs.Texts.{digit_within}
+use Rattle.qm_numerals.proofs.Values.{six_digits}
 use Rattle.qm_decimal.proofs.decimals.few_digits.Goals as goal
 
 pub overflow_mul-value : goal.overflow_mul-value

@@ -1,5 +1,5 @@
 use Rattle.std.proofs.Common.{sym, ◌∙◌}
-use Rattle.qm_decimal.proofs.ByteTests.{digits_from_test, test_from_digits, other_from_test}
+use Rattle.qm_numerals.proofs.ByteTests.{digits_from_test, test_from_digits, other_from_test}
 use Rattle.qm_decimal.proofs.decimals.zeros.Goals as goal
 
 pub returns-then-all_digits : goal.returns-then-all_digits

@@ -1,7 +1,7 @@
 use Rattle.std.proofs.Common.{◌≤◌, arith, mul-le-mul}
 use Rattle.std.proofs.lemmas.Result.{err_from_is_err_and}
-use Rattle.qm_decimal.proofs.Values.{units_below, unit_at_most}
-use Rattle.qm_decimal.proofs.Reading.{missing_fault, no_tail_cut, no_digits, decimal_fault, within_limit, above_limit, tail_cut}
+use Rattle.qm_numerals.proofs.Values.{units_below, unit_at_most}
+use Rattle.qm_numerals.proofs.Reading.{missing_fault, no_tail_cut, no_digits, decimal_fault, within_limit, above_limit, tail_cut}
 use Rattle.qm_decimal.proofs.reader.magnitude.Goals as goal
 
 pub returns-in_err-decimals : goal.returns-in_err-decimals

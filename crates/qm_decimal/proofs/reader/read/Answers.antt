@@ -1,10 +1,10 @@
 use Rattle.std.proofs.Common.{refl, rules, sym, FitsSigned, w64, ◌∙◌}
 use Rattle.std.proofs.lemmas.Int.{to_z-of_z}
 use Rattle.std.proofs.lemmas.Result.{err_from_is_err_and}
-use Rattle.qm_decimal.proofs.Texts.{same_number}
-use Rattle.qm_decimal.specs.Computed.{read_at}
-use Rattle.qm_decimal.proofs.Uniqueness.{signed_fault, signed_value, same_answer}
-use Rattle.qm_decimal.proofs.Computed.{read_at_answers}
+use Rattle.qm_numerals.proofs.Texts.{same_number}
+use Rattle.qm_numerals.specs.Computed.{read_at}
+use Rattle.qm_numerals.proofs.Uniqueness.{signed_fault, signed_value, same_answer}
+use Rattle.qm_numerals.proofs.Computed.{read_at_answers}
 use Rattle.qm_decimal.proofs.reader.read.Goals as goal
 
 pub returns-in_err-magnitude-clause-answer : goal.returns-in_err-magnitude-clause-answer

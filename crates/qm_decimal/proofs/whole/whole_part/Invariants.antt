@@ -1,6 +1,6 @@
 use Rattle.std.proofs.Common.{◌≡◌, ◌+◌, take, min}
 use Rattle.std.specs.Str.Parse.{digits_value, AllDigits}
-use Rattle.qm_decimal.specs.Answer.{limit}
+use Rattle.qm_numerals.specs.Answer.{limit}
 use Rattle.qm_decimal.proofs.whole.whole_part.Given as goal
 
 abbrev pub invariant-loop-count : goal.invariant-loop-count

@@ -5,11 +5,11 @@ use Rattle.qm_chains.specs.inner.OwnRows.{IsInSightAt}
 use Rattle.qm_flow.proofs.Barred.{unseen_via}
 use Rattle.qm_flow.proofs.barring.is_unseen.Goals as goal
 
-pub returns-in-Some-clause-unseen : goal.returns-in-Some-clause-unseen
-returns-in-Some-clause-unseen g c is =
+pub returns-clause-unseen : goal.returns-clause-unseen
+returns-clause-unseen g c is =
     let world = c.args.world.now in
-    let back = c.in-Some.back in
+    let back = c.back.result in
     let from = c.from.ensures.value in
-    unseen_via world c.args.first c.args.portal back from.0 from.1 c.in-Some.ensures.back
+    unseen_via world c.args.first c.args.portal back from.0 from.1 c.back.ensures.back
     (λ seen. c.may_see.ensures.unseen (not-true c.may_see.result is)
     (subst (λ (w : World). IsInSightAt w back c.from.result) (sym c.requires.same_world) (subst (IsInSightAt world back) (sym from.2) seen)))

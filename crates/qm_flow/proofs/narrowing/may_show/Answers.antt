@@ -1,7 +1,7 @@
 use Rattle.std.proofs.Common.{◌≡◌, ◌<◌, ℕ, ◌+◌, ◌*◌, ◌/◌, true, Bool, List, [], ◌∷◌, ◌++◌, Contains, length, take, get_or, sym, subst, arith}
 use Rattle.std.proofs.lemmas.List.{take_all, get_or_default}
 use Rattle.qm_contacts.specs.World.{World}
-use Rattle.qm_bits.specs.Word.{has_bit}
+use Rattle.qm_lists.specs.Word.{has_bit}
 use Rattle.qm_lists.proofs.Places.{take-read}
 use Rattle.qm_chains.specs.inner.Narrowing.{ShowsNothingNew}
 use Rattle.qm_chains.specs.inner.OwnRows.{MustHave}

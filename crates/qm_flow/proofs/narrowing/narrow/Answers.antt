@@ -1,7 +1,7 @@
 use Rattle.std.proofs.Common.{◌≡◌, true, ℕ, ◌<◌, ◌+◌, ◌*◌, length, sym, subst, arith}
 use Rattle.qm_contacts.specs.NumberedLeaves.{numbered_leaves}
 use Rattle.qm_contacts.specs.World.{World}
-use Rattle.qm_bits.specs.Word.{has_bit, IsWord}
+use Rattle.qm_lists.specs.Word.{has_bit, IsWord}
 use Rattle.qm_sight.specs.WordInSight.{ceiling_of}
 use Rattle.qm_chains.specs.inner.OwnRows.{AreOwnRows, MustHave, CanHave}
 use Rattle.qm_chains.proofs.Narrowing.{narrowed_none, narrowed_more, narrowed_clear, narrowed_all}

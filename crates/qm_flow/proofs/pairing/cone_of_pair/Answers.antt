@@ -1,6 +1,7 @@
 use Rattle.std.proofs.Common.{ℕ, Bool, List, length, sym, ap, ◌∙◌, subst, false}
 use Rattle.qm_lists.specs.WorkList.{IsIn}
-use Rattle.qm_chains.specs.inner.Cone.{IsInCone, IsCutTo}
+use Rattle.qm_lists.specs.CutTo.{IsCutTo}
+use Rattle.qm_chains.specs.inner.Cone.{IsInCone}
 use Rattle.qm_chains.specs.inner.Frame.{Frame}
 use Rattle.qm_chains.proofs.PairRows.{none_behind_block}
 use Rattle.qm_chains.proofs.Beginnings.{none_clear}

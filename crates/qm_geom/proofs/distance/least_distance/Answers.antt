@@ -1,7 +1,7 @@
 use Rattle.std.proofs.Common.{◌≡◌, ℤ, to_z, w64, ◌∙◌, ap}
 use Rattle.std.specs.Int.{int_max}
 use Rattle.std.proofs.lemmas.Int.{to_z-of_z}
-use Rattle.qm_geom.proofs.LeastDistances.{so_far_begun, so_far_gained, so_far_ended}
+use Rattle.qm_space.proofs.LeastDistances.{so_far_begun, so_far_gained, so_far_ended}
 use Rattle.qm_geom.proofs.distance.least_distance.Goals as goal
 
 pub loop-corner-init : goal.loop-corner-init

@@ -1,5 +1,5 @@
 use Rattle.std.proofs.Common.{◌≡◌, ◌+◌, get_or, ◌∙◌, arith, rules}
-use Rattle.qm_lex.proofs.ByteSteps.{blank_passed, comment_opens, line_ends_one}
+use Rattle.qm_tokens.proofs.ByteSteps.{blank_passed, comment_opens, line_ends_one}
 use Rattle.qm_lex.proofs.scan.behind_gap.Goals as goal
 
 pub returns-then-byte-le32-clause-gap : goal.returns-then-byte-le32-clause-gap

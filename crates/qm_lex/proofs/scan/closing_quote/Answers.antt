@@ -1,6 +1,6 @@
 use Rattle.std.proofs.Common.{get_or, slice_range, refl, ◌∙◌, arith}
-use Rattle.qm_lex.specs.inner.Modes.{in_quote}
-use Rattle.qm_lex.proofs.ByteSteps.{quote_goes_on, quote_ends, read_at_end, line_ends_one, slice_none}
+use Rattle.qm_tokens.specs.inner.Modes.{in_quote}
+use Rattle.qm_tokens.proofs.ByteSteps.{quote_goes_on, quote_ends, read_at_end, line_ends_one, slice_none}
 use Rattle.qm_lex.proofs.scan.closing_quote.Goals as goal
 
 pub loop-offset-init : goal.loop-offset-init

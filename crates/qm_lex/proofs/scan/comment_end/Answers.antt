@@ -1,6 +1,6 @@
 use Rattle.std.proofs.Common.{length, sym, ◌∙◌, arith}
-use Rattle.qm_lex.specs.inner.Modes.{between, in_comment}
-use Rattle.qm_lex.proofs.ByteSteps.{comment_goes_on, comment_ends, read_at_end}
+use Rattle.qm_tokens.specs.inner.Modes.{between, in_comment}
+use Rattle.qm_tokens.proofs.ByteSteps.{comment_goes_on, comment_ends, read_at_end}
 use Rattle.qm_lex.proofs.scan.comment_end.Goals as goal
 
 pub returns-then-candidate-eq10-clause-passed : goal.returns-then-candidate-eq10-clause-passed

@@ -1,5 +1,5 @@
 use Rattle.std.proofs.Common.{◌≡◌, ℕ, drop}
-use Rattle.qm_lex.specs.inner.Modes.{read, in_comment}
+use Rattle.qm_tokens.specs.inner.Modes.{read, in_comment}
 use Rattle.qm_lex.proofs.scan.comment_end.Given as goal
 
 abbrev pub invariant-loop-offset : goal.invariant-loop-offset

@@ -1,5 +1,5 @@
 use Rattle.std.proofs.Common.{◌∙◌, arith}
-use Rattle.qm_lex.proofs.ByteSteps.{quote_opens}
+use Rattle.qm_tokens.proofs.ByteSteps.{quote_opens}
 use Rattle.qm_lex.proofs.scan.token_at.Goals as goal
 
 pub returns-in-Some : goal.returns-in-Some

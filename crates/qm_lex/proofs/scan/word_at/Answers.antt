@@ -1,5 +1,5 @@
 use Rattle.std.proofs.Common.{◌∙◌, arith}
-use Rattle.qm_lex.proofs.ByteSteps.{word_opens, slice_one}
+use Rattle.qm_tokens.proofs.ByteSteps.{word_opens, slice_one}
 use Rattle.qm_lex.proofs.scan.word_at.Goals as goal
 
 pub returns : goal.returns

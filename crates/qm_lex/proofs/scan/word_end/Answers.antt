@@ -1,6 +1,6 @@
 use Rattle.std.proofs.Common.{◌≡◌, length, slice_range, refl, ◌∙◌, arith}
-use Rattle.qm_lex.specs.inner.Modes.{between, in_word}
-use Rattle.qm_lex.proofs.ByteSteps.{word_goes_on, word_ends, read_at_end}
+use Rattle.qm_tokens.specs.inner.Modes.{between, in_word}
+use Rattle.qm_tokens.proofs.ByteSteps.{word_goes_on, word_ends, read_at_end}
 use Rattle.qm_lex.proofs.scan.word_end.Goals as goal
 
 pub returns-then-next-le32 : goal.returns-then-next-le32

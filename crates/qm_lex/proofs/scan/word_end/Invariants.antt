@@ -1,5 +1,5 @@
 use Rattle.std.proofs.Common.{◌≡◌, ℕ, ◌+◌, drop, slice_range}
-use Rattle.qm_lex.specs.inner.Modes.{read, in_word}
+use Rattle.qm_tokens.specs.inner.Modes.{read, in_word}
 use Rattle.qm_lex.proofs.scan.word_end.Given as goal
 
 abbrev pub invariant-loop-offset : goal.invariant-loop-offset

@@ -1,4 +1,4 @@
-use Rattle.std.proofs.Common.{◌<◌, ◌∙◌, bit_xor, subst}
+use Rattle.std.proofs.Common.{◌∙◌}
 use Rattle.qm_lines.proofs.Asking.{asked_portal, asked_leaf}
 use Rattle.qm_lines.proofs.showing.may_lead.Goals as goal
 
@@ -24,10 +24,6 @@ pub returns-then-not-has_leaf-2 : goal.returns-then-not-has_leaf-2
 returns-then-not-has_leaf-2 g c =
     g.met.S.RowSource.goes_on_in_turn c.args.source.now c.has_leaf.new.source c.has_leaf-2.new.source c.has_leaf.ensures.on c.has_leaf-2.ensures.on
 
-pub returns-then-back-portals : goal.returns-then-back-portals
-returns-then-back-portals g c =
-    g.met.S.RowSource.goes_on_in_turn c.args.source.now c.has_leaf.new.source c.has_leaf-2.new.source c.has_leaf.ensures.on c.has_leaf-2.ensures.on
-
 pub from-requires : goal.from-requires
 from-requires g c = c.requires.portal
 
@@ -37,7 +33,7 @@ has_leaf-requires-3 g c =
     let on = g.met.S.RowSource.goes_on_in_turn c.args.source.now c.has_leaf.new.source c.has_leaf-2.new.source c.has_leaf.ensures.on c.has_leaf-2.ensures.on in
     let same = g.met.S.RowSource.same_world c.args.source.now c.has_leaf-2.new.source on ∙ c.requires.same_world in
     record {
-      portal = asked_portal c.args.world.now answered same (bit_xor c.args.other 1) (subst (λ n. bit_xor c.args.other 1 < n) c.portals.ensures c.if-back-portals.false);
+      portal = asked_portal c.args.world.now answered same c.back.result c.back.ensures.within;
       leaf = asked_leaf c.args.world.now answered same c.from.result c.from.ensures.within;
     }
 

@@ -6,8 +6,8 @@ use Rattle.qm_lines.proofs.showing.show_by_lines.Goals as goal
 pub pane-requires : goal.pane-requires
 pane-requires g c = c.requires.portal
 
-pub returns-in_err-spots : goal.returns-in_err-spots
-returns-in_err-spots g c = record {
+pub returns-in_err-anchors : goal.returns-in_err-anchors
+returns-in_err-anchors g c = record {
   shown = nothing_at_err _ _ c.from_residual.ensures.0;
   on = g.met.S.RowSource.goes_on_itself c.args.source.now;
 }

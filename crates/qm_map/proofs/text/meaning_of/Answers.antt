@@ -1,7 +1,7 @@
 use Rattle.std.proofs.Common.{◌≡◌, ◌∙◌, List, ℕ, ap, sym, subst, Some, Ok, Err}
-use Rattle.qm_lex.specs.Lexeme.{lexeme_of}
-use Rattle.qm_lex.specs.Lexing.{lexeme_then}
-use Rattle.qm_lex.specs.Lexing.{fault_line}
+use Rattle.qm_tokens.specs.Lexeme.{lexeme_of}
+use Rattle.qm_tokens.specs.Lexing.{lexeme_then}
+use Rattle.qm_tokens.specs.Lexing.{fault_line}
 use Rattle.qm_grammar.specs.Prefix.{Prefix}
 use Rattle.qm_grammar.specs.inner.Machine.{ended}
 use Rattle.qm_map.proofs.Meanings.{IsUnderway, begun, lexing_is, refused_is, ended_is, unclosed_is}

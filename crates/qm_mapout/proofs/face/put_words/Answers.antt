@@ -1,7 +1,7 @@
 use Rattle.std.proofs.lemmas.List.Folds.{flat_map-map}
 use Rattle.qm_mapout.specs.Lines.{spaced}
-use Rattle.qm_mapout.specs.Printed.{word}
+use Rattle.qm_mapout.specs.Printed.{word_symbol}
 use Rattle.qm_mapout.proofs.face.put_words.Goals as goal
 
 pub returns : goal.returns
-returns c = rw (flat_map-map spaced word c.args.words.now) c.append_all.ensures
+returns c = rw (flat_map-map spaced word_symbol c.args.words.now) c.append_all.ensures

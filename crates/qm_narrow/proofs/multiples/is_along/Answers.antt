@@ -2,13 +2,13 @@ use Rattle.std.proofs.Common.{pos, refl, ap, sym, ◌∙◌}
 use Rattle.std.specs.Prelude.{int_lt}
 use Rattle.qm_space.specs.Plane.{Plane}
 use Rattle.qm_geom.specs.declared.vector.Vector.{Vector}
-use Rattle.qm_geom.specs.Vectors.{cross}
+use Rattle.qm_geom.specs.Vectors.{cross_vector}
 use Rattle.qm_narrow.proofs.KeptNormals.{signs_kept}
 use Rattle.qm_narrow.proofs.multiples.is_along.Goals as goal
 
 pub returns : goal.returns
 returns c = λ is.
-    let exact = c.cross-across.ensures.exact ∙ ap (cross c.args.normal.now) c.normal-other.ensures.exact in
+    let exact = c.cross-across.ensures.exact ∙ ap (cross_vector c.args.normal.now) c.normal-other.ensures.exact in
     record {
       x_zero = sym (ap (λ (v : Vector). v.x) exact) ∙ c.if-not-is_zero.ensures.x refl;
       y_zero = sym (ap (λ (v : Vector). v.y) exact) ∙ c.if-not-is_zero.ensures.y refl;

@@ -2,13 +2,13 @@ use Rattle.std.proofs.Common.{◌∙◌, ap}
 use Rattle.qm_space.specs.Point.{whole_point}
 use Rattle.qm_space.specs.ThreePoints.{outward_plane}
 use Rattle.qm_space.proofs.PlanesThroughPoints.{whole_point_is_whole}
-use Rattle.qm_geom.specs.Vectors.{step_between, cross, direction_of}
+use Rattle.qm_geom.specs.Vectors.{vector_between, cross_vector, direction_of}
 use Rattle.qm_narrow.proofs.KeptNormals.{through_small}
 use Rattle.qm_narrow.proofs.normal.normal_through.Goals as goal
 
 pub returns-clause-exact : goal.returns-clause-exact
-unfolding outward_plane step_between cross
-returns-clause-exact c = ap direction_of (c.cross.ensures.exact ∙ (λ i. cross (c.between-first.ensures.exact i) (c.between-second.ensures.exact i)))
+unfolding outward_plane vector_between cross_vector
+returns-clause-exact c = ap direction_of (c.cross.ensures.exact ∙ (λ i. cross_vector (c.between-first.ensures.exact i) (c.between-second.ensures.exact i)))
 
 pub returns-clause-size : goal.returns-clause-size
 returns-clause-size c =

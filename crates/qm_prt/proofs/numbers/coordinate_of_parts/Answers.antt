@@ -1,5 +1,5 @@
 use Rattle.std.proofs.Common.{sym, ◌∙◌}
-use Rattle.qm_decimal.proofs.ByteTests.{digits_from_test}
+use Rattle.qm_numerals.proofs.ByteTests.{digits_from_test}
 use Rattle.qm_prt.proofs.numbers.coordinate_of_parts.Goals as goal
 
 pub digits_value-requires-clause-digits : goal.digits_value-requires-clause-digits

@@ -1,7 +1,7 @@
 use Rattle.std.proofs.Common.{List, ℕ, sym, subst}
-use Rattle.qm_formats.specs.Runs.{Spells}
+use Rattle.qm_formats.specs.Runs.{SpellsRow}
 use Rattle.qm_formats.proofs.Spellings.{runs_of-spelt, spells_runs_of}
 use Rattle.qm_runs.proofs.laws.one_spelling.Goals as goal
 
 pub returns : goal.returns
-returns c = λ bytes row. (runs_of-spelt bytes row, λ is. subst (λ (written : List ℕ). Spells written row) (sym is) (spells_runs_of row))
+returns c = λ bytes row. (runs_of-spelt bytes row, λ is. subst (λ (written : List ℕ). SpellsRow written row) (sym is) (spells_runs_of row))

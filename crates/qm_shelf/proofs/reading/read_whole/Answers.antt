@@ -1,6 +1,6 @@
 use Rattle.std.proofs.Common.{◌≡◌, ◌+◌, ◌++◌, ◌≤◌, ℕ, List, Ok, take, drop, vec_len, length, sym, ap, ◌∙◌, arith, subst}
 use Rattle.std.proofs.lemmas.List.{length-take, length-append, length-drop}
-use Rattle.qm_shelf.specs.Reads.{bytes_of}
+use Rattle.qm_shelf.specs.Reads.{bytes_of_file}
 use Rattle.qm_shelf.specs.ShelfState.{shelf_state}
 use Rattle.qm_lists.specs.Limit.{up_to_one_past}
 use Rattle.qm_shelf.proofs.Counted.{stays_twice, no_fault_twice, read_fault_since}
@@ -18,8 +18,8 @@ returns-in-Err-clause-kept g c = stays_twice _ _ _ c.loop-shelf.invariant.kept c
 pub loop-shelf-preserved : goal.loop-shelf-preserved
 loop-shelf-preserved g c =
     let name = c.args.name.now in
-    let bytes = bytes_of (g.H.Shelf.held c.args.shelf.now name) in
-    let same = ap bytes_of (c.loop-shelf.invariant.kept name) in
+    let bytes = bytes_of_file (g.H.Shelf.held c.args.shelf.now name) in
+    let same = ap bytes_of_file (c.loop-shelf.invariant.kept name) in
     let old = c.loop-shelf.bytes in
     let new = c.read_piece.new.bytes in
     let count = c.in-Ok.count in
@@ -37,8 +37,8 @@ pub returns-then-count-eq0-clause-bytes : goal.returns-then-count-eq0-clause-byt
 unfolding up_to_one_past
 returns-then-count-eq0-clause-bytes g c = λ tells.
     let name = c.args.name.now in
-    let bytes = bytes_of (g.H.Shelf.held c.args.shelf.now name) in
-    let same = ap bytes_of (c.loop-shelf.invariant.kept name) in
+    let bytes = bytes_of_file (g.H.Shelf.held c.args.shelf.now name) in
+    let same = ap bytes_of_file (c.loop-shelf.invariant.kept name) in
     let old = c.loop-shelf.bytes in
     let new = c.read_piece.new.bytes in
     let none : c.in-Ok.count ≡ 0 = c.if-count-eq0.true in
@@ -58,4 +58,4 @@ pub returns-clause-bytes : goal.returns-clause-bytes
 unfolding up_to_one_past
 returns-clause-bytes g c = λ tells.
     let all : vec_len c.loop-shelf.bytes ≡ c.args.limit + 1 = omega arith in
-    c.loop-shelf.invariant.so_far tells ∙ ap (λ (n : ℕ). take n (bytes_of (g.H.Shelf.held c.args.shelf.now c.args.name.now))) all
+    c.loop-shelf.invariant.so_far tells ∙ ap (λ (n : ℕ). take n (bytes_of_file (g.H.Shelf.held c.args.shelf.now c.args.name.now))) all

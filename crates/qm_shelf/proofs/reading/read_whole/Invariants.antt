@@ -1,5 +1,5 @@
 use Rattle.std.proofs.Common.{◌≡◌, ◌≤◌, ◌-◌, ◌+◌, IsTrue, length, take, vec_len}
-use Rattle.qm_shelf.specs.Reads.{bytes_of}
+use Rattle.qm_shelf.specs.Reads.{bytes_of_file}
 use Rattle.qm_shelf.specs.ShelfState.{shelf_state}
 use Rattle.qm_shelf.specs.ShelfChanges.{IsKept, MetNoFault}
 use Rattle.qm_shelf.specs.declared.shelf.TheConstants.{PIECE}
@@ -10,7 +10,7 @@ abbrev pub invariant-loop-shelf : goal.invariant-loop-shelf
 invariant-loop-shelf g l = record {
   limit : vec_len l.bytes ≤ l.limit + 1;
   piece : length l.piece.items ≡ PIECE;
-  so_far : IsTrue g.H.Shelf.tells → l.bytes.items ≡ take (vec_len l.bytes) (bytes_of (g.H.Shelf.held l.fn.shelf l.name));
+  so_far : IsTrue g.H.Shelf.tells → l.bytes.items ≡ take (vec_len l.bytes) (bytes_of_file (g.H.Shelf.held l.fn.shelf l.name));
   kept : IsKept (shelf_state g.H.Shelf l.fn.shelf) (shelf_state g.H.Shelf l.shelf);
   no_fault : MetNoFault (shelf_state g.H.Shelf l.fn.shelf) (shelf_state g.H.Shelf l.shelf);
 }

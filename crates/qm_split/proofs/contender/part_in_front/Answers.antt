@@ -3,7 +3,7 @@ use Rattle.qm_space.specs.Plane.{Plane}
 use Rattle.qm_solids.specs.Solid.{Solid}
 use Rattle.qm_split.specs.declared.piece.Piece.{Piece}
 use Rattle.qm_split.specs.declared.contender.Body.{Body}
-use Rattle.qm_split.specs.Pieces.{ArePieces, IsHeldWithin}
+use Rattle.qm_split.specs.Pieces.{ArePiecesInCell, IsHeldWithin}
 use Rattle.qm_split.specs.inner.Parts.{IsFoundPart}
 use Rattle.qm_split.specs.inner.Ranked.{IsLesser}
 use Rattle.qm_split.proofs.RankOrder.{no_pieces}
@@ -17,7 +17,7 @@ returns-in_ok-body-in-Some-clause-part c = λ book cell full reduced section hel
     (ap (λ (os : List Plane). let s : Solid = record { contents = c.args.contents; outward = os } in s) (ap (λ (b : Body). b.outward.items) body ∙ c.in_ok-outward-in-Some.ensures.items))
     full reduced
     (subst (λ (b : Body). IsLesser None b.pieces.items (Some c.in-Some.least)) (sym body) (subst (λ (ps : List Piece). IsLesser None ps (Some c.in-Some.least)) c.deref.ensures.value c.in-Some.ensures))
-    (subst (λ (b : Body). ArePieces book (cell ++ c.args.plane.now ∷ []) (record { contents = c.args.contents; outward = c.args.outward.now }) b.pieces.items) (sym body) pieces)
+    (subst (λ (b : Body). ArePiecesInCell book (cell ++ c.args.plane.now ∷ []) (record { contents = c.args.contents; outward = c.args.outward.now }) b.pieces.items) (sym body) pieces)
     (subst (λ (b : Body). IsHeldWithin b.cuboid (record { contents = c.args.contents; outward = c.args.outward.now }) (cell ++ c.args.plane.now ∷ [])) (sym body) held)
 
 pub returns-in-None-clause-part : goal.returns-in-None-clause-part

@@ -4,7 +4,7 @@ use Rattle.qm_solids.specs.Solid.{Solid}
 use Rattle.qm_split.specs.declared.piece.Piece.{Piece}
 use Rattle.qm_split.specs.declared.contender.Body.{Body}
 use Rattle.qm_split.specs.declared.rank.Rank.{Rank}
-use Rattle.qm_split.specs.Pieces.{ArePieces, IsHeldWithin}
+use Rattle.qm_split.specs.Pieces.{ArePiecesInCell, IsHeldWithin}
 use Rattle.qm_split.specs.inner.Ranked.{IsLesser}
 use Rattle.qm_split.specs.inner.FacePieces.{solid_behind, HasAllBehind}
 use Rattle.qm_lists.proofs.Options.{none_if_not_some}
@@ -20,7 +20,7 @@ returns-in_default c =
     (subst (λ (o : Option Rank). IsLesser None c.deref.result.now o) (none_if_not_some c.least_of.result c.in_default.not-Some) c.least_of.ensures)) in (
       refl,
       contains_cube c.args.book.now (solid_behind c.args.book.now c.args.faces.now c.args.contents) c.requires.full
-          (subst (λ (ps : List Piece). ArePieces c.args.book.now [] (solid_behind c.args.book.now c.args.faces.now c.args.contents) ps) none (c.in_ok-pieces.ensures c.args.contents c.requires.full)),
+          (subst (λ (ps : List Piece). ArePiecesInCell c.args.book.now [] (solid_behind c.args.book.now c.args.faces.now c.args.contents) ps) none (c.in_ok-pieces.ensures c.args.contents c.requires.full)),
     )
 
 pub returns : goal.returns
@@ -31,6 +31,6 @@ returns c =
     (ap (λ (os : List Plane). let s : Solid = record { contents = c.args.contents; outward = os } in s) (ap (λ (b : Body). b.outward.items) body ∙ c.in_ok-outward.ensures))
     c.requires.full (outward_reduced c.args.book.now c.args.faces.now c.len-planes.ensures.planes c.requires.numbered)
     (subst (λ (b : Body). IsLesser None b.pieces.items (Some c.in-Some.least)) (sym body) (subst (λ (ps : List Piece). IsLesser None ps (Some c.in-Some.least)) c.deref.ensures.value c.in-Some.ensures))
-    (subst (λ (b : Body). ArePieces c.args.book.now [] (solid_behind c.args.book.now c.args.faces.now c.args.contents) b.pieces.items) (sym body) (c.in_ok-pieces.ensures c.args.contents c.requires.full))
+    (subst (λ (b : Body). ArePiecesInCell c.args.book.now [] (solid_behind c.args.book.now c.args.faces.now c.args.contents) b.pieces.items) (sym body) (c.in_ok-pieces.ensures c.args.contents c.requires.full))
     (subst (λ (b : Body). IsHeldWithin b.cuboid (solid_behind c.args.book.now c.args.faces.now c.args.contents) []) (sym body)
     (held_in_cube c.cuboid_behind-cuboid.result solid (subst (HasAllBehind c.cuboid_behind-cuboid.result) (c.deref-2.ensures.value ∙ c.in_ok-outward.ensures) c.cuboid_behind-cuboid.ensures)))

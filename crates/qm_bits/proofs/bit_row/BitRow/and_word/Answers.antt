@@ -1,5 +1,5 @@
 use Rattle.std.proofs.Common.{◌*◌, Bool, List, get_or, set, bit_and, subst, arith}
-use Rattle.qm_bits.specs.Word.{IsMasked}
+use Rattle.qm_lists.specs.Word.{IsMasked}
 use Rattle.qm_bits.specs.inner.Rows.{row_of}
 use Rattle.qm_bits.proofs.Rows.{within_row, word_number_within, read_word}
 use Rattle.qm_bits.proofs.Changes.{masked_row, masked_places}

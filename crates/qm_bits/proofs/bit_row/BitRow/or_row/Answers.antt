@@ -1,8 +1,8 @@
-use Rattle.std.proofs.Common.{◌≡◌, ℕ, List, length, take, drop, ◌++◌, subst, ap, sym, ◌∙◌}
+use Rattle.std.proofs.Common.{◌≡◌, ℕ, List, length, take, drop, ◌++◌, bit_or, subst, ap, sym, ◌∙◌}
 use Rattle.std.proofs.lemmas.List.{with_items_is}
-use Rattle.qm_bits.specs.Union.{IsUnion}
+use Rattle.qm_lists.specs.Union.{IsUnion}
 use Rattle.qm_bits.specs.inner.Rows.{row_of}
-use Rattle.qm_bits.specs.inner.Words.{IsOr}
+use Rattle.qm_bits.specs.inner.Words.{IsOfBoth}
 use Rattle.qm_bits.proofs.Rows.{same_counts}
 use Rattle.qm_bits.proofs.Changes.{union_of_lists}
 use Rattle.qm_bits.proofs.bit_row.BitRow.or_row.Goals as goal
@@ -17,7 +17,7 @@ invariant_of-self c =
     let old = c.self.inside.words.items in
     let other = c.other.inside.words.items in
     let new = c.set_all.new.words in
-    let is : IsOr old other new = subst (λ (l : List ℕ). IsOr l other new) c.deref_mut.ensures.value (subst (λ (l : List ℕ). IsOr c.deref_mut.result.now l new) c.deref.ensures.value c.set_all.ensures) in
+    let is : IsOfBoth bit_or old other new = subst (λ (l : List ℕ). IsOfBoth bit_or l other new) c.deref_mut.ensures.value (subst (λ (l : List ℕ). IsOfBoth bit_or c.deref_mut.result.now l new) c.deref.ensures.value c.set_all.ensures) in
     let written : take c.self.inside.words.len (new ++ drop (length new) old) ≡ new = with_items_is c.self.inside.words new (is.same_count ∙ sym c.self.inside.words.ok.0) in
     rw written ((union_of_lists old other new c.self.inside.len c.other.inside.len c.args.self.now c.args.other.now c.self.view_is c.other.view_is c.self.invariant c.other.invariant c.requires is).0)
 
@@ -26,7 +26,7 @@ returns c =
     let old = c.self.inside.words.items in
     let other = c.other.inside.words.items in
     let new = c.set_all.new.words in
-    let is : IsOr old other new = subst (λ (l : List ℕ). IsOr l other new) c.deref_mut.ensures.value (subst (λ (l : List ℕ). IsOr c.deref_mut.result.now l new) c.deref.ensures.value c.set_all.ensures) in
+    let is : IsOfBoth bit_or old other new = subst (λ (l : List ℕ). IsOfBoth bit_or l other new) c.deref_mut.ensures.value (subst (λ (l : List ℕ). IsOfBoth bit_or c.deref_mut.result.now l new) c.deref.ensures.value c.set_all.ensures) in
     let written : take c.self.inside.words.len (new ++ drop (length new) old) ≡ new = with_items_is c.self.inside.words new (is.same_count ∙ sym c.self.inside.words.ok.0) in
     let done : IsUnion c.args.self.now c.args.other.now (row_of (take c.self.inside.words.len (new ++ drop (length new) old)) c.self.inside.len) =
     rw written ((union_of_lists old other new c.self.inside.len c.other.inside.len c.args.self.now c.args.other.now c.self.view_is c.other.view_is c.self.invariant c.other.invariant c.requires is).1) in

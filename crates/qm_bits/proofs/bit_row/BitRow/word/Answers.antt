@@ -1,5 +1,5 @@
 use Rattle.std.proofs.Common.{◌*◌, Bool, List, get_or, subst, sym, arith}
-use Rattle.qm_bits.specs.Word.{IsWord}
+use Rattle.qm_lists.specs.Word.{IsWord}
 use Rattle.qm_bits.proofs.Rows.{within_row, word_number_within, read_word}
 use Rattle.qm_bits.proofs.Changes.{word_of_row}
 use Rattle.qm_bits.proofs.bit_row.BitRow.word.Goals as goal

@@ -1,6 +1,6 @@
 use Rattle.std.proofs.Common.{◌≡◌, ◌+◌, ◌/◌, ◌%◌, ℕ, List, [], ◌++◌, length, decimal, sym, ◌∙◌, ap, arith}
 use Rattle.std.proofs.lemmas.List.{length-append}
-use Rattle.qm_decimal.proofs.Printing.{decimal_put, decimal_last, decimal_short, room_left}
+use Rattle.qm_numerals.proofs.Printing.{decimal_put, decimal_last, decimal_short, room_left}
 use Rattle.qm_decimal.proofs.backward.Backward.put_decimal.Goals as goal
 
 pub put-requires : goal.put-requires

@@ -1,6 +1,6 @@
 use Rattle.std.proofs.Common.{◌≡◌, ◌+◌, ◌-◌, ◌/◌, ◌%◌, ℕ, List, ◌∷◌, ◌++◌, length, sym, ◌∙◌, ap, arith}
-use Rattle.qm_decimal.specs.Printed.{last_digits}
-use Rattle.qm_decimal.proofs.Printing.{six_step}
+use Rattle.qm_numerals.specs.Printed.{last_digits}
+use Rattle.qm_numerals.proofs.Printing.{six_step}
 use Rattle.qm_decimal.proofs.backward.Backward.put_six_digits.Goals as goal
 
 pub put-requires : goal.put-requires

@@ -1,5 +1,5 @@
 use Rattle.std.proofs.Common.{◌≡◌, ◌+◌, ◌-◌, ◌++◌, length}
-use Rattle.qm_decimal.specs.Printed.{last_digits}
+use Rattle.qm_numerals.specs.Printed.{last_digits}
 use Rattle.qm_decimal.proofs.backward.Backward.put_six_digits.Given as goal
 
 abbrev pub invariant-loop : goal.invariant-loop

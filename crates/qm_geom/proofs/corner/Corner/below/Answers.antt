@@ -1,6 +1,6 @@
 use Rattle.std.proofs.Common.{sym, subst}
 use Rattle.qm_numbers.specs.Rounding.{IsRoundedDown}
-use Rattle.qm_geom.specs.Rounding.{HasSmallCoordinates}
+use Rattle.qm_space.specs.Coordinates.{HasSmallCoordinates}
 use Rattle.qm_geom.proofs.Wide.{x_kept, y_kept, z_kept, rule_kept}
 use Rattle.qm_geom.proofs.corner.Corner.below.Goals as goal
 

@@ -3,7 +3,7 @@ use Rattle.qm_space.specs.Meet.{HasMeetSizes}
 use Rattle.qm_space.specs.Reduced.{IsReduced}
 use Rattle.qm_space.proofs.Sizes.{meet_sizes}
 use Rattle.qm_geom.proofs.ByCrosses.{distances_small, meeting_is}
-use Rattle.qm_geom.proofs.Vectors.{IsWithin-more}
+use Rattle.qm_geom.proofs.Vectors.{HasSmallComponents-more}
 use Rattle.qm_geom.proofs.meeting.Meeting.of.Goals as goal
 
 pub dot-requires : goal.dot-requires
@@ -19,7 +19,7 @@ dot-requires-3 c =
     distances_small c.a.inside.d c.b.inside.d c.c.inside.d c.a.invariant.d_small c.b.invariant.d_small c.c.invariant.d_small
 
 pub dot-requires-4 : goal.dot-requires-4
-dot-requires-4 c = IsWithin-more c.normal.result (2 ^ 26) (2 ^ 53) c.normal.ensures.size (lit≤ tt)
+dot-requires-4 c = HasSmallComponents-more c.normal.result (2 ^ 26) (2 ^ 53) c.normal.ensures.size (lit≤ tt)
 
 pub returns : goal.returns
 returns c =

@@ -1,5 +1,5 @@
 use Rattle.std.proofs.Common.{rules, ◌≡◌, ◌^◌, FitsSigned, sym, subst, w32, w64}
-use Rattle.qm_geom.specs.Vectors.{IsWithin}
+use Rattle.qm_geom.specs.Vectors.{HasSmallComponents}
 use Rattle.qm_geom.specs.declared.vector.Vector.{Vector}
 use Rattle.qm_numbers.proofs.Kept.{kept, widened_32}
 use Rattle.qm_geom.proofs.Vectors.{vector, same_vector}
@@ -17,5 +17,5 @@ returns-clause-exact c = rw (← c.self.view_is) (widened c)
 
 pub returns-clause-size : goal.returns-clause-size
 returns-clause-size c =
-    subst (λ (v : Vector). IsWithin v (2 ^ 26)) (sym (widened c))
+    subst (λ (v : Vector). HasSmallComponents v (2 ^ 26)) (sym (widened c))
     (record { x_small = c.self.invariant.nx_small; y_small = c.self.invariant.ny_small; z_small = c.self.invariant.nz_small })

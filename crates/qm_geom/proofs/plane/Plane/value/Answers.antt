@@ -1,10 +1,10 @@
 use Rattle.std.proofs.Common.{rules, ◌*◌, ◌^◌, FitsSigned, ap, lit≤, w64}
 use Rattle.qm_numbers.proofs.Kept.{apart_fits}
-use Rattle.qm_geom.proofs.Vectors.{IsWithin-more, value_at_point}
+use Rattle.qm_geom.proofs.Vectors.{HasSmallComponents-more, value_at_point}
 use Rattle.qm_geom.proofs.plane.Plane.value.Goals as goal
 
 pub dot-along-requires : goal.dot-along-requires
-dot-along-requires c = IsWithin-more c.normal.result (2 ^ 26) (2 ^ 53) c.normal.ensures.size (lit≤ tt)
+dot-along-requires c = HasSmallComponents-more c.normal.result (2 ^ 26) (2 ^ 53) c.normal.ensures.size (lit≤ tt)
 
 pub overflow_sub-result : goal.overflow_sub-result
 overflow_sub-result c =

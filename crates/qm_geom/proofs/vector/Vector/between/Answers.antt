@@ -1,5 +1,5 @@
 use Rattle.std.proofs.Common.{rules, ◌^◌, pos, lit≤}
-use Rattle.qm_geom.specs.Vectors.{step_between}
+use Rattle.qm_geom.specs.Vectors.{vector_between}
 use Rattle.qm_geom.proofs.Vectors.{coordinate_kept, difference_answered, same_vector, small_vector}
 use Rattle.qm_geom.proofs.vector.Vector.between.Goals as goal
 
@@ -22,7 +22,7 @@ difference-requires-3 c = record {
 }
 
 pub returns-clause-exact : goal.returns-clause-exact
-unfolding step_between
+unfolding vector_between
 returns-clause-exact c =
     same_vector _ _ _ _ _ _
     (difference_answered c.difference.result _ _ (c.requires.from_in_cube 0 (pos 0) (search rules)) (c.requires.to_in_cube 0 (pos 0) (search rules)) c.difference.ensures.exact)

@@ -1,5 +1,5 @@
 use Rattle.std.proofs.Common.{◌^◌, lit≤}
-use Rattle.qm_geom.specs.Vectors.{cross}
+use Rattle.qm_geom.specs.Vectors.{cross_vector}
 use Rattle.qm_numbers.proofs.Kept.{crossed_answered, small_kept}
 use Rattle.qm_geom.proofs.Vectors.{same_vector, small_vector}
 use Rattle.qm_geom.proofs.vector.Vector.cross.Goals as goal
@@ -29,7 +29,7 @@ crossed-requires-3 c = record {
 }
 
 pub returns-clause-exact : goal.returns-clause-exact
-unfolding cross
+unfolding cross_vector
 returns-clause-exact c =
     let s = c.requires.self_small in let o = c.requires.other_small in
     same_vector _ _ _ _ _ _

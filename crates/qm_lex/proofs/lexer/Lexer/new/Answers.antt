@@ -1,10 +1,10 @@
 use Rattle.std.proofs.Common.{sym, subst, ◌∙◌}
 use Rattle.std.specs.Prelude.{All}
-use Rattle.qm_lex.specs.Lexeme.{StandsIn}
-use Rattle.qm_lex.specs.Lexing.{Lexing}
-use Rattle.qm_lex.proofs.Cutting.{pieces_of}
-use Rattle.qm_lex.proofs.PieceRuns.{read_pieces}
-use Rattle.qm_lex.proofs.Standing.{pieces_stand}
+use Rattle.qm_tokens.specs.Lexeme.{StandsIn}
+use Rattle.qm_tokens.specs.Lexing.{Lexing}
+use Rattle.qm_tokens.proofs.Cutting.{pieces_of}
+use Rattle.qm_tokens.proofs.PieceRuns.{read_pieces}
+use Rattle.qm_tokens.proofs.Standing.{pieces_stand}
 use Rattle.qm_lex.proofs.lexer.Lexer.new.Goals as goal
 
 pub returns-clause-lexing : goal.returns-clause-lexing

@@ -1,6 +1,6 @@
 use Rattle.std.proofs.Common.{◌∙◌, arith}
-use Rattle.qm_lex.specs.inner.Modes.{between}
-use Rattle.qm_lex.proofs.ByteSteps.{read_at_end}
+use Rattle.qm_tokens.specs.inner.Modes.{between}
+use Rattle.qm_tokens.proofs.ByteSteps.{read_at_end}
 use Rattle.qm_lex.proofs.lexer.Lexer.next.Goals as goal
 
 -- only a gap was left

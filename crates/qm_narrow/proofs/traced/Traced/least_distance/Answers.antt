@@ -2,9 +2,9 @@ use Rattle.std.proofs.Common.{rules, ◌<◌, ◌+◌, ℤ, ◌≤ℤ◌, [], �
 use Rattle.std.specs.Int.{int_max}
 use Rattle.std.proofs.lemmas.Int.{to_z-of_z}
 use Rattle.qm_space.specs.Point.{Point}
-use Rattle.qm_geom.specs.LeastDistance.{IsLeastDistance}
+use Rattle.qm_space.specs.LeastDistance.{IsLeastDistance}
 use Rattle.qm_geom.specs.Vectors.{direction_of}
-use Rattle.qm_geom.proofs.LeastDistances.{IsLeastSoFar, so_far_ended}
+use Rattle.qm_space.proofs.LeastDistances.{IsLeastSoFar, so_far_ended}
 use Rattle.qm_convex.specs.Winding.{corners}
 use Rattle.qm_convex.proofs.Corners.{corners_length}
 use Rattle.qm_narrow.proofs.RaisedDistances.{raised_begins, raised_past, raised_by, at_most_where}

@@ -1,5 +1,5 @@
 use Rattle.std.proofs.Common.{[], ◌∷◌}
-use Rattle.qm_geom.proofs.LeastDistances.{IsLeastSoFar}
+use Rattle.qm_space.proofs.LeastDistances.{IsLeastSoFar}
 use Rattle.qm_convex.specs.Winding.{corners}
 use Rattle.qm_narrow.proofs.traced.Traced.least_distance.Given as goal
 

@@ -7,7 +7,7 @@ use Rattle.qm_split.specs.declared.contender.Body.{Body}
 use Rattle.qm_split.specs.inner.Parts.{IsFoundPart}
 use Rattle.qm_split.proofs.BesidePieces.{stands_off}
 use Rattle.qm_split.proofs.KeptParts.{part_ahead, shortened, left_pieces}
-use Rattle.qm_split.specs.Pieces.{solid_of}
+use Rattle.qm_split.specs.Pieces.{solid_of_contender}
 use Rattle.qm_split.proofs.HeldCuboids.{held_beyond}
 use Rattle.qm_split.proofs.SidesOfPlanes.{none_of_lying}
 use Rattle.qm_split.proofs.contender.Contender.left_beside.Goals as goal
@@ -21,7 +21,7 @@ returns-clause-part c = λ book cell contends section none.
     c.deref_mut.ensures.value
     (subst (λ (ps : List Piece). IsFoundPart (record { contents = c.args.self.contents; outward = c.deref_mut.result.now.outward.items }) c.args.section.now c.deref_mut.result.now.cuboid ps c.left_part.result c.args.plane.now)
     filtered c.left_part.ensures.part))
-    book cell contends section (held_beyond c.args.self.body.value.cuboid (solid_of c.args.self) cell contends.within c.args.plane.now)
+    book cell contends section (held_beyond c.args.self.body.value.cuboid (solid_of_contender c.args.self) cell contends.within c.args.plane.now)
 
 pub returns-clause-count : goal.returns-clause-count
 returns-clause-count c = λ book cell contends none.

@@ -4,8 +4,8 @@ use Rattle.qm_space.specs.Plane.{Plane, flipped}
 use Rattle.qm_space.specs.Cuboid.{least_value, greatest_value}
 use Rattle.qm_split.specs.declared.contender.Body.{Body}
 use Rattle.qm_split.specs.declared.contender.Part.TheVariants.{Kept}
-use Rattle.qm_split.specs.Pieces.{solid_of}
-use Rattle.qm_split.specs.inner.Parts.{HasNoneBehind, IsPartIn, IsSection}
+use Rattle.qm_split.specs.Pieces.{solid_of_contender}
+use Rattle.qm_split.specs.inner.Parts.{HasNoneBehind, IsPartIn, LiesInCell}
 use Rattle.qm_split.proofs.SidesOfPlanes.{none_of_lying, none_of_lying_flipped}
 use Rattle.qm_split.proofs.HeldCuboids.{outside_behind, outside_ahead}
 use Rattle.qm_split.proofs.KeptParts.{moved_ahead, moved_behind, none_behind, none_ahead, kept_whole, shortened, shortened_flipped, section_flipped}
@@ -25,7 +25,7 @@ returns-then-least-gt0-clause-back c = λ book cell contends section.
     let t = c.least_value-least.type_inv in
     let p : pos 0 <ℤ c.least_value-least.result = omega (arith, ints) in
     let above = subst (λ (z : ℤ). pos 0 <ℤ z) (c.least_value-least.ensures.exact ∙ ap (λ (b : Body). least_value c.args.plane.now b.cuboid) c.deref.ensures) p in
-    outside_behind c.args.self.body.value.cuboid (solid_of c.args.self) cell contends.within c.args.plane.now (omega (arith, ints, above))
+    outside_behind c.args.self.body.value.cuboid (solid_of_contender c.args.self) cell contends.within c.args.plane.now (omega (arith, ints, above))
 
 pub returns-then-least-gt0-clause-front_count : goal.returns-then-least-gt0-clause-front_count
 returns-then-least-gt0-clause-front_count c = λ book cell contends.
@@ -49,7 +49,7 @@ returns-then-least-ge0-clause-back c = λ book cell contends section.
     let t = c.least_value-least.type_inv in
     let p : pos 0 ≤ℤ c.least_value-least.result = omega (arith, ints) in
     let above = subst (λ (z : ℤ). pos 0 ≤ℤ z) (c.least_value-least.ensures.exact ∙ ap (λ (b : Body). least_value c.args.plane.now b.cuboid) c.deref.ensures) p in
-    outside_behind c.args.self.body.value.cuboid (solid_of c.args.self) cell contends.within c.args.plane.now above
+    outside_behind c.args.self.body.value.cuboid (solid_of_contender c.args.self) cell contends.within c.args.plane.now above
 
 pub returns-then-least-ge0-clause-front_count : goal.returns-then-least-ge0-clause-front_count
 returns-then-least-ge0-clause-front_count c = λ book cell contends.
@@ -65,7 +65,7 @@ returns-then-greatest-lt0-clause-front c = λ book cell contends section.
     let t = c.greatest_value-greatest.type_inv in
     let p : c.greatest_value-greatest.result <ℤ pos 0 = omega (arith, ints) in
     let below = subst (λ (z : ℤ). z <ℤ pos 0) (c.greatest_value-greatest.ensures.exact ∙ ap (λ (b : Body). greatest_value c.args.plane.now b.cuboid) c.deref-2.ensures) p in
-    outside_ahead c.args.self.body.value.cuboid (solid_of c.args.self) cell contends.within c.args.plane.now (omega (arith, ints, below))
+    outside_ahead c.args.self.body.value.cuboid (solid_of_contender c.args.self) cell contends.within c.args.plane.now (omega (arith, ints, below))
 
 pub returns-then-greatest-lt0-clause-back : goal.returns-then-greatest-lt0-clause-back
 returns-then-greatest-lt0-clause-back c = λ book cell contends section.
@@ -89,7 +89,7 @@ returns-then-greatest-le0-clause-front c = λ book cell contends section.
     let t = c.greatest_value-greatest.type_inv in
     let p : c.greatest_value-greatest.result ≤ℤ pos 0 = omega (arith, ints) in
     let below = subst (λ (z : ℤ). z ≤ℤ pos 0) (c.greatest_value-greatest.ensures.exact ∙ ap (λ (b : Body). greatest_value c.args.plane.now b.cuboid) c.deref-2.ensures) p in
-    outside_ahead c.args.self.body.value.cuboid (solid_of c.args.self) cell contends.within c.args.plane.now below
+    outside_ahead c.args.self.body.value.cuboid (solid_of_contender c.args.self) cell contends.within c.args.plane.now below
 
 pub returns-then-greatest-le0-clause-back : goal.returns-then-greatest-le0-clause-back
 returns-then-greatest-le0-clause-back c = λ book cell contends section.
@@ -97,8 +97,8 @@ returns-then-greatest-le0-clause-back c = λ book cell contends section.
     let t = c.greatest_value-greatest.type_inv in
     let p : c.greatest_value-greatest.result ≤ℤ pos 0 = omega (arith, ints) in
     let below = subst (λ (z : ℤ). z ≤ℤ pos 0) (c.greatest_value-greatest.ensures.exact ∙ ap (λ (b : Body). greatest_value c.args.plane.now b.cuboid) c.deref-2.ensures) p in
-    subst (λ (f : Plane). IsPartIn book (cell ++ f ∷ []) (solid_of c.args.self) c.left_beside-then-greatest-le0.result) c.flipped.ensures
-    (c.left_beside-then-greatest-le0.ensures.part book cell contends (subst (λ (f : Plane). IsSection cell f c.args.section.now) (sym c.flipped.ensures) (section_flipped cell c.args.plane.now c.args.section.now section)) (subst (HasNoneBehind c.args.self) (sym c.flipped.ensures) (none_ahead book cell c.args.self contends c.args.plane.now below)))
+    subst (λ (f : Plane). IsPartIn book (cell ++ f ∷ []) (solid_of_contender c.args.self) c.left_beside-then-greatest-le0.result) c.flipped.ensures
+    (c.left_beside-then-greatest-le0.ensures.part book cell contends (subst (λ (f : Plane). LiesInCell cell f c.args.section.now) (sym c.flipped.ensures) (section_flipped cell c.args.plane.now c.args.section.now section)) (subst (HasNoneBehind c.args.self) (sym c.flipped.ensures) (none_ahead book cell c.args.self contends c.args.plane.now below)))
 
 pub returns-then-greatest-le0-clause-back_count : goal.returns-then-greatest-le0-clause-back_count
 returns-then-greatest-le0-clause-back_count c = λ book cell contends.

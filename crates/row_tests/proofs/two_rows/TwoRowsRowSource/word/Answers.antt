@@ -1,6 +1,6 @@
 use Rattle.std.proofs.Common.{◌≡◌, Bool, true, false, ◌&&◌, refl, sym, ◌∙◌, subst}
-use Rattle.qm_bits.specs.Word.{has_bit}
-use Rattle.qm_bits.proofs.Bits.{has_bit-and}
+use Rattle.qm_lists.specs.Word.{has_bit}
+use Rattle.qm_lists.proofs.Bits.{has_bit-and}
 use Rattle.qm_contacts.specs.World.{World}
 use Rattle.qm_sight.specs.WordInSight.{LacksNoneInSight}
 use Rattle.row_tests.proofs.two_rows.TwoRowsRowSource.word.Goals as goal

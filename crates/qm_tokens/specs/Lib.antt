@@ -1,0 +1,5 @@
+pub mod Lexeme
+pub mod Piece
+pub mod Lexing
+pub mod Reading
+pub mod inner
