@@ -1,8 +1,8 @@
 -- What comes of reading a text, making files of it and writing these, one after another.
 use Rattle.std.proofs.Common.{◌≡◌, ℕ, Bool, List, Option, Some, None, ◌⊎◌, inl, inr, subst, refl, Ok}
-use Rattle.qm_shelf.specs.ShelfState.{ShelfState}
-use Rattle.qm_shelf.specs.ShelfChanges.{IsKept, MetNoFault}
-use Rattle.qm_shelf.specs.WholeFiles.{HoldsTheSame, HoldsUnfinished}
+use Rattle.qm_surroundings.specs.ShelfState.{ShelfState}
+use Rattle.qm_surroundings.specs.ShelfChanges.{IsKept, MetNoFault}
+use Rattle.qm_surroundings.specs.WholeFiles.{HoldsTheSame, HoldsUnfinished}
 use Rattle.qm_shelf.specs.declared.shelf.ShelfFault.{ShelfFault}
 use Rattle.qm_shelf.specs.declared.shelf.ShelfFault.TheVariants.{Failed, Memory}
 use Rattle.qm_mapfile.specs.declared.entity.MapFile.{MapFile}

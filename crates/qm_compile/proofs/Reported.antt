@@ -1,5 +1,5 @@
 use Rattle.std.proofs.Common.{◌≡◌, ℕ, List, sym, subst, inl, inr}
-use Rattle.qm_shelf.specs.Surroundings.{Surroundings}
+use Rattle.qm_surroundings.specs.Surroundings.{Surroundings}
 use Rattle.qm_compile.specs.declared.outcome.Outcome.{Outcome}
 use Rattle.qm_compile.specs.declared.outcome.Outcome.TheVariants.{Done, Usage, Leak, ReadFault, MapFault, WriteFault}
 use Rattle.qm_statement.specs.declared.status.Status.{Status}

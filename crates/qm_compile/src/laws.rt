@@ -1,6 +1,6 @@
 //! How the program ends over forms that never fail.
 
-ghost use Rattle.qm_shelf.specs.Surroundings.{surroundings};
+ghost use Rattle.qm_shelf.specs.SeenForms.{surroundings};
 ghost use Rattle.qm_statement.specs.declared.command.Command.{Command};
 ghost use Rattle.qm_statement.specs.Command.{IsCommand};
 ghost use Rattle.qm_statement.specs.FileNames.{FileNames};

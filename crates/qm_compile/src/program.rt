@@ -1,8 +1,7 @@
 //! All that the program does.
 
 ghost use Rattle.std.specs.Prelude.{IfOk, OnErr};
-ghost use Rattle.qm_shelf.specs.Surroundings.{surroundings};
-ghost use Rattle.qm_shelf.specs.ShelfState.{shelf_state};
+ghost use Rattle.qm_shelf.specs.SeenForms.{surroundings, shelf_state};
 ghost use Rattle.qm_statement.specs.declared.command.Command.{Command};
 ghost use Rattle.qm_statement.specs.Command.{IsCommand};
 ghost use Rattle.qm_statement.specs.FileNames.{FileNames, AreDifferent};

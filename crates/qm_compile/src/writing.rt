@@ -1,6 +1,6 @@
 //! Writing what a command makes of a map.
 
-ghost use Rattle.qm_shelf.specs.ShelfState.{shelf_state};
+ghost use Rattle.qm_shelf.specs.SeenForms.{shelf_state};
 ghost use Rattle.qm_statement.specs.FileNames.{AreDifferent};
 ghost use Rattle.qm_words.specs.SeenWords.{names_of};
 ghost use Rattle.qm_compile.specs.inner.Made.{output_of};

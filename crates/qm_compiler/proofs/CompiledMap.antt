@@ -6,11 +6,11 @@ use Rattle.std.proofs.lemmas.List.{length-map}
 use Rattle.std.proofs.lemmas.List.Elements.{length_all_zip}
 use Rattle.qm_space.specs.Plane.{Plane}
 use Rattle.qm_space.specs.Reduced.{IsReduced}
-use Rattle.qm_geom.specs.Planes.{AreEnteredInBook}
+use Rattle.qm_space.specs.Entered.{AreEnteredInBook}
 use Rattle.qm_geom.proofs.EnteredPlanes.{one_book}
 use Rattle.qm_mapfile.specs.declared.entity.MapFile.{MapFile}
-use Rattle.qm_brush.specs.Planes.{drawn_planes}
-use Rattle.qm_brush.specs.Solids.{drawn_solids}
+use Rattle.qm_drawn.specs.Planes.{drawn_planes}
+use Rattle.qm_drawn.specs.Solids.{drawn_solids}
 use Rattle.qm_solids.specs.Alike.{IsAlike}
 use Rattle.qm_solids.specs.InBook.{BookSolid, solid_in, solids_in, IsBookOf}
 use Rattle.qm_solids.proofs.AlikeSolids.{same_contents_back}

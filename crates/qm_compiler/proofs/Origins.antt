@@ -12,7 +12,7 @@ use Rattle.qm_grammar.specs.Origin.{origin_key, value_of, HasGoodOrigin, Origins
 use Rattle.qm_grammar.specs.Valid.{IsValidMap}
 use Rattle.qm_grammar.specs.inner.Machine.{origin_of}
 use Rattle.qm_grammar.proofs.OriginTexts.{spelled_origin}
-use Rattle.qm_map.specs.OriginPoint.{IsOriginPoint}
+use Rattle.qm_grammar.specs.OriginPoint.{IsOriginPoint}
 use Rattle.qm_contacts.specs.Leak.{Origin, AreInOrder}
 use Rattle.qm_statement.specs.Origins.{StandAt, none_left, nowhere, somewhere, AreOriginsOf}
 

@@ -1,9 +1,9 @@
 -- How a command ends that meets no fault of the surroundings.
 use Rattle.std.proofs.Common.{◌≡◌, ℕ, Bool, List, Ok, Err, Result, sym, subst, inl, inr, arith}
 use Rattle.std.specs.Prelude.{IsTrue}
-use Rattle.qm_shelf.specs.Counts.{Rose}
-use Rattle.qm_shelf.specs.Surroundings.{Surroundings}
-use Rattle.qm_shelf.specs.ShelfState.{text_under}
+use Rattle.qm_surroundings.specs.Counts.{Rose}
+use Rattle.qm_surroundings.specs.Surroundings.{Surroundings}
+use Rattle.qm_surroundings.specs.ShelfState.{text_under}
 use Rattle.qm_mapfile.specs.declared.entity.MapFile.{MapFile}
 use Rattle.qm_grammar.specs.declared.fault.MapFault.{MapFault}
 use Rattle.qm_grammar.specs.Meaning.{IsMapText}

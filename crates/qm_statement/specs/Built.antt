@@ -1,6 +1,6 @@
 use Rattle.std.specs.Prelude.{◌≡◌, List}
 use Rattle.qm_mapfile.specs.declared.entity.MapFile.{MapFile}
-use Rattle.qm_brush.specs.Solids.{drawn_solids}
+use Rattle.qm_drawn.specs.Solids.{drawn_solids}
 use Rattle.qm_partition.specs.Tree.{Tree}
 use Rattle.qm_partition.specs.Ways.{HasPoints}
 use Rattle.qm_solid_tree.specs.GivesContents.{GivesContents}

@@ -1,7 +1,7 @@
 use Rattle.std.specs.Prelude.{◌≡◌, ℕ, IsTrue, ◌⊎◌, List, Some, Ok, Err}
-use Rattle.qm_shelf.specs.ShelfState.{ShelfState}
-use Rattle.qm_shelf.specs.ShelfChanges.{IsKept, IsKeptElsewhere, MetNoFault, FailedToRead, FailedToWrite}
-use Rattle.qm_shelf.specs.WholeFiles.{HoldsTheSame, HoldsPrefix}
+use Rattle.qm_surroundings.specs.ShelfState.{ShelfState}
+use Rattle.qm_surroundings.specs.ShelfChanges.{IsKept, IsKeptElsewhere, MetNoFault, FailedToRead, FailedToWrite}
+use Rattle.qm_surroundings.specs.WholeFiles.{HoldsTheSame, HoldsPrefix}
 use Rattle.qm_mapfile.specs.declared.entity.MapFile.{MapFile}
 use Rattle.qm_grammar.specs.declared.fault.MapFault.{MapFault}
 use Rattle.qm_statement.specs.declared.command.Command.{Command}

@@ -1,7 +1,7 @@
 use Rattle.std.specs.Prelude.{◌≡◌, ℕ, IsTrue, List, Some}
-use Rattle.qm_shelf.specs.Counts.{Rose}
-use Rattle.qm_shelf.specs.Surroundings.{Surroundings}
-use Rattle.qm_shelf.specs.ShelfState.{text_under}
+use Rattle.qm_surroundings.specs.Counts.{Rose}
+use Rattle.qm_surroundings.specs.Surroundings.{Surroundings}
+use Rattle.qm_surroundings.specs.ShelfState.{text_under}
 use Rattle.qm_mapfile.specs.declared.entity.MapFile.{MapFile}
 use Rattle.qm_grammar.specs.Meaning.{IsMapText}
 use Rattle.qm_partition.specs.Tree.{Tree}

@@ -3,7 +3,7 @@ use Rattle.qm_space.specs.Point.{Point}
 use Rattle.qm_mapfile.specs.declared.entity.Entity.{Entity}
 use Rattle.qm_mapfile.specs.declared.entity.MapFile.{MapFile}
 use Rattle.qm_grammar.specs.Origin.{origin_key, value_of}
-use Rattle.qm_map.specs.OriginPoint.{IsOriginPoint}
+use Rattle.qm_grammar.specs.OriginPoint.{IsOriginPoint}
 use Rattle.qm_contacts.specs.Leak.{Origin}
 
 -- where entities stand, of which the first has the number k: those that have the key `origin`, at the point that it gives

@@ -2,7 +2,7 @@ use Rattle.std.specs.Prelude.{◌≡◌, ◌≤◌, ◌⊎◌, ℕ, Bool, true, 
 use Rattle.qm_mapfile.specs.declared.entity.MapFile.{MapFile}
 use Rattle.qm_grammar.specs.Faults.{text_limit}
 use Rattle.qm_grammar.specs.Meaning.{IsMapText}
-use Rattle.qm_mapout.specs.Printed.{printed_map}
+use Rattle.qm_grammar.specs.Printed.{printed_map}
 use Rattle.qm_contacts.specs.World.{World}
 use Rattle.qm_formats.specs.TreeFile.{TreeFile}
 use Rattle.qm_listing.specs.declared.listing.Listing.{Listing}

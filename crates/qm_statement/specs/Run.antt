@@ -1,8 +1,8 @@
 use Rattle.std.specs.Prelude.{ℕ, ◌⊎◌, List, []}
-use Rattle.qm_shelf.specs.Surroundings.{Surroundings}
-use Rattle.qm_shelf.specs.Printing.{IsPrinted, IsPartlyPrinted, PrintedWithoutFault, FailedToPrint}
-use Rattle.qm_shelf.specs.ShelfState.{ShelfState}
-use Rattle.qm_shelf.specs.ShelfChanges.{IsKept, MetNoFault}
+use Rattle.qm_surroundings.specs.Surroundings.{Surroundings}
+use Rattle.qm_surroundings.specs.Printing.{IsPrinted, IsPartlyPrinted, PrintedWithoutFault, FailedToPrint}
+use Rattle.qm_surroundings.specs.ShelfState.{ShelfState}
+use Rattle.qm_surroundings.specs.ShelfChanges.{IsKept, MetNoFault}
 use Rattle.qm_statement.specs.declared.command.Command.{Command}
 use Rattle.qm_statement.specs.declared.status.Status.{Status}
 use Rattle.qm_statement.specs.declared.status.Status.TheVariants.{Usage, WriteFault, Memory}

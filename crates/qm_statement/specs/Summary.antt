@@ -1,6 +1,6 @@
 use Rattle.std.specs.Prelude.{◌≡◌, ℕ, Bool, true, false, List, ◌++◌, length, sum_by, count_by, codes, if◌then◌else◌}
 use Rattle.qm_mapfile.specs.declared.entity.MapFile.{MapFile}
-use Rattle.qm_brush.specs.Solids.{drawn_solids}
+use Rattle.qm_drawn.specs.Solids.{drawn_solids}
 use Rattle.qm_solids.specs.Flat.{HasFlat}
 use Rattle.qm_partition.specs.Counting.{node_count, leaf_count, leaves_of}
 use Rattle.qm_partition.specs.Tree.{Tree}
@@ -8,7 +8,7 @@ use Rattle.qm_contacts.specs.Leak.{Origin}
 use Rattle.qm_contacts.specs.Filled.{NoneTakesPart, IsSealed}
 use Rattle.qm_contacts.specs.NumberedLeaves.{is_numbered}
 use Rattle.qm_contacts.specs.Portals.{HasPassages}
-use Rattle.qm_rows.specs.Seen.{seen_of}
+use Rattle.qm_coarse_rows.specs.Seen.{seen_of}
 use Rattle.qm_statement.specs.declared.summary.Summary.{Summary}
 use Rattle.qm_statement.specs.Texts.{line, line_of_count}
 

@@ -1,5 +1,5 @@
 use Rattle.std.specs.Prelude.{◌≡◌, ℕ, IsTrue, List, Result}
-use Rattle.qm_shelf.specs.ShelfState.{ShelfState, text_under}
+use Rattle.qm_surroundings.specs.ShelfState.{ShelfState, text_under}
 use Rattle.qm_mapfile.specs.declared.entity.MapFile.{MapFile}
 use Rattle.qm_grammar.specs.declared.fault.MapFault.{MapFault}
 use Rattle.qm_grammar.specs.Meaning.{Means}

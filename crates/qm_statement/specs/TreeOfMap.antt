@@ -1,9 +1,9 @@
 use Rattle.std.specs.Prelude.{List, []}
 use Rattle.qm_space.specs.Plane.{Plane}
 use Rattle.qm_mapfile.specs.declared.entity.MapFile.{MapFile}
-use Rattle.qm_geom.specs.Planes.{AreEnteredInBook}
-use Rattle.qm_brush.specs.Planes.{drawn_planes}
-use Rattle.qm_brush.specs.Solids.{drawn_solids}
+use Rattle.qm_space.specs.Entered.{AreEnteredInBook}
+use Rattle.qm_drawn.specs.Planes.{drawn_planes}
+use Rattle.qm_drawn.specs.Solids.{drawn_solids}
 use Rattle.qm_partition.specs.Tree.{Tree}
 use Rattle.qm_solid_tree.specs.TreeOf.{IsTreeOf}
 

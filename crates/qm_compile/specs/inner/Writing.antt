@@ -1,7 +1,8 @@
 use Rattle.std.specs.Prelude.{◌≡◌, ◌⊎◌, ℕ, List, Result, Ok, Err, Some, IsTrue}
-use Rattle.qm_shelf.specs.ShelfState.{ShelfState}
-use Rattle.qm_shelf.specs.ShelfChanges.{IsKeptElsewhere, MetNoFault, WriteFaultMeans}
-use Rattle.qm_shelf.specs.WholeFiles.{HoldsUnfinished}
+use Rattle.qm_surroundings.specs.ShelfState.{ShelfState}
+use Rattle.qm_surroundings.specs.ShelfChanges.{IsKeptElsewhere, MetNoFault}
+use Rattle.qm_shelf.specs.FaultMeans.{WriteFaultMeans}
+use Rattle.qm_surroundings.specs.WholeFiles.{HoldsUnfinished}
 use Rattle.qm_shelf.specs.declared.shelf.ShelfFault.{ShelfFault}
 use Rattle.qm_statement.specs.FileNames.{FileNames}
 use Rattle.qm_statement.specs.Output.{Output}

@@ -1,6 +1,6 @@
 use Rattle.std.specs.Prelude.{◌≡◌, ℕ, length, All}
 use Rattle.qm_mapfile.specs.declared.entity.MapFile.{MapFile}
-use Rattle.qm_brush.specs.Solids.{drawn_solids}
+use Rattle.qm_drawn.specs.Solids.{drawn_solids}
 use Rattle.qm_solids.specs.Flat.{HasFlat}
 use Rattle.qm_space.specs.Reduced.{IsReduced}
 use Rattle.qm_partition.specs.Tree.{Tree}

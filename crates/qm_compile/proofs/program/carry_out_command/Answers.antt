@@ -1,6 +1,6 @@
 use Rattle.std.proofs.Common.{refl, sym, subst, inl, List, ℕ, Err}
-use Rattle.qm_shelf.specs.ShelfState.{shelf_state}
-use Rattle.qm_shelf.specs.ShelfChanges.{ReadFaultMeans}
+use Rattle.qm_shelf.specs.SeenForms.{shelf_state}
+use Rattle.qm_shelf.specs.FaultMeans.{ReadFaultMeans}
 use Rattle.qm_shelf.specs.declared.shelf.ShelfFault.{ShelfFault}
 use Rattle.qm_statement.specs.declared.status.Status.TheVariants.{MapFault}
 use Rattle.qm_words.specs.SeenWords.{names_of}

@@ -1,8 +1,8 @@
 use Rattle.std.proofs.Common.{◌++◌, ◌∙◌, refl, sym, ap, subst, List, ℕ}
 use Rattle.std.specs.Prelude.{IsTrue}
 use Rattle.std.proofs.lemmas.List.{append-nil}
-use Rattle.qm_shelf.specs.Counts.{SinkFaultCounted}
-use Rattle.qm_shelf.specs.Writes.{ContinuesInto}
+use Rattle.qm_shelf.specs.FaultCounts.{SinkFaultCounted}
+use Rattle.qm_surroundings.specs.HeldFile.{ContinuesInto}
 use Rattle.qm_shelf.specs.declared.sink.SinkFault.{SinkFault}
 use Rattle.qm_compile.specs.inner.Outcome.{due_status, due_text}
 use Rattle.qm_statement.proofs.Completeness.{complete}

@@ -1,7 +1,7 @@
 use Rattle.std.proofs.Common.{List, subst}
 use Rattle.qm_space.specs.Plane.{Plane}
-use Rattle.qm_geom.specs.Planes.{AreEnteredInBook}
-use Rattle.qm_brush.specs.Planes.{drawn_planes}
+use Rattle.qm_space.specs.Entered.{AreEnteredInBook}
+use Rattle.qm_drawn.specs.Planes.{drawn_planes}
 use Rattle.qm_compiler.proofs.CompiledMap.{counted_map}
 use Rattle.qm_compiler.proofs.building.build_map.Goals as goal
 

@@ -10,7 +10,7 @@ use Rattle.qm_mapfile.specs.declared.entity.Pair.{Pair}
 use Rattle.qm_mapfile.specs.declared.entity.Entity.{Entity}
 use Rattle.qm_mapfile.specs.declared.entity.MapFile.{MapFile}
 use Rattle.qm_grammar.specs.Symbol.{Symbol, mark_of}
-use Rattle.qm_mapout.specs.Lines.{TokenLine, text_of_lines}
+use Rattle.qm_grammar.specs.Lines.{TokenLine, text_of_lines}
 
 -- The canonical text of a map, line by line.
 

@@ -1,6 +1,6 @@
 use Rattle.std.specs.Prelude.{ℕ, ◌≡◌, ◌⊎◌, IsTrue, List, take, Some}
 use Rattle.qm_lists.specs.Limit.{up_to_one_past}
-use Rattle.qm_shelf.specs.ShelfState.{ShelfState, text_under}
+use Rattle.qm_surroundings.specs.ShelfState.{ShelfState, text_under}
 
 -- Files that are read and written whole.
 

@@ -1,8 +1,6 @@
 use Rattle.std.specs.Prelude.{ℕ, List}
-use Rattle.qm_shelf.specs.Counts.{Rose, Stays, StaysElsewhere}
-use Rattle.qm_shelf.specs.ShelfState.{ShelfState}
-use Rattle.qm_shelf.specs.declared.shelf.ShelfFault.{ShelfFault}
-use Rattle.qm_shelf.specs.declared.shelf.ShelfFault.TheVariants.{Failed, Memory}
+use Rattle.qm_surroundings.specs.Counts.{Rose, Stays, StaysElsewhere}
+use Rattle.qm_surroundings.specs.ShelfState.{ShelfState}
 
 -- What happened to a shelf between two moments.
 
@@ -28,13 +26,3 @@ pub record FailedToRead (before after : ShelfState) (name : List ℕ) : Type 0 w
 pub record FailedToWrite (before after : ShelfState) (name : List ℕ) : Type 0 where
   pub rose : Rose (before.write_faults name) (after.write_faults name)
   pub reads : Stays before.read_faults after.read_faults
-
--- what a fault of reading a name means: reading failed, or memory ran out and nothing failed
-abbrev pub ReadFaultMeans : ShelfState → ShelfState → List ℕ → ShelfFault → Type 0
-ReadFaultMeans before after name Failed = FailedToRead before after name
-ReadFaultMeans before after name Memory = MetNoFault before after
-
--- what a fault of writing a name means: writing failed, or memory ran out and nothing failed
-abbrev pub WriteFaultMeans : ShelfState → ShelfState → List ℕ → ShelfFault → Type 0
-WriteFaultMeans before after name Failed = FailedToWrite before after name
-WriteFaultMeans before after name Memory = MetNoFault before after

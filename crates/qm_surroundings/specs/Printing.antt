@@ -1,7 +1,7 @@
 use Rattle.std.specs.Prelude.{ℕ, ◌≡◌, ◌++◌, IsTrue, List}
-use Rattle.qm_shelf.specs.Counts.{Rose}
-use Rattle.qm_shelf.specs.SinkState.{SinkState}
-use Rattle.qm_shelf.specs.Writes.{ContinuesInto}
+use Rattle.qm_surroundings.specs.Counts.{Rose}
+use Rattle.qm_surroundings.specs.SinkState.{SinkState}
+use Rattle.qm_surroundings.specs.HeldFile.{ContinuesInto}
 
 -- What happened to a sink between two moments.
 

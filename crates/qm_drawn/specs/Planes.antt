@@ -5,7 +5,7 @@ use Rattle.qm_mapfile.specs.declared.face.Face.{Face}
 use Rattle.qm_mapfile.specs.declared.entity.Brush.{Brush}
 use Rattle.qm_mapfile.specs.declared.entity.MapFile.{MapFile}
 use Rattle.qm_mapfile.specs.Face.{face_plane}
-use Rattle.qm_brush.specs.Brushes.{drawn_brushes}
+use Rattle.qm_drawn.specs.Brushes.{drawn_brushes}
 
 -- the plane of a face in lowest terms, led by a positive component
 abbrev pub plane_of_face : Face → Plane

@@ -6,7 +6,7 @@ use Rattle.qm_mapfile.specs.declared.entity.MapFile.{MapFile}
 use Rattle.qm_mapfile.specs.Face.{face_outward}
 use Rattle.qm_contents.specs.declared.contents.Contents.{Contents}
 use Rattle.qm_solids.specs.Solid.{Solid}
-use Rattle.qm_brush.specs.Brushes.{world_brushes, contents_of_brush}
+use Rattle.qm_drawn.specs.Brushes.{world_brushes, contents_of_brush}
 
 -- a brush filled with these contents: it lies behind the planes of its faces, as the text gives them
 abbrev pub filled_with : Brush → Contents → Solid

@@ -1,24 +1,11 @@
-use Rattle.std.specs.Prelude.{ℕ, ◌≡◌, ◌≢◌, ◌<◌, ◌≤◌, ◌-◌, ◌^◌, ◌⊎◌, List, Result, Ok, Err}
+use Rattle.std.specs.Prelude.{ℕ, ◌≡◌, List, Result, Ok, Err}
+use Rattle.qm_surroundings.specs.Counts.{Rose, Stays}
 use Rattle.qm_shelf.specs.declared.shelf.ShelfFault.{ShelfFault}
 use Rattle.qm_shelf.specs.declared.shelf.ShelfFault.TheVariants as shelf_fault
 use Rattle.qm_shelf.specs.declared.sink.SinkFault.{SinkFault}
 use Rattle.qm_shelf.specs.declared.sink.SinkFault.TheVariants as sink_fault
 
--- a count is greater after a call than before it, or stands at its type's end
-abbrev pub Rose : ℕ → ℕ → Type 0
-Rose before after = (before < after) ⊎ (2 ^ 64 - 1 ≤ after)
-
--- what is known of each name is the same before and after
-abbrev pub Stays : {A : Type 0} → (List ℕ → A) → (List ℕ → A) → Type 0
-Stays before after = (name : List ℕ) → after name ≡ before name
-
--- what is known of each name but this one is the same before and after
-abbrev pub StaysElsewhere : {A : Type 0} → List ℕ → (List ℕ → A) → (List ℕ → A) → Type 0
-StaysElsewhere here before after = (name : List ℕ) → name ≢ here → after name ≡ before name
-
--- no name's count is lower after than before
-abbrev pub NeverFall : (List ℕ → ℕ) → (List ℕ → ℕ) → Type 0
-NeverFall before after = (name : List ℕ) → before name ≤ after name
+-- What a call does to the counts of faults.
 
 -- a call that met this fault: where it failed it raised the count of its name, and else it left the counts of all names
 abbrev pub ShelfFaultCounted : ShelfFault → List ℕ → (List ℕ → ℕ) → (List ℕ → ℕ) → Type 0
