@@ -31,20 +31,20 @@ found_still Has s old new least lowest gains are = record {
 
 module _ (s p : Winding) (old new : List Plane) where
   pub found_along : (along : Plane) → HasLowestNormal along → Gains (PartsAlong s p along) old new → AreAtLeastDistance s old → AreAtLeastDistance s new
-  found_along along lowest = found_still (PartsAlong s p along) s old new (λ h is. is.least) (λ h is. like_lowest h along is.normal lowest)
+  found_along along lowest = found_still (PartsAlong s p along) s old new (λ h is. is.touches) (λ h is. like_lowest h along is.normal lowest)
 
   pub found_by : (at from to : Point) → Gains (SeparatesBy s p at from to) old new → AreAtLeastDistance s old → AreAtLeastDistance s new
-  found_by at from to = found_still (SeparatesBy s p at from to) s old new (λ h is. is.0.least) (λ h is. is.1.lowest)
+  found_by at from to = found_still (SeparatesBy s p at from to) s old new (λ h is. is.0.touches) (λ h is. is.1.lowest)
 
   pub found_by_mix : (below above from to : Point) → Gains (SeparatesByMix s p below above from to) old new → AreAtLeastDistance s old → AreAtLeastDistance s new
-  found_by_mix below above from to = found_still (SeparatesByMix s p below above from to) s old new (λ h is. is.2.0.least) (λ h is. is.2.1.lowest)
+  found_by_mix below above from to = found_still (SeparatesByMix s p below above from to) s old new (λ h is. is.2.0.touches) (λ h is. is.2.1.lowest)
 
   module _ (e o : Winding) where
     pub found_by_corners : (i n : ℕ) → Gains (HasBelow n (SeparatesAt s p e o i)) old new → AreAtLeastDistance s old → AreAtLeastDistance s new
-    found_by_corners i n = found_still (HasBelow n (SeparatesAt s p e o i)) s old new (λ h is. is.2.separator.least) (λ h is. is.2.normal.lowest)
+    found_by_corners i n = found_still (HasBelow n (SeparatesAt s p e o i)) s old new (λ h is. is.2.separator.touches) (λ h is. is.2.normal.lowest)
 
     pub found_by_edges : (n : ℕ) → Gains (HasBelow n (SeparatesByEdge s p e o)) old new → AreAtLeastDistance s old → AreAtLeastDistance s new
-    found_by_edges n = found_still (HasBelow n (SeparatesByEdge s p e o)) s old new (λ h is. is.2.2.separator.least) (λ h is. is.2.2.normal.lowest)
+    found_by_edges n = found_still (HasBelow n (SeparatesByEdge s p e o)) s old new (λ h is. is.2.2.separator.touches) (λ h is. is.2.2.normal.lowest)
 
 -- ---- the normals
 

@@ -119,7 +119,7 @@ pub left_right_row : IsSeparator (doorway (pos 0)) (doorway (pos 64)) left_right
 unfolding value corner_at next_place meet determinant
 left_right_row = record {
   across = inl left_right_across;
-  least = least_by_neighbours (pos 1 ∷ pos 2 ∷ pos 0 ∷ []) (corners (doorway (pos 0))) (pos 32) near_weights
+  touches = least_by_neighbours (pos 1 ∷ pos 2 ∷ pos 0 ∷ []) (corners (doorway (pos 0))) (pos 32) near_weights
       (subst (λ (ps : List Point). All (λ p. IsNotInFront left_right p) ps) (sym near_corners) (All-from_recursion (λ p. IsNotInFront left_right p) (spot (pos 0) low low ∷ spot (pos 0) high low ∷ spot (pos 0) high high ∷ spot (pos 0) low high ∷ []) (omega (arith, ints), (omega (arith, ints), (omega (arith, ints), (omega (arith, ints), tt))))))
       (1, spot (pos 0) high low, omega arith, refl, omega (arith, ints));
   in_front = none_behind_far left_right (All-from_recursion (λ p. IsNotBehind left_right p) (spot (pos 64) low low ∷ spot (pos 64) high low ∷ spot (pos 64) high high ∷ spot (pos 64) low high ∷ []) (omega (arith, ints), (omega (arith, ints), (omega (arith, ints), (omega (arith, ints), tt)))));
@@ -161,7 +161,7 @@ pub right_left_row : IsSeparator (doorway (pos 0)) (doorway (pos 64)) right_left
 unfolding value corner_at next_place meet determinant
 right_left_row = record {
   across = inl right_left_across;
-  least = least_by_neighbours (pos 1 ∷ neg_ℤ (pos 2) ∷ pos 0 ∷ []) (corners (doorway (pos 0))) (pos 32) near_weights
+  touches = least_by_neighbours (pos 1 ∷ neg_ℤ (pos 2) ∷ pos 0 ∷ []) (corners (doorway (pos 0))) (pos 32) near_weights
       (subst (λ (ps : List Point). All (λ p. IsNotInFront right_left p) ps) (sym near_corners) (All-from_recursion (λ p. IsNotInFront right_left p) (spot (pos 0) low low ∷ spot (pos 0) high low ∷ spot (pos 0) high high ∷ spot (pos 0) low high ∷ []) (omega (arith, ints), (omega (arith, ints), (omega (arith, ints), (omega (arith, ints), tt))))))
       (0, spot (pos 0) low low, omega arith, refl, omega (arith, ints));
   in_front = none_behind_far right_left (All-from_recursion (λ p. IsNotBehind right_left p) (spot (pos 64) low low ∷ spot (pos 64) high low ∷ spot (pos 64) high high ∷ spot (pos 64) low high ∷ []) (omega (arith, ints), (omega (arith, ints), (omega (arith, ints), (omega (arith, ints), tt)))));
@@ -184,7 +184,7 @@ gains_row = gains_one (right_left ∷ []) left_right (λ there. ⊎_elim (λ sam
 -- it is found along its own normal, and through the points of an edge and a corner
 found_row : PartsAlong (doorway (pos 0)) (doorway (pos 64)) left_right left_right
 unfolding left_right_row
-found_row = record { normal = refl; least = left_right_row.least; parts = record { in_front = left_right_row.in_front; strict = left_right_row.strict } }
+found_row = record { normal = refl; touches = left_right_row.touches; parts = record { in_front = left_right_row.in_front; strict = left_right_row.strict } }
 
 found_through_row : SeparatesBy (doorway (pos 0)) (doorway (pos 64)) (spot (pos 64) low low) (spot (pos 0) high low) (spot (pos 0) high high) left_right
 found_through_row = (left_right_row, left_right_normal)

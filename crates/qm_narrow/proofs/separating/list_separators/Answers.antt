@@ -25,4 +25,4 @@ gain_across-requires-clause-found c = none_found c.args.source.now _ c.clear.ens
 pub gain_across-requires-2-clause-found : goal.gain_across-requires-2-clause-found
 gain_across-requires-2-clause-found c =
     found_still (λ h. IsSeparator c.args.source.now c.args.pass.now h × HasNormalAcross (corners c.args.source.now) (corners c.args.pass.now) h) c.args.source.now _ c.gain_across.new.planes.items
-    (λ h is. is.0.least) (λ h is. is.1.normal.lowest) c.in_ok-gain_across.ensures (none_found c.args.source.now _ c.clear.ensures.items)
+    (λ h is. is.0.touches) (λ h is. is.1.normal.lowest) c.in_ok-gain_across.ensures (none_found c.args.source.now _ c.clear.ensures.items)
