@@ -19,12 +19,14 @@ refused() { # refused LINE
     return 1
 }
 
+# rows lack nothing in sight, which is proved; what they have beyond that is held from above: these counts are those of today,
+# and smaller ones would be better
 compiles_the_samples() {
-    local name
-    for name in cube room rooms courtyard; do
-        run_program compile $name.map $name.tree
-        [[ $status == 0 ]] || return 1
-    done
+    local name seen
+    while read -r name seen; do
+        run_program compile "$name.map" "$name.tree"
+        [[ $status == 0 ]] && grep -qx "seen $seen" "$folder/printed" || return 1
+    done <<<$'cube 34\nroom 1\nrooms 21\ncourtyard 1396'
     for name in hole courtyard_leak; do
         run_program compile $name.map $name.tree
         [[ $status == 3 ]] || return 1

@@ -7,7 +7,7 @@ use super::printed::SUMMARY;
 use std::alloc::{AllocError, Global};
 use std::test::Fail;
 use std::thread::Threads;
-use test_texts::{APART, CORNER_ROOMS, CUBE, HOLE_ROOM, ROOM, put_box};
+use test_texts::{APART, BoxRow, CORNER_ROOMS, CUBE, HOLE_ROOM, ROOM, put_boxes};
 
 /// The end of the cube, with a face on its first plane once more.
 const AGAIN: &str = "( 0 7 9 ) ( 0 8 9 ) ( 0 7 10 ) stone 0 0 0 1 1\n}\n}\n";
@@ -107,14 +107,88 @@ fn names_give_contents(rt: HostRuntime) -> Result<(), Fail> {
     Ok(())
 }
 
-/// Whether a text without entities compiles with these counts of brushes, flat ones, planes, nodes, leaves, numbered leaves,
-/// portals and what is seen, to a file of this length.
-fn counts<R: AllocGlobal + Threads + Sync>(
-    rt: &R,
-    text: &str,
+/// A world without entities: brushes written out and boxes by their textures, with what is counted of it (brushes, flat ones,
+/// planes, nodes, leaves, numbered leaves, portals and what is seen), and how long its file is.
+struct World {
+    brushes: &'static str,
+    boxes: &'static [(&'static str, &'static [BoxRow])],
     counts: [u64; 8],
     length: usize,
-) -> Result<bool, AllocError> {
+}
+
+const WALL: BoxRow = ([0, 0, 0], [4096, 64, 64]);
+
+const ABOVE: BoxRow = ([0, 0, 64], [64, 64, 128]);
+
+const INSIDE: BoxRow = ([16, 16, 16], [48, 48, 48]);
+
+/// A box that ends at the wall of the cube, flat brushes, solids that share a face, water round stone in both orders, a room,
+/// the room with a hole in a wall, and three rooms round a corner.
+static WORLDS: [World; 9] = [
+    World {
+        brushes: "",
+        boxes: &[("stone", &[WALL, WALL])],
+        counts: [2, 0, 6, 5, 6, 5, 8, 23],
+        length: 296,
+    },
+    World {
+        brushes: APART,
+        boxes: &[("stone", &[CUBE, ABOVE])],
+        counts: [3, 1, 7, 6, 7, 6, 12, 34],
+        length: 342,
+    },
+    World {
+        brushes: OPPOSED,
+        boxes: &[("stone", &[CUBE, CUBE])],
+        counts: [3, 1, 6, 6, 7, 6, 12, 34],
+        length: 322,
+    },
+    World {
+        brushes: OPPOSED,
+        boxes: &[],
+        counts: [1, 1, 1, 0, 1, 1, 0, 1],
+        length: 67,
+    },
+    World {
+        brushes: "",
+        boxes: &[("*water1", &[CUBE]), ("stone", &[INSIDE])],
+        counts: [2, 0, 12, 12, 13, 12, 24, 68],
+        length: 610,
+    },
+    World {
+        brushes: "",
+        boxes: &[("stone", &[INSIDE]), ("*water1", &[CUBE])],
+        counts: [2, 0, 12, 24, 25, 24, 52, 308],
+        length: 958,
+    },
+    World {
+        brushes: "",
+        boxes: &[("stone", &ROOM)],
+        counts: [6, 0, 12, 12, 13, 7, 12, 35],
+        length: 593,
+    },
+    World {
+        brushes: "",
+        boxes: &[("stone", &HOLE_ROOM)],
+        counts: [7, 0, 14, 14, 15, 8, 14, 42],
+        length: 684,
+    },
+    World {
+        brushes: "",
+        boxes: &[("stone", &CORNER_ROOMS)],
+        counts: [12, 0, 19, 22, 23, 11, 16, 55],
+        length: 1003,
+    },
+];
+
+/// Whether a world compiles so.
+fn counts<R: AllocGlobal + Threads + Sync>(rt: &R, its: &World) -> Result<bool, AllocError> {
+    let mut parts = String::new(rt.alloc());
+    parts.push_str(its.brushes)?;
+    for (texture, boxes) in its.boxes {
+        put_boxes(&mut parts, texture, boxes)?;
+    }
+    let text = world(rt.alloc(), &parts, &[])?;
     let [
         brushes,
         flat,
@@ -124,58 +198,22 @@ fn counts<R: AllocGlobal + Threads + Sync>(
         numbered,
         portals,
         seen,
-    ] = counts;
+    ] = its.counts;
     let printed = format!(in rt.alloc();
         "no entity\nbrushes {brushes}\nflat {flat}\nplanes {planes}\nnodes {nodes}\nleaves {leaves}\nnumbered {numbered}\nfilled 0\nportals {portals}\nseen {seen}\n"
     )?;
     let mut outside = Outside::new(rt.alloc(), text.as_bytes())?;
     let says = outside.says(rt, &["compile", "map", "out"], 0, &printed);
-    Ok(says && outside.has_long_out(length))
+    Ok(says && outside.has_long_out(its.length))
 }
 
-/// A box that ends at the wall of the cube, flat brushes, and solids that share a face.
+/// Worlds of boxes and rooms.
 #[test]
-fn counts_what_boxes_give(rt: HostRuntime) -> Result<(), Fail> {
-    let wall = ([0, 0, 0], [4096, 64, 64]);
-    let above = ([0, 0, 64], [64, 64, 128]);
-    let rows = [
-        ("", [wall, wall], [2, 0, 6, 5, 6, 5, 8, 23], 296),
-        (APART, [CUBE, above], [3, 1, 7, 6, 7, 6, 12, 34], 342),
-        (OPPOSED, [CUBE, CUBE], [3, 1, 6, 6, 7, 6, 12, 34], 322),
-    ];
-    for (brushes, boxes, wanted, length) in rows {
-        let text = world(rt.alloc(), brushes, &boxes)?;
-        assert!(rt; counts(&rt, &text, wanted, length)?);
+fn counts_what_worlds_give(rt: HostRuntime) -> Result<(), Fail> {
+    let mut right = true;
+    for its in &WORLDS {
+        right &= counts(&rt, its)?;
     }
-    let flat = world(rt.alloc(), OPPOSED, &[])?;
-    assert!(rt; counts(&rt, &flat, [1, 1, 1, 0, 1, 1, 0, 1], 67)?);
-    Ok(())
-}
-
-/// Water round stone, in both orders.
-#[test]
-fn counts_what_two_contents_give(rt: HostRuntime) -> Result<(), Fail> {
-    let mut water_first = String::new(rt.alloc());
-    put_box(&mut water_first, "*water1", [0, 0, 0], [64, 64, 64])?;
-    put_box(&mut water_first, "stone", [16, 16, 16], [48, 48, 48])?;
-    let mut stone_first = String::new(rt.alloc());
-    put_box(&mut stone_first, "stone", [16, 16, 16], [48, 48, 48])?;
-    put_box(&mut stone_first, "*water1", [0, 0, 0], [64, 64, 64])?;
-    let text = world(rt.alloc(), &water_first, &[])?;
-    assert!(rt; counts(&rt, &text, [2, 0, 12, 12, 13, 12, 24, 68], 610)?);
-    let text = world(rt.alloc(), &stone_first, &[])?;
-    assert!(rt; counts(&rt, &text, [2, 0, 12, 24, 25, 24, 52, 308], 958)?);
-    Ok(())
-}
-
-/// A room, the room with a hole in a wall, and three rooms round a corner, each without an entity.
-#[test]
-fn counts_what_rooms_give(rt: HostRuntime) -> Result<(), Fail> {
-    let room = world(rt.alloc(), "", &ROOM)?;
-    let hole = world(rt.alloc(), "", &HOLE_ROOM)?;
-    let corner = world(rt.alloc(), "", &CORNER_ROOMS)?;
-    assert!(rt; counts(&rt, &room, [6, 0, 12, 12, 13, 7, 12, 35], 593)?);
-    assert!(rt; counts(&rt, &hole, [7, 0, 14, 14, 15, 8, 14, 42], 684)?);
-    assert!(rt; counts(&rt, &corner, [12, 0, 19, 22, 23, 11, 16, 55], 1003)?);
+    assert!(rt; right);
     Ok(())
 }

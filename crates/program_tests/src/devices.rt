@@ -1,39 +1,12 @@
 use super::cube::{END, FIRST, OTHERS, joined};
 use super::cube_file::CUBE_FILE;
-use super::outside::{Answer, Outside, fails_at};
-use super::printed::{COUNTS, READ_FAULT, SUMMARY, UNEXPECTED, USAGE, WRITE_FAULT};
+use super::outside::{Answer, Outside};
+use super::printed::{READ_FAULT, SUMMARY, UNEXPECTED, USAGE};
 use std::alloc::AllocError;
 use std::test::Fail;
 use std::thread::Threads;
 
-const UNREAD: Answer = (5, READ_FAULT, [1, 0, 0]);
-
-const UNWRITTEN: Answer = (6, WRITE_FAULT, [0, 1, 0]);
-
-/// The calls of the shelf are a read of the text, a read that finds its end, the creation of the file that
-/// is made and the addition of its bytes. A row has what is answered where one fails, and what `out` then holds.
-static FAULTS_OF_THE_SHELF: [(u64, Answer, &[u8]); 4] = [
-    (0, UNREAD, b"old"),
-    (1, UNREAD, b"old"),
-    (2, UNWRITTEN, b"old"),
-    (3, UNWRITTEN, b""),
-];
-
-#[test]
-fn answers_each_fault_of_the_shelf(rt: HostRuntime) -> Result<(), Fail> {
-    let cube = joined(rt.alloc(), [FIRST, OTHERS, END])?;
-    let mut right = true;
-    for &(call, answer, out) in &FAULTS_OF_THE_SHELF {
-        right &= fails_at(&rt, "compile", &cube, call, answer, out)?;
-        right &= fails_at(&rt, "format", b"{ }", call, answer, out)?;
-    }
-    right &= fails_at(&rt, "compile", &cube, 4, (0, SUMMARY, [0; 3]), &CUBE_FILE)?;
-    right &= fails_at(&rt, "format", b"{ }", 4, (0, COUNTS, [0; 3]), b"{\n}\n")?;
-    assert!(rt; right);
-    Ok(())
-}
-
-/// What comes of a command is printed in one write. A row has the name that is read, the write that fails, what is
+/// A row has the name that is read, the write that fails, what is
 /// answered, and whether the tree file is then there.
 static FAULTS_OF_THE_SINK: [(&str, u64, Answer, bool); 8] = [
     ("map", 0, (6, "", [0, 0, 1]), true),

@@ -57,6 +57,21 @@ const LEAKING: Row = Row {
     ..SEALED
 };
 
+/// The same with the entity in the hole, on the plane of a node.
+const IN_THE_HOLE: Row = Row {
+    origins: &["64 0.5 24"],
+    printed: "leak: entity 1\ntrail: 6 0\n",
+    ..LEAKING
+};
+
+/// The room that meets the open in an edge.
+const EDGE: Row = Row {
+    room: &EDGE_ROOM,
+    printed: "sealed\nbrushes 6\nflat 0\nplanes 12\nnodes 14\nleaves 15\nnumbered 1\nfilled 8\nportals 0\nseen 1\n",
+    length: 637,
+    ..SEALED
+};
+
 /// Three rooms round a corner, with an entity in the first one.
 const CORNER: Row = Row {
     room: &CORNER_ROOMS,
@@ -78,12 +93,7 @@ static ROWS: [Row; 16] = [
         ..SEALED
     },
     LEAKING,
-    // in the hole, on the plane of a node
-    Row {
-        origins: &["64 0.5 24"],
-        printed: "leak: entity 1\ntrail: 6 0\n",
-        ..LEAKING
-    },
+    IN_THE_HOLE,
     // the first of two entities stands in a wall
     Row {
         origins: &["-72 0 24", "0 0 24"],
@@ -119,12 +129,7 @@ static ROWS: [Row; 16] = [
         length: 1276,
         ..LEAKING
     },
-    Row {
-        room: &EDGE_ROOM,
-        printed: "sealed\nbrushes 6\nflat 0\nplanes 12\nnodes 14\nleaves 15\nnumbered 1\nfilled 8\nportals 0\nseen 1\n",
-        length: 637,
-        ..SEALED
-    },
+    EDGE,
     CORNER,
     // in sky, in the open
     Row {
@@ -176,11 +181,14 @@ static ROWS: [Row; 16] = [
 ];
 
 /// The three rooms, of whose rows each is found in its turn.
-static FINE: Row = Row {
+const FINE: Row = Row {
     printed: "sealed\nbrushes 12\nflat 0\nplanes 19\nnodes 22\nleaves 23\nnumbered 5\nfilled 6\nportals 4\nseen 21\n",
     rows: &[0x0F, 0x0F, 0x1F, 0x1F, 0x1C],
     ..CORNER
 };
+
+/// Rows of leaves that are found in turns, and leaks, which have none.
+static IN_TURNS: [Row; 4] = [LEAKING, IN_THE_HOLE, EDGE, FINE];
 
 /// The text of a row.
 fn text_of(alloc: Global, row: &Row) -> Result<String, AllocError> {
@@ -230,12 +238,16 @@ fn finds_leaks_and_fills(rt: HostRuntime) -> Result<(), Fail> {
     Ok(())
 }
 
-/// Rows that are found in turns, and the same bytes once more.
+/// Leaks and rows without `--fast`, and the same bytes once more.
 #[test]
 fn finds_rows_in_turns(rt: HostRuntime) -> Result<(), Fail> {
     let words = ["compile", "map", "out"];
+    let mut right = true;
+    for row in &IN_TURNS {
+        let text = text_of(rt.alloc(), row)?;
+        right &= is_right(&rt, &words, &text, row)?;
+    }
     let text = text_of(rt.alloc(), &FINE)?;
-    let right = is_right(&rt, &words, &text, &FINE)?;
     let mut one = Outside::new(rt.alloc(), text.as_bytes())?;
     let mut other = Outside::new(rt.alloc(), text.as_bytes())?;
     let both = one.says(&rt, &words, 0, FINE.printed) && other.says(&rt, &words, 0, FINE.printed);

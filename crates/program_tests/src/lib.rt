@@ -5,8 +5,6 @@
 #[cfg(test)]
 mod boxes;
 #[cfg(test)]
-mod compile_call;
-#[cfg(test)]
 mod compiled;
 #[cfg(test)]
 mod cube;
@@ -42,5 +40,7 @@ mod room;
 mod sampled;
 #[cfg(test)]
 mod sure_forms;
+#[cfg(test)]
+mod tightness;
 #[cfg(test)]
 mod words;

@@ -10,7 +10,7 @@ use super::printed::{READ_FAULT, SUMMARY, WRITE_FAULT};
 use std::alloc::{AllocError, Global};
 use std::test::Fail;
 use std::thread::Threads;
-use test_texts::{BoxRow, HOLE_ROOM, TWO_ROOMS};
+use test_texts::{BoxRow, TWO_ROOMS};
 
 const ROOMS_SUMMARY: &str =
     "sealed\nbrushes 8\nflat 0\nplanes 16\nnodes 16\nleaves 17\nnumbered 3\nfilled 6\nportals 2\nseen 9\n";
@@ -41,19 +41,6 @@ fn lists_two_rooms(rt: HostRuntime) -> Result<(), Fail> {
         .is_some_and(|file| file.ends_with(&[7, 7, 7]));
     let listed = outside.shelf.get("list") == Some(ROOMS_LISTING.as_bytes());
     assert!(rt; says && outside.has_long_out(769) && has_rows && listed);
-    Ok(())
-}
-
-/// Where an entity leaks, what stood under the listing's name stays.
-#[test]
-fn lists_nothing_of_a_leak(rt: HostRuntime) -> Result<(), Fail> {
-    let text = world_with(rt.alloc(), &HOLE_ROOM, "0 0 24")?;
-    let mut outside = Outside::new(rt.alloc(), text.as_bytes())?;
-    outside.shelf.put("list", b"old")?;
-    let words = ["compile", "map", "out", "--prt", "list"];
-    let says = outside.says(&rt, &words, 3, "leak: entity 1\ntrail: 8 6 0\n");
-    let stays = outside.shelf.get("list") == Some(b"old".as_slice());
-    assert!(rt; says && outside.has_long_out(676) && stays);
     Ok(())
 }
 

@@ -1,4 +1,4 @@
-use qm_compile::{Status, run};
+use qm_compile::{Status, exit_number, run};
 use qm_shelf::{MemShelf, MemSink};
 use std::alloc::{AllocError, Global};
 use std::thread::Threads;
@@ -30,7 +30,7 @@ impl Outside {
         printed: &str,
     ) -> bool {
         let answer: Status = run(rt, rt.alloc(), words, &mut self.shelf, &mut self.sink);
-        answer.number() == status && self.sink.bytes() == printed.as_bytes()
+        exit_number(answer) == status && self.sink.bytes() == printed.as_bytes()
     }
 
     /// Whether `out` holds so many bytes.
@@ -69,21 +69,3 @@ pub fn gives<R: AllocGlobal + Threads + Sync>(
 
 /// What a run answers and prints, and how many reads, writes and prints failed.
 pub type Answer = (u8, &'static str, [u64; 3]);
-
-/// Whether a run over a shelf of which this call fails gives this answer, and `out`, which held other bytes, then
-/// holds these.
-pub fn fails_at<R: AllocGlobal + Threads + Sync>(
-    rt: &R,
-    verb: &str,
-    text: &[u8],
-    call: u64,
-    answer: Answer,
-    out: &[u8],
-) -> Result<bool, AllocError> {
-    let (status, printed, faults) = answer;
-    let mut outside = Outside::new(rt.alloc(), text)?;
-    outside.shelf.put("out", b"old")?;
-    outside.shelf.fail_call(call)?;
-    let says = outside.says(rt, &[verb, "map", "out"], status, printed);
-    Ok(says && outside.holds(Some(out), text, faults))
-}

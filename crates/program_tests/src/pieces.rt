@@ -1,11 +1,7 @@
-use super::outside::{Answer, fails_at};
-use super::printed::{COUNTS, READ_FAULT};
 use qm_shelf::{FolderShelf, ShelfFault, read_whole, write_whole};
 use std::alloc::{AllocError, Global};
 use std::fs;
 use std::test::Fail;
-
-const UNREAD: Answer = (5, READ_FAULT, [1, 0, 0]);
 
 /// An empty entity after so many spaces.
 fn after_spaces(alloc: Global, count: usize) -> Result<Vec<u8>, AllocError> {
@@ -13,29 +9,6 @@ fn after_spaces(alloc: Global, count: usize) -> Result<Vec<u8>, AllocError> {
     text.resize(count, b' ')?;
     text.extend_from_slice(b"{ }")?;
     Ok(text)
-}
-
-/// A text of 100,003 bytes is read in two pieces and a read that finds its end, and one of 200,003 bytes in
-/// four pieces. A row has the spaces before the text's end, the call that fails, what is answered, and what `out` then
-/// holds: a fault of any of these reads is one of the text.
-static READS: [(usize, u64, Answer, &[u8]); 6] = [
-    (100_000, 0, UNREAD, b"old"),
-    (100_000, 1, UNREAD, b"old"),
-    (100_000, 2, UNREAD, b"old"),
-    (100_000, 5, (0, COUNTS, [0; 3]), b"{\n}\n"),
-    (200_000, 4, UNREAD, b"old"),
-    (200_000, 7, (0, COUNTS, [0; 3]), b"{\n}\n"),
-];
-
-#[test]
-fn reads_a_text_in_pieces(rt: HostRuntime) -> Result<(), Fail> {
-    let mut right = true;
-    for &(spaces, call, answer, out) in &READS {
-        let text = after_spaces(rt.alloc(), spaces)?;
-        right &= fails_at(&rt, "format", &text, call, answer, out)?;
-    }
-    assert!(rt; right);
-    Ok(())
 }
 
 /// A file of 200,003 bytes is written and read whole, and up to one byte past a limit.

@@ -2,7 +2,7 @@
 
 use super::outside::Outside;
 use qm_bits::BitRow;
-use qm_compile::run;
+use qm_compile::{exit_number, run};
 use qm_file::{TreeFile, decode};
 use std::alloc::{AllocError, Global};
 use std::test::Fail;
@@ -37,7 +37,7 @@ fn file_of<R: AllocGlobal + Threads + Sync>(
     let Some(bytes) = outside.shelf.get("out") else {
         return Ok(None);
     };
-    if status.number() != 0 {
+    if exit_number(status) != 0 {
         return Ok(None);
     }
     Ok(decode(rt.alloc(), bytes).ok())

@@ -1,5 +1,6 @@
 use super::empty_file::{EMPTY_FILE, EMPTY_SUMMARY};
 use super::printed::{COUNTS, UNEXPECTED};
+use qm_compile::exit_number;
 use qm_compile::laws::run_surely;
 use qm_shelf::{SureShelf, SureSink};
 use std::test::Fail;
@@ -37,7 +38,7 @@ fn says<R: AllocGlobal + Threads + Sync>(
 ) -> bool {
     let mut sink = SureSink::new(rt.alloc());
     let answer = run_surely(rt, rt.alloc(), words, shelf, &mut sink);
-    answer.number() == status && sink.bytes() == printed.as_bytes()
+    exit_number(answer) == status && sink.bytes() == printed.as_bytes()
 }
 
 /// Whether `out` holds this.

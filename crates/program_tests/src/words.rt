@@ -71,34 +71,6 @@ fn answers_usage_to_other_words(rt: HostRuntime) -> Result<(), Fail> {
     Ok(())
 }
 
-static FAST_WORDS: [&[&str]; 4] = [
-    &["compile", "map", "out"],
-    &["compile", "--fast", "map", "out"],
-    &["compile", "map", "--fast", "out"],
-    &["compile", "map", "out", "--fast"],
-];
-
-/// Whether these words compile the cube.
-fn compiles_the_cube<R: AllocGlobal + Threads + Sync>(
-    rt: &R,
-    words: &[&str],
-) -> Result<bool, AllocError> {
-    let text = joined(rt.alloc(), [FIRST, OTHERS, END])?;
-    let mut outside = Outside::new(rt.alloc(), &text)?;
-    Ok(outside.says(rt, words, 0, SUMMARY) && outside.holds(Some(&CUBE_FILE), &text, [0, 0, 0]))
-}
-
-/// The option can stand in any place after the first word; the bytes are the same.
-#[test]
-fn takes_the_option_in_any_place(rt: HostRuntime) -> Result<(), Fail> {
-    let mut right = true;
-    for words in &FAST_WORDS {
-        right &= compiles_the_cube(&rt, words)?;
-    }
-    assert!(rt; right);
-    Ok(())
-}
-
 /// Words that ask for a listing, and its name.
 static LISTING_WORDS: [(&[&str], &str); 9] = [
     (&["compile", "--prt", "list", "map", "out"], "list"),
@@ -128,8 +100,9 @@ fn lists_the_cube<R: AllocGlobal + Threads + Sync>(
     Ok(says && outside.holds(Some(&CUBE_FILE), &text, [0, 0, 0]) && listed)
 }
 
+/// Options can stand in any place after the first word; the bytes are the same.
 #[test]
-fn takes_a_listing_in_any_place(rt: HostRuntime) -> Result<(), Fail> {
+fn takes_options_in_any_place(rt: HostRuntime) -> Result<(), Fail> {
     let mut right = true;
     for &(words, name) in &LISTING_WORDS {
         right &= lists_the_cube(&rt, words, name)?;

@@ -9,13 +9,13 @@ use Rattle.qm_space.specs.Plane.{Plane}
 use Rattle.qm_space.specs.Turned.{turned}
 use Rattle.qm_space.specs.Book.{plane_at}
 use Rattle.qm_space.proofs.Books.{plane_at_from}
-use Rattle.qm_geom.specs.Planes.{AreEnteredInBook, none}
+use Rattle.qm_space.specs.Entered.{AreEnteredInBook, none}
 use Rattle.qm_geom.proofs.Entering.{entered_at, earlier_stay}
 use Rattle.qm_geom.proofs.EnteredPlanes.{one_entered, more_entered, length-all_entered}
 use Rattle.qm_mapfile.specs.declared.face.Face.{Face}
 use Rattle.qm_solids.specs.declared.face.FaceRef.{FaceRef}
 use Rattle.qm_solids.specs.Outward.{outward_of, outward_planes, AreNumberedIn}
-use Rattle.qm_brush.specs.Planes.{plane_of_face}
+use Rattle.qm_drawn.specs.Planes.{plane_of_face}
 use Rattle.qm_brush.specs.inner.Entered.{is_out_front, turned_outward, AreFirstEntered, IsFaceEntered, AreFacesEntered}
 
 -- what is no error is an answer

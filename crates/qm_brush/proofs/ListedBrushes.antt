@@ -8,16 +8,16 @@ use Rattle.std.proofs.lemmas.List.Sums.{sum_by-cons, sum_by-take-le}
 use Rattle.std.proofs.lemmas.List.Elements.{AllZip-push, All-nil, All-push, All-head, All-tail, filter_map-append, filter-append}
 use Rattle.qm_space.specs.Plane.{Plane}
 use Rattle.qm_space.specs.Book.{AreBookPlanes}
-use Rattle.qm_geom.specs.Planes.{AreEnteredInBook, none}
+use Rattle.qm_space.specs.Entered.{AreEnteredInBook, none}
 use Rattle.qm_geom.proofs.EnteredPlanes.{more_entered, all_stay, length-all_entered}
 use Rattle.qm_mapfile.specs.declared.entity.Brush.{Brush}
 use Rattle.qm_contents.specs.declared.contents.Contents.{Contents}
 use Rattle.qm_solids.specs.Solid.{Solid}
 use Rattle.qm_solids.specs.Alike.{IsAlike}
 use Rattle.qm_solids.specs.InBook.{BookSolid, solid_in, solids_in, IsKeptIn}
-use Rattle.qm_brush.specs.Brushes.{contents_of_brush, is_drawn}
-use Rattle.qm_brush.specs.Solids.{filled_with, solid_of_brush}
-use Rattle.qm_brush.specs.Planes.{plane_of_face, planes_of_brush}
+use Rattle.qm_drawn.specs.Brushes.{contents_of_brush, is_drawn}
+use Rattle.qm_drawn.specs.Solids.{filled_with, solid_of_brush}
+use Rattle.qm_drawn.specs.Planes.{plane_of_face, planes_of_brush}
 use Rattle.qm_brush.specs.inner.Added.{IsBrushAdded, IsLeftOut, AreAdded}
 use Rattle.qm_brush.specs.inner.Entered.{AreFirstEntered}
 use Rattle.qm_brush.proofs.EnteredFaces.{Stay, still_numbered, same_outward}

@@ -6,8 +6,8 @@ use Rattle.qm_mapfile.specs.declared.entity.Brush.{Brush}
 use Rattle.qm_mapfile.specs.declared.entity.MapFile.{MapFile}
 use Rattle.qm_contents.specs.declared.contents.Contents.TheVariants.{Solid}
 use Rattle.qm_contents.specs.Texture.{contents_of_texture}
-use Rattle.qm_brush.specs.Brushes.{drawn_brushes}
-use Rattle.qm_brush.specs.Solids.{drawn_solids}
+use Rattle.qm_drawn.specs.Brushes.{drawn_brushes}
+use Rattle.qm_drawn.specs.Solids.{drawn_solids}
 
 -- three whole points
 abbrev triangle : List (List ℤ)

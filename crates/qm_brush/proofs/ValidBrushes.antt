@@ -6,7 +6,7 @@ use Rattle.qm_mapfile.specs.declared.entity.Brush.{Brush}
 use Rattle.qm_mapfile.specs.declared.entity.Entity.{Entity}
 use Rattle.qm_mapfile.specs.declared.entity.MapFile.{MapFile}
 use Rattle.qm_grammar.specs.Valid.{IsValidMap, IsValidFace, IsValidEntity, IsValidBrush, face_count, face_limit}
-use Rattle.qm_brush.specs.Brushes.{brushes_of_first, world_brushes}
+use Rattle.qm_drawn.specs.Brushes.{brushes_of_first, world_brushes}
 
 -- the faces of a brush of a valid map
 pub record HasValidFaces (brush : Brush) : Type 0 where

@@ -1,4 +1,1 @@
-pub mod Brushes
-pub mod Solids
-pub mod Planes
 pub mod inner

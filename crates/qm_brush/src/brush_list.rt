@@ -2,7 +2,7 @@ ghost use Rattle.std.specs.Prelude.{◌≡◌, ◌<◌, ◌+◌, ◌-◌, ◌^�
 ghost use Rattle.qm_grammar.specs.Valid.{IsValidFace};
 ghost use Rattle.qm_solids.specs.InBook.{solid_at, solid_in, solids_in, IsKeptIn, IsBookOf};
 ghost use Rattle.qm_solids.specs.Contents.{HasContents};
-ghost use Rattle.qm_brush.specs.Planes.{planes_of_brush};
+ghost use Rattle.qm_drawn.specs.Planes.{planes_of_brush};
 ghost use Rattle.qm_brush.specs.inner.Added.{IsBrushAdded};
 ghost use Rattle.qm_brush.specs.inner.Entered.{AreFirstEntered};
 ghost use Rattle.qm_brush.specs.inner.Entries.{solid_of_entry, IsWithin};

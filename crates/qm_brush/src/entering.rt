@@ -6,7 +6,7 @@ ghost use Rattle.qm_space.specs.Reduced.{leads_positive};
 ghost use Rattle.qm_mapfile.specs.Face.{HasPlane, face_plane};
 ghost use Rattle.qm_grammar.specs.Valid.{IsValidFace};
 ghost use Rattle.qm_solids.specs.declared.face.FaceRef.{FaceRef};
-ghost use Rattle.qm_brush.specs.Planes.{plane_of_face};
+ghost use Rattle.qm_drawn.specs.Planes.{plane_of_face};
 ghost use Rattle.qm_brush.specs.inner.Entered.{AreFirstEntered, IsFaceEntered, AreFacesEntered};
 
 use qm_geom::{Plane, PlaneBook};

@@ -3,12 +3,12 @@
 ghost use Rattle.std.specs.Prelude.{ℕ, ◌<◌, ◌≤◌, ◌+◌, ◌-◌, ◌^◌, length, take, IfOk, OnErr, IsTrue, All};
 ghost use Rattle.std.specs.List.{AllZip};
 ghost use Rattle.qm_grammar.specs.Valid.{IsValidMap, IsValidFace};
-ghost use Rattle.qm_geom.specs.Planes.{AreEnteredInBook};
+ghost use Rattle.qm_space.specs.Entered.{AreEnteredInBook};
 ghost use Rattle.qm_solids.specs.Alike.{IsAlike};
 ghost use Rattle.qm_solids.specs.InBook.{solids_in, IsBookOf};
-ghost use Rattle.qm_brush.specs.Planes.{planes_of_brush, drawn_planes};
-ghost use Rattle.qm_brush.specs.Solids.{drawn_solids};
-ghost use Rattle.qm_brush.specs.Brushes.{is_drawn};
+ghost use Rattle.qm_drawn.specs.Planes.{planes_of_brush, drawn_planes};
+ghost use Rattle.qm_drawn.specs.Solids.{drawn_solids};
+ghost use Rattle.qm_drawn.specs.Brushes.{is_drawn};
 ghost use Rattle.qm_brush.specs.inner.Added.{IsAddedIfDrawn};
 ghost use Rattle.qm_brush.specs.inner.Entered.{AreFirstEntered};
 

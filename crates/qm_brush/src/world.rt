@@ -1,5 +1,5 @@
 ghost use Rattle.std.specs.Prelude.{◌≡◌};
-ghost use Rattle.qm_brush.specs.Brushes.{world_brushes, first_texture, contents_of_brush};
+ghost use Rattle.qm_drawn.specs.Brushes.{world_brushes, first_texture, contents_of_brush};
 
 use qm_contents::{Contents, of_texture};
 use qm_mapfile::{Brush, MapFile};

@@ -1,2 +1,3 @@
 pub mod CoarseRow
 pub mod LeafRow
+pub mod Seen

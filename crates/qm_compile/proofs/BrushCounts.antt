@@ -6,7 +6,7 @@ use Rattle.qm_mapfile.specs.declared.entity.Brush.{Brush}
 use Rattle.qm_mapfile.specs.declared.entity.Entity.{Entity}
 use Rattle.qm_mapfile.specs.declared.entity.MapFile.{MapFile}
 use Rattle.qm_grammar.specs.Valid.{IsValidMap, IsValidEntity, IsValidBrush, face_count}
-use Rattle.qm_compile.specs.Summary.{brush_count}
+use Rattle.qm_statement.specs.Summary.{brush_count}
 
 -- A map has no more brushes than faces.
 

@@ -1,15 +1,7 @@
 pub mod BrushCounts
-pub mod Commands
-pub mod CompiledMap
-pub mod Completeness
-pub mod FlatSoFar
 pub mod MadeTexts
-pub mod NumberedCounts
 pub mod Outcomes
+pub mod PutOuts
 pub mod ReadMeanings
 pub mod Reported
-pub mod Requests
 pub mod Writings
-pub mod ShownLeaves
-pub mod Origins
-pub mod WrittenRows

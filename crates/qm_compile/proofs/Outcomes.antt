@@ -1,27 +1,20 @@
 -- What comes of reading a text, making files of it and writing these, one after another.
 use Rattle.std.proofs.Common.{◌≡◌, ℕ, Bool, List, Option, Some, None, ◌⊎◌, inl, inr, subst, refl, Ok}
-use Rattle.std.specs.Borrow.{Bor}
-use Rattle.std.specs.Option.{is_some, option_map}
-use Rattle.qm_shelf.specs.ShelfState.{ShelfState}
-use Rattle.qm_shelf.specs.ShelfChanges.{IsKept, MetNoFault}
-use Rattle.qm_shelf.specs.WholeFiles.{HoldsTheSame, HoldsUnfinished}
+use Rattle.qm_surroundings.specs.ShelfState.{ShelfState}
+use Rattle.qm_surroundings.specs.ShelfChanges.{IsKept, MetNoFault}
+use Rattle.qm_surroundings.specs.WholeFiles.{HoldsTheSame, HoldsUnfinished}
 use Rattle.qm_shelf.specs.declared.shelf.ShelfFault.{ShelfFault}
 use Rattle.qm_shelf.specs.declared.shelf.ShelfFault.TheVariants.{Failed, Memory}
 use Rattle.qm_mapfile.specs.declared.entity.MapFile.{MapFile}
-use Rattle.qm_compile.specs.declared.command.Command.{Command}
-use Rattle.qm_compile.specs.declared.status.Status.TheVariants.{WriteFault}
-use Rattle.qm_compile.specs.Command.{FileNames}
-use Rattle.qm_compile.specs.ComesOf.{ComesOf, IsDue, HoldsPart, IsUnfinished, IsListingUnfinished, IsCutShort, write_fault, listing_fault, written}
-use Rattle.qm_compile.specs.Product.{Output, IsProduct}
-use Rattle.qm_compile.specs.TextMeans.{TextMeans}
-use Rattle.qm_compile.specs.Texts.{write_fault_text}
+use Rattle.qm_statement.specs.declared.command.Command.{Command}
+use Rattle.qm_statement.specs.declared.status.Status.TheVariants.{WriteFault}
+use Rattle.qm_statement.specs.FileNames.{FileNames}
+use Rattle.qm_statement.specs.ComesOf.{ComesOf, IsOutputOfText, HoldsPart, IsUnfinished, IsListingUnfinished, IsCutShort, write_fault, listing_fault, written}
+use Rattle.qm_statement.specs.Output.{Output, IsOutputOf}
+use Rattle.qm_statement.specs.TextMeans.{TextMeans}
+use Rattle.qm_statement.specs.Texts.{write_fault_text}
 use Rattle.qm_compile.specs.inner.Writing.{IsAllWritten, StopsInOut, StopsInListing}
 use Rattle.qm_compile.proofs.Writings.{written_since, stopped_since, listing_stopped_since}
-
--- a listing is asked for where it has a name
-pub is_asked_for : (name : Option (Bor (List ℕ))) (listed : Bool) → listed ≡ is_some name → listed ≡ is_some (option_map (λ (word : Bor (List ℕ)). word.now) name)
-is_asked_for None listed is = is
-is_asked_for (Some name) listed is = is
 
 -- nothing was written
 pub kept_unfinished : (before after : ShelfState) (command : Command) (files : FileNames) → IsKept before after → IsUnfinished before after command files
@@ -30,7 +23,7 @@ kept_unfinished before after command files kept = record {
   part = λ tells. inl (kept files.out_name);
 }
 
-module _ (before after : ShelfState) (command : Command) (files : FileNames) (output : Output) (due : IsDue before command files output) where
+module _ (before after : ShelfState) (command : Command) (files : FileNames) (output : Output) (due : IsOutputOfText before command files output) where
   all_due : IsAllWritten before after files output → ComesOf before after command files output.status output.text
   all_due all = written
       (record { output = output; is_due = due; is_status = refl; is_text = refl; others = all.others; holds_out = all.holds_out; holds_listing = all.holds_listing })
@@ -64,9 +57,9 @@ module _ (before after : ShelfState) (command : Command) (files : FileNames) (ou
   memory_due (inr stops) = record { no_fault = stops.means; unfinished = inr (stops.name, listing_unfinished Memory stops) }
 
 -- after MAP was read
-module _ (before between after : ShelfState) (command : Command) (files : FileNames) (map : MapFile) (output : Output) (tells_are : between.tells ≡ before.tells) (kept : IsKept before between) (no_fault : MetNoFault before between) (means : TextMeans before files.map_name (Ok map)) (listed : Bool) (listed_is : listed ≡ is_some files.listing_name) (made : IsProduct command listed map output) where
-  its_due : IsDue before command files output
-  its_due = record { map = map; is_meant = means; is_made = subst (λ (b : Bool). IsProduct command b map output) listed_is made }
+module _ (before between after : ShelfState) (command : Command) (files : FileNames) (map : MapFile) (output : Output) (tells_are : between.tells ≡ before.tells) (kept : IsKept before between) (no_fault : MetNoFault before between) (means : TextMeans before files.map_name (Ok map)) (made : IsOutputOf command map output) where
+  its_due : IsOutputOfText before command files output
+  its_due = record { map = map; is_meant = means; is_made = made }
 
   pub written_due : IsAllWritten between after files output → ComesOf before after command files output.status output.text
   written_due all = all_due before after command files output its_due (written_since before between after files output tells_are kept no_fault all)

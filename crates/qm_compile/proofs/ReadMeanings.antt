@@ -6,9 +6,9 @@ use Rattle.qm_grammar.specs.Faults.{text_limit}
 use Rattle.qm_grammar.specs.Meaning.{Means}
 use Rattle.qm_grammar.proofs.CutTexts.{read_means}
 use Rattle.qm_grammar.proofs.Meanings.{one_meaning}
-use Rattle.qm_shelf.specs.ShelfState.{ShelfState, text_under}
-use Rattle.qm_shelf.specs.WholeFiles.{IsReadFrom}
-use Rattle.qm_compile.specs.TextMeans.{TextMeans}
+use Rattle.qm_surroundings.specs.ShelfState.{ShelfState, text_under}
+use Rattle.qm_surroundings.specs.WholeFiles.{IsReadFrom}
+use Rattle.qm_statement.specs.TextMeans.{TextMeans}
 
 -- What was read of a text means what the text means.
 

@@ -1,14 +1,15 @@
 -- Writing OUT and then FILE.
 use Rattle.std.proofs.Common.{◌≡◌, ℕ, List, Option, Some, None, sym, ◌∙◌, subst, ap, inl, inr}
 use Rattle.std.specs.Prelude.{IsTrue}
-use Rattle.qm_shelf.specs.ShelfState.{ShelfState}
-use Rattle.qm_shelf.specs.ShelfChanges.{IsKept, IsKeptElsewhere, MetNoFault, WriteFaultMeans}
-use Rattle.qm_shelf.specs.WholeFiles.{HoldsExactly, HoldsUnfinished}
+use Rattle.qm_surroundings.specs.ShelfState.{ShelfState}
+use Rattle.qm_surroundings.specs.ShelfChanges.{IsKept, IsKeptElsewhere, MetNoFault}
+use Rattle.qm_shelf.specs.FaultMeans.{WriteFaultMeans}
+use Rattle.qm_surroundings.specs.WholeFiles.{HoldsExactly, HoldsUnfinished}
 use Rattle.qm_shelf.specs.declared.shelf.ShelfFault.{ShelfFault}
 use Rattle.qm_shelf.proofs.Counted.{no_fault_twice, write_fault_twice}
-use Rattle.qm_compile.specs.Command.{FileNames, AreDifferent}
-use Rattle.qm_compile.specs.Product.{Output}
-use Rattle.qm_compile.specs.Written.{AreOthersKept}
+use Rattle.qm_statement.specs.FileNames.{FileNames, AreDifferent}
+use Rattle.qm_statement.specs.Output.{Output}
+use Rattle.qm_statement.specs.Written.{AreOthersKept}
 use Rattle.qm_compile.specs.inner.Writing.{IsAllWritten, StopsInOut, StopsInListing}
 
 -- what is kept beside OUT is kept beside all that is written

@@ -2,14 +2,14 @@
 
 ghost use Rattle.std.specs.Prelude.{◌≡◌, IfOk, string_bytes};
 ghost use Rattle.qm_grammar.specs.MapFault.{number_of_fault, line_of_fault};
-ghost use Rattle.qm_compile.specs.FaultText.{words_of_fault, fault_text};
+ghost use Rattle.qm_statement.specs.FaultText.{words_of_fault, fault_text};
 
 use qm_map::MapFault;
 use std::alloc::{AllocError, Global};
 
 /// The line that is printed of a fault: its number, the line of the text on which it stands, and what it
 /// is.
-#[tactic(auto, unfolding(crate::specs::FaultText::fault_text))]
+#[tactic(auto, unfolding(qm_statement::specs::FaultText::fault_text))]
 pub fn fault_text(alloc: Global, fault: MapFault) -> Result<String, AllocError>
     ensures { IfOk result (λ text. string_bytes text ≡ fault_text fault) }
 {

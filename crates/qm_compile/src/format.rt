@@ -2,8 +2,8 @@
 
 ghost use Rattle.std.specs.Prelude.{◌≡◌, ◌<◌, ◌^◌, ◌++◌, length, IfOk, codes, string_bytes};
 ghost use Rattle.qm_grammar.specs.Valid.{IsValidMap};
-ghost use Rattle.qm_compile.specs.Product.{IsFormatted};
-ghost use Rattle.qm_compile.specs.Summary.{brush_count, format_summary};
+ghost use Rattle.qm_statement.specs.Output.{IsFormatOutput};
+ghost use Rattle.qm_statement.specs.Summary.{brush_count, format_summary};
 ghost use Rattle.qm_compile.specs.inner.Made.{output_of};
 
 use crate::count_lines::put_count_line;
@@ -16,7 +16,7 @@ use std::alloc::{AllocError, Global};
 /// The canonical text of a map, with the number of its entities and of their brushes.
 pub fn format(alloc: Global, map: &MapFile) -> Result<Product, AllocError>
     requires { IsValidMap map.now }
-    ensures { IfOk result (λ product. IsFormatted map.now (output_of product)) }
+    ensures { IfOk result (λ product. IsFormatOutput map.now (output_of product)) }
 {
     let summary = summary(alloc, map)?;
     let mut file = Vec::new(alloc);
@@ -29,7 +29,7 @@ pub fn format(alloc: Global, map: &MapFile) -> Result<Product, AllocError>
 }
 
 /// A line for each count.
-#[tactic(auto, unfolding(crate::specs::Summary::format_summary))]
+#[tactic(auto, unfolding(qm_statement::specs::Summary::format_summary))]
 fn summary(alloc: Global, map: &MapFile) -> Result<String, AllocError>
     requires { brush_count map.now < 2 ^ 64 }
     ensures { IfOk result (λ text. string_bytes text ≡ format_summary map.now) }

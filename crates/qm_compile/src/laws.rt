@@ -1,14 +1,16 @@
 //! How the program ends over forms that never fail.
 
-ghost use Rattle.qm_shelf.specs.Surroundings.{surroundings};
-ghost use Rattle.qm_compile.specs.declared.command.Command.{Command};
-ghost use Rattle.qm_compile.specs.Command.{FileNames, IsCommand, words_of};
-ghost use Rattle.qm_compile.specs.Complete.{CanEnd};
-ghost use Rattle.qm_compile.specs.Run.{Answers};
+ghost use Rattle.qm_shelf.specs.SeenForms.{surroundings};
+ghost use Rattle.qm_statement.specs.declared.command.Command.{Command};
+ghost use Rattle.qm_statement.specs.Command.{IsCommand};
+ghost use Rattle.qm_statement.specs.FileNames.{FileNames};
+ghost use Rattle.qm_words.specs.SeenWords.{bytes_of_words};
+ghost use Rattle.qm_statement.specs.Complete.{EndsWithoutFault};
+ghost use Rattle.qm_statement.specs.Run.{Answers};
 
 use crate::program::run;
-use crate::status::Status;
 use qm_shelf::{Shelf, Sink, SureShelf, SureSink};
+use qm_statement::Status;
 use std::alloc::Global;
 use std::thread::Threads;
 
@@ -21,9 +23,9 @@ pub fn run_surely<R: Threads + Sync>(
     shelf: &mut SureShelf,
     out: &mut SureSink,
 ) -> Status
-    ensures answers { Answers (words_of words.now) (surroundings ⟦<SureShelf as Shelf>⟧ ⟦<SureSink as Sink>⟧ shelf.old out.old)
+    ensures answers { Answers (bytes_of_words words.now) (surroundings ⟦<SureShelf as Shelf>⟧ ⟦<SureSink as Sink>⟧ shelf.old out.old)
         (surroundings ⟦<SureShelf as Shelf>⟧ ⟦<SureSink as Sink>⟧ shelf.new out.new) result }
-    ensures ends { (command : Command) (files : FileNames) → IsCommand (words_of words.now) command files → CanEnd result command }
+    ensures ends { (command : Command) (files : FileNames) → IsCommand (bytes_of_words words.now) command files → EndsWithoutFault result command }
 {
     run(rt, alloc, words, shelf, out)
 }

@@ -1,6 +1,6 @@
 ghost use Rattle.std.specs.Prelude.{◌≡◌};
 
-use crate::status::Status;
+use qm_statement::Status;
 
 /// What came of a command, before it is printed.
 #[derive(Drop)]
@@ -17,11 +17,11 @@ pub enum Outcome {
 }
 
 impl Outcome {
-    ghost use Rattle.qm_compile.specs.inner.Outcome.{status_of, text_of};
+    ghost use Rattle.qm_compile.specs.inner.Outcome.{due_status, due_text};
 
     /// The status that is due.
     pub fn status(&self) -> Status
-        ensures { result ≡ status_of self.now }
+        ensures { result ≡ due_status self.now }
     {
         match self {
             Outcome::Done(_) => Status::Done,
@@ -34,9 +34,9 @@ impl Outcome {
     }
 
     /// The text that is due with the status.
-    #[tactic(auto, unfolding(crate::specs::Texts::usage_text, crate::specs::Texts::read_fault_text, crate::specs::Texts::write_fault_text))]
+    #[tactic(auto, unfolding(qm_statement::specs::Texts::usage_text, qm_statement::specs::Texts::read_fault_text, qm_statement::specs::Texts::write_fault_text))]
     pub fn text(&self) -> &[u8]
-        ensures { result.now ≡ text_of self.now }
+        ensures { result.now ≡ due_text self.now }
     {
         match self {
             Outcome::Done(text) | Outcome::Leak(text) => text.as_bytes(),

@@ -2,15 +2,15 @@
 
 ghost use Rattle.std.specs.Prelude.{◌≡◌, ◌++◌, flat_map, ◌∷◌, IfOk, OnOk, string_bytes, codes, if◌then◌else◌};
 ghost use Rattle.std.specs.Fmt.{decimal};
-ghost use Rattle.qm_compile.specs.Summary.{summary_text, tree_lines};
-ghost use Rattle.qm_compile.specs.Texts.{leak_text};
+ghost use Rattle.qm_statement.specs.Summary.{summary_text, tree_lines};
+ghost use Rattle.qm_statement.specs.Texts.{leak_text};
 
 use crate::count_lines::put_count_line;
-use crate::summary::Summary;
+use qm_statement::Summary;
 use std::alloc::{AllocError, Global};
 
 /// A line of what was found of leaks, and one for each count.
-#[tactic(auto, unfolding(crate::specs::Summary::summary_text))]
+#[tactic(auto, unfolding(qm_statement::specs::Summary::summary_text))]
 pub fn summary_text(alloc: Global, summary: &Summary) -> Result<String, AllocError>
     ensures { IfOk result (λ text. string_bytes text ≡ summary_text summary.now) }
 {
@@ -26,7 +26,7 @@ pub fn summary_text(alloc: Global, summary: &Summary) -> Result<String, AllocErr
 }
 
 /// Adds the lines of what a tree has.
-#[tactic(auto, unfolding(crate::specs::Summary::tree_lines))]
+#[tactic(auto, unfolding(qm_statement::specs::Summary::tree_lines))]
 fn put_tree_lines(text: &mut String, summary: &Summary) -> Result<(), AllocError>
     ensures { OnOk result (string_bytes text.new ≡ string_bytes text.old ++ tree_lines summary.now) }
 {
@@ -45,7 +45,7 @@ fn verdict(sealed: bool) -> &'static str
 }
 
 /// A line of the entity that leaks, and one of the leaves of its trail.
-#[tactic(auto, unfolding(crate::specs::Texts::leak_text))]
+#[tactic(auto, unfolding(qm_statement::specs::Texts::leak_text))]
 pub fn leak_text(alloc: Global, entity: u64, trail: &[u64]) -> Result<String, AllocError>
     ensures { IfOk result (λ text. string_bytes text ≡ leak_text entity trail.now) }
 {

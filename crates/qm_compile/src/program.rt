@@ -1,31 +1,30 @@
 //! All that the program does.
 
 ghost use Rattle.std.specs.Prelude.{IfOk, OnErr};
-ghost use Rattle.qm_shelf.specs.Surroundings.{surroundings};
-ghost use Rattle.qm_shelf.specs.ShelfState.{shelf_state};
-ghost use Rattle.qm_compile.specs.declared.command.Command.{Command};
-ghost use Rattle.qm_compile.specs.Command.{FileNames, AreDifferent, IsCommand, names_of, words_of};
-ghost use Rattle.qm_compile.specs.Complete.{IsComplete};
-ghost use Rattle.qm_compile.specs.ComesOf.{ComesOf, IsCutShort};
-ghost use Rattle.qm_compile.specs.inner.Outcome.{status_of, text_of};
-ghost use Rattle.qm_compile.specs.Run.{Answers, Due};
+ghost use Rattle.qm_shelf.specs.SeenForms.{surroundings, shelf_state};
+ghost use Rattle.qm_statement.specs.declared.command.Command.{Command};
+ghost use Rattle.qm_statement.specs.Command.{IsCommand};
+ghost use Rattle.qm_statement.specs.FileNames.{FileNames, AreDifferent};
+ghost use Rattle.qm_words.specs.SeenWords.{bytes_of_words, names_of};
+ghost use Rattle.qm_statement.specs.Complete.{IsComplete};
+ghost use Rattle.qm_statement.specs.ComesOf.{ComesOf, IsCutShort};
+ghost use Rattle.qm_compile.specs.inner.Outcome.{due_status, due_text};
+ghost use Rattle.qm_statement.specs.Run.{Answers, Due};
 
-use crate::command::Command;
 use crate::fault_text::fault_text;
-use crate::files::Files;
 use crate::made::Made;
 use crate::make::make;
 use crate::outcome::Outcome;
-use crate::status::Status;
-use crate::words::command_of;
 use crate::writing::write_product;
 use qm_grammar::TEXT_LIMIT;
 use qm_shelf::{Shelf, ShelfFault, Sink, SinkFault, read_whole};
+use qm_statement::{Command, Status};
+use qm_words::{Files, command_of};
 use std::alloc::{AllocError, Global};
 use std::thread::Threads;
 
 /// Carries out the command that the words are: reads the map from the shelf, writes to it the file that is
-/// made of the map, and a listing behind it where one is asked for, and prints to the sink what came of it, in one write.
+/// made of the map, and a listing behind it where one is asked for, and prints to the sink what came of it.
 pub fn run<R: Threads + Sync, H: Shelf, S: Sink>(
     _rt: &R,
     alloc: Global,
@@ -33,8 +32,8 @@ pub fn run<R: Threads + Sync, H: Shelf, S: Sink>(
     shelf: &mut H,
     out: &mut S,
 ) -> Status
-    ensures answers { Answers (words_of words.now) (surroundings H.Shelf S.Sink shelf.old out.old) (surroundings H.Shelf S.Sink shelf.new out.new) result }
-    ensures complete { IsComplete (words_of words.now) (surroundings H.Shelf S.Sink shelf.old out.old) (surroundings H.Shelf S.Sink shelf.new out.new) result }
+    ensures answers { Answers (bytes_of_words words.now) (surroundings H.Shelf S.Sink shelf.old out.old) (surroundings H.Shelf S.Sink shelf.new out.new) result }
+    ensures complete { IsComplete (bytes_of_words words.now) (surroundings H.Shelf S.Sink shelf.old out.old) (surroundings H.Shelf S.Sink shelf.new out.new) result }
 {
     let Ok(outcome) = carry_out(alloc, words, shelf) else {
         return Status::Memory;
@@ -49,9 +48,9 @@ pub fn run<R: Threads + Sync, H: Shelf, S: Sink>(
 /// Carries out the command that the words are on the shelf, and says what came of it. Memory may run
 /// out only on the way of a command.
 fn carry_out<H: Shelf>(alloc: Global, words: &[&str], shelf: &mut H) -> Result<Outcome, AllocError>
-    ensures due { IfOk result (λ outcome. Due (words_of words.now) (shelf_state H.Shelf shelf.old) (shelf_state H.Shelf shelf.new)
-        (status_of outcome) (text_of outcome)) }
-    ensures memory { OnErr result ((command : Command) × (files : FileNames) × IsCommand (words_of words.now) command files
+    ensures due { IfOk result (λ outcome. Due (bytes_of_words words.now) (shelf_state H.Shelf shelf.old) (shelf_state H.Shelf shelf.new)
+        (due_status outcome) (due_text outcome)) }
+    ensures memory { OnErr result ((command : Command) × (files : FileNames) × IsCommand (bytes_of_words words.now) command files
         × IsCutShort (shelf_state H.Shelf shelf.old) (shelf_state H.Shelf shelf.new) command files) }
 {
     match command_of(words) {
@@ -69,7 +68,7 @@ fn carry_out_command<H: Shelf>(
 ) -> Result<Outcome, AllocError>
     requires { AreDifferent (names_of files.now) }
     ensures due { IfOk result (λ outcome. ComesOf (shelf_state H.Shelf shelf.old) (shelf_state H.Shelf shelf.new) command (names_of files.now)
-        (status_of outcome) (text_of outcome)) }
+        (due_status outcome) (due_text outcome)) }
     ensures memory { OnErr result (IsCutShort (shelf_state H.Shelf shelf.old) (shelf_state H.Shelf shelf.new) command (names_of files.now)) }
 {
     let text = match read_whole(alloc, shelf, files.map_name, TEXT_LIMIT) {
@@ -77,8 +76,7 @@ fn carry_out_command<H: Shelf>(
         Err(ShelfFault::Failed) => return Ok(Outcome::ReadFault),
         Err(ShelfFault::Memory) => return Err(AllocError),
     };
-    let listed = files.listing_name.is_some();
-    let product = match make(alloc, command, listed, text)? {
+    let product = match make(alloc, command, text)? {
         Made::Product(product) => product,
         Made::Fault(fault) => return Ok(Outcome::MapFault(fault_text(alloc, fault)?)),
     };

@@ -3,19 +3,20 @@
 ghost use Rattle.std.specs.Prelude.{IfOk};
 ghost use Rattle.qm_grammar.specs.Valid.{IsValidMap};
 ghost use Rattle.std.specs.Option.{option_map};
-ghost use Rattle.qm_compile.specs.Product.{IsCompiledFile, IsListed, IsPutOut};
+ghost use Rattle.qm_statement.specs.declared.command.Command.TheVariants.{Compile};
+ghost use Rattle.qm_statement.specs.Output.{IsListed, IsOutputOf};
 ghost use Rattle.qm_compile.specs.inner.Made.{output_of};
+ghost use Rattle.qm_compile.specs.inner.PutOut.{IsPutOut};
 
-use crate::compiled::Compiled;
-use crate::compiling::compile;
 use crate::made::Product;
-use crate::options::Options;
 use crate::outcome::Outcome;
 use crate::printed::{leak_text, summary_text};
+use qm_compiler::{Compiled, compile};
 use qm_file::encode;
 use qm_mapfile::MapFile;
 use qm_portal::World;
 use qm_prt::print;
+use qm_statement::Options;
 use std::alloc::{AllocError, Global};
 
 /// Compiles a map to the bytes of a tree file, and to a listing where one is asked for.
@@ -26,7 +27,7 @@ pub fn compile_to_file(
     listed: bool,
 ) -> Result<Product, AllocError>
     requires { IsValidMap map.now }
-    ensures { IfOk result (λ product. IsCompiledFile options listed map.now (output_of product)) }
+    ensures { IfOk result (λ product. IsOutputOf (Compile options listed) map.now (output_of product)) }
 {
     let compiled = compile(alloc, map, &options)?;
     put_out(alloc, listed, compiled)

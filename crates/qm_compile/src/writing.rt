@@ -1,13 +1,14 @@
 //! Writing what a command makes of a map.
 
-ghost use Rattle.qm_shelf.specs.ShelfState.{shelf_state};
-ghost use Rattle.qm_compile.specs.Command.{AreDifferent, names_of};
+ghost use Rattle.qm_shelf.specs.SeenForms.{shelf_state};
+ghost use Rattle.qm_statement.specs.FileNames.{AreDifferent};
+ghost use Rattle.qm_words.specs.SeenWords.{names_of};
 ghost use Rattle.qm_compile.specs.inner.Made.{output_of};
 ghost use Rattle.qm_compile.specs.inner.Writing.{IsWriting};
 
-use crate::files::Files;
 use crate::made::Product;
 use qm_shelf::{Shelf, ShelfFault, write_whole};
+use qm_words::Files;
 
 /// Writes the file, and once it is whole the listing, where there is one.
 pub fn write_product<H: Shelf>(

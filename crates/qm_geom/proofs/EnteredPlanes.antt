@@ -2,7 +2,7 @@
 use Rattle.std.proofs.Common.{◌≡◌, ℕ, ◌+◌, ◌≤◌, List, [], ◌∷◌, ◌++◌, length, Some, refl, sym, ◌∙◌, subst, arith}
 use Rattle.std.specs.Prelude.{slice_get}
 use Rattle.qm_space.specs.Plane.{Plane}
-use Rattle.qm_geom.specs.Planes.{EntersBook, was_there, is_gained, AreEnteredInBook, none, next}
+use Rattle.qm_space.specs.Entered.{EntersBook, was_there, is_gained, AreEnteredInBook, none, next}
 use Rattle.qm_geom.proofs.Entering.{earlier_stay, length-entered}
 
 pub one_entered : (old new : List Plane) (plane : Plane) (number : ℕ) → EntersBook old new plane number → AreEnteredInBook old (plane ∷ []) new

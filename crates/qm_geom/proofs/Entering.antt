@@ -1,6 +1,6 @@
 use Rattle.std.proofs.Common.{◌≡◌, ℕ, ◌+◌, ◌≤◌, List, [], ◌∷◌, length, arith, length-append, slice_get, Some}
 use Rattle.qm_space.specs.Plane.{Plane}
-use Rattle.qm_geom.specs.Planes.{EntersBook, was_there, is_gained}
+use Rattle.qm_space.specs.Entered.{EntersBook, was_there, is_gained}
 use Rattle.qm_lists.proofs.Places.{slice_get-push_old, slice_get-push_last}
 
 -- the number is the plane's place

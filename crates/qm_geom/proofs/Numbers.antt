@@ -8,7 +8,7 @@ use Rattle.qm_space.specs.Plane.{Plane}
 use Rattle.qm_space.specs.Reduced.{leads_positive, IsReduced}
 use Rattle.qm_space.proofs.ReducedPlanes.{same_plane}
 use Rattle.qm_space.specs.Book.{AreBookPlanes}
-use Rattle.qm_geom.specs.Planes.{plane_cmp}
+use Rattle.qm_space.specs.Entered.{plane_cmp}
 use Rattle.qm_geom.specs.inner.Numbered.{IsNumbered}
 use Rattle.qm_lists.proofs.Places.{slice_get-push_old, slice_get-push_last, slice_get-push_cases}
 use Rattle.qm_lists.proofs.Cases.{by_cases}

@@ -1,4 +1,3 @@
 pub mod Corners
-pub mod Planes
 pub mod Vectors
 pub mod inner

@@ -1,7 +1,7 @@
 ghost use Rattle.std.specs.Prelude.{◌≡◌, ◌<◌, ◌≤◌, ◌+◌, ◌-◌, ◌^◌, ◌↔◌, [], IsTrue, Some, slice_get, length, IfOk, OnErr};
 ghost use Rattle.qm_space.specs.Reduced.{leads_positive, IsReduced};
 ghost use Rattle.qm_space.specs.Book.{AreBookPlanes};
-ghost use Rattle.qm_geom.specs.Planes.{EntersBook};
+ghost use Rattle.qm_space.specs.Entered.{EntersBook};
 
 use crate::plane::Plane;
 use std::alloc::{AllocError, Global};

@@ -10,4 +10,7 @@ pub mod Meaning
 pub mod Valid
 pub mod Words
 pub mod MapFault
+pub mod OriginPoint
+pub mod Lines
+pub mod Printed
 pub mod inner

@@ -1,2 +1,1 @@
-pub mod OriginPoint
 pub mod inner

@@ -1,7 +1,7 @@
 ghost use Rattle.std.specs.Prelude.{◌≡◌, List, None, MatchOption};
 ghost use Rattle.qm_mapfile.specs.declared.entity.Pair.{Pair};
 ghost use Rattle.qm_grammar.specs.Origin.{origin_key, value_of, HasGoodOrigin};
-ghost use Rattle.qm_map.specs.OriginPoint.{IsOriginPoint};
+ghost use Rattle.qm_grammar.specs.OriginPoint.{IsOriginPoint};
 
 use crate::origin::{first_origin, origin_of};
 use qm_geom::Point;

@@ -16,8 +16,8 @@ use Rattle.qm_grammar.specs.Grammar.{SpellsFaces, SpellsBrush, SpellsParts, Spel
 use Rattle.qm_grammar.specs.Grammar as grammar
 use Rattle.qm_grammar.specs.Valid.{IsValidFace, IsValidBrush, IsValidPair, IsValidEntity}
 use Rattle.qm_lists.proofs.Elements.{AllByRecursion-append}
-use Rattle.qm_mapout.specs.Lines.{TokenLine, symbols_of_line, symbols_of}
-use Rattle.qm_mapout.specs.Printed.{open_brace, close_brace, brace_line, pair_line, face_line, brush_lines, entity_lines}
+use Rattle.qm_grammar.specs.Lines.{TokenLine, symbols_of_line, symbols_of}
+use Rattle.qm_grammar.specs.Printed.{open_brace, close_brace, brace_line, pair_line, face_line, brush_lines, entity_lines}
 use Rattle.qm_mapout.proofs.LinesLexed.{IsWritableLine}
 use Rattle.qm_mapout.proofs.FacesAgain.{face_again, quotable, quoted_sort, mark_can_stand}
 

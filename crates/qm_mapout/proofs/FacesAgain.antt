@@ -23,8 +23,8 @@ use Rattle.qm_grammar.specs.Grammar.{SpellsFace}
 use Rattle.qm_grammar.specs.Valid.{IsNameText, HasNoQuote, HasWords, IsValidFace, words_of_mapping}
 use Rattle.qm_lists.proofs.Elements.{AllByRecursion-append}
 use Rattle.qm_lists.proofs.Options.{none_from_is_some}
-use Rattle.qm_mapout.specs.Lines.{symbols_of_line}
-use Rattle.qm_mapout.specs.Printed.{word_symbol, quoted, number_symbol, open_parenthesis, close_parenthesis, open_bracket, close_bracket, point_symbols, needs_quotes, begins_comment, texture_symbol, axis_symbols, mapping_prefix, mapping_last, face_line}
+use Rattle.qm_grammar.specs.Lines.{symbols_of_line}
+use Rattle.qm_grammar.specs.Printed.{word_symbol, quoted, number_symbol, open_parenthesis, close_parenthesis, open_bracket, close_bracket, point_symbols, needs_quotes, begins_comment, texture_symbol, axis_symbols, mapping_prefix, mapping_last, face_line}
 use Rattle.qm_mapout.proofs.Lexed.{IsWritable}
 use Rattle.qm_mapout.proofs.LinesLexed.{IsWritableLine}
 use Rattle.qm_mapout.proofs.Numbers.{number_text}

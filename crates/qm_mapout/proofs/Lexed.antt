@@ -8,7 +8,7 @@ use Rattle.qm_tokens.specs.Lexing.{Lexing, lexing_from}
 use Rattle.qm_tokens.specs.Piece.{TextPiece, blank, quoted, bytes_of_piece, OpensWord, ArePiecesOf}
 use Rattle.qm_tokens.specs.Piece as piece
 use Rattle.qm_grammar.specs.Symbol.{Symbol, symbol_of}
-use Rattle.qm_mapout.specs.Lines.{spelled_as, spelling}
+use Rattle.qm_grammar.specs.Lines.{spelled_as, spelling}
 
 -- bytes that can stand as a token of this kind
 abbrev pub CanStand : TokenKind → List ℕ → Type 0

@@ -7,7 +7,7 @@ use Rattle.qm_tokens.specs.Lexing.{Lexing, IsLexingOf, lexing_from}
 use Rattle.qm_tokens.specs.Piece.{ArePiecesOf}
 use Rattle.qm_grammar.specs.Symbol.{Symbol, symbol_of}
 use Rattle.qm_lists.proofs.Elements.{AllByRecursion-append, AllByRecursion-parts}
-use Rattle.qm_mapout.specs.Lines.{TokenLine, spelling, spaced, line_text, text_of_lines, symbols_of_line, symbols_of}
+use Rattle.qm_grammar.specs.Lines.{TokenLine, spelling, spaced, line_text, text_of_lines, symbols_of_line, symbols_of}
 use Rattle.qm_mapout.proofs.Lexed.{Gapped, IsGood, IsWritable, gapped_text, gapped_pieces, symbols_at, pieces_stand, lexed}
 
 space_behind : Symbol → Gapped

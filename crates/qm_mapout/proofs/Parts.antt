@@ -9,8 +9,8 @@ use Rattle.qm_mapfile.specs.declared.entity.Pair.{Pair}
 use Rattle.qm_mapfile.specs.declared.entity.Entity.{Entity}
 use Rattle.qm_lists.proofs.FlatMaps.{flat_map-flat_map}
 use Rattle.qm_grammar.specs.Symbol.{Symbol}
-use Rattle.qm_mapout.specs.Lines.{TokenLine, line_text, text_of_lines, spaced, spelling}
-use Rattle.qm_mapout.specs.Printed.{brace_line, open_brace, close_brace, pair_line, face_line, brush_lines, entity_lines, number_symbol, open_parenthesis, close_parenthesis, point_symbols, texture_symbol, mapping_prefix, mapping_last}
+use Rattle.qm_grammar.specs.Lines.{TokenLine, line_text, text_of_lines, spaced, spelling}
+use Rattle.qm_grammar.specs.Printed.{brace_line, open_brace, close_brace, pair_line, face_line, brush_lines, entity_lines, number_symbol, open_parenthesis, close_parenthesis, point_symbols, texture_symbol, mapping_prefix, mapping_last}
 
 -- a line before others
 text_cons : (line : TokenLine) (lines : List TokenLine) → text_of_lines (line ∷ lines) ≡ line_text line ++ text_of_lines lines

@@ -6,7 +6,7 @@ use Rattle.qm_grammar.specs.Grammar.{SpellsMap}
 use Rattle.qm_grammar.specs.Faults.{text_limit}
 use Rattle.qm_grammar.specs.Meaning.{IsMapText}
 use Rattle.qm_grammar.specs.Valid.{IsValidMap}
-use Rattle.qm_mapout.specs.Printed.{map_lines, printed_map}
+use Rattle.qm_grammar.specs.Printed.{map_lines, printed_map}
 use Rattle.qm_mapout.proofs.LinesLexed.{lines_lexed}
 use Rattle.qm_mapout.proofs.EntitiesAgain.{entities_spelled, entities_writable}
 

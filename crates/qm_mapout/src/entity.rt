@@ -2,8 +2,8 @@
 
 ghost use Rattle.std.specs.Prelude.{◌≡◌, ◌++◌, flat_map, map, All, OnOk};
 ghost use Rattle.qm_grammar.specs.Valid.{IsValidBrush, IsValidEntity};
-ghost use Rattle.qm_mapout.specs.Lines.{line_text, text_of_lines};
-ghost use Rattle.qm_mapout.specs.Printed.{pair_line, face_line, brush_lines, entity_lines};
+ghost use Rattle.qm_grammar.specs.Lines.{line_text, text_of_lines};
+ghost use Rattle.qm_grammar.specs.Printed.{pair_line, face_line, brush_lines, entity_lines};
 
 use crate::face::FaceLine;
 use crate::line::{put_close_brace, put_last_quoted, put_open_brace, put_quoted};
@@ -21,7 +21,7 @@ impl Encoding for PairLine {
 
     ghost bytes_of = { λ pair. line_text (pair_line pair) };
 
-    #[tactic(auto, unfolding(crate::specs::Printed::pair_line, crate::specs::Lines::line_text))]
+    #[tactic(auto, unfolding(qm_grammar::specs::Printed::pair_line, qm_grammar::specs::Lines::line_text))]
     fn append(out: &mut Vec<u8>, pair: &Pair) -> Result<(), AllocError> {
         put_quoted(out, pair.key.as_slice())?;
         put_last_quoted(out, pair.value.as_slice())
@@ -38,7 +38,7 @@ impl Encoding for BrushLines {
 
     ghost bytes_of = { λ brush. text_of_lines (brush_lines brush) };
 
-    #[tactic(auto, unfolding(crate::specs::Printed::brush_lines))]
+    #[tactic(auto, unfolding(qm_grammar::specs::Printed::brush_lines))]
     fn append(out: &mut Vec<u8>, brush: &Brush) -> Result<(), AllocError> {
         put_open_brace(out)?;
         append_all::<FaceLine>(out, brush.faces.as_slice())?;
@@ -56,7 +56,7 @@ impl Encoding for EntityLines {
 
     ghost bytes_of = { λ entity. text_of_lines (entity_lines entity) };
 
-    #[tactic(auto, unfolding(crate::specs::Printed::entity_lines))]
+    #[tactic(auto, unfolding(qm_grammar::specs::Printed::entity_lines))]
     fn append(out: &mut Vec<u8>, entity: &Entity) -> Result<(), AllocError> {
         put_open_brace(out)?;
         append_all::<PairLine>(out, entity.pairs.as_slice())?;

@@ -2,10 +2,10 @@
 
 ghost use Rattle.std.specs.Prelude.{◌≡◌, ◌++◌, ◌∷◌, [], flat_map, map, is_some, nat_le, OnOk};
 ghost use Rattle.std.specs.List.{list_any};
-ghost use Rattle.qm_mapout.specs.Lines.{spaced, spelling, line_text};
+ghost use Rattle.qm_grammar.specs.Lines.{spaced, spelling, line_text};
 ghost use Rattle.qm_grammar.specs.Symbol.{mark_of};
 ghost use Rattle.qm_grammar.specs.Valid.{HasWords, IsValidFace};
-ghost use Rattle.qm_mapout.specs.Printed.{word_symbol, point_symbols, begins_comment, needs_quotes, texture_symbol, axis_symbols, mapping_prefix, mapping_last, face_line};
+ghost use Rattle.qm_grammar.specs.Printed.{word_symbol, point_symbols, begins_comment, needs_quotes, texture_symbol, axis_symbols, mapping_prefix, mapping_last, face_line};
 
 use crate::line::{put_last_word, put_number, put_quoted, put_word};
 use qm_lists::{Encoding, append_all};
@@ -13,7 +13,7 @@ use qm_mapfile::{Face, Mapping, Text};
 use std::alloc::AllocError;
 
 /// `( x y z )`
-#[tactic(auto, unfolding(crate::specs::Printed::point_symbols))]
+#[tactic(auto, unfolding(qm_grammar::specs::Printed::point_symbols))]
 fn put_point(out: &mut Vec<u8>, point: &[i32; 3]) -> Result<(), AllocError>
     ensures { OnOk result (out.new.items ≡ out.old.items ++ flat_map spaced (point_symbols point.now)) }
 {
@@ -26,7 +26,7 @@ fn put_point(out: &mut Vec<u8>, point: &[i32; 3]) -> Result<(), AllocError>
 }
 
 /// Whether a texture would not be read as one word.
-#[tactic(auto, unfolding(crate::specs::Printed::needs_quotes))]
+#[tactic(auto, unfolding(qm_grammar::specs::Printed::needs_quotes))]
 fn needs_quotes(name: &[u8]) -> bool
     ensures { result ≡ needs_quotes name.now }
 {
@@ -61,7 +61,7 @@ fn is_mark(name: &[u8]) -> bool
     }
 }
 
-#[tactic(auto, unfolding(crate::specs::Printed::texture_symbol))]
+#[tactic(auto, unfolding(qm_grammar::specs::Printed::texture_symbol))]
 fn put_texture(out: &mut Vec<u8>, name: &[u8]) -> Result<(), AllocError>
     ensures { OnOk result (out.new.items ≡ out.old.items ++ spaced (texture_symbol name.now)) }
 {
@@ -104,7 +104,7 @@ fn put_axis(out: &mut Vec<u8>, words: &[Text]) -> Result<(), AllocError>
 }
 
 /// The mapping, which ends the line.
-#[tactic(auto, unfolding(crate::specs::Printed::mapping_prefix, crate::specs::Printed::mapping_last))]
+#[tactic(auto, unfolding(qm_grammar::specs::Printed::mapping_prefix, qm_grammar::specs::Printed::mapping_last))]
 fn put_mapping(out: &mut Vec<u8>, mapping: &Mapping) -> Result<(), AllocError>
     requires { HasWords mapping.now }
     ensures { OnOk result (out.new.items ≡ out.old.items ++ (flat_map spaced (mapping_prefix mapping.now) ++ (spelling (mapping_last mapping.now) ++ 10 ∷ []))) }
@@ -135,7 +135,7 @@ impl Encoding for FaceLine {
 
     ghost bytes_of = { λ face. line_text (face_line face) };
 
-    #[tactic(auto, unfolding(crate::specs::Printed::face_line, crate::specs::Lines::line_text))]
+    #[tactic(auto, unfolding(qm_grammar::specs::Printed::face_line, qm_grammar::specs::Lines::line_text))]
     fn append(out: &mut Vec<u8>, face: &Face) -> Result<(), AllocError> {
         let [first, second, third] = &face.points;
         put_point(out, first)?;

@@ -1,8 +1,8 @@
 //! Tokens of a line, one after another.
 
 ghost use Rattle.std.specs.Prelude.{◌≡◌, ◌∷◌, ◌++◌, [], OnOk};
-ghost use Rattle.qm_mapout.specs.Lines.{spaced, spelling, line_text};
-ghost use Rattle.qm_mapout.specs.Printed.{word_symbol, quoted, number_symbol, brace_line, open_brace, close_brace};
+ghost use Rattle.qm_grammar.specs.Lines.{spaced, spelling, line_text};
+ghost use Rattle.qm_grammar.specs.Printed.{word_symbol, quoted, number_symbol, brace_line, open_brace, close_brace};
 
 use itoa::Buffer;
 use std::alloc::AllocError;
@@ -62,7 +62,7 @@ pub(crate) fn put_number(out: &mut Vec<u8>, coordinate: i32) -> Result<(), Alloc
 }
 
 /// A line of `{`.
-#[tactic(auto, unfolding(crate::specs::Lines::line_text))]
+#[tactic(auto, unfolding(qm_grammar::specs::Lines::line_text))]
 pub(crate) fn put_open_brace(out: &mut Vec<u8>) -> Result<(), AllocError>
     ensures { OnOk result (out.new.items ≡ out.old.items ++ line_text (brace_line open_brace)) }
 {
@@ -70,7 +70,7 @@ pub(crate) fn put_open_brace(out: &mut Vec<u8>) -> Result<(), AllocError>
 }
 
 /// A line of `}`.
-#[tactic(auto, unfolding(crate::specs::Lines::line_text))]
+#[tactic(auto, unfolding(qm_grammar::specs::Lines::line_text))]
 pub(crate) fn put_close_brace(out: &mut Vec<u8>) -> Result<(), AllocError>
     ensures { OnOk result (out.new.items ≡ out.old.items ++ line_text (brace_line close_brace)) }
 {

@@ -2,7 +2,7 @@ ghost use Rattle.std.specs.Prelude.{◌≡◌, ◌≤◌, ◌++◌, length, IfOk
 ghost use Rattle.qm_grammar.specs.Faults.{text_limit};
 ghost use Rattle.qm_grammar.specs.Meaning.{IsMapText};
 ghost use Rattle.qm_grammar.specs.Valid.{IsValidMap};
-ghost use Rattle.qm_mapout.specs.Printed.{printed_map};
+ghost use Rattle.qm_grammar.specs.Printed.{printed_map};
 
 use crate::entity::EntityLines;
 use qm_lists::append_all;
@@ -29,7 +29,7 @@ pub fn print(alloc: Global, map: &MapFile, out: &mut Vec<u8>) -> Result<(), Allo
 }
 
 /// The canonical text of a map.
-#[tactic(auto, unfolding(crate::specs::Printed::printed_map, qm_grammar::specs::Valid::IsValidMap))]
+#[tactic(auto, unfolding(qm_grammar::specs::Printed::printed_map, qm_grammar::specs::Valid::IsValidMap))]
 fn canonical_text(alloc: Global, map: &MapFile) -> Result<Vec<u8>, AllocError>
     requires { IsValidMap map.now }
     ensures { IfOk result (λ text. text.items ≡ printed_map map.now) }

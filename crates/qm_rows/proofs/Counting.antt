@@ -5,7 +5,7 @@ use Rattle.std.proofs.lemmas.Bool.{cases_lt}
 use Rattle.std.proofs.lemmas.List.{take_more}
 use Rattle.std.proofs.lemmas.List.Sums.{sum_by_push}
 use Rattle.std.proofs.Math.Nat.{min-eq_left, min-eq_right}
-use Rattle.qm_rows.specs.Seen.{seen_of}
+use Rattle.qm_coarse_rows.specs.Seen.{seen_of}
 
 -- to stop at the limit before one adds more changes nothing
 pub stopped : (a b most : ℕ) → min (min a most + b) most ≡ min (a + b) most

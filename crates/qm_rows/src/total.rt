@@ -1,5 +1,5 @@
 ghost use Rattle.std.specs.Prelude.{◌≡◌, ◌+◌, ◌-◌, ◌^◌, min};
-ghost use Rattle.qm_rows.specs.Seen.{seen_of};
+ghost use Rattle.qm_coarse_rows.specs.Seen.{seen_of};
 
 use qm_bits::BitRow;
 

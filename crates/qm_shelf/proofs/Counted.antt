@@ -1,7 +1,9 @@
 use Rattle.std.proofs.Common.{ℕ, List, ◌∙◌, subst}
-use Rattle.qm_shelf.specs.Counts.{Rose, Stays, ShelfFaultCounted}
-use Rattle.qm_shelf.specs.ShelfState.{ShelfState}
-use Rattle.qm_shelf.specs.ShelfChanges.{MetNoFault, ReadFaultMeans, WriteFaultMeans}
+use Rattle.qm_surroundings.specs.Counts.{Rose, Stays}
+use Rattle.qm_shelf.specs.FaultCounts.{ShelfFaultCounted}
+use Rattle.qm_surroundings.specs.ShelfState.{ShelfState}
+use Rattle.qm_surroundings.specs.ShelfChanges.{MetNoFault}
+use Rattle.qm_shelf.specs.FaultMeans.{ReadFaultMeans, WriteFaultMeans}
 use Rattle.qm_shelf.specs.declared.shelf.ShelfFault.{ShelfFault}
 use Rattle.qm_shelf.specs.declared.shelf.ShelfFault.TheVariants.{Failed, Memory}
 

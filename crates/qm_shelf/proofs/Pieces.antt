@@ -1,7 +1,7 @@
 use Rattle.std.proofs.Common.{◌≡◌, ℕ, ◌+◌, ◌≤◌, List, ◌++◌, length, take, drop, Option, Some, None, inl, inr, sym, ap, ◌∙◌, arith}
 use Rattle.std.proofs.lemmas.List.{take-take, take_all, length-take}
 use Rattle.std.proofs.lemmas.Bool.{cases_lt}
-use Rattle.qm_shelf.specs.Reads.{bytes_of_file}
+use Rattle.qm_surroundings.specs.HeldFile.{bytes_of_file}
 use Rattle.qm_shelf.specs.Writes.{IsAdded, IsPrefixAdded}
 use Rattle.std.proofs.Math.Seq.{take-add}
 

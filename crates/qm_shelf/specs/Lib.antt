@@ -1,14 +1,10 @@
 pub mod CallNumbers
-pub mod Counts
 pub mod MemoryShelf
 pub mod MemorySink
 pub mod NamedFiles
-pub mod Surroundings
-pub mod Printing
 pub mod Reads
-pub mod ShelfChanges
-pub mod ShelfState
-pub mod SinkState
 pub mod SureForms
-pub mod WholeFiles
 pub mod Writes
+pub mod FaultCounts
+pub mod FaultMeans
+pub mod SeenForms

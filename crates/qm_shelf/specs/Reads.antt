@@ -1,9 +1,5 @@
 use Rattle.std.specs.Prelude.{ℕ, ◌≡◌, ◌<◌, ◌≤◌, List, [], ◌++◌, length, take, drop, Option, unwrap_or}
 
--- the bytes of a file: a name that is not held has none
-abbrev pub bytes_of_file : Option (List ℕ) → List ℕ
-bytes_of_file file = unwrap_or file []
-
 -- a read copied this many bytes of the file, from a place on, to the beginning of a buffer
 pub record IsRead (file : Option (List ℕ)) (place : ℕ) (before after : List ℕ) (count : ℕ) : Type 0 where
   -- the beginning is bytes of the file, and the rest of the buffer stays

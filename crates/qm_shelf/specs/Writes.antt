@@ -1,9 +1,5 @@
 use Rattle.std.specs.Prelude.{ℕ, ◌≡◌, ◌⊎◌, List, [], ◌++◌, take, Option, Some, IsSomeAnd}
-use Rattle.qm_shelf.specs.Reads.{bytes_of_file}
-
--- a text grew by some of the first of these bytes: none, all, or any number between
-abbrev pub ContinuesInto : List ℕ → List ℕ → List ℕ → Type 0
-ContinuesInto before bytes after = (count : ℕ) × (after ≡ before ++ take count bytes)
+use Rattle.qm_surroundings.specs.HeldFile.{bytes_of_file}
 
 -- the file is held and has no bytes
 abbrev pub IsEmptied : Option (List ℕ) → Type 0

@@ -2,7 +2,7 @@
 
 ghost use Rattle.std.specs.Prelude.{◌≡◌, ◌<◌, ◌≤◌, ◌+◌, Some, IsSome, OnOk, OnErr, length};
 ghost use Rattle.std.specs.Option.{option_copied};
-ghost use Rattle.qm_shelf.specs.Counts.{Stays, StaysElsewhere};
+ghost use Rattle.qm_surroundings.specs.Counts.{Stays, StaysElsewhere};
 ghost use Rattle.qm_shelf.specs.Reads.{IsRead};
 ghost use Rattle.qm_shelf.specs.Writes.{IsAdded};
 ghost use Rattle.qm_shelf.specs.NamedFiles.{file_under};

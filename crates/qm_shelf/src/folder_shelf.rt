@@ -2,7 +2,7 @@
 
 ghost use Rattle.std.specs.Prelude.{ℕ, ◌≡◌, ◌≤◌, List, length, None, false, IsTrue, IfOk, IfErr, OnErr, MatchResult};
 ghost use Rattle.qm_shelf.specs.CallNumbers.{one_more};
-ghost use Rattle.qm_shelf.specs.Counts.{ShelfCounted};
+ghost use Rattle.qm_shelf.specs.FaultCounts.{ShelfCounted};
 ghost use Rattle.qm_shelf.specs.Reads.{IsRead};
 ghost use Rattle.qm_shelf.specs.Writes.{IsEmptied, IsKeptOrEmptied, IsAdded, IsPrefixAdded};
 

@@ -2,7 +2,7 @@
 
 ghost use Rattle.std.specs.Prelude.{ℕ, ◌≡◌, ◌≤◌, ◌↔◌, ◌++◌, ◌∷◌, [], List, Option, Some, None, true, false, IsTrue, IsSome, IfOk, IfErr, OnOk, OnErr};
 ghost use Rattle.std.specs.Option.{option_copied};
-ghost use Rattle.qm_shelf.specs.Counts.{Stays, StaysElsewhere};
+ghost use Rattle.qm_surroundings.specs.Counts.{Stays, StaysElsewhere};
 ghost use Rattle.qm_shelf.specs.CallNumbers.{one_more};
 ghost use Rattle.qm_shelf.specs.Reads.{IsRead};
 ghost use Rattle.qm_shelf.specs.Writes.{IsAdded};

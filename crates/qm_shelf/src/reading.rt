@@ -1,11 +1,13 @@
 //! Reading a file whole.
 
 ghost use Rattle.std.specs.Prelude.{◌≡◌, ◌≤◌, ◌+◌, ◌++◌, IsTrue, IfOk, IfErr, OnOk, length, take, drop, Ok, vec_len};
-ghost use Rattle.qm_shelf.specs.Counts.{Stays, ShelfCounted};
-ghost use Rattle.qm_shelf.specs.Reads.{bytes_of_file};
-ghost use Rattle.qm_shelf.specs.ShelfState.{shelf_state};
-ghost use Rattle.qm_shelf.specs.ShelfChanges.{IsKept, MetNoFault, ReadFaultMeans};
-ghost use Rattle.qm_shelf.specs.WholeFiles.{IsReadFrom};
+ghost use Rattle.qm_surroundings.specs.Counts.{Stays};
+ghost use Rattle.qm_shelf.specs.FaultCounts.{ShelfCounted};
+ghost use Rattle.qm_surroundings.specs.HeldFile.{bytes_of_file};
+ghost use Rattle.qm_shelf.specs.SeenForms.{shelf_state};
+ghost use Rattle.qm_surroundings.specs.ShelfChanges.{IsKept, MetNoFault};
+ghost use Rattle.qm_shelf.specs.FaultMeans.{ReadFaultMeans};
+ghost use Rattle.qm_surroundings.specs.WholeFiles.{IsReadFrom};
 
 use crate::shelf::{FARTHEST_PLACE, PIECE, Shelf, ShelfFault};
 use std::alloc::{AllocError, Global};

@@ -1,7 +1,8 @@
 //! A store of named files, whose faults are counted.
 
 ghost use Rattle.std.specs.Prelude.{ℕ, ◌≡◌, ◌≤◌, List, length, Bool, Option, IsTrue, IfOk, IsSome, MatchResult};
-ghost use Rattle.qm_shelf.specs.Counts.{Stays, StaysElsewhere, NeverFall, ShelfCounted};
+ghost use Rattle.qm_surroundings.specs.Counts.{Stays, StaysElsewhere, NeverFall};
+ghost use Rattle.qm_shelf.specs.FaultCounts.{ShelfCounted};
 ghost use Rattle.qm_shelf.specs.Reads.{IsRead};
 ghost use Rattle.qm_shelf.specs.Writes.{IsEmptied, IsKeptOrEmptied, IsAdded, IsPrefixAdded};
 

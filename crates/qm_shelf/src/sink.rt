@@ -1,8 +1,8 @@
 //! A sink for printed text, whose faults are counted.
 
 ghost use Rattle.std.specs.Prelude.{ℕ, ◌≡◌, ◌≤◌, ◌++◌, List, Bool, IsTrue, MatchResult};
-ghost use Rattle.qm_shelf.specs.Counts.{SinkCounted};
-ghost use Rattle.qm_shelf.specs.Writes.{ContinuesInto};
+ghost use Rattle.qm_shelf.specs.FaultCounts.{SinkCounted};
+ghost use Rattle.qm_surroundings.specs.HeldFile.{ContinuesInto};
 
 use std::alloc::AllocError;
 

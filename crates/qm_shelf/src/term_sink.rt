@@ -2,8 +2,8 @@
 
 ghost use Rattle.std.specs.Prelude.{◌≡◌, ◌≤◌, ◌++◌, [], false, IsTrue, IfErr, OnErr, MatchResult};
 ghost use Rattle.qm_shelf.specs.CallNumbers.{one_more};
-ghost use Rattle.qm_shelf.specs.Counts.{SinkCounted};
-ghost use Rattle.qm_shelf.specs.Writes.{ContinuesInto};
+ghost use Rattle.qm_shelf.specs.FaultCounts.{SinkCounted};
+ghost use Rattle.qm_surroundings.specs.HeldFile.{ContinuesInto};
 
 use crate::calls::one_more;
 use crate::sink::{Sink, SinkFault};

@@ -1,10 +1,12 @@
 //! Writing a file whole.
 
 ghost use Rattle.std.specs.Prelude.{ℕ, ◌≡◌, ◌<◌, ◌≤◌, length, IsTrue, IfOk, IfErr, OnOk, OnErr, take, Some};
-ghost use Rattle.qm_shelf.specs.Counts.{Stays, StaysElsewhere, ShelfCounted};
-ghost use Rattle.qm_shelf.specs.ShelfState.{shelf_state};
-ghost use Rattle.qm_shelf.specs.ShelfChanges.{IsKeptElsewhere, MetNoFault, WriteFaultMeans};
-ghost use Rattle.qm_shelf.specs.WholeFiles.{HoldsExactly, HoldsUnfinished};
+ghost use Rattle.qm_surroundings.specs.Counts.{Stays, StaysElsewhere};
+ghost use Rattle.qm_shelf.specs.FaultCounts.{ShelfCounted};
+ghost use Rattle.qm_shelf.specs.SeenForms.{shelf_state};
+ghost use Rattle.qm_surroundings.specs.ShelfChanges.{IsKeptElsewhere, MetNoFault};
+ghost use Rattle.qm_shelf.specs.FaultMeans.{WriteFaultMeans};
+ghost use Rattle.qm_surroundings.specs.WholeFiles.{HoldsExactly, HoldsUnfinished};
 
 use crate::shelf::{PIECE, Shelf, ShelfFault};
 

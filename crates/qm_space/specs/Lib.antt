@@ -16,4 +16,5 @@ pub mod Cube
 pub mod Cuboid
 pub mod Coordinates
 pub mod LeastDistance
+pub mod Entered
 pub mod inner

@@ -2,7 +2,7 @@
 //! `run`, and ends with the status that this answers.
 #![tactic(auto)]
 
-use qm_compile::{Status, run};
+use qm_compile::{Status, exit_number, run};
 use qm_shelf::{FolderShelf, TermSink};
 use std::alloc::AllocError;
 use std::process::ExitCode;
@@ -15,7 +15,7 @@ fn main(rt: HostRuntime) -> ExitCode {
         Ok(status) => status,
         Err(AllocError) => Status::Memory,
     };
-    ExitCode::from(status.number())
+    ExitCode::from(exit_number(status))
 }
 
 /// Runs the program on the words that it was given after its name.

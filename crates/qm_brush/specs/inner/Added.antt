@@ -3,14 +3,14 @@ use Rattle.std.specs.Prelude.{flat_map, filter}
 use Rattle.std.specs.List.{AllZip, filter_map}
 use Rattle.qm_space.specs.Plane.{Plane}
 use Rattle.qm_space.specs.Book.{AreBookPlanes}
-use Rattle.qm_geom.specs.Planes.{AreEnteredInBook}
+use Rattle.qm_space.specs.Entered.{AreEnteredInBook}
 use Rattle.qm_mapfile.specs.declared.entity.Brush.{Brush}
 use Rattle.qm_contents.specs.declared.contents.Contents.{Contents}
 use Rattle.qm_solids.specs.Alike.{IsAlike}
 use Rattle.qm_solids.specs.InBook.{BookSolid, solid_in, solids_in, IsKeptIn}
-use Rattle.qm_brush.specs.Brushes.{contents_of_brush, is_drawn}
-use Rattle.qm_brush.specs.Solids.{filled_with, solid_of_brush}
-use Rattle.qm_brush.specs.Planes.{planes_of_brush}
+use Rattle.qm_drawn.specs.Brushes.{contents_of_brush, is_drawn}
+use Rattle.qm_drawn.specs.Solids.{filled_with, solid_of_brush}
+use Rattle.qm_drawn.specs.Planes.{planes_of_brush}
 
 -- a brush with these contents was added at the end of a list, and the planes of its faces entered
 pub record IsBrushAdded (brush : Brush) (contents : Contents) (before after : List BookSolid) (old new : List Plane) : Type 0 where

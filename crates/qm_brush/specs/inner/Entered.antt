@@ -2,12 +2,12 @@ use Rattle.std.specs.Prelude.{◌≡◌, ℕ, Bool, List, [], ◌∷◌, ◌++�
 use Rattle.std.specs.Prelude.{map as mapped}
 use Rattle.qm_space.specs.Plane.{Plane}
 use Rattle.qm_space.specs.Turned.{turned}
-use Rattle.qm_geom.specs.Planes.{EntersBook, AreEnteredInBook}
+use Rattle.qm_space.specs.Entered.{EntersBook, AreEnteredInBook}
 use Rattle.qm_mapfile.specs.declared.face.Face.{Face}
 use Rattle.qm_mapfile.specs.Face.{face_plane}
 use Rattle.qm_solids.specs.declared.face.FaceRef.{FaceRef}
 use Rattle.qm_solids.specs.Outward.{outward_planes, AreNumberedIn}
-use Rattle.qm_brush.specs.Planes.{plane_of_face}
+use Rattle.qm_drawn.specs.Planes.{plane_of_face}
 
 -- Faces whose planes enter a book, and which are then faces by the numbers of their planes.
 

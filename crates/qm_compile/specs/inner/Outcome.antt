@@ -1,24 +1,24 @@
 use Rattle.std.specs.Prelude.{ℕ, List, string_bytes}
 use Rattle.qm_compile.specs.declared.outcome.Outcome.{Outcome}
 use Rattle.qm_compile.specs.declared.outcome.Outcome.TheVariants.{Done, Usage, Leak, ReadFault, MapFault, WriteFault}
-use Rattle.qm_compile.specs.declared.status.Status.{Status}
-use Rattle.qm_compile.specs.declared.status.Status.TheVariants as status
-use Rattle.qm_compile.specs.Texts.{usage_text, read_fault_text, write_fault_text}
+use Rattle.qm_statement.specs.declared.status.Status.{Status}
+use Rattle.qm_statement.specs.declared.status.Status.TheVariants as status
+use Rattle.qm_statement.specs.Texts.{usage_text, read_fault_text, write_fault_text}
 
 -- the status of what came of a command
-abbrev pub status_of : Outcome → Status
-status_of (Done summary) = status.Done
-status_of Usage = status.Usage
-status_of (Leak text) = status.Leak
-status_of ReadFault = status.ReadFault
-status_of (MapFault text) = status.MapFault
-status_of WriteFault = status.WriteFault
+abbrev pub due_status : Outcome → Status
+due_status (Done summary) = status.Done
+due_status Usage = status.Usage
+due_status (Leak text) = status.Leak
+due_status ReadFault = status.ReadFault
+due_status (MapFault text) = status.MapFault
+due_status WriteFault = status.WriteFault
 
 -- the text that is printed of it
-abbrev pub text_of : Outcome → List ℕ
-text_of (Done summary) = string_bytes summary
-text_of Usage = usage_text
-text_of (Leak text) = string_bytes text
-text_of ReadFault = read_fault_text
-text_of (MapFault text) = string_bytes text
-text_of WriteFault = write_fault_text
+abbrev pub due_text : Outcome → List ℕ
+due_text (Done summary) = string_bytes summary
+due_text Usage = usage_text
+due_text (Leak text) = string_bytes text
+due_text ReadFault = read_fault_text
+due_text (MapFault text) = string_bytes text
+due_text WriteFault = write_fault_text

@@ -1,11 +1,12 @@
 use Rattle.std.specs.Prelude.{◌≡◌, ◌⊎◌, ℕ, List, Result, Ok, Err, Some, IsTrue}
-use Rattle.qm_shelf.specs.ShelfState.{ShelfState}
-use Rattle.qm_shelf.specs.ShelfChanges.{IsKeptElsewhere, MetNoFault, WriteFaultMeans}
-use Rattle.qm_shelf.specs.WholeFiles.{HoldsUnfinished}
+use Rattle.qm_surroundings.specs.ShelfState.{ShelfState}
+use Rattle.qm_surroundings.specs.ShelfChanges.{IsKeptElsewhere, MetNoFault}
+use Rattle.qm_shelf.specs.FaultMeans.{WriteFaultMeans}
+use Rattle.qm_surroundings.specs.WholeFiles.{HoldsUnfinished}
 use Rattle.qm_shelf.specs.declared.shelf.ShelfFault.{ShelfFault}
-use Rattle.qm_compile.specs.Command.{FileNames}
-use Rattle.qm_compile.specs.Product.{Output}
-use Rattle.qm_compile.specs.Written.{AreOthersKept, HoldsOut, HoldsListing}
+use Rattle.qm_statement.specs.FileNames.{FileNames}
+use Rattle.qm_statement.specs.Output.{Output}
+use Rattle.qm_statement.specs.Written.{AreOthersKept, HoldsOut, HoldsListing}
 
 -- How writing what a command makes ends.
 

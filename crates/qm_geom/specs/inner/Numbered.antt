@@ -2,7 +2,7 @@ use Rattle.std.specs.Prelude.{◌≡◌, ℕ, ◌<◌, ◌^◌, List, length, Is
 use Rattle.std.specs.BTreeMap.{BTreeMap, get}
 use Rattle.qm_space.specs.Plane.{Plane}
 use Rattle.qm_space.specs.Reduced.{leads_positive, IsReduced}
-use Rattle.qm_geom.specs.Planes.{plane_cmp}
+use Rattle.qm_space.specs.Entered.{plane_cmp}
 
 -- the numbers say of each plane its place in the list, and of no other plane a number
 pub record IsNumbered (planes : List Plane) (numbers : BTreeMap Plane ℕ) : Type 0 where

@@ -1,7 +1,7 @@
 use Rattle.std.proofs.Common.{sym, ◌∙◌, subst, arith}
 use Rattle.qm_space.specs.Plane.{Plane}
 use Rattle.qm_grammar.specs.Valid.{IsValidFace}
-use Rattle.qm_brush.specs.Planes.{plane_of_face}
+use Rattle.qm_drawn.specs.Planes.{plane_of_face}
 use Rattle.qm_brush.specs.inner.Entered.{AreFirstEntered}
 use Rattle.std.specs.Prelude.{List, map}
 use Rattle.qm_brush.proofs.EnteredFaces.{on_error, none_entered, next_entered, all_entered, length-entered_faces, first_entered}

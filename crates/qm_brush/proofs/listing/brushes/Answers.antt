@@ -1,5 +1,5 @@
 use Rattle.std.proofs.Common.{arith}
-use Rattle.qm_brush.specs.Brushes.{world_brushes}
+use Rattle.qm_drawn.specs.Brushes.{world_brushes}
 use Rattle.qm_brush.proofs.EnteredFaces.{on_error}
 use Rattle.qm_brush.proofs.ListedBrushes.{none_added, next_added, length-added, part_entered}
 use Rattle.qm_brush.proofs.ValidBrushes.{valid_brush_at, world_faces}

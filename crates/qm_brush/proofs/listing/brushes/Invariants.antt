@@ -1,5 +1,5 @@
 use Rattle.std.proofs.Common.{take}
-use Rattle.qm_brush.specs.Brushes.{world_brushes}
+use Rattle.qm_drawn.specs.Brushes.{world_brushes}
 use Rattle.qm_brush.specs.inner.Added.{AreAdded}
 use Rattle.qm_brush.proofs.listing.brushes.Given as goal
 

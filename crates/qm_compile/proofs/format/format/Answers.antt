@@ -8,7 +8,7 @@ summary-requires c = brush_count-few c.args.map.now c.requires
 pub returns : goal.returns
 returns c = record {
   is_file = rw c.new-file.ensures.items at c.in_ok-print.ensures.ok;
-  is_true = c.in_ok-print.ensures.read_again;
+  means_the_map = c.in_ok-print.ensures.read_again;
   is_not_listed = refl;
   is_status = refl;
   is_text = c.in_ok-summary.ensures;

@@ -1,4 +1,4 @@
-use Rattle.qm_compile.proofs.Completeness.{never_rose}
+use Rattle.qm_statement.proofs.Completeness.{never_rose}
 use Rattle.qm_compile.proofs.laws.run_surely.Goals as goal
 
 pub returns-clause-answers : goal.returns-clause-answers

@@ -1,6 +1,6 @@
 use Rattle.std.proofs.Common.{refl}
 use Rattle.std.proofs.lemmas.Result.{IfOk-weaker}
-use Rattle.qm_compile.specs.Run.{usage, command}
+use Rattle.qm_statement.specs.Run.{usage, command}
 use Rattle.qm_compile.proofs.program.carry_out.Goals as goal
 
 pub returns-in-None-clause-due : goal.returns-in-None-clause-due

@@ -1,12 +1,12 @@
 use Rattle.std.proofs.Common.{refl, sym, subst, inl, List, ℕ, Err}
-use Rattle.qm_shelf.specs.ShelfState.{shelf_state}
-use Rattle.qm_shelf.specs.ShelfChanges.{ReadFaultMeans}
+use Rattle.qm_shelf.specs.SeenForms.{shelf_state}
+use Rattle.qm_shelf.specs.FaultMeans.{ReadFaultMeans}
 use Rattle.qm_shelf.specs.declared.shelf.ShelfFault.{ShelfFault}
-use Rattle.qm_compile.specs.declared.status.Status.TheVariants.{MapFault}
-use Rattle.qm_compile.specs.Command.{names_of}
-use Rattle.qm_compile.specs.ComesOf.{ComesOf, read_fault, map_fault}
-use Rattle.qm_compile.specs.FaultText.{fault_text}
-use Rattle.qm_compile.proofs.Outcomes.{is_asked_for, kept_unfinished, written_due, write_fault_due, cut_short}
+use Rattle.qm_statement.specs.declared.status.Status.TheVariants.{MapFault}
+use Rattle.qm_words.specs.SeenWords.{names_of}
+use Rattle.qm_statement.specs.ComesOf.{ComesOf, read_fault, map_fault}
+use Rattle.qm_statement.specs.FaultText.{fault_text}
+use Rattle.qm_compile.proofs.Outcomes.{kept_unfinished, written_due, write_fault_due, cut_short}
 use Rattle.qm_compile.proofs.ReadMeanings.{text_means}
 use Rattle.qm_compile.proofs.program.carry_out_command.Goals as goal
 
@@ -47,8 +47,7 @@ returns-in-Ok-write_product-clause-due g c =
     let read = c.in-Ok.ensures in
     let made = rw c.in-Product.is at c.in_ok-product.ensures in
     let means = text_means before files.map_name c.in-Ok.text.items _ read.bytes made.1 in
-    let listed = is_asked_for c.args.files.now.listing_name c.is_some-listed.result c.is_some-listed.ensures in
-    written_due before between after c.args.command files made.0 _ refl read.kept read.ok means c.is_some-listed.result listed made.2 c.in-Ok-write_product.ensures
+    written_due before between after c.args.command files made.0 _ refl read.kept read.ok means made.2 c.in-Ok-write_product.ensures
 
 pub returns-in-Err-Failed-write_product-clause-due : goal.returns-in-Err-Failed-write_product-clause-due
 returns-in-Err-Failed-write_product-clause-due g c =
@@ -59,8 +58,7 @@ returns-in-Err-Failed-write_product-clause-due g c =
     let read = c.in-Ok.ensures in
     let made = rw c.in-Product.is at c.in_ok-product.ensures in
     let means = text_means before files.map_name c.in-Ok.text.items _ read.bytes made.1 in
-    let listed = is_asked_for c.args.files.now.listing_name c.is_some-listed.result c.is_some-listed.ensures in
-    write_fault_due before between after c.args.command files made.0 _ refl read.kept read.ok means c.is_some-listed.result listed made.2 c.in-Err-Failed-write_product.field-0 c.in-Err-Failed-write_product.field-0-is c.in-Err-Failed-write_product.ensures
+    write_fault_due before between after c.args.command files made.0 _ refl read.kept read.ok means made.2 c.in-Err-Failed-write_product.field-0 c.in-Err-Failed-write_product.field-0-is c.in-Err-Failed-write_product.ensures
 
 pub returns-clause-memory : goal.returns-clause-memory
 returns-clause-memory g c =
@@ -71,5 +69,4 @@ returns-clause-memory g c =
     let read = c.in-Ok.ensures in
     let made = rw c.in-Product.is at c.in_ok-product.ensures in
     let means = text_means before files.map_name c.in-Ok.text.items _ read.bytes made.1 in
-    let listed = is_asked_for c.args.files.now.listing_name c.is_some-listed.result c.is_some-listed.ensures in
-    cut_short before between after c.args.command files made.0 _ refl read.kept read.ok means c.is_some-listed.result listed made.2 c.in-Err-Memory-write_product.field-0 c.in-Err-Memory-write_product.field-0-is c.in-Err-Memory-write_product.ensures
+    cut_short before between after c.args.command files made.0 _ refl read.kept read.ok means made.2 c.in-Err-Memory-write_product.field-0 c.in-Err-Memory-write_product.field-0-is c.in-Err-Memory-write_product.ensures

@@ -1,11 +1,11 @@
 use Rattle.std.proofs.Common.{◌++◌, ◌∙◌, refl, sym, ap, subst, List, ℕ}
 use Rattle.std.specs.Prelude.{IsTrue}
 use Rattle.std.proofs.lemmas.List.{append-nil}
-use Rattle.qm_shelf.specs.Counts.{SinkFaultCounted}
-use Rattle.qm_shelf.specs.Writes.{ContinuesInto}
+use Rattle.qm_shelf.specs.FaultCounts.{SinkFaultCounted}
+use Rattle.qm_surroundings.specs.HeldFile.{ContinuesInto}
 use Rattle.qm_shelf.specs.declared.sink.SinkFault.{SinkFault}
-use Rattle.qm_compile.specs.inner.Outcome.{status_of, text_of}
-use Rattle.qm_compile.proofs.Completeness.{complete}
+use Rattle.qm_compile.specs.inner.Outcome.{due_status, due_text}
+use Rattle.qm_statement.proofs.Completeness.{complete}
 use Rattle.qm_compile.proofs.Reported.{answers_report, answers_failure, answers_no_room, answers_run_out}
 use Rattle.qm_compile.proofs.program.run.Goals as goal
 
@@ -19,7 +19,7 @@ returns-in-Ok-write-clause-answers g c =
     let outcome = c.in-Ok.outcome in
     let wrote = c.in-Ok-write.ensures in
     let printed = λ (tells : IsTrue g.S.Sink.tells). wrote.bytes tells ∙ ap (λ (text : List ℕ). g.S.Sink.written c.args.out.now ++ text) c.text.ensures in
-    answers_report _ _ _ outcome c.status.result c.status.ensures (text_of outcome, c.in-Ok.ensures.due, record { printed = printed; faults = wrote.faults_counted })
+    answers_report _ _ _ outcome c.status.result c.status.ensures (due_text outcome, c.in-Ok.ensures.due, record { printed = printed; faults = wrote.faults_counted })
 
 pub returns-in-Err-Failed-clause-answers : goal.returns-in-Err-Failed-clause-answers
 returns-in-Err-Failed-clause-answers g c =
@@ -28,7 +28,7 @@ returns-in-Err-Failed-clause-answers g c =
     let wrote = c.in-Err-Failed.ensures in
     let rose = subst (λ (fault : SinkFault). SinkFaultCounted fault (sink.faults c.args.out.now) (sink.faults c.write.new.self)) c.in-Err-Failed.field-0-is wrote.faults_counted in
     let part = λ (tells : IsTrue sink.tells). subst (λ (text : List ℕ). ContinuesInto (sink.written c.args.out.now) text (sink.written c.write.new.self)) c.text.ensures (wrote.bytes tells) in
-    answers_failure _ _ _ (rose, (status_of outcome, text_of outcome, c.in-Ok.ensures.due, part))
+    answers_failure _ _ _ (rose, (due_status outcome, due_text outcome, c.in-Ok.ensures.due, part))
 
 pub returns-clause-answers : goal.returns-clause-answers
 returns-clause-answers g c =
@@ -37,7 +37,7 @@ returns-clause-answers g c =
     let wrote = c.in-Err-Memory.ensures in
     let same = subst (λ (fault : SinkFault). SinkFaultCounted fault (sink.faults c.args.out.now) (sink.faults c.write.new.self)) c.in-Err-Memory.field-0-is wrote.faults_counted in
     let part = λ (tells : IsTrue sink.tells). subst (λ (text : List ℕ). ContinuesInto (sink.written c.args.out.now) text (sink.written c.write.new.self)) c.text.ensures (wrote.bytes tells) in
-    answers_no_room _ _ _ (same, (status_of outcome, text_of outcome, c.in-Ok.ensures.due, part))
+    answers_no_room _ _ _ (same, (due_status outcome, due_text outcome, c.in-Ok.ensures.due, part))
 
 pub returns-in_default-clause-complete : goal.returns-in_default-clause-complete
 returns-in_default-clause-complete g c = complete _ _ _ _ (returns-in_default-clause-answers g c)

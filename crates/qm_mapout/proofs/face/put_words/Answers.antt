@@ -1,6 +1,6 @@
 use Rattle.std.proofs.lemmas.List.Folds.{flat_map-map}
-use Rattle.qm_mapout.specs.Lines.{spaced}
-use Rattle.qm_mapout.specs.Printed.{word_symbol}
+use Rattle.qm_grammar.specs.Lines.{spaced}
+use Rattle.qm_grammar.specs.Printed.{word_symbol}
 use Rattle.qm_mapout.proofs.face.put_words.Goals as goal
 
 pub returns : goal.returns

@@ -1,7 +1,7 @@
 use Rattle.std.proofs.Common.{◌∙◌, refl}
 use Rattle.qm_lists.proofs.FlatMaps.{flat_map-flat_map}
-use Rattle.qm_mapout.specs.Lines.{line_text}
-use Rattle.qm_mapout.specs.Printed.{entity_lines, printed_map}
+use Rattle.qm_grammar.specs.Lines.{line_text}
+use Rattle.qm_grammar.specs.Printed.{entity_lines, printed_map}
 use Rattle.qm_mapout.proofs.printer.canonical_text.Goals as goal
 
 pub returns : goal.returns

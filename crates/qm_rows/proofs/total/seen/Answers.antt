@@ -1,5 +1,5 @@
 use Rattle.std.proofs.Common.{refl, sym, ◌∙◌}
-use Rattle.qm_rows.specs.Seen.{seen_of}
+use Rattle.qm_coarse_rows.specs.Seen.{seen_of}
 use Rattle.qm_rows.proofs.Counting.{seen_more}
 use Rattle.qm_rows.proofs.total.seen.Goals as goal
 

@@ -1,5 +1,5 @@
 use Rattle.std.proofs.Common.{◌≡◌, take}
-use Rattle.qm_rows.specs.Seen.{seen_of}
+use Rattle.qm_coarse_rows.specs.Seen.{seen_of}
 use Rattle.qm_rows.proofs.total.seen.Given as goal
 
 -- the places of the rows so far

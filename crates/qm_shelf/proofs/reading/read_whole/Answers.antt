@@ -1,7 +1,7 @@
 use Rattle.std.proofs.Common.{◌≡◌, ◌+◌, ◌++◌, ◌≤◌, ℕ, List, Ok, take, drop, vec_len, length, sym, ap, ◌∙◌, arith, subst}
 use Rattle.std.proofs.lemmas.List.{length-take, length-append, length-drop}
-use Rattle.qm_shelf.specs.Reads.{bytes_of_file}
-use Rattle.qm_shelf.specs.ShelfState.{shelf_state}
+use Rattle.qm_surroundings.specs.HeldFile.{bytes_of_file}
+use Rattle.qm_shelf.specs.SeenForms.{shelf_state}
 use Rattle.qm_lists.specs.Limit.{up_to_one_past}
 use Rattle.qm_shelf.proofs.Counted.{stays_twice, no_fault_twice, read_fault_since}
 use Rattle.qm_shelf.proofs.Pieces.{read_further, read_all}

@@ -1,7 +1,7 @@
 use Rattle.std.proofs.Common.{◌≡◌, ◌≤◌, ◌-◌, ◌+◌, IsTrue, length, take, vec_len}
-use Rattle.qm_shelf.specs.Reads.{bytes_of_file}
-use Rattle.qm_shelf.specs.ShelfState.{shelf_state}
-use Rattle.qm_shelf.specs.ShelfChanges.{IsKept, MetNoFault}
+use Rattle.qm_surroundings.specs.HeldFile.{bytes_of_file}
+use Rattle.qm_shelf.specs.SeenForms.{shelf_state}
+use Rattle.qm_surroundings.specs.ShelfChanges.{IsKept, MetNoFault}
 use Rattle.qm_shelf.specs.declared.shelf.TheConstants.{PIECE}
 use Rattle.qm_shelf.proofs.reading.read_whole.Given as goal
 

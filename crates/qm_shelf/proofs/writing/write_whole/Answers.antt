@@ -1,4 +1,4 @@
-use Rattle.qm_shelf.specs.ShelfState.{shelf_state}
+use Rattle.qm_shelf.specs.SeenForms.{shelf_state}
 use Rattle.qm_shelf.proofs.Counted.{write_fault_since}
 use Rattle.qm_shelf.proofs.writing.write_whole.Goals as goal
 

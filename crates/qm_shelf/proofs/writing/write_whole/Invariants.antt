@@ -1,6 +1,6 @@
 use Rattle.std.proofs.Common.{length, ◌-◌, ◌≡◌, ◌≤◌, IsTrue, take, Some}
-use Rattle.qm_shelf.specs.ShelfState.{shelf_state}
-use Rattle.qm_shelf.specs.ShelfChanges.{IsKeptElsewhere, MetNoFault}
+use Rattle.qm_shelf.specs.SeenForms.{shelf_state}
+use Rattle.qm_surroundings.specs.ShelfChanges.{IsKeptElsewhere, MetNoFault}
 use Rattle.qm_shelf.proofs.writing.write_whole.Given as goal
 
 -- the file holds what was written so far, every other file is as it was, and no fault was met

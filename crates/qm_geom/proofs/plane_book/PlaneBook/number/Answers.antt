@@ -1,7 +1,7 @@
 use Rattle.std.proofs.Common.{◌≡◌, ◌<◌, ◌+◌, ◌-◌, ◌^◌, ℕ, Some, ◌∙◌, None, length, refl, sym, subst, arith}
 use Rattle.std.specs.BTreeMap.{get, Updates}
 use Rattle.qm_space.specs.Reduced.{IsReduced}
-use Rattle.qm_geom.specs.Planes.{was_there, is_gained, plane_cmp}
+use Rattle.qm_space.specs.Entered.{was_there, is_gained, plane_cmp}
 use Rattle.qm_geom.proofs.Entering.{entered_at}
 use Rattle.qm_geom.proofs.Numbers.{AreBookPlanes-from, IsNumbered-same, IsNumbered-gained, absent_from}
 use Rattle.qm_geom.proofs.plane_book.PlaneBook.number.Goals as goal

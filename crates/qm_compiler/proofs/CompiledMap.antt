@@ -1,0 +1,240 @@
+-- What is built of the brushes of a map, with what is made of its tree, is what the map compiles to.
+use Rattle.std.proofs.Common.{◌≡◌, ℕ, Bool, true, false, List, [], replicate, length, refl, sym, ap, ◌∙◌, subst, arith, ◌↔◌}
+use Rattle.std.specs.Prelude.{None}
+use Rattle.std.specs.List.{All, AllZip}
+use Rattle.std.proofs.lemmas.List.{length-map}
+use Rattle.std.proofs.lemmas.List.Elements.{length_all_zip}
+use Rattle.qm_space.specs.Plane.{Plane}
+use Rattle.qm_space.specs.Reduced.{IsReduced}
+use Rattle.qm_space.specs.Entered.{AreEnteredInBook}
+use Rattle.qm_geom.proofs.EnteredPlanes.{one_book}
+use Rattle.qm_mapfile.specs.declared.entity.MapFile.{MapFile}
+use Rattle.qm_drawn.specs.Planes.{drawn_planes}
+use Rattle.qm_drawn.specs.Solids.{drawn_solids}
+use Rattle.qm_solids.specs.Alike.{IsAlike}
+use Rattle.qm_solids.specs.InBook.{BookSolid, solid_in, solids_in, IsBookOf}
+use Rattle.qm_solids.proofs.AlikeSolids.{same_contents_back}
+use Rattle.qm_solids.proofs.FlatCounts.{same_flat, counted_flat}
+use Rattle.qm_partition.specs.LeafOfPoint.{leaf_record_at}
+use Rattle.qm_partition.specs.Tree.{Tree}
+use Rattle.qm_partition.specs.Ways.{HasPoints}
+use Rattle.qm_partition.specs.WellMade.{IsWellMade}
+use Rattle.qm_partition.proofs.MarkedParts.{marked_well_made}
+use Rattle.qm_solid_tree.specs.GivesContents.{GivesContents, GivesContentsOrIsFilled}
+use Rattle.qm_solid_tree.specs.TreeOf.{IsTreeOf}
+use Rattle.qm_solid_tree.proofs.OneDivision.{one_tree}
+use Rattle.qm_solid_tree.proofs.SameTree.{tree_back}
+use Rattle.qm_partition.specs.Counting.{leaves_of, leaf_count}
+use Rattle.qm_partition.specs.Marked.{marked_tree, IsFilledLeaf}
+use Rattle.qm_partition.proofs.FilledLeaves.{filled_in_row, row_is_filled}
+use Rattle.qm_lists.proofs.WorkLists.{place_within}
+use Rattle.qm_solid_tree.proofs.FilledTrees.{tree_unfilled, marked_gives}
+use Rattle.qm_contacts.specs.Leak.{Origin, IsLeak}
+use Rattle.qm_contacts.specs.Filled.{NoneTakesPart, IsSealed, IsToBeFilled, IsFilledRow}
+use Rattle.qm_contacts.proofs.FilledLeaves.{filled_apart}
+use Rattle.qm_contacts.proofs.FloodedLeaves.{none_filled}
+use Rattle.qm_contacts.specs.Contacts.{Contacts, AreContacts}
+use Rattle.qm_contacts.specs.Portals.{portals_of, HasPassages}
+use Rattle.qm_contacts.specs.World.{World}
+use Rattle.qm_contacts.specs.OwnPortals.{HasOwnPortals}
+use Rattle.qm_contacts.proofs.MarkedTrees.{marked_contacts}
+use Rattle.qm_contacts.proofs.PassageCounts.{half_are_passages}
+use Rattle.qm_solids.specs.Contents.{HasContents}
+use Rattle.qm_solids.specs.Flat.{HasFlat}
+use Rattle.qm_solids.specs.Holding.{Holds}
+use Rattle.qm_solids.proofs.ContentsLaws.{one_contents}
+use Rattle.qm_segments.specs.Segment.{Segment}
+use Rattle.qm_segments.specs.Ends.{HoldLinesOfSight}
+use Rattle.qm_segments.specs.LedByPortals.{IsLedByPortals}
+use Rattle.qm_segments.proofs.EndRows.{sound_rows_hold_ends, coarse_rows_hold_ends}
+use Rattle.qm_segments.proofs.FilledRows.{filled_row_closed}
+use Rattle.qm_formats.specs.TreeFile.{TreeFile, IsValidFile}
+use Rattle.qm_compiler.specs.declared.compiled.Compiled.{Compiled}
+use Rattle.qm_compiler.specs.declared.compiled.Compiled.TheVariants.{Done, Leak}
+use Rattle.qm_statement.specs.declared.options.Options.{Options}
+use Rattle.qm_statement.specs.declared.summary.Summary.{Summary}
+use Rattle.qm_statement.specs.Built.{IsBuilt}
+use Rattle.qm_statement.specs.CompiledMap.{NoneLeaks, IsLineOfSightIn, IsWithoutLeak}
+use Rattle.qm_compiler.specs.Answers.{IsCompiled}
+use Rattle.qm_statement.specs.Marked.{IsMarked}
+use Rattle.qm_statement.specs.Origins.{AreOriginsOf}
+use Rattle.qm_statement.specs.Rows.{AreRowsAsAsked}
+use Rattle.qm_statement.specs.Summary.{IsVerdict, IsSummary}
+use Rattle.qm_statement.specs.TreeOfMap.{IsTreeOfMap}
+use Rattle.qm_statement.proofs.LedLines.{lines_are_led}
+use Rattle.qm_compiler.specs.inner.Counted.{IsTreeOfBrushes}
+use Rattle.qm_compiler.specs.inner.Finished.{IsCount, IsFilledFile, IsFinished}
+use Rattle.qm_compiler.specs.inner.FlatCount.{flat_count}
+use Rattle.qm_compiler.proofs.BuiltTrees.{tree_well_made, tree_reduced}
+use Rattle.qm_compiler.proofs.Origins.{one_origins}
+use Rattle.qm_compiler.proofs.WrittenRows.{valid_without_rows, valid_with_rows, leaf_rows_over}
+
+-- a map has one tree
+pub one_tree_of_map : (map : MapFile) (tree other : Tree) → IsTreeOfMap map tree → IsTreeOfMap map other → other ≡ tree
+one_tree_of_map map tree other is its =
+    let book = one_book its.entered is.entered in
+    one_tree (drawn_solids map) is.book other tree (subst (λ (planes : List Plane). IsTreeOf (drawn_solids map) planes other) book its.is_tree) is.is_tree
+
+module _ (map : MapFile) (book : List Plane) (list : List BookSolid) (alike : AllZip IsAlike (drawn_solids map) (solids_in book list)) (filled : IsBookOf book list) where
+  -- what gives each point the contents of the brushes gives it those of the map's solids
+  gives_drawn : (tree : Tree) → GivesContents tree (solids_in book list) → GivesContents tree (drawn_solids map)
+  gives_drawn tree gives = record {
+    named = gives.named;
+    normals = gives.normals;
+    gives = λ x in_cube off. same_contents_back (drawn_solids map) (solids_in book list) alike x (leaf_record_at tree.planes tree.shape x).contents (gives.gives x in_cube off);
+  }
+
+  as_many : length (drawn_solids map) ≡ length list
+  as_many = length_all_zip IsAlike (drawn_solids map) (solids_in book list) alike ∙ length-map list (solid_in book)
+
+  -- the tree that is built of the brushes is the map's, and the brushes are counted
+  pub counted_map : (tree : Tree) → AreEnteredInBook [] (drawn_planes map) book → IsTreeOf (solids_in book list) book tree → GivesContents tree (solids_in book list) → HasPoints tree → IsTreeOfBrushes map tree (length list) (flat_count list)
+  counted_map tree entered is_tree gives points = record {
+    is_tree = record { book = book; entered = entered; is_tree = tree_back (drawn_solids map) (solids_in book list) alike book tree is_tree };
+    gives_contents = gives_drawn tree gives;
+    have_points = points;
+    well_made = tree_well_made (solids_in book list) book filled.planes tree is_tree;
+    reduced = tree_reduced (solids_in book list) book filled.planes tree is_tree;
+    as_many = sym as_many;
+    has_flat = same_flat (drawn_solids map) (solids_in book list) (flat_count list) alike (counted_flat book list filled.each);
+  }
+
+module _ (map : MapFile) (options : Options) (tree : Tree) (brushes flat : ℕ) (counted : IsTreeOfBrushes map tree brushes flat) (origins : List Origin) (are_origins : AreOriginsOf map origins) where
+  is_built : IsBuilt map tree origins
+  is_built = record {
+    is_tree = counted.is_tree;
+    only_tree = λ other is. one_tree_of_map map tree other counted.is_tree is;
+    gives_contents = counted.gives_contents;
+    have_points = counted.have_points;
+    are_origins = are_origins;
+    only_origins = λ others are. one_origins map others origins are are_origins;
+  }
+
+  -- an entity leaks
+  pub leaking_map : (file : TreeFile) (entity : ℕ) (trail : List ℕ) → file.tree ≡ tree → file.rows ≡ None → IsLeak tree origins entity trail → IsCompiled map options (Leak file entity trail)
+  unfolding IsCompiled
+  leaking_map file entity trail same no_rows leak = record {
+    origins = origins;
+    is_built = subst (λ (t : Tree). IsBuilt map t origins) (sym same) is_built;
+    is_leak = subst (λ (t : Tree). IsLeak t origins entity trail) (sym same) leak;
+    has_no_rows = no_rows;
+    is_valid = valid_without_rows file (subst IsWellMade (sym same) counted.well_made) (subst (λ (t : Tree). All IsReduced t.planes) (sym same) counted.reduced) no_rows;
+  }
+
+  -- none does, and these leaves are to be filled
+  module _ (row : List Bool) (are_filled : IsFilledRow tree origins row) (none_leaks : NoneLeaks tree origins) where
+    unfilled : All (λ found. found.filled ≡ false) (leaves_of tree.shape)
+    unfilled = tree_unfilled (drawn_solids map) counted.is_tree.book tree counted.is_tree.is_tree
+
+    filled : (k : ℕ) → IsFilledLeaf (marked_tree row tree) k ↔ IsToBeFilled tree origins k
+    filled k = (
+      (λ is. (are_filled.filled k).0 (filled_in_row row tree unfilled k is)),
+      (λ fill.
+          let set = (are_filled.filled k).1 fill in
+          let within = place_within row k set in
+          let one_each = are_filled.one_each in
+          row_is_filled row tree unfilled k (omega (arith, within, one_each)) set),
+    )
+
+    is_marked : (written : Tree) → written ≡ marked_tree row tree → IsMarked tree origins written
+    is_marked written same = record {
+      row = row;
+      are_filled = are_filled;
+      is_marked = same;
+      filled = subst (λ (t : Tree). (k : ℕ) → IsFilledLeaf t k ↔ IsToBeFilled tree origins k) (sym same) filled;
+    }
+
+    -- what is counted is the summary
+    module _ (sealed : Bool) (is_verdict : IsVerdict tree origins sealed) (contacts : Contacts) (are : AreContacts tree contacts) where
+      are_contacts : AreContacts (marked_tree row tree) contacts
+      are_contacts = marked_contacts row tree contacts are
+
+      -- the portals are the tree's own
+      own_portals : (world : World) → world ≡ record { tree = marked_tree row tree; portals = portals_of (marked_tree row tree) contacts.touchings } → HasOwnPortals world
+      own_portals world is = subst HasOwnPortals (sym is) (record { have_points = are_contacts.points; touchings = contacts.touchings; are_touchings = are_contacts.touching; portals_are = refl })
+
+      is_summary : (world : World) (rows : List (List Bool)) (summary : Summary) → world ≡ record { tree = marked_tree row tree; portals = portals_of (marked_tree row tree) contacts.touchings } → IsCount sealed brushes flat world rows summary → IsSummary map tree origins world.tree rows summary
+      is_summary world rows summary is count =
+          let same : world.tree ≡ marked_tree row tree = ap (λ (w : World). w.tree) is in
+          let portals = half_are_passages (marked_tree row tree) contacts world.portals summary.portals are_contacts (ap (λ (w : World). w.portals) is) count.portals_is in
+          record {
+            verdict = subst (IsVerdict tree origins) (sym count.sealed_is) is_verdict;
+            brushes = count.brushes_is ∙ counted.as_many;
+            flat = subst (λ (n : ℕ). HasFlat (drawn_solids map) n) (sym count.flat_is) counted.has_flat;
+            planes = count.planes_is;
+            nodes = count.nodes_is;
+            leaves = count.leaves_is;
+            numbered = count.numbered_is;
+            filled = count.filled_is;
+            portals = subst (λ (t : Tree). HasPassages t summary.portals) (sym same) portals;
+            seen = count.seen_is;
+          }
+
+      -- the rows hold both ends of each line of sight, whether they are coarse or found in turns
+      abbrev marked_world : World
+      marked_world = record { tree = marked_tree row tree; portals = portals_of (marked_tree row tree) contacts.touchings }
+
+      rows_hold : (fast : Bool) (rows : List (List Bool)) → AreRowsAsAsked fast marked_world rows → HoldLinesOfSight (HasContents (drawn_solids map)) (marked_tree row tree) rows
+      rows_hold true rows made =
+          coarse_rows_hold_ends row tree counted.have_points (filled_row_closed tree origins row are_filled) (HasContents (drawn_solids map)) counted.gives_contents.gives
+          (λ x c d has also. one_contents (λ solid. Holds solid x) (drawn_solids map) c d has also)
+          contacts.touchings are.touching made.portal_rows rows made.are_coarse made.are_leaf_rows
+      rows_hold false rows made =
+          sound_rows_hold_ends row tree counted.have_points (filled_row_closed tree origins row are_filled) (HasContents (drawn_solids map)) counted.gives_contents.gives
+          (λ x c d has also. one_contents (λ solid. Holds solid x) (drawn_solids map) c d has also)
+          contacts.touchings are.touching made.portal_rows rows made.are_sound made.are_leaf_rows
+
+      hold_sight : (world : World) (rows : List (List Bool)) → world ≡ marked_world → AreRowsAsAsked options.fast world rows → HoldLinesOfSight (HasContents (drawn_solids map)) (marked_tree row tree) rows
+      hold_sight world rows is are_rows = rows_hold options.fast rows (subst (λ (w : World). AreRowsAsAsked options.fast w rows) is are_rows)
+
+      -- the portals lead each line of sight
+      led : (world : World) → world ≡ marked_world → (s : Segment) → IsLineOfSightIn map (marked_tree row tree) s → IsLedByPortals (marked_tree row tree) world.portals s
+      led world is s sight =
+          subst (λ (w : World). IsLedByPortals (marked_tree row tree) w.portals s) (sym is)
+          (lines_are_led row tree counted.have_points (filled_row_closed tree origins row are_filled) (HasContents (drawn_solids map)) counted.gives_contents.gives
+          (λ x c d has also. one_contents (λ solid. Holds solid x) (drawn_solids map) c d has also)
+          contacts.touchings are.touching s sight)
+
+      -- the tree with its rows can stand in a file
+      valid : {summary : Summary} (file : TreeFile) (world : World) → IsFilledFile options.fast sealed tree brushes flat row contacts file world summary → IsValidFile file
+      valid file world made =
+          let same : world.tree ≡ file.tree = ap (λ (w : World). w.tree) made.is_world ∙ sym made.is_tree in
+          valid_with_rows file
+          (subst IsWellMade (sym made.is_tree) (marked_well_made row tree counted.well_made))
+          (subst (λ (t : Tree). All IsReduced t.planes) (sym made.is_tree) counted.reduced)
+          world made.rows same made.has_rows (leaf_rows_over options.fast world made.rows made.are_rows)
+
+      done_map : (file : TreeFile) (world : World) (summary : Summary) → IsFilledFile options.fast sealed tree brushes flat row contacts file world summary → IsWithoutLeak map options file world summary
+      done_map file world summary made =
+          let same : file.tree ≡ world.tree = made.is_tree ∙ sym (ap (λ (w : World). w.tree) made.is_world) in
+          record {
+            tree = tree;
+            origins = origins;
+            is_built = is_built;
+            none_leaks = none_leaks;
+            is_marked = is_marked file.tree made.is_tree;
+            gives_contents = subst (λ (t : Tree). GivesContentsOrIsFilled t (drawn_solids map)) (sym made.is_tree) (marked_gives row tree (drawn_solids map) counted.gives_contents);
+            apart = λ origin listed takes_part k fill chain. filled_apart tree origins origin k fill listed takes_part chain;
+            is_world = record { is_tree = sym same; own_portals = own_portals world made.is_world };
+            led_by_portals = subst (λ (t : Tree). (s : Segment) → IsLineOfSightIn map t s → IsLedByPortals t world.portals s) (sym made.is_tree) (led world made.is_world);
+            rows = made.rows;
+            has_rows = made.has_rows;
+            are_rows = made.are_rows;
+            hold_sight = subst (λ (t : Tree). HoldLinesOfSight (HasContents (drawn_solids map)) t made.rows) (sym made.is_tree) (hold_sight world made.rows made.is_world made.are_rows);
+            is_valid = valid file world made;
+            is_summary = subst (λ (t : Tree). IsSummary map tree origins t made.rows summary) (sym same) (is_summary world made.rows summary made.is_world made.is_count);
+          }
+
+      finished_map : (compiled : Compiled) → IsFinished options.fast sealed tree brushes flat row contacts compiled → IsCompiled map options compiled
+      unfolding IsFinished IsCompiled
+      finished_map (Done file world summary) made = done_map file world summary made
+      finished_map (Leak file entity trail) made = absurd made
+
+  -- it is sealed
+  pub sealed_map : (row : List Bool) (contacts : Contacts) (compiled : Compiled) → IsSealed tree origins → IsFilledRow tree origins row → AreContacts tree contacts → IsFinished options.fast true tree brushes flat row contacts compiled → IsCompiled map options compiled
+  sealed_map row contacts compiled is_sealed are_filled are made = finished_map row are_filled is_sealed.tight true is_sealed contacts are compiled made
+
+  -- or no entity takes part
+  pub empty_map : (count : ℕ) (contacts : Contacts) (compiled : Compiled) → count ≡ leaf_count tree.shape → NoneTakesPart tree origins → AreContacts tree contacts → IsFinished options.fast false tree brushes flat (replicate count false) contacts compiled → IsCompiled map options compiled
+  empty_map count contacts compiled is none are made =
+      finished_map (replicate count false) (none_filled tree origins count is none) (λ origin listed leaks. none origin listed leaks.takes_part) false none contacts are compiled made

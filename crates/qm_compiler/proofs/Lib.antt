@@ -1,0 +1,7 @@
+pub mod BuiltTrees
+pub mod CompiledMap
+pub mod FlatSoFar
+pub mod NumberedCounts
+pub mod Origins
+pub mod ShownLeaves
+pub mod WrittenRows

@@ -1,0 +1,13 @@
+use Rattle.std.proofs.Common.{List, subst}
+use Rattle.qm_space.specs.Plane.{Plane}
+use Rattle.qm_space.specs.Entered.{AreEnteredInBook}
+use Rattle.qm_drawn.specs.Planes.{drawn_planes}
+use Rattle.qm_compiler.proofs.CompiledMap.{counted_map}
+use Rattle.qm_compiler.proofs.building.build_map.Goals as goal
+
+pub returns : goal.returns
+returns c =
+    let made = c.in_ok-list.ensures in
+    let built = c.in_ok-tree.ensures in
+    let entered = subst (λ (book : List Plane). AreEnteredInBook book (drawn_planes c.args.map.now) c.brushes.new.book) c.new-book.ensures made.entered in
+    rw (c.len.ensures, c.count_flat.ensures) (counted_map c.args.map.now c.brushes.new.book c.in_ok-list.list made.solids made.book c.in_ok-tree.tree entered built.tree built.contents built.points)

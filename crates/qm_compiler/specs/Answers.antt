@@ -1,0 +1,12 @@
+use Rattle.qm_mapfile.specs.declared.entity.MapFile.{MapFile}
+use Rattle.qm_statement.specs.declared.options.Options.{Options}
+use Rattle.qm_statement.specs.CompiledMap.{IsWithoutLeak, IsLeaking}
+use Rattle.qm_compiler.specs.declared.compiled.Compiled.{Compiled}
+use Rattle.qm_compiler.specs.declared.compiled.Compiled.TheVariants.{Done, Leak}
+
+-- What is answered where a map is compiled.
+
+-- what the map compiles to, with or without a leak
+unfoldable pub IsCompiled : MapFile → Options → Compiled → Type 0
+IsCompiled map options (Done file world summary) = IsWithoutLeak map options file world summary
+IsCompiled map options (Leak file entity trail) = IsLeaking map file entity trail

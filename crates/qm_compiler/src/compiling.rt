@@ -1,0 +1,102 @@
+//! From a map to its tree with rows.
+
+ghost use Rattle.std.specs.Prelude.{◌≡◌, IfOk, length};
+ghost use Rattle.qm_grammar.specs.Valid.{IsValidMap};
+ghost use Rattle.qm_partition.specs.Counting.{leaf_count};
+ghost use Rattle.qm_contacts.specs.Contacts.{AreContacts};
+ghost use Rattle.qm_compiler.specs.Answers.{IsCompiled};
+ghost use Rattle.qm_statement.specs.Rows.{AreRowsAsAsked};
+ghost use Rattle.qm_compiler.specs.inner.Finished.{IsFinished};
+
+use crate::building::{Built, build_map};
+use crate::compiled::Compiled;
+use crate::counting::count;
+use crate::entity_origins::origins_of;
+use qm_base::base;
+use qm_bits::BitRow;
+use qm_file::TreeFile;
+use qm_flood::{Flood, flood};
+use qm_flow::refine;
+use qm_lists::Items;
+use qm_mapfile::MapFile;
+use qm_portal::{TouchList, World, touches, world};
+use qm_rows::leaf_rows;
+use qm_statement::Options;
+use std::alloc::{AllocError, Global};
+
+/// Compiles a valid map. Where an entity leaks, the tree is as it was built, without rows; else leaves that no entity
+/// reaches are filled, and each numbered leaf has a row. Rows are coarse where the options ask for it; else each portal is
+/// flowed once, in order.
+pub fn compile(alloc: Global, map: &MapFile, options: &Options) -> Result<Compiled, AllocError>
+    requires { IsValidMap map.now }
+    ensures { IfOk result (λ compiled. IsCompiled map.now options.now compiled) }
+{
+    let built = build_map(alloc, map)?;
+    let origins = origins_of(alloc, map)?;
+    let contacts = touches(alloc, &built.tree)?;
+    match flood(alloc, &contacts, &built.tree, &origins)? {
+        Flood::Sealed(filled) => finish(alloc, options.fast, true, built, contacts, &filled),
+        Flood::NoEntity => {
+            let filled = BitRow::with_len(alloc, built.tree.leaves())?;
+            finish(alloc, options.fast, false, built, contacts, &filled)
+        }
+        Flood::Leak { entity, trail } => {
+            let file = TreeFile {
+                tree: built.tree,
+                rows: None,
+            };
+            Ok(Compiled::Leak {
+                file,
+                entity,
+                trail,
+            })
+        }
+    }
+}
+
+/// The tree in which these leaves are filled, with its rows and counts.
+fn finish(
+    alloc: Global,
+    fast: bool,
+    sealed: bool,
+    built: Built,
+    contacts: TouchList,
+    filled: &BitRow,
+) -> Result<Compiled, AllocError>
+    requires contacts { AreContacts built.tree contacts }
+    requires one_each { length filled.now ≡ leaf_count built.tree.shape }
+    ensures { IfOk result (λ compiled. IsFinished fast sealed built.tree built.brushes built.flat filled.now contacts compiled) }
+{
+    let Built {
+        tree,
+        brushes,
+        flat,
+    } = built;
+    let tree = tree.with_filled(filled);
+    let world = world(alloc, &tree, &contacts)?;
+    drop(contacts);
+    let rows = rows_of(alloc, &world, fast)?;
+    let summary = count(sealed, brushes, flat, &world, rows.as_slice());
+    let file = TreeFile {
+        tree,
+        rows: Some(rows),
+    };
+    Ok(Compiled::Done {
+        file,
+        world,
+        summary,
+    })
+}
+
+/// The rows of the numbered leaves of a world, over coarse rows of its portals, or over those that are found in turns. The
+/// rows of portals are let go of.
+fn rows_of(alloc: Global, world: &World, fast: bool) -> Result<Items<BitRow>, AllocError>
+    ensures { IfOk result (λ rows. AreRowsAsAsked fast world.now rows) }
+{
+    let coarse = base(alloc, world)?;
+    if fast {
+        return leaf_rows(alloc, world, coarse.as_slice());
+    }
+    let portal_rows = refine(alloc, world, coarse)?;
+    leaf_rows(alloc, world, portal_rows.as_slice())
+}

@@ -1,0 +1,12 @@
+//! Compiles a map to a tree with rows of visibility, and looks for leaks.
+#![tactic(auto)]
+
+mod building;
+mod compiled;
+mod compiling;
+mod counting;
+mod entity_origins;
+pub mod laws;
+
+pub use compiled::Compiled;
+pub use compiling::compile;

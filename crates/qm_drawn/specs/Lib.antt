@@ -1,0 +1,3 @@
+pub mod Brushes
+pub mod Planes
+pub mod Solids

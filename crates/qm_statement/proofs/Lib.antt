@@ -1,0 +1,5 @@
+pub mod Commands
+pub mod Completeness
+pub mod LedLines
+pub mod ReadAgain
+pub mod Requests

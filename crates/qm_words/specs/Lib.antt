@@ -1,0 +1,2 @@
+pub mod SeenWords
+pub mod inner
