@@ -7,10 +7,9 @@ use Rattle.qm_formats.specs.Exact.{IsExact}
 use Rattle.qm_formats.proofs.ExactParts.{part_exact, last_part_exact, IsAny, exact_of_parts, each_exact}
 use Rattle.qm_formats.proofs.ExactFile.{right_each_length}
 use Rattle.qm_listing.specs.declared.listing.Coordinate.{Coordinate}
-use Rattle.qm_listing.specs.declared.listing.PrtPortal.{PrtPortal}
 use Rattle.qm_listing.specs.Numerals.{before}
 use Rattle.qm_listing.specs.Numbers.{counts, coordinates}
-use Rattle.qm_listing.specs.Grammar.{ListingFaultKind, header, number, shape, due, first_line_layout, count_line_layout, points_layout, leaf0_layout, leaf1_layout, coordinate_layout, corner_layout, portal_layout, listing_layout}
+use Rattle.qm_listing.specs.Grammar.{header, number, shape, due, first_line_layout, count_line_layout, points_layout, leaf0_layout, leaf1_layout, coordinate_layout, corner_layout, portal_layout, listing_layout}
 use Rattle.qm_listing.proofs.ExactNumerals.{literal_exact, numeral_exact, before_exact, behind_exact}
 use Rattle.qm_listing.proofs.ExactNumbers.{counts_spelling, coordinates_spelling}
 

@@ -1,9 +1,9 @@
-use Rattle.std.specs.Prelude.{◌≡◌, int_lt, pos, List, [], ◌∷◌, Contains}
+use Rattle.std.specs.Prelude.{◌≡◌, int_lt, pos, List, Contains}
 use Rattle.qm_space.specs.Plane.{Plane, flipped}
 use Rattle.qm_space.specs.Vector.{normal_of}
 use Rattle.qm_geom.specs.declared.vector.Vector.{Vector}
 use Rattle.qm_geom.specs.Vectors.{cross_vector, normal_vector as own_normal}
-use Rattle.qm_convex.specs.Winding.{Winding, corners}
+use Rattle.qm_convex.specs.Winding.{Winding}
 use Rattle.qm_separators.specs.Across.{HasLowestNormal}
 use Rattle.qm_separators.specs.Separator.{TouchesFromInFront}
 

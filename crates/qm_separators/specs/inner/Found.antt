@@ -1,8 +1,8 @@
-use Rattle.std.specs.Prelude.{◌≡◌, ◌⊎◌, ℕ, ◌<◌, List, [], ◌∷◌, length, Contains}
+use Rattle.std.specs.Prelude.{◌≡◌, ◌⊎◌, ℕ, ◌<◌, List, length, Contains}
 use Rattle.qm_space.specs.Point.{Point}
 use Rattle.qm_space.specs.Plane.{Plane}
 use Rattle.qm_space.specs.Vector.{normal_of}
-use Rattle.qm_convex.specs.Winding.{Winding, next_place, corner_at, corners}
+use Rattle.qm_convex.specs.Winding.{Winding, next_place, corner_at}
 use Rattle.qm_convex.specs.Sides.{HasNoCornerBehind, HasCornerBehind, HasCornerInFront}
 use Rattle.qm_separators.specs.WholePoints.{IsNearestPoint, IsAround}
 use Rattle.qm_separators.specs.Across.{HasNormalOf}
