@@ -1,12 +1,12 @@
 -- Words of a mask that have something new: they are listed one after another, and a row that shows nothing in them shows nothing new.
-use Rattle.std.proofs.Common.{◌≡◌, ⊎_elim, ℕ, zero, suc, ◌+◌, ◌*◌, ◌/◌, ◌^◌, ◌<◌, Bool, true, false, List, [], ◌∷◌, ◌++◌, All, Contains, length, get_or, bit_and, w64, refl, sym, ap, ◌∙◌, subst, arith}
+use Rattle.std.proofs.Common.{◌≡◌, ⊎_elim, ℕ, zero, suc, ◌+◌, ◌*◌, ◌/◌, ◌^◌, ◌<◌, Bool, true, false, List, [], ◌∷◌, ◌++◌, Contains, get_or, bit_and, w64, sym, ◌∙◌, subst, arith}
 use Rattle.std.specs.Int.{bit_not}
-use Rattle.std.proofs.lemmas.List.Elements.{All-push, Contains-append_left, Contains-append_right, Contains-append_cases}
+use Rattle.std.proofs.lemmas.List.Elements.{Contains-append_left, Contains-append_right, Contains-append_cases}
 use Rattle.qm_lists.specs.Word.{has_bit, IsWord}
 use Rattle.qm_lists.specs.WorkList.{IsIn}
 use Rattle.qm_lists.proofs.Elements.{Contains-first}
 use Rattle.qm_chains.specs.inner.Narrowing.{ShowsNothingNew, ShowsNothingNewUpTo}
-use Rattle.qm_chains.proofs.Words.{shows_none_new, shows_none_there}
+use Rattle.qm_chains.proofs.Words.{shows_none_there}
 use Rattle.qm_chains.proofs.TriedPortals.{in_or_clear}
 
 only_one : {X : Type 0} (a x : X) → Contains (a ∷ []) x → x ≡ a

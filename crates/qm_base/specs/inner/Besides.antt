@@ -1,5 +1,5 @@
 -- On which sides of a plane the windings of lanes have corners.
-use Rattle.std.specs.Prelude.{◌≡◌, ◌≢◌, ℕ, ◌<◌, ◌≤◌, ◌↔◌, ◌⊎◌, Bool, true, false, List, [], Some, All, replicate, length, slice_get, slice_index_or}
+use Rattle.std.specs.Prelude.{◌≡◌, ◌≢◌, ℕ, ◌↔◌, ◌⊎◌, Bool, true, false, List, [], Some, All, replicate, length, slice_get, slice_index_or}
 use Rattle.qm_lists.specs.WorkList.{IsIn}
 use Rattle.qm_space.specs.Plane.{Plane}
 use Rattle.qm_convex.specs.Winding.{Winding}

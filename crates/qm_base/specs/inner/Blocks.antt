@@ -1,5 +1,5 @@
 -- The coarse rows of the lanes so far.
-use Rattle.std.specs.Prelude.{◌≡◌, ℕ, ◌*◌, ◌<◌, List, Bool, Some, length, slice_get}
+use Rattle.std.specs.Prelude.{◌≡◌, ℕ, List, Bool, Some, length, slice_get}
 use Rattle.qm_contacts.specs.World.{World}
 use Rattle.qm_base.specs.declared.lane.Lane.{Lane}
 use Rattle.qm_base.specs.inner.Following.{IsCoarseRowAt}

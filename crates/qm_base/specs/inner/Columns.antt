@@ -1,6 +1,5 @@
 -- How the rows of lanes are made of words for leaves.
-use Rattle.std.specs.Prelude.{◌≡◌, ℕ, ◌*◌, ◌<◌, ◌≤◌, ◌↔◌, true, Bool, List, length}
-use Rattle.qm_lists.specs.WorkList.{IsIn}
+use Rattle.std.specs.Prelude.{◌≡◌, ℕ, ◌↔◌, true, List}
 use Rattle.qm_lists.specs.Word.{has_bit}
 use Rattle.qm_base.specs.inner.Sweeping.{IsInLane}
 

@@ -1,5 +1,5 @@
 -- The kinds of some lanes, with the lanes of each as bits.
-use Rattle.std.specs.Prelude.{◌≡◌, ℕ, ◌+◌, ◌<◌, ◌↔◌, true, List, Some, slice_get, Contains}
+use Rattle.std.specs.Prelude.{◌≡◌, ℕ, ◌+◌, ◌↔◌, true, List, Some, slice_get, Contains}
 use Rattle.qm_lists.specs.Word.{has_bit}
 use Rattle.qm_base.specs.declared.table.Kind.{Kind}
 use Rattle.qm_base.specs.declared.runs.Run.{Run}

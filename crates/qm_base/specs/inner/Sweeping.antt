@@ -1,5 +1,5 @@
 -- Floods of many lanes at a time: bit j of the word of a leaf says whether the lane j has the leaf.
-use Rattle.std.specs.Prelude.{◌≡◌, ℕ, ◌<◌, ◌≤◌, ◌↔◌, ◌⊎◌, Bool, true, false, List, Some, sum, length, slice_get, slice_index_or, Contains}
+use Rattle.std.specs.Prelude.{◌≡◌, ℕ, ◌<◌, ◌↔◌, ◌⊎◌, Bool, true, false, List, Some, sum, length, slice_get, slice_index_or}
 use Rattle.qm_lists.specs.Reach.{Reach}
 use Rattle.qm_lists.specs.WorkList.{IsIn}
 use Rattle.qm_lists.specs.Word.{has_bit}

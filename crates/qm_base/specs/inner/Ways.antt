@@ -7,7 +7,7 @@ use Rattle.qm_base.specs.declared.lane.Lane.{Lane}
 use Rattle.qm_base.specs.declared.beside.Beside.{Beside}
 use Rattle.qm_base.specs.declared.table.Kind.{Kind}
 use Rattle.qm_base.specs.declared.runs.Run.{Run}
-use Rattle.qm_base.specs.inner.Tables.{IsTable, ahead, back}
+use Rattle.qm_base.specs.inner.Tables.{ahead, back}
 use Rattle.qm_base.specs.inner.Following.{MayFollowAt}
 
 -- the lanes of a block, the last of which can have fewer

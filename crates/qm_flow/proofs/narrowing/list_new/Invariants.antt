@@ -1,4 +1,4 @@
-use Rattle.std.proofs.Common.{ℕ, ◌*◌, ◌/◌, ◌<◌, length, All, Contains}
+use Rattle.std.proofs.Common.{◌*◌, ◌/◌, ◌<◌, length, All, Contains}
 use Rattle.qm_chains.specs.inner.Narrowing.{ShowsNothingNewUpTo}
 use Rattle.qm_flow.proofs.narrowing.list_new.Given as goal
 

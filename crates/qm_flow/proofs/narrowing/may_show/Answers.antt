@@ -1,4 +1,4 @@
-use Rattle.std.proofs.Common.{◌≡◌, ◌<◌, ℕ, ◌+◌, ◌*◌, ◌/◌, true, Bool, List, [], ◌∷◌, ◌++◌, Contains, length, take, get_or, sym, subst, arith}
+use Rattle.std.proofs.Common.{◌≡◌, ◌<◌, ℕ, ◌+◌, ◌*◌, ◌/◌, true, List, Contains, take, get_or, sym, subst, arith}
 use Rattle.std.proofs.lemmas.List.{take_all, get_or_default}
 use Rattle.qm_contacts.specs.World.{World}
 use Rattle.qm_lists.specs.Word.{has_bit}

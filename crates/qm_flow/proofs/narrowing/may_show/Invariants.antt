@@ -1,4 +1,4 @@
-use Rattle.std.proofs.Common.{ℕ, ◌/◌, take, Contains}
+use Rattle.std.proofs.Common.{◌/◌, take, Contains}
 use Rattle.qm_chains.specs.inner.Narrowing.{ShowsNothingNew}
 use Rattle.qm_chains.specs.inner.OwnRows.{MustHave}
 use Rattle.qm_flow.proofs.narrowing.may_show.Given as goal

@@ -1,4 +1,4 @@
-use Rattle.std.proofs.Common.{◌≡◌, false, List, Bool, Some, length, sym, ap, ◌∙◌, subst, arith}
+use Rattle.std.proofs.Common.{false, List, Bool, Some, length, sym, ap, ◌∙◌, subst, arith}
 use Rattle.std.proofs.lemmas.List.{length-replicate}
 use Rattle.qm_lists.specs.WorkList.{IsIn}
 use Rattle.qm_chains.specs.inner.Pairs.{Pairs, IsPairRow}
