@@ -1,9 +1,11 @@
 //! Corners at halves and thirds, rounded by hand.
 
+ghost use Rattle.std.specs.Prelude.{◌≡◌, pos, IfSome};
+ghost use Rattle.qm_space.specs.Plane.{Plane as PlaneValue};
 ghost use Rattle.qm_space.specs.Coordinates.{HasSmallCoordinates};
 
 use crate::shapes::{cut_by, floor, on, through};
-use qm_geom::{Corner, least_distance};
+use qm_geom::{Corner, Plane, least_distance};
 use qm_wind::{Side, Winding};
 use std::alloc::Global;
 
@@ -113,11 +115,75 @@ fn distances_of_corners(rt: HostRuntime) {
     assert!(rt; triangle_has_distances(rt.alloc()));
 }
 
+/// The plane with 3 x = 1, on which no point is whole.
+fn third() -> Plane
+    ensures { result ≡ record { nx = pos 3; ny = pos 0; nz = pos 0; d = pos 1 } }
+{
+    Plane {
+        nx: 3,
+        ny: 0,
+        nz: 0,
+        d: 1,
+    }
+}
+
+/// The plane y = 0.
+fn across() -> Plane
+    ensures { result ≡ record { nx = pos 0; ny = pos 1; nz = pos 0; d = pos 0 } }
+{
+    Plane {
+        nx: 0,
+        ny: 1,
+        nz: 0,
+        d: 0,
+    }
+}
+
+/// The plane z = 0.
+fn level() -> Plane
+    ensures { result ≡ record { nx = pos 0; ny = pos 0; nz = pos 1; d = pos 0 } }
+{
+    Plane {
+        nx: 0,
+        ny: 0,
+        nz: 1,
+        d: 0,
+    }
+}
+
+/// The corner at (1/3, 0, 0).
+fn corner_at_a_third() -> Option<Corner>
+    ensures { IfSome result HasSmallCoordinates }
+{
+    Corner::of(&third(), &across(), &level())
+}
+
+fn is_at_a_third(corner: &Corner) -> bool
+    requires { HasSmallCoordinates corner.now }
+{
+    let (numerator, denominator) = corner.fraction(0);
+    let corners = [*corner];
+    corner.rounded() == [0, 0, 0]
+        && corner.around() == ([0, 0, 0], [1, 0, 0])
+        && (numerator, denominator) == (1, 3)
+        && least_distance([1, 0, 0], &corners) == 1
+        && least_distance([-1, 0, 0], &corners) == 0
+}
+
+#[test]
+fn corner_of_a_plane_without_whole_points(rt: HostRuntime) {
+    match corner_at_a_third() {
+        Some(corner) => assert!(rt; is_at_a_third(&corner)),
+        None => assert!(rt; false),
+    }
+}
+
 /// Whether three planes without one common point have no corner.
 fn have_no_corner() -> bool {
     let wall = through([[0, 0, 0], [0, 1, 0], [0, 0, 1]]);
     let beside = through([[1, 0, 0], [1, 1, 0], [1, 0, 1]]);
-    Corner::of(&wall, &beside, &floor()).is_none() && Corner::of(&wall, &wall, &floor()).is_none()
+    let across = through([[0, 0, 0], [1, 0, 0], [0, 0, 1]]);
+    Corner::of(&wall, &beside, &across).is_none() && Corner::of(&wall, &wall, &floor()).is_none()
 }
 
 #[test]

@@ -12,7 +12,27 @@ use Rattle.qm_convex.specs.Sides.{HasCornerInFront, HasCornerBehind}
 use Rattle.qm_contacts.specs.Portals.{Portal}
 use Rattle.qm_base.specs.declared.lane.Lane.{Lane}
 use Rattle.qm_base.specs.declared.beside.Beside.{Beside}
-use Rattle.qm_base.specs.inner.Besides.{IsFrontAt, IsBehindAt, IsBeside, IsPutAt, BesideSoFar, no_beside, beside_at, AreBesides, AreClear, IsPutBeside, IsPutIn, PutInSoFar, BesidesSoFar}
+use Rattle.qm_base.specs.inner.Besides.{IsFrontAt, IsBehindAt, IsBeside, IsPutAt, no_beside, beside_at, AreBesides, AreClear, IsPutBeside, IsPutIn}
+
+-- ---- how far loops have come
+
+-- the lanes before a place are put in
+pub record BesideSoFar (portals : List Portal) (lanes : List Lane) (plane : Plane) (place : ℕ) (front_row behind_row : List Bool) : Type 0 where
+  pub front_wide : length front_row ≡ length lanes
+  pub behind_wide : length behind_row ≡ length lanes
+  pub front : (k : ℕ) → IsIn front_row k ↔ ((k < place) × IsFrontAt portals lanes plane k)
+  pub behind : (k : ℕ) → IsIn behind_row k ↔ ((k < place) × IsBehindAt portals lanes plane k)
+
+-- for the planes before one
+pub record PutInSoFar (winding : Winding) (planes : List Plane) (place count : ℕ) (old new : List Beside) : Type 0 where
+  pub same_count : length new ≡ length old
+  pub each : (class : ℕ) (plane : Plane) → class < count → slice_get planes class ≡ Some plane → IsPutBeside winding plane place (beside_at old class) (beside_at new class)
+  pub left : (class : ℕ) → count ≤ class → beside_at new class ≡ beside_at old class
+
+-- the lanes before a place are put in, for all planes
+pub record BesidesSoFar (portals : List Portal) (lanes : List Lane) (planes : List Plane) (place : ℕ) (table : List Beside) : Type 0 where
+  pub one_each : length table ≡ length planes
+  pub each : (class : ℕ) (plane : Plane) → slice_get planes class ≡ Some plane → BesideSoFar portals lanes plane place (beside_at table class).front (beside_at table class).behind
 
 -- ---- one place
 

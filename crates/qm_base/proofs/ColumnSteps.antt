@@ -2,32 +2,26 @@
 use Rattle.std.proofs.Common.{◌≡◌, ◌≢◌, ◌==◌, ℕ, zero, suc, ◌+◌, ◌-◌, ◌*◌, ◌/◌, ◌%◌, ◌^◌, ◌<◌, ◌≤◌, Bool, true, false, ◌&&◌, ◌||◌, List, length, get_or, set, replicate, drop, bit_or, bit_and, ◌⊎◌, inl, inr, ⊎_elim, refl, sym, ap, ◌∙◌, subst, arith, ◌↔◌}
 use Rattle.std.proofs.lemmas.Bool.{cases_eq, cases_lt}
 use Rattle.std.proofs.lemmas.Nat.{and_mask}
-use Rattle.std.proofs.lemmas.List.{length-set, length-replicate, get_or-set_same, get_or-set_other, get_or_past, get_or-take, get_or-drop}
+use Rattle.std.proofs.lemmas.List.{length-replicate, get_or-replicate, get_or_past, get_or-take, get_or-drop}
 use Rattle.qm_lists.specs.WorkList.{IsIn}
 use Rattle.qm_lists.specs.Word.{has_bit, IsMasked}
-use Rattle.qm_lists.specs.Union.{IsUnion}
 use Rattle.qm_lists.proofs.Bits.{has_bit-or, has_bit-zero}
 use Rattle.qm_base.specs.inner.Sweeping.{IsInLane, IsColumn}
-use Rattle.qm_base.specs.inner.Columns.{IsFullRow, FullSoFar, IsGathered, GatheredSoFar, ColumnSoFar}
+use Rattle.qm_base.specs.inner.Columns.{IsGathered}
 use Rattle.qm_base.specs.inner.Ways.{block_of}
 use Rattle.qm_base.proofs.Words.{or_true, one_bit}
 
--- ---- a row with all places
+-- ---- how far loops have come
 
-pub full_none : (count : ℕ) → FullSoFar count 0 (replicate count false)
-full_none count = record { wide = length-replicate count false; each = λ k less. absurd (omega (arith, less)) }
+-- the bits of the word are the bits at one place of the words before one
+abbrev pub GatheredSoFar : List ℕ → ℕ → ℕ → ℕ → Type 0
+GatheredSoFar words bit count word = (i : ℕ) → (has_bit word i ≡ true) ↔ ((i < count) × IsInLane words bit i)
 
-pub full_more : (count place : ℕ) (row : List Bool) → place < count → FullSoFar count place row → FullSoFar count (place + 1) (set row place true)
-full_more count place row within so_far = record {
-  wide = length-set row place true ∙ so_far.wide;
-  each = λ k less. ⊎_elim
-      (λ here. ap (λ (n : ℕ). get_or (set row place true) n false) here ∙ get_or-set_same row place true false (let wide = so_far.wide in omega (arith, within, wide)))
-      (λ apart. get_or-set_other row place k true false apart ∙ so_far.each k (omega (arith, less, apart)))
-      (cases_eq k place);
-}
-
-pub full_all : (count place : ℕ) (row : List Bool) → count ≤ place → FullSoFar count place row → IsFullRow count row
-full_all count place row all so_far = record { wide = so_far.wide; each = λ k less. so_far.each k (omega (arith, less, all)) }
+-- the places of the first words of a row are those of a column, and all others are set
+pub record ColumnSoFar (words : List ℕ) (bit k : ℕ) (row : List Bool) : Type 0 where
+  pub wide : length row ≡ length words
+  pub done : (leaf : ℕ) → leaf < 64 * k → leaf < length words → IsIn row leaf ↔ IsInLane words bit leaf
+  pub left : (leaf : ℕ) → 64 * k ≤ leaf → leaf < length words → IsIn row leaf
 
 -- ---- the bits of a word
 
@@ -86,11 +80,11 @@ module _ (words : List ℕ) (bit : ℕ) where
 -- ---- a row, word by word
 
 module _ (words : List ℕ) (bit : ℕ) where
-  pub column_none : (row all new : List Bool) → length row ≡ length words → IsFullRow (length words) all → IsUnion row all new → ColumnSoFar words bit 0 new
-  column_none row all new wide full union = record {
-    wide = union.same_length ∙ wide;
+  pub column_none : (row : List Bool) → row ≡ replicate (length words) true → ColumnSoFar words bit 0 row
+  column_none row all = record {
+    wide = ap length all ∙ length-replicate (length words) true;
     done = λ leaf less within. absurd (omega (arith, less));
-    left = λ leaf from within. union.in_one leaf ∙ (or_true (get_or row leaf false) (get_or all leaf false)).1 (inr (full.each leaf within));
+    left = λ leaf from within. ap (λ (r : List Bool). get_or r leaf false) all ∙ get_or-replicate (length words) leaf true false within;
   }
 
   module _ (k mask : ℕ) (row new : List Bool) (so_far : ColumnSoFar words bit k row) (masked : IsMasked row new k mask) (gathered : IsGathered (block_of k words) bit mask) where

@@ -8,8 +8,17 @@ use Rattle.std.proofs.lemmas.Option.{slice_get_within}
 use Rattle.qm_contacts.specs.Portals.{Portal}
 use Rattle.qm_contacts.specs.World.{World, AreLeaving}
 use Rattle.qm_base.specs.inner.Following.{leaves_of_world}
-use Rattle.qm_base.specs.inner.Entering.{AreEnteredLeaves, EnteredSoFar}
+use Rattle.qm_base.specs.inner.Entering.{AreEnteredLeaves}
 use Rattle.qm_base.proofs.SweepSteps.{leaving_within}
+use Rattle.std.specs.Prelude.{All, slice_index_or}
+
+-- ---- how far loops have come
+
+-- the leaves of the portals before a place
+pub record EnteredSoFar (world : World) (place : ℕ) (entered : List ℕ) : Type 0 where
+  pub one_each : length entered ≡ place
+  pub within : All (λ leaf. leaf < leaves_of_world world) entered
+  pub each : (q : ℕ) (portal : Portal) → q < place → slice_get world.portals q ≡ Some portal → slice_index_or entered q 0 ≡ portal.to
 
 module _ (world : World) where
   pub entered_none : EnteredSoFar world 0 []

@@ -16,9 +16,23 @@ use Rattle.qm_base.specs.inner.Following.{leaves_of_world, IsCoarseRowAt}
 use Rattle.qm_base.specs.inner.Lanes.{IsLane, AreLanes}
 use Rattle.qm_base.specs.inner.Ways.{block_of, AreWays}
 use Rattle.qm_base.specs.inner.Sweeping.{LeadsInLane, EntersInLane, AreFlooded, IsColumn}
-use Rattle.qm_base.specs.inner.Blocks.{HasCoarseRow, AreWritten, WrittenSoFar, BlocksSoFar}
+use Rattle.qm_base.specs.inner.Blocks.{HasCoarseRow, AreWritten}
 use Rattle.qm_base.proofs.LaneSteps.{lane_at}
 use Rattle.qm_base.proofs.WaySteps.{of_block, in_block}
+
+-- ---- how far loops have come
+
+-- the lanes before a place are written
+pub record WrittenSoFar (world : World) (lanes : List Lane) (place : ℕ) (old new : List (List Bool)) : Type 0 where
+  pub same_count : length new ≡ length old
+  pub kept : (p : ℕ) → HasCoarseRow world old p → HasCoarseRow world new p
+  pub each : (j : ℕ) (lane : Lane) → j < place → slice_get lanes j ≡ Some lane → HasCoarseRow world new lane.portal
+
+-- the lanes of the blocks before one are written
+pub record BlocksSoFar (world : World) (lanes : List Lane) (block : ℕ) (ways : List ℕ) (rows : List (List Bool)) : Type 0 where
+  pub one_each : length rows ≡ length world.portals
+  pub one_way_each : length ways ≡ length world.portals
+  pub each : (k : ℕ) (lane : Lane) → k < 64 * block → slice_get lanes k ≡ Some lane → HasCoarseRow world rows lane.portal
 
 same_of : {X : Type 0} (xs : List X) (k : ℕ) (a b : X) → slice_get xs k ≡ Some a → slice_get xs k ≡ Some b → a ≡ b
 same_of xs k a b first second = let both : Some a ≡ Some b = sym first ∙ second in cc

@@ -9,8 +9,20 @@ use Rattle.qm_lists.specs.Word.{has_bit}
 use Rattle.qm_lists.proofs.Bits.{has_bit-or, has_bit-zero}
 use Rattle.qm_base.specs.declared.table.Kind.{Kind}
 use Rattle.qm_base.specs.declared.runs.Run.{Run}
-use Rattle.qm_base.specs.inner.Runs.{IsOfKind, HasRun, AreRuns, RunsSoFar, LanesSoFar}
+use Rattle.qm_base.specs.inner.Runs.{IsOfKind, HasRun, AreRuns}
 use Rattle.qm_base.proofs.Words.{or_true, one_bit}
+
+-- ---- how far loops have come
+
+-- the kinds before a place have runs
+pub record RunsSoFar (kinds : List Kind) (place : ℕ) (runs : List Run) : Type 0 where
+  pub exactly : (run : Run) → Contains runs run → (j : ℕ) → (has_bit run.lanes j ≡ true) ↔ IsOfKind kinds run.kind j
+  pub only : (run : Run) → Contains runs run → Contains kinds run.kind
+  pub every : (j : ℕ) (kind : Kind) → j < place → slice_get kinds j ≡ Some kind → HasRun runs kind
+
+-- the lanes of the kind before a place have their bits
+abbrev pub LanesSoFar : List Kind → Kind → ℕ → ℕ → Type 0
+LanesSoFar kinds kind place lanes = (j : ℕ) → (has_bit lanes j ≡ true) ↔ ((j < place) × IsOfKind kinds kind j)
 
 -- ---- the lanes of a kind
 

@@ -16,8 +16,39 @@ use Rattle.qm_contacts.specs.Portals.{Portal}
 use Rattle.qm_contacts.specs.World.{World, AreLeaving}
 use Rattle.qm_base.specs.declared.lane.Lane.{Lane}
 use Rattle.qm_base.specs.inner.Following.{leaves_of_world}
-use Rattle.qm_base.specs.inner.Sweeping.{IsInLane, LeadsInLane, EntersInLane, EntersBy, AreBegun, ArePassed, IsGrown, IsSpread, IsSpreadBy, IsPassed, IsPassing, IsSweep, IsFlooded, AreFlooded, BegunSoFar, SweepUpTo, SweepDownTo}
+use Rattle.qm_base.specs.inner.Sweeping.{IsInLane, LeadsInLane, EntersInLane, AreBegun, ArePassed, IsGrown, IsSpread, IsPassed, IsPassing, IsSweep, IsFlooded, AreFlooded}
 use Rattle.qm_base.proofs.Words.{bits_set, one_bit, has_due, due_or_not, more_bits, none_due}
+use Rattle.std.specs.Prelude.{◌↔◌, slice_index_or}
+
+-- ---- how far loops have come
+
+-- one of some portals, by their places, whose word has the bit enters the leaf
+pub record EntersBy (portals : List Portal) (ways places : List ℕ) (bit leaf : ℕ) : Type 0 where
+  pub place : ℕ
+  pub portal : Portal
+  pub listed : Contains places place
+  pub portal_is : slice_get portals place ≡ Some portal
+  pub to : portal.to ≡ leaf
+  pub passes : has_bit (slice_index_or ways place 0) bit ≡ true
+
+-- in the lanes that are due it is seen what some portals enter
+pub record IsSpreadBy (portals : List Portal) (ways places : List ℕ) (due : ℕ) (old new : List ℕ) : Type 0 where
+  pub same_length : length new ≡ length old
+  pub exactly : (bit b : ℕ) → IsInLane new bit b ↔ (IsInLane old bit b ⊎ ((has_bit due bit ≡ true) × EntersBy portals ways places bit b))
+
+-- the lanes before a place have begun
+pub record BegunSoFar (world : World) (lanes : List Lane) (place : ℕ) (seen : List ℕ) : Type 0 where
+  pub wide : length seen ≡ leaves_of_world world
+  pub exactly : (bit leaf : ℕ) → IsInLane seen bit leaf ↔ ((bit < place) × EntersInLane world.portals lanes bit leaf)
+
+-- the leaves before one are passed, or those from it on
+pub record SweepUpTo (world : World) (ways : List ℕ) (leaf : ℕ) (old new old_passed new_passed : List ℕ) (due : Bool) : Type 0 where
+  pub step : IsPassed world ways old new old_passed new_passed due
+  pub rest : due ≡ false → (m : ℕ) → m < leaf → slice_index_or new m 0 ≡ slice_index_or new_passed m 0
+
+pub record SweepDownTo (world : World) (ways : List ℕ) (leaf : ℕ) (old new old_passed new_passed : List ℕ) (due : Bool) : Type 0 where
+  pub step : IsPassed world ways old new old_passed new_passed due
+  pub rest : due ≡ false → (m : ℕ) → leaf ≤ m → m < length new → slice_index_or new m 0 ≡ slice_index_or new_passed m 0
 
 same_of : {X : Type 0} (xs : List X) (k : ℕ) (a b : X) → slice_get xs k ≡ Some a → slice_get xs k ≡ Some b → a ≡ b
 same_of xs k a b first second = let both : Some a ≡ Some b = sym first ∙ second in cc

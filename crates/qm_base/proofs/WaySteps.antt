@@ -19,10 +19,23 @@ use Rattle.qm_base.specs.declared.table.Kind.{Kind}
 use Rattle.qm_base.specs.declared.runs.Run.{Run}
 use Rattle.qm_base.specs.inner.Tables.{ahead, back, AreKinds, IsTable}
 use Rattle.qm_base.specs.inner.Runs.{AreRuns}
-use Rattle.qm_base.specs.inner.Ways.{block_of, IsAheadOf, MayFollowInBlock, IsWay, FollowsLane, AreWays, WaysSoFar, BeforeSoFar}
+use Rattle.qm_base.specs.inner.Ways.{block_of, IsAheadOf, MayFollowInBlock, IsWay, FollowsLane, AreWays}
 use Rattle.qm_base.proofs.Words.{or_true}
 use Rattle.qm_base.proofs.LaneSteps.{lane_at}
 use Rattle.qm_base.proofs.TableSteps.{ahead_says, back_says}
+use Rattle.std.specs.Prelude.{slice_index_or}
+
+-- ---- how far loops have come
+
+-- the words of the lanes before a place are written
+pub record WaysSoFar (lanes : List Lane) (kinds : List Kind) (table : List Beside) (block place : ℕ) (ways : List ℕ) : Type 0 where
+  pub one_each : length ways ≡ length lanes
+  pub each : (portals : List Portal) → IsTable portals lanes kinds table → (k : ℕ) (lane : Lane) → k < place → slice_get lanes k ≡ Some lane →
+      (j : ℕ) → (has_bit (slice_index_or ways lane.portal 0) j ≡ true) ↔ FollowsLane portals lanes block lane.portal j
+
+-- the lanes of the first runs have their bits
+abbrev pub BeforeSoFar : List Beside → List Run → ℕ → ℕ → ℕ → Type 0
+BeforeSoFar table runs count k lanes = (j : ℕ) → (has_bit lanes j ≡ true) ↔ IsAheadOf table (take count runs) k j
 
 same_of : {X : Type 0} (xs : List X) (k : ℕ) (a b : X) → slice_get xs k ≡ Some a → slice_get xs k ≡ Some b → a ≡ b
 same_of xs k a b first second = let both : Some a ≡ Some b = sym first ∙ second in cc

@@ -1,24 +1,13 @@
 //! From words for leaves to rows of lanes.
 
-ghost use Rattle.std.specs.Prelude.{◌<◌, ◌≤◌, length, IfOk};
+ghost use Rattle.std.specs.Prelude.{◌≡◌, ◌<◌, ◌≤◌, true, length, replicate, IfOk};
 ghost use Rattle.qm_base.specs.inner.Sweeping.{IsColumn};
-ghost use Rattle.qm_base.specs.inner.Columns.{IsFullRow, IsGathered};
+ghost use Rattle.qm_base.specs.inner.Columns.{IsGathered};
 
 use qm_bits::BitRow;
 use std::alloc::{AllocError, Global};
 
-/// A row with all of so many places.
-pub(crate) fn full(alloc: Global, count: u64) -> Result<BitRow, AllocError>
-    ensures { IfOk result (IsFullRow count) }
-{
-    let mut row = BitRow::with_len(alloc, count)?;
-    for place in 0..count {
-        row.set(place);
-    }
-    Ok(row)
-}
-
-/// The leaves that a lane has found, of all leaves: 64 at a time.
+/// The leaves that a lane has found, of a row of all leaves: 64 at a time.
 pub(crate) fn column(
     alloc: Global,
     seen: &[u64],
@@ -26,11 +15,11 @@ pub(crate) fn column(
     bit: usize,
 ) -> Result<BitRow, AllocError>
     requires bit { bit < 64 }
-    requires all { IsFullRow (length seen.now) all.now }
+    requires all { all.now ≡ replicate (length seen.now) true }
     ensures { IfOk result (λ row. IsColumn seen.now bit row) }
 {
     let mut row = BitRow::with_len(alloc, seen.len() as u64)?;
-    row.or_row(all);
+    row.copy_from(all);
     for k in 0..seen.len().div_ceil(64) {
         let first = 64 * k;
         let end = (seen.len() - first).min(64) + first;

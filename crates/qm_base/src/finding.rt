@@ -6,7 +6,7 @@ ghost use Rattle.qm_base.specs.inner.Tables.{IsTable};
 ghost use Rattle.qm_base.specs.inner.Entering.{AreEnteredLeaves};
 ghost use Rattle.qm_base.specs.inner.Blocks.{IsBlockDone};
 
-use crate::column::{column, full};
+use crate::column::column;
 use crate::entering::entered;
 use crate::sweeping::flooded;
 use crate::table::Table;
@@ -68,7 +68,7 @@ fn add_block(
     let end = (table.lanes.len() - first).min(64) + first;
     let lanes = &table.lanes[first..end];
     let seen = flooded(alloc, world, entered, ways, lanes)?;
-    let all = full(alloc, seen.len() as u64)?;
+    let all = BitRow::full(alloc, seen.len() as u64)?;
     for j in 0..lanes.len() {
         rows[lanes[j].portal as usize] = column(alloc, &seen, &all, j)?;
     }

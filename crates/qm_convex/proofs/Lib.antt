@@ -19,3 +19,4 @@ pub mod ImpliedPlanes
 pub mod Facets
 pub mod CubeFacets
 pub mod CubeSquares
+pub mod CellParts

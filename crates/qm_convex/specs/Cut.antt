@@ -16,6 +16,10 @@ pub record IsParted (v : Winding) (g : Plane) (in_front behind : Winding) : Type
   pub part_behind : IsPartInFront behind v (flipped g)
   pub whole : (p : Point) → IsInRegion v p → IsInRegion in_front p ⊎ (IsInRegion behind p ⊎ IsOn g p)
 
+-- no point of the winding is in the cell of the planes
+abbrev pub HasNoneWithin : Winding → List Plane → Type 0
+HasNoneWithin v gs = (p : Point) → IsInRegion v p → IsInCell gs p → ⊥
+
 -- the winding w is the part of the winding v in the cell of the planes
 pub record IsPartWithin (w v : Winding) (gs : List Plane) : Type 0 where
   pub convex : IsConvex w

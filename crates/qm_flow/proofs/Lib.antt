@@ -1,8 +1,8 @@
 mod Barred
 mod BegunWalks
-mod Copies
 mod FirstFrames
 mod FirstMasks
+mod FoundRows
 mod FourLeaves
 mod LastElements
 mod NewWords

@@ -14,7 +14,7 @@ use Rattle.qm_flow.specs.inner.PairsGoOn.{PairsGoOn}
 use Rattle.qm_flow.specs.inner.WalkSoFar.{IsWalkSoFar}
 use Rattle.qm_flow.proofs.LastElements.{IsLastAt, set_at, read_set_at}
 
-module _ (world : World) (ceilings : List (List Bool)) (p : ℕ) (pairs : Pairs) (frames : List Frame) (row : List Bool) (so_far : IsWalkSoFar world ceilings p pairs frames row) (place : ℕ) (last : Frame) (at : IsLastAt frames place last) where
+module _ {world : World} {ceilings : List (List Bool)} {p : ℕ} {pairs : Pairs} {frames : List Frame} {row : List Bool} (so_far : IsWalkSoFar world ceilings p pairs frames row) {place : ℕ} {last : Frame} (at : IsLastAt frames place last) where
   parted : IsWalk world (IsInCeiling ceilings) p (at.below ++ last ∷ []) row
   parted = subst (λ (all : List Frame). IsWalk world (IsInCeiling ceilings) p all row) at.ends so_far.walk
 

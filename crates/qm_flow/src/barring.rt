@@ -1,8 +1,6 @@
 //! Portals via which nothing is seen from the first one of a flow, since the portals back do not show its leaf.
 
-ghost use Rattle.std.specs.Prelude.{◌≡◌, ◌<◌, Bool, List, false, length, IfSome, IsTrue};
-ghost use Rattle.qm_contacts.specs.NumberedLeaves.{numbered_leaves};
-ghost use Rattle.qm_chains.specs.inner.OwnRows.{IsInSightAt};
+ghost use Rattle.std.specs.Prelude.{◌≡◌, ◌<◌, Bool, List, length, IsTrue};
 ghost use Rattle.qm_chains.specs.inner.Pairs.{ArePairs};
 ghost use Rattle.qm_flow.specs.inner.PairsGoOn.{PairsGoOn};
 ghost use Rattle.qm_flow.specs.inner.UnseenVia.{IsUnseenVia};
@@ -10,7 +8,7 @@ ghost use Rattle.qm_flow.specs.inner.UnseenVia.{IsUnseenVia};
 use crate::own_rows::Place;
 use crate::pairs::Pairs;
 use qm_portal::World;
-use qm_sight::RowSource;
+use qm_sight::{RowSource, has_leaf};
 
 /// Bars each portal that leaves a leaf which may be in sight of the first, and via which nothing is seen. It takes no memory.
 pub(crate) fn bar_unseen<S: RowSource>(world: &World, source: &mut S, pairs: &mut Pairs)
@@ -54,16 +52,5 @@ fn is_unseen<S: RowSource>(world: &World, source: &mut S, first: u64, portal: u6
     ensures unseen { IsTrue result → IsUnseenVia world.now first portal }
     ensures on { S.goes_on source.old source.new }
 {
-    !may_see(source, world.back(portal), world.from(first))
-}
-
-/// Whether a leaf may be in sight of a portal, as the source answers it.
-fn may_see<S: RowSource>(source: &mut S, portal: u64, leaf: u64) -> bool
-    requires portal { portal < length (S.world source.old).portals }
-    requires leaf { leaf < length (numbered_leaves (S.world source.old).tree) }
-    ensures unseen { result ≡ false → IsInSightAt (S.world source.old) portal leaf → ⊥ }
-    ensures on { S.goes_on source.old source.new }
-{
-    let word = source.word(portal, leaf / 64);
-    (word >> (leaf % 64)) & 1 == 1
+    !has_leaf(source, world.back(portal), world.from(first))
 }

@@ -12,7 +12,7 @@ ghost use Rattle.qm_flow.specs.inner.OfWorld.{AreOfWorld};
 
 use crate::frame::Frame;
 use crate::leading::may_lead_on;
-use crate::narrowing::{clear, cut, list_new};
+use crate::narrowing::list_new;
 use crate::pairs::Pairs;
 use crate::scratch::Scratch;
 use qm_bits::BitRow;
@@ -49,7 +49,7 @@ fn cut_frame<'a>(frame: &mut Frame<'a>, cone: &BitRow, found: &BitRow) -> bool
     ensures met { frame.new.met ≡ frame.old.met }
     ensures wide { length frame.new.mask ≡ length frame.old.mask }
 {
-    cut(&mut frame.mask, cone);
+    frame.mask.and_row(cone);
     frame.mask.has_new(found)
 }
 
@@ -70,7 +70,7 @@ pub(crate) fn cone_of<'a, S: RowSource>(
     ensures cone { OnOk result ((n : ℕ) → IsInCone world.now pairs.now.first frame.now found.now entered n → IsIn scratch.new.cone n) }
     ensures on { S.goes_on source.old source.new }
 {
-    clear(&mut scratch.cone);
+    scratch.cone.clear();
     scratch.cone.set(entered);
     scratch.due.clear();
     scratch.due.push(entered)?;

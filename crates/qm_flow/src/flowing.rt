@@ -16,7 +16,7 @@ ghost use Rattle.qm_flow.specs.inner.WalkSoFar.{HasEnded};
 
 use crate::barring::bar_unseen;
 use crate::frame_stack::FrameStack;
-use crate::narrowing::{copy, find};
+use crate::narrowing::find;
 use crate::pairs::Pairs;
 use crate::walking::end_walk;
 use qm_bits::BitRow;
@@ -68,7 +68,7 @@ fn walk<'a, S: RowSource>(
         HasEnded world.now ceilings portal row) }
     ensures on { S.goes_on source.old source.new }
 {
-    copy(&mut stack.next.mask, &pairs.seen);
+    stack.next.mask.copy_from(&pairs.seen);
     stack.push_next(alloc, world, portal)?;
     let mut found = BitRow::with_len(alloc, world.leaves())?;
     find(&mut found, &pairs.seen, world.to(portal));

@@ -15,7 +15,7 @@ ghost use Rattle.qm_flow.specs.inner.OfWorld.{AreOfWorld};
 
 use crate::cone::left_of;
 use crate::frame::Frame;
-use crate::narrowing::{copy, find, narrow};
+use crate::narrowing::{find, narrow};
 use crate::pairs::Pairs;
 use crate::scratch::Scratch;
 use qm_bits::BitRow;
@@ -58,9 +58,9 @@ pub(crate) fn go_through<'a, S: RowSource>(
     }
     let entered = world.to(portal);
     next.untried = world.leaving(entered);
-    copy(&mut next.mask, &frame.mask);
+    next.mask.copy_from(&frame.mask);
     narrow(&pairs.own, source, portal, &mut next.mask);
-    copy(&mut next.met, &frame.met);
+    next.met.copy_from(&frame.met);
     next.met.set(entered);
     find(found, &next.mask, entered);
     left_of(world, source, pairs, next, found, entered, scratch)

@@ -1,9 +1,8 @@
 //! Rows of a flow, word by word.
 
-ghost use Rattle.std.specs.Prelude.{◌≡◌, ◌⊎◌, ◌<◌, true, false, length, replicate, slice_set, IfOk, OnOk};
+ghost use Rattle.std.specs.Prelude.{◌≡◌, ◌⊎◌, ◌<◌, true, false, length, slice_set, OnOk};
 ghost use Rattle.qm_lists.specs.WorkList.{IsIn};
 ghost use Rattle.qm_contacts.specs.NumberedLeaves.{numbered_leaves};
-ghost use Rattle.qm_lists.specs.CutTo.{IsCutTo};
 ghost use Rattle.qm_chains.specs.inner.Narrowing.{IsNarrowed, ShowsNothingNew};
 ghost use Rattle.qm_chains.specs.inner.OwnRows.{AreOwnRows, MustHave, CanHave};
 ghost use Rattle.qm_sight.specs.WordInSight.{ceiling_of};
@@ -12,7 +11,7 @@ ghost use Rattle.qm_flow.specs.inner.NewWords.{HaveAllNew};
 use crate::own_rows::OwnRows;
 use qm_bits::BitRow;
 use qm_sight::RowSource;
-use std::alloc::{AllocError, Global};
+use std::alloc::AllocError;
 
 /// Narrows a mask by the row of a portal. Where the mask has no leaf, nothing is read.
 pub(crate) fn narrow<S: RowSource>(own: &OwnRows, source: &mut S, portal: u64, mask: &mut BitRow)
@@ -73,45 +72,6 @@ pub(crate) fn may_show<S: RowSource>(
         }
     }
     false
-}
-
-/// Clears the places of a row that another one does not have.
-pub(crate) fn cut(row: &mut BitRow, other: &BitRow)
-    requires { length other.now ≡ length row.old }
-    ensures { IsCutTo other.now row.old row.new }
-{
-    for k in 0..row.len().div_ceil(64) {
-        row.and_word(k, other.word(k));
-    }
-}
-
-/// A row of which all places are set.
-pub(crate) fn full(alloc: Global, len: u64) -> Result<BitRow, AllocError>
-    ensures { IfOk result (λ row. row ≡ replicate len true) }
-{
-    let mut row = BitRow::with_len(alloc, len)?;
-    for place in 0..len {
-        row.set(place);
-    }
-    Ok(row)
-}
-
-/// Clears all places of a row.
-pub(crate) fn clear(row: &mut BitRow)
-    ensures { row.new ≡ replicate (length row.old) false }
-{
-    for k in 0..row.len().div_ceil(64) {
-        row.and_word(k, 0);
-    }
-}
-
-/// Makes a row the same as another one.
-pub(crate) fn copy(row: &mut BitRow, other: &BitRow)
-    requires { length other.now ≡ length row.old }
-    ensures { row.new ≡ other.now }
-{
-    clear(row);
-    row.or_row(other);
 }
 
 /// Sets a place of a row where the mask has it.

@@ -14,7 +14,7 @@ ghost use Rattle.qm_flow.specs.inner.PairsGoOn.{PairsGoOn};
 
 use crate::cone::cone_of;
 use crate::frame::Frame;
-use crate::narrowing::{clear, copy, cut, narrow};
+use crate::narrowing::narrow;
 use crate::own_rows::Place;
 use crate::pairs::Pairs;
 use crate::scratch::Scratch;
@@ -45,7 +45,7 @@ pub(crate) fn pair<'a, S: RowSource>(
 {
     cone_of_pair(alloc, world, source, pairs, portal, found, spare, scratch)?;
     let mut row = BitRow::with_len(alloc, world.leaves())?;
-    row.or_row(&scratch.cone);
+    row.copy_from(&scratch.cone);
     pairs.own.put(portal, Place::Row(row));
     Ok(())
 }
@@ -75,13 +75,13 @@ fn cone_of_pair<'a, S: RowSource>(
     let buffers = &mut scratch.steps;
     let leads = step_into(alloc, buffers, &mut spare.state, &pairs.start.state, pane)?;
     if !leads {
-        clear(&mut scratch.cone);
+        scratch.cone.clear();
         return Ok(());
     }
     make_pair_frame(world, source, pairs, portal, spare);
     let entered = world.to(portal);
     cone_of(world, source, pairs, spare, found, entered, scratch)?;
-    cut(&mut scratch.cone, &spare.mask);
+    scratch.cone.and_row(&spare.mask);
     Ok(())
 }
 
@@ -102,10 +102,10 @@ fn make_pair_frame<'a, S: RowSource>(
     ensures frame { IsPairFrame world.now (ceiling_of (S.ceilings source.old) portal) pairs.now frame.old.state portal frame.new }
     ensures on { S.goes_on source.old source.new }
 {
-    copy(&mut frame.mask, &pairs.seen);
+    frame.mask.copy_from(&pairs.seen);
     narrow(&pairs.own, source, portal, &mut frame.mask);
     let first = pairs.first;
-    clear(&mut frame.met);
+    frame.met.clear();
     frame.met.set(world.from(first));
     frame.met.set(world.to(first));
     frame.met.set(world.from(portal));

@@ -6,7 +6,7 @@ ghost use Rattle.qm_flow.specs.inner.BegunPairs.{ArePairsBegun};
 ghost use Rattle.qm_flow.specs.inner.FirstMask.{IsFirstMask};
 
 use crate::frame::Frame;
-use crate::narrowing::{full, narrow};
+use crate::narrowing::narrow;
 use crate::own_rows::OwnRows;
 use qm_bits::BitRow;
 use qm_portal::World;
@@ -63,7 +63,7 @@ impl<'a> Pairs<'a> {
         ensures on { S.goes_on source.old source.new }
     {
         let own = OwnRows::none(alloc, world.portals())?;
-        let mut seen = full(alloc, world.leaves())?;
+        let mut seen = BitRow::full(alloc, world.leaves())?;
         narrow(&own, source, first, &mut seen);
         let start = Frame::first(alloc, world, first)?;
         Ok(Pairs {

@@ -1,7 +1,5 @@
 -- Lines that are drawn one after another.
-use Rattle.std.proofs.Common.{◌≡◌, ◌∙◌, ◌<◌, ℕ, Bool, List, length, Result, OnOk, sym, subst}
-use Rattle.std.specs.Result.{IsErr}
-use Rattle.std.proofs.lemmas.Result.{IfOk-from_err}
+use Rattle.std.proofs.Common.{◌≡◌, ◌∙◌, ◌<◌, ℕ, Bool, List, length, sym, subst}
 use Rattle.qm_contacts.specs.NumberedLeaves.{numbered_leaves}
 use Rattle.qm_contacts.specs.World.{World}
 use Rattle.qm_sight.specs.WordInSight.{LieWithin}
@@ -19,7 +17,7 @@ module _ (first : FirstPortal) where
   gained_on more less a b c lie before later = gains_on first.world.now.portals more less first.portal a b c lie before later
 
 module _ {first : FirstPortal} where
-  -- lines may be drawn still, by a source of the same world, for a row as long
+  -- a source that answers about the same world may be asked still, for a row as long
   pub may_draw_on : {answered later : World} {old new : List Bool} → MayDraw first answered old → later ≡ answered → length new ≡ length old → MayDraw first later new
   may_draw_on may same long = record {
     portal = may.portal;
@@ -27,6 +25,10 @@ module _ {first : FirstPortal} where
     same_world = same ∙ may.same_world;
     wide = long ∙ may.wide;
   }
+
+  -- so it may after lines were drawn
+  pub may_draw_after : {answered later : World} {WentOn : Type 0} {ceilings : List (List Bool)} {old new : List Bool} → MayDraw first answered old → (WentOn → later ≡ answered) → HasDrawn first ceilings WentOn old new → MayDraw first later new
+  may_draw_after may same drawn = may_draw_on may (same drawn.on) drawn.shown.same_length
 
   -- a leaf has a place in each row as long
   pub has_place : {answered : World} {old : List Bool} {leaf : ℕ} (new : List Bool) → MayDraw first answered old → length new ≡ length old → leaf < length (numbered_leaves first.world.now.tree) → leaf < length new
@@ -36,10 +38,10 @@ module _ {first : FirstPortal} where
   pub drawn_none : {WentOn : Type 0} {ceilings : List (List Bool)} {row : List Bool} → WentOn → HasDrawn first ceilings WentOn row row
   drawn_none {ceilings = ceilings} {row = row} on = record { shown = gained_none first ceilings row; on = on }
 
-  -- lines are drawn later, over smaller ceilings
-  pub drawn_on : {Before WentOn : Type 0} {more : List (List Bool)} {a b c : List Bool} (less : List (List Bool)) → LieWithin less more → HasDrawn first more Before a b → HasGainedFrom first less b c → WentOn → HasDrawn first more WentOn a c
-  drawn_on {more = more} {a = a} {b = b} {c = c} less lie before later on = record { shown = gained_on first more less a b c lie before.shown later; on = on }
-
--- where memory was wanted nothing is promised
-pub nothing_at_err : {T E : Type 0} (P : Type 0) (r : Result T E) → IsErr r → OnOk r P
-nothing_at_err P r is = IfOk-from_err r (λ _. P) is
+  -- lines were drawn, and then more of them, over smaller ceilings
+  pub drawn_on : {Before Later WentOn : Type 0} {more less : List (List Bool)} {a b c : List Bool} → (Before → LieWithin less more) → (Before → Later → WentOn) →
+      HasDrawn first more Before a b → HasDrawn first less Later b c → HasDrawn first more WentOn a c
+  drawn_on {more = more} {less = less} {a = a} {b = b} {c = c} narrower in_turn before later = record {
+    shown = gained_on first more less a b c (narrower before.on) before.shown later.shown;
+    on = in_turn before.on later.on;
+  }

@@ -1,5 +1,7 @@
 -- Traces of lines: how they begin and go on, and what they show.
-use Rattle.std.proofs.Common.{◌≡◌, ◌⊎◌, inl, inr, ⊎_elim, ℕ, ◌<◌, true, ℤ, pos, ◌<ℤ◌, Bool, List, [], ◌∷◌, ◌++◌, map, length, get_or, set, All, Contains, refl, sym, ap, ◌∙◌, subst}
+use Rattle.std.proofs.Common.{◌≡◌, ◌⊎◌, inl, inr, ⊎_elim, Result, OnOk, ℕ, ◌<◌, true, ℤ, pos, ◌<ℤ◌, Bool, List, [], ◌∷◌, ◌++◌, map, length, get_or, set, All, Contains, refl, sym, ap, ◌∙◌, subst}
+use Rattle.std.specs.Result.{IsErr}
+use Rattle.std.proofs.lemmas.Result.{IfOk-from_err}
 use Rattle.std.proofs.lemmas.List.{length-set}
 use Rattle.std.proofs.lemmas.List.Elements.{All-contains, All-nil, All-push, Contains-push, Contains-append_left}
 use Rattle.qm_lists.proofs.Elements.{Contains-at, Contains-first, Contains-later, Contains-cons_cases}
@@ -191,3 +193,7 @@ gains_on portals more less p a b c lie first second = gains_more portals (IsInCe
   stays = second.stays;
   gained = λ n is. ⊎_elim (λ old. inl old) (λ shown. inr (shown_wider portals less more p n lie shown)) (second.gained n is);
 })
+
+-- where memory was wanted nothing is promised
+pub nothing_at_err : {T E : Type 0} (P : Type 0) (r : Result T E) → IsErr r → OnOk r P
+nothing_at_err P r is = IfOk-from_err r (λ _. P) is

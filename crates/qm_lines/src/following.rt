@@ -1,6 +1,6 @@
 //! A line is followed from leaf to leaf.
 
-ghost use Rattle.std.specs.Prelude.{ℕ, ◌≡◌, ◌<◌, ◌⊎◌, true, length, All, slice_set, OnOk, IfSome};
+ghost use Rattle.std.specs.Prelude.{ℕ, ◌≡◌, ◌<◌, ◌⊎◌, true, length, All, slice_set, IfSome};
 ghost use Rattle.qm_contacts.specs.NumberedLeaves.{numbered_leaves};
 ghost use Rattle.qm_contacts.specs.Portals.{Portal};
 ghost use Rattle.qm_contacts.specs.OwnPortals.{HasOwnPortals};
@@ -11,11 +11,11 @@ ghost use Rattle.qm_lines.specs.inner.Trace.{IsTrace, IsOnward, AreInRange};
 
 use crate::crossing::Crossing;
 use crate::line::Line;
-use crate::reading::{all_have_leaf, has_leaf};
+use crate::reading::all_have_leaf;
 use crate::trace::Trace;
 use qm_bits::BitRow;
 use qm_portal::World;
-use qm_sight::RowSource;
+use qm_sight::{RowSource, has_leaf};
 use std::alloc::AllocError;
 
 /// The portal that is next on a line, and where the line goes through it.
@@ -40,8 +40,8 @@ pub(crate) fn follow<S: RowSource>(
     requires same_world { S.world source.old ≡ world.now }
     requires range { AreInRange world.now trace.old }
     requires row { length row.old ≡ length (numbered_leaves world.now.tree) }
-    ensures shown { OnOk result ((p : ℕ) → IsTrace world.now p line.now trace.old →
-        HasGainedShown world.now.portals (IsInCeiling (S.ceilings source.old)) p row.old row.new) }
+    ensures shown { (p : ℕ) → IsTrace world.now p line.now trace.old →
+        HasGainedShown world.now.portals (IsInCeiling (S.ceilings source.old)) p row.old row.new }
     ensures on { S.goes_on source.old source.new }
 {
     show(source, trace, row);

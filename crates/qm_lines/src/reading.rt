@@ -5,18 +5,7 @@ ghost use Rattle.qm_lists.specs.WorkList.{IsIn};
 ghost use Rattle.qm_contacts.specs.NumberedLeaves.{numbered_leaves};
 ghost use Rattle.qm_sight.specs.InCeiling.{IsInCeiling};
 
-use qm_sight::RowSource;
-
-/// Whether the row of a portal has a leaf, as the source answers it.
-pub(crate) fn has_leaf<S: RowSource>(source: &mut S, portal: u64, leaf: u64) -> bool
-    requires portal { portal < length (S.world source.old).portals }
-    requires leaf { leaf < length (numbered_leaves (S.world source.old).tree) }
-    ensures ceiling { IsTrue result → IsInCeiling (S.ceilings source.old) leaf portal }
-    ensures on { S.goes_on source.old source.new }
-{
-    let word = source.word(portal, leaf / 64);
-    (word >> (leaf % 64)) & 1 == 1
-}
+use qm_sight::{RowSource, has_leaf};
 
 /// Whether the rows of some portals all have a leaf.
 pub(crate) fn all_have_leaf<S: RowSource>(source: &mut S, portals: &[u64], leaf: u64) -> bool

@@ -1,28 +1,27 @@
 //! The leaves that lines show from a portal. Which of them are found is no promise, for speed alone is at stake: the contracts
 //! say that a leaf is set only where an open chain shows it.
 
-ghost use Rattle.std.specs.Prelude.{◌≡◌, ◌<◌, length, OnOk};
+ghost use Rattle.std.specs.Prelude.{◌≡◌, ◌<◌, length};
 ghost use Rattle.qm_contacts.specs.NumberedLeaves.{numbered_leaves};
 ghost use Rattle.qm_sight.specs.InCeiling.{IsInCeiling};
 ghost use Rattle.qm_lines.specs.Gained.{HasGainedShown};
-ghost use Rattle.qm_lines.specs.inner.Drawing.{MayDraw, HasGainedFrom};
+ghost use Rattle.qm_lines.specs.inner.Drawing.{MayDraw, HasDrawn};
 
-use crate::aiming::{line_through, anchor_at, anchors_of};
+use crate::aiming::{anchor_at, anchors_of, line_through};
 use crate::crossing::crossing_of;
 use crate::first_portal::FirstPortal;
 use crate::following::follow;
 use crate::line::Line;
-use crate::reading::has_leaf;
 use crate::trace::Trace;
 use qm_bits::BitRow;
 use qm_portal::World;
-use qm_sight::RowSource;
+use qm_sight::{RowSource, has_leaf};
 use qm_wind::Winding;
 use std::alloc::{AllocError, Global};
 
 /// Sets leaves in a portal's row to which straight lines lead through it, each by an open chain whose portals, the first
 /// included, had it in their ceilings when this began. None is lost, and leaves in sight may be left out. After want of memory
-/// too the source goes on from what it was.
+/// too all of this holds, and the source goes on from what it was.
 pub fn show_by_lines<S: RowSource>(
     alloc: Global,
     world: &World,
@@ -33,7 +32,7 @@ pub fn show_by_lines<S: RowSource>(
     requires portal { portal < length world.now.portals }
     requires same_world { S.world source.old ≡ world.now }
     requires row { length row.old ≡ length (numbered_leaves world.now.tree) }
-    ensures shown { OnOk result (HasGainedShown world.now.portals (IsInCeiling (S.ceilings source.old)) portal row.old row.new) }
+    ensures shown { HasGainedShown world.now.portals (IsInCeiling (S.ceilings source.old)) portal row.old row.new }
     ensures on { S.goes_on source.old source.new }
 {
     world.own_portals();
@@ -59,8 +58,7 @@ fn flood<S: RowSource>(
 ) -> Result<(), AllocError>
     requires may_draw { MayDraw first.now (S.world source.old) row.old }
     requires gone { length gone.old ≡ length row.old }
-    ensures shown { OnOk result (HasGainedFrom first.now (S.ceilings source.old) row.old row.new) }
-    ensures on { S.goes_on source.old source.new }
+    ensures { HasDrawn first.now (S.ceilings source.old) (S.goes_on source.old source.new) row.old row.new }
 {
     let entered = first.world.to(first.portal);
     gone.set(entered);
@@ -84,8 +82,7 @@ fn sweep<S: RowSource>(
 ) -> Result<(), AllocError>
     requires may_draw { MayDraw first.now (S.world source.old) row.old }
     requires gone { length gone.old ≡ length row.old }
-    ensures shown { OnOk result (HasGainedFrom first.now (S.ceilings source.old) row.old row.new) }
-    ensures on { S.goes_on source.old source.new }
+    ensures drawn { HasDrawn first.now (S.ceilings source.old) (S.goes_on source.old source.new) row.old row.new }
     ensures gone { length gone.new ≡ length gone.old }
 {
     for leaf in 0..first.world.leaves() {
@@ -111,8 +108,7 @@ fn aim_out<S: RowSource>(
 ) -> Result<(), AllocError>
     requires may_draw { MayDraw first.now (S.world source.old) row.old }
     requires leaf { leaf < length (numbered_leaves first.now.world.now.tree) }
-    ensures shown { OnOk result (HasGainedFrom first.now (S.ceilings source.old) row.old row.new) }
-    ensures on { S.goes_on source.old source.new }
+    ensures { HasDrawn first.now (S.ceilings source.old) (S.goes_on source.old source.new) row.old row.new }
 {
     for other in first.world.leaving(leaf) {
         aim_through(first, source, *other, trace, row)?;
@@ -130,8 +126,7 @@ fn aim_through<S: RowSource>(
 ) -> Result<(), AllocError>
     requires may_draw { MayDraw first.now (S.world source.old) row.old }
     requires other { other < length first.now.world.now.portals }
-    ensures shown { OnOk result (HasGainedFrom first.now (S.ceilings source.old) row.old row.new) }
-    ensures on { S.goes_on source.old source.new }
+    ensures { HasDrawn first.now (S.ceilings source.old) (S.goes_on source.old source.new) row.old row.new }
 {
     let target = first.world.to(other);
     if row.get(target) {
@@ -173,13 +168,9 @@ fn aim_within<S: RowSource>(
 ) -> Result<(), AllocError>
     requires may_draw { MayDraw first.now (S.world source.old) row.old }
     requires target { target < length (numbered_leaves first.now.world.now.tree) }
-    ensures shown { OnOk result (HasGainedFrom first.now (S.ceilings source.old) row.old row.new) }
-    ensures on { S.goes_on source.old source.new }
+    ensures { HasDrawn first.now (S.ceilings source.old) (S.goes_on source.old source.new) row.old row.new }
 {
     for place in 0..=winding.len() {
-        if row.get(target) {
-            return Ok(());
-        }
         let end = anchor_at(winding, place);
         aim_at(first, source, &end, target, trace, row)?;
     }
@@ -197,8 +188,7 @@ fn aim_at<S: RowSource>(
 ) -> Result<(), AllocError>
     requires may_draw { MayDraw first.now (S.world source.old) row.old }
     requires target { target < length (numbered_leaves first.now.world.now.tree) }
-    ensures shown { OnOk result (HasGainedFrom first.now (S.ceilings source.old) row.old row.new) }
-    ensures on { S.goes_on source.old source.new }
+    ensures { HasDrawn first.now (S.ceilings source.old) (S.goes_on source.old source.new) row.old row.new }
 {
     for anchor in first.anchors {
         if row.get(target) {
@@ -221,8 +211,7 @@ fn show_along<S: RowSource>(
 ) -> Result<(), AllocError>
     requires may_draw { MayDraw first.now (S.world source.old) row.old }
     requires target { target < length (numbered_leaves first.now.world.now.tree) }
-    ensures shown { OnOk result (HasGainedFrom first.now (S.ceilings source.old) row.old row.new) }
-    ensures on { S.goes_on source.old source.new }
+    ensures { HasDrawn first.now (S.ceilings source.old) (S.goes_on source.old source.new) row.old row.new }
 {
     match crossing_of(first.world, first.portal, line) {
         None => Ok(()),

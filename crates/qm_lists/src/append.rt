@@ -1,6 +1,6 @@
 //! Values that are appended to bytes, and the one loop over a list of them.
 
-ghost use Rattle.std.specs.Prelude.{◌≡◌, ◌++◌, ℕ, List, flat_map, All, OnOk};
+ghost use Rattle.std.specs.Prelude.{◌≡◌, ◌++◌, ℕ, List, [], flat_map, All, OnOk, OnErr};
 
 use std::alloc::AllocError;
 
@@ -21,8 +21,21 @@ pub trait Encoding {
         ensures { OnOk result (out.new.items ≡ out.old.items ++ bytes_of value.now) };
 }
 
-/// Appends the bytes of each value in turn.
+/// Appends the bytes of each value in turn. Where memory runs out, no byte is left in `out`: of bytes that are not all
+/// there none is of use.
 pub fn append_all<E: Encoding>(out: &mut Vec<u8>, values: &[E::Value]) -> Result<(), AllocError>
+    requires { All E.can_append values.now }
+    ensures ok { OnOk result (out.new.items ≡ out.old.items ++ flat_map E.bytes_of values.now) }
+    ensures err { OnErr result (out.new.items ≡ []) }
+{
+    let appended = append_each::<E>(out, values);
+    if appended.is_err() {
+        out.clear();
+    }
+    appended
+}
+
+fn append_each<E: Encoding>(out: &mut Vec<u8>, values: &[E::Value]) -> Result<(), AllocError>
     requires { All E.can_append values.now }
     ensures { OnOk result (out.new.items ≡ out.old.items ++ flat_map E.bytes_of values.now) }
 {

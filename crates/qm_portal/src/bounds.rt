@@ -1,14 +1,11 @@
 //! The planes that bound a cell.
 
-ghost use Rattle.std.specs.Prelude.{◌≡◌, ◌<◌, ◌↔◌, length, Some, slice_get, MatchOption, IsTrue, IfOk, OnOk};
-ghost use Rattle.qm_convex.specs.Cut.{IsPartInFront, IsPartWithin};
-ghost use Rattle.qm_convex.specs.Sides.{HasSomeInFront};
+ghost use Rattle.std.specs.Prelude.{◌≡◌, ◌<◌, ◌↔◌, length, Some, slice_get, MatchOption, IsTrue, OnOk};
 ghost use Rattle.qm_convex.specs.Section.{HasSameNormal};
 ghost use Rattle.qm_contacts.specs.inner.Bounds.{IsBoundAdded};
-ghost use Rattle.qm_portal.specs.inner.Cells.{BeginAxially, HasPointBefore, IsPlaceOfNormal, HasNoneOfNormal};
+ghost use Rattle.qm_portal.specs.inner.Cells.{BeginAxially, IsPlaceOfNormal, HasNoneOfNormal};
 
 use qm_geom::Plane;
-use qm_wind::{Clip, Side, Winding};
 use std::alloc::AllocError;
 
 /// How many bounds there are across the axes: they come first, in the order of the cube's walls.
@@ -61,33 +58,5 @@ fn put_nearer(bounds: &mut Vec<Plane>, place: usize, plane: &Plane)
 {
     if plane.d > bounds[place].d {
         bounds[place] = *plane;
-    }
-}
-
-/// Cuts a winding down to its part in front of all planes, where it has a point there.
-pub(crate) fn cut_within(winding: &mut Winding, bounds: &[Plane]) -> Result<(), AllocError>
-    requires { HasPointBefore winding.old bounds.now }
-    ensures { OnOk result (IsPartWithin winding.new winding.old bounds.now) }
-{
-    let _corners = winding.len();
-    for plane in bounds {
-        cut_down(winding, plane)?;
-    }
-    Ok(())
-}
-
-/// Cuts a winding down to its part in front of a plane, where it has a point there.
-fn cut_down(winding: &mut Winding, plane: &Plane) -> Result<(), AllocError>
-    requires { HasSomeInFront winding.old plane.now }
-    ensures { OnOk result (IsPartInFront winding.new winding.old plane.now) }
-{
-    let _corners = winding.len();
-    match winding.clip(plane, Side::Front)? {
-        Clip::Whole => Ok(()),
-        Clip::Cut(part) => {
-            *winding = part;
-            Ok(())
-        }
-        Clip::Gone => unreachable!(),
     }
 }

@@ -6,7 +6,7 @@ ghost use Rattle.qm_convex.specs.Section.{IsSection};
 ghost use Rattle.qm_portal.specs.inner.Cells.{CrossesCell, IsHalf};
 ghost use Rattle.qm_portal.specs.inner.Walks.{has_facets};
 
-use crate::bounds::{AXIAL_BOUNDS, add_bound, cut_within};
+use crate::bounds::{AXIAL_BOUNDS, add_bound};
 use crate::facet::{Facet, split_facets};
 use qm_geom::Plane;
 use qm_tree::{Child, Node};
@@ -56,11 +56,10 @@ impl DueCell {
     {
         let (axial, slanted) = self.bounds.split_at(AXIAL_BOUNDS);
         match Winding::between(alloc, plane, axial)? {
-            Some(whole) => {
-                let mut section = Box::new(alloc, whole)?;
-                cut_within(&mut section, slanted)?;
-                Ok(section)
-            }
+            Some(whole) => match whole.keep_all(slanted)? {
+                Some(section) => Ok(Box::new(alloc, section)?),
+                None => unreachable!(),
+            },
             None => unreachable!(),
         }
     }

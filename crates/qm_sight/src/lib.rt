@@ -2,8 +2,10 @@
 #![tactic(auto)]
 
 pub mod laws;
+mod reading;
 mod row_source;
 mod rows;
 
+pub use reading::has_leaf;
 pub use row_source::RowSource;
 pub use rows::Rows;

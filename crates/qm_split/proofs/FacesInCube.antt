@@ -35,7 +35,7 @@ use Rattle.qm_split.specs.inner.PieceParts.{IsNumberedPiece}
 use Rattle.qm_split.specs.inner.FacePieces.{solid_behind, IsFacePoint, IsFacePiece, HasNoFacePoint, IsPieceOfFace, HasPieceOfFace, HasFacePieces, HasAllBehind}
 use Rattle.qm_split.proofs.ListedItems.{all_of_listed}
 use Rattle.qm_split.proofs.PartedPieces.{meets_no_face}
-use Rattle.qm_split.proofs.SectionsOfCells.{part_itself}
+use Rattle.qm_convex.proofs.Cutting.{whole_is_part}
 
 -- ---- the winding of one face
 
@@ -104,7 +104,7 @@ module _ (book : List Plane) (number : ℕ) (done : List FaceRef) (face : FaceRe
 
     -- it is all kept where it is wholly in front
     pub face_whole : IsWhollyInFront w inner → IsFacePiece book number (done ++ face ∷ []) w
-    face_whole whole = face_kept w (part_itself w inner is.convex whole)
+    face_whole whole = face_kept w (whole_is_part w inner is.convex whole)
 
 -- ---- the pieces of all faces
 

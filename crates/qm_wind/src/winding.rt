@@ -3,8 +3,8 @@ ghost use Rattle.qm_space.specs.Turned.{turned};
 ghost use Rattle.qm_space.specs.Coordinates.{HasSmallCoordinates};
 ghost use Rattle.qm_convex.specs.Winding.{Winding as WindingValue, corner_at};
 ghost use Rattle.qm_convex.specs.Vertex.{IsVertex, HasVerticesAsCorners};
-ghost use Rattle.qm_convex.specs.Cut.{IsPartInFront};
-ghost use Rattle.qm_convex.specs.Sides.{LiesIn, HasCornerInFront, HasCornerBehind};
+ghost use Rattle.qm_convex.specs.Cut.{IsPartInFront, IsPartWithin, HasNoneWithin};
+ghost use Rattle.qm_convex.specs.Sides.{LiesIn, HasNoneInFront, HasCornerInFront, HasCornerBehind};
 ghost use Rattle.qm_convex.specs.World.{MissesCube, IsWorldPart, IsInWorld, LiesWithin};
 ghost use Rattle.qm_convex.specs.Section.{IsSection, MissesCell, AreAxialBounds};
 ghost use Rattle.qm_space.specs.Cube.{IsInClosedCube};
@@ -151,6 +151,36 @@ impl Winding {
             Found::On => Ok(Clip::Gone),
             Found::Across(survey) => Ok(Clip::Cut(self.part(plane, &survey.front)?)),
         }
+    }
+
+    /// The winding cut down to what it has on one side of a plane. `None` exactly where none of its points is strictly on
+    /// that side.
+    pub fn keep(self, plane: &Plane, side: Side) -> Result<Option<Winding>, AllocError>
+        ensures { IfOk result (λ left.
+            MatchOption left (HasNoneInFront self (turned (is_front side) plane.now)) (λ w. IsPartInFront w self (turned (is_front side) plane.now))) }
+    {
+        let _ = &self.polygon;
+        match self.clip(plane, side)? {
+            Clip::Whole => Ok(Some(self)),
+            Clip::Gone => Ok(None),
+            Clip::Cut(part) => Ok(Some(part)),
+        }
+    }
+
+    /// The winding cut down to what it has in front of each of some planes. `None` exactly where none of its points is
+    /// there.
+    pub fn keep_all(self, planes: &[Plane]) -> Result<Option<Winding>, AllocError>
+        ensures { IfOk result (λ left. MatchOption left (HasNoneWithin self planes.now) (λ w. IsPartWithin w self planes.now)) }
+    {
+        let _corners = self.len();
+        let mut left = self;
+        for plane in planes {
+            left = match left.keep(plane, Side::Front)? {
+                Some(kept) => kept,
+                None => return Ok(None),
+            };
+        }
+        Ok(Some(left))
     }
 
     /// The parts of the winding on both sides of a plane. Where it lies wholly on one side, it is that

@@ -1,11 +1,21 @@
-//! Tests of separators and of the steps of chains, by public calls.
+//! Tests of what is seen, by public calls: separators, the steps of chains, and the rows of portals and of leaves.
 #![tactic(auto)]
 
 #[cfg(test)]
 mod doorways;
 #[cfg(test)]
+mod lines;
+#[cfg(test)]
+mod plain;
+#[cfg(test)]
 mod random;
+#[cfg(test)]
+mod rooms;
 #[cfg(test)]
 mod shapes;
 #[cfg(test)]
 mod slow;
+#[cfg(test)]
+mod two_rows;
+#[cfg(test)]
+mod wavering;

@@ -7,7 +7,7 @@ use crate::worlds::random_world;
 use qm_brush::{BrushList, brushes};
 use qm_build::build;
 use qm_contents::Contents;
-use qm_contents::Contents::{Solid, Water};
+use qm_contents::Contents::{Sky, Solid, Water};
 use qm_geom::{PlaneBook, Point};
 use qm_map::parse;
 use qm_tree::Tree;
@@ -144,12 +144,22 @@ fn water_round_stone(alloc: Global, water_comes_first: bool) -> Result<String, A
     Ok(text)
 }
 
-/// A point on a face that two solids share, and points in water round stone, whichever comes first.
+/// A box of sky.
+fn box_of_sky(alloc: Global) -> Result<String, AllocError> {
+    let mut text = String::new(alloc);
+    text.push_str("{\n")?;
+    put_box(&mut text, "Sky1", [0, 0, 0], [64, 64, 64])?;
+    text.push_str("}\n")?;
+    Ok(text)
+}
+
+/// A point on a face that two solids share, one in sky, and points in water round stone, whichever comes first.
 #[test]
 fn boxes_are_built(rt: HostRuntime) -> Result<(), Fail> {
     let alloc = rt.alloc();
     let shared = shared_face(alloc)?;
     assert!(rt; is_built(alloc, &shared, [32, 32, 64], Solid));
+    assert!(rt; is_built(alloc, &box_of_sky(alloc)?, [32, 32, 32], Sky));
     for water_comes_first in [true, false] {
         let text = water_round_stone(alloc, water_comes_first)?;
         assert!(rt; is_built(alloc, &text, [32, 32, 32], Solid));

@@ -20,15 +20,3 @@ pub record AreWritten (world : World) (lanes : List Lane) (old new : List (List 
 -- the rows of a block
 abbrev pub IsBlockDone : World → List Lane → ℕ → List (List Bool) → List (List Bool) → Type 0
 IsBlockDone world lanes block old new = AreWritten world (block_of block lanes) old new
-
--- the lanes before a place are written
-pub record WrittenSoFar (world : World) (lanes : List Lane) (place : ℕ) (old new : List (List Bool)) : Type 0 where
-  pub same_count : length new ≡ length old
-  pub kept : (p : ℕ) → HasCoarseRow world old p → HasCoarseRow world new p
-  pub each : (j : ℕ) (lane : Lane) → j < place → slice_get lanes j ≡ Some lane → HasCoarseRow world new lane.portal
-
--- the lanes of the blocks before one are written
-pub record BlocksSoFar (world : World) (lanes : List Lane) (block : ℕ) (ways : List ℕ) (rows : List (List Bool)) : Type 0 where
-  pub one_each : length rows ≡ length world.portals
-  pub one_way_each : length ways ≡ length world.portals
-  pub each : (k : ℕ) (lane : Lane) → k < 64 * block → slice_get lanes k ≡ Some lane → HasCoarseRow world rows lane.portal

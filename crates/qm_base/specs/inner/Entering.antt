@@ -9,9 +9,3 @@ pub record AreEnteredLeaves (world : World) (entered : List ℕ) : Type 0 where
   pub one_each : length entered ≡ length world.portals
   pub within : All (λ leaf. leaf < leaves_of_world world) entered
   pub each : (q : ℕ) (portal : Portal) → slice_get world.portals q ≡ Some portal → slice_index_or entered q 0 ≡ portal.to
-
--- the leaves of the portals before a place
-pub record EnteredSoFar (world : World) (place : ℕ) (entered : List ℕ) : Type 0 where
-  pub one_each : length entered ≡ place
-  pub within : All (λ leaf. leaf < leaves_of_world world) entered
-  pub each : (q : ℕ) (portal : Portal) → q < place → slice_get world.portals q ≡ Some portal → slice_index_or entered q 0 ≡ portal.to

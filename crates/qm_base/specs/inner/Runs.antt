@@ -20,16 +20,6 @@ pub record AreRuns (kinds : List Kind) (runs : List Run) : Type 0 where
   pub only : (run : Run) → Contains runs run → Contains kinds run.kind
   pub every : (j : ℕ) (kind : Kind) → slice_get kinds j ≡ Some kind → HasRun runs kind
 
--- the kinds before a place have runs
-pub record RunsSoFar (kinds : List Kind) (place : ℕ) (runs : List Run) : Type 0 where
-  pub exactly : (run : Run) → Contains runs run → (j : ℕ) → (has_bit run.lanes j ≡ true) ↔ IsOfKind kinds run.kind j
-  pub only : (run : Run) → Contains runs run → Contains kinds run.kind
-  pub every : (j : ℕ) (kind : Kind) → j < place → slice_get kinds j ≡ Some kind → HasRun runs kind
-
--- the lanes of the kind before a place have their bits
-abbrev pub LanesSoFar : List Kind → Kind → ℕ → ℕ → Type 0
-LanesSoFar kinds kind place lanes = (j : ℕ) → (has_bit lanes j ≡ true) ↔ ((j < place) × IsOfKind kinds kind j)
-
 -- the lane before has the same kind
 pub record IsRepeated (kinds : List Kind) (j : ℕ) : Type 0 where
   pub before : ℕ

@@ -83,31 +83,3 @@ pub record AreFlooded (world : World) (ways : List ℕ) (lanes : List Lane) (see
 pub record IsColumn (words : List ℕ) (bit : ℕ) (row : List Bool) : Type 0 where
   pub wide : length row ≡ length words
   pub exactly : (leaf : ℕ) → IsIn row leaf ↔ IsInLane words bit leaf
-
--- one of some portals, by their places, whose word has the bit enters the leaf
-pub record EntersBy (portals : List Portal) (ways places : List ℕ) (bit leaf : ℕ) : Type 0 where
-  pub place : ℕ
-  pub portal : Portal
-  pub listed : Contains places place
-  pub portal_is : slice_get portals place ≡ Some portal
-  pub to : portal.to ≡ leaf
-  pub passes : has_bit (slice_index_or ways place 0) bit ≡ true
-
--- in the lanes that are due it is seen what some portals enter
-pub record IsSpreadBy (portals : List Portal) (ways places : List ℕ) (due : ℕ) (old new : List ℕ) : Type 0 where
-  pub same_length : length new ≡ length old
-  pub exactly : (bit b : ℕ) → IsInLane new bit b ↔ (IsInLane old bit b ⊎ ((has_bit due bit ≡ true) × EntersBy portals ways places bit b))
-
--- the lanes before a place have begun
-pub record BegunSoFar (world : World) (lanes : List Lane) (place : ℕ) (seen : List ℕ) : Type 0 where
-  pub wide : length seen ≡ leaves_of_world world
-  pub exactly : (bit leaf : ℕ) → IsInLane seen bit leaf ↔ ((bit < place) × EntersInLane world.portals lanes bit leaf)
-
--- the leaves before one are passed, or those from it on
-pub record SweepUpTo (world : World) (ways : List ℕ) (leaf : ℕ) (old new old_passed new_passed : List ℕ) (due : Bool) : Type 0 where
-  pub step : IsPassed world ways old new old_passed new_passed due
-  pub rest : due ≡ false → (m : ℕ) → m < leaf → slice_index_or new m 0 ≡ slice_index_or new_passed m 0
-
-pub record SweepDownTo (world : World) (ways : List ℕ) (leaf : ℕ) (old new old_passed new_passed : List ℕ) (due : Bool) : Type 0 where
-  pub step : IsPassed world ways old new old_passed new_passed due
-  pub rest : due ≡ false → (m : ℕ) → leaf ≤ m → m < length new → slice_index_or new m 0 ≡ slice_index_or new_passed m 0

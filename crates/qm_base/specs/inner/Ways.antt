@@ -44,13 +44,3 @@ pub record FollowsLane (portals : List Portal) (lanes : List Lane) (block q j : 
 pub record AreWays (portals : List Portal) (lanes : List Lane) (block : ℕ) (ways : List ℕ) : Type 0 where
   pub one_each : length ways ≡ length portals
   pub each : (q : ℕ) → q < length portals → (j : ℕ) → (has_bit (slice_index_or ways q 0) j ≡ true) ↔ FollowsLane portals lanes block q j
-
--- the words of the lanes before a place are written
-pub record WaysSoFar (lanes : List Lane) (kinds : List Kind) (table : List Beside) (block place : ℕ) (ways : List ℕ) : Type 0 where
-  pub one_each : length ways ≡ length lanes
-  pub each : (portals : List Portal) → IsTable portals lanes kinds table → (k : ℕ) (lane : Lane) → k < place → slice_get lanes k ≡ Some lane →
-      (j : ℕ) → (has_bit (slice_index_or ways lane.portal 0) j ≡ true) ↔ FollowsLane portals lanes block lane.portal j
-
--- the lanes of the first runs have their bits
-abbrev pub BeforeSoFar : List Beside → List Run → ℕ → ℕ → ℕ → Type 0
-BeforeSoFar table runs count k lanes = (j : ℕ) → (has_bit lanes j ≡ true) ↔ IsAheadOf table (take count runs) k j

@@ -69,6 +69,3 @@ pub record IsShortened (contender : Contender) (h : Plane) (part : Part) : Type 
   pub no_more : part_count part ≤ length contender.body.value.pieces.items
   pub fewer : HasPieceIn contender.body.value.pieces.items h → part_count part < length contender.body.value.pieces.items
 
--- no point of the winding is in the cell
-abbrev pub HasNoneWithin : Winding → List Plane → Type 0
-HasNoneWithin w cell = (x : Point) → IsInRegion w x → IsInCell cell x → ⊥

@@ -1,4 +1,4 @@
-use Rattle.qm_base.specs.inner.Besides.{BesidesSoFar}
+use Rattle.qm_base.proofs.BesideSteps.{BesidesSoFar}
 use Rattle.qm_base.proofs.beside.besides.Given as goal
 
 abbrev pub invariant-loop-k : goal.invariant-loop-k

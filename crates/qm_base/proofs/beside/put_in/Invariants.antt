@@ -1,4 +1,4 @@
-use Rattle.qm_base.specs.inner.Besides.{PutInSoFar}
+use Rattle.qm_base.proofs.BesideSteps.{PutInSoFar}
 use Rattle.qm_base.proofs.beside.put_in.Given as goal
 
 abbrev pub invariant-loop-c : goal.invariant-loop-c

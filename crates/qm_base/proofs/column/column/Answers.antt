@@ -1,5 +1,4 @@
-use Rattle.std.proofs.Common.{◌≡◌, ◌+◌, ◌-◌, ◌*◌, ℕ, List, length, take, drop, refl, subst, false, arith}
-use Rattle.std.proofs.lemmas.List.{length-replicate}
+use Rattle.std.proofs.Common.{◌≡◌, ◌∙◌, ◌+◌, ◌-◌, ◌*◌, ℕ, List, length, take, drop, refl, subst, arith}
 use Rattle.qm_base.specs.inner.Ways.{block_of}
 use Rattle.qm_base.specs.inner.Columns.{IsGathered}
 use Rattle.qm_base.proofs.WaySteps.{slice_of_block}
@@ -8,7 +7,7 @@ use Rattle.qm_base.proofs.column.column.Goals as goal
 
 pub loop-k-init : goal.loop-k-init
 loop-k-init c =
-    column_none c.args.seen.now c.args.bit c.in_ok-row.row c.args.all.now c.or_row.new.self (rw c.in_ok-row.ensures (length-replicate (length c.args.seen.now) false)) c.requires.all c.or_row.ensures
+    column_none c.args.seen.now c.args.bit c.copy_from.new.self (c.copy_from.ensures ∙ c.requires.all)
 
 pub loop-k-preserved : goal.loop-k-preserved
 loop-k-preserved c =

@@ -1,4 +1,4 @@
-use Rattle.qm_base.specs.inner.Columns.{ColumnSoFar}
+use Rattle.qm_base.proofs.ColumnSteps.{ColumnSoFar}
 use Rattle.qm_base.proofs.column.column.Given as goal
 
 abbrev pub invariant-loop-k : goal.invariant-loop-k

@@ -1,4 +1,4 @@
-use Rattle.qm_base.specs.inner.Columns.{GatheredSoFar}
+use Rattle.qm_base.proofs.ColumnSteps.{GatheredSoFar}
 use Rattle.qm_base.proofs.column.gathered.Given as goal
 
 abbrev pub invariant-loop-i : goal.invariant-loop-i

@@ -1,4 +1,4 @@
-use Rattle.qm_base.specs.inner.Entering.{EnteredSoFar}
+use Rattle.qm_base.proofs.EnteringSteps.{EnteredSoFar}
 use Rattle.qm_base.proofs.entering.entered.Given as goal
 
 abbrev pub invariant-loop-p : goal.invariant-loop-p

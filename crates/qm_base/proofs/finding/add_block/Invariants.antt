@@ -1,4 +1,4 @@
-use Rattle.qm_base.specs.inner.Blocks.{WrittenSoFar}
+use Rattle.qm_base.proofs.RowSteps.{WrittenSoFar}
 use Rattle.qm_base.proofs.finding.add_block.Given as goal
 
 abbrev pub invariant-loop-j : goal.invariant-loop-j

@@ -1,4 +1,4 @@
-use Rattle.qm_base.specs.inner.Blocks.{BlocksSoFar}
+use Rattle.qm_base.proofs.RowSteps.{BlocksSoFar}
 use Rattle.qm_base.proofs.finding.base.Given as goal
 
 abbrev pub invariant-loop-block : goal.invariant-loop-block

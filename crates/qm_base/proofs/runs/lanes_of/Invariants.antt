@@ -1,4 +1,4 @@
-use Rattle.qm_base.specs.inner.Runs.{LanesSoFar}
+use Rattle.qm_base.proofs.RunSteps.{LanesSoFar}
 use Rattle.qm_base.proofs.runs.lanes_of.Given as goal
 
 abbrev pub invariant-loop-j : goal.invariant-loop-j

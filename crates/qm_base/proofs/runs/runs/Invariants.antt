@@ -1,4 +1,4 @@
-use Rattle.qm_base.specs.inner.Runs.{RunsSoFar}
+use Rattle.qm_base.proofs.RunSteps.{RunsSoFar}
 use Rattle.qm_base.proofs.runs.runs.Given as goal
 
 abbrev pub invariant-loop-j : goal.invariant-loop-j

@@ -1,4 +1,4 @@
-use Rattle.qm_base.specs.inner.Sweeping.{BegunSoFar}
+use Rattle.qm_base.proofs.SweepSteps.{BegunSoFar}
 use Rattle.qm_base.proofs.sweeping.begun.Given as goal
 
 abbrev pub invariant-loop-j : goal.invariant-loop-j

@@ -1,7 +1,6 @@
 use Rattle.std.proofs.Common.{ℕ, List, get_or, refl, subst, arith}
 use Rattle.std.proofs.lemmas.List.{take_all}
-use Rattle.qm_base.specs.inner.Sweeping.{IsSpreadBy}
-use Rattle.qm_base.proofs.SweepSteps.{spread_more, spread_all, leaving_within}
+use Rattle.qm_base.proofs.SweepSteps.{IsSpreadBy, spread_more, spread_all, leaving_within}
 use Rattle.qm_base.proofs.EnteringSteps.{place_entered, leaf_entered, portal_entered}
 use Rattle.qm_base.proofs.sweeping.spread.Goals as goal
 

@@ -1,5 +1,5 @@
 use Rattle.std.proofs.Common.{take}
-use Rattle.qm_base.specs.inner.Sweeping.{IsSpreadBy}
+use Rattle.qm_base.proofs.SweepSteps.{IsSpreadBy}
 use Rattle.qm_base.proofs.sweeping.spread.Given as goal
 
 abbrev pub invariant-loop-q : goal.invariant-loop-q

@@ -1,6 +1,5 @@
 use Rattle.std.proofs.Common.{◌≡◌, ◌+◌, ◌-◌, ℕ, subst, arith}
-use Rattle.qm_base.specs.inner.Sweeping.{SweepDownTo}
-use Rattle.qm_base.proofs.SweepSteps.{down_more, step_none}
+use Rattle.qm_base.proofs.SweepSteps.{SweepDownTo, down_more, step_none}
 use Rattle.qm_base.proofs.sweeping.sweep_down.Goals as goal
 
 pub loop-leaf-init : goal.loop-leaf-init

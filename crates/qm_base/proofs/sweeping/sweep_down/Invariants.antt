@@ -1,4 +1,4 @@
-use Rattle.qm_base.specs.inner.Sweeping.{SweepDownTo}
+use Rattle.qm_base.proofs.SweepSteps.{SweepDownTo}
 use Rattle.qm_base.proofs.sweeping.sweep_down.Given as goal
 
 abbrev pub invariant-loop-leaf : goal.invariant-loop-leaf

@@ -1,4 +1,4 @@
-use Rattle.qm_base.specs.inner.Sweeping.{SweepUpTo}
+use Rattle.qm_base.proofs.SweepSteps.{SweepUpTo}
 use Rattle.qm_base.proofs.sweeping.sweep_up.Given as goal
 
 abbrev pub invariant-loop-leaf : goal.invariant-loop-leaf

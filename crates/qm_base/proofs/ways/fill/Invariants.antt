@@ -1,4 +1,4 @@
-use Rattle.qm_base.specs.inner.Ways.{WaysSoFar}
+use Rattle.qm_base.proofs.WaySteps.{WaysSoFar}
 use Rattle.qm_base.proofs.ways.fill.Given as goal
 
 abbrev pub invariant-loop-k : goal.invariant-loop-k

@@ -1,4 +1,4 @@
-use Rattle.qm_base.specs.inner.Ways.{BeforeSoFar}
+use Rattle.qm_base.proofs.WaySteps.{BeforeSoFar}
 use Rattle.qm_base.proofs.ways.lanes_before.Given as goal
 
 abbrev pub invariant-loop-run : goal.invariant-loop-run

@@ -11,16 +11,16 @@ use Rattle.qm_flow.specs.inner.WalkSoFar.{IsWalkSoFar, HasEnded}
 use Rattle.qm_flow.proofs.BegunWalks.{first_pushed, first_begun, rounds_begin}
 use Rattle.qm_flow.proofs.flowing.walk.Goals as goal
 
-pub copy-requires : goal.copy-requires
-copy-requires g c = ap length (ap (λ (p : Pairs). p.seen) c.pairs.view_is) ∙ (c.requires.begun.are []).seen_wide ∙ sym (ap (λ (stack : FrameStack). length stack.next.mask) c.stack.view_is ∙ c.requires.fresh.first.mask_wide)
+pub copy_from-requires : goal.copy_from-requires
+copy_from-requires g c = ap length (ap (λ (p : Pairs). p.seen) c.pairs.view_is) ∙ (c.requires.begun.are []).seen_wide ∙ sym (ap (λ (stack : FrameStack). length stack.next.mask) c.stack.view_is ∙ c.requires.fresh.first.mask_wide)
 
 pub push_next-requires-clause-spares : goal.push_next-requires-clause-spares
 push_next-requires-clause-spares g c =
     let world = c.args.world.now in
     let spares = c.requires.fresh.spares in
-    subst (λ (stack : FrameStack). AreSparesWide world (record { frames = stack.frames; next = with_mask c.copy.new.row stack.next; ended = stack.ended; scratch = stack.scratch })) (sym c.stack.view_is)
+    subst (λ (stack : FrameStack). AreSparesWide world (record { frames = stack.frames; next = with_mask c.copy_from.new.self stack.next; ended = stack.ended; scratch = stack.scratch })) (sym c.stack.view_is)
     (record {
-      next_is = record { met = spares.next_is.met; mask = ap length (c.copy.ensures ∙ (ap (λ (p : Pairs). p.seen) c.pairs.view_is)) ∙ (c.requires.begun.are []).seen_wide; found = spares.next_is.found };
+      next_is = record { met = spares.next_is.met; mask = ap length (c.copy_from.ensures ∙ (ap (λ (p : Pairs). p.seen) c.pairs.view_is)) ∙ (c.requires.begun.are []).seen_wide; found = spares.next_is.found };
       ended_are = spares.ended_are;
     })
 
@@ -55,15 +55,15 @@ end_walk-requires-clause-walk g c =
     let seen = c.requires.seen in
     let lines = g.met.S.RowSource.narrower c.args.source.now c.show_by_lines.new.source c.show_by_lines.ensures.on in
     let both = g.met.S.RowSource.narrower c.args.source.now c.bar_unseen.new.source (g.met.S.RowSource.goes_on_in_turn c.args.source.now c.show_by_lines.new.source c.bar_unseen.new.source c.show_by_lines.ensures.on c.bar_unseen.ensures.on) in
-    let frame = with_mask c.copy.new.row c.args.stack.now.next in
+    let frame = with_mask c.copy_from.new.self c.args.stack.now.next in
     record {
       p = c.args.portal;
       ceilings = seen.ceilings;
       below = λ place n is. seen.below place n (both place n is);
       so_far = rounds_begin world seen.ceilings now (g.S.RowSource.ceilings c.show_by_lines.new.source) c.args.portal frame c.push_next.new.self.frames.items c.find.new.row c.show_by_lines.new.row c.args.pairs.now c.bar_unseen.new.pairs
-          (first_pushed _ c.args.stack.now c.copy.new.row c.push_next.new.self.frames.items c.stack.view_is c.in_ok-push_next.ensures.frames c.requires.fresh.none) seen.below lines
-          (first_begun world c.requires.own_portals seen.ceilings c.args.portal c.args.stack.now.next c.requires.fresh.first c.copy.new.row c.pairs.inside.seen c.in_ok-found.found c.find.new.row c.to.result
-          c.copy.ensures (subst (IsFirstMask world seen.ceilings c.args.portal) (sym (ap (λ (p : Pairs). p.seen) c.pairs.view_is)) seen.mask)
+          (first_pushed _ c.args.stack.now c.copy_from.new.self c.push_next.new.self.frames.items c.stack.view_is c.in_ok-push_next.ensures.frames c.requires.fresh.none) seen.below lines
+          (first_begun world c.requires.own_portals seen.ceilings c.args.portal c.args.stack.now.next c.requires.fresh.first c.copy_from.new.self c.pairs.inside.seen c.in_ok-found.found c.find.new.row c.to.result
+          c.copy_from.ensures (subst (IsFirstMask world seen.ceilings c.args.portal) (sym (ap (λ (p : Pairs). p.seen) c.pairs.view_is)) seen.mask)
           (c.in_ok-found.ensures ∙ ap (λ (n : ℕ). replicate n false) c.leaves.ensures) c.to.ensures.value c.find.ensures) c.in_ok-show_by_lines.ensures.shown
           c.requires.begun (c.bar_unseen.ensures.pairs c.show_by_lines.new.row);
     }
@@ -86,15 +86,15 @@ returns-clause-walk g c =
     let now = g.S.RowSource.ceilings c.args.source.now in
     let lines = g.met.S.RowSource.narrower c.args.source.now c.show_by_lines.new.source c.show_by_lines.ensures.on in
     let both = g.met.S.RowSource.narrower c.args.source.now c.bar_unseen.new.source (g.met.S.RowSource.goes_on_in_turn c.args.source.now c.show_by_lines.new.source c.bar_unseen.new.source c.show_by_lines.ensures.on c.bar_unseen.ensures.on) in
-    let frame = with_mask c.copy.new.row c.args.stack.now.next in
+    let frame = with_mask c.copy_from.new.self c.args.stack.now.next in
     IfOk-weaker c.end_walk.result (λ row. (p : ℕ) (ceilings : List (List Bool)) → LieWithin (g.S.RowSource.ceilings c.bar_unseen.new.source) ceilings → IsWalkSoFar world ceilings p c.bar_unseen.new.pairs c.push_next.new.self.frames.items c.show_by_lines.new.row →
     IsWalkSoFar world ceilings p c.end_walk.new.pairs [] row)
     (λ row. (ceilings : List (List Bool)) → LieWithin now ceilings → IsFirstMask world ceilings c.args.portal c.args.pairs.now.seen → HasEnded world ceilings c.args.portal row)
     (λ row all ceilings below mask. (all c.args.portal ceilings (λ place n is. below place n (both place n is))
     (rounds_begin world ceilings now (g.S.RowSource.ceilings c.show_by_lines.new.source) c.args.portal frame c.push_next.new.self.frames.items c.find.new.row c.show_by_lines.new.row c.args.pairs.now c.bar_unseen.new.pairs
-    (first_pushed _ c.args.stack.now c.copy.new.row c.push_next.new.self.frames.items c.stack.view_is c.in_ok-push_next.ensures.frames c.requires.fresh.none) below lines
-    (first_begun world c.requires.own_portals ceilings c.args.portal c.args.stack.now.next c.requires.fresh.first c.copy.new.row c.pairs.inside.seen c.in_ok-found.found c.find.new.row c.to.result
-    c.copy.ensures (subst (IsFirstMask world ceilings c.args.portal) (sym (ap (λ (p : Pairs). p.seen) c.pairs.view_is)) mask)
+    (first_pushed _ c.args.stack.now c.copy_from.new.self c.push_next.new.self.frames.items c.stack.view_is c.in_ok-push_next.ensures.frames c.requires.fresh.none) below lines
+    (first_begun world c.requires.own_portals ceilings c.args.portal c.args.stack.now.next c.requires.fresh.first c.copy_from.new.self c.pairs.inside.seen c.in_ok-found.found c.find.new.row c.to.result
+    c.copy_from.ensures (subst (IsFirstMask world ceilings c.args.portal) (sym (ap (λ (p : Pairs). p.seen) c.pairs.view_is)) mask)
     (c.in_ok-found.ensures ∙ ap (λ (n : ℕ). replicate n false) c.leaves.ensures) c.to.ensures.value c.find.ensures) c.in_ok-show_by_lines.ensures.shown
     c.requires.begun (c.bar_unseen.ensures.pairs c.show_by_lines.new.row))).walk)
     c.end_walk.ensures.walk

@@ -18,7 +18,7 @@ use Rattle.qm_sight.specs.WordInSight.{ceiling_of, LieWithin}
 use Rattle.qm_sight.specs.InCeiling.{IsInCeiling}
 use Rattle.std.proofs.lemmas.List.{length-set}
 use Rattle.qm_contacts.specs.NumberedLeaves.{numbered_leaves}
-use Rattle.qm_flow.proofs.Copies.{found_stays}
+use Rattle.qm_flow.proofs.FoundRows.{found_stays}
 use Rattle.qm_flow.proofs.Panes.{steps_on, blocked_there}
 use Rattle.qm_flow.proofs.going.go_through.Goals as goal
 
@@ -48,9 +48,9 @@ returns-clause-tried g c =
     let world = c.args.world.now in
     let pairs = c.args.pairs.now in
     let portal = c.args.portal in
-    let narrowed_here = subst (λ (w : World). IsNarrowed (MustHave w c.pairs.inside.own portal) (CanHave ceiling c.pairs.inside.own portal) c.copy.new.row c.narrow.new.mask) c.requires.of_world.same_world c.narrow.ensures.narrowed in
-    let narrowed_own = subst (λ (own : List (Option (List Bool))). IsNarrowed (MustHave world own portal) (CanHave ceiling own portal) c.copy.new.row c.narrow.new.mask) (ap (λ (p : Pairs). p.own) c.pairs.view_is) narrowed_here in
-    let narrowed_row = subst (λ (row : List Bool). IsNarrowed (MustHave world pairs.own portal) (CanHave ceiling pairs.own portal) row c.narrow.new.mask) (c.copy.ensures ∙ ap (λ (f : Frame). f.mask) c.frame.view_is) narrowed_own in
+    let narrowed_here = subst (λ (w : World). IsNarrowed (MustHave w c.pairs.inside.own portal) (CanHave ceiling c.pairs.inside.own portal) c.copy_from.new.self c.narrow.new.mask) c.requires.of_world.same_world c.narrow.ensures.narrowed in
+    let narrowed_own = subst (λ (own : List (Option (List Bool))). IsNarrowed (MustHave world own portal) (CanHave ceiling own portal) c.copy_from.new.self c.narrow.new.mask) (ap (λ (p : Pairs). p.own) c.pairs.view_is) narrowed_here in
+    let narrowed_row = subst (λ (row : List Bool). IsNarrowed (MustHave world pairs.own portal) (CanHave ceiling pairs.own portal) row c.narrow.new.mask) (c.copy_from.ensures ∙ ap (λ (f : Frame). f.mask) c.frame.view_is) narrowed_own in
     let Goal = λ (on : Bool). (ceilings : List (List Bool)) → LieWithin (g.S.RowSource.ceilings c.args.source.now) ceilings → LieWithinPairs (IsInCeiling ceilings) pairs.own →
     EndsChain world (IsInCeiling ceilings) pairs.first (put_back portal frame) → IsTried world (IsInCeiling ceilings) pairs.first frame portal c.args.found.now c.find.new.row (then_some on c.left_of.new.frame) in
     let narrowed = λ (ceilings : List (List Bool)) (lie : LieWithin (g.S.RowSource.ceilings c.args.source.now) ceilings) (lie_own : LieWithinPairs (IsInCeiling ceilings) pairs.own). narrowed_as (MustHave world pairs.own portal) (CanHave ceiling pairs.own portal) (IsWantedVia world pairs.first c.args.found.now portal) (λ n. IsInCeiling ceilings n portal) frame.mask c.narrow.new.mask
@@ -58,7 +58,7 @@ returns-clause-tried g c =
     (λ n can. can_within (IsInCeiling ceilings) ceiling pairs.own portal n (λ m has. lie portal m has) lie_own can) narrowed_row in
     let step = steps_on world.portals portal c.pane-pane.result.now.winding c.pane-pane.result.now.into c.pane-pane.ensures c.frame.inside.state frame.state (ap (λ (f : Frame). f.state) c.frame.view_is) q.0 q.1 c.step_into.new.spare
     (c.in_ok-leads.ensures.leads c.if-not-leads.false) in
-    let same_met = c.copy-2.ensures ∙ ap (λ (f : Frame). f.met) c.frame.view_is in
+    let same_met = c.copy_from-2.ensures ∙ ap (λ (f : Frame). f.met) c.frame.view_is in
     let met_is = c.set.ensures ∙ ap (λ (row : List Bool). set row c.to-entered.result true) same_met ∙ ap (λ (n : ℕ). set frame.met n true) q.2 in
     let within = c.to-entered.ensures.within in
     let met_wide = c.requires.of_world.wide.met in
@@ -88,20 +88,20 @@ returns-clause-on g c = g.met.S.RowSource.goes_on_in_turn c.args.source.now c.na
 
 -- what is asked and kept besides
 
-pub copy-requires : goal.copy-requires
-copy-requires g c = ap (λ (f : Frame). length f.mask) c.frame.view_is ∙ c.requires.of_world.wide.mask ∙ sym (ap (λ (f : Frame). length f.mask) c.next.view_is ∙ c.requires.spares.mask)
+pub copy_from-requires : goal.copy_from-requires
+copy_from-requires g c = ap (λ (f : Frame). length f.mask) c.frame.view_is ∙ c.requires.of_world.wide.mask ∙ sym (ap (λ (f : Frame). length f.mask) c.next.view_is ∙ c.requires.spares.mask)
 
 pub narrow-requires-clause-wide : goal.narrow-requires-clause-wide
 narrow-requires-clause-wide g c =
-    ap length c.copy.ensures ∙ ap (λ (f : Frame). length f.mask) c.frame.view_is ∙ c.requires.of_world.wide.mask ∙ ap (λ (w : World). length (numbered_leaves w.tree)) (sym c.requires.of_world.same_world)
+    ap length c.copy_from.ensures ∙ ap (λ (f : Frame). length f.mask) c.frame.view_is ∙ c.requires.of_world.wide.mask ∙ ap (λ (w : World). length (numbered_leaves w.tree)) (sym c.requires.of_world.same_world)
 
-pub copy-requires-2 : goal.copy-requires-2
-copy-requires-2 g c = ap (λ (f : Frame). length f.met) c.frame.view_is ∙ c.requires.of_world.wide.met ∙ sym (ap (λ (f : Frame). length f.met) c.next.view_is ∙ c.requires.spares.met)
+pub copy_from-requires-2 : goal.copy_from-requires-2
+copy_from-requires-2 g c = ap (λ (f : Frame). length f.met) c.frame.view_is ∙ c.requires.of_world.wide.met ∙ sym (ap (λ (f : Frame). length f.met) c.next.view_is ∙ c.requires.spares.met)
 
 pub set-requires : goal.set-requires
 set-requires g c =
     let within = c.to-entered.ensures.within in
-    let wide = ap length c.copy-2.ensures ∙ ap (λ (f : Frame). length f.met) c.frame.view_is ∙ c.requires.of_world.wide.met in
+    let wide = ap length c.copy_from-2.ensures ∙ ap (λ (f : Frame). length f.met) c.frame.view_is ∙ c.requires.of_world.wide.met in
     omega (arith, within, wide)
 
 pub find-requires-clause-row : goal.find-requires-clause-row
@@ -110,7 +110,7 @@ find-requires-clause-row g c = let within = c.to-entered.ensures.within in let w
 pub find-requires-clause-mask : goal.find-requires-clause-mask
 find-requires-clause-mask g c =
     let within = c.to-entered.ensures.within in
-    let wide = c.narrow.ensures.narrowed.same_length ∙ ap length c.copy.ensures ∙ ap (λ (f : Frame). length f.mask) c.frame.view_is ∙ c.requires.of_world.wide.mask in
+    let wide = c.narrow.ensures.narrowed.same_length ∙ ap length c.copy_from.ensures ∙ ap (λ (f : Frame). length f.mask) c.frame.view_is ∙ c.requires.of_world.wide.mask in
     omega (arith, within, wide)
 
 pub left_of-requires-clause-entered : goal.left_of-requires-clause-entered
@@ -122,8 +122,8 @@ left_of-requires-clause-of_world g c = let within = c.to-entered.ensures.within 
   pairs_are = pairs_stay c.args.world.now c.args.found.now c.find.new.row c.args.pairs.now
       (found_stays c.args.found.now c.find.new.row c.narrow.new.mask c.to-entered.result (omega (arith, within, row_wide)) c.find.ensures) c.requires.of_world.pairs_are;
   wide = record {
-    met = ap length c.set.ensures ∙ length-set c.copy-2.new.row c.to-entered.result true ∙ ap length c.copy-2.ensures ∙ ap (λ (f : Frame). length f.met) c.frame.view_is ∙ c.requires.of_world.wide.met;
-    mask = c.narrow.ensures.narrowed.same_length ∙ ap length c.copy.ensures ∙ ap (λ (f : Frame). length f.mask) c.frame.view_is ∙ c.requires.of_world.wide.mask;
+    met = ap length c.set.ensures ∙ length-set c.copy_from-2.new.self c.to-entered.result true ∙ ap length c.copy_from-2.ensures ∙ ap (λ (f : Frame). length f.met) c.frame.view_is ∙ c.requires.of_world.wide.met;
+    mask = c.narrow.ensures.narrowed.same_length ∙ ap length c.copy_from.ensures ∙ ap (λ (f : Frame). length f.mask) c.frame.view_is ∙ c.requires.of_world.wide.mask;
     found = ⊎_elim (λ it. ap length it.1 ∙ length-set c.args.found.now c.to-entered.result true) (λ kept. ap length kept.1) c.find.ensures ∙ c.requires.of_world.wide.found;
   };
 }

@@ -46,13 +46,13 @@ returns-clause-has g c =
     let step = steps_on world.portals c.args.portal c.pane-pane.result.now.winding c.pane-pane.result.now.into c.pane-pane.ensures _ pairs.start (ap (λ (inside : Inside). inside.start.state) c.pairs-inside.view_is ∙ ap (λ (p : Pairs). p.start) c.pairs.view_is) q.0 q.1 state (c.in_ok-leads.ensures.leads c.if-not-leads.false) in
     row_of_pair world c.requires.own_portals found pairs c.requires.of_world.pairs_are c.args.portal q.0 q.1
     (ceiling_of (g.S.RowSource.ceilings c.args.source.now) c.args.portal) state frame c.make_pair_frame.ensures.frame step
-    c.cone_of.new.scratch.cone c.cut.new.row
+    c.cone_of.new.scratch.cone c.and_row.new.self
     (subst (λ (m : ℕ). (n : ℕ) → IsInCone world pairs.first frame found m n → IsIn c.cone_of.new.scratch.cone n) q.2 c.in_ok-cone_of.ensures.cone)
-    (subst (λ (mask : List Bool). IsCutTo mask c.cone_of.new.scratch.cone c.cut.new.row) (ap (λ (f : Frame). f.mask) c.spare-2.view_is) c.cut.ensures)
+    (subst (λ (mask : List Bool). IsCutTo mask c.cone_of.new.scratch.cone c.and_row.new.self) (ap (λ (f : Frame). f.mask) c.spare-2.view_is) c.and_row.ensures)
 
 pub returns-clause-within : goal.returns-clause-within
 returns-clause-within g c n there =
-    (c.make_pair_frame.ensures.frame.narrowed.within n (subst (λ (mask : List Bool). IsIn mask n) (ap (λ (f : Frame). f.mask) c.spare-2.view_is) ((c.cut.ensures.exactly n).0 there).1)).1
+    (c.make_pair_frame.ensures.frame.narrowed.within n (subst (λ (mask : List Bool). IsIn mask n) (ap (λ (f : Frame). f.mask) c.spare-2.view_is) ((c.and_row.ensures.exactly n).0 there).1)).1
 
 -- what is asked and kept besides
 
@@ -95,7 +95,7 @@ pub returns-clause-spares : goal.returns-clause-spares
 returns-clause-spares g c = record {
   met = c.make_pair_frame.ensures.frame.met_wide;
   mask = c.make_pair_frame.ensures.frame.narrowed.same_length ∙ c.requires.of_world.pairs_are.seen_wide;
-  found = c.cut.ensures.same_length ∙ c.in_ok-cone_of.ensures.wide;
+  found = c.and_row.ensures.same_length ∙ c.in_ok-cone_of.ensures.wide;
 }
 
 pub returns-clause-on : goal.returns-clause-on
@@ -113,5 +113,5 @@ make_pair_frame-requires-clause-same_world g c = c.requires.of_world.same_world
 pub to-entered-requires : goal.to-entered-requires
 to-entered-requires g c = c.requires.portal
 
-pub cut-requires : goal.cut-requires
-cut-requires g c = ap (λ (f : Frame). length f.mask) c.spare-2.view_is ∙ c.make_pair_frame.ensures.frame.narrowed.same_length ∙ c.requires.of_world.pairs_are.seen_wide ∙ sym c.in_ok-cone_of.ensures.wide
+pub and_row-requires : goal.and_row-requires
+and_row-requires g c = ap (λ (f : Frame). length f.mask) c.spare-2.view_is ∙ c.make_pair_frame.ensures.frame.narrowed.same_length ∙ c.requires.of_world.pairs_are.seen_wide ∙ sym c.in_ok-cone_of.ensures.wide

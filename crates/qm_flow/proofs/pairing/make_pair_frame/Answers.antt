@@ -35,8 +35,8 @@ returns-clause-frame g c =
     let to = c.to.ensures.value in
     let q_from = c.from-2.ensures.value in
     let q_to = c.to-2.ensures.value in
-    let narrowed_here = subst (λ (w : World). IsNarrowed (MustHave w c.pairs.inside.own c.args.portal) (CanHave ceiling c.pairs.inside.own c.args.portal) c.copy.new.row c.narrow.new.mask) c.requires.same_world c.narrow.ensures.narrowed in
-    let narrowed_own = subst (λ (own : List (Option (List Bool))). IsNarrowed (MustHave world own c.args.portal) (CanHave ceiling own c.args.portal) c.copy.new.row c.narrow.new.mask) (ap (λ (p : Pairs). p.own) c.pairs.view_is) narrowed_here in
+    let narrowed_here = subst (λ (w : World). IsNarrowed (MustHave w c.pairs.inside.own c.args.portal) (CanHave ceiling c.pairs.inside.own c.args.portal) c.copy_from.new.self c.narrow.new.mask) c.requires.same_world c.narrow.ensures.narrowed in
+    let narrowed_own = subst (λ (own : List (Option (List Bool))). IsNarrowed (MustHave world own c.args.portal) (CanHave ceiling own c.args.portal) c.copy_from.new.self c.narrow.new.mask) (ap (λ (p : Pairs). p.own) c.pairs.view_is) narrowed_here in
     record {
       state_is = ap (λ (f : Frame). f.state) c.frame.view_is;
       met_wide = four_wide leaves c.from.result c.to.result c.from-2.result c.to-2.result _ met_is;
@@ -47,15 +47,15 @@ returns-clause-frame g c =
           (to.2 ∙ ap (λ (r : Portal). r.to) (same_portal world.portals c.pairs.inside.first to.0 first to.1 at))
           (q_from.2 ∙ ap (λ (r : Portal). r.from) (same_portal world.portals c.args.portal q_from.0 q q_from.1 q_is))
           (q_to.2 ∙ ap (λ (r : Portal). r.to) (same_portal world.portals c.args.portal q_to.0 q q_to.1 q_is));
-      narrowed = subst (λ (row : List Bool). IsNarrowed (MustHave world pairs.own c.args.portal) (CanHave ceiling pairs.own c.args.portal) row c.narrow.new.mask) (c.copy.ensures ∙ (ap (λ (p : Pairs). p.seen) c.pairs.view_is)) narrowed_own;
+      narrowed = subst (λ (row : List Bool). IsNarrowed (MustHave world pairs.own c.args.portal) (CanHave ceiling pairs.own c.args.portal) row c.narrow.new.mask) (c.copy_from.ensures ∙ (ap (λ (p : Pairs). p.seen) c.pairs.view_is)) narrowed_own;
     }
 
-pub copy-requires : goal.copy-requires
-copy-requires g c = ap length (ap (λ (p : Pairs). p.seen) c.pairs.view_is) ∙ c.requires.wide.found ∙ sym (ap (λ (f : Frame). length f.mask) c.frame.view_is ∙ c.requires.wide.mask)
+pub copy_from-requires : goal.copy_from-requires
+copy_from-requires g c = ap length (ap (λ (p : Pairs). p.seen) c.pairs.view_is) ∙ c.requires.wide.found ∙ sym (ap (λ (f : Frame). length f.mask) c.frame.view_is ∙ c.requires.wide.mask)
 
 pub narrow-requires-clause-wide : goal.narrow-requires-clause-wide
 narrow-requires-clause-wide g c =
-    ap length c.copy.ensures ∙ ap length (ap (λ (p : Pairs). p.seen) c.pairs.view_is) ∙ c.requires.wide.found ∙ ap (λ (w : World). length (numbered_leaves w.tree)) (sym c.requires.same_world)
+    ap length c.copy_from.ensures ∙ ap length (ap (λ (p : Pairs). p.seen) c.pairs.view_is) ∙ c.requires.wide.found ∙ ap (λ (w : World). length (numbered_leaves w.tree)) (sym c.requires.same_world)
 
 pub set-requires : goal.set-requires
 set-requires g c =
@@ -66,17 +66,17 @@ set-requires g c =
 pub set-requires-2 : goal.set-requires-2
 set-requires-2 g c =
     let within = c.to.ensures.within in
-    let wide = ap length c.set.ensures ∙ length-set c.clear.new.row c.from.result true ∙ ap length c.clear.ensures ∙ length-replicate (length c.frame.inside.met) false ∙ ap (λ (f : Frame). length f.met) c.frame.view_is ∙ c.requires.wide.met in
+    let wide = ap length c.set.ensures ∙ length-set c.clear.new.self c.from.result true ∙ ap length c.clear.ensures ∙ length-replicate (length c.frame.inside.met) false ∙ ap (λ (f : Frame). length f.met) c.frame.view_is ∙ c.requires.wide.met in
     omega (arith, within, wide)
 
 pub set-requires-3 : goal.set-requires-3
 set-requires-3 g c =
     let within = c.from-2.ensures.within in
-    let wide = ap length c.set-2.ensures ∙ length-set c.set.new.self c.to.result true ∙ ap length c.set.ensures ∙ length-set c.clear.new.row c.from.result true ∙ ap length c.clear.ensures ∙ length-replicate (length c.frame.inside.met) false ∙ ap (λ (f : Frame). length f.met) c.frame.view_is ∙ c.requires.wide.met in
+    let wide = ap length c.set-2.ensures ∙ length-set c.set.new.self c.to.result true ∙ ap length c.set.ensures ∙ length-set c.clear.new.self c.from.result true ∙ ap length c.clear.ensures ∙ length-replicate (length c.frame.inside.met) false ∙ ap (λ (f : Frame). length f.met) c.frame.view_is ∙ c.requires.wide.met in
     omega (arith, within, wide)
 
 pub set-requires-4 : goal.set-requires-4
 set-requires-4 g c =
     let within = c.to-2.ensures.within in
-    let wide = ap length c.set-3.ensures ∙ length-set c.set-2.new.self c.from-2.result true ∙ ap length c.set-2.ensures ∙ length-set c.set.new.self c.to.result true ∙ ap length c.set.ensures ∙ length-set c.clear.new.row c.from.result true ∙ ap length c.clear.ensures ∙ length-replicate (length c.frame.inside.met) false ∙ ap (λ (f : Frame). length f.met) c.frame.view_is ∙ c.requires.wide.met in
+    let wide = ap length c.set-3.ensures ∙ length-set c.set-2.new.self c.from-2.result true ∙ ap length c.set-2.ensures ∙ length-set c.set.new.self c.to.result true ∙ ap length c.set.ensures ∙ length-set c.clear.new.self c.from.result true ∙ ap length c.clear.ensures ∙ length-replicate (length c.frame.inside.met) false ∙ ap (λ (f : Frame). length f.met) c.frame.view_is ∙ c.requires.wide.met in
     omega (arith, within, wide)

@@ -1,11 +1,10 @@
-use Rattle.std.proofs.Common.{◌≡◌, ℕ, false, List, Bool, Some, length, replicate, sym, ap, ◌∙◌, subst, arith}
+use Rattle.std.proofs.Common.{◌≡◌, false, List, Bool, Some, length, sym, ap, ◌∙◌, subst, arith}
 use Rattle.std.proofs.lemmas.List.{length-replicate}
 use Rattle.qm_lists.specs.WorkList.{IsIn}
 use Rattle.qm_chains.specs.inner.Pairs.{Pairs, IsPairRow}
 use Rattle.qm_chains.proofs.PairRows.{pairs_more, within_more, can_within}
 use Rattle.qm_sight.specs.WordInSight.{ceiling_of}
 use Rattle.qm_sight.specs.InCeiling.{IsInCeiling}
-use Rattle.qm_flow.proofs.Copies.{union_with_clear}
 use Rattle.qm_flow.proofs.PairsKept.{own_put}
 use Rattle.qm_flow.proofs.pairing.pair.Goals as goal
 
@@ -16,8 +15,8 @@ put-requires g c =
     let same = ap (λ (p : Pairs). length p.own) c.pairs.view_is in
     omega (arith, one, within, same)
 
-pub or_row-requires : goal.or_row-requires
-or_row-requires g c = c.in_ok-cone_of_pair.ensures.spares.found ∙ sym (ap length c.in_ok-row.ensures ∙ length-replicate c.leaves.result false ∙ c.leaves.ensures)
+pub copy_from-requires : goal.copy_from-requires
+copy_from-requires g c = c.in_ok-cone_of_pair.ensures.spares.found ∙ sym (ap length c.in_ok-row.ensures ∙ length-replicate c.leaves.result false ∙ c.leaves.ensures)
 
 pub returns-clause-pairs : goal.returns-clause-pairs
 returns-clause-pairs g c =
@@ -26,14 +25,13 @@ returns-clause-pairs g c =
     let found = c.args.found.now in
     let one = c.requires.of_world.pairs_are.own_are.one_each in
     let inside = c.requires.portal in
-    let cone = c.cone_of_pair.new.scratch.cone in
-    let put = own_put _ old c.put.new.self c.args.portal (Some c.or_row.new.self) c.pairs.view_is c.put.ensures in
+    let put = own_put _ old c.put.new.self c.args.portal (Some c.copy_from.new.self) c.pairs.view_is c.put.ensures in
     let wide = c.in_ok-cone_of_pair.ensures.spares.found in
-    let same : c.or_row.new.self ≡ cone = union_with_clear cone c.in_ok-row.row c.or_row.new.self (c.in_ok-row.ensures ∙ ap (λ (n : ℕ). replicate n false) (c.leaves.ensures ∙ sym wide)) c.or_row.ensures in
+    let same = c.copy_from.ensures in
     record {
       same_first = ap (λ (p : Pairs). p.first) put;
-      are = pairs_more world found old c.args.portal c.or_row.new.self _ put (omega (arith, one, inside)) c.requires.of_world.pairs_are (ap length same ∙ wide) (subst (IsPairRow world old.first found c.args.portal) (sym same) c.in_ok-cone_of_pair.ensures.has);
+      are = pairs_more world found old c.args.portal c.copy_from.new.self _ put (omega (arith, one, inside)) c.requires.of_world.pairs_are (ap length same ∙ wide) (subst (IsPairRow world old.first found c.args.portal) (sym same) c.in_ok-cone_of_pair.ensures.has);
       within = λ ceilings lie within.
-          within_more world found old c.args.portal c.or_row.new.self _ put (omega (arith, one, inside)) (IsInCeiling ceilings) within
+          within_more world found old c.args.portal c.copy_from.new.self _ put (omega (arith, one, inside)) (IsInCeiling ceilings) within
           (λ n is. can_within (IsInCeiling ceilings) (ceiling_of (g.S.RowSource.ceilings c.args.source.now) c.args.portal) old.own c.args.portal n (λ m has. lie c.args.portal m has) within (c.in_ok-cone_of_pair.ensures.within n (subst (λ (row : List Bool). IsIn row n) same is)));
     }

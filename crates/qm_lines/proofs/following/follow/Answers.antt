@@ -4,7 +4,6 @@ use Rattle.qm_contacts.specs.NumberedLeaves.{numbered_leaves}
 use Rattle.qm_contacts.specs.World.{World}
 use Rattle.qm_sight.specs.InCeiling.{IsInCeiling}
 use Rattle.qm_lines.specs.inner.Trace.{AreInRange}
-use Rattle.qm_lines.proofs.Drawing.{nothing_at_err}
 use Rattle.qm_lines.proofs.Traces.{row_shows, row_long, entered_range, trace_goes_on, gains_more}
 use Rattle.qm_lines.proofs.following.follow.Goals as goal
 
@@ -47,7 +46,7 @@ enter-requires g c = slice_get_within c.args.world.now.portals c.in-Some.next.po
 
 pub returns-in_err-enter-in-Some : goal.returns-in_err-enter-in-Some
 returns-in_err-enter-in-Some g c = record {
-  shown = nothing_at_err _ c.from_residual.result c.from_residual.ensures.0;
+  shown = c.loop.invariant.shown;
   on = g.met.S.RowSource.goes_on_in_turn c.args.source.now c.loop.source c.next_portal.new.source c.loop.invariant.on c.next_portal.ensures.on;
 }
 

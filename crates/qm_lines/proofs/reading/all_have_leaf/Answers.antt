@@ -26,7 +26,7 @@ loop-portal-preserved g c =
     let number = get_or c.args.portals.now c.loop-portal.portal-index 0 in
     record {
       have = All-more (IsInCeiling (g.S.RowSource.ceilings c.args.source.now) c.args.leaf) c.args.portals.now c.loop-portal.portal-index 0 c.loop-portal-test.true c.loop-portal.invariant.have
-          (g.met.S.RowSource.narrower c.args.source.now c.loop-portal.source c.loop-portal.invariant.on number c.args.leaf (c.has_leaf.ensures.ceiling c.if-not-has_leaf.false));
+          (g.met.S.RowSource.narrower c.args.source.now c.loop-portal.source c.loop-portal.invariant.on number c.args.leaf (c.has_leaf.ensures.within c.if-not-has_leaf.false));
       on = g.met.S.RowSource.goes_on_in_turn c.args.source.now c.loop-portal.source c.has_leaf.new.source c.loop-portal.invariant.on c.has_leaf.ensures.on;
     }
 

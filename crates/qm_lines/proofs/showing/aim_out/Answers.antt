@@ -1,7 +1,7 @@
 use Rattle.std.proofs.Common.{get_or}
 use Rattle.std.proofs.lemmas.List.Elements.{Contains-get_or}
 use Rattle.std.proofs.lemmas.Option.{slice_get_within}
-use Rattle.qm_lines.proofs.Drawing.{may_draw_on, drawn_none, drawn_on, nothing_at_err}
+use Rattle.qm_lines.proofs.Drawing.{may_draw_after, drawn_none, drawn_on}
 use Rattle.qm_lines.proofs.showing.aim_out.Goals as goal
 
 pub leaving-other-items-requires : goal.leaving-other-items-requires
@@ -16,20 +16,12 @@ aim_through-requires g c =
     let other = get_or items c.loop-other.other-index 0 in
     let q = (c.leaving-other-items.ensures.leave other).0 (Contains-get_or items c.loop-other.other-index 0 c.loop-other-test.true) in
     record {
-      may_draw = may_draw_on c.requires.may_draw (g.met.S.RowSource.same_world _ _ c.loop-other.invariant.on) c.loop-other.invariant.shown.same_length;
+      may_draw = may_draw_after c.requires.may_draw (g.met.S.RowSource.same_world _ _) c.loop-other.invariant;
       other = slice_get_within c.args.first.now.world.now.portals other q.0 q.1;
     }
 
 pub returns-in_err-aim_through : goal.returns-in_err-aim_through
-returns-in_err-aim_through g c = record {
-  shown = nothing_at_err _ _ c.from_residual.ensures.0;
-  on = g.met.S.RowSource.goes_on_in_turn _ _ _ c.loop-other.invariant.on c.aim_through.ensures.on;
-}
+returns-in_err-aim_through g c = drawn_on (g.met.S.RowSource.narrower _ _) (g.met.S.RowSource.goes_on_in_turn _ _ _) c.loop-other.invariant c.aim_through.ensures
 
 pub loop-other-preserved : goal.loop-other-preserved
-loop-other-preserved g c =
-    let on = c.loop-other.invariant.on in
-    drawn_on _ (g.met.S.RowSource.narrower _ _ on) c.loop-other.invariant c.in_ok-aim_through.ensures.shown (g.met.S.RowSource.goes_on_in_turn _ _ _ on c.aim_through.ensures.on)
-
-pub returns : goal.returns
-returns g c = record { shown = c.loop-other.invariant.shown; on = c.loop-other.invariant.on }
+loop-other-preserved g c = drawn_on (g.met.S.RowSource.narrower _ _) (g.met.S.RowSource.goes_on_in_turn _ _ _) c.loop-other.invariant c.aim_through.ensures

@@ -1,6 +1,5 @@
 use Rattle.std.proofs.Common.{refl}
-use Rattle.std.proofs.lemmas.Result.{on_ok_weaker}
-use Rattle.qm_lines.proofs.Drawing.{may_draw_on, has_place, gained_none, gained_on}
+use Rattle.qm_lines.proofs.Drawing.{may_draw_on, has_place, drawn_none, drawn_on}
 use Rattle.qm_lines.proofs.showing.aim_through.Goals as goal
 
 pub to-target-requires : goal.to-target-requires
@@ -10,10 +9,7 @@ pub get-requires : goal.get-requires
 get-requires g c = has_place _ c.requires.may_draw refl c.to-target.ensures.within
 
 pub returns-then-get : goal.returns-then-get
-returns-then-get g c = record {
-  shown = gained_none c.args.first.now (g.S.RowSource.ceilings c.args.source.now) c.args.row.now;
-  on = g.met.S.RowSource.goes_on_itself c.args.source.now;
-}
+returns-then-get g c = drawn_none (g.met.S.RowSource.goes_on_itself _)
 
 pub may_lead-requires : goal.may_lead-requires
 may_lead-requires g c = record {
@@ -24,10 +20,7 @@ may_lead-requires g c = record {
 }
 
 pub returns-then-not-may_lead : goal.returns-then-not-may_lead
-returns-then-not-may_lead g c = record {
-  shown = gained_none c.args.first.now (g.S.RowSource.ceilings c.args.source.now) c.args.row.now;
-  on = c.may_lead.ensures;
-}
+returns-then-not-may_lead g c = drawn_none c.may_lead.ensures
 
 pub pane-requires : goal.pane-requires
 pane-requires g c = c.requires.other
@@ -39,13 +32,4 @@ aim_within-requires g c = record {
 }
 
 pub returns : goal.returns
-returns g c =
-    let on = c.may_lead.ensures in
-    let ceilings = g.S.RowSource.ceilings c.args.source.now in
-    record {
-      shown = on_ok_weaker c.aim_within.result
-          (λ shown. gained_on c.args.first.now ceilings (g.S.RowSource.ceilings c.may_lead.new.source) c.args.row.now c.args.row.now c.aim_within.new.row
-          (g.met.S.RowSource.narrower c.args.source.now c.may_lead.new.source on) (gained_none c.args.first.now ceilings c.args.row.now) shown)
-          c.aim_within.ensures.shown;
-      on = g.met.S.RowSource.goes_on_in_turn _ _ _ on c.aim_within.ensures.on;
-    }
+returns g c = drawn_on (g.met.S.RowSource.narrower _ _) (g.met.S.RowSource.goes_on_in_turn _ _ _) (drawn_none c.may_lead.ensures) c.aim_within.ensures

@@ -1,24 +1,17 @@
-use Rattle.std.proofs.lemmas.Result.{on_ok_weaker}
-use Rattle.qm_lines.proofs.Drawing.{gained_none, nothing_at_err}
+use Rattle.qm_lines.proofs.Drawing.{drawn_none}
 use Rattle.qm_lines.proofs.showing.show_along.Goals as goal
 
 pub crossing_of-requires : goal.crossing_of-requires
 crossing_of-requires g c = record { portal = c.requires.may_draw.portal; own_portals = c.requires.may_draw.own_portals }
 
 pub returns-in-None : goal.returns-in-None
-returns-in-None g c = record {
-  shown = gained_none c.args.first.now (g.S.RowSource.ceilings c.args.source.now) c.args.row.now;
-  on = g.met.S.RowSource.goes_on_itself c.args.source.now;
-}
+returns-in-None g c = drawn_none (g.met.S.RowSource.goes_on_itself _)
 
 pub begin-requires : goal.begin-requires
 begin-requires g c = record { portal = c.requires.may_draw.portal; own_portals = c.requires.may_draw.own_portals }
 
 pub returns-in_err-begin-in-Some : goal.returns-in_err-begin-in-Some
-returns-in_err-begin-in-Some g c = record {
-  shown = nothing_at_err _ _ c.from_residual.ensures.0;
-  on = g.met.S.RowSource.goes_on_itself c.args.source.now;
-}
+returns-in_err-begin-in-Some g c = drawn_none (g.met.S.RowSource.goes_on_itself _)
 
 pub follow-requires : goal.follow-requires
 follow-requires g c = record {
@@ -31,8 +24,6 @@ follow-requires g c = record {
 
 pub returns-in_ok-begin-in-Some : goal.returns-in_ok-begin-in-Some
 returns-in_ok-begin-in-Some g c = record {
-  shown = on_ok_weaker c.follow.result
-      (λ shown. shown c.args.first.now.portal (c.in_ok-begin-in-Some.ensures.trace c.args.line.now c.in-Some.ensures))
-      c.follow.ensures.shown;
+  shown = c.follow.ensures.shown c.args.first.now.portal (c.in_ok-begin-in-Some.ensures.trace c.args.line.now c.in-Some.ensures);
   on = c.follow.ensures.on;
 }

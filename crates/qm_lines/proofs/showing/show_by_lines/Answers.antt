@@ -1,6 +1,7 @@
 use Rattle.std.proofs.Common.{◌∙◌, ap, length, sym, false}
 use Rattle.std.proofs.lemmas.List.{length-replicate}
-use Rattle.qm_lines.proofs.Drawing.{nothing_at_err}
+use Rattle.qm_sight.specs.InCeiling.{IsInCeiling}
+use Rattle.qm_lines.proofs.Traces.{gains_none}
 use Rattle.qm_lines.proofs.showing.show_by_lines.Goals as goal
 
 pub pane-requires : goal.pane-requires
@@ -8,13 +9,13 @@ pane-requires g c = c.requires.portal
 
 pub returns-in_err-anchors : goal.returns-in_err-anchors
 returns-in_err-anchors g c = record {
-  shown = nothing_at_err _ _ c.from_residual.ensures.0;
+  shown = gains_none c.args.world.now.portals (IsInCeiling (g.S.RowSource.ceilings c.args.source.now)) c.args.portal c.args.row.now;
   on = g.met.S.RowSource.goes_on_itself c.args.source.now;
 }
 
 pub returns-in_err-gone : goal.returns-in_err-gone
 returns-in_err-gone g c = record {
-  shown = nothing_at_err _ _ c.from_residual-in_err-gone.ensures.0;
+  shown = gains_none c.args.world.now.portals (IsInCeiling (g.S.RowSource.ceilings c.args.source.now)) c.args.portal c.args.row.now;
   on = g.met.S.RowSource.goes_on_itself c.args.source.now;
 }
 

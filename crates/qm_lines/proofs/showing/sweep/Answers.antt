@@ -1,16 +1,16 @@
 use Rattle.std.proofs.Common.{◌<◌, ◌∙◌, ap, length, refl, subst, true}
 use Rattle.std.proofs.lemmas.List.{length-set}
-use Rattle.qm_lines.proofs.Drawing.{may_draw_on, has_place, drawn_none, drawn_on, nothing_at_err}
+use Rattle.qm_lines.proofs.Drawing.{may_draw_after, has_place, drawn_none, drawn_on}
 use Rattle.qm_lines.proofs.showing.sweep.Goals as goal
 
 pub loop-leaf-init : goal.loop-leaf-init
-loop-leaf-init g c = record { drawn = drawn_none (g.met.S.RowSource.goes_on_itself _); wide = refl }
+loop-leaf-init g c = record { drawn = drawn_none (g.met.S.RowSource.goes_on_itself _); gone = refl }
 
 pub get-requires : goal.get-requires
 get-requires g c = has_place _ c.requires.may_draw c.loop-leaf.invariant.drawn.shown.same_length (subst (λ n. c.loop-leaf.leaf < n) c.leaves-leaf-end.ensures c.loop-leaf-test.true)
 
 pub get-requires-in-loop-leaf : goal.get-requires-in-loop-leaf
-get-requires-in-loop-leaf g c = has_place _ c.requires.may_draw (c.loop-leaf.invariant.wide ∙ c.requires.gone) (subst (λ n. c.loop-leaf.leaf < n) c.leaves-leaf-end.ensures c.loop-leaf-test.true)
+get-requires-in-loop-leaf g c = has_place _ c.requires.may_draw (c.loop-leaf.invariant.gone ∙ c.requires.gone) (subst (λ n. c.loop-leaf.leaf < n) c.leaves-leaf-end.ensures c.loop-leaf-test.true)
 
 pub loop-leaf-preserved-then-not-get : goal.loop-leaf-preserved-then-not-get
 loop-leaf-preserved-then-not-get g c = c.loop-leaf.invariant
@@ -19,30 +19,22 @@ pub loop-leaf-preserved-then-get : goal.loop-leaf-preserved-then-get
 loop-leaf-preserved-then-get g c = c.loop-leaf.invariant
 
 pub set-requires : goal.set-requires
-set-requires g c = has_place _ c.requires.may_draw (c.loop-leaf.invariant.wide ∙ c.requires.gone) (subst (λ n. c.loop-leaf.leaf < n) c.leaves-leaf-end.ensures c.loop-leaf-test.true)
+set-requires g c = has_place _ c.requires.may_draw (c.loop-leaf.invariant.gone ∙ c.requires.gone) (subst (λ n. c.loop-leaf.leaf < n) c.leaves-leaf-end.ensures c.loop-leaf-test.true)
 
 pub aim_out-requires : goal.aim_out-requires
-aim_out-requires g c =
-    let drawn = c.loop-leaf.invariant.drawn in
-    record {
-      may_draw = may_draw_on c.requires.may_draw (g.met.S.RowSource.same_world _ _ drawn.on) drawn.shown.same_length;
-      leaf = subst (λ n. c.loop-leaf.leaf < n) c.leaves-leaf-end.ensures c.loop-leaf-test.true;
-    }
+aim_out-requires g c = record {
+  may_draw = may_draw_after c.requires.may_draw (g.met.S.RowSource.same_world _ _) c.loop-leaf.invariant.drawn;
+  leaf = subst (λ n. c.loop-leaf.leaf < n) c.leaves-leaf-end.ensures c.loop-leaf-test.true;
+}
 
 pub returns-in_err-aim_out : goal.returns-in_err-aim_out
 returns-in_err-aim_out g c = record {
-  shown = nothing_at_err _ _ c.from_residual.ensures.0;
-  on = g.met.S.RowSource.goes_on_in_turn _ _ _ c.loop-leaf.invariant.drawn.on c.aim_out.ensures.on;
-  gone = ap length c.set.ensures ∙ length-set c.loop-leaf.gone c.loop-leaf.leaf true ∙ c.loop-leaf.invariant.wide;
+  drawn = drawn_on (g.met.S.RowSource.narrower _ _) (g.met.S.RowSource.goes_on_in_turn _ _ _) c.loop-leaf.invariant.drawn c.aim_out.ensures;
+  gone = ap length c.set.ensures ∙ length-set c.loop-leaf.gone c.loop-leaf.leaf true ∙ c.loop-leaf.invariant.gone;
 }
 
 pub loop-leaf-preserved : goal.loop-leaf-preserved
-loop-leaf-preserved g c =
-    let drawn = c.loop-leaf.invariant.drawn in
-    record {
-      drawn = drawn_on _ (g.met.S.RowSource.narrower _ _ drawn.on) drawn c.in_ok-aim_out.ensures.shown (g.met.S.RowSource.goes_on_in_turn _ _ _ drawn.on c.aim_out.ensures.on);
-      wide = ap length c.set.ensures ∙ length-set c.loop-leaf.gone c.loop-leaf.leaf true ∙ c.loop-leaf.invariant.wide;
-    }
-
-pub returns : goal.returns
-returns g c = record { shown = c.loop-leaf.invariant.drawn.shown; on = c.loop-leaf.invariant.drawn.on; gone = c.loop-leaf.invariant.wide }
+loop-leaf-preserved g c = record {
+  drawn = drawn_on (g.met.S.RowSource.narrower _ _) (g.met.S.RowSource.goes_on_in_turn _ _ _) c.loop-leaf.invariant.drawn c.aim_out.ensures;
+  gone = ap length c.set.ensures ∙ length-set c.loop-leaf.gone c.loop-leaf.leaf true ∙ c.loop-leaf.invariant.gone;
+}

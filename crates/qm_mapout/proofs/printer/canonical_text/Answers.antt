@@ -7,4 +7,4 @@ use Rattle.qm_mapout.proofs.printer.canonical_text.Goals as goal
 pub returns : goal.returns
 unfolding printed_map
 returns c =
-    rw (flat_map-flat_map line_text entity_lines c.args.map.now.entities, ← c.as_slice.ensures) (c.in_ok-append_all.ensures ∙ rw c.new-text.ensures.items refl)
+    rw (flat_map-flat_map line_text entity_lines c.args.map.now.entities, ← c.as_slice.ensures) (c.in_ok-append_all.ensures.ok ∙ rw c.new-text.ensures.items refl)

@@ -2,8 +2,7 @@ use Rattle.std.proofs.Common.{◌<◌, ℕ, [], List, length, get_or, refl, sym,
 use Rattle.std.proofs.lemmas.List.{take_all}
 use Rattle.std.proofs.lemmas.Option.{slice_get-get_or}
 use Rattle.qm_contacts.specs.NumberedLeaves.{numbered_leaves}
-use Rattle.qm_rows.specs.inner.Through.{HasThoseOf}
-use Rattle.qm_rows.proofs.Gathering.{one_more_row, row_of_leaf, leaving_within}
+use Rattle.qm_rows.proofs.Gathering.{HasThoseOf, one_more_row, row_of_leaf, leaving_within}
 use Rattle.qm_rows.proofs.rows.leaf_row.Goals as goal
 
 pub add_row-requires-clause-within : goal.add_row-requires-clause-within

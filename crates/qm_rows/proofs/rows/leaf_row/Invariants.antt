@@ -1,6 +1,6 @@
 use Rattle.std.proofs.Common.{take, length}
 use Rattle.qm_contacts.specs.NumberedLeaves.{numbered_leaves}
-use Rattle.qm_rows.specs.inner.Through.{HasThoseOf}
+use Rattle.qm_rows.proofs.Gathering.{HasThoseOf}
 use Rattle.qm_rows.proofs.rows.leaf_row.Given as goal
 
 -- the leaf itself, and what the portals so far see

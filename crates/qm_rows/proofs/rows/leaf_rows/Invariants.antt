@@ -1,6 +1,6 @@
 use Rattle.std.proofs.Common.{◌≡◌, length}
 use Rattle.qm_contacts.specs.NumberedLeaves.{numbered_leaves}
-use Rattle.qm_rows.specs.inner.Through.{AreLeafRowsSoFar}
+use Rattle.qm_rows.proofs.Gathering.{AreLeafRowsSoFar}
 use Rattle.qm_rows.proofs.rows.leaf_rows.Given as goal
 
 -- the rows of the leaves so far

@@ -1,9 +1,8 @@
 use Rattle.std.proofs.Common.{Option, subst}
 use Rattle.std.specs.Option.{MatchOption}
 use Rattle.qm_convex.specs.Winding.{Winding}
-use Rattle.qm_convex.specs.Cut.{IsPartWithin}
+use Rattle.qm_convex.specs.Cut.{IsPartWithin, HasNoneWithin}
 use Rattle.qm_convex.specs.World.{MissesCube, IsWorldPart}
-use Rattle.qm_split.specs.inner.Parts.{HasNoneWithin}
 use Rattle.qm_split.proofs.SectionsOfCells.{section_within}
 use Rattle.qm_split.proofs.section.section_of_cell.Goals as goal
 

@@ -1,7 +1,6 @@
 use Rattle.std.proofs.Common.{ℕ, List, [], ◌∷◌, ◌++◌, ap, ◌∙◌}
 use Rattle.std.proofs.lemmas.Result.{on_ok_weaker}
-use Rattle.qm_lines.proofs.Drawing.{nothing_at_err}
-use Rattle.qm_lines.proofs.Traces.{trace_begins, begun_range}
+use Rattle.qm_lines.proofs.Traces.{trace_begins, begun_range, nothing_at_err}
 use Rattle.qm_lines.proofs.trace.Trace.begin.Goals as goal
 
 pub from-requires : goal.from-requires

@@ -4,12 +4,12 @@ use Rattle.qm_space.specs.Plane.{Plane}
 use Rattle.qm_convex.specs.Section.{AreAxialBounds, IsSection, MissesCell}
 use Rattle.qm_contacts.specs.inner.Due.{DueCell}
 use Rattle.qm_portal.specs.inner.Cells.{CrossesCell, HasPointBefore}
-use Rattle.qm_convex.specs.Cut.{IsPartWithin}
+use Rattle.qm_convex.specs.Cut.{IsPartWithin, HasNoneWithin}
 use Rattle.qm_convex.specs.Winding.{Winding}
 use Rattle.qm_portal.proofs.AxialBounds.{six_axial}
 use Rattle.qm_portal.proofs.CutFacets.{crosses_axial, point_before_slanted, section_by_bounds}
 use Rattle.qm_portal.proofs.cell.DueCell.section.Goals as goal
-use Rattle.qm_portal.proofs.cell.DueCell.section.Goals.{After-split_at, In-Some, After-deref_mut}
+use Rattle.qm_portal.proofs.cell.DueCell.section.Goals.{After-split_at, In-Some}
 
 abbrev kept : After-split_at → DueCell
 kept c = record { child = c.self.inside.child; bounds = c.self.inside.bounds.items; on_walls = c.self.inside.on_walls.items }
@@ -29,24 +29,21 @@ split_at-requires c = subst (λ (bounds : List Plane). 6 ≤ length bounds) (sym
 pub between-requires : goal.between-requires
 between-requires c = subst AreAxialBounds (sym (c.split_at.ensures.front ∙ ap (take 6) c.deref.ensures.value)) c.self.invariant
 
--- the section stands on the heap
-boxed : (c : After-deref_mut) → c.deref_mut.result.now ≡ c.in-Some.whole
-boxed c = c.deref_mut.ensures.value ∙ c.in_ok-section-in-Some.ensures.ok
-
-pub cut_within-requires : goal.cut_within-requires
-cut_within-requires c =
-    let at = (goal.at.cut_within-requires c).After-split_at in
-    subst (λ (w : Winding). HasPointBefore w c.split_at.result.1.now) (sym (boxed (goal.at.cut_within-requires c).After-deref_mut))
-    (point_before_slanted c.requires.0 (kept at) c.args.plane.now (crosses at c.requires.0 c.requires.1) _ _ (parts at) c.in-Some.whole (whole (goal.at.cut_within-requires c).In-Some))
-
 pub unreachable-requires : goal.unreachable-requires
 unreachable-requires c =
     let at = (goal.at.unreachable-requires c).After-split_at in
+    let before = point_before_slanted c.requires.0 (kept at) c.args.plane.now (crosses at c.requires.0 c.requires.1) _ _ (parts at) c.in-Some.whole (whole (goal.at.unreachable-requires c).In-Some) in
+    MatchOption-at_none (HasNoneWithin c.in-Some.whole c.split_at.result.1.now) (λ w. IsPartWithin w c.in-Some.whole c.split_at.result.1.now) c.in-None-2.is c.in_ok-section-in-Some.ensures before.0 before.1 before.2
+
+pub unreachable-requires-in-None : goal.unreachable-requires-in-None
+unreachable-requires-in-None c =
+    let at = (goal.at.unreachable-requires-in-None c).After-split_at in
     crosses_axial c.requires.0 (kept at) c.args.plane.now (crosses at c.requires.0 c.requires.1) _ _ (parts at)
     (MatchOption-at_none (MissesCell c.split_at.result.0.now c.args.plane.now) (λ w. IsSection c.split_at.result.0.now c.args.plane.now w) c.in-None.is c.in_ok-whole.ensures)
 
 pub returns : goal.returns
 returns c = λ planes is.
     let at = (goal.at.returns c).After-split_at in
-    section_by_bounds planes (kept at) c.args.plane.now (crosses at planes is) _ _ (parts at) c.in-Some.whole (whole (goal.at.returns c).In-Some) c.cut_within.new.winding
-    (subst (λ (w : Winding). IsPartWithin c.cut_within.new.winding w c.split_at.result.1.now) (boxed (goal.at.returns c).After-deref_mut) c.in_ok-cut_within-in-Some.ensures)
+    subst (λ (w : Winding). IsSection planes c.args.plane.now w) (sym c.in_ok-new-in-Some-2.ensures.ok)
+    (section_by_bounds planes (kept at) c.args.plane.now (crosses at planes is) _ _ (parts at) c.in-Some.whole (whole (goal.at.returns c).In-Some) c.in-Some-2.section
+    (MatchOption-at_some (HasNoneWithin c.in-Some.whole c.split_at.result.1.now) (λ w. IsPartWithin w c.in-Some.whole c.split_at.result.1.now) c.in-Some-2.section c.in-Some-2.is c.in_ok-section-in-Some.ensures))

@@ -1,6 +1,0 @@
-use Rattle.std.proofs.Common.{◌∙◌}
-use Rattle.row_tests.specs.inner.SameRows.{one_world}
-use Rattle.row_tests.proofs.wavering.wavering_rows.Goals as goal
-
-pub loop-portal-preserved : goal.loop-portal-preserved
-loop-portal-preserved c = one_world _ _ _ _ c.in_ok-row.ensures.on ∙ c.loop-portal.invariant
