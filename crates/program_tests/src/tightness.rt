@@ -27,7 +27,13 @@ fn sees<R: AllocGlobal + Threads + Sync>(
     let line = format!(in rt.alloc(); "\nseen {seen}\n")?;
     let mut outside = Outside::new(rt.alloc(), text.as_bytes())?;
     let words = ["compile", "map", "out"];
-    let status = run(rt, rt.alloc(), &words, &mut outside.shelf, &mut outside.sink);
+    let status = run(
+        rt,
+        rt.alloc(),
+        &words,
+        &mut outside.shelf,
+        &mut outside.sink,
+    );
     Ok(exit_number(status) == 0 && outside.sink.bytes().ends_with(line.as_bytes()))
 }
 

@@ -1,7 +1,7 @@
-use qm_statement::Summary;
 use qm_file::TreeFile;
 use qm_lists::Items;
 use qm_portal::World;
+use qm_statement::Summary;
 
 /// What a map compiles to.
 #[derive(Drop)]

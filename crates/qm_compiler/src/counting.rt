@@ -4,11 +4,11 @@ ghost use Rattle.std.specs.Prelude.{◌≡◌, count_by};
 ghost use Rattle.qm_contacts.specs.NumberedLeaves.{is_numbered};
 ghost use Rattle.qm_compiler.specs.inner.Finished.{IsCount};
 
-use qm_statement::Summary;
 use qm_bits::BitRow;
 use qm_partition::Leaf;
 use qm_portal::World;
 use qm_rows::seen;
+use qm_statement::Summary;
 
 /// Counts what a world and its rows have.
 pub fn count(sealed: bool, brushes: u64, flat: u64, world: &World, rows: &[BitRow]) -> Summary

@@ -2,8 +2,8 @@ ghost use Rattle.std.specs.Prelude.{◌≡◌, IfOk};
 ghost use Rattle.qm_space.specs.Point.{IsCoordinate};
 ghost use Rattle.qm_grammar.specs.inner.Machine.{coordinate_of};
 
-use qm_numerals::NumberFault;
 use qm_grammar::Refusal;
+use qm_numerals::NumberFault;
 use qm_space::WORLD_EXTENT;
 
 /// How far a coordinate may be from 0.

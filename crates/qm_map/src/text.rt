@@ -14,8 +14,8 @@ use crate::reader::Reader;
 use crate::stop::Stop;
 use qm_grammar::{Context, MapFault, Refusal, TEXT_LIMIT};
 use qm_lex::Lexer;
-use qm_tokens::{LexFault, Token, TokenKind};
 use qm_mapfile::MapFile;
+use qm_tokens::{LexFault, Token, TokenKind};
 use std::alloc::Global;
 
 /// The fault of a refused token on a line.
