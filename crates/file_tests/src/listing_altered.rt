@@ -183,8 +183,7 @@ fn faults_of_altered_listings(rt: HostRuntime) {
             && ALTERED
                 .iter()
                 .all(|sample| has_fault(alloc, sample) == Some(true))
-            && COORDINATES
-                .iter()
-                .all(|(word, expected)| is_read_so(alloc, word, *expected) == Some(true))
+            && COORDINATES.iter().all(|(word, expected)| is_read_so(alloc, word, *expected)
+                == Some(true))
     );
 }
