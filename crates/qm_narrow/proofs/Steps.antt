@@ -1,11 +1,11 @@
--- Steps: what their points leave, once the planes are listed that cut, and the windings known that are cut.
+-- Steps: what their cuts leave, once the planes are listed that cut, and the windings known that are cut.
 use Rattle.std.proofs.Common.{◌≡◌, Option, Some, None, Result, IfOk, Contains, List, ◌↔◌, sym, subst}
 use Rattle.std.specs.Option.{MatchOption}
 use Rattle.std.proofs.lemmas.Result.{IfOk-weaker}
 use Rattle.qm_space.specs.Plane.{Plane, flipped}
 use Rattle.qm_convex.specs.Winding.{Winding, IsConvex}
 use Rattle.qm_convex.specs.Sides.{LiesIn}
-use Rattle.qm_convex.specs.Cut.{IsPartInFront}
+use Rattle.qm_convex.specs.Cut.{IsPartInFront, IsPartWithin, HasNoneWithin}
 use Rattle.qm_wind.specs.declared.winding.Clip.{Clip}
 use Rattle.qm_wind.specs.declared.winding.Clip.TheVariants.{Whole, Gone, Cut}
 use Rattle.qm_wind.specs.Clipped.{IsClip}
@@ -15,7 +15,7 @@ use Rattle.qm_separators.specs.Part.{IsPartBy, HasNoPartBy}
 use Rattle.qm_separators.specs.ChainState.{ChainState}
 use Rattle.qm_separators.specs.ChainStep.{StepsTo, Blocks, second_cut}
 use Rattle.qm_separators.specs.inner.Narrowed.{NarrowsTo, CutsAway, source_gone}
-use Rattle.qm_separators.proofs.Parts.{part_by_alike, no_part_alike}
+use Rattle.qm_separators.proofs.Parts.{part_within_list, no_part_within_list}
 use Rattle.qm_separators.proofs.NarrowedSteps.{whole_part, step_by}
 use Rattle.qm_narrow.specs.inner.LastCut.{EndsAt}
 
@@ -24,13 +24,17 @@ use Rattle.qm_narrow.specs.inner.LastCut.{EndsAt}
 abbrev pub IsLeft : Winding → (Plane → Type 0) → Option Winding → Type 0
 IsLeft v Has part = MatchOption part (HasNoPartBy v Has) (λ w. IsPartBy w v Has)
 
-same_left : (v : Winding) (Has Having : Plane → Type 0) → ((h : Plane) → Has h ↔ Having h) → (part : Option Winding) → IsLeft v Has part → IsLeft v Having part
-same_left v Has Having alike None none = no_part_alike v Has Having alike none
-same_left v Has Having alike (Some w) is = part_by_alike w v Has Having alike is
+-- what is kept of a winding in front of listed planes
+abbrev pub IsKept : Winding → List Plane → Option Winding → Type 0
+IsKept v planes part = MatchOption part (HasNoneWithin v planes) (λ w. IsPartWithin w v planes)
 
--- what is left by listed planes is left by those that they are
-pub left_by : {E : Type 0} (answer : Result (Option Winding) E) (v : Winding) (planes listed : List Plane) (Has : Plane → Type 0) → HasExactly Has planes → listed ≡ planes → IfOk answer (IsLeft v (Contains listed)) → IfOk answer (IsLeft v Has)
-left_by answer v planes listed Has exactly e = IfOk-weaker answer (IsLeft v (Contains listed)) (IsLeft v Has) (same_left v (Contains listed) Has (subst (HasExactly Has) (sym e) exactly))
+-- it is left by what they are
+pub kept_is_left : (v : Winding) (planes : List Plane) (Has : Plane → Type 0) → HasExactly Has planes → (part : Option Winding) → IsKept v planes part → IsLeft v Has part
+kept_is_left v planes Has exactly None none = no_part_within_list v planes Has exactly none
+kept_is_left v planes Has exactly (Some w) is = part_within_list w v planes Has exactly is
+
+pub left_by : {E : Type 0} (answer : Result (Option Winding) E) (v : Winding) (planes listed : List Plane) (Has : Plane → Type 0) → HasExactly Has planes → listed ≡ planes → IfOk answer (IsKept v listed) → IfOk answer (IsLeft v Has)
+left_by answer v planes listed Has exactly e = IfOk-weaker answer (IsKept v listed) (IsLeft v Has) (kept_is_left v listed Has (subst (HasExactly Has) (sym e) exactly))
 
 pub left_some : (part : Option Winding) (v w : Winding) (Has : Plane → Type 0) → IsLeft v Has part → part ≡ Some w → IsPartBy w v Has
 left_some part v w Has is e = subst (IsLeft v Has) e is

@@ -8,7 +8,6 @@ mod corner_lists;
 mod edge;
 pub mod laws;
 mod multiples;
-mod narrowing;
 mod near;
 mod normal;
 mod outlook;

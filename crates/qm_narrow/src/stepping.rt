@@ -11,7 +11,6 @@ ghost use Rattle.qm_separators.specs.inner.Narrowed.{NarrowsTo, CutsAway};
 ghost use Rattle.qm_narrow.specs.inner.LastCut.{EndsAt};
 
 use crate::chain_state::ChainState;
-use crate::narrowing::{kept, within};
 use crate::separating::list_separators_from;
 use crate::step_buffers::StepBuffers;
 use crate::traced::Traced;
@@ -67,7 +66,7 @@ fn step_with(
     ensures { IfOk result (λ after. MatchOption after (Blocks state.now next.now.winding next.now.into) (StepsTo state.now next.now.winding next.now.into)) }
 {
     let copy = next.winding.copy()?;
-    match kept(copy, state.into())? {
+    match copy.keep(state.into(), Side::Front)? {
         None => Ok(None),
         Some(far) => after_far_cut(alloc, buffers, state, next, far),
     }
@@ -100,7 +99,7 @@ fn narrowed_whole(
 ) -> Result<Option<ChainState>, AllocError>
     ensures { IfOk result (λ after. MatchOption after (CutsAway state.now state.now.source far) (NarrowsTo state.now state.now.source far)) }
 {
-    match within(far, state.separators())? {
+    match far.keep_all(state.separators())? {
         None => Ok(None),
         Some(pass) => last_cut_whole(alloc, buffers, state, pass),
     }
@@ -188,5 +187,5 @@ fn left_beyond(
     ensures { IfOk result (λ part. MatchOption part (HasNoPartBy winding (IsSeparatorFrom last.now other.now)) (λ w. IsPartBy w winding (IsSeparatorFrom last.now other.now))) }
 {
     list_separators_from(&mut buffers.planes, other, last)?;
-    within(winding, buffers.planes.as_slice())
+    winding.keep_all(buffers.planes.as_slice())
 }

@@ -1,4 +1,4 @@
--- How a step is made: windings cut down plane by plane, and the last two points of a step after the first two.
+-- How a step is made: the last two cuts of a step after the first two.
 use Rattle.std.specs.Option.{MatchOption}
 use Rattle.std.proofs.Common.{List, [], ◌∷◌, ◌++◌, Contains, Option, Some, None, refl, subst, ◌∙◌, ⊎_elim}
 use Rattle.std.proofs.lemmas.List.Elements.{Contains-append_left, Contains-append_right, Contains-append_cases}
@@ -10,29 +10,8 @@ use Rattle.qm_convex.specs.Cut.{IsPartInFront}
 use Rattle.qm_separators.specs.Part.{IsPartBy, HasNoPartBy}
 use Rattle.qm_separators.specs.ChainState.{ChainState, IsChainState}
 use Rattle.qm_separators.specs.ChainStep.{IsCutByPlanes, StepsTo, Blocks, third_cut, fourth_cut}
-use Rattle.qm_separators.proofs.Parts.{part_by_none, no_part_after}
 use Rattle.qm_separators.specs.inner.Found.{HasCornersBeyond}
 use Rattle.qm_separators.specs.inner.Narrowed.{NarrowsTo, CutsAway, target_gone, source_gone}
-
--- ---- plane by plane
-
-pub part_by_no_plane : (v : Winding) → IsConvex v → IsPartBy v v (Contains [])
-part_by_no_plane v convex = part_by_none v (Contains []) convex (λ h there. Contains-nil h there)
-
-pub part_by_next : (v left kept : Winding) (done : List Plane) (h : Plane) → IsPartBy left v (Contains done) → IsPartInFront kept left h → IsPartBy kept v (Contains (done ++ h ∷ []))
-part_by_next v left kept done h are part = record {
-  convex = part.convex;
-  plane = part.plane ∙ are.plane;
-  points = λ p. (
-    (λ r. let front = (part.points p).0 r in let all = (are.points p).0 front.0 in
-        (all.0, λ g there. ⊎_elim (λ before. all.1 g before) (λ last. ⊎_elim (λ same. subst (λ (k : Plane). IsInFront k p) same front.1) (λ none. absurd (Contains-nil g none)) (Contains-cons_cases h g [] last)) (Contains-append_cases done (h ∷ []) g there))),
-    (λ all. (part.points p).1 ((are.points p).1 (all.0, λ g before. all.1 g (Contains-append_left done (h ∷ []) g before)), all.1 h (Contains-append_right done (h ∷ []) h (Contains-first h [])))),
-  );
-}
-
-pub no_part_by_next : (v left : Winding) (done rest : List Plane) (h : Plane) → IsPartBy left v (Contains done) → HasNoneInFront left h → HasNoPartBy v (Contains (done ++ h ∷ rest))
-no_part_by_next v left done rest h are none =
-    no_part_after left v h (Contains done) (Contains (done ++ h ∷ rest)) (λ g before. Contains-append_left done (h ∷ rest) g before) (Contains-append_right done (h ∷ rest) h (Contains-first h rest)) are none
 
 -- a winding wholly in front of a plane is what it has there
 pub whole_part : (v : Winding) (g : Plane) → IsConvex v → IsWhollyInFront v g → IsPartInFront v v g

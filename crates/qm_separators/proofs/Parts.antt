@@ -9,7 +9,7 @@ use Rattle.qm_space.specs.Plane.{Plane, IsOn, IsInFront, flipped}
 use Rattle.qm_space.proofs.Planes.{value_flipped, flipped_in_front}
 use Rattle.qm_convex.specs.Winding.{Winding, corner_at, IsConvex, IsInRegion}
 use Rattle.qm_convex.specs.Sides.{HasNoneInFront, LiesIn, HasCornerBehind}
-use Rattle.qm_convex.specs.Cut.{IsPartInFront, IsPartWithin}
+use Rattle.qm_convex.specs.Cut.{IsPartInFront, IsPartWithin, HasNoneWithin}
 use Rattle.qm_convex.specs.World.{IsInWorld}
 use Rattle.qm_space.specs.Turned.{turned}
 use Rattle.qm_space.proofs.TurnedPlanes.{turned_on}
@@ -95,6 +95,9 @@ part_within_list w v gs Has exactly is = record {
     (λ s. (is.points p).1 (s.0, All-from_contains (λ g. IsInFront g p) gs (λ g there. s.1 g ((exactly g).0 there)))),
   );
 }
+
+pub no_part_within_list : (v : Winding) (gs : List Plane) (Has : Plane → Type 0) → HasExactly Has gs → HasNoneWithin v gs → HasNoPartBy v Has
+no_part_within_list v gs Has exactly none p r all = none p r (All-from_contains (λ g. IsInFront g p) gs (λ g there. all g ((exactly g).0 there)))
 
 -- a plane that has no point of the winding behind it or on it may be left out
 pub part_without : (w v : Winding) (Some Has : Plane → Type 0) → ((h : Plane) → Some h → Has h) → ((h : Plane) → Has h → Some h ⊎ ((p : Point) → IsInRegion v p → IsInFront h p)) → IsPartBy w v Some → IsPartBy w v Has
