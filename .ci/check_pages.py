@@ -4,9 +4,9 @@
     .ci/check_pages.py PAGE TREE [LISTING]
 
 The page needs no other file; what it holds, read back from its text, is the tree, its rows, and the surfaces with each corner
-rounded to a float. A page with a listing is that of the courtyard: where there is a browser, Chromium or Chrome, it is opened without a window: at three places of the
-courtyard the colours of wall, water and sky stand where they should, keys change what the page counts to what is counted
-here of the tree and its rows, and without WebGL a line says so."""
+rounded to a float. A page with a listing is that of the courtyard. It is opened without a window where there is a browser,
+Chromium or Chrome: at three places the colours of wall, water and sky stand where they should, keys change what the page
+counts to what is counted here of the tree and its rows, and without WebGL a line says so."""
 
 from array import array
 from base64 import b64decode
