@@ -15,16 +15,43 @@ toolchain() {
     fi
 }
 
-# the sum of what the program is built from: the list of crates, the handles, and each crate's sources, definitions and
-# proofs; and the version of the toolchain
+# the lines of crates.txt for the program and all that it stands on
+crates_of_program() {
+    awk '
+        { sub(/#.*/, "") }
+        NF {
+            name = $1
+            sub(/:.*/, "", name)
+            order[++count] = name
+            line[name] = $0
+            sub(/^[^:]*:/, "")
+            below[name] = $0
+        }
+        function take(name, parts, number, at) {
+            if (name in taken || !(name in line)) return
+            taken[name] = 1
+            number = split(below[name], parts, " ")
+            for (at = 1; at <= number; at++) take(parts[at])
+        }
+        END {
+            take("qmapc")
+            for (at = 1; at <= count; at++) if (order[at] in taken) print line[order[at]]
+        }' "$top/crates.txt"
+}
+
+# the sum of what the program is built from: its crates, the handles, and each crate's sources, definitions and proofs;
+# and the version of the toolchain
 sources() {
     (
         cd "$top" || return
         [[ -f crates.txt && -d crates ]] || return
+        crates=$(crates_of_program)
+        [[ -n $crates ]] || return
+        mapfile -t folders < <(sed 's|^\([^ :]*\).*|crates/\1/src\ncrates/\1/specs\ncrates/\1/proofs|' <<<"$crates")
         {
-            find crates.txt HANDLES crates/*/src crates/*/specs crates/*/proofs -type f -print0 2>/dev/null || true
-        } | LC_ALL=C sort -z | xargs -0 sha256sum | sha256sum &&
-            toolchain
+            sha256sum <<<"$crates"
+            { find HANDLES "${folders[@]}" -type f -print0 2>/dev/null || true; } | LC_ALL=C sort -z | xargs -0 sha256sum
+        } | sha256sum && toolchain
     )
 }
 

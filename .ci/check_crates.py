@@ -2,8 +2,7 @@
 """Holds crates.txt to docs/ARCHITECTURE.md: each crate has one row in the table and each row a crate, the row says
 what the crate stands on, and nothing below the crate is something on which it may not stand; in the picture of the
 layers each crate stands once, above or to the right of what it stands on. Each crate has a page docs/crates/NAME.md
-and a row in docs/GATE.md. README.md names as trusted exactly the spec modules of each crate but those below
-specs/inner."""
+and a row in docs/GATE.md."""
 
 from pathlib import Path
 import re
@@ -106,30 +105,8 @@ def faults_of_picture():
                 yield f"{name} stands on {below}, which in the picture is neither below it nor to its left"
 
 
-def trusted():
-    """What README.md names as trusted: each crate with its spec modules."""
-    _, _, text = Path("README.md").read_text().partition("\n## What is trusted\n")
-    text = text.partition("\n## ")[0]
-    return {name: set(re.findall(r"\w+", listed)) for name, listed in re.findall(r"`(\w+)`: (\w+(?:, \w+)*)", text)}
-
-
-def outer(name):
-    """The spec modules of a crate that stand outside specs/inner."""
-    lib = Path(f"crates/{name}/specs/Lib.antt")
-    return set(re.findall(r"^pub mod (\w+)", lib.read_text(), re.M)) - {"inner"} if lib.is_file() else set()
-
-
-def faults_of_trust():
-    said = trusted()
-    for name in crates():
-        for module in sorted(outer(name) - said.get(name, set())):
-            yield f"{name}: README.md, under What is trusted, does not name {module}, which crates/{name}/specs/Lib.antt lists"
-        for module in sorted(said.get(name, set()) - outer(name)):
-            yield f"{name}: README.md, under What is trusted, names {module}, which crates/{name}/specs/Lib.antt does not list"
-
-
 def main():
-    found = [*faults(), *faults_of_picture(), *faults_of_trust()]
+    found = [*faults(), *faults_of_picture()]
     print("\n".join(found), end="\n" if found else "")
     sys.exit(1 if found else 0)
 

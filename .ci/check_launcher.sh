@@ -21,22 +21,56 @@ runs_through_links() {
     cmp "$folder/cube.tree" "$folder/third.tree"
 }
 
-# a tree with the launcher, one source, and an `rt` that builds a program which prints its words
+# the program needs the C library alone, and both it and qmlook run where nothing else of the repository is
+installs_what_runs_alone() {
+    tools/install "$folder/installed" >"$folder/printed" || return 1
+    mv "$folder/installed" "$folder/moved"
+    (cd "$folder" && env -i "$folder/moved/qmapc" compile cube.map alone.tree >printed) && cmp "$folder/cube.tree" "$folder/alone.tree" || return 1
+    "$folder/moved/qmlook" plan "$folder/alone.tree" >"$folder/alone.svg" && grep -q '^<svg' "$folder/alone.svg" || return 1
+    ldd "$folder/moved/qmapc" >"$folder/needed" && ! grep -vE 'linux-vdso|/libc\.so|/ld-linux' "$folder/needed" || return 1
+    local status=0
+    tools/install 2>"$folder/said" || status=$?
+    [[ $status == 2 ]] && grep -q '^install: usage' "$folder/said"
+}
+
+# a tree with the launcher and five crates, of which the program stands on three, and an `rt` that keeps what it proved and
+# builds a program which prints its words
 make_a_small_tree() {
+    local crate
     small="$folder/small"
-    mkdir -p "$small/.ci" "$small/crates/qmapc/src" "$small/crates/qmapc/out" "$folder/bin"
-    cp qmapc "$small/" && cp .ci/built.sh "$small/.ci/" || return 1
-    echo 'qmapc:' >"$small/crates.txt"
-    echo 'one' >"$small/crates/qmapc/src/main.rt"
+    rm -rf "$small" "$folder/cache"
+    mkdir -p "$small/.ci" "$folder/bin"
+    cp qmapc "$small/" && cp .ci/built.sh .ci/building.sh "$small/.ci/" || return 1
+    printf '%s\n' 'low: kit' 'beside:' 'other: low' 'near: low beside' 'qmapc: near # the program' >"$small/crates.txt"
+    for crate in low beside other near qmapc; do
+        mkdir -p "$small/crates/$crate/src"
+        echo 'one' >"$small/crates/$crate/src/main.rt"
+    done
     echo 'kit one' >"$folder/version"
     cat >"$folder/bin/rt" <<END
-#!/bin/sh
+#!/bin/bash
+prove() {
+    mkdir -p out
+    cat src/main.rt >>out/kept
+    echo "what the prover says of \${PWD##*/}"
+    while [[ -e $folder/slow ]]; do sleep 0.1; done
+    ! grep -q wrong src/main.rt
+}
 case "\$1" in
 version) cat "$folder/version" ;;
+all)
+    [[ ! -d crates/other && "\$2 \$3 \$4" == "check --jobs "[1-9]* ]] || exit 2
+    for crate in low beside; do
+        echo "== \$crate"
+        (cd crates/\$crate && prove) || { printf '== summary\n%s: failed (1)\n' \$crate && exit 1; }
+    done
+    # it is stopped here, before the crates beside which nothing can be proved
+    exec sleep 60
+    ;;
+lib) ! grep -q wrong ../{low,beside}/src/main.rt && prove ;;
 run)
+    ! grep -q wrong ../near/src/main.rt && prove || exit 1
     echo built >>"$folder/builds"
-    echo "what the prover says"
-    grep -q wrong src/main.rt && exit 1
     printf '#!/bin/sh\necho "\$*"\n' >out/qmapc
     chmod +x out/qmapc
     ;;
@@ -47,7 +81,7 @@ END
 }
 
 launch() {
-    PATH="$folder/bin:$PATH" "$small/qmapc" "$@" >"$folder/printed" 2>"$folder/said"
+    PATH="$folder/bin:$PATH" XDG_CACHE_HOME="$folder/cache" "$small/qmapc" "$@" >"$folder/printed" 2>"$folder/said"
 }
 
 has_built() { # has_built TIMES
@@ -60,6 +94,9 @@ builds_where_something_changed() {
     launch again && has_built 1 && [[ ! -s $folder/said ]] || return 1
     echo 'two' >"$small/crates/qmapc/src/main.rt"
     launch again && has_built 2 && grep -q 'proving and building' "$folder/said" || return 1
+    # a crate on which the program does not stand
+    echo 'two' >"$small/crates/other/src/main.rt"
+    launch again && has_built 2 && [[ ! -s $folder/said ]] || return 1
     echo 'kit two' >"$folder/version"
     launch again && has_built 3 || return 1
     # a program that was put there by other means
@@ -85,23 +122,54 @@ launch_without_rt() {
     # bash and the few commands that the launcher calls, and no rt
     mkdir -p "$folder/plain"
     local command
-    for command in bash dirname readlink find sort xargs sha256sum mktemp rm cat; do
+    for command in awk bash cat dirname find readlink sed sha256sum sort xargs; do
         ln -sf "$(command -v "$command")" "$folder/plain/$command"
     done
     PATH="$folder/plain" "$small/qmapc" compile a b >"$folder/printed" 2>"$folder/said"
 }
 
-says_why_it_fails() {
+tells_how_far_it_is() {
     make_a_small_tree || return 1
-    echo 'wrong' >"$small/crates/qmapc/src/main.rt"
-    fails_with_words 'was not proved' launch again && grep -q '^what the prover says' "$folder/said" || return 1
+    launch again && [[ $(grep -o '[1-9] of 4 crates$' "$folder/said" | tr '\n' ' ') == '1 of 4 crates 2 of 4 crates 3 of 4 crates 4 of 4 crates ' ]]
+}
+
+# what an earlier build proved is there for the next one, also where the earlier one was interrupted
+goes_on_where_it_was() {
+    local kept
+    make_a_small_tree || return 1
+    touch "$folder/slow"
+    : >"$folder/said"
+    PATH="$folder/bin:$PATH" XDG_CACHE_HOME="$folder/cache" "$small/qmapc" again >"$folder/printed" 2>"$folder/said" &
+    for _ in {1..100}; do
+        ! grep -qs '1 of 4 crates' "$folder/said" || break
+        sleep 0.1
+    done
+    kill -TERM $! && ! wait $! || return 1
+    [[ ! -e $small/crates/qmapc/out/qmapc ]] || return 1
+    rm "$folder/slow"
+    launch two words && has_built 1 && [[ $(<"$folder/printed") == 'two words' ]] || return 1
+    kept=$(echo "$folder"/cache/qmapc/*/crates/low/out/kept)
+    [[ $(wc -l <"$kept") == 2 ]]
+}
+
+says_why_it_fails() {
+    local wrong
+    for wrong in qmapc near beside; do
+        make_a_small_tree || return 1
+        echo 'wrong' >"$small/crates/$wrong/src/main.rt"
+        fails_with_words 'was not proved' launch again && has_built 0 || return 1
+        grep -q "^what the prover says of $wrong" "$folder/said" && ! grep -q 'of low' "$folder/said" || return 1
+    done
     fails_with_words 'not on the PATH' launch_without_rt || return 1
-    echo 'one' >"$small/crates/qmapc/src/main.rt"
+    echo 'one' >"$small/crates/beside/src/main.rt"
     launch again && launch_without_rt && [[ $(<"$folder/printed") == 'compile a b' ]] || return 1
     fails_with_words 'do not stand beside the launcher' launch_alone
 }
 
 check "the launcher compiles samples/cube.map" compiles_a_sample
 check "the launcher runs through symbolic links" runs_through_links
+check "what is installed runs alone" installs_what_runs_alone
 check "the launcher builds exactly where the sources, the toolchain or the program changed" builds_where_something_changed
+check "the launcher tells how far it is" tells_how_far_it_is
+check "a build that is interrupted goes on where it was" goes_on_where_it_was
 check "the launcher says why it fails" says_why_it_fails

@@ -39,7 +39,18 @@ has_no_paths_of_a_machine() {
 }
 
 has_a_short_readme() {
-    [[ $(wc -l <README.md) -lt 120 ]]
+    local words most=900
+    words=$(wc -w <README.md)
+    if ((words > most)); then
+        echo "README.md has $words words, and $most are allowed"
+        return 1
+    fi
+}
+
+# pages for users say what is so today, and nothing of the workshop
+speaks_to_users() {
+    ! git grep -nIiE 'processor[ -]minutes?|not used yet|half (the |its )?speed|on (this|a slow) machine' -- \
+        README.md docs/EDITORS.md docs/TREEFILE.md docs/MAPTEXT.md
 }
 
 check "HANDLES is its one line" allows_one_handle
@@ -48,6 +59,8 @@ check "specs/ and proofs/ hold .antt files alone" keeps_definitions_and_proofs_a
 check "no crate has too many must-fail edits" has_few_edits
 check "no word looks like a label" has_no_labels
 check "no path of a machine is named" has_no_paths_of_a_machine
-check "README.md is below 120 lines" has_a_short_readme
+check "README.md has at most 900 words" has_a_short_readme
+check "pages for users hold no words of the workshop" speaks_to_users
 check "docs/ARCHITECTURE.md has each crate with what it stands on" python3 .ci/check_crates.py
+check "docs/PROOF.md has the definitions in reading order" python3 .ci/reading_order.py
 check "each file that a page names is there" python3 .ci/check_links.py

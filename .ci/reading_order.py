@@ -1,0 +1,217 @@
+#!/usr/bin/env python3
+"""Writes the parts of docs/PROOF.md that say which definitions stand behind the contract of `run`, which others there
+are, and which calls require something; and holds them to the sources.
+
+    python3 .ci/reading_order.py           says what is wrong, and ends with 1 if anything is
+    python3 .ci/reading_order.py --write   writes the parts anew
+    python3 .ci/reading_order.py --names   prints the order with the name of each definition that is reached
+
+`run` is the public call of that name in a crate on which the program stands. Each file of definitions has one line: the
+first sentence of the comment at its head; or, where it has none, the comment of the definition that is named as the file,
+or else of those that no other one of the file names. `.ci/reading_lines` has lines that take their place."""
+
+from pathlib import Path
+import re
+import sys
+
+from check_crates import rows
+from definitions import Missing, Repository, source_file, specs_file
+
+PROGRAM, TOP = "qmapc", "run"
+PAGE, LINES = Path("docs/PROOF.md"), Path(".ci/reading_lines")
+BEGIN, END = "<!-- begin {}, written by .ci/reading_order.py -->\n", "<!-- end {} -->\n"
+
+
+def top(repository):
+    """The contract from which the reading begins."""
+    found = []
+    for crate in repository.crates[PROGRAM]:
+        found += [call for call in repository.public_calls(crate) if call.name == TOP]
+    if len(found) != 1:
+        raise Missing(f"{len(found)} crates on which {PROGRAM} stands have a public call {TOP}, and one is wanted")
+    return found[0]
+
+
+def top_down(items, below):
+    """The items in an order in which each stands before all that is below it; those named first come early."""
+    ended, seen = [], set()
+
+    def go(item):
+        if item not in seen:
+            seen.add(item)
+            for other in reversed(below[item]):
+                go(other)
+            ended.append(item)
+
+    for item in reversed(items):
+        go(item)
+    return ended[::-1]
+
+
+def lifted(steps, repository, part):
+    """What the parts of what is reached, as their crates or files, have below them."""
+    below = {}
+    for named in steps:
+        mine = below.setdefault(part(named), [])
+        for other in repository.below(named):
+            if other.kind != "library" and part(other) != part(named) and part(other) not in mine:
+                mine.append(part(other))
+    return below
+
+
+def sentence(text):
+    """The first sentence of a comment, as a line of a page."""
+    text = re.sub(r"(?s)\. .*", "", text.strip() + " ").strip().rstrip(".:")
+    return (text[:1].upper() + text[1:]).replace("*", r"\*") + "."
+
+
+class Order:
+    """The files behind the contract of `run`, in reading order, and those to which it does not lead."""
+
+    def __init__(self):
+        self.repository = Repository()
+        self.call = top(self.repository)
+        steps = self.repository.reach(dict.fromkeys(self.repository.roots(self.call)))
+        self.library = [named for named in steps if named.kind == "library"]
+        self.steps = [named for named in steps if named.kind != "library"]
+        crates = lifted(self.steps, self.repository, lambda named: named.crate)
+        files = lifted(self.steps, self.repository, lambda named: named[:3])
+        self.crates = top_down(list(crates), crates)
+        self.files = top_down(list(files), files)
+        self.lines, self.faults = {}, []
+        for line in LINES.read_text().splitlines() if LINES.is_file() else []:
+            if line and not line.startswith("#"):
+                name, _, text = line.partition(": ")
+                self.lines[name] = text
+
+    def names(self, file):
+        return [named.name for named in self.steps if named[:3] == file]
+
+    def main_names(self, file, having):
+        """The definitions of a file that say what it is about: the one named as it, or those that no other one names."""
+        names = self.names(file)
+        word = file[2].split(".")[-1]
+        same = [f"{before}{word}" for before in ("", "Is", "Are", "Has", "IsIn") if f"{before}{word}" in names]
+        below = {other.name for named in self.steps if named[:3] == file for other in self.repository.below(named) if other[:3] == file}
+        return [name for name in same[:1] or [name for name in names if name not in below] if name in having]
+
+    def says(self, file):
+        """The one line of a file of definitions."""
+        key = f"{file[1]}/{file[2]}"
+        if key in self.lines:
+            return sentence(self.lines[key])
+        read = self.repository.definitions(*file[1:])
+        if read.head:
+            return sentence(read.head)
+        docs = [sentence(read.docs[name]) for name in self.main_names(file, read.docs)[:2]]
+        if not docs:
+            self.faults.append(f"{read.file} has neither a comment at its head nor a line '{key}: ..' in {LINES}")
+        return " ".join(docs)
+
+    def file_line(self, file, with_names=False):
+        kind, crate, module = file
+        names = ", ".join(f"`{name}`" for name in self.names(file))
+        if kind == "definition":
+            also = f" ({names})" if with_names else ""
+            return f"- [{module}](../{specs_file(crate, module)}){also}: {self.says(file)}"
+        source = self.repository.source(crate, module)
+        text = source.head() or source.doc(self.names(file)[0])
+        return f"- {names} in [{source_file(crate, module).name}](../{source.file}): {sentence(text)}"
+
+    def reading(self, with_names=False):
+        """The lines of the reading order, crate by crate."""
+        kinds = {name: f": {sentence(cells[1])}" for name, cells in rows()}
+        for crate in self.crates:
+            yield f"\n**`{crate}`**{kinds.get(crate, '')}\n"
+            yield from (self.file_line(file, with_names) for file in self.files if file[1] == crate)
+
+    def of_library(self):
+        modules = sorted({named.module for named in self.library})
+        return "Beside these they name definitions of the standard library, in its modules " + ", ".join(modules) + "."
+
+    def calls_to(self):
+        """The nearest public call that leads to each file."""
+        nearest = {}
+        for place, crate in enumerate(self.repository.crates):
+            for call in self.repository.public_calls(crate):
+                for named, steps in self.repository.reach(dict.fromkeys(self.repository.roots(call))).items():
+                    here = (steps, crate != named.crate, place, f"{crate}::{call.name}")
+                    nearest[named[:3]] = min(nearest.get(named[:3], here), here)
+        return nearest
+
+    def apart(self):
+        """A line for each crate with files of definitions to which the contract of `run` does not lead."""
+        nearest = self.calls_to()
+        for crate in self.repository.crates:
+            listed = []
+            for module in self.repository.modules(crate):
+                file = ("definition", crate, module)
+                if file not in self.files:
+                    by = f"`{nearest[file][3]}`" if file in nearest else "no call, proofs alone"
+                    listed.append(f"[{module}](../{specs_file(crate, module)}) ({by})")
+            if listed:
+                yield f"- `{crate}`: {', '.join(listed)}."
+
+    def other_faults(self):
+        for name in self.lines:
+            crate, _, module = name.partition("/")
+            if ("definition", crate, module) not in self.files:
+                yield f"{LINES} has a line for {name}, which is no file of the reading order"
+        for kind, crate, module in self.files:
+            if kind == "definition" and module.startswith("inner."):
+                yield f"the contract of {TOP} leads to {specs_file(crate, module)}, which therefore has to stand outside specs/inner"
+
+    def required(self):
+        """A line for each crate with the public calls that require something."""
+        for crate in self.repository.crates:
+            names = [call.name for call in self.repository.public_calls(crate) if re.search(r"\brequires\b", call.text)]
+            if names:
+                yield f"- `{crate}`: {', '.join(f'`{name}`' for name in dict.fromkeys(names))}."
+
+    def parts(self):
+        """What is written into the page, by the name of each part."""
+        definitions = [file for file in self.files if file[0] == "definition"]
+        head = (
+            f"The contract of `{TOP}` stands in [{self.call.source.file.name}](../{self.call.source.file}). It leads to "
+            f"{len(definitions)} files of definitions, and to types in {len(self.files) - len(definitions)} files of `src`."
+        )
+        return {
+            "reading order": [head, *self.reading(), "", self.of_library()],
+            "apart": [*self.apart()],
+            "required": [*self.required()],
+        }
+
+
+def written(page, parts):
+    """The page with its parts written anew."""
+    for name, lines in parts.items():
+        begin, end = BEGIN.format(name), END.format(name)
+        before, found, rest = page.partition(begin)
+        _, found_end, after = rest.partition(end)
+        if not found or not found_end:
+            raise Missing(f"{PAGE} has not the two lines between which the part '{name}' stands")
+        page = before + begin + "\n".join(lines) + "\n" + end + after
+    return page
+
+
+def main():
+    order = Order()
+    if sys.argv[1:] == ["--names"]:
+        print("\n".join(order.reading(with_names=True)))
+        return
+    page = PAGE.read_text()
+    now = written(page, order.parts())
+    faults = [*order.faults, *order.other_faults()]
+    if sys.argv[1:] == ["--write"]:
+        PAGE.write_text(now)
+    elif now != page:
+        faults.append(f"{PAGE} does not say what the sources say: write it anew by python3 .ci/reading_order.py --write")
+    print("\n".join(faults), end="\n" if faults else "")
+    sys.exit(1 if faults else 0)
+
+
+if __name__ == "__main__":
+    try:
+        main()
+    except Missing as fault:
+        sys.exit(f"reading_order: {fault}")
