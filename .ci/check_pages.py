@@ -1,12 +1,12 @@
 #!/usr/bin/env python3
 """Holds a page of `tools/qmlook view` to the tree from which it was written, and opens it.
 
-    .ci/check_pages.py PAGE TREE LISTING
+    .ci/check_pages.py PAGE TREE [LISTING]
 
 The page needs no other file; what it holds, read back from its text, is the tree, its rows, and the surfaces with each corner
-rounded to a float. Where there is a browser, Chromium or Chrome, it is opened without a window: at three places of the
-courtyard the colours of wall, water and sky stand where they should, keys change what the page counts to what is counted
-here of the tree and its rows, and without WebGL a line says so."""
+rounded to a float. A page with a listing is that of the courtyard. It is opened without a window where there is a browser,
+Chromium or Chrome: at three places the colours of wall, water and sky stand where they should, keys change what the page
+counts to what is counted here of the tree and its rows, and without WebGL a line says so."""
 
 from array import array
 from base64 import b64decode
@@ -183,17 +183,28 @@ def faults_of_keys(browser, tree, seen, portals):
         yield "without WebGL it does not say so"
 
 
-def main():
-    page, tree = Path(sys.argv[1]), treefile.load(sys.argv[2])
-    seen, portals = surfaces.seen(tree), listing.load(sys.argv[3])[1]
-    found = list(faults_of_text(page.read_text(encoding="ascii"), tree, seen))
-    browser = next((path for path in map(shutil.which, BROWSERS) if path), None)
+def runs(browser):
+    """Whether a browser is there, and not only its name."""
+    return subprocess.run([browser, "--version"], capture_output=True, timeout=120, check=False).returncode == 0
+
+
+def faults_of_view(page, tree, seen, portals):
+    """What is wrong with the page of the courtyard as a browser shows it, where there is one."""
+    browser = next((path for path in map(shutil.which, BROWSERS) if path and runs(path)), None)
     if browser is None:
         print("no browser is here: the page of qmlook view was not opened")
-    else:
-        with tempfile.TemporaryDirectory() as folder:
-            opened = Browser(browser, page, folder)
-            found += [*faults_of_pixels(opened, tree, seen), *faults_of_keys(opened, tree, seen, portals)]
+        return []
+    with tempfile.TemporaryDirectory() as folder:
+        opened = Browser(browser, page, folder)
+        return [*faults_of_pixels(opened, tree, seen), *faults_of_keys(opened, tree, seen, portals)]
+
+
+def main():
+    page, tree = Path(sys.argv[1]), treefile.load(sys.argv[2])
+    seen = surfaces.seen(tree)
+    found = list(faults_of_text(page.read_text(encoding="ascii"), tree, seen))
+    if len(sys.argv) > 3:
+        found += faults_of_view(page, tree, seen, listing.load(sys.argv[3])[1])
     sys.exit("\n".join(found) or 0)
 
 

@@ -108,7 +108,8 @@ def faults(tree):
     for place in {*due, *found}:
         given = sum(map(area, found[place]))
         if given != due[place]:
-            yield f"leaf {place[0]} has surfaces of the area {given} before {place[2]} on the plane {place[1]}, and a border of {due[place]}"
+            leaf, plane, beyond = place
+            yield f"leaf {leaf} has surfaces of the area {given} before {beyond} on the plane {plane}, and a border of {due[place]}"
         given_to_solid += given if place[2] == "solid" else 0
     for leaf, what in seen.items():
         if what.touched != touched[leaf]:

@@ -6,7 +6,10 @@
 Of each tree, from some places: what the picture has along each of many rays is what a slow painter finds who looks at every
 surface, and sorts by depth. And along many more rays, which begin in leaves and end where contents change: each leaf that is
 passed is in the row of the first, where the tree has rows, and the last has one surface there, before what comes next. That is
-drawn too, by the row of the first, where it is not solid."""
+drawn too, by the row of the first, where it is not solid.
+
+Where a file beside a tree, with the ending `.trail`, has the trail of a leak, its line is drawn in pictures exactly where the
+painter finds nothing before it that is not seen through."""
 
 from fractions import Fraction
 from functools import lru_cache
@@ -17,10 +20,13 @@ import sys
 
 sys.path.insert(0, str(Path(__file__).resolve().parent.parent / "tools"))
 
+from cells import Cells
 import colours
 import corners
 from eyes import Eye
 import picture
+from points import leak_line
+from polygons import between
 import surfaces
 import treefile
 
@@ -119,6 +125,40 @@ def faults_of_picture(tree, shown, place, aim, rng):
             yield f"from {place} along {way} the picture has {found}, and the painter {wanted}"
     if compared < RAYS * 9 // 10:
         yield f"from {place} only {compared} rays of {RAYS} meet no rim"
+
+
+def hides(painter, way):
+    """Whether something that is not seen through stands before the end of a way from the painter's place."""
+    whole = corners.corner(way)[:3]
+    depths = ((depth(surface, painter.place, way), kind, found) for surface, (_, kind, _), found in painter.painted)
+    return any(far is not None and far < 1 and colours.KINDS[kind][1] == 1 and hits(found, whole) for far, kind, found in depths)
+
+
+def is_on(point, ends):
+    """Whether a point is on the piece of a line between two corners."""
+    first, second = (corners.point(corner) for corner in (min(ends), max(ends)))
+    axis = max(range(3), key=lambda at: abs(second[at] - first[at]))
+    part = (point[axis] - first[axis]) / (second[axis] - first[axis])
+    return 0 <= part <= 1 and all(a + part * (b - a) == c for a, b, c in zip(first, second, point))
+
+
+def faults_of_line(tree, seen, trail, rng):
+    """Where a leak line is not drawn as it should be."""
+    line, shown, counts = leak_line(Cells(tree), trail), {leaf: what.surfaces for leaf, what in seen.items()}, [0, 0]
+    for _ in range(4 * PLACES):
+        place = tuple(number + rng.randrange(-120, 120) for number in rng.choice(line[:-1]))
+        eye = Eye(place, line[0])
+        drawn, painter = picture.Picture(tree, eye, shown, line, trail), Painter(tree, shown, eye.corner)
+        within = [eye.near, *eye.frame(Fraction(picture.HIGH, picture.WIDE))]
+        for first, second in 4 * list(zip(line, line[1:])):
+            point = between(first, second, Fraction(rng.randrange(1, PARTS), PARTS))
+            is_in = all(corners.value(plane, corners.corner(point)) > 0 for plane in within)
+            wanted = is_in and not hides(painter, tuple(a - b for a, b in zip(point, place)))
+            counts[wanted] += is_in
+            if wanted != any(is_on(point, ends) for ends in drawn.ends):
+                yield f"from {place} the leak line at {point} {'is not' if wanted else 'is'} drawn"
+    if min(counts) < PLACES:
+        yield f"of the points of the leak line {counts[0]} are hidden and {counts[1]} are seen, which tells nothing"
 
 
 def point_inside(faces, rng):
@@ -225,8 +265,13 @@ def faults_through(tree, seen, rng):
 
 
 def main():
-    rng = random.Random(9)
-    found = [f"{name}: {fault}" for name in sys.argv[1:] for fault in faults(treefile.load(name), rng)]
+    rng, found = random.Random(9), []
+    for name in sys.argv[1:]:
+        tree, beside = treefile.load(name), Path(name).with_suffix(".trail")
+        some = faults(tree, rng)
+        if beside.exists():
+            some = faults_of_line(tree, surfaces.seen(tree), [int(word) for word in beside.read_text().split()], rng)
+        found += [f"{name}: {fault}" for fault in some]
     sys.exit("\n".join(found[:20]) or 0)
 
 

@@ -54,7 +54,7 @@ fills_the_borders_of_solid_leaves() {
 }
 
 shows_what_is_seen_along_rays() {
-    (cd "$folder" && python3 "$top/.ci/check_views.py" rooms.tree courtyard.tree made.tree)
+    (cd "$folder" && python3 "$top/.ci/check_views.py" rooms.tree courtyard.tree made.tree courtyard_leak.tree)
 }
 
 # the page of a tree begins at this place
@@ -70,6 +70,8 @@ writes_a_page() {
     # without a place, in the middle of the largest leaf that is not solid
     look view room.tree
     begins_at '0.0, 0.0, 48.0' || return 1
+    look view made.tree
+    looked && python3 .ci/check_pages.py "$folder/printed" "$folder/made.tree" || return 1
     look view courtyard.tree --map courtyard.map --prt courtyard.prt
     begins_at '-208.0, -128.0, 24.0' && cp "$folder/printed" "$folder/page.html" || return 1
     python3 .ci/check_pages.py "$folder/page.html" "$folder/courtyard.tree" "$folder/courtyard.prt"

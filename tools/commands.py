@@ -1,10 +1,8 @@
-"""The commands of `qmlook`: their words, what each prints, and what is said where it cannot be done."""
+"""The commands of `qmlook`: what each prints, and what is said where it cannot be done."""
 
 import argparse
-from fractions import Fraction
 import json
 import os
-import re
 import sys
 
 from bodies import largest
@@ -20,88 +18,11 @@ from polygons import BOUND
 import slices
 import surfaces
 import treefile
+from words import joined, words_of
 
 
 class Refused(Exception):
     """Why a command cannot be done, in a line."""
-
-
-def words_of(parser, words):
-    """The words of a command line, or the usage line and status 2."""
-    commands = parser.add_subparsers(dest="command", metavar="COMMAND", required=True)
-    plan_words = command(commands, "plan", "a slice through the tree at a height, as an SVG picture")
-    plan_words.add_argument("--z", type=height, help="the height; without it one at which there is much to see")
-    plan_words.add_argument("--leak", metavar="TRAIL", type=trail, help='the numbers behind `trail: `, as "8 6 0"')
-    plan_words.add_argument("--row", metavar="N", type=number, help="shows the leaves that row N holds")
-    plan_words.add_argument("--prt", metavar="FILE", help="shows the portals of a listing")
-    points_words = command(commands, "points", "the line of a leak, as a point file for editors")
-    points_words.add_argument("--leak", metavar="TRAIL", type=trail, required=True, help="the same")
-    view_words = command(commands, "view", "a page in which one walks through the level, for a browser")
-    begins = view_words.add_mutually_exclusive_group()
-    begins.add_argument("--at", metavar="X,Y,Z", type=place, help="where one begins")
-    begins.add_argument("--map", metavar="MAP", help="begins at its first entity that does not stand in solid")
-    view_words.add_argument("--leak", metavar="TRAIL", type=trail, help="has the line of a leak")
-    view_words.add_argument("--prt", metavar="FILE", help="has the portals of a listing")
-    picture_words = command(commands, "picture", "a view from a place, as an SVG picture")
-    picture_words.add_argument("--from", metavar="X,Y,Z", type=place, required=True, dest="eye", help="where one stands")
-    picture_words.add_argument("--to", metavar="X,Y,Z", type=place, required=True, dest="aim", help="where one looks")
-    picture_words.add_argument("--row", metavar="X,Y,Z", type=place, nargs="?", const=True,
-                               help="shows what the row of the leaf there holds; without a place, of one's own leaf")
-    picture_words.add_argument("--leak", metavar="TRAIL", type=trail, help="has the line of a leak")
-    command(commands, "json", "planes, nodes, leaves and rows, for other programs")
-    return parser.parse_args(words)
-
-
-def command(commands, name, what):
-    """A command, which reads a tree file and takes its options in full alone."""
-    words = commands.add_parser(name, help=what, description=f"Prints {what}.", allow_abbrev=False)
-    words.add_argument("tree", metavar="OUT", help="a tree file of `qmapc compile`")
-    return words
-
-
-def height(word):
-    """A height inside the cube."""
-    try:
-        value = Fraction(word)
-    except ZeroDivisionError:
-        raise ValueError from None
-    if not -BOUND < value < BOUND:
-        raise ValueError
-    return value
-
-
-def number(word):
-    """A number from 0 on."""
-    if not word.isdecimal():
-        raise ValueError
-    return int(word)
-
-
-def place(words):
-    """Three numbers parted by commas: a point strictly inside the cube."""
-    numbers = tuple(height(word) for word in words.split(","))
-    if len(numbers) != 3:
-        raise ValueError
-    return numbers
-
-
-def with_places(words):
-    """The words of a command line, where a place that begins with a hyphen is joined to the word before it."""
-    joined = []
-    for word in words:
-        if re.match(r"-[\d.]", word) and "," in word and joined and joined[-1] in ("--at", "--from", "--to", "--row"):
-            joined[-1] += "=" + word
-        else:
-            joined.append(word)
-    return joined
-
-
-def trail(words):
-    """The numbers of a trail, with or without the `trail: ` before them."""
-    numbers = [number(word) for word in words.removeprefix("trail:").split()]
-    if not numbers:
-        raise ValueError
-    return numbers
 
 
 def plan_of(words):
@@ -147,24 +68,16 @@ def points_of(words):
 def view_of(words):
     """The page that the words ask for, part by part."""
     tree = tree_of(words.tree)
+    portals = None if words.prt is None else page.portals_of(portals_of(words.prt, tree))
+    line = leak_line(Cells(tree), words.leak) if words.leak else None
+    begin = words.at if words.map is None else origin_of(words.map, tree)
     seen = surfaces.seen(tree)
     if not seen:
         raise Refused(f"{words.tree} has nothing but solid leaves")
-    portals = None if words.prt is None else page.portals_of(portals_of(words.prt, tree))
-    line = leak_line(Cells(tree), words.leak) if words.leak else None
-    level = {**page.level_of(tree, seen), "portals": portals, "leak": line and [[float(x) for x in point] for point in line],
-             "at": [float(number) for number in start(words, tree, seen, line)], "to": None}
+    at = begin or (line[0] if line else Cells(tree).middle(largest({leaf: what.faces for leaf, what in seen.items()})))
+    level = {**page.level_of(tree, seen), "portals": portals, "leak": line and page.places(line),
+             "at": page.places([at])[0], "to": page.places(line)[1] if line and not begin else None}
     return page.page(plain_name(words.tree), level)
-
-
-def start(words, tree, seen, line):
-    """Where one begins: at the place that is asked for, at the first entity of the map, where a leak begins, or in the middle of
-    the largest leaf."""
-    if words.map is not None:
-        return origin_of(words.map, tree)
-    if words.at or line:
-        return words.at or line[0]
-    return Cells(tree).middle(largest({leaf: what.faces for leaf, what in seen.items()}))
 
 
 def origin_of(name, tree):
@@ -250,7 +163,7 @@ def portals_of(name, tree):
 def run(words):
     """Does what the words ask for, and answers the exit status: 0, or 1 where it cannot be done."""
     parser = argparse.ArgumentParser(prog="qmlook", description="Looks at a compiled map.", allow_abbrev=False)
-    given = words_of(parser, with_places(words))
+    given = words_of(parser, joined(words))
     does = {"plan": plan_of, "points": points_of, "view": view_of, "picture": picture_of, "json": json_of}
     try:
         sys.stdout.writelines(does[given.command](given))

@@ -95,14 +95,6 @@ def on_plane(plane):
     return corners if plane[across] > 0 else corners[::-1]
 
 
-def area(polygon, plane):
-    """Twice the area that a polygon has across the axis along which its plane's normal is longest, as a fraction."""
-    across = max(range(3), key=lambda axis: abs(plane[axis]))
-    one, other = (across + 1) % 3, (across + 2) % 3
-    flat = [(Fraction(place[one], place[3]), Fraction(place[other], place[3])) for place in polygon]
-    return abs(sum(a[0] * b[1] - b[0] * a[1] for a, b in zip(flat, flat[1:] + flat[:1])))
-
-
 def rounded(corner):
     """The coordinates of a corner as they are drawn."""
     x, y, z, w = corner

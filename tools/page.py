@@ -4,7 +4,8 @@ What is written of the level for the scripts, numbers as bytes in base64, little
 planes (four doubles each), nodes (plane, front, back: 4 bytes, signed), leaves (a byte: the place of what fills it in `FILLS`),
 middles (three floats each); corners (three floats each); of each surface, leaf by leaf, how many corners it has (2 bytes), its
 corners by their numbers (4 bytes each), its kind and its red, green and blue (a byte each); of each leaf how many surfaces
-it has, how many leaves it touches that hold other contents, and these (4 bytes each); and the rows, bit by bit."""
+it has, how many leaves it touches that hold other contents, and these (4 bytes each); and the rows, bit by bit. Beside these
+stand the portals of a listing, the points of a leak line, where one begins, and where one looks, each null where it is not said."""
 
 from base64 import b64encode
 from html import escape
@@ -27,6 +28,11 @@ def spelled(layout, numbers):
     """Numbers as bytes, in base64."""
     numbers = list(numbers)
     return b64encode(pack(f"<{len(numbers)}{layout}", *numbers)).decode()
+
+
+def places(points):
+    """Some points as they are drawn."""
+    return [[float(number) for number in point] for point in points]
 
 
 def flat(points):

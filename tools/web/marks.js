@@ -1,6 +1,6 @@
 // What is written and drawn upon the view: numbers of leaves, a small plan, and what is told at the edge.
 
-const REACH = 512, SIZE = 220, MOST_NUMBERS = 400;
+const REACH = 512, SIZE = 220, MOST_NUMBERS = 400, WIDE = 40, HIGH = 15;
 
 // where a point stands on the page and how far ahead, or null where it is not in the view
 function onPage(matrix, point, over) {
@@ -8,14 +8,18 @@ function onPage(matrix, point, over) {
     return far > NEAR && Math.max(Math.abs(x), Math.abs(y)) < far ? [(1 + x / far) * over.width / 2, (1 - y / far) * over.height / 2, far] : null;
 }
 
-// at the middles of leaves, the nearest ones; for one who stands inside only where nothing solid stands between
+// at the middles of leaves, the nearest ones, where a nearer one leaves room; for one who stands inside only where nothing
+// solid stands between
 function drawNumbers(pen, matrix, over) {
     const inside = !isSolid(leafAt(state.eye)), middle = leaf => Array.from(middles.subarray(3 * leaf, 3 * leaf + 3));
     const isHidden = leaf => inside && passed(state.eye, middle(leaf)).some(([between]) => isSolid(between));
     const found = numbered.filter(leaf => drawn.shown[leaf]).map(leaf => [leaf, onPage(matrix, middle(leaf), over)]).filter(([, at]) => at);
     found.sort(([, one], [, other]) => one[2] - other[2]);
     Object.assign(pen, { font: "bold 13px sans-serif", textAlign: "center", lineJoin: "round", lineWidth: 3, strokeStyle: "#000000", fillStyle: "#ffff80" });
-    for (const [leaf, [x, y]] of found.slice(0, MOST_NUMBERS).filter(([leaf]) => !isHidden(leaf))) {
+    const written = [];
+    for (const [leaf, [x, y]] of found.slice(0, MOST_NUMBERS)) {
+        if (written.some(([u, v]) => Math.abs(x - u) < WIDE && Math.abs(y - v) < HIGH) || isHidden(leaf)) continue;
+        written.push([x, y]);
         pen.strokeText(leaf, x, y);
         pen.fillText(leaf, x, y);
     }

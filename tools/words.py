@@ -1,0 +1,88 @@
+"""The words of the commands of `qmlook`, and what each of them means."""
+
+from fractions import Fraction
+import re
+
+from polygons import BOUND
+
+# the options behind which a place may stand
+PLACED = ("--at", "--from", "--to", "--row")
+
+
+def words_of(parser, words):
+    """The words of a command line, or the usage line and status 2."""
+    commands = parser.add_subparsers(dest="command", metavar="COMMAND", required=True)
+    plan_words = command(commands, "plan", "a slice through the tree at a height, as an SVG picture")
+    plan_words.add_argument("--z", type=height, help="the height; without it one at which there is much to see")
+    plan_words.add_argument("--leak", metavar="TRAIL", type=trail, help='the numbers behind `trail: `, as "8 6 0"')
+    plan_words.add_argument("--row", metavar="N", type=number, help="shows the leaves that row N holds")
+    plan_words.add_argument("--prt", metavar="FILE", help="shows the portals of a listing")
+    points_words = command(commands, "points", "the line of a leak, as a point file for editors")
+    points_words.add_argument("--leak", metavar="TRAIL", type=trail, required=True, help="the same")
+    view_words = command(commands, "view", "a page in which one walks through the level, for a browser")
+    begins = view_words.add_mutually_exclusive_group()
+    begins.add_argument("--at", metavar="X,Y,Z", type=place, help="where one begins")
+    begins.add_argument("--map", metavar="MAP", help="begins at its first entity that does not stand in solid")
+    view_words.add_argument("--leak", metavar="TRAIL", type=trail, help="has the line of a leak")
+    view_words.add_argument("--prt", metavar="FILE", help="has the portals of a listing")
+    picture_words = command(commands, "picture", "a view from a place, as an SVG picture")
+    picture_words.add_argument("--from", metavar="X,Y,Z", type=place, required=True, dest="eye", help="where one stands")
+    picture_words.add_argument("--to", metavar="X,Y,Z", type=place, required=True, dest="aim", help="where one looks")
+    picture_words.add_argument("--row", metavar="X,Y,Z", type=place, nargs="?", const=True,
+                               help="shows what the row of the leaf there holds; without a place, of one's own leaf")
+    picture_words.add_argument("--leak", metavar="TRAIL", type=trail, help="has the line of a leak")
+    command(commands, "json", "planes, nodes, leaves and rows, for other programs")
+    return parser.parse_args(words)
+
+
+def command(commands, name, what):
+    """A command, which reads a tree file and takes its options in full alone."""
+    words = commands.add_parser(name, help=what, description=f"Prints {what}.", allow_abbrev=False)
+    words.add_argument("tree", metavar="OUT", help="a tree file of `qmapc compile`")
+    return words
+
+
+def height(word):
+    """A height inside the cube."""
+    try:
+        value = Fraction(word)
+    except ZeroDivisionError:
+        raise ValueError from None
+    if not -BOUND < value < BOUND:
+        raise ValueError
+    return value
+
+
+def number(word):
+    """A number from 0 on."""
+    if not word.isdecimal():
+        raise ValueError
+    return int(word)
+
+
+def place(words):
+    """Three numbers parted by commas: a point strictly inside the cube."""
+    numbers = tuple(height(word) for word in words.split(","))
+    if len(numbers) != 3:
+        raise ValueError
+    return numbers
+
+
+def joined(words):
+    """The words of a command line, where a place that begins with a hyphen is joined to the option before it: by itself it
+    would be taken for one."""
+    found = []
+    for word in words:
+        if found and found[-1] in PLACED and re.match(r"-[\d.].*,", word):
+            found[-1] += "=" + word
+        else:
+            found.append(word)
+    return found
+
+
+def trail(words):
+    """The numbers of a trail, with or without the `trail: ` before them."""
+    numbers = [number(word) for word in words.removeprefix("trail:").split()]
+    if not numbers:
+        raise ValueError
+    return numbers
