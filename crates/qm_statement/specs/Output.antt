@@ -35,7 +35,7 @@ IsListed false world bytes = bytes ≡ None
 
 -- `compile`, where no entity leaks: the bytes of the tree with its rows, the listing of its world where one is asked for, and
 -- the summary
-pub record IsTightOutput (map : MapFile) (options : Options) (listed : Bool) (output : Output) : Type 0 where
+pub record IsOutputWithoutLeak (map : MapFile) (options : Options) (listed : Bool) (output : Output) : Type 0 where
   pub file : TreeFile
   pub world : World
   pub summary : Summary
@@ -66,5 +66,5 @@ pub record IsFormatOutput (map : MapFile) (output : Output) : Type 0 where
 
 -- what a command makes of a map
 unfoldable pub IsOutputOf : Command → MapFile → Output → Type 0
-IsOutputOf (Compile options listed) map output = IsTightOutput map options listed output ⊎ IsLeakOutput map output
+IsOutputOf (Compile options listed) map output = IsOutputWithoutLeak map options listed output ⊎ IsLeakOutput map output
 IsOutputOf Format map output = IsFormatOutput map output
