@@ -1,10 +1,16 @@
-//! Tests of rows in runs and of tree files, by the calls that these crates offer.
+//! Tests of rows in runs, of tree files and of portal listings, by the calls that these crates offer.
 #![tactic(auto)]
 
 #[cfg(test)]
-mod altered;
-#[cfg(test)]
 mod cube;
+#[cfg(test)]
+mod file_altered;
+#[cfg(test)]
+mod listing_altered;
+#[cfg(test)]
+mod listing_of_rooms;
+#[cfg(test)]
+mod listing_printed;
 #[cfg(test)]
 mod long;
 #[cfg(test)]

@@ -80,17 +80,12 @@ fn corners_rounded(rt: HostRuntime) {
         [[0, 0, 0], [-1, 0, 0], [0, 1, 0]],
         [[1, 0, 0], [0, 0, 0], [0, 1, 0]],
     ];
-    assert!(rt; rounds_to(rt.alloc(), false, wanted));
-}
-
-#[test]
-fn corners_rounded_below_zero(rt: HostRuntime) {
-    let wanted = [
+    let mirrored = [
         [[-1, 0, 0], [0, 0, 0], [0, 1, 0]],
         [[-1, 0, 0], [0, 0, 0], [0, 1, 0]],
         [[0, 0, 0], [1, 0, 0], [0, 1, 0]],
     ];
-    assert!(rt; rounds_to(rt.alloc(), true, wanted));
+    assert!(rt; rounds_to(rt.alloc(), false, wanted) && rounds_to(rt.alloc(), true, mirrored));
 }
 
 /// The least distances for the normals (3, -1, 0) and (-3, 1, 0) at the corners of a winding.
@@ -108,11 +103,6 @@ fn triangle_has_distances(alloc: Global) -> bool {
         Some(triangle) => least_distances(&triangle) == (2, 1),
         None => false,
     }
-}
-
-#[test]
-fn distances_of_corners(rt: HostRuntime) {
-    assert!(rt; triangle_has_distances(rt.alloc()));
 }
 
 /// The plane with 3 x = 1, on which no point is whole.
@@ -170,11 +160,10 @@ fn is_at_a_third(corner: &Corner) -> bool
         && least_distance([-1, 0, 0], &corners) == 0
 }
 
-#[test]
-fn corner_of_a_plane_without_whole_points(rt: HostRuntime) {
+fn has_corner_at_a_third() -> bool {
     match corner_at_a_third() {
-        Some(corner) => assert!(rt; is_at_a_third(&corner)),
-        None => assert!(rt; false),
+        Some(corner) => is_at_a_third(&corner),
+        None => false,
     }
 }
 
@@ -187,6 +176,6 @@ fn have_no_corner() -> bool {
 }
 
 #[test]
-fn planes_without_a_corner(rt: HostRuntime) {
-    assert!(rt; have_no_corner());
+fn corners_of_planes(rt: HostRuntime) {
+    assert!(rt; triangle_has_distances(rt.alloc()) && has_corner_at_a_third() && have_no_corner());
 }

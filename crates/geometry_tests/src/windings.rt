@@ -98,11 +98,6 @@ fn floor_is_cut(alloc: Global) -> bool {
     }
 }
 
-#[test]
-fn planes_beside_and_across_the_floor(rt: HostRuntime) {
-    assert!(rt; floor_is_cut(rt.alloc()));
-}
-
 /// The floor's square without one of its corners.
 fn five_corners(alloc: Global) -> Option<Winding> {
     cut_by(
@@ -134,11 +129,6 @@ fn part_is_touched(alloc: Global) -> bool {
     }
 }
 
-#[test]
-fn planes_that_touch_a_part(rt: HostRuntime) {
-    assert!(rt; part_is_touched(rt.alloc()));
-}
-
 /// The part of one of the steepest planes in front of another.
 fn steepest_part(alloc: Global) -> Option<Winding> {
     let steep = through([[4096, -4095, 0], [-4096, -4096, 0], [-4095, 4096, 1]]);
@@ -165,8 +155,9 @@ fn steepest_planes_meet(alloc: Global) -> bool {
 }
 
 #[test]
-fn the_steepest_planes(rt: HostRuntime) {
-    assert!(rt; steepest_planes_meet(rt.alloc()));
+fn windings_are_cut(rt: HostRuntime) {
+    let alloc = rt.alloc();
+    assert!(rt; floor_is_cut(alloc) && part_is_touched(alloc) && steepest_planes_meet(alloc));
 }
 
 /// The floor's square without its corners, by so many cuts that its edges no longer stand inline.

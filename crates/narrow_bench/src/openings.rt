@@ -5,7 +5,7 @@ ghost use Rattle.qm_space.specs.Point.{IsCoordinate, AreCoordinates};
 ghost use Rattle.qm_wind.specs.Entered.{IsPane};
 
 use qm_geom::Plane;
-use qm_wind::{Clip, Pane, Side, Winding};
+use qm_wind::{Pane, Side, Winding};
 use std::alloc::{AllocError, Global};
 
 /// How the openings lie: with whole corners in planes across the axes; with whole corners in planes that are turned; slanted;
@@ -183,10 +183,9 @@ impl Openings {
         };
         for i in 0..self.shape.sides() {
             let side = self.side(axis, i, [a, b], [c, d]);
-            winding = match winding.clip(&side, side_of(&side, middle))? {
-                Clip::Whole => winding,
-                Clip::Gone => return Ok(None),
-                Clip::Cut(part) => part,
+            winding = match winding.keep(&side, side_of(&side, middle))? {
+                Some(kept) => kept,
+                None => return Ok(None),
             };
         }
         let beyond = self.shape.point(axis, [sum(far, 64), 0, 0]);

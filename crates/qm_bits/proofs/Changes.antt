@@ -183,14 +183,16 @@ union_of_lists old other new len other_len list other_list view other_view row o
 
 pub cut_of_lists : (old other new : List ℕ) (len other_len : ℕ) (list other_list : List Bool) → row_of old len ≡ list → row_of other other_len ≡ other_list → IsRow old len → IsRow other other_len → length other_list ≡ length list → IsOfBoth bit_and old other new → IsRow new len × IsCutTo other_list list (row_of new len)
 cut_of_lists old other new len other_len list other_list view other_view row other_row same is =
-    let made = made_of_lists bit_and (λ a b. a && b) and_bitwise old other new len other_len list other_list view other_view row other_row same is in
-    (made.row, record {
-      same_length = made.same_length;
-      exactly = λ place. (
-        λ set. and_parts (get_or list place false) (get_or other_list place false) (sym (made.places place) ∙ set),
-        λ both. made.places place ∙ ap₂ (λ (a b : Bool). a && b) both.0 both.1,
-      );
-    })
+    let made = made_of_lists bit_and (λ a b. a && b) and_bitwise old other new len other_len list other_list view other_view row other_row same is in (
+      made.row,
+      record {
+        same_length = made.same_length;
+        exactly = λ place. (
+          λ set. and_parts (get_or list place false) (get_or other_list place false) (sym (made.places place) ∙ set),
+          λ both. made.places place ∙ ap₂ (λ (a b : Bool). a && b) both.0 both.1,
+        );
+      },
+    )
 
 -- ---- a row is copied, or all its places are set
 

@@ -43,7 +43,7 @@ use Rattle.qm_solids.proofs.ContentsLaws.{one_contents}
 use Rattle.qm_segments.specs.Ends.{HoldLinesOfSight}
 use Rattle.qm_segments.proofs.EndRows.{sound_rows_hold_ends, coarse_rows_hold_ends}
 use Rattle.qm_segments.proofs.FilledRows.{filled_row_closed}
-use Rattle.qm_file.specs.declared.tree_file.TreeFile.{TreeFile}
+use Rattle.qm_formats.specs.TreeFile.{TreeFile}
 use Rattle.qm_compile.specs.declared.compiled.Compiled.{Compiled}
 use Rattle.qm_compile.specs.declared.compiled.Compiled.TheVariants.{Done, Leak}
 use Rattle.qm_compile.specs.declared.options.Options.{Options}

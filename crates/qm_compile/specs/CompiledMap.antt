@@ -7,7 +7,7 @@ use Rattle.qm_solid_tree.specs.GivesContents.{GivesContentsOrIsFilled}
 use Rattle.qm_contacts.specs.Leak.{Origin, Leaks, IsLeak}
 use Rattle.qm_contacts.specs.World.{World}
 use Rattle.qm_segments.specs.Ends.{HoldLinesOfSight}
-use Rattle.qm_file.specs.declared.tree_file.TreeFile.{TreeFile}
+use Rattle.qm_formats.specs.TreeFile.{TreeFile}
 use Rattle.qm_compile.specs.declared.compiled.Compiled.{Compiled}
 use Rattle.qm_compile.specs.declared.compiled.Compiled.TheVariants.{Done, Leak}
 use Rattle.qm_compile.specs.declared.options.Options.{Options}

@@ -4,8 +4,8 @@ use Rattle.qm_grammar.specs.Faults.{text_limit}
 use Rattle.qm_grammar.specs.Meaning.{IsMapText}
 use Rattle.qm_mapout.specs.Printed.{printed_map}
 use Rattle.qm_contacts.specs.World.{World}
-use Rattle.qm_file.specs.declared.tree_file.TreeFile.{TreeFile}
-use Rattle.qm_formats.specs.TreeFile.{file_bytes}
+use Rattle.qm_formats.specs.TreeFile.{TreeFile}
+use Rattle.qm_formats.specs.FileLayout.{file_bytes}
 use Rattle.qm_listing.specs.declared.listing.Listing.{Listing}
 use Rattle.qm_listing.specs.Grammar.{listing_text}
 use Rattle.qm_listing.specs.WorldListing.{IsListingOf}
@@ -37,14 +37,14 @@ IsListed false world bytes = bytes ≡ None
 
 -- the bytes of a tree file, its world's listing where one is asked for, and the summary
 pub record IsDoneOutput (listed : Bool) (file : TreeFile) (world : World) (summary : Summary) (output : Output) : Type 0 where
-  pub is_file : output.file ≡ file_bytes (file.tree, file.rows)
+  pub is_file : output.file ≡ file_bytes file
   pub is_listed : IsListed listed world output.listing
   pub is_status : output.status ≡ Done
   pub is_text : output.text ≡ summary_text summary
 
 -- where an entity leaks: the bytes of a tree file, no listing, and that entity and its trail
 pub record IsLeakOutput (file : TreeFile) (entity : ℕ) (trail : List ℕ) (output : Output) : Type 0 where
-  pub is_file : output.file ≡ file_bytes (file.tree, file.rows)
+  pub is_file : output.file ≡ file_bytes file
   pub is_not_listed : output.listing ≡ None
   pub is_status : output.status ≡ Leak
   pub is_text : output.text ≡ leak_text entity trail

@@ -4,8 +4,8 @@ ghost use Rattle.std.specs.List.{list_all};
 ghost use Rattle.std.specs.Str.Parse.{digits_value, AllDigits};
 ghost use Rattle.qm_numerals.specs.inner.Parts.{IsDecimalAnswer, IsZerosAnswer};
 
-use qm_numerals::NumberFault;
 use crate::whole::digit;
+use qm_numerals::NumberFault;
 
 /// Ten to that power.
 pub fn power_of_ten(exponent: usize) -> u64

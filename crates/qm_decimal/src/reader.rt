@@ -5,8 +5,8 @@ ghost use Rattle.qm_numerals.specs.Number.{Number, SpellsNumber, IsTail};
 ghost use Rattle.qm_numerals.specs.inner.Parts.{IsMagnitudeAnswer, IsSignSplit};
 
 use crate::decimals::{decimal_part, power_of_ten};
-use qm_numerals::{Fraction, NumberFault};
 use crate::whole::{LIMIT, whole_part};
+use qm_numerals::{Fraction, NumberFault};
 
 /// The text without its sign, and whether that is `-`.
 fn split_sign(text: &[u8]) -> (bool, &[u8])

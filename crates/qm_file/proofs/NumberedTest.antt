@@ -7,7 +7,7 @@ use Rattle.qm_partition.specs.declared.node.Node.{Node}
 use Rattle.qm_partition.specs.declared.node.Leaf.{Leaf}
 use Rattle.qm_partition.specs.Partition.{Partition}
 use Rattle.qm_partition.specs.Numbering.{AreNumbered}
-use Rattle.qm_formats.specs.TreeFile.{some_leaves, are_numbered}
+use Rattle.qm_formats.specs.FileLayout.{some_leaves, are_numbered}
 use Rattle.qm_formats.proofs.NumberedNodes.{numbered_shape, numbered-test}
 
 same_truth : (b c : Bool) → (b ≡ true → c ≡ true) → (c ≡ true → b ≡ true) → b ≡ c

@@ -3,16 +3,14 @@ use Rattle.std.proofs.Common.{◌≡◌, ℕ, ◌+◌, Bool, List, [], ◌∷◌
 use Rattle.std.specs.List.{flat_map}
 use Rattle.qm_partition.specs.Counting.{leaves_of}
 use Rattle.qm_partition.specs.Numbering.{nodes_of}
-use Rattle.qm_formats.specs.Layout.{Layout, bytes_of_each}
+use Rattle.qm_formats.specs.Layout.{bytes_of_each}
 use Rattle.qm_formats.specs.Runs.{runs_of, in_runs}
 use Rattle.qm_formats.specs.RowBits.{packed, row_bits}
 use Rattle.qm_formats.specs.FileParts.{plane_layout, node_layout, leaf_layout}
-use Rattle.qm_formats.specs.TreeFile.{Header, file_header_layout, own_row_layout, planes_layout, nodes_layout, leaves_layout, rows_layout, parts_layout, FileContent, header_of, file_layout, file_bytes}
+use Rattle.qm_formats.specs.TreeFile.{TreeFile}
+use Rattle.qm_formats.specs.FileLayout.{Header, file_header_layout, own_row_layout, planes_layout, nodes_layout, leaves_layout, rows_layout, tree_layout, header_of, file_layout, file_bytes}
+use Rattle.qm_formats.proofs.ManyBytes.{many_bytes}
 use Rattle.qm_file.specs.inner.RowsBytes.{rows_bytes}
-
-many_bytes : {F X : Type 0} (layout : Layout F X) (k : ℕ) (xs : List X) → bytes_of_each (λ _. layout) k xs ≡ flat_map layout.bytes_of xs
-many_bytes layout k [] = refl
-many_bytes layout k (x ∷ xs) = ap (λ (rest : List ℕ). layout.bytes_of x ++ rest) (many_bytes layout (k + 1) xs)
 
 own_rows_bytes : (places k : ℕ) (rows : List (List Bool)) → bytes_of_each (own_row_layout places) k rows ≡ flat_map (λ row. runs_of (packed row)) rows
 unfolding own_row_layout row_bits in_runs
@@ -24,11 +22,11 @@ unfolding rows_layout
 all_rows_bytes header None = refl
 all_rows_bytes header (Some rows) = own_rows_bytes header.numbered 0 rows
 
-pub file_bytes-parts : (file : FileContent) → file_bytes file ≡ file_header_layout.bytes_of (header_of file) ++ (flat_map plane_layout.bytes_of file.0.planes ++ (flat_map node_layout.bytes_of (nodes_of file.0.shape 0 0) ++ (flat_map leaf_layout.bytes_of (leaves_of file.0.shape) ++ rows_bytes file.1)))
-unfolding file_bytes file_layout parts_layout planes_layout nodes_layout leaves_layout
+pub file_bytes-parts : (file : TreeFile) → file_bytes file ≡ file_header_layout.bytes_of (header_of file) ++ ((flat_map plane_layout.bytes_of file.tree.planes ++ (flat_map node_layout.bytes_of (nodes_of file.tree.shape 0 0) ++ flat_map leaf_layout.bytes_of (leaves_of file.tree.shape))) ++ rows_bytes file.rows)
+unfolding file_bytes file_layout tree_layout planes_layout nodes_layout leaves_layout
 file_bytes-parts file =
-    let planes = many_bytes plane_layout 0 file.0.planes in
-    let nodes = many_bytes node_layout 0 (nodes_of file.0.shape 0 0) in
-    let leaves = many_bytes leaf_layout 0 (leaves_of file.0.shape) in
-    let rows = all_rows_bytes (header_of file) file.1 in
-    λ i. file_header_layout.bytes_of (header_of file) ++ (planes i ++ (nodes i ++ (leaves i ++ rows i)))
+    let planes = many_bytes plane_layout 0 file.tree.planes in
+    let nodes = many_bytes node_layout 0 (nodes_of file.tree.shape 0 0) in
+    let leaves = many_bytes leaf_layout 0 (leaves_of file.tree.shape) in
+    let rows = all_rows_bytes (header_of file) file.rows in
+    λ i. file_header_layout.bytes_of (header_of file) ++ ((planes i ++ (nodes i ++ leaves i)) ++ rows i)

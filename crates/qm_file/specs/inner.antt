@@ -1,3 +1,2 @@
 pub mod RowsBytes
 pub mod SeenHeader
-pub mod SeenParts

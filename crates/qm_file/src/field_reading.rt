@@ -1,6 +1,6 @@
-//! Single fields, read at a place. Each answers its value and where it ends.
+//! Single fields, read at a place. Each answers its value and where it ends. Nothing is left at a place past the end.
 
-ghost use Rattle.std.specs.Prelude.{◌≡◌, ◌≤◌, length, IfOk, codes};
+ghost use Rattle.std.specs.Prelude.{◌≡◌, length, codes};
 ghost use Rattle.std.specs.Int.{w8, w32, w64};
 ghost use Rattle.qm_formats.specs.Fields.{signed, unsigned, fixed};
 ghost use Rattle.qm_formats.specs.FileParts.{short, magic};
@@ -19,11 +19,9 @@ pub(crate) fn short(bytes: &[u8]) -> FileFault
 
 #[tactic(auto, unfolding(qm_formats::specs::Fields::unsigned, qm_formats::specs::Fields::raw))]
 pub(crate) fn u8_at(bytes: &[u8], at: usize) -> Result<(u8, usize), FileFault>
-    requires { at ≤ length bytes.now }
-    ensures gives { GivesOfFile (λ read. read.0) (λ read. read.1) result ((unsigned short w8).read bytes.now at) }
-    ensures within { IfOk result (λ read. read.1 ≤ length bytes.now) }
+    ensures { GivesOfFile (λ read. read.0) (λ read. read.1) result ((unsigned short w8).read bytes.now at) }
 {
-    if bytes.len() - at < 1 {
+    if bytes.len().saturating_sub(at) < 1 {
         return Err(short(bytes));
     }
     Ok((bytes[at], at + 1))
@@ -31,11 +29,9 @@ pub(crate) fn u8_at(bytes: &[u8], at: usize) -> Result<(u8, usize), FileFault>
 
 #[tactic(auto, unfolding(qm_formats::specs::Fields::unsigned, qm_formats::specs::Fields::raw))]
 pub(crate) fn u32_at(bytes: &[u8], at: usize) -> Result<(u32, usize), FileFault>
-    requires { at ≤ length bytes.now }
-    ensures gives { GivesOfFile (λ read. read.0) (λ read. read.1) result ((unsigned short w32).read bytes.now at) }
-    ensures within { IfOk result (λ read. read.1 ≤ length bytes.now) }
+    ensures { GivesOfFile (λ read. read.0) (λ read. read.1) result ((unsigned short w32).read bytes.now at) }
 {
-    if bytes.len() - at < 4 {
+    if bytes.len().saturating_sub(at) < 4 {
         return Err(short(bytes));
     }
     let (part, _) = bytes.split_at(at).1.split_at(4);
@@ -45,11 +41,9 @@ pub(crate) fn u32_at(bytes: &[u8], at: usize) -> Result<(u32, usize), FileFault>
 
 #[tactic(auto, unfolding(qm_formats::specs::Fields::unsigned, qm_formats::specs::Fields::raw))]
 pub(crate) fn u64_at(bytes: &[u8], at: usize) -> Result<(u64, usize), FileFault>
-    requires { at ≤ length bytes.now }
-    ensures gives { GivesOfFile (λ read. read.0) (λ read. read.1) result ((unsigned short w64).read bytes.now at) }
-    ensures within { IfOk result (λ read. read.1 ≤ length bytes.now) }
+    ensures { GivesOfFile (λ read. read.0) (λ read. read.1) result ((unsigned short w64).read bytes.now at) }
 {
-    if bytes.len() - at < 8 {
+    if bytes.len().saturating_sub(at) < 8 {
         return Err(short(bytes));
     }
     let (part, _) = bytes.split_at(at).1.split_at(8);
@@ -61,9 +55,7 @@ pub(crate) fn u64_at(bytes: &[u8], at: usize) -> Result<(u64, usize), FileFault>
 
 #[tactic(auto, unfolding(qm_formats::specs::Fields::signed))]
 pub(crate) fn i32_at(bytes: &[u8], at: usize) -> Result<(i32, usize), FileFault>
-    requires { at ≤ length bytes.now }
-    ensures gives { GivesOfFile (λ read. read.0) (λ read. read.1) result ((signed short w32).read bytes.now at) }
-    ensures within { IfOk result (λ read. read.1 ≤ length bytes.now) }
+    ensures { GivesOfFile (λ read. read.0) (λ read. read.1) result ((signed short w32).read bytes.now at) }
 {
     let (number, next) = u32_at(bytes, at)?;
     Ok((number.cast_signed(), next))
@@ -71,9 +63,7 @@ pub(crate) fn i32_at(bytes: &[u8], at: usize) -> Result<(i32, usize), FileFault>
 
 #[tactic(auto, unfolding(qm_formats::specs::Fields::signed))]
 pub(crate) fn i64_at(bytes: &[u8], at: usize) -> Result<(i64, usize), FileFault>
-    requires { at ≤ length bytes.now }
-    ensures gives { GivesOfFile (λ read. read.0) (λ read. read.1) result ((signed short w64).read bytes.now at) }
-    ensures within { IfOk result (λ read. read.1 ≤ length bytes.now) }
+    ensures { GivesOfFile (λ read. read.0) (λ read. read.1) result ((signed short w64).read bytes.now at) }
 {
     let (number, next) = u64_at(bytes, at)?;
     Ok((number.cast_signed(), next))

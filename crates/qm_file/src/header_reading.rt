@@ -1,9 +1,9 @@
 //! The header of a tree file.
 
-ghost use Rattle.std.specs.Prelude.{◌≡◌, ◌≤◌, ◌<◌, ◌+◌, ◌^◌, ◌==◌, nat_lt, nat_le, length, IfOk, codes, take, slice_index};
+ghost use Rattle.std.specs.Prelude.{◌≡◌, ◌≤◌, ◌<◌, ◌+◌, ◌^◌, ◌==◌, nat_lt, nat_le, length, codes, take, slice_index};
 ghost use Rattle.qm_formats.specs.Fields.{first_difference, fixed};
 ghost use Rattle.qm_formats.specs.FileParts.{short, magic};
-ghost use Rattle.qm_formats.specs.TreeFile.{count_layout, flag_layout, file_header_layout};
+ghost use Rattle.qm_formats.specs.FileLayout.{count_layout, flag_layout, file_header_layout};
 ghost use Rattle.qm_file.specs.Answers.{IsFaultOfFile, GivesOfFile};
 ghost use Rattle.qm_file.specs.inner.SeenHeader.{seen_header};
 
@@ -23,11 +23,9 @@ pub(crate) struct Header {
 const MAGIC: [u8; 8] = *b"QMTREE01";
 
 /// The header, and where it ends.
-#[tactic(auto, unfolding(qm_formats::specs::TreeFile::file_header_layout))]
+#[tactic(auto, unfolding(qm_formats::specs::FileLayout::file_header_layout))]
 pub(crate) fn header_at_start(bytes: &[u8]) -> Result<(Header, usize), FileFault>
-    ensures gives { GivesOfFile (λ read. seen_header read.0) (λ read. read.1) result (file_header_layout.read bytes.now 0) }
-    ensures within { IfOk result (λ read. read.1 ≤ length bytes.now) }
-    ensures one_more { IfOk result (λ read. read.0.leaves ≡ read.0.nodes + 1) }
+    ensures { GivesOfFile (λ read. seen_header read.0) (λ read. read.1) result (file_header_layout.read bytes.now 0) }
 {
     let next = magic_at_start(bytes)?;
     let (planes, next) = plane_count_at(bytes, next)?;
@@ -48,8 +46,7 @@ pub(crate) fn header_at_start(bytes: &[u8]) -> Result<(Header, usize), FileFault
 /// Tests the magic bytes, and answers where they end.
 #[tactic(auto, unfolding(qm_formats::specs::Fields::fixed, qm_formats::specs::Fields::raw))]
 fn magic_at_start(bytes: &[u8]) -> Result<usize, FileFault>
-    ensures gives { GivesOfFile (λ _. tt) (λ next. next) result ((fixed short magic (codes "QMTREE01")).read bytes.now 0) }
-    ensures within { IfOk result (λ next. next ≤ length bytes.now) }
+    ensures { GivesOfFile (λ _. tt) (λ next. next) result ((fixed short magic (codes "QMTREE01")).read bytes.now 0) }
 {
     if bytes.len() < MAGIC.len() {
         return Err(short(bytes));
@@ -79,9 +76,7 @@ fn same_bytes(expected: &[u8], found: &[u8]) -> usize
 
 /// How many planes there are: so few that 32 bits number them.
 fn plane_count_at(bytes: &[u8], at: usize) -> Result<(u64, usize), FileFault>
-    requires { at ≤ length bytes.now }
-    ensures gives { GivesOfFile (λ read. read.0) (λ read. read.1) result ((count_layout (λ planes. nat_lt planes (2 ^ 32))).read bytes.now at) }
-    ensures within { IfOk result (λ read. read.1 ≤ length bytes.now) }
+    ensures { GivesOfFile (λ read. read.0) (λ read. read.1) result ((count_layout (λ planes. nat_lt planes (2 ^ 32))).read bytes.now at) }
 {
     let (planes, next) = u64_at(bytes, at)?;
     if planes > u64::from(u32::MAX) {
@@ -92,10 +87,7 @@ fn plane_count_at(bytes: &[u8], at: usize) -> Result<(u64, usize), FileFault>
 
 /// How many leaves there are: one more than nodes.
 fn leaf_count_at(bytes: &[u8], at: usize, nodes: u64) -> Result<(u64, usize), FileFault>
-    requires { at ≤ length bytes.now }
-    ensures gives { GivesOfFile (λ read. read.0) (λ read. read.1) result ((count_layout (λ leaves. leaves == nodes + 1)).read bytes.now at) }
-    ensures within { IfOk result (λ read. read.1 ≤ length bytes.now) }
-    ensures one_more { IfOk result (λ read. read.0 ≡ nodes + 1) }
+    ensures { GivesOfFile (λ read. read.0) (λ read. read.1) result ((count_layout (λ leaves. leaves == nodes + 1)).read bytes.now at) }
 {
     let (leaves, next) = u64_at(bytes, at)?;
     if leaves == 0 || leaves - 1 != nodes {
@@ -106,9 +98,7 @@ fn leaf_count_at(bytes: &[u8], at: usize, nodes: u64) -> Result<(u64, usize), Fi
 
 /// How many leaves are numbered: not more than there are.
 fn numbered_count_at(bytes: &[u8], at: usize, leaves: u64) -> Result<(u64, usize), FileFault>
-    requires { at ≤ length bytes.now }
-    ensures gives { GivesOfFile (λ read. read.0) (λ read. read.1) result ((count_layout (λ numbered. nat_le numbered leaves)).read bytes.now at) }
-    ensures within { IfOk result (λ read. read.1 ≤ length bytes.now) }
+    ensures { GivesOfFile (λ read. read.0) (λ read. read.1) result ((count_layout (λ numbered. nat_le numbered leaves)).read bytes.now at) }
 {
     let (numbered, next) = u64_at(bytes, at)?;
     if numbered > leaves {
@@ -119,9 +109,7 @@ fn numbered_count_at(bytes: &[u8], at: usize, leaves: u64) -> Result<(u64, usize
 
 /// A byte that is 0 or 1.
 fn flag_at(bytes: &[u8], at: usize) -> Result<(bool, usize), FileFault>
-    requires { at ≤ length bytes.now }
-    ensures gives { GivesOfFile (λ read. read.0) (λ read. read.1) result (flag_layout.read bytes.now at) }
-    ensures within { IfOk result (λ read. read.1 ≤ length bytes.now) }
+    ensures { GivesOfFile (λ read. read.0) (λ read. read.1) result (flag_layout.read bytes.now at) }
 {
     let (flag, next) = u8_at(bytes, at)?;
     if flag > 1 {

@@ -9,7 +9,8 @@ ghost use Rattle.qm_partition.specs.Partition.{Partition};
 ghost use Rattle.qm_partition.specs.Numbering.{AreNumbered};
 ghost use Rattle.qm_formats.specs.FileParts.{is_plane};
 ghost use Rattle.qm_formats.specs.Exact.{IsExact};
-ghost use Rattle.qm_formats.specs.TreeFile.{are_numbered, FileContent, IsValidFile, file_layout, file_bytes, file_limit};
+ghost use Rattle.qm_formats.specs.FileLayout.{are_numbered, file_layout, file_bytes, file_limit};
+ghost use Rattle.qm_formats.specs.TreeFile.{TreeFile, IsValidFile};
 
 /// What is read in a file stands there and can stand there, and the other way round.
 pub fn exact_layout()
@@ -17,8 +18,8 @@ pub fn exact_layout()
 {}
 
 /// No two trees with their rows have the same file.
-pub fn one_content()
-    ensures { (content other : FileContent) → IsValidFile content → IsValidFile other → file_bytes content ≡ file_bytes other → length (file_bytes content) ≤ file_limit → content ≡ other }
+pub fn one_tree_file()
+    ensures { (file other : TreeFile) → IsValidFile file → IsValidFile other → file_bytes file ≡ file_bytes other → length (file_bytes file) ≤ file_limit → file ≡ other }
 {}
 
 /// A plane passes its test where it is in lowest terms and leads with a positive component.

@@ -1,6 +1,6 @@
 //! Planes, nodes and leaves, read at a place, and lists of them.
 
-ghost use Rattle.std.specs.Prelude.{◌≡◌, ◌≤◌, ◌==◌, true, false, length, IfOk, MatchOption};
+ghost use Rattle.std.specs.Prelude.{◌≡◌, ◌==◌, true, false, length, IfOk, MatchOption};
 ghost use Rattle.qm_formats.specs.Layout.{Layout, many};
 ghost use Rattle.qm_formats.specs.FileParts.{FileFaultKind, plane_layout, child_layout, node_layout, contents_of_code, is_leaf, leaf_layout};
 ghost use Rattle.qm_file.specs.Answers.{IsFaultOfFile, GivesOfFile};
@@ -23,9 +23,7 @@ pub(crate) trait Record {
 
     /// The record at a place, and where it ends.
     fn read_at(bytes: &[u8], at: usize) -> Result<(Self::Value, usize), FileFault>
-        requires { at ≤ length bytes.now }
-        ensures gives { GivesOfFile (λ read. read.0) (λ read. read.1) result (layout.read bytes.now at) }
-        ensures within { IfOk result (λ read. read.1 ≤ length bytes.now) };
+        ensures { GivesOfFile (λ read. read.0) (λ read. read.1) result (layout.read bytes.now at) };
 }
 
 /// So many records one behind the other, from a place on, and where they end. No room is made before the bytes are there.
@@ -35,9 +33,7 @@ pub(crate) fn read_all<R: Record>(
     at: usize,
     count: u64,
 ) -> Result<(Vec<R::Value>, usize), FileFault>
-    requires { at ≤ length bytes.now }
     ensures gives { GivesOfFile (λ read. read.0.items) (λ read. read.1) result ((many R.layout count).read bytes.now at) }
-    ensures within { IfOk result (λ read. read.1 ≤ length bytes.now) }
     ensures counted { IfOk result (λ read. length read.0.items ≡ count) }
 {
     let mut records = Vec::new(alloc);
@@ -91,9 +87,7 @@ impl Record for NodeRecord {
 /// A child: the number of a node, or -(1 + the number of a leaf).
 #[tactic(auto, unfolding(qm_formats::specs::FileParts::child_layout))]
 fn child_at(bytes: &[u8], at: usize) -> Result<(Child, usize), FileFault>
-    requires { at ≤ length bytes.now }
-    ensures gives { GivesOfFile (λ read. read.0) (λ read. read.1) result (child_layout.read bytes.now at) }
-    ensures within { IfOk result (λ read. read.1 ≤ length bytes.now) }
+    ensures { GivesOfFile (λ read. read.0) (λ read. read.1) result (child_layout.read bytes.now at) }
 {
     let (number, next) = i64_at(bytes, at)?;
     if number < 0 {

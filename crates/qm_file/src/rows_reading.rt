@@ -1,11 +1,11 @@
 //! Rows of visibility, read at a place.
 
-ghost use Rattle.std.specs.Prelude.{◌≡◌, ◌<◌, ◌≤◌, ℕ, List, Result, length, IfOk};
+ghost use Rattle.std.specs.Prelude.{◌≡◌, ◌<◌, ℕ, List, Result, length, IfOk};
 ghost use Rattle.qm_formats.specs.Layout.{each, present};
 ghost use Rattle.qm_formats.specs.Runs.{RunFaultKind, in_runs, row_answer};
 ghost use Rattle.qm_formats.specs.RowBits.{row_width, unpacked, is_clear_past, row_bits};
 ghost use Rattle.qm_formats.specs.FileParts.{short, row_form};
-ghost use Rattle.qm_formats.specs.TreeFile.{own_row_layout, rows_layout};
+ghost use Rattle.qm_formats.specs.FileLayout.{own_row_layout, rows_layout};
 ghost use Rattle.qm_runs.specs.Answers.{IsRunFault};
 ghost use Rattle.qm_file.specs.Answers.{IsFaultOfFile, GivesOfFile};
 ghost use Rattle.qm_file.specs.inner.SeenHeader.{seen_header};
@@ -19,16 +19,14 @@ use qm_runs::RunFault;
 use std::alloc::{AllocError, Global};
 
 /// The rows of a file of this header where they are there, and where they end.
-#[tactic(auto, unfolding(qm_formats::specs::TreeFile::rows_layout))]
+#[tactic(auto, unfolding(qm_formats::specs::FileLayout::rows_layout))]
 pub(crate) fn rows_at(
     alloc: Global,
     bytes: &[u8],
     at: usize,
     header: &Header,
 ) -> Result<(Option<Items<BitRow>>, usize), FileFault>
-    requires { at ≤ length bytes.now }
-    ensures gives { GivesOfFile (λ read. read.0) (λ read. read.1) result ((rows_layout (seen_header header.now)).read bytes.now at) }
-    ensures within { IfOk result (λ read. read.1 ≤ length bytes.now) }
+    ensures { GivesOfFile (λ read. read.0) (λ read. read.1) result ((rows_layout (seen_header header.now)).read bytes.now at) }
 {
     if !header.has_rows {
         return Ok((None, at));
@@ -44,9 +42,7 @@ fn all_rows_at(
     at: usize,
     numbered: u64,
 ) -> Result<(Vec<BitRow>, usize), FileFault>
-    requires { at ≤ length bytes.now }
-    ensures gives { GivesOfFile (λ read. read.0.items) (λ read. read.1) result ((each (own_row_layout numbered) numbered).read bytes.now at) }
-    ensures within { IfOk result (λ read. read.1 ≤ length bytes.now) }
+    ensures { GivesOfFile (λ read. read.0.items) (λ read. read.1) result ((each (own_row_layout numbered) numbered).read bytes.now at) }
 {
     let mut rows = Vec::new(alloc);
     let mut next = at;
@@ -59,7 +55,7 @@ fn all_rows_at(
 }
 
 /// A row of so many places in which place `k` is set, and where it ends.
-#[tactic(auto, unfolding(qm_formats::specs::TreeFile::own_row_layout))]
+#[tactic(auto, unfolding(qm_formats::specs::FileLayout::own_row_layout))]
 fn own_row_at(
     alloc: Global,
     bytes: &[u8],
@@ -67,10 +63,8 @@ fn own_row_at(
     places: u64,
     k: u64,
 ) -> Result<(BitRow, usize), FileFault>
-    requires within { at ≤ length bytes.now }
-    requires own { k < places }
-    ensures gives { GivesOfFile (λ read. read.0) (λ read. read.1) result ((own_row_layout places k).read bytes.now at) }
-    ensures within { IfOk result (λ read. read.1 ≤ length bytes.now) }
+    requires { k < places }
+    ensures { GivesOfFile (λ read. read.0) (λ read. read.1) result ((own_row_layout places k).read bytes.now at) }
 {
     let (row, next) = row_at(alloc, bytes, at, places)?;
     if !row.get(k) {
@@ -82,9 +76,7 @@ fn own_row_at(
 /// A row of so many places, and where it ends.
 #[tactic(auto, unfolding(qm_formats::specs::RowBits::row_bits))]
 fn row_at(alloc: Global, bytes: &[u8], at: usize, places: u64) -> Result<(BitRow, usize), FileFault>
-    requires { at ≤ length bytes.now }
     ensures gives { GivesOfFile (λ read. read.0) (λ read. read.1) result ((row_bits short row_form places).read bytes.now at) }
-    ensures within { IfOk result (λ read. read.1 ≤ length bytes.now) }
     ensures places { IfOk result (λ read. length read.0 ≡ places) }
 {
     let (packed, next) = packed_row_at(alloc, bytes, at, places)?;
@@ -103,12 +95,10 @@ fn packed_row_at(
     at: usize,
     places: u64,
 ) -> Result<(Vec<u8>, usize), FileFault>
-    requires { at ≤ length bytes.now }
     ensures gives { GivesOfFile (λ read. read.0.items) (λ read. read.1) result ((in_runs short row_form (row_width places)).read bytes.now at) }
-    ensures within { IfOk result (λ read. read.1 ≤ length bytes.now) }
     ensures width { IfOk result (λ read. length read.0.items ≡ row_width places) }
 {
-    let rest = bytes.split_at(at).1;
+    let rest = bytes.split_at(at.min(bytes.len())).1;
     match qm_runs::decode(alloc, rest, places.div_ceil(8) as usize) {
         Ok((packed, used)) => Ok((packed, at + used)),
         Err(fault) => Err(row_fault(bytes, at, fault)),

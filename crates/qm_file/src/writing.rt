@@ -1,6 +1,6 @@
 ghost use Rattle.std.specs.Prelude.{◌≡◌, ◌++◌, IfOk, OnOk, length, count_by, is_some, Option};
 ghost use Rattle.qm_contacts.specs.NumberedLeaves.{is_numbered};
-ghost use Rattle.qm_formats.specs.TreeFile.{Header, file_header_layout, file_bytes};
+ghost use Rattle.qm_formats.specs.FileLayout.{Header, file_header_layout, file_bytes};
 
 use crate::field_bytes::{put_count, put_flag, put_magic};
 use crate::record_bytes::{LeafBytes, NodeBytes, PlaneBytes};
@@ -22,7 +22,7 @@ const LEAF_LENGTH: usize = 5;
 
 /// The bytes of a tree file.
 pub fn encode(alloc: Global, file: &TreeFile) -> Result<Vec<u8>, AllocError>
-    ensures { IfOk result (λ bytes. bytes.items ≡ file_bytes (file.now.tree, file.now.rows)) }
+    ensures { IfOk result (λ bytes. bytes.items ≡ file_bytes file.now) }
 {
     let planes = file.tree.all_planes();
     let nodes = file.tree.all_nodes();
@@ -52,7 +52,7 @@ fn length_without_rows(planes: usize, nodes: usize, leaves: usize) -> usize {
         .saturating_add(leaves.saturating_mul(LEAF_LENGTH))
 }
 
-#[tactic(auto, unfolding(qm_formats::specs::TreeFile::file_header_layout))]
+#[tactic(auto, unfolding(qm_formats::specs::FileLayout::file_header_layout))]
 fn put_header(
     bytes: &mut Vec<u8>,
     planes: usize,

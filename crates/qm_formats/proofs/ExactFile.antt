@@ -13,12 +13,12 @@ use Rattle.qm_partition.specs.Numbering.{nodes_of, AreNumbered}
 use Rattle.qm_partition.specs.Arrays.{partition_of, tree_of}
 use Rattle.qm_partition.proofs.OwnArrays.{partition_of-numbered}
 use Rattle.qm_contacts.specs.NumberedLeaves.{is_numbered}
-use Rattle.qm_formats.specs.Layout.{Layout, right_each, right_option, pair, each, many}
+use Rattle.qm_formats.specs.Layout.{Layout, right_each, right_option, each, many}
 use Rattle.qm_formats.specs.Fields.{unsigned, fixed}
 use Rattle.qm_formats.specs.Exact.{IsExact}
 use Rattle.qm_formats.specs.FileParts.{short, magic, counts, node_order, plane_layout, node_layout, leaf_layout}
-use Rattle.qm_formats.specs.TreeFile.{Header, count_layout, flag_layout, file_header_layout, are_numbered, are_ordered, own_row_layout, planes_layout, nodes_layout, leaves_layout, rows_layout, parts_layout, file_layout}
-use Rattle.qm_formats.proofs.ExactParts.{recast_exact, tested_exact, both_exact, pair_exact, each_exact, present_exact}
+use Rattle.qm_formats.specs.FileLayout.{Header, count_layout, flag_layout, file_header_layout, are_numbered, are_ordered, own_row_layout, planes_layout, nodes_layout, leaves_layout, rows_layout, tree_layout, header_of, file_layout}
+use Rattle.qm_formats.proofs.ExactParts.{recast_exact, tested_exact, part_exact, last_part_exact, IsAny, exact_of_parts, each_exact, present_exact}
 use Rattle.qm_formats.proofs.ExactFields.{byte_exact, unsigned_64_exact, fixed_exact}
 use Rattle.qm_formats.proofs.ExactRecords.{plane_exact, node_exact, leaf_exact, flag_number, number_flag}
 use Rattle.qm_formats.proofs.ExactRows.{own_row_exact}
@@ -34,12 +34,20 @@ flag_exact =
 pub header_exact : IsExact file_header_layout
 unfolding file_header_layout
 header_exact =
-    recast_exact _ _ _ (
-    pair_exact _ _ (fixed_exact short magic (codes "QMTREE01") refl) (
-    pair_exact _ _ (count_exact (λ planes. ltb planes (2 ^ 32))) (
-    both_exact _ _ (unsigned_64_exact short) (λ nodes.
-    both_exact _ _ (count_exact (λ leaves. eqb leaves (nodes + 1))) (λ leaves.
-    pair_exact _ _ (count_exact (λ numbered. leb numbered leaves)) flag_exact))))) (λ y right. refl) (λ h right. refl)
+    exact_of_parts _ (
+    part_exact _ _ _ _ (fixed_exact short magic (codes "QMTREE01") refl) (λ fixed_bytes _.
+    part_exact _ _ _ _ (count_exact (λ planes. ltb planes (2 ^ 32))) (λ planes _.
+    part_exact _ _ _ _ (unsigned_64_exact short) (λ nodes _.
+    part_exact _ _ _ _ (count_exact (λ leaves. eqb leaves (nodes + 1))) (λ leaves _.
+    part_exact _ _ _ _ (count_exact (λ numbered. leb numbered leaves)) (λ numbered _.
+    last_part_exact _ _ _ _ flag_exact (λ has_rows _. record {
+      before = record { before = record { before = record { before = record { before = record { before = tt; is = refl }; is = refl }; is = refl }; is = refl }; is = refl };
+      is = refl;
+    }) (λ header known.
+    let of_leaves = known.before in
+    let of_nodes = of_leaves.before in
+    let of_planes = of_nodes.before in
+    λ i. record { planes = sym of_planes.is i; nodes = sym of_nodes.is i; leaves = sym of_leaves.is i; numbered = sym known.is i; has_rows = header.has_rows })))))))
 
 pub planes_exact : (header : Header) → IsExact (planes_layout header)
 unfolding planes_layout
@@ -57,10 +65,6 @@ leaves_exact header =
 pub rows_exact : (header : Header) → IsExact (rows_layout header)
 unfolding rows_layout
 rows_exact header = present_exact (each (own_row_layout header.numbered) header.numbered) (each_exact (own_row_layout header.numbered) (own_row_exact header.numbered) 0 header.numbered) header.has_rows
-
-pub parts_exact : (header : Header) → IsExact (parts_layout header)
-unfolding parts_layout
-parts_exact header = pair_exact _ _ (planes_exact header) (pair_exact _ _ (nodes_exact header) (pair_exact _ _ (leaves_exact header) (rows_exact header)))
 
 -- right values are as many as are due
 pub right_each_length : {F X : Type 0} (layout : ℕ → Layout F X) (k count : ℕ) (xs : List X) → right_each layout k count xs ≡ true → length xs ≡ count
@@ -83,7 +87,8 @@ pub record AreRightCounts (header : Header) : Type 0 where
 pub right_counts : (header : Header) → file_header_layout.right header ≡ true → AreRightCounts header
 unfolding file_header_layout
 right_counts header right =
-    let numbered = (pair (count_layout (λ numbered. leb numbered header.leaves)) flag_layout).right (header.numbered, header.has_rows) in
+    let flag = flag_layout.right header.has_rows in
+    let numbered = (count_layout (λ numbered. leb numbered header.leaves)).right header.numbered && flag in
     let leaves = (count_layout (λ leaves. eqb leaves (header.nodes + 1))).right header.leaves in
     let nodes = (unsigned short w64).right header.nodes in
     let planes = (count_layout (λ planes. ltb planes (2 ^ 32))).right header.planes in
@@ -96,79 +101,102 @@ right_counts header right =
       one_leaf_more = eqb-true header.leaves (header.nodes + 1) (and_parts ((unsigned short w64).right header.leaves) (eqb header.leaves (header.nodes + 1)) behind_leaves.0).1;
     }
 
--- the tests of each part, where the parts can stand in a file
-pub record AreRight (header : Header) (planes : List Plane) (nodes : List NodeRecord) (leaves : List LeafRecord) (rows : Option (List (List Bool))) : Type 0 where
+-- planes, nodes and leaves that can stand in a file, each by itself
+pub record CanStand (header : Header) (planes : List Plane) (nodes : List NodeRecord) (leaves : List LeafRecord) : Type 0 where
+  pub of_header : file_header_layout.right header ≡ true
+  pub of_planes : (planes_layout header).right planes ≡ true
+  pub of_nodes : (nodes_layout header).right nodes ≡ true
+  pub of_leaves : (leaves_layout header).right leaves ≡ true
+
+-- the tests of each, where they can stand in a file
+pub record AreRight (header : Header) (planes : List Plane) (nodes : List NodeRecord) (leaves : List LeafRecord) : Type 0 where
   pub of_planes : (many plane_layout header.planes).right planes ≡ true
   pub of_nodes : (many node_layout header.nodes).right nodes ≡ true
   pub named : list_all (λ here. ltb here.plane header.planes) nodes ≡ true
   pub numbered : are_numbered nodes ≡ true
   pub of_leaves : (many leaf_layout header.leaves).right leaves ≡ true
   pub counted : eqb (count_by is_numbered leaves) header.numbered ≡ true
-  pub of_rows : right_option (each (own_row_layout header.numbered) header.numbered) header.has_rows rows ≡ true
 
-pub right_parts : (header : Header) (planes : List Plane) (nodes : List NodeRecord) (leaves : List LeafRecord) (rows : Option (List (List Bool))) → (parts_layout header).right (planes, (nodes, (leaves, rows))) ≡ true → AreRight header planes nodes leaves rows
-unfolding parts_layout planes_layout nodes_layout leaves_layout rows_layout are_ordered
-right_parts header planes nodes leaves rows right =
-    let of_planes = (planes_layout header).right planes in
-    let of_nodes = (nodes_layout header).right nodes in
-    let of_leaves = (leaves_layout header).right leaves in
-    let of_rows = (rows_layout header).right rows in
-    let behind_planes = and_parts of_planes (of_nodes && (of_leaves && of_rows)) right in
-    let behind_nodes = and_parts of_nodes (of_leaves && of_rows) behind_planes.1 in
-    let behind_leaves = and_parts of_leaves of_rows behind_nodes.1 in
-    let test_nodes = and_parts ((many node_layout header.nodes).right nodes) (are_ordered header.planes nodes) behind_nodes.0 in
-    let test_leaves = and_parts ((many leaf_layout header.leaves).right leaves) (eqb (count_by is_numbered leaves) header.numbered) behind_leaves.0 in
+pub right_parts : (header : Header) (planes : List Plane) (nodes : List NodeRecord) (leaves : List LeafRecord) → CanStand header planes nodes leaves → AreRight header planes nodes leaves
+unfolding planes_layout nodes_layout leaves_layout are_ordered
+right_parts header planes nodes leaves can =
+    let test_nodes = and_parts ((many node_layout header.nodes).right nodes) (are_ordered header.planes nodes) can.of_nodes in
+    let test_leaves = and_parts ((many leaf_layout header.leaves).right leaves) (eqb (count_by is_numbered leaves) header.numbered) can.of_leaves in
     let ordered = and_parts (list_all (λ here. ltb here.plane header.planes) nodes) (are_numbered nodes) test_nodes.1 in
     record {
-      of_planes = behind_planes.0;
+      of_planes = can.of_planes;
       of_nodes = test_nodes.0;
       named = ordered.0;
       numbered = ordered.1;
       of_leaves = test_leaves.0;
       counted = test_leaves.1;
-      of_rows = behind_leaves.1;
     }
 
--- what parts that can stand in a file are
-pub record AreCounted (header : Header) (planes : List Plane) (nodes : List NodeRecord) (leaves : List LeafRecord) (rows : Option (List (List Bool))) : Type 0 where
+-- what planes, nodes and leaves are that can stand in a file
+pub record AreCounted (header : Header) (planes : List Plane) (nodes : List NodeRecord) (leaves : List LeafRecord) : Type 0 where
   pub plane_count : length planes ≡ header.planes
   pub node_count : length nodes ≡ header.nodes
   pub leaf_count : length leaves ≡ header.leaves
   pub numbered : AreNumbered (partition_of nodes leaves) nodes leaves
   pub numbered_count : count_by is_numbered leaves ≡ header.numbered
-  pub has_rows : is_some rows ≡ header.has_rows
 
-pub counted_parts : (header : Header) (planes : List Plane) (nodes : List NodeRecord) (leaves : List LeafRecord) (rows : Option (List (List Bool))) → file_header_layout.right header ≡ true → (parts_layout header).right (planes, (nodes, (leaves, rows))) ≡ true → AreCounted header planes nodes leaves rows
-counted_parts header planes nodes leaves rows right_header right =
-    let are = right_parts header planes nodes leaves rows right in
+pub counted_parts : (header : Header) (planes : List Plane) (nodes : List NodeRecord) (leaves : List LeafRecord) → CanStand header planes nodes leaves → AreCounted header planes nodes leaves
+counted_parts header planes nodes leaves can =
+    let are = right_parts header planes nodes leaves can in
     let node_count = right_each_length (λ _. node_layout) 0 header.nodes nodes are.of_nodes in
     let leaf_count = right_each_length (λ _. leaf_layout) 0 header.leaves leaves are.of_leaves in
-    let counts = right_counts header right_header in
+    let counts = right_counts header can.of_header in
     record {
       plane_count = right_each_length (λ _. plane_layout) 0 header.planes planes are.of_planes;
       node_count = node_count;
       leaf_count = leaf_count;
       numbered = numbered-partition nodes leaves are.numbered (omega (arith, node_count, leaf_count, counts.one_leaf_more));
       numbered_count = eqb-true (count_by is_numbered leaves) header.numbered are.counted;
-      has_rows = right_option_there (each (own_row_layout header.numbered) header.numbered) header.has_rows rows are.of_rows;
     }
+
+-- the parts of a tree that can stand in a file can
+pub stand_of_tree : (header : Header) (tree : Tree) → file_header_layout.right header ≡ true → (tree_layout header).right tree ≡ true → CanStand header tree.planes (nodes_of tree.shape 0 0) (leaves_of tree.shape)
+unfolding tree_layout
+stand_of_tree header tree right_header right =
+    let nodes = nodes_of tree.shape 0 0 in
+    let leaves = leaves_of tree.shape in
+    let of_nodes = (nodes_layout header).right nodes in
+    let of_leaves = (leaves_layout header).right leaves in
+    let planes = and_parts ((planes_layout header).right tree.planes) (of_nodes && of_leaves) right in
+    let others = and_parts of_nodes of_leaves planes.1 in
+    record { of_header = right_header; of_planes = planes.0; of_nodes = others.0; of_leaves = others.1 }
 
 pub own_tree : (tree : Tree) → tree_of tree.planes (nodes_of tree.shape 0 0) (leaves_of tree.shape) ≡ tree
 own_tree tree =
     let own = partition_of-numbered tree.shape (nodes_of tree.shape 0 0) (leaves_of tree.shape) (record { nodes_are = refl; leaves_are = refl }) in
     λ i. record { planes = tree.planes; shape = own i }
 
+pub tree_exact : (header : Header) → file_header_layout.right header ≡ true → IsExact (tree_layout header)
+unfolding tree_layout
+tree_exact header of_header =
+    exact_of_parts _ (
+    part_exact IsAny (λ tree. tree.planes) (planes_layout header) _ (planes_exact header) (λ planes of_planes.
+    part_exact _ (λ tree. nodes_of tree.shape 0 0) (nodes_layout header) _ (nodes_exact header) (λ nodes of_nodes.
+    last_part_exact _ (λ tree. leaves_of tree.shape) (leaves_layout header) (λ leaves. tree_of planes nodes leaves) (leaves_exact header) (λ leaves of_leaves.
+    let are = counted_parts header planes nodes leaves (record { of_header = of_header; of_planes = of_planes; of_nodes = of_nodes; of_leaves = of_leaves }) in
+    record { before = record { before = record { before = tt; is = refl }; is = sym are.numbered.nodes_are }; is = sym are.numbered.leaves_are }) (λ tree known.
+    (λ i. tree_of (sym known.before.is i) (sym known.is i) (leaves_of tree.shape)) ∙ own_tree tree))))
+
+-- the header is that of the tree and the rows behind it
+own_header : (header : Header) (tree : Tree) (rows : Option (List (List Bool))) → file_header_layout.right header ≡ true → (tree_layout header).right tree ≡ true → (rows_layout header).right rows ≡ true → header_of (record { tree = tree; rows = rows }) ≡ header
+unfolding rows_layout
+own_header header tree rows of_header of_tree of_rows =
+    let are = counted_parts header tree.planes (nodes_of tree.shape 0 0) (leaves_of tree.shape) (stand_of_tree header tree of_header of_tree) in
+    let there = right_option_there (each (own_row_layout header.numbered) header.numbered) header.has_rows rows of_rows in
+    λ i. record { planes = are.plane_count i; nodes = are.node_count i; leaves = are.leaf_count i; numbered = are.numbered_count i; has_rows = there i }
+
 pub file_exact : IsExact file_layout
 unfolding file_layout
 file_exact =
-    recast_exact _ _ _ (both_exact file_header_layout parts_layout header_exact parts_exact) (λ v right.
-    let both = and_parts (file_header_layout.right v.0) ((parts_layout v.0).right v.1) right in
-    let are = counted_parts v.0 v.1.0 v.1.1.0 v.1.1.1.0 v.1.1.1.1 both.0 both.1 in
-    let nodes = sym are.numbered.nodes_are in
-    let leaves = sym are.numbered.leaves_are in
-    let node_count = ap length nodes ∙ are.node_count in
-    let leaf_count = ap length leaves ∙ are.leaf_count in
-    let numbered = ap (count_by is_numbered) leaves ∙ are.numbered_count in
-    λ i. (record { planes = are.plane_count i; nodes = node_count i; leaves = leaf_count i; numbered = numbered i; has_rows = are.has_rows i }, (v.1.0, (nodes i, (leaves i, v.1.1.1.1))))) (λ file right.
-    let own = own_tree file.0 in
-    λ i. (own i, file.1))
+    exact_of_parts _ (
+    part_exact _ _ _ _ header_exact (λ header of_header.
+    part_exact _ _ _ _ (tree_exact header of_header) (λ tree of_tree.
+    last_part_exact _ _ _ _ (rows_exact header) (λ rows of_rows. record {
+      before = record { before = record { before = tt; is = own_header header tree rows of_header of_tree of_rows }; is = refl };
+      is = refl;
+    }) (λ file known. λ i. record { tree = sym known.is i; rows = file.rows }))))

@@ -1,9 +1,9 @@
 -- What layouts are made of is exact where their parts are.
-use Rattle.std.proofs.Common.{◌≡◌, ◌≤◌, ℕ, zero, suc, ◌+◌, Bool, true, false, cond, List, [], ◌∷◌, length, Option, Some, None, refl, sym, ap, subst, ◌∙◌, arith}
+use Rattle.std.proofs.Common.{◌≡◌, ◌≤◌, ℕ, zero, suc, ◌+◌, Bool, true, false, cond, List, [], ◌∷◌, ◌++◌, length, Option, Some, None, refl, sym, ap, subst, ◌∙◌, arith}
 use Rattle.std.specs.Prelude.{IsTrue}
 use Rattle.std.proofs.lemmas.Bool.{and_parts, and_from}
 use Rattle.qm_formats.specs.Fields.{AreBytes}
-use Rattle.qm_formats.specs.Layout.{Answer, got, bad, Layout, answer_map, answer_then, seen_as, recast, tested, both, pair, each_from, present}
+use Rattle.qm_formats.specs.Layout.{Answer, got, bad, Layout, answer_map, answer_then, seen_as, recast, tested, both, pair, part, last_part, each_from, present}
 use Rattle.qm_formats.specs.Exact.{StandsAt, IsRightAt, IsExact}
 use Rattle.qm_formats.proofs.Standing.{stands_nothing, stands_both, stands_first, stands_second}
 
@@ -96,6 +96,68 @@ both_exact first second exact exact_second =
 
 pub pair_exact : {F X Y : Type 0} (first : Layout F X) (second : Layout F Y) → IsExact first → IsExact second → IsExact (pair first second)
 pair_exact first second exact other = both_exact first (λ _. second) exact (λ _. other)
+
+-- a value is read exactly where it is right, its bytes stand, and something more holds of it; what is read is so
+pub record IsExactWhere {F Y : Type 0} (holds : Y → Type 0) (layout : Layout F Y) : Type 0 where
+  pub found : (file : List ℕ) (at : ℕ) (y : Y) (next : ℕ) → AreBytes file → at ≤ length file → layout.read file at ≡ got y next → holds y × IsRightAt layout file at y next
+  pub again : (file : List ℕ) (at : ℕ) (y : Y) (next : ℕ) → holds y → IsRightAt layout file at y next → layout.read file at ≡ got y next
+
+-- what more is known of a value, one of whose parts is read
+pub record IsKnown {X Y : Type 0} (holds : Y → Type 0) (of : Y → X) (x : X) (y : Y) : Type 0 where
+  pub before : holds y
+  pub is : of y ≡ x
+
+module _ {F X Y : Type 0} (holds : Y → Type 0) (of : Y → X) where
+  pub part_exact : (first : Layout F X) (behind : X → Layout F Y) → IsExact first → ((x : X) → IsTrue (first.right x) → IsExactWhere (IsKnown holds of x) (behind x)) → IsExactWhere holds (part of first behind)
+  part_exact first behind exact exact_behind =
+      record {
+        found = λ file at y next are within is.
+            let one = then_got (first.read file at) (λ x mid. (behind x).read file mid) y next is in
+            let front = exact.found file at one.0 one.1 are within one.2 in
+            let rest = (exact_behind one.0 front.right).found file one.1 y next are front.stands.within one.3 in
+            let same = sym rest.0.is in (
+              rest.0.before,
+              record {
+                right = and_from (first.right (of y)) ((behind (of y)).right y) (subst (λ (x : X). IsTrue (first.right x)) same front.right) (subst (λ (x : X). IsTrue ((behind x).right y)) same rest.1.right);
+                stands = subst (λ (x : X). StandsAt file at (first.bytes_of x ++ (behind x).bytes_of y) next) same (stands_both file at (first.bytes_of one.0) one.1 ((behind one.0).bytes_of y) next front.stands rest.1.stands);
+              },
+            );
+        again = λ file at y next held found.
+            let rights = and_parts (first.right (of y)) ((behind (of y)).right y) found.right in
+            let p = first.bytes_of (of y) in
+            let q = (behind (of y)).bytes_of y in
+            let one = exact.again file at (of y) (at + length p) (record { right = rights.0; stands = stands_first file at p q next found.stands }) in
+            let rest = (exact_behind (of y) rights.0).again file (at + length p) y next (record { before = held; is = refl }) (record { right = rights.1; stands = stands_second file at p q next found.stands }) in
+            ap (λ (answer : Answer F X). answer_then answer (λ x mid. (behind x).read file mid)) one ∙ rest;
+      }
+
+  pub last_part_exact : (last : Layout F X) (make : X → Y) → IsExact last → ((x : X) → IsTrue (last.right x) → IsKnown holds of x (make x)) → ((y : Y) → holds y → make (of y) ≡ y) → IsExactWhere holds (last_part of last make)
+  last_part_exact last make exact known back =
+      record {
+        found = λ file at y next are within is.
+            let value = map_got make (last.read file at) y next is in
+            let front = exact.found file at value.0 next are within value.1 in
+            let made = known value.0 front.right in
+            let same = sym made.is in
+            let found : IsRightAt (last_part of last make) file at (make value.0) next = record {
+              right = subst (λ (x : X). IsTrue (last.right x)) same front.right;
+              stands = subst (λ (x : X). StandsAt file at (last.bytes_of x) next) same front.stands;
+            } in
+            subst (λ (z : Y). holds z × IsRightAt (last_part of last make) file at z next) value.2 (made.before, found);
+        again = λ file at y next held found.
+            ap (answer_map make) (exact.again file at (of y) next (record { right = found.right; stands = found.stands })) ∙ ap (λ (z : Y). got z next) (back y held);
+      }
+
+-- nothing more is known of a value
+abbrev pub IsAny : {Y : Type 0} → Y → Type 0
+IsAny y = Unit {0}
+
+pub exact_of_parts : {F Y : Type 0} (layout : Layout F Y) → IsExactWhere IsAny layout → IsExact layout
+exact_of_parts layout exact =
+    record {
+      found = λ file at y next are within is. (exact.found file at y next are within is).1;
+      again = λ file at y next found. exact.again file at y next tt found;
+    }
 
 module _ {F X : Type 0} (layout : ℕ → Layout F X) (exact : (k : ℕ) → IsExact (layout k)) where
   found_each : (k count : ℕ) (file : List ℕ) (at : ℕ) (xs : List X) (next : ℕ) → AreBytes file → at ≤ length file → (each_from layout k count).read file at ≡ got xs next → IsRightAt (each_from layout k count) file at xs next

@@ -1,5 +1,5 @@
 -- The records of a tree file are read exactly.
-use Rattle.std.proofs.Common.{◌≡◌, ℕ, zero, suc, Bool, true, false, cond, eqb, leb, ◌&&◌, ◌||◌, ℤ, pos, negsuc, refl, arith}
+use Rattle.std.proofs.Common.{◌≡◌, ℕ, zero, suc, Bool, true, false, cond, eqb, leb, ◌&&◌, ◌||◌, ℤ, pos, negsuc, refl, sym, arith}
 use Rattle.std.proofs.lemmas.Bool.{and_parts, leb-true, ltb-true}
 use Rattle.std.specs.Int.{w8, w32, w64}
 use Rattle.qm_contents.specs.declared.contents.Contents.{Contents}
@@ -12,18 +12,18 @@ use Rattle.qm_formats.specs.Layout.{pair}
 use Rattle.qm_formats.specs.Fields.{unsigned, signed}
 use Rattle.qm_formats.specs.Exact.{IsExact}
 use Rattle.qm_formats.specs.FileParts.{short, plane_form, leaf_form, is_plane, plane_layout, child_of_number, number_of_child, child_layout, node_layout, contents_of_code, is_code, is_leaf, leaf_layout}
-use Rattle.qm_formats.proofs.ExactParts.{recast_exact, tested_exact, pair_exact}
+use Rattle.qm_formats.proofs.ExactParts.{recast_exact, tested_exact, pair_exact, part_exact, last_part_exact, exact_of_parts}
 use Rattle.qm_formats.proofs.ExactFields.{byte_exact, unsigned_32_exact, signed_32_exact, signed_64_exact}
 
 pub plane_exact : IsExact plane_layout
 unfolding plane_layout
 plane_exact =
-    let component = signed short w32 in
-    let exact = signed_32_exact short in
-    let two = pair_exact component (signed short w64) exact (signed_64_exact short) in
-    let three = pair_exact component (pair component (signed short w64)) exact two in
-    let four = pair_exact component (pair component (pair component (signed short w64))) exact three in
-    tested_exact is_plane plane_form (λ _ at. at) _ (recast_exact _ _ _ four (λ y right. refl) (λ h right. refl))
+    tested_exact is_plane plane_form (λ _ at. at) _ (exact_of_parts _ (
+    part_exact _ _ _ _ (signed_32_exact short) (λ nx _.
+    part_exact _ _ _ _ (signed_32_exact short) (λ ny _.
+    part_exact _ _ _ _ (signed_32_exact short) (λ nz _.
+    last_part_exact _ _ _ _ (signed_64_exact short) (λ d _. record { before = record { before = record { before = record { before = tt; is = refl }; is = refl }; is = refl }; is = refl }) (λ h known.
+    λ i. record { nx = sym known.before.before.is i; ny = sym known.before.is i; nz = sym known.is i; d = h.d }))))))
 
 child_number : (z : ℤ) → number_of_child (child_of_number z) ≡ z
 child_number (pos n) = refl
@@ -40,8 +40,11 @@ child_exact = recast_exact child_of_number number_of_child (signed short w64) (s
 pub node_exact : IsExact node_layout
 unfolding node_layout
 node_exact =
-    let children = pair_exact child_layout child_layout child_exact child_exact in
-    recast_exact _ _ _ (pair_exact (unsigned short w32) (pair child_layout child_layout) (unsigned_32_exact short) children) (λ y right. refl) (λ here right. refl)
+    exact_of_parts _ (
+    part_exact _ _ _ _ (unsigned_32_exact short) (λ plane _.
+    part_exact _ _ _ _ child_exact (λ front _.
+    last_part_exact _ _ _ _ child_exact (λ back _. record { before = record { before = record { before = tt; is = refl }; is = refl }; is = refl }) (λ here known.
+    λ i. record { plane = sym known.before.is i; front = sym known.is i; back = here.back }))))
 
 code_back : (code : ℤ) → is_code code ≡ true → code_of (contents_of_code code) ≡ code
 code_back (pos n) is = absurd cc

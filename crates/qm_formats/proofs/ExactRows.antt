@@ -9,7 +9,7 @@ use Rattle.qm_formats.specs.Runs.{SpellsRow, RunFaultKind, short, zero_count, sp
 use Rattle.qm_formats.specs.RowBits.{row_width, packed, unpacked, is_clear_past, row_bits}
 use Rattle.qm_formats.specs.FileParts.{row_form}
 use Rattle.qm_formats.specs.FileParts as parts
-use Rattle.qm_formats.specs.TreeFile.{own_row_layout}
+use Rattle.qm_formats.specs.FileLayout.{own_row_layout}
 use Rattle.qm_formats.proofs.Spellings.{spells_runs_of, runs_of-spelt}
 use Rattle.qm_formats.proofs.ReadRows.{read_runs_found, read_runs_again}
 use Rattle.qm_formats.proofs.ExactParts.{seen_as_exact, tested_exact}

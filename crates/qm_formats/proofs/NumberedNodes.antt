@@ -12,7 +12,7 @@ use Rattle.qm_partition.specs.Numbering.{nodes_after, leaves_after, child_of, no
 use Rattle.qm_partition.specs.Arrays.{partition_of}
 use Rattle.qm_partition.proofs.Counts.{leaf_count-node, one_leaf_more, length-nodes_of, nodes-count}
 use Rattle.qm_partition.proofs.OwnArrays.{partition_of-numbered}
-use Rattle.qm_formats.specs.TreeFile.{same_child, same_node, same_nodes, some_leaves, are_numbered}
+use Rattle.qm_formats.specs.FileLayout.{same_child, same_node, same_nodes, some_leaves, are_numbered}
 
 -- the same nodes with other leaves
 abbrev with_leaves : Partition → List LeafRecord → Partition

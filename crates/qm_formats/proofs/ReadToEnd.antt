@@ -1,5 +1,5 @@
 -- A value with nothing behind it is read exactly where it can stand and its bytes are the whole file.
-use Rattle.std.proofs.Common.{◌≡◌, ℕ, Bool, cond, ltb, List, [], ◌++◌, length, drop, sym, ap, subst, ◌∙◌, append-nil, arith, inl, inr}
+use Rattle.std.proofs.Common.{◌≡◌, ◌≤◌, ℕ, Bool, cond, ltb, List, [], ◌++◌, length, drop, sym, ap, subst, ◌∙◌, append-nil, arith, inl, inr}
 use Rattle.std.specs.Prelude.{IsTrue}
 use Rattle.std.proofs.lemmas.Bool.{cases_lt, lt-ltb, le-ltb}
 use Rattle.std.proofs.lemmas.List.{drop_all}
@@ -40,3 +40,11 @@ module _ {F X : Type 0} (layout : Layout F X) (exact : IsExact layout) (trailing
       } in
       ap (λ (answer : Answer F X). answer_then answer (λ x next. cond (ltb next (length file)) (bad trailing next) (got x next))) (exact.again file 0 x (length file) (record { right = right; stands = stands }))
       ∙ ap (λ (b : Bool). cond b (bad trailing (length file)) (got x (length file))) (le-ltb (length file) (length file) (omega arith))
+
+  pub read_ends : (x : X) (next : ℕ) → AreBytes file → layout.read file 0 ≡ got x next → length file ≤ next → read_to_end layout trailing file ≡ got x (length file)
+  read_ends x next are is past =
+      let found = exact.found file 0 x next are (omega arith) is in
+      let ends : next ≡ length file = omega (arith, past, found.stands.within) in
+      ap (λ (answer : Answer F X). answer_then answer (λ x next. cond (ltb next (length file)) (bad trailing next) (got x next))) is
+      ∙ ap (λ (b : Bool). cond b (bad trailing next) (got x next)) (le-ltb next (length file) past)
+      ∙ ap (got x) ends

@@ -21,7 +21,7 @@ use Rattle.qm_formats.specs.Layout.{Layout, right_each}
 use Rattle.qm_formats.specs.Fields.{signed, unsigned, fits_signed}
 use Rattle.qm_formats.specs.RowBits.{row_bits}
 use Rattle.qm_formats.specs.FileParts.{is_plane, plane_layout, child_layout, node_layout, is_leaf, leaf_layout}
-use Rattle.qm_formats.specs.TreeFile.{own_row_layout}
+use Rattle.qm_formats.specs.FileLayout.{own_row_layout}
 use Rattle.qm_formats.proofs.ChildNumbers.{IsBelow, HasBelow}
 
 -- ---- values one behind the other

@@ -21,11 +21,12 @@ use Rattle.qm_contacts.specs.NumberedLeaves.{is_numbered}
 use Rattle.qm_formats.specs.Layout.{Layout, bytes_of_each, right_option, many, each}
 use Rattle.qm_formats.specs.Fields.{unsigned, signed, fixed, raw}
 use Rattle.qm_formats.specs.FileParts.{plane_layout, node_layout, leaf_layout}
-use Rattle.qm_formats.specs.TreeFile.{Header, file_header_layout, are_numbered, are_ordered, own_row_layout, planes_layout, nodes_layout, leaves_layout, rows_layout, parts_layout, FileContent, header_of, file_layout, file_bytes, file_limit, AreRows, IsValidFile}
+use Rattle.qm_formats.specs.TreeFile.{TreeFile, AreRows, IsValidFile}
+use Rattle.qm_formats.specs.FileLayout.{Header, file_header_layout, are_numbered, are_ordered, own_row_layout, planes_layout, nodes_layout, leaves_layout, rows_layout, tree_layout, header_of, file_layout, file_bytes, file_limit}
 use Rattle.qm_formats.proofs.NumberedNodes.{numbered-test}
 use Rattle.qm_formats.proofs.RightParts.{right_each_at, right_each_from, reduced_plane, right_plane, plane_right, node_right, leaf_right, right_leaf, row_right, right_row}
 use Rattle.qm_formats.proofs.ChildNumbers.{children_below}
-use Rattle.qm_formats.proofs.ExactFile.{right_each_length, right_counts, right_parts, counted_parts, own_tree}
+use Rattle.qm_formats.proofs.ExactFile.{right_each_length, right_counts, right_parts, CanStand, counted_parts, stand_of_tree, own_tree}
 
 -- a test that each element passes
 list_all-passed : {X : Type 0} (test : X → Bool) (xs : List X) → list_all test xs ≡ true → All (λ x. test x ≡ true) xs
@@ -71,15 +72,15 @@ record AreOfTree (planes : List Plane) (nodes : List NodeRecord) (leaves : List 
   made : IsMadeOf (tree_of planes nodes leaves) planes nodes leaves
   reduced : All IsReduced planes
 
-of_tree : (header : Header) (planes : List Plane) (nodes : List NodeRecord) (leaves : List LeafRecord) (rows : Option (List (List Bool))) → file_header_layout.right header ≡ true → (parts_layout header).right (planes, (nodes, (leaves, rows))) ≡ true → AreOfTree planes nodes leaves
-of_tree header planes nodes leaves rows right_header right =
-    let counted = counted_parts header planes nodes leaves rows right_header right in
-    let are = right_parts header planes nodes leaves rows right in
+of_tree : (header : Header) (planes : List Plane) (nodes : List NodeRecord) (leaves : List LeafRecord) → CanStand header planes nodes leaves → AreOfTree planes nodes leaves
+of_tree header planes nodes leaves can =
+    let counted = counted_parts header planes nodes leaves can in
+    let are = right_parts header planes nodes leaves can in
     let each_plane = right_each_at (λ _. plane_layout) 0 header.planes planes are.of_planes in
     let each_leaf = right_each_at (λ _. leaf_layout) 0 header.leaves leaves are.of_leaves in
     let named = list_all-passed (λ here. ltb here.plane header.planes) nodes are.named in
     let parts : AreParts planes nodes leaves = record {
-      few = omega (arith, (right_counts header right_header).few_planes, counted.plane_count);
+      few = omega (arith, (right_counts header can.of_header).few_planes, counted.plane_count);
       leads = λ k d within. (reduced_plane (get_or planes k d) (right_plane (get_or planes k d) (each_plane k d within))).1;
       named = λ k d within. omega (arith, ltb-true (get_or nodes k d).plane header.planes (named k d within), counted.plane_count);
       solid = λ k d within. right_leaf (get_or leaves k d) (each_leaf k d within);
@@ -89,22 +90,24 @@ of_tree header planes nodes leaves rows right_header right =
       reduced = λ k d within. (reduced_plane (get_or planes k d) (right_plane (get_or planes k d) (each_plane k d within))).0;
     }
 
-pub made_of_right : (header : Header) (planes : List Plane) (nodes : List NodeRecord) (leaves : List LeafRecord) (rows : Option (List (List Bool))) → file_header_layout.right header ≡ true → (parts_layout header).right (planes, (nodes, (leaves, rows))) ≡ true → IsMadeOf (tree_of planes nodes leaves) planes nodes leaves
-made_of_right header planes nodes leaves rows right_header right = (of_tree header planes nodes leaves rows right_header right).made
+pub made_of_right : (header : Header) (planes : List Plane) (nodes : List NodeRecord) (leaves : List LeafRecord) → CanStand header planes nodes leaves → IsMadeOf (tree_of planes nodes leaves) planes nodes leaves
+made_of_right header planes nodes leaves can = (of_tree header planes nodes leaves can).made
 
-pub right_valid : (file : FileContent) → file_layout.right file ≡ true → IsValidFile file
-unfolding file_layout
+pub right_valid : (file : TreeFile) → file_layout.right file ≡ true → IsValidFile file
+unfolding file_layout rows_layout
 right_valid file right =
     let header = header_of file in
-    let nodes = nodes_of file.0.shape 0 0 in
-    let leaves = leaves_of file.0.shape in
-    let both = and_parts (file_header_layout.right header) ((parts_layout header).right (file.0.planes, (nodes, (leaves, file.1)))) right in
-    let tree = of_tree header file.0.planes nodes leaves file.1 both.0 both.1 in
-    let are = right_parts header file.0.planes nodes leaves file.1 both.1 in
+    let nodes = nodes_of file.tree.shape 0 0 in
+    let leaves = leaves_of file.tree.shape in
+    let of_tree_right = (tree_layout header).right file.tree in
+    let of_rows = (rows_layout header).right file.rows in
+    let of_header = and_parts (file_header_layout.right header) (of_tree_right && of_rows) right in
+    let parts = and_parts of_tree_right of_rows of_header.1 in
+    let tree = of_tree header file.tree.planes nodes leaves (stand_of_tree header file.tree of_header.0 parts.0) in
     record {
-      well_made = subst IsWellMade (own_tree file.0) tree.made.well_made;
+      well_made = subst IsWellMade (own_tree file.tree) tree.made.well_made;
       reduced = tree.reduced;
-      rows = rows_valid header.numbered file.1 header.has_rows are.of_rows;
+      rows = rows_valid header.numbered file.rows header.has_rows parts.1;
     }
 
 -- ---- what is valid and not too long is right
@@ -124,21 +127,21 @@ unfolding leaf_layout signed unsigned raw
 leaf_bytes k found = omega arith
 
 -- there are no more nodes and leaves than bytes
-counts_at_most : (file : FileContent) → (length (nodes_of file.0.shape 0 0) ≤ length (file_bytes file)) × (length (leaves_of file.0.shape) ≤ length (file_bytes file))
-unfolding file_bytes file_layout parts_layout planes_layout nodes_layout leaves_layout
+counts_at_most : (file : TreeFile) → (length (nodes_of file.tree.shape 0 0) ≤ length (file_bytes file)) × (length (leaves_of file.tree.shape) ≤ length (file_bytes file))
+unfolding file_bytes file_layout tree_layout planes_layout nodes_layout leaves_layout
 counts_at_most file =
     let header = header_of file in
-    let nodes = nodes_of file.0.shape 0 0 in
-    let leaves = leaves_of file.0.shape in
+    let nodes = nodes_of file.tree.shape 0 0 in
+    let leaves = leaves_of file.tree.shape in
     let p = file_header_layout.bytes_of header in
-    let q = (planes_layout header).bytes_of file.0.planes in
+    let q = (planes_layout header).bytes_of file.tree.planes in
     let r = bytes_of_each (λ _. node_layout) 0 nodes in
     let s = bytes_of_each (λ _. leaf_layout) 0 leaves in
-    let t = (rows_layout header).bytes_of file.1 in
-    let whole = length-append p (q ++ (r ++ (s ++ t))) in
-    let behind_header = length-append q (r ++ (s ++ t)) in
-    let behind_planes = length-append r (s ++ t) in
-    let behind_nodes = length-append s t in
+    let t = (rows_layout header).bytes_of file.rows in
+    let whole = length-append p ((q ++ (r ++ s)) ++ t) in
+    let behind_header = length-append (q ++ (r ++ s)) t in
+    let of_tree = length-append q (r ++ s) in
+    let behind_planes = length-append r s in
     let few_nodes = values_at_most (λ _. node_layout) node_bytes 0 nodes in
     let few_leaves = values_at_most (λ _. leaf_layout) leaf_bytes 0 leaves in
     (omega arith, omega arith)
@@ -164,16 +167,16 @@ header_right header planes nodes leaves numbered =
     (and_from (ltb header.numbered (2 ^ 64)) (leb header.numbered header.leaves) (lt-ltb header.numbered (2 ^ 64) (omega (arith, nodes, leaves, numbered))) (le-leb header.numbered header.leaves numbered))
     (flag_right header.has_rows))))
 
-pub valid_right : (file : FileContent) → IsValidFile file → length (file_bytes file) ≤ file_limit → file_layout.right file ≡ true
-unfolding file_layout parts_layout planes_layout nodes_layout leaves_layout rows_layout are_ordered
+pub valid_right : (file : TreeFile) → IsValidFile file → length (file_bytes file) ≤ file_limit → file_layout.right file ≡ true
+unfolding file_layout tree_layout planes_layout nodes_layout leaves_layout rows_layout are_ordered
 valid_right file valid small =
     let header = header_of file in
-    let shape = file.0.shape in
-    let planes = file.0.planes in
+    let shape = file.tree.shape in
+    let planes = file.tree.planes in
     let nodes = nodes_of shape 0 0 in
     let leaves = leaves_of shape in
     let numbered : AreNumbered shape nodes leaves = record { nodes_are = refl; leaves_are = refl } in
-    let parts = parts_of_made planes nodes leaves file.0 (record { planes_are = refl; numbered = numbered; well_made = valid.well_made }) in
+    let parts = parts_of_made planes nodes leaves file.tree (record { planes_are = refl; numbered = numbered; well_made = valid.well_made }) in
     let few = counts_at_most file in
     let count = length-nodes_of shape 0 0 in
     let more = one_leaf_more shape in
@@ -181,19 +184,19 @@ valid_right file valid small =
     let of_planes = (planes_layout header).right planes in
     let of_nodes = (nodes_layout header).right nodes in
     let of_leaves = (leaves_layout header).right leaves in
-    let of_rows = (rows_layout header).right file.1 in
-    and_from (file_header_layout.right header) (of_planes && (of_nodes && (of_leaves && of_rows)))
+    let of_rows = (rows_layout header).right file.rows in
+    and_from (file_header_layout.right header) ((of_planes && (of_nodes && of_leaves)) && of_rows)
     (header_right header parts.few (omega (arith, few.0, small)) (omega (arith, count, more)) (count_by-le-length is_numbered leaves))
-    (and_from of_planes (of_nodes && (of_leaves && of_rows))
+    (and_from (of_planes && (of_nodes && of_leaves)) of_rows
+    (and_from of_planes (of_nodes && of_leaves)
     (right_each_from (λ _. plane_layout) 0 header.planes planes refl (λ i d within. plane_right (get_or planes i d) (valid.reduced i d within) (parts.leads i d within)))
-    (and_from of_nodes (of_leaves && of_rows)
+    (and_from of_nodes of_leaves
     (and_from ((many node_layout header.nodes).right nodes) (are_ordered header.planes nodes)
     (right_each_from (λ _. node_layout) 0 header.nodes nodes refl (λ i d within. node_right (get_or nodes i d) (omega (arith, parts.named i d within, parts.few)) (below i d within)))
     (and_from (list_all (λ here. ltb here.plane header.planes) nodes) (are_numbered nodes)
     (list_all-from (λ here. ltb here.plane header.planes) nodes (λ i d within. lt-ltb (get_or nodes i d).plane header.planes (parts.named i d within)))
     (numbered-test nodes leaves shape numbered)))
-    (and_from of_leaves of_rows
     (and_from ((many leaf_layout header.leaves).right leaves) (eqb (count_by is_numbered leaves) header.numbered)
     (right_each_from (λ _. leaf_layout) 0 header.leaves leaves refl (λ i d within. leaf_right (get_or leaves i d) (parts.solid i d within)))
-    (eq-eqb (count_by is_numbered leaves) header.numbered refl))
-    (rows_right header.numbered file.1 valid.rows))))
+    (eq-eqb (count_by is_numbered leaves) header.numbered refl))))
+    (rows_right header.numbered file.rows valid.rows))

@@ -12,7 +12,7 @@ use Rattle.qm_partition.specs.declared.node.Child.TheVariants.{Node, Leaf}
 use Rattle.qm_partition.specs.declared.node.Node.{Node as NodeRecord}
 use Rattle.qm_partition.specs.declared.node.Leaf.{Leaf as LeafRecord}
 use Rattle.qm_contacts.specs.NumberedLeaves.{is_solid}
-use Rattle.qm_formats.specs.Layout.{Layout, recast, tested, pair}
+use Rattle.qm_formats.specs.Layout.{Layout, recast, tested, pair, part, last_part}
 use Rattle.qm_formats.specs.Fields.{unsigned, signed}
 
 -- The records of a tree file.
@@ -38,8 +38,10 @@ is_plane h =
 unfoldable pub plane_layout : Layout FileFaultKind Plane
 plane_layout =
     tested is_plane plane_form (λ _ at. at) (
-    recast (λ n. record { nx = n.0; ny = n.1.0; nz = n.1.1.0; d = n.1.1.1 }) (λ h. (h.nx, (h.ny, (h.nz, h.d))))
-    (pair (signed short w32) (pair (signed short w32) (pair (signed short w32) (signed short w64)))))
+    part (λ h. h.nx) (signed short w32) (λ nx.
+    part (λ h. h.ny) (signed short w32) (λ ny.
+    part (λ h. h.nz) (signed short w32) (λ nz.
+    last_part (λ h. h.d) (signed short w64) (λ d. record { nx = nx; ny = ny; nz = nz; d = d })))))
 
 -- a node is its number, a leaf is -(1 + its number)
 abbrev pub child_of_number : ℤ → Child
@@ -57,8 +59,9 @@ child_layout = recast child_of_number number_of_child (signed short w64)
 -- the plane's number in 32 bits, the child in front and the child behind
 unfoldable pub node_layout : Layout FileFaultKind NodeRecord
 node_layout =
-    recast (λ n. record { plane = n.0; front = n.1.0; back = n.1.1 }) (λ here. (here.plane, (here.front, here.back)))
-    (pair (unsigned short w32) (pair child_layout child_layout))
+    part (λ here. here.plane) (unsigned short w32) (λ plane.
+    part (λ here. here.front) child_layout (λ front.
+    last_part (λ here. here.back) child_layout (λ back. record { plane = plane; front = front; back = back })))
 
 -- the contents of a code, which is one of -1 to -6
 abbrev pub contents_of_code : ℤ → Contents

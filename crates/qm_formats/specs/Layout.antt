@@ -59,6 +59,19 @@ both first second =
 abbrev pub pair : {F X Y : Type 0} → Layout F X → Layout F Y → Layout F (X × Y)
 pair first second = both first (λ _. second)
 
+-- a value part by part: the part that stands first, and then what stands behind it, whose layout follows from the part
+abbrev pub part : {F X Y : Type 0} → (Y → X) → Layout F X → (X → Layout F Y) → Layout F Y
+part of first behind =
+    record {
+      bytes_of = λ y. first.bytes_of (of y) ++ (behind (of y)).bytes_of y;
+      right = λ y. first.right (of y) && (behind (of y)).right y;
+      read = λ file at. answer_then (first.read file at) (λ x next. (behind x).read file next);
+    }
+
+-- the last part of a value, which with those before it makes the whole
+abbrev pub last_part : {F X Y : Type 0} → (Y → X) → Layout F X → (X → Y) → Layout F Y
+last_part of last make = recast make of last
+
 module _ {F X : Type 0} (layout : ℕ → Layout F X) where
   -- the bytes of values, of which the first has the number k
   abbrev pub bytes_of_each : ℕ → List X → List ℕ

@@ -6,3 +6,4 @@ pub mod FirstWrong
 pub mod RowBits
 pub mod FileParts
 pub mod TreeFile
+pub mod FileLayout

@@ -2,7 +2,7 @@ use Rattle.std.specs.Prelude.{ℕ, Bool, true, not, ◌&&◌, ◌==◌, nat_lt, 
 use Rattle.qm_listing.specs.declared.listing.Coordinate.{Coordinate}
 use Rattle.qm_listing.specs.declared.listing.PrtPortal.{PrtPortal}
 use Rattle.qm_listing.specs.declared.listing.Listing.{Listing}
-use Rattle.qm_formats.specs.Layout.{Answer, Layout, recast, tested, both, pair, many, read_to_end}
+use Rattle.qm_formats.specs.Layout.{Answer, Layout, tested, part, last_part, many, read_to_end}
 use Rattle.qm_listing.specs.Numerals.{Spelling, numeral, literal, before, behind}
 use Rattle.qm_listing.specs.Numbers.{counts, coordinates}
 
@@ -55,14 +55,18 @@ corner_layout = behind (due 40) (before (before (many coordinate_layout 3) (due 
 -- the line of a portal between two of so many leaves
 unfoldable pub portal_layout : ℕ → Layout ListingFaultKind PrtPortal
 portal_layout leaves =
-    recast (λ v. record { leaf0 = v.1.0; leaf1 = v.1.1.0; corners = v.1.1.1 }) (λ found. (length found.corners, (found.leaf0, (found.leaf1, found.corners))))
-    (both points_layout (λ points. both (leaf0_layout leaves) (λ leaf0. both (leaf1_layout leaves leaf0) (λ leaf1. before (many corner_layout points) (due 10)))))
+    part (λ found. length found.corners) points_layout (λ points.
+    part (λ found. found.leaf0) (leaf0_layout leaves) (λ leaf0.
+    part (λ found. found.leaf1) (leaf1_layout leaves leaf0) (λ leaf1.
+    last_part (λ found. found.corners) (before (many corner_layout points) (due 10)) (λ corners. record { leaf0 = leaf0; leaf1 = leaf1; corners = corners }))))
 
 -- the whole text
 unfoldable pub listing_layout : Layout ListingFaultKind Listing
 listing_layout =
-    recast (λ v. record { leaves = v.1.0; portals = v.1.1.1 }) (λ found. (tt, (found.leaves, (length found.portals, found.portals))))
-    (pair first_line_layout (both count_line_layout (λ leaves. both count_line_layout (λ portals. many (portal_layout leaves) portals))))
+    part (λ _. tt) first_line_layout (λ _.
+    part (λ found. found.leaves) count_line_layout (λ leaves.
+    part (λ found. length found.portals) count_line_layout (λ count.
+    last_part (λ found. found.portals) (many (portal_layout leaves) count) (λ portals. record { leaves = leaves; portals = portals }))))
 
 -- the text of a listing
 unfoldable pub listing_text : Listing → List ℕ

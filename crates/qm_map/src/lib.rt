@@ -18,4 +18,5 @@ mod words;
 
 pub use entity_origin::EntityOrigin;
 pub use qm_grammar::MapFault;
+pub use qm_mapfile::{Brush, Entity, Face, MapFile, Mapping, Pair, Text};
 pub use text::parse;

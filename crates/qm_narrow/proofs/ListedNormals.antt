@@ -25,26 +25,26 @@ none_found s planes e = record {
 
 pub found_still : (Has : Plane → Type 0) (s : Winding) (old new : List Plane) → ((h : Plane) → Has h → IsLeastDistance (h.nx ∷ h.ny ∷ h.nz ∷ []) (corners s) h.d) → ((h : Plane) → Has h → HasLowestNormal h) → Gains Has old new → AreAtLeastDistance s old → AreAtLeastDistance s new
 found_still Has s old new least lowest gains are = record {
-  each = λ h there. ⊎_elim (λ before. are.each h before) (λ has. least h has) ((gains h).0 there);
-  lowest = λ h there. ⊎_elim (λ before. are.lowest h before) (λ has. lowest h has) ((gains h).0 there);
+  each = λ h there. ⊎_elim (λ before. are.each h before) (λ has. least h has) ((gains.members h).0 there);
+  lowest = λ h there. ⊎_elim (λ before. are.lowest h before) (λ has. lowest h has) ((gains.members h).0 there);
 }
 
 module _ (s p : Winding) (old new : List Plane) where
   pub found_along : (along : Plane) → HasLowestNormal along → Gains (PartsAlong s p along) old new → AreAtLeastDistance s old → AreAtLeastDistance s new
-  found_along along lowest = found_still (PartsAlong s p along) s old new (λ h is. is.least) (λ h is. like_lowest h along is.normal lowest)
+  found_along along lowest = found_still (PartsAlong s p along) s old new (λ h is. is.touches) (λ h is. like_lowest h along is.normal lowest)
 
   pub found_by : (at from to : Point) → Gains (SeparatesBy s p at from to) old new → AreAtLeastDistance s old → AreAtLeastDistance s new
-  found_by at from to = found_still (SeparatesBy s p at from to) s old new (λ h is. is.0.least) (λ h is. is.1.lowest)
+  found_by at from to = found_still (SeparatesBy s p at from to) s old new (λ h is. is.0.touches) (λ h is. is.1.lowest)
 
   pub found_by_mix : (below above from to : Point) → Gains (SeparatesByMix s p below above from to) old new → AreAtLeastDistance s old → AreAtLeastDistance s new
-  found_by_mix below above from to = found_still (SeparatesByMix s p below above from to) s old new (λ h is. is.2.0.least) (λ h is. is.2.1.lowest)
+  found_by_mix below above from to = found_still (SeparatesByMix s p below above from to) s old new (λ h is. is.2.0.touches) (λ h is. is.2.1.lowest)
 
   module _ (e o : Winding) where
     pub found_by_corners : (i n : ℕ) → Gains (HasBelow n (SeparatesAt s p e o i)) old new → AreAtLeastDistance s old → AreAtLeastDistance s new
-    found_by_corners i n = found_still (HasBelow n (SeparatesAt s p e o i)) s old new (λ h is. is.2.separator.least) (λ h is. is.2.normal.lowest)
+    found_by_corners i n = found_still (HasBelow n (SeparatesAt s p e o i)) s old new (λ h is. is.2.separator.touches) (λ h is. is.2.normal.lowest)
 
     pub found_by_edges : (n : ℕ) → Gains (HasBelow n (SeparatesByEdge s p e o)) old new → AreAtLeastDistance s old → AreAtLeastDistance s new
-    found_by_edges n = found_still (HasBelow n (SeparatesByEdge s p e o)) s old new (λ h is. is.2.2.separator.least) (λ h is. is.2.2.normal.lowest)
+    found_by_edges n = found_still (HasBelow n (SeparatesByEdge s p e o)) s old new (λ h is. is.2.2.separator.touches) (λ h is. is.2.2.normal.lowest)
 
 -- ---- the normals
 
@@ -67,4 +67,4 @@ has_along planes i one along below is normal = (one, (i, below, sym is), normal)
 
 -- so do the planes that part both windings along a normal that one of them has
 pub listed_along : (s p : Winding) (along g h : Plane) (planes : List Plane) → AreAtLeastDistance s planes → Contains planes g → normal_of along ≡ normal_of g → PartsAlong s p along h → Contains planes h
-listed_along s p along g h planes are there normal is = (gains_along_listed s p along planes are (g, there, sym normal) h).1 (inr is)
+listed_along s p along g h planes are there normal is = ((gains_along_listed s p along planes are (g, there, sym normal)).members h).1 (inr is)

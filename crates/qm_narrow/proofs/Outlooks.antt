@@ -207,7 +207,7 @@ module _ (n : Vector) (h : Plane) (k : ℤ) (multiple : direction_of n ≡ point
 -- a plane at the least distance has no corner of the source in front
 none_along : (s p : Winding) (along h : Plane) → PartsAlong s p along h → HasNoCornerInFront s h
 none_along s p along h is i below =
-    let a = is.least.none_in_front h.d (omega (arith, linear)) i (corner_at s i) (let e = corners_length s in omega arith) in
+    let a = is.touches.none_in_front h.d (omega (arith, linear)) i (corner_at s i) (let e = corners_length s in omega arith) in
     subst (λ q. IsNotInFront h q) (corner_in_list s i (corner_at s i) below) a
 
 times_back : (k : ℤ) (g : Plane) → point_times k (normal_of g) ≡ point_times (neg_ℤ k) (normal_of (flipped g))
@@ -241,7 +241,7 @@ module _ (s p : Winding) (at from to : Point) (n : Vector) (through : direction_
   pub gains_nowhere : outlook.ahead ≡ false → outlook.back ≡ false → Gains (SeparatesBy s p at from to) planes planes
   gains_nowhere not_ahead not_back = gains_there (SeparatesBy s p at from to) planes (λ h sep.
       let is = sep.1 in let e = through ∙ is.multiple in
-      let parts : PartsAlong s p h h = record { normal = refl; least = sep.0.least; parts = record { in_front = sep.0.in_front; strict = sep.0.strict } } in
+      let parts : PartsAlong s p h h = record { normal = refl; touches = sep.0.touches; parts = record { in_front = sep.0.in_front; strict = sep.0.strict } } in
       by_sign is.factor
       (λ negative. there_back h is.lowest parts is.factor e negative not_back)
       (λ zero. absurd (is.some_factor zero))
@@ -253,13 +253,13 @@ module _ (s p : Winding) (at from to : Point) (n : Vector) (through : direction_
 
     there_itself : outlook.ahead ≡ false → (along h : Plane) → HasLowestNormal along → along ≡ turned flag plane → PartsAlong s p along h → Contains planes h
     there_itself not along h lowest e parts =
-        there_ahead h (like_lowest h along parts.normal lowest) (record { normal = refl; least = parts.least; parts = parts.parts }) is.multiple.factor
+        there_ahead h (like_lowest h along parts.normal lowest) (record { normal = refl; touches = parts.touches; parts = parts.parts }) is.multiple.factor
         (itself ∙ ap (point_times is.multiple.factor) (sym (parts.normal ∙ ap normal_of e))) is.multiple.positive not
 
     there_turned : outlook.back ≡ false → (along h : Plane) → HasLowestNormal along → along ≡ flipped (turned flag plane) → PartsAlong s p along h → Contains planes h
     there_turned not along h lowest e parts =
         let positive = is.multiple.positive in
-        there_back h (like_lowest h along parts.normal lowest) (record { normal = refl; least = parts.least; parts = parts.parts }) (neg_ℤ is.multiple.factor)
+        there_back h (like_lowest h along parts.normal lowest) (record { normal = refl; touches = parts.touches; parts = parts.parts }) (neg_ℤ is.multiple.factor)
         (itself ∙ times_back is.multiple.factor (turned flag plane) ∙ ap (point_times (neg_ℤ is.multiple.factor)) (sym (parts.normal ∙ ap normal_of e))) (omega (arith, linear)) not
 
   -- by the flag

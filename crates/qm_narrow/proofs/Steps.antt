@@ -13,7 +13,7 @@ use Rattle.qm_separators.specs.Gains.{HasExactly}
 use Rattle.qm_separators.specs.Separator.{IsSeparatorFrom}
 use Rattle.qm_separators.specs.Part.{IsPartBy, HasNoPartBy}
 use Rattle.qm_separators.specs.ChainState.{ChainState}
-use Rattle.qm_separators.specs.ChainStep.{StepsTo, Blocks, source_beyond}
+use Rattle.qm_separators.specs.ChainStep.{StepsTo, Blocks, second_cut}
 use Rattle.qm_separators.specs.inner.Narrowed.{NarrowsTo, CutsAway, source_gone}
 use Rattle.qm_separators.proofs.Parts.{part_by_alike, no_part_alike}
 use Rattle.qm_separators.proofs.NarrowedSteps.{whole_part, step_by}
@@ -57,7 +57,7 @@ module _ (state : ChainState) (target far : Winding) (into : Plane) (far_is : Is
   clipped = subst (λ (w : Winding). IsClip clip w (flipped into)) source_is is
 
   pub blocked_where_gone : clip ≡ Gone → Blocks state target into
-  blocked_where_gone e = source_beyond (subst (λ (o : Clip). IsClip o state.source (flipped into)) e clipped)
+  blocked_where_gone e = second_cut (subst (λ (o : Clip). IsClip o state.source (flipped into)) e clipped)
 
   part_is : (near : Winding) → clip ≡ Cut near → IsPartInFront near state.source (flipped into)
   part_is near e = (subst (λ (o : Clip). IsClip o state.source (flipped into)) e clipped).0

@@ -1,6 +1,7 @@
 //! The separators of a source and a pass.
 
 ghost use Rattle.std.specs.Prelude.{◌≡◌, IfOk, OnOk};
+ghost use Rattle.qm_space.specs.Book.{AreDistinct};
 ghost use Rattle.qm_separators.specs.Gains.{HasExactly};
 ghost use Rattle.qm_separators.specs.Separator.{IsSeparator, IsSeparatorFrom};
 
@@ -11,45 +12,21 @@ use qm_lists::Items;
 use qm_wind::Winding;
 use std::alloc::{AllocError, Global};
 
-/// Exactly the separators of a source and a pass, each once, in any order.
+/// Exactly the separators of a source and a pass, each once, in any order: of the planes through an edge of the one winding
+/// and near a corner of the other, those that separate the two.
 pub fn separators(
     alloc: Global,
     source: &Winding,
     pass: &Winding,
 ) -> Result<Items<Plane>, AllocError>
-    ensures { IfOk result (λ planes. HasExactly (IsSeparator source.now pass.now) planes) }
-{
-    let planes = separators_between(alloc, source, pass)?;
-    Ok(Items::from_vec(planes))
-}
-
-/// The separators of two windings.
-fn separators_between(
-    alloc: Global,
-    source: &Winding,
-    pass: &Winding,
-) -> Result<Vec<Plane>, AllocError>
-    ensures { IfOk result (λ planes. HasExactly (IsSeparator source.now pass.now) planes.items) }
+    ensures exactly { IfOk result (λ planes. HasExactly (IsSeparator source.now pass.now) planes) }
+    ensures once { IfOk result (λ planes. AreDistinct planes) }
 {
     let source = Traced::copied(alloc, source)?;
-    separators_to(alloc, &source, pass)
-}
-
-/// The separators of two windings, where the corners of the first are known.
-fn separators_to(alloc: Global, source: &Traced, pass: &Winding) -> Result<Vec<Plane>, AllocError>
-    ensures { IfOk result (λ planes. HasExactly (IsSeparator source.now pass.now) planes.items) }
-{
     let pass = Traced::copied(alloc, pass)?;
-    separators_of(alloc, source, &pass)
-}
-
-/// The separators of two windings whose corners are known.
-fn separators_of(alloc: Global, source: &Traced, pass: &Traced) -> Result<Vec<Plane>, AllocError>
-    ensures { IfOk result (λ planes. HasExactly (IsSeparator source.now pass.now) planes.items) }
-{
     let mut planes = Vec::new(alloc);
-    list_separators(&mut planes, source, pass)?;
-    Ok(planes)
+    list_separators(&mut planes, &source, &pass)?;
+    Ok(Items::from_vec(planes))
 }
 
 /// Lists the separators of two windings whose corners are known, in place of what was listed.
@@ -58,7 +35,8 @@ fn list_separators(
     source: &Traced,
     pass: &Traced,
 ) -> Result<(), AllocError>
-    ensures { OnOk result (HasExactly (IsSeparator source.now pass.now) planes.new.items) }
+    ensures exactly { OnOk result (HasExactly (IsSeparator source.now pass.now) planes.new.items) }
+    ensures once { OnOk result (AreDistinct planes.new.items) }
 {
     planes.clear();
     gain_across(planes, source, pass, source, pass, false)?;

@@ -102,12 +102,12 @@ fn narrowed_whole(
 {
     match within(far, state.separators())? {
         None => Ok(None),
-        Some(pass) => last_point_whole(alloc, buffers, state, pass),
+        Some(pass) => last_cut_whole(alloc, buffers, state, pass),
     }
 }
 
-/// The last point of such a step.
-fn last_point_whole(
+/// The last cut of such a step.
+fn last_cut_whole(
     alloc: Global,
     buffers: &mut StepBuffers,
     state: &ChainState,
@@ -116,7 +116,7 @@ fn last_point_whole(
     ensures { IfOk result (λ after. MatchOption after (HasNoPartBy state.now.source (IsSeparatorFrom state.now.pass pass)) (EndsAt state.now state.now.source pass)) }
 {
     let near = state.source().copy()?;
-    last_point(alloc, buffers, state, near, pass)
+    last_cut(alloc, buffers, state, near, pass)
 }
 
 /// The last two cuts of a step that has left a part of the source: the separators are those of this part.
@@ -135,12 +135,12 @@ fn narrowed_part(
     let near = buffers.keep_source(near);
     match part {
         None => Ok(None),
-        Some(pass) => last_point(alloc, buffers, state, near, pass),
+        Some(pass) => last_cut(alloc, buffers, state, near, pass),
     }
 }
 
 /// The last cut of a step, from what the others have left.
-fn last_point(
+fn last_cut(
     alloc: Global,
     buffers: &mut StepBuffers,
     state: &ChainState,

@@ -27,14 +27,13 @@ fn is_number_byte(byte: u8) -> bool
     byte.is_ascii_digit() || byte == b'-' || byte == b'.'
 }
 
-/// The longest run of such bytes at a place.
+/// The longest run of such bytes at a place: none, where that is past the end.
 #[tactic(auto, unfolding(qm_listing::specs::Numerals::numeral_ahead))]
 pub(crate) fn numeral_ahead(text: &[u8], at: usize) -> &[u8]
-    requires { at ≤ length text.now }
     ensures value { result.now ≡ numeral_ahead (drop at text.now) }
-    ensures within { at + length result.now ≤ length text.now }
+    ensures end { at + length result.now < 2 ^ 64 }
 {
-    let rest = &text[at..];
+    let rest = &text[at.min(text.len())..];
     &rest[..number_length(rest)]
 }
 

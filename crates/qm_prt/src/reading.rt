@@ -1,4 +1,4 @@
-ghost use Rattle.std.specs.Prelude.{◌≡◌, ◌≤◌, length, IfOk, IsTrue, MatchResult};
+ghost use Rattle.std.specs.Prelude.{◌≡◌, length, IfOk, IsTrue, MatchResult};
 ghost use Rattle.qm_listing.specs.declared.listing.Listing.{Listing as ListingRecord};
 ghost use Rattle.qm_listing.specs.Grammar.{listing_layout, listing_text, can_stand, read_listing};
 ghost use Rattle.qm_prt.specs.Answers.{IsFaultOfListing, GivesOfListing};
@@ -38,8 +38,7 @@ fn whole_listing(alloc: Global, text: &[u8]) -> Result<Listing, PrtFault>
 /// The listing with which a text begins, and where it ends.
 #[tactic(auto, unfolding(qm_listing::specs::Grammar::listing_layout))]
 fn listing_at_start(alloc: Global, text: &[u8]) -> Result<(Listing, usize), PrtFault>
-    ensures gives { GivesOfListing (λ read. read.0) (λ read. read.1) result (listing_layout.read text.now 0) }
-    ensures within { IfOk result (λ read. read.1 ≤ length text.now) }
+    ensures { GivesOfListing (λ read. read.0) (λ read. read.1) result (listing_layout.read text.now 0) }
 {
     let next = header_at_start(text)?;
     let (leaves, next) = count_line_at(text, next)?;

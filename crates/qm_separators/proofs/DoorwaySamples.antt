@@ -1,5 +1,5 @@
 -- Worked rows: two doorways one behind the other, their separators, and steps of a chain that goes through both.
-use Rattle.std.proofs.Common.{◌≡◌, ℕ, ◌<◌, ℤ, pos, neg_ℤ, ◌*◌, ◌≤◌, ◌-ℤ◌, ◌*ℤ◌, ◌<ℤ◌, List, [], ◌∷◌, length, get_or, All, Contains, slice_get, refl, ap, sym, subst, arith, unsigned_abs, inl, inr}
+use Rattle.std.proofs.Common.{◌≡◌, ℕ, ◌<◌, ℤ, pos, neg_ℤ, ◌*◌, ◌≤◌, ◌-ℤ◌, ◌*ℤ◌, ◌<ℤ◌, List, [], ◌∷◌, length, get_or, All, Contains, slice_get, refl, ap, sym, subst, arith, unsigned_abs, inl, inr, ⊎_elim}
 use Rattle.std.proofs.lemmas.Int.{ints}
 use Rattle.std.proofs.lemmas.List.Elements.{All-from_recursion}
 use Rattle.std.proofs.Math.Nat.{eq-one_of_dvd-one}
@@ -18,6 +18,8 @@ use Rattle.qm_separators.specs.WholePoints.{IsNearestPoint, IsAround}
 use Rattle.qm_separators.specs.Across.{HasLowestNormal, HasNormalOf, HasNormalAcross}
 use Rattle.qm_separators.specs.Separator.{IsSeparator}
 use Rattle.qm_separators.specs.Gains.{Gains}
+use Rattle.qm_lists.proofs.Elements.{Contains-cons_cases}
+use Rattle.qm_separators.proofs.ListedPlanes.{no_element}
 use Rattle.qm_separators.proofs.GainedPlanes.{gains_one}
 use Rattle.qm_separators.proofs.CornerLists.{all_corners}
 use Rattle.qm_separators.proofs.Distances.{least_by_neighbours}
@@ -117,7 +119,7 @@ pub left_right_row : IsSeparator (doorway (pos 0)) (doorway (pos 64)) left_right
 unfolding value corner_at next_place meet determinant
 left_right_row = record {
   across = inl left_right_across;
-  least = least_by_neighbours (pos 1 ∷ pos 2 ∷ pos 0 ∷ []) (corners (doorway (pos 0))) (pos 32) near_weights
+  touches = least_by_neighbours (pos 1 ∷ pos 2 ∷ pos 0 ∷ []) (corners (doorway (pos 0))) (pos 32) near_weights
       (subst (λ (ps : List Point). All (λ p. IsNotInFront left_right p) ps) (sym near_corners) (All-from_recursion (λ p. IsNotInFront left_right p) (spot (pos 0) low low ∷ spot (pos 0) high low ∷ spot (pos 0) high high ∷ spot (pos 0) low high ∷ []) (omega (arith, ints), (omega (arith, ints), (omega (arith, ints), (omega (arith, ints), tt))))))
       (1, spot (pos 0) high low, omega arith, refl, omega (arith, ints));
   in_front = none_behind_far left_right (All-from_recursion (λ p. IsNotBehind left_right p) (spot (pos 64) low low ∷ spot (pos 64) high low ∷ spot (pos 64) high high ∷ spot (pos 64) low high ∷ []) (omega (arith, ints), (omega (arith, ints), (omega (arith, ints), (omega (arith, ints), tt)))));
@@ -159,7 +161,7 @@ pub right_left_row : IsSeparator (doorway (pos 0)) (doorway (pos 64)) right_left
 unfolding value corner_at next_place meet determinant
 right_left_row = record {
   across = inl right_left_across;
-  least = least_by_neighbours (pos 1 ∷ neg_ℤ (pos 2) ∷ pos 0 ∷ []) (corners (doorway (pos 0))) (pos 32) near_weights
+  touches = least_by_neighbours (pos 1 ∷ neg_ℤ (pos 2) ∷ pos 0 ∷ []) (corners (doorway (pos 0))) (pos 32) near_weights
       (subst (λ (ps : List Point). All (λ p. IsNotInFront right_left p) ps) (sym near_corners) (All-from_recursion (λ p. IsNotInFront right_left p) (spot (pos 0) low low ∷ spot (pos 0) high low ∷ spot (pos 0) high high ∷ spot (pos 0) low high ∷ []) (omega (arith, ints), (omega (arith, ints), (omega (arith, ints), (omega (arith, ints), tt))))))
       (0, spot (pos 0) low low, omega arith, refl, omega (arith, ints));
   in_front = none_behind_far right_left (All-from_recursion (λ p. IsNotBehind right_left p) (spot (pos 64) low low ∷ spot (pos 64) high low ∷ spot (pos 64) high high ∷ spot (pos 64) low high ∷ []) (omega (arith, ints), (omega (arith, ints), (omega (arith, ints), (omega (arith, ints), tt)))));
@@ -177,12 +179,12 @@ around_row : IsAround (record { x = pos 1; y = neg_ℤ (pos 1); z = pos 3; w = p
 around_row = record { x = inl (record { at_most = omega (arith, ints); next = omega (arith, ints) }); y = inl (record { at_most = omega (arith, ints); next = omega (arith, ints) }); z = inr (record { at_least = omega (arith, ints); previous = omega (arith, ints) }); weight = refl }
 
 gains_row : Gains (λ h. h ≡ left_right) (right_left ∷ []) (right_left ∷ left_right ∷ [])
-gains_row = gains_one (right_left ∷ []) left_right
+gains_row = gains_one (right_left ∷ []) left_right (λ there. ⊎_elim (λ same. absurd (let e = ap (λ (h : Plane). h.ny) same in cc)) (λ none. no_element left_right none) (Contains-cons_cases right_left left_right [] there))
 
 -- it is found along its own normal, and through the points of an edge and a corner
 found_row : PartsAlong (doorway (pos 0)) (doorway (pos 64)) left_right left_right
 unfolding left_right_row
-found_row = record { normal = refl; least = left_right_row.least; parts = record { in_front = left_right_row.in_front; strict = left_right_row.strict } }
+found_row = record { normal = refl; touches = left_right_row.touches; parts = record { in_front = left_right_row.in_front; strict = left_right_row.strict } }
 
 found_through_row : SeparatesBy (doorway (pos 0)) (doorway (pos 64)) (spot (pos 64) low low) (spot (pos 0) high low) (spot (pos 0) high high) left_right
 found_through_row = (left_right_row, left_right_normal)

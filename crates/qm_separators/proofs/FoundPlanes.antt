@@ -59,7 +59,7 @@ module _ (s p : Winding) (along h : Plane) (normal : normal_of h ≡ normal_of a
   along_alone g is =
       let e = is.normal ∙ sym normal in
       same_plane g h (ap (λ (n : Point). n.x) e) (ap (λ (n : Point). n.y) e) (ap (λ (n : Point). n.z) e)
-      (distance_alone (h.nx ∷ h.ny ∷ h.nz ∷ []) (corners s) g.d h.d (subst (λ (n : Point). IsLeastDistance (n.x ∷ n.y ∷ n.z ∷ []) (corners s) g.d) e is.least) least_of_it)
+      (distance_alone (h.nx ∷ h.ny ∷ h.nz ∷ []) (corners s) g.d h.d (subst (λ (n : Point). IsLeastDistance (n.x ∷ n.y ∷ n.z ∷ []) (corners s) g.d) e is.touches) least_of_it)
 
   pub gains_along_there : (old : List Plane) → Contains old h → Gains (PartsAlong s p along) old old
   gains_along_there old there = gains_there (PartsAlong s p along) old (λ g is. subst (Contains old) (sym (along_alone g is)) there)
@@ -67,10 +67,10 @@ module _ (s p : Winding) (along h : Plane) (normal : normal_of h ≡ normal_of a
   pub gains_along_none : (old : List Plane) → (Parts s p h → ⊥) → Gains (PartsAlong s p along) old old
   gains_along_none old not = gains_none (PartsAlong s p along) old (λ g is. not (subst (Parts s p) (along_alone g is) is.parts))
 
-  pub gains_along_one : (old : List Plane) → Parts s p h → Gains (PartsAlong s p along) old (old ++ h ∷ [])
-  gains_along_one old parts = gains_alike (λ g. g ≡ h) (PartsAlong s p along) old (old ++ h ∷ [])
-      (λ g. ((λ e. subst (PartsAlong s p along) (sym e) (record { normal = normal; least = least_of_it; parts = parts })), along_alone g))
-      (gains_one old h)
+  pub gains_along_one : (old : List Plane) → (Contains old h → ⊥) → Parts s p h → Gains (PartsAlong s p along) old (old ++ h ∷ [])
+  gains_along_one old new parts = gains_alike (λ g. g ≡ h) (PartsAlong s p along) old (old ++ h ∷ [])
+      (λ g. ((λ e. subst (PartsAlong s p along) (sym e) (record { normal = normal; touches = least_of_it; parts = parts })), along_alone g))
+      (gains_one old h new)
 
 -- ---- through three whole points
 
@@ -160,10 +160,10 @@ module _ (s p : Winding) (at from to : Point) (candidate : AreCandidate s p at f
   from_weight = ⊎_elim (λ are. are.from_is.weight) (λ are. are.from_is.weight) candidate
 
   along_separates : (along h : Plane) → PartsAlong s p along h → HasNormalOf at from to h → SeparatesBy s p at from to h
-  along_separates along h is normal = (record { across = candidate_across h normal; least = is.least; in_front = is.parts.in_front; strict = is.parts.strict }, normal)
+  along_separates along h is normal = (record { across = candidate_across h normal; touches = is.touches; in_front = is.parts.in_front; strict = is.parts.strict }, normal)
 
   parts_along : (along h : Plane) → normal_of h ≡ normal_of along → IsSeparator s p h → PartsAlong s p along h
-  parts_along along h e sep = record { normal = e; least = sep.least; parts = record { in_front = sep.in_front; strict = sep.strict } }
+  parts_along along h e sep = record { normal = e; touches = sep.touches; parts = record { in_front = sep.in_front; strict = sep.strict } }
 
   module _ (plane : Plane) (flag : Bool) (is : IsPlaneThrough at from to plane flag) where
     by_like : (h : Plane) → IsSeparator s p h → HasNormalLike h plane → PartsAlong s p plane h ⊎ PartsAlong s p (flipped plane) h

@@ -194,8 +194,8 @@ strict_decided s p h = ⊎_elim
 pub listed_separators : (s p : Winding) → IsConvex s → IsConvex p → Listed (IsSeparator s p)
 listed_separators s p s_convex p_convex = listed_alike Found (IsSeparator s p)
     (λ h. (
-      (λ is. record { across = ⊎_elim (λ c. inl c.0) (λ c. inr c.0) is.0.0; least = ⊎_elim (λ c. c.1) (λ c. c.1) is.0.0; in_front = is.0.1; strict = is.1 }),
-      (λ is. ((⊎_elim (λ c. inl (c, is.least)) (λ c. inr (c, is.least)) is.across, is.in_front), is.strict)),
+      (λ is. record { across = ⊎_elim (λ c. inl c.0) (λ c. inr c.0) is.0.0; touches = ⊎_elim (λ c. c.1) (λ c. c.1) is.0.0; in_front = is.0.1; strict = is.1 }),
+      (λ is. ((⊎_elim (λ c. inl (c, is.touches)) (λ c. inr (c, is.touches)) is.across, is.in_front), is.strict)),
     ))
     (listed_where (λ h. IsAcrossBoth h × HasNoCornerBehind p h) (λ h. HasCornerBehind s h ⊎ HasCornerInFront p h)
     (listed_where IsAcrossBoth (HasNoCornerBehind p) (listed_either (λ h. HasNormalAcross (corners s) (corners p) h × IsLeastFor (corners s) h) (λ h. HasNormalAcross (corners p) (corners s) h × IsLeastFor (corners s) h) (listed_across s p s s_convex p_convex s_convex) (listed_across p s s p_convex s_convex s_convex)) (none_behind_decided p))

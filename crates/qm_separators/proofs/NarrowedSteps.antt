@@ -1,4 +1,4 @@
--- How a step is made: windings cut down plane by plane, and the last two cuts of a step after the first two.
+-- How a step is made: windings cut down plane by plane, and the last two points of a step after the first two.
 use Rattle.std.specs.Option.{MatchOption}
 use Rattle.std.proofs.Common.{List, [], ◌∷◌, ◌++◌, Contains, Option, Some, None, refl, subst, ◌∙◌, ⊎_elim}
 use Rattle.std.proofs.lemmas.List.Elements.{Contains-append_left, Contains-append_right, Contains-append_cases}
@@ -9,7 +9,7 @@ use Rattle.qm_convex.specs.Sides.{HasNoneInFront, IsWhollyInFront, LiesIn, HasCo
 use Rattle.qm_convex.specs.Cut.{IsPartInFront}
 use Rattle.qm_separators.specs.Part.{IsPartBy, HasNoPartBy}
 use Rattle.qm_separators.specs.ChainState.{ChainState, IsChainState}
-use Rattle.qm_separators.specs.ChainStep.{IsCutByPlanes, StepsTo, Blocks, target_cut_away, source_cut_away}
+use Rattle.qm_separators.specs.ChainStep.{IsCutByPlanes, StepsTo, Blocks, third_cut, fourth_cut}
 use Rattle.qm_separators.proofs.Parts.{part_by_none, no_part_after}
 use Rattle.qm_separators.specs.inner.Found.{HasCornersBeyond}
 use Rattle.qm_separators.specs.inner.Narrowed.{NarrowsTo, CutsAway, target_gone, source_gone}
@@ -59,8 +59,8 @@ module _ (state : ChainState) (target : Winding) (into : Plane) (near far : Wind
   leads_by next is = record { near = near; far = far; cut = cut; pass = is.pass; pass_is = is.pass_is; narrowed = is.narrowed; source = is.source; into_is = is.into_is }
 
   pub blocks_by : CutsAway state near far → Blocks state target into
-  blocks_by (target_gone none) = target_cut_away cut none
-  blocks_by (source_gone narrowed none) = source_cut_away cut narrowed none
+  blocks_by (target_gone none) = third_cut cut none
+  blocks_by (source_gone narrowed none) = fourth_cut cut narrowed none
 
   -- what is left of the source lies in its plane
   pub near_lies : IsChainState state → LiesIn near state.into

@@ -69,4 +69,4 @@ module _ (v w : Winding) (v_convex : IsConvex v) (w_convex : IsConvex w) (near b
 pub separator_by_normal : (s p : Winding) (g h : Plane) → IsSeparator s p g → IsSeparator s p h → normal_of g ≡ normal_of h → g ≡ h
 separator_by_normal s p g h first second e =
     same_plane g h (ap (λ (n : Point). n.x) e) (ap (λ (n : Point). n.y) e) (ap (λ (n : Point). n.z) e)
-    (distance_alone (h.nx ∷ h.ny ∷ h.nz ∷ []) (corners s) g.d h.d (subst (λ (n : Point). IsLeastDistance (n.x ∷ n.y ∷ n.z ∷ []) (corners s) g.d) e first.least) second.least)
+    (distance_alone (h.nx ∷ h.ny ∷ h.nz ∷ []) (corners s) g.d h.d (subst (λ (n : Point). IsLeastDistance (n.x ∷ n.y ∷ n.z ∷ []) (corners s) g.d) e first.touches) second.touches)

@@ -66,7 +66,7 @@ separator_is_reduced s p h s_in p_in is =
     let small = ⊎_elim (normal_across (corners s) (corners p) h (corners_in_cube s s_in) (corners_in_cube p p_in)) (normal_across (corners p) (corners s) h (corners_in_cube p p_in) (corners_in_cube s s_in)) is.across in
     let n = corners_length s in
     let enough = s_in.convex.enough in
-    let size = distance_size h (corners s) (omega arith) (corners_in_cube s s_in) small.x small.y small.z is.least in
+    let size = distance_size h (corners s) (omega arith) (corners_in_cube s s_in) small.x small.y small.z is.touches in
     record {
       normal = lowest_has_normal h lowest;
       lowest = λ k x y z d. lowest k x y z;

@@ -132,7 +132,7 @@ module _ (v w : Winding) (v_convex : IsConvex v) (w_convex : IsConvex w) (same :
 pub separator_too : (s t p q : Winding) → IsConvex s → IsConvex t → IsConvex p → IsConvex q → HasSameRegion s t → HasSameRegion p q → (h : Plane) → IsSeparator s p h → IsSeparator t q h
 separator_too s t p q s_convex t_convex p_convex q_convex st pq h is = record {
   across = ⊎_elim (λ c. inl (across_too s t p q s_convex t_convex p_convex q_convex st pq h c)) (λ c. inr (across_too p q s t p_convex q_convex s_convex t_convex pq st h c)) is.across;
-  least = least_too s t s_convex t_convex st (h.nx ∷ h.ny ∷ h.nz ∷ []) h.d is.least;
+  touches = least_too s t s_convex t_convex st (h.nx ∷ h.ny ∷ h.nz ∷ []) h.d is.touches;
   in_front = none_behind_too p q p_convex q_convex pq h is.in_front;
   strict = ⊎_elim (λ b. inl (behind_too s t s_convex t_convex st h b)) (λ f. inr (in_front_too p q p_convex q_convex pq h f)) is.strict;
 }

@@ -10,7 +10,7 @@ use Rattle.qm_convex.proofs.Central.{middle, middle_in_region}
 use Rattle.qm_separators.specs.Separator.{IsSeparatorFrom}
 use Rattle.qm_separators.specs.Part.{HasSameRegion, IsPartBy}
 use Rattle.qm_separators.specs.ChainState.{ChainState, IsChainState}
-use Rattle.qm_separators.specs.ChainStep.{IsCutByPlanes, StepsTo, Blocks, target_behind, source_beyond, target_cut_away, source_cut_away}
+use Rattle.qm_separators.specs.ChainStep.{IsCutByPlanes, StepsTo, Blocks, first_cut, second_cut, third_cut, fourth_cut}
 use Rattle.qm_separators.proofs.SameCorners.{same_back}
 use Rattle.qm_separators.proofs.SameSeparators.{separator_too}
 use Rattle.qm_separators.proofs.StepLaw.{IsConvexPass}
@@ -86,21 +86,21 @@ module _ (a b : ChainState) (target other : Winding) (into : Plane) (next : Chai
 
   -- and neither blocks
   pub leads_not_blocks : Blocks b other into → ⊥
-  leads_not_blocks (target_behind none) =
+  leads_not_blocks (first_cut none) =
       let its = (leads.cut.far_is.points (middle leads.far)).0 (middle_in_region leads.far leads.cut.far_is.convex) in
       let l = none (middle leads.far) ((targets (middle leads.far)).0 its.0) in
       let f = subst (λ (g : Plane). IsInFront g (middle leads.far)) same.into its.1 in
       omega (arith, linear)
-  leads_not_blocks (source_beyond none) =
+  leads_not_blocks (second_cut none) =
       let its = (leads.cut.near_is.points (middle leads.near)).0 (middle_in_region leads.near leads.cut.near_is.convex) in
       let l = none (middle leads.near) ((same.source (middle leads.near)).0 its.0) in
       let f = its.1 in
       omega (arith, linear)
-  leads_not_blocks (target_cut_away {near = near} {far = far} cut none) =
+  leads_not_blocks (third_cut {near = near} {far = far} cut none) =
       let m = middle leads.pass in
       let its = (leads.narrowed.points m).0 (middle_in_region leads.pass leads.narrowed.convex) in
       none m ((same_far near far cut m).0 its.0) (λ h is. its.1 h ((near_separators near far cut h).1 is))
-  leads_not_blocks (source_cut_away {near = near} {far = far} {pass = pass} cut narrowed none) =
+  leads_not_blocks (fourth_cut {near = near} {far = far} {pass = pass} cut narrowed none) =
       let m = middle next.source in
       let its = (leads.source.points m).0 (middle_in_region next.source leads.source.convex) in
       none m ((same_near near far cut m).0 its.0) (λ h is. its.1 h ((pass_separators near far cut pass narrowed h).1 is))
@@ -127,7 +127,7 @@ leads_or_blocks state target into next valid leads blocks = leads_not_blocks sta
 
 -- ---- separators that are kept
 
--- where the first cut of a step leaves the source whole, the separators of what it leaves are those of the source
+-- where the second cut of a step leaves the source whole, the separators of what it leaves are those of the source
 pub separators_kept : (state : ChainState) (near : Winding) (g : Plane) → IsChainState state → IsPartInFront near state.source g → IsWhollyInFront state.source g → (h : Plane) → IsSeparatorFrom state.pass state.source h ↔ IsSeparatorFrom state.pass near h
 separators_kept state near g valid is whole =
     separators_alike state.pass state.pass state.source near (pass_itself state.pass) valid.pass_convex valid.pass_convex valid.source_convex is.convex

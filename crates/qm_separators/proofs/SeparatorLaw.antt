@@ -23,7 +23,7 @@ hull_not_behind v g c a p r =
 -- a separator has no corner of the source in front
 pub none_in_front : (s p : Winding) (h : Plane) → IsSeparator s p h → HasNoCornerInFront s h
 none_in_front s p h is i below =
-    let a = is.least.none_in_front h.d (omega (arith, linear)) i (corner_at s i) (let e = corners_length s in omega arith) in
+    let a = is.touches.none_in_front h.d (omega (arith, linear)) i (corner_at s i) (let e = corners_length s in omega arith) in
     subst (λ q. IsNotInFront h q) (corner_in_list s i (corner_at s i) below) a
 
 -- what goes through the source and then through the pass is in front from there on

@@ -13,7 +13,7 @@ use Rattle.qm_segments.specs.Segment.{Segment}
 use Rattle.qm_segments.proofs.Betweenness.{between_turned, earlier_between, farther_between, between_in_front, behind_before}
 use Rattle.qm_separators.specs.Separator.{IsSeparatorFrom}
 use Rattle.qm_separators.specs.ChainState.{ChainState, IsChainState}
-use Rattle.qm_separators.specs.ChainStep.{IsCutByPlanes, IsCutToPass, StepsTo, Blocks, target_behind, source_beyond, target_cut_away, source_cut_away}
+use Rattle.qm_separators.specs.ChainStep.{IsCutByPlanes, IsCutToPass, StepsTo, Blocks, first_cut, second_cut, third_cut, fourth_cut}
 use Rattle.qm_separators.specs.Meets.{Meets}
 use Rattle.qm_separators.proofs.SeparatorLaw.{beyond_separator}
 
@@ -82,7 +82,7 @@ module _ (state : ChainState) (target : Winding) (into : Plane) (s : Segment) (x
 
   -- and the step does not block
   pub not_blocked : Blocks state target into → ⊥
-  not_blocked (target_behind none) = let l = none y inside in let f = target_in_front in absurd (omega (arith, linear))
-  not_blocked (source_beyond none) = let l = none met.at met.inside in let f = (flipped_in_front into met.at).1 source_is_behind in absurd (omega (arith, linear))
-  not_blocked (target_cut_away {near = near} {far = far} cut none) = none y (in_far near far cut) (far_beyond near far cut)
-  not_blocked (source_cut_away {near = near} {far = far} {pass = pass} cut narrowed none) = none met.at (in_near near far cut) (near_before near far cut pass narrowed)
+  not_blocked (first_cut none) = let l = none y inside in let f = target_in_front in absurd (omega (arith, linear))
+  not_blocked (second_cut none) = let l = none met.at met.inside in let f = (flipped_in_front into met.at).1 source_is_behind in absurd (omega (arith, linear))
+  not_blocked (third_cut {near = near} {far = far} cut none) = none y (in_far near far cut) (far_beyond near far cut)
+  not_blocked (fourth_cut {near = near} {far = far} {pass = pass} cut narrowed none) = none met.at (in_near near far cut) (near_before near far cut pass narrowed)

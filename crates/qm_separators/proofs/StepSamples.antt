@@ -19,7 +19,7 @@ use Rattle.qm_segments.specs.Segment.{Segment}
 use Rattle.qm_segments.proofs.RoomSights.{at_value}
 use Rattle.qm_separators.specs.Separator.{IsSeparatorFrom}
 use Rattle.qm_separators.specs.ChainState.{ChainState, first_state, IsChainState}
-use Rattle.qm_separators.specs.ChainStep.{StepsTo, Blocks, target_behind, target_cut_away}
+use Rattle.qm_separators.specs.ChainStep.{StepsTo, Blocks, first_cut, third_cut}
 use Rattle.qm_separators.specs.MayPass.{MayPass}
 use Rattle.qm_separators.specs.Meets.{Meets}
 use Rattle.qm_separators.proofs.Parts.{part_by_none, part_or_none}
@@ -77,7 +77,7 @@ step_row = record {
 
 -- it does not go back
 pub back_row : Blocks started (doorway (neg_ℤ (pos 64))) (flipped (at (neg_ℤ (pos 64))))
-back_row = target_behind (λ p r. let e = doorway_at (neg_ℤ (pos 64)) (pos 0) p r in let m = product_positive (pos 64) p.w (omega (arith, ints)) r.weight in let n = neg-*ℤ (pos 64) p.w in let z : neg_ℤ (pos 64) -ℤ pos 0 ≡ neg_ℤ (pos 64) = refl in omega (arith, linear))
+back_row = first_cut (λ p r. let e = doorway_at (neg_ℤ (pos 64)) (pos 0) p r in let m = product_positive (pos 64) p.w (omega (arith, ints)) r.weight in let n = neg-*ℤ (pos 64) p.w in let z : neg_ℤ (pos 64) -ℤ pos 0 ≡ neg_ℤ (pos 64) = refl in omega (arith, linear))
 
 -- ---- a line through three doorways
 
@@ -152,7 +152,7 @@ module _ (aside : Winding) (is : IsPartInFront aside (square (at (pos 128)) wall
       omega (arith, linear)
 
   blocked_row : Blocks through_two aside (at (pos 128))
-  blocked_row = target_cut_away
+  blocked_row = third_cut
       (record { far_is = whole_is_part aside (at (pos 0)) is.convex aside_in_front; near_is = whole_is_part (doorway (pos 0)) (flipped (at (pos 128))) (doorway_convex (pos 0)) (behind_doorway (pos 0) (pos 128) (omega (arith, ints))) })
       (λ p r all. beside_separator p r (all right_left right_left_row))
 

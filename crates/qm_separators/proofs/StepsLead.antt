@@ -6,7 +6,7 @@ use Rattle.qm_contacts.specs.Portals.{Portal}
 use Rattle.qm_segments.specs.Steps.{LeadOnOrBlock}
 use Rattle.qm_separators.specs.Separator.{IsSeparatorFrom}
 use Rattle.qm_separators.specs.ChainState.{ChainState, IsChainState}
-use Rattle.qm_separators.specs.ChainStep.{IsCutByPlanes, StepsTo, Blocks, target_behind, source_beyond, target_cut_away, source_cut_away}
+use Rattle.qm_separators.specs.ChainStep.{IsCutByPlanes, StepsTo, Blocks, first_cut, second_cut, third_cut, fourth_cut}
 use Rattle.qm_separators.specs.PortalSteps.{BeginsWith, StepsThrough, BlocksAt, AreConvexPortals}
 use Rattle.qm_separators.proofs.ListedSeparators.{listed_from_pass}
 use Rattle.qm_separators.proofs.Parts.{part_or_none, part_by_listed}
@@ -22,18 +22,18 @@ module _ (state : ChainState) (target : Winding) (into : Plane) (valid : IsChain
   after_planes near far cut = ⊎_elim
       (λ pass. ⊎_elim
       (λ source. inl (record { source = source.0; into = state.into; pass = Some pass.0 }, record { near = near; far = far; cut = cut; pass = pass.0; pass_is = refl; narrowed = pass.1; source = source.1; into_is = refl }))
-      (λ none. inr (source_cut_away cut pass.1 none))
+      (λ none. inr (fourth_cut cut pass.1 none))
       (part_by_listed near (IsSeparatorFrom state.pass pass.0) cut.near_is.convex (listed_from_pass state.pass pass.0 valid.pass_convex pass.1.convex)))
-      (λ none. inr (target_cut_away cut none))
+      (λ none. inr (third_cut cut none))
       (part_by_listed far (IsSeparatorFrom state.pass near) cut.far_is.convex (listed_from_pass state.pass near valid.pass_convex cut.near_is.convex))
 
   pub leads_on_or_blocks : LeadsOrBlocks
   leads_on_or_blocks = ⊎_elim
       (λ far. ⊎_elim
       (λ near. after_planes near.0 far.0 (record { far_is = far.1; near_is = near.1 }))
-      (λ none. inr (source_beyond none))
+      (λ none. inr (second_cut none))
       (part_or_none state.source (flipped into) valid.source_convex))
-      (λ none. inr (target_behind none))
+      (λ none. inr (first_cut none))
       (part_or_none target state.into convex)
 
   -- a step blocks exactly where it leads to no state

@@ -1,18 +1,26 @@
-use Rattle.std.specs.Prelude.{◌⊎◌, [], ◌∷◌, Option, MatchOption}
+use Rattle.std.specs.Prelude.{◌⊎◌, ℤ, List, [], ◌∷◌, Option, MatchOption}
 use Rattle.qm_space.specs.Plane.{Plane}
 use Rattle.qm_space.specs.LeastDistance.{IsLeastDistance}
 use Rattle.qm_convex.specs.Winding.{Winding, corners}
 use Rattle.qm_convex.specs.Sides.{HasNoCornerBehind, HasCornerBehind, HasCornerInFront}
 use Rattle.qm_separators.specs.Across.{HasNormalAcross}
 
--- The plane separates the source from the pass: it has the normal of an edge of one of the two and a corner of the other;
--- its distance is the least at which no corner of the source is in front; no corner of the pass is behind; and some corner
--- of one of the two is not on it.
+-- the components of a plane's normal
+abbrev pub normal_components : Plane → List ℤ
+normal_components h = h.nx ∷ h.ny ∷ h.nz ∷ []
+
+-- the plane touches the winding from in front: no corner of the winding is in front of it, and at any lesser distance some
+-- corner is
+abbrev pub TouchesFromInFront : Winding → Plane → Type 0
+TouchesFromInFront v h = IsLeastDistance (normal_components h) (corners v) h.d
+
+-- The plane separates the source from the pass: it touches the source from in front, and has the pass in front, no corner of
+-- it behind; some corner of one of the two is off it; and it has the normal of an edge of the one and a corner of the other.
 pub record IsSeparator (source pass : Winding) (h : Plane) : Type 0 where
-  pub across : HasNormalAcross (corners source) (corners pass) h ⊎ HasNormalAcross (corners pass) (corners source) h
-  pub least : IsLeastDistance (h.nx ∷ h.ny ∷ h.nz ∷ []) (corners source) h.d
+  pub touches : TouchesFromInFront source h
   pub in_front : HasNoCornerBehind pass h
   pub strict : HasCornerBehind source h ⊎ HasCornerInFront pass h
+  pub across : HasNormalAcross (corners source) (corners pass) h ⊎ HasNormalAcross (corners pass) (corners source) h
 
 -- a separator of the winding and the pass, where there is a pass; where there is none, no plane
 abbrev pub IsSeparatorFrom : Option Winding → Winding → Plane → Type 0

@@ -35,7 +35,6 @@ use Rattle.qm_split.specs.inner.PieceParts.{IsNumberedPiece}
 use Rattle.qm_split.specs.inner.FacePieces.{solid_behind, IsFacePoint, IsFacePiece, HasNoFacePoint, IsPieceOfFace, HasPieceOfFace, HasFacePieces, HasAllBehind}
 use Rattle.qm_split.proofs.ListedItems.{all_of_listed}
 use Rattle.qm_split.proofs.PartedPieces.{meets_no_face}
-use Rattle.qm_convex.proofs.Cutting.{whole_is_part}
 
 -- ---- the winding of one face
 
@@ -102,9 +101,9 @@ module _ (book : List Plane) (number : ℕ) (done : List FaceRef) (face : FaceRe
       );
     }
 
-    -- it is all kept where it is wholly in front
-    pub face_whole : IsWhollyInFront w inner → IsFacePiece book number (done ++ face ∷ []) w
-    face_whole whole = face_kept w (whole_is_part w inner is.convex whole)
+    pub face_left : (left : Option Winding) → MatchOption left (HasNoneInFront w inner) (λ kept. IsPartInFront kept w inner) → MatchOption left (HasNoFacePoint book number (done ++ face ∷ [])) (IsFacePiece book number (done ++ face ∷ []))
+    face_left None none = face_gone none
+    face_left (Some kept) part = face_kept kept part
 
 -- ---- the pieces of all faces
 

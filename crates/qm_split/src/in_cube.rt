@@ -14,7 +14,7 @@ use qm_brush::inner_side;
 use qm_contents::Contents;
 use qm_geom::{Cuboid, Plane, PlaneBook};
 use qm_solids::FaceRef;
-use qm_wind::{Clip, Winding};
+use qm_wind::Winding;
 use std::alloc::{AllocError, Global};
 
 /// What a full solid is to the cube, by its faces.
@@ -121,59 +121,46 @@ fn face_in_cube(
     ensures { IfOk result (λ part. MatchOption part (HasNoFacePoint book.now number faces.now) (IsFacePiece book.now number faces.now)) }
 {
     match Winding::on(alloc, &book.plane(number))? {
-        Some(whole) => {
-            let mut left = whole;
-            if keep_behind_all(&mut left, number, faces, book)? {
-                Ok(Some(left))
-            } else {
-                Ok(None)
-            }
-        }
+        Some(whole) => keep_behind_all(whole, number, faces, book),
         None => Ok(None),
     }
 }
 
-/// Cuts a winding on the plane of a number down to what is behind those faces that lie on other planes, and says whether
-/// anything is.
+/// What a winding on the plane of a number has behind those faces that lie on other planes.
 fn keep_behind_all(
-    left: &mut Winding,
+    winding: Winding,
     number: u32,
     faces: &[FaceRef],
     book: &PlaneBook,
-) -> Result<bool, AllocError>
+) -> Result<Option<Winding>, AllocError>
     requires numbered { AreNumberedIn book.now faces.now }
-    ensures { IfOk result (λ some. IsFacePiece book.now number [] left.old →
-        MatchBool some (IsFacePiece book.now number faces.now left.new) (HasNoFacePoint book.now number faces.now)) }
+    ensures { IfOk result (λ part. IsFacePiece book.now number [] winding →
+        MatchOption part (HasNoFacePoint book.now number faces.now) (IsFacePiece book.now number faces.now)) }
 {
+    let _corners = winding.len();
+    let mut left = winding;
     for face in faces {
-        if !keep_behind(left, number, face, book)? {
-            return Ok(false);
-        }
+        left = match keep_behind(left, number, face, book)? {
+            Some(kept) => kept,
+            None => return Ok(None),
+        };
     }
-    Ok(true)
+    Ok(Some(left))
 }
 
-/// Cuts a winding on the plane of a number down to what is behind a face, if the face lies on another plane, and says
-/// whether anything is.
+/// What a winding on the plane of a number has behind a face, if the face lies on another plane.
 fn keep_behind(
-    left: &mut Winding,
+    winding: Winding,
     number: u32,
     face: &FaceRef,
     book: &PlaneBook,
-) -> Result<bool, AllocError>
+) -> Result<Option<Winding>, AllocError>
     requires numbered { face.now.plane < length book.now }
-    ensures { IfOk result (λ some. (done : List FaceRef) → IsFacePiece book.now number done left.old →
-        MatchBool some (IsFacePiece book.now number (done ++ face.now ∷ []) left.new) (HasNoFacePoint book.now number (done ++ face.now ∷ []))) }
+    ensures { IfOk result (λ part. (done : List FaceRef) → IsFacePiece book.now number done winding →
+        MatchOption part (HasNoFacePoint book.now number (done ++ face.now ∷ [])) (IsFacePiece book.now number (done ++ face.now ∷ []))) }
 {
     if face.plane == number {
-        return Ok(true);
+        return Ok(Some(winding));
     }
-    match left.clip(&book.plane(face.plane), inner_side(face))? {
-        Clip::Whole => Ok(true),
-        Clip::Gone => Ok(false),
-        Clip::Cut(part) => {
-            *left = part;
-            Ok(true)
-        }
-    }
+    winding.keep(&book.plane(face.plane), inner_side(face))
 }

@@ -27,14 +27,6 @@ static AT_THE_END: [(&[u8], MapFault); 10] = [
     (b"{ }\n\"a\nb", MapFault::UnclosedQuote { line: 2 }),
 ];
 
-#[test]
-fn faults_at_the_end(rt: HostRuntime) -> Result<(), Fail> {
-    for &(text, fault) in &AT_THE_END {
-        assert!(rt; is_fault(rt.alloc(), text, fault)?);
-    }
-    Ok(())
-}
-
 static OF_ANOTHER_SORT: [(&[u8], u64); 22] = [
     (b"{ { x", 1),
     (b"x", 1),
@@ -59,14 +51,6 @@ static OF_ANOTHER_SORT: [(&[u8], u64); 22] = [
     (b"{ }//", 1),
     (b"{\n}/", 2),
 ];
-
-#[test]
-fn tokens_of_another_sort(rt: HostRuntime) -> Result<(), Fail> {
-    for &(text, line) in &OF_ANOTHER_SORT {
-        assert!(rt; is_fault(rt.alloc(), text, MapFault::Unexpected { line })?);
-    }
-    Ok(())
-}
 
 static MAY_NOT_BE: [(&[u8], MapFault); 15] = [
     (b"{ { ( 1e3", MapFault::BadNumber { line: 1 }),
@@ -108,9 +92,12 @@ static MAY_NOT_BE: [(&[u8], MapFault); 15] = [
 ];
 
 #[test]
-fn tokens_that_say_what_may_not_be(rt: HostRuntime) -> Result<(), Fail> {
-    for &(text, fault) in &MAY_NOT_BE {
+fn texts_have_their_faults(rt: HostRuntime) -> Result<(), Fail> {
+    for &(text, fault) in AT_THE_END.iter().chain(&MAY_NOT_BE) {
         assert!(rt; is_fault(rt.alloc(), text, fault)?);
+    }
+    for &(text, line) in &OF_ANOTHER_SORT {
+        assert!(rt; is_fault(rt.alloc(), text, MapFault::Unexpected { line })?);
     }
     Ok(())
 }

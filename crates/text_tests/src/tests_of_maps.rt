@@ -63,17 +63,6 @@ static FACES: [([usize; 4], &[u8], &[u8]); 4] = [
     ([1, 1, 5, 4], b"*water", b"1"),
 ];
 
-#[test]
-fn the_faces_of_a_room(rt: HostRuntime) -> Result<(), Fail> {
-    let Ok(map) = read(rt.alloc(), ROOM)? else {
-        panic!(rt; "no map");
-    };
-    for &(where_it_is, texture, word) in &FACES {
-        assert!(rt; has_words(&map, where_it_is, texture, word) == Some(true));
-    }
-    Ok(())
-}
-
 /// Whether a pair of an entity has this key and this value.
 fn has_pair(map: &MapFile, entity: usize, pair: usize, key: &[u8], value: &[u8]) -> Option<bool> {
     let pair = map
@@ -93,10 +82,13 @@ static PAIRS: [(usize, usize, &[u8], &[u8]); 3] = [
 ];
 
 #[test]
-fn the_pairs_of_a_room(rt: HostRuntime) -> Result<(), Fail> {
+fn the_faces_and_pairs_of_a_room(rt: HostRuntime) -> Result<(), Fail> {
     let Ok(map) = read(rt.alloc(), ROOM)? else {
         panic!(rt; "no map");
     };
+    for &(where_it_is, texture, word) in &FACES {
+        assert!(rt; has_words(&map, where_it_is, texture, word) == Some(true));
+    }
     for &(entity, pair, key, value) in &PAIRS {
         assert!(rt; has_pair(&map, entity, pair, key, value) == Some(true));
     }

@@ -23,15 +23,6 @@ static PRINTED: [(i128, i128, &[u8]); 5] = [
     (-1, 10_000_000, b"0.000000"),
 ];
 
-#[test]
-fn fractions_are_printed(rt: HostRuntime) -> Result<(), Fail> {
-    for &(numerator, denominator, text) in &PRINTED {
-        let shown = printed(rt.alloc(), numerator, denominator)?;
-        assert!(rt; shown.as_slice() == text);
-    }
-    Ok(())
-}
-
 /// A number in millionths, and a letter for each fault.
 fn millionths(text: &[u8]) -> Result<i64, u8> {
     match read(text, 6) {
@@ -52,9 +43,14 @@ static READ: [(&[u8], Result<i64, u8>); 6] = [
 ];
 
 #[test]
-fn numbers_are_read(rt: HostRuntime) {
+fn numbers_are_printed_and_read(rt: HostRuntime) -> Result<(), Fail> {
+    for &(numerator, denominator, text) in &PRINTED {
+        let shown = printed(rt.alloc(), numerator, denominator)?;
+        assert!(rt; shown.as_slice() == text);
+    }
     assert!(rt;
         READ.iter()
             .all(|(text, answer)| millionths(text) == *answer)
     );
+    Ok(())
 }

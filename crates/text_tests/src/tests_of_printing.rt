@@ -13,16 +13,6 @@ fn printed_behind(alloc: Global, old: &[u8], text: &[u8]) -> Result<Vec<u8>, All
     Ok(out)
 }
 
-#[test]
-fn a_map_is_printed_behind_what_was_there(rt: HostRuntime) -> Result<(), Fail> {
-    let text = b"{ \"a\"\"b c\" { ( -0 +1 2. ) ( 0 1 0 ) ( 0 0 1 ) \"x y\" 0 0 0 1 1 } } { }";
-    let printed =
-        b"old\n{\n\"a\" \"b c\"\n{\n( 0 1 2 ) ( 0 1 0 ) ( 0 0 1 ) \"x y\" 0 0 0 1 1\n}\n}\n{\n}\n";
-    let out = printed_behind(rt.alloc(), b"old\n", text)?;
-    assert!(rt; out.as_slice() == printed.as_slice());
-    Ok(())
-}
-
 static TEXTURES: [(&[u8], &[u8]); 4] = [
     (
         b"{ { ( 0 0 0 ) ( 0 1 0 ) ( 0 0 1 ) \"\" 0 0 0 1 1 } }",
@@ -43,7 +33,12 @@ static TEXTURES: [(&[u8], &[u8]); 4] = [
 ];
 
 #[test]
-fn a_texture_stands_between_quotes_where_it_has_to(rt: HostRuntime) -> Result<(), Fail> {
+fn maps_are_printed_behind_what_was_there(rt: HostRuntime) -> Result<(), Fail> {
+    let text = b"{ \"a\"\"b c\" { ( -0 +1 2. ) ( 0 1 0 ) ( 0 0 1 ) \"x y\" 0 0 0 1 1 } } { }";
+    let printed =
+        b"old\n{\n\"a\" \"b c\"\n{\n( 0 1 2 ) ( 0 1 0 ) ( 0 0 1 ) \"x y\" 0 0 0 1 1\n}\n}\n{\n}\n";
+    let out = printed_behind(rt.alloc(), b"old\n", text)?;
+    assert!(rt; out.as_slice() == printed.as_slice());
     for &(text, name) in &TEXTURES {
         let out = printed_behind(rt.alloc(), b"", text)?;
         assert!(rt; out.get(34..34 + name.len()) == Some(name));

@@ -33,10 +33,6 @@ fn tokens_of_a_text(rt: HostRuntime) {
         [0, 21, 24, 3],
     ];
     assert!(rt; gives(text, &tokens));
-}
-
-#[test]
-fn the_line_of_a_quote_that_is_not_closed(rt: HostRuntime) {
     let mut lexer = Lexer::new(b"\n// \"\n\"a\nb");
     assert!(rt; matches!(lexer.next(), Err(LexFault::UnclosedQuote { line: 3 })));
 }

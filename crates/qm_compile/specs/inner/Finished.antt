@@ -6,7 +6,7 @@ use Rattle.qm_contacts.specs.Contacts.{Contacts, AreContacts}
 use Rattle.qm_contacts.specs.NumberedLeaves.{is_numbered}
 use Rattle.qm_contacts.specs.Portals.{portals_of}
 use Rattle.qm_contacts.specs.World.{World}
-use Rattle.qm_file.specs.declared.tree_file.TreeFile.{TreeFile}
+use Rattle.qm_formats.specs.TreeFile.{TreeFile}
 use Rattle.qm_rows.specs.Seen.{seen_of}
 use Rattle.qm_compile.specs.declared.compiled.Compiled.{Compiled}
 use Rattle.qm_compile.specs.declared.compiled.Compiled.TheVariants.{Done, Leak}

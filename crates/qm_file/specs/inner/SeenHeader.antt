@@ -1,4 +1,4 @@
-use Rattle.qm_formats.specs.TreeFile.{Header}
+use Rattle.qm_formats.specs.FileLayout.{Header}
 use Rattle.qm_file.specs.declared.header_reading.Header.{Header as ReadHeader}
 
 -- a header that was read, as the layouts know it

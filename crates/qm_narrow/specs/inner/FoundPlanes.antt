@@ -1,18 +1,17 @@
-use Rattle.std.specs.Prelude.{◌≡◌, int_lt, pos, List, [], ◌∷◌, Contains}
+use Rattle.std.specs.Prelude.{◌≡◌, int_lt, pos, List, Contains}
 use Rattle.qm_space.specs.Plane.{Plane, flipped}
 use Rattle.qm_space.specs.Vector.{normal_of}
-use Rattle.qm_space.specs.LeastDistance.{IsLeastDistance}
 use Rattle.qm_geom.specs.declared.vector.Vector.{Vector}
 use Rattle.qm_geom.specs.Vectors.{cross_vector, normal_vector as own_normal}
-use Rattle.qm_convex.specs.Winding.{Winding, corners}
+use Rattle.qm_convex.specs.Winding.{Winding}
 use Rattle.qm_separators.specs.Across.{HasLowestNormal}
+use Rattle.qm_separators.specs.Separator.{TouchesFromInFront}
 
 -- Planes that were found before, by their normals.
 
--- each plane of the list is at the least distance at which no corner of the source is in front, and has its normal in
--- lowest terms
+-- each plane of the list touches the source from in front, and has its normal in lowest terms
 pub record AreAtLeastDistance (source : Winding) (planes : List Plane) : Type 0 where
-  pub each : (h : Plane) → Contains planes h → IsLeastDistance (h.nx ∷ h.ny ∷ h.nz ∷ []) (corners source) h.d
+  pub each : (h : Plane) → Contains planes h → TouchesFromInFront source h
   pub lowest : (h : Plane) → Contains planes h → HasLowestNormal h
 
 -- some plane of the list has the normal of a plane

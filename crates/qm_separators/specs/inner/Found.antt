@@ -1,13 +1,12 @@
-use Rattle.std.specs.Prelude.{◌≡◌, ◌⊎◌, ℕ, ◌<◌, List, [], ◌∷◌, length, Contains}
+use Rattle.std.specs.Prelude.{◌≡◌, ◌⊎◌, ℕ, ◌<◌, List, length, Contains}
 use Rattle.qm_space.specs.Point.{Point}
 use Rattle.qm_space.specs.Plane.{Plane}
 use Rattle.qm_space.specs.Vector.{normal_of}
-use Rattle.qm_space.specs.LeastDistance.{IsLeastDistance}
-use Rattle.qm_convex.specs.Winding.{Winding, next_place, corner_at, corners}
+use Rattle.qm_convex.specs.Winding.{Winding, next_place, corner_at}
 use Rattle.qm_convex.specs.Sides.{HasNoCornerBehind, HasCornerBehind, HasCornerInFront}
 use Rattle.qm_separators.specs.WholePoints.{IsNearestPoint, IsAround}
 use Rattle.qm_separators.specs.Across.{HasNormalOf}
-use Rattle.qm_separators.specs.Separator.{IsSeparator}
+use Rattle.qm_separators.specs.Separator.{TouchesFromInFront, IsSeparator}
 use Rattle.qm_separators.specs.inner.Outline.{IsMixOf}
 
 -- How separators are found: for each edge and each corner, for each whole point around the corner, for each side.
@@ -17,10 +16,10 @@ pub record Parts (source pass : Winding) (h : Plane) : Type 0 where
   pub in_front : HasNoCornerBehind pass h
   pub strict : HasCornerBehind source h ⊎ HasCornerInFront pass h
 
--- it does, and has the normal of another plane, at the least distance
+-- it does, and has the normal of another plane and touches the source from in front
 pub record PartsAlong (source pass : Winding) (along h : Plane) : Type 0 where
   pub normal : normal_of h ≡ normal_of along
-  pub least : IsLeastDistance (h.nx ∷ h.ny ∷ h.nz ∷ []) (corners source) h.d
+  pub touches : TouchesFromInFront source h
   pub parts : Parts source pass h
 
 -- whole points of an edge of the one winding and of a corner of the other

@@ -1,9 +1,9 @@
 use Rattle.std.specs.Prelude.{◌≡◌, Some}
 use Rattle.qm_convex.specs.Winding.{Winding}
 use Rattle.qm_separators.specs.Separator.{IsSeparatorFrom}
-use Rattle.qm_separators.specs.Part.{IsPartBy, HasNoPartBy}
+use Rattle.qm_separators.specs.Part.{HasNoPartBy}
 use Rattle.qm_separators.specs.ChainState.{ChainState}
-use Rattle.qm_separators.specs.ChainStep.{IsCutToPass}
+use Rattle.qm_separators.specs.ChainStep.{IsCutToPass, IsCutToSource}
 
 -- The last two cuts of a step, from what the first two have left.
 
@@ -12,10 +12,10 @@ pub record NarrowsTo (state : ChainState) (near far : Winding) (next : ChainStat
   pub pass : Winding
   pub pass_is : next.pass ≡ Some pass
   pub narrowed : IsCutToPass state near far pass
-  pub source : IsPartBy next.source near (IsSeparatorFrom state.pass pass)
+  pub source : IsCutToSource state near pass next.source
   pub into_is : next.into ≡ state.into
 
--- at one of them nothing is left
+-- one of them leaves nothing
 pub data CutsAway (state : ChainState) (near far : Winding) : Type 0 where
   target_gone : HasNoPartBy far (IsSeparatorFrom state.pass near) → CutsAway state near far
   source_gone : {pass : Winding} → IsCutToPass state near far pass → HasNoPartBy near (IsSeparatorFrom state.pass pass) → CutsAway state near far

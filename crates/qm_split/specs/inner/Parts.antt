@@ -68,4 +68,3 @@ pub record HasPieceIn (pieces : List Piece) (h : Plane) : Type 0 where
 pub record IsShortened (contender : Contender) (h : Plane) (part : Part) : Type 0 where
   pub no_more : part_count part ≤ length contender.body.value.pieces.items
   pub fewer : HasPieceIn contender.body.value.pieces.items h → part_count part < length contender.body.value.pieces.items
-

@@ -16,6 +16,7 @@ pub returns-in_ok-push : goal.returns-in_ok-push
 returns-in_ok-push c =
     subst (Gains (PartsAlong c.args.source.now c.args.pass.now c.args.along.now) c.args.planes.now.items) (sym c.in_ok-push.ensures.items)
     (gains_along_one c.args.source.now c.args.pass.now c.args.along.now c.at_least_distance-plane.result c.at_least_distance-plane.ensures.normal c.at_least_distance-plane.ensures.least c.args.planes.now.items
+    (λ there. let among = c.has_normal.ensures.1 (subst (λ (l : List Plane). HasNormalAmong l c.args.along.now) (sym c.as_slice.ensures.value) (c.at_least_distance-plane.result, there, c.at_least_distance-plane.ensures.normal)) in absurd (let never : false ≡ true = sym c.if-has_normal.false ∙ among in cc))
     (c.parts.ensures.0 c.if-parts.true))
 
 pub returns-else-parts : goal.returns-else-parts

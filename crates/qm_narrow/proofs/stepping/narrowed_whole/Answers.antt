@@ -12,7 +12,7 @@ returns-in-None c =
 
 pub returns-in-Some : goal.returns-in-Some
 returns-in-Some c =
-    narrowed_by c.last_point_whole.result c.args.state.now c.args.state.now.source c.args.far c.in-Some.pass
+    narrowed_by c.last_cut_whole.result c.args.state.now c.args.state.now.source c.args.far c.in-Some.pass
     (part_by_alike c.in-Some.pass c.args.far (Contains c.separators.result.now) (IsSeparatorFrom c.args.state.now.pass c.args.state.now.source) c.separators.ensures
     (left_some c.in_ok-within.field-0 c.args.far c.in-Some.pass (Contains c.separators.result.now) c.in_ok-within.ensures c.in-Some.is))
-    c.last_point_whole.ensures
+    c.last_cut_whole.ensures

@@ -4,13 +4,11 @@ use Rattle.qm_listing.specs.Grammar.{corner_layout}
 use Rattle.qm_prt.proofs.Faults.{fault_passes}
 use Rattle.qm_prt.proofs.portals.corners_at.Goals as goal
 
-pub returns-in_err-corner-clause-gives : goal.returns-in_err-corner-clause-gives
-returns-in_err-corner-clause-gives c =
+pub returns-in_err-corner : goal.returns-in_err-corner
+returns-in_err-corner c =
     let p = err_from_is_err_and c.from_residual.result c.from_residual.ensures.1 in
-    rw (p.1, p.2) (fault_passes c.in_err-corner.field-0.0 (one_fault (λ _. corner_layout) c.args.points c.args.text.now _ c.loop.corners.items c.loop.counter c.loop.next c.loop-test.true c.loop.invariant.whole) c.in_err-corner.ensures.gives)
+    rw (p.1, p.2) (fault_passes c.in_err-corner.field-0.0 (one_fault (λ _. corner_layout) c.args.points c.args.text.now _ c.loop.corners.items c.loop.counter c.loop.next c.loop-test.true c.loop.invariant) c.in_err-corner.ensures)
 
 pub loop-preserved : goal.loop-preserved
-loop-preserved c = record {
-  whole = one_more (λ _. corner_layout) c.args.points c.args.text.now _ c.loop.corners.items c.loop.counter c.loop.next c.in_ok-corner.corner c.in_ok-corner.after _ c.loop-test.true c.loop.invariant.whole c.in_ok-corner.ensures.gives c.in_ok-push.ensures.items;
-  within = c.in_ok-corner.ensures.within;
-}
+loop-preserved c =
+    one_more (λ _. corner_layout) c.args.points c.args.text.now _ c.loop.corners.items c.loop.counter c.loop.next c.in_ok-corner.corner c.in_ok-corner.after _ c.loop-test.true c.loop.invariant c.in_ok-corner.ensures c.in_ok-push.ensures.items

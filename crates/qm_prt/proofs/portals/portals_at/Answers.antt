@@ -4,13 +4,11 @@ use Rattle.qm_listing.specs.Grammar.{portal_layout}
 use Rattle.qm_prt.proofs.Faults.{fault_passes}
 use Rattle.qm_prt.proofs.portals.portals_at.Goals as goal
 
-pub returns-in_err-portal-clause-gives : goal.returns-in_err-portal-clause-gives
-returns-in_err-portal-clause-gives c =
+pub returns-in_err-portal : goal.returns-in_err-portal
+returns-in_err-portal c =
     let p = err_from_is_err_and c.from_residual.result c.from_residual.ensures.1 in
-    rw (p.1, p.2) (fault_passes c.in_err-portal.field-0.0 (one_fault (λ _. portal_layout c.args.leaves) c.args.count c.args.text.now _ c.loop.portals.items c.loop.counter c.loop.next c.loop-test.true c.loop.invariant.whole) c.in_err-portal.ensures.gives)
+    rw (p.1, p.2) (fault_passes c.in_err-portal.field-0.0 (one_fault (λ _. portal_layout c.args.leaves) c.args.count c.args.text.now _ c.loop.portals.items c.loop.counter c.loop.next c.loop-test.true c.loop.invariant) c.in_err-portal.ensures)
 
 pub loop-preserved : goal.loop-preserved
-loop-preserved c = record {
-  whole = one_more (λ _. portal_layout c.args.leaves) c.args.count c.args.text.now _ c.loop.portals.items c.loop.counter c.loop.next c.in_ok-portal.portal c.in_ok-portal.after _ c.loop-test.true c.loop.invariant.whole c.in_ok-portal.ensures.gives c.in_ok-push.ensures.items;
-  within = c.in_ok-portal.ensures.within;
-}
+loop-preserved c =
+    one_more (λ _. portal_layout c.args.leaves) c.args.count c.args.text.now _ c.loop.portals.items c.loop.counter c.loop.next c.in_ok-portal.portal c.in_ok-portal.after _ c.loop-test.true c.loop.invariant c.in_ok-portal.ensures c.in_ok-push.ensures.items

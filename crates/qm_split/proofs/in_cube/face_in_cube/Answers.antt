@@ -1,6 +1,6 @@
-use Rattle.std.proofs.Common.{Option, sym, subst}
+use Rattle.std.proofs.Common.{Option, [], sym, subst}
 use Rattle.std.specs.Option.{MatchOption}
-use Rattle.std.proofs.lemmas.Bool.{MatchBool-at_true, MatchBool-at_false}
+use Rattle.std.proofs.lemmas.Result.{IfOk-weaker}
 use Rattle.qm_space.specs.Plane.{Plane}
 use Rattle.qm_space.proofs.Books.{plane_at_from}
 use Rattle.qm_convex.specs.Winding.{Winding}
@@ -9,21 +9,14 @@ use Rattle.qm_split.specs.inner.FacePieces.{IsFacePiece, HasNoFacePoint}
 use Rattle.qm_split.proofs.FacesInCube.{face_begins, no_face_point_outside}
 use Rattle.qm_split.proofs.in_cube.face_in_cube.Goals as goal
 
-pub returns-then-branch : goal.returns-then-branch
-returns-then-branch c =
-    MatchBool-at_true (IsFacePiece c.args.book.now c.args.number c.args.faces.now c.keep_behind_all.new.left)
-    (HasNoFacePoint c.args.book.now c.args.number c.args.faces.now) c.if-branch.true
-    (c.in_ok-keep_behind_all-in-Some.ensures (face_begins c.args.book.now c.args.number c.in-Some.whole
+pub returns-in-Some : goal.returns-in-Some
+returns-in-Some c =
+    IfOk-weaker c.keep_behind_all.result (λ part. IsFacePiece c.args.book.now c.args.number [] c.in-Some.whole → MatchOption part (HasNoFacePoint c.args.book.now c.args.number c.args.faces.now) (IsFacePiece c.args.book.now c.args.number c.args.faces.now))
+    (λ part. MatchOption part (HasNoFacePoint c.args.book.now c.args.number c.args.faces.now) (IsFacePiece c.args.book.now c.args.number c.args.faces.now))
+    (λ part kept. kept (face_begins c.args.book.now c.args.number c.in-Some.whole
     (subst (λ (h : Plane). IsWorldPart c.in-Some.whole h) (sym (plane_at_from c.args.book.now c.args.number c.plane.result c.plane.ensures.value))
     (subst (λ (o : Option Winding). MatchOption o (MissesCube c.plane.result) (λ w. IsWorldPart w c.plane.result)) c.in-Some.is c.in_ok-whole.ensures))))
-
-pub returns-else-branch : goal.returns-else-branch
-returns-else-branch c =
-    MatchBool-at_false (IsFacePiece c.args.book.now c.args.number c.args.faces.now c.keep_behind_all.new.left)
-    (HasNoFacePoint c.args.book.now c.args.number c.args.faces.now) c.if-branch.false
-    (c.in_ok-keep_behind_all-in-Some.ensures (face_begins c.args.book.now c.args.number c.in-Some.whole
-    (subst (λ (h : Plane). IsWorldPart c.in-Some.whole h) (sym (plane_at_from c.args.book.now c.args.number c.plane.result c.plane.ensures.value))
-    (subst (λ (o : Option Winding). MatchOption o (MissesCube c.plane.result) (λ w. IsWorldPart w c.plane.result)) c.in-Some.is c.in_ok-whole.ensures))))
+    c.keep_behind_all.ensures
 
 pub returns-in-None : goal.returns-in-None
 returns-in-None c =

@@ -1,7 +1,7 @@
 use Rattle.std.proofs.Common.{sym, subst}
 use Rattle.qm_numbers.specs.Rounding.{IsRoundedDown}
 use Rattle.qm_space.specs.Coordinates.{HasSmallCoordinates}
-use Rattle.qm_geom.proofs.Wide.{x_kept, y_kept, z_kept, rule_kept}
+use Rattle.qm_geom.proofs.Wide.{x_kept, y_kept, z_kept, rules_kept}
 use Rattle.qm_geom.proofs.corner.Corner.below.Goals as goal
 
 pub coordinate_below-requires : goal.coordinate_below-requires
@@ -15,10 +15,6 @@ coordinate_below-requires-3 c = z_kept _ c.self.invariant (subst HasSmallCoordin
 
 pub returns : goal.returns
 returns c =
-    let s = c.self.invariant.sizes in
     rw (← c.self.view_is)
-    (record {
-      of_x = rule_kept IsRoundedDown c.self.inside.x c.self.inside.w c.coordinate_below.result s.x_small s.w_small (record { sfits = c.coordinate_below.type_inv }) c.coordinate_below.ensures;
-      of_y = rule_kept IsRoundedDown c.self.inside.y c.self.inside.w c.coordinate_below-2.result s.y_small s.w_small (record { sfits = c.coordinate_below-2.type_inv }) c.coordinate_below-2.ensures;
-      of_z = rule_kept IsRoundedDown c.self.inside.z c.self.inside.w c.coordinate_below-3.result s.z_small s.w_small (record { sfits = c.coordinate_below-3.type_inv }) c.coordinate_below-3.ensures;
-    })
+    (rules_kept IsRoundedDown (record { x = c.self.inside.x; y = c.self.inside.y; z = c.self.inside.z; w = c.self.inside.w }) c.self.invariant c.coordinate_below.result c.coordinate_below-2.result c.coordinate_below-3.result
+    (record { sfits = c.coordinate_below.type_inv }) (record { sfits = c.coordinate_below-2.type_inv }) (record { sfits = c.coordinate_below-3.type_inv }) c.coordinate_below.ensures c.coordinate_below-2.ensures c.coordinate_below-3.ensures)

@@ -1,7 +1,7 @@
 use Rattle.std.proofs.Common.{sym, subst}
 use Rattle.qm_numbers.specs.Rounding.{IsNearest}
 use Rattle.qm_space.specs.Coordinates.{HasSmallCoordinates}
-use Rattle.qm_geom.proofs.Wide.{x_kept, y_kept, z_kept, rule_kept}
+use Rattle.qm_geom.proofs.Wide.{x_kept, y_kept, z_kept, rules_kept}
 use Rattle.qm_geom.proofs.corner.Corner.rounded.Goals as goal
 
 pub nearest_coordinate-requires : goal.nearest_coordinate-requires
@@ -15,10 +15,6 @@ nearest_coordinate-requires-3 c = z_kept _ c.self.invariant (subst HasSmallCoord
 
 pub returns : goal.returns
 returns c =
-    let s = c.self.invariant.sizes in
     rw (← c.self.view_is)
-    (record {
-      of_x = rule_kept IsNearest c.self.inside.x c.self.inside.w c.nearest_coordinate.result s.x_small s.w_small (record { sfits = c.nearest_coordinate.type_inv }) c.nearest_coordinate.ensures;
-      of_y = rule_kept IsNearest c.self.inside.y c.self.inside.w c.nearest_coordinate-2.result s.y_small s.w_small (record { sfits = c.nearest_coordinate-2.type_inv }) c.nearest_coordinate-2.ensures;
-      of_z = rule_kept IsNearest c.self.inside.z c.self.inside.w c.nearest_coordinate-3.result s.z_small s.w_small (record { sfits = c.nearest_coordinate-3.type_inv }) c.nearest_coordinate-3.ensures;
-    })
+    (rules_kept IsNearest (record { x = c.self.inside.x; y = c.self.inside.y; z = c.self.inside.z; w = c.self.inside.w }) c.self.invariant c.nearest_coordinate.result c.nearest_coordinate-2.result c.nearest_coordinate-3.result
+    (record { sfits = c.nearest_coordinate.type_inv }) (record { sfits = c.nearest_coordinate-2.type_inv }) (record { sfits = c.nearest_coordinate-3.type_inv }) c.nearest_coordinate.ensures c.nearest_coordinate-2.ensures c.nearest_coordinate-3.ensures)

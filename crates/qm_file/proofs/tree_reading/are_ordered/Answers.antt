@@ -1,7 +1,7 @@
 use Rattle.std.proofs.Common.{sym}
-use Rattle.qm_formats.specs.TreeFile.{are_ordered}
+use Rattle.qm_formats.specs.FileLayout.{are_ordered}
 use Rattle.qm_file.proofs.NumberedTest.{ordered_answer}
-use Rattle.qm_file.proofs.parts_reading.are_ordered.Goals as goal
+use Rattle.qm_file.proofs.tree_reading.are_ordered.Goals as goal
 
 pub returns : goal.returns
 unfolding are_ordered

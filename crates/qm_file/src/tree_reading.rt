@@ -1,16 +1,17 @@
-//! The nodes and leaves of a file, and the tree of its parts.
+//! The planes, nodes and leaves of a file, and the tree that they make.
 
-ghost use Rattle.std.specs.Prelude.{◌≡◌, ◌≤◌, ◌+◌, ◌↔◌, nat_lt, length, IfOk, IsTrue};
+ghost use Rattle.std.specs.Prelude.{◌≡◌, ◌+◌, ◌↔◌, nat_lt, length, IfOk, IsTrue};
 ghost use Rattle.std.specs.List.{list_all};
 ghost use Rattle.qm_partition.specs.Arrays.{tree_of};
 ghost use Rattle.qm_partition.specs.WellMade.{IsMadeOf};
-ghost use Rattle.qm_formats.specs.TreeFile.{are_ordered, nodes_layout, leaves_layout};
+ghost use Rattle.qm_formats.specs.Layout.{got};
+ghost use Rattle.qm_formats.specs.FileLayout.{file_header_layout, are_ordered, planes_layout, nodes_layout, leaves_layout, tree_layout};
 ghost use Rattle.qm_file.specs.Answers.{IsFaultOfFile, GivesOfFile};
 ghost use Rattle.qm_file.specs.inner.SeenHeader.{seen_header};
 
 use crate::file_fault::FileFault;
 use crate::header_reading::Header;
-use crate::record_reading::{LeafRecord, NodeRecord, read_all};
+use crate::record_reading::{LeafRecord, NodeRecord, PlaneRecord, read_all};
 use crate::writing::count_numbered;
 use qm_geom::Plane;
 use qm_partition::{Leaf, Node};
@@ -20,18 +21,34 @@ use std::alloc::{AllocError, Global};
 /// The place of the count of numbered leaves.
 const NUMBERED_PLACE: u64 = 32;
 
+/// The tree of a file of this header, and where it ends.
+#[tactic(auto, unfolding(qm_formats::specs::FileLayout::tree_layout, qm_formats::specs::FileLayout::planes_layout))]
+pub(crate) fn tree_at(
+    alloc: Global,
+    bytes: &[u8],
+    at: usize,
+    header: &Header,
+) -> Result<(Tree, usize), FileFault>
+    requires { file_header_layout.read bytes.now 0 ≡ got (seen_header header.now) at }
+    ensures { GivesOfFile (λ read. read.0) (λ read. read.1) result ((tree_layout (seen_header header.now)).read bytes.now at) }
+{
+    let (planes, next) = read_all::<PlaneRecord>(alloc, bytes, at, header.planes)?;
+    let (nodes, next) = nodes_at(alloc, bytes, next, header)?;
+    let (leaves, next) = leaves_at(alloc, bytes, next, header)?;
+    let tree = tree_of(alloc, planes, nodes, leaves)?;
+    Ok((tree, next))
+}
+
 /// The nodes of a file of this header, and where they end.
-#[tactic(auto, unfolding(qm_formats::specs::TreeFile::nodes_layout))]
-pub(crate) fn nodes_at(
+#[tactic(auto, unfolding(qm_formats::specs::FileLayout::nodes_layout))]
+fn nodes_at(
     alloc: Global,
     bytes: &[u8],
     at: usize,
     header: &Header,
 ) -> Result<(Vec<Node>, usize), FileFault>
-    requires within { at ≤ length bytes.now }
-    requires one_more { header.now.leaves ≡ header.now.nodes + 1 }
-    ensures gives { GivesOfFile (λ read. read.0.items) (λ read. read.1) result ((nodes_layout (seen_header header.now)).read bytes.now at) }
-    ensures within { IfOk result (λ read. read.1 ≤ length bytes.now) }
+    requires { header.now.leaves ≡ header.now.nodes + 1 }
+    ensures { GivesOfFile (λ read. read.0.items) (λ read. read.1) result ((nodes_layout (seen_header header.now)).read bytes.now at) }
 {
     let (nodes, next) = read_all::<NodeRecord>(alloc, bytes, at, header.nodes)?;
     if !are_ordered(alloc, &nodes, header.planes, header.leaves)? {
@@ -41,7 +58,7 @@ pub(crate) fn nodes_at(
 }
 
 /// Whether nodes name planes of so many, and are numbered as those of a tree with so many leaves.
-#[tactic(auto, unfolding(qm_formats::specs::TreeFile::are_ordered))]
+#[tactic(auto, unfolding(qm_formats::specs::FileLayout::are_ordered))]
 fn are_ordered(alloc: Global, nodes: &[Node], planes: u64, leaves: u64) -> Result<bool, AllocError>
     requires { leaves ≡ length nodes.now + 1 }
     ensures { IfOk result (λ ordered. ordered ≡ are_ordered planes nodes.now) }
@@ -60,16 +77,14 @@ fn name_planes(nodes: &[Node], planes: u64) -> bool
 }
 
 /// The leaves of a file of this header, and where they end.
-#[tactic(auto, unfolding(qm_formats::specs::TreeFile::leaves_layout))]
-pub(crate) fn leaves_at(
+#[tactic(auto, unfolding(qm_formats::specs::FileLayout::leaves_layout))]
+fn leaves_at(
     alloc: Global,
     bytes: &[u8],
     at: usize,
     header: &Header,
 ) -> Result<(Vec<Leaf>, usize), FileFault>
-    requires { at ≤ length bytes.now }
-    ensures gives { GivesOfFile (λ read. read.0.items) (λ read. read.1) result ((leaves_layout (seen_header header.now)).read bytes.now at) }
-    ensures within { IfOk result (λ read. read.1 ≤ length bytes.now) }
+    ensures { GivesOfFile (λ read. read.0.items) (λ read. read.1) result ((leaves_layout (seen_header header.now)).read bytes.now at) }
 {
     let (leaves, next) = read_all::<LeafRecord>(alloc, bytes, at, header.leaves)?;
     if count_numbered(&leaves) as u64 != header.numbered {
@@ -81,7 +96,7 @@ pub(crate) fn leaves_at(
 }
 
 /// The tree of parts that a tree has.
-pub(crate) fn tree_of(
+fn tree_of(
     alloc: Global,
     planes: Vec<Plane>,
     nodes: Vec<Node>,

@@ -1,6 +1,6 @@
 //! Alterations of a listing, each with its fault and place.
 
-use crate::rooms::LISTING;
+use crate::listing_of_rooms::LISTING;
 use qm_prt::{PrtFault, read};
 use std::alloc::{AllocError, Global};
 
@@ -135,17 +135,6 @@ fn no_prefix_is_read(alloc: Global) -> bool {
     none
 }
 
-#[test]
-fn faults_of_altered_listings(rt: HostRuntime) {
-    let alloc = rt.alloc();
-    assert!(rt;
-        no_prefix_is_read(alloc)
-            && ALTERED
-                .iter()
-                .all(|sample| has_fault(alloc, sample) == Some(true))
-    );
-}
-
 /// A coordinate in the place of the first one, and its millionths where it is read.
 static COORDINATES: [(&[u8], Option<(i64, bool)>); 16] = [
     (b"5", Some((5_000_000, true))),
@@ -187,9 +176,15 @@ fn is_read_so(alloc: Global, word: &[u8], expected: Option<(i64, bool)>) -> Opti
 }
 
 #[test]
-fn coordinates_are_spelled_one_way(rt: HostRuntime) {
+fn faults_of_altered_listings(rt: HostRuntime) {
     let alloc = rt.alloc();
     assert!(rt;
-        COORDINATES.iter().all(|(word, expected)| is_read_so(alloc, word, *expected) == Some(true))
+        no_prefix_is_read(alloc)
+            && ALTERED
+                .iter()
+                .all(|sample| has_fault(alloc, sample) == Some(true))
+            && COORDINATES
+                .iter()
+                .all(|(word, expected)| is_read_so(alloc, word, *expected) == Some(true))
     );
 }

@@ -1,7 +1,7 @@
 use Rattle.std.proofs.Common.{Err, ap, ◌∙◌}
 use Rattle.qm_partition.specs.Arrays.{tree_of}
 use Rattle.qm_tree.specs.declared.not_a_tree.NotATree.{NotATree}
-use Rattle.qm_file.proofs.parts_reading.tree_of.Goals as goal
+use Rattle.qm_file.proofs.tree_reading.tree_of.Goals as goal
 
 pub prove-unreachable-requires : goal.prove-unreachable-requires
 prove-unreachable-requires c =
