@@ -1,7 +1,6 @@
 -- The portals of a tree stand in pairs, one each way: the one behind or before leads back.
-use Rattle.std.proofs.Common.{◌≡◌, ℕ, zero, suc, ◌+◌, ◌-◌, ◌*◌, ◌%◌, ◌<◌, true, false, List, [], ◌∷◌, Some, length, slice_get, flat_map, filter, refl, sym, subst, ◌∙◌, ◌⊎◌, inl, inr, arith}
+use Rattle.std.proofs.Common.{◌≡◌, ℕ, zero, suc, ◌+◌, ◌-◌, ◌%◌, ◌<◌, true, false, List, [], ◌∷◌, length, flat_map, filter, refl, sym, subst, ◌∙◌, ◌⊎◌, inl, inr, arith}
 use Rattle.std.proofs.lemmas.Option.{slice_get_within}
-use Rattle.qm_space.specs.Plane.{flipped}
 use Rattle.qm_space.proofs.ReducedPlanes.{flipped_twice}
 use Rattle.qm_partition.specs.Tree.{Tree}
 use Rattle.qm_contacts.specs.Touching.{Touching}

@@ -1,4 +1,4 @@
-use Rattle.std.specs.Prelude.{ℕ, [], ◌∷◌, slice_index_or, ℤ, pos, negsuc, Bool, true, false, if◌then◌else◌, ◌<ℤ◌}
+use Rattle.std.specs.Prelude.{ℕ, [], ◌∷◌, slice_index_or, ℤ, pos, negsuc, if◌then◌else◌, ◌<ℤ◌}
 use Rattle.qm_numbers.specs.Sign.{is_negative}
 use Rattle.qm_space.specs.Point.{Point, point_times, IsSamePlace}
 use Rattle.qm_space.specs.Plane.{Plane, IsOn}

@@ -1,6 +1,6 @@
 -- A stack as code keeps it: how it begins, what taking its last entry off keeps, and what is done at the end.
 use Rattle.std.proofs.Common.{◌≡◌, ◌<◌, ℕ, List, [], ◌∷◌, ◌++◌, Some, map, refl, sym, ap, ◌∙◌, subst, arith}
-use Rattle.std.specs.Prelude.{sum_by, All}
+use Rattle.std.specs.Prelude.{sum_by}
 use Rattle.std.proofs.lemmas.List.{map-append}
 use Rattle.std.proofs.lemmas.List.Elements.{All-nil, All-cons, All-pop, All-append}
 use Rattle.std.proofs.lemmas.List.Sums.{sum_by-append}

@@ -1,5 +1,5 @@
 -- Where a part of a partition stands among its numbered nodes, and what is below a child of it.
-use Rattle.std.proofs.Common.{◌≡◌, ◌<◌, ◌≤◌, ℕ, zero, suc, ◌+◌, ◌-◌, pos, Bool, true, false, if◌then◌else◌, List, ◌++◌, length, Some, All, inl, inr, refl, sym, ap, ap₂, subst, ◌∙◌, arith, add_assoc, add-zero, zero-add, one-add}
+use Rattle.std.proofs.Common.{◌≡◌, ◌<◌, ℕ, zero, suc, ◌+◌, pos, Bool, true, false, if◌then◌else◌, List, ◌++◌, length, Some, All, inl, inr, refl, sym, ap, ap₂, subst, ◌∙◌, arith, add_assoc, add-zero, zero-add, one-add}
 use Rattle.std.specs.Prelude.{slice_get, int_lt}
 use Rattle.std.proofs.lemmas.List.Elements.{All-head, All-tail}
 use Rattle.std.proofs.lemmas.Option.{slice_get_within}
@@ -9,9 +9,9 @@ use Rattle.qm_space.specs.Point.{Point}
 use Rattle.qm_space.specs.Plane.{Plane}
 use Rattle.qm_partition.specs.declared.node.Node.{Node as NodeRecord}
 use Rattle.qm_partition.specs.declared.node.Child.{Child}
-use Rattle.qm_partition.specs.declared.node.Child.TheVariants.{Node, Leaf}
+use Rattle.qm_partition.specs.declared.node.Child.TheVariants.{Node}
 use Rattle.qm_partition.specs.Partition.{Partition, leaf, node}
-use Rattle.qm_partition.specs.Counting.{leaf_count, node_count, node_planes}
+use Rattle.qm_partition.specs.Counting.{node_count, node_planes}
 use Rattle.qm_partition.specs.Numbering.{nodes_after, leaves_after, child_of, nodes_of}
 use Rattle.qm_partition.specs.LeafOfPoint.{node_value, leaf_at}
 use Rattle.qm_partition.specs.inner.PlacedPart.{IsPart, nodes_from}

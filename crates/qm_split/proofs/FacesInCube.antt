@@ -16,7 +16,7 @@ use Rattle.qm_space.specs.Turned.{turned}
 use Rattle.qm_space.specs.Book.{plane_at, AreBookPlanes}
 use Rattle.qm_space.proofs.TurnedPlanes.{turned_other_in_front, turned_is_reduced}
 use Rattle.qm_convex.specs.Winding.{Winding}
-use Rattle.qm_convex.specs.Sides.{HasNoneInFront, IsWhollyInFront}
+use Rattle.qm_convex.specs.Sides.{HasNoneInFront}
 use Rattle.qm_convex.specs.Cut.{IsPartInFront}
 use Rattle.qm_convex.specs.World.{MissesCube, IsWorldPart}
 use Rattle.qm_contents.specs.declared.contents.Contents.{Contents}

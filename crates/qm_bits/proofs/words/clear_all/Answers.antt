@@ -1,5 +1,4 @@
-use Rattle.std.proofs.Common.{◌<◌, ◌≢◌, length, replicate, arith, sym, ◌∙◌, get_or-set_other, get_or-set_same, below_more}
-use Rattle.std.proofs.lemmas.List.{ext_get_or, length-replicate, get_or-replicate}
+use Rattle.std.proofs.Common.{◌<◌, ◌≢◌, length, arith, get_or-set_other, get_or-set_same, below_more}
 use Rattle.qm_bits.proofs.words.clear_all.Goals as goal
 
 pub loop-word-preserved : goal.loop-word-preserved

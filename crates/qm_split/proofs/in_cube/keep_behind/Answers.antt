@@ -1,10 +1,9 @@
-use Rattle.std.proofs.Common.{Bool, Option, List, not, ap, sym, ◌∙◌, ◌++◌, ◌∷◌, []}
+use Rattle.std.proofs.Common.{Bool, List, not, ap, sym, ◌∙◌, ◌++◌, ◌∷◌, []}
 use Rattle.std.specs.Option.{MatchOption}
 use Rattle.std.proofs.lemmas.Result.{IfOk-weaker}
 use Rattle.qm_space.specs.Turned.{turned}
 use Rattle.qm_space.specs.Plane.{Plane}
 use Rattle.qm_space.proofs.Books.{plane_at_from}
-use Rattle.qm_convex.specs.Winding.{Winding}
 use Rattle.qm_convex.specs.Sides.{HasNoneInFront}
 use Rattle.qm_convex.specs.Cut.{IsPartInFront}
 use Rattle.qm_wind.specs.Clipped.{is_front}

@@ -1,4 +1,4 @@
-use Rattle.std.proofs.Common.{◌≡◌, ℕ, Bool, List, length, subst, ap, sym, ◌∙◌}
+use Rattle.std.proofs.Common.{ℕ, List, length, subst, ap, sym, ◌∙◌}
 use Rattle.qm_bits.specs.inner.Rows.{row_of, IsRow}
 use Rattle.qm_bits.proofs.Rows.{same_counts}
 use Rattle.qm_bits.proofs.Changes.{copied}

@@ -3,7 +3,7 @@ use Rattle.std.proofs.lemmas.Option.{MatchOption-at_some, MatchOption-at_none}
 use Rattle.qm_space.specs.Plane.{Plane}
 use Rattle.qm_convex.specs.Section.{AreAxialBounds, IsSection, MissesCell}
 use Rattle.qm_contacts.specs.inner.Due.{DueCell}
-use Rattle.qm_portal.specs.inner.Cells.{CrossesCell, HasPointBefore}
+use Rattle.qm_portal.specs.inner.Cells.{CrossesCell}
 use Rattle.qm_convex.specs.Cut.{IsPartWithin, HasNoneWithin}
 use Rattle.qm_convex.specs.Winding.{Winding}
 use Rattle.qm_portal.proofs.AxialBounds.{six_axial}
