@@ -1,4 +1,5 @@
-use Rattle.std.specs.Prelude.{ℕ, ◌≡◌, ◌<◌, ◌≤◌, List, [], ◌++◌, length, take, drop, Option, unwrap_or}
+use Rattle.std.specs.Prelude.{ℕ, ◌≡◌, ◌<◌, ◌≤◌, List, ◌++◌, length, take, drop, Option}
+use Rattle.qm_surroundings.specs.HeldFile.{bytes_of_file}
 
 -- a read copied this many bytes of the file, from a place on, to the beginning of a buffer
 pub record IsRead (file : Option (List ℕ)) (place : ℕ) (before after : List ℕ) (count : ℕ) : Type 0 where

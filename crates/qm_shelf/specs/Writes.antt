@@ -1,5 +1,5 @@
-use Rattle.std.specs.Prelude.{ℕ, ◌≡◌, ◌⊎◌, List, [], ◌++◌, take, Option, Some, IsSomeAnd}
-use Rattle.qm_surroundings.specs.HeldFile.{bytes_of_file}
+use Rattle.std.specs.Prelude.{ℕ, ◌≡◌, ◌⊎◌, List, [], ◌++◌, Option, Some, IsSomeAnd}
+use Rattle.qm_surroundings.specs.HeldFile.{bytes_of_file, ContinuesInto}
 
 -- the file is held and has no bytes
 abbrev pub IsEmptied : Option (List ℕ) → Type 0
