@@ -5,7 +5,7 @@ ghost use Rattle.qm_statement.specs.declared.command.Command.{Command};
 ghost use Rattle.qm_statement.specs.Command.{IsCommand};
 ghost use Rattle.qm_statement.specs.FileNames.{FileNames};
 ghost use Rattle.qm_words.specs.SeenWords.{bytes_of_words};
-ghost use Rattle.qm_statement.specs.Complete.{EndsWithoutFault};
+ghost use Rattle.qm_statement.specs.Complete.{MayEndWhereNoneMet};
 ghost use Rattle.qm_statement.specs.Run.{Answers};
 
 use crate::program::run;
@@ -25,7 +25,7 @@ pub fn run_surely<R: Threads + Sync>(
 ) -> Status
     ensures answers { Answers (bytes_of_words words.now) (surroundings ⟦<SureShelf as Shelf>⟧ ⟦<SureSink as Sink>⟧ shelf.old out.old)
         (surroundings ⟦<SureShelf as Shelf>⟧ ⟦<SureSink as Sink>⟧ shelf.new out.new) result }
-    ensures ends { (command : Command) (files : FileNames) → IsCommand (bytes_of_words words.now) command files → EndsWithoutFault result command }
+    ensures ends { (command : Command) (files : FileNames) → IsCommand (bytes_of_words words.now) command files → MayEndWhereNoneMet result command }
 {
     run(rt, alloc, words, shelf, out)
 }

@@ -54,7 +54,7 @@ use Rattle.qm_compiler.specs.declared.compiled.Compiled.TheVariants.{Done, Leak}
 use Rattle.qm_statement.specs.declared.options.Options.{Options}
 use Rattle.qm_statement.specs.declared.summary.Summary.{Summary}
 use Rattle.qm_statement.specs.Built.{IsBuilt}
-use Rattle.qm_statement.specs.CompiledMap.{NoneLeaks, IsLineOfSightIn, IsWithoutLeak}
+use Rattle.qm_statement.specs.CompiledMap.{NoneLeaks, IsLineOfSightIn, IsCompiledWithoutLeak}
 use Rattle.qm_compiler.specs.Answers.{IsCompiled}
 use Rattle.qm_statement.specs.Marked.{IsMarked}
 use Rattle.qm_statement.specs.Origins.{AreOriginsOf}
@@ -204,7 +204,7 @@ module _ (map : MapFile) (options : Options) (tree : Tree) (brushes flat : ℕ) 
           (subst (λ (t : Tree). All IsReduced t.planes) (sym made.is_tree) counted.reduced)
           world made.rows same made.has_rows (leaf_rows_over options.fast world made.rows made.are_rows)
 
-      done_map : (file : TreeFile) (world : World) (summary : Summary) → IsFilledFile options.fast sealed tree brushes flat row contacts file world summary → IsWithoutLeak map options file world summary
+      done_map : (file : TreeFile) (world : World) (summary : Summary) → IsFilledFile options.fast sealed tree brushes flat row contacts file world summary → IsCompiledWithoutLeak map options file world summary
       done_map file world summary made =
           let same : file.tree ≡ world.tree = made.is_tree ∙ sym (ap (λ (w : World). w.tree) made.is_world) in
           record {

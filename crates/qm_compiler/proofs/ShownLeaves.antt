@@ -36,6 +36,6 @@ over_turns world portal_rows rows sound reuse are = record {
   only_shown = only_shown world.portals portal_rows rows (length (numbered_leaves world.tree)) reuse are;
 }
 
--- an open chain that begins there ends in it
-pub by_open_chain : (portals : List Portal) (m n : ℕ) → IsShownFrom portals m n → (portal : Portal) × (portal.from ≡ m) × IsInChainBound portals portal n
-by_open_chain portals m n shown = (shown.portal, shown.leaves, reuse_in_bound portals n shown.number shown.portal shown.portal_is shown.in_reuse)
+-- an open chain that begins with the portal that shows it ends in it
+pub by_open_chain : (portals : List Portal) (m n : ℕ) (shown : IsShownFrom portals m n) → IsInChainBound portals shown.portal n
+by_open_chain portals m n shown = reuse_in_bound portals n shown.number shown.portal shown.portal_is shown.in_reuse

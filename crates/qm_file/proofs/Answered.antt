@@ -16,7 +16,7 @@ use Rattle.qm_formats.proofs.ValidFiles.{made_of_right}
 use Rattle.qm_formats.proofs.WholeFile.{read_file_found, read_file_again}
 use Rattle.qm_file.specs.declared.file_fault.FileFault.{FileFault}
 use Rattle.qm_file.specs.declared.file_fault.FileFault.TheVariants as faults
-use Rattle.qm_file.specs.Answers.{IsFaultOfFile, GivesOfFile}
+use Rattle.qm_file.specs.Answers.{IsFaultOfFile, AnswersTreeFile}
 
 -- planes, nodes and leaves that are read behind a header are those of a tree
 pub made_of_read :
@@ -48,13 +48,13 @@ no_fault (faults.TooLong offset) answer file next is fault = absurd (let e = sym
 no_fault faults.Memory answer file next is fault = refl
 
 module _ (bytes : List ℕ) where
-  pub answer_found : (answer : Result TreeFile FileFault) → AreBytes bytes → GivesOfFile (λ found. found) (λ _. length bytes) answer (read_file bytes) → IfOk answer (λ found. IsValidFile found × (bytes ≡ file_bytes found) × (length bytes ≤ file_limit))
+  pub answer_found : (answer : Result TreeFile FileFault) → AreBytes bytes → AnswersTreeFile (λ found. found) (λ _. length bytes) answer (read_file bytes) → IfOk answer (λ found. IsValidFile found × (bytes ≡ file_bytes found) × (length bytes ≤ file_limit))
   answer_found (Ok found) are is =
       let read = read_file_found bytes found (length bytes) are is in
       (read.valid, read.bytes, read.fits)
   answer_found (Err fault) are is = tt
 
-  pub answer_only : (answer : Result TreeFile FileFault) → GivesOfFile (λ found. found) (λ _. length bytes) answer (read_file bytes) → (file : TreeFile) → IsValidFile file → bytes ≡ file_bytes file → length bytes ≤ file_limit → MatchResult answer (λ found. found ≡ file) (λ fault. fault ≡ faults.Memory)
+  pub answer_only : (answer : Result TreeFile FileFault) → AnswersTreeFile (λ found. found) (λ _. length bytes) answer (read_file bytes) → (file : TreeFile) → IsValidFile file → bytes ≡ file_bytes file → length bytes ≤ file_limit → MatchResult answer (λ found. found ≡ file) (λ fault. fault ≡ faults.Memory)
   answer_only (Ok found) is file valid written fits =
       let again = read_file_again bytes file (record { valid = valid; bytes = written; fits = fits }) in
       let e = sym is ∙ again in

@@ -18,6 +18,6 @@ IsFaultOfFile (faults.TooLong offset) answer = answer ≡ bad too_long offset
 IsFaultOfFile faults.Memory answer = Unit {0}
 
 -- what is answered, seen as the value of a layout with the place where it ends, is what reading gives, unless memory ran out
-abbrev pub GivesOfFile : {X Y : Type 0} → (X → Y) → (X → ℕ) → Result X FileFault → Answer FileFaultKind Y → Type 0
-GivesOfFile value next (Ok x) answer = answer ≡ got (value x) (next x)
-GivesOfFile value next (Err fault) answer = IsFaultOfFile fault answer
+abbrev pub AnswersTreeFile : {X Y : Type 0} → (X → Y) → (X → ℕ) → Result X FileFault → Answer FileFaultKind Y → Type 0
+AnswersTreeFile value next (Ok x) answer = answer ≡ got (value x) (next x)
+AnswersTreeFile value next (Err fault) answer = IsFaultOfFile fault answer

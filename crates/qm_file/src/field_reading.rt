@@ -4,7 +4,7 @@ ghost use Rattle.std.specs.Prelude.{◌≡◌, length, codes};
 ghost use Rattle.std.specs.Int.{w8, w32, w64};
 ghost use Rattle.qm_formats.specs.Fields.{signed, unsigned, fixed};
 ghost use Rattle.qm_formats.specs.FileParts.{short, magic};
-ghost use Rattle.qm_file.specs.Answers.{IsFaultOfFile, GivesOfFile};
+ghost use Rattle.qm_file.specs.Answers.{IsFaultOfFile, AnswersTreeFile};
 
 use crate::file_fault::FileFault;
 
@@ -19,7 +19,7 @@ pub(crate) fn short(bytes: &[u8]) -> FileFault
 
 #[tactic(auto, unfolding(qm_formats::specs::Fields::unsigned, qm_formats::specs::Fields::raw))]
 pub(crate) fn u8_at(bytes: &[u8], at: usize) -> Result<(u8, usize), FileFault>
-    ensures { GivesOfFile (λ read. read.0) (λ read. read.1) result ((unsigned short w8).read bytes.now at) }
+    ensures { AnswersTreeFile (λ read. read.0) (λ read. read.1) result ((unsigned short w8).read bytes.now at) }
 {
     if bytes.len().saturating_sub(at) < 1 {
         return Err(short(bytes));
@@ -29,7 +29,7 @@ pub(crate) fn u8_at(bytes: &[u8], at: usize) -> Result<(u8, usize), FileFault>
 
 #[tactic(auto, unfolding(qm_formats::specs::Fields::unsigned, qm_formats::specs::Fields::raw))]
 pub(crate) fn u32_at(bytes: &[u8], at: usize) -> Result<(u32, usize), FileFault>
-    ensures { GivesOfFile (λ read. read.0) (λ read. read.1) result ((unsigned short w32).read bytes.now at) }
+    ensures { AnswersTreeFile (λ read. read.0) (λ read. read.1) result ((unsigned short w32).read bytes.now at) }
 {
     if bytes.len().saturating_sub(at) < 4 {
         return Err(short(bytes));
@@ -41,7 +41,7 @@ pub(crate) fn u32_at(bytes: &[u8], at: usize) -> Result<(u32, usize), FileFault>
 
 #[tactic(auto, unfolding(qm_formats::specs::Fields::unsigned, qm_formats::specs::Fields::raw))]
 pub(crate) fn u64_at(bytes: &[u8], at: usize) -> Result<(u64, usize), FileFault>
-    ensures { GivesOfFile (λ read. read.0) (λ read. read.1) result ((unsigned short w64).read bytes.now at) }
+    ensures { AnswersTreeFile (λ read. read.0) (λ read. read.1) result ((unsigned short w64).read bytes.now at) }
 {
     if bytes.len().saturating_sub(at) < 8 {
         return Err(short(bytes));
@@ -55,7 +55,7 @@ pub(crate) fn u64_at(bytes: &[u8], at: usize) -> Result<(u64, usize), FileFault>
 
 #[tactic(auto, unfolding(qm_formats::specs::Fields::signed))]
 pub(crate) fn i32_at(bytes: &[u8], at: usize) -> Result<(i32, usize), FileFault>
-    ensures { GivesOfFile (λ read. read.0) (λ read. read.1) result ((signed short w32).read bytes.now at) }
+    ensures { AnswersTreeFile (λ read. read.0) (λ read. read.1) result ((signed short w32).read bytes.now at) }
 {
     let (number, next) = u32_at(bytes, at)?;
     Ok((number.cast_signed(), next))
@@ -63,7 +63,7 @@ pub(crate) fn i32_at(bytes: &[u8], at: usize) -> Result<(i32, usize), FileFault>
 
 #[tactic(auto, unfolding(qm_formats::specs::Fields::signed))]
 pub(crate) fn i64_at(bytes: &[u8], at: usize) -> Result<(i64, usize), FileFault>
-    ensures { GivesOfFile (λ read. read.0) (λ read. read.1) result ((signed short w64).read bytes.now at) }
+    ensures { AnswersTreeFile (λ read. read.0) (λ read. read.1) result ((signed short w64).read bytes.now at) }
 {
     let (number, next) = u64_at(bytes, at)?;
     Ok((number.cast_signed(), next))

@@ -4,7 +4,7 @@ ghost use Rattle.std.specs.Prelude.{◌≡◌, ◌≤◌, ◌<◌, ◌+◌, ◌^
 ghost use Rattle.qm_formats.specs.Fields.{first_difference, fixed};
 ghost use Rattle.qm_formats.specs.FileParts.{short, magic};
 ghost use Rattle.qm_formats.specs.FileLayout.{count_layout, flag_layout, file_header_layout};
-ghost use Rattle.qm_file.specs.Answers.{IsFaultOfFile, GivesOfFile};
+ghost use Rattle.qm_file.specs.Answers.{IsFaultOfFile, AnswersTreeFile};
 ghost use Rattle.qm_file.specs.inner.SeenHeader.{seen_header};
 
 use crate::field_reading::{short, u8_at, u64_at};
@@ -25,7 +25,7 @@ const MAGIC: [u8; 8] = *b"QMTREE01";
 /// The header, and where it ends.
 #[tactic(auto, unfolding(qm_formats::specs::FileLayout::file_header_layout))]
 pub(crate) fn header_at_start(bytes: &[u8]) -> Result<(Header, usize), FileFault>
-    ensures { GivesOfFile (λ read. seen_header read.0) (λ read. read.1) result (file_header_layout.read bytes.now 0) }
+    ensures { AnswersTreeFile (λ read. seen_header read.0) (λ read. read.1) result (file_header_layout.read bytes.now 0) }
 {
     let next = magic_at_start(bytes)?;
     let (planes, next) = plane_count_at(bytes, next)?;
@@ -46,7 +46,7 @@ pub(crate) fn header_at_start(bytes: &[u8]) -> Result<(Header, usize), FileFault
 /// Tests the magic bytes, and answers where they end.
 #[tactic(auto, unfolding(qm_formats::specs::Fields::fixed, qm_formats::specs::Fields::raw))]
 fn magic_at_start(bytes: &[u8]) -> Result<usize, FileFault>
-    ensures { GivesOfFile (λ _. tt) (λ next. next) result ((fixed short magic (codes "QMTREE01")).read bytes.now 0) }
+    ensures { AnswersTreeFile (λ _. tt) (λ next. next) result ((fixed short magic (codes "QMTREE01")).read bytes.now 0) }
 {
     if bytes.len() < MAGIC.len() {
         return Err(short(bytes));
@@ -76,7 +76,7 @@ fn same_bytes(expected: &[u8], found: &[u8]) -> usize
 
 /// How many planes there are: so few that 32 bits number them.
 fn plane_count_at(bytes: &[u8], at: usize) -> Result<(u64, usize), FileFault>
-    ensures { GivesOfFile (λ read. read.0) (λ read. read.1) result ((count_layout (λ planes. nat_lt planes (2 ^ 32))).read bytes.now at) }
+    ensures { AnswersTreeFile (λ read. read.0) (λ read. read.1) result ((count_layout (λ planes. nat_lt planes (2 ^ 32))).read bytes.now at) }
 {
     let (planes, next) = u64_at(bytes, at)?;
     if planes > u64::from(u32::MAX) {
@@ -87,7 +87,7 @@ fn plane_count_at(bytes: &[u8], at: usize) -> Result<(u64, usize), FileFault>
 
 /// How many leaves there are: one more than nodes.
 fn leaf_count_at(bytes: &[u8], at: usize, nodes: u64) -> Result<(u64, usize), FileFault>
-    ensures { GivesOfFile (λ read. read.0) (λ read. read.1) result ((count_layout (λ leaves. leaves == nodes + 1)).read bytes.now at) }
+    ensures { AnswersTreeFile (λ read. read.0) (λ read. read.1) result ((count_layout (λ leaves. leaves == nodes + 1)).read bytes.now at) }
 {
     let (leaves, next) = u64_at(bytes, at)?;
     if leaves == 0 || leaves - 1 != nodes {
@@ -98,7 +98,7 @@ fn leaf_count_at(bytes: &[u8], at: usize, nodes: u64) -> Result<(u64, usize), Fi
 
 /// How many leaves are numbered: not more than there are.
 fn numbered_count_at(bytes: &[u8], at: usize, leaves: u64) -> Result<(u64, usize), FileFault>
-    ensures { GivesOfFile (λ read. read.0) (λ read. read.1) result ((count_layout (λ numbered. nat_le numbered leaves)).read bytes.now at) }
+    ensures { AnswersTreeFile (λ read. read.0) (λ read. read.1) result ((count_layout (λ numbered. nat_le numbered leaves)).read bytes.now at) }
 {
     let (numbered, next) = u64_at(bytes, at)?;
     if numbered > leaves {
@@ -109,7 +109,7 @@ fn numbered_count_at(bytes: &[u8], at: usize, leaves: u64) -> Result<(u64, usize
 
 /// A byte that is 0 or 1.
 fn flag_at(bytes: &[u8], at: usize) -> Result<(bool, usize), FileFault>
-    ensures { GivesOfFile (λ read. read.0) (λ read. read.1) result (flag_layout.read bytes.now at) }
+    ensures { AnswersTreeFile (λ read. read.0) (λ read. read.1) result (flag_layout.read bytes.now at) }
 {
     let (flag, next) = u8_at(bytes, at)?;
     if flag > 1 {

@@ -1,7 +1,7 @@
 ghost use Rattle.std.specs.Prelude.{◌≡◌, ◌≤◌, length, IfOk, MatchResult};
 ghost use Rattle.qm_formats.specs.FileLayout.{file_layout, file_bytes, file_limit, read_file};
 ghost use Rattle.qm_formats.specs.TreeFile.{TreeFile, IsValidFile};
-ghost use Rattle.qm_file.specs.Answers.{IsFaultOfFile, GivesOfFile};
+ghost use Rattle.qm_file.specs.Answers.{IsFaultOfFile, AnswersTreeFile};
 
 use crate::file_fault::FileFault;
 use crate::header_reading::header_at_start;
@@ -20,14 +20,14 @@ pub fn decode(alloc: Global, bytes: &[u8]) -> Result<TreeFile, FileFault>
     // What is valid and written so is read, unless memory runs out.
     ensures only { (file : TreeFile) → IsValidFile file → bytes.now ≡ file_bytes file → length bytes.now ≤ file_limit → MatchResult result (λ found. found ≡ file) (λ fault. fault ≡ FileFault.Memory) }
     // Which fault it is.
-    ensures exact { GivesOfFile (λ file. file) (λ _. length bytes.now) result (read_file bytes.now) }
+    ensures exact { AnswersTreeFile (λ file. file) (λ _. length bytes.now) result (read_file bytes.now) }
 {
     whole_file(alloc, bytes)
 }
 
 #[tactic(auto, unfolding(qm_formats::specs::FileLayout::read_file))]
 fn whole_file(alloc: Global, bytes: &[u8]) -> Result<TreeFile, FileFault>
-    ensures { GivesOfFile (λ file. file) (λ _. length bytes.now) result (read_file bytes.now) }
+    ensures { AnswersTreeFile (λ file. file) (λ _. length bytes.now) result (read_file bytes.now) }
 {
     if bytes.len() > FILE_LIMIT {
         return Err(FileFault::TooLong {
@@ -46,7 +46,7 @@ fn whole_file(alloc: Global, bytes: &[u8]) -> Result<TreeFile, FileFault>
 /// The file with which bytes begin, and where it ends.
 #[tactic(auto, unfolding(qm_formats::specs::FileLayout::file_layout))]
 fn file_at_start(alloc: Global, bytes: &[u8]) -> Result<(TreeFile, usize), FileFault>
-    ensures { GivesOfFile (λ read. read.0) (λ read. read.1) result (file_layout.read bytes.now 0) }
+    ensures { AnswersTreeFile (λ read. read.0) (λ read. read.1) result (file_layout.read bytes.now 0) }
 {
     let (header, next) = header_at_start(bytes)?;
     let (tree, next) = tree_at(alloc, bytes, next, &header)?;

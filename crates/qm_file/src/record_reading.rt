@@ -3,7 +3,7 @@
 ghost use Rattle.std.specs.Prelude.{◌≡◌, ◌==◌, true, false, length, IfOk, MatchOption};
 ghost use Rattle.qm_formats.specs.Layout.{Layout, many};
 ghost use Rattle.qm_formats.specs.FileParts.{FileFaultKind, plane_layout, child_layout, node_layout, contents_of_code, is_leaf, leaf_layout};
-ghost use Rattle.qm_file.specs.Answers.{IsFaultOfFile, GivesOfFile};
+ghost use Rattle.qm_file.specs.Answers.{IsFaultOfFile, AnswersTreeFile};
 
 use crate::field_reading::{i32_at, i64_at, u8_at, u32_at};
 use crate::file_fault::FileFault;
@@ -23,7 +23,7 @@ pub(crate) trait Record {
 
     /// The record at a place, and where it ends.
     fn read_at(bytes: &[u8], at: usize) -> Result<(Self::Value, usize), FileFault>
-        ensures { GivesOfFile (λ read. read.0) (λ read. read.1) result (layout.read bytes.now at) };
+        ensures { AnswersTreeFile (λ read. read.0) (λ read. read.1) result (layout.read bytes.now at) };
 }
 
 /// So many records one behind the other, from a place on, and where they end. No room is made before the bytes are there.
@@ -33,7 +33,7 @@ pub(crate) fn read_all<R: Record>(
     at: usize,
     count: u64,
 ) -> Result<(Vec<R::Value>, usize), FileFault>
-    ensures gives { GivesOfFile (λ read. read.0.items) (λ read. read.1) result ((many R.layout count).read bytes.now at) }
+    ensures gives { AnswersTreeFile (λ read. read.0.items) (λ read. read.1) result ((many R.layout count).read bytes.now at) }
     ensures counted { IfOk result (λ read. length read.0.items ≡ count) }
 {
     let mut records = Vec::new(alloc);
@@ -87,7 +87,7 @@ impl Record for NodeRecord {
 /// A child: the number of a node, or -(1 + the number of a leaf).
 #[tactic(auto, unfolding(qm_formats::specs::FileParts::child_layout))]
 fn child_at(bytes: &[u8], at: usize) -> Result<(Child, usize), FileFault>
-    ensures { GivesOfFile (λ read. read.0) (λ read. read.1) result (child_layout.read bytes.now at) }
+    ensures { AnswersTreeFile (λ read. read.0) (λ read. read.1) result (child_layout.read bytes.now at) }
 {
     let (number, next) = i64_at(bytes, at)?;
     if number < 0 {

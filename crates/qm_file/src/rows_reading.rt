@@ -7,7 +7,7 @@ ghost use Rattle.qm_formats.specs.RowBits.{row_width, unpacked, is_clear_past, r
 ghost use Rattle.qm_formats.specs.FileParts.{short, row_form};
 ghost use Rattle.qm_formats.specs.FileLayout.{own_row_layout, rows_layout};
 ghost use Rattle.qm_runs.specs.Answers.{IsRunFault};
-ghost use Rattle.qm_file.specs.Answers.{IsFaultOfFile, GivesOfFile};
+ghost use Rattle.qm_file.specs.Answers.{IsFaultOfFile, AnswersTreeFile};
 ghost use Rattle.qm_file.specs.inner.SeenHeader.{seen_header};
 
 use crate::field_reading::short;
@@ -26,7 +26,7 @@ pub(crate) fn rows_at(
     at: usize,
     header: &Header,
 ) -> Result<(Option<Items<BitRow>>, usize), FileFault>
-    ensures { GivesOfFile (λ read. read.0) (λ read. read.1) result ((rows_layout (seen_header header.now)).read bytes.now at) }
+    ensures { AnswersTreeFile (λ read. read.0) (λ read. read.1) result ((rows_layout (seen_header header.now)).read bytes.now at) }
 {
     if !header.has_rows {
         return Ok((None, at));
@@ -42,7 +42,7 @@ fn all_rows_at(
     at: usize,
     numbered: u64,
 ) -> Result<(Vec<BitRow>, usize), FileFault>
-    ensures { GivesOfFile (λ read. read.0.items) (λ read. read.1) result ((each (own_row_layout numbered) numbered).read bytes.now at) }
+    ensures { AnswersTreeFile (λ read. read.0.items) (λ read. read.1) result ((each (own_row_layout numbered) numbered).read bytes.now at) }
 {
     let mut rows = Vec::new(alloc);
     let mut next = at;
@@ -64,7 +64,7 @@ fn own_row_at(
     k: u64,
 ) -> Result<(BitRow, usize), FileFault>
     requires { k < places }
-    ensures { GivesOfFile (λ read. read.0) (λ read. read.1) result ((own_row_layout places k).read bytes.now at) }
+    ensures { AnswersTreeFile (λ read. read.0) (λ read. read.1) result ((own_row_layout places k).read bytes.now at) }
 {
     let (row, next) = row_at(alloc, bytes, at, places)?;
     if !row.get(k) {
@@ -76,7 +76,7 @@ fn own_row_at(
 /// A row of so many places, and where it ends.
 #[tactic(auto, unfolding(qm_formats::specs::RowBits::row_bits))]
 fn row_at(alloc: Global, bytes: &[u8], at: usize, places: u64) -> Result<(BitRow, usize), FileFault>
-    ensures gives { GivesOfFile (λ read. read.0) (λ read. read.1) result ((row_bits short row_form places).read bytes.now at) }
+    ensures gives { AnswersTreeFile (λ read. read.0) (λ read. read.1) result ((row_bits short row_form places).read bytes.now at) }
     ensures places { IfOk result (λ read. length read.0 ≡ places) }
 {
     let (packed, next) = packed_row_at(alloc, bytes, at, places)?;
@@ -95,7 +95,7 @@ fn packed_row_at(
     at: usize,
     places: u64,
 ) -> Result<(Vec<u8>, usize), FileFault>
-    ensures gives { GivesOfFile (λ read. read.0.items) (λ read. read.1) result ((in_runs short row_form (row_width places)).read bytes.now at) }
+    ensures gives { AnswersTreeFile (λ read. read.0.items) (λ read. read.1) result ((in_runs short row_form (row_width places)).read bytes.now at) }
     ensures width { IfOk result (λ read. length read.0.items ≡ row_width places) }
 {
     let rest = bytes.split_at(at.min(bytes.len())).1;

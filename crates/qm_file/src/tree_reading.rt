@@ -6,7 +6,7 @@ ghost use Rattle.qm_partition.specs.Arrays.{tree_of};
 ghost use Rattle.qm_partition.specs.WellMade.{IsMadeOf};
 ghost use Rattle.qm_formats.specs.Layout.{got};
 ghost use Rattle.qm_formats.specs.FileLayout.{file_header_layout, are_ordered, planes_layout, nodes_layout, leaves_layout, tree_layout};
-ghost use Rattle.qm_file.specs.Answers.{IsFaultOfFile, GivesOfFile};
+ghost use Rattle.qm_file.specs.Answers.{IsFaultOfFile, AnswersTreeFile};
 ghost use Rattle.qm_file.specs.inner.SeenHeader.{seen_header};
 
 use crate::file_fault::FileFault;
@@ -30,7 +30,7 @@ pub(crate) fn tree_at(
     header: &Header,
 ) -> Result<(Tree, usize), FileFault>
     requires { file_header_layout.read bytes.now 0 ≡ got (seen_header header.now) at }
-    ensures { GivesOfFile (λ read. read.0) (λ read. read.1) result ((tree_layout (seen_header header.now)).read bytes.now at) }
+    ensures { AnswersTreeFile (λ read. read.0) (λ read. read.1) result ((tree_layout (seen_header header.now)).read bytes.now at) }
 {
     let (planes, next) = read_all::<PlaneRecord>(alloc, bytes, at, header.planes)?;
     let (nodes, next) = nodes_at(alloc, bytes, next, header)?;
@@ -48,7 +48,7 @@ fn nodes_at(
     header: &Header,
 ) -> Result<(Vec<Node>, usize), FileFault>
     requires { header.now.leaves ≡ header.now.nodes + 1 }
-    ensures { GivesOfFile (λ read. read.0.items) (λ read. read.1) result ((nodes_layout (seen_header header.now)).read bytes.now at) }
+    ensures { AnswersTreeFile (λ read. read.0.items) (λ read. read.1) result ((nodes_layout (seen_header header.now)).read bytes.now at) }
 {
     let (nodes, next) = read_all::<NodeRecord>(alloc, bytes, at, header.nodes)?;
     if !are_ordered(alloc, &nodes, header.planes, header.leaves)? {
@@ -84,7 +84,7 @@ fn leaves_at(
     at: usize,
     header: &Header,
 ) -> Result<(Vec<Leaf>, usize), FileFault>
-    ensures { GivesOfFile (λ read. read.0.items) (λ read. read.1) result ((leaves_layout (seen_header header.now)).read bytes.now at) }
+    ensures { AnswersTreeFile (λ read. read.0.items) (λ read. read.1) result ((leaves_layout (seen_header header.now)).read bytes.now at) }
 {
     let (leaves, next) = read_all::<LeafRecord>(alloc, bytes, at, header.leaves)?;
     if count_numbered(&leaves) as u64 != header.numbered {

@@ -130,13 +130,14 @@ impl World {
         portal.to
     }
 
-    /// The portal that leads back through a portal. Each passage has two, one each way, and they stand together.
+    /// The portal that leads back through a portal.
     pub fn back(&self, p: u64) -> u64
         requires { p < length self.now.portals }
         ensures back { LeadsBack self.now.portals p result }
         ensures within { result < length self.now.portals }
     {
         let _ = &self.portals;
+        // the two ways through a passage stand together
         if p % 2 == 0 { p + 1 } else { p - 1 }
     }
 

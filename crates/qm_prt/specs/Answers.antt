@@ -13,6 +13,6 @@ IsFaultOfListing (faults.Trailing offset) answer = answer ≡ bad trailing offse
 IsFaultOfListing faults.Memory answer = Unit {0}
 
 -- what is answered, seen as the value of a layout with the place where it ends, is what reading gives, unless memory ran out
-abbrev pub GivesOfListing : {X Y : Type 0} → (X → Y) → (X → ℕ) → Result X PrtFault → Answer ListingFaultKind Y → Type 0
-GivesOfListing value next (Ok x) answer = answer ≡ got (value x) (next x)
-GivesOfListing value next (Err fault) answer = IsFaultOfListing fault answer
+abbrev pub AnswersListing : {X Y : Type 0} → (X → Y) → (X → ℕ) → Result X PrtFault → Answer ListingFaultKind Y → Type 0
+AnswersListing value next (Ok x) answer = answer ≡ got (value x) (next x)
+AnswersListing value next (Err fault) answer = IsFaultOfListing fault answer

@@ -4,7 +4,7 @@ ghost use Rattle.std.specs.Prelude.{◌≡◌, ◌∷◌, []};
 ghost use Rattle.qm_listing.specs.Numerals.{numeral};
 ghost use Rattle.qm_listing.specs.Numbers.{counts, coordinates};
 ghost use Rattle.qm_listing.specs.Grammar.{number, due, first_line_layout};
-ghost use Rattle.qm_prt.specs.Answers.{IsFaultOfListing, GivesOfListing};
+ghost use Rattle.qm_prt.specs.Answers.{IsFaultOfListing, AnswersListing};
 
 use crate::numbers::{coordinate_of, count_of, numeral_ahead};
 use crate::prt_fault::PrtFault;
@@ -15,7 +15,7 @@ const HEADER: [u8; 5] = *b"PRT1\n";
 /// Tests the first line, and answers where it ends.
 #[tactic(auto, unfolding(qm_listing::specs::Grammar::first_line_layout, qm_listing::specs::Numerals::literal))]
 pub(crate) fn header_at_start(text: &[u8]) -> Result<usize, PrtFault>
-    ensures { GivesOfListing (λ _. tt) (λ next. next) result (first_line_layout.read text.now 0) }
+    ensures { AnswersListing (λ _. tt) (λ next. next) result (first_line_layout.read text.now 0) }
 {
     if text.starts_with(&HEADER) {
         Ok(HEADER.len())
@@ -27,7 +27,7 @@ pub(crate) fn header_at_start(text: &[u8]) -> Result<usize, PrtFault>
 /// Tests that a byte stands at a place, and answers where it ends.
 #[tactic(auto, unfolding(qm_listing::specs::Numerals::literal))]
 pub(crate) fn byte_at(text: &[u8], at: usize, byte: u8) -> Result<usize, PrtFault>
-    ensures { GivesOfListing (λ _. tt) (λ next. next) result ((due byte).read text.now at) }
+    ensures { AnswersListing (λ _. tt) (λ next. next) result ((due byte).read text.now at) }
 {
     if at < text.len() {
         if text[at] == byte {
@@ -40,7 +40,7 @@ pub(crate) fn byte_at(text: &[u8], at: usize, byte: u8) -> Result<usize, PrtFaul
 /// A count or the number of a leaf, and where it ends.
 #[tactic(auto, unfolding(qm_listing::specs::Numerals::numeral))]
 pub(crate) fn count_at(text: &[u8], at: usize) -> Result<(u64, usize), PrtFault>
-    ensures { GivesOfListing (λ read. read.0) (λ read. read.1) result ((numeral number counts).read text.now at) }
+    ensures { AnswersListing (λ read. read.0) (λ read. read.1) result ((numeral number counts).read text.now at) }
 {
     let numeral = numeral_ahead(text, at);
     match count_of(numeral) {
@@ -52,7 +52,7 @@ pub(crate) fn count_at(text: &[u8], at: usize) -> Result<(u64, usize), PrtFault>
 /// A coordinate, and where it ends.
 #[tactic(auto, unfolding(qm_listing::specs::Numerals::numeral))]
 pub(crate) fn coordinate_at(text: &[u8], at: usize) -> Result<(Coordinate, usize), PrtFault>
-    ensures { GivesOfListing (λ read. read.0) (λ read. read.1) result ((numeral number coordinates).read text.now at) }
+    ensures { AnswersListing (λ read. read.0) (λ read. read.1) result ((numeral number coordinates).read text.now at) }
 {
     let numeral = numeral_ahead(text, at);
     match coordinate_of(numeral) {

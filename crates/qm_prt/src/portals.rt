@@ -3,7 +3,7 @@
 ghost use Rattle.std.specs.Prelude.{◌≡◌};
 ghost use Rattle.qm_formats.specs.Layout.{many};
 ghost use Rattle.qm_listing.specs.Grammar.{count_line_layout, points_layout, leaf0_layout, leaf1_layout, coordinate_layout, corner_layout, portal_layout};
-ghost use Rattle.qm_prt.specs.Answers.{IsFaultOfListing, GivesOfListing};
+ghost use Rattle.qm_prt.specs.Answers.{IsFaultOfListing, AnswersListing};
 
 use crate::places::{byte_at, coordinate_at, count_at};
 use crate::prt_fault::PrtFault;
@@ -17,7 +17,7 @@ const FEWEST: u64 = 3;
 /// A count on a line of its own.
 #[tactic(auto, unfolding(qm_listing::specs::Grammar::count_line_layout))]
 pub(crate) fn count_line_at(text: &[u8], at: usize) -> Result<(u64, usize), PrtFault>
-    ensures { GivesOfListing (λ read. read.0) (λ read. read.1) result (count_line_layout.read text.now at) }
+    ensures { AnswersListing (λ read. read.0) (λ read. read.1) result (count_line_layout.read text.now at) }
 {
     let (count, next) = count_at(text, at)?;
     let next = byte_at(text, next, b'\n')?;
@@ -27,7 +27,7 @@ pub(crate) fn count_line_at(text: &[u8], at: usize) -> Result<(u64, usize), PrtF
 /// How many corners a portal has.
 #[tactic(auto, unfolding(qm_listing::specs::Grammar::points_layout))]
 fn points_at(text: &[u8], at: usize) -> Result<(u64, usize), PrtFault>
-    ensures { GivesOfListing (λ read. read.0) (λ read. read.1) result (points_layout.read text.now at) }
+    ensures { AnswersListing (λ read. read.0) (λ read. read.1) result (points_layout.read text.now at) }
 {
     let (points, next) = count_at(text, at)?;
     if points < FEWEST {
@@ -40,7 +40,7 @@ fn points_at(text: &[u8], at: usize) -> Result<(u64, usize), PrtFault>
 /// The number of one of so many leaves.
 #[tactic(auto, unfolding(qm_listing::specs::Grammar::leaf0_layout))]
 fn leaf0_at(text: &[u8], at: usize, leaves: u64) -> Result<(u64, usize), PrtFault>
-    ensures { GivesOfListing (λ read. read.0) (λ read. read.1) result ((leaf0_layout leaves).read text.now at) }
+    ensures { AnswersListing (λ read. read.0) (λ read. read.1) result ((leaf0_layout leaves).read text.now at) }
 {
     let (leaf, next) = count_at(text, at)?;
     if leaf >= leaves {
@@ -53,7 +53,7 @@ fn leaf0_at(text: &[u8], at: usize, leaves: u64) -> Result<(u64, usize), PrtFaul
 /// The number of another of so many leaves.
 #[tactic(auto, unfolding(qm_listing::specs::Grammar::leaf1_layout))]
 fn leaf1_at(text: &[u8], at: usize, leaves: u64, leaf0: u64) -> Result<(u64, usize), PrtFault>
-    ensures { GivesOfListing (λ read. read.0) (λ read. read.1) result ((leaf1_layout leaves leaf0).read text.now at) }
+    ensures { AnswersListing (λ read. read.0) (λ read. read.1) result ((leaf1_layout leaves leaf0).read text.now at) }
 {
     let (leaf, next) = count_at(text, at)?;
     if leaf >= leaves || leaf == leaf0 {
@@ -66,7 +66,7 @@ fn leaf1_at(text: &[u8], at: usize, leaves: u64, leaf0: u64) -> Result<(u64, usi
 /// A coordinate and the space behind it.
 #[tactic(auto, unfolding(qm_listing::specs::Grammar::coordinate_layout))]
 fn spaced_coordinate_at(text: &[u8], at: usize) -> Result<(Coordinate, usize), PrtFault>
-    ensures { GivesOfListing (λ read. read.0) (λ read. read.1) result (coordinate_layout.read text.now at) }
+    ensures { AnswersListing (λ read. read.0) (λ read. read.1) result (coordinate_layout.read text.now at) }
 {
     let (coordinate, next) = coordinate_at(text, at)?;
     let next = byte_at(text, next, b' ')?;
@@ -75,7 +75,7 @@ fn spaced_coordinate_at(text: &[u8], at: usize) -> Result<(Coordinate, usize), P
 
 /// Three coordinates.
 fn coordinates_at(text: &[u8], at: usize) -> Result<([Coordinate; 3], usize), PrtFault>
-    ensures { GivesOfListing (λ read. read.0) (λ read. read.1) result ((many coordinate_layout 3).read text.now at) }
+    ensures { AnswersListing (λ read. read.0) (λ read. read.1) result ((many coordinate_layout 3).read text.now at) }
 {
     let (x, next) = spaced_coordinate_at(text, at)?;
     let (y, next) = spaced_coordinate_at(text, next)?;
@@ -86,7 +86,7 @@ fn coordinates_at(text: &[u8], at: usize) -> Result<([Coordinate; 3], usize), Pr
 /// A corner: `(x y z ) `.
 #[tactic(auto, unfolding(qm_listing::specs::Grammar::corner_layout))]
 fn corner_at(text: &[u8], at: usize) -> Result<([Coordinate; 3], usize), PrtFault>
-    ensures { GivesOfListing (λ read. read.0) (λ read. read.1) result (corner_layout.read text.now at) }
+    ensures { AnswersListing (λ read. read.0) (λ read. read.1) result (corner_layout.read text.now at) }
 {
     let next = byte_at(text, at, b'(')?;
     let (corner, next) = coordinates_at(text, next)?;
@@ -102,7 +102,7 @@ fn corners_at(
     at: usize,
     points: u64,
 ) -> Result<(Vec<[Coordinate; 3]>, usize), PrtFault>
-    ensures { GivesOfListing (λ read. read.0.items) (λ read. read.1) result ((many corner_layout points).read text.now at) }
+    ensures { AnswersListing (λ read. read.0.items) (λ read. read.1) result ((many corner_layout points).read text.now at) }
 {
     let mut corners = Vec::new(alloc);
     let mut next = at;
@@ -122,7 +122,7 @@ fn portal_at(
     at: usize,
     leaves: u64,
 ) -> Result<(PrtPortal, usize), PrtFault>
-    ensures { GivesOfListing (λ read. read.0) (λ read. read.1) result ((portal_layout leaves).read text.now at) }
+    ensures { AnswersListing (λ read. read.0) (λ read. read.1) result ((portal_layout leaves).read text.now at) }
 {
     let (points, next) = points_at(text, at)?;
     let (leaf0, next) = leaf0_at(text, next, leaves)?;
@@ -145,7 +145,7 @@ pub(crate) fn portals_at(
     leaves: u64,
     count: u64,
 ) -> Result<(Vec<PrtPortal>, usize), PrtFault>
-    ensures { GivesOfListing (λ read. read.0.items) (λ read. read.1) result ((many (portal_layout leaves) count).read text.now at) }
+    ensures { AnswersListing (λ read. read.0.items) (λ read. read.1) result ((many (portal_layout leaves) count).read text.now at) }
 {
     let mut portals = Vec::new(alloc);
     let mut next = at;

@@ -1,7 +1,7 @@
 ghost use Rattle.std.specs.Prelude.{◌≡◌, length, IfOk, IsTrue, MatchResult};
 ghost use Rattle.qm_listing.specs.declared.listing.Listing.{Listing as ListingRecord};
 ghost use Rattle.qm_listing.specs.Grammar.{listing_layout, listing_text, can_stand, read_listing};
-ghost use Rattle.qm_prt.specs.Answers.{IsFaultOfListing, GivesOfListing};
+ghost use Rattle.qm_prt.specs.Answers.{IsFaultOfListing, AnswersListing};
 
 use crate::places::header_at_start;
 use crate::portals::{count_line_at, portals_at};
@@ -17,14 +17,14 @@ pub fn read(alloc: Global, text: &[u8]) -> Result<Listing, PrtFault>
     // What can stand in a text and is spelled so is read, unless memory runs out.
     ensures only { (listing : ListingRecord) → IsTrue (can_stand listing) → text.now ≡ listing_text listing → MatchResult result (λ found. found ≡ listing) (λ fault. fault ≡ PrtFault.Memory) }
     // Which fault it is.
-    ensures exact { GivesOfListing (λ listing. listing) (λ _. length text.now) result (read_listing text.now) }
+    ensures exact { AnswersListing (λ listing. listing) (λ _. length text.now) result (read_listing text.now) }
 {
     whole_listing(alloc, text)
 }
 
 #[tactic(auto, unfolding(qm_listing::specs::Grammar::read_listing))]
 fn whole_listing(alloc: Global, text: &[u8]) -> Result<Listing, PrtFault>
-    ensures { GivesOfListing (λ listing. listing) (λ _. length text.now) result (read_listing text.now) }
+    ensures { AnswersListing (λ listing. listing) (λ _. length text.now) result (read_listing text.now) }
 {
     let (listing, next) = listing_at_start(alloc, text)?;
     if next < text.len() {
@@ -38,7 +38,7 @@ fn whole_listing(alloc: Global, text: &[u8]) -> Result<Listing, PrtFault>
 /// The listing with which a text begins, and where it ends.
 #[tactic(auto, unfolding(qm_listing::specs::Grammar::listing_layout))]
 fn listing_at_start(alloc: Global, text: &[u8]) -> Result<(Listing, usize), PrtFault>
-    ensures { GivesOfListing (λ read. read.0) (λ read. read.1) result (listing_layout.read text.now 0) }
+    ensures { AnswersListing (λ read. read.0) (λ read. read.1) result (listing_layout.read text.now 0) }
 {
     let next = header_at_start(text)?;
     let (leaves, next) = count_line_at(text, next)?;

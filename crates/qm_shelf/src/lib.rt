@@ -1,4 +1,4 @@
-//! The outside of the compiler: a store of named files and a sink for printed text, as traits whose
+//! The surroundings of the compiler: a store of named files and a sink for printed text, as traits whose
 //! faults are counted, with forms in memory for tests and adapters over the real folder and the
 //! standard output.
 #![tactic(auto)]

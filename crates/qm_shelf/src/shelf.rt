@@ -17,7 +17,7 @@ pub const PIECE: usize = 65_536;
 /// Why a call of a shelf did not do its work.
 #[derive(Clone, Copy)]
 pub enum ShelfFault {
-    /// The outside failed, and the fault was counted.
+    /// The shelf failed, and the fault was counted.
     Failed,
     /// Memory ran out. No fault is counted.
     Memory,

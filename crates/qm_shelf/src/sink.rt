@@ -9,7 +9,7 @@ use std::alloc::AllocError;
 /// Why a call of a sink did not do its work.
 #[derive(Clone, Copy)]
 pub enum SinkFault {
-    /// The outside failed, and the fault was counted.
+    /// The sink failed, and the fault was counted.
     Failed,
     /// Memory ran out. No fault is counted.
     Memory,

@@ -8,7 +8,7 @@ use Rattle.qm_partition.specs.Tree.{Tree, NamesItsPlanes}
 use Rattle.qm_partition.specs.LeafOfPoint.{leaf_record_at, IsOffNodePlanes}
 
 -- a tree leads points to leaves: each node names one of the planes, and each plane has a normal, since else no point would be
--- off the node planes; and each point inside the cube that is on no node plane stands as is said to the leaf that it comes to
+-- off the node planes; and what has to hold of a point and its leaf holds of each point inside the cube that is on no node plane
 pub record LeadsPoints (tree : Tree) (Stands : Point → Leaf → Type 0) : Type 0 where
   pub named : NamesItsPlanes tree
   pub normals : All HasNormal tree.planes

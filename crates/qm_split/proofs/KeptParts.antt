@@ -23,7 +23,7 @@ use Rattle.qm_split.specs.declared.contender.Part.TheVariants.{Kept, Outside}
 use Rattle.qm_split.specs.Pieces.{solid_of_contender, IsPieceInCell, ArePiecesInCell, IsHeldWithin, IsContender}
 use Rattle.qm_split.specs.inner.PieceParts.{AreFront}
 use Rattle.qm_split.specs.inner.Ranked.{IsLesser}
-use Rattle.qm_split.specs.inner.Parts.{IsPartIn, LiesInCell, IsFoundPart, HasNoneBehind, IsNotAhead, HasAhead, part_count, IsShortened}
+use Rattle.qm_split.specs.inner.Parts.{IsPartIn, IsWindingInCell, IsFoundPart, HasNoneBehind, IsNotAhead, HasAhead, part_count, IsShortened}
 use Rattle.qm_split.proofs.HeldCuboids.{pieces_within, held_beyond}
 use Rattle.qm_split.proofs.BesidePieces.{stands_off, left_in_front}
 use Rattle.qm_split.proofs.PartedPieces.{meets_no_face, pieces_in_front, all_in_front}
@@ -43,11 +43,11 @@ kept_contender book cell contender solid same full reduced first pieces within =
   same,
 )
 
-section_part : (cell : List Plane) (g : Plane) (w : Winding) → LiesInCell cell g w → IsPartOn w cell g
+section_part : (cell : List Plane) (g : Plane) (w : Winding) → IsWindingInCell cell g w → IsPartOn w cell g
 section_part cell g w section = record { convex = section.convex; on = section.on; in_cube = section.in_cube; in_cell = section.in_cell }
 
 -- a full solid without pieces in front of a plane
-module _ (book cell : List Plane) (solid : Solid) (w : Winding) (g : Plane) (reduced : IsReduced g) (full : IsFull solid) (all_reduced : All IsReduced solid.outward) (section : LiesInCell cell g w) (pieces : ArePiecesInCell book (cell ++ g ∷ []) solid []) where
+module _ (book cell : List Plane) (solid : Solid) (w : Winding) (g : Plane) (reduced : IsReduced g) (full : IsFull solid) (all_reduced : All IsReduced solid.outward) (section : IsWindingInCell cell g w) (pieces : ArePiecesInCell book (cell ++ g ∷ []) solid []) where
   pub contains_beyond : All (IsNotAhead w g) solid.outward → ContainsCell solid (cell ++ g ∷ [])
   contains_beyond all =
       contains_front solid cell g w reduced all_reduced (section_part cell g w section) (meets_no_face book (cell ++ g ∷ []) solid pieces) full
@@ -69,13 +69,13 @@ shortened contender h g part qs are count none = record {
 
 -- ---- behind the plane, which is in front of it flipped
 
-pub section_flipped : (cell : List Plane) (g : Plane) (w : Winding) → LiesInCell cell g w → LiesInCell cell (flipped g) w
+pub section_flipped : (cell : List Plane) (g : Plane) (w : Winding) → IsWindingInCell cell g w → IsWindingInCell cell (flipped g) w
 section_flipped cell g w section =
     record { convex = section.convex; on = λ x r. (flipped_on g x).1 (section.on x r); in_cube = section.in_cube; in_cell = section.in_cell }
 
 module _ (contender : Contender) (w : Winding) (c : Cuboid) (qs : List Piece) (part : Part) (g : Plane) where
   pub part_ahead : AreFront contender.body.value.pieces.items g qs → IsFoundPart (solid_of_contender contender) w c qs part g → (book cell : List Plane) → IsContender book cell contender →
-      LiesInCell cell g w → IsHeldWithin c (solid_of_contender contender) (cell ++ g ∷ []) → IsPartIn book (cell ++ g ∷ []) (solid_of_contender contender) part
+      IsWindingInCell cell g w → IsHeldWithin c (solid_of_contender contender) (cell ++ g ∷ []) → IsPartIn book (cell ++ g ∷ []) (solid_of_contender contender) part
   part_ahead are found book cell contends section held =
       found book cell contends.full contends.reduced section held (pieces_in_front book cell (solid_of_contender contender) contender.body.value.pieces.items qs g contends.pieces are)
 

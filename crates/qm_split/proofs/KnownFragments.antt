@@ -23,7 +23,7 @@ use Rattle.qm_split.specs.declared.fragments.Fragments.{Fragments}
 use Rattle.qm_split.specs.declared.rank.Rank.{Rank}
 use Rattle.qm_split.specs.Pieces.{solid_of_contender, IsPieceInCell, IsContender}
 use Rattle.qm_split.specs.CellFragments.{IsAtMostKnown, IsKeptContender, AreFragmentsOf}
-use Rattle.qm_split.specs.inner.Ranks.{IsAsEarly}
+use Rattle.qm_split.specs.inner.Ranks.{IsNoLater}
 use Rattle.qm_split.specs.inner.Ranked.{IsRankOf, IsLeastRank}
 use Rattle.qm_lists.proofs.Elements.{Contains-map_from}
 use Rattle.qm_split.proofs.RankOrder.{first_one}
@@ -183,7 +183,7 @@ rank_of p = ⊎_elim
     (axial_or_not p.winding.value.plane)
 
 -- what comes no later by rank comes first
-comes_first : (p r : Piece) (a b : Rank) → IsRankOf p a → IsRankOf r b → IsAsEarly a b → ComesFirst p.number p.winding.value.plane r.number r.winding.value.plane
+comes_first : (p r : Piece) (a b : Rank) → IsRankOf p a → IsRankOf r b → IsNoLater a b → ComesFirst p.number p.winding.value.plane r.number r.winding.value.plane
 comes_first p r a b is_a is_b not_after = record {
   axial_first = λ axial. by_axial a.axial refl (is_b.axial.1 axial);
   lesser_number = λ also. let l : a.number ≤ b.number = not_less (λ less. not_after (inr (same a.axial b.axial refl refl also, less))) in let m = is_a.number in let n = is_b.number in omega arith;

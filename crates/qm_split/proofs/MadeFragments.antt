@@ -25,7 +25,7 @@ use Rattle.qm_split.specs.declared.contender.Contender.{Contender}
 use Rattle.qm_split.specs.declared.fragments.Fragments.{Fragments}
 use Rattle.qm_split.specs.Pieces.{solid_of_contender, IsPieceInCell}
 use Rattle.qm_split.specs.CellFragments.{cell_of_fragments, HasPointOn, AreOfSomeSolid, IsKeptContender, AreFragmentsOf}
-use Rattle.qm_split.specs.inner.Parts.{LiesInCell}
+use Rattle.qm_split.specs.inner.Parts.{IsWindingInCell}
 use Rattle.qm_split.specs.inner.Gathered.{IsGathered, HasContenderIn}
 use Rattle.qm_split.specs.inner.Ranked.{IsWindingOfSome}
 use Rattle.qm_split.proofs.KnownFragments.{kept_one, piece_of_candidate}
@@ -81,8 +81,8 @@ module _ (solids : List Solid) (book cell : List Plane) (fragments : Fragments) 
       subst (λ (s : Solid). Contains solids s) at.2 (kept_one solids book cell fragments are at.0 at.1).listed
 
   -- a piece on the plane
-  pub section_of_piece : (h : Plane) (w : Winding) → IsWindingOfSome contenders h w → LiesInCell cell h w
-  section_of_piece h w has = subst (LiesInCell cell h) (sym has.one.is) (record {
+  pub section_of_piece : (h : Plane) (w : Winding) → IsWindingOfSome contenders h w → IsWindingInCell cell h w
+  section_of_piece h w has = subst (IsWindingInCell cell h) (sym has.one.is) (record {
     convex = is.convex;
     on = λ x r. subst (λ (g : Plane). IsOn g x) (ap (λ (v : Winding). v.plane) (sym has.one.is) ∙ has.one.on) r.on;
     in_cube = λ x r. ((is.points x).0 r).in_cube;

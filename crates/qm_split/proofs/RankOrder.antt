@@ -7,7 +7,7 @@ use Rattle.qm_split.specs.declared.rank.Rank.{Rank}
 use Rattle.qm_split.specs.declared.piece.Piece.{Piece}
 use Rattle.qm_split.specs.declared.contender.Contender.{Contender}
 use Rattle.qm_split.specs.Pieces.{IsContender}
-use Rattle.qm_split.specs.inner.Ranks.{IsAsEarly, IsFirstOf}
+use Rattle.qm_split.specs.inner.Ranks.{IsNoLater, IsFirstOf}
 use Rattle.qm_split.specs.inner.Ranked.{IsRankOf, IsRankOfOne, IsAfterNone, IsLesser, IsLeastRank}
 
 -- ---- the order
@@ -16,7 +16,7 @@ not_before_itself : (x : Bool) (m : ℕ) → ((x ≡ true) × (x ≡ false)) ⊎
 not_before_itself x m (inl both) = true≢false (sym both.0 ∙ both.1)
 not_before_itself x m (inr less) = let l = less.1 in absurd (omega arith)
 
-pub not_after_itself : (a : Rank) → IsAsEarly a a
+pub not_after_itself : (a : Rank) → IsNoLater a a
 not_after_itself a before = not_before_itself a.axial a.number before
 
 by_numbers : (m n k : ℕ) → (n < m → ⊥) → (k < n → ⊥) → k < m → ⊥
@@ -35,7 +35,7 @@ through false false true m n k first second before = second (inl (refl, refl))
 through false false false m n k first second before =
     by_numbers m n k (λ l. first (inr (refl, l))) (λ l. second (inr (refl, l))) (⊎_elim (λ both. absurd (true≢false (sym both.0))) (λ less. less.1) before)
 
-pub not_after_through : (a b c : Rank) → IsAsEarly a b → IsAsEarly b c → IsAsEarly a c
+pub not_after_through : (a b c : Rank) → IsNoLater a b → IsNoLater b c → IsNoLater a c
 not_after_through a b c first second before = through a.axial b.axial c.axial a.number b.number c.number first second before
 
 -- a piece has one rank
@@ -50,8 +50,8 @@ one_rank piece a b is_a is_b =
     both false true there back = back refl
     both false false there back = refl
 
-not_after_its_own : (piece : Piece) (a b : Rank) → IsRankOf piece a → IsRankOf piece b → IsAsEarly a b
-not_after_its_own piece a b is_a is_b = subst (IsAsEarly a) (one_rank piece a b is_a is_b) (not_after_itself a)
+not_after_its_own : (piece : Piece) (a b : Rank) → IsRankOf piece a → IsRankOf piece b → IsNoLater a b
+not_after_its_own piece a b is_a is_b = subst (IsNoLater a) (one_rank piece a b is_a is_b) (not_after_itself a)
 
 -- ---- the first of several
 
@@ -65,7 +65,7 @@ pub lesser_begins : (before : Option Rank) → IsLesser before [] before
 lesser_begins None = (refl, λ piece among. Contains-nil piece among)
 lesser_begins (Some first) = (
   inl refl,
-  (λ rank same. subst (IsAsEarly first) (same_rank first rank same) (not_after_itself first)),
+  (λ rank same. subst (IsNoLater first) (same_rank first rank same) (not_after_itself first)),
   (λ piece other among is. absurd (Contains-nil piece among)),
 )
 
@@ -108,7 +108,7 @@ lesser_joined (Some least) pieces own first are is_first = (
       (λ same. inl (ap (λ (r : Rank). Some r) (sym same)))
       (λ same. inr (subst (IsRankOfOne pieces) (sym same) (⊎_elim (λ none. no_rank own none) (λ one. one) are.0)))
       is_first.0,
-  (λ r same. subst (IsAsEarly first) (same_rank least r same) is_first.1),
+  (λ r same. subst (IsNoLater first) (same_rank least r same) is_first.1),
   (λ piece other among of_other. not_after_through first own other is_first.2 (are.2 piece other among of_other)),
 )
 

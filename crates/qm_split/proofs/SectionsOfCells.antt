@@ -5,7 +5,7 @@ use Rattle.qm_convex.specs.Winding.{Winding}
 use Rattle.qm_convex.specs.Cut.{IsPartWithin, HasNoneWithin}
 use Rattle.qm_convex.specs.World.{MissesCube, IsWorldPart}
 use Rattle.qm_split.specs.CellFragments.{HasPointOn}
-use Rattle.qm_split.specs.inner.Parts.{LiesInCell}
+use Rattle.qm_split.specs.inner.Parts.{IsWindingInCell}
 
 -- the part of a plane in the cube, in a cell with a point on the plane
 module _ (cell : List Plane) (h : Plane) (has : HasPointOn cell h) where
@@ -16,7 +16,7 @@ module _ (cell : List Plane) (h : Plane) (has : HasPointOn cell h) where
     pub some_within : HasNoneWithin whole cell → ⊥
     some_within none = none has.point ((part.points has.point).1 (has.on, has.in_cube)) has.in_cell
 
-    pub section_within : (w : Winding) → IsPartWithin w whole cell → LiesInCell cell h w
+    pub section_within : (w : Winding) → IsPartWithin w whole cell → IsWindingInCell cell h w
     section_within w are = record {
       convex = are.convex;
       on = λ x r. ((part.points x).0 ((are.points x).0 r).0).0;

@@ -12,19 +12,19 @@ use Rattle.qm_split.specs.declared.contender.Part.{Part}
 use Rattle.qm_split.specs.declared.gathering.Gathering.{Gathering}
 use Rattle.qm_split.specs.Pieces.{solid_of_contender, IsContender}
 use Rattle.qm_split.specs.CellFragments.{pieces_of}
-use Rattle.qm_split.specs.inner.Parts.{LiesInCell, IsPartIn, part_count, HasPieceIn, IsShortened}
+use Rattle.qm_split.specs.inner.Parts.{IsWindingInCell, IsPartIn, part_count, HasPieceIn, IsShortened}
 use Rattle.qm_split.specs.inner.Gathered.{IsGathered, HasFewer}
 use Rattle.qm_split.proofs.Gatherings.{pieces_of-push}
 
 -- what is gathered in front of the plane g of a cell that the plane h parts
 abbrev pub IsGatheredSide : Option Contents → Plane → Plane → Winding → List Contender → Gathering → Type 0
 IsGatheredSide before h g w done gathering =
-    (book cell : List Plane) → All (IsContender book cell) done → LiesInCell cell h w → IsGathered book (cell ++ g ∷ []) before (map solid_of_contender done) gathering
+    (book cell : List Plane) → All (IsContender book cell) done → IsWindingInCell cell h w → IsGathered book (cell ++ g ∷ []) before (map solid_of_contender done) gathering
 
 -- what one contender is there
 abbrev pub IsPartOfSide : Plane → Plane → Winding → Contender → Part → Type 0
 IsPartOfSide h g w contender part =
-    (book cell : List Plane) → IsContender book cell contender → LiesInCell cell h w → IsPartIn book (cell ++ g ∷ []) (solid_of_contender contender) part
+    (book cell : List Plane) → IsContender book cell contender → IsWindingInCell cell h w → IsPartIn book (cell ++ g ∷ []) (solid_of_contender contender) part
 
 abbrev pub IsAddedTo : Gathering → Part → Gathering → Type 0
 IsAddedTo old part new =

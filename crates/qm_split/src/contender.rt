@@ -5,7 +5,7 @@ ghost use Rattle.qm_space.specs.Reduced.{IsReduced};
 ghost use Rattle.qm_space.specs.Cuboid.{Cuboid};
 ghost use Rattle.qm_convex.specs.Winding.{IsConvex};
 ghost use Rattle.qm_split.specs.Pieces.{solid_of_contender, IsContender};
-ghost use Rattle.qm_split.specs.inner.Parts.{LiesInCell, IsPartIn, IsFoundPart, HasNoneBehind, KeepsOut, IsNotAhead, HasAhead, part_count, IsShortened};
+ghost use Rattle.qm_split.specs.inner.Parts.{IsWindingInCell, IsPartIn, IsFoundPart, HasNoneBehind, KeepsOut, IsNotAhead, HasAhead, part_count, IsShortened};
 ghost use Rattle.qm_split.specs.inner.Ranked.{IsLesser, IsWindingOf};
 
 use crate::piece::{Piece, split_pieces};
@@ -52,10 +52,10 @@ impl Contender {
     /// For a plane, and a winding that lies on it in the cell. Where its cuboid lies on one side, it is moved.
     pub(crate) fn split(self, plane: &Plane, section: &Winding) -> Result<Parts, AllocError>
         ensures front { IfOk result (λ parts. (book cell : List Plane) →
-            IsContender book cell self → LiesInCell cell plane.now section.now →
+            IsContender book cell self → IsWindingInCell cell plane.now section.now →
             IsPartIn book (cell ++ plane.now ∷ []) (solid_of_contender self) parts.front) }
         ensures back { IfOk result (λ parts. (book cell : List Plane) →
-            IsContender book cell self → LiesInCell cell plane.now section.now →
+            IsContender book cell self → IsWindingInCell cell plane.now section.now →
             IsPartIn book (cell ++ flipped plane.now ∷ []) (solid_of_contender self) parts.back) }
         ensures front_count { IfOk result (λ parts. (book cell : List Plane) → IsContender book cell self → IsShortened self plane.now parts.front) }
         ensures back_count { IfOk result (λ parts. (book cell : List Plane) → IsContender book cell self → IsShortened self plane.now parts.back) }
@@ -91,7 +91,7 @@ impl Contender {
 
     /// What is in front of a plane of a contender that has nothing behind it: all but what lies in the plane.
     fn left_beside(self, plane: &Plane, section: &Winding) -> Part
-        ensures part { (book cell : List Plane) → IsContender book cell self → LiesInCell cell plane.now section.now → HasNoneBehind self plane.now →
+        ensures part { (book cell : List Plane) → IsContender book cell self → IsWindingInCell cell plane.now section.now → HasNoneBehind self plane.now →
             IsPartIn book (cell ++ plane.now ∷ []) (solid_of_contender self) result }
         ensures count { (book cell : List Plane) → IsContender book cell self → HasNoneBehind self plane.now → IsShortened self plane.now result }
     {
@@ -105,10 +105,10 @@ impl Contender {
     /// For a plane that may part its pieces.
     fn parted(self, plane: &Plane, section: &Winding) -> Result<Parts, AllocError>
         ensures front { IfOk result (λ parts. (book cell : List Plane) →
-            IsContender book cell self → LiesInCell cell plane.now section.now →
+            IsContender book cell self → IsWindingInCell cell plane.now section.now →
             IsPartIn book (cell ++ plane.now ∷ []) (solid_of_contender self) parts.front) }
         ensures back { IfOk result (λ parts. (book cell : List Plane) →
-            IsContender book cell self → LiesInCell cell plane.now section.now →
+            IsContender book cell self → IsWindingInCell cell plane.now section.now →
             IsPartIn book (cell ++ flipped plane.now ∷ []) (solid_of_contender self) parts.back) }
         ensures front_count { IfOk result (λ parts. IsShortened self plane.now parts.front) }
         ensures back_count { IfOk result (λ parts. IsShortened self plane.now parts.back) }

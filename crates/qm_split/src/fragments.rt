@@ -8,7 +8,7 @@ ghost use Rattle.qm_solids.specs.InBook.{solids_in, IsBookOf};
 ghost use Rattle.qm_solid_tree.specs.Division.{HasNoCandidate, front_of, back_of};
 ghost use Rattle.qm_split.specs.CellFragments.{AreFragmentsOf, cell_of_fragments, piece_count, HasPointOn};
 ghost use Rattle.qm_split.specs.SplitCounts.{IsCandidatePlane};
-ghost use Rattle.qm_split.specs.inner.Parts.{LiesInCell};
+ghost use Rattle.qm_split.specs.inner.Parts.{IsWindingInCell};
 ghost use Rattle.qm_split.specs.inner.Halves.{IsHalf};
 
 use crate::gathering::{Gathering, Gatherings};
@@ -80,7 +80,7 @@ impl Fragments {
     fn section(&self, plane: &Plane) -> Result<Winding, AllocError>
         requires { HasPointOn (cell_of_fragments self.now) plane.now }
         ensures { IfOk result (λ w. (solids : List Solid) (book cell : List Plane) →
-            AreFragmentsOf solids book cell self.now → LiesInCell cell plane.now w) }
+            AreFragmentsOf solids book cell self.now → IsWindingInCell cell plane.now w) }
     {
         match self.gathering.winding_on(plane) {
             Some(winding) => winding.copy(),

@@ -5,7 +5,7 @@ ghost use Rattle.qm_contents.specs.declared.contents.Contents.{Contents};
 ghost use Rattle.qm_solids.specs.InBook.{solid_at, solid_in, solids_in, IsBookOf};
 ghost use Rattle.qm_split.specs.Pieces.{solid_of_contender, IsContender};
 ghost use Rattle.qm_split.specs.CellFragments.{pieces_of, IsAtMostKnown};
-ghost use Rattle.qm_split.specs.inner.Parts.{LiesInCell, IsPartIn, part_count};
+ghost use Rattle.qm_split.specs.inner.Parts.{IsWindingInCell, IsPartIn, part_count};
 ghost use Rattle.qm_split.specs.inner.Gathered.{IsGathered, HasFewer, Keeps, Raises, is_stronger_than};
 ghost use Rattle.qm_split.specs.inner.Ranked.{IsLeastRank, IsWindingOfSome};
 
@@ -126,10 +126,10 @@ impl Gathering {
     /// For a plane, and a winding that lies on it in the cell.
     pub(crate) fn split(self, plane: &Plane, section: &Winding) -> Result<Gatherings, AllocError>
         ensures front { IfOk result (λ halves. (book cell : List Plane) →
-            All (IsContender book cell) self.contenders.items → LiesInCell cell plane.now section.now →
+            All (IsContender book cell) self.contenders.items → IsWindingInCell cell plane.now section.now →
             IsGathered book (cell ++ plane.now ∷ []) self.strongest (map solid_of_contender self.contenders.items) halves.front) }
         ensures back { IfOk result (λ halves. (book cell : List Plane) →
-            All (IsContender book cell) self.contenders.items → LiesInCell cell plane.now section.now →
+            All (IsContender book cell) self.contenders.items → IsWindingInCell cell plane.now section.now →
             IsGathered book (cell ++ flipped plane.now ∷ []) self.strongest (map solid_of_contender self.contenders.items) halves.back) }
         ensures front_count { IfOk result (λ halves. (book cell : List Plane) →
             All (IsContender book cell) self.contenders.items → HasFewer self.contenders.items plane.now halves.front) }

@@ -1,6 +1,6 @@
 ghost use Rattle.std.specs.Prelude.{◌≡◌, IfOk};
 ghost use Rattle.qm_split.specs.CellFragments.{HasPointOn};
-ghost use Rattle.qm_split.specs.inner.Parts.{LiesInCell};
+ghost use Rattle.qm_split.specs.inner.Parts.{IsWindingInCell};
 
 use qm_geom::Plane;
 use qm_wind::Winding;
@@ -13,7 +13,7 @@ pub(crate) fn section_of_cell(
     plane: &Plane,
 ) -> Result<Winding, AllocError>
     requires { HasPointOn cell.now plane.now }
-    ensures { IfOk result (LiesInCell cell.now plane.now) }
+    ensures { IfOk result (IsWindingInCell cell.now plane.now) }
 {
     match Winding::on(alloc, plane)? {
         Some(whole) => match whole.keep_all(cell)? {

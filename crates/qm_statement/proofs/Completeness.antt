@@ -14,7 +14,7 @@ use Rattle.qm_statement.specs.declared.status.Status.TheVariants.{Done, Usage, L
 use Rattle.qm_statement.specs.FileNames.{FileNames}
 use Rattle.qm_statement.specs.Command.{IsCommand}
 use Rattle.qm_statement.specs.ComesOf.{ComesOf, read_fault, map_fault, write_fault, listing_fault, written}
-use Rattle.qm_statement.specs.Complete.{MetNone, EndsWithoutFault, NoLeakStops, EndsDoneOrShortOfMemory, IsComplete}
+use Rattle.qm_statement.specs.Complete.{MetNone, MayEndWhereNoneMet, NoLeakStops, EndsDoneOrShortOfMemory, IsComplete}
 use Rattle.qm_statement.specs.Output.{Output, IsOutputOf}
 use Rattle.qm_statement.specs.Run.{Due, usage, command, Answers}
 use Rattle.qm_statement.specs.TextMeans.{TextMeans}
@@ -22,11 +22,11 @@ use Rattle.qm_statement.proofs.Commands.{one_command}
 
 -- ---- what a command makes of a map is done, or leaks
 
-product_ends : (its : Command) (map : MapFile) (output : Output) → IsOutputOf its map output → EndsWithoutFault output.status its
+product_ends : (its : Command) (map : MapFile) (output : Output) → IsOutputOf its map output → MayEndWhereNoneMet output.status its
 unfolding IsOutputOf
-product_ends (Compile options listed) map output (inl tight) = subst (λ (s : Status). EndsWithoutFault s (Compile options listed)) (sym tight.is_status) tt
-product_ends (Compile options listed) map output (inr leaks) = subst (λ (s : Status). EndsWithoutFault s (Compile options listed)) (sym leaks.is_status) tt
-product_ends Format map output made = subst (λ (s : Status). EndsWithoutFault s Format) (sym made.is_status) tt
+product_ends (Compile options listed) map output (inl tight) = subst (λ (s : Status). MayEndWhereNoneMet s (Compile options listed)) (sym tight.is_status) tt
+product_ends (Compile options listed) map output (inr leaks) = subst (λ (s : Status). MayEndWhereNoneMet s (Compile options listed)) (sym leaks.is_status) tt
+product_ends Format map output made = subst (λ (s : Status). MayEndWhereNoneMet s Format) (sym made.is_status) tt
 
 -- where no leak stops the command, it is done
 product_done : (its : Command) (map : MapFile) (output : Output) → NoLeakStops its map → IsOutputOf its map output → EndsDoneOrShortOfMemory output.status
@@ -40,13 +40,13 @@ product_done Format map output none made = subst EndsDoneOrShortOfMemory (sym ma
 -- ---- what comes of a command that meets no fault
 
 module _ (words : List (List ℕ)) (before after : Surroundings) (its : Command) (files : FileNames) (is : IsCommand words its files) (met : MetNone before after files) where
-  ends_of : (status : Status) (text : List ℕ) → ComesOf before.shelf after.shelf its files status text → EndsWithoutFault status its
+  ends_of : (status : Status) (text : List ℕ) → ComesOf before.shelf after.shelf its files status text → MayEndWhereNoneMet status its
   ends_of status text (read_fault failed kept) = absurd (met.reading failed.rose)
   ends_of status text (map_fault means kept unmet) = tt
   ends_of status text (write_fault means failed unfinished) = absurd (met.writing failed.rose)
   ends_of status text (listing_fault {name = name} failed unfinished) = absurd (met.listing name unfinished.is_asked failed.rose)
   ends_of status text (written w unmet) =
-      subst (λ (s : Status). EndsWithoutFault s its) w.is_status (product_ends its w.is_due.map w.output w.is_due.is_made)
+      subst (λ (s : Status). MayEndWhereNoneMet s its) w.is_status (product_ends its w.is_due.map w.output w.is_due.is_made)
 
   -- it is what comes of the words
   comes : (status : Status) (text : List ℕ) → Due words before.shelf after.shelf status text → ComesOf before.shelf after.shelf its files status text
@@ -56,10 +56,10 @@ module _ (words : List (List ℕ)) (before after : Surroundings) (its : Command)
       subst (λ (c : Command). ComesOf before.shelf after.shelf c files status text) same.command_is
       (subst (λ (f : FileNames). ComesOf before.shelf after.shelf other f status text) same.files_are other_comes)
 
-  ends_due : (status : Status) (text : List ℕ) → Due words before.shelf after.shelf status text → EndsWithoutFault status its
+  ends_due : (status : Status) (text : List ℕ) → Due words before.shelf after.shelf status text → MayEndWhereNoneMet status its
   ends_due status text due = ends_of status text (comes status text due)
 
-  pub ends_well : (status : Status) → Answers words before after status → EndsWithoutFault status its
+  pub ends_well : (status : Status) → Answers words before after status → MayEndWhereNoneMet status its
   unfolding Answers
   ends_well Done answers = tt
   ends_well Usage answers = ends_due Usage answers.0 answers.1

@@ -23,7 +23,7 @@ use Rattle.qm_statement.specs.Summary.{IsSummary}
 abbrev pub NoneLeaks : Tree → List Origin → Type 0
 NoneLeaks tree origins = (origin : Origin) → Contains origins origin → Leaks tree origin → ⊥
 
--- a line of sight of the map: a segment on which the map's drawn solids define one contents that is not solid, and that
+-- a line of sight of the map: a generic segment on which the map's drawn solids define one contents that is not solid, and that
 -- begins in a leaf that is not filled
 abbrev pub IsLineOfSightIn : MapFile → Tree → Segment → Type 0
 IsLineOfSightIn map tree s = IsLineOfSight (HasContents (drawn_solids map)) tree s
@@ -33,7 +33,7 @@ IsLineOfSightIn map tree s = IsLineOfSight (HasContents (drawn_solids map)) tree
 -- Its portals lead each line of sight of the map from the first leaf to the last. Each of its numbered leaves has a row,
 -- coarse or found in turns as the options ask, and the rows hold both ends of each line of sight. All of it can stand in a
 -- tree file.
-pub record IsWithoutLeak (map : MapFile) (options : Options) (file : TreeFile) (world : World) (summary : Summary) : Type 0 where
+pub record IsCompiledWithoutLeak (map : MapFile) (options : Options) (file : TreeFile) (world : World) (summary : Summary) : Type 0 where
   pub tree : Tree
   pub origins : List Origin
   pub is_built : IsBuilt map tree origins
@@ -51,7 +51,7 @@ pub record IsWithoutLeak (map : MapFile) (options : Options) (file : TreeFile) (
   pub is_summary : IsSummary map tree origins file.tree rows summary
 
 -- An entity leaks: the first such entity, and its trail. The tree is the map's, without rows, and can stand in a tree file.
-pub record IsLeaking (map : MapFile) (file : TreeFile) (entity : ℕ) (trail : List ℕ) : Type 0 where
+pub record IsCompiledToLeak (map : MapFile) (file : TreeFile) (entity : ℕ) (trail : List ℕ) : Type 0 where
   pub origins : List Origin
   pub is_built : IsBuilt map file.tree origins
   pub is_leak : IsLeak file.tree origins entity trail

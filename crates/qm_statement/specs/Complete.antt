@@ -27,12 +27,12 @@ pub record MetNone (before after : Surroundings) (files : FileNames) : Type 0 wh
 
 -- an end of a command that meets no fault, whatever the text under MAP is: it is done, or memory ran out, or the text has a
 -- fault, or, of `compile`, an entity leaks
-abbrev pub EndsWithoutFault : Status → Command → Type 0
-EndsWithoutFault Done command = Unit {0}
-EndsWithoutFault Memory command = Unit {0}
-EndsWithoutFault MapFault command = Unit {0}
-EndsWithoutFault Leak (Compile options listed) = Unit {0}
-EndsWithoutFault _ command = ⊥
+abbrev pub MayEndWhereNoneMet : Status → Command → Type 0
+MayEndWhereNoneMet Done command = Unit {0}
+MayEndWhereNoneMet Memory command = Unit {0}
+MayEndWhereNoneMet MapFault command = Unit {0}
+MayEndWhereNoneMet Leak (Compile options listed) = Unit {0}
+MayEndWhereNoneMet _ command = ⊥
 
 -- no leak of the map stops the command: of `compile`, no entity leaks
 abbrev pub NoLeakStops : Command → MapFile → Type 0
@@ -50,7 +50,7 @@ EndsDoneOrShortOfMemory _ = ⊥
 -- the shelf holds is a map, and no leak stops the command, it is one of the second
 pub record IsComplete (words : List (List ℕ)) (before after : Surroundings) (status : Status) : Type 0 where
   pub ends : (command : Command) (files : FileNames) → IsCommand words command files →
-      MetNone before after files → EndsWithoutFault status command
+      MetNone before after files → MayEndWhereNoneMet status command
   pub done : IsTrue before.shelf.tells → (command : Command) (files : FileNames) → IsCommand words command files →
       MetNone before after files → (map : MapFile) → IsMapText (text_under before.shelf files.map_name) map →
       NoLeakStops command map → EndsDoneOrShortOfMemory status

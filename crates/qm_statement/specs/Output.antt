@@ -14,7 +14,7 @@ use Rattle.qm_statement.specs.declared.options.Options.{Options}
 use Rattle.qm_statement.specs.declared.status.Status.{Status}
 use Rattle.qm_statement.specs.declared.status.Status.TheVariants.{Done, Leak}
 use Rattle.qm_statement.specs.declared.summary.Summary.{Summary}
-use Rattle.qm_statement.specs.CompiledMap.{IsWithoutLeak, IsLeaking}
+use Rattle.qm_statement.specs.CompiledMap.{IsCompiledWithoutLeak, IsCompiledToLeak}
 use Rattle.qm_statement.specs.Summary.{summary_text, format_summary}
 use Rattle.qm_statement.specs.Texts.{leak_text}
 use Rattle.qm_statement.specs.TreeBytes.{AreBytesOf}
@@ -39,7 +39,7 @@ pub record IsOutputWithoutLeak (map : MapFile) (options : Options) (listed : Boo
   pub file : TreeFile
   pub world : World
   pub summary : Summary
-  pub is_compiled : IsWithoutLeak map options file world summary
+  pub is_compiled : IsCompiledWithoutLeak map options file world summary
   pub is_file : AreBytesOf file output.file
   pub is_listed : IsListed listed world output.listing
   pub is_status : output.status ≡ Done
@@ -50,7 +50,7 @@ pub record IsLeakOutput (map : MapFile) (output : Output) : Type 0 where
   pub file : TreeFile
   pub entity : ℕ
   pub trail : List ℕ
-  pub is_compiled : IsLeaking map file entity trail
+  pub is_compiled : IsCompiledToLeak map file entity trail
   pub is_file : AreBytesOf file output.file
   pub is_not_listed : output.listing ≡ None
   pub is_status : output.status ≡ Leak

@@ -30,7 +30,7 @@ part_count (Containing contents) = 0
 part_count Outside = 0
 
 -- a winding on a plane, each point of it in the cell
-pub record LiesInCell (cell : List Plane) (h : Plane) (w : Winding) : Type 0 where
+pub record IsWindingInCell (cell : List Plane) (h : Plane) (w : Winding) : Type 0 where
   pub convex : IsConvex w
   pub on : (x : Point) → IsInRegion w x → IsOn h x
   pub in_cube : (x : Point) → IsInRegion w x → IsInCube x
@@ -39,7 +39,7 @@ pub record LiesInCell (cell : List Plane) (h : Plane) (w : Winding) : Type 0 whe
 -- what a full solid with these pieces in front of a plane, which lies in the cuboid, is to what a cell has there
 abbrev pub IsFoundPart : Solid → Winding → Cuboid → List Piece → Part → Plane → Type 0
 IsFoundPart solid w cuboid pieces part g =
-    (book cell : List Plane) → IsFull solid → All IsReduced solid.outward → LiesInCell cell g w →
+    (book cell : List Plane) → IsFull solid → All IsReduced solid.outward → IsWindingInCell cell g w →
     IsHeldWithin cuboid solid (cell ++ g ∷ []) → ArePiecesInCell book (cell ++ g ∷ []) solid pieces → IsPartIn book (cell ++ g ∷ []) solid part
 
 -- no piece of the contender has a point behind the plane

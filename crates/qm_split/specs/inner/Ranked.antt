@@ -5,7 +5,7 @@ use Rattle.qm_solids.specs.Least.{IsAxial}
 use Rattle.qm_split.specs.declared.rank.Rank.{Rank}
 use Rattle.qm_split.specs.declared.piece.Piece.{Piece}
 use Rattle.qm_split.specs.declared.contender.Contender.{Contender}
-use Rattle.qm_split.specs.inner.Ranks.{IsAsEarly}
+use Rattle.qm_split.specs.inner.Ranks.{IsNoLater}
 
 -- Pieces by their planes' ranks.
 
@@ -22,13 +22,13 @@ pub record IsRankOfOne (pieces : List Piece) (rank : Rank) : Type 0 where
 
 -- after none of the pieces
 abbrev pub IsAfterNone : List Piece → Rank → Type 0
-IsAfterNone pieces rank = (piece : Piece) (other : Rank) → Contains pieces piece → IsRankOf piece other → IsAsEarly rank other
+IsAfterNone pieces rank = (piece : Piece) (other : Rank) → Contains pieces piece → IsRankOf piece other → IsNoLater rank other
 
 -- the first of a rank, which may be missing, and those of some pieces
 abbrev pub IsLesser : Option Rank → List Piece → Option Rank → Type 0
 IsLesser before pieces None = (before ≡ None) × ((piece : Piece) → Contains pieces piece → ⊥)
 IsLesser before pieces (Some first) =
-    ((before ≡ Some first) ⊎ IsRankOfOne pieces first) × ((rank : Rank) → before ≡ Some rank → IsAsEarly first rank) × IsAfterNone pieces first
+    ((before ≡ Some first) ⊎ IsRankOfOne pieces first) × ((rank : Rank) → before ≡ Some rank → IsNoLater first rank) × IsAfterNone pieces first
 
 -- the rank of a piece of one of the contenders
 pub record IsRankOfSome (contenders : List Contender) (rank : Rank) : Type 0 where

@@ -5,7 +5,7 @@ use Rattle.qm_space.specs.Cuboid.{least_value, greatest_value}
 use Rattle.qm_split.specs.declared.contender.Body.{Body}
 use Rattle.qm_split.specs.declared.contender.Part.TheVariants.{Kept}
 use Rattle.qm_split.specs.Pieces.{solid_of_contender}
-use Rattle.qm_split.specs.inner.Parts.{HasNoneBehind, IsPartIn, LiesInCell}
+use Rattle.qm_split.specs.inner.Parts.{HasNoneBehind, IsPartIn, IsWindingInCell}
 use Rattle.qm_split.proofs.SidesOfPlanes.{none_of_lying, none_of_lying_flipped}
 use Rattle.qm_split.proofs.HeldCuboids.{outside_behind, outside_ahead}
 use Rattle.qm_split.proofs.KeptParts.{moved_ahead, moved_behind, none_behind, none_ahead, kept_whole, shortened, shortened_flipped, section_flipped}
@@ -98,7 +98,7 @@ returns-then-greatest-le0-clause-back c = λ book cell contends section.
     let p : c.greatest_value-greatest.result ≤ℤ pos 0 = omega (arith, ints) in
     let below = subst (λ (z : ℤ). z ≤ℤ pos 0) (c.greatest_value-greatest.ensures.exact ∙ ap (λ (b : Body). greatest_value c.args.plane.now b.cuboid) c.deref-2.ensures) p in
     subst (λ (f : Plane). IsPartIn book (cell ++ f ∷ []) (solid_of_contender c.args.self) c.left_beside-then-greatest-le0.result) c.flipped.ensures
-    (c.left_beside-then-greatest-le0.ensures.part book cell contends (subst (λ (f : Plane). LiesInCell cell f c.args.section.now) (sym c.flipped.ensures) (section_flipped cell c.args.plane.now c.args.section.now section)) (subst (HasNoneBehind c.args.self) (sym c.flipped.ensures) (none_ahead book cell c.args.self contends c.args.plane.now below)))
+    (c.left_beside-then-greatest-le0.ensures.part book cell contends (subst (λ (f : Plane). IsWindingInCell cell f c.args.section.now) (sym c.flipped.ensures) (section_flipped cell c.args.plane.now c.args.section.now section)) (subst (HasNoneBehind c.args.self) (sym c.flipped.ensures) (none_ahead book cell c.args.self contends c.args.plane.now below)))
 
 pub returns-then-greatest-le0-clause-back_count : goal.returns-then-greatest-le0-clause-back_count
 returns-then-greatest-le0-clause-back_count c = λ book cell contends.
