@@ -2,7 +2,7 @@
 #![tactic(auto)]
 
 mod count_lines;
-mod exit_number;
+mod exit;
 mod fault_text;
 mod format;
 pub mod laws;
@@ -14,7 +14,7 @@ mod program;
 mod putting_out;
 mod writing;
 
-pub use exit_number::exit_number;
+pub use exit::exit_number;
 pub use program::run;
 pub use qm_compiler::{Compiled, compile};
 pub use qm_statement::{Options, Status, Summary};
