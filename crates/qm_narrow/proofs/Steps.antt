@@ -1,5 +1,5 @@
 -- Steps: what their cuts leave, once the planes are listed that cut, and the windings known that are cut.
-use Rattle.std.proofs.Common.{◌≡◌, Option, Some, None, Result, IfOk, Contains, List, ◌↔◌, sym, subst}
+use Rattle.std.proofs.Common.{◌≡◌, Option, Some, None, Result, IfOk, List, sym, subst}
 use Rattle.std.specs.Option.{MatchOption}
 use Rattle.std.proofs.lemmas.Result.{IfOk-weaker}
 use Rattle.qm_space.specs.Plane.{Plane, flipped}

@@ -24,7 +24,7 @@ gain_where-requires-in-Ok-clause-lowest c = subst HasLowestNormal (sym c.flipped
 
 pub gain_where-requires-in-Ok-clause-not : goal.gain_where-requires-in-Ok-clause-not
 gain_where-requires-in-Ok-clause-not c = λ unset h parts.
-    (c.in_ok-gain_where-in-Ok.ensures h).1 (inl (there_flipped c.args.source.now c.args.pass.now (whole_point c.args.at) (whole_point c.args.from) (whole_point c.args.to)
+    (c.in_ok-gain_where-in-Ok.ensures.members h).1 (inl (there_flipped c.args.source.now c.args.pass.now (whole_point c.args.at) (whole_point c.args.from) (whole_point c.args.to)
     c.normal_through-normal.result c.normal_through-normal.ensures.exact c.args.planes.now.items _ c.as_slice.ensures.value c.requires.found c.of-look.result c.without-outlook.result
     c.of-look.ensures.ahead c.of-look.ensures.back c.without-outlook.ensures.ahead c.without-outlook.ensures.back
     _ _ _ c.in-Ok.ensures.through (through_lowest_flipped (whole_point c.args.at) (whole_point c.args.from) (whole_point c.args.to) refl _ _ c.in-Ok.ensures.through) c.towards-in-Ok.ensures unset h
