@@ -7,6 +7,7 @@ use std::thread::Threads;
 use test_texts::{BoxRow, CORNER_ROOMS, CUBE, HOLE_ROOM, ROOM, put_boxes};
 
 /// A world, and what comes of it.
+#[derive(Clone, Copy)]
 struct Row {
     /// Boxes of another texture, before those of stone.
     texture: &'static str,
