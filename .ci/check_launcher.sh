@@ -140,7 +140,7 @@ goes_on_where_it_was() {
     touch "$folder/slow"
     : >"$folder/said"
     PATH="$folder/bin:$PATH" XDG_CACHE_HOME="$folder/cache" "$small/qmapc" again >"$folder/printed" 2>"$folder/said" &
-    for _ in {1..100}; do
+    for _ in {1..600}; do
         ! grep -qs '1 of 4 crates' "$folder/said" || break
         sleep 0.1
     done
