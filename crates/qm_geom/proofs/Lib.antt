@@ -7,5 +7,6 @@ pub mod OnlyMeetings
 pub mod Vectors
 pub mod Wide
 pub mod EnteredPlanes
+pub mod Extents
 pub mod Cuboids
 pub mod Lines
