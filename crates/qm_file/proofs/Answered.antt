@@ -6,7 +6,7 @@ use Rattle.qm_partition.specs.declared.node.Node.{Node}
 use Rattle.qm_partition.specs.declared.node.Leaf.{Leaf}
 use Rattle.qm_partition.specs.Arrays.{tree_of}
 use Rattle.qm_partition.specs.WellMade.{IsMadeOf}
-use Rattle.qm_formats.specs.Layout.{Answer, got}
+use Rattle.qm_formats.specs.Layout.{Decoded, got}
 use Rattle.qm_formats.specs.Fields.{AreBytes}
 use Rattle.qm_formats.specs.FileParts.{FileFaultKind}
 use Rattle.qm_formats.specs.TreeFile.{TreeFile, IsValidFile}
@@ -35,7 +35,7 @@ made_of_read file header {at} {of_nodes} {of_leaves} {next} {planes} {nodes} {le
     made_of_right header planes nodes leaves (record { of_header = front.right; of_planes = first.right; of_nodes = second.right; of_leaves = third.right })
 
 -- a fault but want of memory is none where a file is read
-no_fault : (fault : FileFault) (answer : Answer FileFaultKind TreeFile) (file : TreeFile) (next : ℕ) → answer ≡ got file next → IsFaultOfFile fault answer → fault ≡ faults.Memory
+no_fault : (fault : FileFault) (answer : Decoded FileFaultKind TreeFile) (file : TreeFile) (next : ℕ) → answer ≡ got file next → IsFaultOfFile fault answer → fault ≡ faults.Memory
 no_fault (faults.Short offset) answer file next is fault = absurd (let e = sym is ∙ fault in cc)
 no_fault (faults.Magic offset) answer file next is fault = absurd (let e = sym is ∙ fault in cc)
 no_fault (faults.Counts offset) answer file next is fault = absurd (let e = sym is ∙ fault in cc)

@@ -1,11 +1,11 @@
 use Rattle.std.specs.Prelude.{◌≡◌, ℕ, Result, Ok, Err}
-use Rattle.qm_formats.specs.Layout.{Answer, got, bad}
+use Rattle.qm_formats.specs.Layout.{Decoded, got, bad}
 use Rattle.qm_formats.specs.FileParts.{FileFaultKind, short, magic, counts, plane_form, node_order, leaf_form, row_form, trailing, too_long}
 use Rattle.qm_file.specs.declared.file_fault.FileFault.{FileFault}
 use Rattle.qm_file.specs.declared.file_fault.FileFault.TheVariants as faults
 
 -- a fault is the one that reading gives, unless memory ran out
-abbrev pub IsFaultOfFile : {X : Type 0} → FileFault → Answer FileFaultKind X → Type 0
+abbrev pub IsFaultOfFile : {X : Type 0} → FileFault → Decoded FileFaultKind X → Type 0
 IsFaultOfFile (faults.Short offset) answer = answer ≡ bad short offset
 IsFaultOfFile (faults.Magic offset) answer = answer ≡ bad magic offset
 IsFaultOfFile (faults.Counts offset) answer = answer ≡ bad counts offset
@@ -18,6 +18,6 @@ IsFaultOfFile (faults.TooLong offset) answer = answer ≡ bad too_long offset
 IsFaultOfFile faults.Memory answer = Unit {0}
 
 -- what is answered, seen as the value of a layout with the place where it ends, is what reading gives, unless memory ran out
-abbrev pub AnswersTreeFile : {X Y : Type 0} → (X → Y) → (X → ℕ) → Result X FileFault → Answer FileFaultKind Y → Type 0
+abbrev pub AnswersTreeFile : {X Y : Type 0} → (X → Y) → (X → ℕ) → Result X FileFault → Decoded FileFaultKind Y → Type 0
 AnswersTreeFile value next (Ok x) answer = answer ≡ got (value x) (next x)
 AnswersTreeFile value next (Err fault) answer = IsFaultOfFile fault answer

@@ -3,19 +3,19 @@ use Rattle.std.proofs.Common.{◌≡◌, ◌≤◌, ℕ, zero, suc, ◌+◌, Boo
 use Rattle.std.specs.Prelude.{IsTrue}
 use Rattle.std.proofs.lemmas.Bool.{and_parts, and_from}
 use Rattle.qm_formats.specs.Fields.{AreBytes}
-use Rattle.qm_formats.specs.Layout.{Answer, got, bad, Layout, answer_map, answer_then, seen_as, recast, tested, both, pair, part, last_part, each_from, present}
+use Rattle.qm_formats.specs.Layout.{Decoded, got, bad, Layout, decoded_map, decoded_then, seen_as, recast, tested, both, pair, part, last_part, each_from, present}
 use Rattle.qm_formats.specs.Exact.{StandsAt, IsRightAt, IsExact}
 use Rattle.qm_formats.proofs.Standing.{stands_nothing, stands_both, stands_first, stands_second}
 
 -- where an answer is a value, so were the answers that it was made of
-pub map_got : {F X Y : Type 0} (f : X → Y) (answer : Answer F X) (y : Y) (next : ℕ) → answer_map f answer ≡ got y next → (x : X) × (answer ≡ got x next) × (f x ≡ y)
+pub map_got : {F X Y : Type 0} (f : X → Y) (answer : Decoded F X) (y : Y) (next : ℕ) → decoded_map f answer ≡ got y next → (x : X) × (answer ≡ got x next) × (f x ≡ y)
 map_got f (got x mid) y next is =
     let value : f x ≡ y = cc in
     let place : mid ≡ next = cc in
     (x, ap (got x) place, value)
 map_got f (bad fault place) y next is = absurd (cc)
 
-pub then_got : {F X Y : Type 0} (answer : Answer F X) (behind : X → ℕ → Answer F Y) (y : Y) (next : ℕ) → answer_then answer behind ≡ got y next → (x : X) × (mid : ℕ) × (answer ≡ got x mid) × (behind x mid ≡ got y next)
+pub then_got : {F X Y : Type 0} (answer : Decoded F X) (behind : X → ℕ → Decoded F Y) (y : Y) (next : ℕ) → decoded_then answer behind ≡ got y next → (x : X) × (mid : ℕ) × (answer ≡ got x mid) × (behind x mid ≡ got y next)
 then_got (got x mid) behind y next is = (x, mid, refl, is)
 then_got (bad fault place) behind y next is = absurd (cc)
 
@@ -46,7 +46,7 @@ seen_as_exact to from right inner exact there back =
           };
       again = λ file at x next found.
           let other = back x found.right in
-          ap (answer_map to) (exact.again file at (from x) next (record { right = other.1; stands = found.stands })) ∙ ap (λ (v : _). got v next) other.0;
+          ap (decoded_map to) (exact.again file at (from x) next (record { right = other.1; stands = found.stands })) ∙ ap (λ (v : _). got v next) other.0;
     }
 
 pub recast_exact :
@@ -68,7 +68,7 @@ tested_exact test fault place inner exact =
           record { right = and_from (inner.right x) (test x) found.right (sym (ap test passed.1) ∙ passed.0); stands = found.stands };
       again = λ file at x next found.
           let both = and_parts (inner.right x) (test x) found.right in
-          ap (λ (answer : _). answer_then answer (λ v mid. cond (test v) (got v mid) (bad fault (place v at)))) (exact.again file at x next (record { right = both.0; stands = found.stands }))
+          ap (λ (answer : _). decoded_then answer (λ v mid. cond (test v) (got v mid) (bad fault (place v at)))) (exact.again file at x next (record { right = both.0; stands = found.stands }))
           ∙ ap (λ (b : Bool). cond b (got x next) (bad fault (place x at))) both.1;
     }
 
@@ -76,7 +76,7 @@ pub both_exact : {F X Y : Type 0} (first : Layout F X) (second : X → Layout F 
 both_exact first second exact exact_second =
     record {
       found = λ file at v next are within is.
-          let one = then_got (first.read file at) (λ x mid. answer_map (λ y. (x, y)) ((second x).read file mid)) v next is in
+          let one = then_got (first.read file at) (λ x mid. decoded_map (λ y. (x, y)) ((second x).read file mid)) v next is in
           let other = map_got (λ (y : _). (one.0, y)) ((second one.0).read file one.1) v next one.3 in
           let front = exact.found file at one.0 one.1 are within one.2 in
           let behind = (exact_second one.0).found file one.1 other.0 next are front.stands.within other.1 in
@@ -91,7 +91,7 @@ both_exact first second exact exact_second =
           let q = (second v.0).bytes_of v.1 in
           let one = exact.again file at v.0 (at + length p) (record { right = rights.0; stands = stands_first file at p q next found.stands }) in
           let other = (exact_second v.0).again file (at + length p) v.1 next (record { right = rights.1; stands = stands_second file at p q next found.stands }) in
-          ap (λ (answer : _). answer_then answer (λ x mid. answer_map (λ y. (x, y)) ((second x).read file mid))) one ∙ ap (answer_map (λ y. (v.0, y))) other;
+          ap (λ (answer : _). decoded_then answer (λ x mid. decoded_map (λ y. (x, y)) ((second x).read file mid))) one ∙ ap (decoded_map (λ y. (v.0, y))) other;
     }
 
 pub pair_exact : {F X Y : Type 0} (first : Layout F X) (second : Layout F Y) → IsExact first → IsExact second → IsExact (pair first second)
@@ -128,7 +128,7 @@ module _ {F X Y : Type 0} (holds : Y → Type 0) (of : Y → X) where
             let q = (behind (of y)).bytes_of y in
             let one = exact.again file at (of y) (at + length p) (record { right = rights.0; stands = stands_first file at p q next found.stands }) in
             let rest = (exact_behind (of y) rights.0).again file (at + length p) y next (record { before = held; is = refl }) (record { right = rights.1; stands = stands_second file at p q next found.stands }) in
-            ap (λ (answer : Answer F X). answer_then answer (λ x mid. (behind x).read file mid)) one ∙ rest;
+            ap (λ (answer : Decoded F X). decoded_then answer (λ x mid. (behind x).read file mid)) one ∙ rest;
       }
 
   pub last_part_exact : (last : Layout F X) (make : X → Y) → IsExact last → ((x : X) → IsTrue (last.right x) → IsKnown holds of x (make x)) → ((y : Y) → holds y → make (of y) ≡ y) → IsExactWhere holds (last_part of last make)
@@ -145,7 +145,7 @@ module _ {F X Y : Type 0} (holds : Y → Type 0) (of : Y → X) where
             } in
             subst (λ (z : Y). holds z × IsRightAt (last_part of last make) file at z next) value.2 (made.before, found);
         again = λ file at y next held found.
-            ap (answer_map make) (exact.again file at (of y) next (record { right = found.right; stands = found.stands })) ∙ ap (λ (z : Y). got z next) (back y held);
+            ap (decoded_map make) (exact.again file at (of y) next (record { right = found.right; stands = found.stands })) ∙ ap (λ (z : Y). got z next) (back y held);
       }
 
 -- nothing more is known of a value
@@ -166,7 +166,7 @@ module _ {F X : Type 0} (layout : ℕ → Layout F X) (exact : (k : ℕ) → IsE
       let place : at ≡ next = cc in
       found_as (each_from layout k zero) file at [] xs at next none place (record { right = refl; stands = stands_nothing file at within })
   found_each k (suc count) file at xs next are within is =
-      let one = then_got ((layout k).read file at) (λ x mid. answer_map (λ (rest : List X). x ∷ rest) ((each_from layout (k + 1) count).read file mid)) xs next is in
+      let one = then_got ((layout k).read file at) (λ x mid. decoded_map (λ (rest : List X). x ∷ rest) ((each_from layout (k + 1) count).read file mid)) xs next is in
       let other = map_got (λ (rest : List X). one.0 ∷ rest) ((each_from layout (k + 1) count).read file one.1) xs next one.3 in
       let front = (exact k).found file at one.0 one.1 are within one.2 in
       let behind = found_each (k + 1) count file one.1 other.0 next are front.stands.within other.1 in
@@ -188,7 +188,7 @@ module _ {F X : Type 0} (layout : ℕ → Layout F X) (exact : (k : ℕ) → IsE
       let q = rest.bytes_of xs in
       let one = (exact k).again file at x (at + length p) (record { right = rights.0; stands = stands_first file at p q next found.stands }) in
       let other = again_each (k + 1) count file (at + length p) xs next (record { right = rights.1; stands = stands_second file at p q next found.stands }) in
-      ap (λ (answer : Answer F X). answer_then answer (λ y mid. answer_map (λ (ys : List X). y ∷ ys) (rest.read file mid))) one ∙ ap (answer_map (λ (ys : List X). x ∷ ys)) other
+      ap (λ (answer : Decoded F X). decoded_then answer (λ y mid. decoded_map (λ (ys : List X). y ∷ ys) (rest.read file mid))) one ∙ ap (decoded_map (λ (ys : List X). x ∷ ys)) other
 
   pub each_exact : (k count : ℕ) → IsExact (each_from layout k count)
   each_exact k count = record { found = found_each k count; again = again_each k count }
@@ -205,7 +205,7 @@ module _ {F X : Type 0} (layout : Layout F X) (exact : IsExact layout) where
       found_as (present layout false) file at None x at next none place (record { right = refl; stands = stands_nothing file at within })
 
   again_option : (is_there : Bool) (file : List ℕ) (at : ℕ) (x : Option X) (next : ℕ) → IsRightAt (present layout is_there) file at x next → (present layout is_there).read file at ≡ got x next
-  again_option true file at (Some x) next found = ap (answer_map (λ (v : X). Some v)) (exact.again file at x next (record { right = found.right; stands = found.stands }))
+  again_option true file at (Some x) next found = ap (decoded_map (λ (v : X). Some v)) (exact.again file at x next (record { right = found.right; stands = found.stands }))
   again_option true file at None next found = absurd (let e = found.right in cc)
   again_option false file at (Some x) next found = absurd (let e = found.right in cc)
   again_option false file at None next found = ap (got None) (let e = found.stands.ends in omega (arith, e))

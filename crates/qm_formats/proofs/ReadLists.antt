@@ -1,29 +1,29 @@
 -- Values that are read one behind the other.
 use Rattle.std.proofs.Common.{◌≡◌, ◌<◌, ℕ, suc, ◌+◌, ◌-◌, List, [], ◌∷◌, ◌++◌, refl, sym, ap, ◌∙◌, append_assoc, arith}
-use Rattle.qm_formats.specs.Layout.{Answer, got, bad, Layout, answer_map, answer_then, read_each}
+use Rattle.qm_formats.specs.Layout.{Decoded, got, bad, Layout, decoded_map, decoded_then, read_each}
 
-map_behind : {F X : Type 0} (items : List X) (x : X) (answer : Answer F (List X)) → answer_map (λ (xs : List X). items ++ xs) (answer_map (λ (xs : List X). x ∷ xs) answer) ≡ answer_map (λ (xs : List X). (items ++ x ∷ []) ++ xs) answer
+map_behind : {F X : Type 0} (items : List X) (x : X) (answer : Decoded F (List X)) → decoded_map (λ (xs : List X). items ++ xs) (decoded_map (λ (xs : List X). x ∷ xs) answer) ≡ decoded_map (λ (xs : List X). (items ++ x ∷ []) ++ xs) answer
 map_behind items x (got xs next) = ap (λ (ys : List _). got ys next) (sym (append_assoc items (x ∷ []) xs))
 map_behind items x (bad fault place) = refl
 
 -- a fault of the part is the fault of the whole
-abbrev pub PassesFault : {F X Y : Type 0} → Answer F X → Answer F Y → Type 0
+abbrev pub PassesFault : {F X Y : Type 0} → Decoded F X → Decoded F Y → Type 0
 PassesFault {F} part whole = (fault : F) (place : ℕ) → part ≡ bad fault place → whole ≡ bad fault place
 
-module _ {F X : Type 0} (layout : ℕ → Layout F X) (count : ℕ) (file : List ℕ) (whole : Answer F (List X)) where
+module _ {F X : Type 0} (layout : ℕ → Layout F X) (count : ℕ) (file : List ℕ) (whole : Decoded F (List X)) where
   -- these values are read, and what is read of the others completes them
   abbrev pub IsReadSoFar : List X → ℕ → ℕ → Type 0
-  IsReadSoFar items counter next = whole ≡ answer_map (λ (xs : List X). items ++ xs) (read_each layout counter (count - counter) file next)
+  IsReadSoFar items counter next = whole ≡ decoded_map (λ (xs : List X). items ++ xs) (read_each layout counter (count - counter) file next)
 
   module _ (items : List X) (counter next : ℕ) where
     -- the values, where one more is due
-    abbrev completed : Answer F X → Answer F (List X)
-    completed one = answer_map (λ (xs : List X). items ++ xs) (answer_then one (λ x after. answer_map (λ (xs : List X). x ∷ xs) (read_each layout (counter + 1) (count - (counter + 1)) file after)))
+    abbrev completed : Decoded F X → Decoded F (List X)
+    completed one = decoded_map (λ (xs : List X). items ++ xs) (decoded_then one (λ x after. decoded_map (λ (xs : List X). x ∷ xs) (read_each layout (counter + 1) (count - (counter + 1)) file after)))
 
     due : counter < count → IsReadSoFar items counter next → whole ≡ completed ((layout counter).read file next)
     due less so_far =
         let one_due : count - counter ≡ suc (count - (counter + 1)) = omega (arith, less) in
-        so_far ∙ ap (λ (n : ℕ). answer_map (λ (xs : List X). items ++ xs) (read_each layout counter n file next)) one_due
+        so_far ∙ ap (λ (n : ℕ). decoded_map (λ (xs : List X). items ++ xs) (read_each layout counter n file next)) one_due
 
     pub one_more : (x : X) (after : ℕ) (more : List X) → counter < count → IsReadSoFar items counter next → (layout counter).read file next ≡ got x after → more ≡ items ++ x ∷ [] → IsReadSoFar more (counter + 1) after
     one_more x after more less so_far read pushed =
@@ -31,7 +31,7 @@ module _ {F X : Type 0} (layout : ℕ → Layout F X) (count : ℕ) (file : List
         due less so_far
         ∙ ap completed read
         ∙ map_behind items x others
-        ∙ ap (λ (all : List X). answer_map (λ (xs : List X). all ++ xs) others) (sym pushed)
+        ∙ ap (λ (all : List X). decoded_map (λ (xs : List X). all ++ xs) others) (sym pushed)
 
     pub one_fault : counter < count → IsReadSoFar items counter next → PassesFault ((layout counter).read file next) whole
     one_fault less so_far fault place is = due less so_far ∙ ap completed is

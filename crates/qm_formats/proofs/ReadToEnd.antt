@@ -3,7 +3,7 @@ use Rattle.std.proofs.Common.{◌≡◌, ◌≤◌, ℕ, Bool, cond, ltb, List, 
 use Rattle.std.specs.Prelude.{IsTrue}
 use Rattle.std.proofs.lemmas.Bool.{cases_lt, lt-ltb, le-ltb}
 use Rattle.std.proofs.lemmas.List.{drop_all}
-use Rattle.qm_formats.specs.Layout.{Answer, got, bad, Layout, answer_then, read_to_end}
+use Rattle.qm_formats.specs.Layout.{Decoded, got, bad, Layout, decoded_then, read_to_end}
 use Rattle.qm_formats.specs.Fields.{AreBytes}
 use Rattle.qm_formats.specs.Exact.{StandsAt, IsExact}
 use Rattle.qm_formats.proofs.ExactParts.{then_got}
@@ -38,13 +38,13 @@ module _ {F X : Type 0} (layout : Layout F X) (exact : IsExact layout) (trailing
         ends = ap length bytes ∙ omega arith;
         within = omega arith;
       } in
-      ap (λ (answer : Answer F X). answer_then answer (λ x next. cond (ltb next (length file)) (bad trailing next) (got x next))) (exact.again file 0 x (length file) (record { right = right; stands = stands }))
+      ap (λ (answer : Decoded F X). decoded_then answer (λ x next. cond (ltb next (length file)) (bad trailing next) (got x next))) (exact.again file 0 x (length file) (record { right = right; stands = stands }))
       ∙ ap (λ (b : Bool). cond b (bad trailing (length file)) (got x (length file))) (le-ltb (length file) (length file) (omega arith))
 
   pub read_ends : (x : X) (next : ℕ) → AreBytes file → layout.read file 0 ≡ got x next → length file ≤ next → read_to_end layout trailing file ≡ got x (length file)
   read_ends x next are is past =
       let found = exact.found file 0 x next are (omega arith) is in
       let ends : next ≡ length file = omega (arith, past, found.stands.within) in
-      ap (λ (answer : Answer F X). answer_then answer (λ x next. cond (ltb next (length file)) (bad trailing next) (got x next))) is
+      ap (λ (answer : Decoded F X). decoded_then answer (λ x next. cond (ltb next (length file)) (bad trailing next) (got x next))) is
       ∙ ap (λ (b : Bool). cond b (bad trailing next) (got x next)) (le-ltb next (length file) past)
       ∙ ap (got x) ends

@@ -12,7 +12,7 @@ use Rattle.qm_partition.specs.Counting.{leaves_of}
 use Rattle.qm_partition.specs.Numbering.{nodes_of}
 use Rattle.qm_partition.specs.Arrays.{partition_of, tree_of}
 use Rattle.qm_contacts.specs.NumberedLeaves.{is_numbered}
-use Rattle.qm_formats.specs.Layout.{Answer, Layout, recast, tested, part, last_part, each, many, present, read_whole_file}
+use Rattle.qm_formats.specs.Layout.{Decoded, Layout, recast, tested, part, last_part, each, many, present, read_whole_file}
 use Rattle.qm_formats.specs.Fields.{unsigned, fixed}
 use Rattle.qm_formats.specs.RowBits.{row_bits}
 use Rattle.qm_formats.specs.FileParts.{FileFaultKind, short, magic, counts, node_order, row_form, trailing, too_long, plane_layout, node_layout, leaf_layout}
@@ -125,5 +125,5 @@ abbrev pub file_limit : ℕ
 file_limit = 1073741824
 
 -- what is read in a file, or the first fault
-unfoldable pub read_file : List ℕ → Answer FileFaultKind TreeFile
+unfoldable pub read_file : List ℕ → Decoded FileFaultKind TreeFile
 read_file file = read_whole_file file_layout file_limit too_long trailing file

@@ -4,25 +4,25 @@ use Rattle.std.specs.Prelude.{ℕ, zero, suc, ◌+◌, Bool, true, false, ◌&&�
 -- that is met first where parts are read in order.
 
 -- what is read at a place of a file: a value and where it ends, or a fault and its place
-pub data Answer (F X : Type 0) : Type 0 where
-  got : X → ℕ → Answer F X
-  bad : F → ℕ → Answer F X
+pub data Decoded (F X : Type 0) : Type 0 where
+  got : X → ℕ → Decoded F X
+  bad : F → ℕ → Decoded F X
 
 -- how values stand in a file: the bytes of each; which values can stand there; what is read at a place of a file
 pub record Layout (F X : Type 0) : Type 0 where
   pub bytes_of : X → List ℕ
   pub right : X → Bool
-  pub read : List ℕ → ℕ → Answer F X
+  pub read : List ℕ → ℕ → Decoded F X
 
 -- the answer with another value
-abbrev pub answer_map : {F X Y : Type 0} → (X → Y) → Answer F X → Answer F Y
-answer_map f (got x next) = got (f x) next
-answer_map f (bad fault place) = bad fault place
+abbrev pub decoded_map : {F X Y : Type 0} → (X → Y) → Decoded F X → Decoded F Y
+decoded_map f (got x next) = got (f x) next
+decoded_map f (bad fault place) = bad fault place
 
 -- what is read behind a value, or the fault where there is none
-abbrev pub answer_then : {F X Y : Type 0} → Answer F X → (X → ℕ → Answer F Y) → Answer F Y
-answer_then (got x next) behind = behind x next
-answer_then (bad fault place) behind = bad fault place
+abbrev pub decoded_then : {F X Y : Type 0} → Decoded F X → (X → ℕ → Decoded F Y) → Decoded F Y
+decoded_then (got x next) behind = behind x next
+decoded_then (bad fault place) behind = bad fault place
 
 -- values seen as others, of which a test says which ones can stand there
 abbrev pub seen_as : {F X Y : Type 0} → (Y → X) → (X → Y) → (X → Bool) → Layout F Y → Layout F X
@@ -30,7 +30,7 @@ seen_as to from right inner =
     record {
       bytes_of = λ x. inner.bytes_of (from x);
       right = right;
-      read = λ file at. answer_map to (inner.read file at);
+      read = λ file at. decoded_map to (inner.read file at);
     }
 
 -- values with other names for their parts: those can stand there whose parts can
@@ -43,7 +43,7 @@ tested test fault place inner =
     record {
       bytes_of = inner.bytes_of;
       right = λ x. inner.right x && test x;
-      read = λ file at. answer_then (inner.read file at) (λ x next. if test x then got x next else bad fault (place x at));
+      read = λ file at. decoded_then (inner.read file at) (λ x next. if test x then got x next else bad fault (place x at));
     }
 
 -- two values one behind the other, where the layout of the second follows from the first
@@ -52,7 +52,7 @@ both first second =
     record {
       bytes_of = λ v. first.bytes_of v.0 ++ (second v.0).bytes_of v.1;
       right = λ v. first.right v.0 && (second v.0).right v.1;
-      read = λ file at. answer_then (first.read file at) (λ x next. answer_map (λ y. (x, y)) ((second x).read file next));
+      read = λ file at. decoded_then (first.read file at) (λ x next. decoded_map (λ y. (x, y)) ((second x).read file next));
     }
 
 -- two values one behind the other
@@ -65,7 +65,7 @@ part of first behind =
     record {
       bytes_of = λ y. first.bytes_of (of y) ++ (behind (of y)).bytes_of y;
       right = λ y. first.right (of y) && (behind (of y)).right y;
-      read = λ file at. answer_then (first.read file at) (λ x next. (behind x).read file next);
+      read = λ file at. decoded_then (first.read file at) (λ x next. (behind x).read file next);
     }
 
 -- the last part of a value, which with those before it makes the whole
@@ -86,9 +86,9 @@ module _ {F X : Type 0} (layout : ℕ → Layout F X) where
   right_each k (suc count) (x ∷ xs) = (layout k).right x && right_each (k + 1) count xs
 
   -- so many values are read one behind the other
-  abbrev pub read_each : ℕ → ℕ → List ℕ → ℕ → Answer F (List X)
+  abbrev pub read_each : ℕ → ℕ → List ℕ → ℕ → Decoded F (List X)
   read_each k zero file at = got [] at
-  read_each k (suc count) file at = answer_then ((layout k).read file at) (λ x next. answer_map (λ (xs : List X). x ∷ xs) (read_each (k + 1) count file next))
+  read_each k (suc count) file at = decoded_then ((layout k).read file at) (λ x next. decoded_map (λ (xs : List X). x ∷ xs) (read_each (k + 1) count file next))
 
   -- so many values one behind the other, each in the layout of its number, from k on
   abbrev pub each_from : ℕ → ℕ → Layout F (List X)
@@ -113,19 +113,19 @@ module _ {F X : Type 0} (layout : Layout F X) where
   right_option false (Some x) = false
   right_option false None = true
 
-  abbrev pub read_option : Bool → List ℕ → ℕ → Answer F (Option X)
-  read_option true file at = answer_map (λ (x : X). Some x) (layout.read file at)
+  abbrev pub read_option : Bool → List ℕ → ℕ → Decoded F (Option X)
+  read_option true file at = decoded_map (λ (x : X). Some x) (layout.read file at)
   read_option false file at = got None at
 
   abbrev pub present : Bool → Layout F (Option X)
   present is_there = record { bytes_of = bytes_of_option; right = right_option is_there; read = read_option is_there }
 
 -- a value with nothing behind it
-abbrev pub read_to_end : {F X : Type 0} → Layout F X → F → List ℕ → Answer F X
+abbrev pub read_to_end : {F X : Type 0} → Layout F X → F → List ℕ → Decoded F X
 read_to_end layout trailing file =
-    answer_then (layout.read file 0) (λ x next. if nat_lt next (length file) then bad trailing next else got x next)
+    decoded_then (layout.read file 0) (λ x next. if nat_lt next (length file) then bad trailing next else got x next)
 
 -- a whole file, of so many bytes at most: its length is looked at first, and nothing stands behind the value
-abbrev pub read_whole_file : {F X : Type 0} → Layout F X → ℕ → F → F → List ℕ → Answer F X
+abbrev pub read_whole_file : {F X : Type 0} → Layout F X → ℕ → F → F → List ℕ → Decoded F X
 read_whole_file layout limit too_long trailing file =
     if nat_lt limit (length file) then bad too_long limit else read_to_end layout trailing file

@@ -1,5 +1,5 @@
 use Rattle.std.specs.Prelude.{◌≡◌, ◌<◌, ◌≤◌, ℕ, zero, suc, ◌+◌, ◌-◌, Bool, true, false, ◌&&◌, ◌==◌, nat_lt, List, [], ◌∷◌, ◌++◌, length, drop, replicate, Result, Ok, Err, if◌then◌else◌}
-use Rattle.qm_formats.specs.Layout.{Answer, got, bad, Layout}
+use Rattle.qm_formats.specs.Layout.{Decoded, got, bad, Layout}
 use Rattle.qm_formats.specs.Fields.{are_bytes}
 
 -- How the bytes of a row are written: a byte that is not zero stands for itself; a zero byte is followed by the number of
@@ -65,7 +65,7 @@ unfoldable pub read_runs : ℕ → List ℕ → Result (List ℕ × ℕ) RunFaul
 read_runs width bytes = read_due width false bytes
 
 -- what reading a row answers at a place of a file, where a fault of its form stands at the row's own place
-abbrev pub row_answer : {F : Type 0} → F → F → List ℕ → ℕ → Result (List ℕ × ℕ) RunFaultKind → Answer F (List ℕ)
+abbrev pub row_answer : {F : Type 0} → F → F → List ℕ → ℕ → Result (List ℕ × ℕ) RunFaultKind → Decoded F (List ℕ)
 row_answer end form file at (Ok read) = got read.0 (at + read.1)
 row_answer end form file at (Err short) = bad end (length file)
 row_answer end form file at (Err zero_count) = bad form at

@@ -5,7 +5,7 @@ use Rattle.std.proofs.lemmas.Bool.{and_parts, and_from, eqb-true, eq-eqb}
 use Rattle.std.proofs.lemmas.List.{length-drop, drop-drop}
 use Rattle.std.proofs.lemmas.List.Folds.{length-prefix_len}
 use Rattle.std.proofs.lemmas.List.Sums.{prefix_len-le-length}
-use Rattle.qm_formats.specs.Layout.{Answer, got, bad, Layout, answer_map, answer_then, tested, pair}
+use Rattle.qm_formats.specs.Layout.{Decoded, got, bad, Layout, decoded_map, decoded_then, tested, pair}
 use Rattle.qm_formats.specs.Fields.{first_difference}
 use Rattle.qm_formats.specs.Exact.{StandsAt, IsRightAt, IsExact}
 use Rattle.qm_formats.proofs.ExactParts.{map_got, then_got, chosen_got, recast_exact, pair_exact}
@@ -125,7 +125,7 @@ module _ {F X : Type 0} (fault shape : F) (spelling : Spelling X) (is_spelling :
   again_tested : (text : List ℕ) (at : ℕ) (x : X) (next : ℕ) (rest : List ℕ) → IsRightAt tested_numeral text at x next → drop next text ≡ byte ∷ rest → tested_numeral.read text at ≡ got x next
   again_tested text at x next rest found stop =
       let both = and_parts ((numeral fault spelling).right x) (test x) found.right in
-      ap (λ (answer : Answer F X). answer_then answer (λ v mid. cond (test v) (got v mid) (bad shape at))) (again_numeral text at x next rest (record { right = both.0; stands = found.stands }) stop)
+      ap (λ (answer : Decoded F X). decoded_then answer (λ v mid. cond (test v) (got v mid) (bad shape at))) (again_numeral text at x next rest (record { right = both.0; stands = found.stands }) stop)
       ∙ ap (λ (b : Bool). cond b (got x next) (bad shape at)) both.1
 
   abbrev last_byte : Layout F (Unit {0})
@@ -139,7 +139,7 @@ module _ {F X : Type 0} (fault shape : F) (spelling : Spelling X) (is_spelling :
   numeral_and_byte =
       record {
         found = λ text at v next are within is.
-            let one = then_got (tested_numeral.read text at) (λ x mid. answer_map (λ (y : Unit {0}). (x, y)) (last_byte.read text mid)) v next is in
+            let one = then_got (tested_numeral.read text at) (λ x mid. decoded_map (λ (y : Unit {0}). (x, y)) (last_byte.read text mid)) v next is in
             let other = map_got (λ (y : Unit {0}). (one.0, y)) (last_byte.read text one.1) v next one.3 in
             let front = found_tested text at one.0 one.1 within one.2 in
             let back = (literal_exact shape (byte ∷ [])).found text one.1 other.0 next are front.stands.within other.1 in
@@ -155,7 +155,7 @@ module _ {F X : Type 0} (fault shape : F) (spelling : Spelling X) (is_spelling :
             let last = stands_second text at p q next found.stands in
             let one = again_tested text at v.0 (at + length p) (drop next text) (record { right = rights.0; stands = stands_first text at p q next found.stands }) (last_stands text (at + length p) next last) in
             let other = (literal_exact shape (byte ∷ [])).again text (at + length p) v.1 next (record { right = rights.1; stands = last }) in
-            ap (λ (answer : Answer F X). answer_then answer (λ x mid. answer_map (λ (y : Unit {0}). (x, y)) (last_byte.read text mid))) one ∙ ap (answer_map (λ (y : Unit {0}). (v.0, y))) other;
+            ap (λ (answer : Decoded F X). decoded_then answer (λ x mid. decoded_map (λ (y : Unit {0}). (x, y)) (last_byte.read text mid))) one ∙ ap (decoded_map (λ (y : Unit {0}). (v.0, y))) other;
       }
 
   pub numeral_exact : IsExact (before tested_numeral last_byte)

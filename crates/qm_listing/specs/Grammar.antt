@@ -2,7 +2,7 @@ use Rattle.std.specs.Prelude.{ℕ, Bool, true, not, ◌&&◌, ◌==◌, nat_lt, 
 use Rattle.qm_listing.specs.declared.listing.Coordinate.{Coordinate}
 use Rattle.qm_listing.specs.declared.listing.PrtPortal.{PrtPortal}
 use Rattle.qm_listing.specs.declared.listing.Listing.{Listing}
-use Rattle.qm_formats.specs.Layout.{Answer, Layout, tested, part, last_part, many, read_to_end}
+use Rattle.qm_formats.specs.Layout.{Decoded, Layout, tested, part, last_part, many, read_to_end}
 use Rattle.qm_listing.specs.Numerals.{Spelling, numeral, literal, before, behind}
 use Rattle.qm_listing.specs.Numbers.{counts, coordinates}
 
@@ -77,5 +77,5 @@ unfoldable pub can_stand : Listing → Bool
 can_stand = listing_layout.right
 
 -- what is read of a text: a listing with nothing behind it, or the first fault in the order of the text, with its place
-unfoldable pub read_listing : List ℕ → Answer ListingFaultKind Listing
+unfoldable pub read_listing : List ℕ → Decoded ListingFaultKind Listing
 read_listing = read_to_end listing_layout trailing

@@ -1,7 +1,7 @@
 use Rattle.std.specs.Prelude.{ℕ, ◌+◌, Bool, true, ◌||◌, ◌==◌, List, take, drop, length, Option, Some, None, if◌then◌else◌}
 use Rattle.std.specs.Char.{is_ascii_digit}
 use Rattle.std.specs.List.{prefix_len}
-use Rattle.qm_formats.specs.Layout.{Answer, got, bad, Layout, recast, pair}
+use Rattle.qm_formats.specs.Layout.{Decoded, got, bad, Layout, recast, pair}
 use Rattle.qm_formats.specs.Fields.{first_difference}
 
 -- Numerals in a text, and the fixed bytes between them.
@@ -21,7 +21,7 @@ pub record Spelling (X : Type 0) : Type 0 where
   pub value_of : List ℕ → Option X
 
 -- the value, and where its numeral ends; where there is none, a fault at the numeral
-abbrev pub spelled : {F X : Type 0} → F → ℕ → ℕ → Option X → Answer F X
+abbrev pub spelled : {F X : Type 0} → F → ℕ → ℕ → Option X → Decoded F X
 spelled fault at next (Some x) = got x next
 spelled fault at next None = bad fault at
 

@@ -1,7 +1,7 @@
 -- What an answer says of the text, where it is the one that reading gives.
 use Rattle.std.proofs.Common.{◌≡◌, ℕ, List, length, Result, Ok, Err, refl, sym, ◌∙◌}
 use Rattle.std.specs.Prelude.{IfOk, IsTrue, MatchResult}
-use Rattle.qm_formats.specs.Layout.{Answer, got}
+use Rattle.qm_formats.specs.Layout.{Decoded, got}
 use Rattle.qm_formats.specs.Fields.{AreBytes}
 use Rattle.qm_listing.specs.declared.listing.Listing.{Listing}
 use Rattle.qm_listing.specs.Grammar.{ListingFaultKind, listing_text, can_stand, read_listing}
@@ -11,7 +11,7 @@ use Rattle.qm_prt.specs.declared.prt_fault.PrtFault.TheVariants as faults
 use Rattle.qm_prt.specs.Answers.{IsFaultOfListing, AnswersListing}
 
 -- a fault but want of memory is none where a listing is read
-no_fault : (fault : PrtFault) (answer : Answer ListingFaultKind Listing) (listing : Listing) (next : ℕ) → answer ≡ got listing next → IsFaultOfListing fault answer → fault ≡ faults.Memory
+no_fault : (fault : PrtFault) (answer : Decoded ListingFaultKind Listing) (listing : Listing) (next : ℕ) → answer ≡ got listing next → IsFaultOfListing fault answer → fault ≡ faults.Memory
 no_fault (faults.Header offset) answer listing next is fault = absurd (let e = sym is ∙ fault in cc)
 no_fault (faults.Number offset) answer listing next is fault = absurd (let e = sym is ∙ fault in cc)
 no_fault (faults.Shape offset) answer listing next is fault = absurd (let e = sym is ∙ fault in cc)
