@@ -1,19 +1,25 @@
-use Rattle.std.specs.Prelude.{ℕ, List, map}
+use Rattle.std.specs.Prelude.{ℕ, List, map, Option, None, option_map, is_some}
 use Rattle.std.specs.Borrow.{Bor}
-use Rattle.std.specs.Option.{option_map}
-use Rattle.qm_statement.specs.FileNames.{FileNames}
-use Rattle.qm_words.specs.declared.files.Files.{Files}
+use Rattle.qm_commands.specs.declared.map_command.MapCommand.TheVariants as command
+use Rattle.qm_commands.specs.FileNames.{FileNames}
+use Rattle.qm_commands.specs.Order.{Order, of_map, of_tree, of_rooms}
+use Rattle.qm_words.specs.declared.order.Order.{Order as SeenOrder}
+use Rattle.qm_words.specs.declared.order.Order.TheVariants as seen
 
--- Words and names of files, as they are seen.
+-- Words and what they ask for, as they are seen.
 
 -- the bytes of words
 abbrev pub bytes_of_words : List (Bor (List ℕ)) → List (List ℕ)
 bytes_of_words words = map (λ word. word.now) words
 
--- the names of files
-abbrev pub names_of : Files → FileNames
-names_of files = record {
-  map_name = files.map_name.now;
-  out_name = files.out_name.now;
-  listing_name = option_map (λ name. name.now) files.listing_name;
-}
+-- the names of a command's files
+abbrev pub names_of : List ℕ → List ℕ → Option (List ℕ) → FileNames
+names_of map_name out_name listing_name = record { map_name = map_name; out_name = out_name; listing_name = listing_name }
+
+-- what an order asks for
+abbrev pub order_of : SeenOrder → Order
+order_of (seen.Compile map_name out_name prt threads fast) =
+    of_map (command.Compile (record { threads = threads; fast = fast }) (is_some prt)) (names_of map_name.now out_name.now (option_map (λ name. name.now) prt))
+order_of (seen.Inspect tree queries) = of_tree tree.now queries.items
+order_of (seen.Format map_name out_name) = of_map command.Format (names_of map_name.now out_name.now None)
+order_of (seen.Demo rooms number) = of_rooms rooms number

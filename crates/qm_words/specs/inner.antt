@@ -1,1 +1,11 @@
-pub mod WordsRead
+pub mod Answered
+pub mod CommandLines
+pub mod CompileWord
+pub mod EachWord
+pub mod FoundWords
+pub mod Numbers
+pub mod Parsed
+pub mod PlainWords
+pub mod QueriesRead
+pub mod TreeAndQueries
+pub mod TwoWords

@@ -1,10 +1,15 @@
 //! The words of a command: what they ask for, and whether they are one.
 #![tactic(auto)]
 
-mod asked;
-mod asking;
-mod files;
+mod compile;
+mod inspect;
+mod lines;
+mod numbers;
+mod order;
+mod pairs;
+mod queries;
+mod spelling;
 mod words;
 
-pub use files::Files;
-pub use words::command_of;
+pub use order::{Order, WordsFault};
+pub use words::read;

@@ -1,0 +1,10 @@
+pub mod CompileRequest
+pub mod CompileWords
+pub mod DemoWords
+pub mod FileNames
+pub mod FormatWords
+pub mod InspectWords
+pub mod Options
+pub mod Order
+pub mod QueryWord
+pub mod Words

@@ -1,0 +1,38 @@
+use Rattle.std.specs.Prelude.{◌≡◌, ◌<◌, ◌^◌, ℕ, ℤ, List, [], ◌∷◌, ◌++◌, codes}
+use Rattle.std.specs.Fmt.{decimal}
+use Rattle.qm_numerals.specs.Answer.{IsValue}
+use Rattle.qm_commands.specs.declared.query.Query.{Query}
+use Rattle.qm_commands.specs.declared.query.Query.TheVariants.{Count, At, Row, Sees}
+
+-- How a query is written.
+
+-- a number with at most six decimals, in millionths
+abbrev pub AreMillionths : List ℕ → ℤ → Type 0
+AreMillionths text n = IsValue text 6 (record { numerator = n; places = 6 })
+
+-- `at=X,Y,Z`
+pub record IsPlaceWord (word : List ℕ) (x y z : ℤ) : Type 0 where
+  pub first : List ℕ
+  pub second : List ℕ
+  pub third : List ℕ
+  pub word_is : word ≡ codes "at=" ++ (first ++ (44 ∷ (second ++ (44 ∷ third))))
+  pub is_x : AreMillionths first x
+  pub is_y : AreMillionths second y
+  pub is_z : AreMillionths third z
+
+-- a number of a leaf as it may be asked for has at most 18 digits
+abbrev pub IsShort : ℕ → Type 0
+IsShort n = n < 10 ^ 18
+
+-- the word of a query
+abbrev pub IsQueryWord : List ℕ → Query → Type 0
+IsQueryWord word Count = word ≡ codes "count"
+IsQueryWord word (At x y z) = IsPlaceWord word x y z
+IsQueryWord word (Row n) = (word ≡ codes "row=" ++ decimal n) × IsShort n
+IsQueryWord word (Sees n m) = (word ≡ codes "sees=" ++ (decimal n ++ (44 ∷ decimal m))) × IsShort n × IsShort m
+
+-- the words of queries, one by one
+pub data AreQueryWords : List (List ℕ) → List Query → Type 0 where
+  no_more : AreQueryWords [] []
+  one_more : {word : List ℕ} {query : Query} {words : List (List ℕ)} {queries : List Query} →
+      IsQueryWord word query → AreQueryWords words queries → AreQueryWords (word ∷ words) (query ∷ queries)

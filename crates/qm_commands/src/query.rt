@@ -1,0 +1,12 @@
+/// What a tree file is asked.
+#[derive(Clone, Copy)]
+pub enum Query {
+    /// How much there is in it.
+    Count,
+    /// What is at a point, whose coordinates are given in millionths of a map unit.
+    At { x: i64, y: i64, z: i64 },
+    /// Which leaves the row of a numbered leaf has.
+    Row(u64),
+    /// Whether the row of the first numbered leaf has the second.
+    Sees(u64, u64),
+}

@@ -1,0 +1,150 @@
+-- Words are those of one order at most.
+use Rattle.std.proofs.Common.{◌≡◌, ◌∙◌, ℕ, ℤ, Bool, codes, refl, sym, ap, ap₂, subst, arith, List, [], ◌∷◌, ◌++◌, length, Option, Some, None, is_some}
+use Rattle.std.specs.Fmt.{decimal}
+use Rattle.std.proofs.lemmas.Fmt.{decimal_injective}
+use Rattle.qm_commands.specs.declared.options.Options.{Options}
+use Rattle.qm_commands.specs.declared.map_command.MapCommand.TheVariants.{Compile, Format}
+use Rattle.qm_commands.specs.declared.query.Query.{Query}
+use Rattle.qm_commands.specs.declared.query.Query.TheVariants.{Count, At, Row, Sees}
+use Rattle.qm_commands.specs.CompileRequest.{Request, Asks, no_request}
+use Rattle.qm_commands.specs.CompileWords.{AreCompileWords}
+use Rattle.qm_commands.specs.DemoWords.{AreDemoWords}
+use Rattle.qm_commands.specs.FileNames.{FileNames}
+use Rattle.qm_commands.specs.FormatWords.{AreFormatWords}
+use Rattle.qm_commands.specs.InspectWords.{AreInspectWords}
+use Rattle.qm_commands.specs.Options.{AreThreads}
+use Rattle.qm_commands.specs.QueryWord.{AreMillionths, AreQueryWords, IsPlaceWord, IsQueryWord, IsShort, no_more, one_more}
+use Rattle.qm_commands.specs.Order.{Order, of_map, of_tree, of_rooms}
+use Rattle.qm_commands.specs.Words.{AreWordsOf}
+use Rattle.qm_words.proofs.Commas.{clear_decimal, splits_once}
+use Rattle.qm_words.proofs.CompileWhole.{asked_once}
+use Rattle.qm_words.proofs.QueryLaws.{apart, millionths_once, place_splits}
+use Rattle.qm_words.proofs.SingleWords.{verbs_apart}
+
+two_same : (a b c d : List ℕ) → a ∷ b ∷ [] ≡ c ∷ d ∷ [] → (a ≡ c) × (b ≡ d)
+two_same a b c d same = let one : a ≡ c = cc in let other : b ≡ d = cc in (one, other)
+
+tail_same : {X : Type 0} (x y : X) (xs ys : List X) → x ∷ xs ≡ y ∷ ys → xs ≡ ys
+tail_same x y xs ys same = cc
+
+-- ---- `compile`
+
+threads_same : (text : Option (List ℕ)) (n m : ℕ) → AreThreads text n → AreThreads text m → n ≡ m
+threads_same None n m is_n is_m = is_n ∙ sym is_m
+threads_same (Some text) n m is_n is_m = decimal_injective n m (omega (arith, is_n.2)) (omega (arith, is_m.2)) (sym is_n.0 ∙ is_m.0)
+
+compile_once : (words : List (List ℕ)) (options other : Options) (listed other_listed : Bool) (files other_files : FileNames)
+    → AreCompileWords words options listed files → AreCompileWords words other other_listed other_files
+    → ◌≡◌ {A = Order} (of_map (Compile other other_listed) other_files) (of_map (Compile options listed) files)
+compile_once words options other listed other_listed files other_files one two =
+    let rest = tail_same (codes "compile") (codes "compile") two.rest one.rest (sym two.words_are ∙ one.words_are) in
+    let asks_two = subst (λ (w : List (List ℕ)). Asks no_request w two.asked) rest two.asks in
+    let same = asked_once one.rest two.asked one.asked asks_two one.asks (ap (λ (n : List (List ℕ)). length n) two.are_names) (ap (λ (n : List (List ℕ)). length n) one.are_names) in
+    let names = two_same other_files.map_name other_files.out_name files.map_name files.out_name (sym two.are_names ∙ ap (λ (r : Request). r.names) same ∙ one.are_names) in
+    let listing = sym two.is_listing ∙ ap (λ (r : Request). r.listing) same ∙ one.is_listing in
+    let lists = two.is_listed ∙ ap (λ (r : Request). is_some r.listing) same ∙ sym one.is_listed in
+    let fast = two.is_fast ∙ ap (λ (r : Request). r.fast) same ∙ sym one.is_fast in
+    let threads = threads_same one.asked.threads other.threads options.threads (subst (λ (t : Option (List ℕ)). AreThreads t other.threads) (ap (λ (r : Request). r.threads) same) two.are_threads) one.are_threads in
+    λ i. of_map (Compile (record { threads = threads i; fast = fast i }) (lists i)) (record { map_name = names.0 i; out_name = names.1 i; listing_name = listing i })
+
+-- ---- `format`
+
+format_once : (words : List (List ℕ)) (files other : FileNames) → AreFormatWords words files → AreFormatWords words other → other ≡ files
+format_once words files other one two =
+    let names = two_same other.map_name other.out_name files.map_name files.out_name (tail_same (codes "format") (codes "format") _ _ (sym two.words_are ∙ one.words_are)) in
+    let listing = two.no_listing ∙ sym one.no_listing in
+    λ i. record { map_name = names.0 i; out_name = names.1 i; listing_name = listing i }
+
+-- ---- `demo`
+
+demo_once : (words : List (List ℕ)) (rooms number other_rooms other_number : ℕ) → AreDemoWords words rooms number → AreDemoWords words other_rooms other_number
+    → ◌≡◌ {A = Order} (of_rooms other_rooms other_number) (of_rooms rooms number)
+demo_once words rooms number other_rooms other_number one two =
+    let texts = two_same (decimal other_rooms) (decimal other_number) (decimal rooms) (decimal number) (tail_same (codes "demo") (codes "demo") _ _ (sym two.words_are ∙ one.words_are)) in
+    ap₂ (λ (r n : ℕ). of_rooms r n) (decimal_injective other_rooms rooms (omega (arith, two.few)) (omega (arith, one.few)) texts.0) (decimal_injective other_number number two.small one.small texts.1)
+
+-- ---- `inspect`
+
+short_same : (n m : ℕ) → IsShort n → IsShort m → decimal n ≡ decimal m → n ≡ m
+short_same n m short_n short_m same = decimal_injective n m (omega (arith, short_n)) (omega (arith, short_m)) same
+
+place_same : (text : List ℕ) (x y z a b c : ℤ) → IsPlaceWord (codes "at=" ++ text) x y z → IsPlaceWord (codes "at=" ++ text) a b c → ◌≡◌ {A = Query} (At a b c) (At x y z)
+place_same text x y z a b c one two =
+    let p = place_splits text x y z one in
+    let q = place_splits text a b c two in
+    let outer = splits_once text q.0 (q.1 ++ (44 ∷ q.2)) p.0 (p.1 ++ (44 ∷ p.2)) q.3 p.3 in
+    let inner = splits_once (q.1 ++ (44 ∷ q.2)) q.1 q.2 p.1 p.2 q.4 (record { text_is = outer.1; clear = p.4.clear }) in
+    let is_x = millionths_once p.0 a x (subst (λ (t : List ℕ). AreMillionths t a) outer.0 q.5) p.5 in
+    let is_y = millionths_once p.1 b y (subst (λ (t : List ℕ). AreMillionths t b) inner.0 q.6) p.6 in
+    let is_z = millionths_once p.2 c z (subst (λ (t : List ℕ). AreMillionths t c) inner.1 q.7) p.7 in
+    λ i. At (is_x i) (is_y i) (is_z i)
+
+count_only : (query : Query) → IsQueryWord (codes "count") query → query ≡ Count
+count_only Count is = refl
+count_only (At x y z) is = absurd (apart 99 97 _ _ refl is.word_is)
+count_only (Row n) is = absurd (apart 99 114 _ _ refl is.0)
+count_only (Sees n m) is = absurd (apart 99 115 _ _ refl is.0)
+
+place_only : (text : List ℕ) (x y z : ℤ) → IsPlaceWord (codes "at=" ++ text) x y z → (query : Query) → IsQueryWord (codes "at=" ++ text) query → query ≡ At x y z
+place_only text x y z place Count is = absurd (apart 97 99 _ _ refl is)
+place_only text x y z place (At a b c) is = place_same text x y z a b c place is
+place_only text x y z place (Row n) is = absurd (apart 97 114 _ _ refl is.0)
+place_only text x y z place (Sees n m) is = absurd (apart 97 115 _ _ refl is.0)
+
+row_only : (n : ℕ) → IsShort n → (query : Query) → IsQueryWord (codes "row=" ++ decimal n) query → query ≡ Row n
+row_only n short Count is = absurd (apart 114 99 _ _ refl is)
+row_only n short (At x y z) is = absurd (apart 114 97 _ _ refl is.word_is)
+row_only n short (Row m) is =
+    let same : decimal m ≡ decimal n = let whole = is.0 in cc in
+    ap (λ (k : ℕ). Row k) (short_same m n is.1 short same)
+row_only n short (Sees k m) is = absurd (apart 114 115 _ _ refl is.0)
+
+sees_only : (n m : ℕ) → IsShort n → IsShort m → (query : Query) → IsQueryWord (codes "sees=" ++ (decimal n ++ (44 ∷ decimal m))) query → query ≡ Sees n m
+sees_only n m short_n short_m Count is = absurd (apart 115 99 _ _ refl is)
+sees_only n m short_n short_m (At x y z) is = absurd (apart 115 97 _ _ refl is.word_is)
+sees_only n m short_n short_m (Row k) is = absurd (apart 115 114 _ _ refl is.0)
+sees_only n m short_n short_m (Sees a b) is =
+    let same : decimal a ++ (44 ∷ decimal b) ≡ decimal n ++ (44 ∷ decimal m) = let whole = is.0 in cc in
+    let parts = splits_once (decimal a ++ (44 ∷ decimal b)) (decimal a) (decimal b) (decimal n) (decimal m) (record { text_is = refl; clear = clear_decimal a (omega (arith, is.1)) })
+    (record { text_is = same; clear = clear_decimal n (omega (arith, short_n)) }) in
+    ap₂ (λ (k l : ℕ). Sees k l) (short_same a n is.1 short_n parts.0) (short_same b m is.2 short_m parts.1)
+
+query_once : (word : List ℕ) (query other : Query) → IsQueryWord word query → IsQueryWord word other → other ≡ query
+query_once word Count other is also = count_only other (subst (λ (w : List ℕ). IsQueryWord w other) is also)
+query_once word (At x y z) other is also =
+    place_only (is.first ++ (44 ∷ (is.second ++ (44 ∷ is.third)))) x y z (subst (λ (w : List ℕ). IsPlaceWord w x y z) is.word_is is) other (subst (λ (w : List ℕ). IsQueryWord w other) is.word_is also)
+query_once word (Row n) other is also = row_only n is.1 other (subst (λ (w : List ℕ). IsQueryWord w other) is.0 also)
+query_once word (Sees n m) other is also = sees_only n m is.1 is.2 other (subst (λ (w : List ℕ). IsQueryWord w other) is.0 also)
+
+queries_once : {words : List (List ℕ)} {queries others : List Query} → AreQueryWords words queries → AreQueryWords words others → others ≡ queries
+queries_once no_more no_more = refl
+queries_once (one_more {word = word} {query = query} is more) (one_more {query = other} also rest) =
+    ap₂ (λ (q : Query) (qs : List Query). q ∷ qs) (query_once word query other is also) (queries_once more rest)
+
+inspect_once : (words : List (List ℕ)) (tree other : List ℕ) (queries others : List Query) → AreInspectWords words tree queries → AreInspectWords words other others
+    → ◌≡◌ {A = Order} (of_tree other others) (of_tree tree queries)
+inspect_once words tree other queries others one two =
+    let rest = tail_same (codes "inspect") (codes "inspect") _ _ (sym two.words_are ∙ one.words_are) in
+    let trees : other ≡ tree = cc in
+    let words_same : two.query_words ≡ one.query_words = cc in
+    ap₂ (λ (t : List ℕ) (q : List Query). of_tree t q) trees (queries_once one.are_queries (subst (λ (w : List (List ℕ)). AreQueryWords w others) words_same two.are_queries))
+
+-- ---- all
+
+pub one_order : (words : List (List ℕ)) (order other : Order) → AreWordsOf order words → AreWordsOf other words → other ≡ order
+one_order words (of_map (Compile options listed) files) (of_map (Compile other_options other_listed) other_files) one two = compile_once words options other_options listed other_listed files other_files one two
+one_order words (of_map (Compile options listed) files) (of_map Format other_files) one two = absurd (verbs_apart (codes "compile") (codes "format") _ _ refl (sym one.words_are ∙ two.words_are))
+one_order words (of_map (Compile options listed) files) (of_tree tree queries) one two = absurd (verbs_apart (codes "compile") (codes "inspect") _ _ refl (sym one.words_are ∙ two.words_are))
+one_order words (of_map (Compile options listed) files) (of_rooms rooms number) one two = absurd (verbs_apart (codes "compile") (codes "demo") _ _ refl (sym one.words_are ∙ two.words_are))
+one_order words (of_map Format files) (of_map (Compile options listed) other_files) one two = absurd (verbs_apart (codes "format") (codes "compile") _ _ refl (sym one.words_are ∙ two.words_are))
+one_order words (of_map Format files) (of_map Format other_files) one two = ap (λ (f : FileNames). of_map Format f) (format_once words files other_files one two)
+one_order words (of_map Format files) (of_tree tree queries) one two = absurd (verbs_apart (codes "format") (codes "inspect") _ _ refl (sym one.words_are ∙ two.words_are))
+one_order words (of_map Format files) (of_rooms rooms number) one two = absurd (verbs_apart (codes "format") (codes "demo") _ _ refl (sym one.words_are ∙ two.words_are))
+one_order words (of_tree tree queries) (of_map (Compile options listed) files) one two = absurd (verbs_apart (codes "inspect") (codes "compile") _ _ refl (sym one.words_are ∙ two.words_are))
+one_order words (of_tree tree queries) (of_map Format files) one two = absurd (verbs_apart (codes "inspect") (codes "format") _ _ refl (sym one.words_are ∙ two.words_are))
+one_order words (of_tree tree queries) (of_tree other others) one two = inspect_once words tree other queries others one two
+one_order words (of_tree tree queries) (of_rooms rooms number) one two = absurd (verbs_apart (codes "inspect") (codes "demo") _ _ refl (sym one.words_are ∙ two.words_are))
+one_order words (of_rooms rooms number) (of_map (Compile options listed) files) one two = absurd (verbs_apart (codes "demo") (codes "compile") _ _ refl (sym one.words_are ∙ two.words_are))
+one_order words (of_rooms rooms number) (of_map Format files) one two = absurd (verbs_apart (codes "demo") (codes "format") _ _ refl (sym one.words_are ∙ two.words_are))
+one_order words (of_rooms rooms number) (of_tree tree queries) one two = absurd (verbs_apart (codes "demo") (codes "inspect") _ _ refl (sym one.words_are ∙ two.words_are))
+one_order words (of_rooms rooms number) (of_rooms other_rooms other_number) one two = demo_once words rooms number other_rooms other_number one two

@@ -1,0 +1,126 @@
+-- What is answered of the words behind `format` and `demo`.
+use Rattle.std.proofs.Common.{◌≡◌, ◌∙◌, ◌<◌, ◌^◌, ℕ, codes, refl, sym, ap, ap₂, subst, arith, List, [], ◌∷◌, Some, None, ⊎_elim, Ok, Err}
+use Rattle.std.specs.Fmt.{decimal}
+use Rattle.clap.specs.Walk.{rows_of}
+use Rattle.clap.specs.Matches.{found_of}
+use Rattle.clap.specs.declared.parser.matches.ArgMatches.{ArgMatches}
+use Rattle.clap.specs.Faults.{fault_of}
+use Rattle.qm_commands.specs.declared.map_command.MapCommand.TheVariants.{Compile, Format}
+use Rattle.qm_commands.specs.FileNames.{FileNames}
+use Rattle.qm_commands.specs.FormatWords.{AreFormatWords}
+use Rattle.qm_commands.specs.DemoWords.{AreDemoWords}
+use Rattle.qm_commands.specs.Order.{of_map, of_tree, of_rooms}
+use Rattle.qm_commands.specs.Words.{AreNoCommand, AreWordsOf}
+use Rattle.qm_words.specs.SeenWords.{names_of}
+use Rattle.qm_words.specs.inner.Answered.{IsOrderFor}
+use Rattle.qm_words.specs.inner.CommandLines.{pair_app}
+use Rattle.qm_words.specs.inner.Numbers.{IsCount}
+use Rattle.qm_words.specs.inner.Parsed.{IsParsedBy}
+use Rattle.qm_words.specs.inner.PlainWords.{ArePlainWords}
+use Rattle.qm_words.specs.inner.TwoWords.{AreTwo, HasPair, IsPairOf, LacksPair}
+use Rattle.qm_words.specs.declared.order.WordsFault.{WordsFault}
+use Rattle.qm_words.specs.declared.order.WordsFault.TheVariants.{Usage, Memory}
+use Rattle.qm_words.proofs.Commas.{decimal_is_name}
+use Rattle.qm_words.proofs.PairLaws.{ArePair, pair_is_taken, taken_is_pair}
+use Rattle.qm_words.proofs.SingleWords.{verbs_apart}
+
+-- ---- two words
+
+pub pair_refused : (verb : List ℕ) (words : List (List ℕ)) (fault : WordsFault) → IsParsedBy (pair_app verb) words (Err fault) → IsPairOf words (Err fault)
+pair_refused verb words Usage parsed =
+    λ first second two. parsed (ap (fault_of (pair_app verb)) two.words_are ∙ pair_is_taken verb first second two.first_is two.second_is)
+pair_refused verb words Memory parsed = tt
+
+found_pair : (verb : List ℕ) (words : List (List ℕ)) (matches : ArgMatches) → ArePlainWords words → IsParsedBy (pair_app verb) words (Ok matches) → ArePair words (rows_of (found_of matches))
+found_pair verb words matches each parsed = subst (ArePair words) (sym parsed.1) (taken_is_pair verb words each parsed.0)
+
+some_same : (a b : List ℕ) → Some a ≡ Some b → a ≡ b
+some_same a b same = cc
+
+pub pair_is : (verb : List ℕ) (words : List (List ℕ)) (matches : ArgMatches) (first second : List ℕ) → ArePlainWords words → IsParsedBy (pair_app verb) words (Ok matches)
+    → HasPair (rows_of (found_of matches)) first second → AreTwo words first second
+pair_is verb words matches first second each parsed has =
+    let pair = found_pair verb words matches each parsed in
+    let first_same = some_same pair.first first (sym pair.first_is ∙ has.0) in
+    let second_same = some_same pair.second second (sym pair.second_is ∙ has.1) in
+    let words_are = pair.words_are ∙ ap₂ (λ (f s : List ℕ). f ∷ s ∷ []) first_same second_same in
+    let plain = subst ArePlainWords words_are each in
+    record { words_are = words_are; first_is = plain.0; second_is = plain.1.0 }
+
+pub pair_is_there : (verb : List ℕ) (words : List (List ℕ)) (matches : ArgMatches) → ArePlainWords words → IsParsedBy (pair_app verb) words (Ok matches) → LacksPair (rows_of (found_of matches)) → ⊥
+pair_is_there verb words matches each parsed lacks =
+    let pair = found_pair verb words matches each parsed in
+    ⊎_elim (λ none. let clash = sym none ∙ pair.first_is in absurd cc) (λ none. let clash = sym none ∙ pair.second_is in absurd cc) lacks
+
+-- ---- `format`
+
+no_format : (words : List (List ℕ)) → ((files : FileNames) → AreFormatWords (codes "format" ∷ words) files → ⊥) → AreNoCommand (codes "format" ∷ words)
+no_format words never (of_map (Compile options listed) files) are = verbs_apart (codes "format") (codes "compile") words are.rest refl are.words_are
+no_format words never (of_map Format files) are = never files are
+no_format words never (of_tree tree_name queries) are = verbs_apart (codes "format") (codes "inspect") words (tree_name ∷ are.query_words) refl are.words_are
+no_format words never (of_rooms rooms number) are = verbs_apart (codes "format") (codes "demo") words (decimal rooms ∷ decimal number ∷ []) refl are.words_are
+
+format_two : (words : List (List ℕ)) (files : FileNames) → AreFormatWords (codes "format" ∷ words) files → AreTwo words files.map_name files.out_name
+format_two words files are =
+    let same : words ≡ files.map_name ∷ files.out_name ∷ [] = let whole = are.words_are in cc in
+    record { words_are = same; first_is = are.is_map_name; second_is = are.is_out_name }
+
+pub format_refused : (words : List (List ℕ)) (fault : WordsFault) → IsPairOf words (Err fault) → IsOrderFor (codes "format" ∷ words) (Err fault)
+format_refused words Usage never = no_format words (λ files are. never files.map_name files.out_name (format_two words files are))
+format_refused words Memory never = tt
+
+first_same : (a b c d : List ℕ) → a ∷ b ∷ [] ≡ c ∷ d ∷ [] → a ≡ c
+first_same a b c d same = cc
+
+second_same : (a b c d : List ℕ) → a ∷ b ∷ [] ≡ c ∷ d ∷ [] → b ≡ d
+second_same a b c d same = cc
+
+pub same_names : (words : List (List ℕ)) (map_name out_name : List ℕ) → AreTwo words map_name out_name → map_name ≡ out_name → AreNoCommand (codes "format" ∷ words)
+same_names words map_name out_name two same = no_format words (λ files are.
+    let names : files.map_name ∷ files.out_name ∷ [] ≡ map_name ∷ out_name ∷ [] = sym (format_two words files are).words_are ∙ two.words_are in
+    are.different.map_and_out (first_same files.map_name files.out_name map_name out_name names ∙ same ∙ sym (second_same files.map_name files.out_name map_name out_name names)))
+
+pub format_words : (words : List (List ℕ)) (map_name out_name : List ℕ) → AreTwo words map_name out_name → (map_name ≡ out_name → ⊥) → AreWordsOf (of_map Format (names_of map_name out_name None)) (codes "format" ∷ words)
+format_words words map_name out_name two differ = record {
+  words_are = ap (λ (rest : List (List ℕ)). codes "format" ∷ rest) two.words_are;
+  is_map_name = two.first_is;
+  is_out_name = two.second_is;
+  no_listing = refl;
+  different = record { map_and_out = differ; map_and_listing = λ name some. absurd cc; out_and_listing = λ name some. absurd cc };
+}
+
+-- ---- `demo`
+
+no_demo : (words : List (List ℕ)) → ((rooms number : ℕ) → AreDemoWords (codes "demo" ∷ words) rooms number → ⊥) → AreNoCommand (codes "demo" ∷ words)
+no_demo words never (of_map (Compile options listed) files) are = verbs_apart (codes "demo") (codes "compile") words are.rest refl are.words_are
+no_demo words never (of_map Format files) are = verbs_apart (codes "demo") (codes "format") words (files.map_name ∷ files.out_name ∷ []) refl are.words_are
+no_demo words never (of_tree tree_name queries) are = verbs_apart (codes "demo") (codes "inspect") words (tree_name ∷ are.query_words) refl are.words_are
+no_demo words never (of_rooms rooms number) are = never rooms number are
+
+demo_two : (words : List (List ℕ)) (rooms number : ℕ) → AreDemoWords (codes "demo" ∷ words) rooms number → AreTwo words (decimal rooms) (decimal number)
+demo_two words rooms number are =
+    let same : words ≡ decimal rooms ∷ decimal number ∷ [] = let whole = are.words_are in cc in
+    record { words_are = same; first_is = decimal_is_name rooms (omega (arith, are.few)); second_is = decimal_is_name number are.small }
+
+pub demo_refused : (words : List (List ℕ)) (fault : WordsFault) → IsPairOf words (Err fault) → IsOrderFor (codes "demo" ∷ words) (Err fault)
+demo_refused words Usage never = no_demo words (λ rooms number are. never (decimal rooms) (decimal number) (demo_two words rooms number are))
+demo_refused words Memory never = tt
+
+pub no_rooms : (words : List (List ℕ)) (first second : List ℕ) → AreTwo words first second → ((n : ℕ) → IsCount first n → ⊥) → AreNoCommand (codes "demo" ∷ words)
+no_rooms words first second two never = no_demo words (λ rooms number are.
+    let names = sym two.words_are ∙ (demo_two words rooms number are).words_are in
+    never rooms (first_same first second (decimal rooms) (decimal number) names, are.some, are.few))
+
+pub no_number : (words : List (List ℕ)) (first second : List ℕ) → AreTwo words first second → ((n : ℕ) → n < 2 ^ 64 → second ≡ decimal n → ⊥) → AreNoCommand (codes "demo" ∷ words)
+no_number words first second two never = no_demo words (λ rooms number are.
+    let names = sym two.words_are ∙ (demo_two words rooms number are).words_are in
+    never number are.small (second_same first second (decimal rooms) (decimal number) names))
+
+pub demo_words : (words : List (List ℕ)) (first second : List ℕ) (rooms number : ℕ) → AreTwo words first second → IsCount first rooms → (second ≡ decimal number) × (number < 2 ^ 64)
+    → AreWordsOf (of_rooms rooms number) (codes "demo" ∷ words)
+demo_words words first second rooms number two counts numbered = record {
+  words_are = ap (λ (rest : List (List ℕ)). codes "demo" ∷ rest) (two.words_are ∙ ap₂ (λ (f s : List ℕ). f ∷ s ∷ []) counts.0 numbered.0);
+  some = counts.1;
+  few = counts.2;
+  small = numbered.1;
+}

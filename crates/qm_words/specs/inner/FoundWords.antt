@@ -1,0 +1,14 @@
+use Rattle.std.specs.Prelude.{◌≡◌, List, [], ◌∷◌, Some, codes, if◌then◌else◌}
+use Rattle.clap.specs.Walk.{Row, Text, first_of, one_of}
+use Rattle.qm_commands.specs.CompileRequest.{Request}
+
+-- What the parser of words has found is what was asked for, and its two names are there.
+pub record AreFound (rows : List Row) (asked : Request) : Type 0 where
+  pub map_name : Text
+  pub out_name : Text
+  pub names : asked.names ≡ map_name ∷ out_name ∷ []
+  pub map_is : first_of (codes "map") rows ≡ Some map_name
+  pub out_is : first_of (codes "out") rows ≡ Some out_name
+  pub listing_is : first_of (codes "prt") rows ≡ asked.listing
+  pub threads_is : first_of (codes "threads") rows ≡ asked.threads
+  pub fast_is : one_of (codes "fast") rows ≡ Some (if asked.fast then codes "true" else codes "false")

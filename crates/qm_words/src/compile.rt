@@ -1,0 +1,94 @@
+//! The words behind `compile`.
+
+ghost use Rattle.std.specs.Prelude.{◌≡◌, ◌∷◌, ℕ, List, Some, codes, Bool, Err, IfOk, IfErr, IfSome, IfNone, IsTrue, option_map, if◌then◌else◌, ◌↔◌};
+ghost use Rattle.clap.specs.Matches.{found_of};
+ghost use Rattle.clap.specs.Walk.{first_of, one_of, rows_of};
+ghost use Rattle.qm_commands.specs.FileNames.{AreDifferent};
+ghost use Rattle.qm_commands.specs.Options.{AreThreads};
+ghost use Rattle.qm_commands.specs.CompileRequest.{Request, Asks, no_request};
+ghost use Rattle.qm_commands.specs.Words.{AreNoCommand, AreWordsOf};
+ghost use Rattle.qm_words.specs.SeenWords.{bytes_of_words, names_of, order_of};
+ghost use Rattle.qm_words.specs.inner.Answered.{IsOrderFor, IsCompileOrder, IsNoCompileOrder};
+
+use crate::lines::compile_matches;
+use crate::numbers::count;
+use crate::order::{Order, WordsFault};
+use crate::spelling::are_compile_words;
+use clap::ArgMatches;
+use std::alloc::Global;
+
+/// The order of the words behind `compile`.
+pub fn compile_order<'a>(alloc: Global, words: &'a [&'a str]) -> Result<Order<'a>, WordsFault>
+    ensures { IsOrderFor (codes "compile" ∷ bytes_of_words words.entry.now) result }
+{
+    if !are_compile_words(words) {
+        return Err(WordsFault::Usage);
+    }
+    match compile_matches(alloc, words) {
+        Err(fault) => Err(fault),
+        Ok(matches) => match asked_order(&matches) {
+            Some(order) => Ok(order),
+            None => Err(WordsFault::Usage),
+        },
+    }
+}
+
+/// The order of what the parser has found, where its names are different and its number of workers is one.
+fn asked_order<'a>(matches: &ArgMatches<'a>) -> Option<Order<'a>>
+    ensures some { IfSome result (λ order. IsCompileOrder (rows_of (found_of matches.now)) (order_of order)) }
+    ensures none { IfNone result (IsNoCompileOrder (rows_of (found_of matches.now))) }
+{
+    let map = found_text(matches, "map")?;
+    let out = found_text(matches, "out")?;
+    let prt = found_text(matches, "prt");
+    let threads = threads(found_text(matches, "threads"))?;
+    let fast = is_fast(matches);
+    if !are_different(map, out, prt) {
+        return None;
+    }
+    Some(Order::Compile {
+        map,
+        out,
+        prt,
+        threads,
+        fast,
+    })
+}
+
+/// The value of an argument.
+pub fn found_text<'a>(matches: &ArgMatches<'a>, id: &str) -> Option<&'a str>
+    ensures { option_map (λ text. text.now) result ≡ first_of id.now (rows_of (found_of matches.now)) }
+{
+    matches.get_str(id)
+}
+
+/// Whether `--fast` was found.
+fn is_fast(matches: &ArgMatches<'_>) -> bool
+    ensures { (fast : Bool) → one_of (codes "fast") (rows_of (found_of matches.now)) ≡ Some (if fast then codes "true" else codes "false") → result ≡ fast }
+{
+    matches.get_flag("fast")
+}
+
+/// How many workers are asked for: one where nothing is said.
+fn threads(text: Option<&str>) -> Option<u8>
+    ensures some { IfSome result (λ n. AreThreads (option_map (λ t. t.now) text.entry) n) }
+    ensures none { IfNone result ((n : ℕ) → AreThreads (option_map (λ t. t.now) text.entry) n → ⊥) }
+{
+    match text {
+        None => Some(1),
+        Some(text) => count(text),
+    }
+}
+
+/// Whether the names of files are different from one another.
+pub fn are_different(map: &str, out: &str, prt: Option<&str>) -> bool
+    ensures { IsTrue result ↔ AreDifferent (names_of map.now out.now (option_map (λ name. name.now) prt.entry)) }
+{
+    if map == out {
+        return false;
+    }
+    match prt {
+        None => true,
+        Some(name) => map != name && out != name,
+    }
+}

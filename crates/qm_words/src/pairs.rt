@@ -1,0 +1,81 @@
+//! The words behind verbs that take two.
+
+ghost use Rattle.std.specs.Prelude.{◌≡◌, ◌∷◌, codes, IfSome, IfNone};
+ghost use Rattle.clap.specs.Matches.{found_of};
+ghost use Rattle.clap.specs.Walk.{rows_of};
+ghost use Rattle.qm_words.specs.SeenWords.{bytes_of_words};
+ghost use Rattle.qm_words.specs.inner.Answered.{IsOrderFor};
+ghost use Rattle.qm_words.specs.inner.TwoWords.{HasPair, IsPairOf, LacksPair};
+
+use crate::compile::found_text;
+use crate::lines::pair_matches;
+use crate::numbers::{count, number};
+use crate::order::{Order, WordsFault};
+use crate::spelling::are_plain_words;
+use clap::ArgMatches;
+use std::alloc::Global;
+
+/// The order of the words behind `format`.
+pub fn format_order<'a>(alloc: Global, words: &'a [&'a str]) -> Result<Order<'a>, WordsFault>
+    ensures { IsOrderFor (codes "format" ∷ bytes_of_words words.entry.now) result }
+{
+    match pair(alloc, "format", words) {
+        Err(fault) => Err(fault),
+        Ok((map, out)) => {
+            if map == out {
+                Err(WordsFault::Usage)
+            } else {
+                Ok(Order::Format { map, out })
+            }
+        }
+    }
+}
+
+/// The order of the words behind `demo`.
+pub fn demo_order<'a>(alloc: Global, words: &'a [&'a str]) -> Result<Order<'a>, WordsFault>
+    ensures { IsOrderFor (codes "demo" ∷ bytes_of_words words.entry.now) result }
+{
+    match pair(alloc, "demo", words) {
+        Err(fault) => Err(fault),
+        Ok((rooms, seed)) => match count(rooms) {
+            None => Err(WordsFault::Usage),
+            Some(rooms) => match number(seed) {
+                None => Err(WordsFault::Usage),
+                Some(number) => Ok(Order::Demo {
+                    rooms: rooms as u32,
+                    number,
+                }),
+            },
+        },
+    }
+}
+
+/// The two words behind a verb.
+fn pair<'a>(
+    alloc: Global,
+    verb: &'a str,
+    words: &'a [&'a str],
+) -> Result<(&'a str, &'a str), WordsFault>
+    ensures { IsPairOf (bytes_of_words words.entry.now) result }
+{
+    if !are_plain_words(words) {
+        return Err(WordsFault::Usage);
+    }
+    match pair_matches(alloc, verb, words) {
+        Err(fault) => Err(fault),
+        Ok(matches) => match found_pair(&matches) {
+            Some(pair) => Ok(pair),
+            None => Err(WordsFault::Usage),
+        },
+    }
+}
+
+/// The two words that the parser has found.
+fn found_pair<'a>(matches: &ArgMatches<'a>) -> Option<(&'a str, &'a str)>
+    ensures some { IfSome result (λ pair. HasPair (rows_of (found_of matches.now)) pair.0.now pair.1.now) }
+    ensures none { IfNone result (LacksPair (rows_of (found_of matches.now))) }
+{
+    let first = found_text(matches, "first")?;
+    let second = found_text(matches, "second")?;
+    Some((first, second))
+}
