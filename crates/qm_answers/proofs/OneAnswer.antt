@@ -1,0 +1,61 @@
+-- A query has one answer, and a leaf one number.
+use Rattle.std.proofs.Common.{◌≡◌, ℕ, true, false, Option, Some, None, slice_get, Result, Ok, Err, refl, sym, ap, ◌∙◌}
+use Rattle.qm_space.specs.Point.{Point}
+use Rattle.qm_partition.specs.declared.node.Leaf.{Leaf}
+use Rattle.qm_partition.specs.Tree.{Tree}
+use Rattle.qm_partition.specs.Counting.{leaves_of}
+use Rattle.qm_partition.specs.LeafOfPoint.{leaf_at, leaf_record_at}
+use Rattle.qm_contacts.specs.NumberedLeaves.{is_numbered}
+use Rattle.qm_contacts.specs.Portals.{leaf_number}
+use Rattle.qm_contacts.proofs.Numbers.{leaf_at_number, number_at_leaf}
+use Rattle.qm_formats.specs.TreeFile.{TreeFile}
+use Rattle.qm_commands.specs.declared.query.Query.{Query}
+use Rattle.qm_commands.specs.declared.query.Query.TheVariants as queries
+use Rattle.qm_answers.specs.declared.answer.Answer.{Answer}
+use Rattle.qm_answers.specs.declared.answer.Answer.TheVariants.{Place}
+use Rattle.qm_answers.specs.declared.query_fault.QueryFault.{QueryFault}
+use Rattle.qm_answers.specs.Answers.{IsNumberOfLeaf, IsPlaceAnswer, AnswersPlace, AnswersQuery}
+
+-- ---- numbers of leaves
+
+-- a numbered leaf has as many numbered ones before it as its number says
+pub numbered : (tree : Tree) (k : ℕ) (found : Leaf) → slice_get (leaves_of tree.shape) k ≡ Some found → is_numbered found ≡ true → IsNumberOfLeaf tree k (Some (leaf_number tree k))
+numbered tree k found at test = leaf_at_number tree k found at test
+
+-- a solid one has no number
+pub not_numbered : (tree : Tree) (k : ℕ) (found : Leaf) → slice_get (leaves_of tree.shape) k ≡ Some found → is_numbered found ≡ false → IsNumberOfLeaf tree k None
+not_numbered tree k found at test = λ number there.
+    let is = number_at_leaf tree number k there in
+    let e : Some found ≡ Some is.0 = sym at ∙ is.1 in
+    let same : found ≡ is.0 = cc in
+    let both : false ≡ true = sym test ∙ ap is_numbered same ∙ is.2 in
+    absurd cc
+
+one_number : (tree : Tree) (k : ℕ) (a b : Option ℕ) → IsNumberOfLeaf tree k a → IsNumberOfLeaf tree k b → b ≡ a
+one_number tree k (Some a) (Some b) at_a at_b = ap Some (sym (number_at_leaf tree b k at_b).3 ∙ (number_at_leaf tree a k at_a).3)
+one_number tree k (Some a) None at_a none = absurd (none a at_a)
+one_number tree k None (Some b) none at_b = absurd (none b at_b)
+one_number tree k None None none same = refl
+
+-- ---- places
+
+one_place : (tree : Tree) (point : Point) (a b : Answer) → IsPlaceAnswer tree point a → IsPlaceAnswer tree point b → b ≡ a
+one_place tree point a b is_a is_b =
+    let found = leaf_record_at tree.planes tree.shape point in
+    let same = one_number tree (leaf_at tree.planes tree.shape point) is_a.number is_b.number is_a.is_number is_b.is_number in
+    is_b.answer_is ∙ ap (λ (number : Option ℕ). Place (leaf_at tree.planes tree.shape point) found.contents found.filled number) same ∙ sym is_a.answer_is
+
+one_place_answer : (tree : Tree) (point : Point) (a b : Result Answer QueryFault) → AnswersPlace tree point a → AnswersPlace tree point b → b ≡ a
+one_place_answer tree point (Ok a) (Ok b) is_a is_b = ap Ok (one_place tree point a b is_a.1 is_b.1)
+one_place_answer tree point (Ok a) (Err b) is_a is_b = absurd (is_b.1 is_a.0)
+one_place_answer tree point (Err a) (Ok b) is_a is_b = absurd (is_a.1 is_b.0)
+one_place_answer tree point (Err a) (Err b) is_a is_b = ap Err (is_b.0 ∙ sym is_a.0)
+
+-- ---- queries
+
+pub one_answer : (file : TreeFile) (query : Query) (a b : Result Answer QueryFault) → AnswersQuery file query a → AnswersQuery file query b → b ≡ a
+unfolding AnswersQuery
+one_answer file queries.Count a b is_a is_b = is_b ∙ sym is_a
+one_answer file (queries.At x y z) a b is_a is_b = one_place_answer file.tree _ a b is_a is_b
+one_answer file (queries.Row n) a b is_a is_b = is_b ∙ sym is_a
+one_answer file (queries.Sees n m) a b is_a is_b = is_b ∙ sym is_a

@@ -1,0 +1,65 @@
+use Rattle.std.specs.Prelude.{ℕ, ◌+◌, Bool, List, [], ◌∷◌, ◌++◌, slice_index_or, Option, Some, None, codes, if◌then◌else◌}
+use Rattle.std.specs.Fmt.{decimal}
+use Rattle.qm_contents.specs.declared.contents.Contents.{Contents}
+use Rattle.qm_contents.specs.declared.contents.Contents.TheVariants.{Empty, Solid, Water, Slime, Lava, Sky}
+use Rattle.qm_formats.specs.TreeFile.{TreeFile}
+use Rattle.qm_answers.specs.declared.answer.Answer.{Answer}
+use Rattle.qm_answers.specs.declared.answer.Answer.TheVariants.{Count, Place, Row, Sees}
+use Rattle.qm_answers.specs.declared.query_fault.QueryFault.{QueryFault}
+use Rattle.qm_answers.specs.declared.query_fault.QueryFault.TheVariants.{OutsideCube, NoSuchLeaf, NoRows}
+
+-- How answers and refusals are printed.
+
+-- the names of contents
+abbrev pub name_of_contents : Contents → List ℕ
+name_of_contents Empty = codes "empty"
+name_of_contents Solid = codes "solid"
+name_of_contents Water = codes "water"
+name_of_contents Slime = codes "slime"
+name_of_contents Lava = codes "lava"
+name_of_contents Sky = codes "sky"
+
+-- the number of a leaf, where it has one
+abbrev pub number_words : Option ℕ → List ℕ
+number_words None = []
+number_words (Some number) = codes " number " ++ decimal number
+
+-- said where a leaf is filled
+abbrev pub filled_words : Bool → List ℕ
+filled_words filled = if filled then codes " filled" else []
+
+abbrev pub yes_or_no : Bool → List ℕ
+yes_or_no holds = if holds then codes "yes" else codes "no"
+
+-- the numbers of the places that are set, each after a space; the first place has the number k
+abbrev pub set_places : ℕ → List Bool → List ℕ
+set_places k [] = []
+set_places k (set ∷ row) = (if set then 32 ∷ decimal k else []) ++ set_places (k + 1) row
+
+-- the row of a numbered leaf; one that is not there has no places
+abbrev pub printed_row : TreeFile → ℕ → List Bool
+printed_row file n = row_in file.rows
+  where
+    row_in : Option (List (List Bool)) → List Bool
+    row_in None = []
+    row_in (Some rows) = slice_index_or rows n []
+
+-- the words of an answer
+unfoldable pub answer_words : TreeFile → Answer → List ℕ
+answer_words file (Count planes nodes leaves numbered rows) =
+    codes "planes " ++ (decimal planes ++ (codes " nodes " ++ (decimal nodes ++ (codes " leaves " ++ (decimal leaves
+    ++ (codes " numbered " ++ (decimal numbered ++ (codes " rows " ++ yes_or_no rows))))))))
+answer_words file (Place leaf contents filled number) =
+    codes "leaf " ++ (decimal leaf ++ (32 ∷ (name_of_contents contents ++ (number_words number ++ filled_words filled))))
+answer_words file (Row n) = codes "row " ++ (decimal n ++ (58 ∷ set_places 0 (printed_row file n)))
+answer_words file (Sees sees) = yes_or_no sees
+
+-- the line of an answer
+abbrev pub answer_line : TreeFile → Answer → List ℕ
+answer_line file answer = answer_words file answer ++ (10 ∷ [])
+
+-- what is said of a refusal
+abbrev pub words_of_refusal : QueryFault → List ℕ
+words_of_refusal OutsideCube = codes "outside the cube"
+words_of_refusal NoSuchLeaf = codes "no such leaf"
+words_of_refusal NoRows = codes "no rows"

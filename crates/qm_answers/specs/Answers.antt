@@ -1,0 +1,70 @@
+use Rattle.std.specs.Prelude.{◌≡◌, ℕ, ℤ, pos, Bool, false, ◌&&◌, nat_lt, List, [], length, slice_get, slice_index_or, Option, Some, None, is_some, Result, Ok, Err, count_by, if◌then◌else◌}
+use Rattle.qm_space.specs.Point.{Point, IsInCube}
+use Rattle.qm_partition.specs.Counting.{node_count, leaf_count, leaves_of}
+use Rattle.qm_partition.specs.LeafOfPoint.{leaf_at, leaf_record_at}
+use Rattle.qm_partition.specs.Tree.{Tree}
+use Rattle.qm_contacts.specs.NumberedLeaves.{is_numbered, numbered_leaves}
+use Rattle.qm_formats.specs.TreeFile.{TreeFile}
+use Rattle.qm_commands.specs.declared.query.Query.{Query}
+use Rattle.qm_commands.specs.declared.query.Query.TheVariants as queries
+use Rattle.qm_answers.specs.declared.answer.Answer.{Answer}
+use Rattle.qm_answers.specs.declared.answer.Answer.TheVariants.{Count, Place, Row, Sees}
+use Rattle.qm_answers.specs.declared.query_fault.QueryFault.{QueryFault}
+use Rattle.qm_answers.specs.declared.query_fault.QueryFault.TheVariants.{OutsideCube, NoSuchLeaf, NoRows}
+
+-- What a tree file answers to a query.
+
+-- how many leaves of a file are numbered
+abbrev pub numbered_count : TreeFile → ℕ
+numbered_count file = count_by is_numbered (leaves_of file.tree.shape)
+
+-- how much there is in a file
+abbrev pub answer_to_count : TreeFile → Answer
+answer_to_count file =
+    Count (length file.tree.planes) (node_count file.tree.shape) (leaf_count file.tree.shape) (numbered_count file) (is_some file.rows)
+
+-- the number of a leaf: its place among the numbered leaves, where it is one of them
+abbrev pub IsNumberOfLeaf : Tree → ℕ → Option ℕ → Type 0
+IsNumberOfLeaf tree leaf (Some number) = slice_get (numbered_leaves tree) number ≡ Some leaf
+IsNumberOfLeaf tree leaf None = (number : ℕ) → slice_get (numbered_leaves tree) number ≡ Some leaf → ⊥
+
+-- the leaf that has a point, where a point on a plane lies in front of it, with what the file says of this leaf
+pub record IsPlaceAnswer (tree : Tree) (point : Point) (answer : Answer) : Type 0 where
+  pub number : Option ℕ
+  pub is_number : IsNumberOfLeaf tree (leaf_at tree.planes tree.shape point) number
+  pub answer_is :
+      let found = leaf_record_at tree.planes tree.shape point in
+      answer ≡ Place (leaf_at tree.planes tree.shape point) found.contents found.filled number
+
+-- a point in the cube is answered, and any other refused
+abbrev pub AnswersPlace : Tree → Point → Result Answer QueryFault → Type 0
+AnswersPlace tree point (Ok answer) = IsInCube point × IsPlaceAnswer tree point answer
+AnswersPlace tree point (Err fault) = (fault ≡ OutsideCube) × (IsInCube point → ⊥)
+
+-- where rows are there, what they answer
+abbrev pub answer_of_rows : Option (List (List Bool)) → (List (List Bool) → Answer) → Result Answer QueryFault
+answer_of_rows None answer = Err NoRows
+answer_of_rows (Some rows) answer = Ok (answer rows)
+
+-- the row of a numbered leaf
+abbrev pub answer_to_row : TreeFile → ℕ → Result Answer QueryFault
+answer_to_row file n =
+    if nat_lt n (numbered_count file) then answer_of_rows file.rows (λ _. Row n) else Err NoSuchLeaf
+
+-- whether the row of leaf number n has the leaf number m
+abbrev pub answer_to_sees : TreeFile → ℕ → ℕ → Result Answer QueryFault
+answer_to_sees file n m =
+    if nat_lt n (numbered_count file) && nat_lt m (numbered_count file) then
+    answer_of_rows file.rows (λ rows. Sees (slice_index_or (slice_index_or rows n []) m false))
+    else Err NoSuchLeaf
+
+-- the point whose coordinates are so many millionths
+abbrev pub point_in_millionths : (x y z : ℤ) → Point
+point_in_millionths x y z = record { x = x; y = y; z = z; w = pos 1000000 }
+
+-- what a file answers to a query
+unfoldable pub AnswersQuery : TreeFile → Query → Result Answer QueryFault → Type 0
+AnswersQuery file queries.Count answer = answer ≡ Ok (answer_to_count file)
+AnswersQuery file (queries.At x y z) answer = AnswersPlace file.tree (point_in_millionths x y z) answer
+AnswersQuery file (queries.Row n) answer = answer ≡ answer_to_row file n
+AnswersQuery file (queries.Sees n m) answer = answer ≡ answer_to_sees file n m

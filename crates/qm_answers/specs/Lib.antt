@@ -1,0 +1,3 @@
+pub mod AllAnswers
+pub mod Answers
+pub mod AnswerText

@@ -1,0 +1,25 @@
+use qm_contents::Contents;
+
+/// What a tree file answers to a query.
+#[derive(Clone, Copy)]
+pub enum Answer {
+    /// How many planes, nodes, leaves and numbered leaves there are, and whether rows are there.
+    Count {
+        planes: u64,
+        nodes: u64,
+        leaves: u64,
+        numbered: u64,
+        rows: bool,
+    },
+    /// The leaf at a point, and its number where it is numbered.
+    Place {
+        leaf: u64,
+        contents: Contents,
+        filled: bool,
+        number: Option<u64>,
+    },
+    /// The row of this numbered leaf is there.
+    Row(u64),
+    /// Whether the one leaf's row has the other.
+    Sees(bool),
+}

@@ -1,0 +1,10 @@
+/// Why a query is refused.
+#[derive(Clone, Copy)]
+pub enum QueryFault {
+    /// The point is not strictly inside the world's cube.
+    OutsideCube,
+    /// There are not that many numbered leaves.
+    NoSuchLeaf,
+    /// The file has no rows.
+    NoRows,
+}

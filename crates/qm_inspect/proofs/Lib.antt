@@ -1,0 +1,2 @@
+pub mod KeptPoints
+pub mod SetPlaces

@@ -1,0 +1,18 @@
+//! Queries on a tree file, answered and printed.
+#![tactic(auto)]
+
+mod asking;
+mod laws;
+mod numbered;
+mod places;
+mod printing;
+mod row_places;
+mod rows;
+mod telling;
+
+pub use asking::query;
+pub use laws::told_once;
+pub use printing::print;
+pub use qm_answers::{Answer, QueryFault};
+pub use qm_commands::Query;
+pub use telling::{Told, tell};

@@ -1,0 +1,117 @@
+//! Answers as text.
+
+ghost use Rattle.std.specs.Prelude.{◌≡◌, ◌++◌, IfOk, OnOk, OnErr, string_bytes};
+ghost use Rattle.qm_answers.specs.AnswerText.{name_of_contents, number_words, filled_words, yes_or_no, printed_row, set_places, answer_words, answer_line};
+
+use crate::row_places::put_set_places;
+use qm_answers::Answer;
+use qm_contents::Contents;
+use qm_file::TreeFile;
+use std::alloc::{AllocError, Global};
+
+/// Appends the line of an answer. After an error `out` is as it was.
+pub fn print(
+    alloc: Global,
+    file: &TreeFile,
+    answer: &Answer,
+    out: &mut Vec<u8>,
+) -> Result<(), AllocError>
+    ensures ok { OnOk result (out.new.items ≡ out.old.items ++ answer_line file.now answer.now) }
+    ensures err { OnErr result (out.new.items ≡ out.old.items) }
+{
+    let mut line = words_of(alloc, file, answer)?;
+    line.push('\n')?;
+    out.extend_from_slice(line.as_bytes())
+}
+
+/// The words of an answer.
+#[tactic(auto, unfolding(qm_answers::specs::AnswerText::answer_words))]
+fn words_of(alloc: Global, file: &TreeFile, answer: &Answer) -> Result<String, AllocError>
+    ensures { IfOk result (λ text. string_bytes text ≡ answer_words file.now answer.now) }
+{
+    let mut text = String::new(alloc);
+    match *answer {
+        Answer::Count {
+            planes,
+            nodes,
+            leaves,
+            numbered,
+            rows,
+        } => {
+            let rows = yes_or_no(rows);
+            write!(
+                text,
+                "planes {planes} nodes {nodes} leaves {leaves} numbered {numbered} rows {rows}"
+            )?;
+        }
+        Answer::Place {
+            leaf,
+            contents,
+            filled,
+            number,
+        } => {
+            let name = name_of(contents);
+            write!(text, "leaf {leaf} {name}")?;
+            put_number(&mut text, number)?;
+            put_filled(&mut text, filled)?;
+        }
+        Answer::Row(n) => {
+            write!(text, "row {n}:")?;
+            put_row(&mut text, file, n)?;
+        }
+        Answer::Sees(sees) => text.push_str(yes_or_no(sees))?,
+    }
+    Ok(text)
+}
+
+fn yes_or_no(holds: bool) -> &'static str
+    ensures { result.now ≡ yes_or_no holds }
+{
+    if holds { "yes" } else { "no" }
+}
+
+/// The name of contents.
+fn name_of(contents: Contents) -> &'static str
+    ensures { result.now ≡ name_of_contents contents }
+{
+    match contents {
+        Contents::Empty => "empty",
+        Contents::Solid => "solid",
+        Contents::Water => "water",
+        Contents::Slime => "slime",
+        Contents::Lava => "lava",
+        Contents::Sky => "sky",
+    }
+}
+
+/// Adds the number of a leaf, where it has one.
+fn put_number(text: &mut String, number: Option<u64>) -> Result<(), AllocError>
+    ensures { OnOk result (string_bytes text.new ≡ string_bytes text.old ++ number_words number) }
+{
+    if let Some(number) = number {
+        write!(text, " number {number}")?;
+    }
+    Ok(())
+}
+
+/// Adds that a leaf is filled, where it is.
+fn put_filled(text: &mut String, filled: bool) -> Result<(), AllocError>
+    ensures { OnOk result (string_bytes text.new ≡ string_bytes text.old ++ filled_words filled) }
+{
+    if filled {
+        text.push_str(" filled")?;
+    }
+    Ok(())
+}
+
+/// Adds the numbers that a row holds, where it is there.
+fn put_row(text: &mut String, file: &TreeFile, n: u64) -> Result<(), AllocError>
+    ensures { OnOk result (string_bytes text.new ≡ string_bytes text.old ++ set_places 0 (printed_row file.now n)) }
+{
+    if let Some(rows) = &file.rows {
+        if let Some(row) = rows.as_slice().get(n as usize) {
+            put_set_places(text, row)?;
+        }
+    }
+    Ok(())
+}

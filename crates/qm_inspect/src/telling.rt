@@ -1,0 +1,41 @@
+//! What is told of several queries.
+
+ghost use Rattle.std.specs.Prelude.{IfOk};
+ghost use Rattle.qm_formats.specs.TreeFile.{IsValidFile};
+ghost use Rattle.qm_inspect.specs.Told.{IsTold};
+
+use crate::asking::query;
+use crate::printing::print;
+use qm_answers::QueryFault;
+use qm_commands::Query;
+use qm_file::TreeFile;
+use std::alloc::{AllocError, Global};
+
+/// What is told of queries.
+#[derive(Drop)]
+pub enum Told {
+    /// The lines of the answers, in order.
+    Lines(Vec<u8>),
+    /// The first query that is refused, by its number from 1 on. Then nothing is said of the others.
+    Refused { number: u64, fault: QueryFault },
+}
+
+/// Asks a file all queries: the lines of all answers, or the first refusal alone.
+pub fn tell(alloc: Global, file: &TreeFile, queries: &[Query]) -> Result<Told, AllocError>
+    requires { IsValidFile file.now }
+    ensures { IfOk result (λ told. IsTold file.now queries.now told) }
+{
+    let mut lines = Vec::new(alloc);
+    for k in 0..queries.len() {
+        match query(file, &queries[k]) {
+            Ok(answer) => print(alloc, file, &answer, &mut lines)?,
+            Err(fault) => {
+                return Ok(Told::Refused {
+                    number: k as u64 + 1,
+                    fault,
+                });
+            }
+        }
+    }
+    Ok(Told::Lines(lines))
+}
