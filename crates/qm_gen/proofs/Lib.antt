@@ -1,0 +1,2 @@
+pub mod NeverLeaks
+pub mod Walls

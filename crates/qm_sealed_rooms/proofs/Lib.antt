@@ -1,0 +1,10 @@
+pub mod Borders
+pub mod OffPlanes
+pub mod LedPoints
+pub mod SolidLeaves
+pub mod Shells
+pub mod BoxSolids
+pub mod RoomSolids
+pub mod RoomShells
+pub mod RoomOrigins
+pub mod ValidRooms
