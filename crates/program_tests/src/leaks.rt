@@ -1,10 +1,10 @@
-use super::boxes::world;
+use super::boxes::{Level, level_text};
 use super::outside::Outside;
 use super::room::written_room;
 use std::alloc::{AllocError, Global};
 use std::test::Fail;
 use std::thread::Threads;
-use test_texts::{BoxRow, CORNER_ROOMS, CUBE, HOLE_ROOM, ROOM, put_boxes};
+use test_texts::{BoxRow, CORNER_ROOMS, CUBE, HOLE_ROOM, ROOM};
 
 /// A world, and what comes of it.
 #[derive(Clone, Copy)]
@@ -193,17 +193,13 @@ static IN_TURNS: [Row; 4] = [LEAKING, IN_THE_HOLE, EDGE, FINE];
 
 /// The text of a row.
 fn text_of(alloc: Global, row: &Row) -> Result<String, AllocError> {
-    let mut first = String::new(alloc);
-    put_boxes(&mut first, row.texture, row.first)?;
-    let mut text = world(alloc, &first, row.room)?;
-    for origin in row.origins {
-        text.push_str("{\n\"classname\" \"light\"\n")?;
-        if !origin.is_empty() {
-            writeln!(text, "\"origin\" \"{origin}\"")?;
-        }
-        text.push_str("}\n")?;
-    }
-    Ok(text)
+    let level = Level {
+        texture: row.texture,
+        first: row.first,
+        stone: row.room,
+        origins: row.origins,
+    };
+    level_text(alloc, &level)
 }
 
 /// Whether a file has this length and these rows at its end, and its byte 40 says whether rows follow.
@@ -239,7 +235,27 @@ fn finds_leaks_and_fills(rt: HostRuntime) -> Result<(), Fail> {
     Ok(())
 }
 
-/// Leaks and rows without `--fast`, and the same bytes once more.
+/// Once more, by four workers, and by as many as can be asked for.
+static AGAIN: [&[&str]; 3] = [
+    &["compile", "map", "out"],
+    &["compile", "map", "out", "--threads", "4"],
+    &["compile", "map", "--threads=64", "out"],
+];
+
+/// Whether a text gives what a row says by these words, in the bytes that it gave before.
+fn gives_again<R: AllocGlobal + Threads + Sync>(
+    rt: &R,
+    words: &[&str],
+    text: &str,
+    row: &Row,
+    before: &Outside,
+) -> Result<bool, AllocError> {
+    let mut outside = Outside::new(rt.alloc(), text.as_bytes())?;
+    let says = outside.says(rt, words, row.status, row.printed);
+    Ok(says && outside.shelf.get("out") == before.shelf.get("out"))
+}
+
+/// Leaks and rows without `--fast`.
 #[test]
 fn finds_rows_in_turns(rt: HostRuntime) -> Result<(), Fail> {
     let words = ["compile", "map", "out"];
@@ -248,11 +264,20 @@ fn finds_rows_in_turns(rt: HostRuntime) -> Result<(), Fail> {
         let text = text_of(rt.alloc(), row)?;
         right &= is_right(&rt, &words, &text, row)?;
     }
+    assert!(rt; right);
+    Ok(())
+}
+
+/// The three rooms give the same bytes for any number of workers, since what is in sight there is all that open chains reach.
+#[test]
+fn finds_the_same_rows_again(rt: HostRuntime) -> Result<(), Fail> {
     let text = text_of(rt.alloc(), &FINE)?;
-    let mut one = Outside::new(rt.alloc(), text.as_bytes())?;
-    let mut other = Outside::new(rt.alloc(), text.as_bytes())?;
-    let both = one.says(&rt, &words, 0, FINE.printed) && other.says(&rt, &words, 0, FINE.printed);
-    let same = one.shelf.get("out") == other.shelf.get("out");
-    assert!(rt; right && both && same);
+    let mut before = Outside::new(rt.alloc(), text.as_bytes())?;
+    let mut right = before.says(&rt, &["compile", "map", "out"], 0, FINE.printed);
+    right &= before.has_long_out(FINE.length);
+    for words in &AGAIN {
+        right &= gives_again(&rt, words, &text, &FINE, &before)?;
+    }
+    assert!(rt; right);
     Ok(())
 }

@@ -13,6 +13,8 @@ mod cube_file;
 #[cfg(test)]
 mod cube_listing;
 #[cfg(test)]
+mod demo;
+#[cfg(test)]
 mod devices;
 #[cfg(test)]
 mod empty_file;
@@ -20,6 +22,8 @@ mod empty_file;
 mod folder;
 #[cfg(test)]
 mod formatted;
+#[cfg(test)]
+mod inspected;
 #[cfg(test)]
 mod leaks;
 #[cfg(test)]
@@ -43,4 +47,8 @@ mod sure_forms;
 #[cfg(test)]
 mod tightness;
 #[cfg(test)]
+mod torn_files;
+#[cfg(test)]
 mod words;
+#[cfg(test)]
+mod workers;

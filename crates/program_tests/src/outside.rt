@@ -1,4 +1,4 @@
-use qm_compile::{Status, exit_number, run};
+use qm_compile::{OpenGate, Status, exit_number, run};
 use qm_shelf::{MemShelf, MemSink};
 use std::alloc::{AllocError, Global};
 use std::thread::Threads;
@@ -21,6 +21,19 @@ impl Outside {
         })
     }
 
+    /// Runs the program on these words: the status with which it ends.
+    pub fn runs<R: AllocGlobal + Threads + Sync>(&mut self, rt: &R, words: &[&str]) -> u8 {
+        let answer: Status = run(
+            rt,
+            rt.alloc(),
+            words,
+            &mut self.shelf,
+            &mut self.sink,
+            &OpenGate,
+        );
+        exit_number(answer)
+    }
+
     /// Whether the program, run on these words, ends with this status and prints this text.
     pub fn says<R: AllocGlobal + Threads + Sync>(
         &mut self,
@@ -29,8 +42,7 @@ impl Outside {
         status: u8,
         printed: &str,
     ) -> bool {
-        let answer: Status = run(rt, rt.alloc(), words, &mut self.shelf, &mut self.sink);
-        exit_number(answer) == status && self.sink.bytes() == printed.as_bytes()
+        self.runs(rt, words) == status && self.sink.bytes() == printed.as_bytes()
     }
 
     /// Whether `out` holds so many bytes.

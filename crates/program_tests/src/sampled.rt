@@ -2,7 +2,7 @@
 
 use super::outside::Outside;
 use qm_bits::BitRow;
-use qm_compile::{exit_number, run};
+use qm_compile::{OpenGate, exit_number, run};
 use qm_file::{TreeFile, decode};
 use std::alloc::{AllocError, Global};
 use std::test::Fail;
@@ -33,7 +33,14 @@ fn file_of<R: AllocGlobal + Threads + Sync>(
     words: &[&str],
 ) -> Result<Option<TreeFile>, AllocError> {
     let mut outside = Outside::new(rt.alloc(), text)?;
-    let status = run(rt, rt.alloc(), words, &mut outside.shelf, &mut outside.sink);
+    let status = run(
+        rt,
+        rt.alloc(),
+        words,
+        &mut outside.shelf,
+        &mut outside.sink,
+        &OpenGate,
+    );
     let Some(bytes) = outside.shelf.get("out") else {
         return Ok(None);
     };

@@ -1,7 +1,8 @@
+use super::demo::ONE_ROOM;
 use super::empty_file::{EMPTY_FILE, EMPTY_SUMMARY};
 use super::printed::{COUNTS, UNEXPECTED};
-use qm_compile::exit_number;
 use qm_compile::laws::run_surely;
+use qm_compile::{OpenGate, exit_number};
 use qm_shelf::{SureShelf, SureSink};
 use std::test::Fail;
 use std::thread::Threads;
@@ -15,17 +16,40 @@ enum Written {
     Tree,
 }
 
-static ROWS: [(&str, &str, u8, &str, Written); 4] = [
-    ("format", "empty", 0, COUNTS, Written::Text),
-    ("compile", "open", 4, UNEXPECTED, Written::Text),
-    ("compile", "empty", 0, EMPTY_SUMMARY, Written::Tree),
+static ROWS: [(&[&str], u8, &str, Written); 8] = [
+    (&["format", "empty", "out"], 0, COUNTS, Written::Text),
+    (&["compile", "open", "out"], 4, UNEXPECTED, Written::Text),
     (
-        "compile",
-        "absent",
+        &["compile", "empty", "out"],
+        0,
+        EMPTY_SUMMARY,
+        Written::Tree,
+    ),
+    (
+        &["compile", "absent", "out"],
         4,
         "map fault 11 at line 1: no entity\n",
         Written::Tree,
     ),
+    (
+        &["inspect", "absent", "count"],
+        8,
+        "tree fault 1 at byte 0: short\n",
+        Written::Tree,
+    ),
+    (
+        &["inspect", "out", "count", "row=0"],
+        0,
+        "planes 0 nodes 0 leaves 1 numbered 1 rows yes\nrow 0: 0\n",
+        Written::Tree,
+    ),
+    (
+        &["inspect", "out", "sees=0,1"],
+        9,
+        "query 1 refused: no such leaf\n",
+        Written::Tree,
+    ),
+    (&["demo", "1", "0"], 0, ONE_ROOM, Written::Tree),
 ];
 
 /// Whether a run on these words ends so and prints this.
@@ -37,7 +61,7 @@ fn says<R: AllocGlobal + Threads + Sync>(
     printed: &str,
 ) -> bool {
     let mut sink = SureSink::new(rt.alloc());
-    let answer = run_surely(rt, rt.alloc(), words, shelf, &mut sink);
+    let answer = run_surely(rt, rt.alloc(), words, shelf, &mut sink, &OpenGate);
     exit_number(answer) == status && sink.bytes() == printed.as_bytes()
 }
 
@@ -58,8 +82,8 @@ fn runs_over_forms_that_never_fail(rt: HostRuntime) -> Result<(), Fail> {
     shelf.put("empty", b"{ }")?;
     shelf.put("open", b"{ { x")?;
     let mut right = true;
-    for &(verb, name, status, printed, out) in &ROWS {
-        right &= says(&rt, &mut shelf, &[verb, name, "out"], status, printed);
+    for &(words, status, printed, out) in &ROWS {
+        right &= says(&rt, &mut shelf, words, status, printed);
         right &= has_written(&shelf, out);
     }
     assert!(rt; right);

@@ -1,7 +1,7 @@
 //! How much is seen in generated worlds, where rows are found in turns.
 
 use super::outside::Outside;
-use qm_compile::{exit_number, run};
+use qm_compile::{OpenGate, exit_number, run};
 use std::alloc::AllocError;
 use std::test::Fail;
 use std::thread::Threads;
@@ -33,6 +33,7 @@ fn sees<R: AllocGlobal + Threads + Sync>(
         &words,
         &mut outside.shelf,
         &mut outside.sink,
+        &OpenGate,
     );
     Ok(exit_number(status) == 0 && outside.sink.bytes().ends_with(line.as_bytes()))
 }

@@ -7,7 +7,7 @@ use std::alloc::AllocError;
 use std::test::Fail;
 use std::thread::Threads;
 
-static OTHER_WORDS: [&[&str]; 43] = [
+static OTHER_WORDS: [&[&str]; 73] = [
     &[],
     &["compile"],
     &["compile", "map"],
@@ -22,7 +22,6 @@ static OTHER_WORDS: [&[&str]; 43] = [
     &["format", "map"],
     &["format", "map", "map"],
     &["format", "map", "-out"],
-    &["inspect", "map", "count"],
     &["--help"],
     &["map", "out"],
     &["", "map", "out"],
@@ -51,6 +50,37 @@ static OTHER_WORDS: [&[&str]; 43] = [
     &["format", "map", "out", "--prt", "list"],
     &["format", "map", "--prt=list", "out"],
     &["--prt", "list", "compile", "map", "out"],
+    &["compile", "map", "out", "--", "more"],
+    &["compile", "map", "out", "--threads", "65"],
+    &["compile", "map", "out", "--threads", "0"],
+    &["compile", "map", "out", "--threads=04"],
+    &["compile", "map", "out", "--threads=+4"],
+    &["compile", "map", "out", "--threads"],
+    &["compile", "map", "out", "--threads=4", "--threads", "4"],
+    &["compile", "map", "out", "--thr", "4"],
+    &["format", "map", "out", "--threads", "1"],
+    &["inspect", "map"],
+    &["inspect", "-map", "count"],
+    &["inspect", "map", "count", "--fast"],
+    &["inspect", "map", "counts"],
+    &["inspect", "map", "at=1,2"],
+    &["inspect", "map", "at=1,2,3,4"],
+    &["inspect", "map", "at=1,2,0.0000001"],
+    &["inspect", "map", "at=1,2,1000000001"],
+    &["inspect", "map", "row=1000000000000000000"],
+    &["inspect", "map", "count", "row=01"],
+    &["inspect", "map", "sees=0"],
+    &["inspect", "map", "sees=0,01"],
+    &["demo", "8"],
+    &["demo", "0", "7"],
+    &["demo", "65", "7"],
+    &["demo", "08", "7"],
+    &["demo", "8", "07"],
+    &["demo", "8", "-7"],
+    &["demo", "8", "18446744073709551616"],
+    &["demo", "8", "7", "map"],
+    &["-h"],
+    &["help"],
 ];
 
 /// Whether these words are answered with the usage line, and nothing changes.
@@ -72,7 +102,7 @@ fn answers_usage_to_other_words(rt: HostRuntime) -> Result<(), Fail> {
 }
 
 /// Words that ask for a listing, and its name.
-static LISTING_WORDS: [(&[&str], &str); 9] = [
+static LISTING_WORDS: [(&[&str], &str); 12] = [
     (&["compile", "--prt", "list", "map", "out"], "list"),
     (&["compile", "map", "--prt", "list", "out"], "list"),
     (&["compile", "map", "out", "--prt", "list"], "list"),
@@ -85,6 +115,33 @@ static LISTING_WORDS: [(&[&str], &str); 9] = [
     ),
     (&["compile", "--prt=list", "--fast", "map", "out"], "list"),
     (&["compile", "map", "out", "--prt==", "--fast"], "="),
+    (
+        &["compile", "--threads", "4", "map", "out", "--prt", "list"],
+        "list",
+    ),
+    (
+        &[
+            "compile",
+            "map",
+            "--prt=list",
+            "--threads=64",
+            "out",
+            "--fast",
+        ],
+        "list",
+    ),
+    (
+        &[
+            "compile",
+            "map",
+            "--fast",
+            "--threads=1",
+            "--prt",
+            "list",
+            "out",
+        ],
+        "list",
+    ),
 ];
 
 /// Whether these words compile the cube, and list its portals under this name.

@@ -1,7 +1,5 @@
-pub mod BrushCounts
-pub mod MadeTexts
-pub mod Outcomes
-pub mod PutOuts
-pub mod ReadMeanings
+pub mod CutFiles
+pub mod Inspected
+pub mod Orders
 pub mod Reported
-pub mod Writings
+pub mod RoomSummaries

@@ -1,4 +1,4 @@
-pub mod Made
-pub mod Outcome
-pub mod PutOut
-pub mod Writing
+pub mod FaultLine
+pub mod Reported
+pub mod Stopped
+pub mod TreeReport

@@ -17,5 +17,7 @@ pub fn exit_number(status: Status) -> u8
         Status::ReadFault => 5,
         Status::WriteFault => 6,
         Status::Memory => 7,
+        Status::TreeFault => 8,
+        Status::QueryRefused => 9,
     }
 }

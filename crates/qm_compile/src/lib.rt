@@ -1,20 +1,19 @@
-//! All that the program does: it reads a map, writes the files that are made of it, and prints what came of it.
+//! All that the program does: it reads the words, carries out the command that they are, and prints what came of it.
 #![tactic(auto)]
 
-mod count_lines;
 mod exit;
-mod fault_text;
-mod format;
+mod generating;
+mod inspecting;
 pub mod laws;
-mod made;
-mod make;
-mod outcome;
-mod printed;
+mod ordering;
 mod program;
-mod putting_out;
-mod writing;
+mod refusal_line;
+mod report;
+mod tree_fault_line;
 
 pub use exit::exit_number;
 pub use program::run;
+pub use qm_commands::Options;
 pub use qm_compiler::{Compiled, compile};
-pub use qm_statement::{Options, Status, Summary};
+pub use qm_crew::{Gate, OpenGate};
+pub use qm_statement::{Status, Summary};

@@ -51,7 +51,7 @@ use Rattle.qm_segments.proofs.FilledRows.{filled_row_closed}
 use Rattle.qm_formats.specs.TreeFile.{TreeFile, IsValidFile}
 use Rattle.qm_compiler.specs.declared.compiled.Compiled.{Compiled}
 use Rattle.qm_compiler.specs.declared.compiled.Compiled.TheVariants.{Done, Leak}
-use Rattle.qm_statement.specs.declared.options.Options.{Options}
+use Rattle.qm_commands.specs.declared.options.Options.{Options}
 use Rattle.qm_statement.specs.declared.summary.Summary.{Summary}
 use Rattle.qm_statement.specs.Built.{IsBuilt}
 use Rattle.qm_statement.specs.CompiledMap.{NoneLeaks, IsLineOfSightIn, IsCompiledWithoutLeak}
@@ -174,18 +174,18 @@ module _ (map : MapFile) (options : Options) (tree : Tree) (brushes flat : ℕ) 
       abbrev marked_world : World
       marked_world = record { tree = marked_tree row tree; portals = portals_of (marked_tree row tree) contacts.touchings }
 
-      rows_hold : (fast : Bool) (rows : List (List Bool)) → AreRowsAsAsked fast marked_world rows → HoldLinesOfSight (HasContents (drawn_solids map)) (marked_tree row tree) rows
-      rows_hold true rows made =
+      rows_hold : (fast : Bool) (workers : ℕ) (rows : List (List Bool)) → AreRowsAsAsked fast workers marked_world rows → HoldLinesOfSight (HasContents (drawn_solids map)) (marked_tree row tree) rows
+      rows_hold true workers rows made =
           coarse_rows_hold_ends row tree counted.have_points (filled_row_closed tree origins row are_filled) (HasContents (drawn_solids map)) counted.gives_contents.gives
           (λ x c d has also. one_contents (λ solid. Holds solid x) (drawn_solids map) c d has also)
           contacts.touchings are.touching made.portal_rows rows made.are_coarse made.are_leaf_rows
-      rows_hold false rows made =
+      rows_hold false workers rows made =
           sound_rows_hold_ends row tree counted.have_points (filled_row_closed tree origins row are_filled) (HasContents (drawn_solids map)) counted.gives_contents.gives
           (λ x c d has also. one_contents (λ solid. Holds solid x) (drawn_solids map) c d has also)
           contacts.touchings are.touching made.portal_rows rows made.are_sound made.are_leaf_rows
 
-      hold_sight : (world : World) (rows : List (List Bool)) → world ≡ marked_world → AreRowsAsAsked options.fast world rows → HoldLinesOfSight (HasContents (drawn_solids map)) (marked_tree row tree) rows
-      hold_sight world rows is are_rows = rows_hold options.fast rows (subst (λ (w : World). AreRowsAsAsked options.fast w rows) is are_rows)
+      hold_sight : (world : World) (rows : List (List Bool)) → world ≡ marked_world → AreRowsAsAsked options.fast options.threads world rows → HoldLinesOfSight (HasContents (drawn_solids map)) (marked_tree row tree) rows
+      hold_sight world rows is are_rows = rows_hold options.fast options.threads rows (subst (λ (w : World). AreRowsAsAsked options.fast options.threads w rows) is are_rows)
 
       -- the portals lead each line of sight
       led : (world : World) → world ≡ marked_world → (s : Segment) → IsLineOfSightIn map (marked_tree row tree) s → IsLedByPortals (marked_tree row tree) world.portals s
@@ -196,15 +196,15 @@ module _ (map : MapFile) (options : Options) (tree : Tree) (brushes flat : ℕ) 
           contacts.touchings are.touching s sight)
 
       -- the tree with its rows can stand in a file
-      valid : {summary : Summary} (file : TreeFile) (world : World) → IsFilledFile options.fast sealed tree brushes flat row contacts file world summary → IsValidFile file
+      valid : {summary : Summary} (file : TreeFile) (world : World) → IsFilledFile options sealed tree brushes flat row contacts file world summary → IsValidFile file
       valid file world made =
           let same : world.tree ≡ file.tree = ap (λ (w : World). w.tree) made.is_world ∙ sym made.is_tree in
           valid_with_rows file
           (subst IsWellMade (sym made.is_tree) (marked_well_made row tree counted.well_made))
           (subst (λ (t : Tree). All IsReduced t.planes) (sym made.is_tree) counted.reduced)
-          world made.rows same made.has_rows (leaf_rows_over options.fast world made.rows made.are_rows)
+          world made.rows same made.has_rows (leaf_rows_over options.fast options.threads world made.rows made.are_rows)
 
-      done_map : (file : TreeFile) (world : World) (summary : Summary) → IsFilledFile options.fast sealed tree brushes flat row contacts file world summary → IsCompiledWithoutLeak map options file world summary
+      done_map : (file : TreeFile) (world : World) (summary : Summary) → IsFilledFile options sealed tree brushes flat row contacts file world summary → IsCompiledWithoutLeak map options file world summary
       done_map file world summary made =
           let same : file.tree ≡ world.tree = made.is_tree ∙ sym (ap (λ (w : World). w.tree) made.is_world) in
           record {
@@ -225,16 +225,16 @@ module _ (map : MapFile) (options : Options) (tree : Tree) (brushes flat : ℕ) 
             is_summary = subst (λ (t : Tree). IsSummary map tree origins t made.rows summary) (sym same) (is_summary world made.rows summary made.is_world made.is_count);
           }
 
-      finished_map : (compiled : Compiled) → IsFinished options.fast sealed tree brushes flat row contacts compiled → IsCompiled map options compiled
+      finished_map : (compiled : Compiled) → IsFinished options sealed tree brushes flat row contacts compiled → IsCompiled map options compiled
       unfolding IsFinished IsCompiled
       finished_map (Done file world summary) made = done_map file world summary made
       finished_map (Leak file entity trail) made = absurd made
 
   -- it is sealed
-  pub sealed_map : (row : List Bool) (contacts : Contacts) (compiled : Compiled) → IsSealed tree origins → IsFilledRow tree origins row → AreContacts tree contacts → IsFinished options.fast true tree brushes flat row contacts compiled → IsCompiled map options compiled
+  pub sealed_map : (row : List Bool) (contacts : Contacts) (compiled : Compiled) → IsSealed tree origins → IsFilledRow tree origins row → AreContacts tree contacts → IsFinished options true tree brushes flat row contacts compiled → IsCompiled map options compiled
   sealed_map row contacts compiled is_sealed are_filled are made = finished_map row are_filled is_sealed.tight true is_sealed contacts are compiled made
 
   -- or no entity takes part
-  pub empty_map : (count : ℕ) (contacts : Contacts) (compiled : Compiled) → count ≡ leaf_count tree.shape → NoneTakesPart tree origins → AreContacts tree contacts → IsFinished options.fast false tree brushes flat (replicate count false) contacts compiled → IsCompiled map options compiled
+  pub empty_map : (count : ℕ) (contacts : Contacts) (compiled : Compiled) → count ≡ leaf_count tree.shape → NoneTakesPart tree origins → AreContacts tree contacts → IsFinished options false tree brushes flat (replicate count false) contacts compiled → IsCompiled map options compiled
   empty_map count contacts compiled is none are made =
       finished_map (replicate count false) (none_filled tree origins count is none) (λ origin listed leaks. none origin listed leaks.takes_part) false none contacts are compiled made

@@ -1,5 +1,6 @@
--- Rows of leaves over rows of portals that lie within their reuse.
+-- Rows of leaves over rows of portals that lie within their reuse over turns.
 use Rattle.std.proofs.Common.{◌≡◌, ◌⊎◌, inl, inr, ⊎_elim, ℕ, zero, suc, ◌<◌, Bool, true, false, List, [], ◌∷◌, length, get_or, sym, subst, arith}
+use Rattle.std.specs.List.{range_with_len}
 use Rattle.std.proofs.lemmas.Option.{slice_get-get_or, get_or_from_slice_get}
 use Rattle.qm_lists.specs.WorkList.{IsIn}
 use Rattle.qm_contacts.specs.NumberedLeaves.{numbered_leaves}
@@ -8,8 +9,8 @@ use Rattle.qm_contacts.specs.World.{World}
 use Rattle.qm_coarse_rows.specs.LeafRow.{AreLeafRows}
 use Rattle.qm_segments.specs.Sight.{AreSoundRows}
 use Rattle.qm_separators.specs.PortalSteps.{IsInChainBound}
-use Rattle.qm_chains.specs.Turns.{LieInReuse}
-use Rattle.qm_chains.proofs.TurnLaws.{reuse_in_bound}
+use Rattle.qm_chains.specs.TurnLists.{AreTurns, LieInReuseOver}
+use Rattle.qm_chains.proofs.TurnListLaws.{reuse_over_in_bound}
 use Rattle.qm_statement.specs.Rows.{IsShownFrom, AreRowsOverTurns}
 
 -- a row that has a leaf is there
@@ -18,24 +19,28 @@ row_there [] m n is = absurd (let e : false ≡ true = is in cc)
 row_there (row ∷ rows) zero n is = omega arith
 row_there (row ∷ rows) (suc m) n is = let less = row_there rows m n is in omega (arith, less)
 
--- so each leaf in the row of another is shown from that one
-only_shown : (portals : List Portal) (portal_rows rows : List (List Bool)) (leaves : ℕ) → LieInReuse portals portal_rows → AreLeafRows portals portal_rows leaves rows → (m n : ℕ) → IsIn (get_or rows m []) n → (n ≡ m) ⊎ IsShownFrom portals m n
-only_shown portals portal_rows rows leaves reuse are m n is = ⊎_elim
-    (λ same. inl same)
-    (λ seen.
-    let in_row = subst (λ (row : List Bool). IsIn row n) (sym (get_or_from_slice_get portal_rows seen.place seen.row [] seen.row_is)) seen.seen in
-    inr (record { number = seen.place; portal = seen.portal; portal_is = seen.portal_is; leaves = seen.from; in_reuse = reuse n seen.place in_row }))
-    (((are.each m (get_or rows m []) (slice_get-get_or rows m [] (row_there rows m n is))).exactly n).0 is)
+module _ (portals : List Portal) (turns : List (List ℕ)) where
+  -- so each leaf in the row of another is shown from that one
+  only_shown : (portal_rows rows : List (List Bool)) (leaves : ℕ) → LieInReuseOver portals turns portal_rows → AreLeafRows portals portal_rows leaves rows → (m n : ℕ) → IsIn (get_or rows m []) n → (n ≡ m) ⊎ IsShownFrom portals turns m n
+  only_shown portal_rows rows leaves reuse are m n is = ⊎_elim
+      (λ same. inl same)
+      (λ seen.
+      let in_row = subst (λ (row : List Bool). IsIn row n) (sym (get_or_from_slice_get portal_rows seen.place seen.row [] seen.row_is)) seen.seen in
+      inr (record { number = seen.place; portal = seen.portal; portal_is = seen.portal_is; leaves = seen.from; in_reuse = reuse n seen.place in_row }))
+      (((are.each m (get_or rows m []) (slice_get-get_or rows m [] (row_there rows m n is))).exactly n).0 is)
 
-pub over_turns : (world : World) (portal_rows rows : List (List Bool)) → AreSoundRows world.tree world.portals portal_rows → LieInReuse world.portals portal_rows → AreLeafRows world.portals portal_rows (length (numbered_leaves world.tree)) rows → AreRowsOverTurns world rows
-over_turns world portal_rows rows sound reuse are = record {
+  -- an open chain that begins with the portal that shows it ends in it
+  pub by_open_chain : (workers m n : ℕ) → AreTurns workers (length portals) turns → (shown : IsShownFrom portals turns m n) → IsInChainBound portals shown.portal n
+  by_open_chain workers m n are shown = reuse_over_in_bound portals n shown.number shown.portal shown.portal_is workers turns are shown.in_reuse
+
+pub over_turns : (workers : ℕ) (world : World) (turns : List (List ℕ)) (portal_rows rows : List (List Bool)) → AreTurns workers (length world.portals) turns → (workers ≡ 1 → turns ≡ range_with_len 0 (length world.portals) ∷ []) → AreSoundRows world.tree world.portals portal_rows → LieInReuseOver world.portals turns portal_rows → AreLeafRows world.portals portal_rows (length (numbered_leaves world.tree)) rows → AreRowsOverTurns workers world rows
+over_turns workers world turns portal_rows rows are_turns alone sound reuse are = record {
+  turns = turns;
+  are_turns = are_turns;
+  alone = alone;
   portal_rows = portal_rows;
   are_sound = sound;
   in_reuse = reuse;
   are_leaf_rows = are;
-  only_shown = only_shown world.portals portal_rows rows (length (numbered_leaves world.tree)) reuse are;
+  only_shown = only_shown world.portals turns portal_rows rows (length (numbered_leaves world.tree)) reuse are;
 }
-
--- an open chain that begins with the portal that shows it ends in it
-pub by_open_chain : (portals : List Portal) (m n : ℕ) (shown : IsShownFrom portals m n) → IsInChainBound portals shown.portal n
-by_open_chain portals m n shown = reuse_in_bound portals n shown.number shown.portal shown.portal_is shown.in_reuse

@@ -29,9 +29,9 @@ pub record AreOverSome (world : World) (rows : List (List Bool)) : Type 0 where
   pub portal_rows : List (List Bool)
   pub are : AreLeafRows world.portals portal_rows (length (numbered_leaves world.tree)) rows
 
-pub leaf_rows_over : (fast : Bool) (world : World) (rows : List (List Bool)) → AreRowsAsAsked fast world rows → AreOverSome world rows
-leaf_rows_over true world rows made = record { portal_rows = made.portal_rows; are = made.are_leaf_rows }
-leaf_rows_over false world rows made = record { portal_rows = made.portal_rows; are = made.are_leaf_rows }
+pub leaf_rows_over : (fast : Bool) (workers : ℕ) (world : World) (rows : List (List Bool)) → AreRowsAsAsked fast workers world rows → AreOverSome world rows
+leaf_rows_over true workers world rows made = record { portal_rows = made.portal_rows; are = made.are_leaf_rows }
+leaf_rows_over false workers world rows made = record { portal_rows = made.portal_rows; are = made.are_leaf_rows }
 
 module _ (file : TreeFile) (well : IsWellMade file.tree) (reduced : All IsReduced file.tree.planes) where
   abbrev fits : Option (List (List Bool)) → Type 0

@@ -1,5 +1,5 @@
 use Rattle.qm_mapfile.specs.declared.entity.MapFile.{MapFile}
-use Rattle.qm_statement.specs.declared.options.Options.{Options}
+use Rattle.qm_commands.specs.declared.options.Options.{Options}
 use Rattle.qm_statement.specs.CompiledMap.{IsCompiledWithoutLeak, IsCompiledToLeak}
 use Rattle.qm_compiler.specs.declared.compiled.Compiled.{Compiled}
 use Rattle.qm_compiler.specs.declared.compiled.Compiled.TheVariants.{Done, Leak}

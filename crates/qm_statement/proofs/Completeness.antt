@@ -1,5 +1,5 @@
 -- How a command ends that meets no fault of the surroundings.
-use Rattle.std.proofs.Common.{◌≡◌, ℕ, Bool, List, Ok, Err, Result, sym, subst, inl, inr, arith}
+use Rattle.std.proofs.Common.{◌≡◌, ℕ, List, Ok, Err, Result, refl, sym, subst, inl, inr, arith}
 use Rattle.std.specs.Prelude.{IsTrue}
 use Rattle.qm_surroundings.specs.Counts.{Rose}
 use Rattle.qm_surroundings.specs.Surroundings.{Surroundings}
@@ -7,29 +7,32 @@ use Rattle.qm_surroundings.specs.ShelfState.{text_under}
 use Rattle.qm_mapfile.specs.declared.entity.MapFile.{MapFile}
 use Rattle.qm_grammar.specs.declared.fault.MapFault.{MapFault}
 use Rattle.qm_grammar.specs.Meaning.{IsMapText}
-use Rattle.qm_statement.specs.declared.command.Command.{Command}
-use Rattle.qm_statement.specs.declared.command.Command.TheVariants.{Compile, Format}
+use Rattle.qm_commands.specs.declared.map_command.MapCommand.{MapCommand}
+use Rattle.qm_commands.specs.declared.map_command.MapCommand.TheVariants.{Compile, Format}
+use Rattle.qm_commands.specs.declared.query.Query.{Query}
+use Rattle.qm_commands.specs.FileNames.{FileNames}
+use Rattle.qm_commands.specs.Order.{Order, of_map, of_tree, of_rooms}
+use Rattle.qm_commands.specs.Words.{AreWordsOf}
 use Rattle.qm_statement.specs.declared.status.Status.{Status}
-use Rattle.qm_statement.specs.declared.status.Status.TheVariants.{Done, Usage, Leak, MapFault as TextFault, ReadFault, WriteFault, Memory}
-use Rattle.qm_statement.specs.FileNames.{FileNames}
-use Rattle.qm_statement.specs.Command.{IsCommand}
+use Rattle.qm_statement.specs.declared.status.Status.TheVariants.{Done, Usage, Leak, MapFault as TextFault, ReadFault, WriteFault, Memory, TreeFault, QueryRefused}
 use Rattle.qm_statement.specs.ComesOf.{ComesOf, read_fault, map_fault, write_fault, listing_fault, written}
 use Rattle.qm_statement.specs.Complete.{MetNone, MayEndWhereNoneMet, NoLeakStops, EndsDoneOrShortOfMemory, IsComplete}
+use Rattle.qm_statement.specs.DemoComesOf.{DemoComesOf, summed_up}
+use Rattle.qm_statement.specs.InspectComesOf.{InspectComesOf, unread, no_tree_file, refused, answered}
 use Rattle.qm_statement.specs.Output.{Output, IsOutputOf}
-use Rattle.qm_statement.specs.Run.{Due, usage, command, Answers}
+use Rattle.qm_statement.specs.Run.{OrderComesOf, Due, usage, command, Answers}
 use Rattle.qm_statement.specs.TextMeans.{TextMeans}
-use Rattle.qm_statement.proofs.Commands.{one_command}
 
 -- ---- what a command makes of a map is done, or leaks
 
-product_ends : (its : Command) (map : MapFile) (output : Output) → IsOutputOf its map output → MayEndWhereNoneMet output.status its
+product_ends : (its : MapCommand) (files : FileNames) (map : MapFile) (output : Output) → IsOutputOf its map output → MayEndWhereNoneMet output.status (of_map its files)
 unfolding IsOutputOf
-product_ends (Compile options listed) map output (inl tight) = subst (λ (s : Status). MayEndWhereNoneMet s (Compile options listed)) (sym tight.is_status) tt
-product_ends (Compile options listed) map output (inr leaks) = subst (λ (s : Status). MayEndWhereNoneMet s (Compile options listed)) (sym leaks.is_status) tt
-product_ends Format map output made = subst (λ (s : Status). MayEndWhereNoneMet s Format) (sym made.is_status) tt
+product_ends (Compile options listed) files map output (inl tight) = subst (λ (s : Status). MayEndWhereNoneMet s (of_map (Compile options listed) files)) (sym tight.is_status) tt
+product_ends (Compile options listed) files map output (inr leaks) = subst (λ (s : Status). MayEndWhereNoneMet s (of_map (Compile options listed) files)) (sym leaks.is_status) tt
+product_ends Format files map output made = subst (λ (s : Status). MayEndWhereNoneMet s (of_map Format files)) (sym made.is_status) tt
 
 -- where no leak stops the command, it is done
-product_done : (its : Command) (map : MapFile) (output : Output) → NoLeakStops its map → IsOutputOf its map output → EndsDoneOrShortOfMemory output.status
+product_done : (its : MapCommand) (map : MapFile) (output : Output) → NoLeakStops its map → IsOutputOf its map output → EndsDoneOrShortOfMemory output.status
 unfolding IsOutputOf
 product_done (Compile options listed) map output none (inl tight) = subst EndsDoneOrShortOfMemory (sym tight.is_status) tt
 product_done (Compile options listed) map output none (inr leaks) =
@@ -39,47 +42,39 @@ product_done Format map output none made = subst EndsDoneOrShortOfMemory (sym ma
 
 -- ---- what comes of a command that meets no fault
 
-module _ (words : List (List ℕ)) (before after : Surroundings) (its : Command) (files : FileNames) (is : IsCommand words its files) (met : MetNone before after files) where
-  ends_of : (status : Status) (text : List ℕ) → ComesOf before.shelf after.shelf its files status text → MayEndWhereNoneMet status its
-  ends_of status text (read_fault failed kept) = absurd (met.reading failed.rose)
-  ends_of status text (map_fault means kept unmet) = tt
-  ends_of status text (write_fault means failed unfinished) = absurd (met.writing failed.rose)
-  ends_of status text (listing_fault {name = name} failed unfinished) = absurd (met.listing name unfinished.is_asked failed.rose)
-  ends_of status text (written w unmet) =
-      subst (λ (s : Status). MayEndWhereNoneMet s its) w.is_status (product_ends its w.is_due.map w.output w.is_due.is_made)
+module _ (before after : Surroundings) where
+  map_ends : (its : MapCommand) (files : FileNames) → MetNone before after (of_map its files) → (status : Status) (text : List ℕ) → ComesOf before.shelf after.shelf its files status text → MayEndWhereNoneMet status (of_map its files)
+  map_ends its files met status text (read_fault failed kept) = absurd (met.reading files.map_name refl failed.rose)
+  map_ends its files met status text (map_fault means kept unmet) = tt
+  map_ends its files met status text (write_fault means failed unfinished) = absurd (met.writing files.out_name (inl refl) failed.rose)
+  map_ends its files met status text (listing_fault {name = name} failed unfinished) = absurd (met.writing name (inr unfinished.is_asked) failed.rose)
+  map_ends its files met status text (written w unmet) =
+      subst (λ (s : Status). MayEndWhereNoneMet s (of_map its files)) w.is_status (product_ends its files w.is_due.map w.output w.is_due.is_made)
 
-  -- it is what comes of the words
-  comes : (status : Status) (text : List ℕ) → Due words before.shelf after.shelf status text → ComesOf before.shelf after.shelf its files status text
-  comes status text (usage not_one kept unmet) = absurd (not_one its files is)
-  comes status text (command {command = other} {files = others} other_is other_comes) =
-      let same = one_command words other its others files other_is is in
-      subst (λ (c : Command). ComesOf before.shelf after.shelf c files status text) same.command_is
-      (subst (λ (f : FileNames). ComesOf before.shelf after.shelf other f status text) same.files_are other_comes)
+  tree_ends : (tree_name : List ℕ) (queries : List Query) → MetNone before after (of_tree tree_name queries) → (status : Status) (text : List ℕ) → InspectComesOf before.shelf after.shelf tree_name queries status text → MayEndWhereNoneMet status (of_tree tree_name queries)
+  tree_ends tree_name queries met status text (unread failed kept) = absurd (met.reading tree_name refl failed.rose)
+  tree_ends tree_name queries met status text (no_tree_file means untouched) = tt
+  tree_ends tree_name queries met status text (refused means first untouched) = tt
+  tree_ends tree_name queries met status text (answered means are untouched) = tt
 
-  ends_due : (status : Status) (text : List ℕ) → Due words before.shelf after.shelf status text → MayEndWhereNoneMet status its
-  ends_due status text due = ends_of status text (comes status text due)
+  rooms_end : (rooms number : ℕ) (status : Status) (text : List ℕ) → DemoComesOf before.shelf after.shelf rooms number status text → MayEndWhereNoneMet status (of_rooms rooms number)
+  rooms_end rooms number status text (summed_up is untouched) = tt
 
-  pub ends_well : (status : Status) → Answers words before after status → MayEndWhereNoneMet status its
-  unfolding Answers
-  ends_well Done answers = tt
-  ends_well Usage answers = ends_due Usage answers.0 answers.1
-  ends_well Leak answers = ends_due Leak answers.0 answers.1
-  ends_well TextFault answers = tt
-  ends_well ReadFault answers = ends_due ReadFault answers.0 answers.1
-  ends_well WriteFault (inl answers) = ends_due WriteFault answers.0 answers.1
-  ends_well WriteFault (inr fails) = absurd (met.printing fails.0)
-  ends_well Memory answers = tt
+  ends_of : (its : Order) → MetNone before after its → (status : Status) (text : List ℕ) → OrderComesOf before.shelf after.shelf its status text → MayEndWhereNoneMet status its
+  ends_of (of_map its files) met status text comes = map_ends its files met status text comes
+  ends_of (of_tree tree_name queries) met status text comes = tree_ends tree_name queries met status text comes
+  ends_of (of_rooms rooms number) met status text comes = rooms_end rooms number status text comes
 
-  module _ (tells : IsTrue before.shelf.tells) (map : MapFile) (means : IsMapText (text_under before.shelf files.map_name) map) (tight : NoLeakStops its map) where
+  module _ (its : MapCommand) (files : FileNames) (met : MetNone before after (of_map its files)) (tells : IsTrue before.shelf.tells) (map : MapFile) (means : IsMapText (text_under before.shelf files.map_name) map) (tight : NoLeakStops its map) where
     -- the text means this map and nothing else
     one_meaning : (meaning : Result MapFile MapFault) → TextMeans before.shelf files.map_name meaning → Ok map ≡ meaning
     one_meaning meaning its_text = its_text.only (Ok map) (subst (λ (text : List ℕ). IsMapText text map) (sym (its_text.is_held tells)) means)
 
     done_of : (status : Status) (text : List ℕ) → ComesOf before.shelf after.shelf its files status text → EndsDoneOrShortOfMemory status
-    done_of status text (read_fault failed kept) = absurd (met.reading failed.rose)
+    done_of status text (read_fault failed kept) = absurd (met.reading files.map_name refl failed.rose)
     done_of status text (map_fault {found = found} fails kept unmet) = absurd (let same : Ok map ≡ Err found = one_meaning (Err found) fails in cc)
-    done_of status text (write_fault its_means failed unfinished) = absurd (met.writing failed.rose)
-    done_of status text (listing_fault {name = name} failed unfinished) = absurd (met.listing name unfinished.is_asked failed.rose)
+    done_of status text (write_fault its_means failed unfinished) = absurd (met.writing files.out_name (inl refl) failed.rose)
+    done_of status text (listing_fault {name = name} failed unfinished) = absurd (met.writing name (inr unfinished.is_asked) failed.rose)
     done_of status text (written w unmet) =
         let due = w.is_due in
         let same : Ok map ≡ Ok due.map = one_meaning (Ok due.map) due.is_meant in
@@ -87,10 +82,37 @@ module _ (words : List (List ℕ)) (before after : Surroundings) (its : Command)
         subst EndsDoneOrShortOfMemory w.is_status
         (product_done its due.map w.output (subst (λ (m : MapFile). NoLeakStops its m) one tight) due.is_made)
 
-    done_due : (status : Status) (text : List ℕ) → Due words before.shelf after.shelf status text → EndsDoneOrShortOfMemory status
-    done_due status text due = done_of status text (comes status text due)
+-- ---- words that are one command at most
 
-    pub is_done : (status : Status) → Answers words before after status → EndsDoneOrShortOfMemory status
+module _ (words : List (List ℕ)) (before after : Surroundings) (one : (order other : Order) → AreWordsOf order words → AreWordsOf other words → order ≡ other) where
+  module _ (its : Order) (is : AreWordsOf its words) (met : MetNone before after its) where
+    -- it is what comes of the words
+    comes : (status : Status) (text : List ℕ) → Due words before.shelf after.shelf status text → OrderComesOf before.shelf after.shelf its status text
+    comes status text (usage none untouched) = absurd (none its is)
+    comes status text (command other other_is other_comes) =
+        subst (λ (order : Order). OrderComesOf before.shelf after.shelf order status text) (one other its other_is is) other_comes
+
+    ends_due : (status : Status) (text : List ℕ) → Due words before.shelf after.shelf status text → MayEndWhereNoneMet status its
+    ends_due status text due = ends_of before after its met status text (comes status text due)
+
+    ends_well : (status : Status) → Answers words before after status → MayEndWhereNoneMet status its
+    unfolding Answers
+    ends_well Done answers = tt
+    ends_well Usage answers = ends_due Usage answers.0 answers.1
+    ends_well Leak answers = ends_due Leak answers.0 answers.1
+    ends_well TextFault answers = ends_due TextFault answers.0 answers.1
+    ends_well ReadFault answers = ends_due ReadFault answers.0 answers.1
+    ends_well WriteFault (inl answers) = ends_due WriteFault answers.0 answers.1
+    ends_well WriteFault (inr fails) = absurd (met.printing fails.0)
+    ends_well Memory answers = tt
+    ends_well TreeFault answers = ends_due TreeFault answers.0 answers.1
+    ends_well QueryRefused answers = ends_due QueryRefused answers.0 answers.1
+
+  module _ (its : MapCommand) (files : FileNames) (is : AreWordsOf (of_map its files) words) (met : MetNone before after (of_map its files)) (tells : IsTrue before.shelf.tells) (map : MapFile) (means : IsMapText (text_under before.shelf files.map_name) map) (tight : NoLeakStops its map) where
+    done_due : (status : Status) (text : List ℕ) → Due words before.shelf after.shelf status text → EndsDoneOrShortOfMemory status
+    done_due status text due = done_of before after its files met tells map means tight status text (comes (of_map its files) is met status text due)
+
+    is_done : (status : Status) → Answers words before after status → EndsDoneOrShortOfMemory status
     unfolding Answers
     is_done Done answers = tt
     is_done Usage answers = done_due Usage answers.0 answers.1
@@ -100,11 +122,20 @@ module _ (words : List (List ℕ)) (before after : Surroundings) (its : Command)
     is_done WriteFault (inl answers) = done_due WriteFault answers.0 answers.1
     is_done WriteFault (inr fails) = absurd (met.printing fails.0)
     is_done Memory answers = tt
+    is_done TreeFault answers = done_due TreeFault answers.0 answers.1
+    is_done QueryRefused answers = done_due QueryRefused answers.0 answers.1
 
-pub complete : (words : List (List ℕ)) (before after : Surroundings) (status : Status) → Answers words before after status → IsComplete words before after status
-complete words before after status answers = record {
-  ends = λ its files is met. ends_well words before after its files is met status answers;
-  done = λ tells its files is met map means tight. is_done words before after its files is met tells map means tight status answers;
+  pub complete : (status : Status) → Answers words before after status → IsComplete words before after status
+  complete status answers = record {
+    ends = λ its is met. ends_well its is met status answers;
+    done = λ tells its files is met map means tight. is_done its files is met tells map means tight status answers;
+  }
+
+-- where memory ran out, nothing more is promised
+pub complete_short : (words : List (List ℕ)) (before after : Surroundings) → IsComplete words before after Memory
+complete_short words before after = record {
+  ends = λ its is met. tt;
+  done = λ tells its files is met map means tight. tt;
 }
 
 -- a count that is 0 after a call did not rise

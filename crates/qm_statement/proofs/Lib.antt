@@ -1,5 +1,3 @@
-pub mod Commands
 pub mod Completeness
 pub mod LedLines
 pub mod ReadAgain
-pub mod Requests

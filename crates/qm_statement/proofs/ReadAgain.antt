@@ -1,8 +1,7 @@
 -- The bytes of a valid tree with its rows are read again.
-use Rattle.std.proofs.Common.{◌≡◌, ℕ, List, length, sym, subst, ap}
-use Rattle.qm_formats.specs.Layout.{got}
+use Rattle.std.proofs.Common.{◌≡◌, ℕ, List}
 use Rattle.qm_formats.specs.TreeFile.{TreeFile, IsValidFile}
-use Rattle.qm_formats.specs.FileLayout.{file_bytes, read_file}
+use Rattle.qm_formats.specs.FileLayout.{file_bytes}
 use Rattle.qm_formats.proofs.WholeFile.{read_file_again}
 use Rattle.qm_statement.specs.TreeBytes.{AreBytesOf}
 

@@ -4,11 +4,11 @@ use Rattle.qm_surroundings.specs.ShelfChanges.{IsKept, IsKeptElsewhere, MetNoFau
 use Rattle.qm_surroundings.specs.WholeFiles.{HoldsTheSame, HoldsPrefix}
 use Rattle.qm_mapfile.specs.declared.entity.MapFile.{MapFile}
 use Rattle.qm_grammar.specs.declared.fault.MapFault.{MapFault}
-use Rattle.qm_statement.specs.declared.command.Command.{Command}
+use Rattle.qm_commands.specs.declared.map_command.MapCommand.{MapCommand}
 use Rattle.qm_statement.specs.declared.status.Status.{Status}
 use Rattle.qm_statement.specs.declared.status.Status.TheVariants as status
 use Rattle.qm_statement.specs.declared.status.Status.TheVariants.{ReadFault, WriteFault}
-use Rattle.qm_statement.specs.FileNames.{FileNames}
+use Rattle.qm_commands.specs.FileNames.{FileNames}
 use Rattle.qm_statement.specs.FaultText.{fault_text}
 use Rattle.qm_statement.specs.Output.{Output, IsOutputOf}
 use Rattle.qm_statement.specs.TextMeans.{TextMeans}
@@ -19,24 +19,24 @@ use Rattle.qm_statement.specs.Written.{AreOthersKept, HoldsOut, HoldsListing}
 -- after it.
 
 -- what the command makes of the map that the text under MAP means
-pub record IsOutputOfText (before : ShelfState) (command : Command) (files : FileNames) (output : Output) : Type 0 where
+pub record IsOutputOfText (before : ShelfState) (command : MapCommand) (files : FileNames) (output : Output) : Type 0 where
   pub map : MapFile
   pub is_meant : TextMeans before files.map_name (Ok map)
   pub is_made : IsOutputOf command map output
 
 -- the file OUT has some of the first bytes of what is due in it
-abbrev pub HoldsPart : ShelfState → ShelfState → Command → FileNames → Type 0
+abbrev pub HoldsPart : ShelfState → ShelfState → MapCommand → FileNames → Type 0
 HoldsPart before after command files = (output : Output) × IsOutputOfText before command files output × HoldsPrefix after files.out_name output.file
 
 -- writing OUT was not begun or not ended: it is as it was or has a part of what is due in it, and every other file, FILE
 -- too, is as it was
-pub record IsUnfinished (before after : ShelfState) (command : Command) (files : FileNames) : Type 0 where
+pub record IsUnfinished (before after : ShelfState) (command : MapCommand) (files : FileNames) : Type 0 where
   pub others : IsKeptElsewhere before after files.out_name
   pub part : IsTrue before.tells → HoldsTheSame before after files.out_name ⊎ HoldsPart before after command files
 
 -- OUT is whole, and writing FILE was not begun or not ended: it is as it was or has some of the first bytes of the
 -- listing that is due in it; and every other file is as it was
-pub record IsListingUnfinished (before after : ShelfState) (command : Command) (files : FileNames) (name : List ℕ) : Type 0 where
+pub record IsListingUnfinished (before after : ShelfState) (command : MapCommand) (files : FileNames) (name : List ℕ) : Type 0 where
   pub is_asked : files.listing_name ≡ Some name
   pub output : Output
   pub is_due : IsOutputOfText before command files output
@@ -48,7 +48,7 @@ pub record IsListingUnfinished (before after : ShelfState) (command : Command) (
 
 -- OUT is what the command makes of the map that is meant, and so is FILE where a listing is made; this status and this
 -- text are due; and every other file is as it was, on a leak FILE too
-pub record IsWritten (before after : ShelfState) (command : Command) (files : FileNames) (status : Status) (text : List ℕ) : Type 0 where
+pub record IsWritten (before after : ShelfState) (command : MapCommand) (files : FileNames) (status : Status) (text : List ℕ) : Type 0 where
   pub output : Output
   pub is_due : IsOutputOfText before command files output
   pub is_status : output.status ≡ status
@@ -58,12 +58,12 @@ pub record IsWritten (before after : ShelfState) (command : Command) (files : Fi
   pub holds_listing : HoldsListing before after files output.listing
 
 -- memory ran out on the way: no call of the shelf failed, and OUT may be unfinished, or FILE behind a whole OUT
-pub record IsCutShort (before after : ShelfState) (command : Command) (files : FileNames) : Type 0 where
+pub record IsCutShort (before after : ShelfState) (command : MapCommand) (files : FileNames) : Type 0 where
   pub no_fault : MetNoFault before after
   pub unfinished : IsUnfinished before after command files ⊎ ((name : List ℕ) × IsListingUnfinished before after command files name)
 
 -- what comes of it where memory does not run out: a status, and the text that is due with it
-pub data ComesOf (before after : ShelfState) (command : Command) (files : FileNames) : Status → List ℕ → Type 0 where
+pub data ComesOf (before after : ShelfState) (command : MapCommand) (files : FileNames) : Status → List ℕ → Type 0 where
   -- MAP could not be read, and nothing was changed
   read_fault :
       FailedToRead before after files.map_name → IsKept before after →

@@ -10,7 +10,7 @@ use Rattle.qm_segments.specs.Segment.{Segment}
 use Rattle.qm_segments.specs.Ends.{IsLineOfSight, HoldLinesOfSight}
 use Rattle.qm_segments.specs.LedByPortals.{IsLedByPortals}
 use Rattle.qm_formats.specs.TreeFile.{TreeFile, IsValidFile}
-use Rattle.qm_statement.specs.declared.options.Options.{Options}
+use Rattle.qm_commands.specs.declared.options.Options.{Options}
 use Rattle.qm_statement.specs.declared.summary.Summary.{Summary}
 use Rattle.qm_statement.specs.Built.{IsBuilt}
 use Rattle.qm_statement.specs.Marked.{IsMarked, IsApartFromFilled}
@@ -31,8 +31,8 @@ IsLineOfSightIn map tree s = IsLineOfSight (HasContents (drawn_solids map)) tree
 -- No entity leaks. The tree is the map's with the leaves filled that are to be filled. It gives each point the contents that
 -- the map's drawn solids define there, but in filled leaves; and no chain of portals leads from one of these to an entity.
 -- Its portals lead each line of sight of the map from the first leaf to the last. Each of its numbered leaves has a row,
--- coarse or found in turns as the options ask, and the rows hold both ends of each line of sight. All of it can stand in a
--- tree file.
+-- coarse, or found in turns of as many workers as the options ask for, and the rows hold both ends of each line of sight. All of
+-- it can stand in a tree file.
 pub record IsCompiledWithoutLeak (map : MapFile) (options : Options) (file : TreeFile) (world : World) (summary : Summary) : Type 0 where
   pub tree : Tree
   pub origins : List Origin
@@ -45,7 +45,7 @@ pub record IsCompiledWithoutLeak (map : MapFile) (options : Options) (file : Tre
   pub led_by_portals : (s : Segment) → IsLineOfSightIn map file.tree s → IsLedByPortals file.tree world.portals s
   pub rows : List (List Bool)
   pub has_rows : file.rows ≡ Some rows
-  pub are_rows : AreRowsAsAsked options.fast world rows
+  pub are_rows : AreRowsAsAsked options.fast options.threads world rows
   pub hold_sight : HoldLinesOfSight (HasContents (drawn_solids map)) file.tree rows
   pub is_valid : IsValidFile file
   pub is_summary : IsSummary map tree origins file.tree rows summary

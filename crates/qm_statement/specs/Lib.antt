@@ -1,14 +1,14 @@
 pub mod Built
 pub mod ComesOf
-pub mod Command
 pub mod CompiledMap
 pub mod Complete
+pub mod DemoComesOf
 pub mod FaultText
-pub mod FileNames
+pub mod InspectComesOf
 pub mod Marked
 pub mod Origins
 pub mod Output
-pub mod Request
+pub mod RefusalText
 pub mod Rows
 pub mod Run
 pub mod StatusNumber
@@ -16,5 +16,8 @@ pub mod Summary
 pub mod TextMeans
 pub mod Texts
 pub mod TreeBytes
+pub mod TreeFaultText
+pub mod TreeMeans
 pub mod TreeOfMap
+pub mod Untouched
 pub mod Written

@@ -8,9 +8,9 @@ use Rattle.qm_formats.specs.TreeFile.{TreeFile}
 use Rattle.qm_listing.specs.declared.listing.Listing.{Listing}
 use Rattle.qm_listing.specs.Grammar.{listing_text}
 use Rattle.qm_listing.specs.WorldListing.{IsListingOf}
-use Rattle.qm_statement.specs.declared.command.Command.{Command}
-use Rattle.qm_statement.specs.declared.command.Command.TheVariants.{Compile, Format}
-use Rattle.qm_statement.specs.declared.options.Options.{Options}
+use Rattle.qm_commands.specs.declared.map_command.MapCommand.{MapCommand}
+use Rattle.qm_commands.specs.declared.map_command.MapCommand.TheVariants.{Compile, Format}
+use Rattle.qm_commands.specs.declared.options.Options.{Options}
 use Rattle.qm_statement.specs.declared.status.Status.{Status}
 use Rattle.qm_statement.specs.declared.status.Status.TheVariants.{Done, Leak}
 use Rattle.qm_statement.specs.declared.summary.Summary.{Summary}
@@ -65,6 +65,6 @@ pub record IsFormatOutput (map : MapFile) (output : Output) : Type 0 where
   pub is_text : output.text ≡ format_summary map
 
 -- what a command makes of a map
-unfoldable pub IsOutputOf : Command → MapFile → Output → Type 0
+unfoldable pub IsOutputOf : MapCommand → MapFile → Output → Type 0
 IsOutputOf (Compile options listed) map output = IsOutputWithoutLeak map options listed output ⊎ IsLeakOutput map output
 IsOutputOf Format map output = IsFormatOutput map output

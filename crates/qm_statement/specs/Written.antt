@@ -1,7 +1,7 @@
 use Rattle.std.specs.Prelude.{◌≡◌, ◌⊎◌, ℕ, List, Option, Some, None, IsTrue}
 use Rattle.qm_surroundings.specs.ShelfState.{ShelfState}
 use Rattle.qm_surroundings.specs.WholeFiles.{HoldsExactly}
-use Rattle.qm_statement.specs.FileNames.{FileNames}
+use Rattle.qm_commands.specs.FileNames.{FileNames}
 
 -- The files that a command writes: OUT, and FILE where a listing is made.
 

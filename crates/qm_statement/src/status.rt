@@ -9,10 +9,14 @@ pub enum Status {
     Leak,
     /// The text of the map has a fault, which is printed.
     MapFault,
-    /// Reading the map failed.
+    /// Reading the map or the tree file failed.
     ReadFault,
     /// Writing the file or printing failed.
     WriteFault,
     /// Memory ran out.
     Memory,
+    /// The bytes are no tree file. Their first fault is printed.
+    TreeFault,
+    /// A query is refused. The first one that is refused is printed.
+    QueryRefused,
 }

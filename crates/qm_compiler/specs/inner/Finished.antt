@@ -10,6 +10,7 @@ use Rattle.qm_formats.specs.TreeFile.{TreeFile}
 use Rattle.qm_coarse_rows.specs.Seen.{seen_of}
 use Rattle.qm_compiler.specs.declared.compiled.Compiled.{Compiled}
 use Rattle.qm_compiler.specs.declared.compiled.Compiled.TheVariants.{Done, Leak}
+use Rattle.qm_commands.specs.declared.options.Options.{Options}
 use Rattle.qm_statement.specs.declared.summary.Summary.{Summary}
 use Rattle.qm_statement.specs.Rows.{AreRowsAsAsked}
 
@@ -29,15 +30,15 @@ pub record IsCount (sealed : Bool) (brushes flat : ℕ) (world : World) (rows : 
   pub seen_is : summary.seen ≡ seen_of rows
 
 -- the tree in which the leaves of a row are filled, with its portals, rows and counts
-pub record IsFilledFile (fast sealed : Bool) (tree : Tree) (brushes flat : ℕ) (row : List Bool) (contacts : Contacts) (file : TreeFile) (world : World) (summary : Summary) : Type 0 where
+pub record IsFilledFile (options : Options) (sealed : Bool) (tree : Tree) (brushes flat : ℕ) (row : List Bool) (contacts : Contacts) (file : TreeFile) (world : World) (summary : Summary) : Type 0 where
   pub is_tree : file.tree ≡ marked_tree row tree
   pub are_contacts : AreContacts (marked_tree row tree) contacts
   pub is_world : world ≡ record { tree = marked_tree row tree; portals = portals_of (marked_tree row tree) contacts.touchings }
   pub rows : List (List Bool)
   pub has_rows : file.rows ≡ Some rows
-  pub are_rows : AreRowsAsAsked fast world rows
+  pub are_rows : AreRowsAsAsked options.fast options.threads world rows
   pub is_count : IsCount sealed brushes flat world rows summary
 
-unfoldable pub IsFinished : Bool → Bool → Tree → ℕ → ℕ → List Bool → Contacts → Compiled → Type 0
-IsFinished fast sealed tree brushes flat row contacts (Done file world summary) = IsFilledFile fast sealed tree brushes flat row contacts file world summary
-IsFinished fast sealed tree brushes flat row contacts (Leak file entity trail) = ⊥
+unfoldable pub IsFinished : Options → Bool → Tree → ℕ → ℕ → List Bool → Contacts → Compiled → Type 0
+IsFinished options sealed tree brushes flat row contacts (Done file world summary) = IsFilledFile options sealed tree brushes flat row contacts file world summary
+IsFinished options sealed tree brushes flat row contacts (Leak file entity trail) = ⊥

@@ -5,6 +5,6 @@ pub returns-clause-answers : goal.returns-clause-answers
 returns-clause-answers g c = c.run.ensures.answers
 
 pub returns-clause-ends : goal.returns-clause-ends
-returns-clause-ends g c command files is =
-    c.run.ensures.complete.ends command files is
-    (record { reading = never_rose; writing = never_rose; listing = λ name asked. never_rose; printing = never_rose })
+returns-clause-ends g c order is =
+    c.run.ensures.complete.ends order is
+    (record { reading = λ name read. never_rose; writing = λ name written. never_rose; printing = never_rose })

@@ -4,49 +4,48 @@ use Rattle.std.proofs.lemmas.List.{append-nil}
 use Rattle.qm_shelf.specs.FaultCounts.{SinkFaultCounted}
 use Rattle.qm_surroundings.specs.HeldFile.{ContinuesInto}
 use Rattle.qm_shelf.specs.declared.sink.SinkFault.{SinkFault}
-use Rattle.qm_compile.specs.inner.Outcome.{due_status, due_text}
-use Rattle.qm_statement.proofs.Completeness.{complete}
+use Rattle.qm_statement.proofs.Completeness.{complete, complete_short}
+use Rattle.qm_compile.specs.inner.Reported.{reported_status, reported_text}
 use Rattle.qm_compile.proofs.Reported.{answers_report, answers_failure, answers_no_room, answers_run_out}
 use Rattle.qm_compile.proofs.program.run.Goals as goal
 
 pub returns-in_default-clause-answers : goal.returns-in_default-clause-answers
 returns-in_default-clause-answers g c =
-    let short = c.in_default.ensures.memory in
-    answers_run_out _ _ _ (short.0, short.1, short.2, short.3, record { printed = λ tells. sym (append-nil _); faults = refl })
+    answers_run_out _ _ _ (c.in_default.ensures.memory, record { printed = λ tells. sym (append-nil _); faults = refl })
 
 pub returns-in-Ok-write-clause-answers : goal.returns-in-Ok-write-clause-answers
 returns-in-Ok-write-clause-answers g c =
-    let outcome = c.in-Ok.outcome in
+    let report = c.in-Ok.report in
     let wrote = c.in-Ok-write.ensures in
     let printed = λ (tells : IsTrue g.S.Sink.tells). wrote.bytes tells ∙ ap (λ (text : List ℕ). g.S.Sink.written c.args.out.now ++ text) c.text.ensures in
-    answers_report _ _ _ outcome c.status.result c.status.ensures (due_text outcome, c.in-Ok.ensures.due, record { printed = printed; faults = wrote.faults_counted })
+    answers_report _ _ _ report c.status.result c.status.ensures (reported_text report, c.in-Ok.ensures.due, record { printed = printed; faults = wrote.faults_counted })
 
 pub returns-in-Err-Failed-clause-answers : goal.returns-in-Err-Failed-clause-answers
 returns-in-Err-Failed-clause-answers g c =
-    let outcome = c.in-Ok.outcome in
+    let report = c.in-Ok.report in
     let sink = g.S.Sink in
     let wrote = c.in-Err-Failed.ensures in
     let rose = subst (λ (fault : SinkFault). SinkFaultCounted fault (sink.faults c.args.out.now) (sink.faults c.write.new.self)) c.in-Err-Failed.field-0-is wrote.faults_counted in
     let part = λ (tells : IsTrue sink.tells). subst (λ (text : List ℕ). ContinuesInto (sink.written c.args.out.now) text (sink.written c.write.new.self)) c.text.ensures (wrote.bytes tells) in
-    answers_failure _ _ _ (rose, (due_status outcome, due_text outcome, c.in-Ok.ensures.due, part))
+    answers_failure _ _ _ (rose, (reported_status report, reported_text report, c.in-Ok.ensures.due, part))
 
 pub returns-clause-answers : goal.returns-clause-answers
 returns-clause-answers g c =
-    let outcome = c.in-Ok.outcome in
+    let report = c.in-Ok.report in
     let sink = g.S.Sink in
     let wrote = c.in-Err-Memory.ensures in
     let same = subst (λ (fault : SinkFault). SinkFaultCounted fault (sink.faults c.args.out.now) (sink.faults c.write.new.self)) c.in-Err-Memory.field-0-is wrote.faults_counted in
     let part = λ (tells : IsTrue sink.tells). subst (λ (text : List ℕ). ContinuesInto (sink.written c.args.out.now) text (sink.written c.write.new.self)) c.text.ensures (wrote.bytes tells) in
-    answers_no_room _ _ _ (same, (due_status outcome, due_text outcome, c.in-Ok.ensures.due, part))
+    answers_no_room _ _ _ (same, (reported_status report, reported_text report, c.in-Ok.ensures.due, part))
 
 pub returns-in_default-clause-complete : goal.returns-in_default-clause-complete
-returns-in_default-clause-complete g c = complete _ _ _ _ (returns-in_default-clause-answers g c)
+returns-in_default-clause-complete g c = complete_short _ _ _
 
 pub returns-in-Ok-write-clause-complete : goal.returns-in-Ok-write-clause-complete
-returns-in-Ok-write-clause-complete g c = complete _ _ _ _ (returns-in-Ok-write-clause-answers g c)
+returns-in-Ok-write-clause-complete g c = complete _ _ _ c.in-Ok.ensures.one _ (returns-in-Ok-write-clause-answers g c)
 
 pub returns-in-Err-Failed-clause-complete : goal.returns-in-Err-Failed-clause-complete
-returns-in-Err-Failed-clause-complete g c = complete _ _ _ _ (returns-in-Err-Failed-clause-answers g c)
+returns-in-Err-Failed-clause-complete g c = complete _ _ _ c.in-Ok.ensures.one _ (returns-in-Err-Failed-clause-answers g c)
 
 pub returns-clause-complete : goal.returns-clause-complete
-returns-clause-complete g c = complete _ _ _ _ (returns-clause-answers g c)
+returns-clause-complete g c = complete_short _ _ _

@@ -7,10 +7,10 @@ use Rattle.qm_compiler.proofs.CompiledMap.{leaking_map, sealed_map, empty_map}
 use Rattle.qm_compiler.proofs.compiling.compile.Goals as goal
 
 pub flood-requires-clause-in_order : goal.flood-requires-clause-in_order
-flood-requires-clause-in_order c = rw c.deref.ensures.value (origins_in_order c.args.map.now c.in_ok-origins.origins.items c.in_ok-origins.ensures)
+flood-requires-clause-in_order g c = rw c.deref.ensures.value (origins_in_order c.args.map.now c.in_ok-origins.origins.items c.in_ok-origins.ensures)
 
 pub returns-in-Sealed : goal.returns-in-Sealed
-returns-in-Sealed c =
+returns-in-Sealed g c =
     let built = c.in_ok-built.built in
     let found = rw c.in-Sealed.is at (subst (λ (origins : List Origin). IsFloodOf built.tree origins c.in_ok-filled.field-0) c.deref.ensures.value c.in_ok-filled.ensures) in
     IfOk-weaker c.finish.result _ _
@@ -18,7 +18,7 @@ returns-in-Sealed c =
     found.0 found.1 c.in_ok-contacts.ensures made) c.finish.ensures
 
 pub returns-in-NoEntity : goal.returns-in-NoEntity
-returns-in-NoEntity c =
+returns-in-NoEntity g c =
     let built = c.in_ok-built.built in
     let found = rw c.in-NoEntity.is at (subst (λ (origins : List Origin). IsFloodOf built.tree origins c.in_ok-filled.field-0) c.deref.ensures.value c.in_ok-filled.ensures) in
     let finished = rw c.in_ok-filled-in-NoEntity.ensures at c.finish-in-NoEntity.ensures in
@@ -27,7 +27,7 @@ returns-in-NoEntity c =
     found c.in_ok-contacts.ensures made) finished
 
 pub returns : goal.returns
-returns c =
+returns g c =
     let built = c.in_ok-built.built in
     let found = rw c.in-Leak.is at (subst (λ (origins : List Origin). IsFloodOf built.tree origins c.in_ok-filled.field-0) c.deref.ensures.value c.in_ok-filled.ensures) in
     leaking_map c.args.map.now c.args.options.now built.tree built.brushes built.flat c.in_ok-built.ensures c.in_ok-origins.origins.items c.in_ok-origins.ensures (record { tree = built.tree; rows = _ }) c.in-Leak.entity c.in-Leak.trail refl refl found

@@ -7,11 +7,11 @@ use Rattle.qm_compiler.specs.inner.Finished.{IsCount, IsFinished}
 use Rattle.qm_compiler.proofs.compiling.finish.Goals as goal
 
 pub world-requires : goal.world-requires
-world-requires c = rw c.with_filled-tree.ensures (marked_contacts _ _ _ c.requires.contacts)
+world-requires g c = rw c.with_filled-tree.ensures (marked_contacts _ _ _ c.requires.contacts)
 
 pub returns : goal.returns
 unfolding IsFinished
-returns c =
+returns g c =
     let world_of : Tree → World = λ t. record { tree = t; portals = portals_of t c.args.contacts.touchings } in
     record {
       is_tree = c.with_filled-tree.ensures;

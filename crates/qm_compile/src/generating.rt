@@ -1,0 +1,39 @@
+//! Compiling a generated map.
+
+ghost use Rattle.std.specs.Prelude.{◌≤◌, IfOk, string_bytes};
+ghost use Rattle.qm_statement.specs.DemoComesOf.{IsSummaryOfRooms};
+
+use qm_commands::Options;
+use qm_compiler::{Compiled, compile};
+use qm_crew::Gate;
+use qm_gen::{GenFault, rooms};
+use qm_make::summary_text;
+use std::alloc::{AllocError, Global};
+use std::thread::Threads;
+
+/// The summary of the map of so many rooms, compiled with one worker.
+pub fn sum_up_rooms<R: Threads + Sync, G: Gate + Sync>(
+    rt: &R,
+    alloc: Global,
+    count: u32,
+    number: u64,
+    gate: &G,
+) -> Result<String, AllocError>
+    requires some { 1 ≤ count }
+    requires few { count ≤ 64 }
+    ensures { IfOk result (λ text. IsSummaryOfRooms count number (string_bytes text)) }
+{
+    let map = match rooms(alloc, count, number) {
+        Ok(map) => map,
+        Err(GenFault::SizeRange) => unreachable!(),
+        Err(GenFault::Memory) => return Err(AllocError),
+    };
+    let options = Options {
+        threads: 1,
+        fast: false,
+    };
+    match compile(rt, alloc, &map, &options, gate)? {
+        Compiled::Done { summary, .. } => summary_text(alloc, &summary),
+        Compiled::Leak { .. } => unreachable!(),
+    }
+}

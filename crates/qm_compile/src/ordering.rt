@@ -1,0 +1,73 @@
+//! Carrying out what words ask for.
+
+ghost use Rattle.std.specs.Prelude.{IfOk, OnErr};
+ghost use Rattle.qm_shelf.specs.SeenForms.{shelf_state};
+ghost use Rattle.qm_words.specs.SeenWords.{order_of};
+ghost use Rattle.qm_statement.specs.Run.{OrderComesOf};
+ghost use Rattle.qm_compile.specs.inner.Reported.{reported_status, reported_text};
+ghost use Rattle.qm_compile.specs.inner.Stopped.{IsOfWords, IsStopped};
+
+use crate::generating::sum_up_rooms;
+use crate::inspecting::inspect;
+use crate::report::Report;
+use qm_commands::{MapCommand, Options};
+use qm_crew::Gate;
+use qm_make::{Files, carry_out_command};
+use qm_shelf::Shelf;
+use qm_words::Order;
+use std::alloc::{AllocError, Global};
+use std::thread::Threads;
+
+/// Carries out what words ask for on the shelf, and says what came of it.
+pub fn carry_out_order<R: Threads + Sync, H: Shelf, G: Gate + Sync>(
+    rt: &R,
+    alloc: Global,
+    shelf: &mut H,
+    order: Order<'_>,
+    gate: &G,
+) -> Result<Report, AllocError>
+    requires of_words { IsOfWords (order_of order) }
+    ensures due { IfOk result (λ report. OrderComesOf (shelf_state H.Shelf shelf.old) (shelf_state H.Shelf shelf.new) (order_of order.entry)
+        (reported_status report) (reported_text report)) }
+    ensures memory { OnErr result (IsStopped (order_of order.entry) (shelf_state H.Shelf shelf.old) (shelf_state H.Shelf shelf.new)) }
+{
+    match order {
+        Order::Compile {
+            map,
+            out,
+            prt,
+            threads,
+            fast,
+        } => {
+            let command = MapCommand::Compile {
+                options: Options { threads, fast },
+                listed: prt.is_some(),
+            };
+            let files = Files {
+                map_name: map,
+                out_name: out,
+                listing_name: prt,
+            };
+            Ok(Report::OfMap(carry_out_command(rt, alloc, shelf, command, &files, gate)?))
+        }
+        Order::Format { map, out } => {
+            let files = Files {
+                map_name: map,
+                out_name: out,
+                listing_name: None,
+            };
+            Ok(Report::OfMap(carry_out_command(
+                rt,
+                alloc,
+                shelf,
+                MapCommand::Format,
+                &files,
+                gate,
+            )?))
+        }
+        Order::Inspect { tree, queries } => inspect(alloc, shelf, tree, &queries),
+        Order::Demo { rooms, number } => {
+            Ok(Report::SummedUp(sum_up_rooms(rt, alloc, rooms, number, gate)?))
+        }
+    }
+}

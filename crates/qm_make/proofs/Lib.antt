@@ -1,0 +1,6 @@
+pub mod BrushCounts
+pub mod MadeTexts
+pub mod Outcomes
+pub mod PutOuts
+pub mod ReadMeanings
+pub mod Writings

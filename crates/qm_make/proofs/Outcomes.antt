@@ -1,0 +1,79 @@
+-- What comes of reading a text, making files of it and writing these, one after another.
+use Rattle.std.proofs.Common.{◌≡◌, ◌⊎◌, inl, inr, subst, refl, Ok}
+use Rattle.qm_surroundings.specs.ShelfState.{ShelfState}
+use Rattle.qm_surroundings.specs.ShelfChanges.{IsKept, MetNoFault}
+use Rattle.qm_surroundings.specs.WholeFiles.{HoldsTheSame, HoldsUnfinished}
+use Rattle.qm_shelf.specs.declared.shelf.ShelfFault.{ShelfFault}
+use Rattle.qm_shelf.specs.declared.shelf.ShelfFault.TheVariants.{Failed, Memory}
+use Rattle.qm_mapfile.specs.declared.entity.MapFile.{MapFile}
+use Rattle.qm_commands.specs.declared.map_command.MapCommand.{MapCommand}
+use Rattle.qm_statement.specs.declared.status.Status.TheVariants.{WriteFault}
+use Rattle.qm_commands.specs.FileNames.{FileNames}
+use Rattle.qm_statement.specs.ComesOf.{ComesOf, IsOutputOfText, HoldsPart, IsUnfinished, IsListingUnfinished, IsCutShort, write_fault, listing_fault, written}
+use Rattle.qm_statement.specs.Output.{Output, IsOutputOf}
+use Rattle.qm_statement.specs.TextMeans.{TextMeans}
+use Rattle.qm_statement.specs.Texts.{write_fault_text}
+use Rattle.qm_make.specs.inner.Writing.{IsAllWritten, StopsInOut, StopsInListing}
+use Rattle.qm_make.proofs.Writings.{written_since, stopped_since, listing_stopped_since}
+
+-- nothing was written
+pub kept_unfinished : (before after : ShelfState) (command : MapCommand) (files : FileNames) → IsKept before after → IsUnfinished before after command files
+kept_unfinished before after command files kept = record {
+  others = λ name other. kept name;
+  part = λ tells. inl (kept files.out_name);
+}
+
+module _ (before after : ShelfState) (command : MapCommand) (files : FileNames) (output : Output) (due : IsOutputOfText before command files output) where
+  all_due : IsAllWritten before after files output → ComesOf before after command files output.status output.text
+  all_due all = written
+      (record { output = output; is_due = due; is_status = refl; is_text = refl; others = all.others; holds_out = all.holds_out; holds_listing = all.holds_listing })
+      all.no_fault
+
+  part_of : HoldsUnfinished before after files.out_name output.file → HoldsTheSame before after files.out_name ⊎ HoldsPart before after command files
+  part_of (inl same) = inl same
+  part_of (inr part) = inr (output, due, part)
+
+  out_unfinished : (fault : ShelfFault) → StopsInOut before after files output fault → IsUnfinished before after command files
+  out_unfinished fault stops = record { others = stops.others; part = λ tells. part_of (stops.part tells) }
+
+  listing_unfinished : (fault : ShelfFault) (stops : StopsInListing before after files output fault) → IsListingUnfinished before after command files stops.name
+  listing_unfinished fault stops = record {
+    is_asked = stops.is_asked;
+    output = output;
+    is_due = due;
+    listing = stops.bytes;
+    is_listing = stops.is_due;
+    others = stops.others;
+    holds_out = stops.holds_out;
+    part = stops.part;
+  }
+
+  fault_due : StopsInOut before after files output Failed ⊎ StopsInListing before after files output Failed → ComesOf before after command files WriteFault write_fault_text
+  fault_due (inl stops) = write_fault due.is_meant stops.means (out_unfinished Failed stops)
+  fault_due (inr stops) = listing_fault stops.means (listing_unfinished Failed stops)
+
+  memory_due : StopsInOut before after files output Memory ⊎ StopsInListing before after files output Memory → IsCutShort before after command files
+  memory_due (inl stops) = record { no_fault = stops.means; unfinished = inl (out_unfinished Memory stops) }
+  memory_due (inr stops) = record { no_fault = stops.means; unfinished = inr (stops.name, listing_unfinished Memory stops) }
+
+-- after MAP was read
+module _ (before between after : ShelfState) (command : MapCommand) (files : FileNames) (map : MapFile) (output : Output) (tells_are : between.tells ≡ before.tells) (kept : IsKept before between) (no_fault : MetNoFault before between) (means : TextMeans before files.map_name (Ok map)) (made : IsOutputOf command map output) where
+  its_due : IsOutputOfText before command files output
+  its_due = record { map = map; is_meant = means; is_made = made }
+
+  pub written_due : IsAllWritten between after files output → ComesOf before after command files output.status output.text
+  written_due all = all_due before after command files output its_due (written_since before between after files output tells_are kept no_fault all)
+
+  stops_since : (fault : ShelfFault) → StopsInOut between after files output fault ⊎ StopsInListing between after files output fault → StopsInOut before after files output fault ⊎ StopsInListing before after files output fault
+  stops_since fault (inl stops) = inl (stopped_since before between after files output tells_are kept no_fault fault stops)
+  stops_since fault (inr stops) = inr (listing_stopped_since before between after files output tells_are kept no_fault fault stops)
+
+  pub write_fault_due : (fault : ShelfFault) → fault ≡ Failed → StopsInOut between after files output fault ⊎ StopsInListing between after files output fault → ComesOf before after command files WriteFault write_fault_text
+  write_fault_due fault is stops =
+      fault_due before after command files output its_due
+      (stops_since Failed (subst (λ (f : ShelfFault). StopsInOut between after files output f ⊎ StopsInListing between after files output f) is stops))
+
+  pub cut_short : (fault : ShelfFault) → fault ≡ Memory → StopsInOut between after files output fault ⊎ StopsInListing between after files output fault → IsCutShort before after command files
+  cut_short fault is stops =
+      memory_due before after command files output its_due
+      (stops_since Memory (subst (λ (f : ShelfFault). StopsInOut between after files output f ⊎ StopsInListing between after files output f) is stops))

@@ -1,0 +1,4 @@
+pub mod SeenFiles
+pub mod StatusAndText
+pub mod Workers
+pub mod inner

@@ -1,0 +1,88 @@
+//! From a map to the bytes of its tree file and its listing, and what is printed of it.
+
+ghost use Rattle.std.specs.Prelude.{◌≤◌, IfOk};
+ghost use Rattle.qm_grammar.specs.Valid.{IsValidMap};
+ghost use Rattle.std.specs.Option.{option_map};
+ghost use Rattle.qm_commands.specs.declared.map_command.MapCommand.TheVariants.{Compile};
+ghost use Rattle.qm_statement.specs.Output.{IsListed, IsOutputOf};
+ghost use Rattle.qm_make.specs.inner.Made.{output_of};
+ghost use Rattle.qm_make.specs.inner.PutOut.{IsPutOut};
+
+use crate::made::Product;
+use crate::outcome::Outcome;
+use crate::printed::{leak_text, summary_text};
+use qm_commands::Options;
+use qm_compiler::{Compiled, compile};
+use qm_crew::Gate;
+use qm_file::encode;
+use qm_mapfile::MapFile;
+use qm_portal::World;
+use qm_prt::print;
+use std::alloc::{AllocError, Global};
+use std::thread::Threads;
+
+/// Compiles a map to the bytes of a tree file, and to a listing where one is asked for.
+pub fn compile_to_file<R: Threads + Sync, G: Gate + Sync>(
+    rt: &R,
+    alloc: Global,
+    map: &MapFile,
+    options: Options,
+    listed: bool,
+    gate: &G,
+) -> Result<Product, AllocError>
+    requires valid { IsValidMap map.now }
+    requires some { 1 ≤ options.threads }
+    requires not_too_many { options.threads ≤ 64 }
+    ensures { IfOk result (λ product. IsOutputOf (Compile options listed) map.now (output_of product)) }
+{
+    let compiled = compile(rt, alloc, map, &options, gate)?;
+    put_out(alloc, listed, compiled)
+}
+
+/// The bytes of what a map compiled to, with what is printed of it.
+fn put_out(alloc: Global, listed: bool, compiled: Compiled) -> Result<Product, AllocError>
+    ensures { IfOk result (λ product. IsPutOut listed compiled (output_of product)) }
+{
+    match compiled {
+        Compiled::Done {
+            file,
+            world,
+            summary,
+        } => {
+            let listing = listing_of(alloc, listed, &world)?;
+            drop(world);
+            let text = summary_text(alloc, &summary)?;
+            let file = encode(alloc, &file)?;
+            Ok(Product {
+                file,
+                listing,
+                outcome: Outcome::Done(text),
+            })
+        }
+        Compiled::Leak {
+            file,
+            entity,
+            trail,
+        } => {
+            let text = leak_text(alloc, entity, trail.as_slice())?;
+            let file = encode(alloc, &file)?;
+            Ok(Product {
+                file,
+                listing: None,
+                outcome: Outcome::Leak(text),
+            })
+        }
+    }
+}
+
+/// The text of a listing of a world, where one is asked for.
+fn listing_of(alloc: Global, listed: bool, world: &World) -> Result<Option<Vec<u8>>, AllocError>
+    ensures { IfOk result (λ listing. IsListed listed world.now (option_map (λ bytes. bytes.items) listing)) }
+{
+    if !listed {
+        return Ok(None);
+    }
+    let mut bytes = Vec::new(alloc);
+    print(alloc, world, &mut bytes)?;
+    Ok(Some(bytes))
+}

@@ -1,0 +1,9 @@
+use Rattle.std.specs.Prelude.{ℕ, List, ◌++◌, codes}
+use Rattle.std.specs.Fmt.{decimal}
+use Rattle.qm_answers.specs.declared.query_fault.QueryFault.{QueryFault}
+use Rattle.qm_answers.specs.AnswerText.{words_of_refusal}
+use Rattle.qm_statement.specs.Texts.{line}
+
+-- the line that is printed of a query that is refused: its number among the queries, of which the first has the number 1, and why
+unfoldable pub refusal_text : ℕ → QueryFault → List ℕ
+refusal_text number fault = line (codes "query " ++ (decimal number ++ (codes " refused: " ++ words_of_refusal fault)))

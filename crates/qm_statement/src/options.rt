@@ -1,8 +1,0 @@
-/// How a map is compiled.
-#[derive(Clone, Copy)]
-pub struct Options {
-    /// How many workers look for finer rows: 1 to 64. So far one does, whatever is asked. Coarse rows take none.
-    pub threads: u8,
-    /// Whether the rows are coarse.
-    pub fast: bool,
-}
