@@ -1,4 +1,5 @@
 pub mod TurnLaws
+pub mod TurnListLaws
 pub mod ChainEnds
 pub mod AwaitedLeaves
 pub mod Narrowing

@@ -1,12 +1,10 @@
--- Rows that are compared, or cut, word by word.
-use Rattle.std.proofs.Common.{◌≡◌, ⊎_elim, ℕ, ◌+◌, ◌*◌, ◌/◌, ◌%◌, ◌^◌, ◌<◌, ◌≤◌, Bool, true, false, ◌&&◌, List, length, get_or, bit_and, w64, refl, sym, ap, ◌∙◌, subst, arith}
+-- Rows that are compared word by word.
+use Rattle.std.proofs.Common.{◌≡◌, ⊎_elim, ℕ, ◌+◌, ◌*◌, ◌/◌, ◌%◌, ◌^◌, ◌<◌, ◌≤◌, Bool, true, false, List, length, get_or, bit_and, w64, refl, sym, ap, ◌∙◌, subst, arith}
 use Rattle.std.specs.Int.{bit_not}
-use Rattle.std.proofs.lemmas.Bool.{cases_eq, and_parts}
-use Rattle.qm_lists.specs.Word.{has_bit, IsWord, IsMasked}
+use Rattle.std.proofs.lemmas.Bool.{cases_eq}
+use Rattle.qm_lists.specs.Word.{has_bit, IsWord}
 use Rattle.qm_lists.proofs.Bits.{has_bit-and, has_bit-not, has_bit-zero}
 use Rattle.qm_lists.proofs.WorkLists.{place_within}
-use Rattle.qm_lists.specs.CutTo.{IsCutTo}
-use Rattle.qm_chains.specs.inner.Cone.{IsCutUpTo}
 use Rattle.qm_chains.specs.inner.Narrowing.{ShowsNothingNew, ShowsNothingNewUpTo}
 use Rattle.qm_chains.proofs.TriedPortals.{in_or_clear}
 
@@ -63,47 +61,3 @@ module _ (Must : ℕ → Type 0) (mask found : List Bool) where
   shows_nothing words enough so_far n in_mask must =
       let inside = place_within mask n in_mask in
       so_far n (omega (arith, enough, inside)) in_mask must
-
--- ---- a row is cut to another
-
-pub cut_none : (other row : List Bool) → IsCutUpTo 0 other row row
-cut_none other row = record {
-  same_length = refl;
-  done = λ n before. absurd (omega (arith, before));
-  left = λ n after. refl;
-}
-
-pub cut_more : (words word : ℕ) (other old row new : List Bool) → IsCutUpTo words other old row → IsWord other words word → IsMasked row new words word → IsCutUpTo (words + 1) other old new
-cut_more words word other old row new so_far is_word masked = record {
-  same_length = masked.same_length ∙ so_far.same_length;
-  done = λ n before. ⊎_elim
-      (λ here.
-      let bit : n % 64 < 64 = omega arith in
-      let place : 64 * words + n % 64 ≡ n = omega (arith, here) in
-      let at : get_or new n false ≡ (get_or row n false && has_bit word (n % 64)) = subst (λ (m : ℕ). get_or new m false ≡ (get_or row m false && has_bit word (n % 64))) place (masked.in_word (n % 64) bit) in
-      let other_is : has_bit word (n % 64) ≡ get_or other n false = is_word (n % 64) bit ∙ ap (λ (m : ℕ). get_or other m false) place in
-      let old_is : get_or row n false ≡ get_or old n false = so_far.left n (omega (arith, here)) in (
-        (λ is. let parts = and_parts (get_or row n false) (has_bit word (n % 64)) (sym at ∙ is) in (sym old_is ∙ parts.0, sym other_is ∙ parts.1)),
-        (λ both. let first = old_is ∙ both.0 in let second = other_is ∙ both.1 in at ∙ rw (first, second) refl),
-      ))
-      (λ elsewhere.
-      let same : get_or new n false ≡ get_or row n false = masked.elsewhere n elsewhere in
-      let was = so_far.done n (omega (arith, before, elsewhere)) in
-      ((λ is. was.0 (sym same ∙ is)), (λ both. same ∙ was.1 both)))
-      (cases_eq (n / 64) words);
-  left = λ n after. masked.elsewhere n (λ here. let never : words + 1 ≤ words = omega (arith, after, here) in absurd (omega (arith, never))) ∙ so_far.left n (omega (arith, after));
-}
-
-pub cut_all : (words : ℕ) (other old new : List Bool) → length old ≤ 64 * words → IsCutUpTo words other old new → IsCutTo other old new
-cut_all words other old new enough so_far = record {
-  same_length = so_far.same_length;
-  exactly = λ n. (
-    (λ is.
-        let inside = place_within new n is in
-        let long = so_far.same_length in
-        (so_far.done n (omega (arith, enough, inside, long))).0 is),
-    (λ both.
-        let inside = place_within old n both.0 in
-        (so_far.done n (omega (arith, enough, inside))).1 both),
-  );
-}

@@ -1,3 +1,4 @@
 pub mod Shown
 pub mod Turns
+pub mod TurnLists
 pub mod inner

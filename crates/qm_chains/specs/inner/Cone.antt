@@ -1,4 +1,4 @@
-use Rattle.std.specs.Prelude.{◌≡◌, ◌⊎◌, ◌↔◌, ℕ, ◌+◌, ◌/◌, ◌<◌, ◌≤◌, Bool, false, not, List, length, slice_index_or, Contains, Option, MatchOption}
+use Rattle.std.specs.Prelude.{◌≡◌, ◌⊎◌, ℕ, ◌+◌, Bool, not, List, length, Contains, Option, MatchOption}
 use Rattle.std.specs.List.{count_by}
 use Rattle.qm_lists.specs.Unseen.{HasUnseen}
 use Rattle.qm_lists.specs.Reach.{Reach}
@@ -75,9 +75,3 @@ pub record AreEntered (goes : ℕ → Type 0) (old new : List Bool) (old_due new
   pub only : (n : ℕ) → Contains new_due n → Contains old_due n ⊎ IsIn new n
   pub all : (to : ℕ) → goes to → IsIn new to
   pub weight : count_by not new + length new_due ≡ count_by not old + length old_due
-
--- a row is cut to another one so far, by the first words of both
-pub record IsCutUpTo (words : ℕ) (other old new : List Bool) : Type 0 where
-  pub same_length : length new ≡ length old
-  pub done : (n : ℕ) → n / 64 < words → IsIn new n ↔ IsIn old n × IsIn other n
-  pub left : (n : ℕ) → words ≤ n / 64 → slice_index_or new n false ≡ slice_index_or old n false
