@@ -1,0 +1,24 @@
+use Rattle.std.proofs.Common.{◌∙◌, refl, arith}
+use Rattle.qm_board.specs.PassOf.{world_of}
+use Rattle.qm_board.proofs.StepRules.{mark_allowed}
+use Rattle.qm_board.proofs.row_board.RowBoard.finish.Goals as goal
+
+pub fetch_or-requires : goal.fetch_or-requires
+fetch_or-requires c =
+    let sized = c.args.self.now.sized in
+    let portals = sized.portals_are in
+    let words = sized.words_are in
+    let inside = c.requires.portal_in_range in
+    (c.requires.pass.same_table, omega (arith, portals, words, inside), mark_allowed (world_of c.args.self.now) _ _ _ c.requires.pass.same_world c.args.portal inside c.requires.bound)
+
+pub returns-clause-pass : goal.returns-clause-pass
+returns-clause-pass c =
+    let told = c.fetch_or.ensures.2 (world_of c.args.self.now) c.args.portal c.requires.pass.same_world c.requires.portal_in_range refl in
+    record {
+      same_table = c.fetch_or.ensures.0 ∙ c.requires.pass.same_table;
+      same_world = told.same_world ∙ c.requires.pass.same_world;
+      no_slots = told.same_slots ∙ c.requires.pass.no_slots;
+    }
+
+pub returns-clause-finished : goal.returns-clause-finished
+returns-clause-finished c = (c.fetch_or.ensures.2 (world_of c.args.self.now) c.args.portal c.requires.pass.same_world c.requires.portal_in_range refl).found

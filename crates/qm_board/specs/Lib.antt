@@ -1,0 +1,9 @@
+pub mod WorldSets
+pub mod PassOf
+pub mod ReadWords
+pub mod Published
+pub mod Ceilings
+pub mod GoesOn
+pub mod Opened
+pub mod Closed
+pub mod inner

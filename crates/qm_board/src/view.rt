@@ -1,0 +1,19 @@
+ghost use Rattle.std.specs.Prelude.{Option};
+ghost use Rattle.std.specs.Borrow.{ftrue};
+ghost use Rattle.std.specs.Coded.{codes};
+ghost use Rattle.qm_partition.specs.inner.TreeCode.{tree_code};
+ghost use Rattle.qm_contacts.specs.World.{World};
+ghost use Rattle.qm_shared_rows.specs.Findings.{Findings};
+
+use std::marker::Model;
+
+/// What a pass knows: the world of the board, or none once it is spent, and what its own steps have found. No value of it is
+/// made.
+pub struct View {
+    pub ghost world: { Option World } by { Prim.hlevel (codes, tree_code) },
+    pub ghost findings: { Findings } by { Prim.hlevel codes },
+}
+
+impl Model for View {
+    ghost also_owns = { λ _. ftrue };
+}

@@ -1,0 +1,5 @@
+pub mod WordPlaces
+pub mod PassLists
+pub mod KeptParts
+pub mod KeptSteps
+pub mod OpeningLaws
