@@ -1,0 +1,4 @@
+pub mod TakenTurns
+pub mod WorkLists
+pub mod SettledPortals
+pub mod CrewRows

@@ -1,0 +1,130 @@
+//! Once workers have returned: what is left is done by the caller.
+
+ghost use Rattle.std.specs.Prelude.{◌≡◌, ◌⊎◌, ℕ, ◌+◌, ◌<◌, ◌∷◌, All, length, Contains, IfOk};
+ghost use Rattle.qm_lists.specs.WorkList.{IsIn};
+ghost use Rattle.qm_board.specs.PassOf.{world_of, findings_of, IsPassOf};
+ghost use Rattle.qm_crew.specs.inner.TurnsTaken.{IsInSomeList, AreSettled};
+
+use crate::gate::OpenGate;
+use crate::turn::take_turn;
+use qm_bits::BitRow;
+use qm_board::{Pass, RowBoard};
+use qm_lists::Items;
+use qm_portal::World;
+use std::alloc::{AllocError, Global};
+
+/// What the caller goes on with: a pass, and the first list.
+#[derive(Drop)]
+pub(crate) struct Settling {
+    pub(crate) pass: Pass,
+    pub(crate) first: Vec<u64>,
+}
+
+/// Looks for each portal that is not done, or stands in no list. It takes the turns of these in order, and appends each to the
+/// first list.
+pub(crate) fn settle(
+    alloc: Global,
+    world: &World,
+    board: &RowBoard,
+    begun: Settling,
+    others: &[Items<u64>],
+) -> Result<Settling, AllocError>
+    requires same_world { world_of board.now ≡ world.now }
+    requires pass { IsPassOf board.now begun.pass }
+    requires settled { AreSettled world.now (findings_of begun.pass) begun.first.items others.now 0 }
+    ensures pass { IfOk result (λ ended. IsPassOf board.now ended.pass) }
+    ensures settled { IfOk result (λ ended. AreSettled world.now (findings_of ended.pass) ended.first.items others.now (length world.now.portals)) }
+{
+    let listed = listed(alloc, world, begun.first.as_slice(), others)?;
+    settle_each(alloc, world, board, begun, others, &listed)
+}
+
+/// Settles all portals in order, where all that are listed stand in a list.
+fn settle_each(
+    alloc: Global,
+    world: &World,
+    board: &RowBoard,
+    begun: Settling,
+    others: &[Items<u64>],
+    listed: &BitRow,
+) -> Result<Settling, AllocError>
+    requires same_world { world_of board.now ≡ world.now }
+    requires long { length listed.now ≡ length world.now.portals }
+    requires stands { (number : ℕ) → IsIn listed.now number → IsInSomeList (begun.first.items ∷ others.now) number }
+    requires pass { IsPassOf board.now begun.pass }
+    requires settled { AreSettled world.now (findings_of begun.pass) begun.first.items others.now 0 }
+    ensures pass { IfOk result (λ ended. IsPassOf board.now ended.pass) }
+    ensures settled { IfOk result (λ ended. AreSettled world.now (findings_of ended.pass) ended.first.items others.now (length world.now.portals)) }
+{
+    let mut settling = begun;
+    for portal in 0..world.portals() {
+        settling = settle_one(alloc, world, board, settling, others, listed, portal)?;
+    }
+    Ok(settling)
+}
+
+/// Takes the turn of a portal where it is not done or not listed.
+fn settle_one(
+    alloc: Global,
+    world: &World,
+    board: &RowBoard,
+    settling: Settling,
+    others: &[Items<u64>],
+    listed: &BitRow,
+    portal: u64,
+) -> Result<Settling, AllocError>
+    requires same_world { world_of board.now ≡ world.now }
+    requires portal_in_range { portal < length world.now.portals }
+    requires long { length listed.now ≡ length world.now.portals }
+    requires stands { IsIn listed.now portal → IsInSomeList (settling.first.items ∷ others.now) portal }
+    requires pass { IsPassOf board.now settling.pass }
+    requires settled { AreSettled world.now (findings_of settling.pass) settling.first.items others.now portal }
+    ensures pass { IfOk result (λ ended. IsPassOf board.now ended.pass) }
+    ensures settled { IfOk result (λ ended. AreSettled world.now (findings_of ended.pass) ended.first.items others.now (portal + 1)) }
+    ensures gained { IfOk result (λ ended. (number : ℕ) → IsInSomeList (settling.first.items ∷ others.now) number → IsInSomeList (ended.first.items ∷ others.now) number) }
+{
+    let Settling {
+        mut pass,
+        mut first,
+    } = settling;
+    let stands = listed.get(portal);
+    let done = board.is_done(&mut pass, portal);
+    if done && stands {
+        return Ok(Settling { pass, first });
+    }
+    let (pass, taken) = take_turn(alloc, world, board, &OpenGate, pass, portal);
+    taken?;
+    first.push(portal)?;
+    Ok(Settling { pass, first })
+}
+
+/// Which portals stand in a list.
+fn listed(
+    alloc: Global,
+    world: &World,
+    first: &[u64],
+    others: &[Items<u64>],
+) -> Result<BitRow, AllocError>
+    requires first { All (λ number. number < length world.now.portals) first.now }
+    requires others { All (All (λ number. number < length world.now.portals)) others.now }
+    ensures long { IfOk result (λ row. length row ≡ length world.now.portals) }
+    ensures stands { IfOk result (λ row. (number : ℕ) → IsIn row number → IsInSomeList (first.now ∷ others.now) number) }
+{
+    let mut row = BitRow::with_len(alloc, world.portals())?;
+    mark_all(&mut row, first);
+    for list in others {
+        mark_all(&mut row, list.as_slice());
+    }
+    Ok(row)
+}
+
+/// Sets the places that a list has.
+fn mark_all(row: &mut BitRow, list: &[u64])
+    requires { All (λ number. number < length row.old) list.now }
+    ensures long { length row.new ≡ length row.old }
+    ensures only { (number : ℕ) → IsIn row.new number → IsIn row.old number ⊎ Contains list.now number }
+{
+    for number in list {
+        row.set(*number);
+    }
+}
