@@ -8,7 +8,9 @@ import sys
 from bodies import largest
 from cells import Cells, NoContact
 from eyes import Eye
+import groups
 import listing
+import maptext
 import origins
 import page
 import picture
@@ -27,7 +29,7 @@ class Refused(Exception):
 
 def plan_of(words):
     """The picture that the words ask for, in one part."""
-    tree = tree_of(words.tree)
+    tree = tree_of(words.name)
     own = None if words.row is None else leaf_of_row(words, tree)
     portals = None if words.prt is None else portals_of(words.prt, tree)
     line = leak_line(Cells(tree), words.leak) if words.leak else None
@@ -40,7 +42,7 @@ def plan_of(words):
         drawn.join(portals)
     if line:
         drawn.follow(line)
-    return [plan.drawn(drawn, plain_name(words.tree))]
+    return [plan.drawn(drawn, plain_name(words.name))]
 
 
 def height_of(tree, line, own):
@@ -54,37 +56,37 @@ def height_of(tree, line, own):
 def leaf_of_row(words, tree):
     """The leaf whose row is asked for."""
     if tree.rows is None:
-        raise Refused(f"{words.tree} has no rows")
+        raise Refused(f"{words.name} has no rows")
     if words.row >= len(tree.rows):
-        raise Refused(f"{words.tree} has no row {words.row}: its rows are numbered from 0 to {len(tree.rows) - 1}")
+        raise Refused(f"{words.name} has no row {words.row}: its rows are numbered from 0 to {len(tree.rows) - 1}")
     return next(leaf for leaf, what in enumerate(tree.leaves) if what.number == words.row)
 
 
 def points_of(words):
     """The point file that the words ask for, in one part."""
-    return [printed(Cells(tree_of(words.tree)), words.leak)]
+    return [printed(Cells(tree_of(words.name)), words.leak)]
 
 
 def view_of(words):
     """The page that the words ask for, part by part."""
-    tree = tree_of(words.tree)
+    tree = tree_of(words.name)
     portals = None if words.prt is None else page.portals_of(portals_of(words.prt, tree))
     line = leak_line(Cells(tree), words.leak) if words.leak else None
     begin = words.at if words.map is None else origin_of(words.map, tree)
     seen = surfaces.seen(tree)
     if not seen:
-        raise Refused(f"{words.tree} has nothing but solid leaves")
+        raise Refused(f"{words.name} has nothing but solid leaves")
     at = begin or (line[0] if line else Cells(tree).middle(largest({leaf: what.faces for leaf, what in seen.items()})))
     level = {**page.level_of(tree, seen), "portals": portals, "leak": line and page.places(line),
              "at": page.places([at])[0], "to": page.places(line)[1] if line and not begin else None}
-    return page.page(plain_name(words.tree), level)
+    return page.page(plain_name(words.name), level)
 
 
 def origin_of(name, tree):
     """Where the first entity of a map stands that does not stand in solid."""
     try:
         places = origins.load(name)
-    except origins.NoMap as fault:
+    except maptext.NoMap as fault:
         raise Refused(f"{name} is no map: {fault}") from None
     within = (place for place in places if max(map(abs, place)) < BOUND)
     found = next((place for place in within if tree.leaves[tree.leaf_at(place)].number is not None), None)
@@ -95,7 +97,7 @@ def origin_of(name, tree):
 
 def picture_of(words):
     """The view that the words ask for, in one part."""
-    tree = tree_of(words.tree)
+    tree = tree_of(words.name)
     if words.eye == words.aim:
         raise Refused("the place from which one looks is the one to which one looks")
     seen, row, mark = surfaces.seen(tree), None, None
@@ -107,13 +109,13 @@ def picture_of(words):
         row = tree.leaves[own].number
         shown = {leaf: shown[leaf] for leaf in surfaces.held(tree, seen, own) if leaf in shown}
     drawn = picture.Picture(tree, Eye(words.eye, words.aim), shown, line, words.leak, mark)
-    return [picture.drawn(drawn, picture.titled(plain_name(words.tree), words.eye, words.aim, row))]
+    return [picture.drawn(drawn, picture.titled(plain_name(words.name), words.eye, words.aim, row))]
 
 
 def leaf_with_row(words, tree, where):
     """The leaf at a place, which has a row."""
     if tree.rows is None:
-        raise Refused(f"{words.tree} has no rows")
+        raise Refused(f"{words.name} has no rows")
     leaf = tree.leaf_at(where)
     if tree.leaves[leaf].number is None:
         raise Refused(f"{picture.written(where)} is in leaf {leaf}, which is solid and has no row")
@@ -122,7 +124,7 @@ def leaf_with_row(words, tree, where):
 
 def json_of(words):
     """The whole file as an object of JSON, row by row, since rows are long."""
-    tree = tree_of(words.tree)
+    tree = tree_of(words.name)
     yield f'{{"planes": {json.dumps(tree.planes)},\n'
     yield f'"nodes": {json.dumps([node._asdict() for node in tree.nodes])},\n'
     yield f'"leaves": {json.dumps([leaf._asdict() for leaf in tree.leaves])},\n'
@@ -133,6 +135,18 @@ def json_of(words):
     for own in range(len(tree.rows)):
         yield f"{',' if own else ''}\n{json.dumps(tree.row(own))}"
     yield "]}\n"
+
+
+def world_of(words):
+    """Writes the map that the words ask for, and then says how many brushes were moved."""
+    try:
+        found = groups.moved(maptext.load(words.name))
+    except maptext.NoMap as fault:
+        raise Refused(f"{words.name} is no map: {fault}") from None
+    write(found.parts, words.out)
+    counts = [f"{number} {one if number == 1 else many}" for number, one, many in (
+        (found.brushes, "brush", "brushes"), (found.entities, "entity", "entities"))]
+    print(f"qmlook: moved {counts[0]} of {counts[1]} into the world", file=sys.stderr)
 
 
 def plain_name(name):
@@ -160,18 +174,33 @@ def portals_of(name, tree):
     return portals
 
 
-def run(words):
-    """Does what the words ask for, and answers the exit status: 0, or 1 where it cannot be done."""
-    parser = argparse.ArgumentParser(prog="qmlook", description="Looks at a compiled map.", allow_abbrev=False)
-    given = words_of(parser, joined(words))
-    does = {"plan": plan_of, "points": points_of, "view": view_of, "picture": picture_of, "json": json_of}
+def write(parts, name=None):
+    """Writes parts to a file, or to standard output."""
     try:
-        sys.stdout.writelines(does[given.command](given))
-        sys.stdout.flush()
+        with open(1 if name is None else name, "wb", closefd=name is not None) as out:
+            out.writelines(part if isinstance(part, bytes) else part.encode() for part in parts)
+    except OSError as fault:
+        if not isinstance(fault.filename, str):
+            fault.filename = name
+        raise
+
+
+def run(words):
+    """Does what the words ask for, and answers the exit status: 0, or 1 where it cannot be done. A command gives the parts of what
+    is printed, or has written what it makes."""
+    parser = argparse.ArgumentParser(prog="qmlook", description="Looks at a compiled map, or readies one.", allow_abbrev=False)
+    given = words_of(parser, joined(words))
+    does = {"plan": plan_of, "points": points_of, "view": view_of, "picture": picture_of, "json": json_of,
+            "world": world_of}
+    try:
+        parts = does[given.command](given)
+        if parts is not None:
+            write(parts)
     except (Refused, NoContact) as refused:
         print(f"qmlook: {refused}", file=sys.stderr)
         return 1
     except OSError as fault:
-        print(f"qmlook: {fault.filename or 'standard output'}: {fault.strerror}", file=sys.stderr)
+        name = "standard output" if fault.filename is None else fault.filename
+        print(f"qmlook: {name}: {fault.strerror}", file=sys.stderr)
         return 1
     return 0

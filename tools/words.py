@@ -32,13 +32,15 @@ def words_of(parser, words):
                                help="shows what the row of the leaf there holds; without a place, of one's own leaf")
     picture_words.add_argument("--leak", metavar="TRAIL", type=trail, help="has the line of a leak")
     command(commands, "json", "planes, nodes, leaves and rows, for other programs")
+    world_words = command(commands, "world", "a map with the brushes of its groups in the world", "MAP", "a map, as an editor writes it")
+    world_words.add_argument("--out", metavar="FILE", help="writes it to FILE, for editors that know no `>`")
     return parser.parse_args(words)
 
 
-def command(commands, name, what):
-    """A command, which reads a tree file and takes its options in full alone."""
+def command(commands, name, what, read="OUT", which="a tree file of `qmapc compile`"):
+    """A command, which reads a file and takes its options in full alone."""
     words = commands.add_parser(name, help=what, description=f"Prints {what}.", allow_abbrev=False)
-    words.add_argument("tree", metavar="OUT", help="a tree file of `qmapc compile`")
+    words.add_argument("name", metavar=read, help=which)
     return words
 
 
