@@ -16,6 +16,7 @@ IMPORT = re.compile(r"use Rattle\.(\w+)\.specs\.[\w.]+\.\{([^}]*)\}")
 # a public item of code, and the crate whose definition means the same
 SAME = {
     ("qm_geom", "cross"): "qm_space",  # of vectors, where the definition is of directions, which are points
+    ("qm_words", "Order"): "qm_commands",  # what words ask for, with names that are borrowed from them
     ("qm_tree", "are_numbered"): "qm_formats",  # what the function answers, as a part of the layout of a file
     ("qm_wind", "rotated"): "qm_convex",  # the law of rotated windings
 }

@@ -20,7 +20,11 @@ prints_the_usage_line() {
         'format -room.map none' 'format room.map -none' 'format --fast room.map none' \
         'compile room.map none --fast --fast' 'compile room.map none --prt' 'compile room.map none --prt=' \
         'compile room.map none --prt -x' 'compile room.map --prt --fast none' 'compile --prt room.map room.map none' \
-        'compile room.map none --prt=none' 'format room.map none --prt list' '--help'; do
+        'compile room.map none --prt=none' 'format room.map none --prt list' '--help' 'help' '-h' 'compile --help' \
+        'compile room.map none --threads 0' 'compile room.map none --threads=04' 'compile room.map none --threads 65' \
+        'compile room.map none --threads' 'compile room.map none --threads 2 --threads 2' 'compile -- room.map none' \
+        'inspect room.map' 'inspect room.map at=1,2' 'inspect room.map row=01' 'inspect room.map count --fast' \
+        'inspect -room.map count' 'demo 8' 'demo 0 7' 'demo 65 7' 'demo 8 07' 'demo 8 18446744073709551616' 'demo 8 7 --fast'; do
         # shellcheck disable=SC2086  # the words of a command
         run_program $words
         [[ $status == 2 && ! -s $folder/said && ! -e $folder/none ]] || return 1
@@ -207,9 +211,238 @@ agrees_with_a_slow_reader() {
     python3 .ci/compare_texts.py "$program"
 }
 
+reads_words_as_a_slow_reader_does() {
+    python3 .ci/compare_words.py "$program"
+}
+
+# a demo compiles the rooms that a plain script makes, and touches no file; the sample is one of them, as format prints it
+demo_compiles_made_rooms() {
+    local rooms number
+    mkdir -p "$folder/untouched"
+    while read -r rooms number; do
+        python3 .ci/made_rooms.py "$rooms" "$number" >"$folder/made_rooms.map" || return 1
+        run_program compile made_rooms.map made_rooms.tree
+        [[ $status == 0 ]] || return 1
+        (cd "$folder/untouched" && "$program" demo "$rooms" "$number") | cmp - "$folder/printed" || return 1
+    done <<<$'1 0\n2 0\n3 4\n33 18446744073709551615\n64 123456789012345'
+    [[ -z $(ls -A "$folder/untouched") ]] || return 1
+    python3 .ci/made_rooms.py 8 7 | cmp - samples/rooms8.map || return 1
+    cp samples/rooms8.map "$folder/"
+    run_program format rooms8.map rooms8.once
+    ended 0 'entities 2\nbrushes 21\n' && cmp "$folder/rooms8.map" "$folder/rooms8.once" || return 1
+    run_program compile rooms8.map rooms8.tree
+    ended 0 'sealed\nbrushes 21\nflat 0\nplanes 30\nnodes 58\nleaves 59\nnumbered 24\nfilled 6\nportals 29\nseen 236\n' || return 1
+    cp "$folder/printed" "$folder/rooms8.summary"
+    run_program demo 8 7
+    [[ $status == 0 ]] && cmp "$folder/rooms8.summary" "$folder/printed"
+}
+
+# the lines that a page shows behind this call
+page_shows() { # page_shows PAGE CALL
+    awk -v call="    ./qmapc $2" '$0 == call { on = 1; next } on && /^$/ && ++blanks == 2 { exit } on && sub(/^    /, "")' "docs/$1"
+}
+
+# what the pages show of the courtyard, and each query of a tree with rows, in one call
+answers_as_the_pages_show() {
+    local page words
+    cp samples/courtyard.map "$folder/"
+    run_program compile courtyard.map courtyard.tree
+    cp "$folder/courtyard.tree" "$folder/courtyard.kept"
+    while IFS='|' read -r page words; do
+        # shellcheck disable=SC2086  # the words of a command
+        run_program $words
+        [[ $status == 0 ]] && page_shows "$page" "$words" | cmp - "$folder/printed" || return 1
+    done <<'END'
+TREEFILE.md|inspect courtyard.tree at=-208,-128,24 at=64,0,24
+TREEFILE.md|inspect courtyard.tree sees=53,27 sees=53,0
+EDITORS.md|inspect courtyard.tree at=-208,-128,24
+END
+    run_program inspect courtyard.tree count at=0,0,300 sees=54,54 at=208,-60,24 at=64.000001,-.5,+24. row=22
+    ended 0 'planes 65 nodes 140 leaves 141 numbered 55 rows yes\nleaf 15 solid filled\nyes\nleaf 46 water number 22\nleaf 54 empty number 27\nrow 22: 20 21 22 23\n' || return 1
+    cmp "$folder/courtyard.kept" "$folder/courtyard.tree"
+}
+
+# the first query that is refused, and no answer
+says_which_query_is_refused() {
+    local words text
+    echo '{ } { "origin" "0 0 0" }' >"$folder/open.map"
+    run_program compile open.map open.tree
+    while IFS='|' read -r words text; do
+        # shellcheck disable=SC2086  # the words of a command
+        run_program inspect $words
+        ended 9 "query $text\n" || return 1
+    done <<'END'
+room.tree at=4096,0,0|1 refused: outside the cube
+room.tree at=0,0,-4095.999999 at=0,0,-4096|2 refused: outside the cube
+room.tree count row=1 at=0,0,5000|2 refused: no such leaf
+room.tree sees=0,1|1 refused: no such leaf
+room.tree sees=999999999999999999,0|1 refused: no such leaf
+open.tree count row=0|2 refused: no rows
+open.tree row=1 row=0|1 refused: no such leaf
+open.tree sees=0,0|1 refused: no rows
+END
+}
+
+says_that_a_tree_is_not_read() {
+    local name
+    mkdir -p "$folder/is_a_folder"
+    for name in missing.tree is_a_folder room.tree/room.tree; do
+        run_program inspect $name count
+        ended 5 'read fault\n' || return 1
+    done
+}
+
+# a tree file that is cut off, one with a byte too many, none at all, and files of other programs
+says_which_fault_a_tree_file_has() {
+    local name text
+    head -c 100 "$folder/room.tree" >"$folder/cut.tree"
+    { cat "$folder/room.tree" && printf x; } >"$folder/longer.tree"
+    { printf QMTREE02 && tail -c +9 "$folder/room.tree"; } >"$folder/later.tree"
+    : >"$folder/empty.tree"
+    cp "$program" "$folder/program.tree"
+    while IFS='|' read -r name text; do
+        run_program inspect "$name" count
+        ended 8 "tree fault $text\n" || return 1
+    done <<'END'
+empty.tree|1 at byte 0: short
+/dev/null|1 at byte 0: short
+cut.tree|1 at byte 100: short
+longer.tree|8 at byte 587: trailing
+later.tree|2 at byte 7: magic
+room.map|2 at byte 0: magic
+program.tree|2 at byte 0: magic
+END
+    # a fault of the file comes before that of a query
+    run_program inspect cut.tree at=5000,0,0
+    ended 8 'tree fault 1 at byte 100: short\n'
+}
+
+# a tree file without an end is read to its limit
+stops_at_the_limit_of_a_tree_file() {
+    cat "$folder/room.tree" /dev/zero >"$folder/pipe" 2>/dev/null &
+    status=0
+    (cd "$folder" && timeout 120 "$program" inspect pipe count >printed 2>said) || status=$?
+    kill $! 2>/dev/null || true
+    wait $! 2>/dev/null || true
+    ended 8 'tree fault 9 at byte 1073741824: too long\n'
+}
+
+reads_a_tree_that_is_a_pipe() {
+    cat "$folder/room.tree" >"$folder/pipe" 2>/dev/null &
+    status=0
+    (cd "$folder" && timeout 20 "$program" inspect pipe count at=0,0,24 row=0 sees=0,0 >printed 2>said) || status=$?
+    # where the program never read it, the writer still waits
+    kill $! 2>/dev/null || true
+    wait $! 2>/dev/null || true
+    ended 0 'planes 12 nodes 12 leaves 13 numbered 1 rows yes\nleaf 6 empty number 0\nrow 0: 0\nyes\n'
+}
+
+# words that are not UTF-8 or empty, 100,000 words, and words nearly as long as the system hands on
+answers_words_of_any_length() {
+    local bad call zeros ones usage='usage: qmapc compile MAP OUT [--prt FILE] [--threads N] [--fast] | inspect TREE QUERY.. | format MAP OUT | demo N NUMBER\n'
+    local -a words
+    for bad in $'\xff' ''; do
+        for call in 'inspect BAD count' 'inspect room.tree BAD' 'inspect room.tree count BAD' 'demo BAD 7' 'demo 8 BAD' 'BAD' \
+            'format BAD none' 'compile room.map BAD' 'compile room.map none --prt BAD' 'compile room.map none --threads=BAD'; do
+            read -ra words <<<"$call"
+            run_program "${words[@]/BAD/$bad}"
+            ended 2 "$usage" || return 1
+        done
+    done
+    mapfile -t words < <(yes count | head -n 100000)
+    run_program inspect room.tree "${words[@]}"
+    [[ $status == 0 ]] && cmp "$folder/printed" <(yes 'planes 12 nodes 12 leaves 13 numbered 1 rows yes' | head -n 100000) || return 1
+    run_program inspect room.tree "${words[@]}" row=1
+    ended 9 'query 100001 refused: no such leaf\n' || return 1
+    run_program inspect room.tree "${words[@]}" x
+    ended 2 "$usage" || return 1
+    run_program compile room.map none "${words[@]/count/--fast}"
+    ended 2 "$usage" || return 1
+    run_program "${words[@]}"
+    ended 2 "$usage" || return 1
+    zeros=$(head -c 130000 /dev/zero | tr '\0' 0)
+    ones=$(head -c 130000 /dev/zero | tr '\0' 1)
+    for call in "at=$zeros,0,0" "at=0,0,0.$zeros"; do
+        run_program inspect room.tree "$call"
+        ended 0 'leaf 6 empty number 0\n' || return 1
+    done
+    for call in "at=$ones,0,0" "at=0.$ones,0,0" "row=$zeros" "row=$ones" "sees=0,$ones" "$ones"; do
+        run_program inspect room.tree "$call"
+        ended 2 "$usage" || return 1
+    done
+    run_program demo 8 "$ones"
+    ended 2 "$usage" || return 1
+    run_program inspect "$ones" count
+    ended 5 'read fault\n'
+}
+
+ends_with_six_where_no_answer_can_be_printed() {
+    local words
+    for words in 'inspect room.tree count' 'inspect room.tree row=1' 'inspect room.map count' 'demo 1 0'; do
+        status=0
+        # shellcheck disable=SC2086  # the words of a command
+        (cd "$folder" && "$program" $words >/dev/full 2>said) || status=$?
+        [[ $status == 6 && ! -s $folder/said ]] || return 1
+    done
+}
+
 reads_tree_files_as_a_slow_reader_does() {
     [[ -x crates/file_faults/out/file_faults ]] || (cd crates/file_faults && rt run >/dev/null 2>&1) || return 1
     python3 .ci/compare_files.py crates/file_faults/out/file_faults
+}
+
+# while a level comes late: of several workers a line on the terminal, once a second at most, that is gone before the summary;
+# of one worker, or of none, nothing; and nothing where standard error is no terminal
+says_how_far_several_workers_are() {
+    python3 - "$program" samples/rooms8.map "$folder" <<'END'
+import os, pty, re, subprocess, sys, time
+
+program, level, folder = sys.argv[1:]
+LINES = re.compile(rb"((?:\rportals begun: \d+)+)\r {35}\r")
+
+
+def counts(printed):
+    """The lines of a summary, but for the one in which the number of workers may show."""
+    return [line for line in printed.splitlines() if not line.startswith(b"seen ")]
+
+
+class Run:
+    """A run on a terminal that waits for its level. Its standard output is the terminal too, where no other is given."""
+
+    def __init__(self, threads, *options, output=None):
+        self.begun, (self.control, terminal) = time.monotonic(), pty.openpty()
+        tree = os.path.join(folder, f"late{threads}{''.join(options)}.tree")
+        words = [program, "compile", "/dev/stdin", tree, "--threads", threads, *options]
+        self.child = subprocess.Popen(words, stdin=subprocess.PIPE, stdout=output or terminal, stderr=terminal)
+        os.close(terminal)
+
+    def end(self, text):
+        """What it printed to another standard output, what the terminal was given, and how many seconds it took."""
+        printed = self.child.communicate(text, timeout=60)[0] or b""
+        given = b""
+        try:
+            while piece := os.read(self.control, 65536):
+                given += piece
+        except OSError:
+            pass
+        return printed, given, time.monotonic() - self.begun
+
+
+def speaks(printed, given, seconds):
+    """Whether it said how far it was, not too often, and took that away before it printed a summary."""
+    lines = LINES.match(given)
+    return lines and lines.group(1).count(b"\r") <= seconds and counts(printed + given[lines.end():]) == summary
+
+
+with open(level, "rb") as file:
+    text = file.read()
+plain = subprocess.run([program, "compile", level, os.path.join(folder, "late.tree"), "--threads", "2"], capture_output=True)
+summary = counts(plain.stdout)
+loud, silent = [Run("2"), Run("4", output=subprocess.PIPE)], [Run("1"), Run("2", "--fast")]
+time.sleep(2)
+good = [speaks(*run.end(text)) for run in loud] + [counts(run.end(text)[1]) == summary for run in silent]
+sys.exit(not (all(good) and summary and not plain.stderr))
+END
 }
 
 counts_clips_as_fractions_do() {
@@ -230,6 +463,17 @@ check "status 6: a standard output that takes nothing" ends_with_six_where_nothi
 check "status 7: too little memory" runs_out_of_memory
 check "a pipe as standard output gets each byte" prints_all_into_a_pipe
 check "a map that is a pipe is read" reads_a_map_that_is_a_pipe
+check "command words are read as a plain slow reader reads them" reads_words_as_a_slow_reader_does
+check "a demo compiles the rooms that a plain script makes, and touches no file" demo_compiles_made_rooms
+check "inspect answers as the pages show" answers_as_the_pages_show
+check "status 9: the first query that is refused" says_which_query_is_refused
+check "status 5: a tree that is missing or is a folder" says_that_a_tree_is_not_read
+check "status 8: a tree file with a fault" says_which_fault_a_tree_file_has
+check "status 8: a tree file without an end is read to its limit" stops_at_the_limit_of_a_tree_file
+check "a tree that is a pipe is read" reads_a_tree_that_is_a_pipe
+check "words of any number and length get a named answer" answers_words_of_any_length
+check "status 6: no answer can be printed" ends_with_six_where_no_answer_can_be_printed
+check "several workers say how far they are, on a terminal alone" says_how_far_several_workers_are
 check "generated texts have the faults that a plain slow reader finds" agrees_with_a_slow_reader
 check "altered tree files have the faults that a plain slow reader finds" reads_tree_files_as_a_slow_reader_does
 check "the counts of clips are those of fractions without bound" counts_clips_as_fractions_do

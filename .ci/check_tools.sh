@@ -26,7 +26,7 @@ compiles_the_samples() {
     while read -r name seen; do
         run_program compile "$name.map" "$name.tree"
         [[ $status == 0 ]] && grep -qx "seen $seen" "$folder/printed" || return 1
-    done <<<$'cube 34\nroom 1\nrooms 21\ncourtyard 1396'
+    done <<<$'cube 34\nroom 1\nrooms 21\nrooms8 236\ncourtyard 1396'
     for name in hole courtyard_leak; do
         run_program compile $name.map $name.tree
         [[ $status == 3 ]] || return 1
@@ -39,6 +39,8 @@ compiles_the_samples() {
 draws_what_the_pages_show() {
     look plan courtyard.tree --z 32
     looked && cmp "$folder/printed" docs/courtyard.svg || return 1
+    look plan rooms8.tree --z 32 --row 23
+    looked && cmp "$folder/printed" docs/rooms8.svg || return 1
     look plan courtyard_leak.tree --leak "$(<"$folder/courtyard_leak.trail")"
     looked && cmp "$folder/printed" docs/courtyard_leak.svg || return 1
     look plan courtyard_leak.tree --leak "trail: $(<"$folder/courtyard_leak.trail")" --z 76
@@ -60,7 +62,7 @@ draws_each_kind_of_contents() {
 }
 
 draws_slices_that_agree_with_the_tree() {
-    (cd "$folder" && python3 "$top/.ci/check_plans.py" cube.tree hole.tree rooms.tree courtyard.tree courtyard_leak.tree)
+    (cd "$folder" && python3 "$top/.ci/check_plans.py" cube.tree hole.tree rooms.tree rooms8.tree courtyard.tree courtyard_leak.tree)
 }
 
 # gives the three rooms, in which the first sees neither the third nor the way to it, their rows and portals
@@ -136,7 +138,7 @@ says_how_the_tools_are_used() {
     local words
     for words in '' 'plan' 'points hole.tree' 'json' 'draw hole.tree' 'plan hole.tree --z 5000' 'plan hole.tree --z 1/0' \
         'plan hole.tree --row -1' 'plan hole.tree --row=x' 'points hole.tree --leak=8,6' 'points hole.tree --leak=' \
-        'plan hole.tree --lea=8' 'json hole.tree more'; do
+        'plan hole.tree --lea=8' 'json hole.tree more' 'world' 'world hole.map more' 'world hole.map --out'; do
         # shellcheck disable=SC2086  # the words of a command
         look $words
         [[ $status == 2 && ! -s $folder/printed ]] && grep -q '^usage: qmlook' "$folder/said" || return 1
@@ -206,12 +208,138 @@ says_what_is_no_listing() {
     refused "missing.prt: No such file or directory"
 }
 
+# qmlook printed just what a file of the folder has, and said how much it moved
+moved() { # moved FILE WORDS
+    [[ $status == 0 && $(<"$folder/said") == "qmlook: moved $2 into the world" ]] && cmp "$folder/$1" "$folder/printed"
+}
+
+# the courtyard with its last brushes, the sky first, in an entity of a class: layers.map as an editor writes it, whose lines end
+# so, and what becomes of it in layers.moved
+puts_brushes_on_a_layer() { # puts_brushes_on_a_layer CLASS ENDS
+    local layer="{\n\"classname\" \"$1\"\n\"_tb_name\" \"\xe9\""
+    sed '/^\/\/ brush 28:/,$d' "$folder/courtyard.map" >"$folder/before"
+    sed -n '/^\/\/ brush 28:/,/^\/\/ entity/p' "$folder/courtyard.map" | head -n -2 >"$folder/above"
+    sed -n '/^\/\/ entity 1/,$p' "$folder/courtyard.map" >"$folder/behind"
+    (
+        cd "$folder" || exit
+        { cat before && printf '}\n%b\n' "$layer" && cat above && printf '}\n' && cat behind; } | sed "s/\$/$2/" >layers.map
+        { cat before above && printf '}\n%b\n}\n' "$layer" && cat behind; } | sed "s/\$/$2/" >layers.moved
+    )
+}
+
+# without the brushes of a layer the courtyard leaks; with them it is what it was, byte by byte
+moves_groups_into_the_world() {
+    local class ends
+    for class in func_group func_detail; do
+        for ends in '' $'\r'; do
+            puts_brushes_on_a_layer $class "$ends"
+            look world layers.map
+            moved layers.moved "9 brushes of 1 entity" || return 1
+            run_program compile layers.map layers.tree
+            [[ $status == 3 ]] || return 1
+            run_program compile layers.moved layers.tree
+            [[ $status == 0 ]] && cmp "$folder/courtyard.tree" "$folder/layers.tree" || return 1
+        done
+    done
+    look world layers.map --out world.map
+    [[ $status == 0 && ! -s $folder/printed ]] && cmp "$folder/layers.moved" "$folder/world.map" || return 1
+    look world world.map
+    moved world.map "0 brushes of 0 entities" || return 1
+    # from a pipe into a pipe
+    (cd "$folder" && set -o pipefail && "$top/tools/qmlook" world /dev/stdin <layers.map 2>said | cat >printed) || return 1
+    moved layers.moved "9 brushes of 1 entity"
+}
+
+# the words that the page gives to each editor make of the layers what they were before
+# shellcheck disable=SC2016  # the editor's own names of files
+compiles_as_the_editors_do() {
+    local line
+    local -a words
+    run_program compile courtyard.map fast.tree --fast
+    cp "$folder/layers.map" "$folder/level-compile.map"
+    cp "$folder/layers.map" "$folder/a level.map"
+    while read -ra words; do
+        (cd "$folder" && "${words[@]//'${MAP_BASE_NAME}'/level}" >/dev/null 2>&1) || return 1
+    done < <(sed -n 's/.*Tool path: `REPOSITORY\(.*\)`\. Parameters: `\(.*\)`\. Let .*/\1 \2/p' docs/EDITORS.md |
+        sed "s|^/tools/qmlook|$top/tools/qmlook|; s|^/qmapc|$program|")
+    cmp "$folder/fast.tree" "$folder/level.tree" || return 1
+    line=$(sed -n 's/^ *\("REPOSITORY.*\[MapFile\].*\)/\1/p' docs/EDITORS.md)
+    line=${line//REPOSITORY\/qmapc/$program}
+    line=${line//REPOSITORY/$top}
+    sh -c "${line//'[MapFile]'/$folder/a level.map}" >"$folder/printed" 2>"$folder/said" || return 1
+    cmp "$folder/fast.tree" "$folder/a level.map.tree" && cmp "$folder/printed" "$folder/a level.map.log"
+}
+
+# what is moved stands apart from its new neighbours, and entities of other classes keep their brushes
+moves_nothing_else() {
+    local face='( 0 0 0 ) ( 0 1 0 ) ( 1 0 0 ) {x 0 0 0 1 1' class
+    cat >"$folder/dense.map" <<END
+{ "a" "}"} { "b" "c"//d { "e
+"classname" "func_group"{ $face } //f }
+{ "}" 0 0 0 1 1 } "g" "}"//h
+}
+END
+    cat >"$folder/dense.moved" <<END
+{ "a" "}"
+{ $face } //f }
+{ "}" 0 0 0 1 1 }
+} { "b" "c"//d { "e
+"classname" "func_group" "g" "}"//h
+}
+END
+    look world dense.map
+    moved dense.moved "2 brushes of 1 entity" || return 1
+    for class in func_detail_wall func_detail_illusionary func_groups Func_Group 'func_group ' func_door; do
+        echo "{ } { \"classname\" \"$class\" \"classname\" \"func_group\" { $face } }" >"$folder/others.map"
+        look world others.map
+        moved others.map "0 brushes of 0 entities" || return 1
+    done
+    # the world is the first entity, whatever its class
+    echo "{ \"classname\" \"func_group\" { $face } } { \"classname\" \"func_group\" }" >"$folder/others.map"
+    look world others.map
+    moved others.map "0 brushes of 0 entities"
+}
+
+says_what_is_no_map() {
+    local text words
+    while IFS='|' read -r text words; do
+        printf '%b' "$text" >"$folder/no.map"
+        look world no.map
+        refused "no.map is no map: $words" || return 1
+    done <<'END'
+|it has no entity
+// a comment alone|it has no entity
+{ } { { ( 0|it ends inside an entity
+{ }\n}|line 2: no entity begins there
+{ }\n// {\nx { }|line 3: no entity begins there
+{ }\n{\n"a" "b\n\n|line 3: a quote is not closed
+{ "a" }|line 1: a key has no value
+{ "a"\n{ x } }|line 2: a key has no value
+{ a }|line 1: neither a pair nor a brush begins there
+{ {\n( 0 0 0 )\n{ }|line 3: a brush is not ended
+END
+    look world missing.map
+    refused "missing.map: No such file or directory" || return 1
+    look world courtyard.map --out no_such_folder/world.map
+    refused "no_such_folder/world.map: No such file or directory" || return 1
+    look world courtyard.map --out /dev/full
+    refused "/dev/full: No space left on device" || return 1
+    status=0
+    (cd "$folder" && : >printed && "$top/tools/qmlook" world courtyard.map >/dev/full 2>said) || status=$?
+    refused "standard output: No space left on device"
+}
+
+answers_as_the_slow_reader_finds() {
+    (cd "$folder" && python3 "$top/.ci/compare_answers.py" "$program" {cube,hole,rooms,rooms8,courtyard,courtyard_leak}.tree)
+}
+
 agrees_with_the_page_on_tree_files() {
     python3 .ci/check_treefile_page.py "$folder" cube.tree hole.tree rooms.tree courtyard.tree
 }
 
 cp samples/*.map "$folder/"
 check "the samples compile, and leak where they should" compiles_the_samples
+check "inspect answers as the slow reader finds" answers_as_the_slow_reader_finds
 check "tools: the pictures of the pages are those of the samples" draws_what_the_pages_show
 check "tools: each kind of contents has a fill of its own" draws_each_kind_of_contents
 check "tools: slices agree with their trees, and no texts overlap" draws_slices_that_agree_with_the_tree
@@ -222,4 +350,8 @@ check "tools: words that are no command get the usage line, and status 2" says_h
 check "tools: a file that is no tree file is refused, and status 1" says_what_is_no_tree_file
 check "tools: a trail, a leaf or a row that a tree does not have is refused" says_what_a_tree_does_not_have
 check "tools: a file that is no listing is refused" says_what_is_no_listing
+check "tools: brushes of groups are moved into the world, and nothing else changes" moves_groups_into_the_world
+check "tools: both editors compile a level with layers as the page says" compiles_as_the_editors_do
+check "tools: brushes of other entities stay, and what is moved stands apart" moves_nothing_else
+check "tools: a text that is no map is refused" says_what_is_no_map
 check "tools: the C of docs/TREEFILE.md finds leaves and rows" agrees_with_the_page_on_tree_files

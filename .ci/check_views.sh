@@ -107,7 +107,7 @@ says_why_there_is_no_view() {
     look picture courtyard.tree --from 0,0,4000 --to 0,0,0 --row
     refused "0,0,4000 is in leaf $(leaf_at courtyard.tree 0 0 4000), which is solid and has no row" || return 1
     look view hole.tree --map cube.tree
-    refused "cube.tree is no map: it has no entity" || return 1
+    refused "cube.tree is no map: line 1: no entity begins there" || return 1
     head -c 200 "$folder/room.map" >"$folder/cut.map"
     look view hole.tree --map cut.map
     refused "cut.map is no map: it ends inside an entity" || return 1

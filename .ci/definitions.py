@@ -240,9 +240,9 @@ class Repository:
                     yield Named(*named[:3], word)
         elif named.kind == "type":
             source = self.source(named.crate, named.module)
-            model = source.model(named.name)
-            if model:
-                yield from self.words(re.search(r"ghost Value = \{(.*?)\};", model, re.S)[1], source)
+            value = re.search(r"ghost Value = \{(.*?)\};", source.model(named.name) or "", re.S)
+            if value:
+                yield from self.words(value[1], source)
             else:
                 yield from self.words(source.item(named.name), source)
                 yield from self.types(source.item(named.name), source)

@@ -1,0 +1,146 @@
+#!/usr/bin/env python3
+"""Compares what `PROGRAM inspect` answers with what the slow reader tools/treefile.py finds in the same tree files.
+
+    .ci/compare_answers.py PROGRAM TREE..
+
+Of each tree, and of some that are made here, 1,000 queries are asked in one call: places of whole numbers and of decimals, many
+of them on planes of nodes, rows, and whether one leaf sees another. Then short lists of queries, of which some are refused.
+"""
+
+from fractions import Fraction
+from pathlib import Path
+import random
+import subprocess
+import sys
+import tempfile
+
+sys.path.insert(0, str(Path(__file__).resolve().parent.parent / "tools"))
+
+import made_trees
+import treefile
+
+BOUND = 4096
+
+
+class Refused(Exception):
+    """Why a query is refused."""
+
+
+def numbered(tree):
+    """How many leaves are numbered."""
+    return sum(leaf.number is not None for leaf in tree.leaves)
+
+
+def number(draw, near):
+    """A number in some spelling: a whole one, a decimal, or one at or next to another."""
+    kind = draw.randrange(4)
+    if kind == 0:
+        return str(draw.randint(-BOUND, BOUND))
+    if kind == 1:
+        decimals = "".join(draw.choices("0123456789", k=draw.randint(0, 6)))
+        return draw.choice(["", "+", "-"]) + f"{draw.randint(0, BOUND)}.{decimals}"
+    value = near + draw.choice([0, 0, 0, 1, -1])
+    return f"{value}.{draw.choice(['', '0', '5', '000001'])}" if kind == 2 else str(value)
+
+
+def place(draw, tree):
+    """A query for a place, often on a plane across an axis, or next to it."""
+    words = [number(draw, draw.randint(-300, 300)) for _ in range(3)]
+    for plane in draw.choices(tree.planes, k=3) if tree.planes else []:
+        if sorted(plane[:3]) == [0, 0, 1]:
+            words[plane[:3].index(1)] = number(draw, plane[3])
+    return "at=" + ",".join(words)
+
+
+def query(draw, tree, below):
+    """A query of some sort, with numbers of leaves below another."""
+    kind = draw.randrange(20)
+    if kind == 0:
+        return "count"
+    if kind < 12 or not below:
+        return place(draw, tree)
+    return f"row={draw.randrange(below)}" if kind == 12 else f"sees={draw.randrange(below)},{draw.randrange(below)}"
+
+
+def answer(tree, word):
+    """The line that answers a query."""
+    verb, _, rest = word.partition("=")
+    values = rest.split(",")
+    if verb == "count":
+        rows = "no" if tree.rows is None else "yes"
+        return (f"planes {len(tree.planes)} nodes {len(tree.nodes)} leaves {len(tree.leaves)} numbered {numbered(tree)}"
+                f" rows {rows}")
+    if verb == "at":
+        return answer_at(tree, tuple(Fraction(value.rstrip(".")) for value in values))
+    numbers = list(map(int, values))
+    if max(numbers) >= numbered(tree):
+        raise Refused("no such leaf")
+    if tree.rows is None:
+        raise Refused("no rows")
+    row = tree.row(numbers[0])
+    if verb == "row":
+        return " ".join([f"row {numbers[0]}:", *map(str, row)])
+    return "yes" if numbers[1] in row else "no"
+
+
+def answer_at(tree, point):
+    """The line of the leaf at a point."""
+    if max(map(abs, point)) >= BOUND:
+        raise Refused("outside the cube")
+    leaf = tree.leaf_at(point)
+    contents, filled, own = tree.leaves[leaf]
+    return f"leaf {leaf} {contents}" + ("" if own is None else f" number {own}") + (" filled" if filled else "")
+
+
+def due(tree, words):
+    """The status to end with, and what has to be printed of queries."""
+    lines = []
+    for word in words:
+        try:
+            lines.append(answer(tree, word) + "\n")
+        except Refused as refused:
+            return 9, f"query {len(lines) + 1} refused: {refused}\n"
+    return 0, "".join(lines)
+
+
+def lists(tree):
+    """The lists of queries to ask."""
+    draw = random.Random(1)
+    below = 0 if tree.rows is None else numbered(tree)
+    many = (query(draw, tree, below) for _ in range(2000))
+    yield [word for word in many if due(tree, [word])[0] == 0][:1000]
+    for _ in range(100):
+        yield [query(draw, tree, numbered(tree) + 1) for _ in range(draw.randint(1, 6))]
+    yield [f"row={numbered(tree)}", "at=4096,0,0"]
+    yield ["at=0,0,-4096", f"row={numbered(tree)}"]
+
+
+def made(folder):
+    """The names of trees that are made in a folder: of slanted planes, with rows of which one can lack a leaf whose row has its
+    own, without rows, and with long rows."""
+    draw = random.Random(2)
+    trees = [made_trees.random_tree(draw, 90, True), made_trees.random_tree(draw, 90, False), made_trees.long_tree(700)]
+    for name, data in zip(["slanted.tree", "without.tree", "long.tree"], trees):
+        Path(folder, name).write_bytes(data)
+        yield f"{folder}/{name}"
+
+
+def faults(program, name):
+    """For each list of queries to a tree what is wrong with its answers, or None."""
+    tree = treefile.load(name)
+    for words in lists(tree):
+        ran = subprocess.run([program, "inspect", name, *words], capture_output=True, text=True, check=False)
+        found, wanted = (ran.returncode, ran.stdout + ran.stderr), due(tree, words)
+        yield None if found == wanted else f"{name}, asked {words[:6]}: {str(found)[:300]}, and due are {str(wanted)[:300]}"
+
+
+def main():
+    with tempfile.TemporaryDirectory() as folder:
+        found = [fault for name in [*sys.argv[2:], *made(folder)] for fault in faults(sys.argv[1], name)]
+    wrong = list(filter(None, found))
+    print(*wrong[:20], f"{len(found)} lists of queries, {len(wrong)} wrong", sep="\n")
+    sys.exit(1 if wrong else 0)
+
+
+if __name__ == "__main__":
+    main()
