@@ -3,12 +3,13 @@ use Rattle.std.proofs.Common.{◌≡◌, ◌<◌, ◌≤◌, ℕ, zero, suc, ◌
 use Rattle.std.specs.Int.{Width, byte_len, to_le_bytes, from_le_bytes, cast_signed, cast_unsigned, bytes_low_first}
 use mir.Val.{bits, hbits}
 use Rattle.std.proofs.lemmas.Bool.{and_parts, and_from, cases_lt, lt-ltb, le-ltb, ltb-true, eq-eqb, eqb-true}
-use Rattle.std.proofs.lemmas.List.{length-take, length-drop, take-append-drop, drop-drop, take_at, get_or-take, get_or-drop, get_or_past}
+use Rattle.std.proofs.lemmas.List.{length-append, length-take, length-drop, take-append-drop, drop-drop, take_at, get_or-take, get_or-drop, get_or_past}
 use Rattle.std.proofs.lemmas.Nat.{le_bytes_4, le_bytes_8, from_le_bytes-to_le_bytes_4, from_le_bytes-to_le_bytes_8, mod_below}
 use Rattle.std.proofs.lemmas.Int.{to_z-of_z, of_z-to_z}
-use Rattle.qm_formats.specs.Fields.{AreBytes, are_bytes, raw, unsigned, signed, fits_signed, first_difference, fixed}
+use Rattle.qm_formats.specs.Fields.{AreBytes, are_bytes, raw, unsigned, signed, fits_signed, first_difference, fixed_before, unwritten}
 use Rattle.qm_formats.specs.Layout.{got, bad, tested}
 use Rattle.qm_formats.specs.Exact.{StandsAt, IsRightAt, IsExact}
+use Rattle.qm_formats.proofs.Standing.{stands_nothing}
 use Rattle.qm_formats.proofs.ExactParts.{seen_as_exact, tested_exact}
 
 pub are_bytes-from : (bytes : List ℕ) → AreBytes bytes → are_bytes bytes ≡ true
@@ -165,34 +166,78 @@ signed_32_exact short = signed_of short w32 is_w32
 pub signed_64_exact : {F : Type 0} (short : F) → IsExact (signed short w64)
 signed_64_exact short = signed_of short w64 is_w64
 
-difference_by_head : (x y : ℕ) (xs ys : List ℕ) (b : Bool) → eqb x y ≡ b → (first_difference xs ys ≡ length xs → xs ≡ ys) → cond b (first_difference xs ys + 1) 0 ≡ suc (length xs) → x ∷ xs ≡ y ∷ ys
-difference_by_head x y xs ys true head behind none =
+-- ---- fixed bytes and one more
+
+begins_by_head : (x y : ℕ) (xs ys : List ℕ) (b : Bool) → eqb x y ≡ b → (first_difference xs ys ≡ length xs → xs ++ (get_or ys (length xs) 0 ∷ []) ≡ ys) → cond b (first_difference xs ys + 1) 0 ≡ suc (length xs) → x ∷ (xs ++ (get_or ys (length xs) 0 ∷ [])) ≡ y ∷ ys
+begins_by_head x y xs ys true head behind none =
     let same = eqb-true x y head in
     let rest = behind (omega (arith, none)) in
     cc
-difference_by_head x y xs ys false head behind none = absurd (omega (arith, none))
+begins_by_head x y xs ys false head behind none = absurd (omega (arith, none))
 
-no_difference : (xs ys : List ℕ) → first_difference xs ys ≡ length xs → length xs ≡ length ys → xs ≡ ys
-no_difference [] [] none long = refl
-no_difference [] (y ∷ ys) none long = absurd (omega (arith, long))
-no_difference (x ∷ xs) [] none long = absurd (omega (arith, long))
-no_difference (x ∷ xs) (y ∷ ys) none long = difference_by_head x y xs ys (eqb x y) refl (λ none_behind. no_difference xs ys none_behind (omega (arith, long))) none
+begins_with : (xs ys : List ℕ) → first_difference xs ys ≡ length xs → length ys ≡ length xs + 1 → xs ++ (get_or ys (length xs) 0 ∷ []) ≡ ys
+begins_with [] [] none long = absurd (omega (arith, long))
+begins_with [] (y ∷ []) none long = refl
+begins_with [] (y ∷ z ∷ ys) none long = absurd (omega (arith, long))
+begins_with (x ∷ xs) [] none long = absurd (omega (arith, long))
+begins_with (x ∷ xs) (y ∷ ys) none long = begins_by_head x y xs ys (eqb x y) refl (λ none_behind. begins_with xs ys none_behind (omega (arith, long))) none
 
-own_difference : (xs : List ℕ) → first_difference xs xs ≡ length xs
-own_difference [] = refl
-own_difference (x ∷ xs) = ap (λ (b : Bool). cond b (first_difference xs xs + 1) 0) (eq-eqb x x refl) ∙ let e = own_difference xs in omega (arith, e)
+own_difference : (xs ys : List ℕ) → first_difference xs (xs ++ ys) ≡ length xs
+own_difference [] ys = refl
+own_difference (x ∷ xs) ys = ap (λ (b : Bool). cond b (first_difference xs (xs ++ ys) + 1) 0) (eq-eqb x x refl) ∙ let e = own_difference xs ys in omega (arith, e)
 
-pub fixed_exact : {F : Type 0} (short other : F) (bytes : List ℕ) → are_bytes bytes ≡ true → IsExact (fixed short other bytes)
-unfolding fixed raw
-fixed_exact short other bytes are =
-    seen_as_exact (λ _. tt) (λ _. bytes) (λ _. true) (tested same other place (raw short (length bytes))) (tested_exact same other place (raw short (length bytes)) (raw_exact short (length bytes))) (λ found right.
-    let both = and_parts ((eqb (length found) (length bytes)) && are_bytes found) (same found) right in
-    let long = eqb-true (length found) (length bytes) (and_parts (eqb (length found) (length bytes)) (are_bytes found) both.0).0 in
-    (no_difference bytes found (eqb-true (first_difference bytes found) (length bytes) both.1) (sym long), refl)) (λ _ _.
-    (refl, and_from ((eqb (length bytes) (length bytes)) && are_bytes bytes) (same bytes) (and_from (eqb (length bytes) (length bytes)) (are_bytes bytes) (eq-eqb (length bytes) (length bytes) refl) are) (eq-eqb (first_difference bytes bytes) (length bytes) (own_difference bytes))))
+byte_behind : (xs : List ℕ) (byte : ℕ) → get_or (xs ++ (byte ∷ [])) (length xs) 0 ≡ byte
+byte_behind [] byte = refl
+byte_behind (x ∷ xs) byte = byte_behind xs byte
+
+bytes_behind : (xs ys : List ℕ) → are_bytes xs ≡ true → are_bytes ys ≡ true → are_bytes (xs ++ ys) ≡ true
+bytes_behind [] ys of_xs of_ys = of_ys
+bytes_behind (x ∷ xs) ys of_xs of_ys =
+    let both = and_parts (ltb x 256) (are_bytes xs) of_xs in
+    and_from (ltb x 256) (are_bytes (xs ++ ys)) both.0 (bytes_behind xs ys both.1 of_ys)
+
+pub fixed_before_exact : {F : Type 0} (short other : F) (bytes : List ℕ) (test : ℕ → Bool) → are_bytes bytes ≡ true → IsExact (fixed_before short other bytes test)
+unfolding fixed_before raw
+fixed_before_exact short other bytes test are =
+    seen_as_exact last (λ byte. bytes ++ (byte ∷ [])) (λ byte. ltb byte 256 && test byte) (tested passes other place (raw short (length bytes + 1))) (tested_exact passes other place (raw short (length bytes + 1)) (raw_exact short (length bytes + 1))) (λ found right.
+    let both = and_parts ((eqb (length found) (length bytes + 1)) && are_bytes found) (passes found) right in
+    let long = and_parts (eqb (length found) (length bytes + 1)) (are_bytes found) both.0 in
+    let passed = and_parts (eqb (first_difference bytes found) (length bytes)) (test (last found)) both.1 in
+    let small = lt-ltb (last found) 256 (bytes-are found long.1 (length bytes)) in
+    (begins_with bytes found (eqb-true (first_difference bytes found) (length bytes) passed.0) (eqb-true (length found) (length bytes + 1) long.0), and_from (ltb (last found) 256) (test (last found)) small passed.1)) (λ byte right.
+    let both = and_parts (ltb byte 256) (test byte) right in
+    let whole = bytes ++ (byte ∷ []) in
+    let long : length whole ≡ length bytes + 1 = omega (arith, length-append bytes (byte ∷ [])) in
+    let whole_bytes = bytes_behind bytes (byte ∷ []) are (and_from (ltb byte 256) true both.0 refl) in
+    let same = byte_behind bytes byte in (
+      same,
+      and_from ((eqb (length whole) (length bytes + 1)) && are_bytes whole) (passes whole)
+          (and_from (eqb (length whole) (length bytes + 1)) (are_bytes whole) (eq-eqb (length whole) (length bytes + 1) long) whole_bytes)
+          (and_from (eqb (first_difference bytes whole) (length bytes)) (test (last whole)) (eq-eqb (first_difference bytes whole) (length bytes) (own_difference bytes (byte ∷ []))) (ap test same ∙ both.1)),
+    ))
   where
-    same : List ℕ → Bool
-    same found = eqb (first_difference bytes found) (length bytes)
+    last : List ℕ → ℕ
+    last found = get_or found (length bytes) 0
+
+    passes : List ℕ → Bool
+    passes found = (eqb (first_difference bytes found) (length bytes)) && test (last found)
 
     place : List ℕ → ℕ → ℕ
     place found at = at + first_difference bytes found
+
+-- ---- numbers that are not written
+
+pub unwritten_exact : {F : Type 0} (value : ℕ) → IsExact (unwritten {F = F} value)
+unfolding unwritten
+unwritten_exact {F} value =
+    record {
+      found = λ file at x next are within is.
+          let same : value ≡ x = cc in
+          let place : at ≡ next = cc in
+          let found : IsRightAt (unwritten {F = F} value) file at value at = record { right = eq-eqb value value refl; stands = stands_nothing file at within } in
+          subst (λ (n : ℕ). IsRightAt (unwritten {F = F} value) file at x n) place (subst (λ (v : ℕ). IsRightAt (unwritten {F = F} value) file at v at) same found);
+      again = λ file at x next found.
+          let same : value ≡ x = sym (eqb-true x value found.right) in
+          let place : at ≡ next = let e = found.stands.ends in omega (arith, e) in
+          ap (λ (v : ℕ). got v at) same ∙ ap (got x) place;
+    }

@@ -3,7 +3,7 @@ use Rattle.std.proofs.Common.{◌≡◌, ◌≤◌, ℕ, zero, suc, ◌+◌, Boo
 use Rattle.std.specs.Prelude.{IsTrue}
 use Rattle.std.proofs.lemmas.Bool.{and_parts, and_from}
 use Rattle.qm_formats.specs.Fields.{AreBytes}
-use Rattle.qm_formats.specs.Layout.{Decoded, got, bad, Layout, decoded_map, decoded_then, seen_as, recast, tested, both, pair, part, last_part, each_from, present}
+use Rattle.qm_formats.specs.Layout.{Decoded, got, bad, Layout, decoded_map, decoded_then, seen_as, recast, tested, both, pair, part, last_part, each_from, each_after, choice, present}
 use Rattle.qm_formats.specs.Exact.{StandsAt, IsRightAt, IsExact}
 use Rattle.qm_formats.proofs.Standing.{stands_nothing, stands_both, stands_first, stands_second}
 
@@ -192,6 +192,45 @@ module _ {F X : Type 0} (layout : ℕ → Layout F X) (exact : (k : ℕ) → IsE
 
   pub each_exact : (k count : ℕ) → IsExact (each_from layout k count)
   each_exact k count = record { found = found_each k count; again = again_each k count }
+
+module _ {F X : Type 0} (key : X → ℕ) (layout : ℕ → Layout F X) (exact : (k : ℕ) → IsExact (layout k)) where
+  found_each_after : (before count : ℕ) (file : List ℕ) (at : ℕ) (xs : List X) (next : ℕ) → AreBytes file → at ≤ length file → (each_after key layout before count).read file at ≡ got xs next → IsRightAt (each_after key layout before count) file at xs next
+  found_each_after before zero file at xs next are within is =
+      let none : [] ≡ xs = cc in
+      let place : at ≡ next = cc in
+      found_as (each_after key layout before zero) file at [] xs at next none place (record { right = refl; stands = stands_nothing file at within })
+  found_each_after before (suc count) file at xs next are within is =
+      let one = then_got ((layout before).read file at) (λ x mid. decoded_map (λ (rest : List X). x ∷ rest) ((each_after key layout (key x) count).read file mid)) xs next is in
+      let rest = each_after key layout (key one.0) count in
+      let other = map_got (λ (ys : List X). one.0 ∷ ys) (rest.read file one.1) xs next one.3 in
+      let front = (exact before).found file at one.0 one.1 are within one.2 in
+      let behind = found_each_after (key one.0) count file one.1 other.0 next are front.stands.within other.1 in
+      found_as (each_after key layout before (suc count)) file at (one.0 ∷ other.0) xs next next other.2 refl (
+      record {
+        right = and_from ((layout before).right one.0) (rest.right other.0) front.right behind.right;
+        stands = stands_both file at ((layout before).bytes_of one.0) one.1 (rest.bytes_of other.0) next front.stands behind.stands;
+      }
+      )
+
+  again_each_after : (before count : ℕ) (file : List ℕ) (at : ℕ) (xs : List X) (next : ℕ) → IsRightAt (each_after key layout before count) file at xs next → (each_after key layout before count).read file at ≡ got xs next
+  again_each_after before zero file at [] next found = ap (got []) (let e = found.stands.ends in omega (arith, e))
+  again_each_after before zero file at (x ∷ xs) next found = absurd (let e = found.right in cc)
+  again_each_after before (suc count) file at [] next found = absurd (let e = found.right in cc)
+  again_each_after before (suc count) file at (x ∷ xs) next found =
+      let rest = each_after key layout (key x) count in
+      let rights = and_parts ((layout before).right x) (rest.right xs) found.right in
+      let p = (layout before).bytes_of x in
+      let q = rest.bytes_of xs in
+      let one = (exact before).again file at x (at + length p) (record { right = rights.0; stands = stands_first file at p q next found.stands }) in
+      let other = again_each_after (key x) count file (at + length p) xs next (record { right = rights.1; stands = stands_second file at p q next found.stands }) in
+      ap (λ (answer : Decoded F X). decoded_then answer (λ y mid. decoded_map (λ (ys : List X). y ∷ ys) ((each_after key layout (key y) count).read file mid))) one ∙ ap (decoded_map (λ (ys : List X). x ∷ ys)) other
+
+  pub each_after_exact : (before count : ℕ) → IsExact (each_after key layout before count)
+  each_after_exact before count = record { found = found_each_after before count; again = again_each_after before count }
+
+pub choice_exact : {F X : Type 0} (is_first : Bool) (first second : Layout F X) → IsExact first → IsExact second → IsExact (choice is_first first second)
+choice_exact true first second of_first of_second = of_first
+choice_exact false first second of_first of_second = of_second
 
 module _ {F X : Type 0} (layout : Layout F X) (exact : IsExact layout) where
   found_option : (is_there : Bool) (file : List ℕ) (at : ℕ) (x : Option X) (next : ℕ) → AreBytes file → at ≤ length file → (present layout is_there).read file at ≡ got x next → IsRightAt (present layout is_there) file at x next

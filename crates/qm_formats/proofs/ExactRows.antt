@@ -28,7 +28,7 @@ spelt_bytes (suc byte ∷ bytes) row are h =
 spelt_bytes (zero ∷ []) row are h = absurd h
 spelt_bytes (zero ∷ count ∷ bytes) row are h = ap are_bytes h.1 ∙ zeros_are_bytes count h.0 (spelt_bytes bytes h.0 (λ i. are (suc (suc i))) h.5)
 
-row_answer_got : {F : Type 0} (end form : F) (file : List ℕ) (at : ℕ) (read : Result (List ℕ × ℕ) RunFaultKind) (x : List ℕ) (next : ℕ) → row_answer end form file at read ≡ got x next → (v : List ℕ × ℕ) × (read ≡ Ok v) × (v.0 ≡ x) × (at + v.1 ≡ next)
+pub row_answer_got : {F : Type 0} (end form : F) (file : List ℕ) (at : ℕ) (read : Result (List ℕ × ℕ) RunFaultKind) (x : List ℕ) (next : ℕ) → row_answer end form file at read ≡ got x next → (v : List ℕ × ℕ) × (read ≡ Ok v) × (v.0 ≡ x) × (at + v.1 ≡ next)
 row_answer_got end form file at (Ok v) x next is = (v, refl, cc, cc)
 row_answer_got end form file at (Err short) x next is = absurd (cc)
 row_answer_got end form file at (Err zero_count) x next is = absurd (cc)

@@ -13,7 +13,17 @@ pub mod NumberedNodes
 pub mod ExactRecords
 pub mod ExactFile
 pub mod RightParts
+pub mod RightSections
 pub mod ChildNumbers
 pub mod ValidFiles
 pub mod WholeFile
 pub mod ManyBytes
+pub mod Cuttable
+pub mod CutFields
+pub mod CutRows
+pub mod CutFiles
+pub mod SectionBytes
+pub mod UpgradedFiles
+pub mod FirstVersions
+mod FileSamples
+mod CubeFileSamples

@@ -13,7 +13,7 @@ pub record IsReadDue (due : ℕ) (behind_run : Bool) (bytes row : List ℕ) (use
   pub width : length row ≡ due
   pub begins : behind_run ≡ true → BeginsNonzero row
 
-read_behind_ok : (front : List ℕ) (n : ℕ) (read : Result (List ℕ × ℕ) RunFaultKind) (x : List ℕ × ℕ) → read_behind front n read ≡ Ok x → (behind : List ℕ × ℕ) × (read ≡ Ok behind) × (x.0 ≡ front ++ behind.0) × (x.1 ≡ n + behind.1)
+pub read_behind_ok : (front : List ℕ) (n : ℕ) (read : Result (List ℕ × ℕ) RunFaultKind) (x : List ℕ × ℕ) → read_behind front n read ≡ Ok x → (behind : List ℕ × ℕ) × (read ≡ Ok behind) × (x.0 ≡ front ++ behind.0) × (x.1 ≡ n + behind.1)
 read_behind_ok front n (Ok behind) x h =
     let same : (front ++ behind.0, n + behind.1) ≡ x = cc in
     (behind, refl, sym (ap (λ (v : List ℕ × ℕ). v.0) same), sym (ap (λ (v : List ℕ × ℕ). v.1) same))
@@ -23,7 +23,7 @@ tail_bytes : (byte : ℕ) (bytes : List ℕ) → AreBytes (byte ∷ bytes) → A
 tail_bytes byte bytes are = λ i. are (suc i)
 
 -- a test that failed
-not_overrun : (due count : ℕ) (read : Result (List ℕ × ℕ) RunFaultKind) (x : List ℕ × ℕ) → cond (ltb due count) (Err overrun) read ≡ Ok x → (count ≤ due) × (read ≡ Ok x)
+pub not_overrun : (due count : ℕ) (read : Result (List ℕ × ℕ) RunFaultKind) (x : List ℕ × ℕ) → cond (ltb due count) (Err overrun) read ≡ Ok x → (count ≤ due) × (read ≡ Ok x)
 not_overrun due count read x h =
     elim (cases_lt due count) [
       | inl less ↦ absurd (let e : Err overrun ≡ Ok x = sym (ap (λ (b : Bool). cond b (Err overrun) read) (lt-ltb due count less)) ∙ h in cc)

@@ -8,6 +8,18 @@ use Rattle.qm_formats.specs.Fields.{AreBytes}
 use Rattle.qm_formats.specs.Exact.{StandsAt, IsExact}
 use Rattle.qm_formats.proofs.ExactParts.{then_got}
 
+module _ {F X : Type 0} (layout : Layout F X) (exact : IsExact layout) (file : List ℕ) where
+  -- the bytes of a value are read whole
+  pub read_own : (x : X) → IsTrue (layout.right x) → file ≡ layout.bytes_of x → layout.read file 0 ≡ got x (length file)
+  read_own x right bytes =
+      let all : drop (length file) file ≡ [] = drop_all (length file) file (omega arith) in
+      let stands : StandsAt file 0 (layout.bytes_of x) (length file) = record {
+        stands = bytes ∙ sym (append-nil (layout.bytes_of x)) ∙ ap (λ (xs : List ℕ). layout.bytes_of x ++ xs) (sym all);
+        ends = ap length bytes ∙ omega arith;
+        within = omega arith;
+      } in
+      exact.again file 0 x (length file) (record { right = right; stands = stands })
+
 module _ {F X : Type 0} (layout : Layout F X) (exact : IsExact layout) (trailing : F) (file : List ℕ) where
   pub record IsAll (x : X) (next : ℕ) : Type 0 where
     pub right : IsTrue (layout.right x)
@@ -32,13 +44,7 @@ module _ {F X : Type 0} (layout : Layout F X) (exact : IsExact layout) (trailing
 
   pub all_again : (x : X) → IsTrue (layout.right x) → file ≡ layout.bytes_of x → read_to_end layout trailing file ≡ got x (length file)
   all_again x right bytes =
-      let all : drop (length file) file ≡ [] = drop_all (length file) file (omega arith) in
-      let stands : StandsAt file 0 (layout.bytes_of x) (length file) = record {
-        stands = bytes ∙ sym (append-nil (layout.bytes_of x)) ∙ ap (λ (xs : List ℕ). layout.bytes_of x ++ xs) (sym all);
-        ends = ap length bytes ∙ omega arith;
-        within = omega arith;
-      } in
-      ap (λ (answer : Decoded F X). decoded_then answer (λ x next. cond (ltb next (length file)) (bad trailing next) (got x next))) (exact.again file 0 x (length file) (record { right = right; stands = stands }))
+      ap (λ (answer : Decoded F X). decoded_then answer (λ x next. cond (ltb next (length file)) (bad trailing next) (got x next))) (read_own layout exact file x right bytes)
       ∙ ap (λ (b : Bool). cond b (bad trailing (length file)) (got x (length file))) (le-ltb (length file) (length file) (omega arith))
 
   pub read_ends : (x : X) (next : ℕ) → AreBytes file → layout.read file 0 ≡ got x next → length file ≤ next → read_to_end layout trailing file ≡ got x (length file)

@@ -1,4 +1,4 @@
--- A file of at most the limit can be written and read again exactly where it is valid.
+-- A file of fewer than 2^62 bytes can be written and read again exactly where it is valid.
 use Rattle.std.proofs.Common.{◌≡◌, ◌<◌, ◌≤◌, ℕ, ◌+◌, ◌^◌, Bool, true, false, cond, eqb, ltb, leb, ◌&&◌, List, [], ◌∷◌, ◌++◌, length, All, Option, Some, None, get_or, refl, ap, subst, ◌∙◌, arith}
 use Rattle.std.specs.Prelude.{IfSome, is_some, count_by}
 use Rattle.std.specs.List.{list_all}
@@ -19,12 +19,13 @@ use Rattle.qm_partition.proofs.Counts.{one_leaf_more, length-nodes_of}
 use Rattle.qm_partition.proofs.MadeTrees.{made_of_parts, parts_of_made}
 use Rattle.qm_contacts.specs.NumberedLeaves.{is_numbered}
 use Rattle.qm_formats.specs.Layout.{Layout, bytes_of_each, right_option, many, each}
-use Rattle.qm_formats.specs.Fields.{unsigned, signed, fixed, raw}
+use Rattle.qm_formats.specs.Fields.{unsigned, signed, raw}
 use Rattle.qm_formats.specs.FileParts.{plane_layout, node_layout, leaf_layout}
 use Rattle.qm_formats.specs.TreeFile.{TreeFile, AreRows, IsValidFile}
-use Rattle.qm_formats.specs.FileLayout.{Header, file_header_layout, are_numbered, are_ordered, own_row_layout, planes_layout, nodes_layout, leaves_layout, rows_layout, tree_layout, header_of, file_layout, file_bytes, file_limit}
+use Rattle.qm_formats.specs.FileLayout.{Header, is_version, magic_layout, bound_layout, section_count_layout, file_header_layout, are_numbered, are_ordered, own_row_layout, planes_layout, nodes_layout, leaves_layout, rows_layout, tree_layout, sections_layout, header_of, file_layout, file_bytes}
 use Rattle.qm_formats.proofs.NumberedNodes.{numbered-test}
 use Rattle.qm_formats.proofs.RightParts.{right_each_at, right_each_from, reduced_plane, right_plane, plane_right, node_right, leaf_right, right_leaf, row_right, right_row}
+use Rattle.qm_formats.proofs.RightSections.{IsRightVersion, version_of_right, right_of_version, few_sections, right_sections, sections_right}
 use Rattle.qm_formats.proofs.ChildNumbers.{children_below}
 use Rattle.qm_formats.proofs.ExactFile.{right_each_length, right_counts, right_parts, CanStand, counted_parts, stand_of_tree, own_tree}
 
@@ -94,20 +95,25 @@ pub made_of_right : (header : Header) (planes : List Plane) (nodes : List NodeRe
 made_of_right header planes nodes leaves can = (of_tree header planes nodes leaves can).made
 
 pub right_valid : (file : TreeFile) → file_layout.right file ≡ true → IsValidFile file
-unfolding file_layout rows_layout
+unfolding file_layout rows_layout sections_layout
 right_valid file right =
     let header = header_of file in
     let nodes = nodes_of file.tree.shape 0 0 in
     let leaves = leaves_of file.tree.shape in
     let of_tree_right = (tree_layout header).right file.tree in
     let of_rows = (rows_layout header).right file.rows in
-    let of_header = and_parts (file_header_layout.right header) (of_tree_right && of_rows) right in
-    let parts = and_parts of_tree_right of_rows of_header.1 in
+    let of_sections = (sections_layout header).right file.sections in
+    let of_header = and_parts (file_header_layout.right header) (of_tree_right && (of_rows && of_sections)) right in
+    let parts = and_parts of_tree_right (of_rows && of_sections) of_header.1 in
+    let behind = and_parts of_rows of_sections parts.1 in
+    let counts = right_counts header of_header.0 in
     let tree = of_tree header file.tree.planes nodes leaves (stand_of_tree header file.tree of_header.0 parts.0) in
     record {
+      of_version = version_of_right file (record { of_version = counts.of_version; of_bound = counts.of_bound; of_sections = counts.of_sections });
       well_made = subst IsWellMade (own_tree file.tree) tree.made.well_made;
       reduced = tree.reduced;
-      rows = rows_valid header.numbered file.rows header.has_rows parts.1;
+      rows = rows_valid header.numbered file.rows header.has_rows behind.0;
+      sections = right_sections 0 header.sections file.sections behind.1;
     }
 
 -- ---- what is valid and not too long is right
@@ -138,8 +144,9 @@ counts_at_most file =
     let r = bytes_of_each (λ _. node_layout) 0 nodes in
     let s = bytes_of_each (λ _. leaf_layout) 0 leaves in
     let t = (rows_layout header).bytes_of file.rows in
-    let whole = length-append p ((q ++ (r ++ s)) ++ t) in
-    let behind_header = length-append (q ++ (r ++ s)) t in
+    let u = (sections_layout header).bytes_of file.sections in
+    let whole = length-append p ((q ++ (r ++ s)) ++ (t ++ u)) in
+    let behind_header = length-append (q ++ (r ++ s)) (t ++ u) in
     let of_tree = length-append q (r ++ s) in
     let behind_planes = length-append r s in
     let few_nodes = values_at_most (λ _. node_layout) node_bytes 0 nodes in
@@ -150,25 +157,29 @@ flag_right : (flag : Bool) → ((ltb (cond flag 1 0) 256) && (leb (cond flag 1 0
 flag_right true = refl
 flag_right false = refl
 
-header_right : (header : Header) → header.planes < 2 ^ 32 → header.nodes < 2 ^ 62 → header.leaves ≡ header.nodes + 1 → header.numbered ≤ header.leaves → file_header_layout.right header ≡ true
-unfolding file_header_layout unsigned fixed
-header_right header planes nodes leaves numbered =
+header_right : (header : Header) → IsRightVersion header.version header.bound header.sections → header.planes < 2 ^ 32 → header.nodes < 2 ^ 62 → header.leaves ≡ header.nodes + 1 → header.numbered ≤ header.leaves → file_header_layout.right header ≡ true
+unfolding file_header_layout magic_layout unsigned
+header_right header version planes nodes leaves numbered =
     let of_planes = (ltb header.planes (2 ^ 64)) && (ltb header.planes (2 ^ 32)) in
     let of_nodes = ltb header.nodes (2 ^ 64) in
     let of_leaves = (ltb header.leaves (2 ^ 64)) && (eqb header.leaves (header.nodes + 1)) in
     let of_numbered = (ltb header.numbered (2 ^ 64)) && (leb header.numbered header.leaves) in
     let of_flag = (ltb (cond header.has_rows 1 0) 256) && (leb (cond header.has_rows 1 0) 1) in
-    and_from of_planes (of_nodes && (of_leaves && (of_numbered && of_flag)))
+    let of_bound = (bound_layout header.version).right header.bound in
+    let of_sections = (section_count_layout header.version).right header.sections in
+    and_from (is_version header.version) (of_planes && (of_nodes && (of_leaves && (of_numbered && (of_flag && (of_bound && of_sections)))))) version.of_version
+    (and_from of_planes (of_nodes && (of_leaves && (of_numbered && (of_flag && (of_bound && of_sections)))))
     (and_from (ltb header.planes (2 ^ 64)) (ltb header.planes (2 ^ 32)) (lt-ltb header.planes (2 ^ 64) (omega (arith, planes))) (lt-ltb header.planes (2 ^ 32) planes))
-    (and_from of_nodes (of_leaves && (of_numbered && of_flag)) (lt-ltb header.nodes (2 ^ 64) (omega (arith, nodes)))
-    (and_from of_leaves (of_numbered && of_flag)
+    (and_from of_nodes (of_leaves && (of_numbered && (of_flag && (of_bound && of_sections)))) (lt-ltb header.nodes (2 ^ 64) (omega (arith, nodes)))
+    (and_from of_leaves (of_numbered && (of_flag && (of_bound && of_sections)))
     (and_from (ltb header.leaves (2 ^ 64)) (eqb header.leaves (header.nodes + 1)) (lt-ltb header.leaves (2 ^ 64) (omega (arith, nodes, leaves))) (eq-eqb header.leaves (header.nodes + 1) leaves))
-    (and_from of_numbered of_flag
+    (and_from of_numbered (of_flag && (of_bound && of_sections))
     (and_from (ltb header.numbered (2 ^ 64)) (leb header.numbered header.leaves) (lt-ltb header.numbered (2 ^ 64) (omega (arith, nodes, leaves, numbered))) (le-leb header.numbered header.leaves numbered))
-    (flag_right header.has_rows))))
+    (and_from of_flag (of_bound && of_sections) (flag_right header.has_rows)
+    (and_from of_bound of_sections version.of_bound version.of_sections))))))
 
-pub valid_right : (file : TreeFile) → IsValidFile file → length (file_bytes file) ≤ file_limit → file_layout.right file ≡ true
-unfolding file_layout tree_layout planes_layout nodes_layout leaves_layout rows_layout are_ordered
+pub valid_right : (file : TreeFile) → IsValidFile file → length (file_bytes file) < 2 ^ 62 → file_layout.right file ≡ true
+unfolding file_layout tree_layout planes_layout nodes_layout leaves_layout rows_layout sections_layout are_ordered
 valid_right file valid small =
     let header = header_of file in
     let shape = file.tree.shape in
@@ -185,9 +196,11 @@ valid_right file valid small =
     let of_nodes = (nodes_layout header).right nodes in
     let of_leaves = (leaves_layout header).right leaves in
     let of_rows = (rows_layout header).right file.rows in
-    and_from (file_header_layout.right header) ((of_planes && (of_nodes && of_leaves)) && of_rows)
-    (header_right header parts.few (omega (arith, few.0, small)) (omega (arith, count, more)) (count_by-le-length is_numbered leaves))
-    (and_from (of_planes && (of_nodes && of_leaves)) of_rows
+    let of_sections = (sections_layout header).right file.sections in
+    let version = right_of_version file valid.of_version (few_sections file.sections valid.sections) in
+    and_from (file_header_layout.right header) ((of_planes && (of_nodes && of_leaves)) && (of_rows && of_sections))
+    (header_right header version parts.few (omega (arith, few.0, small)) (omega (arith, count, more)) (count_by-le-length is_numbered leaves))
+    (and_from (of_planes && (of_nodes && of_leaves)) (of_rows && of_sections)
     (and_from of_planes (of_nodes && of_leaves)
     (right_each_from (λ _. plane_layout) 0 header.planes planes refl (λ i d within. plane_right (get_or planes i d) (valid.reduced i d within) (parts.leads i d within)))
     (and_from of_nodes of_leaves
@@ -199,4 +212,4 @@ valid_right file valid small =
     (and_from ((many leaf_layout header.leaves).right leaves) (eqb (count_by is_numbered leaves) header.numbered)
     (right_each_from (λ _. leaf_layout) 0 header.leaves leaves refl (λ i d within. leaf_right (get_or leaves i d) (parts.solid i d within)))
     (eq-eqb (count_by is_numbered leaves) header.numbered refl))))
-    (rows_right header.numbered file.rows valid.rows))
+    (and_from of_rows of_sections (rows_right header.numbered file.rows valid.rows) (sections_right 0 file.sections valid.sections)))

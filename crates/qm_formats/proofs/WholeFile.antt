@@ -1,5 +1,5 @@
 -- A whole file is read exactly where it is the file of a valid tree and its rows, and not too long.
-use Rattle.std.proofs.Common.{◌≡◌, ◌≤◌, ℕ, Bool, cond, List, length, sym, ap, subst, ◌∙◌, inl, inr}
+use Rattle.std.proofs.Common.{◌≡◌, ◌≤◌, ℕ, Bool, cond, List, length, sym, ap, ◌∙◌, inl, inr, arith}
 use Rattle.std.specs.Prelude.{IsTrue}
 use Rattle.std.proofs.lemmas.Bool.{cases_lt, lt-ltb, le-ltb}
 use Rattle.qm_formats.specs.Layout.{got, bad, Layout, read_to_end, read_whole_file}
@@ -44,7 +44,8 @@ read_file_found file content next are is =
 pub read_file_again : (file : List ℕ) (content : TreeFile) → IsFileOf file content → read_file file ≡ got content (length file)
 unfolding read_file file_bytes
 read_file_again file content is =
-    whole_again file_layout file_exact file_limit too_long trailing file content (valid_right content is.valid (subst (λ (n : ℕ). n ≤ file_limit) (ap length is.bytes) is.fits)) is.bytes is.fits
+    let long = ap length is.bytes in
+    whole_again file_layout file_exact file_limit too_long trailing file content (valid_right content is.valid (omega (arith, long, is.fits))) is.bytes is.fits
 
 -- a file is read, where what stands at its start is read and ends where it does
 pub read_file_ends : (file : List ℕ) (content : TreeFile) (next : ℕ) → AreBytes file → file_layout.read file 0 ≡ got content next → length file ≤ file_limit → length file ≤ next → read_file file ≡ got content (length file)

@@ -1,4 +1,4 @@
-use Rattle.std.specs.Prelude.{◌<◌, ℕ, ◌+◌, ◌^◌, ℤ, pos, negsuc, Bool, true, ◌&&◌, ◌==◌, nat_lt, List, [], ◌∷◌, take, drop, length, slice_index, if◌then◌else◌}
+use Rattle.std.specs.Prelude.{◌<◌, ℕ, ◌+◌, ◌^◌, ℤ, pos, negsuc, Bool, true, ◌&&◌, ◌==◌, nat_lt, List, [], ◌∷◌, ◌++◌, take, drop, length, slice_index, if◌then◌else◌}
 use Rattle.std.specs.Int.{Width, byte_len, to_le_bytes, from_le_bytes, cast_signed, cast_unsigned}
 use mir.Val.{bits, hbits}
 use Rattle.qm_formats.specs.Layout.{got, bad, Layout, seen_as, tested}
@@ -40,7 +40,13 @@ first_difference [] ys = 0
 first_difference (x ∷ xs) [] = 0
 first_difference (x ∷ xs) (y ∷ ys) = if x == y then first_difference xs ys + 1 else 0
 
--- fixed bytes; where others stand, there is a fault at the first that differs
-unfoldable pub fixed : {F : Type 0} → F → F → List ℕ → Layout F (Unit {0})
-fixed short other bytes =
-    seen_as (λ _. tt) (λ _. bytes) (λ _. true) (tested (λ found. first_difference bytes found == length bytes) other (λ found at. at + first_difference bytes found) (raw short (length bytes)))
+-- fixed bytes and one behind them that passes a test, as one record; where others stand, there is a fault at the first
+-- that differs or does not pass
+unfoldable pub fixed_before : {F : Type 0} → F → F → List ℕ → (ℕ → Bool) → Layout F ℕ
+fixed_before short other bytes test =
+    seen_as (λ found. slice_index found (length bytes)) (λ byte. bytes ++ (byte ∷ [])) (λ byte. nat_lt byte 256 && test byte) (
+    tested (λ found. (first_difference bytes found == length bytes) && test (slice_index found (length bytes))) other (λ found at. at + first_difference bytes found) (raw short (length bytes + 1)))
+
+-- a number that is not written
+unfoldable pub unwritten : {F : Type 0} → ℕ → Layout F ℕ
+unwritten value = record { bytes_of = λ _. []; right = λ n. n == value; read = λ file at. got value at }

@@ -1,5 +1,5 @@
-use Rattle.std.specs.Prelude.{◌^◌, ℕ, ◌+◌, Bool, true, false, ◌&&◌, ◌==◌, nat_lt, nat_le, List, [], ◌∷◌, length, replicate, slice_index_or, Option, is_some, codes, count_by, if◌then◌else◌}
-use Rattle.std.specs.Int.{w8, w64}
+use Rattle.std.specs.Prelude.{◌^◌, ℕ, ◌+◌, ◌-◌, Bool, true, false, ◌&&◌, ◌||◌, ◌==◌, nat_lt, nat_le, List, [], ◌∷◌, length, replicate, slice_index_or, Option, is_some, codes, count_by, if◌then◌else◌}
+use Rattle.std.specs.Int.{w8, w32, w64}
 use Rattle.std.specs.List.{list_all}
 use Rattle.qm_space.specs.Plane.{Plane}
 use Rattle.qm_contents.specs.declared.contents.Contents.TheVariants.{Empty}
@@ -12,21 +12,33 @@ use Rattle.qm_partition.specs.Counting.{leaves_of}
 use Rattle.qm_partition.specs.Numbering.{nodes_of}
 use Rattle.qm_partition.specs.Arrays.{partition_of, tree_of}
 use Rattle.qm_contacts.specs.NumberedLeaves.{is_numbered}
-use Rattle.qm_formats.specs.Layout.{Decoded, Layout, recast, tested, part, last_part, each, many, present, read_whole_file}
-use Rattle.qm_formats.specs.Fields.{unsigned, fixed}
+use Rattle.qm_formats.specs.Layout.{Decoded, Layout, seen_as, recast, tested, pair, part, last_part, each, many, each_after, choice, present, read_whole_file}
+use Rattle.qm_formats.specs.Fields.{raw, unsigned, fixed_before, unwritten}
 use Rattle.qm_formats.specs.RowBits.{row_bits}
-use Rattle.qm_formats.specs.FileParts.{FileFaultKind, short, magic, counts, node_order, row_form, trailing, too_long, plane_layout, node_layout, leaf_layout}
-use Rattle.qm_formats.specs.TreeFile.{TreeFile}
+use Rattle.qm_formats.specs.FileParts.{FileFaultKind, short, magic, counts, node_order, row_form, trailing, too_long, header_form, section_form, plane_layout, node_layout, leaf_layout}
+use Rattle.qm_formats.specs.TreeFile.{Section, TreeFile, small_bound, large_bound}
 
--- The bytes of a tree file: a header, the planes, the nodes, the leaves, and, where they are there, the rows of visibility.
+-- The bytes of a tree file: a header, the planes, the nodes, the leaves, the rows of visibility where they are there, and
+-- the sections. Version 1 has neither a bound nor sections.
 
--- how many planes, nodes, leaves and numbered leaves there are, and whether rows are there
+-- the version, how many planes, nodes, leaves and numbered leaves there are, whether rows are there, half the size of the
+-- world's cube, and how many sections there are
 pub record Header : Type 0 where
+  pub version : ℕ
   pub planes : ℕ
   pub nodes : ℕ
   pub leaves : ℕ
   pub numbered : ℕ
   pub has_rows : Bool
+  pub bound : ℕ
+  pub sections : ℕ
+
+abbrev pub is_version : ℕ → Bool
+is_version version = (version == 1) || (version == 2)
+
+-- seven fixed bytes and the digit of the version, as one record; what is not version 1 is written as version 2
+unfoldable pub magic_layout : Layout FileFaultKind ℕ
+magic_layout = seen_as (λ digit. digit - 48) (λ version. if version == 1 then 49 else 50) is_version (fixed_before short magic (codes "QMTREE0") (λ digit. is_version (digit - 48)))
 
 -- a count in 64 bits that passes a test
 abbrev pub count_layout : (ℕ → Bool) → Layout FileFaultKind ℕ
@@ -36,16 +48,34 @@ count_layout test = tested test counts (λ _ at. at) (unsigned short w64)
 abbrev pub flag_layout : Layout FileFaultKind Bool
 flag_layout = recast (λ n. n == 1) (λ flag. if flag then 1 else 0) (tested (λ n. nat_le n 1) counts (λ _ at. at) (unsigned short w8))
 
--- the magic bytes; how many planes there are, fewer than 2^32; how many nodes; how many leaves, one more; how many of them
--- are numbered; and whether rows are there
+-- a number that version 2 writes; version 1 has a fixed one in its place
+abbrev pub since_second : ℕ → ℕ → Layout FileFaultKind ℕ → Layout FileFaultKind ℕ
+since_second version before layout = choice (version == 1) (unwritten before) layout
+
+abbrev pub is_bound : ℕ → Bool
+is_bound bound = (bound == small_bound) || (bound == large_bound)
+
+-- half the size of the world's cube, in 32 bits
+unfoldable pub bound_layout : ℕ → Layout FileFaultKind ℕ
+bound_layout version = since_second version small_bound (tested is_bound header_form (λ _ at. at) (unsigned short w32))
+
+-- how many sections there are, in 32 bits
+unfoldable pub section_count_layout : ℕ → Layout FileFaultKind ℕ
+section_count_layout version = since_second version 0 (unsigned short w32)
+
+-- the magic bytes with the version; how many planes there are, fewer than 2^32; how many nodes; how many leaves, one more;
+-- how many of them are numbered; whether rows are there; the bound; and how many sections there are
 unfoldable pub file_header_layout : Layout FileFaultKind Header
 file_header_layout =
-    part (λ _. tt) (fixed short magic (codes "QMTREE01")) (λ _.
+    part (λ header. header.version) magic_layout (λ version.
     part (λ header. header.planes) (count_layout (λ planes. nat_lt planes (2 ^ 32))) (λ planes.
     part (λ header. header.nodes) (unsigned short w64) (λ nodes.
     part (λ header. header.leaves) (count_layout (λ leaves. leaves == nodes + 1)) (λ leaves.
     part (λ header. header.numbered) (count_layout (λ numbered. nat_le numbered leaves)) (λ numbered.
-    last_part (λ header. header.has_rows) flag_layout (λ has_rows. record { planes = planes; nodes = nodes; leaves = leaves; numbered = numbered; has_rows = has_rows }))))))
+    part (λ header. header.has_rows) flag_layout (λ has_rows.
+    part (λ header. header.bound) (bound_layout version) (λ bound.
+    last_part (λ header. header.sections) (section_count_layout version) (λ sections.
+    record { version = version; planes = planes; nodes = nodes; leaves = leaves; numbered = numbered; has_rows = has_rows; bound = bound; sections = sections }))))))))
 
 abbrev pub same_child : Child → Child → Bool
 same_child (Node n) (Node m) = n == m
@@ -98,23 +128,41 @@ tree_layout header =
     part (λ tree. nodes_of tree.shape 0 0) (nodes_layout header) (λ nodes.
     last_part (λ tree. leaves_of tree.shape) (leaves_layout header) (λ leaves. tree_of planes nodes leaves)))
 
+-- the kind of a section, in 32 bits, which is above another, and how many bytes it has, in 64, as one record
+unfoldable pub section_head_layout : ℕ → Layout FileFaultKind (ℕ × ℕ)
+section_head_layout before = tested (λ head. nat_lt before head.0) section_form (λ _ at. at) (pair (unsigned short w32) (unsigned short w64))
+
+-- a section of a kind above another: its head and its bytes
+unfoldable pub section_layout : ℕ → Layout FileFaultKind Section
+section_layout before =
+    part (λ section. (section.kind, length section.bytes)) (section_head_layout before) (λ head.
+    last_part (λ section. section.bytes) (raw short head.1) (λ bytes. record { kind = head.0; bytes = bytes }))
+
+-- the sections, each of a kind above that of the one before, and the first above 0
+unfoldable pub sections_layout : Header → Layout FileFaultKind (List Section)
+sections_layout header = each_after (λ (section : Section). section.kind) section_layout 0 header.sections
+
 abbrev pub header_of : TreeFile → Header
 header_of file =
     let leaves = leaves_of file.tree.shape in
     record {
+      version = file.version;
       planes = length file.tree.planes;
       nodes = length (nodes_of file.tree.shape 0 0);
       leaves = length leaves;
       numbered = count_by is_numbered leaves;
       has_rows = is_some file.rows;
+      bound = file.bound;
+      sections = length file.sections;
     }
 
--- the header, the tree and the rows
+-- the header, the tree, the rows and the sections
 unfoldable pub file_layout : Layout FileFaultKind TreeFile
 file_layout =
     part header_of file_header_layout (λ header.
     part (λ file. file.tree) (tree_layout header) (λ tree.
-    last_part (λ file. file.rows) (rows_layout header) (λ rows. record { tree = tree; rows = rows })))
+    part (λ file. file.rows) (rows_layout header) (λ rows.
+    last_part (λ file. file.sections) (sections_layout header) (λ sections. record { version = header.version; bound = header.bound; tree = tree; rows = rows; sections = sections }))))
 
 -- the bytes of a tree file
 unfoldable pub file_bytes : TreeFile → List ℕ

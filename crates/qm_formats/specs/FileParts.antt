@@ -28,6 +28,8 @@ pub data FileFaultKind : Type 0 where
   row_form : FileFaultKind
   trailing : FileFaultKind
   too_long : FileFaultKind
+  header_form : FileFaultKind
+  section_form : FileFaultKind
 
 -- a plane that leads with a positive component, is in lowest terms, and has components and a distance within the bounds
 unfoldable pub is_plane : Plane → Bool

@@ -101,6 +101,39 @@ module _ {F X : Type 0} (layout : ℕ → Layout F X) where
 abbrev pub many : {F X : Type 0} → Layout F X → ℕ → Layout F (List X)
 many layout count = each (λ _. layout) count
 
+-- values one behind the other, each in the layout that follows from the key of the one before
+module _ {F X : Type 0} (key : X → ℕ) (layout : ℕ → Layout F X) where
+  -- the bytes of values, of which the first stands behind one with that key
+  abbrev pub bytes_of_each_after : ℕ → List X → List ℕ
+  bytes_of_each_after before [] = []
+  bytes_of_each_after before (x ∷ xs) = (layout before).bytes_of x ++ bytes_of_each_after (key x) xs
+
+  -- whether there are so many values, each right
+  abbrev pub right_each_after : ℕ → ℕ → List X → Bool
+  right_each_after before zero [] = true
+  right_each_after before zero (x ∷ xs) = false
+  right_each_after before (suc count) [] = false
+  right_each_after before (suc count) (x ∷ xs) = (layout before).right x && right_each_after (key x) count xs
+
+  -- so many values are read one behind the other
+  abbrev pub read_each_after : ℕ → ℕ → List ℕ → ℕ → Decoded F (List X)
+  read_each_after before zero file at = got [] at
+  read_each_after before (suc count) file at =
+      decoded_then ((layout before).read file at) (λ x next. decoded_map (λ (xs : List X). x ∷ xs) (read_each_after (key x) count file next))
+
+  -- so many values, of which the first stands behind one with that key
+  abbrev pub each_after : ℕ → ℕ → Layout F (List X)
+  each_after before count = record { bytes_of = bytes_of_each_after before; right = right_each_after before count; read = read_each_after before count }
+
+-- one of two layouts
+abbrev pub choice : {F X : Type 0} → Bool → Layout F X → Layout F X → Layout F X
+choice is_first first second =
+    record {
+      bytes_of = λ x. if is_first then first.bytes_of x else second.bytes_of x;
+      right = λ x. if is_first then first.right x else second.right x;
+      read = λ file at. if is_first then first.read file at else second.read file at;
+    }
+
 -- a value where there is one
 module _ {F X : Type 0} (layout : Layout F X) where
   abbrev pub bytes_of_option : Option X → List ℕ

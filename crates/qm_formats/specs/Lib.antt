@@ -6,4 +6,6 @@ pub mod FirstWrong
 pub mod RowBits
 pub mod FileParts
 pub mod TreeFile
+pub mod Upgraded
 pub mod FileLayout
+pub mod FirstVersion
