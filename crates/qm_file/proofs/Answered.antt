@@ -39,10 +39,12 @@ no_fault : (fault : FileFault) (answer : Decoded FileFaultKind TreeFile) (file :
 no_fault (faults.Short offset) answer file next is fault = absurd (let e = sym is ∙ fault in cc)
 no_fault (faults.Magic offset) answer file next is fault = absurd (let e = sym is ∙ fault in cc)
 no_fault (faults.Counts offset) answer file next is fault = absurd (let e = sym is ∙ fault in cc)
+no_fault (faults.HeaderForm offset) answer file next is fault = absurd (let e = sym is ∙ fault in cc)
 no_fault (faults.PlaneForm offset) answer file next is fault = absurd (let e = sym is ∙ fault in cc)
 no_fault (faults.NodeOrder offset) answer file next is fault = absurd (let e = sym is ∙ fault in cc)
 no_fault (faults.LeafForm offset) answer file next is fault = absurd (let e = sym is ∙ fault in cc)
 no_fault (faults.RowForm offset) answer file next is fault = absurd (let e = sym is ∙ fault in cc)
+no_fault (faults.SectionForm offset) answer file next is fault = absurd (let e = sym is ∙ fault in cc)
 no_fault (faults.Trailing offset) answer file next is fault = absurd (let e = sym is ∙ fault in cc)
 no_fault (faults.TooLong offset) answer file next is fault = absurd (let e = sym is ∙ fault in cc)
 no_fault faults.Memory answer file next is fault = refl

@@ -1,9 +1,12 @@
--- The bytes of the words of a row are the bytes of the row.
-use Rattle.std.proofs.Common.{◌≡◌, ◌<◌, ℕ, zero, suc, ◌+◌, ◌*◌, ◌/◌, ◌%◌, ◌^◌, Bool, false, cond, List, get_or, refl, sym, ap, ◌∙◌, arith, w64}
-use Rattle.std.specs.Int.{bit_at, to_le_bytes}
-use Rattle.std.proofs.lemmas.Nat.{shr-shr, shr_split, mod_below}
+-- The bytes of the words of a row are the bytes of the row, and the bits of a word are those of its bytes.
+use Rattle.std.proofs.Common.{◌≡◌, ◌<◌, ◌≤◌, ℕ, zero, suc, ◌+◌, ◌*◌, ◌/◌, ◌%◌, ◌^◌, Bool, false, cond, List, length, take, drop, get_or, refl, sym, ap, ◌∙◌, inl, inr, arith, w64}
+use Rattle.std.specs.Int.{bit_at, to_le_bytes, from_le_bytes}
+use Rattle.std.proofs.lemmas.Bool.{cases_lt}
+use Rattle.std.proofs.lemmas.List.{get_or-take, get_or-drop, get_or_past, length-take, length-drop}
+use Rattle.std.proofs.lemmas.Nat.{shr-shr, shr_split, mod_below, le_bytes_8}
 use Rattle.std.proofs.lemmas.Nat.Bits.{same_from_bits_below, bit_at_cat_low}
 use Rattle.qm_lists.specs.Word.{IsWord}
+use Rattle.qm_formats.specs.Fields.{AreBytes}
 use Rattle.qm_formats.specs.RowBits.{row_byte}
 use Rattle.qm_formats.proofs.PackedRows.{row_byte-bit, row_byte-byte, test_bit}
 
@@ -41,3 +44,30 @@ word_byte row place word is =
     ∙ ap (λ (b : Bool). cond b 1 0) (is (8 * j + i) bit)
     ∙ ap (λ (n : ℕ). cond (get_or row n false) 1 0) there
     ∙ sym (row_byte-bit row place i below))
+
+-- a part of eight bytes, as a number
+pub part_bytes : (bytes : List ℕ) (k word : ℕ) → AreBytes bytes → 8 * k + 8 ≤ length bytes → word ≡ from_le_bytes w64 (take 8 (drop (8 * k) bytes)) → to_le_bytes w64 word ≡ take 8 (drop (8 * k) bytes)
+part_bytes bytes k word are within is =
+    let rest = drop (8 * k) bytes in
+    let long : length (take 8 rest) ≡ 8 = omega (arith, length-take 8 rest, length-drop (8 * k) bytes, within) in
+    le_bytes_8 (take 8 rest) word long (λ i.
+    elim (cases_lt i 8) [
+      | inl less ↦ rw (get_or-take 8 rest i 0 less, get_or-drop (8 * k) bytes i 0) (are (8 * k + i))
+      | inr past ↦ rw (get_or_past (take 8 rest) i 0 (omega (arith, long, past))) (omega arith)
+    ]) is
+
+-- a bit of a number whose bytes stand among others is the bit of one of these
+pub bytes_bit : (bytes : List ℕ) (k word bit : ℕ) → to_le_bytes w64 word ≡ take 8 (drop (8 * k) bytes) → bit < 64 → bit_at word bit ≡ bit_at (get_or bytes ((64 * k + bit) / 8) 0) ((64 * k + bit) % 8)
+bytes_bit bytes k word bit is within =
+    let j = bit / 8 in
+    let i = bit % 8 in
+    let byte : (64 * k + bit) / 8 ≡ 8 * k + j = omega arith in
+    let inside : (64 * k + bit) % 8 ≡ i = omega arith in
+    let whole : 8 * j + i ≡ bit = omega arith in
+    let few : j < 8 = omega arith in
+    let same : word / 2 ^ (8 * j) % 2 ^ 8 ≡ get_or bytes (8 * k + j) 0 =
+    sym (le_byte word j few) ∙ ap (λ (part : List ℕ). get_or part j 0) is ∙ get_or-take 8 (drop (8 * k) bytes) j 0 few ∙ get_or-drop (8 * k) bytes j 0 in
+    ap (λ (n : ℕ). bit_at word n) (sym whole)
+    ∙ sym (low_bits word (8 * j) i (omega arith))
+    ∙ ap (λ (n : ℕ). bit_at n i) same
+    ∙ (λ t. bit_at (get_or bytes (sym byte t) 0) (sym inside t))

@@ -1,6 +1,6 @@
 use Rattle.std.specs.Prelude.{◌≡◌, ℕ, Result, Ok, Err}
 use Rattle.qm_formats.specs.Layout.{Decoded, got, bad}
-use Rattle.qm_formats.specs.FileParts.{FileFaultKind, short, magic, counts, plane_form, node_order, leaf_form, row_form, trailing, too_long}
+use Rattle.qm_formats.specs.FileParts.{FileFaultKind, short, magic, counts, header_form, plane_form, node_order, leaf_form, row_form, section_form, trailing, too_long}
 use Rattle.qm_file.specs.declared.file_fault.FileFault.{FileFault}
 use Rattle.qm_file.specs.declared.file_fault.FileFault.TheVariants as faults
 
@@ -9,10 +9,12 @@ abbrev pub IsFaultOfFile : {X : Type 0} → FileFault → Decoded FileFaultKind 
 IsFaultOfFile (faults.Short offset) answer = answer ≡ bad short offset
 IsFaultOfFile (faults.Magic offset) answer = answer ≡ bad magic offset
 IsFaultOfFile (faults.Counts offset) answer = answer ≡ bad counts offset
+IsFaultOfFile (faults.HeaderForm offset) answer = answer ≡ bad header_form offset
 IsFaultOfFile (faults.PlaneForm offset) answer = answer ≡ bad plane_form offset
 IsFaultOfFile (faults.NodeOrder offset) answer = answer ≡ bad node_order offset
 IsFaultOfFile (faults.LeafForm offset) answer = answer ≡ bad leaf_form offset
 IsFaultOfFile (faults.RowForm offset) answer = answer ≡ bad row_form offset
+IsFaultOfFile (faults.SectionForm offset) answer = answer ≡ bad section_form offset
 IsFaultOfFile (faults.Trailing offset) answer = answer ≡ bad trailing offset
 IsFaultOfFile (faults.TooLong offset) answer = answer ≡ bad too_long offset
 IsFaultOfFile faults.Memory answer = Unit {0}

@@ -1,9 +1,10 @@
 //! The bytes of single fields. All numbers are little-endian.
 
-ghost use Rattle.std.specs.Prelude.{◌≡◌, ◌++◌, OnOk, codes, if◌then◌else◌};
+ghost use Rattle.std.specs.Prelude.{◌≡◌, ◌++◌, OnOk, if◌then◌else◌};
 ghost use Rattle.std.specs.Int.{w8, w32, w64};
-ghost use Rattle.qm_formats.specs.Fields.{signed, unsigned, fixed};
-ghost use Rattle.qm_formats.specs.FileParts.{short, magic};
+ghost use Rattle.qm_formats.specs.Fields.{signed, unsigned};
+ghost use Rattle.qm_formats.specs.FileParts.{short};
+ghost use Rattle.qm_formats.specs.FileLayout.{magic_layout};
 
 use std::alloc::AllocError;
 
@@ -35,6 +36,14 @@ pub(crate) fn put_count(bytes: &mut Vec<u8>, count: usize) -> Result<(), AllocEr
     bytes.extend_from_slice(&(count as u64).to_le_bytes())
 }
 
+/// The low 32 bits of a count.
+#[tactic(auto, unfolding(qm_formats::specs::Fields::unsigned, qm_formats::specs::Fields::raw))]
+pub(crate) fn put_small_count(bytes: &mut Vec<u8>, count: usize) -> Result<(), AllocError>
+    ensures { OnOk result (bytes.new.items ≡ bytes.old.items ++ (unsigned short w32).bytes_of count) }
+{
+    bytes.extend_from_slice(&(count as u64).to_le_bytes()[..4])
+}
+
 #[tactic(auto, unfolding(qm_formats::specs::Fields::unsigned, qm_formats::specs::Fields::raw))]
 pub(crate) fn put_flag(bytes: &mut Vec<u8>, flag: bool) -> Result<(), AllocError>
     ensures { OnOk result (bytes.new.items ≡ bytes.old.items ++ (unsigned short w8).bytes_of (if flag then 1 else 0)) }
@@ -43,9 +52,19 @@ pub(crate) fn put_flag(bytes: &mut Vec<u8>, flag: bool) -> Result<(), AllocError
     Ok(())
 }
 
-#[tactic(auto, unfolding(qm_formats::specs::Fields::fixed, qm_formats::specs::Fields::raw))]
-pub(crate) fn put_magic(bytes: &mut Vec<u8>) -> Result<(), AllocError>
-    ensures { OnOk result (bytes.new.items ≡ bytes.old.items ++ (fixed short magic (codes "QMTREE01")).bytes_of tt) }
+pub(crate) fn put_magic(bytes: &mut Vec<u8>, version: u8) -> Result<(), AllocError>
+    ensures { OnOk result (bytes.new.items ≡ bytes.old.items ++ magic_layout.bytes_of version) }
 {
-    bytes.extend_from_slice(b"QMTREE01")
+    bytes.extend_from_slice(&magic(version))
+}
+
+/// The magic bytes of a version.
+fn magic(version: u8) -> [u8; 8]
+    ensures { result ≡ magic_layout.bytes_of version }
+{
+    if version == 1 {
+        *b"QMTREE01"
+    } else {
+        *b"QMTREE02"
+    }
 }

@@ -1,9 +1,9 @@
 //! Single fields, read at a place. Each answers its value and where it ends. Nothing is left at a place past the end.
 
-ghost use Rattle.std.specs.Prelude.{◌≡◌, length, codes};
-ghost use Rattle.std.specs.Int.{w8, w32, w64};
-ghost use Rattle.qm_formats.specs.Fields.{signed, unsigned, fixed};
-ghost use Rattle.qm_formats.specs.FileParts.{short, magic};
+ghost use Rattle.std.specs.Prelude.{◌≡◌, ◌≤◌, ◌+◌, length, take, drop};
+ghost use Rattle.std.specs.Int.{w8, w32, w64, from_le_bytes};
+ghost use Rattle.qm_formats.specs.Fields.{signed, unsigned};
+ghost use Rattle.qm_formats.specs.FileParts.{short};
 ghost use Rattle.qm_file.specs.Answers.{IsFaultOfFile, AnswersTreeFile};
 
 use crate::file_fault::FileFault;
@@ -46,11 +46,18 @@ pub(crate) fn u64_at(bytes: &[u8], at: usize) -> Result<(u64, usize), FileFault>
     if bytes.len().saturating_sub(at) < 8 {
         return Err(short(bytes));
     }
+    Ok((word_from(bytes, at), at + 8))
+}
+
+/// The number of 64 bits that stands at a place.
+pub(crate) fn word_from(bytes: &[u8], at: usize) -> u64
+    requires { at + 8 ≤ length bytes.now }
+    ensures { result ≡ from_le_bytes w64 (take 8 (drop at bytes.now)) }
+{
     let (part, _) = bytes.split_at(at).1.split_at(8);
-    let number = u64::from_le_bytes([
+    u64::from_le_bytes([
         part[0], part[1], part[2], part[3], part[4], part[5], part[6], part[7],
-    ]);
-    Ok((number, at + 8))
+    ])
 }
 
 #[tactic(auto, unfolding(qm_formats::specs::Fields::signed))]

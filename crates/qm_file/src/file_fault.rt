@@ -16,6 +16,9 @@ pub enum FileFault {
     /// A count is one that no tree has, or the rows byte is above 1.
     #[error("counts at byte {offset}")]
     Counts { offset: u64 },
+    /// Half the size of the world's cube is neither of the two that are known.
+    #[error("header form at byte {offset}")]
+    HeaderForm { offset: u64 },
     /// A plane is not in lowest terms, too large, or leads with a negative component.
     #[error("plane form at byte {offset}")]
     PlaneForm { offset: u64 },
@@ -28,6 +31,9 @@ pub enum FileFault {
     /// A row is not spelt in runs, has a place past the numbered leaves, or lacks its own.
     #[error("row form at byte {offset}")]
     RowForm { offset: u64 },
+    /// The kind of a section is 0, or not above the kind of the one before.
+    #[error("section form at byte {offset}")]
+    SectionForm { offset: u64 },
     /// Bytes follow.
     #[error("trailing at byte {offset}")]
     Trailing { offset: u64 },

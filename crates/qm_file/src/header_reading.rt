@@ -1,70 +1,88 @@
 //! The header of a tree file.
 
-ghost use Rattle.std.specs.Prelude.{◌≡◌, ◌≤◌, ◌<◌, ◌+◌, ◌^◌, ◌==◌, nat_lt, nat_le, length, codes, take, slice_index};
-ghost use Rattle.qm_formats.specs.Fields.{first_difference, fixed};
-ghost use Rattle.qm_formats.specs.FileParts.{short, magic};
-ghost use Rattle.qm_formats.specs.FileLayout.{count_layout, flag_layout, file_header_layout};
+ghost use Rattle.std.specs.Prelude.{◌≡◌, ◌≤◌, ◌+◌, ◌^◌, ◌==◌, nat_lt, nat_le, length};
+ghost use Rattle.qm_formats.specs.Fields.{first_difference};
+ghost use Rattle.qm_formats.specs.FileLayout.{magic_layout, count_layout, flag_layout, bound_layout, section_count_layout, file_header_layout};
 ghost use Rattle.qm_file.specs.Answers.{IsFaultOfFile, AnswersTreeFile};
 ghost use Rattle.qm_file.specs.inner.SeenHeader.{seen_header};
 
-use crate::field_reading::{short, u8_at, u64_at};
+use crate::field_reading::{short, u8_at, u32_at, u64_at};
 use crate::file_fault::FileFault;
 
-/// How many planes, nodes, leaves and numbered leaves there are, and whether rows are there.
+/// What stands before the planes: the version, how many planes, nodes, leaves and numbered leaves there are, whether rows
+/// are there, half the size of the world's cube, and how many sections there are.
 #[derive(Clone, Copy)]
 pub(crate) struct Header {
+    pub version: u8,
     pub planes: u64,
     pub nodes: u64,
     pub leaves: u64,
     pub numbered: u64,
     pub has_rows: bool,
+    pub bound: u32,
+    pub sections: u32,
 }
 
-const MAGIC: [u8; 8] = *b"QMTREE01";
+/// The magic bytes, behind which stands the digit of the version.
+const MAGIC: [u8; 7] = *b"QMTREE0";
+
+/// Half the size of the world's cube in version 1, and what else it may be in version 2.
+const BOUND: u32 = 4096;
+
+const WIDE_BOUND: u32 = 32768;
 
 /// The header, and where it ends.
 #[tactic(auto, unfolding(qm_formats::specs::FileLayout::file_header_layout))]
 pub(crate) fn header_at_start(bytes: &[u8]) -> Result<(Header, usize), FileFault>
     ensures { AnswersTreeFile (λ read. seen_header read.0) (λ read. read.1) result (file_header_layout.read bytes.now 0) }
 {
-    let next = magic_at_start(bytes)?;
+    let (version, next) = version_at_start(bytes)?;
     let (planes, next) = plane_count_at(bytes, next)?;
     let (nodes, next) = u64_at(bytes, next)?;
     let (leaves, next) = leaf_count_at(bytes, next, nodes)?;
     let (numbered, next) = numbered_count_at(bytes, next, leaves)?;
     let (has_rows, next) = flag_at(bytes, next)?;
+    let (bound, next) = bound_at(bytes, next, version)?;
+    let (sections, next) = section_count_at(bytes, next, version)?;
     let header = Header {
+        version,
         planes,
         nodes,
         leaves,
         numbered,
         has_rows,
+        bound,
+        sections,
     };
     Ok((header, next))
 }
 
-/// Tests the magic bytes, and answers where they end.
-#[tactic(auto, unfolding(qm_formats::specs::Fields::fixed, qm_formats::specs::Fields::raw))]
-fn magic_at_start(bytes: &[u8]) -> Result<usize, FileFault>
-    ensures { AnswersTreeFile (λ _. tt) (λ next. next) result ((fixed short magic (codes "QMTREE01")).read bytes.now 0) }
+/// The version whose digit stands behind the magic bytes, and where it ends.
+#[tactic(auto, unfolding(qm_formats::specs::FileLayout::magic_layout, qm_formats::specs::Fields::fixed_before, qm_formats::specs::Fields::raw))]
+fn version_at_start(bytes: &[u8]) -> Result<(u8, usize), FileFault>
+    ensures { AnswersTreeFile (λ read. read.0) (λ read. read.1) result (magic_layout.read bytes.now 0) }
 {
-    if bytes.len() < MAGIC.len() {
+    if bytes.len() <= MAGIC.len() {
         return Err(short(bytes));
     }
-    let same = same_bytes(&MAGIC, bytes.split_at(MAGIC.len()).0);
-    if same < MAGIC.len() {
-        return Err(FileFault::Magic {
+    let found = bytes.split_at(MAGIC.len() + 1).0;
+    let same = same_bytes(&MAGIC, found);
+    let digit = found[MAGIC.len()];
+    if same == MAGIC.len() && digit == b'1' {
+        Ok((1, MAGIC.len() + 1))
+    } else if same == MAGIC.len() && digit == b'2' {
+        Ok((2, MAGIC.len() + 1))
+    } else {
+        Err(FileFault::Magic {
             offset: same as u64,
-        });
+        })
     }
-    Ok(MAGIC.len())
 }
 
-/// How many bytes two lists of the same length begin with that are the same.
+/// How many of the expected bytes the others begin with.
 fn same_bytes(expected: &[u8], found: &[u8]) -> usize
-    requires { length found.now ≡ length expected.now }
-    ensures value { result ≡ first_difference expected.now found.now }
-    ensures most { result ≤ length expected.now }
+    requires { length expected.now ≤ length found.now }
+    ensures { result ≡ first_difference expected.now found.now }
 {
     for (i, byte) in expected.iter().enumerate() {
         if found[i] != *byte {
@@ -116,4 +134,30 @@ fn flag_at(bytes: &[u8], at: usize) -> Result<(bool, usize), FileFault>
         return Err(FileFault::Counts { offset: at as u64 });
     }
     Ok((flag == 1, next))
+}
+
+/// Half the size of the world's cube, which version 1 does not say.
+#[tactic(auto, unfolding(qm_formats::specs::FileLayout::bound_layout, qm_formats::specs::Fields::unwritten))]
+fn bound_at(bytes: &[u8], at: usize, version: u8) -> Result<(u32, usize), FileFault>
+    ensures { AnswersTreeFile (λ read. read.0) (λ read. read.1) result ((bound_layout version).read bytes.now at) }
+{
+    if version == 1 {
+        return Ok((BOUND, at));
+    }
+    let (bound, next) = u32_at(bytes, at)?;
+    if bound != BOUND && bound != WIDE_BOUND {
+        return Err(FileFault::HeaderForm { offset: at as u64 });
+    }
+    Ok((bound, next))
+}
+
+/// How many sections there are, of which version 1 has none.
+#[tactic(auto, unfolding(qm_formats::specs::FileLayout::section_count_layout, qm_formats::specs::Fields::unwritten))]
+fn section_count_at(bytes: &[u8], at: usize, version: u8) -> Result<(u32, usize), FileFault>
+    ensures { AnswersTreeFile (λ read. read.0) (λ read. read.1) result ((section_count_layout version).read bytes.now at) }
+{
+    if version == 1 {
+        return Ok((0, at));
+    }
+    u32_at(bytes, at)
 }

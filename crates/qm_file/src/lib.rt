@@ -1,5 +1,5 @@
-//! Tree files, written and read: the bytes of a tree with or without the rows of its numbered leaves, and the tree of bytes or
-//! the first fault with its place.
+//! Tree files of both versions, written and read: the bytes of a tree with or without the rows of its numbered leaves, and of
+//! sections for later parts; and the file of bytes or the first fault with its place.
 #![tactic(auto)]
 
 mod field_bytes;
@@ -13,12 +13,18 @@ mod record_bytes;
 mod record_reading;
 mod row_bytes;
 mod rows_reading;
+mod sections_reading;
 mod tree_file;
 mod tree_reading;
+mod upgrading;
 mod writing;
 
 pub use file_fault::FileFault;
-pub use laws::{exact_layout, numbered_nodes, one_tree_file, reduced_planes};
+pub use laws::{
+    exact_layout, first_version_file, no_prefix, numbered_nodes, one_tree_file, reduced_planes,
+    upgraded_file,
+};
 pub use reading::decode;
-pub use tree_file::TreeFile;
+pub use tree_file::{Section, TreeFile};
+pub use upgrading::upgrade;
 pub use writing::encode;

@@ -6,6 +6,7 @@ ghost use Rattle.qm_file.specs.Answers.{IsFaultOfFile, AnswersTreeFile};
 use crate::file_fault::FileFault;
 use crate::header_reading::header_at_start;
 use crate::rows_reading::rows_at;
+use crate::sections_reading::sections_at;
 use crate::tree_file::TreeFile;
 use crate::tree_reading::tree_at;
 use std::alloc::Global;
@@ -51,5 +52,13 @@ fn file_at_start(alloc: Global, bytes: &[u8]) -> Result<(TreeFile, usize), FileF
     let (header, next) = header_at_start(bytes)?;
     let (tree, next) = tree_at(alloc, bytes, next, &header)?;
     let (rows, next) = rows_at(alloc, bytes, next, &header)?;
-    Ok((TreeFile { tree, rows }, next))
+    let (sections, next) = sections_at(alloc, bytes, next, &header)?;
+    let file = TreeFile {
+        version: header.version,
+        bound: header.bound,
+        tree,
+        rows,
+        sections,
+    };
+    Ok((file, next))
 }

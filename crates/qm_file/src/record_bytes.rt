@@ -1,9 +1,11 @@
-//! The bytes of planes, nodes and leaves. All numbers are little-endian.
+//! The bytes of planes, nodes, leaves and sections. All numbers are little-endian.
 
 ghost use Rattle.std.specs.Prelude.{◌≡◌, ◌++◌, OnOk};
 ghost use Rattle.qm_formats.specs.FileParts.{plane_layout, child_layout, node_layout, leaf_layout};
+ghost use Rattle.qm_formats.specs.FileLayout.{section_layout};
 
-use crate::field_bytes::{put_flag, put_i32, put_i64, put_u32};
+use crate::field_bytes::{put_count, put_flag, put_i32, put_i64, put_u32};
+use crate::tree_file::Section;
 use qm_contents::code;
 use qm_geom::Plane;
 use qm_lists::Encoding;
@@ -75,5 +77,23 @@ impl Encoding for LeafBytes {
     fn append(bytes: &mut Vec<u8>, leaf: &Leaf) -> Result<(), AllocError> {
         put_i32(bytes, code(leaf.contents))?;
         put_flag(bytes, leaf.filled)
+    }
+}
+
+/// The kind in 32 bits, the number of bytes in 64, and the bytes.
+pub(crate) struct SectionBytes;
+
+impl Encoding for SectionBytes {
+    type Value = Section;
+
+    ghost can_append = { λ _. Unit {0} };
+
+    ghost bytes_of = { (section_layout 0).bytes_of };
+
+    #[tactic(auto, unfolding(qm_formats::specs::FileLayout::section_layout, qm_formats::specs::FileLayout::section_head_layout, qm_formats::specs::Fields::raw))]
+    fn append(bytes: &mut Vec<u8>, section: &Section) -> Result<(), AllocError> {
+        put_u32(bytes, section.kind)?;
+        put_count(bytes, section.bytes.len())?;
+        bytes.extend_from_slice(section.bytes.as_slice())
     }
 }

@@ -1,6 +1,6 @@
 //! Planes, nodes and leaves, read at a place, and lists of them.
 
-ghost use Rattle.std.specs.Prelude.{◌≡◌, ◌==◌, true, false, length, IfOk, MatchOption};
+ghost use Rattle.std.specs.Prelude.{◌≡◌, ◌<◌, ◌==◌, true, false, length, IfOk, MatchOption};
 ghost use Rattle.qm_formats.specs.Layout.{Layout, many};
 ghost use Rattle.qm_formats.specs.FileParts.{FileFaultKind, plane_layout, child_layout, node_layout, contents_of_code, is_leaf, leaf_layout};
 ghost use Rattle.qm_file.specs.Answers.{IsFaultOfFile, AnswersTreeFile};
@@ -21,12 +21,16 @@ pub(crate) trait Record {
     /// How it stands in a file.
     ghost layout: { Layout FileFaultKind Self.Value };
 
+    /// How many bytes it has.
+    fn length() -> usize
+        ensures { 0 < result };
+
     /// The record at a place, and where it ends.
     fn read_at(bytes: &[u8], at: usize) -> Result<(Self::Value, usize), FileFault>
         ensures { AnswersTreeFile (λ read. read.0) (λ read. read.1) result (layout.read bytes.now at) };
 }
 
-/// So many records one behind the other, from a place on, and where they end. No room is made before the bytes are there.
+/// So many records one behind the other, from a place on, and where they end. No room is made for bytes that are not there.
 pub(crate) fn read_all<R: Record>(
     alloc: Global,
     bytes: &[u8],
@@ -36,7 +40,7 @@ pub(crate) fn read_all<R: Record>(
     ensures gives { AnswersTreeFile (λ read. read.0.items) (λ read. read.1) result ((many R.layout count).read bytes.now at) }
     ensures counted { IfOk result (λ read. length read.0.items ≡ count) }
 {
-    let mut records = Vec::new(alloc);
+    let mut records = Vec::with_capacity(alloc, room_for(bytes, at, count, R::length()))?;
     let mut next = at;
     for _ in 0..count {
         let (record, after) = R::read_at(bytes, next)?;
@@ -46,6 +50,14 @@ pub(crate) fn read_all<R: Record>(
     Ok((records, next))
 }
 
+/// How many of so many parts the bytes from a place on have, at most, where each has at least so many bytes.
+pub(crate) fn room_for(bytes: &[u8], at: usize, count: u64, length: usize) -> usize
+    requires { 0 < length }
+{
+    let most = bytes.len().saturating_sub(at) / length;
+    count.min(most as u64) as usize
+}
+
 /// Planes in lowest terms, that lead with a positive component and are not too large.
 pub(crate) struct PlaneRecord;
 
@@ -53,6 +65,10 @@ impl Record for PlaneRecord {
     type Value = Plane;
 
     ghost layout = { plane_layout };
+
+    fn length() -> usize {
+        20
+    }
 
     #[tactic(auto, unfolding(qm_formats::specs::FileParts::plane_layout))]
     fn read_at(bytes: &[u8], at: usize) -> Result<(Plane, usize), FileFault> {
@@ -74,6 +90,10 @@ impl Record for NodeRecord {
     type Value = Node;
 
     ghost layout = { node_layout };
+
+    fn length() -> usize {
+        20
+    }
 
     #[tactic(auto, unfolding(qm_formats::specs::FileParts::node_layout))]
     fn read_at(bytes: &[u8], at: usize) -> Result<(Node, usize), FileFault> {
@@ -104,6 +124,10 @@ impl Record for LeafRecord {
     type Value = Leaf;
 
     ghost layout = { leaf_layout };
+
+    fn length() -> usize {
+        5
+    }
 
     #[tactic(auto, unfolding(qm_formats::specs::FileParts::leaf_layout, qm_formats::specs::FileParts::is_leaf))]
     fn read_at(bytes: &[u8], at: usize) -> Result<(Leaf, usize), FileFault> {

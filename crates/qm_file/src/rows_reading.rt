@@ -1,6 +1,7 @@
 //! Rows of visibility, read at a place.
 
-ghost use Rattle.std.specs.Prelude.{◌≡◌, ◌<◌, ℕ, List, Result, length, IfOk};
+ghost use Rattle.std.specs.Prelude.{◌≡◌, ◌<◌, ◌≤◌, ◌+◌, ◌*◌, ℕ, true, List, Result, length, take, drop, replicate, IfOk};
+ghost use Rattle.std.specs.Int.{w64, to_le_bytes};
 ghost use Rattle.qm_formats.specs.Layout.{each, present};
 ghost use Rattle.qm_formats.specs.Runs.{RunFaultKind, in_runs, row_answer};
 ghost use Rattle.qm_formats.specs.RowBits.{row_width, unpacked, is_clear_past, row_bits};
@@ -10,9 +11,10 @@ ghost use Rattle.qm_runs.specs.Answers.{IsRunFault};
 ghost use Rattle.qm_file.specs.Answers.{IsFaultOfFile, AnswersTreeFile};
 ghost use Rattle.qm_file.specs.inner.SeenHeader.{seen_header};
 
-use crate::field_reading::short;
+use crate::field_reading::{short, word_from};
 use crate::file_fault::FileFault;
 use crate::header_reading::Header;
+use crate::record_reading::room_for;
 use qm_bits::BitRow;
 use qm_lists::Items;
 use qm_runs::RunFault;
@@ -44,17 +46,25 @@ fn all_rows_at(
 ) -> Result<(Vec<BitRow>, usize), FileFault>
     ensures { AnswersTreeFile (λ read. read.0.items) (λ read. read.1) result ((each (own_row_layout numbered) numbered).read bytes.now at) }
 {
-    let mut rows = Vec::new(alloc);
+    let full = BitRow::full(alloc, numbered)?;
+    let mut packed = Vec::new(alloc);
+    let mut rows = Vec::with_capacity(alloc, room_for_rows(bytes, at, numbered))?;
     let mut next = at;
     for k in 0..numbered {
-        let (row, after) = own_row_at(alloc, bytes, next, numbered, k)?;
+        let (row, after) = own_row_at(alloc, bytes, next, numbered, k, &full, &mut packed)?;
         rows.push(row)?;
         next = after;
     }
     Ok((rows, next))
 }
 
-/// A row of so many places in which place `k` is set, and where it ends.
+/// How many rows of so many places the bytes from a place on have, at most: a row has two bytes for each 255 zero bytes.
+fn room_for_rows(bytes: &[u8], at: usize, places: u64) -> usize {
+    room_for(bytes, at, places, (places / 1024 + 1) as usize)
+}
+
+/// A row of so many places in which place `k` is set, and where it ends. Its packed bytes are put into a list that is used
+/// again for each row.
 #[tactic(auto, unfolding(qm_formats::specs::FileLayout::own_row_layout))]
 fn own_row_at(
     alloc: Global,
@@ -62,11 +72,14 @@ fn own_row_at(
     at: usize,
     places: u64,
     k: u64,
+    full: &BitRow,
+    packed: &mut Vec<u8>,
 ) -> Result<(BitRow, usize), FileFault>
-    requires { k < places }
+    requires within { k < places }
+    requires full { full.now ≡ replicate places true }
     ensures { AnswersTreeFile (λ read. read.0) (λ read. read.1) result ((own_row_layout places k).read bytes.now at) }
 {
-    let (row, next) = row_at(alloc, bytes, at, places)?;
+    let (row, next) = row_at(alloc, bytes, at, places, full, packed)?;
     if !row.get(k) {
         return Err(FileFault::RowForm { offset: at as u64 });
     }
@@ -75,32 +88,40 @@ fn own_row_at(
 
 /// A row of so many places, and where it ends.
 #[tactic(auto, unfolding(qm_formats::specs::RowBits::row_bits))]
-fn row_at(alloc: Global, bytes: &[u8], at: usize, places: u64) -> Result<(BitRow, usize), FileFault>
+fn row_at(
+    alloc: Global,
+    bytes: &[u8],
+    at: usize,
+    places: u64,
+    full: &BitRow,
+    packed: &mut Vec<u8>,
+) -> Result<(BitRow, usize), FileFault>
+    requires { full.now ≡ replicate places true }
     ensures gives { AnswersTreeFile (λ read. read.0) (λ read. read.1) result ((row_bits short row_form places).read bytes.now at) }
     ensures places { IfOk result (λ read. length read.0 ≡ places) }
 {
-    let (packed, next) = packed_row_at(alloc, bytes, at, places)?;
-    if !is_clear_past(places, &packed) {
+    let next = packed_row_at(bytes, at, places, packed)?;
+    if !is_clear_past(places, packed) {
         return Err(FileFault::RowForm { offset: at as u64 });
     }
-    let row = unpacked(alloc, places, &packed)?;
+    let row = unpacked(alloc, places, full, packed)?;
     Ok((row, next))
 }
 
 /// The bytes of a row of so many places, and where its runs end.
 #[tactic(auto, unfolding(qm_formats::specs::Runs::in_runs))]
 fn packed_row_at(
-    alloc: Global,
     bytes: &[u8],
     at: usize,
     places: u64,
-) -> Result<(Vec<u8>, usize), FileFault>
-    ensures gives { AnswersTreeFile (λ read. read.0.items) (λ read. read.1) result ((in_runs short row_form (row_width places)).read bytes.now at) }
-    ensures width { IfOk result (λ read. length read.0.items ≡ row_width places) }
+    packed: &mut Vec<u8>,
+) -> Result<usize, FileFault>
+    ensures gives { AnswersTreeFile (λ _. packed.new.items) (λ next. next) result ((in_runs short row_form (row_width places)).read bytes.now at) }
+    ensures width { IfOk result (λ _. length packed.new.items ≡ row_width places) }
 {
     let rest = bytes.split_at(at.min(bytes.len())).1;
-    match qm_runs::decode(alloc, rest, places.div_ceil(8) as usize) {
-        Ok((packed, used)) => Ok((packed, at + used)),
+    match qm_runs::decode_into(rest, places.div_ceil(8) as usize, packed) {
+        Ok(used) => Ok(at + used),
         Err(fault) => Err(row_fault(bytes, at, fault)),
     }
 }
@@ -130,23 +151,30 @@ fn is_clear_past(places: u64, packed: &[u8]) -> bool
     packed[(places / 8) as usize] >> (places % 8) == 0
 }
 
-/// The row of so many places whose bits stand in these bytes.
-fn unpacked(alloc: Global, places: u64, packed: &[u8]) -> Result<BitRow, AllocError>
-    requires { length packed.now ≡ row_width places }
-    ensures { IfOk result (λ row. row ≡ unpacked places packed.now) }
+/// The row of so many places whose bits stand in these bytes. Zeros are put behind them up to a whole word.
+fn unpacked(
+    alloc: Global,
+    places: u64,
+    full: &BitRow,
+    packed: &mut Vec<u8>,
+) -> Result<BitRow, AllocError>
+    requires width { length packed.old.items ≡ row_width places }
+    requires full { full.now ≡ replicate places true }
+    ensures { IfOk result (λ row. row ≡ unpacked places packed.old.items) }
 {
+    packed.resize(8 * places.div_ceil(64) as usize, 0)?;
     let mut row = BitRow::with_len(alloc, places)?;
-    let mut i = 0;
-    while i < places {
-        let byte = packed[(i / 8) as usize];
-        if byte == 0 && i % 8 == 0 {
-            i += (places - i).min(8);
-        } else {
-            if (byte >> (i % 8)) & 1 == 1 {
-                row.set(i);
-            }
-            i += 1;
-        }
+    row.copy_from(full);
+    for k in 0..places.div_ceil(64) {
+        row.and_word(k, word_at(packed, k));
     }
     Ok(row)
+}
+
+/// Word `k`: its bytes are the eight from byte `8 * k` on.
+fn word_at(packed: &[u8], k: u64) -> u64
+    requires { 8 * k + 8 ≤ length packed.now }
+    ensures { to_le_bytes w64 result ≡ take 8 (drop (8 * k) packed.now) }
+{
+    word_from(packed, 8 * k as usize)
 }

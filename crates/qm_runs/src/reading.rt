@@ -1,4 +1,4 @@
-ghost use Rattle.std.specs.Prelude.{◌≡◌, ◌<◌, ◌≤◌, ℕ, List, ◌++◌, length, take, IfOk, MatchResult, Ok};
+ghost use Rattle.std.specs.Prelude.{◌≡◌, ◌≢◌, ◌<◌, ◌≤◌, ℕ, List, ◌++◌, length, take, slice_index, IfOk, MatchResult, Ok};
 ghost use Rattle.qm_formats.specs.Runs.{SpellsRow, read_due, read_runs};
 ghost use Rattle.qm_runs.specs.Answers.{IsRunFault};
 ghost use Rattle.qm_runs.specs.inner.NextPart.{IsNext};
@@ -23,15 +23,28 @@ fn read_row(alloc: Global, bytes: &[u8], width: usize) -> Result<(Vec<u8>, usize
     ensures { MatchResult result (λ read. read_runs width bytes.now ≡ Ok (read.0.items, read.1)) (λ fault. IsRunFault fault (read_runs width bytes.now)) }
 {
     let mut row = Vec::new(alloc);
+    let used = decode_into(bytes, width, &mut row)?;
+    Ok((row, used))
+}
+
+/// Reads a row as `decode` does, into a list that is emptied before, and answers how many bytes that takes. After a fault
+/// the list has some part of a row.
+pub fn decode_into(bytes: &[u8], width: usize, row: &mut Vec<u8>) -> Result<usize, RunFault>
+    ensures exact { MatchResult result (λ used. read_runs width bytes.now ≡ Ok (row.new.items, used)) (λ fault. IsRunFault fault (read_runs width bytes.now)) }
+    ensures width { IfOk result (λ _. length row.new.items ≡ width) }
+    ensures within { IfOk result (λ used. used ≤ length bytes.now) }
+{
+    row.clear();
     let mut rest = bytes;
     let mut used = 0;
     let mut behind_run = false;
     while row.len() < width {
         match next_part(rest, width - row.len(), behind_run)? {
-            Part::Byte(byte) => {
-                row.push(byte)?;
-                rest = rest.split_at(1).1;
-                used += 1;
+            Part::Bytes(count) => {
+                let (part, behind) = rest.split_at(count);
+                row.extend_from_slice(part)?;
+                rest = behind;
+                used += count;
                 behind_run = false;
             }
             Part::Zeros(count) => {
@@ -42,13 +55,13 @@ fn read_row(alloc: Global, bytes: &[u8], width: usize) -> Result<(Vec<u8>, usize
             }
         }
     }
-    Ok((row, used))
+    Ok(used)
 }
 
-/// What a row goes on with: a byte that is not zero, or a run of zeros.
+/// What a row goes on with: so many bytes that are not zero, or a run of zeros.
 #[derive(Clone, Copy)]
 enum Part {
-    Byte(u8),
+    Bytes(usize),
     Zeros(u8),
 }
 
@@ -61,7 +74,7 @@ fn next_part(rest: &[u8], due: usize, behind_run: bool) -> Result<Part, RunFault
         return Err(RunFault::Short);
     }
     if rest[0] != 0 {
-        return Ok(Part::Byte(rest[0]));
+        return Ok(Part::Bytes(nonzero_length(rest, due)));
     }
     if behind_run {
         return Err(RunFault::SplitRun);
@@ -77,4 +90,20 @@ fn next_part(rest: &[u8], due: usize, behind_run: bool) -> Result<Part, RunFault
         return Err(RunFault::Overrun);
     }
     Ok(Part::Zeros(count))
+}
+
+/// With how many bytes that are not zero the bytes begin, so many at most.
+fn nonzero_length(bytes: &[u8], most: usize) -> usize
+    ensures few { result ≤ most }
+    ensures there { result ≤ length bytes.now }
+    ensures nonzero { (k : ℕ) → k < result → slice_index bytes.now k ≢ 0 }
+    ensures longest { result < most → result < length bytes.now → slice_index bytes.now result ≡ 0 }
+{
+    let part = bytes.split_at(bytes.len().min(most)).0;
+    for (i, byte) in part.iter().enumerate() {
+        if *byte == 0 {
+            return i;
+        }
+    }
+    part.len()
 }

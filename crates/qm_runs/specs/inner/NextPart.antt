@@ -1,7 +1,7 @@
-use Rattle.std.specs.Prelude.{◌≡◌, ◌<◌, ◌≤◌, ℕ, zero, ◌-◌, Bool, false, nat_lt, List, [], ◌∷◌, length, drop, replicate}
+use Rattle.std.specs.Prelude.{◌≡◌, ◌<◌, ◌≤◌, ℕ, zero, ◌-◌, Bool, false, nat_lt, List, length, take, drop, replicate}
 use Rattle.qm_formats.specs.Runs.{longest_run, read_behind, read_due}
 use Rattle.qm_runs.specs.declared.reading.Part.{Part}
-use Rattle.qm_runs.specs.declared.reading.Part.TheVariants.{Byte, Zeros}
+use Rattle.qm_runs.specs.declared.reading.Part.TheVariants.{Bytes, Zeros}
 
 -- so many bytes of the row, from that many of the file, are read before the rest
 pub record ReadsPart (due : ℕ) (behind_run : Bool) (bytes part : List ℕ) (used : ℕ) (open_run : Bool) : Type 0 where
@@ -12,5 +12,5 @@ pub record ReadsPart (due : ℕ) (behind_run : Bool) (bytes part : List ℕ) (us
 
 -- a row goes on with this part
 abbrev pub IsNext : Part → ℕ → Bool → List ℕ → Type 0
-IsNext (Byte byte) due behind_run bytes = ReadsPart due behind_run bytes (byte ∷ []) 1 false
+IsNext (Bytes count) due behind_run bytes = ReadsPart due behind_run bytes (take count bytes) count false
 IsNext (Zeros count) due behind_run bytes = ReadsPart due behind_run bytes (replicate count zero) 2 (nat_lt count longest_run)

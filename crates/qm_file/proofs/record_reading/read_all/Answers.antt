@@ -7,7 +7,7 @@ use Rattle.qm_file.proofs.record_reading.read_all.Goals as goal
 
 pub returns-in_err-record-clause-gives : goal.returns-in_err-record-clause-gives
 returns-in_err-record-clause-gives g c =
-    let p = err_from_is_err_and c.from_residual.result c.from_residual.ensures.1 in
+    let p = err_from_is_err_and c.from_residual-in_err-record.result c.from_residual-in_err-record.ensures.1 in
     rw (p.1, p.2) (fault_passes c.in_err-record.field-0.0 (one_fault (λ _. g.R.Record.layout) c.args.count c.args.bytes.now _ c.loop.records.items c.loop.counter c.loop.next c.loop-test.true c.loop.invariant.whole) c.in_err-record.ensures)
 
 pub loop-preserved : goal.loop-preserved

@@ -1,8 +1,24 @@
-use Rattle.std.proofs.Common.{◌≡◌, ℕ, zero, ◌-◌, Bool, length, get_or, replicate, drop, ltb, sym, ap, ◌∙◌, arith}
-use Rattle.std.proofs.lemmas.List.{length-replicate}
+use Rattle.std.proofs.Common.{◌≡◌, ℕ, zero, ◌-◌, Bool, false, length, get_or, replicate, take, drop, ltb, sym, ap, ◌∙◌, arith}
+use Rattle.std.proofs.lemmas.List.{length-replicate, length-take}
 use Rattle.qm_formats.specs.Runs.{read_behind, read_due}
 use Rattle.qm_formats.proofs.ReadParts.{run_first}
+use Rattle.qm_runs.proofs.NonzeroParts.{nonzero_first, behind_any, some_nonzero}
 use Rattle.qm_runs.proofs.reading.next_part.Goals as goal
+
+pub returns-then-rest-ne0 : goal.returns-then-rest-ne0
+returns-then-rest-ne0 c =
+    let rest = c.args.rest.now in
+    let due = c.args.due in
+    let count = c.nonzero_length.result in
+    let found = c.nonzero_length.ensures in
+    let long : length (take count rest) ≡ count = omega (arith, length-take count rest, found.there) in
+    let some = some_nonzero count due rest c.requires c.if-rest-ne0.true found.longest in
+    record {
+      some = omega (arith, long, some);
+      fits = omega (arith, long, found.few);
+      there = found.there;
+      reads = behind_any due c.args.behind_run rest c.requires c.if-rest-ne0.true ∙ nonzero_first count due rest (record { few = found.few; there = found.there; nonzero = found.nonzero }) ∙ ap (λ (n : ℕ). read_behind (take count rest) count (read_due (due - n) false (drop count rest))) (sym long);
+    }
 
 pub returns : goal.returns
 returns c =

@@ -1,6 +1,6 @@
 use Rattle.std.proofs.Common.{◌≡◌, ◌≤◌, ℕ, ◌+◌, ◌-◌, Bool, List, length}
 use Rattle.qm_formats.specs.Runs.{read_behind, read_due, read_runs}
-use Rattle.qm_runs.proofs.reading.read_row.Given as goal
+use Rattle.qm_runs.proofs.reading.decode_into.Given as goal
 
 -- some of the row is read, and what is read of the rest completes it
 pub record IsReadSoFar (width : ℕ) (bytes row rest : List ℕ) (used : ℕ) (behind_run : Bool) : Type 0 where

@@ -1,7 +1,0 @@
-use Rattle.std.proofs.Common.{arith}
-use Rattle.qm_formats.proofs.ReadParts.{read_runs-due}
-use Rattle.qm_runs.proofs.reading.read_row.Goals as goal
-
-pub loop-rest-init : goal.loop-rest-init
-loop-rest-init c =
-    rw c.new-row.ensures.items (record { whole = read_runs-due c.args.width c.args.bytes.now; fits = omega arith; there = omega arith })
