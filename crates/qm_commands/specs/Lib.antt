@@ -7,4 +7,5 @@ pub mod InspectWords
 pub mod Options
 pub mod Order
 pub mod QueryWord
+pub mod UpgradeWords
 pub mod Words

@@ -2,7 +2,7 @@ use Rattle.std.specs.Prelude.{◌≡◌, ◌<◌, ◌^◌, ℕ, ℤ, List, [], �
 use Rattle.std.specs.Fmt.{decimal}
 use Rattle.qm_numerals.specs.Answer.{IsValue}
 use Rattle.qm_commands.specs.declared.query.Query.{Query}
-use Rattle.qm_commands.specs.declared.query.Query.TheVariants.{Count, At, Row, Sees}
+use Rattle.qm_commands.specs.declared.query.Query.TheVariants.{Count, At, Row, Sees, Parts}
 
 -- How a query is written.
 
@@ -30,6 +30,7 @@ IsQueryWord word Count = word ≡ codes "count"
 IsQueryWord word (At x y z) = IsPlaceWord word x y z
 IsQueryWord word (Row n) = (word ≡ codes "row=" ++ decimal n) × IsShort n
 IsQueryWord word (Sees n m) = (word ≡ codes "sees=" ++ (decimal n ++ (44 ∷ decimal m))) × IsShort n × IsShort m
+IsQueryWord word Parts = word ≡ codes "parts"
 
 -- the words of queries, one by one
 pub data AreQueryWords : List (List ℕ) → List Query → Type 0 where

@@ -9,4 +9,6 @@ pub enum Query {
     Row(u64),
     /// Whether the row of the first numbered leaf has the second.
     Sees(u64, u64),
+    /// Which version of a tree file it is, the bound of its world, and the kinds of its sections.
+    Parts,
 }

@@ -11,7 +11,7 @@ use Rattle.qm_commands.specs.CompileRequest.{Request, Asks, no_request}
 use Rattle.qm_commands.specs.CompileWords.{AreCompileWords}
 use Rattle.qm_commands.specs.FileNames.{FileNames, AreDifferent}
 use Rattle.qm_commands.specs.Options.{AreThreads}
-use Rattle.qm_commands.specs.Order.{of_map, of_tree, of_rooms}
+use Rattle.qm_commands.specs.Order.{of_map, of_tree, of_rooms, of_upgrade}
 use Rattle.qm_commands.specs.Words.{AreNoCommand}
 use Rattle.qm_words.specs.SeenWords.{names_of}
 use Rattle.qm_words.specs.inner.Answered.{IsCompileOrder, IsNoCompileOrder, IsOrderFor}
@@ -29,6 +29,7 @@ no_command words never (of_map (Compile options listed) files) are = never optio
 no_command words never (of_map Format files) are = verbs_apart (codes "compile") (codes "format") words (files.map_name ∷ files.out_name ∷ []) refl are.words_are
 no_command words never (of_tree tree_name queries) are = verbs_apart (codes "compile") (codes "inspect") words (tree_name ∷ are.query_words) refl are.words_are
 no_command words never (of_rooms rooms number) are = verbs_apart (codes "compile") (codes "demo") words (decimal rooms ∷ decimal number ∷ []) refl are.words_are
+no_command words never (of_upgrade tree_name out_name) are = verbs_apart (codes "compile") (codes "upgrade") words (tree_name ∷ out_name ∷ []) refl are.words_are
 
 behind : (words : List (List ℕ)) (options : Options) (listed : Bool) (files : FileNames) (are : AreCompileWords (codes "compile" ∷ words) options listed files) → Asks no_request words are.asked
 behind words options listed files are =

@@ -9,7 +9,7 @@ use Rattle.qm_commands.specs.declared.map_command.MapCommand.TheVariants.{Compil
 use Rattle.qm_commands.specs.declared.query.Query.{Query}
 use Rattle.qm_commands.specs.InspectWords.{AreInspectWords}
 use Rattle.qm_commands.specs.QueryWord.{AreQueryWords, no_more, one_more}
-use Rattle.qm_commands.specs.Order.{of_map, of_tree, of_rooms}
+use Rattle.qm_commands.specs.Order.{of_map, of_tree, of_rooms, of_upgrade}
 use Rattle.qm_commands.specs.Words.{AreNoCommand, AreWordsOf}
 use Rattle.qm_words.specs.inner.Answered.{IsOrderFor}
 use Rattle.qm_words.specs.inner.CommandLines.{inspect_app}
@@ -28,6 +28,7 @@ no_inspect words never (of_map (Compile options listed) files) are = verbs_apart
 no_inspect words never (of_map Format files) are = verbs_apart (codes "inspect") (codes "format") words (files.map_name ∷ files.out_name ∷ []) refl are.words_are
 no_inspect words never (of_tree tree_name queries) are = never tree_name queries are
 no_inspect words never (of_rooms rooms number) are = verbs_apart (codes "inspect") (codes "demo") words (decimal rooms ∷ decimal number ∷ []) refl are.words_are
+no_inspect words never (of_upgrade tree_name out_name) are = verbs_apart (codes "inspect") (codes "upgrade") words (tree_name ∷ out_name ∷ []) refl are.words_are
 
 behind : (words : List (List ℕ)) (tree_name : List ℕ) (queries : List Query) (are : AreInspectWords (codes "inspect" ∷ words) tree_name queries) → words ≡ tree_name ∷ are.query_words
 behind words tree_name queries are = let whole = are.words_are in cc

@@ -5,7 +5,7 @@ use Rattle.std.proofs.lemmas.Fmt.{decimal_injective}
 use Rattle.qm_commands.specs.declared.options.Options.{Options}
 use Rattle.qm_commands.specs.declared.map_command.MapCommand.TheVariants.{Compile, Format}
 use Rattle.qm_commands.specs.declared.query.Query.{Query}
-use Rattle.qm_commands.specs.declared.query.Query.TheVariants.{Count, At, Row, Sees}
+use Rattle.qm_commands.specs.declared.query.Query.TheVariants.{Count, At, Row, Sees, Parts}
 use Rattle.qm_commands.specs.CompileRequest.{Request, Asks, no_request}
 use Rattle.qm_commands.specs.CompileWords.{AreCompileWords}
 use Rattle.qm_commands.specs.DemoWords.{AreDemoWords}
@@ -14,7 +14,8 @@ use Rattle.qm_commands.specs.FormatWords.{AreFormatWords}
 use Rattle.qm_commands.specs.InspectWords.{AreInspectWords}
 use Rattle.qm_commands.specs.Options.{AreThreads}
 use Rattle.qm_commands.specs.QueryWord.{AreMillionths, AreQueryWords, IsPlaceWord, IsQueryWord, IsShort, no_more, one_more}
-use Rattle.qm_commands.specs.Order.{Order, of_map, of_tree, of_rooms}
+use Rattle.qm_commands.specs.Order.{Order, of_map, of_tree, of_rooms, of_upgrade}
+use Rattle.qm_commands.specs.UpgradeWords.{AreUpgradeWords}
 use Rattle.qm_commands.specs.Words.{AreWordsOf}
 use Rattle.qm_words.proofs.Commas.{clear_decimal, splits_once}
 use Rattle.qm_words.proofs.CompileWhole.{asked_once}
@@ -55,6 +56,14 @@ format_once words files other one two =
     let listing = two.no_listing ∙ sym one.no_listing in
     λ i. record { map_name = names.0 i; out_name = names.1 i; listing_name = listing i }
 
+-- ---- `upgrade`
+
+upgrade_once : (words : List (List ℕ)) (tree out_name other other_out : List ℕ) → AreUpgradeWords words tree out_name → AreUpgradeWords words other other_out
+    → ◌≡◌ {A = Order} (of_upgrade other other_out) (of_upgrade tree out_name)
+upgrade_once words tree out_name other other_out one two =
+    let names = two_same other other_out tree out_name (tail_same (codes "upgrade") (codes "upgrade") _ _ (sym two.words_are ∙ one.words_are)) in
+    ap₂ (λ (t o : List ℕ). of_upgrade t o) names.0 names.1
+
 -- ---- `demo`
 
 demo_once : (words : List (List ℕ)) (rooms number other_rooms other_number : ℕ) → AreDemoWords words rooms number → AreDemoWords words other_rooms other_number
@@ -84,12 +93,21 @@ count_only Count is = refl
 count_only (At x y z) is = absurd (apart 99 97 _ _ refl is.word_is)
 count_only (Row n) is = absurd (apart 99 114 _ _ refl is.0)
 count_only (Sees n m) is = absurd (apart 99 115 _ _ refl is.0)
+count_only Parts is = absurd (apart 99 112 _ _ refl is)
+
+parts_only : (query : Query) → IsQueryWord (codes "parts") query → query ≡ Parts
+parts_only Count is = absurd (apart 112 99 _ _ refl is)
+parts_only (At x y z) is = absurd (apart 112 97 _ _ refl is.word_is)
+parts_only (Row n) is = absurd (apart 112 114 _ _ refl is.0)
+parts_only (Sees n m) is = absurd (apart 112 115 _ _ refl is.0)
+parts_only Parts is = refl
 
 place_only : (text : List ℕ) (x y z : ℤ) → IsPlaceWord (codes "at=" ++ text) x y z → (query : Query) → IsQueryWord (codes "at=" ++ text) query → query ≡ At x y z
 place_only text x y z place Count is = absurd (apart 97 99 _ _ refl is)
 place_only text x y z place (At a b c) is = place_same text x y z a b c place is
 place_only text x y z place (Row n) is = absurd (apart 97 114 _ _ refl is.0)
 place_only text x y z place (Sees n m) is = absurd (apart 97 115 _ _ refl is.0)
+place_only text x y z place Parts is = absurd (apart 97 112 _ _ refl is)
 
 row_only : (n : ℕ) → IsShort n → (query : Query) → IsQueryWord (codes "row=" ++ decimal n) query → query ≡ Row n
 row_only n short Count is = absurd (apart 114 99 _ _ refl is)
@@ -98,6 +116,7 @@ row_only n short (Row m) is =
     let same : decimal m ≡ decimal n = let whole = is.0 in cc in
     ap (λ (k : ℕ). Row k) (short_same m n is.1 short same)
 row_only n short (Sees k m) is = absurd (apart 114 115 _ _ refl is.0)
+row_only n short Parts is = absurd (apart 114 112 _ _ refl is)
 
 sees_only : (n m : ℕ) → IsShort n → IsShort m → (query : Query) → IsQueryWord (codes "sees=" ++ (decimal n ++ (44 ∷ decimal m))) query → query ≡ Sees n m
 sees_only n m short_n short_m Count is = absurd (apart 115 99 _ _ refl is)
@@ -108,6 +127,7 @@ sees_only n m short_n short_m (Sees a b) is =
     let parts = splits_once (decimal a ++ (44 ∷ decimal b)) (decimal a) (decimal b) (decimal n) (decimal m) (record { text_is = refl; clear = clear_decimal a (omega (arith, is.1)) })
     (record { text_is = same; clear = clear_decimal n (omega (arith, short_n)) }) in
     ap₂ (λ (k l : ℕ). Sees k l) (short_same a n is.1 short_n parts.0) (short_same b m is.2 short_m parts.1)
+sees_only n m short_n short_m Parts is = absurd (apart 115 112 _ _ refl is)
 
 query_once : (word : List ℕ) (query other : Query) → IsQueryWord word query → IsQueryWord word other → other ≡ query
 query_once word Count other is also = count_only other (subst (λ (w : List ℕ). IsQueryWord w other) is also)
@@ -115,6 +135,7 @@ query_once word (At x y z) other is also =
     place_only (is.first ++ (44 ∷ (is.second ++ (44 ∷ is.third)))) x y z (subst (λ (w : List ℕ). IsPlaceWord w x y z) is.word_is is) other (subst (λ (w : List ℕ). IsQueryWord w other) is.word_is also)
 query_once word (Row n) other is also = row_only n is.1 other (subst (λ (w : List ℕ). IsQueryWord w other) is.0 also)
 query_once word (Sees n m) other is also = sees_only n m is.1 is.2 other (subst (λ (w : List ℕ). IsQueryWord w other) is.0 also)
+query_once word Parts other is also = parts_only other (subst (λ (w : List ℕ). IsQueryWord w other) is also)
 
 queries_once : {words : List (List ℕ)} {queries others : List Query} → AreQueryWords words queries → AreQueryWords words others → others ≡ queries
 queries_once no_more no_more = refl
@@ -136,15 +157,24 @@ one_order words (of_map (Compile options listed) files) (of_map (Compile other_o
 one_order words (of_map (Compile options listed) files) (of_map Format other_files) one two = absurd (verbs_apart (codes "compile") (codes "format") _ _ refl (sym one.words_are ∙ two.words_are))
 one_order words (of_map (Compile options listed) files) (of_tree tree queries) one two = absurd (verbs_apart (codes "compile") (codes "inspect") _ _ refl (sym one.words_are ∙ two.words_are))
 one_order words (of_map (Compile options listed) files) (of_rooms rooms number) one two = absurd (verbs_apart (codes "compile") (codes "demo") _ _ refl (sym one.words_are ∙ two.words_are))
+one_order words (of_map (Compile options listed) files) (of_upgrade tree out_name) one two = absurd (verbs_apart (codes "compile") (codes "upgrade") _ _ refl (sym one.words_are ∙ two.words_are))
 one_order words (of_map Format files) (of_map (Compile options listed) other_files) one two = absurd (verbs_apart (codes "format") (codes "compile") _ _ refl (sym one.words_are ∙ two.words_are))
 one_order words (of_map Format files) (of_map Format other_files) one two = ap (λ (f : FileNames). of_map Format f) (format_once words files other_files one two)
 one_order words (of_map Format files) (of_tree tree queries) one two = absurd (verbs_apart (codes "format") (codes "inspect") _ _ refl (sym one.words_are ∙ two.words_are))
 one_order words (of_map Format files) (of_rooms rooms number) one two = absurd (verbs_apart (codes "format") (codes "demo") _ _ refl (sym one.words_are ∙ two.words_are))
+one_order words (of_map Format files) (of_upgrade tree out_name) one two = absurd (verbs_apart (codes "format") (codes "upgrade") _ _ refl (sym one.words_are ∙ two.words_are))
 one_order words (of_tree tree queries) (of_map (Compile options listed) files) one two = absurd (verbs_apart (codes "inspect") (codes "compile") _ _ refl (sym one.words_are ∙ two.words_are))
 one_order words (of_tree tree queries) (of_map Format files) one two = absurd (verbs_apart (codes "inspect") (codes "format") _ _ refl (sym one.words_are ∙ two.words_are))
 one_order words (of_tree tree queries) (of_tree other others) one two = inspect_once words tree other queries others one two
 one_order words (of_tree tree queries) (of_rooms rooms number) one two = absurd (verbs_apart (codes "inspect") (codes "demo") _ _ refl (sym one.words_are ∙ two.words_are))
+one_order words (of_tree tree queries) (of_upgrade other out_name) one two = absurd (verbs_apart (codes "inspect") (codes "upgrade") _ _ refl (sym one.words_are ∙ two.words_are))
 one_order words (of_rooms rooms number) (of_map (Compile options listed) files) one two = absurd (verbs_apart (codes "demo") (codes "compile") _ _ refl (sym one.words_are ∙ two.words_are))
 one_order words (of_rooms rooms number) (of_map Format files) one two = absurd (verbs_apart (codes "demo") (codes "format") _ _ refl (sym one.words_are ∙ two.words_are))
 one_order words (of_rooms rooms number) (of_tree tree queries) one two = absurd (verbs_apart (codes "demo") (codes "inspect") _ _ refl (sym one.words_are ∙ two.words_are))
 one_order words (of_rooms rooms number) (of_rooms other_rooms other_number) one two = demo_once words rooms number other_rooms other_number one two
+one_order words (of_rooms rooms number) (of_upgrade tree out_name) one two = absurd (verbs_apart (codes "demo") (codes "upgrade") _ _ refl (sym one.words_are ∙ two.words_are))
+one_order words (of_upgrade tree out_name) (of_map (Compile options listed) files) one two = absurd (verbs_apart (codes "upgrade") (codes "compile") _ _ refl (sym one.words_are ∙ two.words_are))
+one_order words (of_upgrade tree out_name) (of_map Format files) one two = absurd (verbs_apart (codes "upgrade") (codes "format") _ _ refl (sym one.words_are ∙ two.words_are))
+one_order words (of_upgrade name out_name) (of_tree tree queries) one two = absurd (verbs_apart (codes "upgrade") (codes "inspect") _ _ refl (sym one.words_are ∙ two.words_are))
+one_order words (of_upgrade tree out_name) (of_rooms rooms number) one two = absurd (verbs_apart (codes "upgrade") (codes "demo") _ _ refl (sym one.words_are ∙ two.words_are))
+one_order words (of_upgrade tree out_name) (of_upgrade other other_out) one two = upgrade_once words tree out_name other other_out one two

@@ -1,5 +1,5 @@
--- What is answered of the words behind `format` and `demo`.
-use Rattle.std.proofs.Common.{◌≡◌, ◌∙◌, ◌<◌, ◌^◌, ℕ, codes, refl, sym, ap, ap₂, subst, arith, List, [], ◌∷◌, Some, None, ⊎_elim, Ok, Err}
+-- What is answered of the words behind `format`, `upgrade` and `demo`.
+use Rattle.std.proofs.Common.{◌≡◌, ◌≢◌, ◌∙◌, ◌<◌, ◌^◌, ℕ, codes, refl, sym, ap, ap₂, subst, arith, List, [], ◌∷◌, Some, None, ⊎_elim, Ok, Err}
 use Rattle.std.specs.Fmt.{decimal}
 use Rattle.clap.specs.Walk.{rows_of}
 use Rattle.clap.specs.Matches.{found_of}
@@ -9,7 +9,8 @@ use Rattle.qm_commands.specs.declared.map_command.MapCommand.TheVariants.{Compil
 use Rattle.qm_commands.specs.FileNames.{FileNames}
 use Rattle.qm_commands.specs.FormatWords.{AreFormatWords}
 use Rattle.qm_commands.specs.DemoWords.{AreDemoWords}
-use Rattle.qm_commands.specs.Order.{of_map, of_tree, of_rooms}
+use Rattle.qm_commands.specs.UpgradeWords.{AreUpgradeWords}
+use Rattle.qm_commands.specs.Order.{of_map, of_tree, of_rooms, of_upgrade}
 use Rattle.qm_commands.specs.Words.{AreNoCommand, AreWordsOf}
 use Rattle.qm_words.specs.SeenWords.{names_of}
 use Rattle.qm_words.specs.inner.Answered.{IsOrderFor}
@@ -17,7 +18,7 @@ use Rattle.qm_words.specs.inner.CommandLines.{pair_app}
 use Rattle.qm_words.specs.inner.Numbers.{IsCount}
 use Rattle.qm_words.specs.inner.Parsed.{IsParsedBy}
 use Rattle.qm_words.specs.inner.PlainWords.{ArePlainWords}
-use Rattle.qm_words.specs.inner.TwoWords.{AreTwo, HasPair, IsPairOf, LacksPair}
+use Rattle.qm_words.specs.inner.TwoWords.{AreNamesOf, AreTwo, HasPair, IsPairOf, LacksPair}
 use Rattle.qm_words.specs.declared.order.WordsFault.{WordsFault}
 use Rattle.qm_words.specs.declared.order.WordsFault.TheVariants.{Usage, Memory}
 use Rattle.qm_words.proofs.Commas.{decimal_is_name}
@@ -52,6 +53,24 @@ pair_is_there verb words matches each parsed lacks =
     let pair = found_pair verb words matches each parsed in
     ⊎_elim (λ none. let clash = sym none ∙ pair.first_is in absurd cc) (λ none. let clash = sym none ∙ pair.second_is in absurd cc) lacks
 
+first_same : (a b c d : List ℕ) → a ∷ b ∷ [] ≡ c ∷ d ∷ [] → a ≡ c
+first_same a b c d same = cc
+
+second_same : (a b c d : List ℕ) → a ∷ b ∷ [] ≡ c ∷ d ∷ [] → b ≡ d
+second_same a b c d same = cc
+
+-- ---- two names
+
+pub names_refused : (words : List (List ℕ)) (fault : WordsFault) → IsPairOf words (Err fault) → AreNamesOf words (Err fault)
+names_refused words Usage never = λ first second two differ. never first second two
+names_refused words Memory never = tt
+
+-- names that are the same
+pub names_alike : (words : List (List ℕ)) (first second : List ℕ) → AreTwo words first second → first ≡ second → AreNamesOf words (Err Usage)
+names_alike words first second two same = λ one other are differ.
+    let names = sym are.words_are ∙ two.words_are in
+    differ (first_same one other first second names ∙ same ∙ sym (second_same one other first second names))
+
 -- ---- `format`
 
 no_format : (words : List (List ℕ)) → ((files : FileNames) → AreFormatWords (codes "format" ∷ words) files → ⊥) → AreNoCommand (codes "format" ∷ words)
@@ -59,34 +78,50 @@ no_format words never (of_map (Compile options listed) files) are = verbs_apart 
 no_format words never (of_map Format files) are = never files are
 no_format words never (of_tree tree_name queries) are = verbs_apart (codes "format") (codes "inspect") words (tree_name ∷ are.query_words) refl are.words_are
 no_format words never (of_rooms rooms number) are = verbs_apart (codes "format") (codes "demo") words (decimal rooms ∷ decimal number ∷ []) refl are.words_are
+no_format words never (of_upgrade tree_name out_name) are = verbs_apart (codes "format") (codes "upgrade") words (tree_name ∷ out_name ∷ []) refl are.words_are
 
 format_two : (words : List (List ℕ)) (files : FileNames) → AreFormatWords (codes "format" ∷ words) files → AreTwo words files.map_name files.out_name
 format_two words files are =
     let same : words ≡ files.map_name ∷ files.out_name ∷ [] = let whole = are.words_are in cc in
     record { words_are = same; first_is = are.is_map_name; second_is = are.is_out_name }
 
-pub format_refused : (words : List (List ℕ)) (fault : WordsFault) → IsPairOf words (Err fault) → IsOrderFor (codes "format" ∷ words) (Err fault)
-format_refused words Usage never = no_format words (λ files are. never files.map_name files.out_name (format_two words files are))
+pub format_refused : (words : List (List ℕ)) (fault : WordsFault) → AreNamesOf words (Err fault) → IsOrderFor (codes "format" ∷ words) (Err fault)
+format_refused words Usage never = no_format words (λ files are. never files.map_name files.out_name (format_two words files are) are.different.map_and_out)
 format_refused words Memory never = tt
 
-first_same : (a b c d : List ℕ) → a ∷ b ∷ [] ≡ c ∷ d ∷ [] → a ≡ c
-first_same a b c d same = cc
-
-second_same : (a b c d : List ℕ) → a ∷ b ∷ [] ≡ c ∷ d ∷ [] → b ≡ d
-second_same a b c d same = cc
-
-pub same_names : (words : List (List ℕ)) (map_name out_name : List ℕ) → AreTwo words map_name out_name → map_name ≡ out_name → AreNoCommand (codes "format" ∷ words)
-same_names words map_name out_name two same = no_format words (λ files are.
-    let names : files.map_name ∷ files.out_name ∷ [] ≡ map_name ∷ out_name ∷ [] = sym (format_two words files are).words_are ∙ two.words_are in
-    are.different.map_and_out (first_same files.map_name files.out_name map_name out_name names ∙ same ∙ sym (second_same files.map_name files.out_name map_name out_name names)))
-
-pub format_words : (words : List (List ℕ)) (map_name out_name : List ℕ) → AreTwo words map_name out_name → (map_name ≡ out_name → ⊥) → AreWordsOf (of_map Format (names_of map_name out_name None)) (codes "format" ∷ words)
-format_words words map_name out_name two differ = record {
-  words_are = ap (λ (rest : List (List ℕ)). codes "format" ∷ rest) two.words_are;
-  is_map_name = two.first_is;
-  is_out_name = two.second_is;
+pub format_words : (words : List (List ℕ)) (map_name out_name : List ℕ) → AreTwo words map_name out_name × (map_name ≢ out_name) → AreWordsOf (of_map Format (names_of map_name out_name None)) (codes "format" ∷ words)
+format_words words map_name out_name names = record {
+  words_are = ap (λ (rest : List (List ℕ)). codes "format" ∷ rest) names.0.words_are;
+  is_map_name = names.0.first_is;
+  is_out_name = names.0.second_is;
   no_listing = refl;
-  different = record { map_and_out = differ; map_and_listing = λ name some. absurd cc; out_and_listing = λ name some. absurd cc };
+  different = record { map_and_out = names.1; map_and_listing = λ name some. absurd cc; out_and_listing = λ name some. absurd cc };
+}
+
+-- ---- `upgrade`
+
+no_upgrade : (words : List (List ℕ)) → ((tree_name out_name : List ℕ) → AreUpgradeWords (codes "upgrade" ∷ words) tree_name out_name → ⊥) → AreNoCommand (codes "upgrade" ∷ words)
+no_upgrade words never (of_map (Compile options listed) files) are = verbs_apart (codes "upgrade") (codes "compile") words are.rest refl are.words_are
+no_upgrade words never (of_map Format files) are = verbs_apart (codes "upgrade") (codes "format") words (files.map_name ∷ files.out_name ∷ []) refl are.words_are
+no_upgrade words never (of_tree tree_name queries) are = verbs_apart (codes "upgrade") (codes "inspect") words (tree_name ∷ are.query_words) refl are.words_are
+no_upgrade words never (of_rooms rooms number) are = verbs_apart (codes "upgrade") (codes "demo") words (decimal rooms ∷ decimal number ∷ []) refl are.words_are
+no_upgrade words never (of_upgrade tree_name out_name) are = never tree_name out_name are
+
+upgrade_two : (words : List (List ℕ)) (tree_name out_name : List ℕ) → AreUpgradeWords (codes "upgrade" ∷ words) tree_name out_name → AreTwo words tree_name out_name
+upgrade_two words tree_name out_name are =
+    let same : words ≡ tree_name ∷ out_name ∷ [] = let whole = are.words_are in cc in
+    record { words_are = same; first_is = are.is_tree_name; second_is = are.is_out_name }
+
+pub upgrade_refused : (words : List (List ℕ)) (fault : WordsFault) → AreNamesOf words (Err fault) → IsOrderFor (codes "upgrade" ∷ words) (Err fault)
+upgrade_refused words Usage never = no_upgrade words (λ tree_name out_name are. never tree_name out_name (upgrade_two words tree_name out_name are) are.different)
+upgrade_refused words Memory never = tt
+
+pub upgrade_words : (words : List (List ℕ)) (tree_name out_name : List ℕ) → AreTwo words tree_name out_name × (tree_name ≢ out_name) → AreWordsOf (of_upgrade tree_name out_name) (codes "upgrade" ∷ words)
+upgrade_words words tree_name out_name names = record {
+  words_are = ap (λ (rest : List (List ℕ)). codes "upgrade" ∷ rest) names.0.words_are;
+  is_tree_name = names.0.first_is;
+  is_out_name = names.0.second_is;
+  different = names.1;
 }
 
 -- ---- `demo`
@@ -96,6 +131,7 @@ no_demo words never (of_map (Compile options listed) files) are = verbs_apart (c
 no_demo words never (of_map Format files) are = verbs_apart (codes "demo") (codes "format") words (files.map_name ∷ files.out_name ∷ []) refl are.words_are
 no_demo words never (of_tree tree_name queries) are = verbs_apart (codes "demo") (codes "inspect") words (tree_name ∷ are.query_words) refl are.words_are
 no_demo words never (of_rooms rooms number) are = never rooms number are
+no_demo words never (of_upgrade tree_name out_name) are = verbs_apart (codes "demo") (codes "upgrade") words (tree_name ∷ out_name ∷ []) refl are.words_are
 
 demo_two : (words : List (List ℕ)) (rooms number : ℕ) → AreDemoWords (codes "demo" ∷ words) rooms number → AreTwo words (decimal rooms) (decimal number)
 demo_two words rooms number are =

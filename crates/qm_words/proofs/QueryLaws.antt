@@ -9,7 +9,7 @@ use Rattle.qm_numerals.proofs.Uniqueness.{same_answer}
 use Rattle.qm_commands.specs.FileNames.{IsFileName}
 use Rattle.qm_commands.specs.QueryWord.{AreMillionths, AreQueryWords, IsPlaceWord, IsQueryWord, IsShort, no_more, one_more}
 use Rattle.qm_commands.specs.declared.query.Query.{Query}
-use Rattle.qm_commands.specs.declared.query.Query.TheVariants.{Count, At, Row, Sees}
+use Rattle.qm_commands.specs.declared.query.Query.TheVariants.{Count, At, Row, Sees, Parts}
 use Rattle.qm_words.specs.inner.PlainWords.{ArePlainWords}
 use Rattle.qm_words.specs.inner.QueriesRead.{HasNoComma, IsCommaSplit}
 use Rattle.qm_words.proofs.Commas.{clear_decimal, clear_number}
@@ -64,12 +64,14 @@ only_place text Count P found is = absurd (apart 97 99 _ _ refl is)
 only_place text (At x y z) P found is = found x y z is
 only_place text (Row n) P found is = absurd (apart 97 114 _ _ refl is.0)
 only_place text (Sees n m) P found is = absurd (apart 97 115 _ _ refl is.0)
+only_place text Parts P found is = absurd (apart 97 112 _ _ refl is)
 
 pub only_row : (text : List ℕ) (query : Query) (P : Type 0) → ((n : ℕ) → text ≡ decimal n → IsShort n → P) → IsQueryWord (codes "row=" ++ text) query → P
 only_row text Count P found is = absurd (apart 114 99 _ _ refl is)
 only_row text (At x y z) P found is = absurd (apart 114 97 _ _ refl is.word_is)
 only_row text (Row n) P found is = let same : text ≡ decimal n = let whole = is.0 in cc in found n same is.1
 only_row text (Sees n m) P found is = absurd (apart 114 115 _ _ refl is.0)
+only_row text Parts P found is = absurd (apart 114 112 _ _ refl is)
 
 pub only_sees : (text : List ℕ) (query : Query) (P : Type 0) → ((n m : ℕ) → IsCommaSplit text (decimal n) (decimal m) → IsShort n → IsShort m → P) → IsQueryWord (codes "sees=" ++ text) query → P
 only_sees text Count P found is = absurd (apart 115 99 _ _ refl is)
@@ -78,14 +80,16 @@ only_sees text (Row n) P found is = absurd (apart 115 114 _ _ refl is.0)
 only_sees text (Sees n m) P found is =
     let same : text ≡ decimal n ++ (44 ∷ decimal m) = let whole = is.0 in cc in
     found n m (record { text_is = same; clear = clear_decimal n (fits n is.1) }) is.1 is.2
+only_sees text Parts P found is = absurd (apart 115 112 _ _ refl is)
 
 -- a word that begins with none of these has no query
-pub no_query : (word : List ℕ) (query : Query) → (word ≡ codes "count" → ⊥) → ((text : List ℕ) → word ≡ codes "at=" ++ text → ⊥) → ((text : List ℕ) → word ≡ codes "row=" ++ text → ⊥)
+pub no_query : (word : List ℕ) (query : Query) → (word ≡ codes "count" → ⊥) → (word ≡ codes "parts" → ⊥) → ((text : List ℕ) → word ≡ codes "at=" ++ text → ⊥) → ((text : List ℕ) → word ≡ codes "row=" ++ text → ⊥)
     → ((text : List ℕ) → word ≡ codes "sees=" ++ text → ⊥) → IsQueryWord word query → ⊥
-no_query word Count no_count no_place no_row no_sees is = no_count is
-no_query word (At x y z) no_count no_place no_row no_sees is = no_place (is.first ++ (44 ∷ (is.second ++ (44 ∷ is.third)))) is.word_is
-no_query word (Row n) no_count no_place no_row no_sees is = no_row (decimal n) is.0
-no_query word (Sees n m) no_count no_place no_row no_sees is = no_sees (decimal n ++ (44 ∷ decimal m)) is.0
+no_query word Count no_count no_parts no_place no_row no_sees is = no_count is
+no_query word (At x y z) no_count no_parts no_place no_row no_sees is = no_place (is.first ++ (44 ∷ (is.second ++ (44 ∷ is.third)))) is.word_is
+no_query word (Row n) no_count no_parts no_place no_row no_sees is = no_row (decimal n) is.0
+no_query word (Sees n m) no_count no_parts no_place no_row no_sees is = no_sees (decimal n ++ (44 ∷ decimal m)) is.0
+no_query word Parts no_count no_parts no_place no_row no_sees is = no_parts is
 
 -- the word of a query is plain
 pub query_is_plain : (word : List ℕ) (query : Query) → IsQueryWord word query → IsFileName word
@@ -93,6 +97,7 @@ query_is_plain word Count is = subst IsFileName (sym is) (λ e. absurd (omega (a
 query_is_plain word (At x y z) is = subst IsFileName (sym is.word_is) (λ e. absurd (omega (arith, e)))
 query_is_plain word (Row n) is = subst IsFileName (sym is.0) (λ e. absurd (omega (arith, e)))
 query_is_plain word (Sees n m) is = subst IsFileName (sym is.0) (λ e. absurd (omega (arith, e)))
+query_is_plain word Parts is = subst IsFileName (sym is) (λ e. absurd (omega (arith, e)))
 
 pub queries_are_plain : {words : List (List ℕ)} {queries : List Query} → AreQueryWords words queries → ArePlainWords words
 queries_are_plain no_more = tt

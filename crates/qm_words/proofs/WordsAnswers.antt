@@ -3,7 +3,7 @@ use Rattle.std.proofs.Common.{◌≡◌, ◌≤◌, ◌-◌, ℕ, codes, sym, ap
 use Rattle.std.proofs.lemmas.List.{take_all}
 use Rattle.clap.specs.Walk.{Row}
 use Rattle.qm_commands.specs.declared.map_command.MapCommand.TheVariants.{Compile, Format}
-use Rattle.qm_commands.specs.Order.{Order, of_map, of_tree, of_rooms}
+use Rattle.qm_commands.specs.Order.{Order, of_map, of_tree, of_rooms, of_upgrade}
 use Rattle.qm_commands.specs.Words.{AreNoCommand, AreWordsOf}
 use Rattle.qm_words.specs.SeenWords.{order_of}
 use Rattle.qm_words.specs.inner.Answered.{IsOrderFor}
@@ -23,12 +23,13 @@ answer_order words rows (Err Memory) each are answer = tt
 first_same : (a b : List ℕ) (more rest : List (List ℕ)) → a ∷ more ≡ b ∷ rest → a ≡ b
 first_same a b more rest same = cc
 
--- a verb that is none of the four
-pub unknown_verb : (verb : List ℕ) (words : List (List ℕ)) → (verb ≡ codes "compile" → ⊥) → (verb ≡ codes "inspect" → ⊥) → (verb ≡ codes "format" → ⊥) → (verb ≡ codes "demo" → ⊥) → AreNoCommand (verb ∷ words)
-unknown_verb verb words no_compile no_inspect no_format no_demo (of_map (Compile options listed) files) are = no_compile (first_same verb (codes "compile") words _ are.words_are)
-unknown_verb verb words no_compile no_inspect no_format no_demo (of_map Format files) are = no_format (first_same verb (codes "format") words _ are.words_are)
-unknown_verb verb words no_compile no_inspect no_format no_demo (of_tree tree queries) are = no_inspect (first_same verb (codes "inspect") words _ are.words_are)
-unknown_verb verb words no_compile no_inspect no_format no_demo (of_rooms rooms number) are = no_demo (first_same verb (codes "demo") words _ are.words_are)
+-- a verb that is none of the five
+pub unknown_verb : (verb : List ℕ) (words : List (List ℕ)) → (verb ≡ codes "compile" → ⊥) → (verb ≡ codes "inspect" → ⊥) → (verb ≡ codes "format" → ⊥) → (verb ≡ codes "demo" → ⊥) → (verb ≡ codes "upgrade" → ⊥) → AreNoCommand (verb ∷ words)
+unknown_verb verb words no_compile no_inspect no_format no_demo no_upgrade (of_map (Compile options listed) files) are = no_compile (first_same verb (codes "compile") words _ are.words_are)
+unknown_verb verb words no_compile no_inspect no_format no_demo no_upgrade (of_map Format files) are = no_format (first_same verb (codes "format") words _ are.words_are)
+unknown_verb verb words no_compile no_inspect no_format no_demo no_upgrade (of_tree tree queries) are = no_inspect (first_same verb (codes "inspect") words _ are.words_are)
+unknown_verb verb words no_compile no_inspect no_format no_demo no_upgrade (of_rooms rooms number) are = no_demo (first_same verb (codes "demo") words _ are.words_are)
+unknown_verb verb words no_compile no_inspect no_format no_demo no_upgrade (of_upgrade tree_name out_name) are = no_upgrade (first_same verb (codes "upgrade") words _ are.words_are)
 
 no_words : (first : List ℕ) (rest : List (List ℕ)) → [] ≡ first ∷ rest → ⊥
 no_words first rest same = cc
@@ -39,6 +40,7 @@ nothing_asked (of_map (Compile options listed) files) are = no_words (codes "com
 nothing_asked (of_map Format files) are = no_words (codes "format") _ are.words_are
 nothing_asked (of_tree tree queries) are = no_words (codes "inspect") _ are.words_are
 nothing_asked (of_rooms rooms number) are = no_words (codes "demo") _ are.words_are
+nothing_asked (of_upgrade tree_name out_name) are = no_words (codes "upgrade") _ are.words_are
 
 -- the first word and those behind it
 pub first_and_rest : {X : Type 0} (words : List X) (d : X) → 1 ≤ length words → words ≡ get_or words 0 d ∷ take (length words - 1) (drop 1 words)

@@ -2,7 +2,7 @@ use Rattle.std.specs.Prelude.{ℕ, List, map, Option, None, option_map, is_some}
 use Rattle.std.specs.Borrow.{Bor}
 use Rattle.qm_commands.specs.declared.map_command.MapCommand.TheVariants as command
 use Rattle.qm_commands.specs.FileNames.{FileNames}
-use Rattle.qm_commands.specs.Order.{Order, of_map, of_tree, of_rooms}
+use Rattle.qm_commands.specs.Order.{Order, of_map, of_tree, of_rooms, of_upgrade}
 use Rattle.qm_words.specs.declared.order.Order.{Order as SeenOrder}
 use Rattle.qm_words.specs.declared.order.Order.TheVariants as seen
 
@@ -23,3 +23,4 @@ order_of (seen.Compile map_name out_name prt threads fast) =
 order_of (seen.Inspect tree queries) = of_tree tree.now queries.items
 order_of (seen.Format map_name out_name) = of_map command.Format (names_of map_name.now out_name.now None)
 order_of (seen.Demo rooms number) = of_rooms rooms number
+order_of (seen.Upgrade tree out_name) = of_upgrade tree.now out_name.now

@@ -30,6 +30,11 @@ pub enum Order<'a> {
         rooms: u32,
         number: u64,
     },
+    /// A tree file in the newest version.
+    Upgrade {
+        tree: &'a str,
+        out: &'a str,
+    },
 }
 
 /// Why words are not read.

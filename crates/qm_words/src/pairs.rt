@@ -5,7 +5,7 @@ ghost use Rattle.clap.specs.Matches.{found_of};
 ghost use Rattle.clap.specs.Walk.{rows_of};
 ghost use Rattle.qm_words.specs.SeenWords.{bytes_of_words};
 ghost use Rattle.qm_words.specs.inner.Answered.{IsOrderFor};
-ghost use Rattle.qm_words.specs.inner.TwoWords.{HasPair, IsPairOf, LacksPair};
+ghost use Rattle.qm_words.specs.inner.TwoWords.{AreNamesOf, HasPair, IsPairOf, LacksPair};
 
 use crate::compile::found_text;
 use crate::lines::pair_matches;
@@ -19,15 +19,19 @@ use std::alloc::Global;
 pub fn format_order<'a>(alloc: Global, words: &'a [&'a str]) -> Result<Order<'a>, WordsFault>
     ensures { IsOrderFor (codes "format" ∷ bytes_of_words words.entry.now) result }
 {
-    match pair(alloc, "format", words) {
+    match two_names(alloc, "format", words) {
         Err(fault) => Err(fault),
-        Ok((map, out)) => {
-            if map == out {
-                Err(WordsFault::Usage)
-            } else {
-                Ok(Order::Format { map, out })
-            }
-        }
+        Ok((map, out)) => Ok(Order::Format { map, out }),
+    }
+}
+
+/// The order of the words behind `upgrade`.
+pub fn upgrade_order<'a>(alloc: Global, words: &'a [&'a str]) -> Result<Order<'a>, WordsFault>
+    ensures { IsOrderFor (codes "upgrade" ∷ bytes_of_words words.entry.now) result }
+{
+    match two_names(alloc, "upgrade", words) {
+        Err(fault) => Err(fault),
+        Ok((tree, out)) => Ok(Order::Upgrade { tree, out }),
     }
 }
 
@@ -37,9 +41,9 @@ pub fn demo_order<'a>(alloc: Global, words: &'a [&'a str]) -> Result<Order<'a>, 
 {
     match pair(alloc, "demo", words) {
         Err(fault) => Err(fault),
-        Ok((rooms, seed)) => match count(rooms) {
+        Ok((rooms, number_word)) => match count(rooms) {
             None => Err(WordsFault::Usage),
-            Some(rooms) => match number(seed) {
+            Some(rooms) => match number(number_word) {
                 None => Err(WordsFault::Usage),
                 Some(number) => Ok(Order::Demo {
                     rooms: rooms as u32,
@@ -47,6 +51,26 @@ pub fn demo_order<'a>(alloc: Global, words: &'a [&'a str]) -> Result<Order<'a>, 
                 }),
             },
         },
+    }
+}
+
+/// The names of two files behind a verb, which are different.
+fn two_names<'a>(
+    alloc: Global,
+    verb: &'a str,
+    words: &'a [&'a str],
+) -> Result<(&'a str, &'a str), WordsFault>
+    ensures { AreNamesOf (bytes_of_words words.entry.now) result }
+{
+    match pair(alloc, verb, words) {
+        Err(fault) => Err(fault),
+        Ok((first, second)) => {
+            if first == second {
+                Err(WordsFault::Usage)
+            } else {
+                Ok((first, second))
+            }
+        }
     }
 }
 

@@ -34,6 +34,9 @@ fn query(word: &str) -> Option<Query>
     if word == "count" {
         return Some(Query::Count);
     }
+    if word == "parts" {
+        return Some(Query::Parts);
+    }
     if let Some(text) = word.strip_prefix("at=") {
         return place(text);
     }

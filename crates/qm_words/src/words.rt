@@ -10,12 +10,12 @@ ghost use Rattle.qm_words.specs.inner.Answered.{IsOrderFor};
 use crate::compile::compile_order;
 use crate::inspect::inspect_order;
 use crate::order::{Order, WordsFault};
-use crate::pairs::{demo_order, format_order};
+use crate::pairs::{demo_order, format_order, upgrade_order};
 use std::alloc::Global;
 
 /// What words ask for. They are `compile MAP OUT`, among whose names `--prt FILE` or `--prt=FILE`, `--threads N` or
-/// `--threads=N` and `--fast` may stand, each once at most; `inspect TREE QUERY..`; `format MAP OUT`; or
-/// `demo N NUMBER`.
+/// `--threads=N` and `--fast` may stand, each once at most; `inspect TREE QUERY..`; `format MAP OUT`; `demo N NUMBER`; or
+/// `upgrade TREE OUT`.
 ///
 /// # Errors
 ///
@@ -46,6 +46,7 @@ fn order_behind<'a>(
         "inspect" => inspect_order(alloc, words),
         "format" => format_order(alloc, words),
         "demo" => demo_order(alloc, words),
+        "upgrade" => upgrade_order(alloc, words),
         _ => Err(WordsFault::Usage),
     }
 }

@@ -1,4 +1,4 @@
-use Rattle.std.specs.Prelude.{◌≡◌, ◌⊎◌, ℕ, List, [], ◌∷◌, Some, None, codes, Result, Ok, Err}
+use Rattle.std.specs.Prelude.{◌≡◌, ◌≢◌, ◌⊎◌, ℕ, List, [], ◌∷◌, Some, None, codes, Result, Ok, Err}
 use Rattle.std.specs.Borrow.{Bor}
 use Rattle.clap.specs.Walk.{Row, first_of}
 use Rattle.qm_commands.specs.FileNames.{IsFileName}
@@ -16,6 +16,12 @@ abbrev pub IsPairOf : List (List ℕ) → Result (Bor (List ℕ) × Bor (List �
 IsPairOf words (Ok pair) = AreTwo words pair.0.now pair.1.now
 IsPairOf words (Err Usage) = (first second : List ℕ) → AreTwo words first second → ⊥
 IsPairOf words (Err Memory) = Unit {0}
+
+-- two different names of files behind a verb, or there are no such two
+abbrev pub AreNamesOf : List (List ℕ) → Result (Bor (List ℕ) × Bor (List ℕ)) WordsFault → Type 0
+AreNamesOf words (Ok pair) = AreTwo words pair.0.now pair.1.now × (pair.0.now ≢ pair.1.now)
+AreNamesOf words (Err Usage) = (first second : List ℕ) → AreTwo words first second → first ≢ second → ⊥
+AreNamesOf words (Err Memory) = Unit {0}
 
 -- the parser has found these two words
 abbrev pub HasPair : List Row → List ℕ → List ℕ → Type 0
