@@ -1,3 +1,5 @@
 pub mod OneAnswer
 pub mod Places
+pub mod SectionKinds
 pub mod Told
+pub mod UpgradedAnswers

@@ -45,17 +45,18 @@ one_place tree point a b is_a is_b =
     let same = one_number tree (leaf_at tree.planes tree.shape point) is_a.number is_b.number is_a.is_number is_b.is_number in
     is_b.answer_is ∙ ap (λ (number : Option ℕ). Place (leaf_at tree.planes tree.shape point) found.contents found.filled number) same ∙ sym is_a.answer_is
 
-one_place_answer : (tree : Tree) (point : Point) (a b : Result Answer QueryFault) → AnswersPlace tree point a → AnswersPlace tree point b → b ≡ a
-one_place_answer tree point (Ok a) (Ok b) is_a is_b = ap Ok (one_place tree point a b is_a.1 is_b.1)
-one_place_answer tree point (Ok a) (Err b) is_a is_b = absurd (is_b.1 is_a.0)
-one_place_answer tree point (Err a) (Ok b) is_a is_b = absurd (is_a.1 is_b.0)
-one_place_answer tree point (Err a) (Err b) is_a is_b = ap Err (is_b.0 ∙ sym is_a.0)
+one_place_answer : (file : TreeFile) (point : Point) (a b : Result Answer QueryFault) → AnswersPlace file point a → AnswersPlace file point b → b ≡ a
+one_place_answer file point (Ok a) (Ok b) is_a is_b = ap Ok (one_place file.tree point a b is_a.1 is_b.1)
+one_place_answer file point (Ok a) (Err b) is_a is_b = absurd (is_b.1 is_a.0)
+one_place_answer file point (Err a) (Ok b) is_a is_b = absurd (is_a.1 is_b.0)
+one_place_answer file point (Err a) (Err b) is_a is_b = ap Err (is_b.0 ∙ sym is_a.0)
 
 -- ---- queries
 
 pub one_answer : (file : TreeFile) (query : Query) (a b : Result Answer QueryFault) → AnswersQuery file query a → AnswersQuery file query b → b ≡ a
 unfolding AnswersQuery
 one_answer file queries.Count a b is_a is_b = is_b ∙ sym is_a
-one_answer file (queries.At x y z) a b is_a is_b = one_place_answer file.tree _ a b is_a is_b
+one_answer file (queries.At x y z) a b is_a is_b = one_place_answer file _ a b is_a is_b
 one_answer file (queries.Row n) a b is_a is_b = is_b ∙ sym is_a
 one_answer file (queries.Sees n m) a b is_a is_b = is_b ∙ sym is_a
+one_answer file queries.Parts a b is_a is_b = is_b ∙ sym is_a

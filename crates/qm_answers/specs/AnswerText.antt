@@ -2,9 +2,9 @@ use Rattle.std.specs.Prelude.{ℕ, ◌+◌, Bool, List, [], ◌∷◌, ◌++◌,
 use Rattle.std.specs.Fmt.{decimal}
 use Rattle.qm_contents.specs.declared.contents.Contents.{Contents}
 use Rattle.qm_contents.specs.declared.contents.Contents.TheVariants.{Empty, Solid, Water, Slime, Lava, Sky}
-use Rattle.qm_formats.specs.TreeFile.{TreeFile}
+use Rattle.qm_formats.specs.TreeFile.{Section, TreeFile}
 use Rattle.qm_answers.specs.declared.answer.Answer.{Answer}
-use Rattle.qm_answers.specs.declared.answer.Answer.TheVariants.{Count, Place, Row, Sees}
+use Rattle.qm_answers.specs.declared.answer.Answer.TheVariants.{Count, Place, Row, Sees, Parts}
 use Rattle.qm_answers.specs.declared.query_fault.QueryFault.{QueryFault}
 use Rattle.qm_answers.specs.declared.query_fault.QueryFault.TheVariants.{OutsideCube, NoSuchLeaf, NoRows}
 
@@ -44,6 +44,11 @@ printed_row file n = row_in file.rows
     row_in None = []
     row_in (Some rows) = slice_index_or rows n []
 
+-- the kinds of sections, each after a space
+abbrev pub section_kinds : List Section → List ℕ
+section_kinds [] = []
+section_kinds (section ∷ sections) = 32 ∷ (decimal section.kind ++ section_kinds sections)
+
 -- the words of an answer
 unfoldable pub answer_words : TreeFile → Answer → List ℕ
 answer_words file (Count planes nodes leaves numbered rows) =
@@ -53,6 +58,8 @@ answer_words file (Place leaf contents filled number) =
     codes "leaf " ++ (decimal leaf ++ (32 ∷ (name_of_contents contents ++ (number_words number ++ filled_words filled))))
 answer_words file (Row n) = codes "row " ++ (decimal n ++ (58 ∷ set_places 0 (printed_row file n)))
 answer_words file (Sees sees) = yes_or_no sees
+answer_words file Parts =
+    codes "version " ++ (decimal file.version ++ (codes " bound " ++ (decimal file.bound ++ (codes " parts" ++ section_kinds file.sections))))
 
 -- the line of an answer
 abbrev pub answer_line : TreeFile → Answer → List ℕ

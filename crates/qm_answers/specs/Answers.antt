@@ -1,5 +1,5 @@
 use Rattle.std.specs.Prelude.{◌≡◌, ℕ, ℤ, pos, Bool, false, ◌&&◌, nat_lt, List, [], length, slice_get, slice_index_or, Option, Some, None, is_some, Result, Ok, Err, count_by, if◌then◌else◌}
-use Rattle.qm_space.specs.Point.{Point, IsInCube}
+use Rattle.qm_space.specs.Point.{Point}
 use Rattle.qm_partition.specs.Counting.{node_count, leaf_count, leaves_of}
 use Rattle.qm_partition.specs.LeafOfPoint.{leaf_at, leaf_record_at}
 use Rattle.qm_partition.specs.Tree.{Tree}
@@ -8,9 +8,10 @@ use Rattle.qm_formats.specs.TreeFile.{TreeFile}
 use Rattle.qm_commands.specs.declared.query.Query.{Query}
 use Rattle.qm_commands.specs.declared.query.Query.TheVariants as queries
 use Rattle.qm_answers.specs.declared.answer.Answer.{Answer}
-use Rattle.qm_answers.specs.declared.answer.Answer.TheVariants.{Count, Place, Row, Sees}
+use Rattle.qm_answers.specs.declared.answer.Answer.TheVariants.{Count, Place, Row, Sees, Parts}
 use Rattle.qm_answers.specs.declared.query_fault.QueryFault.{QueryFault}
 use Rattle.qm_answers.specs.declared.query_fault.QueryFault.TheVariants.{OutsideCube, NoSuchLeaf, NoRows}
+use Rattle.qm_answers.specs.InsideBound.{IsInsideBound}
 
 -- What a tree file answers to a query.
 
@@ -36,10 +37,10 @@ pub record IsPlaceAnswer (tree : Tree) (point : Point) (answer : Answer) : Type 
       let found = leaf_record_at tree.planes tree.shape point in
       answer ≡ Place (leaf_at tree.planes tree.shape point) found.contents found.filled number
 
--- a point in the cube is answered, and any other refused
-abbrev pub AnswersPlace : Tree → Point → Result Answer QueryFault → Type 0
-AnswersPlace tree point (Ok answer) = IsInCube point × IsPlaceAnswer tree point answer
-AnswersPlace tree point (Err fault) = (fault ≡ OutsideCube) × (IsInCube point → ⊥)
+-- a point in the cube of the file's bound is answered, and any other refused
+abbrev pub AnswersPlace : TreeFile → Point → Result Answer QueryFault → Type 0
+AnswersPlace file point (Ok answer) = IsInsideBound file.bound point × IsPlaceAnswer file.tree point answer
+AnswersPlace file point (Err fault) = (fault ≡ OutsideCube) × (IsInsideBound file.bound point → ⊥)
 
 -- where rows are there, what they answer
 abbrev pub answer_of_rows : Option (List (List Bool)) → (List (List Bool) → Answer) → Result Answer QueryFault
@@ -65,6 +66,7 @@ point_in_millionths x y z = record { x = x; y = y; z = z; w = pos 1000000 }
 -- what a file answers to a query
 unfoldable pub AnswersQuery : TreeFile → Query → Result Answer QueryFault → Type 0
 AnswersQuery file queries.Count answer = answer ≡ Ok (answer_to_count file)
-AnswersQuery file (queries.At x y z) answer = AnswersPlace file.tree (point_in_millionths x y z) answer
+AnswersQuery file (queries.At x y z) answer = AnswersPlace file (point_in_millionths x y z) answer
 AnswersQuery file (queries.Row n) answer = answer ≡ answer_to_row file n
 AnswersQuery file (queries.Sees n m) answer = answer ≡ answer_to_sees file n m
+AnswersQuery file queries.Parts answer = answer ≡ Ok Parts

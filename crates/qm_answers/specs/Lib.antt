@@ -1,3 +1,5 @@
 pub mod AllAnswers
 pub mod Answers
 pub mod AnswerText
+pub mod InsideBound
+pub mod SameAnswers

@@ -22,4 +22,6 @@ pub enum Answer {
     Row(u64),
     /// Whether the one leaf's row has the other.
     Sees(bool),
+    /// Which version the file is, the bound of its world, and the kinds of its sections, as it says itself.
+    Parts,
 }

@@ -1,7 +1,7 @@
 /// Why a query is refused.
 #[derive(Clone, Copy)]
 pub enum QueryFault {
-    /// The point is not strictly inside the world's cube.
+    /// The point is not strictly inside the cube of the file's bound.
     OutsideCube,
     /// There are not that many numbered leaves.
     NoSuchLeaf,

@@ -1,2 +1,3 @@
+pub mod CountedBlocks
 pub mod KeptPoints
 pub mod SetPlaces

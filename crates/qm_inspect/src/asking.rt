@@ -1,8 +1,10 @@
 //! What a tree file answers to a query.
 
 ghost use Rattle.std.specs.Prelude.{◌≡◌, Result};
+ghost use Rattle.qm_partition.specs.Counting.{leaves_of};
 ghost use Rattle.qm_formats.specs.TreeFile.{IsValidFile};
 ghost use Rattle.qm_answers.specs.Answers.{AnswersQuery, answer_to_count};
+ghost use Rattle.qm_inspect.specs.inner.BlockCounts.{AreBlockCounts};
 
 use crate::numbered::numbered;
 use crate::places::place;
@@ -11,10 +13,9 @@ use qm_answers::{Answer, QueryFault};
 use qm_commands::Query;
 use qm_file::TreeFile;
 
-/// What a tree file answers to a query. `OutsideCube` exactly for a point that is not strictly inside the world's cube,
-/// `NoSuchLeaf` exactly for a number that no numbered leaf has, `NoRows` exactly where that leaf is there and rows are not.
+/// What a tree file answers to a query. `OutsideCube` exactly for a point that is not strictly inside the cube of the file's
+/// bound, `NoSuchLeaf` exactly for a number that no numbered leaf has, `NoRows` exactly where that leaf is there and rows are not.
 /// It takes no memory.
-#[tactic(auto, unfolding(qm_answers::specs::Answers::AnswersQuery))]
 pub fn query(file: &TreeFile, ask: &Query) -> Result<Answer, QueryFault>
     requires { IsValidFile file.now }
     ensures answers { AnswersQuery file.now ask.now result }
@@ -22,17 +23,32 @@ pub fn query(file: &TreeFile, ask: &Query) -> Result<Answer, QueryFault>
     // There is no other answer.
     ensures only { (other : Result Answer QueryFault) → AnswersQuery file.now ask.now other → other ≡ result }
 {
+    answer(file, &NONE_BEFORE, ask)
+}
+
+/// Before the first block of leaves none is numbered.
+const NONE_BEFORE: [u64; 1] = [0];
+
+/// What a tree file answers to a query, where it was counted how many leaves are numbered before the first blocks of leaves.
+#[tactic(auto, unfolding(qm_answers::specs::Answers::AnswersQuery))]
+pub(crate) fn answer(file: &TreeFile, counts: &[u64], ask: &Query) -> Result<Answer, QueryFault>
+    requires valid { IsValidFile file.now }
+    requires counts { AreBlockCounts (leaves_of file.now.tree.shape) counts.now }
+    ensures { AnswersQuery file.now ask.now result }
+{
     match *ask {
-        Query::Count => Ok(count(file)),
-        Query::At { x, y, z } => place(&file.tree, x, y, z),
-        Query::Row(n) => row(file, n),
-        Query::Sees(n, m) => sees(file, n, m),
+        Query::Count => Ok(count(file, counts)),
+        Query::At { x, y, z } => place(file, counts, x, y, z),
+        Query::Row(n) => row(file, counts, n),
+        Query::Sees(n, m) => sees(file, counts, n, m),
+        Query::Parts => Ok(Answer::Parts),
     }
 }
 
 /// How much there is in a file.
-fn count(file: &TreeFile) -> Answer
-    requires { IsValidFile file.now }
+fn count(file: &TreeFile, counts: &[u64]) -> Answer
+    requires valid { IsValidFile file.now }
+    requires counts { AreBlockCounts (leaves_of file.now.tree.shape) counts.now }
     ensures { result ≡ answer_to_count file.now }
 {
     let tree = &file.tree;
@@ -40,7 +56,7 @@ fn count(file: &TreeFile) -> Answer
         planes: u64::from(tree.planes()),
         nodes: tree.nodes(),
         leaves: tree.leaves(),
-        numbered: numbered(file),
+        numbered: numbered(file, counts),
         rows: file.rows.is_some(),
     }
 }

@@ -1,14 +1,29 @@
 //! What holds of the answers to queries, whatever is asked.
 
-ghost use Rattle.std.specs.Prelude.{◌≡◌, ℕ, List};
+ghost use Rattle.std.specs.Prelude.{◌≡◌, ◌↔◌, ℕ, List};
+ghost use Rattle.qm_space.specs.Bounds.{world_extent};
+ghost use Rattle.qm_space.specs.Point.{Point, IsInCube};
 ghost use Rattle.qm_formats.specs.TreeFile.{TreeFile as FileRecord};
+ghost use Rattle.qm_formats.specs.Upgraded.{upgraded};
 ghost use Rattle.qm_commands.specs.declared.query.Query.{Query};
 ghost use Rattle.qm_answers.specs.declared.query_fault.QueryFault.{QueryFault};
 ghost use Rattle.qm_answers.specs.AllAnswers.{AreAnswered, IsFirstRefused};
+ghost use Rattle.qm_answers.specs.InsideBound.{IsInsideBound};
+ghost use Rattle.qm_answers.specs.SameAnswers.{HaveSameAnswers};
 
 /// What is told of queries is one text or one refusal, and never both.
 pub fn told_once()
     ensures one_text { (file : FileRecord) (queries : List Query) (lines other : List ℕ) → AreAnswered file queries lines → AreAnswered file queries other → lines ≡ other }
     ensures one_refusal { (file : FileRecord) (queries : List Query) (number other : ℕ) (fault other_fault : QueryFault) → IsFirstRefused file 1 queries number fault → IsFirstRefused file 1 queries other other_fault → (number ≡ other) × (fault ≡ other_fault) }
     ensures never_both { (file : FileRecord) (queries : List Query) (lines : List ℕ) (number : ℕ) (fault : QueryFault) → AreAnswered file queries lines → IsFirstRefused file 1 queries number fault → ⊥ }
+{}
+
+/// A file and the same file in the newest version have the same answers, but to `parts`, and these the same lines.
+pub fn same_answers()
+    ensures { (file : FileRecord) → HaveSameAnswers file (upgraded file) }
+{}
+
+/// The cube of a file whose bound is the world's extent is the world's cube.
+pub fn same_cube()
+    ensures { (point : Point) → IsInsideBound world_extent point ↔ IsInCube point }
 {}

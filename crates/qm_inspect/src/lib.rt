@@ -11,7 +11,7 @@ mod rows;
 mod telling;
 
 pub use asking::query;
-pub use laws::told_once;
+pub use laws::{same_answers, same_cube, told_once};
 pub use printing::print;
 pub use qm_answers::{Answer, QueryFault};
 pub use qm_commands::Query;

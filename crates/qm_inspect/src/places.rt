@@ -1,9 +1,14 @@
 //! What is at a point.
 
+ghost use Rattle.std.specs.Prelude.{IsTrue, ◌↔◌};
+ghost use Rattle.qm_partition.specs.Counting.{leaves_of};
 ghost use Rattle.qm_answers.specs.Answers.{point_in_millionths, IsPlaceAnswer, AnswersPlace};
+ghost use Rattle.qm_answers.specs.InsideBound.{IsInsideBound};
+ghost use Rattle.qm_inspect.specs.inner.BlockCounts.{AreBlockCounts};
 
 use crate::numbered::number_of_leaf;
 use qm_answers::{Answer, QueryFault};
+use qm_file::TreeFile;
 use qm_geom::Point;
 use qm_tree::Tree;
 
@@ -11,24 +16,41 @@ use qm_tree::Tree;
 const PARTS_OF_UNIT: i64 = 1_000_000;
 
 /// The leaf that has a point, whose coordinates are given in millionths; `OutsideCube` exactly where the point is not strictly
-/// inside the world's cube.
-pub(crate) fn place(tree: &Tree, x: i64, y: i64, z: i64) -> Result<Answer, QueryFault>
-    ensures { AnswersPlace tree.now (point_in_millionths x y z) result }
+/// inside the cube of the file's bound.
+pub(crate) fn place(
+    file: &TreeFile,
+    counts: &[u64],
+    x: i64,
+    y: i64,
+    z: i64,
+) -> Result<Answer, QueryFault>
+    requires { AreBlockCounts (leaves_of file.now.tree.shape) counts.now }
+    ensures { AnswersPlace file.now (point_in_millionths x y z) result }
 {
+    if !is_inside_bound(file.bound, x, y, z) {
+        return Err(QueryFault::OutsideCube);
+    }
     let point = Point {
         x,
         y,
         z,
         w: PARTS_OF_UNIT,
     };
-    if !point.is_in_cube() {
-        return Err(QueryFault::OutsideCube);
-    }
-    Ok(answer_at(tree, &point))
+    Ok(answer_at(&file.tree, counts, &point))
+}
+
+/// Whether a point, whose coordinates are given in millionths, lies strictly inside the cube of a bound: so does the one of
+/// them that is farthest from 0.
+fn is_inside_bound(bound: u32, x: i64, y: i64, z: i64) -> bool
+    ensures { IsTrue result ↔ IsInsideBound bound (point_in_millionths x y z) }
+{
+    let farthest = x.unsigned_abs().max(y.unsigned_abs()).max(z.unsigned_abs());
+    farthest < u64::from(bound) * PARTS_OF_UNIT as u64
 }
 
 /// The leaf to which a point is led, and what the tree says of it.
-fn answer_at(tree: &Tree, point: &Point) -> Answer
+fn answer_at(tree: &Tree, counts: &[u64], point: &Point) -> Answer
+    requires { AreBlockCounts (leaves_of tree.now.shape) counts.now }
     ensures { IsPlaceAnswer tree.now point.now result }
 {
     let leaf = tree.leaf_at(point);
@@ -37,6 +59,6 @@ fn answer_at(tree: &Tree, point: &Point) -> Answer
         leaf,
         contents: found.contents,
         filled: found.filled,
-        number: number_of_leaf(tree, leaf, found),
+        number: number_of_leaf(tree, counts, leaf, found),
     }
 }

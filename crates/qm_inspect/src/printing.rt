@@ -1,12 +1,13 @@
 //! Answers as text.
 
-ghost use Rattle.std.specs.Prelude.{◌≡◌, ◌++◌, IfOk, OnOk, OnErr, string_bytes};
-ghost use Rattle.qm_answers.specs.AnswerText.{name_of_contents, number_words, filled_words, yes_or_no, printed_row, set_places, answer_words, answer_line};
+ghost use Rattle.std.specs.Prelude.{◌≡◌, ◌++◌, ◌∷◌, IfOk, OnOk, OnErr, string_bytes};
+ghost use Rattle.std.specs.Fmt.{decimal};
+ghost use Rattle.qm_answers.specs.AnswerText.{name_of_contents, number_words, filled_words, yes_or_no, printed_row, section_kinds, set_places, answer_words, answer_line};
 
 use crate::row_places::put_set_places;
 use qm_answers::Answer;
 use qm_contents::Contents;
-use qm_file::TreeFile;
+use qm_file::{Section, TreeFile};
 use std::alloc::{AllocError, Global};
 
 /// Appends the line of an answer. After an error `out` is as it was.
@@ -60,6 +61,12 @@ fn words_of(alloc: Global, file: &TreeFile, answer: &Answer) -> Result<String, A
             put_row(&mut text, file, n)?;
         }
         Answer::Sees(sees) => text.push_str(yes_or_no(sees))?,
+        Answer::Parts => {
+            let version = file.version;
+            let bound = file.bound;
+            write!(text, "version {version} bound {bound} parts")?;
+            put_kinds(&mut text, file.sections.as_slice())?;
+        }
     }
     Ok(text)
 }
@@ -114,4 +121,21 @@ fn put_row(text: &mut String, file: &TreeFile, n: u64) -> Result<(), AllocError>
         }
     }
     Ok(())
+}
+
+/// Adds the kinds of sections, each after a space.
+fn put_kinds(text: &mut String, sections: &[Section]) -> Result<(), AllocError>
+    ensures { OnOk result (string_bytes text.new ≡ string_bytes text.old ++ section_kinds sections.now) }
+{
+    for section in sections {
+        put_kind(text, section.kind)?;
+    }
+    Ok(())
+}
+
+/// Adds the kind of a section.
+fn put_kind(text: &mut String, kind: u32) -> Result<(), AllocError>
+    ensures { OnOk result (string_bytes text.new ≡ string_bytes text.old ++ (32 ∷ decimal kind)) }
+{
+    write!(text, " {kind}")
 }

@@ -4,7 +4,8 @@ ghost use Rattle.std.specs.Prelude.{IfOk};
 ghost use Rattle.qm_formats.specs.TreeFile.{IsValidFile};
 ghost use Rattle.qm_inspect.specs.Told.{IsTold};
 
-use crate::asking::query;
+use crate::asking::answer;
+use crate::numbered::block_counts;
 use crate::printing::print;
 use qm_answers::QueryFault;
 use qm_commands::Query;
@@ -25,9 +26,10 @@ pub fn tell(alloc: Global, file: &TreeFile, queries: &[Query]) -> Result<Told, A
     requires { IsValidFile file.now }
     ensures { IfOk result (λ told. IsTold file.now queries.now told) }
 {
+    let counts = block_counts(alloc, file.tree.all_leaves())?;
     let mut lines = Vec::new(alloc);
     for k in 0..queries.len() {
-        match query(file, &queries[k]) {
+        match answer(file, &counts, &queries[k]) {
             Ok(answer) => print(alloc, file, &answer, &mut lines)?,
             Err(fault) => {
                 return Ok(Told::Refused {

@@ -12,11 +12,11 @@ pub returns-in-Err : goal.returns-in-Err
 returns-in-Err c =
     let queries = c.args.queries.now in
     refused_at c.args.file.now queries c.loop-k.k _ c.loop-k.lines.items c.in-Err.fault
-    (slice_get-get_or queries c.loop-k.k Count c.loop-k-test.true) c.loop-k.invariant c.in-Err.ensures.answers
+    (slice_get-get_or queries c.loop-k.k Count c.loop-k-test.true) c.loop-k.invariant c.in-Err.ensures
 
 pub loop-k-preserved : goal.loop-k-preserved
 loop-k-preserved c =
     let queries = c.args.queries.now in
     subst (AreAnswered c.args.file.now (take (c.loop-k.k + 1) queries)) (sym c.in_ok-print-in-Ok.ensures.ok)
     (answered_at c.args.file.now queries c.loop-k.k _ c.loop-k.lines.items c.in-Ok.answer
-    (slice_get-get_or queries c.loop-k.k Count c.loop-k-test.true) c.loop-k.invariant c.in-Ok.ensures.answers)
+    (slice_get-get_or queries c.loop-k.k Count c.loop-k-test.true) c.loop-k.invariant c.in-Ok.ensures)

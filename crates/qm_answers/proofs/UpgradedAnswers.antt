@@ -1,0 +1,59 @@
+-- A file and its newest version have the same answers; the cube of the bound 4096 is the world's cube.
+use Rattle.std.proofs.Common.{◌≡◌, ◌≢◌, Result, Ok, Err, refl}
+use Rattle.std.specs.Prelude.{◌↔◌}
+use Rattle.qm_space.specs.Bounds.{world_extent}
+use Rattle.qm_space.specs.Point.{Point, IsInCube}
+use Rattle.qm_formats.specs.TreeFile.{TreeFile}
+use Rattle.qm_formats.specs.Upgraded.{upgraded}
+use Rattle.qm_commands.specs.declared.query.Query.{Query}
+use Rattle.qm_commands.specs.declared.query.Query.TheVariants as queries
+use Rattle.qm_answers.specs.declared.answer.Answer.{Answer}
+use Rattle.qm_answers.specs.declared.answer.Answer.TheVariants as answers
+use Rattle.qm_answers.specs.declared.query_fault.QueryFault.{QueryFault}
+use Rattle.qm_answers.specs.AnswerText.{answer_line, answer_words}
+use Rattle.qm_answers.specs.Answers.{AnswersPlace, AnswersQuery}
+use Rattle.qm_answers.specs.InsideBound.{IsInsideBound}
+use Rattle.qm_answers.specs.SameAnswers.{HaveSameAnswers}
+
+-- ---- cubes
+
+pub cube_of_bound : (point : Point) → IsInsideBound world_extent point ↔ IsInCube point
+cube_of_bound point = (
+  λ inside. record {
+    weight = inside.weight;
+    x = record { above = inside.x.above; below = inside.x.below };
+    y = record { above = inside.y.above; below = inside.y.below };
+    z = record { above = inside.z.above; below = inside.z.below };
+  },
+  λ inside. record {
+    weight = inside.weight;
+    x = record { above = inside.x.above; below = inside.x.below };
+    y = record { above = inside.y.above; below = inside.y.below };
+    z = record { above = inside.z.above; below = inside.z.below };
+  },
+)
+
+-- ---- the newest version
+
+same_place : (file : TreeFile) (point : Point) (answer : Result Answer QueryFault) → AnswersPlace file point answer ↔ AnswersPlace (upgraded file) point answer
+same_place file point (Ok answer) = (λ is. is, λ is. is)
+same_place file point (Err fault) = (λ is. is, λ is. is)
+
+same_answer : (file : TreeFile) (query : Query) (answer : Result Answer QueryFault) → query ≢ queries.Parts → AnswersQuery file query answer ↔ AnswersQuery (upgraded file) query answer
+unfolding AnswersQuery
+same_answer file queries.Count answer other = (λ is. is, λ is. is)
+same_answer file (queries.At x y z) answer other = same_place file _ answer
+same_answer file (queries.Row n) answer other = (λ is. is, λ is. is)
+same_answer file (queries.Sees n m) answer other = (λ is. is, λ is. is)
+same_answer file queries.Parts answer other = absurd (other refl)
+
+same_line : (file : TreeFile) (answer : Answer) → answer ≢ answers.Parts → answer_line file answer ≡ answer_line (upgraded file) answer
+unfolding answer_words
+same_line file (answers.Count planes nodes leaves numbered rows) other = refl
+same_line file (answers.Place leaf contents filled number) other = refl
+same_line file (answers.Row n) other = refl
+same_line file (answers.Sees sees) other = refl
+same_line file answers.Parts other = absurd (other refl)
+
+pub upgraded_answers : (file : TreeFile) → HaveSameAnswers file (upgraded file)
+upgraded_answers file = record { same = same_answer file; same_lines = same_line file }
