@@ -3,3 +3,5 @@ pub mod Inspected
 pub mod Orders
 pub mod Reported
 pub mod RoomSummaries
+pub mod TreesRead
+pub mod Upgrades

@@ -1,16 +1,13 @@
--- Orders that are those of some words, and what is left where memory runs out on the way.
-use Rattle.std.proofs.Common.{◌≡◌, ◌≤◌, ◌⊎◌, ℕ, List, Option, Some, None, sym, ◌∙◌, inl, inr, arith}
-use Rattle.qm_surroundings.specs.ShelfState.{ShelfState}
+-- Orders that are those of some words.
+use Rattle.std.proofs.Common.{◌≡◌, ◌≤◌, ℕ, List, Option, Some, None, sym, ◌∙◌, arith}
 use Rattle.qm_commands.specs.declared.map_command.MapCommand.{MapCommand}
 use Rattle.qm_commands.specs.declared.map_command.MapCommand.TheVariants.{Compile, Format}
 use Rattle.qm_commands.specs.FileNames.{FileNames, AreDifferent}
 use Rattle.qm_commands.specs.Options.{AreThreads}
-use Rattle.qm_commands.specs.Order.{Order, of_map, of_tree, of_rooms}
+use Rattle.qm_commands.specs.Order.{Order, of_map, of_rooms}
 use Rattle.qm_commands.specs.Words.{AreWordsOf, AreNoCommand}
 use Rattle.qm_make.specs.Workers.{HasWorkers}
-use Rattle.qm_statement.specs.Run.{IsMapCommandCutShort}
-use Rattle.qm_statement.specs.Untouched.{IsUntouched}
-use Rattle.qm_compile.specs.inner.Stopped.{IsOfWords, AreOneOrder, IsStopped}
+use Rattle.qm_compile.specs.inner.OneOrder.{IsOfWords, AreOneOrder}
 
 -- the names of a command that reads a map are different
 pub different_of : (command : MapCommand) (files : FileNames) → IsOfWords (of_map command files) → AreDifferent files
@@ -40,9 +37,3 @@ one_order words order only first second is its = only first is ∙ sym (only sec
 -- words that are no command are no order
 pub no_order : (words : List (List ℕ)) → AreNoCommand words → AreOneOrder words
 no_order words none first second is its = absurd (none first is)
-
--- memory ran out on the way of an order of the words
-pub stopped_of : (words : List (List ℕ)) (order : Order) (before after : ShelfState) → AreWordsOf order words → IsStopped order before after → IsUntouched before after ⊎ IsMapCommandCutShort words before after
-stopped_of words (of_map command files) before after is stopped = inr (command, files, is, stopped)
-stopped_of words (of_tree tree_name queries) before after is stopped = inl stopped
-stopped_of words (of_rooms rooms number) before after is stopped = inl stopped

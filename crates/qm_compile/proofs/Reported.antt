@@ -7,7 +7,7 @@ use Rattle.qm_make.specs.declared.outcome.Outcome.{Outcome}
 use Rattle.qm_make.specs.declared.outcome.Outcome.TheVariants as outcomes
 use Rattle.qm_make.specs.StatusAndText.{due_status}
 use Rattle.qm_compile.specs.declared.report.Report.{Report}
-use Rattle.qm_compile.specs.declared.report.Report.TheVariants.{Usage, OfMap, ReadFault, TreeFault, QueryRefused, Answered, SummedUp}
+use Rattle.qm_compile.specs.declared.report.Report.TheVariants.{Usage, OfFiles, ReadFault, TreeFault, QueryRefused, Answered, SummedUp}
 use Rattle.qm_compile.specs.inner.Reported.{reported_status}
 
 -- The ways in which a run ends.
@@ -24,7 +24,7 @@ module _ (words : List (List ℕ)) (before after : Surroundings) where
   answers_due : (report : Report) → EndsPrinted words before after (reported_status report) → Answers words before after (reported_status report)
   unfolding Answers
   answers_due Usage reports = reports
-  answers_due (OfMap outcome) reports = map_answers_due outcome reports
+  answers_due (OfFiles outcome) reports = map_answers_due outcome reports
   answers_due ReadFault reports = reports
   answers_due (TreeFault text) reports = reports
   answers_due (QueryRefused text) reports = reports

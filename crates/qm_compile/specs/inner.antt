@@ -1,4 +1,5 @@
 pub mod FaultLine
+pub mod FileReport
+pub mod OneOrder
 pub mod Reported
-pub mod Stopped
-pub mod TreeReport
+pub mod TreeRead

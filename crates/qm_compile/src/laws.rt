@@ -15,7 +15,8 @@ use std::alloc::Global;
 use std::thread::Threads;
 
 /// Runs the program over forms that never fail. Each command is done or runs out of memory, but for what it reads: a text may
-/// have a fault, and of `compile` an entity may leak; of `inspect` the bytes may have a fault, or a query may be refused.
+/// have a fault, and of `compile` an entity may leak; of `inspect` and `upgrade` the bytes may have a fault; of `inspect` a
+/// query may be refused.
 pub fn run_surely<R: Threads + Sync, G: Gate + Sync>(
     rt: &R,
     alloc: Global,

@@ -10,6 +10,8 @@ mod program;
 mod refusal_line;
 mod report;
 mod tree_fault_line;
+mod tree_reading;
+mod upgrading;
 
 pub use exit::exit_number;
 pub use program::run;

@@ -3,13 +3,14 @@
 ghost use Rattle.std.specs.Prelude.{IfOk, OnErr};
 ghost use Rattle.qm_shelf.specs.SeenForms.{shelf_state};
 ghost use Rattle.qm_words.specs.SeenWords.{order_of};
-ghost use Rattle.qm_statement.specs.Run.{OrderComesOf};
+ghost use Rattle.qm_statement.specs.Run.{OrderComesOf, IsStopped};
+ghost use Rattle.qm_compile.specs.inner.OneOrder.{IsOfWords};
 ghost use Rattle.qm_compile.specs.inner.Reported.{reported_status, reported_text};
-ghost use Rattle.qm_compile.specs.inner.Stopped.{IsOfWords, IsStopped};
 
 use crate::generating::sum_up_rooms;
 use crate::inspecting::inspect;
 use crate::report::Report;
+use crate::upgrading::upgrade_tree;
 use qm_commands::{MapCommand, Options};
 use qm_crew::Gate;
 use qm_make::{Files, carry_out_command};
@@ -48,7 +49,7 @@ pub fn carry_out_order<R: Threads + Sync, H: Shelf, G: Gate + Sync>(
                 out_name: out,
                 listing_name: prt,
             };
-            Ok(Report::OfMap(carry_out_command(rt, alloc, shelf, command, &files, gate)?))
+            Ok(Report::OfFiles(carry_out_command(rt, alloc, shelf, command, &files, gate)?))
         }
         Order::Format { map, out } => {
             let files = Files {
@@ -56,7 +57,7 @@ pub fn carry_out_order<R: Threads + Sync, H: Shelf, G: Gate + Sync>(
                 out_name: out,
                 listing_name: None,
             };
-            Ok(Report::OfMap(carry_out_command(
+            Ok(Report::OfFiles(carry_out_command(
                 rt,
                 alloc,
                 shelf,
@@ -69,5 +70,6 @@ pub fn carry_out_order<R: Threads + Sync, H: Shelf, G: Gate + Sync>(
         Order::Demo { rooms, number } => {
             Ok(Report::SummedUp(sum_up_rooms(rt, alloc, rooms, number, gate)?))
         }
+        Order::Upgrade { tree, out } => upgrade_tree(alloc, shelf, tree, out),
     }
 }

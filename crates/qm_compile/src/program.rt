@@ -4,10 +4,10 @@ ghost use Rattle.std.specs.Prelude.{◌⊎◌, IfOk, OnErr};
 ghost use Rattle.qm_shelf.specs.SeenForms.{surroundings, shelf_state};
 ghost use Rattle.qm_words.specs.SeenWords.{bytes_of_words};
 ghost use Rattle.qm_statement.specs.Complete.{IsComplete};
-ghost use Rattle.qm_statement.specs.Run.{Answers, Due, IsMapCommandCutShort};
+ghost use Rattle.qm_statement.specs.Run.{Answers, Due, IsCommandStopped};
 ghost use Rattle.qm_statement.specs.Untouched.{IsUntouched};
+ghost use Rattle.qm_compile.specs.inner.OneOrder.{AreOneOrder};
 ghost use Rattle.qm_compile.specs.inner.Reported.{reported_status, reported_text};
-ghost use Rattle.qm_compile.specs.inner.Stopped.{AreOneOrder};
 
 use crate::ordering::carry_out_order;
 use crate::report::Report;
@@ -53,7 +53,7 @@ fn carry_out<R: Threads + Sync, H: Shelf, G: Gate + Sync>(
         (reported_status report) (reported_text report)) }
     ensures one { IfOk result (λ _. AreOneOrder (bytes_of_words words.now)) }
     ensures memory { OnErr result (IsUntouched (shelf_state H.Shelf shelf.old) (shelf_state H.Shelf shelf.new)
-        ⊎ IsMapCommandCutShort (bytes_of_words words.now) (shelf_state H.Shelf shelf.old) (shelf_state H.Shelf shelf.new)) }
+        ⊎ IsCommandStopped (bytes_of_words words.now) (shelf_state H.Shelf shelf.old) (shelf_state H.Shelf shelf.new)) }
 {
     match read(alloc, words) {
         Ok(order) => carry_out_order(rt, alloc, shelf, order, gate),

@@ -8,8 +8,8 @@ use qm_statement::Status;
 pub enum Report {
     /// The words are no command.
     Usage,
-    /// What came of a command that reads a map.
-    OfMap(Outcome),
+    /// What came of a command that writes files.
+    OfFiles(Outcome),
     /// The tree file could not be read.
     ReadFault,
     /// The bytes are no tree file; the text is the line that says why.
@@ -31,7 +31,7 @@ impl Report {
     {
         match self {
             Report::Usage => Status::Usage,
-            Report::OfMap(outcome) => outcome.status(),
+            Report::OfFiles(outcome) => outcome.status(),
             Report::ReadFault => Status::ReadFault,
             Report::TreeFault(_) => Status::TreeFault,
             Report::QueryRefused(_) => Status::QueryRefused,
@@ -46,8 +46,8 @@ impl Report {
     {
         match self {
             Report::Usage =>
-                b"usage: qmapc compile MAP OUT [--prt FILE] [--threads N] [--fast] | inspect TREE QUERY.. | format MAP OUT | demo N NUMBER\n",
-            Report::OfMap(outcome) => outcome.text(),
+                b"usage: qmapc compile MAP OUT [--prt FILE] [--threads N] [--fast] | inspect TREE QUERY.. | format MAP OUT | demo N NUMBER | upgrade TREE OUT\n",
+            Report::OfFiles(outcome) => outcome.text(),
             Report::ReadFault => b"read fault\n",
             Report::TreeFault(line) | Report::QueryRefused(line) => line.as_bytes(),
             Report::Answered(lines) => lines.as_slice(),

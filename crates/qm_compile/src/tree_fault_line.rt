@@ -24,6 +24,8 @@ pub fn tree_fault_line(alloc: Global, fault: FileFault) -> Result<String, AllocE
         FileFault::RowForm { offset } => fault_line(alloc, 7, offset, "row form"),
         FileFault::Trailing { offset } => fault_line(alloc, 8, offset, "trailing"),
         FileFault::TooLong { offset } => fault_line(alloc, 9, offset, "too long"),
+        FileFault::HeaderForm { offset } => fault_line(alloc, 10, offset, "header form"),
+        FileFault::SectionForm { offset } => fault_line(alloc, 11, offset, "section form"),
         FileFault::Memory => Err(AllocError),
     }
 }

@@ -61,6 +61,7 @@ use Rattle.qm_statement.specs.Origins.{AreOriginsOf}
 use Rattle.qm_statement.specs.Rows.{AreRowsAsAsked}
 use Rattle.qm_statement.specs.Summary.{IsVerdict, IsSummary}
 use Rattle.qm_statement.specs.TreeOfMap.{IsTreeOfMap}
+use Rattle.qm_statement.specs.WrittenForm.{HasWrittenForm}
 use Rattle.qm_statement.proofs.LedLines.{lines_are_led}
 use Rattle.qm_compiler.specs.inner.Counted.{IsTreeOfBrushes}
 use Rattle.qm_compiler.specs.inner.Finished.{IsCount, IsFilledFile, IsFinished}
@@ -111,14 +112,15 @@ module _ (map : MapFile) (options : Options) (tree : Tree) (brushes flat : ℕ) 
   }
 
   -- an entity leaks
-  pub leaking_map : (file : TreeFile) (entity : ℕ) (trail : List ℕ) → file.tree ≡ tree → file.rows ≡ None → IsLeak tree origins entity trail → IsCompiled map options (Leak file entity trail)
+  pub leaking_map : (file : TreeFile) (entity : ℕ) (trail : List ℕ) → HasWrittenForm file → file.tree ≡ tree → file.rows ≡ None → IsLeak tree origins entity trail → IsCompiled map options (Leak file entity trail)
   unfolding IsCompiled
-  leaking_map file entity trail same no_rows leak = record {
+  leaking_map file entity trail form same no_rows leak = record {
     origins = origins;
     is_built = subst (λ (t : Tree). IsBuilt map t origins) (sym same) is_built;
     is_leak = subst (λ (t : Tree). IsLeak t origins entity trail) (sym same) leak;
     has_no_rows = no_rows;
-    is_valid = valid_without_rows file (subst IsWellMade (sym same) counted.well_made) (subst (λ (t : Tree). All IsReduced t.planes) (sym same) counted.reduced) no_rows;
+    has_form = form;
+    is_valid = valid_without_rows file form (subst IsWellMade (sym same) counted.well_made) (subst (λ (t : Tree). All IsReduced t.planes) (sym same) counted.reduced) no_rows;
   }
 
   -- none does, and these leaves are to be filled
@@ -199,7 +201,7 @@ module _ (map : MapFile) (options : Options) (tree : Tree) (brushes flat : ℕ) 
       valid : {summary : Summary} (file : TreeFile) (world : World) → IsFilledFile options sealed tree brushes flat row contacts file world summary → IsValidFile file
       valid file world made =
           let same : world.tree ≡ file.tree = ap (λ (w : World). w.tree) made.is_world ∙ sym made.is_tree in
-          valid_with_rows file
+          valid_with_rows file made.has_form
           (subst IsWellMade (sym made.is_tree) (marked_well_made row tree counted.well_made))
           (subst (λ (t : Tree). All IsReduced t.planes) (sym made.is_tree) counted.reduced)
           world made.rows same made.has_rows (leaf_rows_over options.fast options.threads world made.rows made.are_rows)
@@ -221,6 +223,7 @@ module _ (map : MapFile) (options : Options) (tree : Tree) (brushes flat : ℕ) 
             has_rows = made.has_rows;
             are_rows = made.are_rows;
             hold_sight = subst (λ (t : Tree). HoldLinesOfSight (HasContents (drawn_solids map)) t made.rows) (sym made.is_tree) (hold_sight world made.rows made.is_world made.are_rows);
+            has_form = made.has_form;
             is_valid = valid file world made;
             is_summary = subst (λ (t : Tree). IsSummary map tree origins t made.rows summary) (sym same) (is_summary world made.rows summary made.is_world made.is_count);
           }

@@ -1,6 +1,7 @@
 pub mod BuiltTrees
 pub mod CompiledMap
 pub mod FlatSoFar
+pub mod NewFiles
 pub mod NumberedCounts
 pub mod Origins
 pub mod ShownLeaves

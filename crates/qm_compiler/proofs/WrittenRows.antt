@@ -1,5 +1,5 @@
--- Trees and rows of leaves can stand in a tree file.
-use Rattle.std.proofs.Common.{◌≡◌, ◌<◌, ℕ, Bool, true, false, List, [], Option, Some, None, length, get_or, refl, sym, subst, ◌∙◌, All, arith, inl}
+-- Trees and rows of leaves can stand in a tree file of the form in which maps are compiled.
+use Rattle.std.proofs.Common.{◌≡◌, ◌<◌, ℕ, Bool, true, false, List, [], Option, Some, None, length, get_or, refl, sym, subst, ◌∙◌, All, arith, inl, inr}
 use Rattle.std.specs.Prelude.{count_by, IfSome}
 use Rattle.std.proofs.lemmas.Option.{slice_get-get_or}
 use Rattle.qm_space.specs.Reduced.{IsReduced}
@@ -10,8 +10,9 @@ use Rattle.qm_contacts.specs.NumberedLeaves.{is_numbered, numbered_leaves}
 use Rattle.qm_contacts.specs.Portals.{Portal}
 use Rattle.qm_contacts.specs.World.{World}
 use Rattle.qm_coarse_rows.specs.LeafRow.{AreLeafRows}
-use Rattle.qm_formats.specs.TreeFile.{TreeFile, AreRows, IsValidFile}
+use Rattle.qm_formats.specs.TreeFile.{Section, TreeFile, IsOfVersion, AreRows, AreSections, IsValidFile}
 use Rattle.qm_statement.specs.Rows.{AreRowsAsAsked}
+use Rattle.qm_statement.specs.WrittenForm.{HasWrittenForm}
 use Rattle.qm_compiler.proofs.NumberedCounts.{as_many_numbered}
 
 pub leaf_rows_fit : (tree : Tree) (portals : List Portal) (rows leaf_rows : List (List Bool)) → AreLeafRows portals rows (length (numbered_leaves tree)) leaf_rows → AreRows (count_by is_numbered (leaves_of tree.shape)) leaf_rows
@@ -33,14 +34,26 @@ pub leaf_rows_over : (fast : Bool) (workers : ℕ) (world : World) (rows : List 
 leaf_rows_over true workers world rows made = record { portal_rows = made.portal_rows; are = made.are_leaf_rows }
 leaf_rows_over false workers world rows made = record { portal_rows = made.portal_rows; are = made.are_leaf_rows }
 
-module _ (file : TreeFile) (well : IsWellMade file.tree) (reduced : All IsReduced file.tree.planes) where
+module _ (file : TreeFile) (form : HasWrittenForm file) (well : IsWellMade file.tree) (reduced : All IsReduced file.tree.planes) where
+  of_version : IsOfVersion file
+  of_version = inr (record { version = form.version; bound = inl form.bound })
+
+  are_sections : AreSections file.sections
+  are_sections = subst (λ (sections : List Section). AreSections sections) (sym form.no_sections) tt
+
   abbrev fits : Option (List (List Bool)) → Type 0
   fits rows = IfSome rows (AreRows (count_by is_numbered (leaves_of file.tree.shape)))
 
   pub valid_without_rows : file.rows ≡ None → IsValidFile file
-  valid_without_rows none = record { well_made = well; reduced = reduced; rows = subst fits (sym none) tt }
+  valid_without_rows none = record { of_version = of_version; well_made = well; reduced = reduced; rows = subst fits (sym none) tt; sections = are_sections }
 
   pub valid_with_rows : (world : World) (rows : List (List Bool)) → world.tree ≡ file.tree → file.rows ≡ Some rows → AreOverSome world rows → IsValidFile file
   valid_with_rows world rows same has over =
       let are = subst (λ (t : Tree). AreLeafRows world.portals over.portal_rows (length (numbered_leaves t)) rows) same over.are in
-      record { well_made = well; reduced = reduced; rows = subst fits (sym has) (leaf_rows_fit file.tree world.portals over.portal_rows rows are) }
+      record {
+        of_version = of_version;
+        well_made = well;
+        reduced = reduced;
+        rows = subst fits (sym has) (leaf_rows_fit file.tree world.portals over.portal_rows rows are);
+        sections = are_sections;
+      }

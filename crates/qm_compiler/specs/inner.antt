@@ -1,3 +1,4 @@
 pub mod Counted
 pub mod Finished
 pub mod FlatCount
+pub mod NewFile

@@ -12,11 +12,11 @@ use crate::building::{Built, build_map};
 use crate::compiled::Compiled;
 use crate::counting::count;
 use crate::entity_origins::origins_of;
+use crate::new_file::new_file;
 use qm_base::base;
 use qm_bits::BitRow;
 use qm_commands::Options;
 use qm_crew::{Gate, crew};
-use qm_file::TreeFile;
 use qm_flood::{Flood, flood};
 use qm_lists::Items;
 use qm_mapfile::MapFile;
@@ -52,10 +52,7 @@ pub fn compile<R: Threads + Sync, G: Gate + Sync>(
             finish(rt, alloc, options, gate, false, built, contacts, &filled)
         }
         Flood::Leak { entity, trail } => {
-            let file = TreeFile {
-                tree: built.tree,
-                rows: None,
-            };
+            let file = new_file(alloc, built.tree, None);
             Ok(Compiled::Leak {
                 file,
                 entity,
@@ -92,10 +89,7 @@ fn finish<R: Threads + Sync, G: Gate + Sync>(
     drop(contacts);
     let rows = rows_of(rt, alloc, &world, options, gate)?;
     let summary = count(sealed, brushes, flat, &world, rows.as_slice());
-    let file = TreeFile {
-        tree,
-        rows: Some(rows),
-    };
+    let file = new_file(alloc, tree, Some(rows));
     Ok(Compiled::Done {
         file,
         world,

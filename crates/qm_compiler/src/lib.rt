@@ -7,6 +7,7 @@ mod compiling;
 mod counting;
 mod entity_origins;
 pub mod laws;
+mod new_file;
 
 pub use compiled::Compiled;
 pub use compiling::compile;

@@ -3,4 +3,5 @@ pub mod MadeTexts
 pub mod Outcomes
 pub mod PutOuts
 pub mod ReadMeanings
+pub mod Upgrades
 pub mod Writings

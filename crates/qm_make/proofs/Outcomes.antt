@@ -2,26 +2,19 @@
 use Rattle.std.proofs.Common.{◌≡◌, ◌⊎◌, inl, inr, subst, refl, Ok}
 use Rattle.qm_surroundings.specs.ShelfState.{ShelfState}
 use Rattle.qm_surroundings.specs.ShelfChanges.{IsKept, MetNoFault}
-use Rattle.qm_surroundings.specs.WholeFiles.{HoldsTheSame, HoldsUnfinished}
 use Rattle.qm_shelf.specs.declared.shelf.ShelfFault.{ShelfFault}
 use Rattle.qm_shelf.specs.declared.shelf.ShelfFault.TheVariants.{Failed, Memory}
 use Rattle.qm_mapfile.specs.declared.entity.MapFile.{MapFile}
 use Rattle.qm_commands.specs.declared.map_command.MapCommand.{MapCommand}
 use Rattle.qm_statement.specs.declared.status.Status.TheVariants.{WriteFault}
 use Rattle.qm_commands.specs.FileNames.{FileNames}
-use Rattle.qm_statement.specs.ComesOf.{ComesOf, IsOutputOfText, HoldsPart, IsUnfinished, IsListingUnfinished, IsCutShort, write_fault, listing_fault, written}
+use Rattle.qm_statement.specs.ComesOf.{ComesOf, IsOutputOfText, IsDueInOut, IsOutUnfinished, IsListingUnfinished, IsCutShort, write_fault, listing_fault, written}
 use Rattle.qm_statement.specs.Output.{Output, IsOutputOf}
 use Rattle.qm_statement.specs.TextMeans.{TextMeans}
 use Rattle.qm_statement.specs.Texts.{write_fault_text}
+use Rattle.qm_statement.proofs.Unfinished.{unfinished_of}
 use Rattle.qm_make.specs.inner.Writing.{IsAllWritten, StopsInOut, StopsInListing}
 use Rattle.qm_make.proofs.Writings.{written_since, stopped_since, listing_stopped_since}
-
--- nothing was written
-pub kept_unfinished : (before after : ShelfState) (command : MapCommand) (files : FileNames) → IsKept before after → IsUnfinished before after command files
-kept_unfinished before after command files kept = record {
-  others = λ name other. kept name;
-  part = λ tells. inl (kept files.out_name);
-}
 
 module _ (before after : ShelfState) (command : MapCommand) (files : FileNames) (output : Output) (due : IsOutputOfText before command files output) where
   all_due : IsAllWritten before after files output → ComesOf before after command files output.status output.text
@@ -29,12 +22,9 @@ module _ (before after : ShelfState) (command : MapCommand) (files : FileNames) 
       (record { output = output; is_due = due; is_status = refl; is_text = refl; others = all.others; holds_out = all.holds_out; holds_listing = all.holds_listing })
       all.no_fault
 
-  part_of : HoldsUnfinished before after files.out_name output.file → HoldsTheSame before after files.out_name ⊎ HoldsPart before after command files
-  part_of (inl same) = inl same
-  part_of (inr part) = inr (output, due, part)
-
-  out_unfinished : (fault : ShelfFault) → StopsInOut before after files output fault → IsUnfinished before after command files
-  out_unfinished fault stops = record { others = stops.others; part = λ tells. part_of (stops.part tells) }
+  out_unfinished : (fault : ShelfFault) → StopsInOut before after files output fault → IsOutUnfinished before after command files
+  out_unfinished fault stops =
+      unfinished_of before after files.out_name (IsDueInOut before command files) output.file (output, due, refl) stops.others stops.part
 
   listing_unfinished : (fault : ShelfFault) (stops : StopsInListing before after files output fault) → IsListingUnfinished before after command files stops.name
   listing_unfinished fault stops = record {

@@ -2,10 +2,10 @@ ghost use Rattle.std.specs.Prelude.{◌≡◌};
 
 use qm_statement::Status;
 
-/// What came of a command that reads a map, before it is printed.
+/// What came of a command that writes files, before it is printed.
 #[derive(Drop)]
 pub enum Outcome {
-    /// The files are written; the text is the summary.
+    /// The files are written; the text is the summary, or the line of an upgrade.
     Done(String),
     /// The file is written, and an entity leaks; the text names it and its trail.
     Leak(String),

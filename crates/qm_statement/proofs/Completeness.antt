@@ -1,5 +1,5 @@
 -- How a command ends that meets no fault of the surroundings.
-use Rattle.std.proofs.Common.{◌≡◌, ℕ, List, Ok, Err, Result, refl, sym, subst, inl, inr, arith}
+use Rattle.std.proofs.Common.{◌≡◌, ℕ, List, Ok, Err, Result, refl, sym, ◌∙◌, ap, subst, inl, inr, arith}
 use Rattle.std.specs.Prelude.{IsTrue}
 use Rattle.qm_surroundings.specs.Counts.{Rose}
 use Rattle.qm_surroundings.specs.Surroundings.{Surroundings}
@@ -7,21 +7,30 @@ use Rattle.qm_surroundings.specs.ShelfState.{text_under}
 use Rattle.qm_mapfile.specs.declared.entity.MapFile.{MapFile}
 use Rattle.qm_grammar.specs.declared.fault.MapFault.{MapFault}
 use Rattle.qm_grammar.specs.Meaning.{IsMapText}
+use Rattle.qm_formats.specs.FileLayout.{read_file}
+use Rattle.qm_formats.specs.FileParts.{FileFaultKind}
+use Rattle.qm_formats.specs.Layout.{Decoded, got, bad}
+use Rattle.qm_formats.specs.TreeFile.{TreeFile}
+use Rattle.qm_answers.specs.AllAnswers.{AreAnswered, IsFirstRefused}
+use Rattle.qm_answers.specs.declared.query_fault.QueryFault.{QueryFault}
+use Rattle.qm_answers.proofs.Told.{not_both}
 use Rattle.qm_commands.specs.declared.map_command.MapCommand.{MapCommand}
 use Rattle.qm_commands.specs.declared.map_command.MapCommand.TheVariants.{Compile, Format}
 use Rattle.qm_commands.specs.declared.query.Query.{Query}
 use Rattle.qm_commands.specs.FileNames.{FileNames}
-use Rattle.qm_commands.specs.Order.{Order, of_map, of_tree, of_rooms}
+use Rattle.qm_commands.specs.Order.{Order, of_map, of_tree, of_rooms, of_upgrade}
 use Rattle.qm_commands.specs.Words.{AreWordsOf}
 use Rattle.qm_statement.specs.declared.status.Status.{Status}
 use Rattle.qm_statement.specs.declared.status.Status.TheVariants.{Done, Usage, Leak, MapFault as TextFault, ReadFault, WriteFault, Memory, TreeFault, QueryRefused}
 use Rattle.qm_statement.specs.ComesOf.{ComesOf, read_fault, map_fault, write_fault, listing_fault, written}
-use Rattle.qm_statement.specs.Complete.{MetNone, MayEndWhereNoneMet, NoLeakStops, EndsDoneOrShortOfMemory, IsComplete}
+use Rattle.qm_statement.specs.Complete.{MetNone, MayEndWhereNoneMet, NoLeakStops, HoldsTree, NothingStops, EndsDoneOrShortOfMemory, IsComplete}
 use Rattle.qm_statement.specs.DemoComesOf.{DemoComesOf, summed_up}
 use Rattle.qm_statement.specs.InspectComesOf.{InspectComesOf, unread, no_tree_file, refused, answered}
 use Rattle.qm_statement.specs.Output.{Output, IsOutputOf}
 use Rattle.qm_statement.specs.Run.{OrderComesOf, Due, usage, command, Answers}
 use Rattle.qm_statement.specs.TextMeans.{TextMeans}
+use Rattle.qm_statement.specs.TreeMeans.{TreeMeans}
+use Rattle.qm_statement.specs.UpgradeComesOf.{UpgradeComesOf, tree_unread, tree_fault, unwritten, upgrade_written}
 
 -- ---- what a command makes of a map is done, or leaks
 
@@ -60,27 +69,72 @@ module _ (before after : Surroundings) where
   rooms_end : (rooms number : ℕ) (status : Status) (text : List ℕ) → DemoComesOf before.shelf after.shelf rooms number status text → MayEndWhereNoneMet status (of_rooms rooms number)
   rooms_end rooms number status text (summed_up is untouched) = tt
 
+  upgrade_ends : (tree_name out_name : List ℕ) → MetNone before after (of_upgrade tree_name out_name) → (status : Status) (text : List ℕ) → UpgradeComesOf before.shelf after.shelf tree_name out_name status text → MayEndWhereNoneMet status (of_upgrade tree_name out_name)
+  upgrade_ends tree_name out_name met status text (tree_unread failed kept) = absurd (met.reading tree_name refl failed.rose)
+  upgrade_ends tree_name out_name met status text (tree_fault means untouched) = tt
+  upgrade_ends tree_name out_name met status text (unwritten means failed unfinished) = absurd (met.writing out_name refl failed.rose)
+  upgrade_ends tree_name out_name met status text (upgrade_written due written_alone unmet) = tt
+
   ends_of : (its : Order) → MetNone before after its → (status : Status) (text : List ℕ) → OrderComesOf before.shelf after.shelf its status text → MayEndWhereNoneMet status its
   ends_of (of_map its files) met status text comes = map_ends its files met status text comes
   ends_of (of_tree tree_name queries) met status text comes = tree_ends tree_name queries met status text comes
   ends_of (of_rooms rooms number) met status text comes = rooms_end rooms number status text comes
+  ends_of (of_upgrade tree_name out_name) met status text comes = upgrade_ends tree_name out_name met status text comes
 
-  module _ (its : MapCommand) (files : FileNames) (met : MetNone before after (of_map its files)) (tells : IsTrue before.shelf.tells) (map : MapFile) (means : IsMapText (text_under before.shelf files.map_name) map) (tight : NoLeakStops its map) where
+-- ---- what comes of a command that meets no fault, and that nothing stops
+
+module _ (before after : Surroundings) (tells : IsTrue before.shelf.tells) where
+  module _ (its : MapCommand) (files : FileNames) (met : MetNone before after (of_map its files)) (map : MapFile) (means : IsMapText (text_under before.shelf files.map_name) map) (tight : NoLeakStops its map) where
     -- the text means this map and nothing else
     one_meaning : (meaning : Result MapFile MapFault) → TextMeans before.shelf files.map_name meaning → Ok map ≡ meaning
     one_meaning meaning its_text = its_text.only (Ok map) (subst (λ (text : List ℕ). IsMapText text map) (sym (its_text.is_held tells)) means)
 
-    done_of : (status : Status) (text : List ℕ) → ComesOf before.shelf after.shelf its files status text → EndsDoneOrShortOfMemory status
-    done_of status text (read_fault failed kept) = absurd (met.reading files.map_name refl failed.rose)
-    done_of status text (map_fault {found = found} fails kept unmet) = absurd (let same : Ok map ≡ Err found = one_meaning (Err found) fails in cc)
-    done_of status text (write_fault its_means failed unfinished) = absurd (met.writing files.out_name (inl refl) failed.rose)
-    done_of status text (listing_fault {name = name} failed unfinished) = absurd (met.writing name (inr unfinished.is_asked) failed.rose)
-    done_of status text (written w unmet) =
+    map_done : (status : Status) (text : List ℕ) → ComesOf before.shelf after.shelf its files status text → EndsDoneOrShortOfMemory status
+    map_done status text (read_fault failed kept) = absurd (met.reading files.map_name refl failed.rose)
+    map_done status text (map_fault {found = found} fails kept unmet) = absurd (let same : Ok map ≡ Err found = one_meaning (Err found) fails in cc)
+    map_done status text (write_fault its_means failed unfinished) = absurd (met.writing files.out_name (inl refl) failed.rose)
+    map_done status text (listing_fault {name = name} failed unfinished) = absurd (met.writing name (inr unfinished.is_asked) failed.rose)
+    map_done status text (written w unmet) =
         let due = w.is_due in
         let same : Ok map ≡ Ok due.map = one_meaning (Ok due.map) due.is_meant in
         let one : map ≡ due.map = cc in
         subst EndsDoneOrShortOfMemory w.is_status
         (product_done its due.map w.output (subst (λ (m : MapFile). NoLeakStops its m) one tight) due.is_made)
+
+  module _ (tree_name : List ℕ) (file : TreeFile) (holds : HoldsTree before.shelf tree_name file) where
+    -- the bytes are this tree file and nothing else
+    one_tree : (meaning : Decoded FileFaultKind TreeFile) → TreeMeans before.shelf tree_name meaning → got file holds.end ≡ meaning
+    one_tree meaning means = sym holds.is_read ∙ ap read_file (sym (means.is_held tells)) ∙ means.means
+
+    no_fault_of_tree : (kind : FileFaultKind) (place : ℕ) → TreeMeans before.shelf tree_name (bad kind place) → ⊥
+    no_fault_of_tree kind place means = let same : got file holds.end ≡ bad kind place = one_tree (bad kind place) means in absurd cc
+
+    no_refusal : (queries : List Query) (lines : List ℕ) → AreAnswered file queries lines → (other : TreeFile) (end number : ℕ) (fault : QueryFault) → TreeMeans before.shelf tree_name (got other end) → IsFirstRefused other 1 queries number fault → ⊥
+    no_refusal queries lines are other end number fault means first =
+        let same : got file holds.end ≡ got other end = one_tree (got other end) means in
+        let one : file ≡ other = cc in
+        not_both other queries lines 1 number fault (subst (λ (f : TreeFile). AreAnswered f queries lines) one are) first
+
+    tree_done : (queries : List Query) (lines : List ℕ) → AreAnswered file queries lines → MetNone before after (of_tree tree_name queries) → (status : Status) (text : List ℕ) → InspectComesOf before.shelf after.shelf tree_name queries status text → EndsDoneOrShortOfMemory status
+    tree_done queries lines are met status text (unread failed kept) = absurd (met.reading tree_name refl failed.rose)
+    tree_done queries lines are met status text (no_tree_file {kind = kind} {place = place} means untouched) = absurd (no_fault_of_tree kind place means)
+    tree_done queries lines are met status text (refused {file = other} {end = end} {number = number} {fault = fault} means first untouched) = absurd (no_refusal queries lines are other end number fault means first)
+    tree_done queries lines are met status text (answered means its untouched) = tt
+
+    upgrade_done : (out_name : List ℕ) → MetNone before after (of_upgrade tree_name out_name) → (status : Status) (text : List ℕ) → UpgradeComesOf before.shelf after.shelf tree_name out_name status text → EndsDoneOrShortOfMemory status
+    upgrade_done out_name met status text (tree_unread failed kept) = absurd (met.reading tree_name refl failed.rose)
+    upgrade_done out_name met status text (tree_fault {kind = kind} {place = place} means untouched) = absurd (no_fault_of_tree kind place means)
+    upgrade_done out_name met status text (unwritten means failed unfinished) = absurd (met.writing out_name refl failed.rose)
+    upgrade_done out_name met status text (upgrade_written due written_alone unmet) = tt
+
+  rooms_done : (rooms number : ℕ) (status : Status) (text : List ℕ) → DemoComesOf before.shelf after.shelf rooms number status text → EndsDoneOrShortOfMemory status
+  rooms_done rooms number status text (summed_up is untouched) = tt
+
+  done_of : (its : Order) → MetNone before after its → NothingStops before.shelf its → (status : Status) (text : List ℕ) → OrderComesOf before.shelf after.shelf its status text → EndsDoneOrShortOfMemory status
+  done_of (of_map its files) met free status text comes = map_done its files met free.0 free.1 free.2 status text comes
+  done_of (of_tree tree_name queries) met free status text comes = tree_done tree_name free.0 free.1 queries free.2 free.3 met status text comes
+  done_of (of_rooms rooms number) met free status text comes = rooms_done rooms number status text comes
+  done_of (of_upgrade tree_name out_name) met free status text comes = upgrade_done tree_name free.0 free.1 out_name met status text comes
 
 -- ---- words that are one command at most
 
@@ -108,9 +162,9 @@ module _ (words : List (List ℕ)) (before after : Surroundings) (one : (order o
     ends_well TreeFault answers = ends_due TreeFault answers.0 answers.1
     ends_well QueryRefused answers = ends_due QueryRefused answers.0 answers.1
 
-  module _ (its : MapCommand) (files : FileNames) (is : AreWordsOf (of_map its files) words) (met : MetNone before after (of_map its files)) (tells : IsTrue before.shelf.tells) (map : MapFile) (means : IsMapText (text_under before.shelf files.map_name) map) (tight : NoLeakStops its map) where
+  module _ (its : Order) (is : AreWordsOf its words) (met : MetNone before after its) (tells : IsTrue before.shelf.tells) (free : NothingStops before.shelf its) where
     done_due : (status : Status) (text : List ℕ) → Due words before.shelf after.shelf status text → EndsDoneOrShortOfMemory status
-    done_due status text due = done_of before after its files met tells map means tight status text (comes (of_map its files) is met status text due)
+    done_due status text due = done_of before after tells its met free status text (comes its is met status text due)
 
     is_done : (status : Status) → Answers words before after status → EndsDoneOrShortOfMemory status
     unfolding Answers
@@ -128,14 +182,14 @@ module _ (words : List (List ℕ)) (before after : Surroundings) (one : (order o
   pub complete : (status : Status) → Answers words before after status → IsComplete words before after status
   complete status answers = record {
     ends = λ its is met. ends_well its is met status answers;
-    done = λ tells its files is met map means tight. is_done its files is met tells map means tight status answers;
+    done = λ tells its is met free. is_done its is met tells free status answers;
   }
 
 -- where memory ran out, nothing more is promised
 pub complete_short : (words : List (List ℕ)) (before after : Surroundings) → IsComplete words before after Memory
 complete_short words before after = record {
   ends = λ its is met. tt;
-  done = λ tells its files is met map means tight. tt;
+  done = λ tells its is met free. tt;
 }
 
 -- a count that is 0 after a call did not rise

@@ -1,3 +1,4 @@
 pub mod Completeness
 pub mod LedLines
 pub mod ReadAgain
+pub mod Unfinished

@@ -1,6 +1,6 @@
 use Rattle.std.specs.Prelude.{◌≡◌, ℕ, IsTrue, ◌⊎◌, List, Some, Ok, Err}
 use Rattle.qm_surroundings.specs.ShelfState.{ShelfState}
-use Rattle.qm_surroundings.specs.ShelfChanges.{IsKept, IsKeptElsewhere, MetNoFault, FailedToRead, FailedToWrite}
+use Rattle.qm_surroundings.specs.ShelfChanges.{IsKept, MetNoFault, FailedToRead, FailedToWrite}
 use Rattle.qm_surroundings.specs.WholeFiles.{HoldsTheSame, HoldsPrefix}
 use Rattle.qm_mapfile.specs.declared.entity.MapFile.{MapFile}
 use Rattle.qm_grammar.specs.declared.fault.MapFault.{MapFault}
@@ -13,6 +13,7 @@ use Rattle.qm_statement.specs.FaultText.{fault_text}
 use Rattle.qm_statement.specs.Output.{Output, IsOutputOf}
 use Rattle.qm_statement.specs.TextMeans.{TextMeans}
 use Rattle.qm_statement.specs.Texts.{read_fault_text, write_fault_text}
+use Rattle.qm_statement.specs.Unfinished.{IsUnfinished}
 use Rattle.qm_statement.specs.Written.{AreOthersKept, HoldsOut, HoldsListing}
 
 -- What comes of a command that reads MAP, writes OUT and, where a listing is asked for and no entity leaks, writes FILE
@@ -24,15 +25,14 @@ pub record IsOutputOfText (before : ShelfState) (command : MapCommand) (files : 
   pub is_meant : TextMeans before files.map_name (Ok map)
   pub is_made : IsOutputOf command map output
 
--- the file OUT has some of the first bytes of what is due in it
-abbrev pub HoldsPart : ShelfState → ShelfState → MapCommand → FileNames → Type 0
-HoldsPart before after command files = (output : Output) × IsOutputOfText before command files output × HoldsPrefix after files.out_name output.file
+-- the bytes that are due in OUT: those of what the command makes of the map that is meant
+abbrev pub IsDueInOut : ShelfState → MapCommand → FileNames → List ℕ → Type 0
+IsDueInOut before command files bytes = (output : Output) × IsOutputOfText before command files output × (output.file ≡ bytes)
 
 -- writing OUT was not begun or not ended: it is as it was or has a part of what is due in it, and every other file, FILE
 -- too, is as it was
-pub record IsUnfinished (before after : ShelfState) (command : MapCommand) (files : FileNames) : Type 0 where
-  pub others : IsKeptElsewhere before after files.out_name
-  pub part : IsTrue before.tells → HoldsTheSame before after files.out_name ⊎ HoldsPart before after command files
+abbrev pub IsOutUnfinished : ShelfState → ShelfState → MapCommand → FileNames → Type 0
+IsOutUnfinished before after command files = IsUnfinished before after files.out_name (IsDueInOut before command files)
 
 -- OUT is whole, and writing FILE was not begun or not ended: it is as it was or has some of the first bytes of the
 -- listing that is due in it; and every other file is as it was
@@ -60,7 +60,7 @@ pub record IsWritten (before after : ShelfState) (command : MapCommand) (files :
 -- memory ran out on the way: no call of the shelf failed, and OUT may be unfinished, or FILE behind a whole OUT
 pub record IsCutShort (before after : ShelfState) (command : MapCommand) (files : FileNames) : Type 0 where
   pub no_fault : MetNoFault before after
-  pub unfinished : IsUnfinished before after command files ⊎ ((name : List ℕ) × IsListingUnfinished before after command files name)
+  pub unfinished : IsOutUnfinished before after command files ⊎ ((name : List ℕ) × IsListingUnfinished before after command files name)
 
 -- what comes of it where memory does not run out: a status, and the text that is due with it
 pub data ComesOf (before after : ShelfState) (command : MapCommand) (files : FileNames) : Status → List ℕ → Type 0 where
@@ -75,7 +75,7 @@ pub data ComesOf (before after : ShelfState) (command : MapCommand) (files : Fil
   -- OUT could not be written, or not to its end
   write_fault :
       {map : MapFile} → TextMeans before files.map_name (Ok map) →
-      FailedToWrite before after files.out_name → IsUnfinished before after command files →
+      FailedToWrite before after files.out_name → IsOutUnfinished before after command files →
       ComesOf before after command files WriteFault write_fault_text
   -- OUT is whole, and FILE could not be written, or not to its end
   listing_fault :

@@ -19,5 +19,8 @@ pub mod TreeBytes
 pub mod TreeFaultText
 pub mod TreeMeans
 pub mod TreeOfMap
+pub mod Unfinished
 pub mod Untouched
+pub mod UpgradeComesOf
 pub mod Written
+pub mod WrittenForm

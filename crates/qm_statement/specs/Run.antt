@@ -2,9 +2,7 @@ use Rattle.std.specs.Prelude.{ℕ, ◌⊎◌, List, []}
 use Rattle.qm_surroundings.specs.Surroundings.{Surroundings}
 use Rattle.qm_surroundings.specs.Printing.{IsPrinted, IsPartlyPrinted, PrintedWithoutFault, FailedToPrint}
 use Rattle.qm_surroundings.specs.ShelfState.{ShelfState}
-use Rattle.qm_commands.specs.declared.map_command.MapCommand.{MapCommand}
-use Rattle.qm_commands.specs.FileNames.{FileNames}
-use Rattle.qm_commands.specs.Order.{Order, of_map, of_tree, of_rooms}
+use Rattle.qm_commands.specs.Order.{Order, of_map, of_tree, of_rooms, of_upgrade}
 use Rattle.qm_commands.specs.Words.{AreWordsOf, AreNoCommand}
 use Rattle.qm_statement.specs.declared.status.Status.{Status}
 use Rattle.qm_statement.specs.declared.status.Status.TheVariants.{Usage, WriteFault, Memory}
@@ -13,6 +11,7 @@ use Rattle.qm_statement.specs.DemoComesOf.{DemoComesOf}
 use Rattle.qm_statement.specs.InspectComesOf.{InspectComesOf}
 use Rattle.qm_statement.specs.Texts.{usage_text}
 use Rattle.qm_statement.specs.Untouched.{IsUntouched}
+use Rattle.qm_statement.specs.UpgradeComesOf.{UpgradeComesOf, IsUpgradeCutShort}
 
 -- What a run of the program does to its surroundings: to a shelf of named files and to a sink for printed text.
 
@@ -21,6 +20,15 @@ abbrev pub OrderComesOf : ShelfState → ShelfState → Order → Status → Lis
 OrderComesOf before after (of_map command files) status text = ComesOf before after command files status text
 OrderComesOf before after (of_tree tree_name queries) status text = InspectComesOf before after tree_name queries status text
 OrderComesOf before after (of_rooms rooms number) status text = DemoComesOf before after rooms number status text
+OrderComesOf before after (of_upgrade tree_name out_name) status text = UpgradeComesOf before after tree_name out_name status text
+
+-- what has become of the shelf where memory ran out on the way of a command: one that writes files was cut short, and any
+-- other has changed nothing
+abbrev pub IsStopped : Order → ShelfState → ShelfState → Type 0
+IsStopped (of_map command files) before after = IsCutShort before after command files
+IsStopped (of_tree tree_name queries) before after = IsUntouched before after
+IsStopped (of_rooms rooms number) before after = IsUntouched before after
+IsStopped (of_upgrade tree_name out_name) before after = IsUpgradeCutShort before after tree_name out_name
 
 -- what comes of the words: they are no command, and the shelf is as it was; or what comes of the command
 pub data Due (words : List (List ℕ)) (before after : ShelfState) : Status → List ℕ → Type 0 where
@@ -50,16 +58,15 @@ EndsByPrintFault words before after = FailedToPrint before.sink after.sink × Is
 abbrev pub EndsShortOfMemoryPrinting : List (List ℕ) → Surroundings → Surroundings → Type 0
 EndsShortOfMemoryPrinting words before after = PrintedWithoutFault before.sink after.sink × IsPartlyReported words before after
 
--- the words are a command that writes files, and it was cut short: it had begun to write, or had not
-abbrev pub IsMapCommandCutShort : List (List ℕ) → ShelfState → ShelfState → Type 0
-IsMapCommandCutShort words before after =
-    (command : MapCommand) × (files : FileNames) × AreWordsOf (of_map command files) words × IsCutShort before after command files
+-- the words are a command, and memory ran out on its way
+abbrev pub IsCommandStopped : List (List ℕ) → ShelfState → ShelfState → Type 0
+IsCommandStopped words before after = (order : Order) × AreWordsOf order words × IsStopped order before after
 
 -- memory ran out before a status was due, and nothing was printed: the shelf is as it was, whatever the words are, or a
--- command that writes files was cut short
+-- command was stopped on its way
 abbrev pub EndsShortOfMemoryBefore : List (List ℕ) → Surroundings → Surroundings → Type 0
 EndsShortOfMemoryBefore words before after =
-    (IsUntouched before.shelf after.shelf ⊎ IsMapCommandCutShort words before.shelf after.shelf) × IsPrinted before.sink after.sink []
+    (IsUntouched before.shelf after.shelf ⊎ IsCommandStopped words before.shelf after.shelf) × IsPrinted before.sink after.sink []
 
 -- What each answer of a run says of the surroundings before it and after it. Two answers have an end of their own beside the
 -- printed one, or in its place; with any other the text that was due was printed.

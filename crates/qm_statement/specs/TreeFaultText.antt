@@ -1,6 +1,6 @@
 use Rattle.std.specs.Prelude.{ℕ, List, ◌++◌, codes}
 use Rattle.std.specs.Fmt.{decimal}
-use Rattle.qm_formats.specs.FileParts.{FileFaultKind, short, magic, counts, plane_form, node_order, leaf_form, row_form, trailing, too_long}
+use Rattle.qm_formats.specs.FileParts.{FileFaultKind, short, magic, counts, plane_form, node_order, leaf_form, row_form, trailing, too_long, header_form, section_form}
 use Rattle.qm_statement.specs.Texts.{line}
 
 -- How the fault of a tree file is printed.
@@ -16,6 +16,8 @@ number_of_tree_fault leaf_form = 6
 number_of_tree_fault row_form = 7
 number_of_tree_fault trailing = 8
 number_of_tree_fault too_long = 9
+number_of_tree_fault header_form = 10
+number_of_tree_fault section_form = 11
 
 -- what is said of it
 abbrev pub words_of_tree_fault : FileFaultKind → List ℕ
@@ -28,6 +30,8 @@ words_of_tree_fault leaf_form = codes "leaf form"
 words_of_tree_fault row_form = codes "row form"
 words_of_tree_fault trailing = codes "trailing"
 words_of_tree_fault too_long = codes "too long"
+words_of_tree_fault header_form = codes "header form"
+words_of_tree_fault section_form = codes "section form"
 
 -- the line that is printed of a fault and its place
 unfoldable pub tree_fault_text : FileFaultKind → ℕ → List ℕ

@@ -1,7 +1,7 @@
 use Rattle.std.specs.Prelude.{ℕ, List, []}
-use Rattle.qm_formats.specs.FileParts.{short, magic, counts, plane_form, node_order, leaf_form, row_form, trailing, too_long}
+use Rattle.qm_formats.specs.FileParts.{short, magic, counts, plane_form, node_order, leaf_form, row_form, trailing, too_long, header_form, section_form}
 use Rattle.qm_file.specs.declared.file_fault.FileFault.{FileFault}
-use Rattle.qm_file.specs.declared.file_fault.FileFault.TheVariants.{Short, Magic, Counts, PlaneForm, NodeOrder, LeafForm, RowForm, Trailing, TooLong, Memory}
+use Rattle.qm_file.specs.declared.file_fault.FileFault.TheVariants.{Short, Magic, Counts, PlaneForm, NodeOrder, LeafForm, RowForm, Trailing, TooLong, HeaderForm, SectionForm, Memory}
 use Rattle.qm_statement.specs.TreeFaultText.{tree_fault_text}
 
 -- the line of a fault of decoding; want of memory is none, and has none
@@ -15,4 +15,6 @@ line_of_file_fault (LeafForm offset) = tree_fault_text leaf_form offset
 line_of_file_fault (RowForm offset) = tree_fault_text row_form offset
 line_of_file_fault (Trailing offset) = tree_fault_text trailing offset
 line_of_file_fault (TooLong offset) = tree_fault_text too_long offset
+line_of_file_fault (HeaderForm offset) = tree_fault_text header_form offset
+line_of_file_fault (SectionForm offset) = tree_fault_text section_form offset
 line_of_file_fault Memory = []

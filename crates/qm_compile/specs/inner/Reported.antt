@@ -4,14 +4,14 @@ use Rattle.qm_statement.specs.declared.status.Status.TheVariants as status
 use Rattle.qm_statement.specs.Texts.{usage_text, read_fault_text}
 use Rattle.qm_make.specs.StatusAndText.{due_status, due_text}
 use Rattle.qm_compile.specs.declared.report.Report.{Report}
-use Rattle.qm_compile.specs.declared.report.Report.TheVariants.{Usage, OfMap, ReadFault, TreeFault, QueryRefused, Answered, SummedUp}
+use Rattle.qm_compile.specs.declared.report.Report.TheVariants.{Usage, OfFiles, ReadFault, TreeFault, QueryRefused, Answered, SummedUp}
 
 -- What is reported of the words.
 
 -- the status of what came of them
 abbrev pub reported_status : Report → Status
 reported_status Usage = status.Usage
-reported_status (OfMap outcome) = due_status outcome
+reported_status (OfFiles outcome) = due_status outcome
 reported_status ReadFault = status.ReadFault
 reported_status (TreeFault text) = status.TreeFault
 reported_status (QueryRefused text) = status.QueryRefused
@@ -21,7 +21,7 @@ reported_status (SummedUp text) = status.Done
 -- the text that is printed of it
 abbrev pub reported_text : Report → List ℕ
 reported_text Usage = usage_text
-reported_text (OfMap outcome) = due_text outcome
+reported_text (OfFiles outcome) = due_text outcome
 reported_text ReadFault = read_fault_text
 reported_text (TreeFault text) = string_bytes text
 reported_text (QueryRefused text) = string_bytes text

@@ -13,6 +13,7 @@ use Rattle.qm_compiler.specs.declared.compiled.Compiled.TheVariants.{Done, Leak}
 use Rattle.qm_commands.specs.declared.options.Options.{Options}
 use Rattle.qm_statement.specs.declared.summary.Summary.{Summary}
 use Rattle.qm_statement.specs.Rows.{AreRowsAsAsked}
+use Rattle.qm_statement.specs.WrittenForm.{HasWrittenForm}
 
 -- What is made of a tree, whatever the map.
 
@@ -29,11 +30,12 @@ pub record IsCount (sealed : Bool) (brushes flat : ℕ) (world : World) (rows : 
   pub portals_is : summary.portals ≡ length world.portals / 2
   pub seen_is : summary.seen ≡ seen_of rows
 
--- the tree in which the leaves of a row are filled, with its portals, rows and counts
+-- the tree in which the leaves of a row are filled, with its portals, rows and counts, in the form in which maps are compiled
 pub record IsFilledFile (options : Options) (sealed : Bool) (tree : Tree) (brushes flat : ℕ) (row : List Bool) (contacts : Contacts) (file : TreeFile) (world : World) (summary : Summary) : Type 0 where
   pub is_tree : file.tree ≡ marked_tree row tree
   pub are_contacts : AreContacts (marked_tree row tree) contacts
   pub is_world : world ≡ record { tree = marked_tree row tree; portals = portals_of (marked_tree row tree) contacts.touchings }
+  pub has_form : HasWrittenForm file
   pub rows : List (List Bool)
   pub has_rows : file.rows ≡ Some rows
   pub are_rows : AreRowsAsAsked options.fast options.threads world rows

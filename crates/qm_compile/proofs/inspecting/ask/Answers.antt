@@ -1,6 +1,6 @@
 use Rattle.std.proofs.Common.{ℕ, List, sym, subst}
 use Rattle.qm_statement.specs.declared.status.Status.TheVariants.{QueryRefused}
-use Rattle.qm_compile.specs.inner.TreeReport.{IsFileReport, refusal, all_lines}
+use Rattle.qm_compile.specs.inner.FileReport.{IsFileReport, refusal, all_lines}
 use Rattle.qm_compile.proofs.inspecting.ask.Goals as goal
 
 pub returns-in-Lines : goal.returns-in-Lines

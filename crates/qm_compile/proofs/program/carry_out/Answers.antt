@@ -1,9 +1,9 @@
-use Rattle.std.proofs.Common.{Err, refl, ap, inl}
+use Rattle.std.proofs.Common.{Err, refl, ap, inl, inr}
 use Rattle.std.proofs.lemmas.Result.{IfOk-weaker, on_err_weaker}
 use Rattle.qm_words.specs.declared.order.WordsFault.{WordsFault}
 use Rattle.qm_words.specs.SeenWords.{bytes_of_words, order_of}
 use Rattle.qm_statement.specs.Run.{usage, command}
-use Rattle.qm_compile.proofs.Orders.{one_order, no_order, stopped_of}
+use Rattle.qm_compile.proofs.Orders.{one_order, no_order}
 use Rattle.qm_compile.proofs.program.carry_out.Goals as goal
 
 pub carry_out_order-requires-clause-of_words : goal.carry_out_order-requires-clause-of_words
@@ -19,7 +19,7 @@ returns-in-Ok-clause-one g c =
 
 pub returns-in-Ok-clause-memory : goal.returns-in-Ok-clause-memory
 returns-in-Ok-clause-memory g c =
-    on_err_weaker c.carry_out_order.result (stopped_of (bytes_of_words c.args.words.now) (order_of c.in-Ok.order) _ _ c.in-Ok.ensures.order) c.carry_out_order.ensures.memory
+    on_err_weaker c.carry_out_order.result (λ stopped. inr (order_of c.in-Ok.order, c.in-Ok.ensures.order, stopped)) c.carry_out_order.ensures.memory
 
 pub returns-in-Err-Usage-clause-due : goal.returns-in-Err-Usage-clause-due
 returns-in-Err-Usage-clause-due g c =

@@ -4,9 +4,10 @@ use Rattle.qm_shelf.specs.FaultMeans.{ReadFaultMeans}
 use Rattle.qm_shelf.specs.declared.shelf.ShelfFault.{ShelfFault}
 use Rattle.qm_statement.specs.declared.status.Status.TheVariants.{MapFault}
 use Rattle.qm_make.specs.SeenFiles.{file_names}
-use Rattle.qm_statement.specs.ComesOf.{ComesOf, read_fault, map_fault}
+use Rattle.qm_statement.specs.ComesOf.{ComesOf, IsDueInOut, read_fault, map_fault}
 use Rattle.qm_statement.specs.FaultText.{fault_text}
-use Rattle.qm_make.proofs.Outcomes.{kept_unfinished, written_due, write_fault_due, cut_short}
+use Rattle.qm_statement.proofs.Unfinished.{kept_unfinished}
+use Rattle.qm_make.proofs.Outcomes.{written_due, write_fault_due, cut_short}
 use Rattle.qm_make.proofs.ReadMeanings.{text_means}
 use Rattle.qm_make.proofs.carrying_out.carry_out_command.Goals as goal
 
@@ -21,10 +22,11 @@ pub returns-in-Err-Memory-clause-memory : goal.returns-in-Err-Memory-clause-memo
 returns-in-Err-Memory-clause-memory g c =
     let before = shelf_state g.H.Shelf c.args.shelf.now in
     let after = shelf_state g.H.Shelf c.read_whole.new.shelf in
+    let files = file_names c.args.files.now in
     let told = c.in-Err-Memory.ensures in
     record {
       no_fault = subst (λ (fault : ShelfFault). ReadFaultMeans before after c.args.files.now.map_name.now fault) c.in-Err-Memory.field-0-is told.err;
-      unfinished = inl (kept_unfinished before after c.args.command (file_names c.args.files.now) told.kept);
+      unfinished = inl (kept_unfinished before after files.out_name (IsDueInOut before c.args.command files) told.kept);
     }
 
 pub returns-in-Fault-clause-due : goal.returns-in-Fault-clause-due
