@@ -19,4 +19,6 @@ mod words;
 pub use entity_origin::EntityOrigin;
 pub use qm_grammar::MapFault;
 pub use qm_mapfile::{Brush, Entity, Face, MapFile, Mapping, Pair, Text};
-pub use text::parse;
+pub use reader::Reader;
+pub use stop::Stop;
+pub use text::{fault_of, parse};

@@ -23,7 +23,7 @@ use std::mem;
 
 /// Takes the tokens of a map one by one. Contracts see it as what the tokens so far have spelled.
 #[derive(Drop)]
-pub(crate) struct Reader {
+pub struct Reader {
     alloc: Global,
     context: Context,
     entities: Vec<Entity>,
@@ -68,7 +68,7 @@ impl Model for Reader {
 
 impl Reader {
     /// Before the first token.
-    pub(crate) fn new(alloc: Global) -> Result<Reader, AllocError>
+    pub fn new(alloc: Global) -> Result<Reader, AllocError>
         ensures { IfOk result (λ reader. reader ≡ between_entities []) }
     {
         let empties = Empties::new(alloc)?;
@@ -89,14 +89,14 @@ impl Reader {
     }
 
     /// Where in a map it stands.
-    pub(crate) fn context(&self) -> Context
+    pub fn context(&self) -> Context
         ensures { result ≡ self.now.context }
     {
         self.context
     }
 
     /// The map of the entities that have ended.
-    pub(crate) fn into_map(self) -> MapFile
+    pub fn into_map(self) -> MapFile
         ensures { result ≡ record { entities = self.entities } }
     {
         let Reader { entities, .. } = self;
@@ -107,7 +107,7 @@ impl Reader {
 
     /// Takes the next token, of this kind and with these bytes.
     #[tactic(auto, unfolding(qm_grammar::specs::inner::Machine::step))]
-    pub(crate) fn accept(&mut self, kind: TokenKind, bytes: &[u8]) -> Result<(), Stop>
+    pub fn accept(&mut self, kind: TokenKind, bytes: &[u8]) -> Result<(), Stop>
         ensures { IsStep result self.new (step self.old (record { kind = kind; bytes = bytes.now })) }
     {
         let sort = sort_of(kind, bytes);

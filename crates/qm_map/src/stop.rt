@@ -5,7 +5,7 @@ use qm_grammar::Refusal;
 use std::alloc::{AllocError, AllocFailed};
 
 /// Why a token does not lead further.
-pub(crate) enum Stop {
+pub enum Stop {
     /// It is refused.
     Refused(Refusal),
     /// Memory ran out.

@@ -19,7 +19,7 @@ use qm_tokens::{LexFault, Token, TokenKind};
 use std::alloc::Global;
 
 /// The fault of a refused token on a line.
-fn fault_of(reason: Refusal, line: u64) -> MapFault
+pub fn fault_of(reason: Refusal, line: u64) -> MapFault
     ensures { result ≡ fault_of reason line }
 {
     match reason {

@@ -1,0 +1,10 @@
+pub mod TextsSoFar
+pub mod Letters
+pub mod EndedTokens
+pub mod ShortTexts
+pub mod Certainty
+pub mod CertainLaws
+pub mod ShiftedTexts
+pub mod FirstTokens
+pub mod Lexers
+pub mod ReadersSoFar
