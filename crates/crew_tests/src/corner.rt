@@ -2,7 +2,7 @@
 
 use crate::runs::{corner_rooms, crewed, has};
 use qm_bits::BitRow;
-use qm_crew::OpenGate;
+use qm_crew::{Gate, OpenGate};
 use qm_lists::Items;
 use qm_portal::World;
 use qm_rows::leaf_rows;
@@ -42,6 +42,19 @@ fn are_turns(turns: &[Items<u64>], workers: u8) -> bool {
     turns.len() == usize::from(workers) && all_stand && (workers != 1 || in_order)
 }
 
+/// Whether so many workers find the rows, and answer turns of all portals.
+pub(crate) fn are_found<R: Threads + Sync, G: Gate + Sync>(
+    rt: &R,
+    alloc: Global,
+    world: &World,
+    workers: u8,
+    gate: &G,
+) -> Result<bool, AllocError> {
+    let found = crewed(rt, alloc, world, workers, gate)?;
+    let rows = leaf_rows(alloc, world, found.rows.as_slice())?;
+    Ok(are_rows(rows.as_slice()) && are_turns(found.turns.as_slice(), workers))
+}
+
 /// Whether the answers of so many runs are right.
 fn hold<R: Threads + Sync>(
     rt: &R,
@@ -52,9 +65,7 @@ fn hold<R: Threads + Sync>(
 ) -> Result<bool, AllocError> {
     let mut right = true;
     for _ in 0..runs {
-        let found = crewed(rt, alloc, world, workers, &OpenGate)?;
-        let rows = leaf_rows(alloc, world, found.rows.as_slice())?;
-        right &= are_rows(rows.as_slice()) && are_turns(found.turns.as_slice(), workers);
+        right &= are_found(rt, alloc, world, workers, &OpenGate)?;
     }
     Ok(right)
 }

@@ -18,19 +18,26 @@ fn has_come(count: &AtomicU64, number: u64) -> bool {
     false
 }
 
-/// A gate that holds the first portal drawn until a second worker has come.
+/// A gate that holds the worker of the first portal drawn until so many portals were drawn.
 #[derive(Drop)]
-pub(crate) struct TwoCome {
-    came: AtomicU64,
+pub(crate) struct FirstHeld {
+    until: u64,
+    drawn: AtomicU64,
     alone: AtomicU64,
 }
 
-impl TwoCome {
-    pub(crate) fn new() -> TwoCome {
-        TwoCome {
-            came: AtomicU64::new(0),
+impl FirstHeld {
+    pub(crate) fn until(drawn: u64) -> FirstHeld {
+        FirstHeld {
+            until: drawn,
+            drawn: AtomicU64::new(0),
             alone: AtomicU64::new(0),
         }
+    }
+
+    /// How many portals were drawn.
+    pub(crate) fn drawn(&self) -> u64 {
+        self.drawn.load(Ordering::SeqCst)
     }
 
     /// Whether a worker was held to the end.
@@ -39,10 +46,10 @@ impl TwoCome {
     }
 }
 
-impl Gate for TwoCome {
+impl Gate for FirstHeld {
     fn at(&self, _portal: u64) {
-        let before = self.came.fetch_add(1, Ordering::SeqCst);
-        if before == 0 && !has_come(&self.came, 2) {
+        let before = self.drawn.fetch_add(1, Ordering::SeqCst);
+        if before == 0 && !has_come(&self.drawn, self.until) {
             self.alone.store(1, Ordering::SeqCst);
         }
     }

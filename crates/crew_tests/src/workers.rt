@@ -1,6 +1,7 @@
 //! Workers beside one another: that more than one comes, and that one is given what another has published.
 
-use crate::gates::{OneBeforeOther, TwoCome};
+use crate::corner::are_found;
+use crate::gates::{FirstHeld, OneBeforeOther};
 use crate::runs::{corner_rooms, crewed, has, portal_between};
 use qm_base::base;
 use qm_bits::BitRow;
@@ -9,18 +10,37 @@ use std::alloc::{AllocError, Global};
 use std::test::Fail;
 use std::thread::Threads;
 
-/// How many workers may come beside one another.
-static WORKERS: [u8; 4] = [2, 3, 4, 64];
+/// How many workers there are, and until how many of the eight portals are drawn the first worker is held: until a second worker
+/// has come, or until the others have drawn all that is left.
+static HELD: [(u8, u64); 7] = [(2, 2), (3, 2), (4, 2), (64, 2), (2, 8), (4, 8), (64, 8)];
 
-/// A second worker comes while the first is held.
+/// How many runs of each.
+const RUNS: u64 = 10;
+
+/// Whether in each run as many portals were drawn in time, each portal was drawn once, and rows and turns are right.
+fn come_in_time<R: Threads + Sync>(
+    rt: &R,
+    alloc: Global,
+    world: &World,
+    workers: u8,
+    until: u64,
+) -> Result<bool, AllocError> {
+    let mut right = true;
+    for _ in 0..RUNS {
+        let gate = FirstHeld::until(until);
+        right &= are_found(rt, alloc, world, workers, &gate)?;
+        right &= !gate.is_alone() && gate.drawn() == world.portals();
+    }
+    Ok(right)
+}
+
+/// A second worker comes while the first is held, and rows are right though one worker is held to the end.
 #[test]
-fn second_worker_comes(rt: HostRuntime) -> Result<(), Fail> {
+fn others_come_while_one_is_held(rt: HostRuntime) -> Result<(), Fail> {
     let world = corner_rooms(rt.alloc())?;
     let mut right = true;
-    for workers in &WORKERS {
-        let gate = TwoCome::new();
-        crewed(&rt, rt.alloc(), &world, *workers, &gate)?;
-        right &= !gate.is_alone();
+    for (workers, until) in &HELD {
+        right &= come_in_time(&rt, rt.alloc(), &world, *workers, *until)?;
     }
     assert!(rt; right);
     Ok(())

@@ -2,12 +2,11 @@
 
 ghost use Rattle.std.specs.Prelude.{◌≡◌, [], length, IfOk};
 ghost use Rattle.std.specs.List.{range_with_len};
-ghost use Rattle.qm_board.specs.PassOf.{world_of, findings_of, IsPassOf};
+ghost use Rattle.qm_board.specs.PassOf.{findings_of};
+ghost use Rattle.qm_crew.specs.inner.PassOver.{IsPassOver};
 ghost use Rattle.qm_crew.specs.inner.TurnsTaken.{LieAlong};
 
-use crate::gate::OpenGate;
-use crate::settling::Settling;
-use crate::turn::take_turn;
+use crate::settling::{Settling, append_turn};
 use qm_board::{Pass, RowBoard};
 use qm_portal::World;
 use std::alloc::{AllocError, Global};
@@ -19,20 +18,18 @@ pub(crate) fn work_alone(
     board: &RowBoard,
     pass: Pass,
 ) -> Result<Settling, AllocError>
-    requires same_world { world_of board.now ≡ world.now }
-    requires pass { IsPassOf board.now pass }
+    requires pass { IsPassOver world.now board.now pass }
     requires along { LieAlong world.now (findings_of pass) [] }
-    ensures pass { IfOk result (λ ended. IsPassOf board.now ended.pass) }
+    ensures pass { IfOk result (λ ended. IsPassOver world.now board.now ended.pass) }
     ensures first { IfOk result (λ ended. ended.first.items ≡ range_with_len 0 (length world.now.portals)) }
     ensures along { IfOk result (λ ended. LieAlong world.now (findings_of ended.pass) ended.first.items) }
 {
-    let mut first = Vec::new(alloc);
-    let mut pass = pass;
+    let mut settling = Settling {
+        pass,
+        first: Vec::new(alloc),
+    };
     for portal in 0..world.portals() {
-        let (after, taken) = take_turn(alloc, world, board, &OpenGate, pass, portal);
-        taken?;
-        pass = after;
-        first.push(portal)?;
+        settling = append_turn(alloc, world, board, settling, portal)?;
     }
-    Ok(Settling { pass, first })
+    Ok(settling)
 }

@@ -6,8 +6,9 @@ ghost use Rattle.qm_contacts.specs.NumberedLeaves.{numbered_leaves};
 ghost use Rattle.qm_coarse_rows.specs.CoarseRow.{AreCoarseRows};
 ghost use Rattle.qm_segments.specs.Sight.{AreSoundRows};
 ghost use Rattle.qm_chains.specs.TurnLists.{AreTurns, LieInReuseOver};
-ghost use Rattle.qm_board.specs.PassOf.{world_of, findings_of, IsPassOf};
+ghost use Rattle.qm_board.specs.PassOf.{findings_of};
 ghost use Rattle.qm_crew.specs.InBounds.{LieInBounds};
+ghost use Rattle.qm_crew.specs.inner.PassOver.{IsPassOver};
 ghost use Rattle.qm_crew.specs.inner.TurnsTaken.{LieAlong, AreFinished};
 
 use crate::alone::work_alone;
@@ -75,10 +76,9 @@ fn work<R: Threads + Sync, G: Gate + Sync>(
     gate: &G,
 ) -> Result<Finished, AllocError>
     requires some { 1 ≤ workers }
-    requires same_world { world_of board.now ≡ world.now }
-    requires pass { IsPassOf board.now pass }
+    requires pass { IsPassOver world.now board.now pass }
     requires along { LieAlong world.now (findings_of pass) [] }
-    ensures pass { IfOk result (λ all. IsPassOf board.now all.pass) }
+    ensures pass { IfOk result (λ all. IsPassOver world.now board.now all.pass) }
     ensures finished { IfOk result (λ all. AreFinished world.now (findings_of all.pass) workers all.turns) }
 {
     if workers == 1 {
@@ -94,10 +94,9 @@ fn work_by_one(
     board: &RowBoard,
     pass: Pass,
 ) -> Result<Finished, AllocError>
-    requires same_world { world_of board.now ≡ world.now }
-    requires pass { IsPassOf board.now pass }
+    requires pass { IsPassOver world.now board.now pass }
     requires along { LieAlong world.now (findings_of pass) [] }
-    ensures pass { IfOk result (λ all. IsPassOf board.now all.pass) }
+    ensures pass { IfOk result (λ all. IsPassOver world.now board.now all.pass) }
     ensures finished { IfOk result (λ all. AreFinished world.now (findings_of all.pass) 1 all.turns) }
 {
     let Settling { pass, first } = work_alone(alloc, world, board, pass)?;
@@ -116,10 +115,9 @@ fn work_by_several<R: Threads + Sync, G: Gate + Sync>(
     gate: &G,
 ) -> Result<Finished, AllocError>
     requires several { 1 < workers }
-    requires same_world { world_of board.now ≡ world.now }
-    requires pass { IsPassOf board.now pass }
+    requires pass { IsPassOver world.now board.now pass }
     requires along { LieAlong world.now (findings_of pass) [] }
-    ensures pass { IfOk result (λ all. IsPassOf board.now all.pass) }
+    ensures pass { IfOk result (λ all. IsPassOver world.now board.now all.pass) }
     ensures finished { IfOk result (λ all. AreFinished world.now (findings_of all.pass) workers all.turns) }
 {
     let Team {

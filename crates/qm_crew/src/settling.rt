@@ -1,9 +1,10 @@
-//! Once workers have returned: what is left is done by the caller.
+//! Turns that the caller takes itself: once workers have returned, what is left.
 
-ghost use Rattle.std.specs.Prelude.{◌≡◌, ◌⊎◌, ℕ, ◌+◌, ◌<◌, ◌∷◌, All, length, Contains, IfOk};
+ghost use Rattle.std.specs.Prelude.{◌≡◌, ◌⊎◌, ℕ, ◌+◌, ◌<◌, [], ◌∷◌, ◌++◌, All, length, Contains, IfOk};
 ghost use Rattle.qm_lists.specs.WorkList.{IsIn};
-ghost use Rattle.qm_board.specs.PassOf.{world_of, findings_of, IsPassOf};
-ghost use Rattle.qm_crew.specs.inner.TurnsTaken.{IsInSomeList, AreSettled};
+ghost use Rattle.qm_board.specs.PassOf.{findings_of};
+ghost use Rattle.qm_crew.specs.inner.PassOver.{IsPassOver};
+ghost use Rattle.qm_crew.specs.inner.TurnsTaken.{HadTurn, IsInSomeList, AreSettled};
 
 use crate::gate::OpenGate;
 use crate::turn::take_turn;
@@ -20,6 +21,27 @@ pub(crate) struct Settling {
     pub(crate) first: Vec<u64>,
 }
 
+/// Takes the turn of a portal, and appends it to the first list.
+pub(crate) fn append_turn(
+    alloc: Global,
+    world: &World,
+    board: &RowBoard,
+    settling: Settling,
+    portal: u64,
+) -> Result<Settling, AllocError>
+    requires pass { IsPassOver world.now board.now settling.pass }
+    requires portal_in_range { portal < length world.now.portals }
+    ensures pass { IfOk result (λ ended. IsPassOver world.now board.now ended.pass) }
+    ensures turn { IfOk result (λ ended. HadTurn world.now portal (findings_of settling.pass) (findings_of ended.pass)) }
+    ensures appended { IfOk result (λ ended. ended.first.items ≡ settling.first.items ++ portal ∷ []) }
+{
+    let Settling { pass, mut first } = settling;
+    let (pass, taken) = take_turn(alloc, world, board, &OpenGate, pass, portal);
+    taken?;
+    first.push(portal)?;
+    Ok(Settling { pass, first })
+}
+
 /// Looks for each portal that is not done, or stands in no list. It takes the turns of these in order, and appends each to the
 /// first list.
 pub(crate) fn settle(
@@ -29,10 +51,9 @@ pub(crate) fn settle(
     begun: Settling,
     others: &[Items<u64>],
 ) -> Result<Settling, AllocError>
-    requires same_world { world_of board.now ≡ world.now }
-    requires pass { IsPassOf board.now begun.pass }
+    requires pass { IsPassOver world.now board.now begun.pass }
     requires settled { AreSettled world.now (findings_of begun.pass) begun.first.items others.now 0 }
-    ensures pass { IfOk result (λ ended. IsPassOf board.now ended.pass) }
+    ensures pass { IfOk result (λ ended. IsPassOver world.now board.now ended.pass) }
     ensures settled { IfOk result (λ ended. AreSettled world.now (findings_of ended.pass) ended.first.items others.now (length world.now.portals)) }
 {
     let listed = listed(alloc, world, begun.first.as_slice(), others)?;
@@ -48,12 +69,11 @@ fn settle_each(
     others: &[Items<u64>],
     listed: &BitRow,
 ) -> Result<Settling, AllocError>
-    requires same_world { world_of board.now ≡ world.now }
     requires long { length listed.now ≡ length world.now.portals }
     requires stands { (number : ℕ) → IsIn listed.now number → IsInSomeList (begun.first.items ∷ others.now) number }
-    requires pass { IsPassOf board.now begun.pass }
+    requires pass { IsPassOver world.now board.now begun.pass }
     requires settled { AreSettled world.now (findings_of begun.pass) begun.first.items others.now 0 }
-    ensures pass { IfOk result (λ ended. IsPassOf board.now ended.pass) }
+    ensures pass { IfOk result (λ ended. IsPassOver world.now board.now ended.pass) }
     ensures settled { IfOk result (λ ended. AreSettled world.now (findings_of ended.pass) ended.first.items others.now (length world.now.portals)) }
 {
     let mut settling = begun;
@@ -73,29 +93,23 @@ fn settle_one(
     listed: &BitRow,
     portal: u64,
 ) -> Result<Settling, AllocError>
-    requires same_world { world_of board.now ≡ world.now }
     requires portal_in_range { portal < length world.now.portals }
     requires long { length listed.now ≡ length world.now.portals }
     requires stands { IsIn listed.now portal → IsInSomeList (settling.first.items ∷ others.now) portal }
-    requires pass { IsPassOf board.now settling.pass }
+    requires pass { IsPassOver world.now board.now settling.pass }
     requires settled { AreSettled world.now (findings_of settling.pass) settling.first.items others.now portal }
-    ensures pass { IfOk result (λ ended. IsPassOf board.now ended.pass) }
+    ensures pass { IfOk result (λ ended. IsPassOver world.now board.now ended.pass) }
     ensures settled { IfOk result (λ ended. AreSettled world.now (findings_of ended.pass) ended.first.items others.now (portal + 1)) }
     ensures gained { IfOk result (λ ended. (number : ℕ) → IsInSomeList (settling.first.items ∷ others.now) number → IsInSomeList (ended.first.items ∷ others.now) number) }
 {
-    let Settling {
-        mut pass,
-        mut first,
-    } = settling;
+    let Settling { mut pass, first } = settling;
     let stands = listed.get(portal);
     let done = board.is_done(&mut pass, portal);
+    let settling = Settling { pass, first };
     if done && stands {
-        return Ok(Settling { pass, first });
+        return Ok(settling);
     }
-    let (pass, taken) = take_turn(alloc, world, board, &OpenGate, pass, portal);
-    taken?;
-    first.push(portal)?;
-    Ok(Settling { pass, first })
+    append_turn(alloc, world, board, settling, portal)
 }
 
 /// Which portals stand in a list.

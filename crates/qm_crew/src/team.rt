@@ -3,7 +3,8 @@
 ghost use Rattle.std.specs.Prelude.{◌≡◌, ◌∷◌, ◌++◌, ◌+◌, ◌<◌, [], IfOk};
 ghost use Rattle.qm_shared_rows.specs.Findings.{found_by_both};
 ghost use Rattle.std.specs.Thread.{IsSync};
-ghost use Rattle.qm_board.specs.PassOf.{world_of, findings_of, IsPassOf};
+ghost use Rattle.qm_board.specs.PassOf.{findings_of, IsPassOf};
+ghost use Rattle.qm_crew.specs.inner.PassOver.{IsPassOver};
 ghost use Rattle.qm_crew.specs.inner.TurnsTaken.{LieAlong, AreWorkLists};
 
 use crate::gate::Gate;
@@ -34,10 +35,9 @@ pub(crate) fn work_all<R: Threads + Sync, G: Gate + Sync>(
     count: u8,
 ) -> Result<Team, AllocError>
     requires some { 0 < count }
-    requires same_world { world_of board.now ≡ world.now }
-    requires pass { IsPassOf board.now pass }
+    requires pass { IsPassOver world.now board.now pass }
     requires along { LieAlong world.now (findings_of pass) [] }
-    ensures pass { IfOk result (λ team. IsPassOf board.now team.pass) }
+    ensures pass { IfOk result (λ team. IsPassOver world.now board.now team.pass) }
     ensures lists { IfOk result (λ team. AreWorkLists world.now (findings_of team.pass) count (team.first.items ∷ team.others.items)) }
 {
     if count == 1 {
@@ -63,22 +63,21 @@ fn both_halves<R: Threads + Sync, G: Gate + Sync>(
     high: u8,
 ) -> Result<Team, AllocError>
     requires some { (0 < low) × (0 < high) }
-    requires same_world { world_of board.now ≡ world.now }
-    requires pass { IsPassOf board.now pass }
-    requires other { IsPassOf board.now other }
+    requires pass { IsPassOver world.now board.now pass }
+    requires other { IsPassOver world.now board.now other }
     requires along { LieAlong world.now (findings_of pass) [] }
     requires other_along { LieAlong world.now (findings_of other) [] }
-    ensures pass { IfOk result (λ team. IsPassOf board.now team.pass) }
+    ensures pass { IfOk result (λ team. IsPassOver world.now board.now team.pass) }
     ensures lists { IfOk result (λ team. AreWorkLists world.now (findings_of team.pass) (low + high) (team.first.items ∷ team.others.items)) }
 {
     let front = move || -> Result<Team, AllocError>
-        requires { IsSync R.row × IsSync G.row × (0 < low) × (world_of board.now ≡ world.now) × IsPassOf board.now pass × LieAlong world.now (findings_of pass) [] }
-        ensures pass { IfOk result (λ team. IsPassOf board.entry.now team.pass) }
+        requires { IsSync R.row × IsSync G.row × (0 < low) × IsPassOver world.now board.now pass × LieAlong world.now (findings_of pass) [] }
+        ensures pass { IfOk result (λ team. IsPassOver world.entry.now board.entry.now team.pass) }
         ensures lists { IfOk result (λ team. AreWorkLists world.entry.now (findings_of team.pass) low (team.first.items ∷ team.others.items)) }
     { work_all(rt, alloc, world, board, gate, pass, low) };
     let back = move || -> Result<Team, AllocError>
-        requires { IsSync R.row × IsSync G.row × (0 < high) × (world_of board.now ≡ world.now) × IsPassOf board.now other × LieAlong world.now (findings_of other) [] }
-        ensures pass { IfOk result (λ team. IsPassOf board.entry.now team.pass) }
+        requires { IsSync R.row × IsSync G.row × (0 < high) × IsPassOver world.now board.now other × LieAlong world.now (findings_of other) [] }
+        ensures pass { IfOk result (λ team. IsPassOver world.entry.now board.entry.now team.pass) }
         ensures lists { IfOk result (λ team. AreWorkLists world.entry.now (findings_of team.pass) high (team.first.items ∷ team.others.items)) }
     { work_all(rt, alloc, world, board, gate, other, high) };
     let (one, two) = join(rt, front, back);

@@ -8,7 +8,8 @@ ghost use Rattle.qm_segments.specs.Sight.{IsSoundRow};
 ghost use Rattle.qm_chains.specs.Shown.{IsAt, IsShown};
 ghost use Rattle.qm_sight.specs.InCeiling.{IsInCeiling};
 ghost use Rattle.qm_board.specs.Ceilings.{ceiling_rows};
-ghost use Rattle.qm_board.specs.PassOf.{world_of, findings_of, IsPassOf};
+ghost use Rattle.qm_board.specs.PassOf.{findings_of};
+ghost use Rattle.qm_crew.specs.inner.PassOver.{IsPassOver};
 ghost use Rattle.qm_crew.specs.inner.TurnsTaken.{IsNarrower, HadTurn};
 
 use crate::gate::Gate;
@@ -28,10 +29,9 @@ pub(crate) fn take_turn<G: Gate>(
     pass: Pass,
     portal: u64,
 ) -> (Pass, Result<(), AllocError>)
-    requires same_world { world_of board.now ≡ world.now }
-    requires pass { IsPassOf board.now pass }
+    requires pass { IsPassOver world.now board.now pass }
     requires portal_in_range { portal < length world.now.portals }
-    ensures pass { IsPassOf board.now result.0 }
+    ensures pass { IsPassOver world.now board.now result.0 }
     ensures narrower { IsNarrower world.now (findings_of pass) (findings_of result.0) }
     ensures turn { OnOk result.1 (HadTurn world.now portal (findings_of pass) (findings_of result.0)) }
 {
@@ -54,10 +54,9 @@ fn flow_on<G: Gate>(
     pass: Pass,
     portal: u64,
 ) -> (Pass, Result<BitRow, AllocError>)
-    requires same_world { world_of board.now ≡ world.now }
-    requires pass { IsPassOf board.now pass }
+    requires pass { IsPassOver world.now board.now pass }
     requires portal_in_range { portal < length world.now.portals }
-    ensures pass { IsPassOf board.now result.0 }
+    ensures pass { IsPassOver world.now board.now result.0 }
     ensures narrower { IsNarrower world.now (findings_of pass) (findings_of result.0) }
     ensures wide { IfOk result.1 (λ row. length row ≡ length (numbered_leaves world.now.tree)) }
     ensures sound { IfOk result.1 (λ row. (first : Portal) → IsAt world.now.portals portal first → IsSoundRow world.now.tree first row) }

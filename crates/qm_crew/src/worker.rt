@@ -1,7 +1,8 @@
 //! The work of one worker: it draws portals, and takes the turn of each.
 
 ghost use Rattle.std.specs.Prelude.{◌≡◌, []};
-ghost use Rattle.qm_board.specs.PassOf.{world_of, findings_of, IsPassOf};
+ghost use Rattle.qm_board.specs.PassOf.{findings_of};
+ghost use Rattle.qm_crew.specs.inner.PassOver.{IsPassOver};
 ghost use Rattle.qm_crew.specs.inner.TurnsTaken.{LieAlong, IsWorkBelow, IsWorkList};
 
 use crate::gate::Gate;
@@ -27,10 +28,9 @@ pub(crate) fn work<G: Gate>(
     gate: &G,
     pass: Pass,
 ) -> Worker
-    requires same_world { world_of board.now ≡ world.now }
-    requires pass { IsPassOf board.now pass }
+    requires pass { IsPassOver world.now board.now pass }
     requires along { LieAlong world.now (findings_of pass) [] }
-    ensures pass { IsPassOf board.now result.pass }
+    ensures pass { IsPassOver world.now board.now result.pass }
     ensures work { IsWorkList world.now (findings_of result.pass) result.list.items }
 {
     let mut worker = Worker {
@@ -56,10 +56,9 @@ fn step<G: Gate>(
     gate: &G,
     worker: Worker,
 ) -> (Worker, bool)
-    requires same_world { world_of board.now ≡ world.now }
-    requires pass { IsPassOf board.now worker.pass }
+    requires pass { IsPassOver world.now board.now worker.pass }
     requires work { IsWorkBelow world.now (findings_of worker.pass) worker.next worker.list.items }
-    ensures pass { IsPassOf board.now result.0.pass }
+    ensures pass { IsPassOver world.now board.now result.0.pass }
     ensures work { IsWorkBelow world.now (findings_of result.0.pass) result.0.next result.0.list.items }
 {
     let Worker {

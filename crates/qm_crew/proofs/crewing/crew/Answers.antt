@@ -8,6 +8,9 @@ use Rattle.qm_crew.proofs.crewing.crew.Goals as goal
 pub new-requires : goal.new-requires
 new-requires g c = coarse_of_world c.args.world.now c.args.coarse c.own_portals.ensures c.requires.coarse
 
+pub work-requires-clause-pass : goal.work-requires-clause-pass
+work-requires-clause-pass g c κs within = let opened = c.in_ok-board.ensures in record { same_world = opened.same_world; ours = opened.pass_is }
+
 pub work-requires-clause-along : goal.work-requires-clause-along
 work-requires-clause-along g c κs within =
     let opened = c.in_ok-board.ensures in

@@ -1,10 +1,11 @@
 use Rattle.std.proofs.Common.{rules, ◌≡◌, ℕ, ◌+◌, ◌-◌, ◌/◌, ◌<◌, [], ◌∷◌, ◌++◌, Vec, Global, sym, ap, subst, arith}
 use Rattle.std.specs.Prelude.{IfOk}
-use Rattle.std.proofs.lemmas.Result.{IfOk-at_ok}
+use Rattle.std.proofs.lemmas.Result.{IfOk-at_ok, IfOk-weaker}
 use Rattle.qm_shared_rows.specs.Findings.{Findings, found_by_both}
 use Rattle.qm_board.specs.PassOf.{findings_of, IsPassOf}
 use Rattle.qm_board.specs.declared.pass.Pass.{Pass}
 use Rattle.qm_crew.specs.declared.team.Team.{Team}
+use Rattle.qm_crew.specs.inner.PassOver.{IsPassOver}
 use Rattle.qm_crew.specs.inner.TurnsTaken.{LieAlong, AreWorkLists}
 use Rattle.qm_crew.proofs.TakenTurns.{along_narrower, split_narrower}
 use Rattle.qm_crew.proofs.WorkLists.{lists_of_one, lists_united, ok_of_both}
@@ -15,7 +16,7 @@ work_all-returns-then-count-eq1 g t c =
     let world = c.args.world.now in
     let team = c.team_of.result in
     record {
-      pass = subst (IsPassOf c.args.board.now) (sym c.team_of.ensures.pass) c.work.ensures.pass;
+      pass = subst (IsPassOver world c.args.board.now) (sym c.team_of.ensures.pass) c.work.ensures.pass;
       lists =
           subst (λ (p : Pass). AreWorkLists world (findings_of p) c.args.count (team.first.items ∷ team.others.items)) (sym c.team_of.ensures.pass)
           (lists_of_one world (findings_of c.work.result.pass) c.args.count c.work.result.list.items team.first.items team.others.items c.work.ensures.work c.if-count-eq1.true
@@ -41,7 +42,7 @@ work_all-both_halves-requires g t c κs within =
               search rules,
               (
                 (omega (arith, some, several), omega (arith, some, several)),
-                (c.requires.same_world, (split.first, (split.second, (first, second)))),
+                (record { same_world = c.requires.pass.same_world; ours = split.first }, (record { same_world = c.requires.pass.same_world; ours = split.second }, (first, second))),
               ),
             ),
           ),
@@ -67,7 +68,9 @@ both_halves-returns g t c =
     let first = IfOk-at_ok (Lists c.args.low) c.in_ok-one.was c.join-one.ensures.first.1 in
     let second = IfOk-at_ok (Lists c.args.high) c.in_ok-two.was c.join-one.ensures.second.1 in
     record {
-      pass = c.unite.ensures.pass;
+      pass =
+          IfOk-weaker c.unite.result (λ (team : Team). IsPassOf c.args.board.now team.pass) (λ (team : Team). IsPassOver world c.args.board.now team.pass)
+          (λ team ours. record { same_world = c.requires.pass.same_world; ours = ours }) c.unite.ensures.pass;
       lists =
           ok_of_both (λ (team : Team). findings_of team.pass ≡ found_by_both (findings_of one.pass) (findings_of two.pass))
           (λ (team : Team). (team.first.items ∷ team.others.items) ≡ ((one.first.items ∷ one.others.items) ++ (two.first.items ∷ two.others.items)))

@@ -13,14 +13,17 @@ pub returns : goal.returns
 returns g c =
     let portals = c.args.world.now.portals in
     let rows = c.over-rows.result.rows in
-    let ceilings = ceilings_before c.args.world.now c.args.board.now c.requires.same_world c.args.pass c.over.result rows c.over.ensures.board c.over.ensures.pass c.over-rows.ensures in
+    let ceilings = ceilings_before c.args.world.now c.args.board.now c.requires.pass.same_world c.args.pass c.over.result rows c.over.ensures.board c.over.ensures.pass c.over-rows.ensures in
     record {
-      pass =
-          subst (λ (b : RowBoard). IsPassOf b c.into_pass.result)
-          (ap (λ (r : BoardRows). r.board.now) c.into_rows.ensures ∙ c.flow-row.ensures.on.same_board ∙ ap (λ (r : BoardRows). r.board.now) c.over-rows.ensures ∙ c.over.ensures.board)
-          c.into_pass.ensures.ours;
+      pass = record {
+        same_world = c.requires.pass.same_world;
+        ours =
+            subst (λ (b : RowBoard). IsPassOf b c.into_pass.result)
+            (ap (λ (r : BoardRows). r.board.now) c.into_rows.ensures ∙ c.flow-row.ensures.on.same_board ∙ ap (λ (r : BoardRows). r.board.now) c.over-rows.ensures ∙ c.over.ensures.board)
+            c.into_pass.ensures.ours;
+      };
       narrower =
-          narrower_after c.args.world.now c.args.board.now c.requires.same_world c.args.pass c.over.result rows c.over.ensures.board c.over.ensures.pass c.over-rows.ensures
+          narrower_after c.args.world.now c.args.board.now c.requires.pass.same_world c.args.pass c.over.result rows c.over.ensures.board c.over.ensures.pass c.over-rows.ensures
           c.flow-row.new.source.rows c.into_pass.result c.flow-row.ensures.on (c.into_pass.ensures.pass ∙ ap (λ (r : BoardRows). r.pass) c.into_rows.ensures);
       wide = c.flow-row.ensures.wide;
       sound = c.flow-row.ensures.sound;

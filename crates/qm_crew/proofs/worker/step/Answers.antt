@@ -10,6 +10,12 @@ pub returns-then-is_err-clause-work : goal.returns-then-is_err-clause-work
 returns-then-is_err-clause-work g c =
     subst (IsWorkBelow c.args.world.now (findings_of c.args.worker.pass) c.args.worker.next) (sym c.reserve.ensures.items) c.requires.work
 
+pub returns-then-portal-portals-clause-pass : goal.returns-then-portal-portals-clause-pass
+returns-then-portal-portals-clause-pass g c = record { same_world = c.requires.pass.same_world; ours = c.draw-portal.ensures.pass }
+
+pub take_turn-pass-requires-clause-pass : goal.take_turn-pass-requires-clause-pass
+take_turn-pass-requires-clause-pass g c = record { same_world = c.requires.pass.same_world; ours = c.draw-portal.ensures.pass }
+
 pub returns-then-portal-portals-clause-work : goal.returns-then-portal-portals-clause-work
 returns-then-portal-portals-clause-work g c =
     let old = findings_of c.args.worker.pass in
