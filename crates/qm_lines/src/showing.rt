@@ -171,6 +171,9 @@ fn aim_within<S: RowSource>(
     ensures { HasDrawn first.now (S.ceilings source.old) (S.goes_on source.old source.new) row.old row.new }
 {
     for place in 0..=winding.len() {
+        if row.get(target) {
+            return Ok(());
+        }
         let end = anchor_at(winding, place);
         aim_at(first, source, &end, target, trace, row)?;
     }
