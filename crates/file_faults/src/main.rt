@@ -41,10 +41,12 @@ fn say<R: AllocGlobal + Print>(rt: &R, bytes: &[u8]) -> io::Result<()> {
     }
 }
 
-/// Says how many parts a file has, and whether it is written as it was read.
+/// Says of which version a file is, how far its world reaches, how many parts it has, and whether it is written as it was read.
 fn say_file<R: AllocGlobal + Print>(rt: &R, bytes: &[u8], file: &TreeFile) -> io::Result<()> {
     let again = encode(rt.alloc(), file)?;
     let same = again.as_slice() == bytes;
+    let version = file.version;
+    let bound = file.bound;
     let planes = file.tree.planes();
     let nodes = file.tree.nodes();
     let leaves = file.tree.leaves();
@@ -52,7 +54,10 @@ fn say_file<R: AllocGlobal + Print>(rt: &R, bytes: &[u8], file: &TreeFile) -> io
         Some(rows) => rows.len(),
         None => 0,
     };
-    println!(rt; "planes {planes}, nodes {nodes}, leaves {leaves}, rows {rows}, same {same}")
+    let sections = file.sections.len();
+    println!(rt;
+        "version {version}, bound {bound}, planes {planes}, nodes {nodes}, leaves {leaves}, rows {rows}, sections {sections}, same {same}"
+    )
 }
 
 /// Says what is read of the first bytes alone, and of the bytes with one of them changed, left out or doubled.

@@ -3,6 +3,7 @@
 use qm_contents::Contents::Empty;
 use qm_file::{TreeFile, decode, encode};
 use qm_geom::Plane;
+use qm_lists::Items;
 use qm_tree::Child::{Leaf as L, Node as N};
 use qm_tree::{Leaf, Node, Tree};
 use std::alloc::{AllocError, Global};
@@ -38,7 +39,14 @@ fn leaves(alloc: Global) -> Result<Vec<Leaf>, AllocError> {
 fn is_kept(alloc: Global) -> Option<bool> {
     let planes = [Plane::default()].to_vec(alloc).ok()?;
     let tree = Tree::of(alloc, planes, nodes(alloc).ok()?, leaves(alloc).ok()?).ok()?;
-    let bytes = encode(alloc, &TreeFile { tree, rows: None }).ok()?;
+    let file = TreeFile {
+        version: 1,
+        bound: 4096,
+        tree,
+        rows: None,
+        sections: Items::from_vec(Vec::new(alloc)),
+    };
+    let bytes = encode(alloc, &file).ok()?;
     let again = encode(alloc, &decode(alloc, &bytes).ok()?).ok()?;
     Some(bytes.len() == 25_000_066 && again.as_slice() == bytes.as_slice())
 }

@@ -1,56 +1,114 @@
-//! The files of worlds of one leaf, written out.
+//! The files of worlds of one leaf in both versions, written out, and what becomes of them where they are upgraded.
 
 use qm_bits::BitRow;
 use qm_contents::Contents::{self, Empty, Solid};
-use qm_file::{TreeFile, decode, encode};
+use qm_file::{FileFault, Section, TreeFile, decode, encode, upgrade};
 use qm_lists::Items;
 use qm_tree::{Leaf, Tree};
-use std::alloc::Global;
+use std::alloc::{AllocError, Global};
 
-/// One leaf, filled or not, and whether rows are there; the bytes behind the magic bytes and two counts of 0.
+/// One leaf, filled or not, and whether rows are there; sections, in version 2 alone; and the bytes behind the magic bytes
+/// and two counts of 0.
+#[derive(Clone, Copy)]
 struct Small {
+    version: u8,
+    bound: u32,
     contents: Contents,
     filled: bool,
     has_rows: bool,
+    sections: &'static [(u32, &'static [u8])],
     bytes: &'static [u8],
 }
 
-static SMALL: [Small; 4] = [
-    // a world without brushes: one leaf, one numbered, rows, the code -1, and a row of one place
+/// A world without brushes: one leaf, one numbered, rows, the bound 4096, no sections, the code -1, and a row of one place.
+const EMPTY: Small = Small {
+    version: 2,
+    bound: 4096,
+    contents: Empty,
+    filled: false,
+    has_rows: true,
+    sections: &[],
+    bytes: &[
+        1, 0, 0, 0, 0, 0, 0, 0, 1, 0, 0, 0, 0, 0, 0, 0, 1, 0, 16, 0, 0, 0, 0, 0, 0, 255, 255, 255,
+        255, 0, 1,
+    ],
+};
+
+static SMALL: [Small; 8] = [
+    EMPTY,
+    // in a large world, with three sections
     Small {
-        contents: Empty,
-        filled: false,
-        has_rows: true,
+        bound: 32_768,
+        sections: &[(1, &[9, 0, 0]), (7, &[]), (0xffff_ffff, &[1])],
         bytes: &[
-            1, 0, 0, 0, 0, 0, 0, 0, 1, 0, 0, 0, 0, 0, 0, 0, 1, 255, 255, 255, 255, 0, 1,
+            1, 0, 0, 0, 0, 0, 0, 0, 1, 0, 0, 0, 0, 0, 0, 0, 1, 0, 128, 0, 0, 3, 0, 0, 0, 255, 255,
+            255, 255, 0, 1, 1, 0, 0, 0, 3, 0, 0, 0, 0, 0, 0, 0, 9, 0, 0, 7, 0, 0, 0, 0, 0, 0, 0, 0,
+            0, 0, 0, 255, 255, 255, 255, 1, 0, 0, 0, 0, 0, 0, 0, 1,
         ],
+        ..EMPTY
     },
     Small {
-        contents: Empty,
-        filled: false,
         has_rows: false,
         bytes: &[
-            1, 0, 0, 0, 0, 0, 0, 0, 1, 0, 0, 0, 0, 0, 0, 0, 0, 255, 255, 255, 255, 0,
+            1, 0, 0, 0, 0, 0, 0, 0, 1, 0, 0, 0, 0, 0, 0, 0, 0, 0, 16, 0, 0, 0, 0, 0, 0, 255, 255,
+            255, 255, 0,
         ],
+        ..EMPTY
     },
     // a world that is solid everywhere: rows are there, and none is written
     Small {
         contents: Solid,
-        filled: false,
-        has_rows: true,
+        bytes: &[
+            1, 0, 0, 0, 0, 0, 0, 0, 0, 0, 0, 0, 0, 0, 0, 0, 1, 0, 16, 0, 0, 0, 0, 0, 0, 254, 255,
+            255, 255, 0,
+        ],
+        ..EMPTY
+    },
+    // version 1
+    Small {
+        version: 1,
+        bytes: &[
+            1, 0, 0, 0, 0, 0, 0, 0, 1, 0, 0, 0, 0, 0, 0, 0, 1, 255, 255, 255, 255, 0, 1,
+        ],
+        ..EMPTY
+    },
+    Small {
+        version: 1,
+        has_rows: false,
+        bytes: &[
+            1, 0, 0, 0, 0, 0, 0, 0, 1, 0, 0, 0, 0, 0, 0, 0, 0, 255, 255, 255, 255, 0,
+        ],
+        ..EMPTY
+    },
+    Small {
+        version: 1,
+        contents: Solid,
         bytes: &[
             1, 0, 0, 0, 0, 0, 0, 0, 0, 0, 0, 0, 0, 0, 0, 0, 1, 254, 255, 255, 255, 0,
         ],
+        ..EMPTY
     },
     Small {
+        version: 1,
         contents: Solid,
         filled: true,
         has_rows: false,
         bytes: &[
             1, 0, 0, 0, 0, 0, 0, 0, 0, 0, 0, 0, 0, 0, 0, 0, 0, 254, 255, 255, 255, 1,
         ],
+        ..EMPTY
     },
 ];
+
+/// Sections of these kinds, with these bytes.
+fn sections(alloc: Global, parts: &[(u32, &[u8])]) -> Result<Items<Section>, AllocError> {
+    let mut sections = Vec::new(alloc);
+    for (kind, bytes) in parts {
+        let bytes = Items::from_vec(Vec::from_slice(alloc, bytes)?);
+        sections.push(Section { kind: *kind, bytes })?;
+    }
+    Ok(Items::from_vec(sections))
+}
 
 fn file(alloc: Global, sample: &Small) -> Option<TreeFile> {
     let leaf = Leaf {
@@ -72,17 +130,80 @@ fn file(alloc: Global, sample: &Small) -> Option<TreeFile> {
     } else {
         None
     };
-    Some(TreeFile { tree, rows })
+    Some(TreeFile {
+        version: sample.version,
+        bound: sample.bound,
+        tree,
+        rows,
+        sections: sections(alloc, sample.sections).ok()?,
+    })
 }
 
-/// Whether the file is written so, and read again as one that is written so.
+/// The bytes of a sample.
+fn bytes_of(alloc: Global, sample: &Small) -> Result<Vec<u8>, AllocError> {
+    let mut bytes = b"QMTREE0".to_vec(alloc)?;
+    bytes.push(if sample.version == 1 { b'1' } else { b'2' })?;
+    bytes.extend_from_slice(&[0; 16])?;
+    bytes.extend_from_slice(sample.bytes)?;
+    Ok(bytes)
+}
+
+/// Those of the same file in version 2, which are eight more for one of version 1.
+fn newest_bytes(alloc: Global, sample: &Small) -> Result<Vec<u8>, AllocError> {
+    if sample.version == 2 || sample.bytes.len() < 17 {
+        return bytes_of(alloc, sample);
+    }
+    let (header, parts) = sample.bytes.split_at(17);
+    let mut bytes = b"QMTREE02".to_vec(alloc)?;
+    bytes.extend_from_slice(&[0; 16])?;
+    bytes.extend_from_slice(header)?;
+    bytes.extend_from_slice(&[0, 16, 0, 0, 0, 0, 0, 0])?;
+    bytes.extend_from_slice(parts)?;
+    Ok(bytes)
+}
+
+/// Whether sections are these.
+fn are_sections(found: &[Section], expected: &[(u32, &[u8])]) -> bool {
+    found.len() == expected.len()
+        && found.iter().zip(expected).all(|(section, (kind, bytes))| {
+            section.kind == *kind && section.bytes.as_slice() == *bytes
+        })
+}
+
+/// Whether a file is written so, and read again as one that says so and is written so; and its newest version as that should be.
 fn is_written(alloc: Global, sample: &Small) -> Option<bool> {
-    let mut expected = b"QMTREE01".to_vec(alloc).ok()?;
-    expected.extend_from_slice(&[0; 16]).ok()?;
-    expected.extend_from_slice(sample.bytes).ok()?;
+    let expected = bytes_of(alloc, sample).ok()?;
     let written = encode(alloc, &file(alloc, sample)?).ok()?;
-    let again = encode(alloc, &decode(alloc, &written).ok()?).ok()?;
-    Some(written.as_slice() == expected.as_slice() && again.as_slice() == expected.as_slice())
+    let again = decode(alloc, &written).ok()?;
+    let same = again.version == sample.version && again.bound == sample.bound;
+    let same = same && are_sections(again.sections.as_slice(), sample.sections);
+    let as_before = encode(alloc, &again).ok()?;
+    let newest = encode(alloc, &upgrade(again)).ok()?;
+    Some(
+        same && written.as_slice() == expected.as_slice()
+            && as_before.as_slice() == expected.as_slice()
+            && newest.as_slice() == newest_bytes(alloc, sample).ok()?.as_slice(),
+    )
+}
+
+/// Two sections of a kind and of no bytes, and their fault.
+static TWO_SECTIONS: [(u8, u8, FileFault); 3] = [
+    (7, 7, FileFault::SectionForm { offset: 67 }),
+    (7, 6, FileFault::SectionForm { offset: 67 }),
+    (0, 7, FileFault::SectionForm { offset: 55 }),
+];
+
+/// Whether a world without brushes that has two such sections has this fault.
+fn is_refused(alloc: Global, first: u8, second: u8, fault: FileFault) -> Option<bool> {
+    let mut bytes = bytes_of(alloc, &EMPTY).ok()?;
+    if let Some(count) = bytes.get_mut(45) {
+        *count = 2;
+    }
+    for kind in [first, second] {
+        bytes.push(kind).ok()?;
+        bytes.extend_from_slice(&[0; 11]).ok()?;
+    }
+    Some(decode(alloc, &bytes).err() == Some(fault))
 }
 
 #[test]
@@ -92,5 +213,8 @@ fn files_of_one_leaf(rt: HostRuntime) {
         SMALL
             .iter()
             .all(|sample| is_written(alloc, sample) == Some(true))
+            && TWO_SECTIONS.iter().all(|(first, second, fault)| is_refused(
+                alloc, *first, *second, *fault
+            ) == Some(true))
     );
 }

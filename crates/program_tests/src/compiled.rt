@@ -63,10 +63,10 @@ const ROWS_WITH_INSIDE: &[u8] = &[0x77, 0x77, 0x67, 0x08, 0x73, 0x77, 0x77];
 /// and the rows.
 fn cube_file_of(alloc: Global, numbered: u8, code: u8, rows: &[u8]) -> Result<Vec<u8>, AllocError> {
     let mut file = Vec::from_slice(alloc, &CUBE_FILE)?;
-    file.truncate(316);
-    if file.len() == 316 {
+    file.truncate(324);
+    if file.len() == 324 {
         file[32] = numbered;
-        file[296] = code;
+        file[304] = code;
     }
     file.extend_from_slice(rows)?;
     Ok(file)
@@ -129,55 +129,55 @@ static WORLDS: [World; 9] = [
         brushes: "",
         boxes: &[("stone", &[WALL, WALL])],
         counts: [2, 0, 6, 5, 6, 5, 8, 23],
-        length: 296,
+        length: 304,
     },
     World {
         brushes: APART,
         boxes: &[("stone", &[CUBE, ABOVE])],
         counts: [3, 1, 7, 6, 7, 6, 12, 34],
-        length: 342,
+        length: 350,
     },
     World {
         brushes: OPPOSED,
         boxes: &[("stone", &[CUBE, CUBE])],
         counts: [3, 1, 6, 6, 7, 6, 12, 34],
-        length: 322,
+        length: 330,
     },
     World {
         brushes: OPPOSED,
         boxes: &[],
         counts: [1, 1, 1, 0, 1, 1, 0, 1],
-        length: 67,
+        length: 75,
     },
     World {
         brushes: "",
         boxes: &[("*water1", &[CUBE]), ("stone", &[INSIDE])],
         counts: [2, 0, 12, 12, 13, 12, 24, 68],
-        length: 610,
+        length: 618,
     },
     World {
         brushes: "",
         boxes: &[("stone", &[INSIDE]), ("*water1", &[CUBE])],
         counts: [2, 0, 12, 24, 25, 24, 52, 308],
-        length: 958,
+        length: 966,
     },
     World {
         brushes: "",
         boxes: &[("stone", &ROOM)],
         counts: [6, 0, 12, 12, 13, 7, 12, 35],
-        length: 593,
+        length: 601,
     },
     World {
         brushes: "",
         boxes: &[("stone", &HOLE_ROOM)],
         counts: [7, 0, 14, 14, 15, 8, 14, 42],
-        length: 684,
+        length: 692,
     },
     World {
         brushes: "",
         boxes: &[("stone", &CORNER_ROOMS)],
         counts: [12, 0, 19, 22, 23, 11, 16, 55],
-        length: 1003,
+        length: 1011,
     },
 ];
 

@@ -1,7 +1,9 @@
+use std::alloc::{AllocError, Global};
+
 /// The tree file of the cube, worked out by hand from the table of the format.
-pub static CUBE_FILE: [u8; 322] = [
-    // magic QMTREE01
-    0x51, 0x4D, 0x54, 0x52, 0x45, 0x45, 0x30, 0x31,
+pub static CUBE_FILE: [u8; 330] = [
+    // magic QMTREE02
+    0x51, 0x4D, 0x54, 0x52, 0x45, 0x45, 0x30, 0x32,
     // planes 6
     0x06, 0x00, 0x00, 0x00, 0x00, 0x00, 0x00, 0x00,
     // nodes 6
@@ -12,6 +14,10 @@ pub static CUBE_FILE: [u8; 322] = [
     0x06, 0x00, 0x00, 0x00, 0x00, 0x00, 0x00, 0x00,
     // with rows
     0x01,
+    // bound 4096
+    0x00, 0x10, 0x00, 0x00,
+    // sections 0
+    0x00, 0x00, 0x00, 0x00,
     // plane 0: x = 0
     0x01, 0x00, 0x00, 0x00, 0x00, 0x00, 0x00, 0x00, 0x00, 0x00, 0x00, 0x00, 0x00, 0x00, 0x00, 0x00,
     0x00, 0x00, 0x00, 0x00,
@@ -65,3 +71,11 @@ pub static CUBE_FILE: [u8; 322] = [
     // the rows of the leaves 0, 1, 2, 4, 5 and 6: all see one another but those above and below the cube
     0x3F, 0x3F, 0x37, 0x3B, 0x3F, 0x3F,
 ];
+
+/// The same in version 1, which says neither the bound nor how many sections there are.
+pub fn first_cube_file(alloc: Global) -> Result<Vec<u8>, AllocError> {
+    let mut file = Vec::from_slice(alloc, b"QMTREE01")?;
+    file.extend_from_slice(&CUBE_FILE[8..41])?;
+    file.extend_from_slice(&CUBE_FILE[49..])?;
+    Ok(file)
+}

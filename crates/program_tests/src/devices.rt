@@ -8,7 +8,7 @@ use std::test::Fail;
 use std::thread::Threads;
 
 /// A row has the words, the write that fails, what is answered, and whether the tree file is then there.
-static FAULTS_OF_THE_SINK: [(&[&str], u64, Answer, bool); 14] = [
+static FAULTS_OF_THE_SINK: [(&[&str], u64, Answer, bool); 18] = [
     (&["compile", "map", "out"], 0, (6, "", [0, 0, 1]), true),
     (&["compile", "map", "out"], 1, (0, SUMMARY, [0, 0, 0]), true),
     (&["compile", "-map", "out"], 0, (6, "", [0, 0, 1]), false),
@@ -46,6 +46,15 @@ static FAULTS_OF_THE_SINK: [(&[&str], u64, Answer, bool); 14] = [
         (8, MAGIC, [0, 0, 0]),
         false,
     ),
+    (&["upgrade", "absent", "out"], 0, (6, "", [1, 0, 1]), false),
+    (
+        &["upgrade", "absent", "out"],
+        1,
+        (5, READ_FAULT, [1, 0, 0]),
+        false,
+    ),
+    (&["upgrade", "map", "out"], 0, (6, "", [0, 0, 1]), false),
+    (&["upgrade", "map", "out"], 1, (8, MAGIC, [0, 0, 0]), false),
     (&["demo", "1", "0"], 0, (6, "", [0, 0, 1]), false),
     (&["demo", "1", "0"], 1, (0, ONE_ROOM, [0, 0, 0]), false),
 ];

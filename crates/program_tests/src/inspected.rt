@@ -62,9 +62,9 @@ static ROWS: [Row; 14] = [
     },
     Row {
         level: SEALED,
-        words: &["inspect", "out", "count", "row=0", "sees=0,0"],
+        words: &["inspect", "out", "count", "row=0", "sees=0,0", "parts"],
         status: 0,
-        printed: "planes 12 nodes 12 leaves 13 numbered 1 rows yes\nrow 0: 0\nyes\n",
+        printed: "planes 12 nodes 12 leaves 13 numbered 1 rows yes\nrow 0: 0\nyes\nversion 2 bound 4096 parts\n",
     },
     // the first refusal is printed, and no answer before it
     Row {

@@ -44,7 +44,7 @@ const SEALED: Row = Row {
     origins: &["0 0 24"],
     status: 0,
     printed: "sealed\nbrushes 6\nflat 0\nplanes 12\nnodes 12\nleaves 13\nnumbered 1\nfilled 6\nportals 0\nseen 1\n",
-    length: 587,
+    length: 595,
     rows: &[0x01],
 };
 
@@ -53,7 +53,7 @@ const LEAKING: Row = Row {
     room: &HOLE_ROOM,
     status: 3,
     printed: "leak: entity 1\ntrail: 8 6 0\n",
-    length: 676,
+    length: 684,
     rows: &[],
     ..SEALED
 };
@@ -69,7 +69,7 @@ const IN_THE_HOLE: Row = Row {
 const EDGE: Row = Row {
     room: &EDGE_ROOM,
     printed: "sealed\nbrushes 6\nflat 0\nplanes 12\nnodes 14\nleaves 15\nnumbered 1\nfilled 8\nportals 0\nseen 1\n",
-    length: 637,
+    length: 645,
     ..SEALED
 };
 
@@ -78,7 +78,7 @@ const CORNER: Row = Row {
     room: &CORNER_ROOMS,
     origins: &["-64 0 24"],
     printed: "sealed\nbrushes 12\nflat 0\nplanes 19\nnodes 22\nleaves 23\nnumbered 5\nfilled 6\nportals 4\nseen 25\n",
-    length: 981,
+    length: 989,
     rows: &[0x1F, 0x1F, 0x1F, 0x1F, 0x1F],
     ..SEALED
 };
@@ -89,7 +89,7 @@ static ROWS: [Row; 16] = [
     Row {
         origins: &["72 0 24"],
         printed: "no entity\nbrushes 6\nflat 0\nplanes 12\nnodes 12\nleaves 13\nnumbered 7\nfilled 0\nportals 12\nseen 35\n",
-        length: 593,
+        length: 601,
         rows: &[0x77, 0x77, 0x67, 0x08, 0x73, 0x77, 0x77],
         ..SEALED
     },
@@ -118,7 +118,7 @@ static ROWS: [Row; 16] = [
         first: &[([64, 0, 0], [80, 1, 96])],
         room: &HOLE_ROOM,
         printed: "sealed\nbrushes 8\nflat 0\nplanes 14\nnodes 38\nleaves 39\nnumbered 2\nfilled 24\nportals 0\nseen 2\n",
-        length: 1278,
+        length: 1286,
         rows: &[0x01, 0x02],
         ..SEALED
     },
@@ -127,7 +127,7 @@ static ROWS: [Row; 16] = [
         texture: "*lava",
         first: &[([64, 0, 0], [80, 1, 96])],
         printed: "leak: entity 1\ntrail: 29 11 0\n",
-        length: 1276,
+        length: 1284,
         ..LEAKING
     },
     EDGE,
@@ -139,7 +139,7 @@ static ROWS: [Row; 16] = [
         room: &[],
         origins: &["32 32 32"],
         printed: "sealed\nbrushes 1\nflat 0\nplanes 6\nnodes 6\nleaves 7\nnumbered 1\nfilled 6\nportals 0\nseen 1\n",
-        length: 317,
+        length: 325,
         ..SEALED
     },
     // in sky that fills the cube
@@ -149,7 +149,7 @@ static ROWS: [Row; 16] = [
         room: &[],
         origins: &["0 0 0"],
         printed: "sealed\nbrushes 1\nflat 0\nplanes 6\nnodes 0\nleaves 1\nnumbered 1\nfilled 0\nportals 0\nseen 1\n",
-        length: 167,
+        length: 175,
         ..SEALED
     },
     // water under a room
@@ -157,7 +157,7 @@ static ROWS: [Row; 16] = [
         texture: "*water1",
         first: &[([-80, -80, -64], [80, 80, -16])],
         printed: "sealed\nbrushes 7\nflat 0\nplanes 13\nnodes 13\nleaves 14\nnumbered 1\nfilled 7\nportals 0\nseen 1\n",
-        length: 632,
+        length: 640,
         ..SEALED
     },
     // solid fills the cube
@@ -167,7 +167,7 @@ static ROWS: [Row; 16] = [
         room: &[],
         origins: &[],
         printed: "no entity\nbrushes 1\nflat 0\nplanes 6\nnodes 0\nleaves 1\nnumbered 0\nfilled 0\nportals 0\nseen 0\n",
-        length: 166,
+        length: 174,
         rows: &[],
         ..SEALED
     },
@@ -176,7 +176,7 @@ static ROWS: [Row; 16] = [
         room: &[],
         origins: &["0 0 0"],
         printed: "leak: entity 1\ntrail: 0\n",
-        length: 46,
+        length: 54,
         ..LEAKING
     },
 ];

@@ -47,7 +47,7 @@ mod sure_forms;
 #[cfg(test)]
 mod tightness;
 #[cfg(test)]
-mod torn_files;
+mod tree_files;
 #[cfg(test)]
 mod words;
 #[cfg(test)]

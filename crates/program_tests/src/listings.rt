@@ -40,7 +40,7 @@ fn lists_two_rooms(rt: HostRuntime) -> Result<(), Fail> {
         .get("out")
         .is_some_and(|file| file.ends_with(&[7, 7, 7]));
     let listed = outside.shelf.get("list") == Some(ROOMS_LISTING.as_bytes());
-    assert!(rt; says && outside.has_long_out(769) && has_rows && listed);
+    assert!(rt; says && outside.has_long_out(777) && has_rows && listed);
     Ok(())
 }
 
@@ -68,9 +68,11 @@ struct Failing {
     write: u64,
 }
 
-const UNREAD: Answer = (5, READ_FAULT, [1, 0, 0]);
+/// A read failed.
+pub const UNREAD: Answer = (5, READ_FAULT, [1, 0, 0]);
 
-const UNWRITTEN: Answer = (6, WRITE_FAULT, [0, 1, 0]);
+/// A write failed.
+pub const UNWRITTEN: Answer = (6, WRITE_FAULT, [0, 1, 0]);
 
 /// The call and the write that fail, what is answered, and what `out` and `list` then hold. The calls are two reads, the creation
 /// of `out` and the addition of its bytes, and the same of `list`.

@@ -4,7 +4,7 @@ pub const SUMMARY: &str =
     "no entity\nbrushes 1\nflat 0\nplanes 6\nnodes 6\nleaves 7\nnumbered 6\nfilled 0\nportals 12\nseen 34\n";
 
 pub const USAGE: &str =
-    "usage: qmapc compile MAP OUT [--prt FILE] [--threads N] [--fast] | inspect TREE QUERY.. | format MAP OUT | demo N NUMBER\n";
+    "usage: qmapc compile MAP OUT [--prt FILE] [--threads N] [--fast] | inspect TREE QUERY.. | format MAP OUT | demo N NUMBER | upgrade TREE OUT\n";
 
 pub const READ_FAULT: &str = "read fault\n";
 

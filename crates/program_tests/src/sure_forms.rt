@@ -16,7 +16,7 @@ enum Written {
     Tree,
 }
 
-static ROWS: [(&[&str], u8, &str, Written); 8] = [
+static ROWS: [(&[&str], u8, &str, Written); 10] = [
     (&["format", "empty", "out"], 0, COUNTS, Written::Text),
     (&["compile", "open", "out"], 4, UNEXPECTED, Written::Text),
     (
@@ -47,6 +47,18 @@ static ROWS: [(&[&str], u8, &str, Written); 8] = [
         &["inspect", "out", "sees=0,1"],
         9,
         "query 1 refused: no such leaf\n",
+        Written::Tree,
+    ),
+    (
+        &["upgrade", "out", "newer"],
+        0,
+        "version 2 to 2\n",
+        Written::Tree,
+    ),
+    (
+        &["upgrade", "absent", "out"],
+        8,
+        "tree fault 1 at byte 0: short\n",
         Written::Tree,
     ),
     (&["demo", "1", "0"], 0, ONE_ROOM, Written::Tree),

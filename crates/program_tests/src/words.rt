@@ -7,7 +7,7 @@ use std::alloc::AllocError;
 use std::test::Fail;
 use std::thread::Threads;
 
-static OTHER_WORDS: [&[&str]; 73] = [
+static OTHER_WORDS: [&[&str]; 83] = [
     &[],
     &["compile"],
     &["compile", "map"],
@@ -71,6 +71,16 @@ static OTHER_WORDS: [&[&str]; 73] = [
     &["inspect", "map", "count", "row=01"],
     &["inspect", "map", "sees=0"],
     &["inspect", "map", "sees=0,01"],
+    &["inspect", "map", "parts=1"],
+    &["upgrade"],
+    &["upgrade", "map"],
+    &["upgrade", "map", "map"],
+    &["upgrade", "map", "out", "more"],
+    &["upgrade", "map", "out", "--fast"],
+    &["upgrade", "-map", "out"],
+    &["upgrade", "map", "-out"],
+    &["upgrade", "", "out"],
+    &["Upgrade", "map", "out"],
     &["demo", "8"],
     &["demo", "0", "7"],
     &["demo", "65", "7"],

@@ -1,25 +1,31 @@
 //! Rows that several workers find, beside coarse ones.
 
+ghost use Rattle.std.specs.Prelude.{◌≤◌};
+
 use qm_bits::BitRow;
 use qm_compile::{Compiled, OpenGate, Options, compile};
-use qm_file::TreeFile;
 use qm_gen::rooms;
+use qm_lists::Items;
 use std::alloc::AllocError;
 use std::test::Fail;
 use std::thread::Threads;
 
-/// The tree file of eight rooms that are generated from the number 7, with coarse rows or with those that four workers find;
-/// `None` where it has none.
-fn eight_rooms<R: AllocGlobal + Threads + Sync>(
+/// The rows of eight rooms that are generated from the number 7, coarse ones or those that so many workers find; `None` where
+/// there are none.
+fn rows_of_rooms<R: AllocGlobal + Threads + Sync>(
     rt: &R,
+    threads: u8,
     fast: bool,
-) -> Result<Option<TreeFile>, AllocError> {
+) -> Result<Option<Items<BitRow>>, AllocError>
+    requires some { 1 ≤ threads }
+    requires not_too_many { threads ≤ 64 }
+{
     let Ok(map) = rooms(rt.alloc(), 8, 7) else {
         return Err(AllocError);
     };
-    let options = Options { threads: 4, fast };
+    let options = Options { threads, fast };
     match compile(rt, rt.alloc(), &map, &options, &OpenGate)? {
-        Compiled::Done { file, .. } => Ok(Some(file)),
+        Compiled::Done { file, .. } => Ok(file.rows),
         Compiled::Leak { .. } => Ok(None),
     }
 }
@@ -42,17 +48,23 @@ fn lie_within(rows: &[BitRow], others: &[BitRow]) -> bool {
     right
 }
 
-/// What four workers find lies within the coarse rows.
-#[test]
-fn workers_keep_to_coarse_rows(rt: HostRuntime) -> Result<(), Fail> {
-    let fine = eight_rooms(&rt, false)?.and_then(|file| file.rows);
-    let coarse = eight_rooms(&rt, true)?.and_then(|file| file.rows);
-    let right = match (&fine, &coarse) {
-        (Some(fine), Some(coarse)) => {
-            fine.as_slice().len() == 24 && lie_within(fine.as_slice(), coarse.as_slice())
+/// Whether there is a row for each of the 24 numbered leaves, and each lies within its own of coarse ones.
+fn keep_to(rows: &Option<Items<BitRow>>, coarse: &Option<Items<BitRow>>) -> bool {
+    match (rows, coarse) {
+        (Some(rows), Some(coarse)) => {
+            rows.len() == 24 && lie_within(rows.as_slice(), coarse.as_slice())
         }
         _ => false,
-    };
+    }
+}
+
+/// What four workers find, and what as many as can be asked for, lies within the coarse rows.
+#[test]
+fn workers_keep_to_coarse_rows(rt: HostRuntime) -> Result<(), Fail> {
+    let coarse = rows_of_rooms(&rt, 1, true)?;
+    let by_four = rows_of_rooms(&rt, 4, false)?;
+    let by_most = rows_of_rooms(&rt, 64, false)?;
+    let right = keep_to(&by_four, &coarse) && keep_to(&by_most, &coarse);
     assert!(rt; right);
     Ok(())
 }
