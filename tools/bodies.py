@@ -4,7 +4,7 @@ end."""
 from typing import NamedTuple, Optional
 
 import corners
-from polygons import WALLS, turned
+from polygons import turned, walls
 
 
 class Face(NamedTuple):
@@ -15,13 +15,13 @@ class Face(NamedTuple):
     node: Optional[int]
 
 
-def cube():
+def cube(bound):
     """The cube's six faces."""
-    return [Face(corners.within(corners.on_plane(wall), WALLS), wall, None) for wall in WALLS]
+    return [Face(corners.within(corners.on_plane(wall, bound), walls(bound)), wall, None) for wall in walls(bound)]
 
 
-def parted(faces, plane, node):
-    """The two bodies into which the plane of a node parts one, each None where it has no points."""
+def parted(faces, plane, node, bound):
+    """The two bodies into which the plane of a node parts one in the cube, each None where it has no points."""
     values = [corners.values(face.polygon, plane) for face in faces]
     if min(map(min, values)) >= 0:
         return faces, None
@@ -34,7 +34,7 @@ def parted(faces, plane, node):
             front.append(Face(before, face.plane, face.node))
         if behind:
             back.append(Face(behind, face.plane, face.node))
-    between = corners.within(corners.on_plane(plane), [face.plane for face in faces])
+    between = corners.within(corners.on_plane(plane, bound), [face.plane for face in faces])
     front.append(Face(between, turned(plane, True), node))
     back.append(Face(between[::-1], turned(plane, False), node))
     return front, back
@@ -42,14 +42,14 @@ def parted(faces, plane, node):
 
 def bodies(tree):
     """Each leaf that has points, with its faces, in the order of the leaves."""
-    waiting = [(tree.root(), cube())]
+    waiting = [(tree.root(), cube(tree.bound))]
     while waiting:
         child, faces = waiting.pop()
         if child < 0:
             yield -1 - child, faces
             continue
         node = tree.nodes[child]
-        front, back = parted(faces, tree.planes[node.plane], child)
+        front, back = parted(faces, tree.planes[node.plane], child, tree.bound)
         waiting += [(below, part) for below, part in ((node.back, back), (node.front, front)) if part]
 
 

@@ -1,6 +1,7 @@
 """The commands of `qmlook`: what each prints, and what is said where it cannot be done."""
 
 import argparse
+from base64 import b64encode
 import json
 import os
 import sys
@@ -16,7 +17,6 @@ import page
 import picture
 import plan
 from points import leak_line, printed
-from polygons import BOUND
 import slices
 import surfaces
 import treefile
@@ -33,7 +33,7 @@ def plan_of(words):
     own = None if words.row is None else leaf_of_row(words, tree)
     portals = None if words.prt is None else portals_of(words.prt, tree)
     line = leak_line(Cells(tree), words.leak) if words.leak else None
-    z = words.z if words.z is not None else height_of(tree, line, own)
+    z = height_of(tree, line, own) if words.z is None else inside(words, tree, (words.z,))[0]
     found = slices.pieces(tree, z)
     drawn = plan.Picture(tree, z, found, plan.View(slices.extent(tree, found)))
     if own is not None:
@@ -72,7 +72,7 @@ def view_of(words):
     tree = tree_of(words.name)
     portals = None if words.prt is None else page.portals_of(portals_of(words.prt, tree))
     line = leak_line(Cells(tree), words.leak) if words.leak else None
-    begin = words.at if words.map is None else origin_of(words.map, tree)
+    begin = inside(words, tree, words.at) if words.map is None else origin_of(words.map, tree)
     seen = surfaces.seen(tree)
     if not seen:
         raise Refused(f"{words.name} has nothing but solid leaves")
@@ -88,7 +88,7 @@ def origin_of(name, tree):
         places = origins.load(name)
     except maptext.NoMap as fault:
         raise Refused(f"{name} is no map: {fault}") from None
-    within = (place for place in places if max(map(abs, place)) < BOUND)
+    within = (place for place in places if is_inside(tree, place))
     found = next((place for place in within if tree.leaves[tree.leaf_at(place)].number is not None), None)
     if found is None:
         raise Refused(f"{name} has no entity that stands in the open")
@@ -98,18 +98,31 @@ def origin_of(name, tree):
 def picture_of(words):
     """The view that the words ask for, in one part."""
     tree = tree_of(words.name)
-    if words.eye == words.aim:
+    eye, aim = inside(words, tree, words.eye), inside(words, tree, words.aim)
+    if eye == aim:
         raise Refused("the place from which one looks is the one to which one looks")
     seen, row, mark = surfaces.seen(tree), None, None
     line = leak_line(Cells(tree), words.leak) if words.leak else None
     shown = {leaf: what.surfaces for leaf, what in seen.items()}
     if words.row:
-        mark = None if words.row is True else words.row
-        own = leaf_with_row(words, tree, mark or words.eye)
+        mark = None if words.row is True else inside(words, tree, words.row)
+        own = leaf_with_row(words, tree, mark or eye)
         row = tree.leaves[own].number
         shown = {leaf: shown[leaf] for leaf in surfaces.held(tree, seen, own) if leaf in shown}
-    drawn = picture.Picture(tree, Eye(words.eye, words.aim), shown, line, words.leak, mark)
-    return [picture.drawn(drawn, picture.titled(plain_name(words.name), words.eye, words.aim, row))]
+    drawn = picture.Picture(tree, Eye(eye, aim), shown, line, words.leak, mark)
+    return [picture.drawn(drawn, picture.titled(plain_name(words.name), eye, aim, row))]
+
+
+def is_inside(tree, place):
+    """Whether a place is strictly inside the tree's cube."""
+    return max(map(abs, place)) < tree.bound
+
+
+def inside(words, tree, place):
+    """A place, or a height by itself, that is strictly inside the tree's cube; or None, where none is given."""
+    if place and not is_inside(tree, place):
+        raise Refused(f"{picture.written(place)} is outside the cube of {words.name}, which ends at {tree.bound}")
+    return place
 
 
 def leaf_with_row(words, tree, where):
@@ -125,7 +138,9 @@ def leaf_with_row(words, tree, where):
 def json_of(words):
     """The whole file as an object of JSON, row by row, since rows are long."""
     tree = tree_of(words.name)
-    yield f'{{"planes": {json.dumps(tree.planes)},\n'
+    yield f'{{"version": {tree.version}, "bound": {tree.bound},\n'
+    yield f'"sections": {json.dumps([section_of(section) for section in tree.sections])},\n'
+    yield f'"planes": {json.dumps(tree.planes)},\n'
     yield f'"nodes": {json.dumps([node._asdict() for node in tree.nodes])},\n'
     yield f'"leaves": {json.dumps([leaf._asdict() for leaf in tree.leaves])},\n'
     if tree.rows is None:
@@ -135,6 +150,11 @@ def json_of(words):
     for own in range(len(tree.rows)):
         yield f"{',' if own else ''}\n{json.dumps(tree.row(own))}"
     yield "]}\n"
+
+
+def section_of(section):
+    """A section as an object of JSON, with its bytes in base64."""
+    return {"kind": section.kind, "bytes": b64encode(section.data).decode()}
 
 
 def world_of(words):

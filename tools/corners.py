@@ -7,7 +7,7 @@ front of its plane a polygon goes round against the clock."""
 from fractions import Fraction
 from math import gcd
 
-from polygons import BOUND
+from polygons import square
 
 
 def corner(point):
@@ -81,12 +81,12 @@ def within(polygon, planes):
     return polygon
 
 
-def on_plane(plane):
+def on_plane(plane, bound):
     """A square on a plane that holds all that the plane has of the cube, and goes round against the clock."""
     across = max(range(3), key=lambda axis: abs(plane[axis]))
     one, other = (across + 1) % 3, (across + 2) % 3
     corners = []
-    for at_one, at_other in ((-BOUND, -BOUND), (BOUND, -BOUND), (BOUND, BOUND), (-BOUND, BOUND)):
+    for at_one, at_other in square(bound):
         place = [0, 0, 0, abs(plane[across])]
         place[one], place[other] = at_one * place[3], at_other * place[3]
         place[across] = plane[3] - plane[one] * at_one - plane[other] * at_other

@@ -5,7 +5,8 @@ planes (four doubles each), nodes (plane, front, back: 4 bytes, signed), leaves 
 middles (three floats each); corners (three floats each); of each surface, leaf by leaf, how many corners it has (2 bytes), its
 corners by their numbers (4 bytes each), its kind and its red, green and blue (a byte each); of each leaf how many surfaces
 it has, how many leaves it touches that hold other contents, and these (4 bytes each); and the rows, bit by bit. Beside these
-stand the portals of a listing, the points of a leak line, where one begins, and where one looks, each null where it is not said."""
+stand the bound of the world; and the portals of a listing, the points of a leak line, where one begins, and where one looks, each
+null where it is not said."""
 
 from base64 import b64encode
 from html import escape
@@ -48,6 +49,7 @@ def level_of(tree, seen):
     numbers = {}
     rounds = [numbers.setdefault(corner, len(numbers)) for surface, _ in surfaces for corner in surface.polygon]
     return {
+        "bound": tree.bound,
         "planes": spelled("d", (number for plane in tree.planes for number in plane)),
         "nodes": spelled("i", (number for node in tree.nodes for number in node)),
         "leaves": spelled("B", (FILLS.index(fill_of(leaf)) for leaf in tree.leaves)),

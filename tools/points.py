@@ -3,7 +3,7 @@
 from fractions import Fraction
 
 from cells import NoContact
-from polygons import WALLS, middle, part_in_front
+from polygons import middle, part_in_front
 
 # how many decimals a coordinate has, and at most where the leaves are thin
 PLACES, MOST_PLACES = 6, 12
@@ -42,7 +42,7 @@ def stays(line, trail, borders):
 def printed(cells, trail):
     """The text of a point file: a point a line, rounded so that each piece of the line is still inside the leaves."""
     line = leak_line(cells, trail)
-    borders = {leaf: cells.borders(leaf) + WALLS for leaf in trail}
+    borders = {leaf: cells.borders(leaf) + cells.walls for leaf in trail}
     for places in range(PLACES, MOST_PLACES + 1):
         points = [rounded(point, places) for point in line]
         if stays(points, trail, borders):

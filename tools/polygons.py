@@ -1,15 +1,22 @@
 """Convex polygons in space, cut by planes without rounding: corners are exact fractions.
 
 A polygon is a list of corners that goes round it; a plane is four whole numbers, as in a tree file. A plane is turned
-towards a side by the signs of all four, so that what is meant lies to its front."""
+towards a side by the signs of all four, so that what is meant lies to its front. A bound says which cube is meant: that in which
+each coordinate lies between -bound and bound."""
 
 from fractions import Fraction
 
 from treefile import value
 
-BOUND = 4096
-# the walls of the cube, turned inward
-WALLS = [(1, 0, 0, -BOUND), (-1, 0, 0, -BOUND), (0, 1, 0, -BOUND), (0, -1, 0, -BOUND), (0, 0, 1, -BOUND), (0, 0, -1, -BOUND)]
+
+def walls(bound):
+    """The walls of the cube, turned inward."""
+    return [(1, 0, 0, -bound), (-1, 0, 0, -bound), (0, 1, 0, -bound), (0, -1, 0, -bound), (0, 0, 1, -bound), (0, 0, -1, -bound)]
+
+
+def square(bound):
+    """The two coordinates of each corner of a side of the cube, in their order round it."""
+    return (-bound, -bound), (bound, -bound), (bound, bound), (-bound, bound)
 
 
 def turned(plane, to_front):
@@ -52,17 +59,17 @@ def in_front(polygon, planes):
     return polygon
 
 
-def on_plane(plane):
+def on_plane(plane, bound):
     """What a plane has of the closed cube, or None."""
     across = max(range(3), key=lambda axis: abs(plane[axis]))
     one, other = (axis for axis in range(3) if axis != across)
     corners = []
-    for at_one, at_other in ((-BOUND, -BOUND), (BOUND, -BOUND), (BOUND, BOUND), (-BOUND, BOUND)):
+    for at_one, at_other in square(bound):
         corner = [0, 0, 0]
         corner[one], corner[other] = at_one, at_other
         corner[across] = Fraction(plane[3] - plane[one] * at_one - plane[other] * at_other, plane[across])
         corners.append(tuple(corner))
-    return in_front(corners, [wall for wall in WALLS if wall[across]])
+    return in_front(corners, [wall for wall in walls(bound) if wall[across]])
 
 
 def part_in_front(first, second, planes):

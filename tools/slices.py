@@ -4,20 +4,15 @@ A slice shows what is just above its height, since what lies on a plane goes to 
 
 from fractions import Fraction
 
-from polygons import BOUND, split
+from polygons import split, square
 
 # how many heights are tried where none is asked for
 MOST_TRIED = 12
 
 
-def square(height):
-    """What the cube has at a height."""
-    return [(-BOUND, -BOUND, height), (BOUND, -BOUND, height), (BOUND, BOUND, height), (-BOUND, BOUND, height)]
-
-
 def pieces(tree, height):
     """Each leaf that the slice meets, with its piece, in the order of the leaves."""
-    found, waiting = [], [(tree.root(), square(height))]
+    found, waiting = [], [(tree.root(), [(*corner, height) for corner in square(tree.bound)])]
     while waiting:
         child, polygon = waiting.pop()
         if child < 0:
@@ -46,18 +41,18 @@ def usual_height(tree):
 
 def seen(tree, found):
     """How many pieces of a slice are not solid and reach no wall of the cube."""
-    return sum(tree.leaves[leaf].number is not None and is_bounded(polygon) for leaf, polygon in found)
+    return sum(tree.leaves[leaf].number is not None and is_bounded(tree, polygon) for leaf, polygon in found)
 
 
 def extent(tree, found):
     """The least and the greatest x and y of what is worth looking at: of the pieces that reach no wall of the cube and are
     not filled; where there are none, of the corners that lie on no wall; where there are none, of the whole cube."""
-    bounded = [corner for leaf, polygon in found for corner in polygon if not tree.leaves[leaf].filled and is_bounded(polygon)]
-    corners = bounded or [corner for _, polygon in found for corner in polygon if is_bounded([corner])]
-    corners = corners or square(0)
+    shown = [polygon for leaf, polygon in found if not tree.leaves[leaf].filled and is_bounded(tree, polygon)]
+    corners = sum(shown, []) or [corner for _, polygon in found for corner in polygon if is_bounded(tree, [corner])]
+    corners = corners or square(tree.bound)
     return [(min(numbers), max(numbers)) for numbers in list(zip(*corners))[:2]]
 
 
-def is_bounded(polygon):
+def is_bounded(tree, polygon):
     """Whether a polygon reaches no wall across x and y."""
-    return all(abs(x) < BOUND and abs(y) < BOUND for x, y, _ in polygon)
+    return all(max(abs(x), abs(y)) < tree.bound for x, y, _ in polygon)

@@ -5,8 +5,8 @@
     leaf = tree.leaf_at((0, 0, 24))
     print(leaf, tree.leaves[leaf].contents)
 
-docs/TREEFILE.md describes the file. This module needs nothing but the standard library, and may be copied. It refuses
-what is no tree file by the first fault in the order of the file, with the place of its byte.
+docs/TREEFILE.md describes the file, of which both versions are read. This module needs nothing but the standard library, and
+may be copied. It refuses what is no tree file by the first fault in the order of the file, with the place of its byte.
 """
 
 from math import gcd
@@ -15,7 +15,9 @@ from struct import calcsize, iter_unpack, unpack
 from typing import NamedTuple, Optional
 
 MOST_BYTES = 1 << 30
-MAGIC = b"QMTREE01"
+# of version 1 and of version 2
+MAGICS = (b"QMTREE01", b"QMTREE02")
+BOUNDS = (4096, 32768)
 CONTENTS = {-1: "empty", -2: "solid", -3: "water", -4: "slime", -5: "lava", -6: "sky"}
 SOLID = -2
 
@@ -50,12 +52,22 @@ class Leaf(NamedTuple):
     number: Optional[int]
 
 
+class Section(NamedTuple):
+    """A part of the file for which this reader has no use: its kind, and its bytes as they are."""
+    kind: int
+    data: bytes
+
+
 class Tree(NamedTuple):
-    """A whole file. `rows` has the bytes of a row for each numbered leaf, or is None where the file has no rows."""
+    """A whole file. The world is the cube in which each coordinate lies between -`bound` and `bound`. `rows` has the bytes of a
+    row for each numbered leaf, or is None where the file has no rows."""
+    version: int
+    bound: int
     planes: list
     nodes: list
     leaves: list
     rows: Optional[list]
+    sections: list
 
     def root(self):
         """The child from which each way begins."""
@@ -91,14 +103,17 @@ def decode(data):
     """The tree of the bytes of a whole file, or the first `Fault`."""
     if len(data) > MOST_BYTES:
         raise Fault("too long", MOST_BYTES)
-    counts = read_header(data)
-    planes, at = read_planes(data, counts[0])
+    version = read_magic(data)
+    counts = read_counts(data)
+    bound, parts, at = read_size(data) if version == 2 else (BOUNDS[0], 0, 41)
+    planes, at = read_planes(data, at, counts[0])
     nodes, at = read_nodes(data, at, counts)
     leaves, at = read_leaves(data, at, counts)
     rows, at = read_rows(data, at, counts[3]) if counts[4] else (None, at)
+    sections, at = read_sections(data, at, parts)
     if at < len(data):
         raise Fault("trailing", at)
-    return Tree(planes, nodes, leaves, rows)
+    return Tree(version, bound, planes, nodes, leaves, rows, sections)
 
 
 def take(data, at, count):
@@ -121,11 +136,17 @@ def due(data, end):
         raise Fault("short", len(data))
 
 
-def read_header(data):
-    """How many planes, nodes, leaves and numbered leaves there are, and whether there are rows."""
-    for place, (byte, wanted) in enumerate(zip(take(data, 0, 8), MAGIC)):
-        if byte != wanted:
+def read_magic(data):
+    """The version."""
+    magic = take(data, 0, 8)
+    for place, byte in enumerate(magic):
+        if all(byte != wanted[place] for wanted in MAGICS):
             raise Fault("magic", place)
+    return 1 + MAGICS.index(magic)
+
+
+def read_counts(data):
+    """How many planes, nodes, leaves and numbered leaves there are, and whether there are rows."""
     counts = []
     for at in (8, 16, 24, 32):
         counts += unpack("<Q", take(data, at, 8))
@@ -137,9 +158,17 @@ def read_header(data):
     return counts
 
 
-def read_planes(data, count):
+def read_size(data):
+    """What version 2 has before the planes: how far the world reaches, and how many sections there are. Then the place behind."""
+    bound, = unpack("<I", take(data, 41, 4))
+    if bound not in BOUNDS:
+        raise Fault("header form", 41)
+    return bound, *unpack("<I", take(data, 45, 4)), 49
+
+
+def read_planes(data, first, count):
     """The planes, and the place behind them."""
-    first, planes = 41, []
+    planes = []
     found, end = records(data, first, count, "<3iq")
     for plane in found:
         nx, ny, nz, d = plane
@@ -227,3 +256,15 @@ def read_row(data, at, width):
         row += bytes(zeros)
         place, could_be_longer = place + 2, zeros < 255
     return bytes(row), place
+
+
+def read_sections(data, at, count):
+    """The sections, and the place behind them. Their kinds ascend from 1 on."""
+    sections = []
+    while len(sections) < count:
+        kind, length = unpack("<IQ", take(data, at, 12))
+        if kind <= (sections[-1].kind if sections else 0):
+            raise Fault("section form", at)
+        sections.append(Section(kind, take(data, at + 12, length)))
+        at += 12 + length
+    return sections, at

@@ -3,7 +3,7 @@
 from fractions import Fraction
 import re
 
-from polygons import BOUND
+from treefile import BOUNDS
 
 # the options behind which a place may stand
 PLACED = ("--at", "--from", "--to", "--row")
@@ -45,12 +45,12 @@ def command(commands, name, what, read="OUT", which="a tree file of `qmapc compi
 
 
 def height(word):
-    """A height inside the cube."""
+    """A height inside the largest cube that a tree file can have."""
     try:
         value = Fraction(word)
     except ZeroDivisionError:
         raise ValueError from None
-    if not -BOUND < value < BOUND:
+    if not -BOUNDS[-1] < value < BOUNDS[-1]:
         raise ValueError
     return value
 
@@ -63,7 +63,7 @@ def number(word):
 
 
 def place(words):
-    """Three numbers parted by commas: a point strictly inside the cube."""
+    """Three numbers parted by commas: a point strictly inside the largest cube."""
     numbers = tuple(height(word) for word in words.split(","))
     if len(numbers) != 3:
         raise ValueError

@@ -1,6 +1,6 @@
 // Draws the level by WebGL 2: the surfaces of the leaves that are shown, portals, the leak line, and the frozen place.
 
-const NEAR = 2, FAR = 16384, BAND = 1.5, VERTEX = 20;
+const NEAR = 2, FAR = 4 * LEVEL.bound, BAND = 1.5, VERTEX = 20;
 
 // surfaces are ruled each 64 units, so that one sees how far things are
 const SURFACES = [`#version 300 es

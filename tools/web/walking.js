@@ -1,7 +1,7 @@
 // Where one stands and looks, by keys, by the mouse, and by what stands behind # in the page's address. Units are those of the
 // map, seconds, and right angles' parts as radians.
 
-const SPEED = 320, FAST = 4, TURN = 1.8, STEP = 32, DRAG = 0.004, STEEPEST = 1.57, FARTHEST = 8191, WAYS = 16;
+const SPEED = 320, FAST = 4, TURN = 1.8, STEP = 32, DRAG = 0.004, STEEPEST = 1.57, FARTHEST = 2 * LEVEL.bound - 1, WAYS = 16;
 
 // `frozen` is the place whose row is shown while one walks on, or null
 const state = {
