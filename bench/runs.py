@@ -1,0 +1,52 @@
+"""Runs of a program that are measured, for the scripts that time."""
+
+import os
+import shutil
+import sys
+import time
+from typing import NamedTuple
+
+DONE, LEAK, PAST_LIMIT = 0, 3, 124
+TIMEOUT = shutil.which("timeout") or sys.exit("the command `timeout` is not on the PATH")
+RUNS, LIMIT = int(os.environ.get("RUNS", "3")), os.environ.get("LIMIT", "120")
+
+
+class Cost(NamedTuple):
+    """What a run took: seconds by the clock, seconds of processor time, and megabytes of memory at its peak."""
+
+    clock: float
+    processor: float
+    memory: float
+
+
+def least_of(one, other):
+    """The least of each figure of two costs."""
+    return Cost(*map(min, one, other))
+
+
+def run(words):
+    """How a run ended, and what it took. Its peak is at least that of this script, which is 10 megabytes or so."""
+    begun = time.monotonic()
+    child = os.fork()
+    if child == 0:
+        os.dup2(os.open(os.devnull, os.O_WRONLY), 1)
+        os.execv(TIMEOUT, [TIMEOUT, LIMIT, *words])
+    _, status, usage = os.wait4(child, 0)
+    cost = Cost(time.monotonic() - begun, usage.ru_utime + usage.ru_stime, usage.ru_maxrss / 1024)
+    return os.waitstatus_to_exitcode(status), cost
+
+
+def least_costs(commands):
+    """The least cost of each command, of some runs in turn; None where a run took too long, and None for all where a map leaks."""
+    least = {}
+    for _ in range(RUNS):
+        for command in commands:
+            if command in least and least[command] is None:
+                continue
+            ended, cost = run(command)
+            if ended == LEAK:
+                return None
+            if ended not in (DONE, PAST_LIMIT):
+                sys.exit(f"{' '.join(command)} failed")
+            least[command] = None if ended == PAST_LIMIT else least_of(least.get(command, cost), cost)
+    return least
