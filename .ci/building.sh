@@ -49,24 +49,13 @@ jobs_here() {
     } 2>/dev/null | least
 }
 
-# the last crates of a crates.txt, each of which stands on all before it: beside them nothing else can be proved
+# the last crates of a crates.txt, each of which stands on the one before it: beside them nothing else can be proved
 last_crates() { # last_crates FILE
     awk '
-        { name = $1; sub(/:.*/, "", name); order[NR] = name; sub(/^[^:]*:/, ""); below[name] = $0 }
-        function take(name, parts, number, at, found) {
-            if (name in taken || !(name in below)) return 0
-            taken[name] = 1
-            found = 1
-            number = split(below[name], parts, " ")
-            for (at = 1; at <= number; at++) found += take(parts[at])
-            return found
-        }
+        { name = $1; sub(/:.*/, "", name); order[NR] = name; sub(/^[^:]*:/, ""); below[name] = $0 " " }
         END {
-            for (at = NR; at > 0; at--) {
-                delete taken
-                if (take(order[at]) != at) break
-                last = order[at] "\n" last
-            }
+            last = order[NR] "\n"
+            for (at = NR; at > 1 && index(below[order[at]], " " order[at - 1] " "); at--) last = order[at - 1] "\n" last
             printf "%s", last
         }' "$1"
 }

@@ -6,7 +6,7 @@ compiles_a_sample() {
     cp samples/cube.map "$folder/" || return 1
     (cd "$folder" && "$top/qmapc" compile cube.map cube.tree >printed) || return 1
     printf 'no entity\nbrushes 1\nflat 0\nplanes 6\nnodes 6\nleaves 7\nnumbered 6\nfilled 0\nportals 12\nseen 34\n' | cmp - "$folder/printed" || return 1
-    [[ $(stat -c %s "$folder/cube.tree") == 322 ]]
+    [[ $(stat -c %s "$folder/cube.tree") == 330 ]]
 }
 
 runs_through_links() {

@@ -69,6 +69,8 @@ def faults_of_text(text, tree, seen):
         "lengths": ("H", list(map(len, polygons))),
         "touched": ("I", [other for leaf in sorted(seen) for other in sorted(seen[leaf].touched)]),
     }
+    if level["bound"] != tree.bound:
+        yield "its bound is not that of the tree"
     for part, (layout, numbers) in wanted.items():
         if list_of(layout, level[part]) != numbers:
             yield f"its {part} are not those of the tree"

@@ -37,7 +37,7 @@ def lies_within(corners, x, y):
 
 def faults_of_slice(tree, height, found, rng):
     """What is wrong with the pieces of a slice."""
-    if sum(area(polygon) for _, polygon in found) != 2 * 8192 ** 2:
+    if sum(area(polygon) for _, polygon in found) != 2 * (2 * tree.bound) ** 2:
         yield "the pieces do not fill the cube once"
     (west, east), (south, north) = slices.extent(tree, found)
     for _ in range(80):

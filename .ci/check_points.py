@@ -46,7 +46,7 @@ def main():
     passed = [leaf for at, leaf in enumerate(leaves) if at == 0 or leaf != leaves[at - 1]]
     if passed != trail:
         sys.exit(f"the line goes through the leaves {passed}, and the trail is {trail}")
-    if max(abs(number) for number in line[-1]) != 4096:
+    if max(abs(number) for number in line[-1]) != tree.bound:
         sys.exit("the line does not end on a wall of the cube")
 
 

@@ -24,7 +24,9 @@ prints_the_usage_line() {
         'compile room.map none --threads 0' 'compile room.map none --threads=04' 'compile room.map none --threads 65' \
         'compile room.map none --threads' 'compile room.map none --threads 2 --threads 2' 'compile -- room.map none' \
         'inspect room.map' 'inspect room.map at=1,2' 'inspect room.map row=01' 'inspect room.map count --fast' \
-        'inspect -room.map count' 'demo 8' 'demo 0 7' 'demo 65 7' 'demo 8 07' 'demo 8 18446744073709551616' 'demo 8 7 --fast'; do
+        'inspect room.map parts=1' 'inspect -room.map count' 'demo 8' 'demo 0 7' 'demo 65 7' 'demo 8 07' \
+        'demo 8 18446744073709551616' 'demo 8 7 --fast' 'upgrade' 'upgrade room.tree' 'upgrade room.tree room.tree' \
+        'upgrade room.tree none more' 'upgrade room.tree none --fast' 'upgrade -room.tree none' 'upgrade room.tree -none'; do
         # shellcheck disable=SC2086  # the words of a command
         run_program $words
         [[ $status == 2 && ! -s $folder/said && ! -e $folder/none ]] || return 1
@@ -101,6 +103,11 @@ runs_out_of_memory() {
     [[ $seven -gt 0 && $status == 0 ]]
 }
 
+# one request for memory is refused, in each run another one
+refuses_requests_of_workers() {
+    python3 .ci/refuse_requests.py "$program" samples/rooms.map
+}
+
 # a file of the folder has so many bytes
 has_bytes() { # has_bytes NAME BYTES
     [[ $(stat -c %s "$folder/$1") == "$2" ]]
@@ -108,7 +115,7 @@ has_bytes() { # has_bytes NAME BYTES
 
 compiles_a_room() {
     run_program compile room.map room.tree
-    ended 0 'sealed\nbrushes 6\nflat 0\nplanes 12\nnodes 12\nleaves 13\nnumbered 1\nfilled 6\nportals 0\nseen 1\n' && has_bytes room.tree 587 || return 1
+    ended 0 'sealed\nbrushes 6\nflat 0\nplanes 12\nnodes 12\nleaves 13\nnumbered 1\nfilled 6\nportals 0\nseen 1\n' && has_bytes room.tree 595 || return 1
     # a world of two brushes, one within the other
     {
         echo '{'
@@ -119,11 +126,11 @@ compiles_a_room() {
     run_program format two.map two.out
     [[ $status == 0 && $(<"$folder/printed") == $'entities 1\nbrushes 2' ]] || return 1
     run_program compile two.map two.tree
-    ended 0 'no entity\nbrushes 2\nflat 0\nplanes 9\nnodes 6\nleaves 7\nnumbered 6\nfilled 0\nportals 12\nseen 34\n' && has_bytes two.tree 382 || return 1
+    ended 0 'no entity\nbrushes 2\nflat 0\nplanes 9\nnodes 6\nleaves 7\nnumbered 6\nfilled 0\nportals 12\nseen 34\n' && has_bytes two.tree 390 || return 1
     # a world without brushes
     echo '{ }' >"$folder/bare.map"
     run_program compile bare.map bare.tree
-    ended 0 'no entity\nbrushes 0\nflat 0\nplanes 0\nnodes 0\nleaves 1\nnumbered 1\nfilled 0\nportals 0\nseen 1\n' && has_bytes bare.tree 47 || return 1
+    ended 0 'no entity\nbrushes 0\nflat 0\nplanes 0\nnodes 0\nleaves 1\nnumbered 1\nfilled 0\nportals 0\nseen 1\n' && has_bytes bare.tree 55 || return 1
     # the option, in each place after the first word
     local words
     for words in '--fast bare.map fast.tree' 'bare.map --fast fast.tree' 'bare.map fast.tree --fast'; do
@@ -135,7 +142,7 @@ compiles_a_room() {
     # an entity in the open
     echo '{ } { "origin" "0 0 0" }' >"$folder/open.map"
     run_program compile open.map open.tree
-    ended 3 'leak: entity 1\ntrail: 0\n' && has_bytes open.tree 46 && cmp -n 40 "$folder/bare.tree" "$folder/open.tree"
+    ended 3 'leak: entity 1\ntrail: 0\n' && has_bytes open.tree 54 && cmp -n 40 "$folder/bare.tree" "$folder/open.tree"
 }
 
 lists_the_portals_of_the_cube() {
@@ -144,17 +151,17 @@ lists_the_portals_of_the_cube() {
         rm -f "$folder/cube.prt" "$folder/listed.tree"
         # shellcheck disable=SC2086  # the words of a command
         run_program compile $words
-        [[ $status == 0 ]] && has_bytes listed.tree 322 && has_bytes cube.prt 718 || return 1
+        [[ $status == 0 ]] && has_bytes listed.tree 330 && has_bytes cube.prt 718 || return 1
         [[ $(head -n 4 "$folder/cube.prt") == $'PRT1\n6\n12\n4 1 5 (0 64 -4096 ) (0 64 4096 ) (0 4096 4096 ) (0 4096 -4096 ) ' ]] || return 1
     done
     # the tree is whole where its listing is not written
     rm -f "$folder/listed.tree"
     run_program compile cube.map listed.tree --prt=/dev/full
-    ended 6 'write fault\n' && has_bytes listed.tree 322 || return 1
+    ended 6 'write fault\n' && has_bytes listed.tree 330 || return 1
     # nothing is listed of a leak
     echo '{ } { "origin" "0 0 0" }' >"$folder/open.map"
     run_program compile open.map open.tree --prt none
-    ended 3 'leak: entity 1\ntrail: 0\n' && has_bytes open.tree 46
+    ended 3 'leak: entity 1\ntrail: 0\n' && has_bytes open.tree 54
 }
 
 formats_a_room_once_and_again() {
@@ -257,8 +264,8 @@ TREEFILE.md|inspect courtyard.tree at=-208,-128,24 at=64,0,24
 TREEFILE.md|inspect courtyard.tree sees=53,27 sees=53,0
 EDITORS.md|inspect courtyard.tree at=-208,-128,24
 END
-    run_program inspect courtyard.tree count at=0,0,300 sees=54,54 at=208,-60,24 at=64.000001,-.5,+24. row=22
-    ended 0 'planes 65 nodes 140 leaves 141 numbered 55 rows yes\nleaf 15 solid filled\nyes\nleaf 46 water number 22\nleaf 54 empty number 27\nrow 22: 20 21 22 23\n' || return 1
+    run_program inspect courtyard.tree count parts at=0,0,300 sees=54,54 at=208,-60,24 at=64.000001,-.5,+24. row=22
+    ended 0 'planes 65 nodes 140 leaves 141 numbered 55 rows yes\nversion 2 bound 4096 parts\nleaf 15 solid filled\nyes\nleaf 46 water number 22\nleaf 54 empty number 27\nrow 22: 20 21 22 23\n' || return 1
     cmp "$folder/courtyard.kept" "$folder/courtyard.tree"
 }
 
@@ -289,6 +296,8 @@ says_that_a_tree_is_not_read() {
     for name in missing.tree is_a_folder room.tree/room.tree; do
         run_program inspect $name count
         ended 5 'read fault\n' || return 1
+        run_program upgrade $name none
+        ended 5 'read fault\n' || return 1
     done
 }
 
@@ -297,18 +306,24 @@ says_which_fault_a_tree_file_has() {
     local name text
     head -c 100 "$folder/room.tree" >"$folder/cut.tree"
     { cat "$folder/room.tree" && printf x; } >"$folder/longer.tree"
-    { printf QMTREE02 && tail -c +9 "$folder/room.tree"; } >"$folder/later.tree"
+    { printf QMTREE03 && tail -c +9 "$folder/room.tree"; } >"$folder/later.tree"
+    { head -c 45 "$folder/room.tree" && printf '\1\0\0\0' && tail -c +50 "$folder/room.tree" && head -c 12 /dev/zero; } >"$folder/kind.tree"
+    { head -c 41 "$folder/room.tree" && printf '\210\023' && tail -c +44 "$folder/room.tree"; } >"$folder/bound.tree"
     : >"$folder/empty.tree"
     cp "$program" "$folder/program.tree"
     while IFS='|' read -r name text; do
         run_program inspect "$name" count
         ended 8 "tree fault $text\n" || return 1
+        run_program upgrade "$name" none
+        ended 8 "tree fault $text\n" || return 1
     done <<'END'
 empty.tree|1 at byte 0: short
 /dev/null|1 at byte 0: short
 cut.tree|1 at byte 100: short
-longer.tree|8 at byte 587: trailing
+longer.tree|8 at byte 595: trailing
 later.tree|2 at byte 7: magic
+bound.tree|10 at byte 41: header form
+kind.tree|11 at byte 595: section form
 room.map|2 at byte 0: magic
 program.tree|2 at byte 0: magic
 END
@@ -327,23 +342,82 @@ stops_at_the_limit_of_a_tree_file() {
     ended 8 'tree fault 9 at byte 1073741824: too long\n'
 }
 
-reads_a_tree_that_is_a_pipe() {
+# runs the program, which reads the room's tree from a pipe
+from_a_pipe() { # from_a_pipe WORDS..
     cat "$folder/room.tree" >"$folder/pipe" 2>/dev/null &
     status=0
-    (cd "$folder" && timeout 20 "$program" inspect pipe count at=0,0,24 row=0 sees=0,0 >printed 2>said) || status=$?
+    (cd "$folder" && timeout 20 "$program" "$@" >printed 2>said) || status=$?
     # where the program never read it, the writer still waits
     kill $! 2>/dev/null || true
     wait $! 2>/dev/null || true
-    ended 0 'planes 12 nodes 12 leaves 13 numbered 1 rows yes\nleaf 6 empty number 0\nrow 0: 0\nyes\n'
+}
+
+reads_a_tree_that_is_a_pipe() {
+    from_a_pipe inspect pipe count at=0,0,24 row=0 sees=0,0
+    ended 0 'planes 12 nodes 12 leaves 13 numbered 1 rows yes\nleaf 6 empty number 0\nrow 0: 0\nyes\n' || return 1
+    from_a_pipe upgrade pipe from_pipe.tree
+    ended 0 'version 2 to 2\n' && cmp "$folder/room.tree" "$folder/from_pipe.tree"
+}
+
+# trees of both versions, with rows and without, in a large world and with sections, as a plain writer writes them
+upgrades_as_a_slow_writer_does() {
+    (cd "$folder" && python3 "$top/.ci/compare_upgrades.py" "$program" room.tree bare.tree open.tree courtyard.tree)
+}
+
+# OUT is a folder, is in none, or takes nothing; or nothing can be printed, and then OUT is whole
+says_that_an_upgraded_tree_is_not_written() {
+    local name
+    mkdir -p "$folder/is_a_folder"
+    for name in is_a_folder no_such_folder/none /dev/full; do
+        run_program upgrade room.tree $name
+        ended 6 'write fault\n' || return 1
+    done
+    status=0
+    (cd "$folder" && "$program" upgrade room.tree full.tree >/dev/full 2>said) || status=$?
+    [[ $status == 6 && ! -s $folder/said ]] && cmp "$folder/room.tree" "$folder/full.tree"
+}
+
+# as runs_out_of_memory does, with a tree of version 1 whose rows take some megabytes
+upgrades_with_little_memory() {
+    local kilobytes seven=0
+    python3 - "$folder" <<'END' || return 1
+import sys
+sys.path[:0] = [".ci", "tools"]
+import made_trees, treefile
+tree = treefile.decode(made_trees.long_tree(4200))
+for version in 1, 2:
+    open(f"{sys.argv[1]}/large{version}.tree", "wb").write(made_trees.written(tree, version))
+END
+    cp "$folder/large1.tree" "$folder/large1.kept"
+    for kilobytes in 3000 3500 4000 5000 6000 7000 10000 20000; do
+        rm -f "$folder/short.tree"
+        status=0
+        (cd "$folder" && ulimit -v $kilobytes && exec "$program" upgrade large1.tree short.tree >printed 2>said) || status=$?
+        case $status in
+        0) ended 0 'version 1 to 2\n' && cmp "$folder/large2.tree" "$folder/short.tree" || return 1 ;;
+        # OUT is not there, or has a prefix of what it should have
+        7)
+            seven=$((seven + 1))
+            [[ ! -s $folder/said && ! -s $folder/printed ]] || return 1
+            [[ ! -e $folder/short.tree ]] ||
+                cmp -n "$(stat -c %s "$folder/short.tree")" "$folder/large2.tree" "$folder/short.tree" || return 1
+            ;;
+        # the program could not be loaded
+        127) ;;
+        *) return 1 ;;
+        esac
+        cmp "$folder/large1.kept" "$folder/large1.tree" || return 1
+    done
+    [[ $seven -gt 0 && $status == 0 ]]
 }
 
 # words that are not UTF-8 or empty, 100,000 words, and words nearly as long as the system hands on
 answers_words_of_any_length() {
-    local bad call zeros ones usage='usage: qmapc compile MAP OUT [--prt FILE] [--threads N] [--fast] | inspect TREE QUERY.. | format MAP OUT | demo N NUMBER\n'
+    local bad call zeros ones usage='usage: qmapc compile MAP OUT [--prt FILE] [--threads N] [--fast] | inspect TREE QUERY.. | format MAP OUT | demo N NUMBER | upgrade TREE OUT\n'
     local -a words
     for bad in $'\xff' ''; do
         for call in 'inspect BAD count' 'inspect room.tree BAD' 'inspect room.tree count BAD' 'demo BAD 7' 'demo 8 BAD' 'BAD' \
-            'format BAD none' 'compile room.map BAD' 'compile room.map none --prt BAD' 'compile room.map none --threads=BAD'; do
+            'format BAD none' 'upgrade BAD none' 'upgrade room.tree BAD' 'compile room.map BAD' 'compile room.map none --prt BAD' 'compile room.map none --threads=BAD'; do
             read -ra words <<<"$call"
             run_program "${words[@]/BAD/$bad}"
             ended 2 "$usage" || return 1
@@ -378,11 +452,11 @@ answers_words_of_any_length() {
 
 ends_with_six_where_no_answer_can_be_printed() {
     local words
-    for words in 'inspect room.tree count' 'inspect room.tree row=1' 'inspect room.map count' 'demo 1 0'; do
+    for words in 'inspect room.tree count' 'inspect room.tree row=1' 'inspect room.map count' 'upgrade room.map none' 'demo 1 0'; do
         status=0
         # shellcheck disable=SC2086  # the words of a command
         (cd "$folder" && "$program" $words >/dev/full 2>said) || status=$?
-        [[ $status == 6 && ! -s $folder/said ]] || return 1
+        [[ $status == 6 && ! -s $folder/said && ! -e $folder/none ]] || return 1
     done
 }
 
@@ -461,6 +535,7 @@ check "status 5: a map that is missing or is a folder" says_that_a_map_is_not_re
 check "status 6: OUT that cannot be made or not be written" says_that_a_file_is_not_written
 check "status 6: a standard output that takes nothing" ends_with_six_where_nothing_can_be_printed
 check "status 7: too little memory" runs_out_of_memory
+check "status 7, or a whole result: a request for memory of four workers is refused" refuses_requests_of_workers
 check "a pipe as standard output gets each byte" prints_all_into_a_pipe
 check "a map that is a pipe is read" reads_a_map_that_is_a_pipe
 check "command words are read as a plain slow reader reads them" reads_words_as_a_slow_reader_does
@@ -471,6 +546,9 @@ check "status 5: a tree that is missing or is a folder" says_that_a_tree_is_not_
 check "status 8: a tree file with a fault" says_which_fault_a_tree_file_has
 check "status 8: a tree file without an end is read to its limit" stops_at_the_limit_of_a_tree_file
 check "a tree that is a pipe is read" reads_a_tree_that_is_a_pipe
+check "status 0: upgraded trees are those that a plain writer writes" upgrades_as_a_slow_writer_does
+check "status 6: an upgraded tree that cannot be written" says_that_an_upgraded_tree_is_not_written
+check "status 7: too little memory to upgrade a tree" upgrades_with_little_memory
 check "words of any number and length get a named answer" answers_words_of_any_length
 check "status 6: no answer can be printed" ends_with_six_where_no_answer_can_be_printed
 check "several workers say how far they are, on a terminal alone" says_how_far_several_workers_are

@@ -16,7 +16,7 @@ sys.path.insert(0, str(Path(__file__).resolve().parent.parent / "tools"))
 
 from cells import Cells
 import corners
-from polygons import WALLS, in_front, on_plane, split, turned
+from polygons import in_front, split, turned
 import surfaces
 import treefile
 
@@ -53,9 +53,9 @@ def overlap(one, other):
 
 def faces(cells, leaf):
     """Each face of a leaf on the plane of a node: the node, whether the leaf lies to its front, and the polygon."""
-    borders = cells.borders(leaf) + WALLS
+    borders = cells.borders(leaf) + cells.walls
     for node, to_front in cells.way(leaf):
-        polygon = in_front(on_plane(cells.plane(node)), borders)
+        polygon = in_front(cells.on_plane(cells.plane(node)), borders)
         if polygon:
             yield node, to_front, polygon
 

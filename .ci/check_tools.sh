@@ -118,25 +118,62 @@ makes_point_files() {
     printf '0 0 0\n-4096 0 0\n' | cmp - "$folder/printed"
 }
 
+# the three rooms in version 1, and with sections; and the room with a hole in a larger world
+made_of_rooms() {
+    python3 - "$folder" <<'END'
+import sys
+sys.path[:0] = [".ci", "tools"]
+import made_trees, treefile
+seen, hole = (treefile.load(f"{sys.argv[1]}/{name}.tree") for name in ("seen", "hole"))
+sections = [treefile.Section(2, b"abc"), treefile.Section(5, bytes(range(256)))]
+trees = {"first": seen._replace(version=1), "parts": seen._replace(sections=sections), "large": hole._replace(bound=32768)}
+for name, tree in trees.items():
+    open(f"{sys.argv[1]}/{name}.tree", "wb").write(made_trees.written(tree))
+END
+}
+
 # of what is printed the bytes of the file can be made again
 prints_a_tree_as_json() {
-    look json seen.tree
-    looked && python3 - "$folder" <<'END'
-import json, sys
+    local name
+    made_of_rooms || return 1
+    for name in seen first parts; do
+        look json $name.tree
+        looked && python3 - "$folder" $name <<'END' || return 1
+import base64, json, sys
 sys.path[:0] = [".ci", "tools"]
 import made_trees
 seen = json.load(open(sys.argv[1] + "/printed"))
 nodes = [(node["plane"], node["front"], node["back"]) for node in seen["nodes"]]
 leaves = [(made_trees.CODES[leaf["contents"]], leaf["filled"]) for leaf in seen["leaves"]]
-again = made_trees.tree_file(seen["planes"], nodes, leaves, [set(row) for row in seen["rows"]])
+sections = [(section["kind"], base64.b64decode(section["bytes"])) for section in seen["sections"]]
+rows = [set(row) for row in seen["rows"]]
+again = made_trees.tree_file(seen["planes"], nodes, leaves, rows, seen["version"], seen["bound"], sections)
 numbers = [leaf["number"] for leaf in seen["leaves"] if leaf["number"] is not None]
-sys.exit(again != open(sys.argv[1] + "/seen.tree", "rb").read() or numbers != [0, 1, 2, 3, 4] or seen["rows"][4] != [2, 3, 4])
+sys.exit(again != open(f"{sys.argv[1]}/{sys.argv[2]}.tree", "rb").read() or numbers != [0, 1, 2, 3, 4] or seen["rows"][4] != [2, 3, 4])
 END
+    done
+}
+
+# the same pictures of both versions; and in a larger world slices reach its walls, and so does a leak line
+shows_both_versions_and_both_worlds() {
+    made_of_rooms || return 1
+    look plan seen.tree --row 4
+    sed 's/seen[.]tree/any.tree/' "$folder/printed" >"$folder/whole"
+    local name
+    for name in first parts; do
+        look plan $name.tree --row 4
+        looked && sed "s/$name[.]tree/any.tree/" "$folder/printed" | cmp - "$folder/whole" || return 1
+    done
+    (cd "$folder" && python3 "$top/.ci/check_plans.py" large.tree && python3 "$top/.ci/check_surfaces.py" large.tree) || return 1
+    look plan large.tree --z 5000
+    looked || return 1
+    look points large.tree --leak "$(<"$folder/hole.trail")"
+    looked && python3 .ci/check_points.py "$folder/large.tree" "$folder/printed" "$(<"$folder/hole.trail")"
 }
 
 says_how_the_tools_are_used() {
     local words
-    for words in '' 'plan' 'points hole.tree' 'json' 'draw hole.tree' 'plan hole.tree --z 5000' 'plan hole.tree --z 1/0' \
+    for words in '' 'plan' 'points hole.tree' 'json' 'draw hole.tree' 'plan hole.tree --z 32768' 'plan hole.tree --z 1/0' \
         'plan hole.tree --row -1' 'plan hole.tree --row=x' 'points hole.tree --leak=8,6' 'points hole.tree --leak=' \
         'plan hole.tree --lea=8' 'json hole.tree more' 'world' 'world hole.map more' 'world hole.map --out'; do
         # shellcheck disable=SC2086  # the words of a command
@@ -180,6 +217,8 @@ says_what_a_tree_does_not_have() {
     refused "there is no leaf 15" || return 1
     look plan hole.tree --leak "8 6"
     refused "leaf 6 does not touch the outside" || return 1
+    look plan hole.tree --z=-4096
+    refused "-4096 is outside the cube of hole.tree, which ends at 4096" || return 1
     look plan hole.tree --row 0
     refused "hole.tree has no rows" || return 1
     look plan seen.tree --row 5
@@ -346,6 +385,7 @@ check "tools: slices agree with their trees, and no texts overlap" draws_slices_
 check "tools: a row and the portals of a listing are drawn" draws_rows_and_portals
 check "tools: point files go through the leaves of their trails alone" makes_point_files
 check "tools: a tree as JSON has all of its file" prints_a_tree_as_json
+check "tools: both versions of a tree file are shown, and a larger world" shows_both_versions_and_both_worlds
 check "tools: words that are no command get the usage line, and status 2" says_how_the_tools_are_used
 check "tools: a file that is no tree file is refused, and status 1" says_what_is_no_tree_file
 check "tools: a trail, a leaf or a row that a tree does not have is refused" says_what_a_tree_does_not_have

@@ -1,10 +1,12 @@
 #!/usr/bin/env python3
 """Takes the pieces of C from docs/TREEFILE.md, compiles them as one program, and compares what it prints with what
-`tools/treefile.py` reads: the leaves of points, and rows.
+`tools/treefile.py` reads: the leaves of points, rows and sections. And the bytes that the page shows are those of a world without
+brushes.
 
     .ci/check_treefile_page.py FOLDER TREE..
 
-The trees are files of FOLDER, as the compiler wrote them; they get rows by chance, and so do trees that are made here."""
+The trees are files of FOLDER, as the compiler wrote them; they get rows by chance and are written in version 1 too, and so are
+trees that are made here."""
 
 from pathlib import Path
 from fractions import Fraction
@@ -15,22 +17,30 @@ import sys
 
 sys.path.insert(0, str(Path(__file__).resolve().parent.parent / "tools"))
 
-from made_trees import CODES, cube, long_tree, random_tree, written
+from made_trees import CODES, cube, long_tree, random_tree, tree_file, written
 import treefile
 
 PAGE = Path("docs/TREEFILE.md")
+PIECES = 4
 POINTS = 25
+SECTIONS = [(1, b"abc"), (7, b""), (2 ** 32 - 1, bytes(300))]
 
 
 def compiled(folder):
     """The program that the page's pieces are."""
     pieces = re.findall(r"^```c\n(.*?)^```$", PAGE.read_text(), re.M | re.S)
-    if len(pieces) != 3:
-        sys.exit(f"{PAGE} has {len(pieces)} pieces of C, and should have 3")
+    if len(pieces) != PIECES:
+        sys.exit(f"{PAGE} has {len(pieces)} pieces of C, and should have {PIECES}")
     source, program = folder / "look.c", folder / "look"
     source.write_text("\n".join(pieces))
     subprocess.run(["cc", "-std=c99", "-Wall", "-Wextra", "-Werror", "-O1", "-o", program, source], check=True)
     return program
+
+
+def shown():
+    """The bytes that the page shows."""
+    lines = re.findall(r"^    ((?:[0-9A-F]{2} ?)+)", PAGE.read_text(), re.M)
+    return bytes.fromhex(" ".join(lines))
 
 
 def with_rows(tree, rng):
@@ -41,6 +51,11 @@ def with_rows(tree, rng):
     return tree._replace(rows=spelled)
 
 
+def with_sections(tree):
+    """The tree with sections."""
+    return tree._replace(sections=[treefile.Section(*section) for section in SECTIONS])
+
+
 def wanted(tree, point):
     """What the program should print of a point."""
     leaf = tree.leaf_at(point)
@@ -48,7 +63,7 @@ def wanted(tree, point):
     text = f"leaf {leaf} contents {CODES[what.contents]}\n"
     if tree.rows is not None and what.number is not None:
         text += " ".join([f"row {what.number}:", *map(str, tree.row(what.number))]) + "\n"
-    return text
+    return text + "".join(f"section {section.kind}: {len(section.data)} bytes\n" for section in tree.sections)
 
 
 def fault(program, folder, tree, points):
@@ -64,10 +79,13 @@ def fault(program, folder, tree, points):
 
 def main():
     folder, rng = Path(sys.argv[1]).resolve(), random.Random(7)
+    if shown() != tree_file([], [], [(-1, 0)], [{0}]):
+        sys.exit(f"{PAGE}: the bytes are not those of a world without brushes")
     program = compiled(folder)
     read = [treefile.load(folder / name) for name in sys.argv[2:]]
     trees = read + [with_rows(tree, rng) for tree in read]
-    trees += [treefile.decode(data) for data in (cube(), random_tree(rng, 60, True), long_tree(3000))]
+    trees += [treefile.decode(data) for data in (cube(), random_tree(rng, 60, True, 2, 32768), long_tree(3000))]
+    trees += [tree._replace(version=1, bound=4096) for tree in trees] + [with_sections(tree) for tree in trees[-3:] + read]
     for number, tree in enumerate(trees):
         points = [tuple(Fraction(rng.randrange(-2000, 2000), rng.choice((1, 4, 16))) for _ in range(3)) for _ in range(POINTS)]
         found = fault(program, folder, tree, points)

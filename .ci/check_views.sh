@@ -80,7 +80,7 @@ writes_a_page() {
 says_how_views_are_used() {
     local words
     for words in 'view' 'picture hole.tree' 'picture hole.tree --from 1,2,3' 'view hole.tree --at 1,2' 'view hole.tree --at 1,2,3,4' \
-        'view hole.tree --at 1,2,5000' 'view hole.tree --at=1,x,3' 'view hole.tree --at 1,2,3 --map hole.map' \
+        'view hole.tree --at 1,2,32768' 'view hole.tree --at=1,x,3' 'view hole.tree --at 1,2,3 --map hole.map' \
         'view hole.tree --leak=' 'picture hole.tree --from 1,2,3 --to 1,2,3/0' 'picture hole.tree --from 1,2,3 --to 4,5,6 --row=1'; do
         # shellcheck disable=SC2086  # the words of a command
         look $words
@@ -99,6 +99,13 @@ says_why_there_is_no_view() {
         # shellcheck disable=SC2086
         look $words hole.tree --leak "8 0"
         refused "leaf 8 does not touch leaf 0" || return 1
+    done
+    look view hole.tree --at 1,2,5000
+    refused "1,2,5000 is outside the cube of hole.tree, which ends at 4096" || return 1
+    for words in '5000,2,3 --to 4,5,6' '4,5,6 --to 1,5000,3' '4,5,6 --to 1,2,3 --row=1,-5000,3'; do
+        # shellcheck disable=SC2086
+        look picture hole.tree --from $words
+        [[ $(<"$folder/said") == *5000*"is outside the cube of hole.tree, which ends at 4096" && $status == 1 ]] || return 1
     done
     look picture hole.tree --from 1,2,3 --to 1,2,3
     refused "the place from which one looks is the one to which one looks" || return 1

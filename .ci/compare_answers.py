@@ -19,8 +19,6 @@ sys.path.insert(0, str(Path(__file__).resolve().parent.parent / "tools"))
 import made_trees
 import treefile
 
-BOUND = 4096
-
 
 class Refused(Exception):
     """Why a query is refused."""
@@ -31,24 +29,24 @@ def numbered(tree):
     return sum(leaf.number is not None for leaf in tree.leaves)
 
 
-def number(draw, near):
-    """A number in some spelling: a whole one, a decimal, or one at or next to another."""
+def number(draw, near, bound):
+    """A number in some spelling: a whole one up to a bound, a decimal, or one at or next to another."""
     kind = draw.randrange(4)
     if kind == 0:
-        return str(draw.randint(-BOUND, BOUND))
+        return str(draw.randint(-bound, bound))
     if kind == 1:
         decimals = "".join(draw.choices("0123456789", k=draw.randint(0, 6)))
-        return draw.choice(["", "+", "-"]) + f"{draw.randint(0, BOUND)}.{decimals}"
+        return draw.choice(["", "+", "-"]) + f"{draw.randint(0, bound)}.{decimals}"
     value = near + draw.choice([0, 0, 0, 1, -1])
     return f"{value}.{draw.choice(['', '0', '5', '000001'])}" if kind == 2 else str(value)
 
 
 def place(draw, tree):
     """A query for a place, often on a plane across an axis, or next to it."""
-    words = [number(draw, draw.randint(-300, 300)) for _ in range(3)]
+    words = [number(draw, draw.randint(-300, 300), tree.bound) for _ in range(3)]
     for plane in draw.choices(tree.planes, k=3) if tree.planes else []:
         if sorted(plane[:3]) == [0, 0, 1]:
-            words[plane[:3].index(1)] = number(draw, plane[3])
+            words[plane[:3].index(1)] = number(draw, plane[3], tree.bound)
     return "at=" + ",".join(words)
 
 
@@ -56,7 +54,7 @@ def query(draw, tree, below):
     """A query of some sort, with numbers of leaves below another."""
     kind = draw.randrange(20)
     if kind == 0:
-        return "count"
+        return draw.choice(["count", "parts"])
     if kind < 12 or not below:
         return place(draw, tree)
     return f"row={draw.randrange(below)}" if kind == 12 else f"sees={draw.randrange(below)},{draw.randrange(below)}"
@@ -70,6 +68,8 @@ def answer(tree, word):
         rows = "no" if tree.rows is None else "yes"
         return (f"planes {len(tree.planes)} nodes {len(tree.nodes)} leaves {len(tree.leaves)} numbered {numbered(tree)}"
                 f" rows {rows}")
+    if verb == "parts":
+        return " ".join([f"version {tree.version} bound {tree.bound} parts", *(str(section.kind) for section in tree.sections)])
     if verb == "at":
         return answer_at(tree, tuple(Fraction(value.rstrip(".")) for value in values))
     numbers = list(map(int, values))
@@ -85,7 +85,7 @@ def answer(tree, word):
 
 def answer_at(tree, point):
     """The line of the leaf at a point."""
-    if max(map(abs, point)) >= BOUND:
+    if max(map(abs, point)) >= tree.bound:
         raise Refused("outside the cube")
     leaf = tree.leaf_at(point)
     contents, filled, own = tree.leaves[leaf]
@@ -111,18 +111,22 @@ def lists(tree):
     yield [word for word in many if due(tree, [word])[0] == 0][:1000]
     for _ in range(100):
         yield [query(draw, tree, numbered(tree) + 1) for _ in range(draw.randint(1, 6))]
-    yield [f"row={numbered(tree)}", "at=4096,0,0"]
-    yield ["at=0,0,-4096", f"row={numbered(tree)}"]
+    yield [f"row={numbered(tree)}", f"at={tree.bound},0,0"]
+    yield [f"at=0,0,{-tree.bound}", f"row={numbered(tree)}"]
+    yield ["parts", f"at=0,{tree.bound - 1}.999999,0", "at=4096,0,0", "at=0,-32768,0"]
 
 
 def made(folder):
     """The names of trees that are made in a folder: of slanted planes, with rows of which one can lack a leaf whose row has its
-    own, without rows, and with long rows."""
+    own, without rows, and with long rows; of both versions, in a large world, and with sections."""
     draw = random.Random(2)
-    trees = [made_trees.random_tree(draw, 90, True), made_trees.random_tree(draw, 90, False), made_trees.long_tree(700)]
-    for name, data in zip(["slanted.tree", "without.tree", "long.tree"], trees):
-        Path(folder, name).write_bytes(data)
-        yield f"{folder}/{name}"
+    trees = {"slanted": made_trees.random_tree(draw, 90, True), "without": made_trees.random_tree(draw, 90, False),
+             "long": made_trees.long_tree(700), "first": made_trees.random_tree(draw, 40, True, 1),
+             "large": made_trees.random_tree(draw, 40, True, 2, 32768),
+             "parts": made_trees.random_tree(draw, 40, True, 2, 4096, [(1, b"a"), (9, b""), (2 ** 32 - 1, bytes(300))])}
+    for name, data in trees.items():
+        Path(folder, f"{name}.tree").write_bytes(data)
+        yield f"{folder}/{name}.tree"
 
 
 def faults(program, name):

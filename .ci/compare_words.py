@@ -5,8 +5,9 @@
 
 The program runs in an empty folder: on each list of up to three telling words, and on each of four that begins with `compile`,
 or with --all on each of up to four; on single words in each place where they are a number or a query; and on lists of five to
-nine words, made of a command by one change or none; and on those of the table of mistakes in docs/EDITORS.md. Words that are no command have to print the usage line and end with 2. Of
-any others a demo ends with 0, and the rest with 5, since their files are missing.
+nine words, made of a command by one change or none; and on those of the table of mistakes in docs/EDITORS.md. Words that are no
+command have to print the usage line and end with 2. Of any others a demo ends with 0, and the rest with 5, since their files are
+missing.
 """
 
 from concurrent.futures import ThreadPoolExecutor
@@ -24,18 +25,18 @@ from compare_texts import read_number
 
 PAGE = Path(__file__).resolve().parent.parent.joinpath("docs/EDITORS.md").read_text(encoding="utf-8")
 USAGE = (b"usage: qmapc compile MAP OUT [--prt FILE] [--threads N] [--fast] | inspect TREE QUERY.. | format MAP OUT"
-         b" | demo N NUMBER\n")
-TELLING = ["compile", "inspect", "format", "demo", "a", "8", "04", "count", "--fast", "--prt", "--prt=a", "--threads",
+         b" | demo N NUMBER | upgrade TREE OUT\n")
+TELLING = ["compile", "inspect", "format", "demo", "upgrade", "a", "8", "04", "count", "--fast", "--prt", "--prt=a", "--threads",
            "--threads=8", "-x", ""]
 NUMBERS = ["", "0", "00", "1", "01", "2", "7", "+1", "-1", "1.", "1.0", "1e0", "0x1", " 1", "1 ", "1,", "1_0", "\u0661", "\uff11",
            "\udcff", "64", "65", "256", "257", "4294967297", "999999999999999999", "1000000000000000000", "18446744073709551615",
            "18446744073709551616", "18446744073709551617", "0" * 40 + "1", "9" * 200]
 PLACES = ["0", "-0", "+1", "1.5", ".5", "5.", "1.2345670", "1.2345678", "1.2345678.", "1000000000", "1000000000.000001",
           "-1000000001", "9" * 30, "0" * 30, "", ".", "-", "+", "--1", "1e3", " 1", "x", "\u0661", "1,"]
-QUERIES = ["count", "COUNT", "count=", "count ", "Count", "cou", "at", "at=", "at=,,", "at=1,2", "at=1,2,3", "at=1,2,3,",
-           "at=1,2,3,4", "at= 1,2,3", "at=1, 2,3", "at 1,2,3", "AT=1,2,3", "at=1;2;3", "at==1,2,3", "row", "row=", "row 0",
-           "row=0,", "rows=0", "sees", "sees=", "sees=0", "sees=0,", "sees=,0", "sees=0,1", "sees=0,1,2", "sees=0 1", "see=0,1",
-           "help", "--help", "-count", "-", "--", "\u00e9", "at=1,2,\u00b3", "\udcff"]
+QUERIES = ["count", "COUNT", "count=", "count ", "Count", "cou", "parts", "PARTS", "part", "parts=", "parts=1", "parts ",
+           "at", "at=", "at=,,", "at=1,2", "at=1,2,3", "at=1,2,3,", "at=1,2,3,4", "at= 1,2,3", "at=1, 2,3", "at 1,2,3",
+           "AT=1,2,3", "at=1;2;3", "at==1,2,3", "row", "row=", "row 0", "row=0,", "rows=0", "sees", "sees=", "sees=0", "sees=0,",
+           "sees=,0", "sees=0,1", "sees=0,1,2", "sees=0 1", "see=0,1", "help", "--help", "-count", "-", "--", "\u00e9", "at=1,2,\u00b3", "\udcff"]
 
 
 def bytes_of(word):
@@ -69,8 +70,9 @@ def is_query(word):
     values = rest.split(",")
     if verb == "at":
         return len(values) == 3 and all(map(is_place, values))
-    counts = {"row": 1, "sees": 2}
-    return word == "count" or len(values) == counts.get(verb) and all(is_number(value, 0, 10 ** 18 - 1) for value in values)
+    if verb not in ("row", "sees"):
+        return word in ("count", "parts")
+    return len(values) == (1 if verb == "row" else 2) and all(is_number(value, 0, 10 ** 18 - 1) for value in values)
 
 
 def is_compile(words):
@@ -106,7 +108,7 @@ def command_of(words):
         good = is_compile(rest)
     elif verb == ["inspect"]:
         good = len(rest) >= 2 and is_name(rest[0]) and all(map(is_query, rest[1:]))
-    elif verb == ["format"]:
+    elif verb in (["format"], ["upgrade"]):
         good = len(rest) == 2 and all(map(is_name, rest)) and rest[0] != rest[1]
     else:
         good = verb == ["demo"] and len(rest) == 2 and is_number(rest[0], 1, 64) and is_number(rest[1], 0, 2 ** 64 - 1)
@@ -142,7 +144,7 @@ def long_lists(count):
         draw.shuffle(parts)
         words = ["compile", *itertools.chain(*parts)]
         if draw.random() < 0.2:
-            words = ["inspect", "a", *draw.choices(["count", "at=1,2,3", "row=0", "sees=0,1"], k=draw.randint(3, 7))]
+            words = ["inspect", "a", *draw.choices(["count", "parts", "at=1,2,3", "row=0", "sees=0,1"], k=draw.randint(3, 7))]
         at = draw.randrange(len(words))
         change = draw.randrange(5)
         if change == 1:
