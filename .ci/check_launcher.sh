@@ -141,7 +141,8 @@ goes_on_where_it_was() {
     : >"$folder/said"
     PATH="$folder/bin:$PATH" XDG_CACHE_HOME="$folder/cache" "$small/qmapc" again >"$folder/printed" 2>"$folder/said" &
     for _ in {1..600}; do
-        ! grep -qs '1 of 4 crates' "$folder/said" || break
+        kept=$(echo "$folder"/cache/qmapc/*/crates/low/out/kept)
+        [[ ! -s $kept ]] || ! grep -qs '1 of 4 crates' "$folder/said" || break
         sleep 0.1
     done
     kill -TERM $! && ! wait $! || return 1
