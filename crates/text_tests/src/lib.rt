@@ -16,6 +16,8 @@ mod tests_of_numbers;
 #[cfg(test)]
 mod tests_of_origins;
 #[cfg(test)]
+mod tests_of_pieces;
+#[cfg(test)]
 mod tests_of_printing;
 #[cfg(test)]
 mod tests_of_tokens;

@@ -11,7 +11,7 @@ fn is_fault(alloc: Global, text: &[u8], fault: MapFault) -> Result<bool, AllocEr
     })
 }
 
-static AT_THE_END: [(&[u8], MapFault); 10] = [
+pub(crate) static AT_THE_END: [(&[u8], MapFault); 10] = [
     (b"", MapFault::NoEntity { line: 1 }),
     (b"// {\n\n", MapFault::NoEntity { line: 3 }),
     (b"// {\r}", MapFault::NoEntity { line: 1 }),
@@ -27,7 +27,7 @@ static AT_THE_END: [(&[u8], MapFault); 10] = [
     (b"{ }\n\"a\nb", MapFault::UnclosedQuote { line: 2 }),
 ];
 
-static OF_ANOTHER_SORT: [(&[u8], u64); 22] = [
+pub(crate) static OF_ANOTHER_SORT: [(&[u8], u64); 22] = [
     (b"{ { x", 1),
     (b"x", 1),
     (b"}", 1),
@@ -52,7 +52,7 @@ static OF_ANOTHER_SORT: [(&[u8], u64); 22] = [
     (b"{\n}/", 2),
 ];
 
-static MAY_NOT_BE: [(&[u8], MapFault); 15] = [
+pub(crate) static MAY_NOT_BE: [(&[u8], MapFault); 15] = [
     (b"{ { ( 1e3", MapFault::BadNumber { line: 1 }),
     (b"{ { (\n+ 0 0 )", MapFault::BadNumber { line: 2 }),
     (b"{ { ( (0", MapFault::BadNumber { line: 1 }),

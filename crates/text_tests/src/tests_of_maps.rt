@@ -4,7 +4,7 @@ use std::alloc::{AllocError, Global};
 use std::test::Fail;
 
 /// A world with one face, as an editor writes it, and a door.
-const ROOM: &[u8] = b"// Game: Quake\r
+pub(crate) const ROOM: &[u8] = b"// Game: Quake\r
 // Format: Valve\r
 // entity 0\r
 {\r
