@@ -1,6 +1,6 @@
 //! Planes and windings that several tests start from.
 
-ghost use Rattle.qm_space.specs.Point.{IsCoordinate, AreCoordinates};
+ghost use Rattle.qm_space.specs.Point.{IsCoordinate, AreCoordinates, IsThousandths, AreThousandths};
 
 use qm_geom::Plane;
 use qm_wind::{Clip, Side, Winding};
@@ -8,7 +8,7 @@ use std::alloc::Global;
 
 /// The plane through three points that are on no line. What is outside the cube counts as on its border.
 pub(crate) fn through(points: [[i32; 3]; 3]) -> Plane {
-    match Plane::through(inside(points[0]), inside(points[1]), inside(points[2])) {
+    match Plane::through_whole(inside(points[0]), inside(points[1]), inside(points[2])) {
         Ok((plane, _)) => plane,
         Err(_) => Plane::default(),
     }
@@ -27,7 +27,24 @@ pub(crate) fn inside(point: [i32; 3]) -> [i32; 3]
 fn coordinate(number: i32) -> i32
     ensures { IsCoordinate result }
 {
-    number.clamp(-4096, 4096)
+    number.clamp(-32768, 32768)
+}
+
+/// The same of coordinates in thousandths of a map unit.
+pub(crate) fn thousandths(point: [i32; 3]) -> [i32; 3]
+    ensures { AreThousandths result }
+{
+    [
+        in_thousandths(point[0]),
+        in_thousandths(point[1]),
+        in_thousandths(point[2]),
+    ]
+}
+
+fn in_thousandths(number: i32) -> i32
+    ensures { IsThousandths result }
+{
+    number.clamp(-32_768_000, 32_768_000)
 }
 
 /// The plane z = 0.

@@ -40,22 +40,22 @@ fn rows_are_split(alloc: Global) -> bool {
         ([[0, 0, 1], [1, 0, 1], [0, 1, 1]], Lies::Back, (0, 4)),
         ([[0, 0, -1], [1, 0, -1], [0, 1, -1]], Lies::Front, (4, 0)),
         (
-            [[4000, 4000, 0], [3904, 4096, 0], [4000, 4000, 1]],
+            [[32000, 32000, 0], [31232, 32768, 0], [32000, 32000, 1]],
             Lies::Across,
             (3, 5),
         ),
         (
-            [[4096, 0, 0], [4096, 1, 0], [4096, 0, 1]],
+            [[32768, 0, 0], [32768, 1, 0], [32768, 0, 1]],
             Lies::Back,
             (0, 4),
         ),
         (
-            [[-4096, 0, 0], [-4096, 1, 0], [-4096, 0, 1]],
+            [[-32768, 0, 0], [-32768, 1, 0], [-32768, 0, 1]],
             Lies::Front,
             (4, 0),
         ),
         (
-            [[4096, 0, 0], [4096, 1, 0], [0, 0, 4096]],
+            [[32768, 0, 0], [32768, 1, 0], [0, 0, 32768]],
             Lies::Back,
             (0, 4),
         ),
@@ -75,19 +75,19 @@ fn rows_are_split(alloc: Global) -> bool {
         })
 }
 
-/// The half of the floor behind x = 0 lies in the cuboid from (-4096, -4096, 0) to (0, 4096, 0).
+/// The half of the floor behind x = 0 lies in the cuboid from (-32768, -32768, 0) to (0, 32768, 0).
 fn half_has_cuboid(alloc: Global) -> Option<bool> {
     let middle = through([[0, 0, 0], [0, 1, 0], [0, 0, 1]]);
     let ramp = through([[0, 0, 0], [0, 1, 0], [1, 0, -1]]);
     let half = on(alloc, &floor())?.split(&middle).ok()?.back?;
     let cuboid = half.cuboid();
     Some(
-        (cuboid.least_value(&middle), cuboid.greatest_value(&middle)) == (-4096, 0)
+        (cuboid.least_value(&middle), cuboid.greatest_value(&middle)) == (-32768, 0)
             && (
                 cuboid.least_value(&floor()),
                 cuboid.greatest_value(&floor()),
             ) == (0, 0)
-            && (cuboid.least_value(&ramp), cuboid.greatest_value(&ramp)) == (-4096, 0),
+            && (cuboid.least_value(&ramp), cuboid.greatest_value(&ramp)) == (-32768, 0),
     )
 }
 

@@ -210,12 +210,12 @@ beyond k place way wall x way_is within is weight test =
 outside_rows : TouchesOutside cube_tree 0 × TouchesOutside cube_tree 1 × TouchesOutside cube_tree 2 × TouchesOutside cube_tree 4 × TouchesOutside cube_tree 5 × TouchesOutside cube_tree 6
 unfolding value
 outside_rows = (
-  beyond 0 3 _ (mirrored wall_x) (at (pos 4096) (pos 0) (pos 0)) refl (omega arith) refl (omega (arith, ints)) refl,
-  beyond 1 4 _ (mirrored wall_y) (at (pos 32) (pos 4096) (pos 0)) refl (omega arith) refl (omega (arith, ints)) refl,
-  beyond 2 5 _ (mirrored wall_z) (at (pos 32) (pos 32) (pos 4096)) refl (omega arith) refl (omega (arith, ints)) refl,
-  beyond 4 2 _ wall_z (at (pos 32) (pos 32) (neg_ℤ (pos 4096))) refl (omega arith) refl (omega (arith, ints)) refl,
-  beyond 5 1 _ wall_y (at (pos 32) (neg_ℤ (pos 4096)) (pos 0)) refl (omega arith) refl (omega (arith, ints)) refl,
-  beyond 6 0 _ wall_x (at (neg_ℤ (pos 4096)) (pos 0) (pos 0)) refl (omega arith) refl (omega (arith, ints)) refl,
+  beyond 0 3 _ (mirrored wall_x) (at extent (pos 0) (pos 0)) refl (omega arith) refl (omega (arith, ints)) refl,
+  beyond 1 4 _ (mirrored wall_y) (at (pos 32) extent (pos 0)) refl (omega arith) refl (omega (arith, ints)) refl,
+  beyond 2 5 _ (mirrored wall_z) (at (pos 32) (pos 32) extent) refl (omega arith) refl (omega (arith, ints)) refl,
+  beyond 4 2 _ wall_z (at (pos 32) (pos 32) (neg_ℤ extent)) refl (omega arith) refl (omega (arith, ints)) refl,
+  beyond 5 1 _ wall_y (at (pos 32) (neg_ℤ extent) (pos 0)) refl (omega arith) refl (omega (arith, ints)) refl,
+  beyond 6 0 _ wall_x (at (neg_ℤ extent) (pos 0) (pos 0)) refl (omega arith) refl (omega (arith, ints)) refl,
 )
 
 -- the stone does not: its points lie between the planes x = 0 and x = 64, and so on
@@ -244,11 +244,11 @@ stone_row outside = All-contains (λ wall. IsOn wall p → ⊥) cube_walls outsi
     wide : pos 0 <ℤ (extent *ℤ outside.point.w)
     wide = product_positive extent outside.point.w (omega (arith, ints)) outside.on_face.weight
 
-    less : (extent *ℤ outside.point.w) ≡ (pos 64 *ℤ outside.point.w) +ℤ (pos 4032 *ℤ outside.point.w)
-    less = +ℤ-*ℤ (pos 64) (pos 4032) outside.point.w
+    less : (extent *ℤ outside.point.w) ≡ (pos 64 *ℤ outside.point.w) +ℤ ((extent -ℤ pos 64) *ℤ outside.point.w)
+    less = +ℤ-*ℤ (pos 64) (extent -ℤ pos 64) outside.point.w
 
-    more : pos 0 <ℤ (pos 4032 *ℤ outside.point.w)
-    more = product_positive (pos 4032) outside.point.w (omega (arith, ints)) outside.on_face.weight
+    more : pos 0 <ℤ ((extent -ℤ pos 64) *ℤ outside.point.w)
+    more = product_positive (extent -ℤ pos 64) outside.point.w (omega (arith, ints)) outside.on_face.weight
 
     no_wide : pos 0 *ℤ outside.point.w ≡ pos 0
     no_wide = zero_*ℤ outside.point.w

@@ -5,6 +5,7 @@ use Rattle.std.proofs.lemmas.List.Elements.{All-from_recursion, All-contains, Al
 use Rattle.qm_lists.specs.Reach.{start}
 use Rattle.qm_lists.specs.WorkList.{IsIn}
 use Rattle.qm_lists.proofs.Elements.{Contains-first, Contains-cons_cases}
+use Rattle.qm_space.specs.Bounds.{extent}
 use Rattle.qm_space.specs.Point.{Point, IsInCube}
 use Rattle.qm_space.specs.Plane.{Plane, plane_of, value, IsInFront, flipped}
 use Rattle.qm_space.specs.Cube.{cube_walls, wall_x, wall_y, wall_z, mirrored}
@@ -74,7 +75,7 @@ found_is = record {
     (λ r.
         let s = (square_region half wall_y wall_z p).0 r in
         let v = half_value p in
-        let m = product_positive (pos 4096) p.w (omega (arith, ints)) s.0 in
+        let m = product_positive extent p.w (omega (arith, ints)) s.0 in
         let x_is = s.1 in
         record {
           in_cube = record { weight = s.0; x = record { above = omega (arith, linear); below = omega (arith, linear) }; y = (between_y p).0 s.2; z = (between_z p).0 s.3 };
@@ -91,7 +92,7 @@ touchings_row : AreTouchings (half ∷ []) (meeting ∷ []) (found ∷ [])
 touchings_row = touching found_is none
 
 -- both leaves have a point
-in_cube : (x : ℤ) → neg_ℤ (pos 4096) <ℤ x → x <ℤ pos 4096 → IsInCube (point x (pos 0) (pos 0))
+in_cube : (x : ℤ) → neg_ℤ extent <ℤ x → x <ℤ extent → IsInCube (point x (pos 0) (pos 0))
 in_cube x low high = record {
   weight = omega (arith, ints);
   x = record { above = omega (arith, ints, low); below = omega (arith, ints, high) };
@@ -117,14 +118,14 @@ module _ (contents : Contents) where
     way_is = refl;
     wall = mirrored wall_x;
     is_wall = (3, omega arith, refl);
-    point = point (pos 4096) (pos 0) (pos 0);
+    point = point extent (pos 0) (pos 0);
     on_face = record {
       weight = omega (arith, ints);
       on = refl;
-      inside = All-from_recursion (λ g. (g ≡ mirrored wall_x → ⊥) → IsInFront g (point (pos 4096) (pos 0) (pos 0))) cube_walls
+      inside = All-from_recursion (λ g. (g ≡ mirrored wall_x → ⊥) → IsInFront g (point extent (pos 0) (pos 0))) cube_walls
           ((λ other. omega (arith, ints)), ((λ other. omega (arith, ints)), ((λ other. omega (arith, ints)), ((λ other. absurd (other refl)), ((λ other. omega (arith, ints)), ((λ other. omega (arith, ints)), tt))))));
     };
-    in_cell = All-from_recursion (λ g. IsInFront g (point (pos 4096) (pos 0) (pos 0))) (cell_of_way (half ∷ []) (record { plane = 0; front = true } ∷ [])) (omega (arith, ints), tt);
+    in_cell = All-from_recursion (λ g. IsInFront g (point extent (pos 0) (pos 0))) (cell_of_way (half ∷ []) (record { plane = 0; front = true } ∷ [])) (omega (arith, ints), tt);
   }
 
   back_outside : TouchesOutside (halves contents) 1
@@ -134,14 +135,14 @@ module _ (contents : Contents) where
     way_is = refl;
     wall = wall_x;
     is_wall = (0, omega arith, refl);
-    point = point (neg_ℤ (pos 4096)) (pos 0) (pos 0);
+    point = point (neg_ℤ extent) (pos 0) (pos 0);
     on_face = record {
       weight = omega (arith, ints);
       on = refl;
-      inside = All-from_recursion (λ g. (g ≡ wall_x → ⊥) → IsInFront g (point (neg_ℤ (pos 4096)) (pos 0) (pos 0))) cube_walls
+      inside = All-from_recursion (λ g. (g ≡ wall_x → ⊥) → IsInFront g (point (neg_ℤ extent) (pos 0) (pos 0))) cube_walls
           ((λ other. absurd (other refl)), ((λ other. omega (arith, ints)), ((λ other. omega (arith, ints)), ((λ other. omega (arith, ints)), ((λ other. omega (arith, ints)), ((λ other. omega (arith, ints)), tt))))));
     };
-    in_cell = All-from_recursion (λ g. IsInFront g (point (neg_ℤ (pos 4096)) (pos 0) (pos 0))) (cell_of_way (half ∷ []) (record { plane = 0; front = false } ∷ [])) (omega (arith, ints), tt);
+    in_cell = All-from_recursion (λ g. IsInFront g (point (neg_ℤ extent) (pos 0) (pos 0))) (cell_of_way (half ∷ []) (record { plane = 0; front = false } ∷ [])) (omega (arith, ints), tt);
   }
 
   -- these are all contacts

@@ -7,7 +7,7 @@ use Rattle.qm_numbers.proofs.IntegerProducts.{linear, one_*ℤ, neg-*ℤ}
 use Rattle.qm_numbers.proofs.Bits.{kept_32, kept_64, negated_64}
 use Rattle.qm_numbers.proofs.Kept.{kept, three_less_one_kept, one_less_two_kept}
 use Rattle.qm_numbers.proofs.Signs.{abs_sum, abs_difference}
-use Rattle.qm_space.specs.Bounds.{normal_bound, distance_bound}
+use Rattle.qm_space.specs.Bounds.{normal_bound, distance_bound, product_bound}
 use Rattle.qm_space.specs.Plane.{Plane}
 use Rattle.qm_space.specs.Cuboid.{Span, IsTightenedSpan, IsTightenedBetween}
 use Rattle.qm_space.proofs.Cuboids.{tightened_multiple}
@@ -58,22 +58,22 @@ value_is g h r p q r_small d_small same e f =
 pub left_is : (g h : Plane) (r p q : Vector) → unsigned_abs g.d ≤ distance_bound → g ≡ h → p ≡ q → r ≡ left_of p (kept w64 g.d) → r ≡ left_of q h.d
 left_is g h r p q d_small same e f = f ∙ (λ i. left_of (e i) (distance_is g h d_small same i))
 
-pub sum_less_kept : (p : Vector) (d : ℤ) → HasSmallComponents p (2 ^ 38) → unsigned_abs d ≤ distance_bound →
+pub sum_less_kept : (p : Vector) (d : ℤ) → HasSmallComponents p (product_bound) → unsigned_abs d ≤ distance_bound →
     kept w64 (kept w64 (kept w64 (kept w64 p.x +ℤ kept w64 p.y) +ℤ kept w64 p.z) -ℤ kept w64 d) ≡ sum_less p d
 sum_less_kept p d s h =
     let x = s.x_small in let y = s.y_small in let z = s.z_small in
     three_less_one_kept p.x p.y p.z d (omega arith) (omega arith) (omega arith) (omega arith)
 
-pub sum_less_small : (p : Vector) (d : ℤ) → HasSmallComponents p (2 ^ 38) → unsigned_abs d ≤ distance_bound → unsigned_abs (sum_less p d) ≤ 2 ^ 45
+pub sum_less_small : (p : Vector) (d : ℤ) → HasSmallComponents p (product_bound) → unsigned_abs d ≤ distance_bound → unsigned_abs (sum_less p d) ≤ 2 ^ 45
 sum_less_small p d s h =
     let x = s.x_small in let y = s.y_small in let z = s.z_small in
     let a = abs_sum p.x p.y in let b = abs_sum (p.x +ℤ p.y) p.z in let c = abs_difference ((p.x +ℤ p.y) +ℤ p.z) d in
     omega arith
 
-one_left_small : (d a b : ℤ) → unsigned_abs d ≤ distance_bound → unsigned_abs a ≤ 2 ^ 38 → unsigned_abs b ≤ 2 ^ 38 → unsigned_abs ((d -ℤ a) -ℤ b) ≤ 2 ^ 45
+one_left_small : (d a b : ℤ) → unsigned_abs d ≤ distance_bound → unsigned_abs a ≤ product_bound → unsigned_abs b ≤ product_bound → unsigned_abs ((d -ℤ a) -ℤ b) ≤ 2 ^ 45
 one_left_small d a b h k l = let s = abs_difference d a in let t = abs_difference (d -ℤ a) b in omega arith
 
-pub left_kept : (p : Vector) (d : ℤ) → HasSmallComponents p (2 ^ 38) → unsigned_abs d ≤ distance_bound →
+pub left_kept : (p : Vector) (d : ℤ) → HasSmallComponents p (product_bound) → unsigned_abs d ≤ distance_bound →
     record { x = kept w64 (kept w64 (kept w64 d -ℤ kept w64 p.y) -ℤ kept w64 p.z); y = kept w64 (kept w64 (kept w64 d -ℤ kept w64 p.z) -ℤ kept w64 p.x); z = kept w64 (kept w64 (kept w64 d -ℤ kept w64 p.x) -ℤ kept w64 p.y) } ≡ left_of p d
 left_kept p d s h =
     let x = s.x_small in let y = s.y_small in let z = s.z_small in
@@ -83,7 +83,7 @@ left_kept p d s h =
       z = one_less_two_kept d p.x p.y (omega arith) (omega arith) (omega arith) i;
     }
 
-pub left_small : (p : Vector) (d : ℤ) → HasSmallComponents p (2 ^ 38) → unsigned_abs d ≤ distance_bound → HasSmallComponents (left_of p d) (2 ^ 45)
+pub left_small : (p : Vector) (d : ℤ) → HasSmallComponents p (product_bound) → unsigned_abs d ≤ distance_bound → HasSmallComponents (left_of p d) (2 ^ 45)
 left_small p d s h = record {
   x_small = one_left_small d p.y p.z h s.y_small s.z_small;
   y_small = one_left_small d p.z p.x h s.z_small s.x_small;

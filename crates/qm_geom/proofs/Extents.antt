@@ -16,7 +16,7 @@ pub record AreWide (coordinate weight far place : ℤ) : Type 0 where
   pub place_is : place ≡ coordinate
   pub place_small : unsigned_abs place ≤ 2 ^ 63
 
-pub wide_numbers : (coordinate weight far place k : ℤ) → k ≡ pos 4096 → far ≡ kept w64 k *ℤ kept w64 weight → unsigned_abs far ≤ 2 ^ 126 → FitsSigned w64 weight → place ≡ kept w64 coordinate → FitsSigned w64 coordinate → AreWide coordinate weight far place
+pub wide_numbers : (coordinate weight far place k : ℤ) → k ≡ extent → far ≡ kept w64 k *ℤ kept w64 weight → unsigned_abs far ≤ 2 ^ 126 → FitsSigned w64 weight → place ≡ kept w64 coordinate → FitsSigned w64 coordinate → AreWide coordinate weight far place
 wide_numbers coordinate weight far place k k_is far_is far_small weight_fits place_is fits =
     let same = place_is ∙ to_z-of_z w64 coordinate fits in
     record {

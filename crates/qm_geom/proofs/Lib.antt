@@ -10,3 +10,5 @@ pub mod EnteredPlanes
 pub mod Extents
 pub mod Cuboids
 pub mod Lines
+pub mod ThroughPoints
+pub mod LowestTerms

@@ -1,13 +1,16 @@
 -- Vectors as the code keeps them.
-use Rattle.std.proofs.Common.{◌≡◌, ◌≤◌, ◌*◌, ◌-◌, ◌^◌, ◌*ℤ◌, ◌-ℤ◌, ◌∙◌, ℕ, ℤ, FitsSigned, w32, w64, arith, lit≤, refl, sym, subst, unsigned_abs}
+use Rattle.std.proofs.Common.{◌≡◌, ◌≤◌, ◌*◌, ◌-◌, ◌^◌, ◌*ℤ◌, ◌-ℤ◌, ◌∙◌, ℕ, ℤ, pos, List, FitsSigned, w32, w64, arith, lit≤, refl, sym, subst, unsigned_abs}
 use mir.Syntax.{w128}
 use Rattle.std.proofs.lemmas.Int.{to_z-of_z}
-use Rattle.qm_space.specs.Point.{Point, IsCoordinate, IsWholePoint}
+use Rattle.qm_space.specs.Bounds.{thousandths_bound, outward_normal_bound, spanned_distance_bound}
+use Rattle.qm_space.specs.Point.{Point, whole_point, thousandths_point, IsThousandths, AreThousandths}
 use Rattle.qm_space.specs.Plane.{Plane, value}
-use Rattle.qm_space.specs.ThreePoints.{outward_plane}
-use Rattle.qm_space.specs.inner.OutwardSizes.{HasOutwardSizes}
+use Rattle.qm_space.specs.Reduced.{HasNormalUpTo}
+use Rattle.qm_space.specs.ThreePoints.{outward_plane, in_space}
+use Rattle.qm_space.specs.inner.SpannedSizes.{HasSpannedSizes}
 use Rattle.qm_numbers.proofs.Signs.{abs_difference}
-use Rattle.qm_space.proofs.PlanesThroughPoints.{coordinate_small, outward_sizes}
+use Rattle.qm_space.proofs.CoordinateSizes.{thousandths_small}
+use Rattle.qm_space.proofs.SpannedPlanes.{outward_of_numerators, outward_sizes, thousandfold}
 use Rattle.qm_geom.specs.Vectors.{normal_vector, step_to, vector_between, cross_vector, dot, HasSmallComponents}
 use Rattle.qm_geom.specs.declared.vector.Vector.{Vector}
 use Rattle.qm_numbers.proofs.Kept.{kept, small_kept, fits_64, fits_128, answered, product_answered, apart_is}
@@ -49,58 +52,60 @@ value_at_point h p n x y z w d r q of_h of_p of_d fx fy fz fw fd along times k l
     apart_is r q (3 * 2 ^ 116) (2 ^ 126) k l (lit≤ tt)
     ∙ value_is h p r q (along ∙ rw (vector_kept x y z fx fy fz, of_h, ← of_p) refl) (product_answered w64 q d w fd fw times ∙ rw (of_d, ← of_p) refl)
 
--- ---- steps between whole points, and the outward plane
+-- ---- steps between points, and the outward plane
 
-pub coordinate_kept : (z : ℤ) → IsCoordinate z → IsCoordinate (kept w32 z)
-coordinate_kept z h = rw (kept_32 z (2 ^ 12) (coordinate_small z h) (lit≤ tt)) h
+pub coordinate_kept : (z : ℤ) → IsThousandths z → IsThousandths (kept w32 z)
+coordinate_kept z h = rw (kept_32 z thousandths_bound (thousandths_small z h) (lit≤ tt)) h
 
-step_small : (a b : ℤ) → unsigned_abs a ≤ 2 ^ 12 → unsigned_abs b ≤ 2 ^ 12 → unsigned_abs (b -ℤ a) ≤ 2 ^ 13
+step_small : (a b : ℤ) → unsigned_abs a ≤ thousandths_bound → unsigned_abs b ≤ thousandths_bound → unsigned_abs (b -ℤ a) ≤ 2 ^ 26
 step_small a b h k = let s = abs_difference b a in omega arith
 
-pub difference_answered : (r a b : ℤ) → IsCoordinate a → IsCoordinate b → r ≡ kept w32 b -ℤ kept w32 a → kept w64 r ≡ b -ℤ a
+pub difference_answered : (r a b : ℤ) → IsThousandths a → IsThousandths b → r ≡ kept w32 b -ℤ kept w32 a → kept w64 r ≡ b -ℤ a
 difference_answered r a b h k e =
-    answered w64 (b -ℤ a) r (fits_64 (b -ℤ a) _ (step_small a b (coordinate_small a h) (coordinate_small b k)) (lit≤ tt))
-    (e ∙ rw (kept_32 a (2 ^ 12) (coordinate_small a h) (lit≤ tt), kept_32 b (2 ^ 12) (coordinate_small b k) (lit≤ tt)) refl)
+    answered w64 (b -ℤ a) r (fits_64 (b -ℤ a) _ (step_small a b (thousandths_small a h) (thousandths_small b k)) (lit≤ tt))
+    (e ∙ rw (kept_32 a thousandths_bound (thousandths_small a h) (lit≤ tt), kept_32 b thousandths_bound (thousandths_small b k) (lit≤ tt)) refl)
 
 abbrev pub plane : ℤ → ℤ → ℤ → ℤ → Plane
 plane nx ny nz d = record { nx = nx; ny = ny; nz = nz; d = d }
+
+-- the numbers of an unreduced plane fit
+pub plane_kept : (nx ny nz d : ℤ) → HasSpannedSizes (plane nx ny nz d) → plane (kept w64 nx) (kept w64 ny) (kept w64 nz) (kept w128 d) ≡ plane nx ny nz d
+plane_kept nx ny nz d s =
+    rw (to_z-of_z w64 nx (fits_64 nx _ s.nx_small (lit≤ tt)), to_z-of_z w64 ny (fits_64 ny _ s.ny_small (lit≤ tt)), to_z-of_z w64 nz (fits_64 nz _ s.nz_small (lit≤ tt)), to_z-of_z w128 d (fits_128 d _ s.d_small (lit≤ tt)))
+    refl
 
 outward_is : (p0 p1 p2 : Point) (n s t o : Vector) (d : ℤ) → s ≡ vector_between p1 p0 → t ≡ vector_between p1 p2 → n ≡ cross_vector s t → o ≡ step_to p1 → d ≡ dot n o → plane n.x n.y n.z d ≡ outward_plane p0 p1 p2
 unfolding outward_plane vector_between cross_vector dot
 outward_is p0 p1 p2 n s t o d of_s of_t of_n of_o of_d = rw (of_d, of_n, of_s, of_t, of_o) refl
 
-wide_distance : (d : ℤ) → unsigned_abs d ≤ 3 * 2 ^ 38 → kept w128 d ≡ d
-wide_distance d h = to_z-of_z w128 d (fits_128 d _ h (lit≤ tt))
-
-distance_fits : (d : ℤ) → unsigned_abs d ≤ 3 * 2 ^ 38 → FitsSigned w64 (kept w128 d)
-distance_fits d h = rw (wide_distance d h) (fits_64 d _ h (lit≤ tt))
-
-plane_kept : (nx ny nz d : ℤ) → HasOutwardSizes (plane nx ny nz d) → plane (kept w64 nx) (kept w64 ny) (kept w64 nz) (kept w64 (kept w128 d)) ≡ plane nx ny nz d
-plane_kept nx ny nz d s =
-    rw (wide_distance d s.d_small, to_z-of_z w64 nx (fits_64 nx _ s.nx_small (lit≤ tt)), to_z-of_z w64 ny (fits_64 ny _ s.ny_small (lit≤ tt)), to_z-of_z w64 nz (fits_64 nz _ s.nz_small (lit≤ tt)), to_z-of_z w64 d (fits_64 d _ s.d_small (lit≤ tt)))
-    refl
-
 -- what the code's steps s and t, their cross product n, the second point's vector o and the distance d are
-pub record AreOutwardParts (p0 p1 p2 : Point) (s t n o : Vector) (d : ℤ) : Type 0 where
-  pub first_step : s ≡ vector_between p1 p0
-  pub second_step : t ≡ vector_between p1 p2
+pub record AreOutwardParts (p0 p1 p2 : List ℤ) (s t n o : Vector) (d : ℤ) : Type 0 where
+  pub first_step : s ≡ vector_between (whole_point p1) (whole_point p0)
+  pub second_step : t ≡ vector_between (whole_point p1) (whole_point p2)
   pub normal : n ≡ cross_vector s t
-  pub second_point : o ≡ step_to p1
+  pub second_point : o ≡ step_to (whole_point p1)
   pub distance : d ≡ dot n o
-  pub p0_whole : IsWholePoint p0
-  pub p1_whole : IsWholePoint p1
-  pub p2_whole : IsWholePoint p2
+  pub p0_small : AreThousandths p0
+  pub p1_small : AreThousandths p1
+  pub p2_small : AreThousandths p2
 
-parts_are : (p0 p1 p2 : Point) (s t n o : Vector) (d : ℤ) → AreOutwardParts p0 p1 p2 s t n o d → plane n.x n.y n.z d ≡ outward_plane p0 p1 p2
-parts_are p0 p1 p2 s t n o d p = outward_is p0 p1 p2 n s t o d p.first_step p.second_step p.normal p.second_point p.distance
+parts_are : (p0 p1 p2 : List ℤ) (s t n o : Vector) (d : ℤ) → AreOutwardParts p0 p1 p2 s t n o d → plane n.x n.y n.z d ≡ outward_plane (thousandths_point p0) (thousandths_point p1) (thousandths_point p2)
+parts_are p0 p1 p2 s t n o d p =
+    outward_is (whole_point p0) (whole_point p1) (whole_point p2) n s t o d p.first_step p.second_step p.normal p.second_point p.distance
+    ∙ sym (outward_of_numerators p0 p1 p2)
 
-parts_sizes : (p0 p1 p2 : Point) (s t n o : Vector) (d : ℤ) → AreOutwardParts p0 p1 p2 s t n o d → HasOutwardSizes (plane n.x n.y n.z d)
-parts_sizes p0 p1 p2 s t n o d p =
-    subst HasOutwardSizes (sym (parts_are p0 p1 p2 s t n o d p)) (outward_sizes p0 p1 p2 p.p0_whole p.p1_whole p.p2_whole)
-
-pub outward_distance_fits : (p0 p1 p2 : Point) (s t n o : Vector) (d : ℤ) → AreOutwardParts p0 p1 p2 s t n o d → FitsSigned w64 (kept w128 d)
-outward_distance_fits p0 p1 p2 s t n o d p = let h = parts_sizes p0 p1 p2 s t n o d p in distance_fits d h.d_small
-
-pub outward_kept : (p0 p1 p2 : Point) (s t n o : Vector) (d : ℤ) → AreOutwardParts p0 p1 p2 s t n o d → plane (kept w64 n.x) (kept w64 n.y) (kept w64 n.z) (kept w64 (kept w128 d)) ≡ outward_plane p0 p1 p2
+pub outward_kept : (p0 p1 p2 : List ℤ) (s t n o : Vector) (d : ℤ) → AreOutwardParts p0 p1 p2 s t n o d → plane (kept w64 n.x) (kept w64 n.y) (kept w64 n.z) (kept w128 d) ≡ outward_plane (thousandths_point p0) (thousandths_point p1) (thousandths_point p2)
 outward_kept p0 p1 p2 s t n o d p =
-    plane_kept n.x n.y n.z d (parts_sizes p0 p1 p2 s t n o d p) ∙ parts_are p0 p1 p2 s t n o d p
+    plane_kept n.x n.y n.z d (subst HasSpannedSizes (sym (parts_are p0 p1 p2 s t n o d p)) (outward_sizes p0 p1 p2 p.p0_small p.p1_small p.p2_small))
+    ∙ parts_are p0 p1 p2 s t n o d p
+
+-- a plane over numerators in thousandths, in space
+
+one_thousandfold : (n : ℤ) → unsigned_abs n ≤ outward_normal_bound → kept w64 (pos 1000 *ℤ kept w64 n) ≡ pos 1000 *ℤ n
+one_thousandfold n small =
+    rw (to_z-of_z w64 n (fits_64 n _ small (lit≤ tt))) (to_z-of_z w64 (pos 1000 *ℤ n) (fits_64 (pos 1000 *ℤ n) _ (thousandfold n small) (lit≤ tt)))
+
+pub thousandfold_kept : (h : Plane) → HasNormalUpTo outward_normal_bound h → unsigned_abs h.d ≤ spanned_distance_bound → plane (kept w64 (pos 1000 *ℤ kept w64 h.nx)) (kept w64 (pos 1000 *ℤ kept w64 h.ny)) (kept w64 (pos 1000 *ℤ kept w64 h.nz)) (kept w128 h.d) ≡ in_space (pos 1000) h
+unfolding in_space
+thousandfold_kept h small d_small =
+    rw (one_thousandfold h.nx small.x, one_thousandfold h.ny small.y, one_thousandfold h.nz small.z, to_z-of_z w128 h.d (fits_128 h.d _ d_small (lit≤ tt))) refl

@@ -1,3 +1,4 @@
 pub mod Numbered
 pub mod SmallCoordinate
 pub mod Products
+pub mod Lowest

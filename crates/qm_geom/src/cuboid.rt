@@ -1,6 +1,6 @@
 ghost use Rattle.std.specs.Prelude.{◌≡◌, ◌≤◌, ◌*◌, ◌^◌, ℤ, pos, negsuc, neg_ℤ, ◌*ℤ◌, ◌≤ℤ◌, ◌<ℤ◌, ◌⊎◌, unsigned_abs};
 ghost use Rattle.qm_numbers.specs.Rounding.{IsRoundedDown};
-ghost use Rattle.qm_space.specs.Bounds.{normal_bound, distance_bound};
+ghost use Rattle.qm_space.specs.Bounds.{normal_bound, distance_bound, product_bound};
 ghost use Rattle.qm_space.specs.Point.{Point, IsCoordinate};
 ghost use Rattle.qm_space.specs.Plane.{value};
 ghost use Rattle.qm_space.specs.Cuboid.{IsInSpan, IsInCuboid, whole_span, whole_cuboid, least_product, greatest_product, least_value, greatest_value, IsTightened, IsTightenedOn, IsTightenedSpan, IsTightenedBetween};
@@ -139,7 +139,7 @@ impl Span {
     fn least_product(&self, component: i32) -> i64
         requires { unsigned_abs component ≤ normal_bound }
         ensures exact { result ≡ least_product component self.now }
-        ensures size { unsigned_abs result ≤ 2 ^ 38 }
+        ensures size { unsigned_abs result ≤ product_bound }
     {
         if component < 0 {
             times(component, self.high)
@@ -153,7 +153,7 @@ impl Span {
     fn greatest_product(&self, component: i32) -> i64
         requires { unsigned_abs component ≤ normal_bound }
         ensures exact { result ≡ greatest_product component self.now }
-        ensures size { unsigned_abs result ≤ 2 ^ 38 }
+        ensures size { unsigned_abs result ≤ product_bound }
     {
         if component < 0 {
             times(component, self.low)
@@ -168,7 +168,7 @@ fn times(component: i32, coordinate: i32) -> i64
     requires component_small { unsigned_abs component ≤ normal_bound }
     requires coordinate_in_cube { IsCoordinate coordinate }
     ensures exact { result ≡ component *ℤ coordinate }
-    ensures size { unsigned_abs result ≤ 2 ^ 38 }
+    ensures size { unsigned_abs result ≤ product_bound }
 {
     i64::from(component) * i64::from(coordinate)
 }
@@ -257,7 +257,7 @@ impl Cuboid {
 
     fn least_products(&self, plane: &Plane) -> Vector
         ensures exact { result ≡ least_products plane.now self.now }
-        ensures size { HasSmallComponents result (2 ^ 38) }
+        ensures size { HasSmallComponents result (product_bound) }
     {
         Vector {
             x: self.x.least_product(plane.nx),
@@ -268,7 +268,7 @@ impl Cuboid {
 
     fn greatest_products(&self, plane: &Plane) -> Vector
         ensures exact { result ≡ greatest_products plane.now self.now }
-        ensures size { HasSmallComponents result (2 ^ 38) }
+        ensures size { HasSmallComponents result (product_bound) }
     {
         Vector {
             x: self.x.greatest_product(plane.nx),
@@ -280,7 +280,7 @@ impl Cuboid {
 
 /// The sum of three products, one for each axis, less a distance.
 fn sum_less(products: Vector, distance: i64) -> i64
-    requires products_small { HasSmallComponents products (2 ^ 38) }
+    requires products_small { HasSmallComponents products (product_bound) }
     requires distance_small { unsigned_abs distance ≤ distance_bound }
     ensures exact { result ≡ sum_less products distance }
     ensures size { unsigned_abs result ≤ 2 ^ 45 }
@@ -290,7 +290,7 @@ fn sum_less(products: Vector, distance: i64) -> i64
 
 /// What the products of the two other axes leave of a distance, for each axis.
 fn left_of(products: Vector, distance: i64) -> Vector
-    requires products_small { HasSmallComponents products (2 ^ 38) }
+    requires products_small { HasSmallComponents products (product_bound) }
     requires distance_small { unsigned_abs distance ≤ distance_bound }
     ensures exact { result ≡ left_of products distance }
     ensures size { HasSmallComponents result (2 ^ 45) }

@@ -13,6 +13,7 @@ mod plane;
 mod plane_book;
 mod point;
 mod rounding;
+mod through_fault;
 mod unreduced;
 mod vector;
 
@@ -22,8 +23,9 @@ pub use distance::least_distance;
 pub use factor::common_divisor;
 pub use line::Line;
 pub use one_line::are_on_one_line;
-pub use plane::{NoNormal, Plane};
+pub use plane::Plane;
 pub use plane_book::PlaneBook;
 pub use point::Point;
 pub use rounding::rounded_down;
+pub use through_fault::ThroughFault;
 pub use vector::Vector;

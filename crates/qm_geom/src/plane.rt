@@ -1,12 +1,13 @@
-ghost use Rattle.std.specs.Prelude.{◌≡◌, ◌^◌, pos, ◌↔◌, IfOk, IsErr};
+ghost use Rattle.std.specs.Prelude.{◌≡◌, ◌^◌, pos, ◌↔◌, IfOk, Err};
 ghost use Rattle.std.specs.Ordering.{int_cmp};
 ghost use Rattle.qm_space.specs.Plane.{flipped, value};
-ghost use Rattle.qm_space.specs.Point.{whole_point, AreCoordinates};
-ghost use Rattle.qm_space.specs.ThreePoints.{plane_through, IsPlaneThrough};
+ghost use Rattle.qm_space.specs.Point.{whole_point, thousandths_point, AreCoordinates, AreThousandths};
+ghost use Rattle.qm_space.specs.ThreePoints.{plane_through, IsPlaneThrough, IsPlaneTooFine};
 ghost use Rattle.qm_space.specs.Line.{AreOnOneLine};
 ghost use Rattle.qm_geom.specs.Vectors.{normal_vector, HasSmallComponents};
 
 use crate::point::Point;
+use crate::through_fault::ThroughFault;
 use crate::unreduced::UnreducedPlane;
 use crate::vector::{Vector, product};
 use std::cmp::Ordering;
@@ -46,26 +47,38 @@ impl Default for Plane {
     }
 }
 
-/// The points lie on one line, so that no plane is the plane through them.
-#[derive(Clone, Copy)]
-pub struct NoNormal;
-
 impl Plane {
-    /// The plane through three whole points, and whether the normal `(p0 - p1) × (p2 - p1)` points to
-    /// its front. It fails exactly where the points lie on one line.
-    pub fn through(p0: [i32; 3], p1: [i32; 3], p2: [i32; 3]) -> Result<(Plane, bool), NoNormal>
+    /// The plane through three points in thousandths of a map unit, and whether the normal `(p0 - p1) × (p2 - p1)` points
+    /// to its front.
+    pub fn through(p0: [i32; 3], p1: [i32; 3], p2: [i32; 3]) -> Result<(Plane, bool), ThroughFault>
+        requires p0_in_cube { AreThousandths p0 }
+        requires p1_in_cube { AreThousandths p1 }
+        requires p2_in_cube { AreThousandths p2 }
+        ensures value { IfOk result (λ r. r ≡ plane_through (thousandths_point p0) (thousandths_point p1) (thousandths_point p2)) }
+        ensures through { IfOk result (λ r. IsPlaneThrough (thousandths_point p0) (thousandths_point p1) (thousandths_point p2) r.0 r.1) }
+        ensures no_normal { (result ≡ Err ThroughFault.NoNormal) ↔ AreOnOneLine (thousandths_point p0) (thousandths_point p1) (thousandths_point p2) }
+        ensures too_fine { (result ≡ Err ThroughFault.TooFine) ↔ IsPlaneTooFine (thousandths_point p0) (thousandths_point p1) (thousandths_point p2) }
+    {
+        UnreducedPlane::outward(p0, p1, p2)
+            .in_thousandths()
+            .in_lowest_terms()
+    }
+
+    /// The same of three whole points.
+    pub fn through_whole(
+        p0: [i32; 3],
+        p1: [i32; 3],
+        p2: [i32; 3],
+    ) -> Result<(Plane, bool), ThroughFault>
         requires p0_in_cube { AreCoordinates p0 }
         requires p1_in_cube { AreCoordinates p1 }
         requires p2_in_cube { AreCoordinates p2 }
         ensures value { IfOk result (λ r. r ≡ plane_through (whole_point p0) (whole_point p1) (whole_point p2)) }
         ensures through { IfOk result (λ r. IsPlaneThrough (whole_point p0) (whole_point p1) (whole_point p2) r.0 r.1) }
-        ensures no_normal { IsErr result ↔ AreOnOneLine (whole_point p0) (whole_point p1) (whole_point p2) }
+        ensures no_normal { (result ≡ Err ThroughFault.NoNormal) ↔ AreOnOneLine (whole_point p0) (whole_point p1) (whole_point p2) }
+        ensures too_fine { (result ≡ Err ThroughFault.TooFine) ↔ IsPlaneTooFine (whole_point p0) (whole_point p1) (whole_point p2) }
     {
-        let outward = UnreducedPlane::outward(p0, p1, p2);
-        if !outward.has_normal() {
-            return Err(NoNormal);
-        }
-        Ok((outward.leading().reduced(), outward.leads_positive()))
+        UnreducedPlane::outward(p0, p1, p2).in_lowest_terms()
     }
 
     /// The same points, with front and back exchanged.

@@ -1,14 +1,24 @@
-ghost use Rattle.std.specs.Prelude.{◌≡◌, ◌<◌, ◌≤◌, ◌^◌, ◌↔◌, IsTrue, pos, int_div, unsigned_abs};
+ghost use Rattle.std.specs.Prelude.{◌≡◌, ◌<◌, ◌≤◌, ◌^◌, ◌↔◌, IsTrue, pos, int_div, unsigned_abs, MatchOption};
+ghost use Rattle.qm_space.specs.Bounds.{normal_bound, distance_bound, outward_normal_bound};
 ghost use Rattle.qm_space.specs.Plane.{flipped};
 ghost use Rattle.qm_space.specs.Turned.{turned};
-ghost use Rattle.qm_space.specs.Reduced.{leads_positive, HasNormal};
-ghost use Rattle.qm_space.specs.Point.{whole_point, AreCoordinates};
-ghost use Rattle.qm_space.specs.ThreePoints.{outward_plane, common_factor, reduced};
+ghost use Rattle.qm_space.specs.Reduced.{leads_positive, HasNormal, HasNormalUpTo, HasSmallNormal, HasLargeNormal};
+ghost use Rattle.qm_space.specs.Point.{thousandths_point, AreThousandths};
+ghost use Rattle.qm_space.specs.ThreePoints.{outward_plane, in_space, common_factor, reduced};
+ghost use Rattle.qm_space.specs.inner.SpannedSizes.{IsWithinReach};
+ghost use Rattle.qm_geom.specs.inner.Lowest.{IsLowestAnswer};
 
 use crate::factor::common_divisor;
 use crate::plane::Plane;
+use crate::through_fault::ThroughFault;
 use crate::vector::Vector;
 use std::marker::Model;
+
+/// How many thousandths a map unit has.
+const THOUSANDTHS: i64 = 1000;
+
+/// The greatest component of a plane's normal.
+const GREATEST_COMPONENT: u64 = 1 << 26;
 
 /// A plane before it is brought to lowest terms; its normal may be zero.
 #[derive(Clone, Copy)]
@@ -16,37 +26,65 @@ pub(crate) struct UnreducedPlane {
     nx: i64,
     ny: i64,
     nz: i64,
-    d: i64,
+    d: i128,
 }
 
 impl Model for UnreducedPlane {
     ghost use Rattle.qm_space.specs.Plane.{Plane};
-    ghost use Rattle.qm_space.specs.inner.OutwardSizes.{HasOutwardSizes};
+    ghost use Rattle.qm_space.specs.inner.SpannedSizes.{HasSpannedSizes};
 
     ghost Value = { Plane };
 
     ghost view = { λ h. record { nx = h.nx; ny = h.ny; nz = h.nz; d = h.d } };
 
-    ghost invariant = { λ h. HasOutwardSizes (record { nx = h.nx; ny = h.ny; nz = h.nz; d = h.d }) };
+    ghost invariant = { λ h. HasSpannedSizes (record { nx = h.nx; ny = h.ny; nz = h.nz; d = h.d }) };
 
     ghost inverse = { λ h. record { nx = h.nx; ny = h.ny; nz = h.nz; d = h.d } };
 }
 
 impl UnreducedPlane {
-    /// The plane through three points whose normal is `(p0 - p1) × (p2 - p1)`.
+    /// The plane over the numerators of three points whose normal is `(p0 - p1) × (p2 - p1)`.
     pub(crate) fn outward(p0: [i32; 3], p1: [i32; 3], p2: [i32; 3]) -> UnreducedPlane
-        requires p0_in_cube { AreCoordinates p0 }
-        requires p1_in_cube { AreCoordinates p1 }
-        requires p2_in_cube { AreCoordinates p2 }
-        ensures { result ≡ outward_plane (whole_point p0) (whole_point p1) (whole_point p2) }
+        requires p0_in_cube { AreThousandths p0 }
+        requires p1_in_cube { AreThousandths p1 }
+        requires p2_in_cube { AreThousandths p2 }
+        ensures value { result ≡ outward_plane (thousandths_point p0) (thousandths_point p1) (thousandths_point p2) }
+        ensures size { HasNormalUpTo outward_normal_bound result }
     {
         let normal = Vector::between(p1, p0).cross(&Vector::between(p1, p2));
-        let d = normal.dot(&Vector::of(p1)) as i64;
         UnreducedPlane {
             nx: normal.x,
             ny: normal.y,
             nz: normal.z,
-            d,
+            d: normal.dot(&Vector::of(p1)),
+        }
+    }
+
+    /// A plane over numerators in thousandths of a map unit, as the plane in space.
+    pub(crate) fn in_thousandths(&self) -> UnreducedPlane
+        requires { HasNormalUpTo outward_normal_bound self.now }
+        ensures { result ≡ in_space (pos 1000) self.now }
+    {
+        UnreducedPlane {
+            nx: THOUSANDTHS * self.nx,
+            ny: THOUSANDTHS * self.ny,
+            nz: THOUSANDTHS * self.nz,
+            d: self.d,
+        }
+    }
+
+    /// The plane in lowest terms with its first component that is not 0 positive, and whether the front of this one is its
+    /// front.
+    pub(crate) fn in_lowest_terms(&self) -> Result<(Plane, bool), ThroughFault>
+        requires { IsWithinReach self.now }
+        ensures { IsLowestAnswer self.now result }
+    {
+        if !self.has_normal() {
+            return Err(ThroughFault::NoNormal);
+        }
+        match self.leading().reduced() {
+            Some(plane) => Ok((plane, self.leads_positive())),
+            None => Err(ThroughFault::TooFine),
         }
     }
 
@@ -58,7 +96,7 @@ impl UnreducedPlane {
     }
 
     /// Whether the first component of the normal that is not 0 is positive.
-    pub(crate) fn leads_positive(&self) -> bool
+    fn leads_positive(&self) -> bool
         ensures { result ≡ leads_positive self.now }
     {
         if self.nx != 0 {
@@ -71,7 +109,7 @@ impl UnreducedPlane {
     }
 
     /// The same points, with the normal turned where it does not lead with a positive component.
-    pub(crate) fn leading(&self) -> UnreducedPlane
+    fn leading(&self) -> UnreducedPlane
         ensures value { result ≡ turned (leads_positive self.now) self.now }
         ensures normal { HasNormal self.now → HasNormal result }
     {
@@ -96,45 +134,52 @@ impl UnreducedPlane {
 
     /// The greatest number that divides all four numbers.
     fn common_factor(&self) -> u64
+        requires { HasNormal self.now }
         ensures value { result ≡ common_factor self.now }
-        ensures positive { HasNormal self.now → 0 < result }
-        ensures size { result < 2 ^ 41 }
+        ensures positive { 0 < result }
+        ensures size { result < 2 ^ 63 }
     {
         let of_two = common_divisor(self.nx.unsigned_abs(), self.ny.unsigned_abs());
         let of_three = common_divisor(of_two, self.nz.unsigned_abs());
-        common_divisor(of_three, self.d.unsigned_abs())
+        let rest = self.d.unsigned_abs() % u128::from(of_three);
+        common_divisor(rest as u64, of_three)
     }
 
-    /// The plane in lowest terms.
-    pub(crate) fn reduced(&self) -> Plane
-        requires { HasNormal self.now }
-        ensures { result ≡ reduced self.now }
+    /// The plane in lowest terms; `None` where a component of its normal is too great.
+    fn reduced(&self) -> Option<Plane>
+        requires normal { HasNormal self.now }
+        requires near { IsWithinReach self.now }
+        ensures { MatchOption result (HasLargeNormal (reduced self.now)) (λ h. (h ≡ reduced self.now) × HasSmallNormal h) }
     {
         let factor = self.common_factor();
-        Plane {
-            nx: component_quotient(self.nx, factor),
-            ny: component_quotient(self.ny, factor),
-            nz: component_quotient(self.nz, factor),
-            d: quotient(self.d, factor),
-        }
+        Some(Plane {
+            nx: component_quotient(self.nx, factor)?,
+            ny: component_quotient(self.ny, factor)?,
+            nz: component_quotient(self.nz, factor)?,
+            d: distance_quotient(self.d, factor),
+        })
     }
 }
 
-fn component_quotient(component: i64, factor: u64) -> i32
-    requires component_small { unsigned_abs component ≤ 2 ^ 26 }
+/// A component of a normal in lowest terms; `None` where it is too great.
+fn component_quotient(component: i64, factor: u64) -> Option<i32>
     requires factor_positive { 0 < factor }
-    requires factor_small { factor < 2 ^ 41 }
-    ensures exact { result ≡ int_div component (pos factor) }
-    ensures size { unsigned_abs result ≤ 2 ^ 26 }
+    requires factor_small { factor < 2 ^ 63 }
+    ensures { MatchOption result (normal_bound < unsigned_abs (int_div component (pos factor))) (λ n. (n ≡ int_div component (pos factor)) × (unsigned_abs n ≤ normal_bound)) }
 {
-    quotient(component, factor) as i32
+    let quotient = component / factor as i64;
+    if quotient.unsigned_abs() > GREATEST_COMPONENT {
+        return None;
+    }
+    Some(quotient as i32)
 }
 
-fn quotient(number: i64, factor: u64) -> i64
+/// A distance in lowest terms.
+fn distance_quotient(distance: i128, factor: u64) -> i64
     requires factor_positive { 0 < factor }
-    requires factor_small { factor < 2 ^ 41 }
-    ensures exact { result ≡ int_div number (pos factor) }
-    ensures size { unsigned_abs result ≤ unsigned_abs number }
+    requires factor_small { factor < 2 ^ 63 }
+    requires small { unsigned_abs (int_div distance (pos factor)) ≤ distance_bound }
+    ensures { result ≡ int_div distance (pos factor) }
 {
-    number / factor as i64
+    (distance / i128::from(factor)) as i64
 }

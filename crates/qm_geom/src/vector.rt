@@ -1,5 +1,5 @@
 ghost use Rattle.std.specs.Prelude.{◌≡◌, ◌≤◌, ◌*◌, ◌^◌, ◌*ℤ◌, ◌-ℤ◌, unsigned_abs};
-ghost use Rattle.qm_space.specs.Point.{whole_point, IsCoordinate, AreCoordinates};
+ghost use Rattle.qm_space.specs.Point.{whole_point, IsThousandths, AreThousandths};
 
 /// A step from one point to another, a normal, or the distances of three planes.
 #[derive(Clone, Copy)]
@@ -23,10 +23,10 @@ impl Vector {
         }
     }
 
-    /// The step from one whole point to another.
+    /// The step from one point to another, both whole or both in thousandths of a map unit.
     pub fn between(from: [i32; 3], to: [i32; 3]) -> Vector
-        requires from_in_cube { AreCoordinates from }
-        requires to_in_cube { AreCoordinates to }
+        requires from_in_cube { AreThousandths from }
+        requires to_in_cube { AreThousandths to }
         ensures exact { result ≡ vector_between (whole_point from) (whole_point to) }
         ensures size { HasSmallComponents result (2 ^ 26) }
     {
@@ -65,8 +65,8 @@ impl Vector {
 }
 
 fn difference(from: i32, to: i32) -> i64
-    requires from_in_cube { IsCoordinate from }
-    requires to_in_cube { IsCoordinate to }
+    requires from_in_cube { IsThousandths from }
+    requires to_in_cube { IsThousandths to }
     ensures exact { result ≡ to -ℤ from }
     ensures size { unsigned_abs result ≤ 2 ^ 26 }
 {

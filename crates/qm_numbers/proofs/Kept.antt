@@ -176,7 +176,7 @@ factors_answered r a b m n h l x y e =
 
 -- ---- quotients
 
-pub quotient_kept : (a : ℤ) (k : ℕ) → FitsSigned w64 a → 0 < k → k < 2 ^ 41 → to_z w64 (of_z w64 (int_div (to_z w64 (of_z w64 a)) (to_z w64 k))) ≡ int_div a (pos k)
+pub quotient_kept : (a : ℤ) (k : ℕ) → FitsSigned w64 a → 0 < k → k < 2 ^ 63 → to_z w64 (of_z w64 (int_div (to_z w64 (of_z w64 a)) (to_z w64 k))) ≡ int_div a (pos k)
 quotient_kept a k f p small =
     rw (to_z-of_z w64 a f, to_z_pos w64 k (omega arith)) (to_z-of_z w64 (int_div a (pos k)) (quot_fits w64 a (pos k) f (omega (arith, ints))))
 

@@ -3,6 +3,7 @@
 use Rattle.std.proofs.Common.{◌≡◌, ℤ, pos, neg_ℤ, ◌+ℤ◌, ◌-ℤ◌, ◌*ℤ◌, ◌<ℤ◌, true, false, [], ◌∷◌, refl, sym, ◌∙◌, arith, inl, ◌↔◌}
 use Rattle.std.proofs.lemmas.Int.{ints}
 use Rattle.std.proofs.lemmas.List.Elements.{All-from_recursion, All-contains, All-nil}
+use Rattle.qm_space.specs.Bounds.{extent}
 use Rattle.qm_space.specs.Point.{Point, IsInCube}
 use Rattle.qm_space.specs.Plane.{value, IsOn, IsInFront, flipped}
 use Rattle.qm_space.specs.Cube.{wall_y, wall_z}
@@ -50,16 +51,16 @@ meetings_row : meetings rooms ≡ first_meeting ∷ far_meeting ∷ second_meeti
 meetings_row = refl
 
 -- the points of a door
-module _ (x : ℤ) (above : pos 0 <ℤ (pos 4096 +ℤ x)) (below : pos 0 <ℤ (pos 4096 -ℤ x)) (p : Point) where
+module _ (x : ℤ) (above : pos 0 <ℤ (extent +ℤ x)) (below : pos 0 <ℤ (extent -ℤ x)) (p : Point) where
   in_door : IsInRegion (door x) p ↔ (IsOn (at x) p × IsInCube p)
   in_door = (
     (λ r.
         let s = (square_region (at x) wall_y wall_z p).0 r in
         let v = at_value x p in
-        let low = product_positive (pos 4096 +ℤ x) p.w above s.0 in
-        let high = product_positive (pos 4096 -ℤ x) p.w below s.0 in
-        let low_sum = +ℤ-*ℤ (pos 4096) x p.w in
-        let high_sum = -ℤ-*ℤ (pos 4096) x p.w in
+        let low = product_positive (extent +ℤ x) p.w above s.0 in
+        let high = product_positive (extent -ℤ x) p.w below s.0 in
+        let low_sum = +ℤ-*ℤ extent x p.w in
+        let high_sum = -ℤ-*ℤ extent x p.w in
         let on = s.1 in
         (s.1, record { weight = s.0; x = record { above = omega (arith, linear); below = omega (arith, linear) }; y = (between_y p).0 s.2; z = (between_z p).0 s.3 })),
     (λ c. (square_region (at x) wall_y wall_z p).1 (c.1.weight, c.0, (between_y p).1 c.1.y, (between_z p).1 c.1.z)),
@@ -131,7 +132,7 @@ are_touchings = touching is_first (apart never (touching is_second none))
 
 -- ---- each room has a point
 
-in_cube : (x : ℤ) → neg_ℤ (pos 4096) <ℤ x → x <ℤ pos 4096 → IsInCube (place x)
+in_cube : (x : ℤ) → neg_ℤ extent <ℤ x → x <ℤ extent → IsInCube (place x)
 in_cube x low high = record {
   weight = omega (arith, ints);
   x = record { above = omega (arith, ints, low); below = omega (arith, ints, high) };

@@ -25,7 +25,7 @@ use Rattle.qm_solids.proofs.UniformSamples.{floor, floor_is_reduced, height, of_
 use Rattle.qm_space.specs.Cell.{HasPoint}
 use Rattle.qm_solid_tree.proofs.PartedCells.{side_of, both_sides, IsPartOn, SparesSide, contains_side, side_spared, contains_front, outside_front}
 
--- the triangle of the points of the floor with x and y above 0 and x + y below 4096
+-- the triangle of the points of the floor with x and y above 0 and x + y below the extent of the cube
 abbrev triangle : Winding
 triangle = record {
   plane = floor;

@@ -148,7 +148,7 @@ flat_is_flat = opposed_is_flat flat (record {
   opposed = record { times = pos 2; some = omega (arith, ints); multiple = record { factor = pos 1; positive = omega (arith, ints); multiple = refl } };
 })
 
--- what lies beyond the cube is flat too, with no opposed planes: the points of x at least 4096
+-- what lies beyond the cube is flat too, with no opposed planes: the points of x at least its extent
 abbrev pub beyond : Solid
 beyond = record { contents = contents.Solid; outward = plane_of (neg_ℤ (pos 1)) (pos 0) (pos 0) (neg_ℤ extent) ∷ [] }
 

@@ -226,20 +226,23 @@ down_has_middle = same_face ground [] floor floor_down middle_of_cube floor_lies
 ground_full_by_face : IsFull ground
 ground_full_by_face = full_by_face ground floor middle_of_cube ground_has_none_opposed (0, omega arith, refl) floor_has_middle
 
--- all that is not above z = 5000 has no face in the cube, and the middle is inside it
-abbrev wide : Solid
-wide = record { contents = contents.Water; outward = plane_of (pos 0) (pos 0) (pos 1) (pos 5000) ∷ [] }
+-- all that is not above a height beyond the cube has no face in the cube, and the middle is inside it
+abbrev beyond_cube : ℤ
+beyond_cube = extent +ℤ pos 904
 
-wide_depth : (x : Point) → value (plane_of (pos 0) (pos 0) (pos 1) (pos 5000)) x ≡ x.z -ℤ ((extent *ℤ x.w) +ℤ (pos 904 *ℤ x.w))
+abbrev wide : Solid
+wide = record { contents = contents.Water; outward = plane_of (pos 0) (pos 0) (pos 1) beyond_cube ∷ [] }
+
+wide_depth : (x : Point) → value (plane_of (pos 0) (pos 0) (pos 1) beyond_cube) x ≡ x.z -ℤ ((extent *ℤ x.w) +ℤ (pos 904 *ℤ x.w))
 unfolding value
 wide_depth x =
     let v = variable in let o = number (pos 0) in
-    solved (x.x ∷ x.y ∷ x.z ∷ x.w ∷ []) (o ⊗ v 0 ⊕ o ⊗ v 1 ⊕ number (pos 1) ⊗ v 2 ⊖ number (pos 5000) ⊗ v 3) (v 2 ⊖ (number extent ⊗ v 3 ⊕ number (pos 904) ⊗ v 3)) tt
+    solved (x.x ∷ x.y ∷ x.z ∷ x.w ∷ []) (o ⊗ v 0 ⊕ o ⊗ v 1 ⊕ number (pos 1) ⊗ v 2 ⊖ number beyond_cube ⊗ v 3) (v 2 ⊖ (number extent ⊗ v 3 ⊕ number (pos 904) ⊗ v 3)) tt
 
 wide_misses_cube : MeetsNoFace wide []
 wide_misses_cube face x among on_face = All-contains (λ f. IsOnFace wide [] f x → ⊥) wide.outward face (All-from_recursion (λ f. IsOnFace wide [] f x → ⊥) wide.outward (missed, tt)) among on_face
   where
-    missed : IsOnFace wide [] (plane_of (pos 0) (pos 0) (pos 1) (pos 5000)) x → ⊥
+    missed : IsOnFace wide [] (plane_of (pos 0) (pos 0) (pos 1) beyond_cube) x → ⊥
     missed on_face =
         let on = on_face.on in
         let e = wide_depth x in

@@ -1,16 +1,16 @@
 -- A plane's values at the points of a cuboid.
 use Rattle.std.specs.Prelude.{int_lt}
-use Rattle.std.proofs.Common.{◌≡◌, ◌≤◌, ◌^◌, ℤ, pos, negsuc, neg_ℤ, ◌+ℤ◌, ◌-ℤ◌, ◌*ℤ◌, ◌≤ℤ◌, ◌<ℤ◌, ap, sym, subst, arith, unsigned_abs, ◌⊎◌, ⊎_elim, cond}
+use Rattle.std.proofs.Common.{◌≡◌, ◌≤◌, ℤ, pos, negsuc, neg_ℤ, ◌+ℤ◌, ◌-ℤ◌, ◌*ℤ◌, ◌≤ℤ◌, ◌<ℤ◌, ap, sym, subst, arith, unsigned_abs, ◌⊎◌, ⊎_elim, cond}
 use Rattle.std.proofs.lemmas.Int.{ints}
 use Rattle.std.proofs.Math.IntN.{*ℤ_comm}
-use Rattle.qm_space.specs.Bounds.{extent, normal_bound}
+use Rattle.qm_space.specs.Bounds.{extent, world_extent, normal_bound, product_bound}
 use Rattle.qm_space.specs.Point.{Point, IsCoordinate}
 use Rattle.qm_space.specs.Cube.{IsInClosedCube}
 use Rattle.qm_space.specs.Plane.{Plane, value}
 use Rattle.qm_space.specs.Cuboid.{Span, Cuboid, IsInSpan, IsInCuboid, whole_span, whole_cuboid, least_product, greatest_product, least_value, greatest_value, IsTightened, IsTightenedOn, IsTightenedSpan, IsTightenedBetween}
 use Rattle.qm_numbers.proofs.IntegerProducts.{linear, *ℤ_assoc, one_*ℤ, +ℤ-*ℤ, -ℤ-*ℤ, neg-*ℤ}
 use Rattle.qm_numbers.proofs.Signs.{side_test, times_at_most, cancel_at_most, abs_product_bound}
-use Rattle.qm_space.proofs.PlanesThroughPoints.{coordinate_small}
+use Rattle.qm_space.proofs.CoordinateSizes.{coordinate_small}
 
 -- ---- products with the numbers of a span
 
@@ -76,8 +76,8 @@ closed_cube_in_whole p c = record { x = within p.x c.x.above c.x.below; y = with
 
 -- ---- sizes
 
-pub product_small : (n c : ℤ) → unsigned_abs n ≤ normal_bound → IsCoordinate c → unsigned_abs (n *ℤ c) ≤ 2 ^ 38
-product_small n c h k = let p = abs_product_bound n c normal_bound 4096 h (coordinate_small c k) in omega arith
+pub product_small : (n c : ℤ) → unsigned_abs n ≤ normal_bound → IsCoordinate c → unsigned_abs (n *ℤ c) ≤ product_bound
+product_small n c h k = abs_product_bound n c normal_bound world_extent h (coordinate_small c k)
 
 -- ---- spans and cuboids that are tightened
 

@@ -6,6 +6,10 @@ pub mod SameSides
 pub mod CubeFaces
 pub mod ReducedPlanes
 pub mod TurnedPlanes
+pub mod NormalSizes
+pub mod CoordinateSizes
+pub mod CubeDistances
+pub mod SpannedPlanes
 pub mod Cubes
 pub mod Lines
 pub mod PlanesThroughPoints

@@ -116,9 +116,9 @@ abbrev origin : Point
 origin = record { x = pos 0; y = pos 0; z = pos 0; w = pos 1 }
 
 -- many times the middle of the cube, moved by any four numbers, is in the cube
-moved_row : IsInCube (moved (pos 100000) origin (record { x = pos 1; y = neg_ℤ (pos 2); z = pos 3; w = pos 4 }))
+moved_row : IsInCube (moved (pos 1000000) origin (record { x = pos 1; y = neg_ℤ (pos 2); z = pos 3; w = pos 4 }))
 unfolding reach value
-moved_row = moved_in_cube origin (record { x = pos 1; y = neg_ℤ (pos 2); z = pos 3; w = pos 4 }) (pos 100000) (omega (arith, ints)) (record {
+moved_row = moved_in_cube origin (record { x = pos 1; y = neg_ℤ (pos 2); z = pos 3; w = pos 4 }) (pos 1000000) (omega (arith, ints)) (record {
   weight = omega (arith, ints);
   x = record { above = omega (arith, ints); below = omega (arith, ints) };
   y = record { above = omega (arith, ints); below = omega (arith, ints) };

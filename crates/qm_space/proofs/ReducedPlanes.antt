@@ -6,13 +6,13 @@ use Rattle.std.proofs.lemmas.Nat.Gcd.{dvd_trans}
 use Rattle.std.proofs.Math.Nat.{eq-zero_of_zero-dvd, eq-one_of_dvd-one, mul-dvd-mul_left, dvd_of_mul-dvd-mul_left}
 use Rattle.std.proofs.Math.IntN.{*ℤ_comm}
 use Rattle.qm_numbers.specs.Gcd.{gcd}
-use Rattle.qm_space.specs.Bounds.{normal_bound, distance_bound}
+use Rattle.qm_space.specs.Bounds.{distance_bound}
 use Rattle.qm_space.specs.Plane.{Plane, flipped, scaled}
-use Rattle.qm_space.specs.Reduced.{sign_decides, leads_positive, HasNormal, IsReduced}
+use Rattle.qm_space.specs.Reduced.{sign_decides, leads_positive, HasNormal, HasSmallNormal, IsReduced}
 use Rattle.qm_space.specs.ThreePoints.{common_factor, reduced}
 use Rattle.qm_numbers.proofs.IntegerProducts.{linear, *ℤ_assoc, *ℤ_zero, *ℤ_one, neg-*ℤ, *ℤ-neg}
 use Rattle.qm_numbers.proofs.Signs.{abs_neg, by_sign, product_positive, positive_times_negative, negative_times_positive, negative_times_negative, abs_zero, cancel_equal, times_at_most, positive_beside}
-use Rattle.qm_numbers.proofs.Divisors.{gcd_divides_left, gcd_divides_right, divides_gcd, exact_division, abs_exact_division, abs_division_at_most, lowest_combination}
+use Rattle.qm_numbers.proofs.Divisors.{gcd_divides_left, gcd_divides_right, divides_gcd, exact_division, abs_exact_division, lowest_combination}
 use Rattle.qm_numbers.proofs.Ring.{variable, ◌⊕◌, ◌⊗◌, solved}
 
 -- ---- planes are equal where their four numbers are
@@ -158,31 +158,16 @@ reduced_lowest h n k c = eq-one_of_dvd-one (dvd_of_mul-dvd-mul_left k (common_fa
         subst (λ (m : ℕ). common_factor h * k ∣ m) (sym (mul-one (common_factor h)))
         (divides_common_factor (common_factor h * k) h (record { nx = part h.nx a.nx c.nx; ny = part h.ny a.ny c.ny; nz = part h.nz a.nz c.nz; d = part h.d a.d c.d }))
 
--- lowest terms are no greater
-pub record IsNoGreater (g h : Plane) : Type 0 where
-  pub nx : unsigned_abs g.nx ≤ unsigned_abs h.nx
-  pub ny : unsigned_abs g.ny ≤ unsigned_abs h.ny
-  pub nz : unsigned_abs g.nz ≤ unsigned_abs h.nz
-  pub d : unsigned_abs g.d ≤ unsigned_abs h.d
-
-pub reduced_no_greater : (h : Plane) → HasNormal h → IsNoGreater (reduced h) h
-unfolding reduced
-reduced_no_greater h n =
-    let c = common_factor_divides h in let k = common_factor h in let p = common_factor_positive h n in
-    record { nx = abs_division_at_most h.nx k p c.nx; ny = abs_division_at_most h.ny k p c.ny; nz = abs_division_at_most h.nz k p c.nz; d = abs_division_at_most h.d k p c.d }
-
--- a plane of small numbers, in lowest terms
-pub reduced_is_reduced : (h : Plane) → HasNormal h → unsigned_abs h.nx ≤ normal_bound → unsigned_abs h.ny ≤ normal_bound → unsigned_abs h.nz ≤ normal_bound → unsigned_abs h.d ≤ distance_bound → IsReduced (reduced h)
-reduced_is_reduced h n x y z d =
-    let s = reduced_no_greater h n in
-    record {
-      normal = reduced_has_normal h n;
-      lowest = λ k a b c e. reduced_lowest h n k (record { nx = a; ny = b; nz = c; d = e });
-      nx_small = omega arith;
-      ny_small = omega arith;
-      nz_small = omega arith;
-      d_small = omega arith;
-    }
+-- a plane whose numbers are small in lowest terms
+pub reduced_is_reduced : (h : Plane) → HasNormal h → HasSmallNormal (reduced h) → unsigned_abs (reduced h).d ≤ distance_bound → IsReduced (reduced h)
+reduced_is_reduced h n small d = record {
+  normal = reduced_has_normal h n;
+  lowest = λ k a b c e. reduced_lowest h n k (record { nx = a; ny = b; nz = c; d = e });
+  nx_small = small.x;
+  ny_small = small.y;
+  nz_small = small.z;
+  d_small = d;
+}
 
 -- a plane with its sides exchanged is in lowest terms too
 pub flipped_is_reduced : (h : Plane) → IsReduced h → IsReduced (flipped h)

@@ -1,5 +1,5 @@
 use Rattle.std.specs.Prelude.{◌≡◌, ℤ, pos, neg_ℤ, ◌+ℤ◌, ◌*ℤ◌, ◌<ℤ◌, ◌≤ℤ◌, List, slice_index_or, All}
-use Rattle.qm_space.specs.Bounds.{extent}
+use Rattle.qm_space.specs.Bounds.{extent, thousandths_extent}
 
 -- four whole numbers with w above 0 stand for the point (x / w, y / w, z / w)
 pub record Point : Type 0 where
@@ -25,6 +25,11 @@ abbrev pub whole_point : List ℤ → Point
 whole_point at =
     record { x = slice_index_or at 0 (pos 0); y = slice_index_or at 1 (pos 0); z = slice_index_or at 2 (pos 0); w = pos 1 }
 
+-- the point of three coordinates in thousandths of a map unit
+abbrev pub thousandths_point : List ℤ → Point
+thousandths_point at =
+    record { x = slice_index_or at 0 (pos 0); y = slice_index_or at 1 (pos 0); z = slice_index_or at 2 (pos 0); w = pos 1000 }
+
 -- strictly between the cube's two faces across one axis
 pub record IsWithinExtent (coordinate w : ℤ) : Type 0 where
   pub above : neg_ℤ (extent *ℤ w) <ℤ coordinate
@@ -45,6 +50,15 @@ pub record IsCoordinate (c : ℤ) : Type 0 where
 -- three whole coordinates in the closed cube
 abbrev pub AreCoordinates : List ℤ → Type 0
 AreCoordinates at = All IsCoordinate at
+
+-- a coordinate in thousandths, in the closed cube
+pub record IsThousandths (c : ℤ) : Type 0 where
+  pub low : neg_ℤ thousandths_extent ≤ℤ c
+  pub high : c ≤ℤ thousandths_extent
+
+-- three coordinates in thousandths, in the closed cube
+abbrev pub AreThousandths : List ℤ → Type 0
+AreThousandths at = All IsThousandths at
 
 -- a point of three whole coordinates in the closed cube
 pub record IsWholePoint (p : Point) : Type 0 where

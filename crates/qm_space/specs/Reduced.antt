@@ -1,4 +1,4 @@
-use Rattle.std.specs.Prelude.{◌≡◌, ℕ, zero, suc, ◌≤◌, ℤ, pos, negsuc, Bool, true, false, unsigned_abs}
+use Rattle.std.specs.Prelude.{◌≡◌, ℕ, zero, suc, ◌<◌, ◌≤◌, ℤ, pos, negsuc, Bool, true, false, unsigned_abs}
 use Rattle.std.specs.Int.{◌∣◌}
 use Rattle.qm_space.specs.Bounds.{normal_bound, distance_bound}
 use Rattle.qm_space.specs.Plane.{Plane}
@@ -16,6 +16,26 @@ leads_positive h = sign_decides h.nx (sign_decides h.ny (sign_decides h.nz false
 -- the normal has a component that is not 0
 abbrev pub HasNormal : Plane → Type 0
 HasNormal h = (h.nx ≡ pos 0 → h.ny ≡ pos 0 → h.nz ≡ pos 0 → ⊥)
+
+-- it has none: all three are 0
+abbrev pub HasNoNormal : Plane → Type 0
+HasNoNormal h = (h.nx ≡ pos 0) × (h.ny ≡ pos 0) × (h.nz ≡ pos 0)
+
+-- no component of the normal is beyond a bound
+pub record HasNormalUpTo (bound : ℕ) (h : Plane) : Type 0 where
+  pub x : unsigned_abs h.nx ≤ bound
+  pub y : unsigned_abs h.ny ≤ bound
+  pub z : unsigned_abs h.nz ≤ bound
+
+-- none is beyond that of a plane's components
+abbrev pub HasSmallNormal : Plane → Type 0
+HasSmallNormal h = HasNormalUpTo normal_bound h
+
+-- some component is beyond it
+pub data HasLargeNormal (h : Plane) : Type 0 where
+  large_x : normal_bound < unsigned_abs h.nx → HasLargeNormal h
+  large_y : normal_bound < unsigned_abs h.ny → HasLargeNormal h
+  large_z : normal_bound < unsigned_abs h.nz → HasLargeNormal h
 
 -- a plane in lowest terms, within the bounds for which every side is decided in 128 bits
 pub record IsReduced (h : Plane) : Type 0 where

@@ -1,3 +1,3 @@
 pub mod CommonDirection
-pub mod OutwardSizes
+pub mod SpannedSizes
 pub mod LeastDistanceOf

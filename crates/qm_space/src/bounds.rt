@@ -1,2 +1,2 @@
 /// How far the world reaches on each axis: a map lies strictly between this coordinate and its opposite.
-pub const WORLD_EXTENT: i32 = 4096;
+pub const WORLD_EXTENT: i32 = 32768;

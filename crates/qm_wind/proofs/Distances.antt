@@ -5,7 +5,7 @@ use Rattle.qm_numbers.proofs.Bits.{kept_32, kept_64}
 use Rattle.qm_numbers.proofs.Signs.{abs_neg}
 use Rattle.qm_space.specs.Bounds.{world_extent}
 use Rattle.qm_space.specs.Point.{IsCoordinate}
-use Rattle.qm_space.proofs.PlanesThroughPoints.{coordinate_small}
+use Rattle.qm_space.proofs.CoordinateSizes.{coordinate_small}
 
 pub kept_distance : (n d : ℤ) → n ≡ d → IsCoordinate d → to_z w32 (of_z w32 (to_z w64 (of_z w64 n))) ≡ d
 kept_distance n d e is =

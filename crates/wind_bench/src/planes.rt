@@ -2,6 +2,7 @@ ghost use Rattle.std.specs.Prelude.{◌≤◌};
 ghost use Rattle.qm_space.specs.Point.{IsCoordinate, AreCoordinates};
 
 use qm_geom::Plane;
+use qm_space::WORLD_EXTENT;
 use std::alloc::{AllocError, Global};
 
 /// A stream of numbers that look random: a linear congruential generator of 64 bits.
@@ -36,15 +37,46 @@ impl Numbers {
         ]
     }
 
-    /// A plane through three such points.
-    pub(crate) fn plane(&mut self, reach: u32) -> Plane
-        requires { reach ≤ 4096 }
+    /// A point of the grid.
+    fn grid_point(&mut self) -> [i32; 3]
+        ensures { AreCoordinates result }
     {
-        match Plane::through(self.point(reach), self.point(reach), self.point(reach)) {
+        [
+            grid_coordinate(self.next()),
+            grid_coordinate(self.next()),
+            grid_coordinate(self.next()),
+        ]
+    }
+
+    /// A plane through three points of the grid.
+    fn grid_plane(&mut self) -> Plane {
+        match Plane::through_whole(self.grid_point(), self.grid_point(), self.grid_point()) {
             Ok((plane, _)) => plane,
             Err(_) => Plane::default(),
         }
     }
+
+    /// A plane through three points from -reach to reach.
+    pub(crate) fn plane(&mut self, reach: u32) -> Plane
+        requires { reach ≤ 4096 }
+    {
+        match Plane::through_whole(self.point(reach), self.point(reach), self.point(reach)) {
+            Ok((plane, _)) => plane,
+            Err(_) => Plane::default(),
+        }
+    }
+}
+
+/// How many steps go from 0 to a face of the cube, and how long each is: planes through points of this grid are not too fine.
+const STEPS: i32 = 4096;
+
+const STEP: i32 = WORLD_EXTENT / STEPS;
+
+/// A coordinate of the grid, anywhere in the cube, by a number.
+fn grid_coordinate(number: u32) -> i32
+    ensures { IsCoordinate result }
+{
+    (number % 8193) as i32 * STEP - STEPS * STEP
 }
 
 /// A coordinate from -reach to reach, by a number.
@@ -56,13 +88,11 @@ fn coordinate(number: u32, reach: u32) -> i32
 }
 
 /// So many planes through points of the world's cube.
-pub(crate) fn planes(alloc: Global, count: usize, reach: u32) -> Result<Vec<Plane>, AllocError>
-    requires { reach ≤ 4096 }
-{
+pub(crate) fn planes(alloc: Global, count: usize) -> Result<Vec<Plane>, AllocError> {
     let mut numbers = Numbers::starting_at(1);
     let mut planes = Vec::with_capacity(alloc, count)?;
     for _ in 0..count {
-        planes.push(numbers.plane(reach))?;
+        planes.push(numbers.grid_plane())?;
     }
     Ok(planes)
 }
@@ -73,7 +103,7 @@ pub(crate) fn through(p0: [i32; 3], p1: [i32; 3], p2: [i32; 3]) -> Plane
     requires p1_in_cube { AreCoordinates p1 }
     requires p2_in_cube { AreCoordinates p2 }
 {
-    match Plane::through(p0, p1, p2) {
+    match Plane::through_whole(p0, p1, p2) {
         Ok((plane, _)) => plane,
         Err(_) => Plane::default(),
     }

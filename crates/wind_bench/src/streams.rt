@@ -41,7 +41,7 @@ impl Stream {
 
     /// Clips so many rounds, in each of them by 1,024 planes on both sides.
     fn clips(self, alloc: Global, rounds: u32) -> Result<Tally, AllocError> {
-        let planes = planes(alloc, 1024, 4096)?;
+        let planes = planes(alloc, 1024)?;
         let mut tally = Tally::default();
         let Some(start) = self.start(alloc)? else {
             return Ok(tally);
@@ -125,17 +125,22 @@ fn floor() -> Plane {
 /// Four planes that cut the corners off the floor's square, which lies behind them.
 fn slants() -> [Plane; 4] {
     [
-        through([3000, 3000, 0], [3000, 3000, 1], [2000, 4000, 0]),
-        through([3000, -3000, 0], [3000, -3000, 1], [2000, -4000, 0]),
-        through([-3000, 3000, 0], [-3000, 3000, 1], [-2000, 4000, 0]).flipped(),
-        through([-3000, -3000, 0], [-3000, -3000, 1], [-2000, -4000, 0]).flipped(),
+        through([24000, 24000, 0], [24000, 24000, 1], [16000, 32000, 0]),
+        through([24000, -24000, 0], [24000, -24000, 1], [16000, -32000, 0]),
+        through([-24000, 24000, 0], [-24000, 24000, 1], [-16000, 32000, 0]).flipped(),
+        through(
+            [-24000, -24000, 0],
+            [-24000, -24000, 1],
+            [-16000, -32000, 0],
+        )
+        .flipped(),
     ]
 }
 
 /// Two planes behind which there is a small square of the floor's, at its corner.
 fn near_corner() -> [Plane; 2] {
     [
-        through([3968, 0, 0], [3968, 1, 0], [3968, 0, 1]).flipped(),
-        through([0, 3968, 0], [1, 3968, 0], [0, 3968, 1]).flipped(),
+        through([31744, 0, 0], [31744, 1, 0], [31744, 0, 1]).flipped(),
+        through([0, 31744, 0], [1, 31744, 0], [0, 31744, 1]).flipped(),
     ]
 }

@@ -3,7 +3,7 @@ use Rattle.std.proofs.lemmas.Int.{to_z-of_z}
 use Rattle.qm_numbers.proofs.Bits.{kept_32}
 use Rattle.qm_space.specs.Bounds.{world_extent}
 use Rattle.qm_space.specs.Cuboid.{Span, IsTightenedSpan}
-use Rattle.qm_space.proofs.PlanesThroughPoints.{coordinate_small}
+use Rattle.qm_space.proofs.CoordinateSizes.{coordinate_small}
 use Rattle.qm_space.proofs.Cuboids.{up_to_kept}
 use Rattle.qm_geom.proofs.cuboid.Span.up_to.Goals as goal
 

@@ -1,41 +1,33 @@
-use Rattle.std.proofs.Common.{◌^◌, arith, sym, subst, lit≤}
-use Rattle.std.proofs.lemmas.Int.{to_z-of_z}
-use Rattle.qm_numbers.proofs.Kept.{small_kept}
-use Rattle.qm_space.specs.Reduced.{IsReduced}
-use Rattle.qm_space.specs.ThreePoints.{reduced}
-use Rattle.qm_space.specs.inner.OutwardSizes.{HasOutwardSizes}
-use Rattle.qm_space.proofs.ReducedPlanes.{reduced_is_reduced}
+use Rattle.qm_geom.proofs.Vectors.{plane}
+use Rattle.qm_geom.proofs.LowestTerms.{large_by_x, large_by_y, large_by_z, distance_small, divided_is, divided_is_reduced, divided_is_small}
 use Rattle.qm_geom.proofs.unreduced.UnreducedPlane.reduced.Goals as goal
 
-pub component_quotient-requires : goal.component_quotient-requires
-component_quotient-requires c = record {
-  component_small = small_kept c.self.inside.nx (2 ^ 26) (lit≤ tt) c.self.invariant.nx_small;
-  factor_positive = c.common_factor-factor.ensures.positive c.requires;
-  factor_small = c.common_factor-factor.ensures.size;
-}
+pub returns-in_err-component_quotient : goal.returns-in_err-component_quotient
+returns-in_err-component_quotient c = rw (c.from_residual.ensures) (large_by_x (plane c.self.inside.nx c.self.inside.ny c.self.inside.nz c.self.inside.d) c.args.self.now c.common_factor-factor.result c.self.invariant c.self.view_is c.common_factor-factor.ensures.value c.in_err-component_quotient.ensures)
 
-pub component_quotient-requires-2 : goal.component_quotient-requires-2
-component_quotient-requires-2 c = record {
-  component_small = small_kept c.self.inside.ny (2 ^ 26) (lit≤ tt) c.self.invariant.ny_small;
-  factor_positive = c.common_factor-factor.ensures.positive c.requires;
-  factor_small = c.common_factor-factor.ensures.size;
-}
+pub returns-in_err-component_quotient-2 : goal.returns-in_err-component_quotient-2
+returns-in_err-component_quotient-2 c = rw (c.from_residual-in_err-component_quotient-2.ensures) (large_by_y (plane c.self.inside.nx c.self.inside.ny c.self.inside.nz c.self.inside.d) c.args.self.now c.common_factor-factor.result c.self.invariant c.self.view_is c.common_factor-factor.ensures.value c.in_err-component_quotient-2.ensures)
 
-pub component_quotient-requires-3 : goal.component_quotient-requires-3
-component_quotient-requires-3 c = record {
-  component_small = small_kept c.self.inside.nz (2 ^ 26) (lit≤ tt) c.self.invariant.nz_small;
-  factor_positive = c.common_factor-factor.ensures.positive c.requires;
-  factor_small = c.common_factor-factor.ensures.size;
-}
+pub returns-in_err-component_quotient-3 : goal.returns-in_err-component_quotient-3
+returns-in_err-component_quotient-3 c = rw (c.from_residual-in_err-component_quotient-3.ensures) (large_by_z (plane c.self.inside.nx c.self.inside.ny c.self.inside.nz c.self.inside.d) c.args.self.now c.common_factor-factor.result c.self.invariant c.self.view_is c.common_factor-factor.ensures.value c.in_err-component_quotient-3.ensures)
 
-pub quotient-requires : goal.quotient-requires
-quotient-requires c = record { factor_positive = c.common_factor-factor.ensures.positive c.requires; factor_small = c.common_factor-factor.ensures.size }
-
-pub returns : goal.returns
-unfolding reduced
-returns c = rw (← c.self.view_is) (grind (arith, to_z-of_z))
+pub distance_quotient-requires-clause-small : goal.distance_quotient-requires-clause-small
+distance_quotient-requires-clause-small c =
+    distance_small (plane c.self.inside.nx c.self.inside.ny c.self.inside.nz c.self.inside.d) c.args.self.now c.common_factor-factor.result c.self.invariant c.self.view_is c.common_factor-factor.ensures.value
+    c.in_ok-component_quotient.field-0 c.in_ok-component_quotient-2.field-0 c.in_ok-component_quotient-3.field-0 c.in_ok-component_quotient.ensures c.in_ok-component_quotient-2.ensures c.in_ok-component_quotient-3.ensures c.requires.normal c.requires.near
 
 pub invariant_of-result : goal.invariant_of-result
 invariant_of-result c =
-    let s : HasOutwardSizes c.args.self.now = rw (← c.self.view_is) c.self.invariant in
-    subst IsReduced (sym (returns c)) (reduced_is_reduced _ c.requires s.nx_small s.ny_small s.nz_small (let d = s.d_small in omega arith))
+    divided_is_reduced (plane c.self.inside.nx c.self.inside.ny c.self.inside.nz c.self.inside.d) c.args.self.now c.common_factor-factor.result c.self.invariant c.self.view_is c.common_factor-factor.ensures.value
+    c.in_ok-component_quotient.field-0 c.in_ok-component_quotient-2.field-0 c.in_ok-component_quotient-3.field-0 c.in_ok-component_quotient.ensures c.in_ok-component_quotient-2.ensures c.in_ok-component_quotient-3.ensures c.requires.normal c.requires.near
+    c.distance_quotient.result c.distance_quotient.ensures
+
+pub returns : goal.returns
+returns c = (
+  divided_is (plane c.self.inside.nx c.self.inside.ny c.self.inside.nz c.self.inside.d) c.args.self.now c.common_factor-factor.result c.self.invariant c.self.view_is c.common_factor-factor.ensures.value
+      c.in_ok-component_quotient.field-0 c.in_ok-component_quotient-2.field-0 c.in_ok-component_quotient-3.field-0 c.in_ok-component_quotient.ensures c.in_ok-component_quotient-2.ensures c.in_ok-component_quotient-3.ensures c.requires.normal c.requires.near
+      c.distance_quotient.result c.distance_quotient.ensures,
+  divided_is_small (plane c.self.inside.nx c.self.inside.ny c.self.inside.nz c.self.inside.d) c.args.self.now c.common_factor-factor.result c.self.invariant c.self.view_is c.common_factor-factor.ensures.value
+      c.in_ok-component_quotient.field-0 c.in_ok-component_quotient-2.field-0 c.in_ok-component_quotient-3.field-0 c.in_ok-component_quotient.ensures c.in_ok-component_quotient-2.ensures c.in_ok-component_quotient-3.ensures c.requires.normal c.requires.near
+      c.distance_quotient.result c.distance_quotient.ensures,
+)
