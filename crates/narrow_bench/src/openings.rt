@@ -5,6 +5,7 @@ ghost use Rattle.qm_space.specs.Point.{IsCoordinate, AreCoordinates};
 ghost use Rattle.qm_wind.specs.Entered.{IsPane};
 
 use qm_geom::Plane;
+use qm_space::WORLD_EXTENT;
 use qm_wind::{Pane, Side, Winding};
 use std::alloc::{AllocError, Global};
 
@@ -140,7 +141,7 @@ impl Openings {
         let a = self.near(axis, places[0]);
         let b = self.near(axis, places[1]);
         let c = self.near(axis, places[2]);
-        match Plane::through(inside(a), inside(b), inside(c)) {
+        match Plane::through_whole(inside(a), inside(b), inside(c)) {
             Ok((plane, _)) => plane,
             Err(_) => Plane::default(),
         }
@@ -255,5 +256,5 @@ fn inside(point: [i32; 3]) -> [i32; 3]
 fn coordinate(number: i32) -> i32
     ensures { IsCoordinate result }
 {
-    number.clamp(-4096, 4096)
+    number.clamp(-WORLD_EXTENT, WORLD_EXTENT)
 }

@@ -1,24 +1,27 @@
 -- A plane's value at a whole point, as the code computes it.
-use Rattle.std.proofs.Common.{◌≡◌, ◌≤◌, ◌^◌, ◌∙◌, FitsSigned, ℤ, pos, ◌+ℤ◌, ◌-ℤ◌, ◌*ℤ◌, w32, w64, List, [], ◌∷◌, get_or, refl, arith, lit≤, unsigned_abs}
+use Rattle.std.proofs.Common.{◌≡◌, ◌≤◌, ◌*◌, ◌^◌, ◌∙◌, FitsSigned, ℤ, pos, ◌+ℤ◌, ◌-ℤ◌, ◌*ℤ◌, w32, w64, List, [], ◌∷◌, get_or, refl, arith, lit≤, unsigned_abs}
 use Rattle.std.proofs.lemmas.Int.{ints, to_z-of_z}
 use Rattle.std.proofs.lemmas.List.Elements.{All-from_recursion}
 use Rattle.qm_numbers.proofs.IntegerProducts.{linear, *ℤ_one}
 use Rattle.qm_numbers.proofs.Bits.{kept_32}
 use Rattle.qm_numbers.proofs.Kept.{kept, fits_64, sum_fits, sum_kept}
 use Rattle.qm_numbers.proofs.Signs.{abs_sum, abs_difference, abs_product_bound}
-use Rattle.qm_space.specs.Bounds.{normal_bound, distance_bound}
+use Rattle.qm_space.specs.Bounds.{world_extent, normal_bound, product_bound, cube_distance_bound, distance_bound}
 use Rattle.qm_space.specs.Point.{whole_point, IsCoordinate, AreCoordinates}
 use Rattle.qm_space.specs.Plane.{Plane, value}
-use Rattle.qm_geom.proofs.Vectors.{coordinate_kept}
-use Rattle.qm_space.proofs.PlanesThroughPoints.{coordinate_small}
+use Rattle.qm_space.proofs.CoordinateSizes.{coordinate_small}
 
 -- a component of a normal as it is passed on
 pub component_kept : (n : ℤ) → unsigned_abs n ≤ normal_bound → unsigned_abs (kept w32 n) ≤ normal_bound
 component_kept n h = rw (kept_32 n normal_bound h (lit≤ tt)) h
 
+-- so is a coordinate
+pub coordinate_kept : (c : ℤ) → IsCoordinate c → IsCoordinate (kept w32 c)
+coordinate_kept c h = rw (kept_32 c world_extent (coordinate_small c h) (lit≤ tt)) h
+
 -- a component times a coordinate
 pub part_is : (r n c : ℤ) → unsigned_abs n ≤ normal_bound → IsCoordinate c → r ≡ kept w32 n *ℤ kept w32 c → r ≡ n *ℤ c
-part_is r n c h k e = e ∙ rw (kept_32 n normal_bound h (lit≤ tt), kept_32 c (2 ^ 12) (coordinate_small c k) (lit≤ tt)) refl
+part_is r n c h k e = e ∙ rw (kept_32 n normal_bound h (lit≤ tt), kept_32 c world_extent (coordinate_small c k) (lit≤ tt)) refl
 
 pub whole_value : (h : Plane) (at : List ℤ) (x y z : ℤ) → x ≡ h.nx *ℤ get_or at 0 (pos 0) → y ≡ h.ny *ℤ get_or at 1 (pos 0) → z ≡ h.nz *ℤ get_or at 2 (pos 0) → ((x +ℤ y) +ℤ z) -ℤ h.d ≡ value h (whole_point at)
 unfolding value
@@ -26,11 +29,11 @@ whole_value h at x y z e f g = let one = *ℤ_one h.d in omega (arith, linear)
 
 -- ---- three parts and a distance, as the code adds them
 
-module _ (x y z : ℤ) (x_small : unsigned_abs x ≤ 2 ^ 38) (y_small : unsigned_abs y ≤ 2 ^ 38) (z_small : unsigned_abs z ≤ 2 ^ 38) where
-  two_small : unsigned_abs (x +ℤ y) ≤ 2 ^ 39
+module _ (x y z : ℤ) (x_small : unsigned_abs x ≤ product_bound) (y_small : unsigned_abs y ≤ product_bound) (z_small : unsigned_abs z ≤ product_bound) where
+  two_small : unsigned_abs (x +ℤ y) ≤ 2 * product_bound
   two_small = let s = abs_sum x y in omega arith
 
-  three_small : unsigned_abs ((x +ℤ y) +ℤ z) ≤ 2 ^ 40
+  three_small : unsigned_abs ((x +ℤ y) +ℤ z) ≤ cube_distance_bound
   three_small = let s = abs_sum (x +ℤ y) z in let t = two_small in omega arith
 
   two_kept : kept w64 (kept w64 x +ℤ kept w64 y) ≡ x +ℤ y

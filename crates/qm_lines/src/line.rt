@@ -1,5 +1,5 @@
 ghost use Rattle.std.specs.Prelude.{◌≡◌, ◌≤◌, ◌*◌, ◌^◌, pos, ◌*ℤ◌, unsigned_abs};
-ghost use Rattle.qm_space.specs.Bounds.{normal_bound};
+ghost use Rattle.qm_space.specs.Bounds.{normal_bound, product_bound};
 ghost use Rattle.qm_space.specs.Point.{whole_point, IsCoordinate, AreCoordinates};
 ghost use Rattle.qm_space.specs.Plane.{value};
 
@@ -70,7 +70,7 @@ fn times(component: i32, coordinate: i32) -> i64
     requires component { unsigned_abs component ≤ normal_bound }
     requires coordinate { IsCoordinate coordinate }
     ensures exact { result ≡ component *ℤ coordinate }
-    ensures size { unsigned_abs result ≤ 2 ^ 38 }
+    ensures size { unsigned_abs result ≤ product_bound }
 {
     i64::from(component) * i64::from(coordinate)
 }

@@ -6,6 +6,7 @@ pub mod Coordinates
 pub mod Outlooks
 pub mod Edges
 pub mod KeptNormals
+pub mod NoPlanes
 pub mod LookSamples
 pub mod WholeCorners
 pub mod Nearness

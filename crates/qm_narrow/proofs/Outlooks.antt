@@ -22,6 +22,7 @@ use Rattle.qm_separators.specs.Gains.{Gains}
 use Rattle.qm_separators.specs.inner.Found.{PartsAlong, SeparatesBy}
 use Rattle.qm_separators.proofs.Comparisons.{neg-*ℤ-neg}
 use Rattle.qm_separators.proofs.GainedPlanes.{gains_there}
+use Rattle.qm_separators.proofs.FoundPlanes.{whole_multiple}
 use Rattle.qm_separators.proofs.Normals.{like_lowest, flipped_lowest_normal}
 use Rattle.qm_separators.specs.Across.{HasLowestNormal}
 use Rattle.qm_narrow.specs.inner.FoundPlanes.{AreAtLeastDistance, HasAlongAmong, HasAgainstAmong}
@@ -247,9 +248,9 @@ module _ (s p : Winding) (at from to : Point) (n : Vector) (through : direction_
       (λ zero. absurd (is.some_factor zero))
       (λ positive. there_ahead h is.lowest parts is.factor e positive not_ahead))
 
-  module _ (plane : Plane) (flag : Bool) (is : IsPlaneThrough at from to plane flag) where
+  module _ (weight : from.w ≡ pos 1) (plane : Plane) (flag : Bool) (is : IsPlaneThrough at from to plane flag) where
     itself : direction_of n ≡ point_times is.multiple.factor (normal_of (turned flag plane))
-    itself = through ∙ ap normal_of is.multiple.multiple ∙ same_point (normal_of (scaled is.multiple.factor (turned flag plane))) (point_times is.multiple.factor (normal_of (turned flag plane))) refl refl refl (sym (*ℤ_zero is.multiple.factor))
+    itself = through ∙ ap normal_of (whole_multiple at from to weight plane flag is) ∙ same_point (normal_of (scaled is.multiple.factor (turned flag plane))) (point_times is.multiple.factor (normal_of (turned flag plane))) refl refl refl (sym (*ℤ_zero is.multiple.factor))
 
     there_itself : outlook.ahead ≡ false → (along h : Plane) → HasLowestNormal along → along ≡ turned flag plane → PartsAlong s p along h → Contains planes h
     there_itself not along h lowest e parts =
@@ -263,10 +264,10 @@ module _ (s p : Winding) (at from to : Point) (n : Vector) (through : direction_
         (itself ∙ times_back is.multiple.factor (turned flag plane) ∙ ap (point_times (neg_ℤ is.multiple.factor)) (sym (parts.normal ∙ ap normal_of e))) (omega (arith, linear)) not
 
   -- by the flag
-  pub there_as_it_is : (plane : Plane) (flag may : Bool) → IsPlaneThrough at from to plane flag → HasLowestNormal plane → may ≡ cond flag outlook.ahead outlook.back → may ≡ false → (h : Plane) → PartsAlong s p plane h → Contains planes h
-  there_as_it_is plane true may is lowest e unset h parts = there_itself plane true is (sym e ∙ unset) plane h lowest refl parts
-  there_as_it_is plane false may is lowest e unset h parts = there_turned plane false is (sym e ∙ unset) plane h lowest (sym (flipped_twice plane)) parts
+  pub there_as_it_is : from.w ≡ pos 1 → (plane : Plane) (flag may : Bool) → IsPlaneThrough at from to plane flag → HasLowestNormal plane → may ≡ cond flag outlook.ahead outlook.back → may ≡ false → (h : Plane) → PartsAlong s p plane h → Contains planes h
+  there_as_it_is weight plane true may is lowest e unset h parts = there_itself weight plane true is (sym e ∙ unset) plane h lowest refl parts
+  there_as_it_is weight plane false may is lowest e unset h parts = there_turned weight plane false is (sym e ∙ unset) plane h lowest (sym (flipped_twice plane)) parts
 
-  pub there_flipped : (plane : Plane) (flag may : Bool) → IsPlaneThrough at from to plane flag → HasLowestNormal (flipped plane) → may ≡ cond (not flag) outlook.ahead outlook.back → may ≡ false → (h : Plane) → PartsAlong s p (flipped plane) h → Contains planes h
-  there_flipped plane true may is lowest e unset h parts = there_turned plane true is (sym e ∙ unset) (flipped plane) h lowest refl parts
-  there_flipped plane false may is lowest e unset h parts = there_itself plane false is (sym e ∙ unset) (flipped plane) h lowest refl parts
+  pub there_flipped : from.w ≡ pos 1 → (plane : Plane) (flag may : Bool) → IsPlaneThrough at from to plane flag → HasLowestNormal (flipped plane) → may ≡ cond (not flag) outlook.ahead outlook.back → may ≡ false → (h : Plane) → PartsAlong s p (flipped plane) h → Contains planes h
+  there_flipped weight plane true may is lowest e unset h parts = there_turned weight plane true is (sym e ∙ unset) (flipped plane) h lowest refl parts
+  there_flipped weight plane false may is lowest e unset h parts = there_itself weight plane false is (sym e ∙ unset) (flipped plane) h lowest refl parts

@@ -1,4 +1,4 @@
--- Normals that are multiples of a plane's, as cross products and signs tell.
+-- Normals that are multiples of a plane's, as products of their components and signs tell.
 use Rattle.std.proofs.Common.{◌≡◌, true, false, ℤ, pos, ◌+ℤ◌, ◌*ℤ◌, ◌<ℤ◌, [], ◌∷◌, refl, ap, sym, ◌∙◌, arith, neg_ℤ, ⊎_elim}
 use Rattle.std.specs.Prelude.{int_lt}
 use Rattle.qm_numbers.proofs.IntegerProducts.{linear, *ℤ_one, *ℤ_zero, zero_*ℤ, +ℤ-*ℤ, *ℤ-neg}
@@ -10,25 +10,12 @@ use Rattle.qm_space.specs.Plane.{Plane, flipped}
 use Rattle.qm_space.specs.Vector.{normal_of}
 use Rattle.qm_space.proofs.Planes.{same_point}
 use Rattle.qm_geom.specs.declared.vector.Vector.{Vector}
-use Rattle.qm_geom.specs.Vectors.{cross_vector, direction_of}
+use Rattle.qm_geom.specs.Vectors.{direction_of}
 use Rattle.qm_separators.specs.Across.{HasLowestNormal}
 use Rattle.qm_separators.proofs.Normals.{lowest_has_normal, normal_alone}
 use Rattle.qm_separators.specs.inner.NormalLike.{HasNormalLike, alike, opposite}
 use Rattle.qm_space.specs.ThreePoints.{outward_plane}
 use Rattle.qm_narrow.specs.inner.FoundPlanes.{IsAlong}
-
-module _ (n : Vector) (g : Plane) (along : IsAlong n g) where
-  yz : n.y *ℤ g.nz ≡ n.z *ℤ g.ny
-  unfolding cross_vector
-  yz = let e = along.x_zero in omega (arith, linear)
-
-  zx : n.z *ℤ g.nx ≡ n.x *ℤ g.nz
-  unfolding cross_vector
-  zx = let e = along.y_zero in omega (arith, linear)
-
-  xy : n.x *ℤ g.ny ≡ n.y *ℤ g.nx
-  unfolding cross_vector
-  xy = let e = along.z_zero in omega (arith, linear)
 
 -- where the parts of b beside those of a are the same, the sums of parts are
 total : (i j k a b c u v w : ℤ) → ((i *ℤ a) +ℤ (j *ℤ b)) +ℤ (k *ℤ c) ≡ pos 1 → (r s : ℤ) → u *ℤ r ≡ s *ℤ a → v *ℤ r ≡ s *ℤ b → w *ℤ r ≡ s *ℤ c → (((i *ℤ u) +ℤ (j *ℤ v)) +ℤ (k *ℤ w)) *ℤ r ≡ s
@@ -49,9 +36,9 @@ module _ (n : Vector) (g : Plane) (lowest : HasLowestNormal g) (along : IsAlong 
       let m = ((c.i *ℤ n.x) +ℤ (c.j *ℤ n.y)) +ℤ (c.k *ℤ n.z) in (
         m,
         same_point (direction_of n) (point_times m (normal_of g))
-            (sym (total c.i c.j c.k g.nx g.ny g.nz n.x n.y n.z one g.nx n.x refl (sym (xy n g along)) (zx n g along)))
-            (sym (total c.i c.j c.k g.nx g.ny g.nz n.x n.y n.z one g.ny n.y (xy n g along) refl (sym (yz n g along))))
-            (sym (total c.i c.j c.k g.nx g.ny g.nz n.x n.y n.z one g.nz n.z (sym (zx n g along)) (yz n g along) refl))
+            (sym (total c.i c.j c.k g.nx g.ny g.nz n.x n.y n.z one g.nx n.x refl (sym along.xy) along.zx))
+            (sym (total c.i c.j c.k g.nx g.ny g.nz n.x n.y n.z one g.ny n.y along.xy refl (sym along.yz)))
+            (sym (total c.i c.j c.k g.nx g.ny g.nz n.x n.y n.z one g.nz n.z (sym along.zx) along.yz refl))
             (sym (*ℤ_zero m)),
       )
 

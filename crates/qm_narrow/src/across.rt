@@ -47,7 +47,7 @@ pub(crate) fn gain_through(
     if outlook.is_none() {
         return Ok(());
     }
-    match Plane::through(at, from, to) {
+    match Plane::through_whole(at, from, to) {
         Err(_) => Ok(()),
         Ok((plane, front)) => {
             let turned = plane.flipped();

@@ -1,6 +1,6 @@
 //! Edges with a corner beside them.
 
-ghost use Rattle.std.specs.Prelude.{◌^◌};
+ghost use Rattle.qm_space.specs.Bounds.{whole_normal_bound};
 ghost use Rattle.qm_convex.specs.Winding.{Winding};
 ghost use Rattle.qm_geom.specs.Vectors.{HasSmallComponents};
 ghost use Rattle.qm_narrow.specs.inner.Edge.{HasEdge};
@@ -24,7 +24,7 @@ impl Edge {
     /// The reach by its two corners along a normal.
     pub(crate) fn reach(&self, normal: &Vector) -> Reach
         requires edge { (v : Winding) × HasEdge v self.now }
-        requires small { HasSmallComponents normal.now (2 ^ 26) }
+        requires small { HasSmallComponents normal.now whole_normal_bound }
         ensures { (v : Winding) → HasEdge v self.now → IsReach v normal.now result }
     {
         let first = Reach::of(&self.first, normal);

@@ -1,6 +1,7 @@
 //! Looks at a normal before it is brought to lowest terms.
 
-ghost use Rattle.std.specs.Prelude.{◌≡◌, ◌^◌, ◌⊎◌, ◌<ℤ◌, Bool, true, false, if◌then◌else◌};
+ghost use Rattle.std.specs.Prelude.{◌≡◌, ◌⊎◌, ◌<ℤ◌, Bool, true, false, if◌then◌else◌};
+ghost use Rattle.qm_space.specs.Bounds.{whole_normal_bound};
 ghost use Rattle.qm_space.specs.Point.{AreCoordinates};
 ghost use Rattle.qm_geom.specs.Vectors.{HasSmallComponents};
 ghost use Rattle.qm_narrow.specs.inner.Look.{PartsNowhere, least_along, greatest_along};
@@ -25,7 +26,7 @@ impl Outlook {
     /// By an edge of the one of two windings, and the whole points near the corners of the other.
     pub(crate) fn of(source: &Traced, pass: &Traced, edge: &Edge, normal: &Vector) -> Outlook
         requires edge { IsEdgeOf source.now pass.now edge.now }
-        requires small { HasSmallComponents normal.now (2 ^ 26) }
+        requires small { HasSmallComponents normal.now whole_normal_bound }
         ensures ahead { result.ahead ≡ false → PartsNowhere source.now pass.now normal.now }
         ensures back { result.back ≡ false → PartsNowhere pass.now source.now normal.now }
     {
@@ -45,7 +46,7 @@ impl Outlook {
     pub(crate) fn with(&self, reach: &Reach, spot: &Spot, normal: &Vector) -> Outlook
         requires below_in { AreCoordinates spot.now.below }
         requires above_in { AreCoordinates spot.now.above }
-        requires small { HasSmallComponents normal.now (2 ^ 26) }
+        requires small { HasSmallComponents normal.now whole_normal_bound }
         ensures ahead { result.ahead ≡ false → (self.now.ahead ≡ false) ⊎ (greatest_along normal.now spot.now <ℤ reach.now.low) }
         ensures back { result.back ≡ false → (self.now.back ≡ false) ⊎ (reach.now.high <ℤ least_along normal.now spot.now) }
     {
@@ -57,7 +58,7 @@ impl Outlook {
 
     /// Without the sides for which a plane with such a normal is listed.
     pub(crate) fn without(&self, planes: &[Plane], normal: &Vector) -> Outlook
-        requires { HasSmallComponents normal.now (2 ^ 26) }
+        requires { HasSmallComponents normal.now whole_normal_bound }
         ensures ahead { result.ahead ≡ false → (self.now.ahead ≡ false) ⊎ HasAlongAmong planes.now normal.now }
         ensures back { result.back ≡ false → (self.now.back ≡ false) ⊎ HasAgainstAmong planes.now normal.now }
     {

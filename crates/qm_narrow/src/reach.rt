@@ -1,7 +1,8 @@
 //! What whole points near a winding's corners tell of the distances of planes with a normal.
 
-ghost use Rattle.std.specs.Prelude.{◌≡◌, ◌^◌};
+ghost use Rattle.std.specs.Prelude.{◌≡◌};
 ghost use Rattle.std.specs.Int.{int_max, int_min};
+ghost use Rattle.qm_space.specs.Bounds.{whole_normal_bound};
 ghost use Rattle.qm_space.specs.Point.{AreCoordinates};
 ghost use Rattle.qm_geom.specs.Vectors.{HasSmallComponents};
 ghost use Rattle.qm_narrow.specs.inner.Look.{least_along, greatest_along};
@@ -21,7 +22,7 @@ impl Reach {
     pub(crate) fn of(spot: &Spot, normal: &Vector) -> Reach
         requires below_in { AreCoordinates spot.now.below }
         requires above_in { AreCoordinates spot.now.above }
-        requires small { HasSmallComponents normal.now (2 ^ 26) }
+        requires small { HasSmallComponents normal.now whole_normal_bound }
         ensures low { result.low ≡ least_along normal.now spot.now }
         ensures high { result.high ≡ greatest_along normal.now spot.now }
     {
@@ -35,7 +36,7 @@ impl Reach {
     pub(crate) fn with(&self, spot: &Spot, normal: &Vector) -> Reach
         requires below_in { AreCoordinates spot.now.below }
         requires above_in { AreCoordinates spot.now.above }
-        requires small { HasSmallComponents normal.now (2 ^ 26) }
+        requires small { HasSmallComponents normal.now whole_normal_bound }
         ensures low { result.low ≡ int_max self.now.low (least_along normal.now spot.now) }
         ensures high { result.high ≡ int_min self.now.high (greatest_along normal.now spot.now) }
     {

@@ -1,12 +1,13 @@
 //! Whole points near corners.
 
-ghost use Rattle.std.specs.Prelude.{◌≡◌, ◌≤◌, ◌^◌, ◌*ℤ◌, unsigned_abs};
+ghost use Rattle.std.specs.Prelude.{◌≡◌, ◌≤◌, ◌*ℤ◌, unsigned_abs};
+ghost use Rattle.qm_space.specs.Bounds.{whole_normal_bound};
 ghost use Rattle.qm_space.specs.Cube.{IsInClosedCube};
 ghost use Rattle.qm_space.specs.Point.{IsCoordinate, AreCoordinates};
 ghost use Rattle.qm_space.specs.Cuboid.{least_product, greatest_product};
 ghost use Rattle.qm_space.specs.Coordinates.{HasSmallCoordinates};
 ghost use Rattle.qm_geom.specs.Vectors.{HasSmallComponents};
-ghost use Rattle.qm_narrow.specs.inner.Look.{least_between};
+ghost use Rattle.qm_narrow.specs.inner.Look.{look_product_bound, look_bound, least_between};
 ghost use Rattle.qm_narrow.specs.inner.Trace.{IsSpotOf};
 
 use crate::near::Near;
@@ -47,9 +48,9 @@ impl Spot {
     pub(crate) fn least(&self, normal: &Vector) -> i64
         requires below_in { AreCoordinates self.now.below }
         requires above_in { AreCoordinates self.now.above }
-        requires small { HasSmallComponents normal.now (2 ^ 26) }
+        requires small { HasSmallComponents normal.now whole_normal_bound }
         ensures exact { result ≡ least_along normal.now self.now }
-        ensures size { unsigned_abs result ≤ 2 ^ 40 }
+        ensures size { unsigned_abs result ≤ look_bound }
     {
         least_between(normal, &self.below, &self.above)
     }
@@ -58,9 +59,9 @@ impl Spot {
     pub(crate) fn greatest(&self, normal: &Vector) -> i64
         requires below_in { AreCoordinates self.now.below }
         requires above_in { AreCoordinates self.now.above }
-        requires small { HasSmallComponents normal.now (2 ^ 26) }
+        requires small { HasSmallComponents normal.now whole_normal_bound }
         ensures exact { result ≡ greatest_along normal.now self.now }
-        ensures size { unsigned_abs result ≤ 2 ^ 40 }
+        ensures size { unsigned_abs result ≤ look_bound }
     {
         least_between(normal, &self.above, &self.below)
     }
@@ -89,9 +90,9 @@ fn divided(corner: &Corner) -> Spot
 fn least_between(normal: &Vector, low: &[i32; 3], high: &[i32; 3]) -> i64
     requires low_in { AreCoordinates low.now }
     requires high_in { AreCoordinates high.now }
-    requires small { HasSmallComponents normal.now (2 ^ 26) }
+    requires small { HasSmallComponents normal.now whole_normal_bound }
     ensures exact { result ≡ least_between normal.now low.now high.now }
-    ensures size { unsigned_abs result ≤ 2 ^ 40 }
+    ensures size { unsigned_abs result ≤ look_bound }
 {
     let products = Vector {
         x: least_product(normal.x, low[0], high[0]),
@@ -103,11 +104,11 @@ fn least_between(normal: &Vector, low: &[i32; 3], high: &[i32; 3]) -> i64
 
 /// A component times the one coordinate, or times the other one where it is below 0.
 fn least_product(component: i64, low: i32, high: i32) -> i64
-    requires component_small { unsigned_abs component ≤ 2 ^ 26 }
+    requires component_small { unsigned_abs component ≤ whole_normal_bound }
     requires low_in { IsCoordinate low }
     requires high_in { IsCoordinate high }
     ensures exact { result ≡ least_product component (record { low = low; high = high }) }
-    ensures size { unsigned_abs result ≤ 2 ^ 38 }
+    ensures size { unsigned_abs result ≤ look_product_bound }
 {
     if component < 0 {
         times(component, high)
@@ -117,10 +118,10 @@ fn least_product(component: i64, low: i32, high: i32) -> i64
 }
 
 fn times(component: i64, coordinate: i32) -> i64
-    requires component_small { unsigned_abs component ≤ 2 ^ 26 }
+    requires component_small { unsigned_abs component ≤ whole_normal_bound }
     requires in_cube { IsCoordinate coordinate }
     ensures exact { result ≡ component *ℤ coordinate }
-    ensures size { unsigned_abs result ≤ 2 ^ 38 }
+    ensures size { unsigned_abs result ≤ look_product_bound }
 {
     component * i64::from(coordinate)
 }

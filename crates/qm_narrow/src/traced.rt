@@ -1,6 +1,7 @@
 //! Windings with what is wanted of their corners again and again.
 
-ghost use Rattle.std.specs.Prelude.{◌≡◌, ◌<◌, ◌≤◌, ◌^◌, pos, ◌<ℤ◌, [], ◌∷◌, length, IfOk, OnOk, IsTrue, ◌↔◌};
+ghost use Rattle.std.specs.Prelude.{◌≡◌, ◌<◌, ◌≤◌, pos, ◌<ℤ◌, [], ◌∷◌, length, IfOk, OnOk, IsTrue, ◌↔◌};
+ghost use Rattle.qm_space.specs.Bounds.{whole_normal_bound};
 ghost use Rattle.qm_space.specs.LeastDistance.{IsLeastDistance};
 ghost use Rattle.qm_space.specs.Coordinates.{HasSmallCoordinates};
 ghost use Rattle.qm_convex.specs.Winding.{corner_at, corners};
@@ -145,7 +146,7 @@ impl Traced {
 
     /// Its reach along a normal.
     pub(crate) fn reach(&self, normal: &Vector) -> Reach
-        requires { HasSmallComponents normal.now (2 ^ 26) }
+        requires { HasSmallComponents normal.now whole_normal_bound }
         ensures { IsReach self.now normal.now result }
     {
         let _corners = self.len();
@@ -158,7 +159,7 @@ impl Traced {
 
     /// Whether planes with a normal may part it and a source of this reach.
     pub(crate) fn outlook(&self, reach: &Reach, normal: &Vector) -> Outlook
-        requires { HasSmallComponents normal.now (2 ^ 26) }
+        requires { HasSmallComponents normal.now whole_normal_bound }
         ensures { IsOutlook self.now normal.now reach.now result }
     {
         let _corners = self.len();

@@ -1,4 +1,5 @@
--- The least distance at which no corner is in front: there is one for each normal, it is one alone, and how large it can be.
+-- The least distance at which no corner is in front: there is one for each normal, it is one alone, and how large it can be
+-- where the normal is small.
 use Rattle.std.proofs.Common.{◌≡◌, ℕ, zero, suc, ◌*◌, ◌≤◌, ◌<◌, ℤ, pos, neg_ℤ, ◌+ℤ◌, ◌-ℤ◌, ◌*ℤ◌, ◌≤ℤ◌, ◌<ℤ◌, List, [], ◌∷◌, length, get_or, refl, subst, arith, unsigned_abs}
 use Rattle.std.specs.Int.{int_max}
 use Rattle.std.specs.List.{All, Any}
@@ -7,10 +8,11 @@ use Rattle.std.proofs.lemmas.Option.{slice_get-get_or, get_or_from_slice_get}
 use Rattle.std.proofs.Math.IntN.{*ℤ_comm}
 use Rattle.qm_numbers.proofs.IntegerProducts.{linear, +ℤ-*ℤ, one_*ℤ, neg-*ℤ}
 use Rattle.qm_numbers.proofs.Signs.{by_order, by_least, times_at_most, abs_sum, abs_product_bound}
-use Rattle.qm_space.specs.Bounds.{world_extent, normal_bound, outward_distance_bound}
+use Rattle.qm_space.specs.Bounds.{world_extent, normal_bound, cube_distance_bound}
 use Rattle.qm_space.specs.Point.{Point}
 use Rattle.qm_space.specs.Plane.{Plane, value, IsNotInFront, IsInFront}
 use Rattle.qm_space.specs.Cube.{IsUpToExtent, IsInClosedCube}
+use Rattle.qm_space.specs.Reduced.{HasSmallNormal}
 use Rattle.qm_space.specs.LeastDistance.{plane_at_distance, product_along, IsLeastDistance}
 use Rattle.qm_space.specs.inner.LeastDistanceOf.{IsLeastDistanceOf}
 use Rattle.qm_space.proofs.LeastDistances.{value_at_distance, up_is_least, IsLeastSoFar, so_far_begun, so_far_gained, so_far_ended}
@@ -56,7 +58,7 @@ up_to_extent : (c w : ℤ) → pos 0 <ℤ w → IsUpToExtent c w → unsigned_ab
 up_to_extent c w h is = let a = is.above in let b = is.below in omega (arith, ints)
 
 -- the part of a plane's value that its normal gives
-along : (a b c : ℤ) (p : Point) → IsInClosedCube p → unsigned_abs a ≤ normal_bound → unsigned_abs b ≤ normal_bound → unsigned_abs c ≤ normal_bound → unsigned_abs (((a *ℤ p.x) +ℤ (b *ℤ p.y)) +ℤ (c *ℤ p.z)) ≤ outward_distance_bound * unsigned_abs p.w
+along : (a b c : ℤ) (p : Point) → IsInClosedCube p → unsigned_abs a ≤ normal_bound → unsigned_abs b ≤ normal_bound → unsigned_abs c ≤ normal_bound → unsigned_abs (((a *ℤ p.x) +ℤ (b *ℤ p.y)) +ℤ (c *ℤ p.z)) ≤ cube_distance_bound * unsigned_abs p.w
 along a b c p is a_small b_small c_small =
     let n = world_extent * unsigned_abs p.w in
     let x = abs_product_bound a p.x normal_bound n a_small (up_to_extent p.x p.w is.weight is.x) in
@@ -70,49 +72,49 @@ value_is : (h : Plane) (d : ℤ) (p : Point) → value (plane_at_distance (h.nx 
 unfolding value
 value_is h d p = refl
 
-module _ (h : Plane) (corners : List Point) (some : 0 < length corners) (inside : (i : ℕ) (d : Point) → i < length corners → IsInClosedCube (get_or corners i d)) (x_small : unsigned_abs h.nx ≤ normal_bound) (y_small : unsigned_abs h.ny ≤ normal_bound) (z_small : unsigned_abs h.nz ≤ normal_bound) (least : IsLeastDistance (h.nx ∷ h.ny ∷ h.nz ∷ []) corners h.d) where
+module _ (h : Plane) (corners : List Point) (some : 0 < length corners) (inside : (i : ℕ) (d : Point) → i < length corners → IsInClosedCube (get_or corners i d)) (small : HasSmallNormal h) (least : IsLeastDistance (h.nx ∷ h.ny ∷ h.nz ∷ []) corners h.d) where
   abbrev total : Point → ℤ
   total p = ((h.nx *ℤ p.x) +ℤ (h.ny *ℤ p.y)) +ℤ (h.nz *ℤ p.z)
 
   -- the bound times a positive number
-  bounded : (p : Point) → IsInClosedCube p → (neg_ℤ (pos outward_distance_bound *ℤ p.w) ≤ℤ total p) × (total p ≤ℤ (pos outward_distance_bound *ℤ p.w))
-  bounded p is = let l = along h.nx h.ny h.nz p is x_small y_small z_small in let w = is.weight in within (total p) p.w w l
+  bounded : (p : Point) → IsInClosedCube p → (neg_ℤ (pos cube_distance_bound *ℤ p.w) ≤ℤ total p) × (total p ≤ℤ (pos cube_distance_bound *ℤ p.w))
+  bounded p is = let l = along h.nx h.ny h.nz p is small.x small.y small.z in let w = is.weight in within (total p) p.w w l
     where
-      within : (t w : ℤ) → pos 0 <ℤ w → unsigned_abs t ≤ outward_distance_bound * unsigned_abs w → (neg_ℤ (pos outward_distance_bound *ℤ w) ≤ℤ t) × (t ≤ℤ (pos outward_distance_bound *ℤ w))
+      within : (t w : ℤ) → pos 0 <ℤ w → unsigned_abs t ≤ cube_distance_bound * unsigned_abs w → (neg_ℤ (pos cube_distance_bound *ℤ w) ≤ℤ t) × (t ≤ℤ (pos cube_distance_bound *ℤ w))
       within t w p l = (omega (arith, ints), omega (arith, ints))
 
-  not_above : pos outward_distance_bound <ℤ h.d → ⊥
+  not_above : pos cube_distance_bound <ℤ h.d → ⊥
   not_above l =
       let s = least.some_in_front (h.d -ℤ pos 1) (omega (arith, linear)) in
       let is = subst IsInClosedCube s.3 (inside s.0 s.1 s.2) in
       let w = is.weight in
       let e = value_is h (h.d -ℤ pos 1) s.1 in
-      let m = times_at_most s.1.w (pos outward_distance_bound) (h.d -ℤ pos 1) (omega (arith, linear)) (omega (arith, linear)) in
-      let a = *ℤ_comm s.1.w (pos outward_distance_bound) in let b = *ℤ_comm s.1.w (h.d -ℤ pos 1) in
+      let m = times_at_most s.1.w (pos cube_distance_bound) (h.d -ℤ pos 1) (omega (arith, linear)) (omega (arith, linear)) in
+      let a = *ℤ_comm s.1.w (pos cube_distance_bound) in let b = *ℤ_comm s.1.w (h.d -ℤ pos 1) in
       let c = (bounded s.1 is).1 in
       let f = s.4 in
       omega (arith, linear)
 
-  not_below : h.d <ℤ neg_ℤ (pos outward_distance_bound) → ⊥
+  not_below : h.d <ℤ neg_ℤ (pos cube_distance_bound) → ⊥
   not_below l =
       let p = get_or corners 0 (record { x = pos 0; y = pos 0; z = pos 0; w = pos 1 }) in
       let is = inside 0 (record { x = pos 0; y = pos 0; z = pos 0; w = pos 1 }) some in
       let w = is.weight in
       let none = least.none_in_front h.d (omega (arith, linear)) 0 (record { x = pos 0; y = pos 0; z = pos 0; w = pos 1 }) some in
       let e = value_is h h.d p in
-      let m = times_at_most p.w (h.d +ℤ pos 1) (neg_ℤ (pos outward_distance_bound)) (omega (arith, linear)) (omega (arith, linear)) in
-      let a = *ℤ_comm p.w (neg_ℤ (pos outward_distance_bound)) in let b = *ℤ_comm p.w (h.d +ℤ pos 1) in
-      let n = neg-*ℤ (pos outward_distance_bound) p.w in
+      let m = times_at_most p.w (h.d +ℤ pos 1) (neg_ℤ (pos cube_distance_bound)) (omega (arith, linear)) (omega (arith, linear)) in
+      let a = *ℤ_comm p.w (neg_ℤ (pos cube_distance_bound)) in let b = *ℤ_comm p.w (h.d +ℤ pos 1) in
+      let n = neg-*ℤ (pos cube_distance_bound) p.w in
       let q = +ℤ-*ℤ h.d (pos 1) p.w in let o = one_*ℤ p.w in
       let c = (bounded p is).0 in
       omega (arith, linear)
 
-  pub distance_size : unsigned_abs h.d ≤ outward_distance_bound
-  distance_size = by_least (pos outward_distance_bound) h.d
+  pub distance_size : unsigned_abs h.d ≤ cube_distance_bound
+  distance_size = by_least (pos cube_distance_bound) h.d
       (λ l. absurd (not_above l))
-      (λ l. by_least h.d (neg_ℤ (pos outward_distance_bound)) (λ k. absurd (not_below k)) (λ k. within h.d l k))
+      (λ l. by_least h.d (neg_ℤ (pos cube_distance_bound)) (λ k. absurd (not_below k)) (λ k. within h.d l k))
     where
-      within : (d : ℤ) → d ≤ℤ pos outward_distance_bound → neg_ℤ (pos outward_distance_bound) ≤ℤ d → unsigned_abs d ≤ outward_distance_bound
+      within : (d : ℤ) → d ≤ℤ pos cube_distance_bound → neg_ℤ (pos cube_distance_bound) ≤ℤ d → unsigned_abs d ≤ cube_distance_bound
       within d l k = omega (arith, ints)
 
 -- ---- a distance that is raised

@@ -124,6 +124,7 @@ left_right_row = record {
       (1, spot (pos 0) high low, omega arith, refl, omega (arith, ints));
   in_front = none_behind_far left_right (All-from_recursion (λ p. IsNotBehind left_right p) (spot (pos 64) low low ∷ spot (pos 64) high low ∷ spot (pos 64) high high ∷ spot (pos 64) low high ∷ []) (omega (arith, ints), (omega (arith, ints), (omega (arith, ints), (omega (arith, ints), tt)))));
   strict = inl (0, omega arith, omega (arith, ints));
+  small = record { x = omega arith; y = omega arith; z = omega arith };
 }
 
 -- ---- and the one from the right side of the near doorway to the left side of the far one
@@ -166,6 +167,7 @@ right_left_row = record {
       (0, spot (pos 0) low low, omega arith, refl, omega (arith, ints));
   in_front = none_behind_far right_left (All-from_recursion (λ p. IsNotBehind right_left p) (spot (pos 64) low low ∷ spot (pos 64) high low ∷ spot (pos 64) high high ∷ spot (pos 64) low high ∷ []) (omega (arith, ints), (omega (arith, ints), (omega (arith, ints), (omega (arith, ints), tt)))));
   strict = inl (1, omega arith, omega (arith, ints));
+  small = record { x = omega arith; y = omega arith; z = omega arith };
 }
 
 -- ---- the other definitions

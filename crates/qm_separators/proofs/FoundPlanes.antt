@@ -8,13 +8,15 @@ use Rattle.qm_space.specs.Plane.{Plane, value, IsOn, flipped, scaled}
 use Rattle.qm_space.specs.Vector.{normal_of}
 use Rattle.qm_space.specs.Turned.{turned}
 use Rattle.qm_space.specs.Line.{AreOnOneLine}
-use Rattle.qm_space.specs.Reduced.{IsReduced}
-use Rattle.qm_space.specs.ThreePoints.{outward_plane, IsPlaneThrough}
-use Rattle.qm_space.proofs.Planes.{same_point}
-use Rattle.qm_space.proofs.Multiples.{multiple_value}
+use Rattle.qm_space.specs.Reduced.{HasSmallNormal, IsReduced}
+use Rattle.qm_space.specs.ThreePoints.{outward_plane, IsPlaneThrough, IsPlaneTooFine}
+use Rattle.qm_space.proofs.Planes.{same_point, value_scaled}
 use Rattle.qm_space.proofs.TurnedPlanes.{turned_on}
 use Rattle.qm_space.proofs.ReducedPlanes.{same_plane, flipped_twice}
-use Rattle.qm_space.proofs.PlanesThroughPoints.{one_line_no_normal}
+use Rattle.qm_space.proofs.Lines.{weights_of_ones}
+use Rattle.qm_space.proofs.PlanesThroughPoints.{one_line_no_normal, normal_off_line}
+use Rattle.qm_space.proofs.SpannedPlanes.{spanned_whole}
+use Rattle.qm_space.proofs.NormalSizes.{turned_small}
 use Rattle.qm_space.specs.LeastDistance.{IsLeastDistance}
 use Rattle.qm_convex.specs.Winding.{Winding, corner_at, corners, next_place}
 use Rattle.qm_convex.specs.World.{IsInWorld}
@@ -27,12 +29,16 @@ use Rattle.qm_separators.proofs.CornerLists.{slice_of_corner, contains_corner}
 use Rattle.qm_separators.proofs.Distances.{distance_alone, distance_size}
 use Rattle.qm_separators.proofs.Normals.{divides_distance, normal_alone, normal_wants_points, like_lowest, flipped_lowest_normal}
 use Rattle.qm_separators.proofs.OutwardPlanes.{outward_holds_second}
+use Rattle.qm_separators.proofs.LargeNormals.{alike_small, none_small}
 use Rattle.qm_separators.proofs.ReducedSeparators.{corners_in_cube}
 use Rattle.qm_separators.proofs.GainedPlanes.{gains_none, gains_there, gains_one, gains_alike, gains_both}
 use Rattle.qm_separators.specs.inner.NormalLike.{HasNormalLike, alike, opposite}
 use Rattle.qm_separators.specs.inner.Found.{Parts, PartsAlong, AreOfEdgeAndCorner, AreCandidate, SeparatesBy}
 
 -- ---- along a normal
+
+small_of : (h : Plane) → IsReduced h → HasSmallNormal h
+small_of h is = record { x = is.nx_small; y = is.ny_small; z = is.nz_small }
 
 module _ (s p : Winding) (along h : Plane) (normal : normal_of h ≡ normal_of along) (least : IsLeastDistance (along.nx ∷ along.ny ∷ along.nz ∷ []) (corners s) h.d) where
   least_of_it : IsLeastDistance (h.nx ∷ h.ny ∷ h.nz ∷ []) (corners s) h.d
@@ -44,13 +50,14 @@ module _ (s p : Winding) (along h : Plane) (normal : normal_of h ≡ normal_of a
       let x = ap (λ (n : Point). n.x) normal in let y = ap (λ (n : Point). n.y) normal in let z = ap (λ (n : Point). n.z) normal in
       let n = corners_length s in let enough = world.convex.enough in
       let low : HasLowestNormal h = subst (λ (n : Point). HasLowestNormal (record { nx = n.x; ny = n.y; nz = n.z; d = h.d })) (sym normal) lowest in
-      let size = distance_size h (corners s) (omega arith) (corners_in_cube s world) (rw x reduced.nx_small) (rw y reduced.ny_small) (rw z reduced.nz_small) least_of_it in
+      let small = alike_small h along normal (small_of along reduced) in
+      let size = distance_size h (corners s) (omega arith) (corners_in_cube s world) small least_of_it in
       record {
         normal = λ a b c. reduced.normal (sym x ∙ a) (sym y ∙ b) (sym z ∙ c);
         lowest = λ k a b c d. low k a b c;
-        nx_small = rw x reduced.nx_small;
-        ny_small = rw y reduced.ny_small;
-        nz_small = rw z reduced.nz_small;
+        nx_small = small.x;
+        ny_small = small.y;
+        nz_small = small.z;
         d_small = omega arith;
       }
 
@@ -92,9 +99,12 @@ normal_too at from to g h is (opposite e) = record {
 
 module _ (at from to : Point) (from_weight : from.w ≡ pos 1) where
   module _ (plane : Plane) (flag : Bool) (is : IsPlaneThrough at from to plane flag) where
+    pub whole_multiple : outward_plane at from to ≡ scaled is.multiple.factor (turned flag plane)
+    whole_multiple = sym (spanned_whole at from to from_weight) ∙ is.multiple.multiple
+
     holds : IsOn plane from
     holds =
-        let e = multiple_value (outward_plane at from to) (turned flag plane) from is.multiple in
+        let e = ap (λ (h : Plane). value h from) whole_multiple ∙ value_scaled is.multiple.factor (turned flag plane) from in
         let f = outward_holds_second at from to from_weight in
         (turned_on flag plane from).0 (zero_beside_positive is.multiple.factor (value (turned flag plane) from) is.multiple.positive (sym e ∙ f))
 
@@ -112,7 +122,7 @@ module _ (at from to : Point) (from_weight : from.w ≡ pos 1) where
     its_normal = record {
       factor = is.multiple.factor;
       some_factor = λ z. let l = is.multiple.positive in absurd (omega (arith, linear));
-      multiple = multiple_normal (outward_plane at from to) (turned flag plane) is.multiple.factor is.multiple.multiple;
+      multiple = multiple_normal (outward_plane at from to) (turned flag plane) is.multiple.factor whole_multiple;
       lowest = turned_lowest flag;
     }
 
@@ -159,8 +169,17 @@ module _ (s p : Winding) (at from to : Point) (candidate : AreCandidate s p at f
   from_weight : from.w ≡ pos 1
   from_weight = ⊎_elim (λ are. are.from_is.weight) (λ are. are.from_is.weight) candidate
 
-  along_separates : (along h : Plane) → PartsAlong s p along h → HasNormalOf at from to h → SeparatesBy s p at from to h
-  along_separates along h is normal = (record { across = candidate_across h normal; touches = is.touches; in_front = is.parts.in_front; strict = is.parts.strict }, normal)
+  along_separates : (along h : Plane) → HasSmallNormal along → PartsAlong s p along h → HasNormalOf at from to h → SeparatesBy s p at from to h
+  along_separates along h small is normal = (
+    record {
+      across = candidate_across h normal;
+      touches = is.touches;
+      in_front = is.parts.in_front;
+      strict = is.parts.strict;
+      small = alike_small h along is.normal small;
+    },
+    normal,
+  )
 
   parts_along : (along h : Plane) → normal_of h ≡ normal_of along → IsSeparator s p h → PartsAlong s p along h
   parts_along along h e sep = record { normal = e; touches = sep.touches; parts = record { in_front = sep.in_front; strict = sep.strict } }
@@ -174,8 +193,8 @@ module _ (s p : Winding) (at from to : Point) (candidate : AreCandidate s p at f
     gains_through old mid new first second = gains_alike (λ h. PartsAlong s p plane h ⊎ PartsAlong s p (flipped plane) h) (SeparatesBy s p at from to) old new
         (λ h. (
           (λ either. ⊎_elim
-              (λ a. along_separates plane h a ((through_like at from to from_weight plane flag is h).1 (alike a.normal)))
-              (λ a. along_separates (flipped plane) h a ((through_like at from to from_weight plane flag is h).1 (opposite a.normal)))
+              (λ a. along_separates plane h (small_of plane is.is_reduced) a ((through_like at from to from_weight plane flag is h).1 (alike a.normal)))
+              (λ a. along_separates (flipped plane) h (turned_small false plane (small_of plane is.is_reduced)) a ((through_like at from to from_weight plane flag is h).1 (opposite a.normal)))
               either),
           (λ sep. by_like h sep.0 ((through_like at from to from_weight plane flag is h).0 sep.1)),
         ))
@@ -184,5 +203,11 @@ module _ (s p : Winding) (at from to : Point) (candidate : AreCandidate s p at f
   -- points on one line give none
   pub gains_on_line : at.w ≡ pos 1 → to.w ≡ pos 1 → AreOnOneLine at from to → (old : List Plane) → Gains (SeparatesBy s p at from to) old old
   gains_on_line at_weight to_weight line old =
-      let no = one_line_no_normal at from to at_weight from_weight to_weight line in
+      let no = one_line_no_normal at from to (weights_of_ones at from to at_weight from_weight to_weight) line in
       gains_none (SeparatesBy s p at from to) old (λ h sep. normal_wants_points at from to h sep.1 no.0 no.1 no.2)
+
+  -- nor do those whose plane is too fine
+  pub gains_too_fine : at.w ≡ pos 1 → to.w ≡ pos 1 → IsPlaneTooFine at from to → (old : List Plane) → Gains (SeparatesBy s p at from to) old old
+  gains_too_fine at_weight to_weight fine old =
+      let normal = normal_off_line at from to (weights_of_ones at from to at_weight from_weight to_weight) fine.apart in
+      gains_none (SeparatesBy s p at from to) old (λ h sep. none_small at from to from_weight normal fine.large h sep.1 sep.0.small)

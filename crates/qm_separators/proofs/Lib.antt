@@ -5,6 +5,7 @@ pub mod PortalStepLaws
 pub mod Roundings
 pub mod WholePointLaws
 pub mod Normals
+pub mod LargeNormals
 pub mod Distances
 pub mod CornerLists
 pub mod ReducedSeparators

@@ -5,12 +5,13 @@ use Rattle.qm_numbers.proofs.Signs.{by_least}
 use Rattle.qm_separators.proofs.Comparisons.{one_floor}
 use Rattle.qm_space.specs.Point.{Point}
 use Rattle.qm_space.specs.Plane.{Plane, value, flipped}
-use Rattle.qm_space.specs.Reduced.{HasNormal}
+use Rattle.qm_space.specs.Reduced.{HasNormal, HasSmallNormal}
 use Rattle.qm_space.specs.Vector.{normal_of}
 use Rattle.qm_space.specs.ThreePoints.{outward_plane, reduced}
 use Rattle.qm_space.proofs.Planes.{flipped_in_front, same_point}
 use Rattle.qm_space.proofs.PlanesThroughPoints.{by_normal}
 use Rattle.qm_space.proofs.ReducedPlanes.{same_plane}
+use Rattle.qm_space.proofs.NormalSizes.{by_normal_size, large_not_small}
 use Rattle.qm_space.specs.LeastDistance.{IsLeastDistance}
 use Rattle.qm_convex.specs.Winding.{Winding, next_place, corner_at, corners, IsConvex}
 use Rattle.qm_convex.specs.Sides.{HasNoCornerBehind, HasCornerBehind, HasCornerInFront}
@@ -191,21 +192,29 @@ strict_decided s p h = ⊎_elim
     (λ some. inl (inl some))
     (none_behind_or_some s h)
 
+small_decided : (h : Plane) → HasSmallNormal h ⊎ (HasSmallNormal h → ⊥)
+small_decided h = by_normal_size h inl (λ large. inr (large_not_small h large))
+
 pub listed_separators : (s p : Winding) → IsConvex s → IsConvex p → Listed (IsSeparator s p)
 listed_separators s p s_convex p_convex = listed_alike Found (IsSeparator s p)
     (λ h. (
-      (λ is. record { across = ⊎_elim (λ c. inl c.0) (λ c. inr c.0) is.0.0; touches = ⊎_elim (λ c. c.1) (λ c. c.1) is.0.0; in_front = is.0.1; strict = is.1 }),
-      (λ is. ((⊎_elim (λ c. inl (c, is.touches)) (λ c. inr (c, is.touches)) is.across, is.in_front), is.strict)),
+      (λ is. record { across = ⊎_elim (λ c. inl c.0) (λ c. inr c.0) is.0.0.0; touches = ⊎_elim (λ c. c.1) (λ c. c.1) is.0.0.0; in_front = is.0.0.1; strict = is.0.1; small = is.1 }),
+      (λ is. (((⊎_elim (λ c. inl (c, is.touches)) (λ c. inr (c, is.touches)) is.across, is.in_front), is.strict), is.small)),
     ))
+    (listed_where Strict HasSmallNormal
     (listed_where (λ h. IsAcrossBoth h × HasNoCornerBehind p h) (λ h. HasCornerBehind s h ⊎ HasCornerInFront p h)
     (listed_where IsAcrossBoth (HasNoCornerBehind p) (listed_either (λ h. HasNormalAcross (corners s) (corners p) h × IsLeastFor (corners s) h) (λ h. HasNormalAcross (corners p) (corners s) h × IsLeastFor (corners s) h) (listed_across s p s s_convex p_convex s_convex) (listed_across p s s p_convex s_convex s_convex)) (none_behind_decided p))
     (strict_decided s p))
+    small_decided)
   where
     IsAcrossBoth : Plane → Type 0
     IsAcrossBoth h = (HasNormalAcross (corners s) (corners p) h × IsLeastFor (corners s) h) ⊎ (HasNormalAcross (corners p) (corners s) h × IsLeastFor (corners s) h)
 
+    Strict : Plane → Type 0
+    Strict h = (IsAcrossBoth h × HasNoCornerBehind p h) × (HasCornerBehind s h ⊎ HasCornerInFront p h)
+
     Found : Plane → Type 0
-    Found h = (IsAcrossBoth h × HasNoCornerBehind p h) × (HasCornerBehind s h ⊎ HasCornerInFront p h)
+    Found h = Strict h × HasSmallNormal h
 
 pub listed_from_pass : (pass : Option Winding) (v : Winding) → IsConvexPass pass → IsConvex v → Listed (IsSeparatorFrom pass v)
 listed_from_pass None v pass_convex convex = listed_none (IsSeparatorFrom None v) (λ h is. is)

@@ -1,13 +1,13 @@
 -- How a step is made: the last two cuts of a step after the first two.
 use Rattle.std.specs.Option.{MatchOption}
-use Rattle.std.proofs.Common.{List, [], ◌∷◌, ◌++◌, Contains, Option, Some, None, refl, subst, ◌∙◌, ⊎_elim}
-use Rattle.std.proofs.lemmas.List.Elements.{Contains-append_left, Contains-append_right, Contains-append_cases}
-use Rattle.qm_lists.proofs.Elements.{Contains-first, Contains-nil, Contains-cons_cases}
-use Rattle.qm_space.specs.Plane.{Plane, IsInFront, flipped}
+use Rattle.std.proofs.Common.{List, [], ◌∷◌, ◌++◌, Option, Some, None, refl, subst, ⊎_elim}
+use Rattle.std.proofs.lemmas.List.Elements.{Contains-append_cases}
+use Rattle.qm_lists.proofs.Elements.{Contains-nil, Contains-cons_cases}
+use Rattle.qm_space.specs.Plane.{Plane, flipped}
 use Rattle.qm_convex.specs.Winding.{Winding, IsConvex}
-use Rattle.qm_convex.specs.Sides.{HasNoneInFront, IsWhollyInFront, LiesIn, HasCornerInFront}
+use Rattle.qm_convex.specs.Sides.{IsWhollyInFront, LiesIn, HasCornerInFront}
 use Rattle.qm_convex.specs.Cut.{IsPartInFront}
-use Rattle.qm_separators.specs.Part.{IsPartBy, HasNoPartBy}
+use Rattle.qm_separators.specs.Part.{IsPartBy}
 use Rattle.qm_separators.specs.ChainState.{ChainState, IsChainState}
 use Rattle.qm_separators.specs.ChainStep.{IsCutByPlanes, StepsTo, Blocks, third_cut, fourth_cut}
 use Rattle.qm_separators.specs.inner.Found.{HasCornersBeyond}

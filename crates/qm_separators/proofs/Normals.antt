@@ -43,24 +43,24 @@ divides_distance k h p weight on x y z = subst (λ (n : ℕ). k ∣ n) (sym (ap 
         let f : h.d *ℤ pos 1 ≡ h.d = omega (arith, ints) in
         omega (arith, linear)
 
--- so the plane of three whole points, in lowest terms, has its normal in lowest terms too
-pub outward_lowest_normal : (at from to : Point) → from.w ≡ pos 1 → HasNormal (outward_plane at from to) → HasLowestNormal (reduced (outward_plane at from to))
-outward_lowest_normal at from to weight normal k x y z =
-    reduced_lowest out normal k (record { nx = x; ny = y; nz = z; d = divides_distance k (reduced out) from weight on x y z })
+-- so such a plane, in lowest terms, has its normal in lowest terms too
+pub lowest_normal : (out : Plane) (p : Point) → p.w ≡ pos 1 → IsOn out p → HasNormal out → HasLowestNormal (reduced out)
+lowest_normal out p weight holds normal k x y z =
+    reduced_lowest out normal k (record { nx = x; ny = y; nz = z; d = divides_distance k (reduced out) p weight on x y z })
   where
-    out : Plane
-    out = outward_plane at from to
-
-    on : IsOn (reduced (outward_plane at from to)) from
+    on : IsOn (reduced out) p
     on =
-        let e = outward_holds_second at from to weight in
-        let f = value_scaled (pos (common_factor out)) (reduced out) from in
-        let g = ap (λ (h : Plane). value h from) (reduced_back out) in
-        let p = common_factor_positive out normal in
-        zero_of (common_factor out) (value (reduced out) from) p (sym f ∙ g ∙ e)
+        let f = value_scaled (pos (common_factor out)) (reduced out) p in
+        let g = ap (λ (h : Plane). value h p) (reduced_back out) in
+        let some = common_factor_positive out normal in
+        zero_of (common_factor out) (value (reduced out) p) some (sym f ∙ g ∙ holds)
       where
         zero_of : (n : ℕ) (v : ℤ) → 0 < n → pos n *ℤ v ≡ pos 0 → v ≡ pos 0
         zero_of n v p e = zero_beside_positive (pos n) v (omega (arith, ints)) e
+
+-- and so has the plane of three whole points
+pub outward_lowest_normal : (at from to : Point) → from.w ≡ pos 1 → HasNormal (outward_plane at from to) → HasLowestNormal (reduced (outward_plane at from to))
+outward_lowest_normal at from to weight normal = lowest_normal (outward_plane at from to) from weight (outward_holds_second at from to weight) normal
 
 -- ---- there is one
 

@@ -135,4 +135,5 @@ separator_too s t p q s_convex t_convex p_convex q_convex st pq h is = record {
   touches = least_too s t s_convex t_convex st (h.nx ∷ h.ny ∷ h.nz ∷ []) h.d is.touches;
   in_front = none_behind_too p q p_convex q_convex pq h is.in_front;
   strict = ⊎_elim (λ b. inl (behind_too s t s_convex t_convex st h b)) (λ f. inr (in_front_too p q p_convex q_convex pq h f)) is.strict;
+  small = is.small;
 }

@@ -1,8 +1,7 @@
-use Rattle.std.specs.Prelude.{◌≡◌, int_lt, pos, List, Contains}
+use Rattle.std.specs.Prelude.{◌≡◌, ◌*ℤ◌, int_lt, pos, List, Contains}
 use Rattle.qm_space.specs.Plane.{Plane, flipped}
 use Rattle.qm_space.specs.Vector.{normal_of}
 use Rattle.qm_geom.specs.declared.vector.Vector.{Vector}
-use Rattle.qm_geom.specs.Vectors.{cross_vector, normal_vector as own_normal}
 use Rattle.qm_convex.specs.Winding.{Winding}
 use Rattle.qm_separators.specs.Across.{HasLowestNormal}
 use Rattle.qm_separators.specs.Separator.{TouchesFromInFront}
@@ -18,11 +17,12 @@ pub record AreAtLeastDistance (source : Winding) (planes : List Plane) : Type 0 
 abbrev pub HasNormalAmong : List Plane → Plane → Type 0
 HasNormalAmong planes along = (h : Plane) × Contains planes h × (normal_of h ≡ normal_of along)
 
--- a normal points where a plane's does: their cross product is zero, and their components have the same signs
+-- a normal points where a plane's does: each two of its components are to one another as the plane's are, and they have the
+-- same signs
 pub record IsAlong (n : Vector) (h : Plane) : Type 0 where
-  pub x_zero : (cross_vector n (own_normal h)).x ≡ pos 0
-  pub y_zero : (cross_vector n (own_normal h)).y ≡ pos 0
-  pub z_zero : (cross_vector n (own_normal h)).z ≡ pos 0
+  pub xy : n.x *ℤ h.ny ≡ n.y *ℤ h.nx
+  pub yz : n.y *ℤ h.nz ≡ n.z *ℤ h.ny
+  pub zx : n.z *ℤ h.nx ≡ n.x *ℤ h.nz
   pub x_sign : int_lt n.x (pos 0) ≡ int_lt h.nx (pos 0)
   pub y_sign : int_lt n.y (pos 0) ≡ int_lt h.ny (pos 0)
   pub z_sign : int_lt n.z (pos 0) ≡ int_lt h.nz (pos 0)

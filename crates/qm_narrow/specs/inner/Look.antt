@@ -1,4 +1,5 @@
-use Rattle.std.specs.Prelude.{◌≡◌, false, List, ℤ, pos, ◌+ℤ◌, ◌≤ℤ◌, ℕ, slice_index_or}
+use Rattle.std.specs.Prelude.{◌≡◌, false, ◌*◌, List, ℤ, pos, ◌+ℤ◌, ◌≤ℤ◌, ℕ, slice_index_or}
+use Rattle.qm_space.specs.Bounds.{world_extent, whole_normal_bound}
 use Rattle.qm_space.specs.Plane.{Plane}
 use Rattle.qm_space.specs.Cuboid.{Span, least_product, greatest_product}
 use Rattle.qm_convex.specs.Winding.{Winding}
@@ -10,6 +11,14 @@ use Rattle.qm_narrow.specs.declared.spot.Spot.{Spot}
 
 -- A look at a normal before it is brought to lowest terms: whether planes with it can part two windings at all, as far as
 -- whole points near their corners tell.
+
+-- a component of the normal times a coordinate
+abbrev pub look_product_bound : ℕ
+look_product_bound = whole_normal_bound * world_extent
+
+-- what the normal has along a whole point
+abbrev pub look_bound : ℕ
+look_bound = 3 * look_product_bound
 
 -- the plane with the normal at a distance
 abbrev pub at_distance : Vector → ℤ → Plane

@@ -1,6 +1,7 @@
-use Rattle.std.proofs.Common.{◌≤◌, ◌^◌, ℤ, sym, subst, unsigned_abs, arith}
+use Rattle.std.proofs.Common.{◌≤◌, ℤ, sym, subst, unsigned_abs, arith}
 use Rattle.qm_numbers.proofs.Kept.{narrow_fits, narrow_is}
-use Rattle.qm_space.proofs.PlanesThroughPoints.{coordinate_small}
+use Rattle.qm_space.specs.Bounds.{product_bound}
+use Rattle.qm_space.proofs.CoordinateSizes.{coordinate_small}
 use Rattle.qm_space.proofs.Cuboids.{product_small}
 use Rattle.qm_lines.proofs.line.times.Goals as goal
 
@@ -16,4 +17,4 @@ returns-clause-exact c =
 
 pub returns-clause-size : goal.returns-clause-size
 returns-clause-size c =
-    subst (λ (z : ℤ). unsigned_abs z ≤ 2 ^ 38) (sym (returns-clause-exact c)) (product_small c.args.component c.args.coordinate c.requires.component c.requires.coordinate)
+    subst (λ (z : ℤ). unsigned_abs z ≤ product_bound) (sym (returns-clause-exact c)) (product_small c.args.component c.args.coordinate c.requires.component c.requires.coordinate)

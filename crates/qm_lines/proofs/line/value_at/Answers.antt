@@ -1,8 +1,7 @@
 use Rattle.std.proofs.Common.{rules, ◌∙◌, pos, ap}
 use Rattle.qm_space.specs.Point.{whole_point}
 use Rattle.qm_space.specs.Plane.{Plane, plane_of, value}
-use Rattle.qm_geom.proofs.Vectors.{coordinate_kept}
-use Rattle.qm_lines.proofs.Values.{component_kept, part_is, whole_value, two_fit, three_fit, less_fits, less_kept, less_kept_small}
+use Rattle.qm_lines.proofs.Values.{component_kept, coordinate_kept, part_is, whole_value, two_fit, three_fit, less_fits, less_kept, less_kept_small}
 use Rattle.qm_lines.proofs.line.value_at.Goals as goal
 
 pub times-along_x-requires : goal.times-along_x-requires

@@ -1,12 +1,13 @@
-use Rattle.std.proofs.Common.{refl, sym, subst, inl}
+use Rattle.std.proofs.Common.{Err, ap, refl, sym, subst, inl}
 use Rattle.qm_space.specs.Point.{whole_point}
 use Rattle.qm_space.specs.Plane.{Plane}
 use Rattle.qm_separators.specs.Across.{HasLowestNormal}
 use Rattle.qm_separators.specs.Gains.{Gains}
 use Rattle.qm_separators.specs.inner.Found.{PartsAlong}
-use Rattle.qm_separators.proofs.FoundPlanes.{through_lowest, through_lowest_flipped, gains_on_line, gains_through}
+use Rattle.qm_separators.proofs.FoundPlanes.{through_lowest, through_lowest_flipped, gains_through}
 use Rattle.qm_narrow.proofs.Outlooks.{gains_nowhere, there_as_it_is, there_flipped}
 use Rattle.qm_narrow.proofs.ListedNormals.{found_along}
+use Rattle.qm_narrow.proofs.NoPlanes.{gains_of_fault}
 use Rattle.qm_narrow.proofs.across.gain_through.Goals as goal
 
 pub gain_where-requires-clause-lowest : goal.gain_where-requires-clause-lowest
@@ -17,7 +18,7 @@ gain_where-requires-clause-not c =
     there_as_it_is c.args.source.now c.args.pass.now (whole_point c.args.at) (whole_point c.args.from) (whole_point c.args.to)
     c.normal_through-normal.result c.normal_through-normal.ensures.exact c.args.planes.now.items _ c.as_slice.ensures.value c.requires.found c.of-look.result c.without-outlook.result
     c.of-look.ensures.ahead c.of-look.ensures.back c.without-outlook.ensures.ahead c.without-outlook.ensures.back
-    _ _ _ c.in-Ok.ensures.through (through_lowest (whole_point c.args.at) (whole_point c.args.from) (whole_point c.args.to) refl _ _ c.in-Ok.ensures.through) c.towards.ensures
+    refl _ _ _ c.in-Ok.ensures.through (through_lowest (whole_point c.args.at) (whole_point c.args.from) (whole_point c.args.to) refl _ _ c.in-Ok.ensures.through) c.towards.ensures
 
 pub gain_where-requires-in-Ok-clause-lowest : goal.gain_where-requires-in-Ok-clause-lowest
 gain_where-requires-in-Ok-clause-lowest c = subst HasLowestNormal (sym c.flipped-turned.ensures) (through_lowest_flipped (whole_point c.args.at) (whole_point c.args.from) (whole_point c.args.to) refl _ _ c.in-Ok.ensures.through)
@@ -27,7 +28,7 @@ gain_where-requires-in-Ok-clause-not c = λ unset h parts.
     (c.in_ok-gain_where-in-Ok.ensures.members h).1 (inl (there_flipped c.args.source.now c.args.pass.now (whole_point c.args.at) (whole_point c.args.from) (whole_point c.args.to)
     c.normal_through-normal.result c.normal_through-normal.ensures.exact c.args.planes.now.items _ c.as_slice.ensures.value c.requires.found c.of-look.result c.without-outlook.result
     c.of-look.ensures.ahead c.of-look.ensures.back c.without-outlook.ensures.ahead c.without-outlook.ensures.back
-    _ _ _ c.in-Ok.ensures.through (through_lowest_flipped (whole_point c.args.at) (whole_point c.args.from) (whole_point c.args.to) refl _ _ c.in-Ok.ensures.through) c.towards-in-Ok.ensures unset h
+    refl _ _ _ c.in-Ok.ensures.through (through_lowest_flipped (whole_point c.args.at) (whole_point c.args.from) (whole_point c.args.to) refl _ _ c.in-Ok.ensures.through) c.towards-in-Ok.ensures unset h
     (subst (λ (g : Plane). PartsAlong c.args.source.now c.args.pass.now g h) c.flipped-turned.ensures parts)))
 
 pub returns-then-is_none : goal.returns-then-is_none
@@ -45,7 +46,9 @@ returns-then-is_none-2 c =
     (c.is_none-2.ensures.ahead c.if-is_none-2.true) (c.is_none-2.ensures.back c.if-is_none-2.true)
 
 pub returns-in-Err : goal.returns-in-Err
-returns-in-Err c = gains_on_line c.args.source.now c.args.pass.now (whole_point c.args.at) (whole_point c.args.from) (whole_point c.args.to) c.requires.candidate refl refl (c.in-Err.ensures.no_normal.0 refl) c.args.planes.now.items
+returns-in-Err c =
+    gains_of_fault c.args.source.now c.args.pass.now (whole_point c.args.at) (whole_point c.args.from) (whole_point c.args.to) c.requires.candidate refl refl c.in-Err.field-0
+    (λ e. c.in-Err.ensures.no_normal.0 (ap Err e)) (λ e. c.in-Err.ensures.too_fine.0 (ap Err e)) c.args.planes.now.items
 
 pub returns-in_ok-gain_where-in-Ok-2 : goal.returns-in_ok-gain_where-in-Ok-2
 returns-in_ok-gain_where-in-Ok-2 c =

@@ -1,10 +1,16 @@
 use Rattle.std.proofs.Common.{◌∙◌, ap}
 use Rattle.qm_space.specs.Point.{whole_point}
 use Rattle.qm_space.specs.ThreePoints.{outward_plane}
-use Rattle.qm_space.proofs.PlanesThroughPoints.{whole_point_is_whole}
+use Rattle.qm_space.proofs.CoordinateSizes.{whole_point_is_whole, thousandths_of_coordinates}
 use Rattle.qm_geom.specs.Vectors.{vector_between, cross_vector, direction_of}
 use Rattle.qm_narrow.proofs.KeptNormals.{through_small}
 use Rattle.qm_narrow.proofs.normal.normal_through.Goals as goal
+
+pub between-first-requires : goal.between-first-requires
+between-first-requires c = record { from_in_cube = thousandths_of_coordinates _ c.requires.from_in_cube; to_in_cube = thousandths_of_coordinates _ c.requires.at_in_cube }
+
+pub between-second-requires : goal.between-second-requires
+between-second-requires c = record { from_in_cube = thousandths_of_coordinates _ c.requires.from_in_cube; to_in_cube = thousandths_of_coordinates _ c.requires.to_in_cube }
 
 pub returns-clause-exact : goal.returns-clause-exact
 unfolding outward_plane vector_between cross_vector

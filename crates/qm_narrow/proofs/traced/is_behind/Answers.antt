@@ -1,8 +1,15 @@
 use Rattle.std.proofs.Common.{ℤ, ◌<ℤ◌, ◌≤ℤ◌, ap, subst, arith}
 use Rattle.std.proofs.lemmas.Int.{ints}
 use Rattle.qm_space.specs.Plane.{Plane}
+use Rattle.qm_narrow.proofs.KeptNormals.{own_small}
 use Rattle.qm_narrow.proofs.Outlooks.{behind_by, not_behind_by}
 use Rattle.qm_narrow.proofs.traced.is_behind.Goals as goal
+
+pub greatest-requires-clause-small : goal.greatest-requires-clause-small
+greatest-requires-clause-small c = own_small c.normal-normal.result c.normal-normal.ensures.size
+
+pub least-requires-clause-small : goal.least-requires-clause-small
+least-requires-clause-small c = own_small c.normal-normal.result c.normal-normal.ensures.size
 
 pub returns-then-greatest-plane : goal.returns-then-greatest-plane
 returns-then-greatest-plane c =

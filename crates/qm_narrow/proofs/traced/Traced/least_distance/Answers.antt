@@ -7,9 +7,16 @@ use Rattle.qm_geom.specs.Vectors.{direction_of}
 use Rattle.qm_space.proofs.LeastDistances.{IsLeastSoFar, so_far_ended}
 use Rattle.qm_convex.specs.Winding.{corners}
 use Rattle.qm_convex.proofs.Corners.{corners_length}
+use Rattle.qm_narrow.proofs.KeptNormals.{own_small}
 use Rattle.qm_narrow.proofs.RaisedDistances.{raised_begins, raised_past, raised_by, at_most_where}
 use Rattle.qm_narrow.proofs.traced.Traced.least_distance.Goals as goal
 use Rattle.qm_narrow.proofs.traced.Traced.least_distance.Goals.{then-greatest-least, else-greatest-least}
+
+pub reach-least-requires : goal.reach-least-requires
+reach-least-requires c = own_small c.normal-normal.result c.normal-normal.ensures.size
+
+pub greatest-requires-clause-small : goal.greatest-requires-clause-small
+greatest-requires-clause-small c = own_small c.normal-normal.result c.normal-normal.ensures.size
 
 pub loop-i-init : goal.loop-i-init
 loop-i-init c =
