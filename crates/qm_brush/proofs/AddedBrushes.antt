@@ -1,20 +1,27 @@
 -- A brush that is added to a list.
-use Rattle.std.proofs.Common.{◌≡◌, ℕ, ℤ, ◌-◌, Bool, true, false, List, [], ◌∷◌, ◌++◌, length, get_or, take, drop, map, All, inl, inr, refl, sym, ap, ◌∙◌, subst, arith}
+use Rattle.std.proofs.Common.{◌≡◌, ℕ, ℤ, ◌-◌, Bool, true, false, List, [], ◌∷◌, ◌++◌, length, get_or, take, drop, map, All, Result, Ok, Err, inl, inr, refl, sym, ap, ◌∙◌, subst, arith}
+use Rattle.std.specs.Prelude.{IsOk}
 use Rattle.std.specs.List.{AllZip}
 use Rattle.std.specs.Bool.{MatchBool}
 use Rattle.std.proofs.lemmas.Bool.{cases_lt}
 use Rattle.std.proofs.lemmas.List.{take_all, take-append-le, drop-append-le, drop_at, map-append, length-append, length-drop, get_or_past}
 use Rattle.std.proofs.lemmas.List.Elements.{All-nil, All-head, All-tail, All-push}
-use Rattle.qm_space.specs.Point.{AreCoordinates, IsCoordinate, IsWholePoint}
+use Rattle.qm_space.specs.Point.{AreThousandths, IsThousandths}
 use Rattle.qm_space.specs.Plane.{Plane}
 use Rattle.qm_space.specs.Multiple.{IsPositiveMultiple}
+use Rattle.qm_space.specs.ThreePoints.{IsPlaneThrough, IsPlaneTooFine}
+use Rattle.qm_space.specs.Line.{AreOnOneLine}
 use Rattle.qm_space.specs.Turned.{turned}
 use Rattle.qm_space.specs.Book.{AreBookPlanes}
 use Rattle.qm_space.specs.Cell.{IsInCell}
-use Rattle.qm_space.proofs.PlanesThroughPoints.{whole_point_is_whole, plane_through_is, normal_off_line}
+use Rattle.qm_space.proofs.CoordinateSizes.{thousandths_in_closed_cube}
+use Rattle.qm_space.proofs.Lines.{thousandths_weights}
+use Rattle.qm_space.proofs.PlanesThroughPoints.{plane_through_fine}
+use Rattle.qm_geom.specs.declared.through_fault.ThroughFault.{ThroughFault}
+use Rattle.qm_geom.specs.declared.through_fault.ThroughFault.TheVariants.{NoNormal, TooFine}
 use Rattle.qm_mapfile.specs.declared.face.Face.{Face}
 use Rattle.qm_mapfile.specs.declared.entity.Brush.{Brush}
-use Rattle.qm_mapfile.specs.Face.{face_point, face_outward}
+use Rattle.qm_mapfile.specs.Face.{point_at, GivePlane, face_point, face_outward, face_plane, HasPlane}
 use Rattle.qm_grammar.specs.Valid.{IsValidFace}
 use Rattle.qm_solids.specs.declared.face.FaceRef.{FaceRef}
 use Rattle.qm_solids.specs.Solid.{Solid}
@@ -29,22 +36,30 @@ use Rattle.qm_brush.specs.inner.Added.{IsBrushAdded}
 
 -- ---- the planes of a face
 
--- a point of a face is a whole point of the closed cube
-pub coordinates_at : (points : List (List ℤ)) (k : ℕ) → All AreCoordinates points → AreCoordinates (get_or points k [])
+-- a point of a face has coordinates in the closed cube
+pub coordinates_at : (points : List (List ℤ)) (k : ℕ) → All AreThousandths points → AreThousandths (get_or points k [])
 coordinates_at points k coordinates = elim (cases_lt k (length points)) [
   | inl within ↦ coordinates k [] within
-  | inr past ↦ subst AreCoordinates (sym (get_or_past points k [] past)) (All-nil IsCoordinate)
+  | inr past ↦ subst AreThousandths (sym (get_or_past points k [] past)) (All-nil IsThousandths)
 ]
 
-face_point_whole : (face : Face) (k : ℕ) → All AreCoordinates face.points → IsWholePoint (face_point face k)
-face_point_whole face k coordinates = whole_point_is_whole (get_or face.points k []) (coordinates_at face.points k coordinates)
+-- a face with such points that gives a plane
+pub face_through : (face : Face) → All AreThousandths face.points → HasPlane face → IsPlaneThrough (face_point face 0) (face_point face 1) (face_point face 2) (face_plane face).0 (face_plane face).1
+face_through face coordinates plane =
+    plane_through_fine (face_point face 0) (face_point face 1) (face_point face 2)
+    (thousandths_in_closed_cube (get_or face.points 1 []) (coordinates_at face.points 1 coordinates))
+    (thousandths_weights (get_or face.points 0 []) (get_or face.points 1 []) (get_or face.points 2 []))
+    plane.spans plane.not_too_fine
 
 -- the outward plane of a valid face is a positive multiple of its plane in lowest terms, turned outward
 outward_multiple : (face : Face) → IsValidFace face → IsPositiveMultiple (face_outward face) (turned_outward face)
-outward_multiple face valid =
-    (plane_through_is (face_point face 0) (face_point face 1) (face_point face 2)
-    (face_point_whole face 0 valid.coordinates) (face_point_whole face 1 valid.coordinates) (face_point_whole face 2 valid.coordinates)
-    (normal_off_line (face_point face 0) (face_point face 1) (face_point face 2) refl refl refl valid.plane)).multiple
+outward_multiple face valid = (face_through face valid.coordinates valid.plane).multiple
+
+-- the plane through three points that give one is answered
+pub ok_if_plane : {T : Type 0} (points : List (List ℤ)) (answer : Result T ThroughFault) → (◌≡◌ {A = Result T ThroughFault} answer (Err NoNormal) → AreOnOneLine (point_at points 0) (point_at points 1) (point_at points 2)) → (◌≡◌ {A = Result T ThroughFault} answer (Err TooFine) → IsPlaneTooFine (point_at points 0) (point_at points 1) (point_at points 2)) → GivePlane points → IsOk answer
+ok_if_plane points (Ok plane) line found gives = refl
+ok_if_plane points (Err NoNormal) line found gives = absurd (gives.spans (line refl))
+ok_if_plane points (Err TooFine) line found gives = absurd (gives.not_too_fine (found refl))
 
 outward_multiples : (faces : List Face) → All IsValidFace faces → AllZip IsPositiveMultiple (map face_outward faces) (map turned_outward faces)
 outward_multiples [] valid = tt

@@ -1,6 +1,6 @@
 -- Faces whose planes enter a book, one after another.
 use Rattle.std.proofs.Common.{◌≡◌, ℕ, ◌<◌, ◌≤◌, ◌+◌, List, [], ◌∷◌, ◌++◌, length, get_or, take, drop, Some, Result, Ok, Err, refl, sym, ap, ◌∙◌, subst, arith}
-use Rattle.std.specs.Prelude.{slice_get, OnErr, IsOk, IsErr}
+use Rattle.std.specs.Prelude.{slice_get, OnErr}
 use Rattle.std.specs.Prelude.{map as mapped}
 use Rattle.std.proofs.lemmas.Option.{slice_get-get_or, slice_get_within}
 use Rattle.std.proofs.lemmas.List.{length-take, take_all, take_more, append_assoc, append-nil, map-append, take-append-drop, length-map}
@@ -17,11 +17,6 @@ use Rattle.qm_solids.specs.declared.face.FaceRef.{FaceRef}
 use Rattle.qm_solids.specs.Outward.{outward_of, outward_planes, AreNumberedIn}
 use Rattle.qm_drawn.specs.Planes.{plane_of_face}
 use Rattle.qm_brush.specs.inner.Entered.{is_out_front, turned_outward, AreFirstEntered, IsFaceEntered, AreFacesEntered}
-
--- what is no error is an answer
-pub ok_if_no_error : {T E : Type 0} (result : Result T E) → (IsErr result → ⊥) → IsOk result
-ok_if_no_error (Ok x) not = refl
-ok_if_no_error (Err e) not = absurd (not refl)
 
 -- what holds in any case holds where there is an error
 pub on_error : {T E P : Type 0} (result : Result T E) → P → OnErr result P

@@ -1,6 +1,6 @@
 -- Worked row: a world of a brush of one face and of a brush that is clip.
 use Rattle.std.proofs.Common.{◌≡◌, ℕ, ℤ, pos, neg_ℤ, List, [], ◌∷◌, codes, refl}
-use Rattle.qm_space.specs.ThreePoints.{outward_plane}
+use Rattle.qm_space.specs.ThreePoints.{outward_plane, in_space}
 use Rattle.qm_mapfile.specs.declared.face.Mapping.TheVariants.{Standard}
 use Rattle.qm_mapfile.specs.declared.entity.Brush.{Brush}
 use Rattle.qm_mapfile.specs.declared.entity.MapFile.{MapFile}
@@ -9,9 +9,9 @@ use Rattle.qm_contents.specs.Texture.{contents_of_texture}
 use Rattle.qm_drawn.specs.Brushes.{drawn_brushes}
 use Rattle.qm_drawn.specs.Solids.{drawn_solids}
 
--- three whole points
+-- three points, in thousandths
 abbrev triangle : List (List ℤ)
-triangle = (pos 128 ∷ pos 0 ∷ pos 0 ∷ []) ∷ (pos 128 ∷ pos 1 ∷ pos 0 ∷ []) ∷ (pos 128 ∷ pos 0 ∷ pos 1 ∷ []) ∷ []
+triangle = (pos 128000 ∷ pos 0 ∷ pos 0 ∷ []) ∷ (pos 128000 ∷ pos 1000 ∷ pos 0 ∷ []) ∷ (pos 128000 ∷ pos 0 ∷ pos 1000 ∷ []) ∷ []
 
 abbrev brush_of : List ℕ → Brush
 brush_of texture = record {
@@ -29,9 +29,9 @@ sample_map = record { entities = record { pairs = []; brushes = brush_of (codes 
 solids_row : drawn_solids sample_map ≡
     record {
       contents = Solid;
-      outward = record { nx = neg_ℤ (pos 1); ny = pos 0; nz = pos 0; d = neg_ℤ (pos 128) } ∷ [];
+      outward = record { nx = neg_ℤ (pos 1000000000); ny = pos 0; nz = pos 0; d = neg_ℤ (pos 128000000000) } ∷ [];
     } ∷ []
-unfolding contents_of_texture outward_plane
+unfolding contents_of_texture outward_plane in_space
 solids_row = refl
 
 brushes_row : drawn_brushes sample_map ≡ brush_of (codes "stone") ∷ []

@@ -1,7 +1,7 @@
 //! Faces, as the planes of a book that they lie on.
 
 ghost use Rattle.std.specs.Prelude.{◌≡◌, ◌<◌, ◌+◌, ◌-◌, ◌^◌, List, ◌++◌, length, map, IfOk, OnErr, All, IsTrue};
-ghost use Rattle.qm_space.specs.Point.{AreCoordinates};
+ghost use Rattle.qm_space.specs.Point.{AreThousandths};
 ghost use Rattle.qm_space.specs.Reduced.{leads_positive};
 ghost use Rattle.qm_mapfile.specs.Face.{HasPlane, face_plane};
 ghost use Rattle.qm_grammar.specs.Valid.{IsValidFace};
@@ -35,7 +35,7 @@ pub(crate) fn enter_faces(
 
 /// Adds one face. Where memory runs out, all stays as it was.
 fn enter_face(into: &mut Vec<FaceRef>, face: &Face, book: &mut PlaneBook) -> Result<(), AllocError>
-    requires coordinates { All AreCoordinates face.now.points }
+    requires coordinates { All AreThousandths face.now.points }
     requires plane { HasPlane face.now }
     requires room { length book.old < 2 ^ 32 - 1 }
     ensures ok { IfOk result (λ _. IsFaceEntered face.now into.old.items into.new.items book.old book.new) }
@@ -54,7 +54,7 @@ fn enter_face(into: &mut Vec<FaceRef>, face: &Face, book: &mut PlaneBook) -> Res
 
 /// The plane of a face, and whether outward is its front.
 fn plane_of_face(face: &Face) -> (Plane, bool)
-    requires coordinates { All AreCoordinates face.now.points }
+    requires coordinates { All AreThousandths face.now.points }
     requires plane { HasPlane face.now }
     ensures value { result ≡ face_plane face.now }
     ensures leads { IsTrue (leads_positive result.0) }

@@ -11,5 +11,5 @@ pub data Order : Type 0 where
   of_tree : List ℕ → List Query → Order
   -- `demo`: how many rooms are generated, and from which number
   of_rooms : ℕ → ℕ → Order
-  -- `upgrade`: a tree file, under its name, is written in the newest version under another
+  -- `upgrade`: a tree file, under its name, is written in version 2 under another
   of_upgrade : List ℕ → List ℕ → Order

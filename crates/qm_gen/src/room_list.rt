@@ -10,11 +10,11 @@ use std::alloc::{AllocError, Global};
 const OWN_DOORWAYS: u32 = 32;
 
 /// Where the last room's wall ends in the east.
-fn east_end(rooms: u32) -> i32
+fn east_end(rooms: u32) -> i16
     requires { rooms ≤ 64 }
     ensures { result ≡ east_end rooms }
 {
-    112 * rooms as i32 - 3584
+    112 * rooms as i16 - 3584
 }
 
 /// The floor, the ceiling, and the walls to the south, north and west.
@@ -70,11 +70,11 @@ fn hull_boxes(rooms: u32) -> [StoneBox; 5]
 
 /// A part of a room's wall, up to the ceiling.
 #[tactic(auto, unfolding(qm_rooms::specs::Rooms::wall_part))]
-fn wall_part(room: u32, south: i32, north: i32, bottom: i32) -> StoneBox
+fn wall_part(room: u32, south: i16, north: i16, bottom: i16) -> StoneBox
     requires { room < 64 }
     ensures { result ≡ wall_part room south north bottom }
 {
-    let west = 112 * room as i32 - 3488;
+    let west = 112 * room as i16 - 3488;
     StoneBox {
         west,
         south,
@@ -95,11 +95,11 @@ fn doorway_place(number: u64, room: u32) -> u32
 }
 
 /// Where the doorway at a place begins in the south.
-fn doorway_south(place: u32) -> i32
+fn doorway_south(place: u32) -> i16
     requires { place ≤ 4 }
     ensures { result ≡ doorway_south place }
 {
-    32 * place as i32 - 64
+    32 * place as i16 - 64
 }
 
 /// Adds a box, unless it is absent.

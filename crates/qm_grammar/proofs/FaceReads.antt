@@ -6,7 +6,7 @@ use Rattle.qm_mapfile.specs.declared.face.Face.{Face}
 use Rattle.qm_mapfile.specs.declared.entity.Brush.{Brush}
 use Rattle.qm_mapfile.specs.declared.entity.Pair.{Pair}
 use Rattle.qm_mapfile.specs.declared.entity.Entity.{Entity}
-use Rattle.qm_mapfile.specs.Face.{SpanPlane}
+use Rattle.qm_mapfile.specs.Face.{GivePlane}
 use Rattle.qm_grammar.specs.declared.mark.Mark.TheVariants.{CloseParenthesis}
 use Rattle.qm_grammar.specs.declared.slot.Slot.{Slot}
 use Rattle.qm_grammar.specs.declared.slot.Slot.TheVariants as slot
@@ -66,8 +66,8 @@ face_plain form filled others one is =
 no_number : (ns number : List ℤ) → length number ≡ 0 → ns ++ number ≡ ns
 no_number ns number none = ap (λ (l : List ℤ). ns ++ l) (nil_from_length number none) ∙ append-nil ns
 
-spans_on : (ns number : List ℤ) → length number ≡ 0 → SpanPlane (points_of ns) → SpanPlane (points_of (ns ++ number))
-spans_on ns number none spans = subst (λ (l : List ℤ). SpanPlane (points_of l)) (sym (no_number ns number none)) spans
+spans_on : (ns number : List ℤ) → length number ≡ 0 → GivePlane (points_of ns) → GivePlane (points_of (ns ++ number))
+spans_on ns number none spans = subst (λ (l : List ℤ). GivePlane (points_of l)) (sym (no_number ns number none)) spans
 
 -- behind the fourteenth slot stands the parenthesis that closes the third point
 closer_due : (filled more : List Slot) (one two : Slot) → filled ++ one ∷ (two ∷ more) ≡ head_slots ++ slot.FirstOfMapping ∷ [] → length filled ≡ 14 → (one ≡ slot.Mark CloseParenthesis) × (coordinates filled ≡ 9)
@@ -85,7 +85,7 @@ texture_due filled more one two is beyond =
     let count : length (filled ++ one ∷ (two ∷ more)) ≡ 17 = ap length is in
     slot_at filled (two ∷ more) (head_slots ++ slot.FirstOfMapping ∷ []) one 15 is (omega (arith, length-append filled (one ∷ (two ∷ more))))
 
-head_spans : (filled more : List Slot) (one two : Slot) (ns number : List ℤ) → filled ++ one ∷ (two ∷ more) ≡ head_slots ++ slot.FirstOfMapping ∷ [] → length ns ≡ coordinates filled → length number ≡ takes one → SpansAt one ns → (15 ≤ length filled → SpanPlane (points_of ns)) → 15 ≤ length (filled ++ one ∷ []) → SpanPlane (points_of (ns ++ number))
+head_spans : (filled more : List Slot) (one two : Slot) (ns number : List ℤ) → filled ++ one ∷ (two ∷ more) ≡ head_slots ++ slot.FirstOfMapping ∷ [] → length ns ≡ coordinates filled → length number ≡ takes one → SpansAt one ns → (15 ≤ length filled → GivePlane (points_of ns)) → 15 ≤ length (filled ++ one ∷ []) → GivePlane (points_of (ns ++ number))
 head_spans filled more one two ns number is count added here before beyond =
     ⊎_elim
     (λ fourteen.
@@ -109,7 +109,7 @@ push_some (first ∷ filled) one none = absurd cc
 
 module _ (es : List Entity) (ps : List Pair) (bs : List Brush) (fs : List Face) where
   -- in the head
-  head_next : (symbols : List Symbol) (ns : List ℤ) (ts : List (List ℕ)) (filled more : List Slot) (one two : Slot) (symbol : Symbol) (next : Prefix) → Fill filled symbols ns ts → filled ++ one ∷ (two ∷ more) ≡ head_slots ++ slot.FirstOfMapping ∷ [] → (15 ≤ length filled → SpanPlane (points_of ns)) → IsSlotRead es ps bs fs ns ts one (two ∷ more) symbol next → IsFaceNext es ps bs fs (symbols ++ symbol ∷ []) next
+  head_next : (symbols : List Symbol) (ns : List ℤ) (ts : List (List ℕ)) (filled more : List Slot) (one two : Slot) (symbol : Symbol) (next : Prefix) → Fill filled symbols ns ts → filled ++ one ∷ (two ∷ more) ≡ head_slots ++ slot.FirstOfMapping ∷ [] → (15 ≤ length filled → GivePlane (points_of ns)) → IsSlotRead es ps bs fs ns ts one (two ∷ more) symbol next → IsFaceNext es ps bs fs (symbols ++ symbol ∷ []) next
   head_next symbols ns ts filled more one two symbol next fill is spans read =
       goes_on
       (in_head {filled = filled ++ one ∷ []} (fill_push fill read.fills) (push_some filled one)
@@ -118,7 +118,7 @@ module _ (es : List Entity) (ps : List Pair) (bs : List Brush) (fs : List Face) 
       read.next_is
 
   -- behind the head
-  first_next : (symbols : List Symbol) (ns : List ℤ) (ts : List (List ℕ)) (filled : List Slot) (symbol : Symbol) (next : Prefix) → Fill filled symbols ns ts → filled ≡ head_slots → SpanPlane (points_of ns) → IsFirstRead es ps bs fs ns ts symbol next → IsFaceNext es ps bs fs (symbols ++ symbol ∷ []) next
+  first_next : (symbols : List Symbol) (ns : List ℤ) (ts : List (List ℕ)) (filled : List Slot) (symbol : Symbol) (next : Prefix) → Fill filled symbols ns ts → filled ≡ head_slots → GivePlane (points_of ns) → IsFirstRead es ps bs fs ns ts symbol next → IsFaceNext es ps bs fs (symbols ++ symbol ∷ []) next
   first_next symbols ns ts filled symbol next fill is spans read =
       let count : length filled ≡ 16 = ap length is in
       let none_taken : coordinates (read.one ∷ read.others) ≡ 0 = ap coordinates (sym read.mapping) ∙ mapping_coordinates read.form in
@@ -131,7 +131,7 @@ module _ (es : List Entity) (ps : List Pair) (bs : List Brush) (fs : List Face) 
       read.next_is
 
   -- in the mapping
-  mapping_next : (form : Form) (symbols : List Symbol) (ns : List ℤ) (ts : List (List ℕ)) (filled others : List Slot) (one : Slot) (symbol : Symbol) (next : Prefix) → Fill filled symbols ns ts → 17 ≤ length filled → filled ++ one ∷ others ≡ face_slots form → SpanPlane (points_of ns) → IsSlotRead es ps bs fs ns ts one others symbol next → IsFaceNext es ps bs fs (symbols ++ symbol ∷ []) next
+  mapping_next : (form : Form) (symbols : List Symbol) (ns : List ℤ) (ts : List (List ℕ)) (filled others : List Slot) (one : Slot) (symbol : Symbol) (next : Prefix) → Fill filled symbols ns ts → 17 ≤ length filled → filled ++ one ∷ others ≡ face_slots form → GivePlane (points_of ns) → IsSlotRead es ps bs fs ns ts one others symbol next → IsFaceNext es ps bs fs (symbols ++ symbol ∷ []) next
   mapping_next form symbols ns ts filled others one symbol next fill beyond is spans read =
       mapping_next_by others is read.next_is
     where
@@ -151,7 +151,7 @@ module _ (es : List Entity) (ps : List Pair) (bs : List Brush) (fs : List Face) 
             texts = ts ++ read.text;
             filled = subst (λ (l : List Slot). Fill l (symbols ++ symbol ∷ []) (ns ++ read.number) (ts ++ read.text)) joined (fill_push fill read.fills);
             is_face = refl;
-            plane = subst SpanPlane (sym (points_kept (ns ++ read.number) (ts ++ read.text))) (spans_on ns read.number (cut [] joined) spans);
+            plane = subst GivePlane (sym (points_kept (ns ++ read.number) (ts ++ read.text))) (spans_on ns read.number (cut [] joined) spans);
           })
           next_is
       mapping_next_by (two ∷ rest) joined next_is =

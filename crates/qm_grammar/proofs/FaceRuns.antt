@@ -7,7 +7,7 @@ use Rattle.qm_mapfile.specs.declared.face.Face.{Face}
 use Rattle.qm_mapfile.specs.declared.entity.Brush.{Brush}
 use Rattle.qm_mapfile.specs.declared.entity.Pair.{Pair}
 use Rattle.qm_mapfile.specs.declared.entity.Entity.{Entity}
-use Rattle.qm_mapfile.specs.Face.{SpanPlane}
+use Rattle.qm_mapfile.specs.Face.{GivePlane}
 use Rattle.qm_grammar.specs.declared.mark.Mark.{Mark}
 use Rattle.qm_grammar.specs.declared.mark.Mark.TheVariants.{CloseParenthesis, OpenParenthesis, OpenBracket}
 use Rattle.qm_grammar.specs.declared.mark.Sort.TheVariants as sort
@@ -39,9 +39,9 @@ closes_more count (one ∷ slots) others not =
     let both = or_parts (is_closer one && (count == 9)) (closes (count + takes one) (slots ++ others)) not in
     or_from (is_closer one && (count == 9)) (closes (count + takes one) slots) both.0 (closes_more (count + takes one) slots others both.1)
 
--- the points that are closed in these slots span a plane, and no coordinate comes behind the ninth
+-- the points that are closed in these slots give a plane, and no coordinate comes behind the ninth
 record ClosesWell (before : List ℤ) (slots : List Slot) (numbers : List ℤ) : Type 0 where
-  spans : closes (length before) slots ≡ true → SpanPlane (points_of (before ++ numbers))
+  spans : closes (length before) slots ≡ true → GivePlane (points_of (before ++ numbers))
   few : length before + length numbers ≤ 9
 
 spans_here : (before : List ℤ) (one : Slot) (slots : List Slot) (numbers : List ℤ) → ClosesWell before (one ∷ slots) numbers → SpansAt one before
@@ -50,7 +50,7 @@ spans_here before one slots numbers well closer nine =
     let few = well.few in
     let none_left : numbers ≡ [] = nil_from_length numbers (omega arith) in
     let whole : before ++ numbers ≡ before = ap (λ (l : List ℤ). before ++ l) none_left ∙ append-nil before in
-    subst (λ (l : List ℤ). SpanPlane (points_of l)) whole
+    subst (λ (l : List ℤ). GivePlane (points_of l)) whole
     (well.spans (or_left (is_closer one && (length before == 9)) (closes (length before + takes one) slots) here))
 
 spans_behind : (before number numbers : List ℤ) (one : Slot) (slots : List Slot) → length number ≡ takes one → ClosesWell before (one ∷ slots) (number ++ numbers) → ClosesWell (before ++ number) slots numbers
@@ -58,7 +58,7 @@ spans_behind before number numbers one slots count well =
     let counted : length (before ++ number) ≡ length before + takes one = omega (arith, length-append before number) in
     let few = well.few in
     record {
-      spans = λ later. subst (λ (l : List ℤ). SpanPlane (points_of l)) (sym (append_assoc before number numbers))
+      spans = λ later. subst (λ (l : List ℤ). GivePlane (points_of l)) (sym (append_assoc before number numbers))
           (well.spans (or_right (is_closer one && (length before == 9)) (closes (length before + takes one) slots) (ap (λ (n : ℕ). closes n slots) (sym counted) ∙ later)));
       few = omega (arith, length-append before number, length-append number numbers);
     }
@@ -120,7 +120,7 @@ head_open filled left is few =
     sym (take-append-add filled left (14 - length filled)) ∙ ap (λ (n : ℕ). take n (filled ++ left)) (sym count) ∙ ap (take 14) is in
     closes_more 0 filled (take (14 - length filled) left) (ap (closes 0) prefix)
 
-head_closes_well : (filled left : List Slot) (numbers : List ℤ) → filled ++ left ≡ head_slots ++ slot.FirstOfMapping ∷ [] → length numbers ≡ coordinates filled → (15 ≤ length filled → SpanPlane (points_of numbers)) → ClosesWell [] filled numbers
+head_closes_well : (filled left : List Slot) (numbers : List ℤ) → filled ++ left ≡ head_slots ++ slot.FirstOfMapping ∷ [] → length numbers ≡ coordinates filled → (15 ≤ length filled → GivePlane (points_of numbers)) → ClosesWell [] filled numbers
 head_closes_well filled left numbers is count spans =
     let nine : coordinates (filled ++ left) ≡ 9 = ap coordinates is in
     let parts = coordinates-append filled left in
@@ -202,13 +202,13 @@ module _ (es : List Entity) (ps : List Pair) (bs : List Brush) (fs : List Face) 
   -- ---- the head
 
   -- three points and the texture
-  head_run : (symbols : List Symbol) (numbers : List ℤ) (texts : List (List ℕ)) → Fill head_slots symbols numbers texts → SpanPlane (points_of numbers) → runs (in_brush es ps bs fs) symbols ≡ Ok (in_face es ps bs fs numbers texts (slot.FirstOfMapping ∷ []))
+  head_run : (symbols : List Symbol) (numbers : List ℤ) (texts : List (List ℕ)) → Fill head_slots symbols numbers texts → GivePlane (points_of numbers) → runs (in_brush es ps bs fs) symbols ≡ Ok (in_face es ps bs fs numbers texts (slot.FirstOfMapping ∷ []))
   head_run symbols numbers texts fill spans =
       let count : length numbers ≡ 9 = numbers_filled fill in
       from_first (slot.FirstOfMapping ∷ []) slot.Coordinate (drop 2 head_slots) symbols numbers texts refl fill
       (record { spans = λ _. spans; few = omega arith })
 
-  through_mapping : (form : Form) (one : Slot) (slots left : List Slot) (symbols : List Symbol) (numbers : List ℤ) (texts : List (List ℕ)) → one ∷ (slots ++ left) ≡ mapping_slots form → Fill (head_slots ++ one ∷ slots) symbols numbers texts → SpanPlane (points_of numbers) → runs (in_brush es ps bs fs) symbols ≡ Ok (behind es ps bs fs numbers texts left)
+  through_mapping : (form : Form) (one : Slot) (slots left : List Slot) (symbols : List Symbol) (numbers : List ℤ) (texts : List (List ℕ)) → one ∷ (slots ++ left) ≡ mapping_slots form → Fill (head_slots ++ one ∷ slots) symbols numbers texts → GivePlane (points_of numbers) → runs (in_brush es ps bs fs) symbols ≡ Ok (behind es ps bs fs numbers texts left)
   through_mapping form one slots left symbols numbers texts is fill spans =
       let cut : FillParts head_slots (one ∷ slots) symbols numbers texts = fill_cut head_slots (one ∷ slots) symbols numbers texts fill in
       let nine : length cut.numbers_first ≡ 9 = numbers_filled cut.first in
@@ -219,19 +219,19 @@ module _ (es : List Entity) (ps : List Pair) (bs : List Brush) (fs : List Face) 
       let whole : numbers ≡ cut.numbers_first = cut.numbers_are ∙ ap (λ (l : List ℤ). cut.numbers_first ++ l) none_then ∙ append-nil cut.numbers_first in
       ap (runs (in_brush es ps bs fs)) cut.symbols_are
       ∙ runs_then (in_brush es ps bs fs) (in_face es ps bs fs cut.numbers_first cut.texts_first (slot.FirstOfMapping ∷ [])) (behind es ps bs fs (cut.numbers_first ++ cut.numbers_then) (cut.texts_first ++ cut.texts_then) left) cut.symbols_first cut.symbols_then
-      (head_run cut.symbols_first cut.numbers_first cut.texts_first cut.first (subst (λ (l : List ℤ). SpanPlane (points_of l)) whole spans))
+      (head_run cut.symbols_first cut.numbers_first cut.texts_first cut.first (subst (λ (l : List ℤ). GivePlane (points_of l)) whole spans))
       (mapping_run form cut.numbers_first cut.texts_first left one slots cut.symbols_then cut.numbers_then cut.texts_then (omega arith) is cut.rest)
       ∙ ap₂ (λ (ms : List ℤ) (us : List (List ℕ)). Ok (behind es ps bs fs ms us left)) (sym cut.numbers_are) (sym cut.texts_are)
 
   -- a whole face
-  whole_face : (form : Form) (symbols : List Symbol) (numbers : List ℤ) (texts : List (List ℕ)) → Fill (face_slots form) symbols numbers texts → SpanPlane (points_of numbers) → runs (in_brush es ps bs fs) symbols ≡ Ok (in_brush es ps bs (fs ++ face_of numbers texts ∷ []))
+  whole_face : (form : Form) (symbols : List Symbol) (numbers : List ℤ) (texts : List (List ℕ)) → Fill (face_slots form) symbols numbers texts → GivePlane (points_of numbers) → runs (in_brush es ps bs fs) symbols ≡ Ok (in_brush es ps bs (fs ++ face_of numbers texts ∷ []))
   whole_face standard symbols numbers texts fill spans = through_mapping standard slot.Word (drop 1 (mapping_slots standard)) [] symbols numbers texts refl fill spans
   whole_face valve symbols numbers texts fill spans = through_mapping valve (slot.Mark OpenBracket) (drop 1 (mapping_slots valve)) [] symbols numbers texts refl fill spans
 
   pub face_run : (symbols : List Symbol) (face : Face) → SpellsFace symbols face → runs (in_brush es ps bs fs) symbols ≡ Ok (in_brush es ps bs (fs ++ face ∷ []))
   face_run symbols face spells =
       let points : face.points ≡ points_of spells.numbers = ap (λ (f : Face). f.points) spells.is_face ∙ points_kept spells.numbers spells.texts in
-      whole_face spells.form symbols spells.numbers spells.texts spells.filled (subst SpanPlane points spells.plane)
+      whole_face spells.form symbols spells.numbers spells.texts spells.filled (subst GivePlane points spells.plane)
       ∙ ap (λ (f : Face). Ok (in_brush es ps bs (fs ++ f ∷ []))) (sym spells.is_face)
 
   -- ---- a face that is begun

@@ -5,7 +5,7 @@ use Rattle.qm_mapfile.specs.declared.face.Face.{Face}
 use Rattle.qm_mapfile.specs.declared.entity.Brush.{Brush}
 use Rattle.qm_mapfile.specs.declared.entity.Pair.{Pair}
 use Rattle.qm_mapfile.specs.declared.entity.Entity.{Entity}
-use Rattle.qm_mapfile.specs.Face.{SpanPlane}
+use Rattle.qm_mapfile.specs.Face.{GivePlane}
 use Rattle.qm_grammar.specs.declared.mark.Mark.{Mark}
 use Rattle.qm_grammar.specs.declared.mark.Mark.TheVariants.{OpenBrace, CloseBrace, OpenParenthesis, CloseParenthesis, OpenBracket, CloseBracket}
 use Rattle.qm_grammar.specs.declared.mark.Sort.{Sort}
@@ -15,8 +15,8 @@ use Rattle.qm_grammar.specs.declared.slot.Slot.TheVariants as slot
 use Rattle.qm_grammar.specs.Symbol.{Symbol, sort_of, mark_of_byte}
 use Rattle.qm_grammar.specs.Slots.{Form, standard, valve, mapping_slots, Fills, mark, coordinate, texture, quoted_texture, word, points_of, face_of}
 use Rattle.qm_grammar.specs.Prefix.{Prefix, in_brush, in_face}
-use Rattle.qm_grammar.specs.inner.Machine.{mark_byte, is_same_mark, span_plane, step, step_at, step_slot, step_mark, with_left}
-use Rattle.qm_grammar.proofs.Planes.{span_true, true_span, false_span}
+use Rattle.qm_grammar.specs.inner.Machine.{mark_byte, is_same_mark, give_plane, plane_refusal, step, step_at, step_slot, step_mark, with_left}
+use Rattle.qm_grammar.proofs.Planes.{IsRefusedPlane, give_true, true_give, give_false}
 use Rattle.qm_grammar.proofs.Numbers.{spelled_coordinate}
 
 -- a step goes by the context and the symbol's sort
@@ -51,32 +51,32 @@ mark_same m other tested =
 
 -- ---- three points that are closed
 
--- a slot that closes the third point closes points that span a plane
+-- a slot that closes the third point closes points that give a plane
 abbrev pub SpansAt : Slot → List ℤ → Type 0
-SpansAt one numbers = one ≡ slot.Mark CloseParenthesis → length numbers ≡ 9 → SpanPlane (points_of numbers)
+SpansAt one numbers = one ≡ slot.Mark CloseParenthesis → length numbers ≡ 9 → GivePlane (points_of numbers)
 
--- the machine's test for points on one line
+-- the machine's test for points that give none
 abbrev pub is_flat : List ℤ → Bool
-is_flat numbers = length numbers == 9 && not (span_plane (points_of numbers))
+is_flat numbers = length numbers == 9 && not (give_plane (points_of numbers))
 
-not_flat : (numbers : List ℤ) → (length numbers ≡ 9 → SpanPlane (points_of numbers)) → is_flat numbers ≡ false
+not_flat : (numbers : List ℤ) → (length numbers ≡ 9 → GivePlane (points_of numbers)) → is_flat numbers ≡ false
 not_flat numbers spans =
     ⊎_elim
-    (λ nine. and_right (length numbers == 9) (not (span_plane (points_of numbers))) (not_from_true (span_plane (points_of numbers)) (span_true (points_of numbers) (spans nine))))
-    (λ other. and_left (length numbers == 9) (not (span_plane (points_of numbers))) (ne_eqb (length numbers) 9 other))
+    (λ nine. and_right (length numbers == 9) (not (give_plane (points_of numbers))) (not_from_true (give_plane (points_of numbers)) (give_true (points_of numbers) (spans nine))))
+    (λ other. and_left (length numbers == 9) (not (give_plane (points_of numbers))) (ne_eqb (length numbers) 9 other))
     (cases_eq (length numbers) 9)
 
-pub flat_not : (numbers : List ℤ) → is_flat numbers ≡ false → length numbers ≡ 9 → SpanPlane (points_of numbers)
+pub flat_not : (numbers : List ℤ) → is_flat numbers ≡ false → length numbers ≡ 9 → GivePlane (points_of numbers)
 flat_not numbers tested nine =
     ⊎_elim
     (λ other. absurd (both_ways (length numbers == 9) other (eq-eqb (length numbers) 9 nine)))
-    (λ spans. true_span (points_of numbers) (not-false (span_plane (points_of numbers)) spans))
-    (and_cases (length numbers == 9) (not (span_plane (points_of numbers))) tested)
+    (λ gives. true_give (points_of numbers) (not-false (give_plane (points_of numbers)) gives))
+    (and_cases (length numbers == 9) (not (give_plane (points_of numbers))) tested)
 
-pub flat_is : (numbers : List ℤ) → is_flat numbers ≡ true → (length numbers ≡ 9) × (SpanPlane (points_of numbers) → ⊥)
+pub flat_is : (numbers : List ℤ) → is_flat numbers ≡ true → (length numbers ≡ 9) × IsRefusedPlane (points_of numbers) (plane_refusal (points_of numbers))
 flat_is numbers tested =
-    let both = and_parts (length numbers == 9) (not (span_plane (points_of numbers))) tested in
-    (eqb-true (length numbers) 9 both.0, false_span (points_of numbers) (not-true (span_plane (points_of numbers)) both.1))
+    let both = and_parts (length numbers == 9) (not (give_plane (points_of numbers))) tested in
+    (eqb-true (length numbers) 9 both.0, give_false (points_of numbers) (not-true (give_plane (points_of numbers)) both.1))
 
 -- ---- one symbol in one slot
 

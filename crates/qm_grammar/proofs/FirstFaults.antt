@@ -69,6 +69,7 @@ rank_within refusal.BadNumber = (omega arith, omega arith)
 rank_within refusal.Fraction = (omega arith, omega arith)
 rank_within refusal.CoordinateRange = (omega arith, omega arith)
 rank_within refusal.NoNormal = (omega arith, omega arith)
+rank_within refusal.PlaneTooFine = (omega arith, omega arith)
 rank_within refusal.NoFaces = (omega arith, omega arith)
 rank_within refusal.BadOrigin = (omega arith, omega arith)
 

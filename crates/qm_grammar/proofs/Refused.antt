@@ -17,11 +17,13 @@ use Rattle.qm_grammar.specs.declared.refusal.Refusal.{Refusal}
 use Rattle.qm_grammar.specs.declared.refusal.Refusal.TheVariants as refusal
 use Rattle.qm_grammar.specs.Symbol.{Symbol, sort_of}
 use Rattle.qm_grammar.specs.Origin.{origin_key, value_of}
+use Rattle.qm_grammar.specs.Slots.{points_of}
 use Rattle.qm_grammar.specs.Prefix.{Prefix}
-use Rattle.qm_grammar.specs.Table.{Allows, mark, Refuses, unexpected, bad_number, fraction, too_large, out_of_range, no_normal, no_faces, bad_origin, IsAtCoordinate}
-use Rattle.qm_grammar.specs.inner.Machine.{is_same_mark, coordinate_of, origin_of, is_bad_origin, step, step_at, step_outside, step_entity, step_value, step_brush, step_face, step_slot, step_mark, with_value, without_brush, with_left, with_number}
+use Rattle.qm_grammar.specs.Table.{Allows, mark, Refuses, unexpected, bad_number, fraction, too_large, out_of_range, no_normal, too_fine, no_faces, bad_origin, IsAtCoordinate, ClosesThirdPoint}
+use Rattle.qm_grammar.specs.inner.Machine.{is_same_mark, coordinate_of, origin_of, is_bad_origin, plane_refusal, step, step_at, step_outside, step_entity, step_value, step_brush, step_face, step_slot, step_mark, with_value, without_brush, with_left, with_number}
 use Rattle.qm_grammar.proofs.Numbers.{IsBadCoordinate, no_number, fraction, too_large, outside, coordinate_bad}
 use Rattle.qm_grammar.proofs.OriginTexts.{none_no_origin}
+use Rattle.qm_grammar.proofs.Planes.{IsRefusedPlane, on_line, fine}
 use Rattle.qm_grammar.proofs.FaceSteps.{step_sorted, same_mark, mark_same, is_flat, flat_is}
 
 -- ---- what the tests of an origin say
@@ -108,14 +110,19 @@ module _ (prefix : Prefix) (symbol : Symbol) where
 
   -- ---- in a face
 
+  plane_in_table : (reason : Refusal) → ClosesThirdPoint prefix symbol → IsRefusedPlane (points_of prefix.numbers) reason → Refuses prefix symbol reason
+  plane_in_table reason closes (on_line flat) = no_normal closes flat
+  plane_in_table reason closes (fine found) = too_fine closes found
+
   flat_refused : (others : List Slot) (t : Bool) (reason : Refusal) → prefix.context ≡ context.Face → prefix.left ≡ slot.Mark CloseParenthesis ∷ others → sort_of symbol ≡ sort.Mark CloseParenthesis → is_flat prefix.numbers ≡ t → step_mark prefix CloseParenthesis others ≡ Err reason → Refuses prefix symbol reason
   unfolding step_mark
   flat_refused others true reason origin_point lefts sorted flat refused =
-      let both : Err refusal.NoNormal ≡ Err reason = rw flat at refused in
-      let same : refusal.NoNormal ≡ reason = cc in
+      let why : Refusal = plane_refusal (points_of prefix.numbers) in
+      let both : Err why ≡ Err reason = rw flat at refused in
+      let same : why ≡ reason = cc in
       let points = flat_is prefix.numbers flat in
       subst (Refuses prefix symbol) same
-      (no_normal (record { others = others; in_face = origin_point; next = lefts; three_points = points.0; closes = sorted }) points.1)
+      (plane_in_table why (record { others = others; in_face = origin_point; next = lefts; three_points = points.0; closes = sorted }) points.1)
   flat_refused others false reason origin_point lefts sorted spans refused = absurd (let never : Ok (with_left prefix others) ≡ Err reason = rw spans at refused in cc)
 
   mark_refused : (due m : Mark) (others : List Slot) (reason : Refusal) → prefix.context ≡ context.Face → prefix.left ≡ slot.Mark due ∷ others → sort_of symbol ≡ sort.Mark due → step_mark prefix due others ≡ Err reason → Refuses prefix symbol reason

@@ -4,7 +4,6 @@ use Rattle.std.proofs.lemmas.Bool.{and_from, not_from_false, eq-eqb, ne_eqb, tru
 use Rattle.std.proofs.lemmas.List.{nil_from_length}
 use Rattle.std.proofs.lemmas.Slice.Eq.{bytes_eq-Decides}
 use Rattle.qm_lists.proofs.Options.{is_none_from_IsNone}
-use Rattle.qm_mapfile.specs.Face.{SpanPlane}
 use Rattle.qm_grammar.specs.declared.mark.Mark.{Mark}
 use Rattle.qm_grammar.specs.declared.mark.Mark.TheVariants.{OpenBrace, CloseBrace, OpenParenthesis, CloseParenthesis, OpenBracket}
 use Rattle.qm_grammar.specs.declared.mark.Sort.{Sort}
@@ -19,9 +18,9 @@ use Rattle.qm_grammar.specs.Symbol.{Symbol, sort_of}
 use Rattle.qm_grammar.specs.Origin.{origin_key, value_of, IsOriginText}
 use Rattle.qm_grammar.specs.Slots.{points_of}
 use Rattle.qm_grammar.specs.Prefix.{Prefix}
-use Rattle.qm_grammar.specs.Table.{Allows, entity_opens, key, brush_opens, entity_closes, value, face_begins, brush_closes, mark, coordinate, texture, quoted_texture, word_of_mapping, axis_opens, word, IsAtCoordinate, ClosesThirdPoint, IsOriginValue, ClosesEmptyBrush, Refuses, unexpected, bad_number, fraction, too_large, out_of_range, no_normal, no_faces, bad_origin}
-use Rattle.qm_grammar.specs.inner.Machine.{is_same_mark, origin_of, is_bad_origin, span_plane, step, step_at, step_outside, step_entity, step_value, step_brush, step_face, step_slot, step_mark, with_number}
-use Rattle.qm_grammar.proofs.Planes.{span_false}
+use Rattle.qm_grammar.specs.Table.{Allows, entity_opens, key, brush_opens, entity_closes, value, face_begins, brush_closes, mark, coordinate, texture, quoted_texture, word_of_mapping, axis_opens, word, IsAtCoordinate, ClosesThirdPoint, IsOriginValue, ClosesEmptyBrush, Refuses, unexpected, bad_number, fraction, too_large, out_of_range, no_normal, too_fine, no_faces, bad_origin}
+use Rattle.qm_grammar.specs.inner.Machine.{is_same_mark, origin_of, is_bad_origin, give_plane, step, step_at, step_outside, step_entity, step_value, step_brush, step_face, step_slot, step_mark, with_number}
+use Rattle.qm_grammar.proofs.Planes.{IsRefusedPlane, on_line, fine, false_give}
 use Rattle.qm_grammar.proofs.Numbers.{IsBadCoordinate, bad_coordinate}
 use Rattle.qm_grammar.proofs.Numbers.{no_number, fraction, too_large, outside}
 use Rattle.qm_grammar.proofs.OriginTexts.{some_origin}
@@ -86,17 +85,17 @@ module _ (prefix : Prefix) (symbol : Symbol) where
       ∙ ap (λ (l : List Slot). step_face prefix l sort.Name symbol.bytes) at.next
       ∙ ap (λ (r : Result ℤ Refusal). with_number prefix at.others r) (bad_coordinate symbol.bytes reason bad)
 
-  flat_points : ClosesThirdPoint prefix symbol → (SpanPlane (points_of prefix.numbers) → ⊥) → is_flat prefix.numbers ≡ true
-  flat_points closes flat =
-      and_from (length prefix.numbers == 9) (not (span_plane (points_of prefix.numbers))) (eq-eqb (length prefix.numbers) 9 closes.three_points)
-      (not_from_false (span_plane (points_of prefix.numbers)) (span_false (points_of prefix.numbers) flat))
+  flat_points : (reason : Refusal) → ClosesThirdPoint prefix symbol → IsRefusedPlane (points_of prefix.numbers) reason → is_flat prefix.numbers ≡ true
+  flat_points reason closes refused =
+      and_from (length prefix.numbers == 9) (not (give_plane (points_of prefix.numbers))) (eq-eqb (length prefix.numbers) 9 closes.three_points)
+      (not_from_false (give_plane (points_of prefix.numbers)) (false_give (points_of prefix.numbers) reason refused).0)
 
-  normal_refuses : ClosesThirdPoint prefix symbol → (SpanPlane (points_of prefix.numbers) → ⊥) → step prefix symbol ≡ Err refusal.NoNormal
+  plane_refuses : (reason : Refusal) → ClosesThirdPoint prefix symbol → IsRefusedPlane (points_of prefix.numbers) reason → step prefix symbol ≡ Err reason
   unfolding step_slot step_mark
-  normal_refuses closes flat =
+  plane_refuses reason closes refused =
       step_in_context prefix symbol context.Face (sort.Mark CloseParenthesis) closes.in_face closes.closes
       ∙ ap (λ (l : List Slot). step_face prefix l (sort.Mark CloseParenthesis) symbol.bytes) closes.next
-      ∙ rw (flat_points closes flat) refl
+      ∙ rw (flat_points reason closes refused) (rw ((false_give (points_of prefix.numbers) reason refused).1) refl)
 
   faces_refuses : ClosesEmptyBrush prefix symbol → step prefix symbol ≡ Err refusal.NoFaces
   unfolding step_brush
@@ -128,6 +127,7 @@ module _ (prefix : Prefix) (symbol : Symbol) where
   refused_step reason (fraction at is) = coordinate_refuses refusal.Fraction at (fraction is)
   refused_step reason (too_large at is) = coordinate_refuses refusal.CoordinateRange at (too_large is)
   refused_step reason (out_of_range at is) = coordinate_refuses refusal.CoordinateRange at (outside is)
-  refused_step reason (no_normal closes flat) = normal_refuses closes flat
+  refused_step reason (no_normal closes flat) = plane_refuses refusal.NoNormal closes (on_line flat)
+  refused_step reason (too_fine closes found) = plane_refuses refusal.PlaneTooFine closes (fine found)
   refused_step reason (no_faces closes) = faces_refuses closes
   refused_step reason (bad_origin at no_point) = origin_refuses at no_point

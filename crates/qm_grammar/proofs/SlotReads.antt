@@ -13,9 +13,9 @@ use Rattle.qm_grammar.specs.declared.slot.Slot.TheVariants as slot
 use Rattle.qm_grammar.specs.declared.refusal.Refusal.{Refusal}
 use Rattle.qm_grammar.specs.declared.refusal.Refusal.TheVariants as refusal
 use Rattle.qm_grammar.specs.Symbol.{Symbol, sort_of}
-use Rattle.qm_grammar.specs.Slots.{Form, standard, valve, mapping_slots, Fills, mark, coordinate, texture, quoted_texture, word}
+use Rattle.qm_grammar.specs.Slots.{Form, standard, valve, mapping_slots, Fills, mark, coordinate, texture, quoted_texture, word, points_of}
 use Rattle.qm_grammar.specs.Prefix.{Prefix, in_face}
-use Rattle.qm_grammar.specs.inner.Machine.{is_same_mark, coordinate_of, step, step_slot, step_mark, with_left, behind_word, behind_bracket}
+use Rattle.qm_grammar.specs.inner.Machine.{is_same_mark, coordinate_of, plane_refusal, step, step_slot, step_mark, with_left, behind_word, behind_bracket}
 use Rattle.qm_grammar.proofs.Numbers.{coordinate_spelled}
 use Rattle.qm_grammar.proofs.FaceSteps.{step_sorted, mark_same, SpansAt, is_flat, flat_not, behind, left_behind}
 
@@ -53,7 +53,7 @@ module _ (es : List Entity) (ps : List Pair) (bs : List Brush) (fs : List Face) 
 
   closer_read : (ns : List ℤ) (ts : List (List ℕ)) (left others : List Slot) (next : Prefix) (t : Bool) → is_flat ns ≡ t → step_mark (in_face es ps bs fs ns ts left) CloseParenthesis others ≡ Ok next → SpansAt (slot.Mark CloseParenthesis) ns × (next ≡ behind es ps bs fs ns ts others)
   unfolding step_mark
-  closer_read ns ts left others next true flat read = absurd (let never : Err refusal.NoNormal ≡ Ok next = rw flat at read in cc)
+  closer_read ns ts left others next true flat read = absurd (let never : Err (plane_refusal (points_of ns)) ≡ Ok next = rw flat at read in cc)
   closer_read ns ts left others next false spans read = (λ closer. flat_not ns spans, left_read ns ts left others next (rw spans at read))
 
   mark_read : (ns : List ℤ) (ts : List (List ℕ)) (m : Mark) (left others : List Slot) (next : Prefix) → step_mark (in_face es ps bs fs ns ts left) m others ≡ Ok next → SpansAt (slot.Mark m) ns × (next ≡ behind es ps bs fs ns ts others)

@@ -4,7 +4,7 @@ use Rattle.std.specs.Prelude.{All}
 use Rattle.std.proofs.lemmas.Bool.{and_parts, eq-eqb, ne_eqb}
 use Rattle.std.proofs.lemmas.List.Elements.{All-nil, All-cons, All-head, All-tail, All-append}
 use Rattle.qm_lists.proofs.Elements.{All-last_part}
-use Rattle.qm_space.specs.Point.{IsCoordinate, AreCoordinates}
+use Rattle.qm_space.specs.Point.{IsThousandths, AreThousandths}
 use Rattle.qm_mapfile.specs.declared.face.Face.{Face}
 use Rattle.qm_mapfile.specs.Face.{HasPlane}
 use Rattle.qm_mapfile.specs.declared.face.Mapping.TheVariants.{Standard, Valve}
@@ -20,16 +20,16 @@ use Rattle.qm_grammar.proofs.TokenTexts.{IsTokenText, name_text, quoted_text}
 
 -- ---- what the slots of a row give
 
-number_valid : {one : Slot} {symbol : Symbol} {number : List ℤ} {text : List (List ℕ)} → Fills one symbol number text → All IsCoordinate number
-number_valid (mark is) = All-nil IsCoordinate
-number_valid (coordinate {number = c} is spells) = All-cons IsCoordinate c [] spells.in_range (All-nil IsCoordinate)
-number_valid (texture is) = All-nil IsCoordinate
-number_valid (quoted_texture is) = All-nil IsCoordinate
-number_valid (word is) = All-nil IsCoordinate
+number_valid : {one : Slot} {symbol : Symbol} {number : List ℤ} {text : List (List ℕ)} → Fills one symbol number text → All IsThousandths number
+number_valid (mark is) = All-nil IsThousandths
+number_valid (coordinate {number = c} is spells) = All-cons IsThousandths c [] spells.in_range (All-nil IsThousandths)
+number_valid (texture is) = All-nil IsThousandths
+number_valid (quoted_texture is) = All-nil IsThousandths
+number_valid (word is) = All-nil IsThousandths
 
-numbers_valid : {slots : List Slot} {symbols : List Symbol} {numbers : List ℤ} {texts : List (List ℕ)} → Fill slots symbols numbers texts → All IsCoordinate numbers
-numbers_valid none = All-nil IsCoordinate
-numbers_valid (more {number = number} {numbers = numbers} fills rest) = All-append IsCoordinate number numbers (number_valid fills) (numbers_valid rest)
+numbers_valid : {slots : List Slot} {symbols : List Symbol} {numbers : List ℤ} {texts : List (List ℕ)} → Fill slots symbols numbers texts → All IsThousandths numbers
+numbers_valid none = All-nil IsThousandths
+numbers_valid (more {number = number} {numbers = numbers} fills rest) = All-append IsThousandths number numbers (number_valid fills) (numbers_valid rest)
 
 -- a text of a texture
 abbrev IsTextureText : List ℕ → Type 0
@@ -73,20 +73,20 @@ words_valid (more {one = one} {slots = slots} {symbol = symbol} {symbols = symbo
 record ArePoints (points : List (List ℤ)) : Type 0 where
   three : length points ≡ 3
   triples : All (λ point. length point ≡ 3) points
-  inside : All AreCoordinates points
+  inside : All AreThousandths points
 
 of_three : {X : Type 0} (P : X → Type 0) (a b c : X) → P a → P b → P c → All P (a ∷ b ∷ c ∷ [])
 of_three P a b c is_a is_b is_c = All-cons P a (b ∷ c ∷ []) is_a (All-cons P b (c ∷ []) is_b (All-cons P c [] is_c (All-nil P)))
 
-first_three : (a b c : ℤ) (rest : List ℤ) → All IsCoordinate (a ∷ b ∷ c ∷ rest) → AreCoordinates (a ∷ b ∷ c ∷ []) × All IsCoordinate rest
+first_three : (a b c : ℤ) (rest : List ℤ) → All IsThousandths (a ∷ b ∷ c ∷ rest) → AreThousandths (a ∷ b ∷ c ∷ []) × All IsThousandths rest
 first_three a b c rest all =
-    let second = All-tail IsCoordinate a (b ∷ c ∷ rest) all in
-    let third = All-tail IsCoordinate b (c ∷ rest) second in (
-      of_three IsCoordinate a b c (All-head IsCoordinate a (b ∷ c ∷ rest) all) (All-head IsCoordinate b (c ∷ rest) second) (All-head IsCoordinate c rest third),
-      All-tail IsCoordinate c rest third,
+    let second = All-tail IsThousandths a (b ∷ c ∷ rest) all in
+    let third = All-tail IsThousandths b (c ∷ rest) second in (
+      of_three IsThousandths a b c (All-head IsThousandths a (b ∷ c ∷ rest) all) (All-head IsThousandths b (c ∷ rest) second) (All-head IsThousandths c rest third),
+      All-tail IsThousandths c rest third,
     )
 
-points_valid : (numbers : List ℤ) → length numbers ≡ 9 → All IsCoordinate numbers → ArePoints (points_of numbers)
+points_valid : (numbers : List ℤ) → length numbers ≡ 9 → All IsThousandths numbers → ArePoints (points_of numbers)
 points_valid (a ∷ b ∷ c ∷ d ∷ e ∷ f ∷ g ∷ h ∷ i ∷ []) count all =
     let first = first_three a b c (d ∷ e ∷ f ∷ g ∷ h ∷ i ∷ []) all in
     let second = first_three d e f (g ∷ h ∷ i ∷ []) first.1 in
@@ -94,7 +94,7 @@ points_valid (a ∷ b ∷ c ∷ d ∷ e ∷ f ∷ g ∷ h ∷ i ∷ []) count al
     record {
       three = refl;
       triples = of_three (λ (point : List ℤ). length point ≡ 3) (a ∷ b ∷ c ∷ []) (d ∷ e ∷ f ∷ []) (g ∷ h ∷ i ∷ []) refl refl refl;
-      inside = of_three AreCoordinates (a ∷ b ∷ c ∷ []) (d ∷ e ∷ f ∷ []) (g ∷ h ∷ i ∷ []) first.0 second.0 third.0;
+      inside = of_three AreThousandths (a ∷ b ∷ c ∷ []) (d ∷ e ∷ f ∷ []) (g ∷ h ∷ i ∷ []) first.0 second.0 third.0;
     }
 points_valid numbers count all = absurd (omega arith)
 

@@ -36,6 +36,7 @@ fault_of refusal.BadNumber line = fault.BadNumber line
 fault_of refusal.Fraction line = fault.Fraction line
 fault_of refusal.CoordinateRange line = fault.CoordinateRange line
 fault_of refusal.NoNormal line = fault.NoNormal line
+fault_of refusal.PlaneTooFine line = fault.PlaneTooFine line
 fault_of refusal.NoFaces line = fault.NoFaces line
 fault_of refusal.BadOrigin line = fault.BadOrigin line
 

@@ -13,7 +13,7 @@ use Rattle.qm_grammar.specs.Origin.{OriginsAreGood}
 
 -- What the tokens of a map spell, part by part.
 
--- a face, in one of its two forms, whose three points are not on one line
+-- a face, in one of its two forms, whose three points give a plane
 pub record SpellsFace (symbols : List Symbol) (face : Face) : Type 0 where
   pub form : Form
   pub numbers : List ℤ

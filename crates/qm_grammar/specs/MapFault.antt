@@ -1,6 +1,6 @@
 use Rattle.std.specs.Prelude.{ℕ}
 use Rattle.qm_grammar.specs.declared.fault.MapFault.{MapFault}
-use Rattle.qm_grammar.specs.declared.fault.MapFault.TheVariants.{TextTooLong, UnclosedQuote, Unexpected, EndInside, BadNumber, Fraction, CoordinateRange, NoNormal, NoFaces, BadOrigin, NoEntity, Memory}
+use Rattle.qm_grammar.specs.declared.fault.MapFault.TheVariants.{TextTooLong, UnclosedQuote, Unexpected, EndInside, BadNumber, Fraction, CoordinateRange, NoNormal, NoFaces, BadOrigin, NoEntity, PlaneTooFine, Memory}
 
 -- The number and the line of a text's fault. Want of memory is no fault of a text, and has neither.
 
@@ -16,6 +16,7 @@ number_of_fault (NoNormal at) = 8
 number_of_fault (NoFaces at) = 9
 number_of_fault (BadOrigin at) = 10
 number_of_fault (NoEntity at) = 11
+number_of_fault (PlaneTooFine at) = 12
 number_of_fault Memory = 0
 
 -- the line on which it stands
@@ -31,4 +32,5 @@ line_of_fault (NoNormal at) = at
 line_of_fault (NoFaces at) = at
 line_of_fault (BadOrigin at) = at
 line_of_fault (NoEntity at) = at
+line_of_fault (PlaneTooFine at) = at
 line_of_fault Memory = 0

@@ -6,7 +6,7 @@ use Rattle.qm_mapfile.specs.declared.entity.Entity.{Entity}
 use Rattle.qm_grammar.specs.Number.{SpellsMillionths, parts_of_unit}
 
 -- a value that gives a point: three numbers of at most six decimals, parted by blanks, which may also stand around
--- them; each is strictly between -4096 and 4096
+-- them; each is strictly inside the extent of the world
 pub record SpellsOrigin (value : List ℕ) (point : Point) : Type 0 where
   pub first : List ℕ
   pub second : List ℕ

@@ -3,7 +3,7 @@ use Rattle.qm_mapfile.specs.declared.face.Face.{Face}
 use Rattle.qm_mapfile.specs.declared.entity.Brush.{Brush}
 use Rattle.qm_mapfile.specs.declared.entity.Pair.{Pair}
 use Rattle.qm_mapfile.specs.declared.entity.Entity.{Entity}
-use Rattle.qm_mapfile.specs.Face.{SpanPlane}
+use Rattle.qm_mapfile.specs.Face.{GivePlane}
 use Rattle.qm_grammar.specs.declared.mark.Mark.TheVariants.{OpenBrace}
 use Rattle.qm_grammar.specs.declared.mark.Sort.TheVariants as sort
 use Rattle.qm_grammar.specs.declared.slot.Slot.{Slot}
@@ -92,16 +92,16 @@ pub record IsInBrush
   pub spelled : SpellsFaces inner faces
 
 -- The symbols have begun a face and not ended it: they have filled the first of its slots, and these are left. Before
--- the mapping its form is open. Once the third point is closed, the points are not on one line.
+-- the mapping its form is open. Once the third point is closed, the points give a plane.
 pub data IsBegunFace (symbols : List Symbol) (numbers : List ℤ) (texts : List (List ℕ)) (left : List Slot) : Type 0 where
   in_head :
       {filled : List Slot} → Fill filled symbols numbers texts → filled ≢ [] →
       filled ++ left ≡ open_slots →
-      (15 ≤ length filled → SpanPlane (points_of numbers)) →
+      (15 ≤ length filled → GivePlane (points_of numbers)) →
       IsBegunFace symbols numbers texts left
   in_mapping :
       (form : Form) {filled : List Slot} → Fill filled symbols numbers texts → 17 ≤ length filled → left ≢ [] →
-      filled ++ left ≡ face_slots form → SpanPlane (points_of numbers) →
+      filled ++ left ≡ face_slots form → GivePlane (points_of numbers) →
       IsBegunFace symbols numbers texts left
 
 -- a prefix in a brush, and a face that is not ended

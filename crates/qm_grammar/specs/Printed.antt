@@ -1,7 +1,7 @@
 use Rattle.std.specs.Prelude.{ℕ, ℤ, Bool, false, ◌||◌, ◌&&◌, ◌==◌, nat_le, if◌then◌else◌, List, [], ◌∷◌, ◌++◌, length, map, flat_map, take, drop, slice_index_or, is_some}
 use Rattle.std.specs.List.{list_any}
-use Rattle.std.specs.Fmt.{signed_decimal}
 use Rattle.qm_tokens.specs.declared.token.TokenKind.TheVariants as kind
+use Rattle.qm_numerals.specs.Printed.{signed_thousandths}
 use Rattle.qm_mapfile.specs.declared.face.Face.{Face}
 use Rattle.qm_mapfile.specs.declared.face.Mapping.{Mapping}
 use Rattle.qm_mapfile.specs.declared.face.Mapping.TheVariants.{Standard, Valve}
@@ -38,9 +38,9 @@ open_bracket = word_symbol (91 ∷ [])
 abbrev pub close_bracket : Symbol
 close_bracket = word_symbol (93 ∷ [])
 
--- a whole number in decimal digits, behind `-` where it is negative
+-- a coordinate, which is kept in thousandths, without zeros at its end
 abbrev pub number_symbol : ℤ → Symbol
-number_symbol n = word_symbol (signed_decimal n)
+number_symbol n = word_symbol (signed_thousandths n)
 
 -- ( x y z )
 unfoldable pub point_symbols : List ℤ → List Symbol

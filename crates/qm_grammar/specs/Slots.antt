@@ -48,7 +48,7 @@ mapping_slots valve = valve_slots
 abbrev pub face_slots : Form → List Slot
 face_slots form = head_slots ++ mapping_slots form
 
--- a symbol fills a slot, and gives these coordinates and these texts: one of either, or none
+-- a symbol fills a slot, and gives these coordinates, in thousandths, and these texts: one of either, or none
 pub data Fills : Slot → Symbol → List ℤ → List (List ℕ) → Type 0 where
   mark : {m : _} {symbol : Symbol} → sort_of symbol ≡ sort.Mark m → Fills (slot.Mark m) symbol [] []
   coordinate :

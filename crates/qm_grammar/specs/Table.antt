@@ -1,6 +1,6 @@
 use Rattle.std.specs.Prelude.{◌≡◌, ◌≢◌, List, [], ◌∷◌, IsNone, length}
 use Rattle.qm_numerals.specs.Answer.{IsNoNumber, IsTooFineText, IsTooLargeText}
-use Rattle.qm_mapfile.specs.Face.{SpanPlane}
+use Rattle.qm_mapfile.specs.Face.{SpanPlane, SpanTooFine}
 use Rattle.qm_grammar.specs.declared.mark.Mark.TheVariants.{OpenBrace, CloseBrace, OpenParenthesis, CloseParenthesis, OpenBracket}
 use Rattle.qm_grammar.specs.declared.mark.Sort.{Sort}
 use Rattle.qm_grammar.specs.declared.mark.Sort.TheVariants as sort
@@ -11,7 +11,7 @@ use Rattle.qm_grammar.specs.declared.context.Context.TheVariants as context
 use Rattle.qm_grammar.specs.declared.refusal.Refusal.{Refusal}
 use Rattle.qm_grammar.specs.declared.refusal.Refusal.TheVariants as refusal
 use Rattle.qm_grammar.specs.Symbol.{Symbol, sort_of}
-use Rattle.qm_grammar.specs.Number.{IsOutsideText}
+use Rattle.qm_grammar.specs.Number.{coordinate_places, IsOutsideText}
 use Rattle.qm_grammar.specs.Origin.{origin_key, value_of, IsOriginText}
 use Rattle.qm_grammar.specs.Slots.{points_of}
 use Rattle.qm_grammar.specs.Prefix.{Prefix}
@@ -66,12 +66,15 @@ pub record ClosesEmptyBrush (prefix : Prefix) (symbol : Symbol) : Type 0 where
 pub data Refuses (prefix : Prefix) (symbol : Symbol) : Refusal → Type 0 where
   unexpected : (Allows prefix.context prefix.left (sort_of symbol) → ⊥) → Refuses prefix symbol refusal.Unexpected
   bad_number : IsAtCoordinate prefix symbol → IsNoNumber symbol.bytes → Refuses prefix symbol refusal.BadNumber
-  fraction : IsAtCoordinate prefix symbol → IsTooFineText symbol.bytes 0 → Refuses prefix symbol refusal.Fraction
-  too_large : IsAtCoordinate prefix symbol → IsTooLargeText symbol.bytes 0 → Refuses prefix symbol refusal.CoordinateRange
+  fraction : IsAtCoordinate prefix symbol → IsTooFineText symbol.bytes coordinate_places → Refuses prefix symbol refusal.Fraction
+  too_large : IsAtCoordinate prefix symbol → IsTooLargeText symbol.bytes coordinate_places → Refuses prefix symbol refusal.CoordinateRange
   out_of_range : IsAtCoordinate prefix symbol → IsOutsideText symbol.bytes → Refuses prefix symbol refusal.CoordinateRange
   no_normal :
       ClosesThirdPoint prefix symbol → (SpanPlane (points_of prefix.numbers) → ⊥) →
       Refuses prefix symbol refusal.NoNormal
+  too_fine :
+      ClosesThirdPoint prefix symbol → SpanTooFine (points_of prefix.numbers) →
+      Refuses prefix symbol refusal.PlaneTooFine
   no_faces : ClosesEmptyBrush prefix symbol → Refuses prefix symbol refusal.NoFaces
   bad_origin :
       IsOriginValue prefix symbol → (IsOriginText symbol.bytes → ⊥) → Refuses prefix symbol refusal.BadOrigin

@@ -1,5 +1,5 @@
 use Rattle.std.specs.Prelude.{◌≡◌, ◌≢◌, ◌<◌, ◌≤◌, ◌⊎◌, ℕ, List, [], None, length, sum_by, All, Contains}
-use Rattle.qm_space.specs.Point.{AreCoordinates}
+use Rattle.qm_space.specs.Point.{AreThousandths}
 use Rattle.qm_tokens.specs.Piece.{OpensWord}
 use Rattle.qm_mapfile.specs.declared.face.Face.{Face}
 use Rattle.qm_mapfile.specs.declared.face.Mapping.{Mapping}
@@ -36,7 +36,7 @@ HasWords (Valve words) = length words ≡ 11
 pub record IsValidFace (face : Face) : Type 0 where
   pub three : length face.points ≡ 3
   pub triples : All (λ point. length point ≡ 3) face.points
-  pub coordinates : All AreCoordinates face.points
+  pub coordinates : All AreThousandths face.points
   pub plane : HasPlane face
   pub texture : IsNameText face.texture ⊎ HasNoQuote face.texture
   pub count_of_words : HasWords face.mapping

@@ -11,9 +11,9 @@ pub enum MapFault {
     EndInside { line: u64 },
     /// A word in a number's place spells none.
     BadNumber { line: u64 },
-    /// A coordinate is not whole.
+    /// A coordinate has a fourth decimal.
     Fraction { line: u64 },
-    /// A coordinate is beyond -4096..=4096.
+    /// A coordinate is outside the closed cube.
     CoordinateRange { line: u64 },
     /// The three points of a face lie on one line.
     NoNormal { line: u64 },
@@ -23,6 +23,8 @@ pub enum MapFault {
     BadOrigin { line: u64 },
     /// The text has no entity.
     NoEntity { line: u64 },
+    /// The plane through the three points of a face is too fine.
+    PlaneTooFine { line: u64 },
     /// Memory ran out.
     Memory,
 }

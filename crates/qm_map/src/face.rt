@@ -1,9 +1,10 @@
-ghost use Rattle.std.specs.Prelude.{◌≡◌, ◌<◌, [], not, length, All, IfOk, OnOk, OnErr};
-ghost use Rattle.qm_space.specs.Point.{IsCoordinate};
+ghost use Rattle.std.specs.Prelude.{◌≡◌, ◌<◌, [], true, false, length, All, IfOk, MatchOption, OnOk, OnErr};
+ghost use Rattle.qm_space.specs.Point.{IsThousandths};
 ghost use Rattle.qm_grammar.specs.Slots.{points_of, mapping_of, face_of};
-ghost use Rattle.qm_grammar.specs.inner.Machine.{span_plane};
+ghost use Rattle.qm_grammar.specs.inner.Machine.{give_plane, plane_refusal};
 
-use qm_geom::are_on_one_line;
+use qm_geom::{Plane, ThroughFault};
+use qm_grammar::Refusal;
 use qm_lists::Items;
 use qm_mapfile::{Face, Mapping, Text};
 use std::alloc::AllocError;
@@ -24,14 +25,19 @@ fn points_of(numbers: &[i32]) -> [[i32; 3]; 3]
     }
 }
 
-/// Whether the three points of nine coordinates lie on one line.
-pub(crate) fn are_flat(numbers: &[i32]) -> bool
+/// Why the three points of nine coordinates give no plane, if they give none.
+pub(crate) fn refusal_of_points(numbers: &[i32]) -> Option<Refusal>
     requires nine { length numbers.now ≡ 9 }
-    requires in_cube { All IsCoordinate numbers.now }
-    ensures { result ≡ not (span_plane (points_of numbers.now)) }
+    requires in_cube { All IsThousandths numbers.now }
+    ensures { MatchOption result (give_plane (points_of numbers.now) ≡ true)
+        (λ reason. (give_plane (points_of numbers.now) ≡ false) × (reason ≡ plane_refusal (points_of numbers.now))) }
 {
     let [p0, p1, p2] = points_of(numbers);
-    are_on_one_line(p0, p1, p2)
+    match Plane::through(p0, p1, p2) {
+        Ok(_) => None,
+        Err(ThroughFault::NoNormal) => Some(Refusal::NoNormal),
+        Err(ThroughFault::TooFine) => Some(Refusal::PlaneTooFine),
+    }
 }
 
 /// The mapping of these words.

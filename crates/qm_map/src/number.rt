@@ -1,21 +1,24 @@
 ghost use Rattle.std.specs.Prelude.{◌≡◌, IfOk};
-ghost use Rattle.qm_space.specs.Point.{IsCoordinate};
+ghost use Rattle.qm_space.specs.Point.{IsThousandths};
 ghost use Rattle.qm_grammar.specs.inner.Machine.{coordinate_of};
 
 use qm_grammar::Refusal;
 use qm_numerals::NumberFault;
 use qm_space::WORLD_EXTENT;
 
-/// How far a coordinate may be from 0.
-const EXTENT: i64 = WORLD_EXTENT as i64;
+/// How many decimals a coordinate may have.
+const PLACES: u8 = 3;
 
-/// The coordinate that a word spells.
+/// How far a coordinate may be from 0, in thousandths.
+const EXTENT: i64 = 1_000 * WORLD_EXTENT as i64;
+
+/// The coordinate that a word spells, in thousandths.
 #[tactic(auto, unfolding(qm_grammar::specs::inner::Machine::coordinate_of))]
 pub(crate) fn coordinate(word: &[u8]) -> Result<i32, Refusal>
     ensures value { result ≡ coordinate_of word.now }
-    ensures in_cube { IfOk result IsCoordinate }
+    ensures in_cube { IfOk result IsThousandths }
 {
-    match qm_decimal::read(word, 0) {
+    match qm_decimal::read(word, PLACES) {
         Ok(fraction) => {
             let number = fraction.numerator;
             if -EXTENT <= number && number <= EXTENT {

@@ -1,12 +1,12 @@
-ghost use Rattle.std.specs.Prelude.{◌≡◌, ◌+◌, ◌==◌, ◌&&◌, not, [], ◌∷◌, ◌++◌, Ok, IfOk, OnOk, length};
+ghost use Rattle.std.specs.Prelude.{◌≡◌, ◌+◌, ◌==◌, ◌&&◌, not, true, false, [], ◌∷◌, ◌++◌, Ok, IfOk, MatchOption, OnOk, length};
 ghost use Rattle.qm_grammar.specs.Prefix.{between_entities};
 ghost use Rattle.qm_grammar.specs.Slots.{points_of};
-ghost use Rattle.qm_grammar.specs.inner.Machine.{step, step_outside, step_entity, step_value, step_brush, step_face, step_slot, step_mark, with_value, without_brush, with_face, with_left, with_number, with_text, coordinate_of, span_plane, is_bad_origin};
+ghost use Rattle.qm_grammar.specs.inner.Machine.{step, step_outside, step_entity, step_value, step_brush, step_face, step_slot, step_mark, with_value, without_brush, with_face, with_left, with_number, with_text, coordinate_of, give_plane, plane_refusal, is_bad_origin};
 ghost use Rattle.qm_map.specs.inner.Steady.{HasDueParts};
 ghost use Rattle.qm_map.specs.inner.Stepping.{IsStep};
 
 use crate::empties::Empties;
-use crate::face::{are_flat, face_of};
+use crate::face::{face_of, refusal_of_points};
 use crate::list::take_all;
 use crate::number::coordinate;
 use crate::origin::{is_origin_key, lacks_behind, origin_of};
@@ -41,7 +41,7 @@ pub struct Reader {
 
 impl Model for Reader {
     ghost use Rattle.std.specs.Prelude.{◌≡◌, length, All, is_none};
-    ghost use Rattle.qm_space.specs.Point.{IsCoordinate};
+    ghost use Rattle.qm_space.specs.Point.{IsThousandths};
     ghost use Rattle.qm_grammar.specs.Prefix.{Prefix};
     ghost use Rattle.qm_grammar.specs.Origin.{origin_key, value_of};
     ghost use Rattle.qm_map.specs.inner.Steady.{HasDueParts};
@@ -61,7 +61,7 @@ impl Model for Reader {
     } };
 
     ghost invariant = { λ r.
-        All IsCoordinate r.numbers.items
+        All IsThousandths r.numbers.items
         × HasDueParts r.context (length r.numbers.items) (length r.texts.items) r.left.now
         × (r.lacks_origin ≡ is_none (value_of origin_key r.pairs.items)) };
 }
@@ -304,8 +304,8 @@ impl Reader {
     {
         match mark {
             Mark::CloseParenthesis => {
-                if self.has_flat_points() {
-                    return Err(Stop::Refused(Refusal::NoNormal));
+                if let Some(reason) = self.refusal_of_points() {
+                    return Err(Stop::Refused(reason));
                 }
                 self.step_over(others)
             }
@@ -313,12 +313,16 @@ impl Reader {
         }
     }
 
-    /// Whether three points are read that lie on one line.
-    fn has_flat_points(&self) -> bool
-        ensures { result ≡ (length self.now.numbers == 9 && not (span_plane (points_of self.now.numbers))) }
+    /// Why the points that are read give no plane, where there are three and they give none.
+    fn refusal_of_points(&self) -> Option<Refusal>
+        ensures { MatchOption result ((length self.now.numbers == 9 && not (give_plane (points_of self.now.numbers))) ≡ false)
+            (λ reason. ((length self.now.numbers == 9 && not (give_plane (points_of self.now.numbers))) ≡ true) × (reason ≡ plane_refusal (points_of self.now.numbers))) }
     {
         let numbers = self.numbers.as_slice();
-        numbers.len() == 9 && are_flat(numbers)
+        if numbers.len() != 9 {
+            return None;
+        }
+        refusal_of_points(numbers)
     }
 
     /// Takes a token that gives nothing.

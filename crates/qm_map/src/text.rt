@@ -28,6 +28,7 @@ pub fn fault_of(reason: Refusal, line: u64) -> MapFault
         Refusal::Fraction => MapFault::Fraction { line },
         Refusal::CoordinateRange => MapFault::CoordinateRange { line },
         Refusal::NoNormal => MapFault::NoNormal { line },
+        Refusal::PlaneTooFine => MapFault::PlaneTooFine { line },
         Refusal::NoFaces => MapFault::NoFaces { line },
         Refusal::BadOrigin => MapFault::BadOrigin { line },
     }

@@ -10,7 +10,7 @@ pub enum Mapping {
     Valve(Items<Text>),
 }
 
-/// A face of a brush: three points on its plane, in map units, and its texture.
+/// A face of a brush: three points on its plane, in thousandths of a map unit, and its texture.
 ///
 /// The outward normal is `(points[0] - points[1]) x (points[2] - points[1])`.
 #[derive(Drop)]

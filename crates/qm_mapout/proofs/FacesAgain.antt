@@ -2,12 +2,12 @@
 use Rattle.std.proofs.Common.{◌≡◌, ◌≢◌, ◌<◌, ◌⊎◌, ℕ, suc, ℤ, Bool, true, false, ◌||◌, nat_le, ◌==◌, if◌then◌else◌, List, [], ◌∷◌, ◌++◌, None, lit<, refl, sym, ap, subst, ◌∙◌, inl, inr, append_assoc, append-nil, arith, rules, length, flat_map, is_some}
 use Rattle.std.specs.Prelude.{All}
 use Rattle.std.specs.List.{AllByRecursion, list_any}
-use Rattle.std.specs.Fmt.{signed_decimal}
+use Rattle.qm_numerals.specs.Printed.{signed_thousandths}
 use Rattle.std.proofs.lemmas.List.Elements.{All-nil, All-cons, All-head, All-tail}
 use Rattle.std.proofs.lemmas.List.{get_or_default}
 use Rattle.std.proofs.lemmas.Bool.{leb-false}
 use Rattle.std.proofs.lemmas.Bool.Decides.{eqb_tells}
-use Rattle.qm_space.specs.Point.{IsCoordinate, AreCoordinates}
+use Rattle.qm_space.specs.Point.{IsThousandths, AreThousandths}
 use Rattle.qm_tokens.specs.Piece.{OpensWord}
 use Rattle.qm_mapfile.specs.declared.face.Face.{Face}
 use Rattle.qm_mapfile.specs.declared.face.Mapping.{Mapping}
@@ -85,15 +85,15 @@ name_sort : (bytes : List ℕ) → mark_of bytes ≡ None → sort_of (word_symb
 unfolding sort_of
 name_sort bytes no_mark = rw no_mark refl
 
-number_stand : (n : ℤ) → IsCoordinate n → Stand (slot.Coordinate ∷ []) (number_symbol n ∷ []) (n ∷ []) []
+number_stand : (n : ℤ) → IsThousandths n → Stand (slot.Coordinate ∷ []) (number_symbol n ∷ []) (n ∷ []) []
 number_stand n range =
     let text = number_text n range in
-    stand_one (coordinate (name_sort (signed_decimal n) text.no_mark) text.spelled) (text.opens, text.visible)
+    stand_one (coordinate (name_sort (signed_thousandths n) text.no_mark) text.spelled) (text.opens, text.visible)
 
 pub word_stand : (bytes : List ℕ) → IsNameText bytes → Stand (slot.Word ∷ []) (word_symbol bytes ∷ []) [] (bytes ∷ [])
 word_stand bytes name = stand_one (slots.word (name_sort bytes name.no_mark)) (name.opens, name.no_blank)
 
-point_stand : (x y z : ℤ) → IsCoordinate x → IsCoordinate y → IsCoordinate z →
+point_stand : (x y z : ℤ) → IsThousandths x → IsThousandths y → IsThousandths z →
     Stand point_slots (point_symbols (x ∷ y ∷ z ∷ [])) (x ∷ y ∷ z ∷ []) []
 unfolding point_symbols
 point_stand x y z in_x in_y in_z =
@@ -228,7 +228,7 @@ record PointsAgain (points : List (List ℤ)) : Type 0 where
   stand : Stand (point_slots ++ (point_slots ++ point_slots)) (flat_map point_symbols points) numbers []
   same : points_of numbers ≡ points
 
-nine_again : (a b c d e f g h i : ℤ) → All IsCoordinate (a ∷ b ∷ c ∷ []) → All IsCoordinate (d ∷ e ∷ f ∷ []) → All IsCoordinate (g ∷ h ∷ i ∷ []) →
+nine_again : (a b c d e f g h i : ℤ) → All IsThousandths (a ∷ b ∷ c ∷ []) → All IsThousandths (d ∷ e ∷ f ∷ []) → All IsThousandths (g ∷ h ∷ i ∷ []) →
     PointsAgain ((a ∷ b ∷ c ∷ []) ∷ (d ∷ e ∷ f ∷ []) ∷ (g ∷ h ∷ i ∷ []) ∷ [])
 unfolding point_symbols
 nine_again a b c d e f g h i first second third = record {
@@ -240,10 +240,10 @@ nine_again a b c d e f g h i first second third = record {
   same = refl;
 }
 
-rows_again : (p q r : List ℤ) → Three p → Three q → Three r → All IsCoordinate p → All IsCoordinate q → All IsCoordinate r →
+rows_again : (p q r : List ℤ) → Three p → Three q → Three r → All IsThousandths p → All IsThousandths q → All IsThousandths r →
     PointsAgain (p ∷ q ∷ r ∷ [])
 rows_again p q r first second third in_p in_q in_r =
-    let Coordinates : List ℤ → Type 0 = All IsCoordinate in
+    let Coordinates : List ℤ → Type 0 = All IsThousandths in
     let p3 : List ℤ = first.a ∷ first.b ∷ first.c ∷ [] in
     let q3 : List ℤ = second.a ∷ second.b ∷ second.c ∷ [] in
     let nine = nine_again first.a first.b first.c second.a second.b second.c third.a third.b third.c
@@ -252,7 +252,7 @@ rows_again p q r first second third in_p in_q in_r =
     (subst (λ y. PointsAgain (p3 ∷ y ∷ r ∷ [])) (sym second.list)
     (subst (λ z. PointsAgain (p3 ∷ q3 ∷ z ∷ [])) (sym third.list) nine))
 
-points_again : (points : List (List ℤ)) → length points ≡ 3 → All (λ p. length p ≡ 3) points → All AreCoordinates points → PointsAgain points
+points_again : (points : List (List ℤ)) → length points ≡ 3 → All (λ p. length p ≡ 3) points → All AreThousandths points → PointsAgain points
 points_again [] e triples coordinates = absurd (omega (arith, e))
 points_again (p ∷ []) e triples coordinates = absurd (omega (arith, e))
 points_again (p ∷ q ∷ []) e triples coordinates = absurd (omega (arith, e))

@@ -3,6 +3,7 @@
 
 mod entity;
 mod face;
+pub mod laws;
 mod line;
 mod printer;
 

@@ -5,4 +5,6 @@ pub mod ByteTests
 pub mod Reading
 pub mod Uniqueness
 pub mod Printing
+pub mod LastDigits
+pub mod Thousandths
 pub mod Computed

@@ -1,4 +1,4 @@
-use Rattle.std.specs.Prelude.{ℕ, zero, suc, ◌+◌, ◌*◌, ◌/◌, ◌%◌, ◌≤◌, ◌<◌, ◌==◌, Bool, true, false, if◌then◌else◌, List, [], ◌∷◌, ◌++◌, decimal}
+use Rattle.std.specs.Prelude.{ℕ, zero, suc, ◌+◌, ◌*◌, ◌/◌, ◌%◌, ◌≤◌, ◌<◌, ◌==◌, ℤ, pos, negsuc, Bool, true, false, if◌then◌else◌, List, [], ◌∷◌, ◌++◌, decimal}
 
 -- the last `count` digits of n, with zeros before them where it has fewer
 abbrev pub last_digits : ℕ → ℕ → List ℕ
@@ -29,3 +29,25 @@ printed_fraction negative over under =
 pub record IsNearestMillionths (over under n : ℕ) : Type 0 where
   pub not_above : 2 * n * under ≤ 2 * over * 1000000 + under
   pub not_below : 2 * over * 1000000 + under < 2 * (n + 1) * under
+
+-- the decimals of less than a thousand thousandths, without zeros at their end
+abbrev pub decimals_of_thousandths : ℕ → List ℕ
+decimals_of_thousandths n =
+    if n == 0 then []
+    else (if n % 100 == 0 then last_digits 1 (n / 100)
+    else (if n % 10 == 0 then last_digits 2 (n / 10)
+    else last_digits 3 n))
+
+-- a point and the decimals behind it, or nothing where there are none
+abbrev pub with_point : List ℕ → List ℕ
+with_point [] = []
+with_point (digit ∷ digits) = 46 ∷ digit ∷ digits
+
+-- so many thousandths: the whole part without leading zeros, and where they are not whole a point and their decimals
+unfoldable pub thousandths_text : ℕ → List ℕ
+thousandths_text n = decimal (n / 1000) ++ with_point (decimals_of_thousandths (n % 1000))
+
+-- the same, behind `-` where the number is below 0
+unfoldable pub signed_thousandths : ℤ → List ℕ
+signed_thousandths (pos n) = thousandths_text n
+signed_thousandths (negsuc n) = 45 ∷ thousandths_text (suc n)

@@ -14,6 +14,7 @@ refusal_not_long refusal.BadNumber line other is = absurd cc
 refusal_not_long refusal.Fraction line other is = absurd cc
 refusal_not_long refusal.CoordinateRange line other is = absurd cc
 refusal_not_long refusal.NoNormal line other is = absurd cc
+refusal_not_long refusal.PlaneTooFine line other is = absurd cc
 refusal_not_long refusal.NoFaces line other is = absurd cc
 refusal_not_long refusal.BadOrigin line other is = absurd cc
 

@@ -1,6 +1,6 @@
 -- The solid of a box of stone: the points that it holds, and that it is full.
 use Rattle.std.specs.Prelude.{map as mapped}
-use Rattle.std.proofs.Common.{◌≡◌, ℤ, pos, neg_ℤ, ◌+ℤ◌, ◌-ℤ◌, ◌*ℤ◌, ◌<ℤ◌, ◌≤ℤ◌, List, [], ◌∷◌, Some, refl, arith}
+use Rattle.std.proofs.Common.{◌≡◌, ℤ, pos, neg_ℤ, ◌+ℤ◌, ◌-ℤ◌, ◌*ℤ◌, ◌<ℤ◌, ◌≤ℤ◌, List, [], ◌∷◌, Some, refl, sym, subst, arith}
 use Rattle.std.specs.List.{filter_map}
 use Rattle.std.proofs.lemmas.Int.{ints}
 use Rattle.std.proofs.lemmas.List.Elements.{All-from_recursion}
@@ -8,71 +8,82 @@ use Rattle.qm_contents.specs.declared.contents.Contents.TheVariants as contents
 use Rattle.qm_contents.specs.Texture.{contents_of_texture}
 use Rattle.qm_mapfile.specs.Face.{face_outward}
 use Rattle.qm_numbers.proofs.IntegerProducts.{linear}
-use Rattle.qm_numbers.proofs.Ring.{Expression, variable, number, ◌⊕◌, ◌⊖◌, ◌⊗◌, solved}
+use Rattle.qm_numbers.proofs.Signs.{positive_times_negative, product_not_positive, negative_beside, not_positive_beside}
+use Rattle.qm_numbers.proofs.Ring.{Expression, variable, number, ◌⊖◌, ◌⊗◌, solved}
 use Rattle.qm_space.specs.Bounds.{extent}
-use Rattle.qm_space.specs.Point.{Point, whole_point, IsWithinExtent}
+use Rattle.qm_space.specs.Point.{Point, IsWithinExtent}
 use Rattle.qm_space.specs.Plane.{Plane, value, IsBehind, IsNotInFront}
-use Rattle.qm_space.specs.ThreePoints.{outward_plane}
-use Rattle.qm_space.proofs.PlaneSymbols.{PlaneSymbols, PointSymbols, point_from, numbers_of_point, symbol_value}
+use Rattle.qm_space.specs.ThreePoints.{outward_plane, in_space}
+use Rattle.qm_space.proofs.PlaneSymbols.{PointSymbols, point_from, numbers_of_point, symbol_value}
 use Rattle.qm_solids.specs.Solid.{Solid}
 use Rattle.qm_solids.specs.Holding.{IsInFrontOfNone, IsFull, Holds}
 use Rattle.qm_solids.proofs.Insides.{inside_of_behind}
 use Rattle.qm_drawn.specs.Solids.{solid_of_brush}
-use Rattle.qm_rooms.specs.Boxes.{StoneBox, triple, face_points, stone_face, box_brush}
+use Rattle.qm_rooms.specs.Boxes.{StoneBox, points_west, points_east, points_south, points_north, points_bottom, points_top, face_points, stone_face, box_brush}
 use Rattle.qm_sealed_rooms.proofs.Borders.{IsBehindEach}
+use Rattle.qm_sealed_rooms.proofs.BoxPlanes.{symbol_outward, symbol_in_space, symbol_point, billion, spanned_by}
 
 -- ---- the plane of each face
 
-abbrev symbol_step : PointSymbols → PointSymbols → PointSymbols
-symbol_step from to = record { x = to.x ⊖ from.x; y = to.y ⊖ from.y; z = to.z ⊖ from.z; w = number (pos 0) }
-
-abbrev symbol_cross : PointSymbols → PointSymbols → PointSymbols
-symbol_cross a b = record { x = a.y ⊗ b.z ⊖ a.z ⊗ b.y; y = a.z ⊗ b.x ⊖ a.x ⊗ b.z; z = a.x ⊗ b.y ⊖ a.y ⊗ b.x; w = number (pos 0) }
-
-abbrev symbol_outward : PointSymbols → PointSymbols → PointSymbols → PlaneSymbols
-symbol_outward p0 p1 p2 =
-    let n = symbol_cross (symbol_step p1 p0) (symbol_step p1 p2) in
-    record { nx = n.x; ny = n.y; nz = n.z; d = n.x ⊗ p1.x ⊕ n.y ⊗ p1.y ⊕ n.z ⊗ p1.z }
-
-abbrev symbol_point : Expression → Expression → Expression → PointSymbols
-symbol_point x y z = record { x = x; y = y; z = z; w = number (pos 1) }
-
 module _ (c : ℤ) (p : Point) where
   abbrev at : Expression
-  at = variable 0
+  at = number (pos 1000) ⊗ variable 0
 
   abbrev no : Expression
   no = number (pos 0)
 
   abbrev one : Expression
-  one = number (pos 1)
+  one = number (pos 1000)
 
   abbrev q : PointSymbols
   q = point_from 1
 
-  west_value : value (outward_plane (whole_point (triple c (pos 0) (pos 0))) (whole_point (triple c (pos 1) (pos 0))) (whole_point (triple c (pos 0) (pos 1)))) p ≡ (c *ℤ p.w) -ℤ p.x
-  unfolding value outward_plane
-  west_value = solved (c ∷ numbers_of_point p []) (symbol_value (symbol_outward (symbol_point at no no) (symbol_point at one no) (symbol_point at no one)) q) (at ⊗ q.w ⊖ q.x) tt
+  abbrev symbol_plane : PointSymbols → PointSymbols → PointSymbols → Expression
+  symbol_plane p0 p1 p2 = symbol_value (symbol_in_space (symbol_outward p0 p1 p2)) q
 
-  east_value : value (outward_plane (whole_point (triple c (pos 0) (pos 0))) (whole_point (triple c (pos 0) (pos 1))) (whole_point (triple c (pos 1) (pos 0)))) p ≡ p.x -ℤ (c *ℤ p.w)
-  unfolding value outward_plane
-  east_value = solved (c ∷ numbers_of_point p []) (symbol_value (symbol_outward (symbol_point at no no) (symbol_point at no one) (symbol_point at one no)) q) (q.x ⊖ at ⊗ q.w) tt
+  abbrev below : Expression → Expression
+  below x = number billion ⊗ (variable 0 ⊗ q.w ⊖ x)
 
-  south_value : value (outward_plane (whole_point (triple (pos 0) c (pos 0))) (whole_point (triple (pos 0) c (pos 1))) (whole_point (triple (pos 1) c (pos 0)))) p ≡ (c *ℤ p.w) -ℤ p.y
-  unfolding value outward_plane
-  south_value = solved (c ∷ numbers_of_point p []) (symbol_value (symbol_outward (symbol_point no at no) (symbol_point no at one) (symbol_point one at no)) q) (at ⊗ q.w ⊖ q.y) tt
+  abbrev above : Expression → Expression
+  above x = number billion ⊗ (x ⊖ variable 0 ⊗ q.w)
 
-  north_value : value (outward_plane (whole_point (triple (pos 0) c (pos 0))) (whole_point (triple (pos 1) c (pos 0))) (whole_point (triple (pos 0) c (pos 1)))) p ≡ p.y -ℤ (c *ℤ p.w)
-  unfolding value outward_plane
-  north_value = solved (c ∷ numbers_of_point p []) (symbol_value (symbol_outward (symbol_point no at no) (symbol_point one at no) (symbol_point no at one)) q) (q.y ⊖ at ⊗ q.w) tt
+  west_value : value (spanned_by (points_west c)) p ≡ billion *ℤ ((c *ℤ p.w) -ℤ p.x)
+  unfolding value outward_plane in_space
+  west_value = solved (c ∷ numbers_of_point p []) (symbol_plane (symbol_point at no no) (symbol_point at one no) (symbol_point at no one)) (below q.x) tt
 
-  bottom_value : value (outward_plane (whole_point (triple (pos 0) (pos 0) c)) (whole_point (triple (pos 1) (pos 0) c)) (whole_point (triple (pos 0) (pos 1) c))) p ≡ (c *ℤ p.w) -ℤ p.z
-  unfolding value outward_plane
-  bottom_value = solved (c ∷ numbers_of_point p []) (symbol_value (symbol_outward (symbol_point no no at) (symbol_point one no at) (symbol_point no one at)) q) (at ⊗ q.w ⊖ q.z) tt
+  east_value : value (spanned_by (points_east c)) p ≡ billion *ℤ (p.x -ℤ (c *ℤ p.w))
+  unfolding value outward_plane in_space
+  east_value = solved (c ∷ numbers_of_point p []) (symbol_plane (symbol_point at no no) (symbol_point at no one) (symbol_point at one no)) (above q.x) tt
 
-  top_value : value (outward_plane (whole_point (triple (pos 0) (pos 0) c)) (whole_point (triple (pos 0) (pos 1) c)) (whole_point (triple (pos 1) (pos 0) c))) p ≡ p.z -ℤ (c *ℤ p.w)
-  unfolding value outward_plane
-  top_value = solved (c ∷ numbers_of_point p []) (symbol_value (symbol_outward (symbol_point no no at) (symbol_point no one at) (symbol_point one no at)) q) (q.z ⊖ at ⊗ q.w) tt
+  south_value : value (spanned_by (points_south c)) p ≡ billion *ℤ ((c *ℤ p.w) -ℤ p.y)
+  unfolding value outward_plane in_space
+  south_value = solved (c ∷ numbers_of_point p []) (symbol_plane (symbol_point no at no) (symbol_point no at one) (symbol_point one at no)) (below q.y) tt
+
+  north_value : value (spanned_by (points_north c)) p ≡ billion *ℤ (p.y -ℤ (c *ℤ p.w))
+  unfolding value outward_plane in_space
+  north_value = solved (c ∷ numbers_of_point p []) (symbol_plane (symbol_point no at no) (symbol_point one at no) (symbol_point no at one)) (above q.y) tt
+
+  bottom_value : value (spanned_by (points_bottom c)) p ≡ billion *ℤ ((c *ℤ p.w) -ℤ p.z)
+  unfolding value outward_plane in_space
+  bottom_value = solved (c ∷ numbers_of_point p []) (symbol_plane (symbol_point no no at) (symbol_point one no at) (symbol_point no one at)) (below q.z) tt
+
+  top_value : value (spanned_by (points_top c)) p ≡ billion *ℤ (p.z -ℤ (c *ℤ p.w))
+  unfolding value outward_plane in_space
+  top_value = solved (c ∷ numbers_of_point p []) (symbol_plane (symbol_point no no at) (symbol_point no one at) (symbol_point one no at)) (above q.z) tt
+
+-- the side of a point, where its value is a multiple of a number
+module _ (h : Plane) (p : Point) (n : ℤ) (is : value h p ≡ billion *ℤ n) where
+  not_in_front : n ≤ℤ pos 0 → IsNotInFront h p
+  not_in_front low = subst (λ (v : ℤ). v ≤ℤ pos 0) (sym is) (product_not_positive billion n (omega (arith, ints)) low)
+
+  at_most : IsNotInFront h p → n ≤ℤ pos 0
+  at_most low = not_positive_beside billion n (omega (arith, ints)) (subst (λ (v : ℤ). v ≤ℤ pos 0) is low)
+
+  is_behind : n <ℤ pos 0 → IsBehind h p
+  is_behind low = subst (λ (v : ℤ). v <ℤ pos 0) (sym is) (positive_times_negative billion n (omega (arith, ints)) low)
+
+  less : IsBehind h p → n <ℤ pos 0
+  less low = negative_beside billion n (omega (arith, ints)) (subst (λ (v : ℤ). v <ℤ pos 0) is low)
 
 -- ---- the points of a box
 
@@ -103,19 +114,36 @@ module _ (box : StoneBox) (p : Point) where
   unfolding box_outward face_points stone_face
   none_from_within i =
       let a = i.west in let b = i.east in let c = i.south in let d = i.north in let e = i.bottom in let f = i.top in
-      let u = west_value box.west p in let v = east_value box.east p in let w = south_value box.south p in
-      let x = north_value box.north p in let y = bottom_value box.bottom p in let z = top_value box.top p in
-      All-from_recursion (λ h. IsNotInFront h p) (box_outward box)
-      (omega (arith, linear), (omega (arith, linear), (omega (arith, linear), (omega (arith, linear), (omega (arith, linear), (omega (arith, linear), tt))))))
+      All-from_recursion (λ h. IsNotInFront h p) (box_outward box) (
+        not_in_front (spanned_by (points_west box.west)) p ((box.west *ℤ p.w) -ℤ p.x) (west_value box.west p) (omega (arith, linear)),
+        (
+          not_in_front (spanned_by (points_east box.east)) p (p.x -ℤ (box.east *ℤ p.w)) (east_value box.east p) (omega (arith, linear)),
+          (
+            not_in_front (spanned_by (points_south box.south)) p ((box.south *ℤ p.w) -ℤ p.y) (south_value box.south p) (omega (arith, linear)),
+            (
+              not_in_front (spanned_by (points_north box.north)) p (p.y -ℤ (box.north *ℤ p.w)) (north_value box.north p) (omega (arith, linear)),
+              (
+                not_in_front (spanned_by (points_bottom box.bottom)) p ((box.bottom *ℤ p.w) -ℤ p.z) (bottom_value box.bottom p) (omega (arith, linear)),
+                (
+                  not_in_front (spanned_by (points_top box.top)) p (p.z -ℤ (box.top *ℤ p.w)) (top_value box.top p) (omega (arith, linear)),
+                  tt,
+                ),
+              ),
+            ),
+          ),
+        ),
+      )
 
   pub within_from_none : IsInFrontOfNone (box_outward box) p → IsWithin box p
   unfolding box_outward face_points stone_face
   within_from_none none =
       let h : Plane = record { nx = pos 0; ny = pos 0; nz = pos 0; d = pos 0 } in
-      let a = none 0 h (omega arith) in let b = none 1 h (omega arith) in let c = none 2 h (omega arith) in
-      let d = none 3 h (omega arith) in let e = none 4 h (omega arith) in let f = none 5 h (omega arith) in
-      let u = west_value box.west p in let v = east_value box.east p in let w = south_value box.south p in
-      let x = north_value box.north p in let y = bottom_value box.bottom p in let z = top_value box.top p in
+      let a = at_most (spanned_by (points_west box.west)) p ((box.west *ℤ p.w) -ℤ p.x) (west_value box.west p) (none 0 h (omega arith)) in
+      let b = at_most (spanned_by (points_east box.east)) p (p.x -ℤ (box.east *ℤ p.w)) (east_value box.east p) (none 1 h (omega arith)) in
+      let c = at_most (spanned_by (points_south box.south)) p ((box.south *ℤ p.w) -ℤ p.y) (south_value box.south p) (none 2 h (omega arith)) in
+      let d = at_most (spanned_by (points_north box.north)) p (p.y -ℤ (box.north *ℤ p.w)) (north_value box.north p) (none 3 h (omega arith)) in
+      let e = at_most (spanned_by (points_bottom box.bottom)) p ((box.bottom *ℤ p.w) -ℤ p.z) (bottom_value box.bottom p) (none 4 h (omega arith)) in
+      let f = at_most (spanned_by (points_top box.top)) p (p.z -ℤ (box.top *ℤ p.w)) (top_value box.top p) (none 5 h (omega arith)) in
       record {
         west = omega (arith, linear);
         east = omega (arith, linear);
@@ -129,19 +157,36 @@ module _ (box : StoneBox) (p : Point) where
   unfolding box_outward face_points stone_face
   behind_from_strict i =
       let a = i.west in let b = i.east in let c = i.south in let d = i.north in let e = i.bottom in let f = i.top in
-      let u = west_value box.west p in let v = east_value box.east p in let w = south_value box.south p in
-      let x = north_value box.north p in let y = bottom_value box.bottom p in let z = top_value box.top p in
-      All-from_recursion (λ h. IsBehind h p) (box_outward box)
-      (omega (arith, linear), (omega (arith, linear), (omega (arith, linear), (omega (arith, linear), (omega (arith, linear), (omega (arith, linear), tt))))))
+      All-from_recursion (λ h. IsBehind h p) (box_outward box) (
+        is_behind (spanned_by (points_west box.west)) p ((box.west *ℤ p.w) -ℤ p.x) (west_value box.west p) (omega (arith, linear)),
+        (
+          is_behind (spanned_by (points_east box.east)) p (p.x -ℤ (box.east *ℤ p.w)) (east_value box.east p) (omega (arith, linear)),
+          (
+            is_behind (spanned_by (points_south box.south)) p ((box.south *ℤ p.w) -ℤ p.y) (south_value box.south p) (omega (arith, linear)),
+            (
+              is_behind (spanned_by (points_north box.north)) p (p.y -ℤ (box.north *ℤ p.w)) (north_value box.north p) (omega (arith, linear)),
+              (
+                is_behind (spanned_by (points_bottom box.bottom)) p ((box.bottom *ℤ p.w) -ℤ p.z) (bottom_value box.bottom p) (omega (arith, linear)),
+                (
+                  is_behind (spanned_by (points_top box.top)) p (p.z -ℤ (box.top *ℤ p.w)) (top_value box.top p) (omega (arith, linear)),
+                  tt,
+                ),
+              ),
+            ),
+          ),
+        ),
+      )
 
   pub strict_from_behind : IsBehindEach (box_outward box) p → IsStrictlyWithin box p
   unfolding box_outward face_points stone_face
   strict_from_behind behind =
       let h : Plane = record { nx = pos 0; ny = pos 0; nz = pos 0; d = pos 0 } in
-      let a = behind 0 h (omega arith) in let b = behind 1 h (omega arith) in let c = behind 2 h (omega arith) in
-      let d = behind 3 h (omega arith) in let e = behind 4 h (omega arith) in let f = behind 5 h (omega arith) in
-      let u = west_value box.west p in let v = east_value box.east p in let w = south_value box.south p in
-      let x = north_value box.north p in let y = bottom_value box.bottom p in let z = top_value box.top p in
+      let a = less (spanned_by (points_west box.west)) p ((box.west *ℤ p.w) -ℤ p.x) (west_value box.west p) (behind 0 h (omega arith)) in
+      let b = less (spanned_by (points_east box.east)) p (p.x -ℤ (box.east *ℤ p.w)) (east_value box.east p) (behind 1 h (omega arith)) in
+      let c = less (spanned_by (points_south box.south)) p ((box.south *ℤ p.w) -ℤ p.y) (south_value box.south p) (behind 2 h (omega arith)) in
+      let d = less (spanned_by (points_north box.north)) p (p.y -ℤ (box.north *ℤ p.w)) (north_value box.north p) (behind 3 h (omega arith)) in
+      let e = less (spanned_by (points_bottom box.bottom)) p ((box.bottom *ℤ p.w) -ℤ p.z) (bottom_value box.bottom p) (behind 4 h (omega arith)) in
+      let f = less (spanned_by (points_top box.top)) p (p.z -ℤ (box.top *ℤ p.w)) (top_value box.top p) (behind 5 h (omega arith)) in
       record {
         west = omega (arith, linear);
         east = omega (arith, linear);

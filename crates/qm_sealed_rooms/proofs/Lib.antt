@@ -3,6 +3,7 @@ pub mod OffPlanes
 pub mod LedPoints
 pub mod SolidLeaves
 pub mod Shells
+pub mod BoxPlanes
 pub mod BoxSolids
 pub mod RoomSolids
 pub mod RoomShells

@@ -1,22 +1,21 @@
 -- A map of rooms is valid.
 use Rattle.std.specs.Prelude.{map as mapped}
-use Rattle.std.proofs.Common.{◌≡◌, ℕ, zero, suc, ◌+◌, ◌-◌, ◌*◌, ◌<◌, ◌≤◌, ◌==◌, Bool, true, false, ◌&&◌, not, inr, ⊎_elim, None, ℤ, pos, neg_ℤ, List, [], ◌∷◌, ◌++◌, All, codes, length, sum_by, if◌then◌else◌, refl, sym, ap, ◌∙◌, length-append, arith}
+use Rattle.std.proofs.Common.{◌≡◌, ℕ, zero, suc, ◌+◌, ◌-◌, ◌*◌, ◌<◌, ◌≤◌, ◌==◌, Bool, true, false, ◌&&◌, not, inr, ⊎_elim, None, ℤ, pos, neg_ℤ, ◌*ℤ◌, List, [], ◌∷◌, ◌++◌, All, codes, length, sum_by, if◌then◌else◌, refl, sym, ap, ◌∙◌, length-append, arith}
 use Rattle.std.proofs.lemmas.Bool.{and_parts, eq-eqb}
 use Rattle.std.proofs.lemmas.Int.{ints}
 use Rattle.std.proofs.lemmas.List.Elements.{All-nil, All-cons, All-append, All-map, All-weaker, All-from_recursion}
 use Rattle.std.proofs.lemmas.List.Sums.{sum_by-cons}
 use Rattle.qm_lists.proofs.Elements.{Contains-nil, Contains-cons_cases}
-use Rattle.qm_space.specs.Point.{IsCoordinate, AreCoordinates, whole_point}
-use Rattle.qm_space.specs.ThreePoints.{outward_plane}
-use Rattle.qm_space.proofs.PlanesThroughPoints.{one_line_no_normal}
+use Rattle.qm_space.specs.Point.{IsCoordinate, IsThousandths, AreThousandths}
 use Rattle.qm_mapfile.specs.declared.entity.Brush.{Brush}
-use Rattle.qm_mapfile.specs.Face.{SpanPlane}
+use Rattle.qm_mapfile.specs.Face.{GivePlane}
 use Rattle.qm_grammar.specs.Symbol.{mark_of_byte}
 use Rattle.qm_grammar.specs.Origin.{origin_key, HasGoodOrigin}
 use Rattle.qm_grammar.specs.Valid.{HasNoQuote, IsNameText, IsValidFace, IsValidBrush, IsValidPair, IsValidEntity, face_count, IsValidMap}
 use Rattle.qm_grammar.proofs.OriginTexts.{origin_spelled}
-use Rattle.qm_rooms.specs.Boxes.{StoneBox, triple, face_points, plain_mapping, stone_face, box_brush}
+use Rattle.qm_rooms.specs.Boxes.{StoneBox, triple, unit, points_west, points_east, points_south, points_north, points_bottom, points_top, face_points, plain_mapping, stone_face, box_brush}
 use Rattle.qm_rooms.specs.Rooms.{east_end, hull_boxes, wall_part, doorway_place, doorway_south, open_wall, closed_wall, open_walls, room_boxes, pair_of, boxed_world, player_start, rooms_map}
+use Rattle.qm_sealed_rooms.proofs.BoxPlanes.{west_gives, east_gives, south_gives, north_gives, bottom_gives, top_gives}
 use Rattle.qm_sealed_rooms.proofs.RoomOrigins.{start_point, start_read}
 
 -- ---- texts
@@ -46,8 +45,8 @@ digit_name digit low high no_mark = record {
 of_three : {X : Type 0} (P : X → Type 0) (a b c : X) → P a → P b → P c → All P (a ∷ b ∷ c ∷ [])
 of_three P a b c is_a is_b is_c = All-cons P a (b ∷ c ∷ []) is_a (All-cons P b (c ∷ []) is_b (All-cons P c [] is_c (All-nil P)))
 
-coordinates : (x y z : ℤ) → IsCoordinate x → IsCoordinate y → IsCoordinate z → AreCoordinates (triple x y z)
-coordinates x y z is_x is_y is_z = of_three IsCoordinate x y z is_x is_y is_z
+coordinates : (x y z : ℤ) → IsThousandths x → IsThousandths y → IsThousandths z → AreThousandths (triple x y z)
+coordinates x y z is_x is_y is_z = of_three IsThousandths x y z is_x is_y is_z
 
 valid_mapping_words : All IsNameText (codes "0" ∷ codes "0" ∷ codes "0" ∷ codes "1" ∷ codes "1" ∷ [])
 unfolding mark_of_byte
@@ -56,12 +55,12 @@ valid_mapping_words =
     let unit = digit_name 49 (omega arith) (omega arith) refl in
     All-from_recursion IsNameText (codes "0" ∷ codes "0" ∷ codes "0" ∷ codes "1" ∷ codes "1" ∷ []) (nought, (nought, (nought, (unit, (unit, tt)))))
 
-valid_face : (a b c : List ℤ) → length a ≡ 3 → length b ≡ 3 → length c ≡ 3 → AreCoordinates a → AreCoordinates b → AreCoordinates c → SpanPlane (triple a b c) → IsValidFace (stone_face (triple a b c))
+valid_face : (a b c : List ℤ) → length a ≡ 3 → length b ≡ 3 → length c ≡ 3 → AreThousandths a → AreThousandths b → AreThousandths c → GivePlane (triple a b c) → IsValidFace (stone_face (triple a b c))
 unfolding stone_face plain_mapping
 valid_face a b c three_a three_b three_c in_a in_b in_c plane = record {
   three = refl;
   triples = of_three (λ (point : List ℤ). length point ≡ 3) a b c three_a three_b three_c;
-  coordinates = of_three AreCoordinates a b c in_a in_b in_c;
+  coordinates = of_three AreThousandths a b c in_a in_b in_c;
   plane = plane;
   texture = inr (no_quote (codes "stone") refl);
   count_of_words = refl;
@@ -80,46 +79,44 @@ record HasCoordinates (box : StoneBox) : Type 0 where
 nought_in : IsCoordinate (pos 0)
 nought_in = record { low = omega (arith, ints); high = omega (arith, ints) }
 
-unit_in : IsCoordinate (pos 1)
+no_thousandths : IsThousandths (pos 0)
+no_thousandths = record { low = omega (arith, ints); high = omega (arith, ints) }
+
+unit_in : IsThousandths unit
 unit_in = record { low = omega (arith, ints); high = omega (arith, ints) }
+
+-- a coordinate of the closed cube in thousandths
+times_unit : (c : ℤ) → IsCoordinate c → IsThousandths (unit *ℤ c)
+times_unit c is = let low = is.low in let high = is.high in record { low = omega (arith, ints); high = omega (arith, ints) }
 
 -- a side of a box by its three points
 module _ (c : ℤ) (is : IsCoordinate c) where
-  west_face : IsValidFace (stone_face (triple (triple c (pos 0) (pos 0)) (triple c (pos 1) (pos 0)) (triple c (pos 0) (pos 1))))
-  unfolding outward_plane
-  west_face = valid_face (triple c (pos 0) (pos 0)) (triple c (pos 1) (pos 0)) (triple c (pos 0) (pos 1)) refl refl refl
-      (coordinates c (pos 0) (pos 0) is nought_in nought_in) (coordinates c (pos 1) (pos 0) is unit_in nought_in) (coordinates c (pos 0) (pos 1) is nought_in unit_in)
-      (λ line. let flat = one_line_no_normal (whole_point (triple c (pos 0) (pos 0))) (whole_point (triple c (pos 1) (pos 0))) (whole_point (triple c (pos 0) (pos 1))) refl refl refl line in absurd (let e = flat.0 in omega (arith, ints)))
+  its : IsThousandths (unit *ℤ c)
+  its = times_unit c is
 
-  east_face : IsValidFace (stone_face (triple (triple c (pos 0) (pos 0)) (triple c (pos 0) (pos 1)) (triple c (pos 1) (pos 0))))
-  unfolding outward_plane
-  east_face = valid_face (triple c (pos 0) (pos 0)) (triple c (pos 0) (pos 1)) (triple c (pos 1) (pos 0)) refl refl refl
-      (coordinates c (pos 0) (pos 0) is nought_in nought_in) (coordinates c (pos 0) (pos 1) is nought_in unit_in) (coordinates c (pos 1) (pos 0) is unit_in nought_in)
-      (λ line. let flat = one_line_no_normal (whole_point (triple c (pos 0) (pos 0))) (whole_point (triple c (pos 0) (pos 1))) (whole_point (triple c (pos 1) (pos 0))) refl refl refl line in absurd (let e = flat.0 in omega (arith, ints)))
+  west_face : IsValidFace (stone_face (points_west c))
+  west_face = valid_face (triple (unit *ℤ c) (pos 0) (pos 0)) (triple (unit *ℤ c) unit (pos 0)) (triple (unit *ℤ c) (pos 0) unit) refl refl refl
+      (coordinates (unit *ℤ c) (pos 0) (pos 0) its no_thousandths no_thousandths) (coordinates (unit *ℤ c) unit (pos 0) its unit_in no_thousandths) (coordinates (unit *ℤ c) (pos 0) unit its no_thousandths unit_in) (west_gives c)
 
-  south_face : IsValidFace (stone_face (triple (triple (pos 0) c (pos 0)) (triple (pos 0) c (pos 1)) (triple (pos 1) c (pos 0))))
-  unfolding outward_plane
-  south_face = valid_face (triple (pos 0) c (pos 0)) (triple (pos 0) c (pos 1)) (triple (pos 1) c (pos 0)) refl refl refl
-      (coordinates (pos 0) c (pos 0) nought_in is nought_in) (coordinates (pos 0) c (pos 1) nought_in is unit_in) (coordinates (pos 1) c (pos 0) unit_in is nought_in)
-      (λ line. let flat = one_line_no_normal (whole_point (triple (pos 0) c (pos 0))) (whole_point (triple (pos 0) c (pos 1))) (whole_point (triple (pos 1) c (pos 0))) refl refl refl line in absurd (let e = flat.1 in omega (arith, ints)))
+  east_face : IsValidFace (stone_face (points_east c))
+  east_face = valid_face (triple (unit *ℤ c) (pos 0) (pos 0)) (triple (unit *ℤ c) (pos 0) unit) (triple (unit *ℤ c) unit (pos 0)) refl refl refl
+      (coordinates (unit *ℤ c) (pos 0) (pos 0) its no_thousandths no_thousandths) (coordinates (unit *ℤ c) (pos 0) unit its no_thousandths unit_in) (coordinates (unit *ℤ c) unit (pos 0) its unit_in no_thousandths) (east_gives c)
 
-  north_face : IsValidFace (stone_face (triple (triple (pos 0) c (pos 0)) (triple (pos 1) c (pos 0)) (triple (pos 0) c (pos 1))))
-  unfolding outward_plane
-  north_face = valid_face (triple (pos 0) c (pos 0)) (triple (pos 1) c (pos 0)) (triple (pos 0) c (pos 1)) refl refl refl
-      (coordinates (pos 0) c (pos 0) nought_in is nought_in) (coordinates (pos 1) c (pos 0) unit_in is nought_in) (coordinates (pos 0) c (pos 1) nought_in is unit_in)
-      (λ line. let flat = one_line_no_normal (whole_point (triple (pos 0) c (pos 0))) (whole_point (triple (pos 1) c (pos 0))) (whole_point (triple (pos 0) c (pos 1))) refl refl refl line in absurd (let e = flat.1 in omega (arith, ints)))
+  south_face : IsValidFace (stone_face (points_south c))
+  south_face = valid_face (triple (pos 0) (unit *ℤ c) (pos 0)) (triple (pos 0) (unit *ℤ c) unit) (triple unit (unit *ℤ c) (pos 0)) refl refl refl
+      (coordinates (pos 0) (unit *ℤ c) (pos 0) no_thousandths its no_thousandths) (coordinates (pos 0) (unit *ℤ c) unit no_thousandths its unit_in) (coordinates unit (unit *ℤ c) (pos 0) unit_in its no_thousandths) (south_gives c)
 
-  bottom_face : IsValidFace (stone_face (triple (triple (pos 0) (pos 0) c) (triple (pos 1) (pos 0) c) (triple (pos 0) (pos 1) c)))
-  unfolding outward_plane
-  bottom_face = valid_face (triple (pos 0) (pos 0) c) (triple (pos 1) (pos 0) c) (triple (pos 0) (pos 1) c) refl refl refl
-      (coordinates (pos 0) (pos 0) c nought_in nought_in is) (coordinates (pos 1) (pos 0) c unit_in nought_in is) (coordinates (pos 0) (pos 1) c nought_in unit_in is)
-      (λ line. let flat = one_line_no_normal (whole_point (triple (pos 0) (pos 0) c)) (whole_point (triple (pos 1) (pos 0) c)) (whole_point (triple (pos 0) (pos 1) c)) refl refl refl line in absurd (let e = flat.2 in omega (arith, ints)))
+  north_face : IsValidFace (stone_face (points_north c))
+  north_face = valid_face (triple (pos 0) (unit *ℤ c) (pos 0)) (triple unit (unit *ℤ c) (pos 0)) (triple (pos 0) (unit *ℤ c) unit) refl refl refl
+      (coordinates (pos 0) (unit *ℤ c) (pos 0) no_thousandths its no_thousandths) (coordinates unit (unit *ℤ c) (pos 0) unit_in its no_thousandths) (coordinates (pos 0) (unit *ℤ c) unit no_thousandths its unit_in) (north_gives c)
 
-  top_face : IsValidFace (stone_face (triple (triple (pos 0) (pos 0) c) (triple (pos 0) (pos 1) c) (triple (pos 1) (pos 0) c)))
-  unfolding outward_plane
-  top_face = valid_face (triple (pos 0) (pos 0) c) (triple (pos 0) (pos 1) c) (triple (pos 1) (pos 0) c) refl refl refl
-      (coordinates (pos 0) (pos 0) c nought_in nought_in is) (coordinates (pos 0) (pos 1) c nought_in unit_in is) (coordinates (pos 1) (pos 0) c unit_in nought_in is)
-      (λ line. let flat = one_line_no_normal (whole_point (triple (pos 0) (pos 0) c)) (whole_point (triple (pos 0) (pos 1) c)) (whole_point (triple (pos 1) (pos 0) c)) refl refl refl line in absurd (let e = flat.2 in omega (arith, ints)))
+  bottom_face : IsValidFace (stone_face (points_bottom c))
+  bottom_face = valid_face (triple (pos 0) (pos 0) (unit *ℤ c)) (triple unit (pos 0) (unit *ℤ c)) (triple (pos 0) unit (unit *ℤ c)) refl refl refl
+      (coordinates (pos 0) (pos 0) (unit *ℤ c) no_thousandths no_thousandths its) (coordinates unit (pos 0) (unit *ℤ c) unit_in no_thousandths its) (coordinates (pos 0) unit (unit *ℤ c) no_thousandths unit_in its) (bottom_gives c)
+
+  top_face : IsValidFace (stone_face (points_top c))
+  top_face = valid_face (triple (pos 0) (pos 0) (unit *ℤ c)) (triple (pos 0) unit (unit *ℤ c)) (triple unit (pos 0) (unit *ℤ c)) refl refl refl
+      (coordinates (pos 0) (pos 0) (unit *ℤ c) no_thousandths no_thousandths its) (coordinates (pos 0) unit (unit *ℤ c) no_thousandths unit_in its) (coordinates unit (pos 0) (unit *ℤ c) unit_in no_thousandths its) (top_gives c)
 
 valid_brush : (box : StoneBox) → HasCoordinates box → IsValidBrush (box_brush box)
 unfolding box_brush face_points

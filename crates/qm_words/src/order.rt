@@ -30,7 +30,7 @@ pub enum Order<'a> {
         rooms: u32,
         number: u64,
     },
-    /// A tree file in the newest version.
+    /// A tree file in version 2.
     Upgrade {
         tree: &'a str,
         out: &'a str,

@@ -52,17 +52,30 @@ pub(crate) static OF_ANOTHER_SORT: [(&[u8], u64); 22] = [
     (b"{\n}/", 2),
 ];
 
-pub(crate) static MAY_NOT_BE: [(&[u8], MapFault); 15] = [
+pub(crate) static MAY_NOT_BE: [(&[u8], MapFault); 22] = [
     (b"{ { ( 1e3", MapFault::BadNumber { line: 1 }),
     (b"{ { (\n+ 0 0 )", MapFault::BadNumber { line: 2 }),
     (b"{ { ( (0", MapFault::BadNumber { line: 1 }),
-    (b"{ { ( 1.5 0 0 )", MapFault::Fraction { line: 1 }),
-    (b"{ { ( 99999.5 0 0 )", MapFault::Fraction { line: 1 }),
+    (b"{ { ( 0.0005 0 0 )", MapFault::Fraction { line: 1 }),
+    (b"{ { ( 32768.0001 0 0 )", MapFault::Fraction { line: 1 }),
+    (b"{ { ( 99999.1234 0 0 )", MapFault::Fraction { line: 1 }),
     (
-        b"{\n\n{\n( 4097 0 0 )",
+        b"{\n\n{\n( 32769 0 0 )",
         MapFault::CoordinateRange { line: 4 },
     ),
-    (b"{ { ( -4097 0 0 )", MapFault::CoordinateRange { line: 1 }),
+    (
+        b"{ { ( 99999.5 0 0 )",
+        MapFault::CoordinateRange { line: 1 },
+    ),
+    (
+        b"{ { ( 0 32768.001 0 )",
+        MapFault::CoordinateRange { line: 1 },
+    ),
+    (
+        b"{ { ( 0 0 -32768.001 )",
+        MapFault::CoordinateRange { line: 1 },
+    ),
+    (b"{ { ( -32769 0 0 )", MapFault::CoordinateRange { line: 1 }),
     (
         b"{ { ( 99999999999999999999 0 0 )",
         MapFault::CoordinateRange { line: 1 },
@@ -78,6 +91,18 @@ pub(crate) static MAY_NOT_BE: [(&[u8], MapFault); 15] = [
     (
         b"{ { ( 5 5 5 ) ( 5 5 5 ) ( 1 2 3 )",
         MapFault::NoNormal { line: 1 },
+    ),
+    (
+        b"{ { ( 0 0 0 ) ( 0.5 0.5 0.5 ) ( 0.001 0.001 0.001 )",
+        MapFault::NoNormal { line: 1 },
+    ),
+    (
+        b"{\n{\n( 4000 0.001 0 ) ( 0 0 0 )\n( 0 4000 0.001 ) stone",
+        MapFault::PlaneTooFine { line: 4 },
+    ),
+    (
+        b"{ { ( 0 4000 0.001\n) ( 0 0 0 ) ( 4000 0.001 0\n) }",
+        MapFault::PlaneTooFine { line: 3 },
     ),
     (b"{ {\n}", MapFault::NoFaces { line: 2 }),
     (b"{ { } \"a", MapFault::NoFaces { line: 1 }),

@@ -22,10 +22,10 @@ const HALF: &str = "{ ( 128 0 0 ) ( 128 1 0 ) ( 128 0 1 ) stone 0 0 0 1 1 }
 ";
 
 /// The whole cube, by a face on one of its walls, and what is beyond that wall.
-const WHOLE: &str = "{ ( 4096 0 0 ) ( 4096 0 1 ) ( 4096 1 0 ) *slime 0 0 0 1 1 }
+const WHOLE: &str = "{ ( 32768 0 0 ) ( 32768 0 1 ) ( 32768 1 0 ) *slime 0 0 0 1 1 }
 ";
 
-const BEYOND: &str = "{ ( 4096 0 0 ) ( 4096 1 0 ) ( 4096 0 1 ) stone 0 0 0 1 1 }
+const BEYOND: &str = "{ ( 32768 0 0 ) ( 32768 1 0 ) ( 32768 0 1 ) stone 0 0 0 1 1 }
 ";
 
 /// A box between two corners.
@@ -90,7 +90,7 @@ fn brushes_of_worlds(rt: HostRuntime) -> Result<(), Fail> {
     let water = boxed(alloc, [0, 0, 0], [64, 64, 64], "*water1")?;
     let clip = boxed(alloc, [0, 0, 0], [64, 64, 64], "CLIP")?;
     let sky = boxed(alloc, [0, 0, 0], [64, 64, 64], "Sky1")?;
-    let wide = boxed(alloc, [0, 0, 0], [4096, 64, 64], "stone")?;
+    let wide = boxed(alloc, [0, 0, 0], [32768, 64, 64], "stone")?;
     let rows = [
         (OPPOSED, "", [0, 32, 32], has(1, 0, 1, Contents::Empty)),
         (NOWHERE, "", [32, 32, 32], has(1, 0, 2, Contents::Empty)),
@@ -103,7 +103,7 @@ fn brushes_of_worlds(rt: HostRuntime) -> Result<(), Fail> {
         (&inner, &water, [8, 8, 8], has(2, 2, 12, Contents::Water)),
         (&clip, "", [32, 32, 32], has(0, 0, 0, Contents::Empty)),
         (&sky, &clip, [32, 32, 32], has(1, 1, 6, Contents::Sky)),
-        (&wide, "", [4095, 1, 1], has(1, 1, 6, Contents::Solid)),
+        (&wide, "", [32767, 1, 1], has(1, 1, 6, Contents::Solid)),
         (HALF, "", [4000, 0, 0], has(1, 1, 1, Contents::Solid)),
         (HALF, "", [0, 0, 0], has(1, 1, 1, Contents::Empty)),
         (WHOLE, BEYOND, [4000, 0, 0], has(2, 1, 1, Contents::Slime)),

@@ -9,9 +9,9 @@ use Rattle.qm_numerals.specs.Computed.{read_at}
 use Rattle.qm_tokens.specs.Lexeme.{Lexeme}
 use Rattle.qm_tokens.specs.inner.Modes.{between, read}
 use Rattle.qm_space.specs.Point.{Point}
-use Rattle.qm_space.specs.Bounds.{world_extent, extent}
+use Rattle.qm_space.specs.Bounds.{world_extent, thousandths_extent, normal_bound}
 use Rattle.qm_space.specs.Plane.{Plane}
-use Rattle.qm_space.specs.ThreePoints.{outward_plane}
+use Rattle.qm_space.specs.ThreePoints.{outward_plane, plane_through}
 use Rattle.qm_mapfile.specs.declared.entity.MapFile.{MapFile}
 use Rattle.qm_mapfile.specs.Face.{point_at}
 use Rattle.qm_grammar.specs.Words.{words_of_text}
@@ -28,7 +28,7 @@ use Rattle.qm_grammar.specs.declared.refusal.Refusal.TheVariants as refusal
 use Rattle.qm_grammar.specs.declared.fault.MapFault.{MapFault}
 use Rattle.qm_grammar.specs.declared.fault.MapFault.TheVariants as fault
 use Rattle.qm_grammar.specs.Symbol.{Symbol, symbol_of, sort_of}
-use Rattle.qm_grammar.specs.Number.{parts_of_unit}
+use Rattle.qm_grammar.specs.Number.{coordinate_places, parts_of_unit}
 use Rattle.qm_grammar.specs.Origin.{origin_key, value_of}
 use Rattle.qm_grammar.specs.Slots.{open_slots, standard_slots, valve_slots, points_of, face_of}
 use Rattle.qm_grammar.specs.Prefix.{Prefix, between_entities}
@@ -50,7 +50,7 @@ is_same_mark one other = mark_byte one == mark_byte other
 -- a coordinate of the closed cube, or why it is none
 abbrev pub coordinate_in_range : Fraction → Result ℤ Refusal
 coordinate_in_range fraction =
-    if int_le (neg_ℤ extent) fraction.numerator && int_le fraction.numerator extent then Ok fraction.numerator
+    if int_le (neg_ℤ thousandths_extent) fraction.numerator && int_le fraction.numerator thousandths_extent then Ok fraction.numerator
     else Err refusal.CoordinateRange
 
 abbrev pub coordinate_of_answer : Result Fraction NumberFault → Result ℤ Refusal
@@ -61,7 +61,7 @@ coordinate_of_answer (Err number.TooLarge) = Err refusal.CoordinateRange
 
 -- the coordinate that a word spells, or why it spells none
 unfoldable pub coordinate_of : List ℕ → Result ℤ Refusal
-coordinate_of text = coordinate_of_answer (read_at text 0)
+coordinate_of text = coordinate_of_answer (read_at text coordinate_places)
 
 -- one number of an origin, in millionths
 abbrev pub millionths_in_range : Fraction → Option ℤ
@@ -93,6 +93,20 @@ has_normal h = not (int_eq h.nx (pos 0)) || not (int_eq h.ny (pos 0)) || not (in
 -- whether three points are not on one line
 unfoldable pub span_plane : List (List ℤ) → Bool
 span_plane points = has_normal (outward_plane (point_at points 0) (point_at points 1) (point_at points 2))
+
+-- whether some component of the normal is beyond its bound
+abbrev pub has_large_normal : Plane → Bool
+has_large_normal h =
+    nat_lt normal_bound (unsigned_abs h.nx) || nat_lt normal_bound (unsigned_abs h.ny) || nat_lt normal_bound (unsigned_abs h.nz)
+
+-- whether three points give a plane: they are not on one line, and it is not too fine
+unfoldable pub give_plane : List (List ℤ) → Bool
+give_plane points =
+    span_plane points && not (has_large_normal (plane_through (point_at points 0) (point_at points 1) (point_at points 2)).0)
+
+-- why three points that give no plane are refused
+unfoldable pub plane_refusal : List (List ℤ) → Refusal
+plane_refusal points = if span_plane points then refusal.PlaneTooFine else refusal.NoNormal
 
 -- between entities an open brace begins one
 unfoldable pub step_outside : Prefix → Sort → Result Prefix Refusal
@@ -159,10 +173,10 @@ with_number prefix others (Err reason) = Err reason
 abbrev pub with_text : Prefix → List Slot → List ℕ → Prefix
 with_text prefix others text = with_left (record prefix { texts = prefix.texts ++ text ∷ [] }) others
 
--- a mark in a mark's slot; the one that closes the third point ends three points that have to span a plane
+-- a mark in a mark's slot; the one that closes the third point ends three points that have to give a plane
 unfoldable pub step_mark : Prefix → Mark → List Slot → Result Prefix Refusal
 step_mark prefix CloseParenthesis others =
-    if length prefix.numbers == 9 && not (span_plane (points_of prefix.numbers)) then Err refusal.NoNormal
+    if length prefix.numbers == 9 && not (give_plane (points_of prefix.numbers)) then Err (plane_refusal (points_of prefix.numbers))
     else Ok (with_left prefix others)
 step_mark prefix _ others = Ok (with_left prefix others)
 

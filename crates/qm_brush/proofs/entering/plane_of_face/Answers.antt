@@ -3,8 +3,7 @@ use Rattle.std.proofs.lemmas.Result.{IfOk-at_ok}
 use Rattle.qm_space.specs.Plane.{Plane}
 use Rattle.qm_space.specs.ThreePoints.{IsPlaneThrough}
 use Rattle.qm_mapfile.specs.Face.{face_point, face_plane}
-use Rattle.qm_brush.proofs.EnteredFaces.{ok_if_no_error}
-use Rattle.qm_brush.proofs.AddedBrushes.{coordinates_at}
+use Rattle.qm_brush.proofs.AddedBrushes.{coordinates_at, ok_if_plane}
 use Rattle.qm_brush.proofs.entering.plane_of_face.Goals as goal
 
 pub through-requires-clause-p0_in_cube : goal.through-requires-clause-p0_in_cube
@@ -17,7 +16,7 @@ pub through-requires-clause-p2_in_cube : goal.through-requires-clause-p2_in_cube
 through-requires-clause-p2_in_cube c = coordinates_at c.args.face.now.points 2 c.requires.coordinates
 
 pub unwrap-requires : goal.unwrap-requires
-unwrap-requires c = ok_if_no_error c.through.result (λ error. c.requires.plane (c.through.ensures.no_normal.0 error))
+unwrap-requires c = ok_if_plane c.args.face.now.points c.through.result c.through.ensures.no_normal.0 c.through.ensures.too_fine.0 c.requires.plane
 
 pub returns-clause-value : goal.returns-clause-value
 returns-clause-value c = IfOk-at_ok (λ (r : Plane × Bool). r ≡ face_plane c.args.face.now) c.unwrap.ensures c.through.ensures.value

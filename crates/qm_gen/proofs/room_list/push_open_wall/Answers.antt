@@ -1,12 +1,12 @@
-use Rattle.std.proofs.Common.{rules, FitsSigned, w32}
+use Rattle.std.proofs.Common.{rules, FitsSigned, w16}
 use Rattle.std.proofs.lemmas.Int.{to_z-of_z}
 use Rattle.qm_gen.proofs.Walls.{wall_added}
 use Rattle.qm_gen.proofs.room_list.push_open_wall.Goals as goal
 
 pub returns : goal.returns
 returns c =
-    let s : FitsSigned w32 c.doorway_south-south.result = search rules in
-    let n : FitsSigned w32 c.doorway_south-north.result = search rules in
+    let s : FitsSigned w16 c.doorway_south-south.result = search rules in
+    let n : FitsSigned w16 c.doorway_south-north.result = search rules in
     let first = simp to_z-of_z at c.wall_part.ensures in
     let second = simp to_z-of_z at c.wall_part-2.ensures in
     let third = simp to_z-of_z at c.wall_part-3.ensures in
