@@ -1,6 +1,6 @@
 //! Three rooms round a corner: rows and turns of crews of several sizes, again and again.
 
-use crate::runs::{corner_rooms, crewed, has};
+use crate::runs::{corner_rooms, crewed};
 use qm_bits::BitRow;
 use qm_crew::{Gate, OpenGate};
 use qm_lists::Items;
@@ -9,6 +9,7 @@ use qm_rows::leaf_rows;
 use std::alloc::{AllocError, Global};
 use std::test::Fail;
 use std::thread::Threads;
+use test_worlds::has;
 
 /// How many workers, and how many runs of so many.
 static RUNS: [(u8, u64); 4] = [(1, 1), (2, 20), (4, 100), (64, 5)];

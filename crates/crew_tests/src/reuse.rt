@@ -4,7 +4,7 @@ ghost use Rattle.std.specs.Prelude.{◌≡◌, ◌<◌, length};
 ghost use Rattle.qm_board.specs.PassOf.{world_of, IsPassOf};
 
 use crate::recorded::{Answer, Recorded};
-use crate::runs::{corner_rooms, portal_between};
+use crate::runs::corner_rooms;
 use qm_base::base;
 use qm_bits::BitRow;
 use qm_board::{BoardRows, Pass, RowBoard};
@@ -13,6 +13,7 @@ use qm_portal::World;
 use qm_sight::Rows;
 use std::alloc::{AllocError, Global};
 use std::test::Fail;
+use test_worlds::portal_between;
 
 /// Publishes the row of a portal, as it is found over coarse rows, and answers it.
 fn publish(

@@ -1,10 +1,9 @@
-//! What tests share: the three rooms, portals by their leaves, and runs of a crew.
+//! What tests share: the three rooms, and runs of a crew.
 
 ghost use Rattle.std.specs.Prelude.{◌≡◌, length, All, IfOk};
 ghost use Rattle.qm_contacts.specs.NumberedLeaves.{numbered_leaves};
 
 use qm_base::base;
-use qm_bits::BitRow;
 use qm_crew::{Crewed, Gate, crew};
 use qm_portal::World;
 use std::alloc::{AllocError, Global};
@@ -16,21 +15,6 @@ use test_worlds::world_of;
 pub(crate) fn corner_rooms(alloc: Global) -> Result<World, AllocError> {
     let text = text_of(alloc, &CORNER_ROOMS)?;
     world_of(alloc, text.as_str(), [-64, 0, 24])
-}
-
-/// The portal from one leaf to another.
-pub(crate) fn portal_between(world: &World, from: u64, to: u64) -> Option<u64> {
-    for p in 0..world.portals() {
-        if world.from(p) == from && world.to(p) == to {
-            return Some(p);
-        }
-    }
-    None
-}
-
-/// Whether a row has a leaf.
-pub(crate) fn has(row: &BitRow, leaf: u64) -> bool {
-    leaf < row.len() && row.get(leaf)
 }
 
 /// What so many workers answer, from coarse rows on; one where none is asked for, and 64 where more are.

@@ -2,13 +2,14 @@
 
 use crate::corner::are_found;
 use crate::gates::{FirstHeld, OneBeforeOther};
-use crate::runs::{corner_rooms, crewed, has, portal_between};
+use crate::runs::{corner_rooms, crewed};
 use qm_base::base;
 use qm_bits::BitRow;
 use qm_portal::World;
 use std::alloc::{AllocError, Global};
 use std::test::Fail;
 use std::thread::Threads;
+use test_worlds::{has, portal_between};
 
 /// How many workers there are, and until how many of the eight portals are drawn the first worker is held: until a second worker
 /// has come, or until the others have drawn all that is left.

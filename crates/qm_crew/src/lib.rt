@@ -5,6 +5,7 @@ mod alone;
 mod crewing;
 mod gate;
 mod gated;
+pub mod laws;
 mod settling;
 mod team;
 mod turn;

@@ -13,5 +13,4 @@ mod PairsKept
 mod Panes
 mod Rounds
 mod Spares
-mod Turns
 mod WaySamples

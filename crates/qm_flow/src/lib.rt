@@ -1,4 +1,4 @@
-//! The flow of one portal: which leaves open chains show from it, over any source of rows; and of all portals in turns.
+//! The flow of one portal: which leaves open chains show from it, over any source of rows.
 #![tactic(auto)]
 
 mod barring;
@@ -7,16 +7,13 @@ mod flowing;
 mod frame;
 mod frame_stack;
 mod going;
-pub mod laws;
 mod leading;
 mod narrowing;
 mod own_rows;
 mod pairing;
 mod pairs;
-mod refining;
 mod scratch;
 mod trying;
 mod walking;
 
 pub use flowing::flow;
-pub use refining::refine;

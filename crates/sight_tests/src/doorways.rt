@@ -43,7 +43,7 @@ fn second(alloc: Global) -> Result<Pane, AllocError> {
     Ok(Pane::entering(opening, Side::Front))
 }
 
-fn is_this(plane: &Plane, numbers: (i32, i32, i32, i64)) -> bool {
+pub(crate) fn is_this(plane: &Plane, numbers: (i32, i32, i32, i64)) -> bool {
     plane.nx == numbers.0 && plane.ny == numbers.1 && plane.nz == numbers.2 && plane.d == numbers.3
 }
 

@@ -4,6 +4,8 @@
 #[cfg(test)]
 mod doorways;
 #[cfg(test)]
+mod large;
+#[cfg(test)]
 mod lines;
 #[cfg(test)]
 mod plain;

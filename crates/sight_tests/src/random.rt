@@ -2,11 +2,35 @@
 
 use crate::shapes::{cut, through};
 use crate::slow::{Numbers, separators as slow_separators};
+use qm_geom::Plane;
 use qm_narrow::separators;
+use qm_space::WORLD_EXTENT;
 use qm_wind::{Side, Winding};
 use std::alloc::{AllocError, Global};
 use std::test::Fail;
 use test_numbers::Random;
+
+/// How far from the origin the places are near which planes are taken.
+const FAR: u16 = (WORLD_EXTENT - 4096) as u16;
+
+fn moved(point: [i32; 3], by: [i32; 3]) -> [i32; 3] {
+    [
+        point[0].wrapping_add(by[0]),
+        point[1].wrapping_add(by[1]),
+        point[2].wrapping_add(by[2]),
+    ]
+}
+
+/// The plane through three random points near a random place: up to a reach of 4096 it is not too fine.
+fn random_plane(random: &mut Random, reach: u16) -> Plane {
+    let place = random.point(FAR);
+    let [first, second, third] = random.points(reach);
+    through([
+        moved(first, place),
+        moved(second, place),
+        moved(third, place),
+    ])
+}
 
 /// The part of a random plane inside the cube, cut by four others.
 fn random_winding(
@@ -14,11 +38,11 @@ fn random_winding(
     random: &mut Random,
     reach: u16,
 ) -> Result<Option<Winding>, AllocError> {
-    let Some(mut winding) = Winding::on(alloc, &through(random.points(reach)))? else {
+    let Some(mut winding) = Winding::on(alloc, &random_plane(random, reach))? else {
         return Ok(None);
     };
     for _ in 0..4 {
-        let plane = through(random.points(reach));
+        let plane = random_plane(random, reach);
         winding = cut(winding, &plane, Side::Front)?;
     }
     Ok(Some(winding))

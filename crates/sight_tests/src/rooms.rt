@@ -2,10 +2,11 @@
 
 use qm_base::base;
 use qm_bits::BitRow;
-use qm_flow::refine;
+use qm_crew::{OpenGate, crew};
 use qm_rows::{leaf_rows, seen};
 use std::alloc::{AllocError, Global};
 use std::test::Fail;
+use std::thread::Threads;
 use test_texts::{BoxRow, CORNER_ROOMS, CUBE, ROOM, text_of};
 use test_worlds::world_of;
 
@@ -78,7 +79,7 @@ fn are_rows(rows: &[BitRow], places: &[u64]) -> bool {
     rows.len() == places.len() && rows.iter().zip(places).all(|(row, one)| is_row(row, *one))
 }
 
-fn holds(alloc: Global, sample: &Sample) -> Result<bool, AllocError> {
+fn holds<R: Threads + Sync>(rt: &R, alloc: Global, sample: &Sample) -> Result<bool, AllocError> {
     let text = text_of(alloc, sample.boxes)?;
     let world = world_of(alloc, text.as_str(), sample.at)?;
     let coarse = base(alloc, &world)?;
@@ -86,8 +87,8 @@ fn holds(alloc: Global, sample: &Sample) -> Result<bool, AllocError> {
     let right = coarse.len() == sample.portals
         && are_rows(rows.as_slice(), sample.rows)
         && seen(rows.as_slice()) == sample.seen;
-    let found = refine(alloc, &world, coarse)?;
-    let fine = leaf_rows(alloc, &world, found.as_slice())?;
+    let found = crew(rt, alloc, &world, coarse, 1, &OpenGate)?;
+    let fine = leaf_rows(alloc, &world, found.rows.as_slice())?;
     Ok(right && are_rows(fine.as_slice(), sample.fine))
 }
 
@@ -95,7 +96,7 @@ fn holds(alloc: Global, sample: &Sample) -> Result<bool, AllocError> {
 fn rooms_have_rows(rt: HostRuntime) -> Result<(), Fail> {
     let mut right = true;
     for sample in &SAMPLES {
-        right &= holds(rt.alloc(), sample)?;
+        right &= holds(&rt, rt.alloc(), sample)?;
     }
     assert!(rt; right);
     Ok(())

@@ -3,12 +3,14 @@
 ghost use Rattle.qm_space.specs.Point.{IsCoordinate, AreCoordinates};
 
 use qm_geom::Plane;
+use qm_space::WORLD_EXTENT;
 use qm_wind::{Clip, Side, Winding};
 use std::alloc::{AllocError, Global};
 
-/// The plane through three points that are on no line. What is outside the cube counts as on its border.
+/// The plane through three whole points that are on no line, and whose plane is not too fine. What is outside the cube counts
+/// as on its border.
 pub(crate) fn through(points: [[i32; 3]; 3]) -> Plane {
-    match Plane::through(inside(points[0]), inside(points[1]), inside(points[2])) {
+    match Plane::through_whole(inside(points[0]), inside(points[1]), inside(points[2])) {
         Ok((plane, _)) => plane,
         Err(_) => Plane::default(),
     }
@@ -27,7 +29,7 @@ fn inside(point: [i32; 3]) -> [i32; 3]
 fn coordinate(number: i32) -> i32
     ensures { IsCoordinate result }
 {
-    number.clamp(-4096, 4096)
+    number.clamp(-WORLD_EXTENT, WORLD_EXTENT)
 }
 
 /// What is left of a winding on one side of a plane; the winding itself where that is nothing.

@@ -110,7 +110,12 @@ fn lowest(component: i64, factor: u64, sign: i64) -> i128 {
     i128::from(component.wrapping_mul(sign)).wrapping_div(factor)
 }
 
-/// The normal of three points in lowest terms; zero where they lie on one line.
+/// Whether a component of a normal in lowest terms is one that a separator may have.
+fn is_small(component: i128) -> bool {
+    -67_108_864 <= component && component <= 67_108_864
+}
+
+/// The normal of three points in lowest terms; zero where they lie on one line, or where a component is too large.
 fn normal(at: [i32; 3], from: [i32; 3], to: [i32; 3], sign: i64) -> Numbers {
     let a = step(from, at);
     let b = step(from, to);
@@ -119,12 +124,17 @@ fn normal(at: [i32; 3], from: [i32; 3], to: [i32; 3], sign: i64) -> Numbers {
     let z = crossed(a[0], b[1], a[1], b[0]);
     let of_two = common_divisor(x.unsigned_abs(), y.unsigned_abs());
     let factor = common_divisor(of_two, z.unsigned_abs());
-    [
+    let normal = [
         lowest(x, factor, sign),
         lowest(y, factor, sign),
         lowest(z, factor, sign),
         0,
-    ]
+    ];
+    if is_small(normal[0]) && is_small(normal[1]) && is_small(normal[2]) {
+        normal
+    } else {
+        [0, 0, 0, 0]
+    }
 }
 
 /// One of the eight whole points around a corner.

@@ -1,11 +1,13 @@
-//! The laws of rows that are found in turns. Each function does nothing: its clause is the law.
+//! The laws of rows that are found in turns. Each function does nothing: its clauses are the law.
 
-ghost use Rattle.std.specs.Prelude.{ℕ, ◌≢◌, Bool, List, ◌∷◌};
+ghost use Rattle.std.specs.Prelude.{ℕ, ◌≢◌, Bool, List, [], ◌∷◌, length};
+ghost use Rattle.std.specs.List.{range_with_len};
 ghost use Rattle.qm_lists.specs.WorkList.{IsIn};
 ghost use Rattle.qm_contacts.specs.Portals.{Portal};
 ghost use Rattle.qm_separators.specs.PortalSteps.{IsInChainBound};
 ghost use Rattle.qm_chains.specs.Shown.{IsAt, IsShown};
-ghost use Rattle.qm_chains.specs.Turns.{LieWithinTurns, IsInReuse};
+ghost use Rattle.qm_chains.specs.Turns.{LieWithinTurns, IsInReuse, LieInReuse};
+ghost use Rattle.qm_chains.specs.TurnLists.{LieInReuseOver};
 ghost use Rattle.qm_sight.specs.WordInSight.{ceiling_of};
 ghost use Rattle.qm_sight.specs.InCeiling.{IsInCeiling};
 
@@ -23,4 +25,11 @@ pub fn rows_stay_within_turns()
 pub fn reuse_lies_in_bounds()
     ensures { (portals : List Portal) (n q : ℕ) (portal : Portal) → IsAt portals q portal →
         IsInReuse portals q n → IsInChainBound portals portal n }
+{}
+
+/// Rows that lie within the reuse over the one list of all portals in order lie within the reuse of their portals, and the other
+/// way round.
+pub fn one_list_is_all_in_order()
+    ensures within { (portals : List Portal) (rows : List (List Bool)) → LieInReuseOver portals (range_with_len 0 (length portals) ∷ []) rows → LieInReuse portals rows }
+    ensures over { (portals : List Portal) (rows : List (List Bool)) → LieInReuse portals rows → LieInReuseOver portals (range_with_len 0 (length portals) ∷ []) rows }
 {}
