@@ -1,17 +1,25 @@
-//! Reads tree files, and says of each what the reader answers: `file_faults read FILE` of a file, and `file_faults N FILE`
-//! of the file altered in many ways from byte N on, a line each. `.ci/compare_files.py` compares the lines with those of a
-//! plain slow reader.
+//! Reads tree files, and listings where the name of the file ends with `.prt`, and says of each what the reader answers:
+//! `file_faults read FILE` of a file, and `file_faults N FILE` of the file altered in many ways from byte N on, a line each.
+//! `.ci/compare_files.py` compares the lines with those of plain slow readers.
 #![tactic(auto)]
 
 ghost use Rattle.std.specs.Prelude.{◌<◌, length};
 
 use qm_file::{TreeFile, decode, encode};
+use qm_prt::read;
 use qm_shelf::{FolderShelf, read_whole};
 use std::rt::Files;
 use std::{env, io};
 
 /// More bytes than a file may have that is read.
 const MOST_BYTES: usize = (1 << 30) + 1;
+
+/// What a file is read as.
+#[derive(Clone, Copy)]
+enum Kind {
+    Tree,
+    Listing,
+}
 
 fn main(rt: HostRuntime) -> io::Result<()> {
     let mut words = env::args(&rt)?.skip(1);
@@ -27,16 +35,36 @@ fn say_named<R: AllocGlobal + Files + Print>(rt: &R, word: &str, name: &str) -> 
     let Ok(bytes) = read_whole(rt.alloc(), &mut folder, name, MOST_BYTES) else {
         return println!(rt; "not read");
     };
+    let kind = if name.ends_with(".prt") {
+        Kind::Listing
+    } else {
+        Kind::Tree
+    };
     match word.parse::<usize>() {
-        Ok(first) => say_alterations(rt, first, &bytes),
-        Err(_) => say(rt, &bytes),
+        Ok(first) => say_alterations(rt, kind, first, &bytes),
+        Err(_) => say(rt, kind, &bytes),
     }
 }
 
 /// Says what is read of bytes.
-fn say<R: AllocGlobal + Print>(rt: &R, bytes: &[u8]) -> io::Result<()> {
-    match decode(rt.alloc(), bytes) {
-        Ok(file) => say_file(rt, bytes, &file),
+fn say<R: AllocGlobal + Print>(rt: &R, kind: Kind, bytes: &[u8]) -> io::Result<()> {
+    match kind {
+        Kind::Tree => match decode(rt.alloc(), bytes) {
+            Ok(file) => say_file(rt, bytes, &file),
+            Err(fault) => println!(rt; "{fault}"),
+        },
+        Kind::Listing => say_listing(rt, bytes),
+    }
+}
+
+/// Says how many leaves and portals a listing has, or what is wrong in it.
+fn say_listing<R: AllocGlobal + Print>(rt: &R, text: &[u8]) -> io::Result<()> {
+    match read(rt.alloc(), text) {
+        Ok(listing) => {
+            let leaves = listing.leaves;
+            let portals = listing.portals.len();
+            println!(rt; "leaves {leaves}, portals {portals}")
+        }
         Err(fault) => println!(rt; "{fault}"),
     }
 }
@@ -61,30 +89,46 @@ fn say_file<R: AllocGlobal + Print>(rt: &R, bytes: &[u8], file: &TreeFile) -> io
 }
 
 /// Says what is read of the first bytes alone, and of the bytes with one of them changed, left out or doubled.
-fn say_alterations<R: AllocGlobal + Print>(rt: &R, first: usize, bytes: &[u8]) -> io::Result<()> {
+fn say_alterations<R: AllocGlobal + Print>(
+    rt: &R,
+    kind: Kind,
+    first: usize,
+    bytes: &[u8],
+) -> io::Result<()> {
     for at in first..bytes.len() {
-        say(rt, bytes.split_at(at).0)?;
-        for mask in [1, 2, 4, 128, 255] {
-            say_changed(rt, bytes, at, mask)?;
+        say(rt, kind, bytes.split_at(at).0)?;
+        for mask in [1, 2, 4, 8, 16, 32, 64, 128, 255] {
+            say_changed(rt, kind, bytes, at, mask)?;
         }
-        say_around(rt, bytes.split_at(at).0, bytes.split_at(at + 1).1)?;
-        say_around(rt, bytes.split_at(at + 1).0, bytes.split_at(at).1)?;
+        say_around(rt, kind, bytes.split_at(at).0, bytes.split_at(at + 1).1)?;
+        say_around(rt, kind, bytes.split_at(at + 1).0, bytes.split_at(at).1)?;
     }
-    say(rt, bytes)
+    say(rt, kind, bytes)
 }
 
 /// Says what is read where some bits of one byte are changed.
-fn say_changed<R: AllocGlobal + Print>(rt: &R, bytes: &[u8], at: usize, mask: u8) -> io::Result<()>
+fn say_changed<R: AllocGlobal + Print>(
+    rt: &R,
+    kind: Kind,
+    bytes: &[u8],
+    at: usize,
+    mask: u8,
+) -> io::Result<()>
     requires { at < length bytes.now }
 {
     let mut changed = Vec::from_slice(rt.alloc(), bytes)?;
     changed[at] ^= mask;
-    say(rt, &changed)
+    say(rt, kind, &changed)
 }
 
 /// Says what is read of two parts, one behind the other.
-fn say_around<R: AllocGlobal + Print>(rt: &R, front: &[u8], behind: &[u8]) -> io::Result<()> {
+fn say_around<R: AllocGlobal + Print>(
+    rt: &R,
+    kind: Kind,
+    front: &[u8],
+    behind: &[u8],
+) -> io::Result<()> {
     let mut bytes = Vec::from_slice(rt.alloc(), front)?;
     bytes.extend_from_slice(behind)?;
-    say(rt, &bytes)
+    say(rt, kind, &bytes)
 }

@@ -170,7 +170,7 @@ fn are_sections(found: &[Section], expected: &[(u32, &[u8])]) -> bool {
         })
 }
 
-/// Whether a file is written so, and read again as one that says so and is written so; and its newest version as that should be.
+/// Whether a file is written so, and read again as one that says so and is written so; and the same file in version 2 as that should be.
 fn is_written(alloc: Global, sample: &Small) -> Option<bool> {
     let expected = bytes_of(alloc, sample).ok()?;
     let written = encode(alloc, &file(alloc, sample)?).ok()?;

@@ -27,7 +27,7 @@ pub fn one_tree_file()
 {}
 
 /// What is left of a valid file that is cut off is short where it ends, or too long.
-pub fn no_prefix()
+pub fn cut_file()
     ensures { (file : TreeFile) (front behind : List ℕ) → IsValidFile file → length (file_bytes file) < 2 ^ 62 → file_bytes file ≡ front ++ behind → 0 < length behind → read_file front ≡ (if nat_lt file_limit (length front) then bad too_long file_limit else bad short (length front)) }
 {}
 

@@ -21,7 +21,7 @@ mod writing;
 
 pub use file_fault::FileFault;
 pub use laws::{
-    exact_layout, first_version_file, no_prefix, numbered_nodes, one_tree_file, reduced_planes,
+    cut_file, exact_layout, first_version_file, numbered_nodes, one_tree_file, reduced_planes,
     upgraded_file,
 };
 pub use reading::decode;

@@ -3,8 +3,8 @@ ghost use Rattle.qm_formats.specs.Upgraded.{upgraded};
 
 use crate::tree_file::TreeFile;
 
-/// The version of what is written today.
-const NEWEST_VERSION: u8 = 2;
+/// The version of an upgraded file.
+const UPGRADED_VERSION: u8 = 2;
 
 /// The same file in version 2. It takes no memory.
 pub fn upgrade(file: TreeFile) -> TreeFile
@@ -18,7 +18,7 @@ pub fn upgrade(file: TreeFile) -> TreeFile
         sections,
     } = file;
     TreeFile {
-        version: NEWEST_VERSION,
+        version: UPGRADED_VERSION,
         bound,
         tree,
         rows,

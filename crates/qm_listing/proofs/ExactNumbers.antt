@@ -16,7 +16,7 @@ use Rattle.qm_listing.specs.Numerals.{is_number_byte}
 use Rattle.qm_numbers.specs.Sign.{is_negative}
 use Rattle.qm_listing.specs.Numbers.{most_digits, is_count_numeral, count_of_numeral, counts, most_millionths, with_sign, coordinate_numeral, is_coordinate, signed_coordinate, coordinate_of_parts, unsigned_coordinate, coordinate_of_numeral, coordinates}
 use Rattle.qm_listing.proofs.ExactNumerals.{IsSpelling}
-use Rattle.qm_listing.proofs.LastDigits.{last_of_value, last_digits-digits, last_digits-length, last_digits-value}
+use Rattle.qm_numerals.proofs.LastDigits.{last_of_value, last_digits-digits, last_digits-length, last_digits-value}
 
 own : IsNumeralModel (AllDigits 10) (digits_value 10)
 own = numerals_by_value (AllDigits 10) tells_digits

@@ -1,8 +1,9 @@
 pub mod ExactNumerals
-pub mod LastDigits
 pub mod ExactNumbers
 pub mod ExactListings
 pub mod WholeListings
+pub mod ListingBytes
+pub mod CutListings
 pub mod FirstCorners
 pub mod RoundedCoordinates
 pub mod CornersBack

@@ -1,12 +1,13 @@
 //! What holds of listings, whatever is printed or read.
 
-ghost use Rattle.std.specs.Prelude.{◌≡◌, ◌<◌, ℕ, ℤ, pos, int_lt, unsigned_abs, length, IsTrue};
+ghost use Rattle.std.specs.Prelude.{◌≡◌, ◌<◌, ◌++◌, ℕ, ℤ, List, pos, int_lt, unsigned_abs, length, IsTrue};
 ghost use Rattle.qm_convex.specs.Winding.{Winding, next_place, corner_at, IsConvex};
 ghost use Rattle.qm_numerals.specs.Printed.{printed_fraction};
 ghost use Rattle.qm_formats.specs.Exact.{IsExact};
+ghost use Rattle.qm_formats.specs.Layout.{got};
 ghost use Rattle.qm_listing.specs.declared.listing.Listing.{Listing};
 ghost use Rattle.qm_listing.specs.Numbers.{coordinate_numeral};
-ghost use Rattle.qm_listing.specs.Grammar.{listing_layout, listing_text, can_stand};
+ghost use Rattle.qm_listing.specs.Grammar.{listing_layout, listing_text, can_stand, read_listing};
 ghost use Rattle.qm_listing.specs.WorldListing.{coordinate_at, place_back};
 ghost use Rattle.qm_listing.specs.Turning.{TurnToFront};
 
@@ -18,6 +19,11 @@ pub fn exact_layout()
 /// No two listings have the same text.
 pub fn one_listing()
     ensures { (listing other : Listing) → IsTrue (can_stand listing) → IsTrue (can_stand other) → listing_text listing ≡ listing_text other → listing ≡ other }
+{}
+
+/// What is left of the text of a listing that is cut off is no listing.
+pub fn no_listing_cut_off()
+    ensures { (listing : Listing) (front behind : List ℕ) → IsTrue (can_stand listing) → listing_text listing ≡ front ++ behind → 0 < length behind → (found : Listing) (end : ℕ) → read_listing front ≡ got found end → ⊥ }
 {}
 
 /// A coordinate of a corner stands in a text as `print6` prints its fraction.

@@ -12,7 +12,9 @@ mod printing;
 mod prt_fault;
 mod reading;
 
-pub use laws::{exact_layout, one_listing, printed_coordinates, turned_corners};
+pub use laws::{
+    exact_layout, no_listing_cut_off, one_listing, printed_coordinates, turned_corners,
+};
 pub use printing::print;
 pub use prt_fault::PrtFault;
 pub use qm_listing::{Coordinate, Listing, PrtPortal};
