@@ -116,7 +116,7 @@ struct World {
     length: usize,
 }
 
-const WALL: BoxRow = ([0, 0, 0], [4096, 64, 64]);
+const WALL: BoxRow = ([0, 0, 0], [32768, 64, 64]);
 
 const ABOVE: BoxRow = ([0, 0, 64], [64, 64, 128]);
 

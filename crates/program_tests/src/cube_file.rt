@@ -14,8 +14,8 @@ pub static CUBE_FILE: [u8; 330] = [
     0x06, 0x00, 0x00, 0x00, 0x00, 0x00, 0x00, 0x00,
     // with rows
     0x01,
-    // bound 4096
-    0x00, 0x10, 0x00, 0x00,
+    // bound 32768
+    0x00, 0x80, 0x00, 0x00,
     // sections 0
     0x00, 0x00, 0x00, 0x00,
     // plane 0: x = 0
@@ -77,5 +77,13 @@ pub fn first_cube_file(alloc: Global) -> Result<Vec<u8>, AllocError> {
     let mut file = Vec::from_slice(alloc, b"QMTREE01")?;
     file.extend_from_slice(&CUBE_FILE[8..41])?;
     file.extend_from_slice(&CUBE_FILE[49..])?;
+    Ok(file)
+}
+
+/// The tree file of the cube in the smaller world, which is what its first version is upgraded to.
+pub fn small_cube_file(alloc: Global) -> Result<Vec<u8>, AllocError> {
+    let mut file = Vec::from_slice(alloc, &CUBE_FILE[..41])?;
+    file.extend_from_slice(&4096_u32.to_le_bytes())?;
+    file.extend_from_slice(&CUBE_FILE[45..])?;
     Ok(file)
 }

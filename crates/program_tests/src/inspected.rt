@@ -64,12 +64,12 @@ static ROWS: [Row; 14] = [
         level: SEALED,
         words: &["inspect", "out", "count", "row=0", "sees=0,0", "parts"],
         status: 0,
-        printed: "planes 12 nodes 12 leaves 13 numbered 1 rows yes\nrow 0: 0\nyes\nversion 2 bound 4096 parts\n",
+        printed: "planes 12 nodes 12 leaves 13 numbered 1 rows yes\nrow 0: 0\nyes\nversion 2 bound 32768 parts\n",
     },
     // the first refusal is printed, and no answer before it
     Row {
         level: SEALED,
-        words: &["inspect", "out", "count", "row=1", "at=4096,0,0"],
+        words: &["inspect", "out", "count", "row=1", "at=32768,0,0"],
         status: 9,
         printed: "query 2 refused: no such leaf\n",
     },
@@ -90,19 +90,19 @@ static ROWS: [Row; 14] = [
     // on the cube's faces, and a millionth inside
     Row {
         level: SEALED,
-        words: &["inspect", "out", "at=4096,0,0"],
+        words: &["inspect", "out", "at=32768,0,0"],
         status: 9,
         printed: "query 1 refused: outside the cube\n",
     },
     Row {
         level: SEALED,
-        words: &["inspect", "out", "at=4095.999999,0,0", "at=0,-4096,0"],
+        words: &["inspect", "out", "at=32767.999999,0,0", "at=0,-32768,0"],
         status: 9,
         printed: "query 2 refused: outside the cube\n",
     },
     Row {
         level: SEALED,
-        words: &["inspect", "out", "at=4095.999999,0,0", "at=+00,-0,0.5"],
+        words: &["inspect", "out", "at=32767.999999,0,0", "at=+00,-0,0.5"],
         status: 0,
         printed: "leaf 0 solid filled\nleaf 6 empty number 0\n",
     },

@@ -34,7 +34,7 @@ const EDGE_ROOM: [BoxRow; 6] = [
 ];
 
 /// A box that fills the space.
-const ALL: BoxRow = ([-4096, -4096, -4096], [4096, 4096, 4096]);
+const ALL: BoxRow = ([-32768, -32768, -32768], [32768, 32768, 32768]);
 
 /// The room, with an entity in it.
 const SEALED: Row = Row {

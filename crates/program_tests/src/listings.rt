@@ -87,7 +87,7 @@ static FAULTS: [(u64, u64, Answer, Held, Held); 8] = [
     (6, 9, (0, SUMMARY, [0, 0, 0]), Whole, Whole),
 ];
 
-/// Whether a run that lists the cube gives this answer where this fails, and the files then hold this.
+/// Whether a run that lists the cube gives this answer where this fails, calls the shelf no more, and the files then hold this.
 fn fails_so<R: AllocGlobal + Threads + Sync>(
     rt: &R,
     failing: Failing,
@@ -104,7 +104,8 @@ fn fails_so<R: AllocGlobal + Threads + Sync>(
     let says = outside.says(rt, &words, status, printed);
     let found = outside.shelf.get("out");
     Ok(
-        says && outside.holds(found, &text, faults)
+        says && outside.shelf.calls() == failing.call.min(5) + 1
+            && outside.holds(found, &text, faults)
             && has(found, out, &CUBE_FILE)
             && has(outside.shelf.get("list"), list, CUBE_LISTING.as_bytes()),
     )

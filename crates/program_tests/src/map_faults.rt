@@ -6,7 +6,7 @@ use std::thread::Threads;
 
 const NO_NORMAL: &str = "map fault 8 at line 3: no normal\n";
 
-static FAULTS: [(&[u8], &str); 11] = [
+static FAULTS: [(&[u8], &str); 13] = [
     (
         b"{ \"a\" \"b\n",
         "map fault 2 at line 1: quote not closed\n",
@@ -18,9 +18,9 @@ static FAULTS: [(&[u8], &str); 11] = [
     ),
     (b"{ {\n", "map fault 4 at line 2: end inside\n"),
     (b"{ { ( 1e3", "map fault 5 at line 1: bad number\n"),
-    (b"{ { ( 1.5", "map fault 6 at line 1: fraction\n"),
+    (b"{ { ( 1.0005", "map fault 6 at line 1: fraction\n"),
     (
-        b"{\n{\n(\n4097 0",
+        b"{\n{\n(\n32769 0",
         "map fault 7 at line 4: coordinate out of range\n",
     ),
     (b"{\n{\n( 0 0 0 ) ( 1 1 1 ) ( 2 2 2 ) stone", NO_NORMAL),
@@ -30,6 +30,14 @@ static FAULTS: [(&[u8], &str); 11] = [
         "map fault 10 at line 1: bad origin\n",
     ),
     (b"", "map fault 11 at line 1: no entity\n"),
+    (
+        b"{ {\n( 4000 0.001 0 ) ( 0 0 0 ) ( 0 4000 0.001 ) stone",
+        "map fault 12 at line 2: plane too fine\n",
+    ),
+    (
+        b"{\n{\n\n( 10000 1 0 ) ( 0 0 0 ) ( 1 10000 1 ) stone",
+        "map fault 12 at line 4: plane too fine\n",
+    ),
 ];
 
 /// Whether both commands answer this text so.

@@ -1,7 +1,7 @@
-//! What `inspect` and `upgrade` make of tree files: of the cube's in both versions, of one with sections in a large world, and
+//! What `inspect` and `upgrade` make of tree files: of the cube's in both versions, of one with sections, and
 //! of bytes that are no tree file: the cube's, of which a byte is changed, or some are cut off or added.
 
-use super::cube_file::{CUBE_FILE, first_cube_file};
+use super::cube_file::{CUBE_FILE, first_cube_file, small_cube_file};
 use super::listings::{UNREAD, UNWRITTEN};
 use super::outside::{Answer, Outside};
 use qm_shelf::MemSink;
@@ -77,7 +77,7 @@ fn is_refused<R: AllocGlobal + Threads + Sync>(
 /// Sections: the kind of each, and its bytes.
 static SECTIONS: [(u32, &[u8]); 3] = [(1, b"abc"), (7, b""), (0xffff_ffff, &[0])];
 
-/// The file of the cube in a large world, with these sections.
+/// The file of the cube with these sections.
 fn with_sections(alloc: Global) -> Result<Vec<u8>, AllocError> {
     let mut file = Vec::from_slice(alloc, &CUBE_FILE[..41])?;
     file.extend_from_slice(&[0x00, 0x80, 0x00, 0x00, 0x03, 0x00, 0x00, 0x00])?;
@@ -156,8 +156,9 @@ fn fails_so<R: AllocGlobal + Threads + Sync>(
     outside.shelf.fail_call(call)?;
     outside.sink.fail_call(write)?;
     let says = outside.says(rt, &["upgrade", "map", "out"], status, printed);
+    let upgraded = small_cube_file(rt.alloc())?;
     let out = match length {
-        Some(length) => CUBE_FILE.get(..length),
+        Some(length) => upgraded.get(..length),
         None => None,
     };
     Ok(says && outside.holds(out, &file, faults))
@@ -168,7 +169,9 @@ fn fails_so<R: AllocGlobal + Threads + Sync>(
 fn inspects_and_upgrades_tree_files(rt: HostRuntime) -> Result<(), Fail> {
     let first = first_cube_file(rt.alloc())?;
     let parts = with_sections(rt.alloc())?;
-    let mut right = is_upgraded(&rt, &first, FIRST_TO_SECOND, &CUBE_FILE)?;
+    let small = small_cube_file(rt.alloc())?;
+    let mut right = is_upgraded(&rt, &first, FIRST_TO_SECOND, &small)?;
+    right &= is_upgraded(&rt, &small, SECOND_TO_SECOND, &small)?;
     right &= is_upgraded(&rt, &CUBE_FILE, SECOND_TO_SECOND, &CUBE_FILE)?;
     right &= is_upgraded(&rt, &parts, SECOND_TO_SECOND, &parts)?;
     let told = "version 1 bound 4096 parts\n";

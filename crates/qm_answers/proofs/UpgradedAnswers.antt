@@ -1,4 +1,4 @@
--- A file and its newest version have the same answers; the cube of the bound 4096 is the world's cube.
+-- A file and the same file in version 2 have the same answers; the cube of the bound 4096 is the world's cube.
 use Rattle.std.proofs.Common.{◌≡◌, ◌≢◌, Result, Ok, Err, refl}
 use Rattle.std.specs.Prelude.{◌↔◌}
 use Rattle.qm_space.specs.Bounds.{world_extent}
@@ -10,7 +10,7 @@ use Rattle.qm_commands.specs.declared.query.Query.TheVariants as queries
 use Rattle.qm_answers.specs.declared.answer.Answer.{Answer}
 use Rattle.qm_answers.specs.declared.answer.Answer.TheVariants as answers
 use Rattle.qm_answers.specs.declared.query_fault.QueryFault.{QueryFault}
-use Rattle.qm_answers.specs.AnswerText.{answer_line, answer_words}
+use Rattle.qm_answers.specs.AnswerText.{answer_line, answer_words, words_of_row}
 use Rattle.qm_answers.specs.Answers.{AnswersPlace, AnswersQuery}
 use Rattle.qm_answers.specs.InsideBound.{IsInsideBound}
 use Rattle.qm_answers.specs.SameAnswers.{HaveSameAnswers}
@@ -33,7 +33,7 @@ cube_of_bound point = (
   },
 )
 
--- ---- the newest version
+-- ---- the same file in version 2
 
 same_place : (file : TreeFile) (point : Point) (answer : Result Answer QueryFault) → AnswersPlace file point answer ↔ AnswersPlace (upgraded file) point answer
 same_place file point (Ok answer) = (λ is. is, λ is. is)
@@ -48,7 +48,7 @@ same_answer file (queries.Sees n m) answer other = (λ is. is, λ is. is)
 same_answer file queries.Parts answer other = absurd (other refl)
 
 same_line : (file : TreeFile) (answer : Answer) → answer ≢ answers.Parts → answer_line file answer ≡ answer_line (upgraded file) answer
-unfolding answer_words
+unfolding answer_words words_of_row
 same_line file (answers.Count planes nodes leaves numbered rows) other = refl
 same_line file (answers.Place leaf contents filled number) other = refl
 same_line file (answers.Row n) other = refl

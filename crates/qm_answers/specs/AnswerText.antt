@@ -49,17 +49,33 @@ abbrev pub section_kinds : List Section → List ℕ
 section_kinds [] = []
 section_kinds (section ∷ sections) = 32 ∷ (decimal section.kind ++ section_kinds sections)
 
--- the words of an answer
-unfoldable pub answer_words : TreeFile → Answer → List ℕ
-answer_words file (Count planes nodes leaves numbered rows) =
+-- the words of how much there is
+unfoldable pub words_of_count : (planes nodes leaves numbered : ℕ) → Bool → List ℕ
+words_of_count planes nodes leaves numbered rows =
     codes "planes " ++ (decimal planes ++ (codes " nodes " ++ (decimal nodes ++ (codes " leaves " ++ (decimal leaves
     ++ (codes " numbered " ++ (decimal numbered ++ (codes " rows " ++ yes_or_no rows))))))))
-answer_words file (Place leaf contents filled number) =
+
+-- the words of the leaf at a point
+unfoldable pub words_of_place : ℕ → Contents → Bool → Option ℕ → List ℕ
+words_of_place leaf contents filled number =
     codes "leaf " ++ (decimal leaf ++ (32 ∷ (name_of_contents contents ++ (number_words number ++ filled_words filled))))
-answer_words file (Row n) = codes "row " ++ (decimal n ++ (58 ∷ set_places 0 (printed_row file n)))
-answer_words file (Sees sees) = yes_or_no sees
-answer_words file Parts =
+
+-- the words of the row of a numbered leaf
+unfoldable pub words_of_row : TreeFile → ℕ → List ℕ
+words_of_row file n = codes "row " ++ (decimal n ++ (58 ∷ set_places 0 (printed_row file n)))
+
+-- the words of what a file says of itself
+unfoldable pub words_of_parts : TreeFile → List ℕ
+words_of_parts file =
     codes "version " ++ (decimal file.version ++ (codes " bound " ++ (decimal file.bound ++ (codes " parts" ++ section_kinds file.sections))))
+
+-- the words of an answer
+unfoldable pub answer_words : TreeFile → Answer → List ℕ
+answer_words file (Count planes nodes leaves numbered rows) = words_of_count planes nodes leaves numbered rows
+answer_words file (Place leaf contents filled number) = words_of_place leaf contents filled number
+answer_words file (Row n) = words_of_row file n
+answer_words file (Sees sees) = yes_or_no sees
+answer_words file Parts = words_of_parts file
 
 -- the line of an answer
 abbrev pub answer_line : TreeFile → Answer → List ℕ

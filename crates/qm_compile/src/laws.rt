@@ -1,10 +1,14 @@
-//! How the program ends over forms that never fail.
+//! What holds of a run: how it ends over forms that never fail, and that it leaves what it reads.
 
+ghost use Rattle.std.specs.Prelude.{ℕ, List};
 ghost use Rattle.qm_shelf.specs.SeenForms.{surroundings};
+ghost use Rattle.qm_surroundings.specs.Surroundings.{Surroundings};
 ghost use Rattle.qm_commands.specs.Order.{Order};
 ghost use Rattle.qm_commands.specs.Words.{AreWordsOf};
 ghost use Rattle.qm_words.specs.SeenWords.{bytes_of_words};
+ghost use Rattle.qm_statement.specs.declared.status.Status.{Status as SeenStatus};
 ghost use Rattle.qm_statement.specs.Complete.{MayEndWhereNoneMet};
+ghost use Rattle.qm_statement.specs.KeptFile.{KeepsWhatItReads};
 ghost use Rattle.qm_statement.specs.Run.{Answers};
 
 use crate::program::run;
@@ -31,3 +35,8 @@ pub fn run_surely<R: Threads + Sync, G: Gate + Sync>(
 {
     run(rt, alloc, words, shelf, out, gate)
 }
+
+/// The file that a command reads, MAP or TREE, is as it was, however the run ends.
+pub fn kept_file()
+    ensures { (words : List (List ℕ)) (before after : Surroundings) (status : SeenStatus) → Answers words before after status → KeepsWhatItReads words before.shelf after.shelf }
+{}

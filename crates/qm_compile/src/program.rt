@@ -4,7 +4,9 @@ ghost use Rattle.std.specs.Prelude.{◌⊎◌, IfOk, OnErr};
 ghost use Rattle.qm_shelf.specs.SeenForms.{surroundings, shelf_state};
 ghost use Rattle.qm_words.specs.SeenWords.{bytes_of_words};
 ghost use Rattle.qm_statement.specs.Complete.{IsComplete};
+ghost use Rattle.qm_statement.specs.OwnFiles.{ChangesOwnFilesAlone};
 ghost use Rattle.qm_statement.specs.Run.{Answers, Due, IsCommandStopped};
+ghost use Rattle.qm_statement.specs.TornFiles.{NoneIsTorn};
 ghost use Rattle.qm_statement.specs.Untouched.{IsUntouched};
 ghost use Rattle.qm_compile.specs.inner.OneOrder.{AreOneOrder};
 ghost use Rattle.qm_compile.specs.inner.Reported.{reported_status, reported_text};
@@ -30,6 +32,8 @@ pub fn run<R: Threads + Sync, H: Shelf, S: Sink, G: Gate + Sync>(
 ) -> Status
     ensures answers { Answers (bytes_of_words words.now) (surroundings H.Shelf S.Sink shelf.old out.old) (surroundings H.Shelf S.Sink shelf.new out.new) result }
     ensures complete { IsComplete (bytes_of_words words.now) (surroundings H.Shelf S.Sink shelf.old out.old) (surroundings H.Shelf S.Sink shelf.new out.new) result }
+    ensures own_files_alone { ChangesOwnFilesAlone (bytes_of_words words.now) (shelf_state H.Shelf shelf.old) (shelf_state H.Shelf shelf.new) result }
+    ensures none_is_torn { NoneIsTorn (bytes_of_words words.now) (shelf_state H.Shelf shelf.old) (shelf_state H.Shelf shelf.new) }
 {
     let Ok(report) = carry_out(rt, alloc, words, shelf, gate) else {
         return Status::Memory;

@@ -61,7 +61,7 @@ use Rattle.qm_statement.specs.Origins.{AreOriginsOf}
 use Rattle.qm_statement.specs.Rows.{AreRowsAsAsked}
 use Rattle.qm_statement.specs.Summary.{IsVerdict, IsSummary}
 use Rattle.qm_statement.specs.TreeOfMap.{IsTreeOfMap}
-use Rattle.qm_statement.specs.WrittenForm.{HasWrittenForm}
+use Rattle.qm_statement.specs.CompiledForm.{HasCompiledForm}
 use Rattle.qm_statement.proofs.LedLines.{lines_are_led}
 use Rattle.qm_compiler.specs.inner.Counted.{IsTreeOfBrushes}
 use Rattle.qm_compiler.specs.inner.Finished.{IsCount, IsFilledFile, IsFinished}
@@ -112,7 +112,7 @@ module _ (map : MapFile) (options : Options) (tree : Tree) (brushes flat : ℕ) 
   }
 
   -- an entity leaks
-  pub leaking_map : (file : TreeFile) (entity : ℕ) (trail : List ℕ) → HasWrittenForm file → file.tree ≡ tree → file.rows ≡ None → IsLeak tree origins entity trail → IsCompiled map options (Leak file entity trail)
+  pub leaking_map : (file : TreeFile) (entity : ℕ) (trail : List ℕ) → HasCompiledForm file → file.tree ≡ tree → file.rows ≡ None → IsLeak tree origins entity trail → IsCompiled map options (Leak file entity trail)
   unfolding IsCompiled
   leaking_map file entity trail form same no_rows leak = record {
     origins = origins;

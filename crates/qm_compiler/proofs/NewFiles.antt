@@ -2,8 +2,8 @@
 use Rattle.std.proofs.Common.{◌≡◌, Bool, List, Option, sym, subst, refl}
 use Rattle.qm_partition.specs.Tree.{Tree}
 use Rattle.qm_formats.specs.TreeFile.{TreeFile}
-use Rattle.qm_statement.specs.WrittenForm.{HasWrittenForm}
+use Rattle.qm_statement.specs.CompiledForm.{HasCompiledForm}
 use Rattle.qm_compiler.specs.inner.NewFile.{new_file}
 
-pub new_form : (file : TreeFile) (tree : Tree) (rows : Option (List (List Bool))) → file ≡ new_file tree rows → HasWrittenForm file
-new_form file tree rows is = subst HasWrittenForm (sym is) (record { version = refl; bound = refl; no_sections = refl })
+pub new_form : (file : TreeFile) (tree : Tree) (rows : Option (List (List Bool))) → file ≡ new_file tree rows → HasCompiledForm file
+new_form file tree rows is = subst HasCompiledForm (sym is) (record { version = refl; bound = refl; no_sections = refl })

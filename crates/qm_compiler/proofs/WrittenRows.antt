@@ -12,7 +12,7 @@ use Rattle.qm_contacts.specs.World.{World}
 use Rattle.qm_coarse_rows.specs.LeafRow.{AreLeafRows}
 use Rattle.qm_formats.specs.TreeFile.{Section, TreeFile, IsOfVersion, AreRows, AreSections, IsValidFile}
 use Rattle.qm_statement.specs.Rows.{AreRowsAsAsked}
-use Rattle.qm_statement.specs.WrittenForm.{HasWrittenForm}
+use Rattle.qm_statement.specs.CompiledForm.{HasCompiledForm}
 use Rattle.qm_compiler.proofs.NumberedCounts.{as_many_numbered}
 
 pub leaf_rows_fit : (tree : Tree) (portals : List Portal) (rows leaf_rows : List (List Bool)) → AreLeafRows portals rows (length (numbered_leaves tree)) leaf_rows → AreRows (count_by is_numbered (leaves_of tree.shape)) leaf_rows
@@ -34,9 +34,9 @@ pub leaf_rows_over : (fast : Bool) (workers : ℕ) (world : World) (rows : List 
 leaf_rows_over true workers world rows made = record { portal_rows = made.portal_rows; are = made.are_leaf_rows }
 leaf_rows_over false workers world rows made = record { portal_rows = made.portal_rows; are = made.are_leaf_rows }
 
-module _ (file : TreeFile) (form : HasWrittenForm file) (well : IsWellMade file.tree) (reduced : All IsReduced file.tree.planes) where
+module _ (file : TreeFile) (form : HasCompiledForm file) (well : IsWellMade file.tree) (reduced : All IsReduced file.tree.planes) where
   of_version : IsOfVersion file
-  of_version = inr (record { version = form.version; bound = inl form.bound })
+  of_version = inr (record { version = form.version; bound = inr form.bound })
 
   are_sections : AreSections file.sections
   are_sections = subst (λ (sections : List Section). AreSections sections) (sym form.no_sections) tt

@@ -18,7 +18,7 @@ pub fn told_once()
     ensures never_both { (file : FileRecord) (queries : List Query) (lines : List ℕ) (number : ℕ) (fault : QueryFault) → AreAnswered file queries lines → IsFirstRefused file 1 queries number fault → ⊥ }
 {}
 
-/// A file and the same file in the newest version have the same answers, but to `parts`, and these the same lines.
+/// A file and the same file in version 2 have the same answers, but to `parts`, and these the same lines.
 pub fn same_answers()
     ensures { (file : FileRecord) → HaveSameAnswers file (upgraded file) }
 {}

@@ -2,7 +2,7 @@
 
 ghost use Rattle.std.specs.Prelude.{◌≡◌, ◌++◌, ◌∷◌, IfOk, OnOk, OnErr, string_bytes};
 ghost use Rattle.std.specs.Fmt.{decimal};
-ghost use Rattle.qm_answers.specs.AnswerText.{name_of_contents, number_words, filled_words, yes_or_no, printed_row, section_kinds, set_places, answer_words, answer_line};
+ghost use Rattle.qm_answers.specs.AnswerText.{name_of_contents, number_words, filled_words, yes_or_no, printed_row, section_kinds, set_places, words_of_count, words_of_place, words_of_row, words_of_parts, answer_words, answer_line};
 
 use crate::row_places::put_set_places;
 use qm_answers::Answer;
@@ -30,7 +30,6 @@ pub fn print(
 fn words_of(alloc: Global, file: &TreeFile, answer: &Answer) -> Result<String, AllocError>
     ensures { IfOk result (λ text. string_bytes text ≡ answer_words file.now answer.now) }
 {
-    let mut text = String::new(alloc);
     match *answer {
         Answer::Count {
             planes,
@@ -38,36 +37,80 @@ fn words_of(alloc: Global, file: &TreeFile, answer: &Answer) -> Result<String, A
             leaves,
             numbered,
             rows,
-        } => {
-            let rows = yes_or_no(rows);
-            write!(
-                text,
-                "planes {planes} nodes {nodes} leaves {leaves} numbered {numbered} rows {rows}"
-            )?;
-        }
+        } => words_of_count(alloc, planes, nodes, leaves, numbered, rows),
         Answer::Place {
             leaf,
             contents,
             filled,
             number,
-        } => {
-            let name = name_of(contents);
-            write!(text, "leaf {leaf} {name}")?;
-            put_number(&mut text, number)?;
-            put_filled(&mut text, filled)?;
-        }
-        Answer::Row(n) => {
-            write!(text, "row {n}:")?;
-            put_row(&mut text, file, n)?;
-        }
-        Answer::Sees(sees) => text.push_str(yes_or_no(sees))?,
-        Answer::Parts => {
-            let version = file.version;
-            let bound = file.bound;
-            write!(text, "version {version} bound {bound} parts")?;
-            put_kinds(&mut text, file.sections.as_slice())?;
-        }
+        } => words_of_place(alloc, leaf, contents, filled, number),
+        Answer::Row(n) => words_of_row(alloc, file, n),
+        Answer::Sees(sees) => String::from_str(alloc, yes_or_no(sees)),
+        Answer::Parts => words_of_parts(alloc, file),
     }
+}
+
+/// The words of how much there is.
+#[tactic(auto, unfolding(qm_answers::specs::AnswerText::words_of_count))]
+fn words_of_count(
+    alloc: Global,
+    planes: u64,
+    nodes: u64,
+    leaves: u64,
+    numbered: u64,
+    rows: bool,
+) -> Result<String, AllocError>
+    ensures { IfOk result (λ text. string_bytes text ≡ words_of_count planes nodes leaves numbered rows) }
+{
+    let mut text = String::new(alloc);
+    let rows = yes_or_no(rows);
+    write!(
+        text,
+        "planes {planes} nodes {nodes} leaves {leaves} numbered {numbered} rows {rows}"
+    )?;
+    Ok(text)
+}
+
+/// The words of the leaf at a point.
+#[tactic(auto, unfolding(qm_answers::specs::AnswerText::words_of_place))]
+fn words_of_place(
+    alloc: Global,
+    leaf: u64,
+    contents: Contents,
+    filled: bool,
+    number: Option<u64>,
+) -> Result<String, AllocError>
+    ensures { IfOk result (λ text. string_bytes text ≡ words_of_place leaf contents filled number) }
+{
+    let mut text = String::new(alloc);
+    let name = name_of(contents);
+    write!(text, "leaf {leaf} {name}")?;
+    put_number(&mut text, number)?;
+    put_filled(&mut text, filled)?;
+    Ok(text)
+}
+
+/// The words of the row of a numbered leaf.
+#[tactic(auto, unfolding(qm_answers::specs::AnswerText::words_of_row))]
+fn words_of_row(alloc: Global, file: &TreeFile, n: u64) -> Result<String, AllocError>
+    ensures { IfOk result (λ text. string_bytes text ≡ words_of_row file.now n) }
+{
+    let mut text = String::new(alloc);
+    write!(text, "row {n}:")?;
+    put_row(&mut text, file, n)?;
+    Ok(text)
+}
+
+/// The words of what a file says of itself.
+#[tactic(auto, unfolding(qm_answers::specs::AnswerText::words_of_parts))]
+fn words_of_parts(alloc: Global, file: &TreeFile) -> Result<String, AllocError>
+    ensures { IfOk result (λ text. string_bytes text ≡ words_of_parts file.now) }
+{
+    let mut text = String::new(alloc);
+    let version = file.version;
+    let bound = file.bound;
+    write!(text, "version {version} bound {bound} parts")?;
+    put_kinds(&mut text, file.sections.as_slice())?;
     Ok(text)
 }
 

@@ -21,7 +21,7 @@ pub fn fault_text(alloc: Global, fault: MapFault) -> Result<String, AllocError>
     Ok(text)
 }
 
-/// The number of a fault, from 1 to 11; 0 for want of memory, which is no fault of a text.
+/// The number of a fault, from 1 to 12; 0 for want of memory, which is no fault of a text.
 fn number_of_fault(fault: MapFault) -> u8
     ensures { result ≡ number_of_fault fault }
 {
@@ -37,6 +37,7 @@ fn number_of_fault(fault: MapFault) -> u8
         MapFault::NoFaces { .. } => 9,
         MapFault::BadOrigin { .. } => 10,
         MapFault::NoEntity { .. } => 11,
+        MapFault::PlaneTooFine { .. } => 12,
         MapFault::Memory => 0,
     }
 }
@@ -56,7 +57,8 @@ fn line_of_fault(fault: MapFault) -> u64
         | MapFault::NoNormal { line }
         | MapFault::NoFaces { line }
         | MapFault::BadOrigin { line }
-        | MapFault::NoEntity { line } => line,
+        | MapFault::NoEntity { line }
+        | MapFault::PlaneTooFine { line } => line,
         MapFault::Memory => 0,
     }
 }
@@ -77,6 +79,7 @@ fn words_of_fault(fault: MapFault) -> &'static str
         MapFault::NoFaces { .. } => "no faces",
         MapFault::BadOrigin { .. } => "bad origin",
         MapFault::NoEntity { .. } => "no entity",
+        MapFault::PlaneTooFine { .. } => "plane too fine",
         MapFault::Memory => "",
     }
 }

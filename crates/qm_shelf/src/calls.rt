@@ -24,6 +24,13 @@ impl Calls {
         }
     }
 
+    /// How many calls were made.
+    pub fn made(&self) -> u64
+        ensures { result ≡ self.now.made }
+    {
+        self.made
+    }
+
     /// Lists a call that is to fail. For want of memory nothing changes.
     pub fn fail(&mut self, call: u64) -> Result<(), AllocError>
         ensures made { self.new.made ≡ self.old.made }

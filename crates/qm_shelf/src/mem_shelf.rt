@@ -76,6 +76,13 @@ impl MemShelf {
         self.calls.fail(call)
     }
 
+    /// How many calls of the trait were made, those that failed too: the number of the next. It stays at 2^64 - 1 once it is there.
+    pub fn calls(&self) -> u64
+        ensures { result ≡ calls self.now }
+    {
+        self.calls.made()
+    }
+
     /// How many reads failed.
     pub fn read_faults(&self) -> u64
         ensures { result ≡ read_faults self.now }

@@ -1,4 +1,7 @@
 pub mod Completeness
+pub mod KeptFiles
 pub mod LedLines
+pub mod OwnFiles
 pub mod ReadAgain
+pub mod TornFiles
 pub mod Unfinished

@@ -16,7 +16,7 @@ use Rattle.qm_statement.specs.Built.{IsBuilt}
 use Rattle.qm_statement.specs.Marked.{IsMarked, IsApartFromFilled}
 use Rattle.qm_statement.specs.Rows.{IsWorldOf, AreRowsAsAsked}
 use Rattle.qm_statement.specs.Summary.{IsSummary}
-use Rattle.qm_statement.specs.WrittenForm.{HasWrittenForm}
+use Rattle.qm_statement.specs.CompiledForm.{HasCompiledForm}
 
 -- What a map compiles to.
 
@@ -48,7 +48,7 @@ pub record IsCompiledWithoutLeak (map : MapFile) (options : Options) (file : Tre
   pub has_rows : file.rows ≡ Some rows
   pub are_rows : AreRowsAsAsked options.fast options.threads world rows
   pub hold_sight : HoldLinesOfSight (HasContents (drawn_solids map)) file.tree rows
-  pub has_form : HasWrittenForm file
+  pub has_form : HasCompiledForm file
   pub is_valid : IsValidFile file
   pub is_summary : IsSummary map tree origins file.tree rows summary
 
@@ -59,5 +59,5 @@ pub record IsCompiledToLeak (map : MapFile) (file : TreeFile) (entity : ℕ) (tr
   pub is_built : IsBuilt map file.tree origins
   pub is_leak : IsLeak file.tree origins entity trail
   pub has_no_rows : file.rows ≡ None
-  pub has_form : HasWrittenForm file
+  pub has_form : HasCompiledForm file
   pub is_valid : IsValidFile file

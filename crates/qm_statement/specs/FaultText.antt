@@ -1,7 +1,7 @@
 use Rattle.std.specs.Prelude.{ℕ, List, [], ◌++◌, codes}
 use Rattle.std.specs.Fmt.{decimal}
 use Rattle.qm_grammar.specs.declared.fault.MapFault.{MapFault}
-use Rattle.qm_grammar.specs.declared.fault.MapFault.TheVariants.{TextTooLong, UnclosedQuote, Unexpected, EndInside, BadNumber, Fraction, CoordinateRange, NoNormal, NoFaces, BadOrigin, NoEntity, Memory}
+use Rattle.qm_grammar.specs.declared.fault.MapFault.TheVariants.{TextTooLong, UnclosedQuote, Unexpected, EndInside, BadNumber, Fraction, CoordinateRange, NoNormal, NoFaces, BadOrigin, NoEntity, PlaneTooFine, Memory}
 use Rattle.qm_grammar.specs.MapFault.{number_of_fault, line_of_fault}
 use Rattle.qm_statement.specs.Texts.{line}
 
@@ -20,6 +20,7 @@ words_of_fault (NoNormal at) = codes "no normal"
 words_of_fault (NoFaces at) = codes "no faces"
 words_of_fault (BadOrigin at) = codes "bad origin"
 words_of_fault (NoEntity at) = codes "no entity"
+words_of_fault (PlaneTooFine at) = codes "plane too fine"
 words_of_fault Memory = []
 
 -- the line that is printed

@@ -1,13 +1,16 @@
 pub mod Built
 pub mod ComesOf
+pub mod CompiledForm
 pub mod CompiledMap
 pub mod Complete
 pub mod DemoComesOf
 pub mod FaultText
 pub mod InspectComesOf
+pub mod KeptFile
 pub mod Marked
 pub mod Origins
 pub mod Output
+pub mod OwnFiles
 pub mod RefusalText
 pub mod Rows
 pub mod Run
@@ -15,6 +18,7 @@ pub mod StatusNumber
 pub mod Summary
 pub mod TextMeans
 pub mod Texts
+pub mod TornFiles
 pub mod TreeBytes
 pub mod TreeFaultText
 pub mod TreeMeans
@@ -23,4 +27,3 @@ pub mod Unfinished
 pub mod Untouched
 pub mod UpgradeComesOf
 pub mod Written
-pub mod WrittenForm

@@ -13,7 +13,7 @@ use Rattle.qm_compiler.specs.declared.compiled.Compiled.TheVariants.{Done, Leak}
 use Rattle.qm_commands.specs.declared.options.Options.{Options}
 use Rattle.qm_statement.specs.declared.summary.Summary.{Summary}
 use Rattle.qm_statement.specs.Rows.{AreRowsAsAsked}
-use Rattle.qm_statement.specs.WrittenForm.{HasWrittenForm}
+use Rattle.qm_statement.specs.CompiledForm.{HasCompiledForm}
 
 -- What is made of a tree, whatever the map.
 
@@ -35,7 +35,7 @@ pub record IsFilledFile (options : Options) (sealed : Bool) (tree : Tree) (brush
   pub is_tree : file.tree ≡ marked_tree row tree
   pub are_contacts : AreContacts (marked_tree row tree) contacts
   pub is_world : world ≡ record { tree = marked_tree row tree; portals = portals_of (marked_tree row tree) contacts.touchings }
-  pub has_form : HasWrittenForm file
+  pub has_form : HasCompiledForm file
   pub rows : List (List Bool)
   pub has_rows : file.rows ≡ Some rows
   pub are_rows : AreRowsAsAsked options.fast options.threads world rows

@@ -4,7 +4,11 @@ use Rattle.std.proofs.lemmas.List.{append-nil}
 use Rattle.qm_shelf.specs.FaultCounts.{SinkFaultCounted}
 use Rattle.qm_surroundings.specs.HeldFile.{ContinuesInto}
 use Rattle.qm_shelf.specs.declared.sink.SinkFault.{SinkFault}
+use Rattle.qm_words.proofs.OneOrder.{one_order}
+use Rattle.qm_words.specs.SeenWords.{bytes_of_words}
 use Rattle.qm_statement.proofs.Completeness.{complete, complete_short}
+use Rattle.qm_statement.proofs.OwnFiles.{changes_own_files_alone}
+use Rattle.qm_statement.proofs.TornFiles.{none_is_torn}
 use Rattle.qm_compile.specs.inner.Reported.{reported_status, reported_text}
 use Rattle.qm_compile.proofs.Reported.{answers_report, answers_failure, answers_no_room, answers_run_out}
 use Rattle.qm_compile.proofs.program.run.Goals as goal
@@ -49,3 +53,27 @@ returns-in-Err-Failed-clause-complete g c = complete _ _ _ c.in-Ok.ensures.one _
 
 pub returns-clause-complete : goal.returns-clause-complete
 returns-clause-complete g c = complete_short _ _ _
+
+pub returns-in_default-clause-none_is_torn : goal.returns-in_default-clause-none_is_torn
+returns-in_default-clause-none_is_torn g c = none_is_torn _ _ _ (one_order (bytes_of_words c.args.words.now)) _ (returns-in_default-clause-answers g c)
+
+pub returns-in-Ok-write-clause-none_is_torn : goal.returns-in-Ok-write-clause-none_is_torn
+returns-in-Ok-write-clause-none_is_torn g c = none_is_torn _ _ _ (one_order (bytes_of_words c.args.words.now)) _ (returns-in-Ok-write-clause-answers g c)
+
+pub returns-in-Err-Failed-clause-none_is_torn : goal.returns-in-Err-Failed-clause-none_is_torn
+returns-in-Err-Failed-clause-none_is_torn g c = none_is_torn _ _ _ (one_order (bytes_of_words c.args.words.now)) _ (returns-in-Err-Failed-clause-answers g c)
+
+pub returns-clause-none_is_torn : goal.returns-clause-none_is_torn
+returns-clause-none_is_torn g c = none_is_torn _ _ _ (one_order (bytes_of_words c.args.words.now)) _ (returns-clause-answers g c)
+
+pub returns-in_default-clause-own_files_alone : goal.returns-in_default-clause-own_files_alone
+returns-in_default-clause-own_files_alone g c = changes_own_files_alone _ _ _ _ (returns-in_default-clause-answers g c)
+
+pub returns-in-Ok-write-clause-own_files_alone : goal.returns-in-Ok-write-clause-own_files_alone
+returns-in-Ok-write-clause-own_files_alone g c = changes_own_files_alone _ _ _ _ (returns-in-Ok-write-clause-answers g c)
+
+pub returns-in-Err-Failed-clause-own_files_alone : goal.returns-in-Err-Failed-clause-own_files_alone
+returns-in-Err-Failed-clause-own_files_alone g c = changes_own_files_alone _ _ _ _ (returns-in-Err-Failed-clause-answers g c)
+
+pub returns-clause-own_files_alone : goal.returns-clause-own_files_alone
+returns-clause-own_files_alone g c = changes_own_files_alone _ _ _ _ (returns-clause-answers g c)

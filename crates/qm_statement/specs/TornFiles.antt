@@ -1,0 +1,63 @@
+use Rattle.std.specs.Prelude.{◌≡◌, ◌⊎◌, ◌<◌, ◌^◌, ℕ, List, Some, length, IsTrue}
+use Rattle.qm_surroundings.specs.ShelfState.{ShelfState}
+use Rattle.qm_surroundings.specs.WholeFiles.{HoldsTheSame, HoldsExactly}
+use Rattle.qm_formats.specs.Layout.{got, bad}
+use Rattle.qm_formats.specs.FileParts.{short, too_long}
+use Rattle.qm_formats.specs.FileLayout.{file_limit, read_file}
+use Rattle.qm_listing.specs.declared.listing.Listing.{Listing}
+use Rattle.qm_listing.specs.Grammar.{listing_text, can_stand, read_listing}
+use Rattle.qm_commands.specs.declared.map_command.MapCommand.{MapCommand}
+use Rattle.qm_commands.specs.declared.map_command.MapCommand.TheVariants.{Compile}
+use Rattle.qm_commands.specs.FileNames.{FileNames}
+use Rattle.qm_commands.specs.Order.{Order, of_map, of_upgrade}
+use Rattle.qm_commands.specs.Words.{AreWordsOf}
+use Rattle.qm_statement.specs.ComesOf.{IsOutputOfText, IsDueInOut}
+use Rattle.qm_statement.specs.Output.{Output}
+use Rattle.qm_statement.specs.UpgradeComesOf.{IsUpgradeDue}
+
+-- No file is taken for whole that was cut off. Whatever the end of a command, what it writes is as it was, is whole, or is
+-- refused by who reads it.
+
+-- of the bytes of a tree file, of which there are fewer than 2^62, only some of the first are there: reading them gives that
+-- they are too short, where they end, or that they are more than a file may have that is read
+abbrev pub IsTreeRefused : List ℕ → List ℕ → Type 0
+IsTreeRefused bytes part =
+    length bytes < 2 ^ 62 → (read_file part ≡ bad short (length part)) ⊎ (read_file part ≡ bad too_long file_limit)
+
+-- of the text of a listing, of those that can stand in a text, only some of the first bytes are there: no listing is read
+abbrev pub IsListingRefused : List ℕ → List ℕ → Type 0
+IsListingRefused text part =
+    (listing : Listing) → IsTrue (can_stand listing) → text ≡ listing_text listing →
+    (found : Listing) (end : ℕ) → read_listing part ≡ got found end → ⊥
+
+-- the file has all bytes that are due in it
+abbrev pub HoldsAll : ShelfState → List ℕ → (List ℕ → Type 0) → Type 0
+HoldsAll after name IsDue = (bytes : List ℕ) × IsDue bytes × HoldsExactly after name bytes
+
+-- the file has others, which are refused where they stand in place of bytes that are due
+abbrev pub HoldsRefused : ShelfState → List ℕ → (List ℕ → Type 0) → (List ℕ → List ℕ → Type 0) → Type 0
+HoldsRefused after name IsDue IsRefused = (bytes : List ℕ) × (part : List ℕ) × IsDue bytes × HoldsExactly after name part × IsRefused bytes part
+
+-- the file is as it was, has all bytes that are due in it, or has others, which are refused
+abbrev pub IsNotTorn : ShelfState → ShelfState → List ℕ → (List ℕ → Type 0) → (List ℕ → List ℕ → Type 0) → Type 0
+IsNotTorn before after name IsDue IsRefused =
+    HoldsTheSame before after name ⊎ (HoldsAll after name IsDue ⊎ HoldsRefused after name IsDue IsRefused)
+
+-- the bytes that are due in FILE: those of the listing of what the command makes of the map that is meant
+abbrev pub IsDueInListing : ShelfState → MapCommand → FileNames → List ℕ → Type 0
+IsDueInListing before command files bytes = (output : Output) × IsOutputOfText before command files output × (output.listing ≡ Some bytes)
+
+-- so it is of OUT, and of FILE where a listing is asked for
+pub record AreNotTorn (before after : ShelfState) (command : MapCommand) (files : FileNames) : Type 0 where
+  pub out : IsNotTorn before after files.out_name (IsDueInOut before command files) IsTreeRefused
+  pub listing : (name : List ℕ) → files.listing_name ≡ Some name → IsNotTorn before after name (IsDueInListing before command files) IsListingRefused
+
+-- what a command leaves that writes files which can be read again
+abbrev pub LeavesNoneTorn : Order → ShelfState → ShelfState → Type 0
+LeavesNoneTorn (of_map (Compile options listed) files) before after = AreNotTorn before after (Compile options listed) files
+LeavesNoneTorn (of_upgrade tree_name out_name) before after = IsNotTorn before after out_name (IsUpgradeDue before tree_name) IsTreeRefused
+LeavesNoneTorn _ before after = Unit {0}
+
+-- where the shelf tells what it holds, no file is taken for whole that a command left torn
+unfoldable pub NoneIsTorn : List (List ℕ) → ShelfState → ShelfState → Type 0
+NoneIsTorn words before after = IsTrue before.tells → (order : Order) → AreWordsOf order words → LeavesNoneTorn order before after
