@@ -9,6 +9,7 @@ import sys
 from bodies import largest
 from cells import Cells, NoContact
 from eyes import Eye
+import faces
 import groups
 import listing
 import maptext
@@ -169,6 +170,18 @@ def world_of(words):
     print(f"qmlook: moved {counts[0]} of {counts[1]} into the world", file=sys.stderr)
 
 
+def faces_of(words):
+    """Writes a line for each face of a map whose points the compiler refuses, and then says how many these are."""
+    try:
+        text = maptext.load(words.name)
+        found = list(faces.faces(text))
+    except maptext.NoMap as fault:
+        raise Refused(f"{words.name} is no map: {fault}") from None
+    wrong = list(filter(None, map(faces.refused, found)))
+    write(faces.told(text, what) for what in wrong)
+    print(f"qmlook: faces that are refused: {len(wrong)} of {len(found)}", file=sys.stderr)
+
+
 def plain_name(name):
     """The name of a file without its folders, in ASCII."""
     return "".join(letter if " " <= letter <= "~" else "?" for letter in os.path.basename(name))
@@ -211,7 +224,7 @@ def run(words):
     parser = argparse.ArgumentParser(prog="qmlook", description="Looks at a compiled map, or readies one.", allow_abbrev=False)
     given = words_of(parser, joined(words))
     does = {"plan": plan_of, "points": points_of, "view": view_of, "picture": picture_of, "json": json_of,
-            "world": world_of}
+            "world": world_of, "faces": faces_of}
     try:
         parts = does[given.command](given)
         if parts is not None:

@@ -27,14 +27,14 @@ def pieces(tree, height):
 def heights(tree):
     """The heights of the horizontal planes of a tree's nodes, from the lowest on."""
     planes = (tree.planes[node.plane] for node in tree.nodes)
-    return sorted({plane.d for plane in planes if plane.nx == plane.ny == 0})
+    return sorted({Fraction(plane.d, plane.nz) for plane in planes if plane.nx == plane.ny == 0})
 
 
 def usual_height(tree):
     """Where there is most to see: of some heights between neighbouring horizontal planes of nodes the one with most pieces
     that are not solid and reach no wall of the cube, and of such ones the lowest. It is 0 where there are no two planes."""
     found = heights(tree)
-    between = [Fraction(low + high, 2) for low, high in zip(found, found[1:])] or [Fraction(0)]
+    between = [(low + high) / 2 for low, high in zip(found, found[1:])] or [Fraction(0)]
     some = between[::len(between) // MOST_TRIED + 1]
     return max(some, key=lambda height: (seen(tree, pieces(tree, height)), -height))
 

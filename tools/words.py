@@ -34,6 +34,8 @@ def words_of(parser, words):
     command(commands, "json", "planes, nodes, leaves and rows, for other programs")
     world_words = command(commands, "world", "a map with the brushes of its groups in the world", "MAP", "a map, as an editor writes it")
     world_words.add_argument("--out", metavar="FILE", help="writes it to FILE, for editors that know no `>`")
+    command(commands, "faces", "the faces of a map whose points the compiler refuses, with points near by that it takes", "MAP",
+            "a map, as an editor writes it")
     return parser.parse_args(words)
 
 
