@@ -104,9 +104,21 @@ runs_out_of_memory() {
 }
 
 # one request for memory is refused, in each run another one
-refuses_requests_of_workers() {
-    python3 .ci/refuse_requests.py "$program" samples/rooms.map
+refuses_requests() {
+    python3 .ci/refuse_requests.py "$program"
 }
+
+# one call to the system fails, in each run another one
+fails_calls() {
+    python3 .ci/fail_calls.py "$program"
+}
+
+reads_damaged_files_as_a_slow_reader_does() {
+    python3 .ci/damage_files.py "$program"
+}
+
+# how far from 0 a coordinate of a map can be
+extent=$(sed -n 's/^EXTENT = //p' tools/maptext.py)
 
 # a file of the folder has so many bytes
 has_bytes() { # has_bytes NAME BYTES
@@ -151,8 +163,9 @@ lists_the_portals_of_the_cube() {
         rm -f "$folder/cube.prt" "$folder/listed.tree"
         # shellcheck disable=SC2086  # the words of a command
         run_program compile $words
-        [[ $status == 0 ]] && has_bytes listed.tree 330 && has_bytes cube.prt 718 || return 1
-        [[ $(head -n 4 "$folder/cube.prt") == $'PRT1\n6\n12\n4 1 5 (0 64 -4096 ) (0 64 4096 ) (0 4096 4096 ) (0 4096 -4096 ) ' ]] || return 1
+        # 40 of its numbers are the extent
+        [[ $status == 0 ]] && has_bytes listed.tree 330 && has_bytes cube.prt $((558 + 40 * ${#extent})) || return 1
+        [[ $(head -n 4 "$folder/cube.prt") == $'PRT1\n6\n12\n'"4 1 5 (0 64 -$extent ) (0 64 $extent ) (0 $extent $extent ) (0 $extent -$extent ) " ]] || return 1
     done
     # the tree is whole where its listing is not written
     rm -f "$folder/listed.tree"
@@ -182,6 +195,15 @@ formats_a_large_text() {
     cmp "$folder/large.once" "$folder/large.out" || return 1
     run_program format large.out large.again
     [[ $status == 0 ]] && cmp "$folder/large.once" "$folder/large.again"
+}
+
+# and one with decimals, which are written as they stand
+formats_a_text_with_decimals() {
+    bench/make_map.py 1 eighths >"$folder/eighths.map" || return 1
+    sed '/^\/\//d; s/\.000 / /g' "$folder/eighths.map" >"$folder/eighths.once"
+    grep -q ' -[0-9]*\.125 ' "$folder/eighths.once" || return 1
+    run_program format eighths.map eighths.out
+    [[ $status == 0 ]] && cmp "$folder/eighths.once" "$folder/eighths.out"
 }
 
 writes_over_what_was_there() {
@@ -265,7 +287,7 @@ TREEFILE.md|inspect courtyard.tree sees=53,27 sees=53,0
 EDITORS.md|inspect courtyard.tree at=-208,-128,24
 END
     run_program inspect courtyard.tree count parts at=0,0,300 sees=54,54 at=208,-60,24 at=64.000001,-.5,+24. row=22
-    ended 0 'planes 65 nodes 140 leaves 141 numbered 55 rows yes\nversion 2 bound 4096 parts\nleaf 15 solid filled\nyes\nleaf 46 water number 22\nleaf 54 empty number 27\nrow 22: 20 21 22 23\n' || return 1
+    ended 0 'planes 65 nodes 140 leaves 141 numbered 55 rows yes\nversion 2 bound '"$extent"' parts\nleaf 15 solid filled\nyes\nleaf 46 water number 22\nleaf 54 empty number 27\nrow 22: 20 21 22 23\n' || return 1
     cmp "$folder/courtyard.kept" "$folder/courtyard.tree"
 }
 
@@ -278,9 +300,9 @@ says_which_query_is_refused() {
         # shellcheck disable=SC2086  # the words of a command
         run_program inspect $words
         ended 9 "query $text\n" || return 1
-    done <<'END'
-room.tree at=4096,0,0|1 refused: outside the cube
-room.tree at=0,0,-4095.999999 at=0,0,-4096|2 refused: outside the cube
+    done <<END
+room.tree at=$extent,0,0|1 refused: outside the cube
+room.tree at=0,0,-$((extent - 1)).999999 at=0,0,-$extent|2 refused: outside the cube
 room.tree count row=1 at=0,0,5000|2 refused: no such leaf
 room.tree sees=0,1|1 refused: no such leaf
 room.tree sees=999999999999999999,0|1 refused: no such leaf
@@ -384,7 +406,7 @@ upgrades_with_little_memory() {
 import sys
 sys.path[:0] = [".ci", "tools"]
 import made_trees, treefile
-tree = treefile.decode(made_trees.long_tree(4200))
+tree = treefile.decode(made_trees.long_tree(4200))._replace(bound=treefile.BOUNDS[0])
 for version in 1, 2:
     open(f"{sys.argv[1]}/large{version}.tree", "wb").write(made_trees.written(tree, version))
 END
@@ -528,6 +550,7 @@ check "status 0: the canonical text of samples/room.map is printed again as it i
 check "status 0: trees of a room, of one brush within another, and of no brush" compiles_a_room
 check "the listing of samples/cube.map, in FILE behind a whole OUT, and none of a leak" lists_the_portals_of_the_cube
 check "status 0: a text of a megabyte is read whole" formats_a_large_text
+check "status 0: a text with decimals is written as it stands" formats_a_text_with_decimals
 check "status 0: OUT that was there is written anew" writes_over_what_was_there
 check "status 2: words that are no command print the usage line" prints_the_usage_line
 check "status 4: a map with a fault" says_which_fault_a_map_has
@@ -535,7 +558,9 @@ check "status 5: a map that is missing or is a folder" says_that_a_map_is_not_re
 check "status 6: OUT that cannot be made or not be written" says_that_a_file_is_not_written
 check "status 6: a standard output that takes nothing" ends_with_six_where_nothing_can_be_printed
 check "status 7: too little memory" runs_out_of_memory
-check "status 7, or a whole result: a request for memory of four workers is refused" refuses_requests_of_workers
+check "status 7, or a whole result: a request for memory of each command is refused" refuses_requests
+check "status 5 or 6, or a whole result: a call to the system of each command fails" fails_calls
+check "status 8: damaged tree files have the faults that a plain slow reader finds" reads_damaged_files_as_a_slow_reader_does
 check "a pipe as standard output gets each byte" prints_all_into_a_pipe
 check "a map that is a pipe is read" reads_a_map_that_is_a_pipe
 check "command words are read as a plain slow reader reads them" reads_words_as_a_slow_reader_does

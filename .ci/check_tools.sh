@@ -108,17 +108,17 @@ makes_point_files() {
         looked && python3 .ci/check_points.py "$folder/$name.tree" "$folder/printed" "$(<"$folder/$name.trail")" || return 1
     done
     look points hole.tree --leak "8 6 0"
-    printf '0 0 48\n64 0.5 48\n72 0.5 48\n80 0.5 48\n2088 0 0\n4096 0 0\n' | cmp - "$folder/printed" || return 1
+    printf '0 0 48\n64 0.5 48\n72 0.5 48\n80 0.5 48\n%s 0 0\n%s 0 0\n' $(((80 + extent) / 2)) "$extent" | cmp - "$folder/printed" || return 1
     # a world that is one leaf
     echo '{ } { "origin" "0 0 0" }' >"$folder/open.map"
     run_program compile open.map open.tree
     look plan open.tree --leak 0
     looked || return 1
     look points open.tree --leak 0
-    printf '0 0 0\n-4096 0 0\n' | cmp - "$folder/printed"
+    printf '0 0 0\n-%s 0 0\n' "$extent" | cmp - "$folder/printed"
 }
 
-# the three rooms in version 1, and with sections; and the room with a hole in a larger world
+# the three rooms in version 1, and with sections; and the room with a hole in a smaller world and in a larger one
 made_of_rooms() {
     python3 - "$folder" <<'END'
 import sys
@@ -126,7 +126,8 @@ sys.path[:0] = [".ci", "tools"]
 import made_trees, treefile
 seen, hole = (treefile.load(f"{sys.argv[1]}/{name}.tree") for name in ("seen", "hole"))
 sections = [treefile.Section(2, b"abc"), treefile.Section(5, bytes(range(256)))]
-trees = {"first": seen._replace(version=1), "parts": seen._replace(sections=sections), "large": hole._replace(bound=32768)}
+trees = {"first": seen._replace(version=1), "parts": seen._replace(sections=sections), "small": hole._replace(bound=treefile.BOUNDS[0]),
+         "large": hole._replace(bound=treefile.BOUNDS[-1])}
 for name, tree in trees.items():
     open(f"{sys.argv[1]}/{name}.tree", "wb").write(made_trees.written(tree))
 END
@@ -154,7 +155,7 @@ END
     done
 }
 
-# the same pictures of both versions; and in a larger world slices reach its walls, and so does a leak line
+# the same pictures of both versions; and in a smaller world and a larger one slices reach its walls, and so does a leak line
 shows_both_versions_and_both_worlds() {
     made_of_rooms || return 1
     look plan seen.tree --row 4
@@ -164,16 +165,18 @@ shows_both_versions_and_both_worlds() {
         look plan $name.tree --row 4
         looked && sed "s/$name[.]tree/any.tree/" "$folder/printed" | cmp - "$folder/whole" || return 1
     done
-    (cd "$folder" && python3 "$top/.ci/check_plans.py" large.tree && python3 "$top/.ci/check_surfaces.py" large.tree) || return 1
+    for name in small large; do
+        (cd "$folder" && python3 "$top/.ci/check_plans.py" $name.tree && python3 "$top/.ci/check_surfaces.py" $name.tree) || return 1
+        look points $name.tree --leak "$(<"$folder/hole.trail")"
+        looked && python3 .ci/check_points.py "$folder/$name.tree" "$folder/printed" "$(<"$folder/hole.trail")" || return 1
+    done
     look plan large.tree --z 5000
-    looked || return 1
-    look points large.tree --leak "$(<"$folder/hole.trail")"
-    looked && python3 .ci/check_points.py "$folder/large.tree" "$folder/printed" "$(<"$folder/hole.trail")"
+    looked
 }
 
 says_how_the_tools_are_used() {
     local words
-    for words in '' 'plan' 'points hole.tree' 'json' 'draw hole.tree' 'plan hole.tree --z 32768' 'plan hole.tree --z 1/0' \
+    for words in '' 'plan' 'points hole.tree' 'faces' 'faces hole.map more' 'json' 'draw hole.tree' 'plan hole.tree --z 32768' 'plan hole.tree --z 1/0' \
         'plan hole.tree --row -1' 'plan hole.tree --row=x' 'points hole.tree --leak=8,6' 'points hole.tree --leak=' \
         'plan hole.tree --lea=8' 'json hole.tree more' 'world' 'world hole.map more' 'world hole.map --out'; do
         # shellcheck disable=SC2086  # the words of a command
@@ -217,8 +220,8 @@ says_what_a_tree_does_not_have() {
     refused "there is no leaf 15" || return 1
     look plan hole.tree --leak "8 6"
     refused "leaf 6 does not touch the outside" || return 1
-    look plan hole.tree --z=-4096
-    refused "-4096 is outside the cube of hole.tree, which ends at 4096" || return 1
+    look plan small.tree --z=-4096
+    refused "-4096 is outside the cube of small.tree, which ends at 4096" || return 1
     look plan hole.tree --row 0
     refused "hole.tree has no rows" || return 1
     look plan seen.tree --row 5
@@ -368,6 +371,122 @@ END
     refused "standard output: No space left on device"
 }
 
+# qmlook lists these lines, of so many faces
+listed() { # listed LINES FACES
+    local lines=0
+    [[ -z $1 ]] || lines=$(wc -l <<<"$1")
+    [[ $status == 0 && $(<"$folder/printed") == "$1" && $(<"$folder/said") == "qmlook: faces that are refused: $lines of $2" ]] && return
+    echo "ended with $status, and listed: $(<"$folder/printed")"
+    return 1
+}
+
+# what the program says of a map whose second face has these points
+formats_face() { # formats_face POINTS
+    printf '{ } { } { {\n( 0 0 0 ) ( 0 1 0 ) ( 1 0 0 ) x 0 0 0 1 1 }\n{ %s x 0 0 0 1 1 } }' "$1" >"$folder/faces.map"
+    run_program format faces.map faces.out
+}
+
+# by itself a face is refused by the program as it is listed, and with the points that are named it is taken
+lists_faces_as_the_program_refuses_them() {
+    local points fault near
+    while IFS='|' read -r points fault near; do
+        formats_face "$points"
+        if [[ -z $fault ]]; then
+            [[ $status == 0 ]] && look faces faces.map && listed '' 2 || return 1
+            continue
+        fi
+        [[ $status == 4 && $(<"$folder/printed") == "map fault "*" at line 3: $fault" ]] || return 1
+        look faces faces.map
+        listed "line 3, entity 2, brush 1: $fault; ${near:-no points near these serve}" 2 || return 1
+        [[ -z $near ]] || formats_face "${near#*: }"
+        [[ -z $near || $status == 0 ]] || return 1
+    done <<END
+( 8192 1 0 ) ( 0 0 0 ) ( 0 8192 1 )
+( 10000 1 0 ) ( 0 0 0 ) ( 1 10000 1 )|plane too fine|on the grid of 2: ( 10000 0 0 ) ( 0 0 0 ) ( 0 10000 0 )
+( 4097 0 0 ) ( 4097 1 0 ) ( 4097 0 1 )
+( 8.192 .001 0 ) ( 0 0 0 ) ( 0 8.192 .001 )
+( 0 8.192 -.001 ) ( 0 0 0 ) ( 8.192 -.001 0 )
+( 10 .001 0 ) ( 0 0 0 ) ( .001 10 .001 )|plane too fine|on the grid of 1/500: ( 10 0 0 ) ( 0 0 0 ) ( 0 10 0 )
+( .001 10 .001 ) ( 0 0 0 ) ( 10 .001 0 )|plane too fine|on the grid of 1/500: ( 0 10 0 ) ( 0 0 0 ) ( 10 0 0 )
+( -480 -872.723 1063.236 ) ( -1248 -872.723 1063.236 ) ( -480 -750.477 369.933 )|plane too fine|on the grid of 1/500: ( -480 -872.724 1063.236 ) ( -1248 -872.724 1063.236 ) ( -480 -750.476 369.932 )
+( 0.5000 0 0 ) ( 0.5 1 0 ) ( 0.5 0 1 )
+( 64.000 +64 64. ) ( -0 .5 -.125 ) ( 0 0 .1250 )
+( 0.0005 0 0 ) ( 0.5 1 0 ) ( 0.5 0 1 )|fraction|on the grid of 1/1000: ( 0 0 0 ) ( 0.5 1 0 ) ( 0.5 0 1 )
+( 63.9999 0 0 ) ( 64 .0001 0 ) ( 64 0 1 )|fraction|
+( $extent.0001 0 0 ) ( 0 $extent 0 ) ( 0 0 1 )|fraction|
+( 1e-5 0 0 ) ( 0.5 1 0 ) ( 0.5 0 1 )|bad number|on the grid of 1/1000: ( 0 0 0 ) ( 0.5 1 0 ) ( 0.5 0 1 )
+( 0.1 0.1 0.1 ) ( 0.2 0.2 0.2 ) ( 0.7 0.7 0.7 )|no normal|
+( 50 $extent.001 0 ) ( 50 0 0 ) ( 50 0 1 )|coordinate out of range|on the grid of 1/1000: ( 50 $extent 0 ) ( 50 0 0 ) ( 50 0 1 )
+( -$((extent + 8)) 0 0 ) ( 0 $extent 0 ) ( 0 0 1 )|coordinate out of range|
+( $extent -$extent.000 0 ) ( $extent 0 0 ) ( $extent 0 1 )
+END
+}
+
+# all faces, in both forms, of all entities; and texts of which it is not said what their faces are
+lists_all_faces() {
+    local text words
+    {
+        printf '{ "a" "{ (" { // ( 0\r\n( 0 0 0 ) ( 1 0\r\n0 ) ( 2 0 0 //)\r\n) "( 1 0" [ 1 0 0 0 ] [ 0 1 0 0 ] 0 1 1 ( 0 0\n'
+        echo '1.0001 ) ( 1 0 1.0001 ) ( 0 1 1.0001 ) (x 0 0 0 1 1 7 7 7 } }'
+        echo '{ { ( 0 0 9 ) ( 1 0 9 ) ( 0 1 9 ) {x 0 0 0 1 1 } { ( 0 0 0 ) ( 0 0 0 ) ( 0 0 0 ) x//y 0 0 0 1 1 } }'
+    } >"$folder/faces.map"
+    look faces faces.map
+    listed "line 4, entity 0, brush 0: no normal; no points near these serve
+line 5, entity 0, brush 0: fraction; on the grid of 1/1000: ( 0 0 1 ) ( 1 0 1 ) ( 0 1 1 )
+line 6, entity 1, brush 1: no normal; no points near these serve" 4 || return 1
+    for text in room.map courtyard.map; do
+        look faces $text
+        listed '' "$(grep -c '^( ' "$folder/$text")" || return 1
+    done
+    while IFS='|' read -r text words; do
+        printf '%b' "$text" >"$folder/no.map"
+        look faces no.map
+        refused "no.map is no map: $words" || return 1
+    done <<'END'
+|it has no entity
+{ { ( 0 0 0 )|it ends inside an entity
+{ {\nx } }|line 2: no three points of a face stand there
+{ { ( 0 0 0 )\n( 0 0 1 ) } }|line 2: no three points of a face stand there
+{ { ( 0 0 0 )\n( 0 0 1 )\n( 0 x 1 ) x 0 0 0 1 1 } }|line 3: no three points of a face stand there
+{ { ( 0 0 0 0 )\n( 0 0 1 ) ( 0 x 1 ) x 0 0 0 1 1 } }|line 1: no three points of a face stand there
+END
+    look faces missing.map
+    refused "missing.map: No such file or directory"
+}
+
+# what docs/EDITORS.md says of planes that are too fine. Twice the area of a triangle, as one looks along an axis, is a component of
+# its normal, and at most the product of two sides of a box around the points. With whole points the numbers of the plane are whole,
+# and 8192 * 8192 is 2^26. With points on the grid of 1/K the components are whole when they are taken K * K times, and the distance
+# with them K times more: so K * K * K times the product is a bound, and 8 * 8 * 8 * 362 * 362 is less than 2^26.
+finds_no_plane_too_fine_near_by() {
+    python3 - <<'END'
+import random, sys
+sys.path.insert(0, "tools")
+from faces import GREATEST, UNIT, is_too_fine, outward
+
+
+def plane_of(places, parts):
+    """The plane of three points that are counted in parts of a unit."""
+    return outward([[UNIT * number // parts for number in place] for place in places])
+
+
+draw = random.Random(9)
+for side, parts in (8192, 1), (362, 8):
+    if side ** 2 * parts ** 3 > GREATEST:
+        sys.exit(f"the bound of {side} does not follow")
+    far = side * parts
+    for _ in range(1000):
+        low = [draw.randint(-32768 * parts, 32768 * parts - far) for _ in range(3)]
+        places = [[at + draw.choice((0, 1, far - 1, far, draw.randint(0, far))) for at in low] for _ in range(3)]
+        plane = plane_of(places, parts)
+        if plane and is_too_fine(plane):
+            sys.exit(f"the plane of {places} in parts of 1/{parts} is too fine")
+    far += parts
+    if not is_too_fine(plane_of([[far + 1, 1, 0], [1, 0, 0], [1, far, 1]], parts)):
+        sys.exit(f"points that are {side + 1} apart are near enough too")
+END
+}
+
 answers_as_the_slow_reader_finds() {
     (cd "$folder" && python3 "$top/.ci/compare_answers.py" "$program" {cube,hole,rooms,rooms8,courtyard,courtyard_leak}.tree)
 }
@@ -394,4 +513,7 @@ check "tools: brushes of groups are moved into the world, and nothing else chang
 check "tools: both editors compile a level with layers as the page says" compiles_as_the_editors_do
 check "tools: brushes of other entities stay, and what is moved stands apart" moves_nothing_else
 check "tools: a text that is no map is refused" says_what_is_no_map
+check "tools: faces are listed as the program refuses them, and what is named instead is taken" lists_faces_as_the_program_refuses_them
+check "tools: all faces that are refused are listed" lists_all_faces
+check "tools: points that are near enough give no plane that is too fine" finds_no_plane_too_fine_near_by
 check "tools: the C of docs/TREEFILE.md finds leaves and rows" agrees_with_the_page_on_tree_files

@@ -66,6 +66,12 @@ def wanted(tree, point):
     return text + "".join(f"section {section.kind}: {len(section.data)} bytes\n" for section in tree.sections)
 
 
+def place(rng, reach):
+    """A point whose coordinates are quarters or sixteenths, or whole, so far from 0."""
+    parts = [rng.choice((1, 4, 16)) for _ in range(3)]
+    return tuple(Fraction(rng.randrange(1 - reach * part, reach * part), part) for part in parts)
+
+
 def fault(program, folder, tree, points):
     """The first point of which the program says something else, or None."""
     (folder / "look.tree").write_bytes(written(tree))
@@ -84,10 +90,10 @@ def main():
     program = compiled(folder)
     read = [treefile.load(folder / name) for name in sys.argv[2:]]
     trees = read + [with_rows(tree, rng) for tree in read]
-    trees += [treefile.decode(data) for data in (cube(), random_tree(rng, 60, True, 2, 32768), long_tree(3000))]
-    trees += [tree._replace(version=1, bound=4096) for tree in trees] + [with_sections(tree) for tree in trees[-3:] + read]
+    trees += [treefile.decode(data) for data in (cube(), random_tree(rng, 60, True, 2, treefile.BOUNDS[-1]), long_tree(3000))]
+    trees += [tree._replace(version=1, bound=treefile.BOUNDS[0]) for tree in trees] + [with_sections(tree) for tree in trees[-3:] + read]
     for number, tree in enumerate(trees):
-        points = [tuple(Fraction(rng.randrange(-2000, 2000), rng.choice((1, 4, 16))) for _ in range(3)) for _ in range(POINTS)]
+        points = [place(rng, rng.choice((600, 2000, tree.bound))) for _ in range(POINTS)]
         found = fault(program, folder, tree, points)
         if found:
             sys.exit(f"tree {number}: the C of {PAGE}: {found}")

@@ -2,10 +2,14 @@
 # Sourced by .ci/checks, behind check_tools.sh, whose functions and trees it uses: the page and the pictures in which one looks
 # at a level from inside.
 
+# and the same one made small and moved off the whole numbers, which has as many of all parts
 compiles_a_made_level() {
     python3 .ci/made_levels.py 1 10 >"$folder/made.map" || return 1
     run_program compile made.map made.tree
-    [[ $status == 0 ]] || return 1
+    [[ $status == 0 ]] && grep -v '^seen' "$folder/printed" >"$folder/parts" || return 1
+    python3 .ci/made_variants.py "$folder/made.map" 3/1000 100.5,-7.125,3.001 >"$folder/fine.map" || return 1
+    run_program compile fine.map fine.tree
+    [[ $status == 0 ]] && grep -v '^seen' "$folder/printed" | cmp - "$folder/parts" || return 1
     run_program compile courtyard.map courtyard.tree --prt courtyard.prt
     [[ $status == 0 ]]
 }
@@ -50,7 +54,13 @@ END
 }
 
 fills_the_borders_of_solid_leaves() {
-    (cd "$folder" && python3 "$top/.ci/check_surfaces.py" cube.tree hole.tree rooms.tree courtyard.tree made.tree)
+    (cd "$folder" && python3 "$top/.ci/check_surfaces.py" cube.tree hole.tree rooms.tree courtyard.tree made.tree fine.tree)
+}
+
+draws_slices_between_whole_heights() {
+    (cd "$folder" && python3 "$top/.ci/check_plans.py" fine.tree) || return 1
+    look plan fine.tree
+    looked
 }
 
 shows_what_is_seen_along_rays() {
@@ -100,12 +110,12 @@ says_why_there_is_no_view() {
         look $words hole.tree --leak "8 0"
         refused "leaf 8 does not touch leaf 0" || return 1
     done
-    look view hole.tree --at 1,2,5000
-    refused "1,2,5000 is outside the cube of hole.tree, which ends at 4096" || return 1
+    look view small.tree --at 1,2,5000
+    refused "1,2,5000 is outside the cube of small.tree, which ends at 4096" || return 1
     for words in '5000,2,3 --to 4,5,6' '4,5,6 --to 1,5000,3' '4,5,6 --to 1,2,3 --row=1,-5000,3'; do
         # shellcheck disable=SC2086
-        look picture hole.tree --from $words
-        [[ $(<"$folder/said") == *5000*"is outside the cube of hole.tree, which ends at 4096" && $status == 1 ]] || return 1
+        look picture small.tree --from $words
+        [[ $(<"$folder/said") == *5000*"is outside the cube of small.tree, which ends at 4096" && $status == 1 ]] || return 1
     done
     look picture hole.tree --from 1,2,3 --to 1,2,3
     refused "the place from which one looks is the one to which one looks" || return 1
@@ -137,6 +147,7 @@ check "views: the pictures of the pages are those of the samples" draws_the_view
 check "views: a row leaves out what is not seen, and nothing else" draws_what_a_row_holds
 check "views: each kind of contents has a colour of its own" draws_each_kind_in_its_colour
 check "views: surfaces fill the borders of solid leaves once" fills_the_borders_of_solid_leaves
+check "views: slices of a tree whose planes are fractions agree with it" draws_slices_between_whole_heights
 check "views: pictures and rows have what is seen along rays" shows_what_is_seen_along_rays
 check "views: a page holds its tree, and draws it" writes_a_page
 check "views: words that are no command get the usage line, and status 2" says_how_views_are_used

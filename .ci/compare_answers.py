@@ -122,8 +122,8 @@ def made(folder):
     draw = random.Random(2)
     trees = {"slanted": made_trees.random_tree(draw, 90, True), "without": made_trees.random_tree(draw, 90, False),
              "long": made_trees.long_tree(700), "first": made_trees.random_tree(draw, 40, True, 1),
-             "large": made_trees.random_tree(draw, 40, True, 2, 32768),
-             "parts": made_trees.random_tree(draw, 40, True, 2, 4096, [(1, b"a"), (9, b""), (2 ** 32 - 1, bytes(300))])}
+             "large": made_trees.random_tree(draw, 40, True, 2, treefile.BOUNDS[-1]),
+             "parts": made_trees.random_tree(draw, 40, True, 2, treefile.BOUNDS[0], [(1, b"a"), (9, b""), (2 ** 32 - 1, bytes(300))])}
     for name, data in trees.items():
         Path(folder, f"{name}.tree").write_bytes(data)
         yield f"{folder}/{name}.tree"

@@ -1,11 +1,12 @@
 #!/usr/bin/env python3
-"""Compares `PROGRAM N FILE` with the plain slow reader of tree files in `tools/treefile.py`, on files that are nearly right.
+"""Compares `PROGRAM N FILE` with the plain slow readers of tree files in `tools/treefile.py` and of listings in
+`.ci/slow_listing.py`, on files that are nearly right.
 
     .ci/compare_files.py PROGRAM
 
 Tree files of both versions are made by `.ci/made_trees.py`: of one cube, of a world without brushes, of random trees with random
-rows, with sections, and of a long one whose rows have runs of more than 255 zeros. Each is cut off at each byte, and each byte is
-changed, left out and doubled. For each the program has to print the fault that the slow reader finds with its place, or how many
+rows, with sections, and of a long one whose rows have runs of more than 255 zeros. Listings are written out here. Each is cut off at
+each byte, and each byte is changed in each bit and in all, left out and doubled. For each the program has to print the fault that the slow reader finds with its place, or how many
 parts the file has, and both have to write it again as it was. Others are odd in one place, as in the bound or in what a section
 promises; what both have to say of these is written out here."""
 
@@ -20,9 +21,18 @@ import tempfile
 sys.path.insert(0, str(Path(__file__).resolve().parent.parent / "tools"))
 
 from made_trees import SOLID, cube, long_tree, random_tree, tree_file, written
+import slow_listing
 import treefile
 
 SECTIONS = [(1, b"abc"), (7, b""), (2 ** 32 - 1, bytes(40))]
+
+
+def listed(text):
+    """What the program has to print of a listing."""
+    try:
+        return "leaves {}, portals {}".format(*slow_listing.count(text))
+    except slow_listing.Fault as fault:
+        return str(fault)
 
 
 def line(data):
@@ -40,18 +50,18 @@ def alterations(data, first):
     """The files that the program makes of one, in its order."""
     for at in range(first, len(data)):
         yield data[:at]
-        for mask in (1, 2, 4, 128, 255):
+        for mask in (1, 2, 4, 8, 16, 32, 64, 128, 255):
             yield data[:at] + bytes([data[at] ^ mask]) + data[at + 1:]
         yield data[:at] + data[at + 1:]
         yield data[:at + 1] + data[at:]
     yield data
 
 
-def said(program, data, first):
+def said(program, data, first, name="altered.tree"):
     """What the program prints of a file and its alterations."""
     with tempfile.TemporaryDirectory() as folder:
-        Path(folder, "altered.tree").write_bytes(data)
-        done = subprocess.run([program, str(first), "altered.tree"], cwd=folder, capture_output=True, text=True, check=True)
+        Path(folder, name).write_bytes(data)
+        done = subprocess.run([program, str(first), name], cwd=folder, capture_output=True, text=True, check=True)
     return done.stdout.splitlines()
 
 
@@ -117,6 +127,14 @@ def altered_files():
     yield len(long_one) - 3, long_one
 
 
+def listings():
+    """Listings of one portal, of two, and of none."""
+    yield b"PRT1\n1\n0\n"
+    yield b"PRT1\n2\n1\n3 0 1 (0 0 -32768 ) (-1.000001 0.500000 32768 ) (7.000000 -0.000001 10 ) \n"
+    yield (b"PRT1\n12\n2\n4 10 2 (-3488 -64 0 ) (-3488 -64 64 ) (-3488 -32 64 ) (-3488 -32 0 ) \n"
+           b"3 0 11 (1 2 3 ) (40 50 60 ) (32767.999999 0 -32768.000000 ) \n")
+
+
 def main():
     program = os.path.abspath(sys.argv[1])
     odd = [*altered_cubes(), *odd_sections()]
@@ -126,9 +144,11 @@ def main():
         if not found == [line(data)] == [due]:
             print(f"{data.hex()}: {found}, the slow reader says {line(data)}, and due is {due}")
             return 1
-    for first, data in altered_files():
-        found = said(program, data, first)
-        wanted = [line(altered) for altered in alterations(data, first)]
+    made = [*((first, data, "altered.tree", line) for first, data in altered_files()),
+            *((0, text, "altered.prt", listed) for text in listings())]
+    for first, data, name, meant in made:
+        found = said(program, data, first, name)
+        wanted = [meant(altered) for altered in alterations(data, first)]
         if found != wanted:
             place = next((i for i, pair in enumerate(zip(found, wanted)) if pair[0] != pair[1]), min(len(found), len(wanted)))
             print(f"{len(data)} bytes, alteration {place}: {found[place:place + 1]}, and the slow reader says {wanted[place:place + 1]}")

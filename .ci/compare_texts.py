@@ -4,7 +4,8 @@
     .ci/compare_texts.py PROGRAM
 
 Two maps are cut off at each byte, and each token of them is dropped, doubled, and exchanged with others. For each
-text the program has to print the fault that the slow reader finds, or the numbers of entities and brushes.
+text the program has to print the fault that the slow reader finds, or the numbers of entities and brushes; then OUT
+has to have the same points, each coordinate without a zero that could be left out.
 """
 
 import os
@@ -13,11 +14,16 @@ import subprocess
 import sys
 import tempfile
 from fractions import Fraction
+from math import gcd
 
 LIMIT = 67_108_864
+# how far the world reaches on each axis
+EXTENT = 32768
+# how many decimals a coordinate may have, and the greatest component of a plane's normal in lowest terms
+PLACES, GREATEST = 3, 2 ** 26
 WORDS = [
     None, "text too long", "quote not closed", "unexpected", "end inside", "bad number", "fraction",
-    "coordinate out of range", "no normal", "no faces", "bad origin", "no entity",
+    "coordinate out of range", "no normal", "no faces", "bad origin", "no entity", "plane too fine",
 ]
 MARKS = [b"{", b"}", b"(", b")", b"[", b"]"]
 
@@ -26,19 +32,21 @@ STANDARD = b"""// a room
 "classname" "worldspawn"
 {
 ( -64 0 0 ) ( -64 1 0 ) ( -64 0 1 ) stone 0 0 0 1 1
-( 64 +0 0. ) ( 64 0 1 ) ( 64 1 0 ) "two words" 0 8 90 1 -1 // a comment
+( 64 +0 0. ) ( 64 0 .125 ) ( 64 1.500 -0 ) "two words" 0 8 90 1 -1 // a comment
+( 4000 0.5 0 ) ( 0 0 0 ) ( 0 4000 0.5 ) slope 0 0 0 1 1
 }
 }
 { "origin" "1 -2.5 3" "a"
 "b" }
 """
 VALVE = b"""{ {
-( 0 0 4096 ) ( 0 1 4096 ) ( 1 0 4096 ) {fence [ 0 -1 0 16 ] [ 0 0 -1 -8.5 ] 0 1 1
+( 0 0 32768 ) ( 0 1 32768.0 ) ( 1 0 32768 ) {fence [ 0 -1 0 16 ] [ 0 0 -1 -8.5 ] 0 1 1
 ( 0 0 0 ) ( 1 0 0 ) ( 0 1 0 ) sky 0 0 0 1 1
 } { ( 9 0 0 ) ( 9 1 0 ) ( 9 0 1 ) x//y [ 1 0 0 0 ] [ 0 1 0 0 ] 0 1 1 } }
 { "origin" "0 0 0" "origin" "x" }
 """
-OTHERS = MARKS + [b"x", b'"q"', b"1.5", b"1e3", b"4097", b"-0", b"99999999999", b'""', b"//", b'"']
+OTHERS = MARKS + [b"x", b'"q"', b"1.5", b"1e3", b"-0", b"0.001", b"0.0005", b"-32768.000", b"32768.001", b"-32768.0001",
+                  b"99999999999", b'""', b"//", b'"']
 
 
 class Token:
@@ -97,7 +105,7 @@ def read_number(word, places):
 class Reader:
     def __init__(self, tokens):
         self.tokens, self.at = tokens, 0
-        self.entities, self.brushes = 0, 0
+        self.entities, self.brushes, self.points = 0, 0, []
 
     def next(self):
         if self.at == len(self.tokens):
@@ -119,12 +127,12 @@ class Reader:
 
     def coordinate(self):
         token = self.word()
-        value = read_number(token.text, 0)
+        value = read_number(token.text, PLACES)
         if value == "form":
             raise Refused(token, 5)
         if value == "fine":
             raise Refused(token, 6)
-        if value == "large" or abs(value) > 4096:
+        if value == "large" or abs(value) > EXTENT:
             raise Refused(token, 7)
         return value
 
@@ -168,11 +176,12 @@ class Reader:
                 self.mark(b"(")
             points.append([self.coordinate() for _ in range(3)])
             close = self.mark(b")")
-        a, b, c = points
-        u = [a[k] - b[k] for k in range(3)]
-        v = [c[k] - b[k] for k in range(3)]
-        if all(u[i] * v[j] == u[j] * v[i] for i in range(3) for j in range(3)):
+        self.points += points
+        normal = normal_of(points)
+        if not any(normal):
             raise Refused(close, 8)
+        if greatest_component(normal, points[0]) > GREATEST:
+            raise Refused(close, 12)
         self.need(lambda token: token.quoted or not token.mark())
         first = self.need(lambda token: token.mark() == b"[" or not token.quoted and not token.mark())
         if not first.mark():
@@ -189,10 +198,28 @@ class Reader:
             self.word()
 
 
+def normal_of(points):
+    """A normal of the plane through three points, by its fractions."""
+    a, b, c = points
+    u = [a[k] - b[k] for k in range(3)]
+    v = [c[k] - b[k] for k in range(3)]
+    return [u[1] * v[2] - u[2] * v[1], u[2] * v[0] - u[0] * v[2], u[0] * v[1] - u[1] * v[0]]
+
+
+def greatest_component(normal, point):
+    """The greatest component of the normal in the plane's lowest terms: whole numbers without a common factor."""
+    numbers = [Fraction(n) for n in normal + [sum(normal[k] * point[k] for k in range(3))]]
+    under = 1
+    for number in numbers:
+        under = under * number.denominator // gcd(under, number.denominator)
+    whole = [int(number * under) for number in numbers]
+    return max(abs(n) for n in whole[:3]) // gcd(*whole)
+
+
 def is_origin(value):
     words = [word for word in re.split(rb"[\x00-\x20]+", value) if word]
     numbers = [read_number(word, 6) for word in words]
-    return len(words) == 3 and all(not isinstance(n, str) and abs(n) < 4096 for n in numbers)
+    return len(words) == 3 and all(not isinstance(n, str) and abs(n) < EXTENT for n in numbers)
 
 
 def meaning(text):
@@ -218,6 +245,32 @@ def meaning(text):
         return f"entities {reader.entities}\nbrushes {reader.brushes}\n"
     _, _, number, line = min(faults)
     return f"map fault {number} at line {line}: {WORDS[number]}\n"
+
+
+def points_of(text):
+    """The points of all faces of a map's text, and the words that spell them."""
+    tokens, _ = lex(text)
+    reader = Reader(tokens)
+    words = []
+    coordinate = reader.coordinate
+
+    def noted():
+        words.append(reader.tokens[reader.at].text)
+        return coordinate()
+
+    reader.coordinate = noted
+    reader.map()
+    return reader.points, words
+
+
+def is_canonical(word):
+    return word != b"-0" and re.fullmatch(rb"-?(0|[1-9][0-9]*)(\.[0-9]*[1-9])?", word)
+
+
+def is_same_map(text, out):
+    """Whether OUT has the points of the text, as they are printed."""
+    points, words = points_of(out)
+    return points == points_of(text)[0] and all(is_canonical(word) for word in words)
 
 
 def pieces(text):
@@ -248,9 +301,16 @@ def main():
                 file.write(text)
             ran = subprocess.run([program, "format", "a.map", "b.map"], cwd=folder, capture_output=True, check=False)
             count += 1
-            if ran.stdout.decode() != meaning(text):
+            due = meaning(text)
+            if ran.stdout.decode() != due:
                 wrong += 1
-                print(f"{text!r}: printed {ran.stdout!r}, and it means {meaning(text)!r}")
+                print(f"{text!r}: printed {ran.stdout!r}, and it means {due!r}")
+            elif due.startswith("entities"):
+                with open(os.path.join(folder, "b.map"), "rb") as file:
+                    out = file.read()
+                if not is_same_map(text, out):
+                    wrong += 1
+                    print(f"{text!r}: OUT is {out!r}")
     print(f"{count} texts, {wrong} wrong")
     sys.exit(1 if wrong else 0)
 

@@ -3,8 +3,8 @@
 
     .ci/compare_upgrades.py PROGRAM TREE..
 
-The trees are files as the compiler wrote them: each is written in version 1, and the program has to make of that what the compiler
-wrote. Others are made here: of slanted planes, with long rows and without rows, in a large world and with sections. What was
+The trees are files as the compiler wrote them: each is written in version 1, which has the least bound, and the program has to
+make of that what the plain writer makes of it in version 2. Others are made here: of slanted planes, with long rows and without rows, in a large world and with sections. What was
 upgraded is upgraded once more, and stays. The file that is read stays, and has the same answers. Where it is cut off, or has a
 byte too many, its fault is printed, and OUT is as it was."""
 
@@ -66,7 +66,7 @@ def faults(program, data):
 def made():
     """Tree files of both versions."""
     rng = random.Random(5)
-    for form in (1,), (2, 32768), (2, 4096, SECTIONS):
+    for form in (1,), (2, treefile.BOUNDS[-1]), (2, treefile.BOUNDS[0], SECTIONS):
         yield from (cube(*form), random_tree(rng, 40, True, *form), random_tree(rng, 7, False, *form))
         yield tree_file([], [], [(SOLID, 1)], None, *form)
     yield written(treefile.decode(long_tree(700)), 1)

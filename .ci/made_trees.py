@@ -2,7 +2,13 @@
 zeros. `.ci/compare_files.py` alters them, and `.ci/check_treefile_page.py` reads their rows."""
 
 from math import gcd
+from pathlib import Path
 import struct
+import sys
+
+sys.path.insert(0, str(Path(__file__).resolve().parent.parent / "tools"))
+
+from maptext import EXTENT
 
 CODES = {"empty": -1, "solid": -2, "water": -3, "slime": -4, "lava": -5, "sky": -6}
 SOLID = -2
@@ -24,7 +30,7 @@ def in_runs(row):
     return bytes(out)
 
 
-def tree_file(planes, nodes, leaves, rows, version=2, bound=4096, sections=()):
+def tree_file(planes, nodes, leaves, rows, version=2, bound=EXTENT, sections=()):
     """The bytes of a file: a leaf is the code of its contents and whether it is filled, a row the set of what it holds, a section
     its kind and its bytes. Version 1 says nothing of the bound, and has no sections."""
     numbered = sum(code != SOLID for code, _ in leaves)
