@@ -7,7 +7,10 @@ from fractions import Fraction
 from math import gcd
 import sys
 
-EXTENT = 4096
+# how far from 0 the cube reaches, and a part of it: what is drawn in the whole cube lies on this grid, so that no plane is too fine
+EXTENT = 32768
+PARTS = 4096
+UNIT = EXTENT // PARTS
 
 
 def value(plane, place):
@@ -59,13 +62,13 @@ class Numbers:
         self.state = (self.state * 6364136223846793005 + 1442695040888963407) % 2**64
         return self.state >> 33
 
-    def plane(self, reach):
-        return through(*[[self.next() % (2 * reach + 1) - reach for _ in range(3)] for _ in range(3)])
+    def plane(self, reach, unit=1):
+        return through(*[[unit * (self.next() % (2 * reach + 1) - reach) for _ in range(3)] for _ in range(3)])
 
 
 def random_planes(count):
     numbers = Numbers()
-    return [numbers.plane(EXTENT) for _ in range(count)]
+    return [numbers.plane(PARTS, UNIT) for _ in range(count)]
 
 
 def steps(count):
@@ -125,15 +128,16 @@ def behind(polygon, planes):
 
 
 SQUARE = [(-EXTENT, -EXTENT, 0), (EXTENT, -EXTENT, 0), (EXTENT, EXTENT, 0), (-EXTENT, EXTENT, 0)]
+SOME, LESS, MORE, NEAR = (UNIT * number for number in (3000, 2000, 4000, 3968))
 SLANTS = [
-    through((3000, 3000, 0), (3000, 3000, 1), (2000, 4000, 0)),
-    through((3000, -3000, 0), (3000, -3000, 1), (2000, -4000, 0)),
-    flipped(through((-3000, 3000, 0), (-3000, 3000, 1), (-2000, 4000, 0))),
-    flipped(through((-3000, -3000, 0), (-3000, -3000, 1), (-2000, -4000, 0))),
+    through((SOME, SOME, 0), (SOME, SOME, 1), (LESS, MORE, 0)),
+    through((SOME, -SOME, 0), (SOME, -SOME, 1), (LESS, -MORE, 0)),
+    flipped(through((-SOME, SOME, 0), (-SOME, SOME, 1), (-LESS, MORE, 0))),
+    flipped(through((-SOME, -SOME, 0), (-SOME, -SOME, 1), (-LESS, -MORE, 0))),
 ]
 NEAR_CORNER = [
-    flipped(through((3968, 0, 0), (3968, 1, 0), (3968, 0, 1))),
-    flipped(through((0, 3968, 0), (1, 3968, 0), (0, 3968, 1))),
+    flipped(through((NEAR, 0, 0), (NEAR, 1, 0), (NEAR, 0, 1))),
+    flipped(through((0, NEAR, 0), (1, NEAR, 0), (0, NEAR, 1))),
 ]
 STARTS = {
     "squares": SQUARE,

@@ -37,7 +37,7 @@ END
 }
 
 printf '%-18s%12s%12s%8s%8s%14s%14s\n' text 'qmapc s' 'plain s' ratio MB/s 'bytes a byte' 'of plain'
-for text in standard valve mixed 'mixed crlf' braces origins; do
+for text in standard valve mixed 'mixed crlf' eighths braces origins; do
     map="$folder/map"
     # shellcheck disable=SC2086  # two words stand for two words
     bench/make_map.py "$megabytes" $text >"$map"

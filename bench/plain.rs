@@ -4,6 +4,11 @@
 
 use std::cmp::Ordering;
 
+/// How far from 0 the cube reaches, and a part of it: what is drawn in the whole cube lies on this grid, so that no plane is too fine.
+const EXTENT: i32 = 32768;
+const PARTS: u32 = 4096;
+const UNIT: i32 = EXTENT / PARTS as i32;
+
 #[derive(Clone, Copy, Default, PartialEq)]
 struct Plane {
     nx: i32,
@@ -149,7 +154,7 @@ struct Cuboid {
 #[cfg(cuboid)]
 impl Cuboid {
     fn whole() -> Cuboid {
-        let span = Span { low: -4096, high: 4096 };
+        let span = Span { low: -EXTENT, high: EXTENT };
         Cuboid { x: span, y: span, z: span }
     }
 
@@ -268,7 +273,7 @@ impl Winding {
 
     /// The part of a plane across an axis, inside the cube.
     fn on(plane: &Plane) -> Winding {
-        let wall = |nx, ny, nz| Plane { nx, ny, nz, d: -4096 };
+        let wall = |nx, ny, nz| Plane { nx, ny, nz, d: -i64::from(EXTENT) };
         let (u, v) = match (plane.nx, plane.ny) {
             (1, _) => ([0, 1, 0], [0, 0, 1]),
             (_, 1) => ([0, 0, 1], [1, 0, 0]),
@@ -388,19 +393,19 @@ impl Numbers {
         (self.state >> 33) as u32
     }
 
-    fn point(&mut self, reach: u32) -> [i32; 3] {
-        [(); 3].map(|()| (self.next() % (2 * reach + 1)) as i32 - reach as i32)
+    fn point(&mut self, reach: u32, unit: i32) -> [i32; 3] {
+        [(); 3].map(|()| unit * ((self.next() % (2 * reach + 1)) as i32 - reach as i32))
     }
 
-    fn plane(&mut self, reach: u32) -> Plane {
-        let (a, b, c) = (self.point(reach), self.point(reach), self.point(reach));
+    fn plane(&mut self, reach: u32, unit: i32) -> Plane {
+        let (a, b, c) = (self.point(reach, unit), self.point(reach, unit), self.point(reach, unit));
         Plane::through(a, b, c).unwrap_or(Plane { nx: 1, ny: 0, nz: 0, d: 0 })
     }
 }
 
 fn planes() -> Vec<Plane> {
     let mut numbers = Numbers { state: 1 };
-    (0..1024).map(|_| numbers.plane(4096)).collect()
+    (0..1024).map(|_| numbers.plane(PARTS, UNIT)).collect()
 }
 
 /// The plane across an axis, so many steps of 64 along it, counted from 2,048 below 0.
@@ -423,7 +428,7 @@ impl Tree {
         let planes = (0..1023)
             .map(|place| {
                 if place % 8 == 7 {
-                    numbers.plane(2048)
+                    numbers.plane(2048, 1)
                 } else {
                     let axis = numbers.next() as usize % 3;
                     across(axis, numbers.next() % 65)
@@ -470,7 +475,7 @@ fn faces_of_box(numbers: &mut Numbers) -> Vec<Winding> {
 }
 
 fn square() -> Winding {
-    let wall = |nx, ny| Plane { nx, ny, nz: 0, d: -4096 };
+    let wall = |nx, ny| Plane { nx, ny, nz: 0, d: -i64::from(EXTENT) };
     let floor = Plane { nx: 0, ny: 0, nz: 1, d: 0 };
     Winding::of(&floor, &[wall(1, 0), wall(0, 1), wall(-1, 0), wall(0, -1)])
 }
@@ -484,21 +489,22 @@ fn cut_by(start: Winding, planes: &[Plane]) -> Winding {
 
 fn start(name: &str) -> Winding {
     let through = |a, b, c| Plane::through(a, b, c).unwrap();
+    let [some, less, more, near] = [3000, 2000, 4000, 3968].map(|number| UNIT * number);
     match name {
         "octagons" => cut_by(
             square(),
             &[
-                through([3000, 3000, 0], [3000, 3000, 1], [2000, 4000, 0]),
-                through([3000, -3000, 0], [3000, -3000, 1], [2000, -4000, 0]),
-                through([-3000, 3000, 0], [-3000, 3000, 1], [-2000, 4000, 0]).flipped(),
-                through([-3000, -3000, 0], [-3000, -3000, 1], [-2000, -4000, 0]).flipped(),
+                through([some, some, 0], [some, some, 1], [less, more, 0]),
+                through([some, -some, 0], [some, -some, 1], [less, -more, 0]),
+                through([-some, some, 0], [-some, some, 1], [-less, more, 0]).flipped(),
+                through([-some, -some, 0], [-some, -some, 1], [-less, -more, 0]).flipped(),
             ],
         ),
         "misses" => cut_by(
             square(),
             &[
-                through([3968, 0, 0], [3968, 1, 0], [3968, 0, 1]).flipped(),
-                through([0, 3968, 0], [1, 3968, 0], [0, 3968, 1]).flipped(),
+                through([near, 0, 0], [near, 1, 0], [near, 0, 1]).flipped(),
+                through([0, near, 0], [1, near, 0], [0, near, 1]).flipped(),
             ],
         ),
         _ => square(),

@@ -7,7 +7,21 @@ use std::process::ExitCode;
 use std::{env, fs};
 
 const TEXT_LIMIT: usize = 67_108_864;
-const EXTENT: i64 = 4096;
+const EXTENT: i64 = 32768;
+
+/// How many decimals a coordinate may have, and ten to that power.
+const PLACES: usize = 3;
+const UNIT: i64 = 1000;
+
+/// The greatest component of a plane's normal in lowest terms.
+const GREATEST: u128 = 1 << 26;
+
+/// How many decimals a coordinate may have, and ten to that power.
+const PLACES: usize = 3;
+const UNIT: i64 = 1000;
+
+/// The greatest component of a plane's normal in lowest terms.
+const GREATEST: u128 = 1 << 26;
 
 /// How many bytes of a text stand in the value itself.
 const ROOM: usize = 22;
@@ -44,6 +58,7 @@ enum Mapping {
 }
 
 struct Face {
+    /// In thousandths of a map unit.
     points: [[i32; 3]; 3],
     texture: Text,
     mapping: Mapping,
@@ -66,9 +81,10 @@ enum Kind {
     NoFaces,
     BadOrigin,
     NoEntity,
+    PlaneTooFine,
 }
 
-const WORDS: [&str; 11] = [
+const WORDS: [&str; 12] = [
     "text too long",
     "quote not closed",
     "unexpected",
@@ -80,6 +96,7 @@ const WORDS: [&str; 11] = [
     "no faces",
     "bad origin",
     "no entity",
+    "plane too fine",
 ];
 
 struct Fault {
@@ -204,8 +221,8 @@ impl<'a> Reader<'a> {
     #[inline]
     fn coordinate(&mut self) -> Result<i32, Fault> {
         let token = self.name()?;
-        match decimal(token.bytes, 0) {
-            Ok(value) if value.abs() <= EXTENT => Ok(value as i32),
+        match decimal(token.bytes, PLACES) {
+            Ok(value) if value.abs() <= EXTENT * UNIT => Ok(value as i32),
             Ok(_) => Err(self.refused(Kind::CoordinateRange, token)),
             Err(kind) => Err(self.refused(kind, token)),
         }
@@ -220,8 +237,10 @@ impl<'a> Reader<'a> {
             }
             points[i] = [self.coordinate()?, self.coordinate()?, self.coordinate()?];
             let close = self.expect(b')')?;
-            if i == 2 && is_flat(&points) {
-                return Err(self.refused(Kind::NoNormal, close));
+            if i == 2 {
+                if let Some(kind) = fault_of_points(&points) {
+                    return Err(self.refused(kind, close));
+                }
             }
         }
         let token = self.some()?;
@@ -352,7 +371,7 @@ fn with_decimals(sign: i64, whole: i64, decimals: &[u8], places: usize) -> Resul
     if value > 1_000_000_000 * 10_i64.pow(places as u32) { Err(Kind::CoordinateRange) } else { Ok(sign * value) }
 }
 
-/// Whether a value is three numbers strictly between -4096 and 4096, with six decimals at most.
+/// Whether a value is three numbers strictly between -32768 and 32768, with six decimals at most.
 fn is_origin(value: &[u8]) -> bool {
     let bound = EXTENT * 1_000_000;
     let mut count = 0;
@@ -365,18 +384,59 @@ fn is_origin(value: &[u8]) -> bool {
     count == 3
 }
 
+/// Why three points give no plane, if they give none.
 #[inline]
-fn is_flat([a, b, c]: &[[i32; 3]; 3]) -> bool {
+fn fault_of_points([a, b, c]: &[[i32; 3]; 3]) -> Option<Kind> {
     let step = |to: &[i32; 3]| [0, 1, 2].map(|i| i64::from(to[i] - b[i]));
     let (u, v) = (step(a), step(c));
-    u[1] * v[2] == u[2] * v[1] && u[2] * v[0] == u[0] * v[2] && u[0] * v[1] == u[1] * v[0]
+    let normal = [u[1] * v[2] - u[2] * v[1], u[2] * v[0] - u[0] * v[2], u[0] * v[1] - u[1] * v[0]];
+    if normal == [0; 3] {
+        return Some(Kind::NoNormal);
+    }
+    let most = normal.iter().fold(0, |most, n| most.max(n.unsigned_abs()));
+    let is_whole = [a, b, c].iter().all(|point| point.iter().all(|&n| i64::from(n) % UNIT == 0));
+    if is_whole && u128::from(most) <= GREATEST * 1_000_000 {
+        return None;
+    }
+    is_too_fine(normal, b).then_some(Kind::PlaneTooFine)
+}
+
+#[cold]
+fn is_too_fine(normal: [i64; 3], at: &[i32; 3]) -> bool {
+    let components = normal.map(|n| u128::from(n.unsigned_abs()) * 1000);
+    let distance: i128 = (0..3).map(|i| i128::from(normal[i]) * i128::from(at[i])).sum();
+    let factor = components.iter().fold(distance.unsigned_abs(), |factor, &n| common_divisor(factor, n));
+    components.iter().any(|&n| n / factor > GREATEST)
+}
+
+fn common_divisor(mut a: u128, mut b: u128) -> u128 {
+    while b != 0 {
+        (a, b) = (b, a % b);
+    }
+    a
 }
 
 #[inline]
 fn put_number(out: &mut Vec<u8>, number: i32) {
-    let mut digits = [b' '; 8];
-    let mut start = 7;
+    let mut digits = [b' '; 16];
+    let mut start = 15;
     let mut left = number.unsigned_abs();
+    let mut decimals = left % UNIT as u32;
+    left /= UNIT as u32;
+    if decimals > 0 {
+        let mut count = PLACES;
+        while decimals % 10 == 0 {
+            decimals /= 10;
+            count -= 1;
+        }
+        for _ in 0..count {
+            start -= 1;
+            digits[start] = b'0' + (decimals % 10) as u8;
+            decimals /= 10;
+        }
+        start -= 1;
+        digits[start] = b'.';
+    }
     loop {
         start -= 1;
         digits[start] = b'0' + (left % 10) as u8;

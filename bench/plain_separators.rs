@@ -3,6 +3,12 @@
 
 use std::cmp::Ordering;
 
+/// Half the size of the cube.
+const EXTENT: i64 = 32768;
+
+/// The largest component of a normal in lowest terms.
+const LARGEST: i64 = 1 << 26;
+
 #[derive(Clone, Copy, Default, PartialEq)]
 struct Plane {
     n: [i32; 3],
@@ -37,12 +43,16 @@ impl Plane {
         Plane { n: self.n.map(|k| -k), d: -self.d }
     }
 
+    /// `None` where the points lie on one line, or where a component of the normal is too large.
     fn through(a: [i32; 3], b: [i32; 3], c: [i32; 3]) -> Option<(Plane, bool)> {
         let mut n = normal(a, b, c);
         let mut d: i64 = (0..3).map(|i| n[i] * i64::from(b[i])).sum();
         let lead = n.iter().copied().find(|&k| k != 0)?;
         let factor = n.iter().fold(d.unsigned_abs(), |f, k| gcd(f, k.unsigned_abs())) as i64 * lead.signum();
         n = n.map(|k| k / factor);
+        if n.iter().any(|k| k.abs() > LARGEST) {
+            return None;
+        }
         d /= factor;
         Some((Plane { n: n.map(|k| k as i32), d }, lead > 0))
     }
@@ -105,7 +115,7 @@ impl Winding {
         let wall = |axis: usize, sign: i32| {
             let mut n = [0; 3];
             n[axis] = sign;
-            Plane { n, d: -4096 }
+            Plane { n, d: -EXTENT }
         };
         let square = Winding { plane: *plane, edges: vec![wall(u, 1), wall(v, 1), wall(u, -1), wall(v, -1)] };
         square.in_front_of(&wall(axis, 1))?.in_front_of(&wall(axis, -1))
