@@ -38,46 +38,52 @@ installs_what_runs_alone() {
 make_a_small_tree() {
     local crate
     small="$folder/small"
-    rm -rf "$small" "$folder/cache"
-    mkdir -p "$small/.ci" "$folder/bin"
+    rm -rf "$small" "$folder/cache" "$folder/kept"
+    mkdir -p "$small/.ci" "$folder/bin" "$folder/kept"
     cp qmapc "$small/" && cp .ci/built.sh .ci/building.sh "$small/.ci/" || return 1
     printf '%s\n' 'low: kit' 'beside:' 'other: low' 'near: low beside' 'qmapc: near # the program' >"$small/crates.txt"
     for crate in low beside other near qmapc; do
-        mkdir -p "$small/crates/$crate/src"
+        mkdir -p "$small/crates/$crate/src" "$small/crates/$crate/must-fail"
         echo 'one' >"$small/crates/$crate/src/main.rt"
     done
+    echo 'a word' >"$small/crates/qmapc/args"
     echo 'kit one' >"$folder/version"
     cat >"$folder/bin/rt" <<END
 #!/bin/bash
-prove() {
-    mkdir -p out
-    cat src/main.rt >>out/kept
-    echo "what the prover says of \${PWD##*/}"
-    while [[ -e $folder/slow ]]; do sleep 0.1; done
-    ! grep -q wrong src/main.rt
-}
-case "\$1" in
+kept() { echo "$folder/kept/\$1-\$(sha256sum <crates/\$1/src/main.rt | cut -c 1-16)"; }
+case "\$*" in
 version) cat "$folder/version" ;;
-all)
-    [[ ! -d crates/other && "\$2 \$3 \$4" == "check --jobs "[1-9]* ]] || exit 2
-    for crate in low beside; do
-        echo "== \$crate"
-        (cd crates/\$crate && prove) || { printf '== summary\n%s: failed (1)\n' \$crate && exit 1; }
+ci)
+    [[ ! -e crates/other && ! -e crates/low/must-fail && -e crates/qmapc/args ]] || exit 2
+    for crate in low beside near qmapc; do
+        if [[ -e \$(kept \$crate) ]]; then
+            echo "rt: \$crate is kept: an earlier run on this machine proved the same files"
+            continue
+        fi
+        printf '== %s\nwhat the prover says of %s\n' \$crate \$crate
+        if grep -q wrong crates/\$crate/src/main.rt; then
+            printf 'rt: %s NOT PROVED\n0 passed, 1 failed\n' \$crate
+            exit 1
+        fi
+        echo "rt: \$crate proved"
+        echo \$crate >>"$folder/proved"
+        : >"\$(kept \$crate)"
+        while [[ -e $folder/slow ]]; do sleep 0.1; done
     done
-    # it is stopped here, before the crates beside which nothing can be proved
-    exec sleep 60
-    ;;
-lib) ! grep -q wrong ../{low,beside}/src/main.rt && prove ;;
-run)
-    ! grep -q wrong ../near/src/main.rt && prove || exit 1
     echo built >>"$folder/builds"
-    printf '#!/bin/sh\necho "\$*"\n' >out/qmapc
-    chmod +x out/qmapc
+    mkdir -p crates/qmapc/out
+    printf '#!/bin/sh\necho "\$*"\n' >crates/qmapc/out/qmapc
+    chmod +x crates/qmapc/out/qmapc
+    if [[ -e $folder/prints_more ]]; then
+        printf 'what the program printed\n0 passed, 1 failed\n'
+        exit 1
+    fi
     ;;
 esac
 END
     chmod +x "$folder/bin/rt"
     : >"$folder/builds"
+    : >"$folder/proved"
 }
 
 launch() {
@@ -133,24 +139,23 @@ tells_how_far_it_is() {
     launch again && [[ $(grep -o '[1-9] of 4 crates$' "$folder/said" | tr '\n' ' ') == '1 of 4 crates 2 of 4 crates 3 of 4 crates 4 of 4 crates ' ]]
 }
 
-# what an earlier build proved is there for the next one, also where the earlier one was interrupted
+# what an earlier build proved the toolchain keeps for the next one, also where the earlier one was interrupted
 goes_on_where_it_was() {
-    local kept
     make_a_small_tree || return 1
     touch "$folder/slow"
     : >"$folder/said"
     PATH="$folder/bin:$PATH" XDG_CACHE_HOME="$folder/cache" "$small/qmapc" again >"$folder/printed" 2>"$folder/said" &
     for _ in {1..600}; do
-        kept=$(echo "$folder"/cache/qmapc/*/crates/low/out/kept)
-        [[ ! -s $kept ]] || ! grep -qs '1 of 4 crates' "$folder/said" || break
+        ! grep -qs '1 of 4 crates' "$folder/said" || break
         sleep 0.1
     done
     kill -TERM $! && ! wait $! || return 1
-    [[ ! -e $small/crates/qmapc/out/qmapc ]] || return 1
     rm "$folder/slow"
+    sleep 1
+    # what proved was stopped too
+    [[ ! -e $small/crates/qmapc/out/qmapc ]] && has_built 0 && [[ $(<"$folder/proved") == low ]] || return 1
     launch two words && has_built 1 && [[ $(<"$folder/printed") == 'two words' ]] || return 1
-    kept=$(echo "$folder"/cache/qmapc/*/crates/low/out/kept)
-    [[ $(wc -l <"$kept") == 2 ]]
+    grep -q '4 of 4 crates' "$folder/said" && [[ $(tr '\n' ' ' <"$folder/proved") == 'low beside near qmapc ' ]]
 }
 
 says_why_it_fails() {
@@ -161,8 +166,12 @@ says_why_it_fails() {
         fails_with_words 'was not proved' launch again && has_built 0 || return 1
         grep -q "^what the prover says of $wrong" "$folder/said" && ! grep -q 'of low' "$folder/said" || return 1
     done
+    make_a_small_tree || return 1
+    touch "$folder/prints_more"
+    fails_with_words 'was not proved' launch again && grep -q '^what the program printed' "$folder/said" || return 1
+    [[ ! -e $small/crates/qmapc/out/qmapc ]] || return 1
+    rm "$folder/prints_more"
     fails_with_words 'not on the PATH' launch_without_rt || return 1
-    echo 'one' >"$small/crates/beside/src/main.rt"
     launch again && launch_without_rt && [[ $(<"$folder/printed") == 'compile a b' ]] || return 1
     fails_with_words 'do not stand beside the launcher' launch_alone
 }
