@@ -240,22 +240,26 @@ def read_rows(data, at, count):
 def read_row(data, at, width):
     """The bytes of the row that begins at a place, and the place behind it. A byte that is not 0 stands for itself, and a 0
     is followed by how many zeros there are, as many as there can be."""
-    row, place, could_be_longer = bytearray(), at, False
-    while len(row) < width:
-        zero = data.find(0, place, place + width - len(row))
-        if zero != place:
-            plain = take(data, place, (width - len(row)) if zero < 0 else zero - place)
-            row += plain
-            place, could_be_longer = place + len(plain), False
+    parts, place, left, could_be_longer, end = [], at, width, False, len(data)
+    while left:
+        zero = data.find(0, place, place + left)
+        plain = left if zero < 0 else zero - place
+        if plain:
+            parts.append(data[place:place + plain])
+            place, left, could_be_longer = place + plain, left - plain, False
+        if zero < 0:
+            due(data, place)
             continue
         if could_be_longer:
             raise Fault("row form", at)
-        zeros = take(data, place, 2)[1]
-        if zeros == 0 or len(row) + zeros > width:
+        if place + 1 == end:
+            raise Fault("short", end)
+        zeros = data[place + 1]
+        if not 0 < zeros <= left:
             raise Fault("row form", at)
-        row += bytes(zeros)
-        place, could_be_longer = place + 2, zeros < 255
-    return bytes(row), place
+        parts.append(bytes(zeros))
+        place, left, could_be_longer = place + 2, left - zeros, zeros < 255
+    return b"".join(parts), place
 
 
 def read_sections(data, at, count):
