@@ -33,6 +33,8 @@ class Beam:
             beam, part = waiting.pop()
             if beam.state == OPEN:
                 found.append((beam, part))
+            elif beam.state is None and beam.front.state == beam.back.state == COVERED:
+                beam.state = COVERED
             elif beam.state is None:
                 front, back = corners.split(part, beam.plane)
                 waiting += [(below, piece) for below, piece in ((beam.back, back), (beam.front, front)) if piece]

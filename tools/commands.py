@@ -102,15 +102,15 @@ def picture_of(words):
     eye, aim = inside(words, tree, words.eye), inside(words, tree, words.aim)
     if eye == aim:
         raise Refused("the place from which one looks is the one to which one looks")
-    seen, row, mark = surfaces.seen(tree), None, None
+    looking, row, mark = Eye(eye, aim), None, None
     line = leak_line(Cells(tree), words.leak) if words.leak else None
-    shown = {leaf: what.surfaces for leaf, what in seen.items()}
+    shown = {leaf: what.surfaces for leaf, what in surfaces.seen(tree, picture.frame(looking)).items()}
     if words.row:
         mark = None if words.row is True else inside(words, tree, words.row)
         own = leaf_with_row(words, tree, mark or eye)
         row = tree.leaves[own].number
-        shown = {leaf: shown[leaf] for leaf in surfaces.held(tree, seen, own) if leaf in shown}
-    drawn = picture.Picture(tree, Eye(eye, aim), shown, line, words.leak, mark)
+        shown = {leaf: shown[leaf] for leaf in surfaces.held(tree, surfaces.seen_beside(tree, own), own) if leaf in shown}
+    drawn = picture.Picture(tree, looking, shown, line, words.leak, mark)
     return [picture.drawn(drawn, picture.titled(plain_name(words.name), eye, aim, row))]
 
 

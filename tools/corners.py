@@ -38,12 +38,19 @@ def cut(first, second, here, there):
     """The corner on a plane, between two on either side of it whose values are given."""
     if here < 0:
         first, second, here, there = second, first, there, here
-    return reduced(*(here * b - there * a for a, b in zip(first, second)))
+    (a, b, c, d), (e, f, g, h) = first, second
+    return reduced(here * e - there * a, here * f - there * b, here * g - there * c, here * h - there * d)
 
 
 def values(polygon, plane):
     """The value of each corner of a polygon."""
     nx, ny, nz, d = plane
+    if ny == nz == 0:
+        return [nx * x - d * w for x, _, _, w in polygon]
+    if nx == nz == 0:
+        return [ny * y - d * w for _, y, _, w in polygon]
+    if nx == ny == 0:
+        return [nz * z - d * w for _, _, z, w in polygon]
     return [nx * x + ny * y + nz * z - d * w for x, y, z, w in polygon]
 
 

@@ -5,7 +5,6 @@ from math import ceil, hypot
 
 import corners
 from polygons import turned
-from treefile import value
 
 # how far to each side the frame reaches for one unit ahead: 1 is a right angle from its left to its right side
 SPAN = Fraction(1)
@@ -54,8 +53,8 @@ def crossed(a, b):
     return a[1] * b[2] - a[2] * b[1], a[2] * b[0] - a[0] * b[2], a[0] * b[1] - a[1] * b[0]
 
 
-def nearest_first(tree, place):
-    """The leaves of a tree, in an order in which none hides from a place a part of one before it."""
+def nearest_first(tree, corner):
+    """The leaves of a tree, in an order in which none hides from a corner a part of one before it."""
     waiting = [tree.root()]
     while waiting:
         child = waiting.pop()
@@ -63,4 +62,4 @@ def nearest_first(tree, place):
             yield -1 - child
         else:
             plane, front, back = tree.nodes[child]
-            waiting += [back, front] if value(tree.planes[plane], place) >= 0 else [front, back]
+            waiting += [back, front] if corners.value(tree.planes[plane], corner) >= 0 else [front, back]

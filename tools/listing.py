@@ -1,6 +1,7 @@
 """Reads a listing of portals, in the form PRT1: each portal with the numbers of the two leaves that it joins."""
 
 from fractions import Fraction
+from functools import lru_cache
 import re
 
 NUMBER = r"-?\d+(?:\.\d{6})?"
@@ -36,4 +37,10 @@ def portal(line, number, leaves):
     points = re.findall(r"\((\S+) (\S+) (\S+) \)", match.group(4))
     if count != len(points) or count < 3 or front == back or max(front, back) >= leaves:
         raise NoListing(f"line {number} is not a portal")
-    return front, back, [tuple(Fraction(word) for word in point) for point in points]
+    return front, back, [tuple(map(exact, point)) for point in points]
+
+
+@lru_cache(maxsize=None)
+def exact(word):
+    """The number that a word says, whole or not. Most words of a listing come more than once."""
+    return Fraction(word) if "." in word else int(word)

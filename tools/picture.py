@@ -36,12 +36,19 @@ class Part(NamedTuple):
     polygons: list
 
 
+def frame(eye):
+    """The planes through the eye and the sides of the picture, with what it shows to their front."""
+    return eye.frame(Fraction(HIGH, WIDE))
+
+
 def look(tree, eye, shown, pieces):
     """What is seen of the surfaces of some leaves, from the nearest on, and of the pieces of a line, each of which is given with
     the leaf in which it lies: its ends."""
     beam, found, ends = Beam(), [], []
-    beam.narrow(eye.frame(Fraction(HIGH, WIDE)), OPEN, COVERED)
-    for leaf in nearest_first(tree, eye.place):
+    beam.narrow(frame(eye), OPEN, COVERED)
+    for leaf in nearest_first(tree, eye.corner):
+        if beam.state == COVERED:
+            break
         for piece in pieces.get(leaf, ()):
             ends += [part for _, part in beam.open_parts(piece)]
         for surface in shown.get(leaf, ()):

@@ -42,6 +42,8 @@ class View:
 
     def shown(self, polygon):
         """The corners in the picture of what is shown of a piece, or None."""
+        if all(self.west <= x <= self.east and self.south <= y <= self.north for x, y, _ in polygon):
+            return [self.at(corner) for corner in polygon]
         sides = [(1, 0, 0, self.west), (-1, 0, 0, -self.east), (0, 1, 0, self.south), (0, -1, 0, -self.north)]
         part = in_front(polygon, sides)
         return part and [self.at(corner) for corner in part]

@@ -1,10 +1,14 @@
 """What a plane at one height cuts out of a tree: a convex piece of each leaf that it meets, with exact corners.
 
-A slice shows what is just above its height, since what lies on a plane goes to the plane's front."""
+A slice shows what is just above its height, since what lies on a plane goes to the plane's front. While pieces are cut, a corner is
+three whole numbers x, y and w, which stand for (x/w, y/w), and what a slice has of a plane is three numbers too: x and y lie on it
+where a*x + b*y = c*w. So no fraction is made on the way."""
 
 from fractions import Fraction
+from math import gcd
 
-from polygons import split, square
+from below import SOLID, contents_below
+from polygons import square
 
 # how many heights are tried where none is asked for
 MOST_TRIED = 12
@@ -12,16 +16,54 @@ MOST_TRIED = 12
 
 def pieces(tree, height):
     """Each leaf that the slice meets, with its piece, in the order of the leaves."""
-    found, waiting = [], [(tree.root(), [(*corner, height) for corner in square(tree.bound)])]
+    return [(leaf, [(Fraction(x, w), Fraction(y, w), height) for x, y, w in polygon])
+            for leaf, polygon in whole_pieces(tree, Fraction(height), lambda child: False)]
+
+
+def whole_pieces(tree, height, is_left_out):
+    """The same with corners of three whole numbers; leaves are left out below each child that a test names."""
+    waiting = [(tree.root(), [(*corner, 1) for corner in square(tree.bound)])]
     while waiting:
         child, polygon = waiting.pop()
+        if is_left_out(child):
+            continue
         if child < 0:
-            found.append((-1 - child, polygon))
+            yield -1 - child, polygon
             continue
         plane, front, back = tree.nodes[child]
-        parts = split(polygon, tree.planes[plane])
-        waiting += [(below, part) for below, part in ((back, parts[1]), (front, parts[0])) if part]
-    return found
+        nx, ny, nz, d = tree.planes[plane]
+        part = height.denominator
+        before, behind = parted(polygon, (nx * part, ny * part, d * part - nz * height.numerator))
+        waiting += [(side, part) for side, part in ((back, behind), (front, before)) if part]
+
+
+def parted(polygon, line):
+    """What a line leaves of a piece in front and behind, each None where nothing is there. What lies on the line goes to the front."""
+    a, b, c = line
+    values = [a * x + b * y - c * w for x, y, w in polygon]
+    if min(values) >= 0:
+        return polygon, None
+    if max(values) <= 0:
+        return None, polygon
+    front, back = [], []
+    for at, here in enumerate(values):
+        there = values[at - 1]
+        if here < 0 < there or there < 0 < here:
+            between = cut(polygon[at - 1], polygon[at], there, here)
+            front.append(between)
+            back.append(between)
+        if here >= 0:
+            front.append(polygon[at])
+        if here <= 0:
+            back.append(polygon[at])
+    return front, back
+
+
+def cut(first, second, here, there):
+    """The corner on a line, between two on either side of it whose values are given."""
+    x, y, w = ((here * b - there * a) * (1 if here > 0 else -1) for a, b in zip(first, second))
+    common = gcd(x, y, w)
+    return x // common, y // common, w // common
 
 
 def heights(tree):
@@ -36,12 +78,14 @@ def usual_height(tree):
     found = heights(tree)
     between = [(low + high) / 2 for low, high in zip(found, found[1:])] or [Fraction(0)]
     some = between[::len(between) // MOST_TRIED + 1]
-    return max(some, key=lambda height: (seen(tree, pieces(tree, height)), -height))
+    below = contents_below(tree)
+    return max(some, key=lambda height: (seen(tree, height, lambda child: below(child) == SOLID), -height))
 
 
-def seen(tree, found):
+def seen(tree, height, is_solid):
     """How many pieces of a slice are not solid and reach no wall of the cube."""
-    return sum(tree.leaves[leaf].number is not None and is_bounded(tree, polygon) for leaf, polygon in found)
+    found = whole_pieces(tree, height, is_solid)
+    return sum(all(max(abs(x), abs(y)) < tree.bound * w for x, y, w in polygon) for _, polygon in found)
 
 
 def extent(tree, found):

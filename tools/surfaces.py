@@ -5,8 +5,13 @@ the contents beyond change, and not where one leaf beyond ends and another one o
 
 from typing import NamedTuple
 
+from below import SOLID, contents_below
 from bodies import bodies
 import corners
+from treefile import CONTENTS
+
+# what a leaf holds that is not solid
+OPEN = frozenset(CONTENTS.values()) - SOLID
 
 
 class Surface(NamedTuple):
@@ -24,47 +29,54 @@ class Seen(NamedTuple):
     touched: set
 
 
-def seen(tree):
-    """What is seen of each numbered leaf that has points, by the number of the leaf."""
-    return {leaf: seen_of(tree, leaf, faces) for leaf, faces in bodies(tree) if tree.leaves[leaf].number is not None}
+def seen(tree, planes=(), kinds=OPEN):
+    """What is seen of each leaf that holds one of some kinds of contents and has points in front of some planes, by the number of the
+    leaf: of what it has there."""
+    below = contents_below(tree)
+    return {leaf: seen_of(tree, below, leaf, faces) for leaf, faces in bodies(tree, below, kinds, planes)}
 
 
-def seen_of(tree, leaf, faces):
-    """What is seen of a leaf."""
+def seen_of(tree, below, leaf, faces):
+    """What is seen of a leaf; `below` tells what leaves below a child hold."""
     own, found = tree.leaves[leaf].contents, Seen(faces, [], set())
     for face in faces:
         if face.node is None:
             continue
-        for beyond, polygon in pieces(tree, face, found.touched, own):
+        for beyond, polygon in pieces(tree, below, face, found.touched, own):
             if beyond != own:
                 found.surfaces.append(Surface(polygon, face.plane, beyond))
     return found
 
 
-def pieces(tree, face, touched, own):
+def pieces(tree, below, face, touched, own):
     """The parts of a face, each with the contents beyond. A node beyond that parts no contents cuts nothing. Leaves beyond of
     other contents than one's own that are not solid are added to those that are touched."""
-    beyond = opposite(tree, face, face.node)
+    own_alone, beyond = frozenset({own}), opposite(tree, face, face.node)
     found, waiting = [], [(beyond, face.polygon, None)]
     while waiting:
         child, polygon, first = waiting.pop()
         if first is not None:
             if all(contents == found[first][0] for contents, _ in found[first:]):
                 found[first:] = [(found[first][0], polygon)]
+            continue
+        kinds = below(child)
+        if kinds == own_alone:
+            found.append((own, polygon))
+        elif kinds == SOLID:
+            found.append(("solid", polygon))
         elif child < 0:
-            leaf = tree.leaves[-1 - child]
-            found.append((leaf.contents, polygon))
-            if leaf.number is not None and leaf.contents != own:
-                touched.add(-1 - child)
+            found.append((tree.leaves[-1 - child].contents, polygon))
+            touched.add(-1 - child)
         else:
             plane, front, back = tree.nodes[child]
-            before, behind = corners.split(polygon, tree.planes[plane])
-            if before and behind:
+            values = corners.values(polygon, tree.planes[plane])
+            if min(values) < 0 < max(values):
+                before, behind = corners.parted(polygon, values)
                 waiting += [(None, polygon, len(found)), (back, behind, None), (front, before, None)]
-            elif tree.planes[plane] == tree.planes[tree.nodes[face.node].plane]:
-                waiting.append((opposite(tree, face, child), polygon, None))
+            elif any(values):
+                waiting.append((front if max(values) > 0 else back, polygon, None))
             else:
-                waiting.append((front if before else back, polygon, None))
+                waiting.append((opposite(tree, face, child), polygon, None))
     return found
 
 
@@ -74,8 +86,19 @@ def opposite(tree, face, node):
     return back if face.plane == tuple(tree.planes[plane]) else front
 
 
+def row_of(tree, leaf):
+    """The leaves that the row of a leaf holds."""
+    numbered = [number for number, what in enumerate(tree.leaves) if what.number is not None]
+    return {numbered[number] for number in tree.row(tree.leaves[leaf].number)}
+
+
 def held(tree, seen, leaf):
     """The leaves that the row of a leaf holds, and those that touch them and hold other contents, since a row knows one contents."""
-    numbered = [number for number, what in enumerate(tree.leaves) if what.number is not None]
-    found = {numbered[number] for number in tree.row(tree.leaves[leaf].number)}
-    return found.union(*(seen[other].touched for other in found if other in seen))
+    found = row_of(tree, leaf)
+    return found.union(other for other, what in seen.items() if not found.isdisjoint(what.touched))
+
+
+def seen_beside(tree, leaf):
+    """What is seen of the leaves that may touch some that the row of a leaf holds, and hold other contents."""
+    kinds = {tree.leaves[other].contents for other in row_of(tree, leaf)}
+    return seen(tree, kinds=OPEN - kinds if len(kinds) == 1 else OPEN)
