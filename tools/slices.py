@@ -38,7 +38,7 @@ def whole_pieces(tree, height, is_left_out):
 
 
 def parted(polygon, line):
-    """What a line leaves of a piece in front and behind, each None where nothing is there. What lies on the line goes to the front."""
+    """What a line leaves of a piece in front and behind, each None where nothing is there. What lies on it goes to the front."""
     a, b, c = line
     values = [a * x + b * y - c * w for x, y, w in polygon]
     if min(values) >= 0:
