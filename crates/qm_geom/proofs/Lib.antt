@@ -11,4 +11,7 @@ pub mod Extents
 pub mod Cuboids
 pub mod Lines
 pub mod ThroughPoints
+pub mod Axes
+pub mod Wholes
+pub mod LowestAnswers
 pub mod LowestTerms

@@ -1,5 +1,5 @@
 -- What bringing the plane of three points to lowest terms says of the points.
-use Rattle.std.proofs.Common.{◌≡◌, Bool, pos, Result, Ok, Err, ◌↔◌, refl, sym, subst, arith}
+use Rattle.std.proofs.Common.{◌≡◌, Bool, pos, Result, Ok, Err, Option, None, Some, ◌↔◌, refl, sym, subst, arith}
 use Rattle.std.specs.Prelude.{IfOk}
 use Rattle.std.proofs.lemmas.Int.{ints}
 use Rattle.qm_space.specs.Point.{Point}
@@ -12,7 +12,7 @@ use Rattle.qm_space.proofs.Lines.{HaveOneWeight}
 use Rattle.qm_space.proofs.NormalSizes.{large_not_small}
 use Rattle.qm_space.proofs.SpannedPlanes.{normal_in_space, in_space_has_normal}
 use Rattle.qm_space.proofs.PlanesThroughPoints.{one_line_no_normal, no_normal_one_line, plane_through_is, by_normal}
-use Rattle.qm_geom.specs.inner.Lowest.{IsLowestAnswer}
+use Rattle.qm_geom.specs.inner.Lowest.{IsLowestAnswer, IsLowestFault}
 use Rattle.qm_geom.specs.declared.through_fault.ThroughFault.{ThroughFault}
 use Rattle.qm_geom.specs.declared.through_fault.ThroughFault.TheVariants.{NoNormal, TooFine}
 
@@ -47,6 +47,18 @@ module _ (p0 p1 p2 : Point) (weights : HaveOneWeight p0 p1 p2) where
   through_no_normal (Ok r) is = ((λ e. cc), (λ line. absurd (spanned_off_line is.0 line)))
   through_no_normal (Err NoNormal) is = ((λ e. spanned_on_line is), (λ line. refl))
   through_no_normal (Err TooFine) is = ((λ e. cc), (λ line. absurd (spanned_off_line is.0 line)))
+
+  -- where the fault alone is asked for
+  pub fault_no_normal : (answer : Option ThroughFault) → IsLowestFault (spanned_plane p0 p1 p2) answer → (answer ≡ Some NoNormal) ↔ AreOnOneLine p0 p1 p2
+  fault_no_normal None is = ((λ e. cc), (λ line. absurd (spanned_off_line is.0 line)))
+  fault_no_normal (Some NoNormal) is = ((λ e. spanned_on_line is), (λ line. refl))
+  fault_no_normal (Some TooFine) is = ((λ e. cc), (λ line. absurd (spanned_off_line is.0 line)))
+
+  pub fault_too_fine : (answer : Option ThroughFault) → IsLowestFault (spanned_plane p0 p1 p2) answer → (answer ≡ Some TooFine) ↔ IsPlaneTooFine p0 p1 p2
+  unfolding plane_through
+  fault_too_fine None is = ((λ e. cc), (λ fine. absurd (large_not_small (plane_through p0 p1 p2).0 fine.large is.1)))
+  fault_too_fine (Some NoNormal) is = ((λ e. cc), (λ fine. absurd (fine.apart (spanned_on_line is))))
+  fault_too_fine (Some TooFine) is = ((λ e. record { apart = spanned_off_line is.0; large = is.1 }), (λ fine. refl))
 
   pub through_too_fine : (answer : Result (Plane × Bool) ThroughFault) → IsLowestAnswer (spanned_plane p0 p1 p2) answer → (answer ≡ Err TooFine) ↔ IsPlaneTooFine p0 p1 p2
   unfolding plane_through

@@ -54,9 +54,6 @@ value_at_point h p n x y z w d r q of_h of_p of_d fx fy fz fw fd along times k l
 
 -- ---- steps between points, and the outward plane
 
-pub coordinate_kept : (z : ℤ) → IsThousandths z → IsThousandths (kept w32 z)
-coordinate_kept z h = rw (kept_32 z thousandths_bound (thousandths_small z h) (lit≤ tt)) h
-
 step_small : (a b : ℤ) → unsigned_abs a ≤ thousandths_bound → unsigned_abs b ≤ thousandths_bound → unsigned_abs (b -ℤ a) ≤ 2 ^ 26
 step_small a b h k = let s = abs_difference b a in omega arith
 

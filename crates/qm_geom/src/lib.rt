@@ -2,6 +2,7 @@
 //! which a point lies, and the book that numbers the planes.
 #![tactic(auto)]
 
+mod axis;
 mod corner;
 mod cuboid;
 mod distance;
@@ -13,9 +14,11 @@ mod plane;
 mod plane_book;
 mod point;
 mod rounding;
+mod spanned;
 mod through_fault;
 mod unreduced;
 mod vector;
+mod whole;
 
 pub use corner::Corner;
 pub use cuboid::{Cuboid, Span};

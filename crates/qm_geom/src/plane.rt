@@ -1,4 +1,4 @@
-ghost use Rattle.std.specs.Prelude.{◌≡◌, ◌^◌, pos, ◌↔◌, IfOk, Err};
+ghost use Rattle.std.specs.Prelude.{◌≡◌, ◌^◌, pos, ◌↔◌, IfOk, Err, Some};
 ghost use Rattle.std.specs.Ordering.{int_cmp};
 ghost use Rattle.qm_space.specs.Plane.{flipped, value};
 ghost use Rattle.qm_space.specs.Point.{whole_point, thousandths_point, AreCoordinates, AreThousandths};
@@ -7,6 +7,7 @@ ghost use Rattle.qm_space.specs.Line.{AreOnOneLine};
 ghost use Rattle.qm_geom.specs.Vectors.{normal_vector, HasSmallComponents};
 
 use crate::point::Point;
+use crate::spanned;
 use crate::through_fault::ThroughFault;
 use crate::unreduced::UnreducedPlane;
 use crate::vector::{Vector, product};
@@ -59,9 +60,18 @@ impl Plane {
         ensures no_normal { (result ≡ Err ThroughFault.NoNormal) ↔ AreOnOneLine (thousandths_point p0) (thousandths_point p1) (thousandths_point p2) }
         ensures too_fine { (result ≡ Err ThroughFault.TooFine) ↔ IsPlaneTooFine (thousandths_point p0) (thousandths_point p1) (thousandths_point p2) }
     {
-        UnreducedPlane::outward(p0, p1, p2)
-            .in_thousandths()
-            .in_lowest_terms()
+        spanned::in_lowest_terms(p0, p1, p2)
+    }
+
+    /// Why three points in thousandths of a map unit give no plane, if they give none.
+    pub fn fault_through(p0: [i32; 3], p1: [i32; 3], p2: [i32; 3]) -> Option<ThroughFault>
+        requires p0_in_cube { AreThousandths p0 }
+        requires p1_in_cube { AreThousandths p1 }
+        requires p2_in_cube { AreThousandths p2 }
+        ensures no_normal { (result ≡ Some ThroughFault.NoNormal) ↔ AreOnOneLine (thousandths_point p0) (thousandths_point p1) (thousandths_point p2) }
+        ensures too_fine { (result ≡ Some ThroughFault.TooFine) ↔ IsPlaneTooFine (thousandths_point p0) (thousandths_point p1) (thousandths_point p2) }
+    {
+        spanned::fault(p0, p1, p2)
     }
 
     /// The same of three whole points.

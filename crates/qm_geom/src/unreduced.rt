@@ -1,4 +1,4 @@
-ghost use Rattle.std.specs.Prelude.{◌≡◌, ◌<◌, ◌≤◌, ◌^◌, ◌↔◌, IsTrue, pos, int_div, unsigned_abs, MatchOption};
+ghost use Rattle.std.specs.Prelude.{◌≡◌, ◌<◌, ◌≤◌, ◌^◌, ◌%◌, ◌↔◌, IsTrue, pos, int_div, unsigned_abs, IfSome, MatchOption};
 ghost use Rattle.qm_space.specs.Bounds.{normal_bound, distance_bound, outward_normal_bound};
 ghost use Rattle.qm_space.specs.Plane.{flipped};
 ghost use Rattle.qm_space.specs.Turned.{turned};
@@ -6,8 +6,10 @@ ghost use Rattle.qm_space.specs.Reduced.{leads_positive, HasNormal, HasNormalUpT
 ghost use Rattle.qm_space.specs.Point.{thousandths_point, AreThousandths};
 ghost use Rattle.qm_space.specs.ThreePoints.{outward_plane, in_space, common_factor, reduced};
 ghost use Rattle.qm_space.specs.inner.SpannedSizes.{IsWithinReach};
-ghost use Rattle.qm_geom.specs.inner.Lowest.{IsLowestAnswer};
+ghost use Rattle.qm_geom.specs.inner.Axes.{HasNormalAlong};
+ghost use Rattle.qm_geom.specs.inner.Lowest.{IsLowestAnswer, IsLowestFault};
 
+use crate::axis::Axis;
 use crate::factor::common_divisor;
 use crate::plane::Plane;
 use crate::through_fault::ThroughFault;
@@ -88,6 +90,20 @@ impl UnreducedPlane {
         }
     }
 
+    /// Why it cannot be brought to lowest terms, if it cannot. A small normal stays small, so no factor is looked for.
+    pub(crate) fn fault(&self) -> Option<ThroughFault>
+        requires { IsWithinReach self.now }
+        ensures { IsLowestFault self.now result }
+    {
+        if self.has_normal() && self.has_small_normal() {
+            return None;
+        }
+        match self.in_lowest_terms() {
+            Ok(_) => None,
+            Err(fault) => Some(fault),
+        }
+    }
+
     /// Whether the normal is not zero.
     pub(crate) fn has_normal(&self) -> bool
         ensures { IsTrue result ↔ HasNormal self.now }
@@ -95,8 +111,36 @@ impl UnreducedPlane {
         self.nx != 0 || self.ny != 0 || self.nz != 0
     }
 
+    /// The axis along which the normal lies, if it lies along one.
+    pub(crate) fn axis(&self) -> Option<Axis>
+        ensures { IfSome result (λ axis. HasNormalAlong self.now axis) }
+    {
+        if self.nz == 0 {
+            if self.ny == 0 {
+                return Some(Axis::X);
+            }
+            if self.nx == 0 {
+                return Some(Axis::Y);
+            }
+            return None;
+        }
+        if self.nx == 0 && self.ny == 0 {
+            return Some(Axis::Z);
+        }
+        None
+    }
+
+    /// Whether no component of the normal is beyond that of a plane.
+    fn has_small_normal(&self) -> bool
+        ensures { IsTrue result → HasSmallNormal self.now }
+    {
+        self.nx.unsigned_abs() <= GREATEST_COMPONENT
+            && self.ny.unsigned_abs() <= GREATEST_COMPONENT
+            && self.nz.unsigned_abs() <= GREATEST_COMPONENT
+    }
+
     /// Whether the first component of the normal that is not 0 is positive.
-    fn leads_positive(&self) -> bool
+    pub(crate) fn leads_positive(&self) -> bool
         ensures { result ≡ leads_positive self.now }
     {
         if self.nx != 0 {
@@ -140,9 +184,8 @@ impl UnreducedPlane {
         ensures size { result < 2 ^ 63 }
     {
         let of_two = common_divisor(self.nx.unsigned_abs(), self.ny.unsigned_abs());
-        let of_three = common_divisor(of_two, self.nz.unsigned_abs());
-        let rest = self.d.unsigned_abs() % u128::from(of_three);
-        common_divisor(rest as u64, of_three)
+        let of_three = common_divisor(self.nz.unsigned_abs(), of_two);
+        common_divisor(of_three, remainder(self.d.unsigned_abs(), of_three))
     }
 
     /// The plane in lowest terms; `None` where a component of its normal is too great.
@@ -174,12 +217,26 @@ fn component_quotient(component: i64, factor: u64) -> Option<i32>
     Some(quotient as i32)
 }
 
-/// A distance in lowest terms.
+/// A distance in lowest terms. Most distances fit into 64 bits, which divide faster.
 fn distance_quotient(distance: i128, factor: u64) -> i64
     requires factor_positive { 0 < factor }
     requires factor_small { factor < 2 ^ 63 }
     requires small { unsigned_abs (int_div distance (pos factor)) ≤ distance_bound }
     ensures { result ≡ int_div distance (pos factor) }
 {
-    (distance / i128::from(factor)) as i64
+    match i64::try_from(distance) {
+        Ok(distance) => distance / factor as i64,
+        Err(_) => (distance / i128::from(factor)) as i64,
+    }
+}
+
+/// What a divisor leaves of a distance.
+fn remainder(distance: u128, divisor: u64) -> u64
+    requires { 0 < divisor }
+    ensures { result ≡ distance % divisor }
+{
+    match u64::try_from(distance) {
+        Ok(distance) => distance % divisor,
+        Err(_) => (distance % u128::from(divisor)) as u64,
+    }
 }

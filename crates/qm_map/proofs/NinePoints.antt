@@ -1,5 +1,5 @@
 -- Nine coordinates as three points.
-use Rattle.std.proofs.Common.{◌≡◌, ◌<◌, ℕ, suc, zero, ℤ, true, false, ◌↔◌, List, [], ◌∷◌, length, get_or, slice_index_or, Result, Ok, Err, sym, arith, All}
+use Rattle.std.proofs.Common.{◌≡◌, ◌<◌, ℕ, suc, zero, ℤ, true, false, ◌↔◌, List, [], ◌∷◌, length, get_or, slice_index_or, Option, None, Some, sym, arith, All}
 use Rattle.qm_space.specs.Point.{IsThousandths, AreThousandths}
 use Rattle.qm_space.specs.Line.{AreOnOneLine}
 use Rattle.qm_space.specs.ThreePoints.{IsPlaneTooFine}
@@ -12,8 +12,8 @@ use Rattle.qm_grammar.specs.inner.Machine.{give_plane, plane_refusal}
 use Rattle.qm_grammar.proofs.Planes.{give_true, false_give, on_line, fine}
 
 -- what tells whether points give a plane, computed
-pub gives : {P : Type 0} (points : List (List ℤ)) (plane : P) → (◌≡◌ {A = Result P ThroughFault} (Ok plane) (Err NoNormal) ↔ AreOnOneLine (point_at points 0) (point_at points 1) (point_at points 2)) → (◌≡◌ {A = Result P ThroughFault} (Ok plane) (Err TooFine) ↔ IsPlaneTooFine (point_at points 0) (point_at points 1) (point_at points 2)) → give_plane points ≡ true
-gives points plane none found = give_true points (record {
+pub gives : (points : List (List ℤ)) → (◌≡◌ {A = Option ThroughFault} None (Some NoNormal) ↔ AreOnOneLine (point_at points 0) (point_at points 1) (point_at points 2)) → (◌≡◌ {A = Option ThroughFault} None (Some TooFine) ↔ IsPlaneTooFine (point_at points 0) (point_at points 1) (point_at points 2)) → give_plane points ≡ true
+gives points none found = give_true points (record {
   spans = λ line. absurd (let e = none.1 line in cc);
   not_too_fine = λ is. absurd (let e = found.1 is in cc);
 })

@@ -33,10 +33,10 @@ pub(crate) fn refusal_of_points(numbers: &[i32]) -> Option<Refusal>
         (λ reason. (give_plane (points_of numbers.now) ≡ false) × (reason ≡ plane_refusal (points_of numbers.now))) }
 {
     let [p0, p1, p2] = points_of(numbers);
-    match Plane::through(p0, p1, p2) {
-        Ok(_) => None,
-        Err(ThroughFault::NoNormal) => Some(Refusal::NoNormal),
-        Err(ThroughFault::TooFine) => Some(Refusal::PlaneTooFine),
+    match Plane::fault_through(p0, p1, p2) {
+        None => None,
+        Some(ThroughFault::NoNormal) => Some(Refusal::NoNormal),
+        Some(ThroughFault::TooFine) => Some(Refusal::PlaneTooFine),
     }
 }
 

@@ -2,7 +2,7 @@
 use Rattle.std.proofs.Common.{refl, ◌≡◌, ℕ, suc, zero, ◌*◌, ◌/◌, ◌%◌, ◌≤◌, ◌<◌, ℤ, pos, negsuc, ◌+ℤ◌, ◌-ℤ◌, ◌*ℤ◌, neg_ℤ, ◌≤ℤ◌, ◌<ℤ◌, [], ◌∷◌, ap, sym, subst, ◌∙◌, arith, unsigned_abs, int_div, int_rem, mod-lt, div-add-mod', mul-le-mul}
 use Rattle.std.specs.Int.{◌∣◌, IsGcd}
 use Rattle.std.proofs.lemmas.Int.{ints, quot-rem}
-use Rattle.std.proofs.lemmas.Nat.Gcd.{IsGcd-from_mod, dvd_refl, dvd-zero, dvd_trans, mod-eq-zero_of_dvd}
+use Rattle.std.proofs.lemmas.Nat.Gcd.{IsGcd-from_mod, IsGcd-swap, same_from_IsGcd, dvd_refl, dvd-zero, dvd_trans, mod-eq-zero_of_dvd}
 use Rattle.std.proofs.Math.Nat.{mul-div_cancel'}
 use Rattle.std.proofs.Math.IntN.{*ℤ_comm}
 use Rattle.qm_numbers.specs.Gcd.{gcd, gcd_within}
@@ -25,6 +25,10 @@ gcd_within_is (suc turns) a (suc b) h =
 pub gcd_is : (a b : ℕ) → IsGcd a b (gcd a b)
 unfolding gcd
 gcd_is a b = gcd_within_is (suc b) a b (omega arith)
+
+-- in whatever order they are named
+pub gcd_swapped : (a b : ℕ) → gcd a b ≡ gcd b a
+gcd_swapped a b = same_from_IsGcd a b (gcd a b) (gcd b a) (gcd_is a b) (IsGcd-swap b a (gcd b a) (gcd_is b a))
 
 pub gcd_divides_left : (a b : ℕ) → gcd a b ∣ a
 gcd_divides_left a b = (gcd_is a b).0

@@ -1,6 +1,8 @@
 -- Whole coordinates and coordinates in thousandths: how large they are, and that the points of them lie in the closed cube.
-use Rattle.std.proofs.Common.{ℕ, suc, zero, ◌≤◌, ℤ, pos, List, [], ◌∷◌, slice_index_or, refl, arith, unsigned_abs}
+use Rattle.std.proofs.Common.{ℕ, suc, zero, ◌≤◌, ℤ, pos, List, [], ◌∷◌, slice_index_or, refl, arith, lit≤, unsigned_abs, w32}
 use Rattle.std.proofs.lemmas.Int.{ints}
+use Rattle.qm_numbers.proofs.Bits.{kept_32}
+use Rattle.qm_numbers.proofs.Kept.{kept}
 use Rattle.qm_space.specs.Bounds.{world_extent, thousandths_bound}
 use Rattle.qm_space.specs.Point.{whole_point, thousandths_point, IsCoordinate, AreCoordinates, IsThousandths, AreThousandths, IsWholePoint}
 use Rattle.qm_space.specs.Cube.{IsUpToExtent, IsInClosedCube}
@@ -18,6 +20,14 @@ coordinate_is_thousandths c h = let l = h.low in let r = h.high in record { low 
 
 pub thousandths_of_coordinates : (at : List ℤ) → AreCoordinates at → AreThousandths at
 thousandths_of_coordinates at are = λ i d within. coordinate_is_thousandths _ (are i d within)
+
+-- ---- as code holds them in 32 bits
+
+pub coordinate_kept : (c : ℤ) → IsCoordinate c → IsCoordinate (kept w32 c)
+coordinate_kept c h = rw (kept_32 c world_extent (coordinate_small c h) (lit≤ tt)) h
+
+pub thousandths_kept : (c : ℤ) → IsThousandths c → IsThousandths (kept w32 c)
+thousandths_kept c h = rw (kept_32 c thousandths_bound (thousandths_small c h) (lit≤ tt)) h
 
 -- ---- the numbers of a list
 

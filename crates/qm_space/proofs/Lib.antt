@@ -10,6 +10,9 @@ pub mod NormalSizes
 pub mod CoordinateSizes
 pub mod CubeDistances
 pub mod SpannedPlanes
+pub mod LowestMultiples
+pub mod AxialPlanes
+pub mod SamePlaces
 pub mod Cubes
 pub mod Lines
 pub mod PlanesThroughPoints

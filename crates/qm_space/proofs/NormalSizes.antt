@@ -5,6 +5,8 @@ use Rattle.qm_space.specs.Bounds.{normal_bound}
 use Rattle.qm_space.specs.Plane.{Plane, flipped}
 use Rattle.qm_space.specs.Reduced.{HasNormalUpTo, HasSmallNormal, HasLargeNormal, large_x, large_y, large_z}
 use Rattle.qm_space.specs.Turned.{turned}
+use Rattle.qm_space.specs.ThreePoints.{common_factor, reduced}
+use Rattle.qm_numbers.proofs.Kept.{quotient_small}
 use Rattle.qm_numbers.proofs.Signs.{abs_neg}
 
 -- one is, or none is
@@ -23,6 +25,15 @@ large_not_small h (large_z beyond) small = let z = small.z in absurd (omega arit
 -- a lesser bound
 pub normal_up_to_more : (m n : ℕ) (h : Plane) → m ≤ n → HasNormalUpTo m h → HasNormalUpTo n h
 normal_up_to_more m n h less small = let x = small.x in let y = small.y in let z = small.z in record { x = omega arith; y = omega arith; z = omega arith }
+
+-- the same in lowest terms
+pub reduced_up_to : (n : ℕ) (h : Plane) → HasNormalUpTo n h → HasNormalUpTo n (reduced h)
+unfolding reduced
+reduced_up_to n h small = let k = common_factor h in record {
+  x = let l = small.x in let q = quotient_small h.nx k in omega arith;
+  y = let l = small.y in let q = quotient_small h.ny k in omega arith;
+  z = let l = small.z in let q = quotient_small h.nz k in omega arith;
+}
 
 -- the same with the sides exchanged
 pub flipped_up_to : (n : ℕ) (h : Plane) → HasNormalUpTo n h → HasNormalUpTo n (flipped h)
