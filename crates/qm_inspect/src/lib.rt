@@ -6,6 +6,7 @@ mod laws;
 mod numbered;
 mod places;
 mod printing;
+mod room;
 mod row_places;
 mod rows;
 mod telling;

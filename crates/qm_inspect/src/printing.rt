@@ -1,6 +1,6 @@
 //! Answers as text.
 
-ghost use Rattle.std.specs.Prelude.{◌≡◌, ◌++◌, ◌∷◌, IfOk, OnOk, OnErr, string_bytes};
+ghost use Rattle.std.specs.Prelude.{◌≡◌, ◌++◌, ◌∷◌, OnOk, OnErr, string_bytes};
 ghost use Rattle.std.specs.Fmt.{decimal};
 ghost use Rattle.qm_answers.specs.AnswerText.{name_of_contents, number_words, filled_words, yes_or_no, printed_row, section_kinds, set_places, words_of_count, words_of_place, words_of_row, words_of_parts, answer_words, answer_line};
 
@@ -20,15 +20,27 @@ pub fn print(
     ensures ok { OnOk result (out.new.items ≡ out.old.items ++ answer_line file.now answer.now) }
     ensures err { OnErr result (out.new.items ≡ out.old.items) }
 {
-    let mut line = words_of(alloc, file, answer)?;
-    line.push('\n')?;
+    let mut line = String::new(alloc);
+    put_line(&mut line, file, answer)?;
     out.extend_from_slice(line.as_bytes())
 }
 
-/// The words of an answer.
+/// Adds the line of an answer. No copy of it is kept.
+pub(crate) fn put_line(
+    text: &mut String,
+    file: &TreeFile,
+    answer: &Answer,
+) -> Result<(), AllocError>
+    ensures { OnOk result (string_bytes text.new ≡ string_bytes text.old ++ answer_line file.now answer.now) }
+{
+    put_words(text, file, answer)?;
+    text.push('\n')
+}
+
+/// Adds the words of an answer.
 #[tactic(auto, unfolding(qm_answers::specs::AnswerText::answer_words))]
-fn words_of(alloc: Global, file: &TreeFile, answer: &Answer) -> Result<String, AllocError>
-    ensures { IfOk result (λ text. string_bytes text ≡ answer_words file.now answer.now) }
+fn put_words(text: &mut String, file: &TreeFile, answer: &Answer) -> Result<(), AllocError>
+    ensures { OnOk result (string_bytes text.new ≡ string_bytes text.old ++ answer_words file.now answer.now) }
 {
     match *answer {
         Answer::Count {
@@ -37,81 +49,73 @@ fn words_of(alloc: Global, file: &TreeFile, answer: &Answer) -> Result<String, A
             leaves,
             numbered,
             rows,
-        } => words_of_count(alloc, planes, nodes, leaves, numbered, rows),
+        } => put_counts(text, planes, nodes, leaves, numbered, rows),
         Answer::Place {
             leaf,
             contents,
             filled,
             number,
-        } => words_of_place(alloc, leaf, contents, filled, number),
-        Answer::Row(n) => words_of_row(alloc, file, n),
-        Answer::Sees(sees) => String::from_str(alloc, yes_or_no(sees)),
-        Answer::Parts => words_of_parts(alloc, file),
+        } => put_place(text, leaf, contents, filled, number),
+        Answer::Row(n) => put_row(text, file, n),
+        Answer::Sees(sees) => text.push_str(yes_or_no(sees)),
+        Answer::Parts => put_parts(text, file),
     }
 }
 
-/// The words of how much there is.
+/// Adds how much there is.
 #[tactic(auto, unfolding(qm_answers::specs::AnswerText::words_of_count))]
-fn words_of_count(
-    alloc: Global,
+fn put_counts(
+    text: &mut String,
     planes: u64,
     nodes: u64,
     leaves: u64,
     numbered: u64,
     rows: bool,
-) -> Result<String, AllocError>
-    ensures { IfOk result (λ text. string_bytes text ≡ words_of_count planes nodes leaves numbered rows) }
+) -> Result<(), AllocError>
+    ensures { OnOk result (string_bytes text.new ≡ string_bytes text.old ++ words_of_count planes nodes leaves numbered rows) }
 {
-    let mut text = String::new(alloc);
     let rows = yes_or_no(rows);
     write!(
         text,
         "planes {planes} nodes {nodes} leaves {leaves} numbered {numbered} rows {rows}"
-    )?;
-    Ok(text)
+    )
 }
 
-/// The words of the leaf at a point.
+/// Adds the words of the leaf at a point.
 #[tactic(auto, unfolding(qm_answers::specs::AnswerText::words_of_place))]
-fn words_of_place(
-    alloc: Global,
+fn put_place(
+    text: &mut String,
     leaf: u64,
     contents: Contents,
     filled: bool,
     number: Option<u64>,
-) -> Result<String, AllocError>
-    ensures { IfOk result (λ text. string_bytes text ≡ words_of_place leaf contents filled number) }
+) -> Result<(), AllocError>
+    ensures { OnOk result (string_bytes text.new ≡ string_bytes text.old ++ words_of_place leaf contents filled number) }
 {
-    let mut text = String::new(alloc);
     let name = name_of(contents);
     write!(text, "leaf {leaf} {name}")?;
-    put_number(&mut text, number)?;
-    put_filled(&mut text, filled)?;
-    Ok(text)
+    put_number(text, number)?;
+    put_filled(text, filled)
 }
 
-/// The words of the row of a numbered leaf.
+/// Adds the words of the row of a numbered leaf.
 #[tactic(auto, unfolding(qm_answers::specs::AnswerText::words_of_row))]
-fn words_of_row(alloc: Global, file: &TreeFile, n: u64) -> Result<String, AllocError>
-    ensures { IfOk result (λ text. string_bytes text ≡ words_of_row file.now n) }
+fn put_row(text: &mut String, file: &TreeFile, n: u64) -> Result<(), AllocError>
+    ensures { OnOk result (string_bytes text.new ≡ string_bytes text.old ++ words_of_row file.now n) }
 {
-    let mut text = String::new(alloc);
     write!(text, "row {n}:")?;
-    put_row(&mut text, file, n)?;
-    Ok(text)
+    put_places(text, file, n)
 }
 
-/// The words of what a file says of itself.
+/// Adds what a file says of itself.
 #[tactic(auto, unfolding(qm_answers::specs::AnswerText::words_of_parts))]
-fn words_of_parts(alloc: Global, file: &TreeFile) -> Result<String, AllocError>
-    ensures { IfOk result (λ text. string_bytes text ≡ words_of_parts file.now) }
+fn put_parts(text: &mut String, file: &TreeFile) -> Result<(), AllocError>
+    ensures { OnOk result (string_bytes text.new ≡ string_bytes text.old ++ words_of_parts file.now) }
 {
-    let mut text = String::new(alloc);
     let version = file.version;
     let bound = file.bound;
     write!(text, "version {version} bound {bound} parts")?;
-    put_kinds(&mut text, file.sections.as_slice())?;
-    Ok(text)
+    put_kinds(text, file.sections.as_slice())
 }
 
 fn yes_or_no(holds: bool) -> &'static str
@@ -155,7 +159,7 @@ fn put_filled(text: &mut String, filled: bool) -> Result<(), AllocError>
 }
 
 /// Adds the numbers that a row holds, where it is there.
-fn put_row(text: &mut String, file: &TreeFile, n: u64) -> Result<(), AllocError>
+fn put_places(text: &mut String, file: &TreeFile, n: u64) -> Result<(), AllocError>
     ensures { OnOk result (string_bytes text.new ≡ string_bytes text.old ++ set_places 0 (printed_row file.now n)) }
 {
     if let Some(rows) = &file.rows {

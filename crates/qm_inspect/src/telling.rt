@@ -6,7 +6,8 @@ ghost use Rattle.qm_inspect.specs.Told.{IsTold};
 
 use crate::asking::answer;
 use crate::numbered::block_counts;
-use crate::printing::print;
+use crate::printing::put_line;
+use crate::room::room_for_lines;
 use qm_answers::QueryFault;
 use qm_commands::Query;
 use qm_file::TreeFile;
@@ -27,10 +28,10 @@ pub fn tell(alloc: Global, file: &TreeFile, queries: &[Query]) -> Result<Told, A
     ensures { IfOk result (λ told. IsTold file.now queries.now told) }
 {
     let counts = block_counts(alloc, file.tree.all_leaves())?;
-    let mut lines = Vec::new(alloc);
+    let mut lines = String::with_capacity(alloc, room_for_lines(file, &counts, queries))?;
     for k in 0..queries.len() {
         match answer(file, &counts, &queries[k]) {
-            Ok(answer) => print(alloc, file, &answer, &mut lines)?,
+            Ok(answer) => put_line(&mut lines, file, &answer)?,
             Err(fault) => {
                 return Ok(Told::Refused {
                     number: k as u64 + 1,
@@ -39,5 +40,5 @@ pub fn tell(alloc: Global, file: &TreeFile, queries: &[Query]) -> Result<Told, A
             }
         }
     }
-    Ok(Told::Lines(lines))
+    Ok(Told::Lines(lines.into_bytes()))
 }

@@ -1,0 +1,60 @@
+//! How much room the lines of answers take. No clause rests on it: where it were too little, the text would be moved.
+
+ghost use Rattle.qm_partition.specs.Counting.{leaves_of};
+ghost use Rattle.qm_formats.specs.TreeFile.{IsValidFile};
+ghost use Rattle.qm_inspect.specs.inner.BlockCounts.{AreBlockCounts};
+
+use crate::asking::answer;
+use itoa::Buffer;
+use qm_answers::Answer;
+use qm_bits::BitRow;
+use qm_commands::Query;
+use qm_file::TreeFile;
+
+/// The most bytes of a line in which there is no list: the one of counts has four numbers of up to 20 digits.
+const SHORT_LINE: usize = 122;
+
+/// The most bytes of the kind of a section and the space before it.
+const KIND: usize = 11;
+
+/// Room for the lines of the answers to all queries.
+pub(crate) fn room_for_lines(file: &TreeFile, counts: &[u64], queries: &[Query]) -> usize
+    requires valid { IsValidFile file.now }
+    requires counts { AreBlockCounts (leaves_of file.now.tree.shape) counts.now }
+{
+    let mut room: usize = 0;
+    for ask in queries {
+        if let Ok(answer) = answer(file, counts, ask) {
+            room = room.saturating_add(room_for_line(file, &answer));
+        }
+    }
+    room
+}
+
+/// Room for the line of an answer.
+fn room_for_line(file: &TreeFile, answer: &Answer) -> usize {
+    let list = match *answer {
+        Answer::Row(n) => room_for_row(file, n),
+        Answer::Parts => file.sections.as_slice().len().saturating_mul(KIND),
+        _ => 0,
+    };
+    list.saturating_add(SHORT_LINE)
+}
+
+/// Room for the numbers that a row holds.
+fn room_for_row(file: &TreeFile, n: u64) -> usize {
+    match &file.rows {
+        None => 0,
+        Some(rows) => match rows.as_slice().get(n as usize) {
+            None => 0,
+            Some(row) => room_for_places(row),
+        },
+    }
+}
+
+/// Room for the numbers of the places that are set, each with a space before it.
+fn room_for_places(row: &BitRow) -> usize {
+    let mut digits = Buffer::new();
+    let most = digits.format(row.len()).len().saturating_add(1);
+    most.saturating_mul(row.count() as usize)
+}
