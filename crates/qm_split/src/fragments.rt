@@ -1,4 +1,4 @@
-ghost use Rattle.std.specs.Prelude.{◌≡◌, ℕ, ◌<◌, ◌++◌, ◌∷◌, List, [], IfOk, MatchOption};
+ghost use Rattle.std.specs.Prelude.{◌≡◌, ℕ, ◌-◌, ◌^◌, ◌<◌, min, ◌++◌, ◌∷◌, List, [], IfOk, MatchOption};
 ghost use Rattle.qm_space.specs.Plane.{Plane, flipped};
 ghost use Rattle.qm_space.specs.Book.{plane_at};
 ghost use Rattle.qm_solids.specs.Solid.{Solid};
@@ -46,6 +46,13 @@ impl Fragments {
             cell: Vec::new(alloc),
             gathering,
         })
+    }
+
+    /// How many fragments the cell has, or the greatest number where there are more.
+    pub fn len(&self) -> u64
+        ensures { result ≡ min (piece_count self.now) (2 ^ 64 - 1) }
+    {
+        self.gathering.count()
     }
 
     /// The number of the plane that parts the cell next. `None` exactly where no plane of the book is a candidate in the

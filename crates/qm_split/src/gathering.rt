@@ -1,4 +1,4 @@
-ghost use Rattle.std.specs.Prelude.{◌≡◌, ◌↔◌, ◌+◌, ◌<◌, ◌≤◌, length, None, IfSome, List, ◌++◌, ◌∷◌, [], map, Option, IfOk, OnOk, IsTrue, All};
+ghost use Rattle.std.specs.Prelude.{◌≡◌, ◌↔◌, ◌+◌, ◌-◌, ◌^◌, ◌<◌, ◌≤◌, min, length, None, IfSome, List, ◌++◌, ◌∷◌, [], map, Option, IfOk, OnOk, IsTrue, All};
 ghost use Rattle.qm_space.specs.Plane.{Plane, flipped};
 ghost use Rattle.qm_solids.specs.Solid.{Solid};
 ghost use Rattle.qm_contents.specs.declared.contents.Contents.{Contents};
@@ -110,6 +110,17 @@ impl Gathering {
         least
     }
 
+    /// How many pieces there are, or the greatest number where there are more.
+    pub(crate) fn count(&self) -> u64
+        ensures { result ≡ min (pieces_of self.now.contenders.items) (2 ^ 64 - 1) }
+    {
+        let mut count = 0;
+        for contender in &self.contenders {
+            count = sum_or_most(count, contender.body.pieces.len() as u64);
+        }
+        count
+    }
+
     /// The winding of a piece on a plane, if it is the plane of the piece that comes first.
     pub(crate) fn winding_on(&self, plane: &Plane) -> Option<&Winding>
         ensures { IfSome result (λ w. IsWindingOfSome self.now.contenders.items plane.now w.now) }
@@ -184,4 +195,11 @@ fn is_stronger_than(contents: Contents, contender: &Contender) -> bool
     ensures { result ≡ is_stronger_than contents contender.now }
 {
     stronger(contender.contents, contents) != contents
+}
+
+/// The sum, or the greatest number where it is more.
+fn sum_or_most(first: u64, second: u64) -> u64
+    ensures { result ≡ min (first + second) (2 ^ 64 - 1) }
+{
+    first.saturating_add(second)
 }
