@@ -1,5 +1,6 @@
 pub mod DefinedTrees
 pub mod LeastPlanes
 pub mod Walks
+pub mod WalkedHalves
 pub mod Visits
 pub mod Weights

@@ -1,11 +1,10 @@
 -- How a walk is written: what completes it before a visit completes it after the visit.
-use Rattle.std.proofs.Common.{◌≡◌, ℕ, List, [], ◌∷◌, ◌++◌, sym, subst}
+use Rattle.std.proofs.Common.{◌≡◌, ℕ, List, [], ◌∷◌, ◌++◌, sym, ap, ◌∙◌, subst}
 use Rattle.std.specs.Prelude.{flat_map}
 use Rattle.std.proofs.lemmas.List.{append_assoc, append-nil}
-use Rattle.qm_partition.specs.declared.node.Leaf.{Leaf as LeafRecord}
 use Rattle.qm_partition.specs.declared.visit.Visit.{Visit}
-use Rattle.qm_partition.specs.declared.visit.Visit.TheVariants.{Node, Leaf}
-use Rattle.qm_partition.specs.Partition.{Partition, leaf, node}
+use Rattle.qm_partition.specs.declared.visit.Visit.TheVariants.{Node}
+use Rattle.qm_partition.specs.Partition.{Partition, node}
 use Rattle.qm_partition.specs.Visits.{visits}
 use Rattle.qm_build.specs.inner.Waiting.{IsWalk, Completes}
 
@@ -24,10 +23,12 @@ module _ {Cell : Type 0} (Has : Cell → Partition → Type 0) (root : Cell) whe
   pub completes_last : (walk : List Visit) → Completes Has root [] walk → IsWalk (Has root) walk
   completes_last walk completes = same_walk (Has root) (walk ++ []) walk (append-nil walk) (completes [] tt)
 
-  -- the next cell is a leaf
-  pub completes_leaf : (cell : Cell) (waiting : List Cell) (walk : List Visit) (found : LeafRecord) → Has cell (leaf found) → Completes Has root (cell ∷ waiting) walk → Completes Has root waiting (walk ++ Leaf found ∷ [])
-  completes_leaf cell waiting walk found is completes = λ shapes has.
-      same_walk (Has root) _ _ (sym (append_assoc walk (Leaf found ∷ []) (flat_map visits shapes))) (completes (leaf found ∷ shapes) (is, has))
+  -- the whole walk of the next cell is written
+  pub completes_whole : (cell : Cell) (waiting : List Cell) (walk whole : List Visit) → IsWalk (Has cell) whole → Completes Has root (cell ∷ waiting) walk → Completes Has root waiting (walk ++ whole)
+  completes_whole cell waiting walk whole is completes = λ shapes has.
+      same_walk (Has root) _ _
+      (ap (λ (vs : List Visit). walk ++ (vs ++ flat_map visits shapes)) is.visits_are ∙ sym (append_assoc walk whole (flat_map visits shapes)))
+      (completes (is.shape ∷ shapes) (is.has, has))
 
   module _ (cell front back : Cell) (n : ℕ) (is : (s t : Partition) → Has front s → Has back t → Has cell (node n s t)) (waiting : List Cell) (walk : List Visit) (completes : Completes Has root (cell ∷ waiting) walk) where
     node_walk : (s t : Partition) (rest : List Visit) → walk ++ ((Node n ∷ (visits s ++ visits t)) ++ rest) ≡ (walk ++ Node n ∷ []) ++ (visits s ++ (visits t ++ rest))

@@ -8,16 +8,16 @@ use Rattle.qm_partition.specs.declared.visit.Visit.{Visit}
 use Rattle.qm_split.specs.declared.fragments.Fragments.{Fragments}
 use Rattle.qm_split.specs.CellFragments.{piece_count}
 use Rattle.qm_build.specs.inner.UnderWay.{weight}
-use Rattle.qm_build.specs.inner.Visited.{IsVisited, is_leaf, is_node}
+use Rattle.qm_build.specs.inner.Visited.{IsVisited, is_walked, is_node}
 use Rattle.qm_build.proofs.Visits.{next_first}
 
 weight_first : (pending before : List Fragments) (next : Fragments) → before ≡ pending ++ next ∷ [] → weight (reverse before) ≡ 3 ^ piece_count next + weight (reverse pending)
 weight_first pending before next is = ap (λ (p : List Fragments). weight (reverse p)) is ∙ ap weight (next_first pending next)
 
 pub less_to_do : (solids : List Solid) (book : List Plane) (fragments : Fragments) (before pending : List Fragments) (walk : List Visit) (pending' : List Fragments) (walk' : List Visit) → before ≡ pending ++ fragments ∷ [] → IsVisited solids book fragments pending walk pending' walk' → weight (reverse pending') < weight (reverse before)
-less_to_do solids book fragments before pending walk pending' walk' is (is_leaf none has unfilled waits wrote) =
+less_to_do solids book fragments before pending walk pending' walk' is (is_walked whole waits wrote) =
     omega (arith, weight_first pending before fragments is, ap (λ (p : List Fragments). weight (reverse p)) waits, some_power (piece_count fragments))
-less_to_do solids book fragments before pending walk pending' walk' is (is_node {front = front} {back = back} least in_front fewer behind less waits wrote) =
-    let last = weight_first (pending ++ back ∷ []) pending' front waits in
-    let first = weight_first pending (pending ++ back ∷ []) back refl in
-    omega (arith, weight_first pending before fragments is, last, first, two_powers (piece_count front) (piece_count back) (piece_count fragments) fewer less)
+less_to_do solids book fragments before pending walk pending' walk' is (is_node {halves = halves} sides waits wrote) =
+    let last = weight_first (pending ++ halves.back ∷ []) pending' halves.front waits in
+    let first = weight_first pending (pending ++ halves.back ∷ []) halves.back refl in
+    omega (arith, weight_first pending before fragments is, last, first, two_powers (piece_count halves.front) (piece_count halves.back) (piece_count fragments) sides.fewer sides.less)

@@ -17,7 +17,7 @@ abbrev pub weight : List Fragments → ℕ
 weight [] = 0
 weight (fragments ∷ others) = 3 ^ piece_count fragments + weight others
 
--- the walk of a division of the whole cube, while cells wait, the next one last
-pub record IsUnderWay (solids : List Solid) (book : List Plane) (pending : List Fragments) (walk : List Visit) : Type 0 where
+-- the walk of a division of a cell, while cells wait, the next one last
+pub record IsUnderWay (solids : List Solid) (book root : List Plane) (pending : List Fragments) (walk : List Visit) : Type 0 where
   pub are : AllByRecursion (AreFragments solids book) (reverse pending)
-  pub completes : Completes (Divides solids book) [] (map cell_of_fragments (reverse pending)) walk
+  pub completes : Completes (Divides solids book) root (map cell_of_fragments (reverse pending)) walk

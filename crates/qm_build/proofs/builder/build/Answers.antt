@@ -1,38 +1,49 @@
-use Rattle.std.proofs.Common.{◌≡◌, List, ◌∙◌, sym, subst}
-use Rattle.qm_space.specs.Plane.{Plane}
+use Rattle.std.proofs.Common.{[]}
+use Rattle.std.proofs.lemmas.Result.{IfOk-weaker}
 use Rattle.qm_solids.specs.InBook.{solids_in}
-use Rattle.qm_partition.specs.Joining.{joined}
-use Rattle.qm_partition.specs.WellMade.{IsWellMade}
+use Rattle.qm_partition.specs.Ways.{HasPoints}
+use Rattle.qm_partition.specs.Tree.{Tree}
+use Rattle.qm_solid_tree.specs.Division.{Divides}
+use Rattle.qm_solid_tree.specs.GivesContents.{GivesContents}
 use Rattle.qm_solid_tree.specs.TreeOf.{IsTreeOf}
 use Rattle.qm_solid_tree.proofs.BookSolids.{book_has_planes}
 use Rattle.qm_solid_tree.proofs.LeafPoints.{tree_has_points}
 use Rattle.qm_solid_tree.proofs.TreeLaws.{gives_contents}
-use Rattle.qm_build.proofs.DefinedTrees.{well_made, is_defined}
+use Rattle.qm_build.specs.inner.UnderWay.{AreFragments}
+use Rattle.qm_build.specs.inner.Waiting.{IsWalk}
+use Rattle.qm_build.proofs.WalkedHalves.{named, whole_walk}
 use Rattle.qm_build.proofs.builder.build.Goals as goal
-use Rattle.qm_build.proofs.builder.build.Goals.{In_ok-tree}
+use Rattle.qm_build.proofs.builder.build.Goals.{In_ok-walk}
 
-pub joined_of-requires : goal.joined_of-requires
-joined_of-requires c =
-    let walk = c.in_ok-walk.ensures in
-    let whole_book = c.in_ok-planes.ensures.items ∙ c.planes.ensures.value in
-    let made = well_made (solids_in c.args.book.now c.args.list.now) c.args.book.now c.requires.planes walk.shape walk.has in
-    (walk.shape, walk.visits_are, subst (λ (book : List Plane). IsWellMade (record { planes = book; shape = walk.shape })) (sym whole_book) made)
+-- the fragments are those of the cell that they name
+fragments_are : (c : In_ok-walk) → AreFragments (solids_in c.args.book.now c.args.list.now) c.args.book.now c.in_ok-fragments.fragments
+fragments_are c = named (solids_in c.args.book.now c.args.list.now) c.args.book.now [] c.in_ok-fragments.fragments c.in_ok-fragments.ensures
 
--- what is made is the defined tree
-defined : (c : In_ok-tree) → IsTreeOf (solids_in c.args.book.now c.args.list.now) c.args.book.now c.in_ok-tree.tree
-defined c =
-    let walk = c.in_ok-walk.ensures in
-    let whole_book = c.in_ok-planes.ensures.items ∙ c.planes.ensures.value in
-    let made = c.in_ok-tree.ensures walk.shape walk.visits_are in
-    let same = subst (λ (book : List Plane). c.in_ok-tree.tree ≡ record { planes = book; shape = joined walk.shape }) whole_book made in
-    is_defined (solids_in c.args.book.now c.args.list.now) c.args.book.now walk.shape c.in_ok-tree.tree walk.has same
+pub walk_of_cell-requires : goal.walk_of_cell-requires
+walk_of_cell-requires c = (solids_in c.args.book.now c.args.list.now, named (solids_in c.args.book.now c.args.list.now) c.args.book.now [] c.in_ok-fragments.fragments c.in_ok-fragments.ensures)
+
+pub tree_of_walk-requires-clause-planes : goal.tree_of_walk-requires-clause-planes
+tree_of_walk-requires-clause-planes c = c.requires.planes
+
+-- the walk is that of the division of the whole cube
+cube_walk : (c : In_ok-walk) → IsWalk (Divides (solids_in c.args.book.now c.args.list.now) c.args.book.now []) c.in_ok-walk.walk.items
+cube_walk c =
+    let solids = solids_in c.args.book.now c.args.list.now in
+    whole_walk solids c.args.book.now c.in_ok-fragments.fragments [] c.in_ok-fragments.ensures c.in_ok-walk.walk.items (c.in_ok-walk.ensures solids (fragments_are c))
+
+pub tree_of_walk-requires-clause-walk : goal.tree_of_walk-requires-clause-walk
+tree_of_walk-requires-clause-walk c = (solids_in c.args.book.now c.args.list.now, cube_walk (goal.at.tree_of_walk-requires-clause-walk c).In_ok-walk)
 
 pub returns : goal.returns
 returns c =
     let solids = solids_in c.args.book.now c.args.list.now in
-    let its = defined (goal.at.returns c).In_ok-tree in
+    let book = c.args.book.now in
+    let walk = cube_walk (goal.at.returns c).In_ok-walk in
+    let tree = IfOk-weaker c.tree_of_walk.result _ (IsTreeOf solids book) (λ tree is. is solids walk) c.tree_of_walk.ensures in
     record {
-      tree = its;
-      points = tree_has_points solids c.args.book.now c.requires.planes c.in_ok-tree.tree its;
-      contents = gives_contents solids c.args.book.now c.in_ok-tree.tree c.requires.planes (book_has_planes c.args.book.now c.args.list.now c.requires) its;
+      tree = tree;
+      points = IfOk-weaker c.tree_of_walk.result (IsTreeOf solids book) HasPoints (λ tree its. tree_has_points solids book c.requires.planes tree its) tree;
+      contents =
+          IfOk-weaker c.tree_of_walk.result (IsTreeOf solids book) (λ (t : Tree). GivesContents t solids)
+          (λ tree its. gives_contents solids book tree c.requires.planes (book_has_planes book c.args.list.now c.requires) its) tree;
     }

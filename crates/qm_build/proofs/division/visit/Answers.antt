@@ -1,40 +1,14 @@
-use Rattle.std.proofs.Common.{◌∙◌, refl, ap, List}
-use Rattle.std.specs.Prelude.{◌++◌, ◌∷◌, []}
-use Rattle.qm_solids.specs.Solid.{Solid}
-use Rattle.qm_solids.specs.Least.{IsLeastCandidate}
-use Rattle.qm_split.specs.declared.fragments.Fragments.{Fragments}
-use Rattle.qm_split.specs.CellFragments.{cell_of_fragments}
-use Rattle.qm_build.specs.inner.UnderWay.{AreFragments}
-use Rattle.qm_build.specs.inner.Visited.{is_leaf, is_node}
-use Rattle.qm_build.proofs.LeastPlanes.{least_below, least_point, least_candidate, least_plane}
+use Rattle.std.proofs.lemmas.Result.{on_ok_weaker}
+use Rattle.qm_build.specs.inner.Visited.{is_node}
+use Rattle.qm_build.proofs.WalkedHalves.{visited_leaf, sides_of_top}
 use Rattle.qm_build.proofs.division.visit.Goals as goal
-use Rattle.qm_build.proofs.division.visit.Goals.{After-plane-plane}
 
--- the plane that is taken is the least candidate, for any solids of which these are the fragments
-least : (c : After-plane-plane) (solids : List Solid) → AreFragments solids c.args.book.now c.args.fragments → IsLeastCandidate solids c.args.book.now (cell_of_fragments c.args.fragments) c.in-Some.number c.plane-plane.result
-least c solids are =
-    least_plane solids c.args.book.now (cell_of_fragments c.args.fragments) c.in-Some.number _ (c.in-Some.ensures solids c.args.book.now (cell_of_fragments c.args.fragments) are) c.plane-plane.result c.plane-plane.ensures.value
+pub returns-in_ok-push-in-Leaf : goal.returns-in_ok-push-in-Leaf
+returns-in_ok-push-in-Leaf c = λ solids are.
+    visited_leaf solids c.args.book.now c.args.fragments c.in-Leaf.leaf _ _ _ _ c.in-Leaf.is (c.in_ok-leaf.ensures solids are) c.in_ok-push-in-Leaf.ensures.items
 
-pub plane-plane-requires : goal.plane-plane-requires
-plane-plane-requires c =
-    least_below c.requires.0 c.args.book.now (cell_of_fragments c.args.fragments) c.in-Some.number _ (c.in-Some.ensures c.requires.0 c.args.book.now (cell_of_fragments c.args.fragments) c.requires.1)
-
-pub split-requires : goal.split-requires
-split-requires c =
-    record { point = least_point c.requires.0 c.args.book.now (cell_of_fragments c.args.fragments) c.in-Some.number c.plane-plane.result (least (goal.at.split-requires c).After-plane-plane c.requires.0 c.requires.1) }
-
-pub returns-in_ok-push-in-None : goal.returns-in_ok-push-in-None
-returns-in_ok-push-in-None c = λ solids are.
-    let cell = cell_of_fragments c.args.fragments in
-    is_leaf (c.in-None.ensures solids c.args.book.now cell are) (c.contents.ensures solids c.args.book.now cell are) refl refl c.in_ok-push-in-None.ensures.items
-
-pub returns-in_ok-push-in-Some-3 : goal.returns-in_ok-push-in-Some-3
-returns-in_ok-push-in-Some-3 c = λ solids are.
-    let book = c.args.book.now in
-    let cell = cell_of_fragments c.args.fragments in
-    let plane = c.plane-plane.result in
-    let first = least (goal.at.returns-in_ok-push-in-Some-3 c).After-plane-plane solids are in
-    let candidate = least_candidate solids book cell c.in-Some.number plane first c.args.fragments are in
-    let halves = c.in_ok-halves-in-Some.ensures in
-    let waits = c.in_ok-push-in-Some-3.ensures.items ∙ ap (λ (p : List Fragments). p ++ c.in_ok-halves-in-Some.halves.front ∷ []) c.in_ok-push-in-Some-2.ensures.items in
-    is_node first (halves.front solids book cell are) (halves.front_count candidate) (halves.back solids book cell are) (halves.back_count candidate) waits c.in_ok-push-in-Some.ensures.items
+pub returns-in_ok-push-in-Node : goal.returns-in_ok-push-in-Node
+returns-in_ok-push-in-Node c = on_ok_weaker c.wait.result
+    (λ waits. λ solids are.
+    is_node (sides_of_top solids c.args.book.now c.args.fragments c.in-Node.number c.in-Node.halves _ c.in-Node.is (c.in_ok-leaf.ensures solids are)) waits c.in_ok-push-in-Node.ensures.items)
+    c.wait.ensures
