@@ -1,4 +1,5 @@
 use Rattle.std.specs.Prelude.{ℕ, ◌≡◌, ◌||◌, Bool, List, Option, is_none}
+use Rattle.std.specs.NonZero.{non_zero_u64_get}
 use Rattle.qm_shelf.specs.CallNumbers.{one_more, raised_if, is_listed}
 use Rattle.qm_shelf.specs.NamedFiles.{file_under}
 use Rattle.qm_shelf.specs.declared.mem_shelf.MemShelf.{MemShelf}
@@ -14,6 +15,10 @@ calls shelf = shelf.calls.made
 -- the numbers of the calls that fail
 abbrev pub failing : MemShelf → List ℕ
 failing shelf = shelf.calls.failing.items
+
+-- the most bytes that a read gives
+abbrev pub most_at_once : MemShelf → ℕ
+most_at_once shelf = non_zero_u64_get shelf.most
 
 -- how many reads failed
 abbrev pub read_faults : MemShelf → ℕ

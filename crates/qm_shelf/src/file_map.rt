@@ -44,14 +44,16 @@ pub fn append(files: &mut Files, name: &str, bytes: &[u8]) -> Result<(), AllocEr
     }
 }
 
-/// Copies bytes from a place on to the beginning of a buffer, as many as there are and as fit, and answers
+/// Copies bytes from a place on to the beginning of a buffer, at most so many, as many as there are and as fit, and answers
 /// how many.
-pub fn copy_from(bytes: &[u8], place: usize, into: &mut [u8]) -> usize
+pub fn copy_from(bytes: &[u8], place: usize, most: u64, into: &mut [u8]) -> usize
+    requires { 0 < most }
     ensures read { IsRead (Some bytes.now) place into.old into.new result }
-    ensures most { result < length into.old → length bytes.now ≤ place + result }
+    ensures few { result ≤ most }
+    ensures all { result < most → result < length into.old → length bytes.now ≤ place + result }
 {
     let rest = &bytes[place.min(bytes.len())..];
-    let count = rest.len().min(into.len());
+    let count = rest.len().min(into.len()).min(most as usize);
     into[..count].copy_from_slice(&rest[..count]);
     count
 }

@@ -21,7 +21,7 @@ pub mod writing;
 pub use folder_shelf::FolderShelf;
 pub use mem_shelf::MemShelf;
 pub use mem_sink::MemSink;
-pub use reading::read_whole;
+pub use reading::{piece_buffer, read_piece, read_whole};
 pub use shelf::{FARTHEST_PLACE, PIECE, Shelf, ShelfFault};
 pub use sink::{Sink, SinkFault};
 pub use sure_shelf::SureShelf;

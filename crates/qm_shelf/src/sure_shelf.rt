@@ -65,7 +65,7 @@ impl Shelf for SureShelf {
         ensures held_stays { Stays (held self.old) (held self.new) }
     {
         match self.get(name) {
-            Some(bytes) => Ok(file_map::copy_from(bytes, at as usize, into)),
+            Some(bytes) => Ok(file_map::copy_from(bytes, at as usize, u64::MAX, into)),
             None => Ok(0),
         }
     }
