@@ -8,3 +8,4 @@ pub mod ShiftedTexts
 pub mod FirstTokens
 pub mod Lexers
 pub mod ReadersSoFar
+pub mod WholeTokens

@@ -13,7 +13,7 @@ pub lexed_at_start : IsLexedTo [] [] state_at_start
 lexed_at_start = record { offset_is = refl; line_is = refl; goes_on = λ more. read_lexing more }
 
 -- one more token that has ended
-prepended : (given : List Lexeme) (token : Option Lexeme) (rest : Lexing) → lexemes_then given (prepend token rest) ≡ lexemes_then (given ++ option_to_list token) rest
+pub prepended : (given : List Lexeme) (token : Option Lexeme) (rest : Lexing) → lexemes_then given (prepend token rest) ≡ lexemes_then (given ++ option_to_list token) rest
 prepended given None rest =
     ap (λ (l : List Lexeme). lexemes_then l rest) (sym (append-nil given))
 prepended given (Some token) rest =

@@ -1,3 +1,4 @@
 pub mod Pushing
 pub mod OpenToken
 pub mod Accepting
+pub mod Scanning

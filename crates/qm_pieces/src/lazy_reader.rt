@@ -39,7 +39,12 @@ impl LazyReader {
     }
 
     /// Takes the next token, of this kind and with these bytes, which begins on a line.
-    fn accept(&mut self, kind: TokenKind, bytes: &[u8], line: u64) -> Result<(), MapFault>
+    pub(crate) fn accept(
+        &mut self,
+        kind: TokenKind,
+        bytes: &[u8],
+        line: u64,
+    ) -> Result<(), MapFault>
         ensures { IsAccepted (prefix_so_far self.old.reader) (record { kind = kind; bytes = bytes.now }) line (prefix_so_far self.new.reader) result }
     {
         if self.wake().is_err() {

@@ -9,7 +9,9 @@ mod open_token;
 mod owned_token;
 mod piece_fault;
 mod piece_lexer;
+mod place;
 mod text_reader;
+mod whole_tokens;
 
 pub use map_reader::MapReader;
 pub use owned_token::OwnedToken;

@@ -1,4 +1,4 @@
-ghost use Rattle.std.specs.Prelude.{◌≡◌, ℕ, ◌-◌, ◌<◌, ◌^◌, [], ◌∷◌, Some, None, is_some, IfOk, OnOk, option_map};
+ghost use Rattle.std.specs.Prelude.{◌≡◌, ℕ, ◌-◌, ◌<◌, ◌^◌, [], ◌∷◌, Some, None, is_some, not, IsTrue, IfOk, OnOk, option_map};
 ghost use Rattle.qm_tokens.specs.inner.Modes.{between, slash, in_comment, in_word, in_quote};
 ghost use Rattle.qm_pieces.specs.inner.OpenToken.{mode_of};
 ghost use Rattle.qm_pieces.specs.inner.Pushing.{IsByteTaken, IsEndGiven, owned_lexeme};
@@ -60,6 +60,23 @@ impl OpenToken {
         }
     }
 
+    /// Whether no token and no comment is open.
+    pub(crate) fn is_nothing(&self) -> bool
+        ensures { IsTrue result → mode_of self.now ≡ Some between }
+    {
+        match self.part {
+            OpenPart::Nothing => true,
+            _ => false,
+        }
+    }
+
+    /// Leaves what is open, so that nothing is.
+    pub(crate) fn leave(&mut self)
+        ensures { mode_of self.new ≡ Some between }
+    {
+        self.part = OpenPart::Nothing;
+    }
+
     /// Forgets what is open.
     pub(crate) fn fail(&mut self)
         ensures { mode_of self.new ≡ None }
@@ -80,10 +97,29 @@ impl OpenToken {
         match self.part {
             OpenPart::Nothing => self.begin(byte, offset, line),
             OpenPart::Slash => self.follow_slash(byte, offset),
-            OpenPart::Comment => Ok(self.follow_comment(byte)),
+            OpenPart::Comment => {
+                self.follow_comment(byte);
+                Ok(None)
+            }
             OpenPart::Word => self.follow_word(byte, offset),
             OpenPart::Quote => self.follow_quote(byte, offset),
             OpenPart::Unknown => Err(AllocError),
+        }
+    }
+
+    /// Takes a byte that neither ends a token nor opens one, a blank between tokens or a byte of a comment or behind it, and
+    /// answers whether it is such a one. Any other byte is left.
+    pub(crate) fn pass(&mut self, byte: u8) -> bool
+        ensures passed { IsTrue result → (offset line : ℕ) → IsByteTaken (mode_of self.old) offset line byte None (mode_of self.new) }
+        ensures left { IsTrue (not result) → self.new ≡ self.old }
+    {
+        match self.part {
+            OpenPart::Nothing => byte <= b' ',
+            OpenPart::Comment => {
+                self.follow_comment(byte);
+                true
+            }
+            _ => false,
         }
     }
 
@@ -159,14 +195,13 @@ impl OpenToken {
     }
 
     /// A byte of a comment, or behind it.
-    fn follow_comment(&mut self, byte: u8) -> Option<OwnedToken>
+    fn follow_comment(&mut self, byte: u8)
         requires { self.old.part ≡ OpenPart.Comment }
-        ensures { (offset line : ℕ) → IsByteTaken (Some in_comment) offset line byte result (mode_of self.new) }
+        ensures { (offset line : ℕ) → IsByteTaken (Some in_comment) offset line byte None (mode_of self.new) }
     {
         if byte == b'\n' {
             self.part = OpenPart::Nothing;
         }
-        None
     }
 
     /// A byte of a word, or behind it.

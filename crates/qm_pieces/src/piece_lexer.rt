@@ -1,14 +1,16 @@
-ghost use Rattle.std.specs.Prelude.{◌≡◌, ℕ, ◌+◌, ◌-◌, ◌<◌, ◌≤◌, ◌^◌, List, [], ◌∷◌, ◌++◌, Some, None, IfOk, IfSome, OnErr};
+ghost use Rattle.std.specs.Prelude.{◌≡◌, ℕ, ◌+◌, ◌-◌, ◌<◌, ◌≤◌, ◌^◌, List, [], ◌∷◌, ◌++◌, Some, None, not, IsTrue, IfOk, IfSome, OnErr};
 ghost use Rattle.qm_tokens.specs.Lexeme.{Lexeme, line_ends};
 ghost use Rattle.qm_tokens.specs.Lexing.{IsLexingOf};
 ghost use Rattle.qm_pieces.specs.LexingState.{state_at_start};
 ghost use Rattle.qm_pieces.specs.TextSoFar.{lexemes_then};
 ghost use Rattle.qm_pieces.specs.Lexed.{HasLexed};
+ghost use Rattle.qm_pieces.specs.inner.OpenToken.{IsPlaceBetween};
 ghost use Rattle.qm_pieces.specs.inner.Pushing.{IsBytePushed, IsEndOf, owned_lexemes, end_lexing};
 
 use crate::open_token::OpenToken;
 use crate::owned_token::OwnedToken;
 use crate::piece_fault::PieceFault;
+use crate::place::Place;
 use std::alloc::{AllocError, Global};
 use std::marker::Model;
 
@@ -79,6 +81,22 @@ impl PieceLexer {
         }
     }
 
+    /// Takes the next byte where it neither ends a token nor opens one, and answers whether it is such a one. Any other byte
+    /// is left.
+    pub(crate) fn pass(&mut self, byte: u8) -> bool
+        requires { IfSome self.old (λ state. state.offset < 2 ^ 64 - 1) }
+        ensures passed { IsTrue result → IsBytePushed self.old byte None self.new }
+        ensures left { IsTrue (not result) → self.new ≡ self.old }
+    {
+        if self.token.pass(byte) {
+            self.offset += 1;
+            self.line_ends += line_ends(byte);
+            true
+        } else {
+            false
+        }
+    }
+
     /// What the end of the text gives: the last word, or `None` where no token is open.
     ///
     /// # Errors
@@ -93,6 +111,29 @@ impl PieceLexer {
     {
         let PieceLexer { token, offset, .. } = self;
         token.finish(offset)
+    }
+
+    /// Where it stands, if nothing is open there.
+    pub(crate) fn place_between(&self) -> Option<Place>
+        ensures { IfSome result (λ place. IsPlaceBetween place self.now) }
+    {
+        if !self.token.is_nothing() {
+            return None;
+        }
+        Some(Place {
+            offset: self.offset,
+            line_ends: self.line_ends,
+        })
+    }
+
+    /// Goes on from a place at which nothing is open.
+    pub(crate) fn go_on_from(&mut self, place: Place)
+        requires { place.line_ends ≤ place.offset }
+        ensures { IsPlaceBetween place self.new }
+    {
+        self.token.leave();
+        self.offset = place.offset;
+        self.line_ends = place.line_ends;
     }
 
     /// Takes nothing more.

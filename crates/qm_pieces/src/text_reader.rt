@@ -1,20 +1,22 @@
-ghost use Rattle.std.specs.Prelude.{◌≡◌, ◌≢◌, ◌≤◌, ℕ, List, [], ◌∷◌, ◌++◌, Err, IfSome};
+ghost use Rattle.std.specs.Prelude.{◌≡◌, ◌≢◌, ◌≤◌, ℕ, List, [], ◌∷◌, ◌++◌, length, Err, not, IsTrue, IfOk, IfSome};
 ghost use Rattle.qm_grammar.specs.declared.fault.MapFault.{MapFault};
 ghost use Rattle.qm_grammar.specs.Faults.{text_limit};
 ghost use Rattle.qm_grammar.specs.Meaning.{Means};
 ghost use Rattle.qm_pieces.specs.Certain.{IsCertain};
 ghost use Rattle.qm_pieces.specs.ReadSoFar.{IsReadOf};
 ghost use Rattle.qm_pieces.specs.inner.Accepting.{IsReadOn};
+ghost use Rattle.qm_pieces.specs.inner.Scanning.{IsReadInto};
 
 use crate::lazy_reader::LazyReader;
 use crate::piece_fault::PieceFault;
 use crate::piece_lexer::PieceLexer;
+use crate::whole_tokens::take_whole_tokens;
 use qm_grammar::{MapFault, TEXT_LIMIT};
 use qm_map::MapFile;
 use std::alloc::Global;
 use std::marker::Model;
 
-/// Reads a text byte by byte, up to its first certain fault. Contracts see it as what it has read so far.
+/// Reads a text in pieces, up to its first certain fault. Contracts see it as what it has read so far.
 #[derive(Drop)]
 pub(crate) struct TextReader {
     lexer: PieceLexer,
@@ -44,8 +46,63 @@ impl TextReader {
         }
     }
 
-    /// Takes the bytes of a piece, up to one that makes a fault certain.
+    /// Takes the bytes of a piece, up to one that makes a fault certain. Single bytes are taken only while a token is open that
+    /// the piece before has begun, and behind the last token that ends within this one.
     pub(crate) fn take_piece(&mut self, piece: &[u8]) -> Result<(), MapFault>
+        ensures { (text : List ℕ) → IsReadOf text self.old → IsReadOn (text ++ piece.now) self.new result }
+    {
+        let begun = match self.take_open(piece) {
+            Ok(begun) => begun,
+            Err(fault) => return Err(fault),
+        };
+        let rest = &piece[begun..];
+        let taken = match self.take_tokens(rest) {
+            Ok(taken) => taken,
+            Err(fault) => return Err(fault),
+        };
+        self.take_bytes(&rest[taken..])
+    }
+
+    /// Takes the bytes of a piece one by one while something is open, and answers how many were taken.
+    fn take_open(&mut self, piece: &[u8]) -> Result<usize, MapFault>
+        ensures within { IfOk result (λ taken. taken ≤ length piece.now) }
+        ensures read { (text : List ℕ) → IsReadOf text self.old → IsReadInto text piece.now self.new result }
+    {
+        for offset in 0..piece.len() {
+            if self.lexer.place_between().is_some() {
+                return Ok(offset);
+            }
+            match self.take(piece[offset]) {
+                Ok(()) => {}
+                Err(fault) => return Err(fault),
+            }
+        }
+        Ok(piece.len())
+    }
+
+    /// Takes the tokens that end within a piece, where nothing is open and the piece is within the limit, and answers how many
+    /// bytes were taken.
+    fn take_tokens(&mut self, piece: &[u8]) -> Result<usize, MapFault>
+        ensures within { IfOk result (λ taken. taken ≤ length piece.now) }
+        ensures read { (text : List ℕ) → IsReadOf text self.old → IsReadInto text piece.now self.new result }
+    {
+        let Some(place) = self.lexer.place_between() else {
+            return Ok(0);
+        };
+        if place.offset + piece.len() as u64 > TEXT_LIMIT as u64 {
+            return Ok(0);
+        }
+        match take_whole_tokens(&mut self.tokens, piece, place.line_ends) {
+            Ok(taken) => {
+                self.lexer.go_on_from(place.behind(&piece[..taken]));
+                Ok(taken)
+            }
+            Err(fault) => Err(fault),
+        }
+    }
+
+    /// Takes bytes one by one, up to one that makes a fault certain.
+    fn take_bytes(&mut self, piece: &[u8]) -> Result<(), MapFault>
         ensures { (text : List ℕ) → IsReadOf text self.old → IsReadOn (text ++ piece.now) self.new result }
     {
         for byte in piece {
@@ -59,6 +116,29 @@ impl TextReader {
 
     /// Takes the next byte.
     fn take(&mut self, byte: u8) -> Result<(), MapFault>
+        ensures { (text : List ℕ) → IsReadOf text self.old → IsReadOn (text ++ byte ∷ []) self.new result }
+    {
+        if self.pass(byte) {
+            return Ok(());
+        }
+        self.take_other(byte)
+    }
+
+    /// Takes the next byte where it is within the limit and neither ends a token nor opens one, and answers whether it is such
+    /// a one. Any other byte is left.
+    fn pass(&mut self, byte: u8) -> bool
+        ensures passed { IsTrue result → (text : List ℕ) → IsReadOf text self.old → IsReadOf (text ++ byte ∷ []) self.new }
+        ensures left { IsTrue (not result) → self.new ≡ self.old }
+    {
+        if self.lexer.offset() < TEXT_LIMIT as u64 {
+            self.lexer.pass(byte)
+        } else {
+            false
+        }
+    }
+
+    /// Takes the next byte, whatever it is.
+    fn take_other(&mut self, byte: u8) -> Result<(), MapFault>
         ensures { (text : List ℕ) → IsReadOf text self.old → IsReadOn (text ++ byte ∷ []) self.new result }
     {
         if self.lexer.offset() >= TEXT_LIMIT as u64 {

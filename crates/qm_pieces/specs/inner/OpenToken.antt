@@ -1,9 +1,10 @@
-use Rattle.std.specs.Prelude.{ℕ, ◌+◌, List, Option, Some, None}
+use Rattle.std.specs.Prelude.{◌≡◌, ℕ, ◌+◌, ◌≤◌, List, Option, Some, None}
 use Rattle.qm_tokens.specs.inner.Modes.{Mode, between, slash, in_comment, in_word, in_quote}
 use Rattle.qm_pieces.specs.declared.open_token.OpenPart.{OpenPart}
 use Rattle.qm_pieces.specs.declared.open_token.OpenPart.TheVariants as part
 use Rattle.qm_pieces.specs.declared.open_token.OpenToken.{OpenToken}
-use Rattle.qm_pieces.specs.LexingState.{LexingState}
+use Rattle.qm_pieces.specs.declared.place.Place.{Place}
+use Rattle.qm_pieces.specs.LexingState.{LexingState, state_between}
 
 -- What the fields of a lexer say.
 
@@ -24,3 +25,8 @@ mode_of token = mode_with token.part token.bytes.items token.start token.line
 abbrev pub state_of : Option Mode → ℕ → ℕ → Option LexingState
 state_of None offset lines = None
 state_of (Some mode) offset lines = Some (record { mode = mode; offset = offset; line = lines + 1 })
+
+-- a lexer stands at this place between two tokens
+pub record IsPlaceBetween (place : Place) (state : Option LexingState) : Type 0 where
+  pub state_is : state ≡ Some (state_between place.offset (place.line_ends + 1))
+  pub few : place.line_ends ≤ place.offset

@@ -1,4 +1,4 @@
-use Rattle.std.proofs.Common.{ap}
+use Rattle.std.proofs.Common.{None, ap}
 use Rattle.qm_tokens.specs.inner.Modes.{slash, in_comment, in_word, in_quote}
 use Rattle.qm_pieces.specs.declared.open_token.OpenPart.{OpenPart}
 use Rattle.qm_pieces.specs.inner.OpenToken.{mode_of, mode_with}
@@ -12,7 +12,7 @@ returns-in-Slash c =
 
 pub returns-in-Comment : goal.returns-in-Comment
 returns-in-Comment c =
-    taken_token c.follow_comment.result (mode_of c.args.self.now) in_comment c.args.offset c.args.line c.args.byte (mode_of c.follow_comment.new.self)
+    taken_token None (mode_of c.args.self.now) in_comment c.args.offset c.args.line c.args.byte (mode_of c.follow_comment.new.self)
     (ap (λ (p : OpenPart). mode_with p c.args.self.now.bytes.items c.args.self.now.start c.args.self.now.line) c.in-Comment.is) (c.follow_comment.ensures c.args.offset)
 
 pub returns-in-Word : goal.returns-in-Word

@@ -1,24 +1,24 @@
-use Rattle.std.proofs.Common.{ℕ, List, ◌++◌, take, take_all, append-nil, sym, subst, arith}
-use Rattle.qm_pieces.specs.ReadSoFar.{IsReadOf}
-use Rattle.qm_pieces.proofs.ReadersSoFar.{piece_certain, piece_more}
+use Rattle.std.proofs.Common.{◌-◌, ◌++◌, Err, length, take, drop}
+use Rattle.qm_pieces.proofs.WholeTokens.{read_rest}
 use Rattle.qm_pieces.proofs.text_reader.TextReader.take_piece.Goals as goal
 
-pub loop-byte-init : goal.loop-byte-init
-loop-byte-init c = λ text is. subst (λ (t : List ℕ). IsReadOf t c.args.self.now) (sym (append-nil text)) is
-
-pub loop-byte-preserved : goal.loop-byte-preserved
-loop-byte-preserved c =
+pub returns-in-Err-take_tokens : goal.returns-in-Err-take_tokens
+returns-in-Err-take_tokens c =
+    let piece = c.args.piece.now in
+    let begun = c.in-Ok.begun in
     λ text is.
-    subst (λ (t : List ℕ). IsReadOf t c.take.new.self) (piece_more text c.args.piece.now c.loop-byte.byte-index c.loop-byte-test.true)
-    (c.in-Ok.ensures {u = tt} (text ++ take c.loop-byte.byte-index c.args.piece.now) (c.loop-byte.invariant text is))
-
-pub returns-in-Err : goal.returns-in-Err
-returns-in-Err c =
-    λ text is other.
-    piece_certain text c.args.piece.now c.loop-byte.byte-index c.loop-byte-test.true c.in-Err.fault
-    (c.in-Err.ensures {u = tt} (text ++ take c.loop-byte.byte-index c.args.piece.now) (c.loop-byte.invariant text is) other)
+    let first = (c.in-Ok.ensures {u = tt}).read text is in
+    read_rest text piece begun c.take_tokens.new.self (Err c.in-Err-take_tokens.fault) ((c.in-Err-take_tokens.ensures {u = tt}).read (text ++ take begun piece) first)
 
 pub returns : goal.returns
 returns c =
+    let piece = c.args.piece.now in
+    let begun = c.in-Ok.begun in
+    let rest = take (length piece - begun) (drop begun piece) in
+    let taken = c.in-Ok-take_tokens.taken in
     λ text is.
-    subst (λ (p : List ℕ). IsReadOf (text ++ p) c.loop-byte.self) (take_all c.loop-byte.byte-index c.args.piece.now (omega arith)) (c.loop-byte.invariant text is)
+    let first = (c.in-Ok.ensures {u = tt}).read text is in
+    let second = (c.in-Ok-take_tokens.ensures {u = tt}).read (text ++ take begun piece) first in
+    read_rest text piece begun c.take_bytes.new.self c.take_bytes.result
+    (read_rest (text ++ take begun piece) rest taken c.take_bytes.new.self c.take_bytes.result
+    (c.take_bytes.ensures ((text ++ take begun piece) ++ take taken rest) second))

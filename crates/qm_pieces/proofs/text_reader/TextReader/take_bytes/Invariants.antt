@@ -1,6 +1,6 @@
 use Rattle.std.proofs.Common.{ℕ, List, ◌++◌, take}
 use Rattle.qm_pieces.specs.ReadSoFar.{IsReadOf}
-use Rattle.qm_pieces.proofs.text_reader.TextReader.take_piece.Given as goal
+use Rattle.qm_pieces.proofs.text_reader.TextReader.take_bytes.Given as goal
 
 -- as much of the piece was read
 abbrev pub invariant-loop-byte : goal.invariant-loop-byte
