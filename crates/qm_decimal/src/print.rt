@@ -1,7 +1,8 @@
-ghost use Rattle.std.specs.Prelude.{◌≡◌, ◌^◌, ◌<◌, ◌≤◌, ◌++◌, ◌<ℤ◌, pos, int_lt, unsigned_abs, decimal, OnOk, OnErr};
-ghost use Rattle.qm_numerals.specs.Printed.{IsNearestMillionths, millionths, printed_fraction, shown_sign, with_six_decimals};
+ghost use Rattle.std.specs.Prelude.{◌≡◌, ◌^◌, ◌<◌, ◌≤◌, ◌++◌, ◌<ℤ◌, pos, int_lt, unsigned_abs, OnOk, OnErr};
+ghost use Rattle.qm_numerals.specs.Printed.{IsNearestMillionths, millionths, printed_fraction, with_six_decimals};
 
 use crate::backward::Backward;
+use itoa::Buffer;
 use std::alloc::AllocError;
 
 const MILLION: u128 = 1_000_000;
@@ -16,17 +17,6 @@ fn six_decimals(is_negative: bool, millionths: u128) -> Backward
     text.put(b'.');
     text.put_decimal(millionths / MILLION);
     text.put_sign(is_negative, millionths);
-    text
-}
-
-/// A whole number.
-fn whole(is_negative: bool, magnitude: u128) -> Backward
-    requires { magnitude < 10 ^ 31 }
-    ensures { result ≡ shown_sign is_negative magnitude ++ decimal magnitude }
-{
-    let mut text = Backward::new();
-    text.put_decimal(magnitude);
-    text.put_sign(is_negative, magnitude);
     text
 }
 
@@ -56,10 +46,10 @@ pub fn print6(numerator: i128, denominator: i128, out: &mut Vec<u8>) -> Result<(
 {
     let over = numerator.unsigned_abs();
     let under = denominator.unsigned_abs();
-    let text = if over % under == 0 {
-        whole(numerator < 0, over / under)
-    } else {
-        six_decimals(numerator < 0, nearest_millionths(over, under))
-    };
+    if over % under == 0 {
+        let mut buffer = Buffer::new();
+        return out.extend_from_slice(buffer.format(numerator / denominator).as_bytes());
+    }
+    let text = six_decimals(numerator < 0, nearest_millionths(over, under));
     out.extend_from_slice(text.as_slice())
 }

@@ -9,15 +9,11 @@ use Rattle.qm_numbers.proofs.Signs.{abs_sum, abs_difference, abs_product_bound}
 use Rattle.qm_space.specs.Bounds.{world_extent, normal_bound, product_bound, cube_distance_bound, distance_bound}
 use Rattle.qm_space.specs.Point.{whole_point, IsCoordinate, AreCoordinates}
 use Rattle.qm_space.specs.Plane.{Plane, value}
-use Rattle.qm_space.proofs.CoordinateSizes.{coordinate_small}
+use Rattle.qm_space.proofs.CoordinateSizes.{coordinate_small, coordinate_kept}
 
 -- a component of a normal as it is passed on
 pub component_kept : (n : ℤ) → unsigned_abs n ≤ normal_bound → unsigned_abs (kept w32 n) ≤ normal_bound
 component_kept n h = rw (kept_32 n normal_bound h (lit≤ tt)) h
-
--- so is a coordinate
-pub coordinate_kept : (c : ℤ) → IsCoordinate c → IsCoordinate (kept w32 c)
-coordinate_kept c h = rw (kept_32 c world_extent (coordinate_small c h) (lit≤ tt)) h
 
 -- a component times a coordinate
 pub part_is : (r n c : ℤ) → unsigned_abs n ≤ normal_bound → IsCoordinate c → r ≡ kept w32 n *ℤ kept w32 c → r ≡ n *ℤ c

@@ -30,10 +30,6 @@ through_small n at from to a f t e =
 pub own_small : (n : Vector) → HasSmallComponents n normal_bound → HasSmallComponents n whole_normal_bound
 own_small n s = let x = s.x_small in let y = s.y_small in let z = s.z_small in record { x_small = omega arith; y_small = omega arith; z_small = omega arith }
 
--- a coordinate as it is passed on
-pub coordinate_kept : (c : ℤ) → IsCoordinate c → IsCoordinate (kept w32 c)
-coordinate_kept c h = rw (kept_32 c world_extent (coordinate_small c h) (lit≤ tt)) h
-
 -- ---- a component times a coordinate
 
 pub part_small : (n c : ℤ) → unsigned_abs n ≤ whole_normal_bound → IsCoordinate c → unsigned_abs (n *ℤ c) ≤ look_product_bound

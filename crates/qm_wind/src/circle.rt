@@ -1,4 +1,5 @@
-ghost use Rattle.std.specs.Prelude.{◌≡◌, ◌<◌, ◌≤◌, ◌++◌, take, length, OnOk};
+ghost use Rattle.std.specs.Prelude.{◌≡◌, ◌<◌, ◌≤◌, ◌++◌, take, length, IsOk, OnOk};
+ghost use Rattle.smallvec.specs.SmallVec.{HasRoomFor};
 ghost use Rattle.qm_convex.specs.Winding.{next_place};
 ghost use Rattle.qm_convex.specs.Rotation.{rotated_list, place_after};
 
@@ -14,7 +15,9 @@ pub(crate) fn add_arc<T: Copy + Default + Drop>(
 ) -> Result<(), AllocError>
     requires start_in_range { start ≤ length items.now }
     requires count_in_range { count ≤ length items.now }
-    ensures { OnOk result (list.new.items ≡ list.old.items ++ take count (rotated_list start items.now)) }
+    ensures ok { OnOk result (list.new.items ≡ list.old.items ++ take count (rotated_list start items.now)) }
+    ensures succeeds { HasRoomFor list.old count → IsOk result }
+    ensures inline { HasRoomFor list.old count → list.old.capacity ≡ 8 → list.new.capacity ≡ 8 }
 {
     let before_end = items.len() - start;
     if count <= before_end {

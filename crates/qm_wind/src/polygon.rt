@@ -1,4 +1,4 @@
-ghost use Rattle.std.specs.Prelude.{◌≡◌, ◌<◌, ◌↔◌, length, IsTrue, IfOk, OnOk, OnErr, MatchBool};
+ghost use Rattle.std.specs.Prelude.{◌≡◌, ◌<◌, ◌≤◌, ◌↔◌, length, IsTrue, IsOk, IfOk, OnOk, OnErr, MatchBool};
 ghost use Rattle.qm_convex.specs.Winding.{corner_at, IsConvex};
 ghost use Rattle.qm_convex.specs.inner.Parallelogram.{parallelogram};
 ghost use Rattle.qm_convex.specs.Cut.{IsPartInFront};
@@ -68,7 +68,8 @@ impl Polygon {
 
     /// The same polygon once more.
     pub(crate) fn copy(&self) -> Result<Polygon, AllocError>
-        ensures { IfOk result (λ w. w ≡ self.now) }
+        ensures same { IfOk result (λ w. w ≡ self.now) }
+        ensures inline { length self.now.edges ≤ 8 → IsOk result }
     {
         let mut edges = SmallVec::new(*self.edges.allocator());
         edges.extend_from_slice(self.edges.as_slice())?;
@@ -96,7 +97,8 @@ impl Polygon {
     pub(crate) fn part_in_front_of(&self, plane: &Plane, run: &Run) -> Result<Polygon, AllocError>
         requires run { IsRun self.now plane.now run.now }
         requires across { HasCornersAcross self.now plane.now }
-        ensures { IfOk result (λ w. IsPartInFront w self.now plane.now) }
+        ensures part { IfOk result (λ w. IsPartInFront w self.now plane.now) }
+        ensures inline { length self.now.edges ≤ 7 → IsOk result }
     {
         let count = steps_between(self.edges.len(), run.start, run.end);
         self.cut(plane, run.start, count)
@@ -106,7 +108,8 @@ impl Polygon {
     fn cut(&self, plane: &Plane, start: usize, count: usize) -> Result<Polygon, AllocError>
         requires run { IsFrontRun self.now plane.now start count }
         requires behind { HasCornerBehind self.now plane.now }
-        ensures { IfOk result (λ w. w ≡ cut self.now plane.now start count) }
+        ensures cut { IfOk result (λ w. w ≡ cut self.now plane.now start count) }
+        ensures inline { length self.now.edges ≤ 7 → IsOk result }
     {
         let _ = &plane.nx;
         let mut edges = SmallVec::new(*self.edges.allocator());

@@ -1,4 +1,4 @@
-ghost use Rattle.std.specs.Prelude.{◌≡◌, ◌<◌, ◌≤◌, ◌↔◌, length, IsTrue, IfOk, OnOk, OnErr, MatchOption};
+ghost use Rattle.std.specs.Prelude.{◌≡◌, ◌<◌, ◌≤◌, ◌↔◌, length, IsTrue, IsOk, IfOk, OnOk, OnErr, MatchOption};
 ghost use Rattle.qm_space.specs.Turned.{turned};
 ghost use Rattle.qm_space.specs.Coordinates.{HasSmallCoordinates};
 ghost use Rattle.qm_convex.specs.Winding.{Winding as WindingValue, corner_at};
@@ -130,9 +130,10 @@ impl Winding {
     }
 
     /// What is left of the winding on one side of a plane. `Gone` exactly where none of its points is
-    /// strictly on that side, `Whole` exactly where each is.
+    /// strictly on that side, `Whole` exactly where each is. No memory is wanted for at most seven corners.
     pub fn clip(&self, plane: &Plane, keep: Side) -> Result<Clip, AllocError>
-        ensures { IfOk result (λ clip. IsClip clip self.now (turned (is_front keep) plane.now)) }
+        ensures clip { IfOk result (λ clip. IsClip clip self.now (turned (is_front keep) plane.now)) }
+        ensures inline { length self.now.edges ≤ 7 → IsOk result }
     {
         match keep {
             Side::Front => self.in_front_of(plane),
@@ -142,7 +143,8 @@ impl Winding {
 
     /// What is left in front of a plane.
     fn in_front_of(&self, plane: &Plane) -> Result<Clip, AllocError>
-        ensures { IfOk result (λ clip. IsClip clip self.now plane.now) }
+        ensures clip { IfOk result (λ clip. IsClip clip self.now plane.now) }
+        ensures inline { length self.now.edges ≤ 7 → IsOk result }
     {
         let _ = &self.polygon;
         match self.found(plane) {
@@ -346,7 +348,8 @@ impl Winding {
     fn part(&self, plane: &Plane, run: &Run) -> Result<Winding, AllocError>
         requires run { IsRun self.now plane.now run.now }
         requires across { HasCornersAcross self.now plane.now }
-        ensures { IfOk result (λ w. IsPartInFront w self.now plane.now) }
+        ensures part { IfOk result (λ w. IsPartInFront w self.now plane.now) }
+        ensures inline { length self.now.edges ≤ 7 → IsOk result }
     {
         Ok(Winding {
             polygon: self.polygon.part_in_front_of(plane, run)?,
@@ -368,9 +371,10 @@ impl Winding {
         }
     }
 
-    /// The same winding once more.
+    /// The same winding once more. No memory is wanted for at most eight corners.
     pub fn copy(&self) -> Result<Winding, AllocError>
-        ensures { IfOk result (λ w. w ≡ self.now) }
+        ensures same { IfOk result (λ w. w ≡ self.now) }
+        ensures inline { length self.now.edges ≤ 8 → IsOk result }
     {
         Ok(Winding {
             polygon: self.polygon.copy()?,

@@ -1,7 +1,8 @@
 use Rattle.std.proofs.Common.{rules, ◌∙◌, pos, ap}
 use Rattle.qm_space.specs.Point.{whole_point}
 use Rattle.qm_space.specs.Plane.{Plane, plane_of, value}
-use Rattle.qm_lines.proofs.Values.{component_kept, coordinate_kept, part_is, whole_value, two_fit, three_fit, less_fits, less_kept, less_kept_small}
+use Rattle.qm_space.proofs.CoordinateSizes.{coordinate_kept}
+use Rattle.qm_lines.proofs.Values.{component_kept, part_is, whole_value, two_fit, three_fit, less_fits, less_kept, less_kept_small}
 use Rattle.qm_lines.proofs.line.value_at.Goals as goal
 
 pub times-along_x-requires : goal.times-along_x-requires

@@ -2,7 +2,8 @@ use Rattle.std.proofs.Common.{rules, pos, lit≤}
 use Rattle.qm_numbers.proofs.Kept.{small_kept}
 use Rattle.qm_space.specs.Bounds.{whole_normal_bound}
 use Rattle.qm_narrow.specs.inner.Look.{look_product_bound, look_bound, least_between}
-use Rattle.qm_narrow.proofs.KeptNormals.{coordinate_kept, least_is, three_are}
+use Rattle.qm_space.proofs.CoordinateSizes.{coordinate_kept}
+use Rattle.qm_narrow.proofs.KeptNormals.{least_is, three_are}
 use Rattle.qm_narrow.proofs.spot.least_between.Goals as goal
 
 pub least_product-requires-clause-component_small : goal.least_product-requires-clause-component_small

@@ -43,9 +43,9 @@ cut-requires-clause-run c =
 pub cut-requires-clause-behind : goal.cut-requires-clause-behind
 cut-requires-clause-behind c = behind_of_back c.args.self.now c.args.plane.now c.requires.across.back
 
-pub returns : goal.returns
-returns c =
+pub returns-clause-part : goal.returns-clause-part
+returns-clause-part c =
     IfOk-weaker c.cut.result _ (λ w. IsPartInFront w c.args.self.now c.args.plane.now)
     (λ w is. subst (λ u. IsPartInFront u c.args.self.now c.args.plane.now) (sym is)
     (cut_is_part c.args.self.now c.args.plane.now c.args.run.now.start c.steps_between-count.result (subst IsConvex c.self.view_is c.self.invariant) (cut-requires-clause-run c.before) (behind_of_back c.args.self.now c.args.plane.now c.requires.across.back)))
-    c.cut.ensures
+    c.cut.ensures.cut
