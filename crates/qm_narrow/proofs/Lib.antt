@@ -4,7 +4,7 @@ pub mod Steps
 pub mod KeptCorners
 pub mod Coordinates
 pub mod Outlooks
-pub mod Edges
+pub mod LookedAt
 pub mod KeptNormals
 pub mod NoPlanes
 pub mod LookSamples

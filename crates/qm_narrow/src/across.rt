@@ -9,10 +9,10 @@ ghost use Rattle.qm_convex.specs.Winding.{corners};
 ghost use Rattle.qm_separators.specs.Across.{HasLowestNormal};
 ghost use Rattle.qm_separators.specs.Gains.{Gains};
 ghost use Rattle.qm_separators.specs.inner.Found.{PartsAlong, AreCandidate, SeparatesBy};
-ghost use Rattle.qm_narrow.specs.inner.Edge.{IsEdgeOf};
+ghost use Rattle.qm_narrow.specs.inner.LookCorners.{AreLookCorners};
 ghost use Rattle.qm_narrow.specs.inner.FoundPlanes.{AreAtLeastDistance, HasNormalAmong};
 
-use crate::edge::Edge;
+use crate::look_corners::LookCorners;
 use crate::normal::normal_through;
 use crate::outlook::Outlook;
 use crate::sides::parts;
@@ -25,12 +25,12 @@ pub(crate) fn gain_through(
     planes: &mut Vec<Plane>,
     source: &Traced,
     pass: &Traced,
-    edge: &Edge,
+    corners: &LookCorners,
     at: [i32; 3],
     from: [i32; 3],
     to: [i32; 3],
 ) -> Result<(), AllocError>
-    requires edge { IsEdgeOf source.now pass.now edge.now }
+    requires corners { AreLookCorners source.now pass.now corners.now }
     requires at_in_cube { AreCoordinates at }
     requires from_in_cube { AreCoordinates from }
     requires to_in_cube { AreCoordinates to }
@@ -39,7 +39,7 @@ pub(crate) fn gain_through(
     ensures { OnOk result (Gains (SeparatesBy source.now pass.now (whole_point at) (whole_point from) (whole_point to)) planes.old.items planes.new.items) }
 {
     let normal = normal_through(at, from, to);
-    let look = Outlook::of(source, pass, edge, &normal);
+    let look = Outlook::of(corners, &normal);
     if look.is_none() {
         return Ok(());
     }

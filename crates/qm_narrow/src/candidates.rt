@@ -7,12 +7,15 @@ ghost use Rattle.qm_separators.specs.Gains.{Gains};
 ghost use Rattle.qm_separators.specs.Across.{HasNormalAcross};
 ghost use Rattle.qm_separators.specs.Separator.{IsSeparator};
 ghost use Rattle.qm_separators.specs.inner.Found.{AreBoth, SeparatesByMix, SeparatesAt, SeparatesByEdge};
-ghost use Rattle.qm_narrow.specs.inner.Edge.{HasEdge, IsOwner, IsEdgeOf};
+ghost use Rattle.qm_narrow.specs.inner.Edge.{HasEdge, IsOwner};
 ghost use Rattle.qm_narrow.specs.inner.FoundPlanes.{AreAtLeastDistance};
+ghost use Rattle.qm_narrow.specs.inner.LookCorners.{AreLookCorners};
 ghost use Rattle.qm_narrow.specs.inner.WholeCandidates.{AreWholeCandidates};
 
 use crate::across::gain_through;
 use crate::edge::Edge;
+use crate::look_corners::LookCorners;
+use crate::places::next_place;
 use crate::traced::Traced;
 use qm_geom::Plane;
 use std::alloc::AllocError;
@@ -74,18 +77,22 @@ fn gain_at(
     k: usize,
 ) -> Result<(), AllocError>
     requires both { AreBoth source.now pass.now edges.now others.now }
-    requires edge { IsEdgeOf source.now pass.now edge.now }
+    requires owner { IsOwner source.now pass.now edges.now edge.now.of_pass }
+    requires edge { HasEdge edges.now edge.now }
     requires found { AreAtLeastDistance source.now planes.now.items }
     requires edge_in_range { i < length edges.now.edges }
     requires corner_in_range { k < length others.now.edges }
     ensures { OnOk result (Gains (SeparatesAt source.now pass.now edges.now others.now i k) planes.old.items planes.new.items) }
 {
     let _corners = others.len();
+    let corners = LookCorners::at(edge, others, k);
     let next = next_place(edges.len(), i);
     let from = edges.spot(i).nearest;
     let to = edges.spot(next).nearest;
     let spot = others.spot(k);
-    gain_mixed(planes, source, pass, edge, spot.below, spot.above, from, to)?;
+    gain_mixed(
+        planes, source, pass, &corners, spot.below, spot.above, from, to,
+    )?;
     Ok(())
 }
 
@@ -103,15 +110,6 @@ fn edge_at(edges: &Traced, of_pass: bool, i: usize) -> Edge
         first: *edges.spot(i),
         beside: *edges.spot(after),
     }
-}
-
-/// The place after a place, of so many in a circle.
-fn next_place(count: usize, i: usize) -> usize
-    requires { i < count }
-    ensures value { result ≡ next_place count i }
-    ensures in_range { result < count }
-{
-    if i + 1 == count { 0 } else { i + 1 }
 }
 
 /// A point with the x of another.
@@ -139,22 +137,22 @@ fn gain_mixed(
     planes: &mut Vec<Plane>,
     source: &Traced,
     pass: &Traced,
-    edge: &Edge,
+    corners: &LookCorners,
     below: [i32; 3],
     above: [i32; 3],
     from: [i32; 3],
     to: [i32; 3],
 ) -> Result<(), AllocError>
-    requires edge { IsEdgeOf source.now pass.now edge.now }
+    requires corners { AreLookCorners source.now pass.now corners.now }
     requires points { AreWholeCandidates source.now pass.now below above from to }
     requires found { AreAtLeastDistance source.now planes.now.items }
     ensures { OnOk result (Gains (SeparatesByMix source.now pass.now (whole_point below) (whole_point above) (whole_point from) (whole_point to)) planes.old.items planes.new.items) }
 {
     let high = with_x_of(above, below);
-    gain_layer(planes, source, pass, edge, below, high, from, to)?;
+    gain_layer(planes, source, pass, corners, below, high, from, to)?;
     if below[0] != above[0] {
         let low = with_x_of(below, above);
-        gain_layer(planes, source, pass, edge, low, above, from, to)?;
+        gain_layer(planes, source, pass, corners, low, above, from, to)?;
     }
     Ok(())
 }
@@ -164,23 +162,23 @@ fn gain_layer(
     planes: &mut Vec<Plane>,
     source: &Traced,
     pass: &Traced,
-    edge: &Edge,
+    corners: &LookCorners,
     below: [i32; 3],
     above: [i32; 3],
     from: [i32; 3],
     to: [i32; 3],
 ) -> Result<(), AllocError>
-    requires edge { IsEdgeOf source.now pass.now edge.now }
+    requires corners { AreLookCorners source.now pass.now corners.now }
     requires points { AreWholeCandidates source.now pass.now below above from to }
     requires found { AreAtLeastDistance source.now planes.now.items }
     requires flat { (whole_point below).x ≡ (whole_point above).x }
     ensures { OnOk result (Gains (SeparatesByMix source.now pass.now (whole_point below) (whole_point above) (whole_point from) (whole_point to)) planes.old.items planes.new.items) }
 {
     let high = with_z_of(below, above);
-    gain_row(planes, source, pass, edge, below, high, from, to)?;
+    gain_row(planes, source, pass, corners, below, high, from, to)?;
     if below[1] != above[1] {
         let low = with_z_of(above, below);
-        gain_row(planes, source, pass, edge, low, above, from, to)?;
+        gain_row(planes, source, pass, corners, low, above, from, to)?;
     }
     Ok(())
 }
@@ -190,22 +188,22 @@ fn gain_row(
     planes: &mut Vec<Plane>,
     source: &Traced,
     pass: &Traced,
-    edge: &Edge,
+    corners: &LookCorners,
     below: [i32; 3],
     above: [i32; 3],
     from: [i32; 3],
     to: [i32; 3],
 ) -> Result<(), AllocError>
-    requires edge { IsEdgeOf source.now pass.now edge.now }
+    requires corners { AreLookCorners source.now pass.now corners.now }
     requires points { AreWholeCandidates source.now pass.now below above from to }
     requires found { AreAtLeastDistance source.now planes.now.items }
     requires flat { (whole_point below).x ≡ (whole_point above).x }
     requires straight { (whole_point below).y ≡ (whole_point above).y }
     ensures { OnOk result (Gains (SeparatesByMix source.now pass.now (whole_point below) (whole_point above) (whole_point from) (whole_point to)) planes.old.items planes.new.items) }
 {
-    gain_through(planes, source, pass, edge, below, from, to)?;
+    gain_through(planes, source, pass, corners, below, from, to)?;
     if below[2] != above[2] {
-        gain_through(planes, source, pass, edge, above, from, to)?;
+        gain_through(planes, source, pass, corners, above, from, to)?;
     }
     Ok(())
 }

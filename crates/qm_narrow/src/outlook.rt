@@ -5,14 +5,14 @@ ghost use Rattle.qm_space.specs.Bounds.{whole_normal_bound};
 ghost use Rattle.qm_space.specs.Point.{AreCoordinates};
 ghost use Rattle.qm_geom.specs.Vectors.{HasSmallComponents};
 ghost use Rattle.qm_narrow.specs.inner.Look.{PartsNowhere, least_along, greatest_along};
-ghost use Rattle.qm_narrow.specs.inner.Edge.{IsEdgeOf};
+ghost use Rattle.qm_convex.specs.Winding.{Winding};
+ghost use Rattle.qm_narrow.specs.inner.LookCorners.{AreLookCorners};
 ghost use Rattle.qm_narrow.specs.inner.FoundPlanes.{HasAlongAmong, HasAgainstAmong};
 
-use crate::edge::Edge;
+use crate::look_corners::LookCorners;
 use crate::multiples::{has_against, has_along};
 use crate::reach::Reach;
 use crate::spot::Spot;
-use crate::traced::Traced;
 use qm_geom::{Plane, Vector};
 
 /// Whether planes with a normal, or with its opposite, may part two windings.
@@ -23,22 +23,21 @@ pub(crate) struct Outlook {
 }
 
 impl Outlook {
-    /// By an edge of the one of two windings, and the whole points near the corners of the other.
-    pub(crate) fn of(source: &Traced, pass: &Traced, edge: &Edge, normal: &Vector) -> Outlook
-        requires edge { IsEdgeOf source.now pass.now edge.now }
+    /// By an edge of the one of two windings, and the corners beside one of the other.
+    pub(crate) fn of(corners: &LookCorners, normal: &Vector) -> Outlook
+        requires corners { (source : Winding) × (pass : Winding) × AreLookCorners source pass corners.now }
         requires small { HasSmallComponents normal.now whole_normal_bound }
-        ensures ahead { result.ahead ≡ false → PartsNowhere source.now pass.now normal.now }
-        ensures back { result.back ≡ false → PartsNowhere pass.now source.now normal.now }
+        ensures ahead { (source pass : Winding) → AreLookCorners source pass corners.now → result.ahead ≡ false → PartsNowhere source pass normal.now }
+        ensures back { (source pass : Winding) → AreLookCorners source pass corners.now → result.back ≡ false → PartsNowhere pass source normal.now }
     {
-        let reach = edge.reach(normal);
-        if edge.of_pass {
-            let outlook = source.outlook(&reach, normal);
+        let reach = corners.edge.reach(normal);
+        let outlook = corners.outlook(&reach, normal);
+        if corners.edge.of_pass {
             return Outlook {
                 ahead: outlook.back,
                 back: outlook.ahead,
             };
         }
-        let outlook = pass.outlook(&reach, normal);
         outlook
     }
 

@@ -11,7 +11,6 @@ ghost use Rattle.qm_space.specs.Plane.{IsBehind, IsInFront};
 ghost use Rattle.qm_narrow.specs.inner.Trace.{IsSpotOf, IsTrace};
 
 use crate::corner_lists::CornerLists;
-use crate::outlook::Outlook;
 use crate::reach::Reach;
 use crate::spot::Spot;
 use qm_geom::{Corner, Plane, Vector, least_distance};
@@ -41,7 +40,7 @@ impl Model for Traced {
 impl Traced {
     ghost use Rattle.qm_narrow.specs.inner.Trace.{IsSpotOf};
     ghost use Rattle.qm_geom.specs.Vectors.{HasSmallComponents};
-    ghost use Rattle.qm_narrow.specs.inner.Look.{IsReach, IsOutlook};
+    ghost use Rattle.qm_narrow.specs.inner.Look.{IsReach};
 
     /// A winding with these, in lists that are used again.
     pub(crate) fn of(lists: CornerLists, winding: Winding) -> Result<Traced, AllocError>
@@ -155,25 +154,6 @@ impl Traced {
             reach = reach.with(spot, normal);
         }
         reach
-    }
-
-    /// Whether planes with a normal may part it and a source of this reach.
-    pub(crate) fn outlook(&self, reach: &Reach, normal: &Vector) -> Outlook
-        requires { HasSmallComponents normal.now whole_normal_bound }
-        ensures { IsOutlook self.now normal.now reach.now result }
-    {
-        let _corners = self.len();
-        let mut outlook = Outlook {
-            ahead: true,
-            back: true,
-        };
-        for spot in &self.lists.spots {
-            outlook = outlook.with(reach, spot, normal);
-            if outlook.is_none() {
-                return outlook;
-            }
-        }
-        outlook
     }
 }
 

@@ -18,7 +18,3 @@ pub record HasEdge (v : Winding) (edge : Edge) : Type 0 where
 -- the winding is the pass where the flag is set, and the source where it is not
 abbrev pub IsOwner : Winding → Winding → Winding → Bool → Type 0
 IsOwner source pass v of_pass = ((of_pass ≡ false) × (v ≡ source)) ⊎ ((of_pass ≡ true) × (v ≡ pass))
-
--- the edge is one of the source or of the pass, as its flag tells
-abbrev pub IsEdgeOf : Winding → Winding → Edge → Type 0
-IsEdgeOf source pass edge = (v : Winding) × IsOwner source pass v edge.of_pass × HasEdge v edge

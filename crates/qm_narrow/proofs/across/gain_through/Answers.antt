@@ -17,7 +17,7 @@ pub gain_where-requires-clause-not : goal.gain_where-requires-clause-not
 gain_where-requires-clause-not c =
     there_as_it_is c.args.source.now c.args.pass.now (whole_point c.args.at) (whole_point c.args.from) (whole_point c.args.to)
     c.normal_through-normal.result c.normal_through-normal.ensures.exact c.args.planes.now.items _ c.as_slice.ensures.value c.requires.found c.of-look.result c.without-outlook.result
-    c.of-look.ensures.ahead c.of-look.ensures.back c.without-outlook.ensures.ahead c.without-outlook.ensures.back
+    (c.of-look.ensures.ahead c.args.source.now c.args.pass.now c.requires.corners) (c.of-look.ensures.back c.args.source.now c.args.pass.now c.requires.corners) c.without-outlook.ensures.ahead c.without-outlook.ensures.back
     refl _ _ _ c.in-Ok.ensures.through (through_lowest (whole_point c.args.at) (whole_point c.args.from) (whole_point c.args.to) refl _ _ c.in-Ok.ensures.through) c.towards.ensures
 
 pub gain_where-requires-in-Ok-clause-lowest : goal.gain_where-requires-in-Ok-clause-lowest
@@ -27,7 +27,7 @@ pub gain_where-requires-in-Ok-clause-not : goal.gain_where-requires-in-Ok-clause
 gain_where-requires-in-Ok-clause-not c = λ unset h parts.
     (c.in_ok-gain_where-in-Ok.ensures.members h).1 (inl (there_flipped c.args.source.now c.args.pass.now (whole_point c.args.at) (whole_point c.args.from) (whole_point c.args.to)
     c.normal_through-normal.result c.normal_through-normal.ensures.exact c.args.planes.now.items _ c.as_slice.ensures.value c.requires.found c.of-look.result c.without-outlook.result
-    c.of-look.ensures.ahead c.of-look.ensures.back c.without-outlook.ensures.ahead c.without-outlook.ensures.back
+    (c.of-look.ensures.ahead c.args.source.now c.args.pass.now c.requires.corners) (c.of-look.ensures.back c.args.source.now c.args.pass.now c.requires.corners) c.without-outlook.ensures.ahead c.without-outlook.ensures.back
     refl _ _ _ c.in-Ok.ensures.through (through_lowest_flipped (whole_point c.args.at) (whole_point c.args.from) (whole_point c.args.to) refl _ _ c.in-Ok.ensures.through) c.towards-in-Ok.ensures unset h
     (subst (λ (g : Plane). PartsAlong c.args.source.now c.args.pass.now g h) c.flipped-turned.ensures parts)))
 
@@ -35,14 +35,14 @@ pub returns-then-is_none : goal.returns-then-is_none
 returns-then-is_none c =
     gains_nowhere c.args.source.now c.args.pass.now (whole_point c.args.at) (whole_point c.args.from) (whole_point c.args.to)
     c.normal_through-normal.result c.normal_through-normal.ensures.exact c.args.planes.now.items c.args.planes.now.items refl c.requires.found c.of-look.result c.of-look.result
-    c.of-look.ensures.ahead c.of-look.ensures.back inl inl
+    (c.of-look.ensures.ahead c.args.source.now c.args.pass.now c.requires.corners) (c.of-look.ensures.back c.args.source.now c.args.pass.now c.requires.corners) inl inl
     (c.is_none.ensures.ahead c.if-is_none.true) (c.is_none.ensures.back c.if-is_none.true)
 
 pub returns-then-is_none-2 : goal.returns-then-is_none-2
 returns-then-is_none-2 c =
     gains_nowhere c.args.source.now c.args.pass.now (whole_point c.args.at) (whole_point c.args.from) (whole_point c.args.to)
     c.normal_through-normal.result c.normal_through-normal.ensures.exact c.args.planes.now.items _ c.as_slice.ensures.value c.requires.found c.of-look.result c.without-outlook.result
-    c.of-look.ensures.ahead c.of-look.ensures.back c.without-outlook.ensures.ahead c.without-outlook.ensures.back
+    (c.of-look.ensures.ahead c.args.source.now c.args.pass.now c.requires.corners) (c.of-look.ensures.back c.args.source.now c.args.pass.now c.requires.corners) c.without-outlook.ensures.ahead c.without-outlook.ensures.back
     (c.is_none-2.ensures.ahead c.if-is_none-2.true) (c.is_none-2.ensures.back c.if-is_none-2.true)
 
 pub returns-in-Err : goal.returns-in-Err

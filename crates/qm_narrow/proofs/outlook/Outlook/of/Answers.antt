@@ -1,18 +1,18 @@
-use Rattle.qm_narrow.proofs.Edges.{pass_has, source_has}
+use Rattle.qm_narrow.proofs.LookedAt.{pass_has_edge, source_has_corner, source_has_edge, pass_has_corner}
 use Rattle.qm_narrow.proofs.outlook.Outlook.of.Goals as goal
 
-pub returns-then-edge-clause-ahead : goal.returns-then-edge-clause-ahead
-returns-then-edge-clause-ahead c = λ not d front behind.
-    c.outlook-outlook.ensures.back c.args.pass.now (c.reach-reach.ensures c.args.pass.now (pass_has c.args.source.now c.args.pass.now c.args.edge.now c.requires.edge c.if-edge.true)) not d front behind
+pub returns-then-corners-clause-ahead : goal.returns-then-corners-clause-ahead
+returns-then-corners-clause-ahead c = λ source pass are not d front behind.
+    (c.outlook-outlook.ensures source (source_has_corner source pass c.args.corners.now are c.if-corners.true)).back pass (c.reach-reach.ensures pass (pass_has_edge source pass c.args.corners.now are c.if-corners.true)) not d front behind
 
-pub returns-then-edge-clause-back : goal.returns-then-edge-clause-back
-returns-then-edge-clause-back c = λ not d front behind.
-    c.outlook-outlook.ensures.ahead c.args.pass.now (c.reach-reach.ensures c.args.pass.now (pass_has c.args.source.now c.args.pass.now c.args.edge.now c.requires.edge c.if-edge.true)) not d front behind
+pub returns-then-corners-clause-back : goal.returns-then-corners-clause-back
+returns-then-corners-clause-back c = λ source pass are not d front behind.
+    (c.outlook-outlook.ensures source (source_has_corner source pass c.args.corners.now are c.if-corners.true)).ahead pass (c.reach-reach.ensures pass (pass_has_edge source pass c.args.corners.now are c.if-corners.true)) not d front behind
 
 pub returns-clause-ahead : goal.returns-clause-ahead
-returns-clause-ahead c = λ not d front behind.
-    c.outlook-outlook-2.ensures.ahead c.args.source.now (c.reach-reach.ensures c.args.source.now (source_has c.args.source.now c.args.pass.now c.args.edge.now c.requires.edge c.if-edge.false)) not d front behind
+returns-clause-ahead c = λ source pass are not d front behind.
+    (c.outlook-outlook.ensures pass (pass_has_corner source pass c.args.corners.now are c.if-corners.false)).ahead source (c.reach-reach.ensures source (source_has_edge source pass c.args.corners.now are c.if-corners.false)) not d front behind
 
 pub returns-clause-back : goal.returns-clause-back
-returns-clause-back c = λ not d front behind.
-    c.outlook-outlook-2.ensures.back c.args.source.now (c.reach-reach.ensures c.args.source.now (source_has c.args.source.now c.args.pass.now c.args.edge.now c.requires.edge c.if-edge.false)) not d front behind
+returns-clause-back c = λ source pass are not d front behind.
+    (c.outlook-outlook.ensures pass (pass_has_corner source pass c.args.corners.now are c.if-corners.false)).back source (c.reach-reach.ensures source (source_has_edge source pass c.args.corners.now are c.if-corners.false)) not d front behind
