@@ -9,6 +9,8 @@ use Rattle.qm_space.specs.Cube.{IsInClosedCube}
 use Rattle.qm_space.proofs.CoordinateSizes.{coordinate_small}
 use Rattle.qm_space.specs.Coordinates.{AreCoordinatesBy}
 use Rattle.qm_separators.proofs.WholePointLaws.{whole_by_coordinates, nearest_in_cube, around_in_cube}
+use Rattle.qm_numbers.proofs.Kept.{kept}
+use Rattle.qm_narrow.proofs.KeptNormals.{coordinate_kept}
 use Rattle.qm_narrow.specs.declared.spot.Spot.{Spot}
 use Rattle.qm_narrow.specs.inner.Trace.{IsSpotOf}
 
@@ -36,3 +38,7 @@ spot_is corner spot inside nearest below above n b a =
       below_in = three_in_cube spot.below b (around_in_cube corner (whole_point spot.below) inside (record { x = inl low.x; y = inl low.y; z = inl low.z; weight = low.weight }));
       above_in = three_in_cube spot.above a (around_in_cube corner (whole_point spot.above) inside (record { x = inr high.x; y = inr high.y; z = inr high.z; weight = high.weight }));
     }
+
+-- three coordinates, as the code puts them into one point
+pub three_coordinates : (x y z : ℤ) → IsCoordinate x → IsCoordinate y → IsCoordinate z → AreCoordinates (kept w32 x ∷ kept w32 y ∷ kept w32 z ∷ [])
+three_coordinates x y z a b c = All-from_recursion IsCoordinate (kept w32 x ∷ kept w32 y ∷ kept w32 z ∷ []) (coordinate_kept x a, (coordinate_kept y b, (coordinate_kept z c, tt)))

@@ -7,6 +7,7 @@ pub mod Outlooks
 pub mod LookedAt
 pub mod KeptNormals
 pub mod NoPlanes
+pub mod Beams
 pub mod LookSamples
 pub mod WholeCorners
 pub mod Nearness

@@ -1,5 +1,5 @@
 -- The corners that a look asks: of which of two windings they are.
-use Rattle.std.proofs.Common.{◌≡◌, ◌⊎◌, Bool, true, false, inl, inr, sym, subst, ◌∙◌, ⊎_elim}
+use Rattle.std.proofs.Common.{◌≡◌, Bool, true, false, inl, inr, sym, subst, ◌∙◌, ⊎_elim}
 use Rattle.qm_convex.specs.Winding.{Winding}
 use Rattle.qm_separators.specs.inner.Found.{AreBoth}
 use Rattle.qm_narrow.specs.declared.look_corners.LookCorners.{LookCorners}

@@ -1,10 +1,10 @@
 -- Steps: what their cuts leave, once the planes are listed that cut, and the windings known that are cut.
-use Rattle.std.proofs.Common.{◌≡◌, Option, Some, None, Result, IfOk, List, sym, subst}
+use Rattle.std.proofs.Common.{◌≡◌, Option, Some, None, Result, IfOk, List, refl, sym, subst}
 use Rattle.std.specs.Option.{MatchOption}
 use Rattle.std.proofs.lemmas.Result.{IfOk-weaker}
 use Rattle.qm_space.specs.Plane.{Plane, flipped}
 use Rattle.qm_convex.specs.Winding.{Winding, IsConvex}
-use Rattle.qm_convex.specs.Sides.{LiesIn}
+use Rattle.qm_convex.specs.Sides.{LiesIn, IsWhollyInFront}
 use Rattle.qm_convex.specs.Cut.{IsPartInFront, IsPartWithin, HasNoneWithin}
 use Rattle.qm_wind.specs.declared.winding.Clip.{Clip}
 use Rattle.qm_wind.specs.declared.winding.Clip.TheVariants.{Whole, Gone, Cut}
@@ -46,6 +46,14 @@ IsEnd state near pass after = MatchOption after (HasNoPartBy near (IsSeparatorFr
 
 abbrev pub IsNarrowed : ChainState → Winding → Winding → Option ChainState → Type 0
 IsNarrowed state near far after = MatchOption after (CutsAway state near far) (NarrowsTo state near far)
+
+-- the last one, where each separator of the pass has all of the winding in front
+pub whole_end : (state : ChainState) (near pass : Winding) (next : ChainState) → IsConvex near → ((h : Plane) → IsSeparatorFrom state.pass pass h → IsWhollyInFront near h) → next ≡ record { source = near; into = state.into; pass = Some pass } → EndsAt state near pass next
+whole_end state near pass next convex whole same = subst (EndsAt state near pass) (sym same) (record {
+  pass_is = refl;
+  source = record { convex = convex; plane = refl; points = λ p. ((λ r. (r, λ h is. whole h is p r)), (λ s. s.0)) };
+  into_is = refl;
+})
 
 ended : (state : ChainState) (near far pass : Winding) → IsPartBy pass far (IsSeparatorFrom state.pass near) → (after : Option ChainState) → IsEnd state near pass after → IsNarrowed state near far after
 ended state near far pass narrowed None gone = source_gone narrowed gone

@@ -5,4 +5,5 @@ pub mod LookCorners
 pub mod Near
 pub mod FoundPlanes
 pub mod LastCut
+pub mod Beam
 pub mod WholeCandidates

@@ -2,9 +2,12 @@
 #![tactic(auto)]
 
 mod across;
+mod aims;
+mod beam;
 mod candidates;
 mod chain_state;
 mod corner_lists;
+mod crossing;
 mod edge;
 pub mod laws;
 mod look_corners;
@@ -15,6 +18,7 @@ mod outlook;
 mod passing;
 mod places;
 mod reach;
+mod seeing;
 mod separating;
 mod sides;
 mod spot;

@@ -3,8 +3,8 @@
 ghost use Rattle.std.specs.Prelude.{◌≡◌, ◌≤◌, ◌*ℤ◌, unsigned_abs};
 ghost use Rattle.qm_space.specs.Bounds.{whole_normal_bound};
 ghost use Rattle.qm_space.specs.Cube.{IsInClosedCube};
-ghost use Rattle.qm_space.specs.Point.{IsCoordinate, AreCoordinates};
-ghost use Rattle.qm_space.specs.Cuboid.{least_product, greatest_product};
+ghost use Rattle.qm_space.specs.Point.{Point, IsCoordinate, AreCoordinates};
+ghost use Rattle.qm_space.specs.Cuboid.{IsInCuboid, least_product, greatest_product};
 ghost use Rattle.qm_space.specs.Coordinates.{HasSmallCoordinates};
 ghost use Rattle.qm_geom.specs.Vectors.{HasSmallComponents};
 ghost use Rattle.qm_narrow.specs.inner.Look.{look_product_bound, look_bound, least_between};
@@ -13,7 +13,7 @@ ghost use Rattle.qm_narrow.specs.inner.Trace.{IsSpotOf};
 use crate::near::Near;
 use crate::normal::sum;
 use crate::whole::whole_corner;
-use qm_geom::{Corner, Vector};
+use qm_geom::{Corner, Cuboid, Span, Vector};
 
 /// The whole points near a corner: the nearest one, and the coordinates rounded down and up.
 #[derive(Clone, Copy)]
@@ -42,6 +42,19 @@ impl Spot {
             };
         }
         divided(corner)
+    }
+
+    /// All points between those below and above.
+    pub(crate) fn cuboid(&self) -> Cuboid
+        requires below_in { AreCoordinates self.now.below }
+        requires above_in { AreCoordinates self.now.above }
+        ensures { (p : Point) → IsSpotOf p self.now → IsInCuboid result p }
+    {
+        Cuboid {
+            x: Span::between(self.below[0], self.above[0]),
+            y: Span::between(self.below[1], self.above[1]),
+            z: Span::between(self.below[2], self.above[2]),
+        }
     }
 
     /// The least that a normal has along a point between those below and above.

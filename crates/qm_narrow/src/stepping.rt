@@ -11,6 +11,7 @@ ghost use Rattle.qm_separators.specs.inner.Narrowed.{NarrowsTo, CutsAway};
 ghost use Rattle.qm_narrow.specs.inner.LastCut.{EndsAt};
 
 use crate::chain_state::ChainState;
+use crate::seeing::is_seen_whole;
 use crate::separating::list_separators_from;
 use crate::step_buffers::StepBuffers;
 use crate::traced::Traced;
@@ -115,6 +116,7 @@ fn last_cut_whole(
     ensures { IfOk result (λ after. MatchOption after (HasNoPartBy state.now.source (IsSeparatorFrom state.now.pass pass)) (EndsAt state.now state.now.source pass)) }
 {
     let near = state.source().copy()?;
+    let near = buffers.trace_source(alloc, near)?;
     last_cut(alloc, buffers, state, near, pass)
 }
 
@@ -131,25 +133,47 @@ fn narrowed_part(
 {
     let near = buffers.trace_source(alloc, near)?;
     let part = left_beyond(buffers, state.pass(), &near, far)?;
-    let near = buffers.keep_source(near);
     match part {
-        None => Ok(None),
+        None => {
+            buffers.keep_source(near);
+            Ok(None)
+        }
         Some(pass) => last_cut(alloc, buffers, state, near, pass),
     }
 }
 
-/// The last cut of a step, from what the others have left.
+/// The last cut of a step, from what the others have left. Where lines tell that it cuts nothing, no separators are listed.
 fn last_cut(
     alloc: Global,
     buffers: &mut StepBuffers,
     state: &ChainState,
-    near: Winding,
+    near: Traced,
     pass: Winding,
 ) -> Result<Option<ChainState>, AllocError>
     requires { LiesIn near state.now.into }
     ensures { IfOk result (λ after. MatchOption after (HasNoPartBy near (IsSeparatorFrom state.now.pass pass)) (EndsAt state.now near pass)) }
 {
+    let _corners = near.len();
     let pass = buffers.trace_pass(alloc, pass)?;
+    if is_seen_whole(&near, state.pass(), &pass) {
+        let after = ChainState::of(buffers.take_planes(alloc), near, state.into(), Some(pass))?;
+        return Ok(Some(after));
+    }
+    let near = buffers.keep_source(near);
+    last_cut_by_separators(alloc, buffers, state, near, pass)
+}
+
+/// The last cut by the separators of the portal and the last pass.
+fn last_cut_by_separators(
+    alloc: Global,
+    buffers: &mut StepBuffers,
+    state: &ChainState,
+    near: Winding,
+    pass: Traced,
+) -> Result<Option<ChainState>, AllocError>
+    requires { LiesIn near state.now.into }
+    ensures { IfOk result (λ after. MatchOption after (HasNoPartBy near (IsSeparatorFrom state.now.pass pass)) (EndsAt state.now near pass)) }
+{
     match left_beyond(buffers, state.pass(), &pass, near)? {
         None => {
             buffers.keep_pass(pass);

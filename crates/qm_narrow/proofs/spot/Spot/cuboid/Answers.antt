@@ -1,0 +1,6 @@
+use Rattle.std.proofs.Common.{pos, rules}
+use Rattle.qm_narrow.proofs.KeptNormals.{coordinate_kept}
+use Rattle.qm_narrow.proofs.spot.Spot.cuboid.Goals as goal
+
+pub between-requires-3-clause-low : goal.between-requires-3-clause-low
+between-requires-3-clause-low c = coordinate_kept _ (c.requires.below_in 2 (pos 0) (search rules))
