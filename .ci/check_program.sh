@@ -67,6 +67,13 @@ says_that_a_file_is_not_written() {
     ended 6 'write fault\n'
 }
 
+# OUT may not grow past a kilobyte; the launcher has the system tell that by an error
+says_that_a_file_is_too_large() {
+    status=0
+    (cd "$folder" && ulimit -f 1 && exec "$top/qmapc" format large.map limited.map >printed 2>said) || status=$?
+    ended 6 'write fault\n' && has_bytes limited.map 1024 && cmp -n 1024 "$folder/large.once" "$folder/limited.map"
+}
+
 ends_with_six_where_nothing_can_be_printed() {
     status=0
     (cd "$folder" && "$program" format room.map full.map >/dev/full 2>said) || status=$?
@@ -364,6 +371,21 @@ stops_at_the_limit_of_a_tree_file() {
     ended 8 'tree fault 9 at byte 1073741824: too long\n'
 }
 
+# a chain of a million nodes on one plane, asked at both ends
+answers_in_a_chain_of_a_million_nodes() {
+    python3 - "$folder" <<'END' || return 1
+import sys
+sys.path[:0] = [".ci", "tools"]
+from made_trees import SOLID, tree_file
+last = 1_000_000
+nodes = [(0, -1 - k, k + 1 if k + 1 < last else -1 - last) for k in range(last)]
+open(sys.argv[1] + "/chain.tree", "wb").write(tree_file([(1, 0, 0, 0)], nodes, [(SOLID, 0)] * (last + 1), None, 1))
+END
+    has_bytes chain.tree 25000066 || return 1
+    run_program inspect chain.tree at=1,0,0 at=-1,0,0
+    ended 0 'leaf 0 solid\nleaf 1000000 solid\n'
+}
+
 # runs the program, which reads the room's tree from a pipe
 from_a_pipe() { # from_a_pipe WORDS..
     cat "$folder/room.tree" >"$folder/pipe" 2>/dev/null &
@@ -556,6 +578,7 @@ check "status 2: words that are no command print the usage line" prints_the_usag
 check "status 4: a map with a fault" says_which_fault_a_map_has
 check "status 5: a map that is missing or is a folder" says_that_a_map_is_not_read
 check "status 6: OUT that cannot be made or not be written" says_that_a_file_is_not_written
+check "status 6: OUT that grows past the limit of the shell" says_that_a_file_is_too_large
 check "status 6: a standard output that takes nothing" ends_with_six_where_nothing_can_be_printed
 check "status 7: too little memory" runs_out_of_memory
 check "status 7, or a whole result: a request for memory of each command is refused" refuses_requests
@@ -570,6 +593,7 @@ check "status 9: the first query that is refused" says_which_query_is_refused
 check "status 5: a tree that is missing or is a folder" says_that_a_tree_is_not_read
 check "status 8: a tree file with a fault" says_which_fault_a_tree_file_has
 check "status 8: a tree file without an end is read to its limit" stops_at_the_limit_of_a_tree_file
+check "a tree of a million nodes in a row is asked at both ends" answers_in_a_chain_of_a_million_nodes
 check "a tree that is a pipe is read" reads_a_tree_that_is_a_pipe
 check "status 0: upgraded trees are those that a plain writer writes" upgrades_as_a_slow_writer_does
 check "status 6: an upgraded tree that cannot be written" says_that_an_upgraded_tree_is_not_written

@@ -1,13 +1,16 @@
 #!/usr/bin/env python3
 """Compares what `PROGRAM inspect` says of damaged tree files with what the plain slow reader `tools/treefile.py` says.
 
-    .ci/damage_files.py PROGRAM [EDITS]
+    .ci/damage_files.py PROGRAM [EDITS [READER [FILE..]]]
 
 Each bit of a small file of both versions is turned; files of other programs, and headers that promise what no file has, are read;
 and larger files are edited by chance, 200 times in all where no number is named: bits turned, bytes put in, left out, doubled, moved
 and cut off, records exchanged, numbers replaced by such as stand at an end of their type. Each has to end with 0 and what the slow
 reader counts, or with 8 and the slow reader's fault and place; and with a peak of memory that is at most `MOST` times as long as the
-file, beside what a run takes that reads an empty one. `.ci/compare_files.py` does the rest in one run of a program of its own."""
+file, beside what a run takes that reads an empty one. Where READER is named, the program `file_faults`, listings of portals are
+damaged too, and as many edited, and what `READER read` says of them is compared with what `.ci/slow_listing.py` says. Tree files,
+and listings whose names end with `.prt`, that are named as FILE are edited in place of those that are made here.
+`.ci/compare_files.py` does the rest in one run of a program of its own."""
 
 import gzip
 import os
@@ -22,6 +25,7 @@ import zlib
 sys.path.insert(0, str(Path(__file__).resolve().parent.parent / "tools"))
 
 from made_trees import cube, long_tree, random_tree, tree_file  # noqa: E402
+import slow_listing  # noqa: E402
 import treefile  # noqa: E402
 
 # the most bytes of memory for each byte of a file that is no tree, and beside them
@@ -31,8 +35,8 @@ FAULTS = {"short": 1, "magic": 2, "counts": 3, "plane form": 4, "node order": 5,
 ENDS = (0, 1, 2 ** 7 - 1, 2 ** 8 - 1, 2 ** 31 - 1, 2 ** 31, 2 ** 32 - 1, 2 ** 63 - 1, 2 ** 63, 2 ** 64 - 1)
 
 
-def due(data):
-    """How the program has to end on a file, and what it has to print."""
+def due_of_tree(data):
+    """How the program has to end on a tree file, and what it has to print."""
     try:
         tree = treefile.decode(data)
     except treefile.Fault as fault:
@@ -42,15 +46,23 @@ def due(data):
                f"rows {'no' if tree.rows is None else 'yes'}\n")
 
 
-def inspected(program, data):
-    """How the program ended on a file, what it printed, and the peak of its memory in bytes."""
-    Path("damaged.tree").write_bytes(data)
-    child = subprocess.Popen([program, "inspect", "damaged.tree", "count"], stdout=subprocess.PIPE)
+def due_of_listing(text):
+    """How the reader of listings has to end, and what it has to print."""
+    try:
+        return 0, "leaves {}, portals {}\n".format(*slow_listing.count(text))
+    except slow_listing.Fault as fault:
+        return 0, f"{fault}\n"
+
+
+def read(words, name, data):
+    """How a program ended on a file of a name, what it printed, the peak of its memory in bytes, and its seconds of processor time."""
+    Path(name).write_bytes(data)
+    child = subprocess.Popen(words, stdout=subprocess.PIPE)
     text = child.stdout.read().decode()
     _, status, usage = os.wait4(child.pid, 0)
     child.returncode = os.waitstatus_to_exitcode(status)
     child.stdout.close()
-    return (child.returncode, text), usage.ru_maxrss * 1024
+    return (child.returncode, text), usage.ru_maxrss * 1024, usage.ru_utime + usage.ru_stime
 
 
 def turned(data):
@@ -117,7 +129,7 @@ def edited(rng, data):
     return bytes(data)
 
 
-def larger():
+def larger_trees():
     """Larger files: of random trees, with and without rows, of both versions, one with sections, and a long one."""
     rng = random.Random(3)
     yield random_tree(rng, 300, True, 1)
@@ -126,36 +138,96 @@ def larger():
     yield long_tree(900)
 
 
-def main(program, edits=200):
-    program, rng, count, wrong, least = os.path.abspath(program), random.Random(7), 0, 0, None
-    large = list(larger())
-    kinds = {
-        "bits turned": (data for version in (1, 2) for data in turned(cube(version))),
-        "other files": others(),
-        "promises": promises(),
-        "edits": (edited(rng, rng.choice(large)) for _ in range(int(edits))),
-    }
+def listing(rng, leaves, portals):
+    """A listing of so many leaves and portals."""
+    lines = [f"PRT1\n{leaves}\n{portals}\n"]
+    for _ in range(portals):
+        pair, corners = rng.sample(range(leaves), 2), rng.randrange(3, 9)
+        points = "".join("({} {} {} ) ".format(*(coordinate(rng) for _ in range(3))) for _ in range(corners))
+        lines.append("{} {} {} {}\n".format(corners, *pair, points))
+    return "".join(lines).encode()
+
+
+def coordinate(rng):
+    """A number of a point, whole or with six decimals."""
+    whole = rng.randrange(-32767, 32768)
+    return f"{whole}" if rng.random() < 0.7 else f"{whole}.{rng.randrange(1000000):06}"
+
+
+def larger_listings():
+    """Larger listings."""
+    rng = random.Random(5)
+    yield listing(rng, 200, 300)
+    yield listing(rng, 9, 900)
+
+
+def name_of(told):
+    """What was found, without its place."""
+    return told[1].split(": ")[1].strip() if told[0] == 8 else told[1].split(" at byte ")[0] if " at byte " in told[1] else "read"
+
+
+class Damage:
+    """What became of damaged files of one kind."""
+
+    def __init__(self, words, name, due):
+        self.words, self.name, self.due, self.count, self.wrong = words, name, due, 0, 0
+        _, self.least, _ = read(words, name, b"")
+
+    def try_all(self, kind, files):
+        """Reads each of some files."""
+        here, found, longest = 0, {}, 0
+        for data in files:
+            told, peak, seconds = read(self.words, self.name, data)
+            here, longest = here + 1, max(longest, seconds)
+            found[name_of(told)] = found.get(name_of(told), 0) + 1
+            if told != self.due(data) or peak > self.least + BESIDE + MOST * len(data):
+                self.wrong += 1
+                print(f"{kind} {here}, {len(data)} bytes: {told}, {peak} bytes of memory, and due is {self.due(data)}")
+        print(f"{kind}: {here} files, {longest:.2f} s at most;", ", ".join(f"{name} {number}" for name, number in sorted(found.items())), flush=True)
+        self.count += here
+
+
+def edits_of(files, count):
+    """So many edits of some files, or none where there is no file."""
+    rng = random.Random(7)
+    return (edited(rng, rng.choice(files)) for _ in range(count if files else 0))
+
+
+def try_trees(program, files, edits):
+    """Damages tree files."""
+    damage = Damage([program, "inspect", "damaged.tree", "count"], "damaged.tree", due_of_tree)
+    damage.try_all("bits turned", (data for version in (1, 2) for data in turned(cube(version))))
+    damage.try_all("other files", others())
+    damage.try_all("promises", promises())
+    damage.try_all("edits", edits_of(files, edits))
+    return damage
+
+
+def try_listings(reader, files, edits):
+    """Damages listings."""
+    damage = Damage([reader, "read", "damaged.prt"], "damaged.prt", due_of_listing)
+    damage.try_all("bits of a listing turned", turned(listing(random.Random(2), 4, 3)))
+    damage.try_all("edits of listings", edits_of(files, edits))
+    return damage
+
+
+def main(program, edits=200, reader=None, *named):
+    program, edits, damages = os.path.abspath(program), int(edits), []
+    trees = [Path(name).read_bytes() for name in named if not name.endswith(".prt")] if named else [*larger_trees()]
+    listings = [Path(name).read_bytes() for name in named if name.endswith(".prt")] if named else [*larger_listings()]
+    reader = reader and os.path.abspath(reader)
     with tempfile.TemporaryDirectory() as folder:
         os.chdir(folder)
-        _, least = inspected(program, b"")
-        for kind, files in kinds.items():
-            here, found = 0, {}
-            for data in files:
-                told, peak = inspected(program, data)
-                here += 1
-                name = told[1].split(": ")[1].strip() if told[0] == 8 else str(told[0])
-                found[name] = found.get(name, 0) + 1
-                if told != due(data) or peak > least + BESIDE + MOST * len(data):
-                    wrong += 1
-                    print(f"{kind} {here}, {len(data)} bytes: {told}, {peak} bytes of memory, and due is {due(data)}")
-            print(f"{kind}: {here} files;", ", ".join(f"{name} {number}" for name, number in sorted(found.items())))
-            count += here
+        damages.append(try_trees(program, trees, edits))
+        if reader:
+            damages.append(try_listings(reader, listings, edits))
         os.chdir("/")
-    print(f"{count} files read, {wrong} wrong")
+    wrong = sum(damage.wrong for damage in damages)
+    print(f"{sum(damage.count for damage in damages)} files read, {wrong} wrong")
     return wrong != 0
 
 
 if __name__ == "__main__":
-    if len(sys.argv) not in (2, 3):
+    if len(sys.argv) < 2:
         sys.exit(__doc__)
     sys.exit(main(*sys.argv[1:]))

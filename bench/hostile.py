@@ -7,8 +7,9 @@ The kinds are `slanted`, slabs through one another at all slants; `upright`, sla
 beams across one another along three axes; `rows`, boxes apart from one another; `faces`, one brush of so many faces; `origins`, a
 closed room and so many entities in it; `small`, boxes of which so many megabytes are text; `chain`, a tree file of so many leaves
 in a chain, of which `inspect` and `upgrade` are timed. Without counts a few stand for them. Levels are compiled with `--fast`, each
-run with 4 GiB of address space and a minute of time at most; one that is cut off by the time is said to be. For each the bytes of the
-text or file, the status, the seconds of processor time, the peak in megabytes, and the printed counts stand in a line."""
+run with 4 GiB of address space and a minute of time at most, or with as many as the variables GIBIBYTES and SECONDS say; one that is
+cut off by the time is said to be. For each the bytes of the text or file, the status, the seconds of processor time, the peak in
+megabytes, and the printed counts stand in a line."""
 
 import math
 import os
@@ -23,7 +24,7 @@ sys.path.insert(0, str(ROOT / ".ci"))
 
 from made_trees import SOLID, tree_file  # noqa: E402
 
-SPACE, SECONDS = 4 << 30, 60
+SPACE, SECONDS = int(os.environ.get("GIBIBYTES", 4)) << 30, int(os.environ.get("SECONDS", 60))
 COUNTS = {"slanted": (4, 8, 12, 16, 24), "upright": (16, 32, 64, 128), "beams": (8, 16, 32), "rows": (1000, 4000, 16000),
           "faces": (250, 500, 1000, 2000, 4000), "origins": (10000, 100000, 1000000), "small": (1, 4, 16, 67),
           "chain": (10000, 100000, 1000000)}
