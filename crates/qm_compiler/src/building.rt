@@ -2,15 +2,20 @@
 
 ghost use Rattle.std.specs.Prelude.{◌≡◌, IfOk};
 ghost use Rattle.qm_grammar.specs.Valid.{IsValidMap};
+ghost use Rattle.qm_solids.specs.InBook.{solids_in, IsBookOf};
+ghost use Rattle.qm_partition.specs.Ways.{HasPoints};
+ghost use Rattle.qm_solid_tree.specs.GivesContents.{GivesContents};
+ghost use Rattle.qm_solid_tree.specs.TreeOf.{IsTreeOf};
 ghost use Rattle.qm_compiler.specs.inner.Counted.{IsTreeOfBrushes};
 ghost use Rattle.qm_compiler.specs.inner.FlatCount.{flat_count};
 
 use qm_brush::{BrushList, brushes};
-use qm_build::build;
+use qm_build::{OpenHalves, build, build_halves};
 use qm_geom::PlaneBook;
 use qm_mapfile::MapFile;
 use qm_tree::Tree;
 use std::alloc::{AllocError, Global};
+use std::thread::Threads;
 
 /// The tree of a map, with how many brushes it was built of, and how many of them are flat.
 #[derive(Drop)]
@@ -20,19 +25,44 @@ pub struct Built {
     pub flat: u64,
 }
 
-/// Builds the tree of a map. The brushes are let go of.
-pub fn build_map(alloc: Global, map: &MapFile) -> Result<Built, AllocError>
-    requires { IsValidMap map.now }
+/// Builds the tree of a map, with several threads where more than one is asked for. The brushes are let go of.
+pub fn build_map<R: Threads + Sync>(
+    rt: &R,
+    alloc: Global,
+    map: &MapFile,
+    threads: u8,
+) -> Result<Built, AllocError>
+    requires valid { IsValidMap map.now }
     ensures { IfOk result (λ built. IsTreeOfBrushes map.now built.tree built.brushes built.flat) }
 {
     let mut book = PlaneBook::new(alloc);
     let list = brushes(alloc, map, &mut book)?;
-    let tree = build(alloc, &list, &book)?;
+    let tree = tree_of_brushes(rt, alloc, &list, &book, threads)?;
     Ok(Built {
         tree,
         brushes: list.len(),
         flat: count_flat(&list),
     })
+}
+
+/// The tree of the brushes of a list, whose halves are built beside one another where more than one thread is asked for.
+fn tree_of_brushes<R: Threads + Sync>(
+    rt: &R,
+    alloc: Global,
+    list: &BrushList,
+    book: &PlaneBook,
+    threads: u8,
+) -> Result<Tree, AllocError>
+    requires filled { IsBookOf book.now list.now }
+    ensures tree { IfOk result (λ tree. IsTreeOf (solids_in book.now list.now) book.now tree) }
+    ensures points { IfOk result HasPoints }
+    ensures contents { IfOk result (λ tree. GivesContents tree (solids_in book.now list.now)) }
+{
+    if threads > 1 {
+        build_halves(rt, alloc, list, book, &OpenHalves)
+    } else {
+        build(alloc, list, book)
+    }
 }
 
 /// How many brushes of a list are flat.

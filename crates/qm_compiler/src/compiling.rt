@@ -27,7 +27,8 @@ use std::thread::Threads;
 
 /// Compiles a valid map. Where an entity leaks, the tree is as it was built, without rows; else leaves that no entity
 /// reaches are filled, and each numbered leaf has a row. Rows are coarse where the options ask for it, and then no worker
-/// starts; else as many workers as they ask for find those of portals, and pass by the gate where they are several.
+/// starts; else as many workers as they ask for find those of portals, and pass by the gate where they are several. Where they
+/// ask for several, halves of the tree are built beside one another too.
 pub fn compile<R: Threads + Sync, G: Gate + Sync>(
     rt: &R,
     alloc: Global,
@@ -40,7 +41,7 @@ pub fn compile<R: Threads + Sync, G: Gate + Sync>(
     requires not_too_many { options.now.threads ≤ 64 }
     ensures { IfOk result (λ compiled. IsCompiled map.now options.now compiled) }
 {
-    let built = build_map(alloc, map)?;
+    let built = build_map(rt, alloc, map, options.threads)?;
     let origins = origins_of(alloc, map)?;
     let contacts = touches(alloc, &built.tree)?;
     match flood(alloc, &contacts, &built.tree, &origins)? {

@@ -6,7 +6,7 @@ use Rattle.qm_compiler.proofs.CompiledMap.{counted_map}
 use Rattle.qm_compiler.proofs.building.build_map.Goals as goal
 
 pub returns : goal.returns
-returns c =
+returns g c =
     let made = c.in_ok-list.ensures in
     let built = c.in_ok-tree.ensures in
     let entered = subst (λ (book : List Plane). AreEnteredInBook book (drawn_planes c.args.map.now) c.brushes.new.book) c.new-book.ensures made.entered in
