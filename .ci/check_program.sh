@@ -243,6 +243,13 @@ reads_a_map_that_is_a_pipe() {
     done
 }
 
+# a fault is said once it is certain, while more may come
+stops_reading_at_a_certain_fault() {
+    status=0
+    (cd "$folder" && timeout 5 "$program" compile /dev/stdin none < <(printf '} ' && exec sleep 9) >printed 2>said) || status=$?
+    ended 4 'map fault 3 at line 1: unexpected\n'
+}
+
 agrees_with_a_slow_reader() {
     python3 .ci/compare_texts.py "$program"
 }
@@ -586,6 +593,7 @@ check "status 5 or 6, or a whole result: a call to the system of each command fa
 check "status 8: damaged tree files have the faults that a plain slow reader finds" reads_damaged_files_as_a_slow_reader_does
 check "a pipe as standard output gets each byte" prints_all_into_a_pipe
 check "a map that is a pipe is read" reads_a_map_that_is_a_pipe
+check "a fault is said while the pipe is open" stops_reading_at_a_certain_fault
 check "command words are read as a plain slow reader reads them" reads_words_as_a_slow_reader_does
 check "a demo compiles the rooms that a plain script makes, and touches no file" demo_compiles_made_rooms
 check "inspect answers as the pages show" answers_as_the_pages_show

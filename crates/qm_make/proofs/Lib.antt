@@ -1,7 +1,7 @@
 pub mod BrushCounts
-pub mod MadeTexts
 pub mod Outcomes
 pub mod PutOuts
+pub mod ReadMaps
 pub mod ReadMeanings
 pub mod Upgrades
 pub mod Writings

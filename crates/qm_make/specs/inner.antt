@@ -1,3 +1,4 @@
 pub mod Made
+pub mod Reading
 pub mod PutOut
 pub mod Writing

@@ -10,18 +10,17 @@ ghost use Rattle.qm_make.specs.Workers.{HasWorkers};
 
 use crate::fault_text::fault_text;
 use crate::files::Files;
-use crate::made::Made;
 use crate::make::make;
 use crate::outcome::Outcome;
+use crate::reading::read_map;
 use crate::writing::write_product;
 use qm_commands::MapCommand;
 use qm_crew::Gate;
-use qm_grammar::TEXT_LIMIT;
-use qm_shelf::{Shelf, ShelfFault, read_whole};
+use qm_shelf::{Shelf, ShelfFault};
 use std::alloc::{AllocError, Global};
 use std::thread::Threads;
 
-/// Reads the text under MAP from the shelf, writes to it the file that the command makes of it, and a listing behind it where
+/// Reads the text under MAP from the shelf, up to its first certain fault, writes to it the file that the command makes of it, and a listing behind it where
 /// one is asked for, and says what came of it.
 pub fn carry_out_command<R: Threads + Sync, H: Shelf, G: Gate + Sync>(
     rt: &R,
@@ -37,15 +36,13 @@ pub fn carry_out_command<R: Threads + Sync, H: Shelf, G: Gate + Sync>(
         (due_status outcome) (due_text outcome)) }
     ensures memory { OnErr result (IsCutShort (shelf_state H.Shelf shelf.old) (shelf_state H.Shelf shelf.new) command (file_names files.now)) }
 {
-    let text = match read_whole(alloc, shelf, files.map_name, TEXT_LIMIT) {
-        Ok(text) => text,
+    let map = match read_map(alloc, shelf, files.map_name) {
+        Ok(Ok(map)) => map,
+        Ok(Err(fault)) => return Ok(Outcome::MapFault(fault_text(alloc, fault)?)),
         Err(ShelfFault::Failed) => return Ok(Outcome::ReadFault),
         Err(ShelfFault::Memory) => return Err(AllocError),
     };
-    let product = match make(rt, alloc, command, text, gate)? {
-        Made::Product(product) => product,
-        Made::Fault(fault) => return Ok(Outcome::MapFault(fault_text(alloc, fault)?)),
-    };
+    let product = make(rt, alloc, command, map, gate)?;
     match write_product(shelf, files, &product) {
         Ok(()) => Ok(product.outcome),
         Err(ShelfFault::Failed) => Ok(Outcome::WriteFault),

@@ -12,6 +12,7 @@ mod make;
 mod outcome;
 mod printed;
 mod putting_out;
+mod reading;
 mod upgrading;
 mod writing;
 

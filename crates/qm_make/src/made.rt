@@ -1,5 +1,4 @@
 use crate::outcome::Outcome;
-use qm_map::MapFault;
 
 /// What a command makes of a map, and what comes of the command once it is written.
 #[derive(Drop)]
@@ -8,12 +7,4 @@ pub struct Product {
     /// The text of a listing, where one is asked for and no entity leaks.
     pub listing: Option<Vec<u8>>,
     pub outcome: Outcome,
-}
-
-/// What comes of a text.
-#[derive(Drop)]
-pub enum Made {
-    Product(Product),
-    /// The text has this fault.
-    Fault(MapFault),
 }
