@@ -9,5 +9,6 @@ pub mod KnownFragments
 pub mod SectionsOfCells
 pub mod FacesInCube
 pub mod MadeFragments
+pub mod CubeParts
 pub mod HeldCuboids
 pub mod BesidePieces

@@ -19,6 +19,7 @@ use qm_contents::Contents;
 use qm_geom::{Plane, PlaneBook};
 use qm_wind::Winding;
 use std::alloc::{AllocError, Global};
+use std::thread::Threads;
 
 /// The faces of full brushes inside one cell, with the strongest of the brushes that contain the cell.
 #[derive(Drop)]
@@ -42,6 +43,24 @@ impl Fragments {
     {
         let _planes = book.len();
         let gathering = Gathering::in_cube(alloc, list, book)?;
+        Ok(Fragments {
+            cell: Vec::new(alloc),
+            gathering,
+        })
+    }
+
+    /// The same, where the brushes are looked at in halves beside one another.
+    pub fn of_halves<R: Threads + Sync>(
+        rt: &R,
+        alloc: Global,
+        list: &BrushList,
+        book: &PlaneBook,
+    ) -> Result<Fragments, AllocError>
+        requires filled { IsBookOf book.now list.now }
+        ensures { IfOk result (AreFragmentsOf (solids_in book.now list.now) book.now []) }
+    {
+        let _planes = book.len();
+        let gathering = Gathering::in_cube_halves(rt, alloc, list, book)?;
         Ok(Fragments {
             cell: Vec::new(alloc),
             gathering,

@@ -2,13 +2,15 @@ ghost use Rattle.std.specs.Prelude.{◌≡◌, ◌↔◌, ◌+◌, ◌-◌, ◌^
 ghost use Rattle.qm_space.specs.Plane.{Plane, flipped};
 ghost use Rattle.qm_solids.specs.Solid.{Solid};
 ghost use Rattle.qm_contents.specs.declared.contents.Contents.{Contents};
-ghost use Rattle.qm_solids.specs.InBook.{solid_at, solid_in, solids_in, IsBookOf};
+ghost use Rattle.qm_solids.specs.InBook.{BookSolid, solid_at, solid_in, solids_in, IsBookOf};
 ghost use Rattle.qm_split.specs.Pieces.{solid_of_contender, IsContender};
 ghost use Rattle.qm_split.specs.CellFragments.{pieces_of, IsAtMostKnown};
 ghost use Rattle.qm_split.specs.inner.Parts.{IsWindingInCell, IsPartIn, part_count};
+ghost use Rattle.qm_split.specs.inner.CubeParts.{ArePartsOfCube};
 ghost use Rattle.qm_split.specs.inner.Gathered.{IsGathered, HasFewer, Keeps, Raises, is_stronger_than};
 ghost use Rattle.qm_split.specs.inner.Ranked.{IsLeastRank, IsWindingOfSome};
 
+use crate::beside::parts_in_cube;
 use crate::contender::{Contender, Part};
 use crate::in_cube::part_in_cube;
 use crate::rank::{Rank, first_of};
@@ -17,6 +19,7 @@ use qm_contents::{Contents, stronger};
 use qm_geom::{Plane, PlaneBook};
 use qm_wind::Winding;
 use std::alloc::{AllocError, Global};
+use std::thread::Threads;
 
 /// What is known of a cell while solids are looked at one after another: the strongest contents of those that contain it,
 /// and the stronger ones that have a part of a face in it.
@@ -99,6 +102,33 @@ impl Gathering {
         Ok(gathering)
     }
 
+    /// For the whole cube, of the brushes of a list, which are looked at in halves beside one another.
+    pub(crate) fn in_cube_halves<R: Threads + Sync>(
+        rt: &R,
+        alloc: Global,
+        list: &BrushList,
+        book: &PlaneBook,
+    ) -> Result<Gathering, AllocError>
+        requires filled { IsBookOf book.now list.now }
+        ensures { IfOk result (IsGathered book.now [] None (solids_in book.now list.now)) }
+    {
+        let parts = parts_in_cube(rt, alloc, list, book)?;
+        Gathering::of_parts(alloc, parts)
+    }
+
+    /// For the whole cube, by what the brushes of a list are to it, in order.
+    fn of_parts(alloc: Global, parts: Vec<Part>) -> Result<Gathering, AllocError>
+        ensures { IfOk result (λ gathering. (book : List Plane) (list : List BookSolid) →
+            IsBookOf book list → length parts.items ≡ length list → ArePartsOfCube book list 0 parts.items →
+            IsGathered book [] None (solids_in book list) gathering) }
+    {
+        let mut gathering = Gathering::new(alloc, None);
+        for part in parts {
+            gathering.add(part)?;
+        }
+        Ok(gathering)
+    }
+
     /// The rank of the piece that comes first.
     pub(crate) fn least(&self) -> Option<Rank>
         ensures { (book cell : List Plane) → All (IsContender book cell) self.now.contenders.items → IsLeastRank self.now.contenders.items result }
@@ -164,7 +194,7 @@ impl Gathering {
 }
 
 /// What a brush of a list is to the cube.
-fn brush_in_cube(
+pub(crate) fn brush_in_cube(
     alloc: Global,
     list: &BrushList,
     i: u64,

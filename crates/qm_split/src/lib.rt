@@ -2,6 +2,7 @@
 //! fills a cell that nothing parts.
 #![tactic(auto)]
 
+mod beside;
 mod contender;
 mod fragments;
 mod gathering;

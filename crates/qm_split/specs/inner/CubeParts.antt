@@ -1,0 +1,10 @@
+use Rattle.std.specs.Prelude.{ℕ, ◌+◌, ◌<◌, List, [], length, get_or}
+use Rattle.qm_space.specs.Plane.{Plane}
+use Rattle.qm_solids.specs.InBook.{BookSolid, solid_at, solid_in}
+use Rattle.qm_split.specs.declared.contender.Part.{Part}
+use Rattle.qm_split.specs.inner.Parts.{IsPartIn}
+
+-- what the solids of a list, from one on, are to the cube, each at its place
+abbrev pub ArePartsOfCube : List Plane → List BookSolid → ℕ → List Part → Type 0
+ArePartsOfCube book list from parts =
+    (k : ℕ) (d : Part) → k < length parts → IsPartIn book [] (solid_in book (solid_at list (from + k))) (get_or parts k d)
