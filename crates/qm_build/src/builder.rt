@@ -45,7 +45,7 @@ pub fn build_halves<R: Threads + Sync, B: HalvesGate + Sync>(
     ensures points { IfOk result HasPoints }
     ensures contents { IfOk result (λ tree. GivesContents tree (solids_in book.now list.now)) }
 {
-    let fragments = Fragments::of(alloc, list, book)?;
+    let fragments = Fragments::of_halves(rt, alloc, list, book)?;
     let walk = walk_in_halves(rt, alloc, book, gate, 0, fragments)?;
     tree_of_walk(alloc, book, walk)
 }

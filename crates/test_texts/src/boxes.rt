@@ -15,6 +15,21 @@ pub fn text_of(alloc: Global, boxes: &[BoxRow]) -> Result<String, AllocError> {
     Ok(text)
 }
 
+/// The text of a world of a box, and of twenty boxes in a row on each side of it along x.
+pub fn boxes_on_both_sides(alloc: Global) -> Result<String, AllocError> {
+    let mut text = String::new(alloc);
+    text.push_str("{\n")?;
+    put_box(&mut text, "stone", [0, 0, 0], [16, 16, 16])?;
+    for i in 0..20 {
+        let near = 32 * i + 64;
+        let far = near + 16;
+        put_box(&mut text, "stone", [near, 0, 0], [far, 16, 16])?;
+        put_box(&mut text, "stone", [-far, 0, 0], [-near, 16, 16])?;
+    }
+    text.push_str("}\n")?;
+    Ok(text)
+}
+
 /// Adds boxes with a texture.
 pub fn put_boxes(text: &mut String, texture: &str, boxes: &[BoxRow]) -> Result<(), AllocError> {
     for (least, greatest) in boxes {

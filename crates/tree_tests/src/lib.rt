@@ -12,6 +12,8 @@ mod cube;
 #[cfg(test)]
 mod fragments;
 #[cfg(test)]
+mod halves;
+#[cfg(test)]
 mod joined;
 #[cfg(test)]
 mod long;
