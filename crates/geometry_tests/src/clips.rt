@@ -1,15 +1,33 @@
 //! Clips by random planes, compared corner by corner with a plain slow program.
 
-use crate::shapes::{on, through};
+use crate::shapes::{on, through, through_thousandths};
 use crate::slow::{Left, Place, clip};
 use qm_geom::Plane;
 use qm_wind::{Clip, Side, Winding};
 use std::alloc::{AllocError, Global};
 use test_numbers::Random;
 
-/// A plane through three points whose coordinates go from -reach to reach.
-fn random_plane(random: &mut Random, reach: u16) -> Plane {
-    through(random.points(reach))
+/// Random planes through three points: their coordinates are so many times a step in thousandths of a map unit, from -reach
+/// to reach times.
+#[derive(Clone, Copy)]
+struct Grid {
+    reach: u16,
+    step: i32,
+}
+
+impl Grid {
+    fn plane(self, random: &mut Random) -> Plane {
+        let [first, second, third] = random.points(self.reach);
+        through_thousandths([self.point(first), self.point(second), self.point(third)])
+    }
+
+    fn point(self, [x, y, z]: [i32; 3]) -> [i32; 3] {
+        [
+            x.saturating_mul(self.step),
+            y.saturating_mul(self.step),
+            z.saturating_mul(self.step),
+        ]
+    }
 }
 
 /// One of a plane's two sides.
@@ -87,10 +105,10 @@ impl Walker {
 
 /// Clips the part of a plane inside the cube by eight random planes, one after another. How many cuts
 /// there were; `None` where the slow program does not agree.
-fn walk(alloc: Global, plane: &Plane, random: &mut Random, reach: u16) -> Option<u32> {
+fn walk(alloc: Global, plane: &Plane, random: &mut Random, grid: Grid) -> Option<u32> {
     let mut walker = Walker::on(alloc, plane)?;
     for _ in 0..8 {
-        let plane = random_plane(random, reach);
+        let plane = grid.plane(random);
         let side = random_side(random);
         if walker.clip(alloc, &plane, side) != Some(true) {
             return None;
@@ -100,31 +118,40 @@ fn walk(alloc: Global, plane: &Plane, random: &mut Random, reach: u16) -> Option
 }
 
 /// Whether 100 walks from a plane cut often, and all agree.
-fn walks_agree(alloc: Global, points: [[i32; 3]; 3], reach: u16) -> Option<bool> {
+fn walks_agree(alloc: Global, points: [[i32; 3]; 3], grid: Grid) -> Option<bool> {
     let plane = through(points);
-    let mut random = Random::new(u64::from(reach));
+    let mut random = Random::new(u64::from(grid.reach));
     let mut cuts = 0_u32;
     for _ in 0..100 {
-        cuts = cuts.wrapping_add(walk(alloc, &plane, &mut random, reach)?);
+        cuts = cuts.wrapping_add(walk(alloc, &plane, &mut random, grid)?);
     }
     Some(cuts > 100)
 }
 
-/// Walks from the floor, a hexagon and a ramp.
+/// Walks from the floor, a hexagon and a ramp, by planes of whole points, of eighths and of thousandths.
 fn all_walks_agree(alloc: Global) -> bool {
     let floor = [[0, 0, 0], [1, 0, 0], [0, 1, 0]];
     let hexagon = [[0, 0, 0], [1, -1, 0], [0, 1, -1]];
     let ramp = [[0, 0, 0], [2, 0, 1], [0, 1, 0]];
     [
-        (floor, 2),
-        (floor, 8),
-        (hexagon, 2),
-        (hexagon, 8),
-        (ramp, 3),
-        (ramp, 16),
+        (floor, 2, 1000),
+        (floor, 8, 1000),
+        (floor, 2, 1),
+        (hexagon, 2, 1000),
+        (hexagon, 8, 1000),
+        (hexagon, 8, 125),
+        (ramp, 3, 1000),
+        (ramp, 16, 1000),
+        (ramp, 2, 1),
     ]
     .iter()
-    .all(|(points, reach)| walks_agree(alloc, *points, *reach) == Some(true))
+    .all(|(points, reach, step)| {
+        let grid = Grid {
+            reach: *reach,
+            step: *step,
+        };
+        walks_agree(alloc, *points, grid) == Some(true)
+    })
 }
 
 #[test]

@@ -47,6 +47,18 @@ fn in_thousandths(number: i32) -> i32
     number.clamp(-32_768_000, 32_768_000)
 }
 
+/// The plane through three points in thousandths of a map unit that are on no line.
+pub(crate) fn through_thousandths(points: [[i32; 3]; 3]) -> Plane {
+    match Plane::through(
+        thousandths(points[0]),
+        thousandths(points[1]),
+        thousandths(points[2]),
+    ) {
+        Ok((plane, _)) => plane,
+        Err(_) => Plane::default(),
+    }
+}
+
 /// The plane z = 0.
 pub(crate) fn floor() -> Plane {
     through([[0, 0, 0], [1, 0, 0], [0, 1, 0]])

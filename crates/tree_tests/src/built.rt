@@ -3,7 +3,7 @@
 ghost use Rattle.std.specs.Prelude.{IfSome};
 ghost use Rattle.qm_solids.specs.InBook.{IsBookOf};
 
-use crate::worlds::random_world;
+use crate::worlds::{Grid, random_world};
 use qm_brush::{BrushList, brushes};
 use qm_build::build;
 use qm_contents::Contents;
@@ -85,26 +85,47 @@ fn random_point(random: &mut Random) -> Point {
     Point { x, y, z, w }
 }
 
+/// A coordinate in halves of a thousandth, of those near a multiple of 16: there the faces of brushes in thousandths meet.
+fn fine_coordinate(random: &mut Random) -> i64 {
+    32_000 * (random.below(9) as i64 - 4) + random.below(160) as i64 - 80
+}
+
+/// A point of such coordinates.
+fn fine_point(random: &mut Random) -> Point {
+    let x = fine_coordinate(random);
+    let y = fine_coordinate(random);
+    let z = fine_coordinate(random);
+    Point { x, y, z, w: 2000 }
+}
+
 /// Whether a random world is built, and its tree and its brushes agree at many points.
-fn agree_in_world(alloc: Global, random: &mut Random) -> Result<bool, AllocError> {
-    let text = random_world(alloc, random)?;
+fn agree_in_world(alloc: Global, random: &mut Random, grid: Grid) -> Result<bool, AllocError> {
+    let text = random_world(alloc, random, grid)?;
     let Some(built) = Built::of(alloc, &text) else {
         return Ok(false);
     };
     for _ in 0..50 {
-        if !built.agrees(&random_point(random)) {
+        let point = match grid {
+            Grid::Whole => random_point(random),
+            Grid::Thousandths => fine_point(random),
+        };
+        if !built.agrees(&point) {
             return Ok(false);
         }
     }
     Ok(true)
 }
 
-/// In many random worlds, the tree gives points off its node planes what the brushes hold.
+/// In many random worlds, the tree gives points off its node planes what the brushes hold. In some of the worlds the brushes
+/// meet in thousandths.
 #[test]
 fn random_worlds_are_built(rt: HostRuntime) -> Result<(), Fail> {
     let mut random = Random::new(1);
     for _ in 0..200 {
-        assert!(rt; agree_in_world(rt.alloc(), &mut random)?);
+        assert!(rt; agree_in_world(rt.alloc(), &mut random, Grid::Whole)?);
+    }
+    for _ in 0..100 {
+        assert!(rt; agree_in_world(rt.alloc(), &mut random, Grid::Thousandths)?);
     }
     Ok(())
 }

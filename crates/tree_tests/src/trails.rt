@@ -1,6 +1,6 @@
 //! Leaks and filled leaves of small generated worlds, beside all chains of leaves.
 
-use crate::worlds::random_world;
+use crate::worlds::{Grid, random_world};
 use qm_contents::Contents;
 use qm_flood::{Flood, Origin, flood};
 use qm_geom::Point;
@@ -139,7 +139,7 @@ fn leaks_are_as_all_chains_say(rt: HostRuntime) -> Result<(), Fail> {
     let mut right = true;
     let mut tried = 0u64;
     for _ in 0..WORLDS.0 {
-        let text = random_world(rt.alloc(), &mut random)?;
+        let text = random_world(rt.alloc(), &mut random, Grid::Whole)?;
         let point = Point {
             x: 8 * (random.below(21) as i64 - 10),
             y: 8 * (random.below(21) as i64 - 10),
