@@ -6,11 +6,10 @@ use Rattle.qm_numbers.proofs.Bits.{same_from_bits_32}
 use Rattle.qm_space.specs.Bounds.{world_extent}
 use Rattle.qm_space.specs.Point.{Point, IsCoordinate, AreCoordinates, IsWholePoint, whole_point}
 use Rattle.qm_space.specs.Cube.{IsInClosedCube}
-use Rattle.qm_space.proofs.CoordinateSizes.{coordinate_small}
+use Rattle.qm_space.proofs.CoordinateSizes.{coordinate_small, coordinate_kept}
 use Rattle.qm_space.specs.Coordinates.{AreCoordinatesBy}
 use Rattle.qm_separators.proofs.WholePointLaws.{whole_by_coordinates, nearest_in_cube, around_in_cube}
 use Rattle.qm_numbers.proofs.Kept.{kept}
-use Rattle.qm_narrow.proofs.KeptNormals.{coordinate_kept}
 use Rattle.qm_narrow.specs.declared.spot.Spot.{Spot}
 use Rattle.qm_narrow.specs.inner.Trace.{IsSpotOf}
 

@@ -1,5 +1,5 @@
 use Rattle.std.proofs.Common.{pos, rules}
-use Rattle.qm_narrow.proofs.KeptNormals.{coordinate_kept}
+use Rattle.qm_space.proofs.CoordinateSizes.{coordinate_kept}
 use Rattle.qm_narrow.proofs.spot.Spot.cuboid.Goals as goal
 
 pub between-requires-3-clause-low : goal.between-requires-3-clause-low
