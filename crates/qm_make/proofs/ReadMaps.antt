@@ -21,7 +21,7 @@ use Rattle.qm_shelf.proofs.Pieces.{read_further}
 use Rattle.qm_surroundings.specs.ShelfState.{ShelfState, text_under}
 use Rattle.qm_surroundings.specs.ShelfChanges.{MetNoFault}
 use Rattle.qm_statement.specs.TextMeans.{TextMeans}
-use Rattle.qm_make.specs.inner.Reading.{IsTold, HasReadUnder}
+use Rattle.qm_make.specs.inner.Reading.{IsToldMeaning, HasReadUnder}
 use Rattle.qm_make.proofs.ReadMeanings.{text_means}
 
 -- a piece that is written over whole
@@ -84,7 +84,7 @@ meant_valid before name (Ok map) means = map_valid means.text map means.means
 meant_valid before name (Err found) means = tt
 
 module _ (meaning : Result MapFile MapFault) where
-  pub told_means : (before : ShelfState) (name : List ℕ) (answer : Result (Result MapFile MapFault) ShelfFault) → IsTold meaning answer → (meaning ≢ Err fault.Memory → TextMeans before name meaning) → IfOk answer (λ m. TextMeans before name m)
+  pub told_means : (before : ShelfState) (name : List ℕ) (answer : Result (Result MapFile MapFault) ShelfFault) → IsToldMeaning meaning answer → (meaning ≢ Err fault.Memory → TextMeans before name meaning) → IfOk answer (λ m. TextMeans before name m)
   told_means before name (Ok told) is means = subst (λ (m : Result MapFile MapFault). TextMeans before name m) (sym is.0) (means is.1)
   told_means before name (Err found) is means = tt
 
@@ -92,12 +92,12 @@ module _ (meaning : Result MapFile MapFault) where
   told_valid before name (Ok told) means = meant_valid before name told means
   told_valid before name (Err found) means = tt
 
-  pub told_err : (before after : ShelfState) (name : List ℕ) (answer : Result (Result MapFile MapFault) ShelfFault) → IsTold meaning answer → MetNoFault before after → IfErr answer (λ found. ReadFaultMeans before after name found)
+  pub told_err : (before after : ShelfState) (name : List ℕ) (answer : Result (Result MapFile MapFault) ShelfFault) → IsToldMeaning meaning answer → MetNoFault before after → IfErr answer (λ found. ReadFaultMeans before after name found)
   told_err before after name (Ok told) is none = tt
   told_err before after name (Err found) is none = subst (λ (f : ShelfFault). ReadFaultMeans before after name f) (sym is) none
 
 -- a fault at which feeding one more piece stops
-pub fault_told : (before : ShelfState) (name : List ℕ) (done count : ℕ) (reader : Result ReadSoFar MapFault) (piece : List ℕ) (so_far : HasReadUnder before name done reader) (found : MapFault) → (IsTrue before.tells → piece ≡ take count (drop done (text_under before name))) → ((text : List ℕ) → IsReaderOf text reader → ◌≢◌ {A = Result (Unit {0}) MapFault} (Err found) (Err fault.Memory) → (other : MapFault) → (◌≡◌ {A = Result (Unit {0}) MapFault} (Err found) (Err other)) ↔ IsCertain (text ++ piece) other) → (answer : Result (Result MapFile MapFault) ShelfFault) → IsTold (Err found) answer → IfOk answer (λ m. TextMeans before name m)
+pub fault_told : (before : ShelfState) (name : List ℕ) (done count : ℕ) (reader : Result ReadSoFar MapFault) (piece : List ℕ) (so_far : HasReadUnder before name done reader) (found : MapFault) → (IsTrue before.tells → piece ≡ take count (drop done (text_under before name))) → ((text : List ℕ) → IsReaderOf text reader → ◌≢◌ {A = Result (Unit {0}) MapFault} (Err found) (Err fault.Memory) → (other : MapFault) → (◌≡◌ {A = Result (Unit {0}) MapFault} (Err found) (Err other)) ↔ IsCertain (text ++ piece) other) → (answer : Result (Result MapFile MapFault) ShelfFault) → IsToldMeaning (Err found) answer → IfOk answer (λ m. TextMeans before name m)
 fault_told before name done count reader piece so_far found piece_is fed answer told =
     told_means (Err found) before name answer told
     (λ apart.

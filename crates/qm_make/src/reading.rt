@@ -6,7 +6,7 @@ ghost use Rattle.qm_shelf.specs.FaultMeans.{ReadFaultMeans};
 ghost use Rattle.qm_surroundings.specs.ShelfChanges.{IsKept, MetNoFault};
 ghost use Rattle.qm_grammar.specs.Valid.{IsValidMap};
 ghost use Rattle.qm_statement.specs.TextMeans.{TextMeans};
-ghost use Rattle.qm_make.specs.inner.Reading.{IsTold};
+ghost use Rattle.qm_make.specs.inner.Reading.{IsToldMeaning};
 
 use qm_grammar::{MapFault, TEXT_LIMIT};
 use qm_mapfile::MapFile;
@@ -47,7 +47,7 @@ pub fn read_map<H: Shelf>(alloc: Global, shelf: &mut H, name: &str) -> Result<Me
 
 /// What a text means, unless memory ran out.
 fn told(meaning: Meaning) -> Result<Meaning, ShelfFault>
-    ensures { IsTold meaning result }
+    ensures { IsToldMeaning meaning result }
 {
     match meaning {
         Ok(map) => Ok(Ok(map)),

@@ -10,9 +10,9 @@ use Rattle.qm_surroundings.specs.ShelfState.{ShelfState, text_under}
 -- How far a text under a name was read.
 
 -- what a text means is told as it is, but for want of memory
-abbrev pub IsTold : Result MapFile MapFault → Result (Result MapFile MapFault) ShelfFault → Type 0
-IsTold meaning (Ok told) = (told ≡ meaning) × (meaning ≢ Err fault.Memory)
-IsTold meaning (Err fault) = fault ≡ Memory
+abbrev pub IsToldMeaning : Result MapFile MapFault → Result (Result MapFile MapFault) ShelfFault → Type 0
+IsToldMeaning meaning (Ok told) = (told ≡ meaning) × (meaning ≢ Err fault.Memory)
+IsToldMeaning meaning (Err fault) = fault ≡ Memory
 
 -- a reader has read so many bytes under a name: where the shelf tells what it holds, the first ones of the text there
 pub record HasReadUnder (before : ShelfState) (name : List ℕ) (done : ℕ) (reader : Result ReadSoFar MapFault) : Type 0 where
