@@ -20,8 +20,8 @@ pub fn boxes_on_both_sides(alloc: Global) -> Result<String, AllocError> {
     let mut text = String::new(alloc);
     text.push_str("{\n")?;
     put_box(&mut text, "stone", [0, 0, 0], [16, 16, 16])?;
-    for i in 0..20 {
-        let near = 32 * i + 64;
+    for number in 0..20_u8 {
+        let near = 32 * i32::from(number) + 64;
         let far = near + 16;
         put_box(&mut text, "stone", [near, 0, 0], [far, 16, 16])?;
         put_box(&mut text, "stone", [-far, 0, 0], [-near, 16, 16])?;
