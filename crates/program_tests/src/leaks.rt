@@ -1,6 +1,6 @@
 use super::boxes::{Level, level_text};
 use super::outside::Outside;
-use super::room::{with_returns, written_room};
+use super::room::written_room;
 use std::alloc::{AllocError, Global};
 use std::test::Fail;
 use std::thread::Threads;
@@ -230,35 +230,6 @@ fn finds_leaks_and_fills(rt: HostRuntime) -> Result<(), Fail> {
     for row in &ROWS {
         let text = text_of(rt.alloc(), row)?;
         right &= is_right(&rt, &fast, &text, row)?;
-    }
-    assert!(rt; right);
-    Ok(())
-}
-
-/// How many bytes a read gives at most.
-static MOST: [u64; 4] = [1, 2, 3, 65_536];
-
-/// Whether a text gives what a row says where each read gives at most so many bytes.
-fn is_right_by<R: AllocGlobal + Threads + Sync>(
-    rt: &R,
-    most: u64,
-    text: &[u8],
-    row: &Row,
-) -> Result<bool, AllocError> {
-    let mut outside = Outside::new(rt.alloc(), text)?;
-    outside.shelf.at_most(most.max(1));
-    let says = outside.says(rt, &["compile", "map", "out"], row.status, row.printed);
-    let out = outside.shelf.get("out");
-    Ok(says && out.is_some_and(|file| has_rows(file, true, row.length, row.rows)))
-}
-
-/// The room as an editor writes it, whatever pieces it is read in.
-#[test]
-fn reads_a_room_in_pieces(rt: HostRuntime) -> Result<(), Fail> {
-    let written = with_returns(rt.alloc(), &written_room(rt.alloc())?)?;
-    let mut right = true;
-    for most in &MOST {
-        right &= is_right_by(&rt, *most, &written, &ROWS[0])?;
     }
     assert!(rt; right);
     Ok(())
