@@ -1,5 +1,5 @@
 -- A file of fewer than 2^62 bytes can be written and read again exactly where it is valid.
-use Rattle.std.proofs.Common.{◌≡◌, ◌<◌, ◌≤◌, ℕ, ◌+◌, ◌^◌, Bool, true, false, cond, eqb, ltb, leb, ◌&&◌, List, [], ◌∷◌, ◌++◌, length, All, Option, Some, None, get_or, refl, ap, subst, ◌∙◌, arith}
+use Rattle.std.proofs.Common.{◌≡◌, ◌<◌, ◌≤◌, ℕ, ◌+◌, ◌*◌, ◌^◌, Bool, true, false, cond, eqb, ltb, leb, ◌&&◌, List, [], ◌∷◌, ◌++◌, length, All, Option, Some, None, get_or, refl, ap, subst, ◌∙◌, arith}
 use Rattle.std.specs.Prelude.{IfSome, is_some, count_by}
 use Rattle.std.specs.List.{list_all}
 use Rattle.std.proofs.lemmas.Bool.{and_parts, and_from, lt-ltb, ltb-true, le-leb, eq-eqb}
@@ -118,22 +118,22 @@ right_valid file right =
 
 -- ---- what is valid and not too long is right
 
-module _ {F X : Type 0} (layout : ℕ → Layout F X) (some : (k : ℕ) (x : X) → 0 < length ((layout k).bytes_of x)) where
-  -- there are no more values than bytes
-  values_at_most : (k : ℕ) (xs : List X) → length xs ≤ length (bytes_of_each layout k xs)
+module _ {F X : Type 0} (layout : ℕ → Layout F X) (least : ℕ) (enough : (k : ℕ) (x : X) → least ≤ length ((layout k).bytes_of x)) where
+  -- values of so many bytes each, or more
+  values_at_most : (k : ℕ) (xs : List X) → length xs * least ≤ length (bytes_of_each layout k xs)
   values_at_most k [] = omega arith
-  values_at_most k (x ∷ xs) = omega (arith, some k x, values_at_most (k + 1) xs, length-append ((layout k).bytes_of x) (bytes_of_each layout (k + 1) xs))
+  values_at_most k (x ∷ xs) = omega (arith, enough k x, values_at_most (k + 1) xs, length-append ((layout k).bytes_of x) (bytes_of_each layout (k + 1) xs))
 
-node_bytes : (k : ℕ) (here : NodeRecord) → 0 < length (node_layout.bytes_of here)
+node_bytes : (k : ℕ) (here : NodeRecord) → 1 ≤ length (node_layout.bytes_of here)
 unfolding node_layout unsigned raw
 node_bytes k here = omega arith
 
-leaf_bytes : (k : ℕ) (found : LeafRecord) → 0 < length (leaf_layout.bytes_of found)
+leaf_bytes : (k : ℕ) (found : LeafRecord) → 5 ≤ length (leaf_layout.bytes_of found)
 unfolding leaf_layout signed unsigned raw
 leaf_bytes k found = omega arith
 
--- there are no more nodes and leaves than bytes
-counts_at_most : (file : TreeFile) → (length (nodes_of file.tree.shape 0 0) ≤ length (file_bytes file)) × (length (leaves_of file.tree.shape) ≤ length (file_bytes file))
+-- there are no more nodes than bytes, and five bytes for each leaf
+pub counts_at_most : (file : TreeFile) → (length (nodes_of file.tree.shape 0 0) ≤ length (file_bytes file)) × (length (leaves_of file.tree.shape) * 5 ≤ length (file_bytes file))
 unfolding file_bytes file_layout tree_layout planes_layout nodes_layout leaves_layout
 counts_at_most file =
     let header = header_of file in
@@ -149,8 +149,8 @@ counts_at_most file =
     let behind_header = length-append (q ++ (r ++ s)) (t ++ u) in
     let of_tree = length-append q (r ++ s) in
     let behind_planes = length-append r s in
-    let few_nodes = values_at_most (λ _. node_layout) node_bytes 0 nodes in
-    let few_leaves = values_at_most (λ _. leaf_layout) leaf_bytes 0 leaves in
+    let few_nodes = values_at_most (λ _. node_layout) 1 node_bytes 0 nodes in
+    let few_leaves = values_at_most (λ _. leaf_layout) 5 leaf_bytes 0 leaves in
     (omega arith, omega arith)
 
 flag_right : (flag : Bool) → ((ltb (cond flag 1 0) 256) && (leb (cond flag 1 0) 1)) ≡ true

@@ -9,3 +9,4 @@ pub mod RoundedCoordinates
 pub mod CornersBack
 pub mod PortalLines
 pub mod Turns
+pub mod WorldListings

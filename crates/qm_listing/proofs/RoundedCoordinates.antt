@@ -42,7 +42,7 @@ most_millionths_of n d most within some =
 
 -- ---- the text of a coordinate
 
-own_magnitude : (negative : Bool) (n : ℕ) → unsigned_abs (with_sign negative n) ≡ n
+pub own_magnitude : (negative : Bool) (n : ℕ) → unsigned_abs (with_sign negative n) ≡ n
 own_magnitude false n = refl
 own_magnitude true zero = refl
 own_magnitude true (suc n) = refl

@@ -5,7 +5,7 @@ use Rattle.qm_formats.specs.Layout.{got, bad}
 use Rattle.qm_formats.specs.FileParts.{short, too_long}
 use Rattle.qm_formats.specs.FileLayout.{file_limit, read_file}
 use Rattle.qm_listing.specs.declared.listing.Listing.{Listing}
-use Rattle.qm_listing.specs.Grammar.{listing_text, can_stand, read_listing}
+use Rattle.qm_listing.specs.Grammar.{read_listing}
 use Rattle.qm_commands.specs.declared.map_command.MapCommand.{MapCommand}
 use Rattle.qm_commands.specs.declared.map_command.MapCommand.TheVariants.{Compile}
 use Rattle.qm_commands.specs.FileNames.{FileNames}
@@ -24,10 +24,11 @@ abbrev pub IsTreeRefused : List ℕ → List ℕ → Type 0
 IsTreeRefused bytes part =
     length bytes < 2 ^ 62 → (read_file part ≡ bad short (length part)) ⊎ (read_file part ≡ bad too_long file_limit)
 
--- of the text of a listing, of those that can stand in a text, only some of the first bytes are there: no listing is read
-abbrev pub IsListingRefused : List ℕ → List ℕ → Type 0
-IsListingRefused text part =
-    (listing : Listing) → IsTrue (can_stand listing) → text ≡ listing_text listing →
+-- of the text of a listing, of which there are fewer than 2^62 bytes, as there are of the tree file that is due beside it, only
+-- some of the first are there: no listing is read
+abbrev pub IsListingRefused : (List ℕ → Type 0) → List ℕ → List ℕ → Type 0
+IsListingRefused IsDueBeside text part =
+    ((bytes : List ℕ) → IsDueBeside bytes → length bytes < 2 ^ 62) → length text < 2 ^ 62 →
     (found : Listing) (end : ℕ) → read_listing part ≡ got found end → ⊥
 
 -- the file has all bytes that are due in it
@@ -50,7 +51,7 @@ IsDueInListing before command files bytes = (output : Output) × IsOutputOfText 
 -- so it is of OUT, and of FILE where a listing is asked for
 pub record AreNotTorn (before after : ShelfState) (command : MapCommand) (files : FileNames) : Type 0 where
   pub out : IsNotTorn before after files.out_name (IsDueInOut before command files) IsTreeRefused
-  pub listing : (name : List ℕ) → files.listing_name ≡ Some name → IsNotTorn before after name (IsDueInListing before command files) IsListingRefused
+  pub listing : (name : List ℕ) → files.listing_name ≡ Some name → IsNotTorn before after name (IsDueInListing before command files) (IsListingRefused (IsDueInOut before command files))
 
 -- what a command leaves that writes files which can be read again
 abbrev pub LeavesNoneTorn : Order → ShelfState → ShelfState → Type 0
