@@ -307,7 +307,7 @@ def parts_of_levels():
     maker = Path(__file__).resolve().parent.parent / "bench" / "make_map.py"
     for words in ("standard",), ("valve", "crlf"), ("mixed",), ("eighths", "crlf"):
         made = subprocess.run([sys.executable, maker, "1", *words], capture_output=True, check=True).stdout
-        for number in range(40):
+        for number in range(20):
             begin = made.index(b"// brush", chance.randrange(len(made) // 3))
             end = begin + chance.randrange(8000)
             # as it is, or behind a brush, with the end of its entity
