@@ -1,5 +1,5 @@
 -- Bytes that end no token: those that leave open what is open, and those of a text without a token up to a line end.
-use Rattle.std.proofs.Common.{◌≡◌, ℕ, ◌+◌, ◌<◌, ◌≤◌, ◌==◌, List, [], ◌∷◌, ◌++◌, Option, Some, None, IfSome, ⊎_elim, length, take, refl, sym, ap, subst, ◌∙◌, append_assoc, length-append, add-zero, arith}
+use Rattle.std.proofs.Common.{◌≡◌, ℕ, ◌+◌, ◌<◌, ◌≤◌, List, [], ◌∷◌, ◌++◌, Option, Some, None, IfSome, ⊎_elim, length, take, refl, sym, ap, subst, ◌∙◌, append_assoc, length-append, add-zero, arith}
 use Rattle.std.specs.Prelude.{All}
 use Rattle.std.proofs.lemmas.Bool.{le-leb, eq-eqb, ne_eqb, cases_eq}
 use Rattle.std.proofs.lemmas.List.{length-take}

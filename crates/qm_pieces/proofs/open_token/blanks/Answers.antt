@@ -1,5 +1,4 @@
-use Rattle.std.proofs.Common.{ℕ, get_or, length, take, subst, arith}
-use Rattle.std.specs.Prelude.{All}
+use Rattle.std.proofs.Common.{get_or, arith}
 use Rattle.std.proofs.lemmas.List.Elements.{All-nil, All-more}
 use Rattle.qm_tokens.specs.inner.Modes.{between}
 use Rattle.qm_pieces.specs.inner.Keeping.{KeepsMode}

@@ -26,14 +26,14 @@ scan-preserved c =
     let next = subst P c.scan.invariant.text_is (rw c.in-Ok-Some.field-0-is at c.in-Ok-Some.ensures.token) in
     scan_next piece c.args.line_ends (prefix_so_far c.args.tokens.now.reader) c.scan.taken (prefix_so_far c.scan.tokens.reader) reading c.scan.invariant (lexeme_of piece c.in-Ok-Some.token) c.next.new.self.left next c.next.new.self (prefix_so_far c.accept.new.self.reader) c.in-Ok-Some.ensures.text refl (omega arith) (c.in-Ok.ensures {u = tt})
 
-pub returns-in-Err-clause-scanned : goal.returns-in-Err-clause-scanned
-returns-in-Err-clause-scanned c =
+pub returns-in-Err-accept-clause-scanned : goal.returns-in-Err-accept-clause-scanned
+returns-in-Err-accept-clause-scanned c =
     let piece = c.args.piece.now in
     let reading = c.scan.lexer in
     let P : List ℕ → Type 0 = λ text. reading.left ≡ lexeme_then (lexeme_of text c.in-Ok-Some.token) c.next.new.self.left in
     let next = subst P c.scan.invariant.text_is (rw c.in-Ok-Some.field-0-is at c.in-Ok-Some.ensures.token) in
     λ text offset is fits other.
-    scan_refused piece c.args.line_ends (prefix_so_far c.args.tokens.now.reader) c.scan.taken (prefix_so_far c.scan.tokens.reader) reading c.scan.invariant (lexeme_of piece c.in-Ok-Some.token) c.next.new.self.left next c.in-Err.fault (omega arith) (c.in-Err.ensures other) text offset is fits
+    scan_refused piece c.args.line_ends (prefix_so_far c.args.tokens.now.reader) c.scan.taken (prefix_so_far c.scan.tokens.reader) reading c.scan.invariant (lexeme_of piece c.in-Ok-Some.token) c.next.new.self.left next c.in-Err-accept.fault (omega arith) (c.in-Err-accept.ensures other) text offset is fits
 
 pub returns-in-Ok-None-clause-scanned : goal.returns-in-Ok-None-clause-scanned
 returns-in-Ok-None-clause-scanned c =

@@ -1,5 +1,5 @@
-use Rattle.std.proofs.Common.{Some, Option, ap, sym, subst, take}
-use Rattle.qm_tokens.specs.inner.Modes.{Mode, between, in_comment}
+use Rattle.std.proofs.Common.{Option, ap, sym, subst, take}
+use Rattle.qm_tokens.specs.inner.Modes.{Mode}
 use Rattle.qm_pieces.specs.declared.open_token.OpenPart.{OpenPart}
 use Rattle.qm_pieces.specs.inner.Keeping.{AllKeepMode}
 use Rattle.qm_pieces.specs.inner.OpenToken.{mode_of, mode_with}
@@ -16,5 +16,5 @@ returns-in-Comment-clause-kept c =
     subst (λ (m : Option Mode). AllKeepMode m (take c.comment_bytes.result c.args.bytes.now))
     (sym (ap (λ (p : OpenPart). mode_with p c.args.self.now.bytes.items c.args.self.now.start c.args.self.now.line) c.in-Comment.is)) c.comment_bytes.ensures.kept
 
-pub returns-clause-kept : goal.returns-clause-kept
-returns-clause-kept c = none_keep (mode_of c.args.self.now)
+pub returns-in_default-clause-kept : goal.returns-in_default-clause-kept
+returns-in_default-clause-kept c = none_keep (mode_of c.args.self.now)

@@ -5,8 +5,8 @@ use Rattle.qm_pieces.specs.inner.OpenToken.{mode_of, state_of}
 use Rattle.qm_pieces.proofs.PassedBytes.{passed_is, passed_fit}
 use Rattle.qm_pieces.proofs.piece_lexer.PieceLexer.pass.Goals as goal
 
-pub behind-requires-fits : goal.behind-requires-fits
-behind-requires-fits c =
+pub behind-behind-requires-clause-fits : goal.behind-behind-requires-clause-fits
+behind-behind-requires-clause-fits c =
     let old = c.self.inside in
     let bytes = c.args.bytes.now in
     let few = subst (λ (s : Option LexingState). IfSome s (λ state. state.offset + length bytes < 2 ^ 64)) (sym c.self.view_is) c.requires in
@@ -16,5 +16,5 @@ pub returns-clause-passed : goal.returns-clause-passed
 returns-clause-passed c =
     let old = c.self.inside in
     let run = take c.kept_by-passed.result c.args.bytes.now in
-    subst (λ (s : Option LexingState). AreBytesPassed s run (state_of (mode_of old.token) c.behind.result.offset c.behind.result.line_ends)) c.self.view_is
-    (passed_is (mode_of old.token) old.offset old.line_ends c.behind.result.offset c.behind.result.line_ends run c.kept_by-passed.ensures.kept c.behind.ensures.offset c.behind.ensures.line_ends)
+    subst (λ (s : Option LexingState). AreBytesPassed s run (state_of (mode_of old.token) c.behind-behind.result.offset c.behind-behind.result.line_ends)) c.self.view_is
+    (passed_is (mode_of old.token) old.offset old.line_ends c.behind-behind.result.offset c.behind-behind.result.line_ends run c.kept_by-passed.ensures.kept c.behind-behind.ensures.offset c.behind-behind.ensures.line_ends)

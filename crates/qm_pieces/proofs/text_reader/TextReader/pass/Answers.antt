@@ -1,7 +1,6 @@
-use Rattle.std.proofs.Common.{◌+◌, ◌<◌, ◌≤◌, ◌^◌, [], ◌++◌, IfSome, length, append-nil, sym, subst, arith}
-use Rattle.qm_pieces.specs.LexingState.{LexingState}
+use Rattle.std.proofs.Common.{length, sym, subst, arith}
 use Rattle.qm_pieces.specs.ReadSoFar.{ReadSoFar, IsReadOf, prefix_so_far}
-use Rattle.qm_pieces.proofs.ReadersSoFar.{bytes_read, passed_below, room_below}
+use Rattle.qm_pieces.proofs.ReadersSoFar.{bytes_read, room_below}
 use Rattle.qm_pieces.proofs.text_reader.TextReader.pass.Goals as goal
 
 pub returns-clause-passed : goal.returns-clause-passed

@@ -1,4 +1,4 @@
-use Rattle.std.proofs.Common.{◌≡◌, ℕ, List, ◌++◌, take, length, sym, subst, arith}
+use Rattle.std.proofs.Common.{◌≡◌, ℕ, List, ◌++◌, take, subst, arith}
 use Rattle.qm_pieces.specs.ReadSoFar.{IsReadOf}
 use Rattle.qm_pieces.proofs.ReadersSoFar.{piece_certain, piece_more}
 use Rattle.qm_pieces.proofs.text_reader.TextReader.take_some.Goals as goal
