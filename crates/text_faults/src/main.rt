@@ -5,8 +5,8 @@
 ghost use Rattle.std.specs.Prelude.{◌<◌, IfOk};
 ghost use Rattle.qm_grammar.specs.Valid.{IsValidMap};
 
-use qm_map::parse;
 use qm_grammar::MapFault;
+use qm_map::parse;
 use qm_mapfile::MapFile;
 use qm_mapout::print;
 use qm_pieces::MapReader;
@@ -74,7 +74,7 @@ fn say_file<R: AllocGlobal + Files + Print>(rt: &R, name: &str) -> io::Result<()
 
 /// Says what a text means, unless it means something else in pieces.
 fn say<R: AllocGlobal + Print>(rt: &R, text: &[u8]) -> io::Result<()> {
-    let told = told(rt.alloc(), parse(rt.alloc(), text))?;
+    let told = tell(rt.alloc(), parse(rt.alloc(), text))?;
     if !is_told_of_pieces(rt.alloc(), text, &told)? {
         return println!(rt; "something else in pieces");
     }
@@ -98,14 +98,14 @@ fn is_told_of_pieces(alloc: Global, text: &[u8], whole: &Told) -> Result<bool, A
         Sizes::Each(7),
         Sizes::ByChance(text.len() as u64),
     ] {
-        let told = told(alloc, meaning_in_pieces(alloc, text, sizes))?;
+        let told = tell(alloc, meaning_in_pieces(alloc, text, sizes))?;
         same &= told.fault == whole.fault && told.text.as_slice() == whole.text.as_slice();
     }
     Ok(same)
 }
 
 /// What is told of a meaning.
-fn told(alloc: Global, meaning: Result<MapFile, MapFault>) -> Result<Told, AllocError>
+fn tell(alloc: Global, meaning: Result<MapFile, MapFault>) -> Result<Told, AllocError>
     requires { IfOk meaning IsValidMap }
 {
     let mut told = Told {
