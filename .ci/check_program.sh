@@ -251,7 +251,8 @@ stops_reading_at_a_certain_fault() {
 }
 
 agrees_with_a_slow_reader() {
-    python3 .ci/compare_texts.py "$program"
+    [[ -x crates/text_faults/out/text_faults ]] || (cd crates/text_faults && rt run >/dev/null 2>&1) || return 1
+    python3 .ci/compare_texts.py "$program" crates/text_faults/out/text_faults
 }
 
 reads_words_as_a_slow_reader_does() {

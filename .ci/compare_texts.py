@@ -1,14 +1,18 @@
 #!/usr/bin/env python3
 """Compares `PROGRAM format` with a plain slow reader of MAP texts, on texts that are nearly maps.
 
-    .ci/compare_texts.py PROGRAM
+    .ci/compare_texts.py PROGRAM [READER]
 
 Two maps are cut off at each byte, and each token of them is dropped, doubled, and exchanged with others. For each
 text the program has to print the fault that the slow reader finds, or the numbers of entities and brushes; then OUT
-has to have the same points, each coordinate without a zero that could be left out.
+has to have the same points, each coordinate without a zero that could be left out. Where READER is named, the program
+`text_faults`, it reads all these texts in one run, whole, in pieces of 1, 2, 3 and 7 bytes and in pieces by chance,
+and parts of the texts that `bench/make_map.py` makes, and has to find the same.
 """
 
 import os
+from pathlib import Path
+import random
 import re
 import subprocess
 import sys
@@ -24,6 +28,11 @@ PLACES, GREATEST = 3, 2 ** 26
 WORDS = [
     None, "text too long", "quote not closed", "unexpected", "end inside", "bad number", "fraction",
     "coordinate out of range", "no normal", "no faces", "bad origin", "no entity", "plane too fine",
+]
+# the same faults, as READER names them
+NAMES = [
+    None, "TextTooLong", "UnclosedQuote", "Unexpected", "EndInside", "BadNumber", "Fraction", "CoordinateRange",
+    "NoNormal", "NoFaces", "BadOrigin", "NoEntity", "PlaneTooFine",
 ]
 MARKS = [b"{", b"}", b"(", b")", b"[", b"]"]
 
@@ -292,10 +301,50 @@ def texts():
                 yield b"".join(parts[:k] + [other] + parts[k + 1:])
 
 
+def parts_of_levels():
+    """Parts of texts as level editors write them, cut out by chance."""
+    chance = random.Random(34)
+    maker = Path(__file__).resolve().parent.parent / "bench" / "make_map.py"
+    for words in ("standard",), ("valve", "crlf"), ("mixed",), ("eighths", "crlf"):
+        made = subprocess.run([sys.executable, maker, "1", *words], capture_output=True, check=True).stdout
+        for number in range(20):
+            begin = made.index(b"// brush", chance.randrange(len(made) // 3))
+            end = begin + chance.randrange(8000)
+            # as it is, or behind a brush, with the end of its entity
+            yield b"{\n" + (made[begin:end] if number % 2 else made[begin:made.index(b"}", end) + 1] + b" }")
+
+
+def line(text):
+    """What READER has to print."""
+    due = meaning(text)
+    fault = re.match(r"map fault (\d+) at line (\d+)", due)
+    if fault:
+        return f"{NAMES[int(fault.group(1))]} {{ line: {fault.group(2)} }}"
+    return ", ".join(due.splitlines())
+
+
+def misread(reader, folder):
+    """How many texts the reader finds something else in than the slow reader, and how many there are."""
+    given = [*texts(), *parts_of_levels()]
+    with open(os.path.join(folder, "texts"), "wb") as file:
+        file.write(b"\0".join(given))
+    ran = subprocess.run([reader, "texts"], cwd=folder, capture_output=True, check=True)
+    said = ran.stdout.decode().splitlines()
+    wrong = abs(len(said) - len(given))
+    for text, words in zip(given, said):
+        if words != line(text):
+            wrong += 1
+            print(f"{text!r}: the reader says {words}, and it means {line(text)}")
+    return wrong, len(given)
+
+
 def main():
     program = os.path.abspath(sys.argv[1])
     count, wrong = 0, 0
     with tempfile.TemporaryDirectory() as folder:
+        if len(sys.argv) > 2:
+            wrong, given = misread(os.path.abspath(sys.argv[2]), folder)
+            print(f"{given} texts in pieces, {wrong} wrong")
         for text in texts():
             with open(os.path.join(folder, "a.map"), "wb") as file:
                 file.write(text)

@@ -1,20 +1,8 @@
 use super::outside::gives;
-use super::room::{printed_room, written_room};
+use super::room::{printed_room, with_returns, written_room};
 use std::alloc::{AllocError, Global};
 use std::test::Fail;
 use std::thread::Threads;
-
-/// A text whose lines end with two bytes, as an editor writes them.
-fn with_returns(alloc: Global, text: &str) -> Result<Vec<u8>, AllocError> {
-    let mut bytes = Vec::new(alloc);
-    for byte in text.as_bytes() {
-        if *byte == b'\n' {
-            bytes.push(b'\r')?;
-        }
-        bytes.push(*byte)?;
-    }
-    Ok(bytes)
-}
 
 /// An entity with a long key, as it is printed; the key ends at this offset.
 fn long_key(alloc: Global, end: usize) -> Result<Vec<u8>, AllocError> {

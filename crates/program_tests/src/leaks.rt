@@ -1,6 +1,6 @@
 use super::boxes::{Level, level_text};
 use super::outside::Outside;
-use super::room::written_room;
+use super::room::{with_returns, written_room};
 use std::alloc::{AllocError, Global};
 use std::test::Fail;
 use std::thread::Threads;
@@ -230,6 +230,37 @@ fn finds_leaks_and_fills(rt: HostRuntime) -> Result<(), Fail> {
     for row in &ROWS {
         let text = text_of(rt.alloc(), row)?;
         right &= is_right(&rt, &fast, &text, row)?;
+    }
+    assert!(rt; right);
+    Ok(())
+}
+
+/// How many bytes a read gives at most.
+static MOST: [u64; 4] = [1, 2, 3, 65_536];
+
+/// Whether a text that comes in pieces gives what a row says, in the bytes that it gave before.
+fn gives_in_pieces<R: AllocGlobal + Threads + Sync>(
+    rt: &R,
+    most: u64,
+    text: &[u8],
+    row: &Row,
+    before: &Outside,
+) -> Result<bool, AllocError> {
+    let mut outside = Outside::new(rt.alloc(), text)?;
+    outside.shelf.at_most(most.max(1));
+    let says = outside.says(rt, &["compile", "map", "out"], row.status, row.printed);
+    Ok(says && outside.shelf.get("out") == before.shelf.get("out"))
+}
+
+/// The room as an editor writes it gives the same bytes whatever pieces it is read in.
+#[test]
+fn reads_a_room_in_pieces(rt: HostRuntime) -> Result<(), Fail> {
+    let text = with_returns(rt.alloc(), &written_room(rt.alloc())?)?;
+    let mut before = Outside::new(rt.alloc(), &text)?;
+    let mut right = before.says(&rt, &["compile", "map", "out"], 0, SEALED.printed);
+    right &= before.has_long_out(SEALED.length);
+    for most in &MOST {
+        right &= gives_in_pieces(&rt, *most, &text, &SEALED, &before)?;
     }
     assert!(rt; right);
     Ok(())

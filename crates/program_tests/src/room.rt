@@ -132,6 +132,18 @@ pub fn written_room(alloc: Global) -> Result<String, AllocError> {
     Ok(text)
 }
 
+/// A text whose lines end with two bytes, as an editor writes them.
+pub fn with_returns(alloc: Global, text: &str) -> Result<Vec<u8>, AllocError> {
+    let mut bytes = Vec::new(alloc);
+    for byte in text.as_bytes() {
+        if *byte == b'\n' {
+            bytes.push(b'\r')?;
+        }
+        bytes.push(*byte)?;
+    }
+    Ok(bytes)
+}
+
 /// The same map as it is printed.
 pub fn printed_room(alloc: Global) -> Result<String, AllocError> {
     let mut text = String::new(alloc);

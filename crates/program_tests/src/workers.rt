@@ -1,7 +1,8 @@
-//! Rows that several workers find, beside coarse ones.
+//! Rows that several workers find, beside coarse ones; and a tree that one thread builds, and several.
 
 ghost use Rattle.std.specs.Prelude.{◌≤◌};
 
+use super::outside::Outside;
 use qm_bits::BitRow;
 use qm_compile::{Compiled, OpenGate, Options, compile};
 use qm_gen::rooms;
@@ -9,6 +10,7 @@ use qm_lists::Items;
 use std::alloc::AllocError;
 use std::test::Fail;
 use std::thread::Threads;
+use test_texts::boxes_on_both_sides;
 
 /// The rows of eight rooms that are generated from the number 7, coarse ones or those that so many workers find; `None` where
 /// there are none.
@@ -65,6 +67,26 @@ fn workers_keep_to_coarse_rows(rt: HostRuntime) -> Result<(), Fail> {
     let by_four = rows_of_rooms(&rt, 4, false)?;
     let by_most = rows_of_rooms(&rt, 64, false)?;
     let right = keep_to(&by_four, &coarse) && keep_to(&by_most, &coarse);
+    assert!(rt; right);
+    Ok(())
+}
+
+/// With one worker, and with eight.
+static FAST: [&[&str]; 2] = [
+    &["compile", "map", "out", "--threads", "1", "--fast"],
+    &["compile", "map", "out", "--threads", "8", "--fast"],
+];
+
+/// A world whose halves are built beside one another has the same bytes as one that is built cell by cell.
+#[test]
+fn halves_make_the_same_bytes(rt: HostRuntime) -> Result<(), Fail> {
+    let text = boxes_on_both_sides(rt.alloc())?;
+    let mut one = Outside::new(rt.alloc(), text.as_bytes())?;
+    let mut eight = Outside::new(rt.alloc(), text.as_bytes())?;
+    let mut right = one.runs(&rt, FAST[0]) == 0 && eight.runs(&rt, FAST[1]) == 0;
+    right &= one.shelf.get("out").is_some_and(|file| file.len() > 41);
+    right &= one.shelf.get("out") == eight.shelf.get("out");
+    right &= one.sink.bytes() == eight.sink.bytes();
     assert!(rt; right);
     Ok(())
 }

@@ -19,11 +19,6 @@ pub known_bound : (mode : Option Mode) (offset lines bound : ℕ) → IfSome (st
 known_bound None offset lines bound few known = absurd cc
 known_bound (Some mode) offset lines bound few known = few
 
--- the same where a byte was taken
-pub passed_bound : (mode next : Option Mode) (offset lines bound byte : ℕ) (token : Option OwnedToken) → IfSome (state_of mode offset lines) (λ state. state.offset < bound) → IsByteTaken mode offset (lines + 1) byte token next → offset < bound
-passed_bound None next offset lines bound byte token few taken = absurd taken
-passed_bound (Some mode) next offset lines bound byte token few taken = few
-
 -- a byte that was taken leads to the next state
 pub pushed_is : (mode next : Option Mode) (offset lines byte : ℕ) (token : Option OwnedToken) → IsByteTaken mode offset (lines + 1) byte token next → IsBytePushed (state_of mode offset lines) byte token (state_of next (offset + 1) (lines + line_ends (byte ∷ [])))
 pushed_is None next offset lines byte token taken = absurd taken

@@ -7,5 +7,6 @@ pub mod CertainLaws
 pub mod ShiftedTexts
 pub mod FirstTokens
 pub mod Lexers
+pub mod PassedBytes
 pub mod ReadersSoFar
 pub mod WholeTokens

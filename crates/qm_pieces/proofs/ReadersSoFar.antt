@@ -1,8 +1,8 @@
 -- What a reader of a text so far has read, and what one more byte, a piece or the end of the text does to that.
-use Rattle.std.proofs.Common.{◌≡◌, ◌≢◌, ◌↔◌, ℕ, ◌+◌, ◌<◌, ◌≤◌, List, [], ◌∷◌, ◌++◌, Option, Some, None, IfSome, IfOk, Result, Ok, Err, option_to_list, length, get_or, take, drop, take-append-drop, refl, sym, ap, subst, ◌∙◌, append-nil, append_assoc, length-append, add-zero, arith}
+use Rattle.std.proofs.Common.{◌≡◌, ◌≢◌, ◌↔◌, ℕ, ◌+◌, ◌-◌, ◌<◌, ◌≤◌, List, [], ◌∷◌, ◌++◌, Option, Some, None, IfSome, IfOk, Result, Ok, Err, option_to_list, length, get_or, take, drop, take-append-drop, refl, sym, ap, subst, ◌∙◌, append-nil, append_assoc, length-append, add-zero, arith}
 use Rattle.std.specs.Prelude.{All}
 use Rattle.std.proofs.lemmas.Bool.{le-ltb}
-use Rattle.std.proofs.lemmas.List.{take_more}
+use Rattle.std.proofs.lemmas.List.{take_more, length-take}
 use Rattle.std.proofs.lemmas.List.Elements.{All-nil, All-cons, All-head}
 use Rattle.qm_lists.proofs.Cases.{by_result}
 use Rattle.qm_tokens.specs.declared.token.TokenKind.{TokenKind}
@@ -31,11 +31,13 @@ use Rattle.qm_pieces.specs.TextSoFar.{IsLexedTo}
 use Rattle.qm_pieces.specs.Lexed.{HasLexed}
 use Rattle.qm_pieces.specs.Certain.{IsCertain}
 use Rattle.qm_pieces.specs.ReadSoFar.{ReadSoFar, IsReadOf, IsReaderOf, reader_of}
+use Rattle.qm_pieces.specs.inner.Keeping.{AreBytesPassed}
 use Rattle.qm_pieces.specs.inner.Pushing.{owned_lexeme, owned_lexemes, IsBytePushed, IsEndOf}
 use Rattle.qm_pieces.specs.inner.Accepting.{IsTokenAccepted, IsReadOn, closed_on, closed_behind, end_answer, fault_at_limit, limit_fault, IsEndAnswer}
 use Rattle.qm_pieces.proofs.Letters.{EndsAt, last_ends, ended_ends}
 use Rattle.qm_pieces.proofs.TextsSoFar.{lexed_at_start}
 use Rattle.qm_pieces.proofs.Lexers.{lexed_token, has_lexed_behind}
+use Rattle.qm_pieces.proofs.PassedBytes.{passed_lexed}
 use Rattle.qm_pieces.proofs.Certainty.{steps_behind, steps_late, refused_certain, too_long_certain, meaning_whole, none_certain, certain_behind, one_certain, certain_now}
 
 -- before the first byte
@@ -85,6 +87,28 @@ module _ (text : List ℕ) (prefix next : Prefix) (byte : ℕ) where
       (refused_certain (text ++ byte ∷ []) (is.ended ++ owned_lexeme token ∷ []) (state_behind state byte) (lexed_token text is.ended state byte (Some token) pushed.0 is.lexed) refused.reason (owned_lexeme token)
       (one_refused prefix refused.reason is.ended (owned_lexeme token) is.spelled refused.refused)
       (omega (arith, ends, within, quote_one token.kind)))
+
+-- bytes that leave open what is open, at the beginning of some that are within the limit
+pub bytes_read : (text bytes : List ℕ) (count : ℕ) (prefix : Prefix) (old new : Option LexingState) → IsReadOf text (record { lexer = old; prefix = prefix }) → IfSome old (λ state. state.offset + length bytes ≤ text_limit) → AreBytesPassed old (take count bytes) new → IsReadOf (text ++ take count bytes) (record { lexer = new; prefix = prefix })
+bytes_read text bytes count prefix None new is within passed = absurd is.lexed
+bytes_read text bytes count prefix (Some state) new is within passed = record {
+  short = omega (arith, within, is.lexed.offset_is, length-append text (take count bytes), length-take count bytes);
+  ended = is.ended;
+  lexed = passed_lexed text (take count bytes) is.ended (Some state) new passed is.lexed;
+  spelled = is.spelled;
+}
+
+-- the lexer stays within the limit
+pub passed_below : (bytes : List ℕ) (count : ℕ) (old new : Option LexingState) → IfSome old (λ state. state.offset + length bytes ≤ text_limit) → AreBytesPassed old (take count bytes) new → IfSome new (λ state. state.offset ≤ text_limit)
+passed_below bytes count None new within passed =
+    subst (λ (s : Option LexingState). IfSome s (λ state. state.offset ≤ text_limit)) (sym passed) tt
+passed_below bytes count (Some state) new within passed =
+    subst (λ (s : Option LexingState). IfSome s (λ state. state.offset ≤ text_limit)) (sym passed.1) (omega (arith, within, length-take count bytes))
+
+-- room below the limit
+pub room_below : (lexer : Option LexingState) (offset count : ℕ) → IfSome lexer (λ state. offset ≡ state.offset) → IfSome lexer (λ state. state.offset ≤ text_limit) → count ≤ text_limit - offset → IfSome lexer (λ state. state.offset + count ≤ text_limit)
+room_below None offset count is below room = tt
+room_below (Some state) offset count is below room = omega (arith, is, below, room)
 
 -- ---- a byte behind the limit
 

@@ -1,11 +1,12 @@
 -- The tokens that end within a piece, which begins between two tokens.
-use Rattle.std.proofs.Common.{◌≡◌, ℕ, ◌+◌, ◌-◌, ◌==◌, ◌<◌, ◌≤◌, List, [], ◌∷◌, ◌++◌, Option, Some, IfSome, Result, Ok, length, take, drop, take-add, take-append-drop, take_all, refl, sym, ap, subst, ◌∙◌, append_assoc, append-nil, length-append, add-zero, arith}
+use Rattle.std.proofs.Common.{◌≡◌, ℕ, ◌+◌, ◌-◌, ◌==◌, ◌<◌, ◌≤◌, List, [], ◌∷◌, ◌++◌, Option, Some, IfSome, Result, Ok, ⊎_elim, length, get_or, take, drop, take-add, take-append-drop, take_all, refl, sym, ap, subst, ◌∙◌, append_assoc, append-nil, length-append, add-zero, arith}
 use Rattle.std.specs.Prelude.{All}
-use Rattle.std.proofs.lemmas.List.{take_at, drop_at, drop-drop, length-drop, length-take}
+use Rattle.std.proofs.lemmas.Bool.{cases_lt}
+use Rattle.std.proofs.lemmas.List.{take_at, drop_at, drop-drop, length-drop, length-take, length-take-le, get_or-drop, take_more}
 use Rattle.std.proofs.lemmas.List.Elements.{All-head, All-tail}
 use Rattle.std.proofs.lemmas.List.Sums.{count_by-le-length}
 use Rattle.qm_tokens.specs.Lexeme.{Lexeme, StandsIn, line_ends, quote_length}
-use Rattle.qm_tokens.specs.Lexing.{Lexing, IsLexingOf, lexeme_then}
+use Rattle.qm_tokens.specs.Lexing.{Lexing, IsLexingOf, nothing, lexeme_then}
 use Rattle.qm_tokens.specs.Reading.{Reading}
 use Rattle.qm_tokens.specs.inner.Modes.{between, read}
 use Rattle.qm_tokens.proofs.PieceRuns.{line_ends-append}
@@ -28,6 +29,7 @@ use Rattle.qm_pieces.specs.inner.Scanning.{line_within, IsReadBetween}
 use Rattle.qm_pieces.proofs.ShiftedTexts.{read_shifted}
 use Rattle.qm_pieces.proofs.FirstTokens.{token_ends_in, rest_left}
 use Rattle.qm_pieces.proofs.TextsSoFar.{prepended}
+use Rattle.qm_pieces.proofs.PassedBytes.{LeadsOn, none_lead, line_leads, lexed_on, leads_shifted}
 use Rattle.qm_pieces.proofs.Certainty.{refused_certain, certain_behind}
 use Rattle.qm_pieces.proofs.ReadersSoFar.{one_more, one_refused, quote_one}
 
@@ -124,6 +126,59 @@ module _ (piece : List ℕ) (taken : ℕ) (inside : taken ≤ length piece) (tok
           (certain_behind (text ++ first) others found
           (subst (λ (f : MapFault). IsCertain (text ++ first) f) (sym refused.fault_is) certain))
 
+-- a piece that is taken up to an offset, of which no token is left
+module _ (piece : List ℕ) (taken : ℕ) (inside : taken ≤ length piece) (left : read between taken (line_within piece taken) (drop taken piece) ≡ nothing) where
+  -- up to a line end
+  line_taken : (n : ℕ) → n < length (drop taken piece) → get_or (drop taken piece) n 0 ≡ 10 → LeadsOn (state_between taken (line_within piece taken)) between (take (n + 1) (drop taken piece))
+  line_taken n within is_end =
+      let bytes = drop taken piece in
+      let split : take (n + 1) bytes ≡ take n bytes ++ 10 ∷ [] = take_more bytes n 0 within ∙ ap (λ (b : ℕ). take n bytes ++ b ∷ []) is_end in
+      let whole : take n bytes ++ 10 ∷ drop (n + 1) bytes ≡ bytes = sym (append_assoc (take n bytes) (10 ∷ []) (drop (n + 1) bytes)) ∙ ap (λ (b : List ℕ). b ++ drop (n + 1) bytes) (sym split) ∙ take-append-drop (n + 1) bytes in
+      subst (λ (b : List ℕ). LeadsOn (state_between taken (line_within piece taken)) between b) (sym split)
+      (line_leads (take n bytes) (drop (n + 1) bytes) (state_between taken (line_within piece taken)) (ap (read between taken (line_within piece taken)) whole ∙ left))
+
+  module _ (end : ℕ) (further : taken ≤ end) (within : end ≤ length piece) (ends : taken < end → get_or piece (end - 1) 0 ≡ 10) where
+    gap_taken : LeadsOn (state_between taken (line_within piece taken)) between (take (end - taken) (drop taken piece))
+    gap_taken =
+        let bytes = drop taken piece in
+        let state = state_between taken (line_within piece taken) in
+        ⊎_elim
+        (λ some.
+        let count : end - taken - 1 + 1 ≡ end - taken = omega (arith, some) in
+        let at : taken + (end - taken - 1) ≡ end - 1 = omega (arith, some) in
+        let is_end : get_or bytes (end - taken - 1) 0 ≡ 10 = get_or-drop taken piece (end - taken - 1) 0 ∙ ap (λ (i : ℕ). get_or piece i 0) at ∙ ends some in
+        subst (λ (n : ℕ). LeadsOn state between (take n bytes)) count (line_taken (end - taken - 1) (omega (arith, some, within, length-drop taken piece)) is_end))
+        (λ none.
+        let count : 0 ≡ end - taken = omega (arith, none) in
+        subst (λ (n : ℕ). LeadsOn state between (take n bytes)) count (none_lead state))
+        (cases_lt taken end)
+
+    gap_front : take end piece ≡ take taken piece ++ take (end - taken) (drop taken piece)
+    gap_front =
+        let whole : end ≡ taken + (end - taken) = omega (arith, further) in
+        ap (λ (n : ℕ). take n piece) whole ∙ take-add taken (end - taken) piece
+
+    -- the same where the piece begins at an offset, behind so many line ends
+    module _ (offset lines : ℕ) where
+      gap_lexed : (text : List ℕ) (given : List Lexeme) → IsLexedTo (text ++ take taken piece) given (state_between (offset + taken) (lines + line_within piece taken)) → IsLexedTo (text ++ take end piece) given (state_between (offset + end) (lines + line_within piece end))
+      gap_lexed text given lexed =
+          let bytes = take (end - taken) (drop taken piece) in
+          let state = state_between (offset + taken) (lines + line_within piece taken) in
+          let leads : LeadsOn state between bytes = leads_shifted offset lines taken (line_within piece taken) bytes gap_taken in
+          let size : length bytes ≡ end - taken = length-take-le (end - taken) (drop taken piece) (omega (arith, within, length-drop taken piece)) in
+          let at : leads.at ≡ offset + end = omega (arith, leads.at_is, size, further) in
+          let on : leads.on ≡ lines + line_within piece end = omega (arith, leads.on_is, ap line_ends gap_front, line_ends-append (take taken piece) bytes) in
+          let whole : (text ++ take taken piece) ++ bytes ≡ text ++ take end piece = append_assoc text (take taken piece) bytes ∙ ap (λ (b : List ℕ). text ++ b) (sym gap_front) in
+          subst (λ (t : List ℕ). IsLexedTo t given (state_between (offset + end) (lines + line_within piece end))) whole
+          (subst (λ (l : ℕ). IsLexedTo ((text ++ take taken piece) ++ bytes) given (state_between (offset + end) l)) on
+          (subst (λ (o : ℕ). IsLexedTo ((text ++ take taken piece) ++ bytes) given (state_between o leads.on)) at
+          (lexed_on state between (text ++ take taken piece) bytes given leads lexed)))
+
+      pub gap_read : (text : List ℕ) (prefix : Prefix) → offset + length piece ≤ text_limit → IsReadBetween (text ++ take taken piece) (offset + taken) (lines + line_within piece taken) prefix → IsReadBetween (text ++ take end piece) (offset + end) (lines + line_within piece end) prefix
+      gap_read text prefix fits is =
+          let lexed = gap_lexed text is.ended is.lexed in
+          record { short = omega (arith, lexed.offset_is, within, fits); ended = is.ended; lexed = lexed; spelled = is.spelled }
+
 -- ---- the loop over them
 
 -- so many bytes of a piece were taken, behind so many line ends; they have led from one prefix to another, and this is left
@@ -175,6 +230,11 @@ module _ (piece : List ℕ) (lines : ℕ) (first : Prefix) (taken : ℕ) (prefix
   scan_refused found within refused text offset is fits =
       token_refused piece taken s.inside token rest here within offset lines text prefix fits (s.is_read text offset is fits) found refused
 
+-- where no token is left, the piece can be taken up to a line end
+pub scan_ended : (piece : List ℕ) (lines : ℕ) (first : Prefix) (taken : ℕ) (prefix : Prefix) (reading : Reading) → IsScanning piece lines first taken prefix reading → reading.left ≡ nothing → (end : ℕ) → taken ≤ end → end ≤ length piece → (taken < end → get_or piece (end - 1) 0 ≡ 10) → (text : List ℕ) (offset : ℕ) → IsReadBetween text offset (lines + 1) first → offset + length piece ≤ text_limit → IsReadBetween (text ++ take end piece) (offset + end) (lines + line_within piece end) prefix
+scan_ended piece lines first taken prefix reading s none end further within ends text offset is fits =
+    gap_read piece taken s.inside (sym s.left ∙ none) end further within ends offset lines text prefix fits (s.is_read text offset is fits)
+
 -- ---- a lexer between two tokens
 
 module _ (place : Place) (lexer : Option LexingState) (stands : IsPlaceBetween place lexer) where
@@ -209,3 +269,11 @@ read_rest text piece taken so_far answer is =
     (append_assoc text (take taken piece) (take (length piece - taken) (drop taken piece))
     ∙ ap (λ (bytes : List ℕ). text ++ (take taken piece ++ bytes)) all
     ∙ ap (λ (bytes : List ℕ). text ++ bytes) (take-append-drop taken piece)) is
+
+-- as much of a piece as is taken, and as much of its rest
+pub piece_further : (text piece : List ℕ) (taken count : ℕ) → (text ++ take taken piece) ++ take count (take (length piece - taken) (drop taken piece)) ≡ text ++ take (taken + count) piece
+piece_further text piece taken count =
+    let all : take (length piece - taken) (drop taken piece) ≡ drop taken piece = take_all (length piece - taken) (drop taken piece) (omega (arith, length-drop taken piece)) in
+    append_assoc text (take taken piece) (take count (take (length piece - taken) (drop taken piece)))
+    ∙ ap (λ (bytes : List ℕ). text ++ (take taken piece ++ take count bytes)) all
+    ∙ ap (λ (bytes : List ℕ). text ++ bytes) (sym (take-add taken count piece))

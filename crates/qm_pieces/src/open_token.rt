@@ -1,5 +1,6 @@
-ghost use Rattle.std.specs.Prelude.{◌≡◌, ℕ, ◌-◌, ◌<◌, ◌^◌, [], ◌∷◌, Some, None, is_some, not, IsTrue, IfOk, OnOk, option_map};
+ghost use Rattle.std.specs.Prelude.{◌≡◌, ℕ, ◌-◌, ◌<◌, ◌≤◌, ◌^◌, [], ◌∷◌, Some, None, is_some, IsTrue, IfOk, OnOk, All, length, option_map, take};
 ghost use Rattle.qm_tokens.specs.inner.Modes.{between, slash, in_comment, in_word, in_quote};
+ghost use Rattle.qm_pieces.specs.inner.Keeping.{KeepsMode, AllKeepMode};
 ghost use Rattle.qm_pieces.specs.inner.OpenToken.{mode_of};
 ghost use Rattle.qm_pieces.specs.inner.Pushing.{IsByteTaken, IsEndGiven, owned_lexeme};
 
@@ -107,19 +108,16 @@ impl OpenToken {
         }
     }
 
-    /// Takes a byte that neither ends a token nor opens one, a blank between tokens or a byte of a comment or behind it, and
-    /// answers whether it is such a one. Any other byte is left.
-    pub(crate) fn pass(&mut self, byte: u8) -> bool
-        ensures passed { IsTrue result → (offset line : ℕ) → IsByteTaken (mode_of self.old) offset line byte None (mode_of self.new) }
-        ensures left { IsTrue (not result) → self.new ≡ self.old }
+    /// How many bytes at the beginning of these neither end a token nor open one, nor end a comment: blanks between tokens, or
+    /// bytes of a comment.
+    pub(crate) fn kept_by(&self, bytes: &[u8]) -> usize
+        ensures within { result ≤ length bytes.now }
+        ensures kept { AllKeepMode (mode_of self.now) (take result bytes.now) }
     {
         match self.part {
-            OpenPart::Nothing => byte <= b' ',
-            OpenPart::Comment => {
-                self.follow_comment(byte);
-                true
-            }
-            _ => false,
+            OpenPart::Nothing => blanks(bytes),
+            OpenPart::Comment => comment_bytes(bytes),
+            _ => 0,
         }
     }
 
@@ -245,4 +243,32 @@ impl OpenToken {
             line: self.line,
         }))
     }
+}
+
+/// How many blanks stand at the beginning of bytes.
+fn blanks(bytes: &[u8]) -> usize
+    ensures within { result ≤ length bytes.now }
+    ensures kept { All (KeepsMode between) (take result bytes.now) }
+{
+    for offset in 0..bytes.len() {
+        let next = bytes[offset];
+        if next > b' ' {
+            return offset;
+        }
+    }
+    bytes.len()
+}
+
+/// How many bytes stand before the first line end.
+fn comment_bytes(bytes: &[u8]) -> usize
+    ensures within { result ≤ length bytes.now }
+    ensures kept { All (KeepsMode in_comment) (take result bytes.now) }
+{
+    for offset in 0..bytes.len() {
+        let next = bytes[offset];
+        if next == b'\n' {
+            return offset;
+        }
+    }
+    bytes.len()
 }

@@ -1,9 +1,10 @@
-ghost use Rattle.std.specs.Prelude.{◌≡◌, ℕ, ◌+◌, ◌-◌, ◌<◌, ◌≤◌, ◌^◌, List, [], ◌∷◌, ◌++◌, Some, None, not, IsTrue, IfOk, IfSome, OnErr};
+ghost use Rattle.std.specs.Prelude.{◌≡◌, ℕ, ◌+◌, ◌-◌, ◌<◌, ◌≤◌, ◌^◌, List, [], ◌∷◌, ◌++◌, Some, None, IfOk, IfSome, OnErr, length, take};
 ghost use Rattle.qm_tokens.specs.Lexeme.{Lexeme, line_ends};
 ghost use Rattle.qm_tokens.specs.Lexing.{IsLexingOf};
 ghost use Rattle.qm_pieces.specs.LexingState.{state_at_start};
 ghost use Rattle.qm_pieces.specs.TextSoFar.{lexemes_then};
 ghost use Rattle.qm_pieces.specs.Lexed.{HasLexed};
+ghost use Rattle.qm_pieces.specs.inner.Keeping.{AreBytesPassed};
 ghost use Rattle.qm_pieces.specs.inner.OpenToken.{IsPlaceBetween};
 ghost use Rattle.qm_pieces.specs.inner.Pushing.{IsBytePushed, IsEndOf, owned_lexemes, end_lexing};
 
@@ -81,20 +82,22 @@ impl PieceLexer {
         }
     }
 
-    /// Takes the next byte where it neither ends a token nor opens one, and answers whether it is such a one. Any other byte
-    /// is left.
-    pub(crate) fn pass(&mut self, byte: u8) -> bool
-        requires { IfSome self.old (λ state. state.offset < 2 ^ 64 - 1) }
-        ensures passed { IsTrue result → IsBytePushed self.old byte None self.new }
-        ensures left { IsTrue (not result) → self.new ≡ self.old }
+    /// Takes the bytes at the beginning of these that neither end a token nor open one, nor end a comment, and answers how many
+    /// they are.
+    pub(crate) fn pass(&mut self, bytes: &[u8]) -> usize
+        requires { IfSome self.old (λ state. state.offset + length bytes.now < 2 ^ 64) }
+        ensures within { result ≤ length bytes.now }
+        ensures passed { AreBytesPassed self.old (take result bytes.now) self.new }
     {
-        if self.token.pass(byte) {
-            self.offset += 1;
-            self.line_ends += line_ends(byte);
-            true
-        } else {
-            false
-        }
+        let passed = self.token.kept_by(bytes);
+        let place = Place {
+            offset: self.offset,
+            line_ends: self.line_ends,
+        };
+        let behind = place.behind(&bytes[..passed]);
+        self.offset = behind.offset;
+        self.line_ends = behind.line_ends;
+        passed
     }
 
     /// What the end of the text gives: the last word, or `None` where no token is open.

@@ -1,4 +1,4 @@
-ghost use Rattle.std.specs.Prelude.{◌≡◌, ◌≢◌, ◌≤◌, ℕ, List, [], ◌∷◌, ◌++◌, length, Err, not, IsTrue, IfOk, IfSome};
+ghost use Rattle.std.specs.Prelude.{◌≢◌, ◌<◌, ◌≤◌, ℕ, List, [], ◌∷◌, ◌++◌, length, take, Err, IfOk, IfSome};
 ghost use Rattle.qm_grammar.specs.declared.fault.MapFault.{MapFault};
 ghost use Rattle.qm_grammar.specs.Faults.{text_limit};
 ghost use Rattle.qm_grammar.specs.Meaning.{Means};
@@ -46,8 +46,8 @@ impl TextReader {
         }
     }
 
-    /// Takes the bytes of a piece, up to one that makes a fault certain. Single bytes are taken only while a token is open that
-    /// the piece before has begun, and behind the last token that ends within this one.
+    /// Takes the bytes of a piece, up to one that makes a fault certain. Those of a comment are passed as one; single bytes are
+    /// taken only while a token is open that the piece before has begun, and behind the last token that ends within this one.
     pub(crate) fn take_piece(&mut self, piece: &[u8]) -> Result<(), MapFault>
         ensures { (text : List ℕ) → IsReadOf text self.old → IsReadOn (text ++ piece.now) self.new result }
     {
@@ -63,21 +63,22 @@ impl TextReader {
         self.take_bytes(&rest[taken..])
     }
 
-    /// Takes the bytes of a piece one by one while something is open, and answers how many were taken.
+    /// Takes the bytes of a piece while something is open, and answers how many were taken.
     fn take_open(&mut self, piece: &[u8]) -> Result<usize, MapFault>
         ensures within { IfOk result (λ taken. taken ≤ length piece.now) }
         ensures read { (text : List ℕ) → IsReadOf text self.old → IsReadInto text piece.now self.new result }
     {
-        for offset in 0..piece.len() {
+        let mut taken = 0;
+        while taken < piece.len() {
             if self.lexer.place_between().is_some() {
-                return Ok(offset);
+                return Ok(taken);
             }
-            match self.take(piece[offset]) {
-                Ok(()) => {}
+            match self.take_some(&piece[taken..]) {
+                Ok(count) => taken += count,
                 Err(fault) => return Err(fault),
             }
         }
-        Ok(piece.len())
+        Ok(taken)
     }
 
     /// Takes the tokens that end within a piece, where nothing is open and the piece is within the limit, and answers how many
@@ -101,44 +102,52 @@ impl TextReader {
         }
     }
 
-    /// Takes bytes one by one, up to one that makes a fault certain.
+    /// Takes bytes, up to one that makes a fault certain.
     fn take_bytes(&mut self, piece: &[u8]) -> Result<(), MapFault>
         ensures { (text : List ℕ) → IsReadOf text self.old → IsReadOn (text ++ piece.now) self.new result }
     {
-        for byte in piece {
-            match self.take(*byte) {
-                Ok(()) => {}
+        let mut taken = 0;
+        while taken < piece.len() {
+            match self.take_some(&piece[taken..]) {
+                Ok(count) => taken += count,
                 Err(fault) => return Err(fault),
             }
         }
         Ok(())
     }
 
+    /// Takes the bytes at the beginning of these that can be passed, or else the first byte, and answers how many were taken.
+    fn take_some(&mut self, bytes: &[u8]) -> Result<usize, MapFault>
+        requires { 0 < length bytes.now }
+        ensures some { IfOk result (λ taken. 0 < taken) }
+        ensures within { IfOk result (λ taken. taken ≤ length bytes.now) }
+        ensures read { (text : List ℕ) → IsReadOf text self.old → IsReadInto text bytes.now self.new result }
+    {
+        let passed = self.pass(bytes);
+        if passed > 0 {
+            return Ok(passed);
+        }
+        match self.take(bytes[0]) {
+            Ok(()) => Ok(1),
+            Err(fault) => Err(fault),
+        }
+    }
+
+    /// Takes the bytes at the beginning of these that neither end a token nor open one, nor end a comment, and answers how many
+    /// they are. Where not all of these are within the limit it takes none.
+    fn pass(&mut self, bytes: &[u8]) -> usize
+        ensures within { result ≤ length bytes.now }
+        ensures passed { (text : List ℕ) → IsReadOf text self.old → IsReadOf (text ++ take result bytes.now) self.new }
+    {
+        let room = (TEXT_LIMIT as u64).saturating_sub(self.lexer.offset());
+        if bytes.len() as u64 > room {
+            return 0;
+        }
+        self.lexer.pass(bytes)
+    }
+
     /// Takes the next byte.
     fn take(&mut self, byte: u8) -> Result<(), MapFault>
-        ensures { (text : List ℕ) → IsReadOf text self.old → IsReadOn (text ++ byte ∷ []) self.new result }
-    {
-        if self.pass(byte) {
-            return Ok(());
-        }
-        self.take_other(byte)
-    }
-
-    /// Takes the next byte where it is within the limit and neither ends a token nor opens one, and answers whether it is such
-    /// a one. Any other byte is left.
-    fn pass(&mut self, byte: u8) -> bool
-        ensures passed { IsTrue result → (text : List ℕ) → IsReadOf text self.old → IsReadOf (text ++ byte ∷ []) self.new }
-        ensures left { IsTrue (not result) → self.new ≡ self.old }
-    {
-        if self.lexer.offset() < TEXT_LIMIT as u64 {
-            self.lexer.pass(byte)
-        } else {
-            false
-        }
-    }
-
-    /// Takes the next byte, whatever it is.
-    fn take_other(&mut self, byte: u8) -> Result<(), MapFault>
         ensures { (text : List ℕ) → IsReadOf text self.old → IsReadOn (text ++ byte ∷ []) self.new result }
     {
         if self.lexer.offset() >= TEXT_LIMIT as u64 {

@@ -1,4 +1,4 @@
-ghost use Rattle.std.specs.Prelude.{ℕ, List, ◌+◌, ◌-◌, ◌<◌, ◌≤◌, ◌^◌, length, IfOk};
+ghost use Rattle.std.specs.Prelude.{◌≡◌, ℕ, List, ◌+◌, ◌-◌, ◌<◌, ◌≤◌, ◌^◌, length, slice_index, IfOk};
 ghost use Rattle.qm_grammar.specs.Faults.{text_limit};
 ghost use Rattle.qm_pieces.specs.ReadSoFar.{prefix_so_far};
 ghost use Rattle.qm_pieces.specs.inner.Scanning.{IsReadBetween, IsScannedInto};
@@ -8,7 +8,8 @@ use qm_grammar::MapFault;
 use qm_lex::Lexer;
 
 /// Takes the tokens that end within a piece, which begins between two tokens and behind so many line ends. Answers how many
-/// bytes of the piece were taken, up to the end of the last of these tokens.
+/// bytes of the piece were taken: up to the end of the last of these tokens, or up to the piece's last line where no other
+/// follows.
 pub(crate) fn take_whole_tokens(
     tokens: &mut LazyReader,
     piece: &[u8],
@@ -37,7 +38,25 @@ pub(crate) fn take_whole_tokens(
                     Err(fault) => return Err(fault),
                 }
             }
-            _ => return Ok(taken),
+            Ok(None) => return Ok(last_line(piece, taken)),
+            Err(_) => return Ok(taken),
         }
     }
+}
+
+/// The offset behind the last line end of a piece from an offset on, or that offset where no line ends.
+fn last_line(piece: &[u8], from: usize) -> usize
+    requires { from ≤ length piece.now }
+    ensures further { from ≤ result }
+    ensures within { result ≤ length piece.now }
+    ensures ends { from < result → slice_index piece.now (result - 1) ≡ 10 }
+{
+    let mut end = piece.len();
+    while end > from {
+        if piece[end - 1] == b'\n' {
+            return end;
+        }
+        end -= 1;
+    }
+    from
 }

@@ -2,7 +2,7 @@ use Rattle.std.proofs.Common.{◌≡◌, ℕ, List, refl, subst, arith}
 use Rattle.qm_tokens.specs.Lexeme.{lexeme_of}
 use Rattle.qm_tokens.specs.Lexing.{lexeme_then}
 use Rattle.qm_pieces.specs.ReadSoFar.{prefix_so_far}
-use Rattle.qm_pieces.proofs.WholeTokens.{scan_begun, scan_line, scan_next, scan_refused}
+use Rattle.qm_pieces.proofs.WholeTokens.{scan_begun, scan_line, scan_next, scan_refused, scan_ended}
 use Rattle.qm_pieces.proofs.whole_tokens.take_whole_tokens.Goals as goal
 
 pub scan-init : goal.scan-init
@@ -26,11 +26,20 @@ scan-preserved c =
     let next = subst P c.scan.invariant.text_is (rw c.in-Ok-Some.field-0-is at c.in-Ok-Some.ensures.token) in
     scan_next piece c.args.line_ends (prefix_so_far c.args.tokens.now.reader) c.scan.taken (prefix_so_far c.scan.tokens.reader) reading c.scan.invariant (lexeme_of piece c.in-Ok-Some.token) c.next.new.self.left next c.next.new.self (prefix_so_far c.accept.new.self.reader) c.in-Ok-Some.ensures.text refl (omega arith) (c.in-Ok.ensures {u = tt})
 
-pub returns-in-Err-clause-scanned : goal.returns-in-Err-clause-scanned
-returns-in-Err-clause-scanned c =
+pub returns-in-Err-accept-clause-scanned : goal.returns-in-Err-accept-clause-scanned
+returns-in-Err-accept-clause-scanned c =
     let piece = c.args.piece.now in
     let reading = c.scan.lexer in
     let P : List ℕ → Type 0 = λ text. reading.left ≡ lexeme_then (lexeme_of text c.in-Ok-Some.token) c.next.new.self.left in
     let next = subst P c.scan.invariant.text_is (rw c.in-Ok-Some.field-0-is at c.in-Ok-Some.ensures.token) in
     λ text offset is fits other.
-    scan_refused piece c.args.line_ends (prefix_so_far c.args.tokens.now.reader) c.scan.taken (prefix_so_far c.scan.tokens.reader) reading c.scan.invariant (lexeme_of piece c.in-Ok-Some.token) c.next.new.self.left next c.in-Err.fault (omega arith) (c.in-Err.ensures other) text offset is fits
+    scan_refused piece c.args.line_ends (prefix_so_far c.args.tokens.now.reader) c.scan.taken (prefix_so_far c.scan.tokens.reader) reading c.scan.invariant (lexeme_of piece c.in-Ok-Some.token) c.next.new.self.left next c.in-Err-accept.fault (omega arith) (c.in-Err-accept.ensures other) text offset is fits
+
+pub returns-in-Ok-None-clause-scanned : goal.returns-in-Ok-None-clause-scanned
+returns-in-Ok-None-clause-scanned c =
+    let piece = c.args.piece.now in
+    let reading = c.scan.lexer in
+    let none = rw c.in-Ok-None.field-0-is at c.in-Ok-None.ensures.token in
+    let found = c.last_line.ensures in
+    λ text offset is fits.
+    scan_ended piece c.args.line_ends (prefix_so_far c.args.tokens.now.reader) c.scan.taken (prefix_so_far c.scan.tokens.reader) reading c.scan.invariant none c.last_line.result found.further found.within found.ends text offset is fits

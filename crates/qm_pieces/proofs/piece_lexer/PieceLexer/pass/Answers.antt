@@ -1,32 +1,20 @@
-use Rattle.std.proofs.Common.{ℕ, ◌+◌, ◌-◌, ◌<◌, ◌^◌, ◌∷◌, [], IfSome, Option, None, sym, subst, arith}
-use Rattle.qm_tokens.specs.Lexeme.{line_ends}
+use Rattle.std.proofs.Common.{◌+◌, ◌<◌, ◌^◌, length, take, IfSome, Option, sym, subst, arith}
 use Rattle.qm_pieces.specs.LexingState.{LexingState}
+use Rattle.qm_pieces.specs.inner.Keeping.{AreBytesPassed}
 use Rattle.qm_pieces.specs.inner.OpenToken.{mode_of, state_of}
-use Rattle.qm_pieces.specs.inner.Pushing.{IsBytePushed}
-use Rattle.qm_pieces.proofs.Lexers.{pushed_is, passed_bound}
+use Rattle.qm_pieces.proofs.PassedBytes.{passed_is, passed_fit}
 use Rattle.qm_pieces.proofs.piece_lexer.PieceLexer.pass.Goals as goal
 
-pub overflow_add-self : goal.overflow_add-self
-overflow_add-self c =
+pub behind-behind-requires-clause-fits : goal.behind-behind-requires-clause-fits
+behind-behind-requires-clause-fits c =
     let old = c.self.inside in
-    let few = subst (λ (s : Option LexingState). IfSome s (λ state. state.offset < 2 ^ 64 - 1)) (sym c.self.view_is) c.requires in
-    let within = passed_bound (mode_of old.token) (mode_of c.pass.new.self) old.offset old.line_ends (2 ^ 64 - 1) c.args.byte None few (c.pass.ensures.passed c.if-pass.true old.offset (old.line_ends + 1)) in
-    omega (arith, within)
+    let bytes = c.args.bytes.now in
+    let few = subst (λ (s : Option LexingState). IfSome s (λ state. state.offset + length bytes < 2 ^ 64)) (sym c.self.view_is) c.requires in
+    passed_fit (mode_of old.token) old.offset old.line_ends (2 ^ 64) c.kept_by-passed.result bytes (omega arith) few c.kept_by-passed.ensures.kept
 
-pub overflow_add-self-then-pass : goal.overflow_add-self-then-pass
-overflow_add-self-then-pass c =
+pub returns-clause-passed : goal.returns-clause-passed
+returns-clause-passed c =
     let old = c.self.inside in
-    let few = subst (λ (s : Option LexingState). IfSome s (λ state. state.offset < 2 ^ 64 - 1)) (sym c.self.view_is) c.requires in
-    let within = passed_bound (mode_of old.token) (mode_of c.pass.new.self) old.offset old.line_ends (2 ^ 64 - 1) c.args.byte None few (c.pass.ensures.passed c.if-pass.true old.offset (old.line_ends + 1)) in
-    omega (arith, within, c.self.invariant, c.line_ends.ensures.within)
-
-pub returns-then-pass-clause-passed : goal.returns-then-pass-clause-passed
-returns-then-pass-clause-passed c =
-    let old = c.self.inside in
-    let next = mode_of c.pass.new.self in
-    λ yes.
-    let taken : IsBytePushed (state_of (mode_of old.token) old.offset old.line_ends) c.args.byte None (state_of next (old.offset + 1) (old.line_ends + line_ends (c.args.byte ∷ []))) =
-    pushed_is (mode_of old.token) next old.offset old.line_ends c.args.byte None (c.pass.ensures.passed c.if-pass.true old.offset (old.line_ends + 1)) in
-    let counted : IsBytePushed (state_of (mode_of old.token) old.offset old.line_ends) c.args.byte None (state_of next (old.offset + 1) (old.line_ends + c.line_ends.result)) =
-    subst (λ (n : ℕ). IsBytePushed (state_of (mode_of old.token) old.offset old.line_ends) c.args.byte None (state_of next (old.offset + 1) (old.line_ends + n))) (sym c.line_ends.ensures.value) taken in
-    subst (λ (s : Option LexingState). IsBytePushed s c.args.byte None (state_of next (old.offset + 1) (old.line_ends + c.line_ends.result))) c.self.view_is counted
+    let run = take c.kept_by-passed.result c.args.bytes.now in
+    subst (λ (s : Option LexingState). AreBytesPassed s run (state_of (mode_of old.token) c.behind-behind.result.offset c.behind-behind.result.line_ends)) c.self.view_is
+    (passed_is (mode_of old.token) old.offset old.line_ends c.behind-behind.result.offset c.behind-behind.result.line_ends run c.kept_by-passed.ensures.kept c.behind-behind.ensures.offset c.behind-behind.ensures.line_ends)

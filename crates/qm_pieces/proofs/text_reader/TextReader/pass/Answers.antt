@@ -1,13 +1,12 @@
-use Rattle.std.proofs.Common.{None, Ok, refl, sym, subst}
+use Rattle.std.proofs.Common.{length, sym, subst, arith}
 use Rattle.qm_pieces.specs.ReadSoFar.{ReadSoFar, IsReadOf, prefix_so_far}
-use Rattle.qm_pieces.proofs.ReadersSoFar.{byte_read, below_limit}
+use Rattle.qm_pieces.proofs.ReadersSoFar.{bytes_read, room_below}
 use Rattle.qm_pieces.proofs.text_reader.TextReader.pass.Goals as goal
 
-pub returns-then-offset-clause-passed : goal.returns-then-offset-clause-passed
-returns-then-offset-clause-passed c =
+pub returns-clause-passed : goal.returns-clause-passed
+returns-clause-passed c =
     let old = c.self.inside in
-    let prefix = prefix_so_far old.tokens.reader in
-    λ yes text is.
-    byte_read text prefix prefix c.args.byte old.lexer c.pass.new.self None (Ok tt)
+    λ text is.
+    bytes_read text c.args.bytes.now c.pass.result (prefix_so_far old.tokens.reader) old.lexer c.pass.new.self
     (subst (λ (s : ReadSoFar). IsReadOf text s) (sym c.self.view_is) is)
-    (below_limit old.lexer c.offset.result c.offset.ensures c.if-offset.true) (c.pass.ensures.passed yes) refl
+    (room_below old.lexer c.offset.result (length c.args.bytes.now) c.offset.ensures c.self.invariant (omega arith)) c.pass.ensures.passed

@@ -1,7 +1,13 @@
-use Rattle.std.proofs.Common.{ℕ, List, ◌++◌, take}
+use Rattle.std.proofs.Common.{ℕ, List, ◌≤◌, ◌-◌, ◌++◌, length, take}
 use Rattle.qm_pieces.specs.ReadSoFar.{IsReadOf}
 use Rattle.qm_pieces.proofs.text_reader.TextReader.take_bytes.Given as goal
 
 -- as much of the piece was read
-abbrev pub invariant-loop-byte : goal.invariant-loop-byte
-invariant-loop-byte l = (text : List ℕ) → IsReadOf text l.fn.self → IsReadOf (text ++ take l.byte-index l.piece) l.self
+abbrev pub invariant-loop-taken : goal.invariant-loop-taken
+invariant-loop-taken l = record {
+  within : l.taken ≤ length l.piece;
+  read : (text : List ℕ) → IsReadOf text l.fn.self → IsReadOf (text ++ take l.taken l.piece) l.self;
+}
+
+abbrev pub decreases-loop-taken : goal.decreases-loop-taken
+decreases-loop-taken l = length l.piece - l.taken

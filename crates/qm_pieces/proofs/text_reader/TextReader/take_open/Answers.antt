@@ -1,19 +1,28 @@
-use Rattle.std.proofs.Common.{ℕ, List, ◌++◌, take, append-nil, sym, subst}
+use Rattle.std.proofs.Common.{ℕ, List, ◌++◌, ◌-◌, Err, length, take, drop, append-nil, sym, subst, arith}
+use Rattle.std.proofs.lemmas.List.{length-take, length-drop}
 use Rattle.qm_pieces.specs.ReadSoFar.{IsReadOf}
-use Rattle.qm_pieces.proofs.ReadersSoFar.{piece_certain, piece_more}
+use Rattle.qm_pieces.proofs.WholeTokens.{piece_further, read_rest}
 use Rattle.qm_pieces.proofs.text_reader.TextReader.take_open.Goals as goal
 
-pub loop-offset-init : goal.loop-offset-init
-loop-offset-init c = λ text is. subst (λ (t : List ℕ). IsReadOf t c.args.self.now) (sym (append-nil text)) is
+pub loop-taken-init : goal.loop-taken-init
+loop-taken-init c = record { within = omega arith; read = λ text is. subst (λ (t : List ℕ). IsReadOf t c.args.self.now) (sym (append-nil text)) is }
 
-pub loop-offset-preserved : goal.loop-offset-preserved
-loop-offset-preserved c =
-    λ text is.
-    subst (λ (t : List ℕ). IsReadOf t c.take.new.self) (piece_more text c.args.piece.now c.loop-offset.offset c.loop-offset-test.true)
-    (c.in-Ok.ensures {u = tt} (text ++ take c.loop-offset.offset c.args.piece.now) (c.loop-offset.invariant text is))
+pub loop-taken-preserved : goal.loop-taken-preserved
+loop-taken-preserved c =
+    let piece = c.args.piece.now in
+    let taken = c.loop-taken.taken in
+    let told = c.in-Ok.ensures {u = tt} in
+    record {
+      within = omega (arith, told.within, length-take (length piece - taken) (drop taken piece), length-drop taken piece);
+      read =
+          λ text is.
+          subst (λ (t : List ℕ). IsReadOf t c.take_some.new.self) (piece_further text piece taken c.in-Ok.count)
+          (told.read (text ++ take taken piece) (c.loop-taken.invariant.read text is));
+    }
 
 pub returns-in-Err-clause-read : goal.returns-in-Err-clause-read
 returns-in-Err-clause-read c =
-    λ text is other.
-    piece_certain text c.args.piece.now c.loop-offset.offset c.loop-offset-test.true c.in-Err.fault
-    (c.in-Err.ensures {u = tt} (text ++ take c.loop-offset.offset c.args.piece.now) (c.loop-offset.invariant text is) other)
+    let piece = c.args.piece.now in
+    let taken = c.loop-taken.taken in
+    λ text is.
+    read_rest text piece taken c.take_some.new.self (Err c.in-Err.fault) ((c.in-Err.ensures {u = tt}).read (text ++ take taken piece) (c.loop-taken.invariant.read text is))

@@ -1,7 +1,7 @@
 use Rattle.std.proofs.Common.{sym, subst}
 use Rattle.qm_pieces.specs.ReadSoFar.{ReadSoFar, IsReadOf, prefix_so_far}
 use Rattle.qm_pieces.proofs.ReadersSoFar.{byte_read, below_limit}
-use Rattle.qm_pieces.proofs.text_reader.TextReader.take_other.Goals as goal
+use Rattle.qm_pieces.proofs.text_reader.TextReader.take.Goals as goal
 
 pub returns-in-Ok : goal.returns-in-Ok
 returns-in-Ok c =

@@ -1,0 +1,8 @@
+use Rattle.std.proofs.Common.{take}
+use Rattle.std.specs.Prelude.{All}
+use Rattle.qm_tokens.specs.inner.Modes.{in_comment}
+use Rattle.qm_pieces.specs.inner.Keeping.{KeepsMode}
+use Rattle.qm_pieces.proofs.open_token.comment_bytes.Given as goal
+
+abbrev pub invariant-loop-offset : goal.invariant-loop-offset
+invariant-loop-offset l = All (KeepsMode in_comment) (take l.offset l.bytes)
