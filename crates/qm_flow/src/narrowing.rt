@@ -47,7 +47,8 @@ pub(crate) fn list_new(
     Ok(())
 }
 
-/// Whether a portal may show a leaf that the mask has, and that was not found. All words that have such a leaf are listed.
+/// Whether a portal may show a leaf that the mask has, and that was not found. All words that have such a leaf are listed. Of a
+/// barred portal, which is half of those that floods ask on larger levels, no word is read.
 pub(crate) fn may_show<S: RowSource>(
     own: &OwnRows,
     source: &mut S,
@@ -64,6 +65,9 @@ pub(crate) fn may_show<S: RowSource>(
     ensures none { result ≡ false → ShowsNothingNew (MustHave (S.world source.old) own.now portal) mask.now found.now }
     ensures on { S.goes_on source.old source.new }
 {
+    if own.is_barred(portal) {
+        return false;
+    }
     for k in words {
         let left = mask.word(*k) & !found.word(*k);
         let word = own.word(source, portal, *k);

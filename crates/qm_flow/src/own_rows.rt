@@ -3,6 +3,7 @@
 ghost use Rattle.std.specs.Prelude.{ℕ, ◌≡◌, ◌<◌, ◌+◌, ◌*◌, length, replicate, true, None, slice_set, IfOk};
 ghost use Rattle.qm_lists.specs.Word.{has_bit};
 ghost use Rattle.qm_contacts.specs.NumberedLeaves.{numbered_leaves};
+ghost use Rattle.qm_contacts.specs.World.{World};
 ghost use Rattle.qm_chains.specs.inner.OwnRows.{AreOwnRows, MustHave, CanHave};
 ghost use Rattle.qm_sight.specs.WordInSight.{ceiling_of};
 ghost use Rattle.qm_flow.specs.inner.OwnRow.{own_row};
@@ -97,6 +98,17 @@ impl OwnRows {
         ensures { self.new ≡ slice_set self.old portal (own_row place) }
     {
         self.rows[portal as usize] = OwnRow { place };
+    }
+
+    /// Whether a portal is barred, so that no answer must have a leaf.
+    pub(crate) fn is_barred(&self, portal: u64) -> bool
+        requires { portal < length self.now }
+        ensures { result ≡ true → (world : World) (n : ℕ) → MustHave world self.now portal n → ⊥ }
+    {
+        match &self.rows[portal as usize].place {
+            Place::Barred { .. } => true,
+            _ => false,
+        }
     }
 
     /// Word `k` of the row of a portal: of the one that is there, and else as the source answers it.

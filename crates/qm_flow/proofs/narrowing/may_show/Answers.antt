@@ -8,6 +8,12 @@ use Rattle.qm_chains.specs.inner.OwnRows.{MustHave}
 use Rattle.qm_flow.proofs.NewWords.{none_in_more, none_in_all}
 use Rattle.qm_flow.proofs.narrowing.may_show.Goals as goal
 
+pub returns-then-is_barred-clause-none : goal.returns-then-is_barred-clause-none
+returns-then-is_barred-clause-none g c clear n in_mask must = absurd (c.is_barred.ensures c.if-is_barred.true (g.S.RowSource.world c.args.source.now) n must)
+
+pub returns-then-is_barred-clause-on : goal.returns-then-is_barred-clause-on
+returns-then-is_barred-clause-on g c = g.met.S.RowSource.goes_on_itself c.args.source.now
+
 pub loop-k-preserved : goal.loop-k-preserved
 loop-k-preserved g c =
     let Must = MustHave (g.S.RowSource.world c.args.source.now) c.args.own.now c.args.portal in
