@@ -1,5 +1,5 @@
 -- What is answered of the words behind `compile`.
-use Rattle.std.proofs.Common.{◌≡◌, ◌∙◌, ℕ, Bool, cond, codes, refl, sym, ap, ap₂, subst, List, [], ◌∷◌, length, Option, Some, None, is_some, Ok, Err}
+use Rattle.std.proofs.Common.{◌≡◌, ◌∙◌, ℕ, Bool, cond, codes, refl, sym, ap, ap₂, subst, List, [], ◌∷◌, length, Option, Some, None, is_some, Result, Ok, Err}
 use Rattle.std.specs.Fmt.{decimal}
 use Rattle.clap.specs.Matches.{found_of}
 use Rattle.clap.specs.declared.parser.matches.ArgMatches.{ArgMatches}
@@ -14,8 +14,9 @@ use Rattle.qm_commands.specs.Options.{AreThreads}
 use Rattle.qm_commands.specs.Order.{of_map, of_tree, of_rooms, of_upgrade}
 use Rattle.qm_commands.specs.Words.{AreNoCommand}
 use Rattle.qm_words.specs.SeenWords.{names_of}
-use Rattle.qm_words.specs.inner.Answered.{IsCompileOrder, IsNoCompileOrder, IsOrderFor}
+use Rattle.qm_words.specs.inner.Answered.{IsCompileAnswer, IsCompileOrder, IsNoCompileOrder, IsOrderFor}
 use Rattle.qm_words.specs.inner.Parsed.{IsParsedBy}
+use Rattle.qm_words.specs.declared.order.Order.{Order as SeenOrder}
 use Rattle.qm_words.specs.declared.order.WordsFault.{WordsFault}
 use Rattle.qm_words.specs.declared.order.WordsFault.TheVariants.{Usage, Memory}
 use Rattle.qm_words.specs.inner.CommandLines.{compile_app}
@@ -55,6 +56,12 @@ refused_or_memory words Memory parsed = tt
 -- what is found of words is what they ask for
 pub found_of_words : (words : List (List ℕ)) (matches : ArgMatches) → EachIsCompileWord words → IsParsedBy compile_app words (Ok matches) → IsTaken words (rows_of (found_of matches))
 found_of_words words matches each parsed = subst (IsTaken words) (sym parsed.1) (taken_is_asked words each parsed.0)
+
+-- an answer to what the parser has found is one to the words
+pub answer_compile : (words : List (List ℕ)) (rows : List Row) (r : Result SeenOrder WordsFault) → IsTaken words rows → IsCompileAnswer rows r → IsOrderFor (codes "compile" ∷ words) r
+answer_compile words rows (Ok order) taken answer = answer words taken.all taken.asks taken.found
+answer_compile words rows (Err Usage) taken answer = answer words taken.all taken.asks taken.found
+answer_compile words rows (Err Memory) taken answer = tt
 
 some_same : (a b : List ℕ) → Some a ≡ Some b → a ≡ b
 some_same a b same = cc

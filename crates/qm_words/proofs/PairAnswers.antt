@@ -39,7 +39,7 @@ some_same : (a b : List ℕ) → Some a ≡ Some b → a ≡ b
 some_same a b same = cc
 
 pub pair_is : (verb : List ℕ) (words : List (List ℕ)) (matches : ArgMatches) (first second : List ℕ) → ArePlainWords words → IsParsedBy (pair_app verb) words (Ok matches)
-    → HasPair (rows_of (found_of matches)) first second → AreTwo words first second
+    → HasPair (codes "first") (codes "second") (rows_of (found_of matches)) first second → AreTwo words first second
 pair_is verb words matches first second each parsed has =
     let pair = found_pair verb words matches each parsed in
     let first_same = some_same pair.first first (sym pair.first_is ∙ has.0) in
@@ -48,7 +48,7 @@ pair_is verb words matches first second each parsed has =
     let plain = subst ArePlainWords words_are each in
     record { words_are = words_are; first_is = plain.0; second_is = plain.1.0 }
 
-pub pair_is_there : (verb : List ℕ) (words : List (List ℕ)) (matches : ArgMatches) → ArePlainWords words → IsParsedBy (pair_app verb) words (Ok matches) → LacksPair (rows_of (found_of matches)) → ⊥
+pub pair_is_there : (verb : List ℕ) (words : List (List ℕ)) (matches : ArgMatches) → ArePlainWords words → IsParsedBy (pair_app verb) words (Ok matches) → LacksPair (codes "first") (codes "second") (rows_of (found_of matches)) → ⊥
 pair_is_there verb words matches each parsed lacks =
     let pair = found_pair verb words matches each parsed in
     ⊎_elim (λ none. let clash = sym none ∙ pair.first_is in absurd cc) (λ none. let clash = sym none ∙ pair.second_is in absurd cc) lacks

@@ -1,5 +1,5 @@
 -- Words by themselves.
-use Rattle.std.proofs.Common.{◌≡◌, ◌≢◌, ◌∙◌, ◌≤◌, ◌+◌, ◌<◌, ℕ, Bool, codes, true, false, refl, sym, ap, subst, List, [], ◌∷◌, ◌++◌, append-nil, drop, get_or, length, Option, Some, None}
+use Rattle.std.proofs.Common.{◌≡◌, ◌≢◌, ◌∙◌, ◌≤◌, ◌+◌, ◌<◌, ℕ, Bool, codes, true, false, refl, sym, ap, subst, List, [], ◌∷◌, ◌++◌, append-nil, drop, get_or, length, Option, Some, None, Result, Ok, Err}
 use Rattle.std.specs.Prelude.{IfNone}
 use Rattle.std.specs.Borrow.{Bor}
 use Rattle.std.specs.Str.{bytes_eq}
@@ -70,6 +70,14 @@ module _ (P : List ℕ → Type 0) (words : List (Bor (List ℕ))) (i : ℕ) (no
 pub if_none : {X : Type 0} (o : Option X) (P : Type 0) → P → IfNone o P
 if_none None P p = p
 if_none (Some x) P p = tt
+
+-- ---- of a Result
+
+pub ok_once : {X E : Type 0} (r : Result X E) (x y : X) → r ≡ Ok x → r ≡ Ok y → x ≡ y
+ok_once r x y is_x is_y = let same = sym is_x ∙ is_y in cc
+
+pub not_both : {X E : Type 0} (r : Result X E) (x : X) (e : E) → r ≡ Ok x → r ≡ Err e → ⊥
+not_both r x e is_ok is_err = let clash = sym is_ok ∙ is_err in absurd cc
 
 -- ---- verbs
 

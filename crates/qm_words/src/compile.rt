@@ -1,15 +1,15 @@
 //! The words behind `compile`.
 
-ghost use Rattle.std.specs.Prelude.{◌≡◌, ◌∷◌, ℕ, List, Some, codes, Bool, Err, IfOk, IfErr, IfSome, IfNone, IsTrue, option_map, if◌then◌else◌, ◌↔◌};
+ghost use Rattle.std.specs.Prelude.{◌≡◌, ◌∷◌, ℕ, Some, codes, Bool, IfSome, IfNone, IsTrue, option_map, if◌then◌else◌, ◌↔◌};
 ghost use Rattle.clap.specs.Matches.{found_of};
-ghost use Rattle.clap.specs.Walk.{first_of, one_of, rows_of};
+ghost use Rattle.clap.specs.Walk.{one_of, rows_of};
 ghost use Rattle.qm_commands.specs.FileNames.{AreDifferent};
 ghost use Rattle.qm_commands.specs.Options.{AreThreads};
-ghost use Rattle.qm_commands.specs.CompileRequest.{Request, Asks, no_request};
-ghost use Rattle.qm_commands.specs.Words.{AreNoCommand, AreWordsOf};
-ghost use Rattle.qm_words.specs.SeenWords.{bytes_of_words, names_of, order_of};
-ghost use Rattle.qm_words.specs.inner.Answered.{IsOrderFor, IsCompileOrder, IsNoCompileOrder};
+ghost use Rattle.qm_words.specs.SeenWords.{bytes_of_words, names_of};
+ghost use Rattle.qm_words.specs.inner.Answered.{IsCompileAnswer, IsOrderFor};
+ghost use Rattle.qm_words.specs.inner.TwoWords.{HasPair};
 
+use crate::found::{found_pair, found_text};
 use crate::lines::compile_matches;
 use crate::numbers::count;
 use crate::order::{Order, WordsFault};
@@ -26,40 +26,43 @@ pub fn compile_order<'a>(alloc: Global, words: &'a [&'a str]) -> Result<Order<'a
     }
     match compile_matches(alloc, words) {
         Err(fault) => Err(fault),
-        Ok(matches) => match asked_order(&matches) {
-            Some(order) => Ok(order),
-            None => Err(WordsFault::Usage),
-        },
+        Ok(matches) => asked_order(&matches),
     }
 }
 
 /// The order of what the parser has found, where its names are different and its number of workers is one.
-fn asked_order<'a>(matches: &ArgMatches<'a>) -> Option<Order<'a>>
-    ensures some { IfSome result (λ order. IsCompileOrder (rows_of (found_of matches.now)) (order_of order)) }
-    ensures none { IfNone result (IsNoCompileOrder (rows_of (found_of matches.now))) }
+fn asked_order<'a>(matches: &ArgMatches<'a>) -> Result<Order<'a>, WordsFault>
+    ensures { IsCompileAnswer (rows_of (found_of matches.now)) result }
 {
-    let map = found_text(matches, "map")?;
-    let out = found_text(matches, "out")?;
-    let prt = found_text(matches, "prt");
-    let threads = threads(found_text(matches, "threads"))?;
-    let fast = is_fast(matches);
-    if !are_different(map, out, prt) {
-        return None;
+    match found_pair(matches, "map", "out") {
+        None => Err(WordsFault::Usage),
+        Some((map, out)) => named_order(matches, map, out),
     }
-    Some(Order::Compile {
-        map,
-        out,
-        prt,
-        threads,
-        fast,
-    })
 }
 
-/// The value of an argument.
-pub fn found_text<'a>(matches: &ArgMatches<'a>, id: &str) -> Option<&'a str>
-    ensures { option_map (λ text. text.now) result ≡ first_of id.now (rows_of (found_of matches.now)) }
+/// The same where its first two names are these.
+fn named_order<'a>(
+    matches: &ArgMatches<'a>,
+    map: &'a str,
+    out: &'a str,
+) -> Result<Order<'a>, WordsFault>
+    requires { HasPair (codes "map") (codes "out") (rows_of (found_of matches.now)) map.now out.now }
+    ensures { IsCompileAnswer (rows_of (found_of matches.now)) result }
 {
-    matches.get_str(id)
+    let prt = found_text(matches, "prt");
+    if !are_different(map, out, prt) {
+        return Err(WordsFault::Usage);
+    }
+    match threads(found_text(matches, "threads")) {
+        None => Err(WordsFault::Usage),
+        Some(threads) => Ok(Order::Compile {
+            map,
+            out,
+            prt,
+            threads,
+            fast: is_fast(matches),
+        }),
+    }
 }
 
 /// Whether `--fast` was found.

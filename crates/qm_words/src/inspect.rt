@@ -1,13 +1,13 @@
 //! The words behind `inspect`.
 
-ghost use Rattle.std.specs.Prelude.{◌≡◌, ◌∷◌, codes, option_map};
+ghost use Rattle.std.specs.Prelude.{◌∷◌, codes};
 ghost use Rattle.clap.specs.Matches.{found_of};
-ghost use Rattle.clap.specs.Walk.{all_of, rows_of};
+ghost use Rattle.clap.specs.Walk.{rows_of};
 ghost use Rattle.qm_words.specs.SeenWords.{bytes_of_words};
 ghost use Rattle.qm_words.specs.inner.Answered.{IsOrderFor};
 ghost use Rattle.qm_words.specs.inner.TreeAndQueries.{IsAnswerFor};
 
-use crate::compile::found_text;
+use crate::found::{found_text, values_of};
 use crate::lines::inspect_matches;
 use crate::order::{Order, WordsFault};
 use crate::queries::queries_of;
@@ -42,11 +42,4 @@ fn asked_answers<'a>(alloc: Global, matches: &ArgMatches<'a>) -> Result<Order<'a
             },
         },
     }
-}
-
-/// The values of an argument.
-fn values_of<'a, 'm>(matches: &'m ArgMatches<'a>, id: &str) -> Option<&'m [&'a str]>
-    ensures { option_map (λ words. bytes_of_words words.now) result ≡ all_of id.now (rows_of (found_of matches.now)) }
-{
-    matches.get_strs(id)
 }

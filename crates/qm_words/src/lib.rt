@@ -2,6 +2,7 @@
 #![tactic(auto)]
 
 mod compile;
+mod found;
 mod inspect;
 mod lines;
 mod numbers;

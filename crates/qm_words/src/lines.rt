@@ -1,11 +1,11 @@
 //! The command lines of the verbs, and their parser.
 
 ghost use Rattle.std.specs.Prelude.{◌≡◌, false, true, IfOk};
-ghost use Rattle.clap.specs.Simple.{app_of};
+ghost use Rattle.clap.specs.Simple.{App, app_of, with_rule};
 ghost use Rattle.clap.specs.Walk.{rule_of};
 ghost use Rattle.clap.specs.Faults.{is_simple_and_free};
 ghost use Rattle.qm_words.specs.SeenWords.{bytes_of_words};
-ghost use Rattle.qm_words.specs.inner.CommandLines.{compile_app, flag_rule, inspect_app, many_rule, name_rule, pair_app, plain_app, value_rule};
+ghost use Rattle.qm_words.specs.inner.CommandLines.{IsCommandLine, compile_app, inspect_app, names_app, pair_app, plain_app, rule_for};
 ghost use Rattle.qm_words.specs.inner.Parsed.{IsParsedBy};
 
 use crate::order::WordsFault;
@@ -13,28 +13,46 @@ use clap::error::ErrorKind;
 use clap::{Arg, ArgAction, ArgMatches, Command};
 use std::alloc::{AllocError, Global};
 
-/// An argument that stands by its place and has to be there.
-fn name_arg<'a>(alloc: Global, id: &'a str) -> Arg<'a>
-    ensures rule { rule_of result ≡ name_rule id.entry.now }
-    ensures own { result.global ≡ false }
-{
-    Arg::new(alloc, id).required(true)
+/// How an argument of a command stands among its words.
+#[derive(Clone, Copy)]
+enum ArgKind {
+    /// By its place, and it has to be there.
+    Name,
+    /// By its place, as often as one likes, and once at least.
+    Many,
+    /// As an option with a value, which is written like its id.
+    Value,
+    /// As an option without a value.
+    Flag,
 }
 
-/// An option with a value, which is written like its id.
-fn value_arg<'a>(alloc: Global, id: &'a str) -> Arg<'a>
-    ensures rule { rule_of result ≡ value_rule id.entry.now }
+/// An argument.
+fn arg_of<'a>(alloc: Global, kind: ArgKind, id: &'a str) -> Arg<'a>
+    ensures rule { rule_of result ≡ rule_for kind id.entry.now }
     ensures own { result.global ≡ false }
 {
-    Arg::new(alloc, id).long(id)
+    let arg = Arg::new(alloc, id);
+    match kind {
+        ArgKind::Name => arg.required(true),
+        ArgKind::Many => arg.required(true).action(ArgAction::Append),
+        ArgKind::Value => arg.long(id),
+        ArgKind::Flag => arg.long(id).action(ArgAction::SetTrue),
+    }
 }
 
-/// An option without a value.
-fn flag_arg<'a>(alloc: Global, id: &'a str) -> Arg<'a>
-    ensures rule { rule_of result ≡ flag_rule id.entry.now }
-    ensures own { result.global ≡ false }
+/// A command with one more argument, where there was memory for the command.
+fn with_arg<'a>(
+    alloc: Global,
+    command: Result<Command<'a>, AllocError>,
+    kind: ArgKind,
+    id: &'a str,
+) -> Result<Command<'a>, AllocError>
+    ensures { (app : App) → IsCommandLine app command.entry → IsCommandLine (with_rule app (rule_for kind id.entry.now)) result }
 {
-    Arg::new(alloc, id).long(id).action(ArgAction::SetTrue)
+    match command {
+        Ok(command) => command.arg(arg_of(alloc, kind, id)),
+        Err(fault) => Err(fault),
+    }
 }
 
 /// A command whose words begin behind its verb, and which has no option of its own accord.
@@ -46,42 +64,37 @@ fn plain_command<'a>(alloc: Global, verb: &'a str) -> Command<'a>
         .disable_help_flag(true)
 }
 
+/// A verb with two words.
+fn names_command<'a>(
+    alloc: Global,
+    verb: &'a str,
+    first: &'a str,
+    second: &'a str,
+) -> Result<Command<'a>, AllocError>
+    ensures { IsCommandLine (names_app verb.entry.now first.entry.now second.entry.now) result }
+{
+    let plain = plain_command(alloc, verb);
+    let one = with_arg(alloc, Ok(plain), ArgKind::Name, first);
+    with_arg(alloc, one, ArgKind::Name, second)
+}
+
 /// `compile MAP OUT` with its options.
 fn compile_command<'a>(alloc: Global) -> Result<Command<'a>, AllocError>
-    ensures { IfOk result (λ command. app_of command ≡ compile_app) }
+    ensures { IsCommandLine compile_app result }
 {
-    plain_command(alloc, "compile")
-        .arg(name_arg(alloc, "map"))?
-        .arg(name_arg(alloc, "out"))?
-        .arg(value_arg(alloc, "prt"))?
-        .arg(value_arg(alloc, "threads"))?
-        .arg(flag_arg(alloc, "fast"))
-}
-
-/// A verb with two words.
-fn pair_command<'a>(alloc: Global, verb: &'a str) -> Result<Command<'a>, AllocError>
-    ensures { IfOk result (λ command. app_of command ≡ pair_app verb.entry.now) }
-{
-    plain_command(alloc, verb)
-        .arg(name_arg(alloc, "first"))?
-        .arg(name_arg(alloc, "second"))
-}
-
-/// An argument that stands by its place as often as one likes, and once at least.
-fn many_arg<'a>(alloc: Global, id: &'a str) -> Arg<'a>
-    ensures rule { rule_of result ≡ many_rule id.entry.now }
-    ensures own { result.global ≡ false }
-{
-    Arg::new(alloc, id).required(true).action(ArgAction::Append)
+    let names = names_command(alloc, "compile", "map", "out");
+    let listed = with_arg(alloc, names, ArgKind::Value, "prt");
+    let shared = with_arg(alloc, listed, ArgKind::Value, "threads");
+    with_arg(alloc, shared, ArgKind::Flag, "fast")
 }
 
 /// `inspect TREE QUERY..`.
 fn inspect_command<'a>(alloc: Global) -> Result<Command<'a>, AllocError>
-    ensures { IfOk result (λ command. app_of command ≡ inspect_app) }
+    ensures { IsCommandLine inspect_app result }
 {
-    plain_command(alloc, "inspect")
-        .arg(name_arg(alloc, "tree"))?
-        .arg(many_arg(alloc, "query"))
+    let plain = plain_command(alloc, "inspect");
+    let tree = with_arg(alloc, Ok(plain), ArgKind::Name, "tree");
+    with_arg(alloc, tree, ArgKind::Many, "query")
 }
 
 /// The matches of the words behind `compile`.
@@ -91,8 +104,7 @@ pub fn compile_matches<'a>(
 ) -> Result<ArgMatches<'a>, WordsFault>
     ensures { IsParsedBy compile_app (bytes_of_words words.entry.now) result }
 {
-    let command = compile_command(alloc)?;
-    parse(command, words)
+    matches_by(compile_command(alloc), words)
 }
 
 /// The matches of the words behind a verb that takes two.
@@ -103,8 +115,7 @@ pub fn pair_matches<'a>(
 ) -> Result<ArgMatches<'a>, WordsFault>
     ensures { IsParsedBy (pair_app verb.entry.now) (bytes_of_words words.entry.now) result }
 {
-    let command = pair_command(alloc, verb)?;
-    parse(command, words)
+    matches_by(names_command(alloc, verb, "first", "second"), words)
 }
 
 /// The matches of the words behind `inspect`.
@@ -114,8 +125,21 @@ pub fn inspect_matches<'a>(
 ) -> Result<ArgMatches<'a>, WordsFault>
     ensures { IsParsedBy inspect_app (bytes_of_words words.entry.now) result }
 {
-    let command = inspect_command(alloc)?;
-    parse(command, words)
+    matches_by(inspect_command(alloc), words)
+}
+
+/// The matches of the words behind a verb, where there was memory for its command.
+fn matches_by<'a>(
+    command: Result<Command<'a>, AllocError>,
+    words: &'a [&'a str],
+) -> Result<ArgMatches<'a>, WordsFault>
+    requires { IfOk command (λ line. is_simple_and_free (app_of line) ≡ true) }
+    ensures { (app : App) → IsCommandLine app command.entry → IsParsedBy app (bytes_of_words words.entry.now) result }
+{
+    match command {
+        Ok(command) => parse(command, words),
+        Err(_) => Err(WordsFault::Memory),
+    }
 }
 
 /// The matches of the words behind a verb.

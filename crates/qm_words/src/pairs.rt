@@ -1,18 +1,15 @@
 //! The words behind verbs that take two.
 
-ghost use Rattle.std.specs.Prelude.{◌≡◌, ◌∷◌, codes, IfSome, IfNone};
-ghost use Rattle.clap.specs.Matches.{found_of};
-ghost use Rattle.clap.specs.Walk.{rows_of};
+ghost use Rattle.std.specs.Prelude.{◌∷◌, codes};
 ghost use Rattle.qm_words.specs.SeenWords.{bytes_of_words};
 ghost use Rattle.qm_words.specs.inner.Answered.{IsOrderFor};
-ghost use Rattle.qm_words.specs.inner.TwoWords.{AreNamesOf, HasPair, IsPairOf, LacksPair};
+ghost use Rattle.qm_words.specs.inner.TwoWords.{AreNamesOf, IsPairOf};
 
-use crate::compile::found_text;
+use crate::found::found_pair;
 use crate::lines::pair_matches;
 use crate::numbers::{count, number};
 use crate::order::{Order, WordsFault};
 use crate::spelling::are_plain_words;
-use clap::ArgMatches;
 use std::alloc::Global;
 
 /// The order of the words behind `format`.
@@ -87,19 +84,9 @@ fn pair<'a>(
     }
     match pair_matches(alloc, verb, words) {
         Err(fault) => Err(fault),
-        Ok(matches) => match found_pair(&matches) {
+        Ok(matches) => match found_pair(&matches, "first", "second") {
             Some(pair) => Ok(pair),
             None => Err(WordsFault::Usage),
         },
     }
-}
-
-/// The two words that the parser has found.
-fn found_pair<'a>(matches: &ArgMatches<'a>) -> Option<(&'a str, &'a str)>
-    ensures some { IfSome result (λ pair. HasPair (rows_of (found_of matches.now)) pair.0.now pair.1.now) }
-    ensures none { IfNone result (LacksPair (rows_of (found_of matches.now))) }
-{
-    let first = found_text(matches, "first")?;
-    let second = found_text(matches, "second")?;
-    Some((first, second))
 }

@@ -25,3 +25,8 @@ IsCompileOrder rows order =
 abbrev pub IsNoCompileOrder : List Row → Type 0
 IsNoCompileOrder rows =
     (words : List (List ℕ)) (asked : Request) → Asks no_request words asked → AreFound rows asked → AreNoCommand (codes "compile" ∷ words)
+
+abbrev pub IsCompileAnswer : List Row → Result SeenOrder WordsFault → Type 0
+IsCompileAnswer rows (Ok order) = IsCompileOrder rows (order_of order)
+IsCompileAnswer rows (Err Usage) = IsNoCompileOrder rows
+IsCompileAnswer rows (Err Memory) = Unit {0}

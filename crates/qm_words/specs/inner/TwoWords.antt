@@ -1,6 +1,6 @@
-use Rattle.std.specs.Prelude.{◌≡◌, ◌≢◌, ◌⊎◌, ℕ, List, [], ◌∷◌, Some, None, codes, Result, Ok, Err}
+use Rattle.std.specs.Prelude.{◌≡◌, ◌≢◌, ◌⊎◌, ℕ, List, [], ◌∷◌, Some, None, Result, Ok, Err}
 use Rattle.std.specs.Borrow.{Bor}
-use Rattle.clap.specs.Walk.{Row, first_of}
+use Rattle.clap.specs.Walk.{Row, Text, first_of}
 use Rattle.qm_commands.specs.FileNames.{IsFileName}
 use Rattle.qm_words.specs.declared.order.WordsFault.{WordsFault}
 use Rattle.qm_words.specs.declared.order.WordsFault.TheVariants.{Usage, Memory}
@@ -23,10 +23,10 @@ AreNamesOf words (Ok pair) = AreTwo words pair.0.now pair.1.now × (pair.0.now �
 AreNamesOf words (Err Usage) = (first second : List ℕ) → AreTwo words first second → first ≢ second → ⊥
 AreNamesOf words (Err Memory) = Unit {0}
 
--- the parser has found these two words
-abbrev pub HasPair : List Row → List ℕ → List ℕ → Type 0
-HasPair rows first second = (first_of (codes "first") rows ≡ Some first) × (first_of (codes "second") rows ≡ Some second)
+-- the parser has found these words of two arguments
+abbrev pub HasPair : Text → Text → List Row → List ℕ → List ℕ → Type 0
+HasPair first_id second_id rows first second = (first_of first_id rows ≡ Some first) × (first_of second_id rows ≡ Some second)
 
 -- one of them is missing
-abbrev pub LacksPair : List Row → Type 0
-LacksPair rows = (first_of (codes "first") rows ≡ None) ⊎ (first_of (codes "second") rows ≡ None)
+abbrev pub LacksPair : Text → Text → List Row → Type 0
+LacksPair first_id second_id rows = (first_of first_id rows ≡ None) ⊎ (first_of second_id rows ≡ None)

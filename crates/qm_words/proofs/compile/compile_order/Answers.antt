@@ -1,5 +1,7 @@
+use Rattle.clap.specs.Matches.{found_of}
+use Rattle.clap.specs.Walk.{rows_of}
 use Rattle.qm_words.specs.SeenWords.{bytes_of_words}
-use Rattle.qm_words.proofs.CompileAnswers.{found_of_words, no_single, refused_or_memory}
+use Rattle.qm_words.proofs.CompileAnswers.{answer_compile, found_of_words, no_single, refused_or_memory}
 use Rattle.qm_words.proofs.SingleWords.{none_true}
 use Rattle.qm_words.proofs.compile.compile_order.Goals as goal
 
@@ -10,14 +12,8 @@ returns-then-not-are_compile_words c =
 pub returns-in-Err : goal.returns-in-Err
 returns-in-Err c = refused_or_memory (bytes_of_words c.args.words.now) c.in-Err.fault c.in-Err.ensures
 
-pub returns-in-Some : goal.returns-in-Some
-returns-in-Some c =
+pub returns-in-Ok : goal.returns-in-Ok
+returns-in-Ok c =
     let words = bytes_of_words c.args.words.now in
     let taken = found_of_words words c.in-Ok.matches (c.are_compile_words.ensures.0 c.if-not-are_compile_words.false) c.in-Ok.ensures in
-    c.in-Some.ensures.some words taken.all taken.asks taken.found
-
-pub returns : goal.returns
-returns c =
-    let words = bytes_of_words c.args.words.now in
-    let taken = found_of_words words c.in-Ok.matches (c.are_compile_words.ensures.0 c.if-not-are_compile_words.false) c.in-Ok.ensures in
-    c.in-None.ensures.none words taken.all taken.asks taken.found
+    answer_compile words (rows_of (found_of c.in-Ok.matches)) c.asked_order.result taken c.asked_order.ensures

@@ -1,13 +1,12 @@
-use Rattle.std.proofs.Common.{◌∙◌, ap, subst}
-use Rattle.clap.specs.Simple.{App}
+use Rattle.std.proofs.Common.{◌∙◌, ap}
+use Rattle.std.proofs.lemmas.Result.{IfOk-weaker}
 use Rattle.clap.specs.Faults.{is_simple_and_free}
-use Rattle.qm_words.specs.SeenWords.{bytes_of_words}
-use Rattle.qm_words.specs.inner.Parsed.{IsParsedBy}
+use Rattle.qm_words.specs.inner.CommandLines.{compile_app}
 use Rattle.qm_words.proofs.CompileCommand.{compile_is_free}
 use Rattle.qm_words.proofs.lines.compile_matches.Goals as goal
 
-pub parse-requires : goal.parse-requires
-parse-requires c = ap is_simple_and_free c.in_ok-command.ensures ∙ compile_is_free
+pub matches_by-requires : goal.matches_by-requires
+matches_by-requires c = IfOk-weaker c.compile_command.result _ _ (λ line is. ap is_simple_and_free is ∙ compile_is_free) c.compile_command.ensures
 
 pub returns : goal.returns
-returns c = subst (λ (app : App). IsParsedBy app (bytes_of_words c.args.words.now) c.parse.result) c.in_ok-command.ensures c.parse.ensures
+returns c = c.matches_by.ensures compile_app c.compile_command.ensures

@@ -1,9 +1,9 @@
-use Rattle.std.proofs.Common.{◌∙◌, ap₂}
-use Rattle.std.proofs.lemmas.Result.{IfOk-weaker}
+use Rattle.std.proofs.Common.{codes}
 use Rattle.clap.specs.Simple.{with_rule}
+use Rattle.qm_words.specs.inner.CommandLines.{name_rule, plain_app}
 use Rattle.qm_words.proofs.lines.inspect_command.Goals as goal
 
 pub returns : goal.returns
 returns c =
-    let one = c.in_ok-arg.ensures.shape c.name_arg.ensures.own ∙ ap₂ with_rule c.plain_command.ensures c.name_arg.ensures.rule in
-    IfOk-weaker c.arg-2.result _ _ (λ command adds. adds.shape c.many_arg.ensures.own ∙ ap₂ with_rule one c.many_arg.ensures.rule) c.arg-2.ensures
+    let plain = plain_app (codes "inspect") in
+    c.with_arg.ensures (with_rule plain (name_rule (codes "tree"))) (c.with_arg-tree.ensures plain c.plain_command-plain.ensures)

@@ -8,8 +8,8 @@ returns-in-Err c = pair_refused c.args.verb.now (bytes_of_words c.args.words.now
 pub returns-in-Some : goal.returns-in-Some
 returns-in-Some c =
     pair_is c.args.verb.now (bytes_of_words c.args.words.now) c.in-Ok.matches c.in-Some.pair.0.now c.in-Some.pair.1.now
-    (c.are_plain_words.ensures.0 c.if-not-are_plain_words.false) c.in-Ok.ensures c.in-Some.ensures.some
+    (c.are_plain_words.ensures.0 c.if-not-are_plain_words.false) c.in-Ok.ensures c.in-Some.ensures
 
 pub returns : goal.returns
 returns c = λ first second two.
-    pair_is_there c.args.verb.now (bytes_of_words c.args.words.now) c.in-Ok.matches (c.are_plain_words.ensures.0 c.if-not-are_plain_words.false) c.in-Ok.ensures c.in-None.ensures.none
+    pair_is_there c.args.verb.now (bytes_of_words c.args.words.now) c.in-Ok.matches (c.are_plain_words.ensures.0 c.if-not-are_plain_words.false) c.in-Ok.ensures c.in-None.ensures
