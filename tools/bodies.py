@@ -25,7 +25,7 @@ def cube(bound, planes):
 
 def parted(faces, plane, node):
     """The two bodies into which the plane of a node parts one, each None where it has no points."""
-    values = [corners.values(face.polygon, plane) for face in faces]
+    values = corners.all_values([face.polygon for face in faces], plane)
     least, most = list(map(min, values)), list(map(max, values))
     if min(least) >= 0:
         return faces, None
@@ -55,18 +55,24 @@ def divided(polygon, found, cuts):
     front, back, enters, leaves = [], [], None, None
     last, there = polygon[-1], found[-1]
     for corner, here in zip(polygon, found):
-        on_plane = last if there == 0 else corner if here == 0 else None
-        if here < 0 < there or there < 0 < here:
-            on_plane = cuts.get((corner, last)) or cuts.setdefault((last, corner), corners.cut(last, corner, there, here))
-            front.append(on_plane)
-            back.append(on_plane)
-        if there >= 0 > here:
-            leaves = on_plane
-        elif there < 0 <= here:
-            enters = on_plane
-        if here >= 0:
+        if here > 0:
+            if there < 0:
+                enters = cuts.get((corner, last)) or cuts.setdefault((last, corner), corners.cut(last, corner, there, here))
+                front.append(enters)
+                back.append(enters)
             front.append(corner)
-        if here <= 0:
+        elif here < 0:
+            if there > 0:
+                leaves = cuts.get((corner, last)) or cuts.setdefault((last, corner), corners.cut(last, corner, there, here))
+                front.append(leaves)
+                back.append(leaves)
+            elif there == 0:
+                leaves = last
+            back.append(corner)
+        else:
+            if there < 0:
+                enters = corner
+            front.append(corner)
             back.append(corner)
         last, there = corner, here
     return front, back, enters, leaves
@@ -87,25 +93,31 @@ def gone_round(following):
 
 def bodies(tree, below, kinds, planes=()):
     """Each leaf that holds one of some kinds of contents and has points in front of some planes: what it has there, by its faces, in
-    the order of the leaves. `below` tells what leaves below a child hold."""
-    within = cube(tree.bound, planes)
-    waiting = [(tree.root(), within)] if within else []
+    the order of the leaves. `below` has at each child what leaves below it hold."""
+    within, wanted = cube(tree.bound, planes), [not kinds.isdisjoint(what) for what in below]
+    waiting = [(tree.root(), within)] if within and wanted[tree.root()] else []
     while waiting:
         child, faces = waiting.pop()
-        if kinds.isdisjoint(below(child)):
-            continue
         if child < 0:
             yield -1 - child, faces
             continue
-        node = tree.nodes[child]
-        front, back = parted(faces, tree.planes[node.plane], child)
-        waiting += [(side, part) for side, part in ((node.back, back), (node.front, front)) if part]
+        plane, front, back = tree.nodes[child]
+        before, behind = parted(faces, tree.planes[plane], child)
+        if behind and wanted[back]:
+            waiting.append((back, behind))
+        if before and wanted[front]:
+            waiting.append((front, before))
 
 
 def middle(faces):
     """A point inside a body, as it is drawn."""
-    points = [corners.rounded(corner) for face in faces for corner in face.polygon]
+    points = drawn(faces)
     return tuple(sum(numbers) / len(points) for numbers in zip(*points))
+
+
+def drawn(faces):
+    """The corners of a body as they are drawn, face by face."""
+    return [(x / w, y / w, z / w) for face in faces for x, y, z, w in face.polygon]
 
 
 def volume(faces):
@@ -117,6 +129,12 @@ def volume(faces):
     return room / 6
 
 
+def box(faces):
+    """The room of the least box with sides along the axes that holds a body, nearly."""
+    x, y, z = (max(numbers) - min(numbers) for numbers in zip(*drawn(faces)))
+    return x * y * z
+
+
 def spanned(first, second, third):
     """The room that three directions span, with its sign."""
     return (first[0] * (second[1] * third[2] - second[2] * third[1]) + first[1] * (second[2] * third[0] - second[0] * third[2])
@@ -126,4 +144,10 @@ def spanned(first, second, third):
 def largest(bodies):
     """Of some leaves with their faces the one with most room, of those that reach no wall of the cube where there is one."""
     inner = {leaf: faces for leaf, faces in bodies.items() if all(face.node is not None for face in faces)}
-    return max(inner or bodies, key=lambda leaf: volume(bodies[leaf]))
+    found, most = None, -1.0
+    for leaf, faces in (inner or bodies).items():
+        # where the box has less room than the largest so far, by more than both are off, the body need not be looked at
+        room = volume(faces) if 1.001 * box(faces) > most else most
+        if room > most:
+            found, most = leaf, room
+    return found

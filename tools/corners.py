@@ -54,6 +54,18 @@ def values(polygon, plane):
     return [nx * x + ny * y + nz * z - d * w for x, y, z, w in polygon]
 
 
+def all_values(polygons, plane):
+    """The values of the corners of some polygons, polygon by polygon."""
+    nx, ny, nz, d = plane
+    if ny == nz == 0:
+        return [[nx * x - d * w for x, _, _, w in polygon] for polygon in polygons]
+    if nx == nz == 0:
+        return [[ny * y - d * w for _, y, _, w in polygon] for polygon in polygons]
+    if nx == ny == 0:
+        return [[nz * z - d * w for _, _, z, w in polygon] for polygon in polygons]
+    return [[nx * x + ny * y + nz * z - d * w for x, y, z, w in polygon] for polygon in polygons]
+
+
 def split(polygon, plane):
     """What a plane leaves in front and behind, each None where nothing is there. What lies in the plane goes to the front."""
     return parted(polygon, values(polygon, plane))

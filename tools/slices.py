@@ -79,7 +79,7 @@ def usual_height(tree):
     between = [(low + high) / 2 for low, high in zip(found, found[1:])] or [Fraction(0)]
     some = between[::len(between) // MOST_TRIED + 1]
     below = contents_below(tree)
-    return max(some, key=lambda height: (seen(tree, height, lambda child: below(child) == SOLID), -height))
+    return max(some, key=lambda height: (seen(tree, height, lambda child: below[child] == SOLID), -height))
 
 
 def seen(tree, height, is_solid):

@@ -37,7 +37,7 @@ def seen(tree, planes=(), kinds=OPEN):
 
 
 def seen_of(tree, below, leaf, faces):
-    """What is seen of a leaf; `below` tells what leaves below a child hold."""
+    """What is seen of a leaf; `below` has at each child what leaves below it hold."""
     own, found = tree.leaves[leaf].contents, Seen(faces, [], set())
     for face in faces:
         if face.node is None:
@@ -59,7 +59,7 @@ def pieces(tree, below, face, touched, own):
             if all(contents == found[first][0] for contents, _ in found[first:]):
                 found[first:] = [(found[first][0], polygon)]
             continue
-        kinds = below(child)
+        kinds = below[child]
         if kinds == own_alone:
             found.append((own, polygon))
         elif kinds == SOLID:
