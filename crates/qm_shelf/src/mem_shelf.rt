@@ -1,8 +1,9 @@
 //! A shelf in memory, for tests, whose calls fail where the test says.
 
-ghost use Rattle.std.specs.Prelude.{ℕ, ◌≡◌, ◌<◌, ◌≤◌, ◌-◌, ◌^◌, ◌↔◌, ◌++◌, ◌∷◌, [], List, Option, Some, None, true, false, IsTrue, IsSome, IfOk, IfErr, OnOk, OnErr};
+ghost use Rattle.std.specs.Prelude.{ℕ, ◌≡◌, ◌<◌, ◌≤◌, ◌+◌, ◌-◌, ◌^◌, ◌↔◌, ◌++◌, ◌∷◌, [], List, length, Option, Some, None, true, false, IsTrue, IsSome, IfOk, IfErr, OnOk, OnErr};
 ghost use Rattle.std.specs.Option.{option_copied};
 ghost use Rattle.qm_surroundings.specs.Counts.{Stays, StaysElsewhere};
+ghost use Rattle.qm_surroundings.specs.HeldFile.{bytes_of_file};
 ghost use Rattle.qm_shelf.specs.CallNumbers.{one_more};
 ghost use Rattle.qm_shelf.specs.Reads.{IsRead};
 ghost use Rattle.qm_shelf.specs.Writes.{IsAdded};
@@ -143,6 +144,7 @@ impl Shelf for MemShelf {
         ensures takes_no_memory { IfErr result (λ fault. fault ≡ ShelfFault.Failed) }
         ensures ok { IfOk result (IsRead (held self.old name.now) at into.old into.new) }
         ensures most { IfOk result (λ count. count ≤ most_at_once self.old) }
+        ensures all { IfOk result (λ count. count < most_at_once self.old → count < length into.old → length (bytes_of_file (held self.old name.now)) ≤ at + count) }
         ensures most_stays { most_at_once self.new ≡ most_at_once self.old }
         ensures err { OnErr result (into.new ≡ into.old) }
         ensures held_stays { Stays (held self.old) (held self.new) }

@@ -1,8 +1,9 @@
 //! A shelf in memory that never fails.
 
-ghost use Rattle.std.specs.Prelude.{ℕ, ◌≡◌, ◌≤◌, [], List, Some, None, true, Err, IsOk, IsSome, IfOk, OnOk, OnErr};
+ghost use Rattle.std.specs.Prelude.{ℕ, ◌≡◌, ◌<◌, ◌≤◌, ◌+◌, [], List, length, Some, None, true, Err, IsOk, IsSome, IfOk, OnOk, OnErr};
 ghost use Rattle.std.specs.Option.{option_copied};
 ghost use Rattle.qm_surroundings.specs.Counts.{Stays, StaysElsewhere};
+ghost use Rattle.qm_surroundings.specs.HeldFile.{bytes_of_file};
 ghost use Rattle.qm_shelf.specs.Reads.{IsRead};
 ghost use Rattle.qm_shelf.specs.Writes.{IsAdded};
 ghost use Rattle.qm_shelf.specs.SureForms.{held};
@@ -62,6 +63,7 @@ impl Shelf for SureShelf {
         requires { at ≤ FARTHEST_PLACE }
         ensures succeeds { IsOk result }
         ensures ok { IfOk result (IsRead (held self.old name.now) at into.old into.new) }
+        ensures all { IfOk result (λ count. count < length into.old → length (bytes_of_file (held self.old name.now)) ≤ at + count) }
         ensures held_stays { Stays (held self.old) (held self.new) }
     {
         match self.get(name) {
