@@ -3,6 +3,7 @@ mod BegunWalks
 mod FirstFrames
 mod FirstMasks
 mod FoundRows
+mod Narrowed
 mod FourLeaves
 mod LastElements
 mod NewWords

@@ -3,6 +3,7 @@ pub mod CutFrame
 pub mod FirstFrame
 pub mod FirstMask
 pub mod FreshStack
+pub mod NarrowedFrames
 pub mod NewWords
 pub mod OfWorld
 pub mod OwnRow

@@ -48,7 +48,7 @@ pub(crate) fn list_new(
 }
 
 /// Whether a portal may show a leaf that the mask has, and that was not found. All words that have such a leaf are listed. Of a
-/// barred portal, which is half of those that floods ask on larger levels, no word is read.
+/// barred portal no word is read.
 pub(crate) fn may_show<S: RowSource>(
     own: &OwnRows,
     source: &mut S,

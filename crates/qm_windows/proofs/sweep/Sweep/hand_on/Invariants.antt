@@ -1,0 +1,11 @@
+use Rattle.std.proofs.Common.{◌≡◌, ℕ, length}
+use Rattle.qm_lists.specs.WorkList.{IsIn}
+use Rattle.qm_windows.proofs.sweep.Sweep.hand_on.Given as goal
+
+-- what is kept stays, and the source goes on from what it was
+abbrev pub invariant-loop-portal : goal.invariant-loop-portal
+invariant-loop-portal g l = record {
+  stays : (n : ℕ) → IsIn l.fn.kept n → IsIn l.kept n;
+  kept : length l.kept ≡ length l.fn.kept;
+  on : g.S.RowSource.goes_on l.fn.source l.source;
+}

@@ -1,0 +1,2 @@
+pub mod FoundOrInSight
+pub mod inner

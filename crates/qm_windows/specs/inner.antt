@@ -1,0 +1,10 @@
+pub mod Window
+pub mod Wide
+pub mod Held
+pub mod Beyond
+pub mod Taken
+pub mod TakenOn
+pub mod NearPart
+pub mod HandedOn
+pub mod Closed
+pub mod Rest
