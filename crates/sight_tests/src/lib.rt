@@ -21,3 +21,5 @@ mod slow;
 mod two_rows;
 #[cfg(test)]
 mod wavering;
+#[cfg(test)]
+mod windows;
