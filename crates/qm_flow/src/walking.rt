@@ -17,7 +17,7 @@ use qm_sight::RowSource;
 use qm_windows::exclude;
 use std::alloc::{AllocError, Global};
 
-/// How many rounds a walk goes on before leaves are excluded, which takes about as long.
+/// How many rounds a walk goes on before leaves are excluded, which takes less than half as long.
 const ROUNDS: u64 = 16_384;
 
 /// Goes on until no frame is left, and gives the row of what is found. Where that takes long, leaves are excluded on the way of

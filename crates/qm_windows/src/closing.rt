@@ -12,8 +12,8 @@ use qm_portal::World;
 use qm_sight::RowSource;
 use std::alloc::{AllocError, Global};
 
-/// Whether some leaves never come to a portal that enters them: what comes from the first portal with one of them is taken up, what
-/// is held at a portal is handed on, and none is entered by a portal whose window may show it.
+/// Whether beyond the first portal some leaves never come to a portal that enters them: what comes from the first portal with one
+/// of them is taken up, what is held at a portal is handed on, and none is entered by a portal whose window may show it.
 pub(crate) fn are_closed<S: RowSource>(
     alloc: Global,
     world: &World,

@@ -6,7 +6,7 @@ ghost use Rattle.qm_windows.specs.inner.Window.{window_at};
 use crate::window::Window;
 use std::marker::Model;
 
-/// For each portal a window, or none yet.
+/// For each portal a window, or none.
 #[derive(Drop)]
 pub(crate) struct Windows {
     pub(crate) places: Vec<Option<Window>>,

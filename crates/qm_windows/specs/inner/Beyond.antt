@@ -18,6 +18,6 @@ pub record IsBeyond (world : World) (p : ℕ) (planes : List Plane) (number : �
   pub in_front : IsInFront first.into point
   pub in_cell : IsInCell planes point
 
--- a winding with all these points, or none where there is none
+-- a winding that has at least these points, or none where there is none
 abbrev pub HasPartBeyond : World → ℕ → List Plane → ℕ → Option Winding → Type 0
 HasPartBeyond world p planes number part = MatchOption part ((point : Point) → IsBeyond world p planes number point → ⊥) (λ w. (point : Point) → IsBeyond world p planes number point → IsInRegion w point)

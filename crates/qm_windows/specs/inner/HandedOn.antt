@@ -18,9 +18,9 @@ pub record GoesThroughAll (s : Segment) (first last next : Portal) (u x y : Poin
   pub then : IsBetween x u s.to
   pub on : IsBetween y x s.to
 
--- What is held at the last portal of a way, of this number, is handed on to another one: it leaves the leaf that the last one
--- enters, and leads neither back nor to the leaf that the first portal leaves. What goes through the first one and the last one,
--- is held there, and goes through the other one then is held there too.
+-- What is held at the portal of this number, the last one of a way, is handed on to another one, if that leaves the leaf which the
+-- last one enters, and leads neither back nor to the leaf that the first portal leaves: for each leaf that is seen via it from the
+-- first one, what goes through the first one and the last one, is held there, and goes through the other one then, is held there too.
 abbrev pub IsHandedOnTo : World → ℕ → List (Option Window) → ℕ → ℕ → Type 0
 IsHandedOnTo world p windows number other = (first last next : Portal) → IsAt world.portals p first → IsAt world.portals number last → IsAt world.portals other next →
     next.from ≡ last.to → (next.to ≡ last.from → ⊥) → (next.to ≡ first.from → ⊥) → (n : ℕ) → IsSeenVia world.tree first next n →
