@@ -53,7 +53,7 @@ module _ (world : World) (own : HasOwnPortals world) (first : Portal) where
       by s q state x y met among through on (blocked is) = (lets world.tree own.have_points own.touchings own.are_touchings).not_blocked s q state x y met among through on is
 
   -- a leaf that is ahead stays so where fewer leaves were met
-  fewer_met : (state : ChainState) (leaf n : ℕ) (met fewer : List ℕ) → ((m : ℕ) → Contains fewer m → Contains met m) → IsAhead MeetsState world.tree first state leaf met n → IsAhead MeetsState world.tree first state leaf fewer n
+  pub fewer_met : (state : ChainState) (leaf n : ℕ) (met fewer : List ℕ) → ((m : ℕ) → Contains fewer m → Contains met m) → IsAhead MeetsState world.tree first state leaf met n → IsAhead MeetsState world.tree first state leaf fewer n
   fewer_met state leaf n met fewer among ahead = record {
     sight = ahead.sight;
     at = ahead.at;

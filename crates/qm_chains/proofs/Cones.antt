@@ -1,5 +1,5 @@
--- A leaf that is ahead is in the cone. A chain that goes on may be narrowed by its cone, and given up where nothing new is in it.
-use Rattle.std.proofs.Common.{◌≡◌, ◌⊎◌, inl, inr, ⊎_elim, ℕ, ◌+◌, ◌<◌, Bool, true, not, List, ◌∷◌, length, set, Contains, Option, Some, None, refl, sym, ◌∙◌, subst}
+-- A leaf that is ahead is in the cone. A walk that goes on may be narrowed by its cone, and given up where nothing new is in it.
+use Rattle.std.proofs.Common.{ap, ◌≡◌, ◌⊎◌, inl, inr, ⊎_elim, ℕ, ◌+◌, ◌<◌, Bool, true, not, List, length, set, Contains, Option, Some, None, refl, sym, ◌∙◌, subst}
 use Rattle.std.specs.Prelude.{MatchOption}
 use Rattle.std.specs.List.{count_by}
 use Rattle.qm_lists.specs.Unseen.{HasUnseen}
@@ -10,20 +10,25 @@ use Rattle.qm_contacts.specs.Portals.{Portal, portals_of}
 use Rattle.qm_contacts.specs.World.{World, AreLeaving}
 use Rattle.qm_segments.specs.SeenVia.{IsSeenVia}
 use Rattle.qm_segments.specs.Ahead.{IsAhead}
-use Rattle.qm_segments.specs.OpenChain.{leaves_met}
 use Rattle.qm_segments.specs.Route.{Route, arrived, over}
 use Rattle.qm_separators.specs.PortalSteps.{StepsThrough, LetsPass, MeetsState}
 use Rattle.qm_separators.proofs.ChainLaws.{route_on}
 use Rattle.qm_chains.specs.Shown.{IsAt}
 use Rattle.qm_lists.specs.CutTo.{IsCutTo}
 use Rattle.qm_chains.specs.inner.Cone.{IsInCone, IsLeftOf, with_mask}
+use Rattle.qm_contacts.specs.NumberedLeaves.{numbered_leaves}
+use Rattle.qm_lists.proofs.Elements.{Contains-first}
+use Rattle.std.proofs.lemmas.List.{length-set}
+use Rattle.std.proofs.lemmas.Option.{slice_get_within}
 use Rattle.qm_chains.specs.inner.Frame.{Frame, put_back, EndsChain, IsNextTo, IsAwaited}
-use Rattle.qm_chains.specs.inner.Narrowing.{IsNarrowed}
 use Rattle.qm_chains.specs.inner.Wanted.{IsWantedVia}
+use Rattle.qm_chains.specs.inner.Search.{IsFrameOf, IsLookedThrough}
 use Rattle.qm_chains.specs.inner.Walk.{IsTried}
-use Rattle.qm_chains.proofs.AwaitedLeaves.{HasAllLeaving, reached_or_awaited}
-use Rattle.qm_chains.proofs.ChainEnds.{GainsOne}
-use Rattle.qm_chains.proofs.TriedPortals.{in_or_clear, not_in_if_clear, next_wanted, same_portal, gains_one, all_leaving, tried_on}
+use Rattle.qm_chains.proofs.AwaitedLeaves.{reached_or_awaited}
+use Rattle.qm_chains.proofs.ChainEnds.{GainsOne, step_ends, end_shown}
+use Rattle.qm_chains.proofs.MetLeaves.{has_places}
+use Rattle.qm_chains.proofs.TriedPortals.{in_or_clear, not_in_if_clear, clear_if_not_in, next_wanted, same_portal, gains_one, all_leave, all_leaving, few_leaving, FindsLast, found_long, found_keeps, found_last, found_only}
+use Rattle.qm_chains.proofs.Weights.{fewer_clear}
 
 -- ---- what is ahead
 
@@ -59,92 +64,111 @@ left_of_cut world p frame found entered cone mask left has cut left_is = record 
   left_is = left_is;
 }
 
--- ---- a chain that goes on
+-- ---- a walk that goes on
 
-module _ (world : World) (own : HasOwnPortals world) (MayHave : ℕ → ℕ → Type 0) (p : ℕ) (frame child : Frame) (number : ℕ) (row found : List Bool) (q : Portal) (q_is : IsAt world.portals number q)
-    (tried : IsTried world MayHave p frame number row found (Some child)) (in_child : (n : ℕ) → IsIn frame.mask n → IsWantedVia world p row number n → IsIn child.mask n)
-    (step : StepsThrough frame.state q child.state) (gains : GainsOne q.to frame.met child.met) (leaving : HasAllLeaving world.portals q.to child.untried) (last_found : IsIn child.mask q.to → IsIn found q.to)
+-- through a portal, and finds the leaf that it enters, narrowed by its cone
+module _ (world : World) (own : HasOwnPortals world) (p : ℕ) (frame : Frame) (number : ℕ) (row : List Bool) (q : Portal) (q_is : IsAt world.portals number q)
+    (child : Frame) (in_child : (n : ℕ) → IsIn frame.mask n → IsWantedVia world p row number n → IsIn child.mask n)
+    (step : StepsThrough frame.state q child.state) (within : q.to < length frame.met) (met_is : child.met ≡ set frame.met q.to true) (leaving : AreLeaving world.portals q.to child.untried)
+    (wide : q.to < length row) (found : List Bool) (finds : FindsLast child.mask q.to row found)
     (left : Option Frame) (is_left : IsLeftOf world p child found q.to left) where
+  met_gains : GainsOne q.to frame.met child.met
+  met_gains = subst (GainsOne q.to frame.met) (sym met_is) (gains_one frame.met q.to within)
+
   abbrev narrowed : Frame
   narrowed = with_mask is_left.mask child
-
-  narrowed_ends : EndsChain world MayHave p narrowed
-  narrowed_ends =
-      let ends : EndsChain world MayHave p child = tried.chain in
-      record {
-        first = ends.first;
-        first_is = ends.first_is;
-        last = ends.last;
-        before = ends.before;
-        open_chain = ends.open_chain;
-        later = ends.later;
-        numbers_are = ends.numbers_are;
-        each_may = λ n is. ends.each_may n (is_left.within n is);
-        met_is = ends.met_is;
-        untried_leave = ends.untried_leave;
-        met_wide = ends.met_wide;
-        mask_wide = is_left.same_length ∙ ends.mask_wide;
-      }
 
   -- a leaf that is next over the portal is found, or in what the cone leaves of the mask, and awaited there
   found_or_kept : (first : Portal) → IsAt world.portals p first → (n : ℕ) → IsIn frame.mask n → IsNextTo world.tree first frame n q → IsIn found n ⊎ (IsIn is_left.mask n × IsAwaited world first n narrowed)
   found_or_kept first first_is n in_mask next = ⊎_elim
       (λ is. inl is)
       (λ clear.
-      let ends : EndsChain world MayHave p child = tried.chain in
-      let met = leaves_met ends.first (ends.last ∷ ends.before) in
+      let met = has_places child.met in
       let never = not_in_if_clear found n clear in
-      let in_it = in_child n in_mask (next_wanted world own MayHave p frame number row q q_is first first_is n next (λ is. never (tried.stays n is))) in
-      let ahead = next.ahead child.state step met (λ m there. (gains m).0 ((ends.met_is m).1 there)) in
-      let kept = is_left.keeps n in_it (ahead_in_cone world own p first first_is child found q.to n in_it never met (λ m is. (ends.met_is m).0 is) ahead) in
+      let in_it = in_child n in_mask (next_wanted world p frame number row q q_is first first_is n next (λ is. never (found_keeps child.mask q.to row found wide finds n is))) in
+      let ahead = next.ahead child.state step met.0 (λ m there. (met_gains m).0 ((met.1 m).1 there)) in
+      let kept = is_left.keeps n in_it (ahead_in_cone world own p first first_is child found q.to n in_it never met.0 (λ m is. (met.1 m).0 is) ahead) in
       ⊎_elim
-      (λ here. inl (subst (IsIn found) here (last_found (subst (IsIn child.mask) (sym here) in_it))))
+      (λ here. inl (subst (IsIn found) here (found_last child.mask q.to row found wide finds (subst (IsIn child.mask) (sym here) in_it))))
       (λ awaited. inr (kept, awaited))
-      (reached_or_awaited world own first narrowed q.to n met ends.met_is kept leaving ahead))
+      (reached_or_awaited world own first narrowed q.to n met.0 met.1 kept (all_leaving world.portals q.to child.untried leaving) ahead))
       (in_or_clear found n)
 
-  by_left : (left : Option Frame) → MatchOption left (HasUnseen is_left.mask found → ⊥) (λ next. next ≡ narrowed) → IsTried world MayHave p frame number row found left
-  by_left None none_new = record {
-    same_length = tried.same_length;
-    stays = tried.stays;
-    gained = tried.gained;
-    chain = tt;
-    fewer = tt;
-    none_missed = λ first other first_is at n in_mask next. ⊎_elim
-        (λ is. inl is)
-        (λ kept. ⊎_elim (λ is. inl is) (λ clear. absurd (none_new (n, kept.0, clear))) (in_or_clear found n))
-        (found_or_kept first first_is n in_mask (subst (IsNextTo world.tree first frame n) (same_portal world.portals number other q at q_is) next));
-  }
-  by_left (Some next_frame) is = record {
-    same_length = tried.same_length;
-    stays = tried.stays;
-    gained = tried.gained;
-    chain = subst (EndsChain world MayHave p) (sym is) narrowed_ends;
-    fewer = subst (λ (after : Frame). (length after.untried < length world.portals + 1) × (count_by not after.met < count_by not frame.met)) (sym is) tried.fewer;
-    none_missed = λ first other first_is at n in_mask next. ⊎_elim
-        (λ is_found. inl is_found)
-        (λ kept. inr (subst (IsAwaited world first n) (sym is) kept.1))
-        (found_or_kept first first_is n in_mask (subst (IsNextTo world.tree first frame n) (same_portal world.portals number other q at q_is) next));
-  }
+  module _ (met_wide : length frame.met ≡ length (numbered_leaves world.tree)) (mask_wide : length child.mask ≡ length (numbered_leaves world.tree)) where
+    narrowed_is : IsFrameOf world narrowed
+    narrowed_is = record {
+      untried_within = λ other there. slice_get_within world.portals other ((leaving.leave other).0 there).0 ((leaving.leave other).0 there).1;
+      met_wide = ap length met_is ∙ length-set frame.met q.to true ∙ met_wide;
+      mask_wide = is_left.same_length ∙ mask_wide;
+    }
 
-  pub tried_left : IsTried world MayHave p frame number row found left
-  tried_left = by_left left is_left.left_is
+    looked_by_left : (left : Option Frame) → MatchOption left (HasUnseen is_left.mask found → ⊥) (λ next. next ≡ narrowed) → IsLookedThrough world p frame number row found left
+    looked_by_left None none_new = record {
+      same_length = found_long child.mask q.to row found wide finds;
+      stays = found_keeps child.mask q.to row found wide finds;
+      child_is = tt;
+      none_missed = λ first other first_is at n in_mask next. ⊎_elim
+          (λ is. inl is)
+          (λ kept. ⊎_elim (λ is. inl is) (λ clear. absurd (none_new (n, kept.0, clear))) (in_or_clear found n))
+          (found_or_kept first first_is n in_mask (subst (IsNextTo world.tree first frame n) (same_portal world.portals number other q at q_is) next));
+    }
+    looked_by_left (Some next_frame) is = record {
+      same_length = found_long child.mask q.to row found wide finds;
+      stays = found_keeps child.mask q.to row found wide finds;
+      child_is = subst (IsFrameOf world) (sym is) narrowed_is;
+      none_missed = λ first other first_is at n in_mask next. ⊎_elim
+          (λ is_found. inl is_found)
+          (λ kept. inr (subst (IsAwaited world first n) (sym is) kept.1))
+          (found_or_kept first first_is n in_mask (subst (IsNextTo world.tree first frame n) (same_portal world.portals number other q at q_is) next));
+    }
 
--- a chain that goes on through a portal, and finds the leaf that it enters, narrowed by its cone
-module _ (world : World) (own : HasOwnPortals world) (MayHave : ℕ → ℕ → Type 0) (p : ℕ) (frame : Frame) (number : ℕ) (row : List Bool) (q : Portal) (q_is : IsAt world.portals number q)
-    (child : Frame) (Can : ℕ → Type 0) (by_row : IsNarrowed (IsWantedVia world p row number) Can frame.mask child.mask) (may : (n : ℕ) → Can n → MayHave n number) (ends : EndsChain world MayHave p (put_back number frame))
-    (step : StepsThrough frame.state q child.state) (new : IsIn frame.met q.to → ⊥) (within : q.to < length frame.met) (met_is : child.met ≡ set frame.met q.to true) (leaving : AreLeaving world.portals q.to child.untried)
-    (wide : q.to < length row) (found : List Bool) (finds : (IsIn child.mask q.to × (found ≡ set row q.to true)) ⊎ ((IsIn child.mask q.to → ⊥) × (found ≡ row)))
-    (left : Option Frame) (is_left : IsLeftOf world p child found q.to left) where
-  pub tried_on_left : IsTried world MayHave p frame number row found left
-  tried_on_left =
-      tried_left world own MayHave p frame child number row found q q_is
-      (tried_on world own MayHave p frame number row q q_is child Can by_row may ends step new within met_is leaving wide found finds)
-      by_row.keeps step
-      (subst (GainsOne q.to frame.met) (sym met_is) (gains_one frame.met q.to within))
-      (all_leaving world.portals q.to child.untried leaving)
-      (λ is. ⊎_elim
-      (λ it. subst (λ (r : List Bool). IsIn r q.to) (sym it.1) ((gains_one row q.to wide q.to).1 (inl refl)))
-      (λ kept. absurd (kept.0 is))
-      finds)
-      left is_left
+    pub looked_on_left : IsLookedThrough world p frame number row found left
+    looked_on_left = looked_by_left left is_left.left_is
+
+  -- ---- and stays open
+
+  module _ (MayHave : ℕ → ℕ → Type 0) (within_may : (n : ℕ) → IsIn child.mask n → IsIn frame.mask n × MayHave n number) (same_mask_length : length child.mask ≡ length frame.mask) (ends : EndsChain world MayHave p (put_back number frame)) (new : IsIn frame.met q.to → ⊥) where
+    abbrev child_ends : EndsChain world MayHave p child
+    child_ends = step_ends world MayHave p (put_back number frame) ends number (Contains-first number frame.untried) q q_is child step new
+        (all_leave world.portals q.to child.untried leaving) met_gains within_may
+        (ap length met_is ∙ length-set frame.met q.to true) same_mask_length
+
+    narrowed_ends : EndsChain world MayHave p narrowed
+    narrowed_ends =
+        let its = child_ends in
+        record {
+          first = its.first;
+          first_is = its.first_is;
+          last = its.last;
+          before = its.before;
+          open_chain = its.open_chain;
+          later = its.later;
+          numbers_are = its.numbers_are;
+          each_may = λ n is. its.each_may n (is_left.within n is);
+          met_is = its.met_is;
+          untried_leave = its.untried_leave;
+          met_wide = its.met_wide;
+          mask_wide = is_left.same_length ∙ its.mask_wide;
+        }
+
+    chain_by_left : (left : Option Frame) → MatchOption left (HasUnseen is_left.mask found → ⊥) (λ next. next ≡ narrowed) → MatchOption left (Unit {0}) (EndsChain world MayHave p)
+    chain_by_left None none_new = tt
+    chain_by_left (Some next_frame) is = subst (EndsChain world MayHave p) (sym is) narrowed_ends
+
+    fewer_by_left : (left : Option Frame) → MatchOption left (HasUnseen is_left.mask found → ⊥) (λ next. next ≡ narrowed) → MatchOption left (Unit {0}) (λ after. (length after.untried < length world.portals + 1) × (count_by not after.met < count_by not frame.met))
+    fewer_by_left None none_new = tt
+    fewer_by_left (Some next_frame) is = subst (λ (after : Frame). (length after.untried < length world.portals + 1) × (count_by not after.met < count_by not frame.met)) (sym is) (
+      few_leaving world.portals q.to child.untried leaving,
+      subst (λ (met : List Bool). count_by not met < count_by not frame.met) (sym met_is) (fewer_clear frame.met q.to within (clear_if_not_in frame.met q.to new)),
+    )
+
+    pub tried_on_left : IsTried world MayHave p frame number row found left
+    tried_on_left = record {
+      looked = looked_on_left ends.met_wide (same_mask_length ∙ ends.mask_wide);
+      gained = λ n is. ⊎_elim
+          (λ old. inl old)
+          (λ last. inr (end_shown world MayHave p child child_ends n last.0 last.1))
+          (found_only child.mask q.to row found wide finds n is);
+      chain = chain_by_left left is_left.left_is;
+      fewer = fewer_by_left left is_left.left_is;
+    }

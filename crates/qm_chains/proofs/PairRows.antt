@@ -15,12 +15,14 @@ use Rattle.qm_separators.specs.PortalSteps.{StepsThrough, BlocksAt}
 use Rattle.qm_separators.proofs.ChainLaws.{straight_on}
 use Rattle.qm_chains.specs.Shown.{IsAt}
 use Rattle.qm_chains.specs.inner.Cone.{IsInCone}
-use Rattle.qm_chains.specs.inner.Frame.{Frame}
+use Rattle.qm_chains.specs.inner.Frame.{Frame, IsAwaited}
 use Rattle.qm_chains.specs.inner.Narrowing.{ShowsNothingNew}
 use Rattle.qm_chains.specs.inner.OwnRows.{IsInSightAt, MustHave, CanHave}
 use Rattle.qm_chains.specs.inner.Pairs.{Pairs, IsPairRow, ArePairs, LieWithinPairs}
 use Rattle.qm_chains.specs.inner.Wanted.{IsWantedVia}
+use Rattle.qm_chains.proofs.AwaitedLeaves.{HasAllLeaving, fewer_met, reached_or_awaited}
 use Rattle.qm_chains.proofs.Cones.{ahead_in_cone}
+use Rattle.qm_chains.proofs.MetLeaves.{has_places}
 use Rattle.qm_chains.proofs.TriedPortals.{same_portal}
 
 -- what is wanted where more is found was wanted before
@@ -129,3 +131,12 @@ module _ (world : World) (own : HasOwnPortals world) (found : List Bool) (pairs 
         let led = straight_on world.tree own.have_points own.touchings own.are_touchings first q pairs.start n (listed first pairs.first wanted.wanted.first_is) (listed q number q_is) (are.begun first wanted.wanted.first_is) (via_q n wanted) in
         ahead_in_cone world own pairs.first first wanted.wanted.first_is frame found q.to n in_mask wanted.wanted.not_found (q.to ∷ q.from ∷ first.to ∷ first.from ∷ [])
         (met_is first wanted.wanted.first_is) (led.ahead frame.state step)
+
+    -- and it is the leaf that is entered, or awaited there, where all portals are still to be tried that leave that leaf
+    pub wanted_awaited : HasAllLeaving world.portals q.to frame.untried → (first : Portal) → IsAt world.portals pairs.first first → (n : ℕ) → IsIn frame.mask n → IsWantedVia world pairs.first found number n → (q.to ≡ n) ⊎ IsAwaited world first n frame
+    wanted_awaited leaving first first_is n in_mask wanted =
+        let via : IsSeenVia world.tree first q n = subst (λ (r : Portal). IsSeenVia world.tree r q n) (same_portal world.portals pairs.first wanted.wanted.first first wanted.wanted.first_is first_is) (via_q n wanted) in
+        let led = straight_on world.tree own.have_points own.touchings own.are_touchings first q pairs.start n (listed first pairs.first first_is) (listed q number q_is) (are.begun first first_is) via in
+        let met = has_places frame.met in
+        reached_or_awaited world own first frame q.to n met.0 met.1 in_mask leaving
+        (fewer_met world own first frame.state q.to n (q.to ∷ q.from ∷ first.to ∷ first.from ∷ []) met.0 (λ m there. met_is first first_is m ((met.1 m).1 there)) (led.ahead frame.state step))

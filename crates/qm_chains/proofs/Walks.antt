@@ -1,23 +1,21 @@
 -- A walk of open chains: how it begins, what becomes of it when a frame is taken off, and what it comes to.
-use Rattle.std.proofs.Common.{◌≡◌, inl, inr, ⊎_elim, ℕ, ◌+◌, ◌<◌, Bool, not, List, [], ◌∷◌, ◌++◌, All, length, Contains, Some, None, Option, option_to_list, sym, ap, ◌∙◌, subst, arith}
+use Rattle.std.proofs.Common.{◌≡◌, inl, inr, ⊎_elim, ℕ, ◌+◌, ◌<◌, Bool, not, List, [], ◌∷◌, ◌++◌, All, length, Some, None, Option, option_to_list, sym, ap, ◌∙◌, subst, arith}
 use Rattle.std.specs.Prelude.{MatchOption}
 use Rattle.std.specs.List.{count_by, sum_by}
 use Rattle.std.proofs.lemmas.List.{append-nil}
-use Rattle.std.proofs.lemmas.List.Elements.{All-nil, All-cons, All-push, All-contains, Contains-append_left, Contains-append_right, Contains-push_cases}
+use Rattle.std.proofs.lemmas.List.Elements.{All-nil, All-cons, All-push, All-contains, Contains-append_right}
 use Rattle.std.proofs.lemmas.List.Sums.{sum_by_push}
 use Rattle.std.proofs.lemmas.Option.{slice_get_within}
 use Rattle.qm_lists.specs.WorkList.{IsIn}
-use Rattle.qm_lists.proofs.Elements.{All-first_part, Contains-nil, Contains-first, Contains-cons_cases}
+use Rattle.qm_lists.proofs.Elements.{All-first_part, Contains-nil, Contains-first}
 use Rattle.qm_contacts.specs.Portals.{Portal}
 use Rattle.qm_contacts.specs.World.{World}
 use Rattle.qm_segments.specs.Sight.{IsInSight}
 use Rattle.qm_chains.specs.Shown.{IsAt}
-use Rattle.qm_chains.specs.inner.Frame.{Frame, put_back, EndsChain, IsAwaited}
-use Rattle.qm_chains.specs.inner.Walk.{IsFoundOrAwaited, IsWalk, frame_weight, AreWide, IsBegun, IsTried}
+use Rattle.qm_chains.specs.inner.Frame.{Frame, put_back, EndsChain}
+use Rattle.qm_chains.proofs.Searches.{last_there, none_missed_done, none_missed_looked}
+use Rattle.qm_chains.specs.inner.Walk.{IsWalk, frame_weight, AreWide, IsBegun, IsTried}
 use Rattle.qm_chains.proofs.Weights.{weight_parts, weight_of_child, weight_some, power_some}
-
-last_there : (below : List Frame) (frame : Frame) → Contains (below ++ frame ∷ []) frame
-last_there below frame = Contains-append_right below (frame ∷ []) frame (Contains-first frame [])
 
 module _ (world : World) (MayHave : ℕ → ℕ → Type 0) (p : ℕ) where
   -- ---- the beginning
@@ -45,13 +43,7 @@ module _ (world : World) (MayHave : ℕ → ℕ → Type 0) (p : ℕ) where
       wide = walk.wide;
       chains = All-first_part (EndsChain world MayHave p) below (last ∷ []) walk.chains;
       shown = walk.shown;
-      none_missed = λ first at n sight. ⊎_elim
-          (λ is. inl is)
-          (λ awaited. ⊎_elim
-          (λ among. inr (awaited.0, among, awaited.2))
-          (λ same. absurd (Contains-nil awaited.2.number (subst (λ (numbers : List ℕ). Contains numbers awaited.2.number) (ap (λ (f : Frame). f.untried) (sym same) ∙ none) awaited.2.untried)))
-          (Contains-push_cases below last awaited.0 awaited.1))
-          (walk.none_missed first at n sight);
+      none_missed = none_missed_done world p (IsInSight world.tree) below last row walk.none_missed none;
     }
 
   -- ---- a portal is tried at the last frame
@@ -89,44 +81,13 @@ module _ (world : World) (MayHave : ℕ → ℕ → Type 0) (p : ℕ) where
     child_chains None none = subst (All (EndsChain world MayHave p)) (sym (append-nil (below ++ frame ∷ []))) (All-push (EndsChain world MayHave p) below frame (All-first_part (EndsChain world MayHave p) below (put_back number frame ∷ []) walk.chains) frame_ends)
     child_chains (Some next) its = All-push (EndsChain world MayHave p) (below ++ frame ∷ []) next (All-push (EndsChain world MayHave p) below frame (All-first_part (EndsChain world MayHave p) below (put_back number frame ∷ []) walk.chains) frame_ends) its
 
-    in_child : (child : Option Frame) (first : Portal) (n : ℕ) → MatchOption child ⊥ (IsAwaited world first n) → (g : Frame) × Contains ((below ++ frame ∷ []) ++ option_to_list child) g × IsAwaited world first n g
-    in_child None first n never = absurd never
-    in_child (Some next) first n awaited = (next, Contains-append_right (below ++ frame ∷ []) (next ∷ []) next (Contains-first next []), awaited)
-
     module _ (tried : IsTried world MayHave p frame number row new child) where
-      -- a leaf that was awaited at the last frame
-      at_last : (first : Portal) → IsAt world.portals p first → (n : ℕ) → IsAwaited world first n (put_back number frame) → IsFoundOrAwaited world first after new n
-      at_last first at n awaited = ⊎_elim
-          (λ here. ⊎_elim
-          (λ is. inl is)
-          (λ ahead. inr (in_child child first n ahead))
-          (tried.none_missed first awaited.portal at (subst (λ (m : ℕ). IsAt world.portals m awaited.portal) (sym here) awaited.portal_is) n awaited.in_mask (record { new = awaited.next.new; via = awaited.next.via; not_stopped = awaited.next.not_stopped; ahead = awaited.next.ahead })))
-          (λ later. inr (
-            frame,
-            Contains-append_left (below ++ frame ∷ []) (option_to_list child) frame (last_there below frame),
-            record {
-              in_mask = awaited.in_mask;
-              number = awaited.number;
-              untried = later;
-              portal = awaited.portal;
-              portal_is = awaited.portal_is;
-              next = record { new = awaited.next.new; via = awaited.next.via; not_stopped = awaited.next.not_stopped; ahead = awaited.next.ahead };
-            },
-          ))
-          (Contains-cons_cases number awaited.number frame.untried awaited.untried)
-
       pub walk_tried : IsWalk world MayHave p after new
       walk_tried = record {
-        wide = tried.same_length ∙ walk.wide;
+        wide = tried.looked.same_length ∙ walk.wide;
         chains = child_chains child tried.chain;
         shown = λ n is. ⊎_elim (λ old. walk.shown n old) (λ shown. shown) (tried.gained n is);
-        none_missed = λ first at n sight. ⊎_elim
-            (λ is. inl (tried.stays n is))
-            (λ awaited. ⊎_elim
-            (λ among. inr (awaited.0, Contains-append_left (below ++ frame ∷ []) (option_to_list child) awaited.0 (Contains-append_left below (frame ∷ []) awaited.0 among), awaited.2))
-            (λ same. at_last first at n (subst (IsAwaited world first n) (sym same) awaited.2))
-            (Contains-push_cases below (put_back number frame) awaited.0 awaited.1))
-            (walk.none_missed first at n sight);
+        none_missed = none_missed_looked world p (IsInSight world.tree) below frame number row new child tried.looked walk.none_missed;
       }
 
   -- ---- the end

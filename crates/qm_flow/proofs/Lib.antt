@@ -3,7 +3,6 @@ mod BegunWalks
 mod FirstFrames
 mod FirstMasks
 mod FoundRows
-mod Narrowed
 mod FourLeaves
 mod LastElements
 mod NewWords
@@ -13,5 +12,6 @@ mod PairFrames
 mod PairsKept
 mod Panes
 mod Rounds
+mod SearchRounds
 mod Spares
 mod WaySamples

@@ -3,12 +3,12 @@ pub mod CutFrame
 pub mod FirstFrame
 pub mod FirstMask
 pub mod FreshStack
-pub mod NarrowedFrames
 pub mod NewWords
 pub mod OfWorld
 pub mod OwnRow
 pub mod PairFrame
 pub mod PairsGoOn
+pub mod SearchSoFar
 pub mod Spares
 pub mod UnseenVia
 pub mod WalkSoFar

@@ -18,7 +18,7 @@ use crate::barring::bar_unseen;
 use crate::frame_stack::FrameStack;
 use crate::narrowing::find;
 use crate::pairs::Pairs;
-use crate::walking::end_search;
+use crate::walking::end_walk;
 use qm_bits::BitRow;
 use qm_lines::show_by_lines;
 use qm_portal::World;
@@ -74,5 +74,5 @@ fn walk<'a, S: RowSource>(
     find(&mut found, &pairs.seen, world.to(portal));
     show_by_lines(alloc, world, source, portal, &mut found)?;
     bar_unseen(world, source, pairs);
-    end_search(alloc, world, source, pairs, found, stack)
+    end_walk(alloc, world, source, pairs, found, stack)
 }

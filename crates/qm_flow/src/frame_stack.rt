@@ -6,7 +6,6 @@ ghost use Rattle.qm_contacts.specs.OwnPortals.{HasOwnPortals};
 ghost use Rattle.qm_chains.specs.inner.Frame.{Frame};
 ghost use Rattle.qm_chains.specs.inner.Walk.{AreWide};
 ghost use Rattle.qm_flow.specs.inner.FreshStack.{IsFreshStack};
-ghost use Rattle.qm_flow.specs.inner.NarrowedFrames.{AreNarrowed};
 ghost use Rattle.qm_flow.specs.inner.Spares.{AreSparesWide};
 
 use crate::frame::Frame;
@@ -81,19 +80,6 @@ impl<'a> FrameStack<'a> {
         let next = mem::replace(&mut self.next, spare);
         self.frames.push(next)?;
         Ok(())
-    }
-
-    /// Takes leaves that a row does not have from the masks of all frames.
-    pub(crate) fn narrow(&mut self, row: &BitRow)
-        requires { All (λ frame. length frame.mask ≡ length row.now) self.old.frames.items }
-        ensures frames { AreNarrowed row.now self.old.frames.items self.new.frames.items }
-        ensures next { self.new.next ≡ self.old.next }
-        ensures ended { self.new.ended ≡ self.old.ended }
-        ensures scratch { self.new.scratch ≡ self.old.scratch }
-    {
-        for place in 0..self.frames.len() {
-            self.frames[place].mask.and_row(row);
-        }
     }
 
     /// The last frame has ended, and is to be used again.

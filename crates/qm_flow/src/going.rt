@@ -8,6 +8,7 @@ ghost use Rattle.qm_contacts.specs.Portals.{Portal};
 ghost use Rattle.qm_chains.specs.Shown.{IsAt};
 ghost use Rattle.qm_chains.specs.inner.Frame.{put_back, EndsChain};
 ghost use Rattle.qm_chains.specs.inner.Pairs.{LieWithinPairs};
+ghost use Rattle.qm_chains.specs.inner.Search.{IsLookedThrough};
 ghost use Rattle.qm_chains.specs.inner.Walk.{AreWide, IsTried};
 ghost use Rattle.qm_sight.specs.WordInSight.{LieWithin};
 ghost use Rattle.qm_sight.specs.InCeiling.{IsInCeiling};
@@ -46,6 +47,7 @@ pub(crate) fn go_through<'a, S: RowSource>(
     ensures tried { IfOk result (λ on. (ceilings : List (List Bool)) → LieWithin (S.ceilings source.old) ceilings → LieWithinPairs (IsInCeiling ceilings) pairs.now.own →
         EndsChain world.now (IsInCeiling ceilings) pairs.now.first (put_back portal frame.now) →
         IsTried world.now (IsInCeiling ceilings) pairs.now.first frame.now portal found.old found.new (then_some on next.new)) }
+    ensures looked { IfOk result (λ on. IsLookedThrough world.now pairs.now.first frame.now portal found.old found.new (then_some on next.new)) }
     ensures spares { OnOk result (AreWide world.now next.new scratch.new.cone) }
     ensures stays { (n : ℕ) → IsIn found.old n → IsIn found.new n }
     ensures on { S.goes_on source.old source.new }

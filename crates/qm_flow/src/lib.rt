@@ -13,6 +13,7 @@ mod own_rows;
 mod pairing;
 mod pairs;
 mod scratch;
+mod searching;
 mod trying;
 mod walking;
 

@@ -16,18 +16,28 @@ use std::marker::Model;
 /// What stands for a row of the flow's own.
 #[derive(Drop)]
 pub(crate) enum Place {
-    /// There is none yet; whether it is noted that the portal has passed the cheap tests.
-    NotYet { noted: bool },
+    /// There is none yet.
+    NotYet,
     /// The portal is barred: its row is clear, with so many leaves.
     Barred { leaves: u64 },
     /// The row that was made.
     Row(BitRow),
 }
 
-/// The row of the flow's own for one portal, or none yet. The row of a barred portal takes no memory.
+/// What is to be done for the row of a portal before a chain goes on through it.
+pub(crate) enum Due {
+    /// The row is to be made.
+    Row,
+    /// A search is to narrow the row.
+    Search,
+}
+
+/// The row of the flow's own for one portal, or none yet, and how often the portal has passed the cheap tests of a try. The row
+/// of a barred portal takes no memory.
 #[derive(Drop)]
 struct OwnRow {
     place: Place,
+    passed: u32,
 }
 
 impl Model for OwnRow {
@@ -38,6 +48,29 @@ impl Model for OwnRow {
     ghost use Rattle.qm_flow.specs.inner.OwnRow.{own_row};
 
     ghost view = { λ row. own_row row.place };
+}
+
+impl OwnRow {
+    /// Counts that the portal has passed the cheap tests: what is due. A row is made the second time, since it would not pay for a
+    /// portal that passes them once; and a search pays where chains come to a portal again and again.
+    fn pass(&mut self) -> Option<Due>
+        ensures { self.new ≡ self.old }
+    {
+        self.passed = self.passed.saturating_add(1);
+        match &self.place {
+            Place::NotYet => {
+                if self.passed == 1 {
+                    return None;
+                }
+                Some(Due::Row)
+            }
+            Place::Barred { .. } => None,
+            Place::Row(_) => match self.passed {
+                12 | 48 | 192 | 768 => Some(Due::Search),
+                _ => None,
+            },
+        }
+    }
 }
 
 /// For each portal a row of the flow's own, or none yet, and then the source answers.
@@ -68,28 +101,19 @@ impl OwnRows {
         let mut rows = Vec::with_capacity(alloc, portals as usize)?;
         for _portal in 0..portals {
             rows.push(OwnRow {
-                place: Place::NotYet { noted: false },
+                place: Place::NotYet,
+                passed: 0,
             })?;
         }
         Ok(OwnRows { rows })
     }
 
-    /// Notes that a portal has passed the cheap tests: whether its row is to be made, since that was noted before and there is
-    /// none yet.
-    pub(crate) fn note(&mut self, portal: u64) -> bool
+    /// Notes that a portal has passed the cheap tests once more: what is due for its row.
+    pub(crate) fn note(&mut self, portal: u64) -> Option<Due>
         requires { portal < length self.old }
         ensures { self.new ≡ self.old }
     {
-        match &self.rows[portal as usize].place {
-            Place::NotYet { noted } => {
-                if *noted {
-                    return true;
-                }
-            }
-            _ => return false,
-        }
-        self.put(portal, Place::NotYet { noted: true });
-        false
+        self.rows[portal as usize].pass()
     }
 
     /// Puts what stands for the row of a portal.
@@ -97,7 +121,7 @@ impl OwnRows {
         requires { portal < length self.old }
         ensures { self.new ≡ slice_set self.old portal (own_row place) }
     {
-        self.rows[portal as usize] = OwnRow { place };
+        self.rows[portal as usize].place = place;
     }
 
     /// Whether a portal is barred, so that no answer must have a leaf.
@@ -121,7 +145,7 @@ impl OwnRows {
         ensures on { S.goes_on source.old source.new }
     {
         match &self.rows[portal as usize].place {
-            Place::NotYet { .. } => source.word(portal, k),
+            Place::NotYet => source.word(portal, k),
             Place::Barred { .. } => 0,
             Place::Row(row) => row.word(k),
         }

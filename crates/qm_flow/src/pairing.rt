@@ -87,7 +87,7 @@ fn cone_of_pair<'a, S: RowSource>(
 
 /// Makes a frame that of the chain with both portals of a pair, in whose state it is: it has met the leaves that they leave and
 /// enter.
-fn make_pair_frame<'a, S: RowSource>(
+pub(crate) fn make_pair_frame<'a, S: RowSource>(
     world: &World,
     source: &mut S,
     pairs: &Pairs,

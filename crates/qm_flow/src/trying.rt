@@ -2,6 +2,7 @@
 
 ghost use Rattle.std.specs.Prelude.{◌≡◌, ◌<◌, Bool, List, length, false, IfOk, OnOk};
 ghost use Rattle.std.specs.Bool.{then_some};
+ghost use Rattle.qm_contacts.specs.NumberedLeaves.{numbered_leaves};
 ghost use Rattle.qm_contacts.specs.OwnPortals.{HasOwnPortals};
 ghost use Rattle.qm_contacts.specs.Portals.{Portal};
 ghost use Rattle.qm_chains.specs.Shown.{IsAt};
@@ -18,9 +19,11 @@ use crate::frame::Frame;
 use crate::going::go_through;
 use crate::leading::may_lead_on;
 use crate::narrowing::{list_new, may_show};
+use crate::own_rows::Due;
 use crate::pairing::pair;
 use crate::pairs::Pairs;
 use crate::scratch::Scratch;
+use crate::searching::search;
 use qm_bits::BitRow;
 use qm_portal::World;
 use qm_sight::RowSource;
@@ -55,7 +58,7 @@ pub(crate) fn try_portal<'a, S: RowSource>(
     if !may_lead_on(world, source, pairs, frame, portal, found, words) {
         return Ok(false);
     }
-    let may = pair_may_show(
+    let may = own_may_show(
         alloc, world, source, pairs, frame, portal, found, next, scratch,
     )?;
     if !may {
@@ -66,11 +69,11 @@ pub(crate) fn try_portal<'a, S: RowSource>(
     )
 }
 
-/// Makes the row of the pair with a portal if it is due, by a frame that is made in the next one: whether that row may show a
-/// leaf that was not found. Where none is made, it may.
-fn pair_may_show<'a, S: RowSource>(
+/// Does what is due for the row of the pair with a portal; a frame is made in the next one for that: whether the row may then show
+/// a leaf that was not found. Where nothing is due, it may.
+fn own_may_show<'a, S: RowSource>(
     alloc: Global,
-    world: &World,
+    world: &'a World,
     source: &mut S,
     pairs: &mut Pairs,
     frame: &Frame<'a>,
@@ -88,12 +91,40 @@ fn pair_may_show<'a, S: RowSource>(
     ensures pairs { OnOk result (PairsGoOn world.now (S.ceilings source.old) found.now pairs.old pairs.new) }
     ensures on { S.goes_on source.old source.new }
 {
-    if !pairs.own.note(portal) {
+    let Some(due) = pairs.own.note(portal) else {
         return Ok(true);
-    }
-    pair(alloc, world, source, pairs, portal, found, next, scratch)?;
+    };
+    do_what_is_due(
+        alloc, world, source, pairs, portal, due, found, next, scratch,
+    )?;
     list_new(&frame.mask, found, &mut scratch.words)?;
     let words = &scratch.words;
     let may = may_show(&pairs.own, source, portal, &frame.mask, found, words);
     Ok(may)
+}
+
+/// Makes the row of the pair with a portal, or narrows it by a search.
+fn do_what_is_due<'a, S: RowSource>(
+    alloc: Global,
+    world: &'a World,
+    source: &mut S,
+    pairs: &mut Pairs,
+    portal: u64,
+    due: Due,
+    found: &BitRow,
+    spare: &mut Frame<'a>,
+    scratch: &mut Scratch,
+) -> Result<(), AllocError>
+    requires portal { portal < length world.now.portals }
+    requires own_portals { HasOwnPortals world.now }
+    requires of_world { AreOfWorld world.now (S.world source.old) pairs.old spare.old found.now }
+    requires cone { length scratch.old.cone ≡ length (numbered_leaves world.now.tree) }
+    ensures pairs { OnOk result (PairsGoOn world.now (S.ceilings source.old) found.now pairs.old pairs.new) }
+    ensures spares { OnOk result (AreWide world.now spare.new scratch.new.cone) }
+    ensures on { S.goes_on source.old source.new }
+{
+    match due {
+        Due::Row => pair(alloc, world, source, pairs, portal, found, spare, scratch),
+        Due::Search => search(alloc, world, source, pairs, portal, found),
+    }
 }

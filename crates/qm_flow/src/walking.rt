@@ -14,93 +14,10 @@ use crate::trying::try_portal;
 use qm_bits::BitRow;
 use qm_portal::World;
 use qm_sight::RowSource;
-use qm_windows::exclude;
 use std::alloc::{AllocError, Global};
 
-/// How many rounds a walk goes on before leaves are excluded, which takes less than half as long.
-const ROUNDS: u64 = 16_384;
-
-/// Goes on until no frame is left, and gives the row of what is found. Where that takes long, leaves are excluded on the way of
-/// which none is in sight.
-pub(crate) fn end_search<'a, S: RowSource>(
-    alloc: Global,
-    world: &'a World,
-    source: &mut S,
-    pairs: &mut Pairs,
-    mut found: BitRow,
-    stack: &mut FrameStack<'a>,
-) -> Result<BitRow, AllocError>
-    requires own_portals { HasOwnPortals world.now }
-    requires same_world { S.world source.old ≡ world.now }
-    requires walk { IsSomeWalk world.now (S.ceilings source.old) pairs.old stack.old.frames.items found }
-    requires spares { AreSparesWide world.now stack.old }
-    ensures walk { IfOk result (λ ended. (p : ℕ) (ceilings : List (List Bool)) → LieWithin (S.ceilings source.old) ceilings →
-        IsWalkSoFar world.now ceilings p pairs.old stack.old.frames.items found →
-        IsWalkSoFar world.now ceilings p pairs.new [] ended) }
-    ensures on { S.goes_on source.old source.new }
-{
-    go_rounds(alloc, world, source, pairs, &mut found, stack)?;
-    exclude_unseen(alloc, world, source, pairs, &found, stack)?;
-    end_walk(alloc, world, source, pairs, found, stack)
-}
-
-/// Goes on for some rounds, or until no frame is left.
-fn go_rounds<'a, S: RowSource>(
-    alloc: Global,
-    world: &'a World,
-    source: &mut S,
-    pairs: &mut Pairs,
-    found: &mut BitRow,
-    stack: &mut FrameStack<'a>,
-) -> Result<(), AllocError>
-    requires own_portals { HasOwnPortals world.now }
-    requires same_world { S.world source.old ≡ world.now }
-    requires walk { IsSomeWalk world.now (S.ceilings source.old) pairs.old stack.old.frames.items found.old }
-    requires spares { AreSparesWide world.now stack.old }
-    ensures walk { OnOk result ((p : ℕ) (ceilings : List (List Bool)) → LieWithin (S.ceilings source.old) ceilings →
-        IsWalkSoFar world.now ceilings p pairs.old stack.old.frames.items found.old →
-        IsWalkSoFar world.now ceilings p pairs.new stack.new.frames.items found.new) }
-    ensures spares { OnOk result (AreSparesWide world.now stack.new) }
-    ensures on { S.goes_on source.old source.new }
-{
-    for _ in 0..ROUNDS {
-        if stack.frames.is_empty() {
-            return Ok(());
-        }
-        go_round(alloc, world, source, pairs, found, stack)?;
-    }
-    Ok(())
-}
-
-/// Excludes leaves that are not in sight from what may still be shown, where a frame is left.
-fn exclude_unseen<'a, S: RowSource>(
-    alloc: Global,
-    world: &'a World,
-    source: &mut S,
-    pairs: &mut Pairs,
-    found: &BitRow,
-    stack: &mut FrameStack<'a>,
-) -> Result<(), AllocError>
-    requires same_world { S.world source.old ≡ world.now }
-    requires walk { IsSomeWalk world.now (S.ceilings source.old) pairs.old stack.old.frames.items found.now }
-    requires spares { AreSparesWide world.now stack.old }
-    ensures walk { OnOk result ((p : ℕ) (ceilings : List (List Bool)) →
-        IsWalkSoFar world.now ceilings p pairs.old stack.old.frames.items found.now →
-        IsWalkSoFar world.now ceilings p pairs.new stack.new.frames.items found.now) }
-    ensures spares { OnOk result (AreSparesWide world.now stack.new) }
-    ensures on { S.goes_on source.old source.new }
-{
-    if stack.frames.is_empty() {
-        return Ok(());
-    }
-    let first = pairs.first;
-    exclude(alloc, world, source, first, found, &mut pairs.seen)?;
-    stack.narrow(&pairs.seen);
-    Ok(())
-}
-
 /// Goes on until no frame is left, and gives the row of what is found.
-fn end_walk<'a, S: RowSource>(
+pub(crate) fn end_walk<'a, S: RowSource>(
     alloc: Global,
     world: &'a World,
     source: &mut S,

@@ -21,5 +21,3 @@ mod slow;
 mod two_rows;
 #[cfg(test)]
 mod wavering;
-#[cfg(test)]
-mod windows;

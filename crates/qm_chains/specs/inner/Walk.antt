@@ -1,4 +1,4 @@
-use Rattle.std.specs.Prelude.{◌≡◌, ◌⊎◌, ℕ, ◌+◌, ◌*◌, ◌^◌, ◌<◌, Bool, not, List, All, length, Contains, Option, MatchOption}
+use Rattle.std.specs.Prelude.{◌≡◌, ◌⊎◌, ℕ, ◌+◌, ◌*◌, ◌^◌, ◌<◌, Bool, not, List, All, length, Option, MatchOption}
 use Rattle.std.specs.List.{count_by}
 use Rattle.qm_lists.specs.WorkList.{IsIn}
 use Rattle.qm_contacts.specs.NumberedLeaves.{numbered_leaves}
@@ -6,28 +6,21 @@ use Rattle.qm_contacts.specs.Portals.{Portal}
 use Rattle.qm_contacts.specs.World.{World}
 use Rattle.qm_segments.specs.Sight.{IsInSight}
 use Rattle.qm_chains.specs.Shown.{IsAt, IsShown}
-use Rattle.qm_chains.specs.inner.Frame.{Frame, EndsChain, IsNextTo, IsAwaited}
+use Rattle.qm_chains.specs.inner.Frame.{Frame, EndsChain, IsAwaited}
+use Rattle.qm_chains.specs.inner.Search.{NoneIsMissed, IsLookedThrough}
 
 -- A walk of open chains from one portal, frame by frame. Chains may be left out that show no leaf in sight that is not found.
-
--- a leaf that is in sight of the portal is found, or awaited at a frame
-abbrev pub IsFoundOrAwaited : World → Portal → List Frame → List Bool → ℕ → Type 0
-IsFoundOrAwaited world first frames row n = IsIn row n ⊎ ((frame : Frame) × Contains frames frame × IsAwaited world first n frame)
 
 -- so far: each frame ends an open chain, what is found is shown by one, and all that is in sight is found or awaited
 pub record IsWalk (world : World) (MayHave : ℕ → ℕ → Type 0) (p : ℕ) (frames : List Frame) (row : List Bool) : Type 0 where
   pub wide : length row ≡ length (numbered_leaves world.tree)
   pub chains : All (EndsChain world MayHave p) frames
   pub shown : (n : ℕ) → IsIn row n → IsShown world.portals (MayHave n) p n
-  pub none_missed : (first : Portal) → IsAt world.portals p first → (n : ℕ) → IsInSight world.tree first n → IsFoundOrAwaited world first frames row n
+  pub none_missed : NoneIsMissed world p (IsInSight world.tree) frames row
 
 -- how much is left to do at a frame: each portal still to be tried may lead to a frame with one leaf fewer to meet
 abbrev pub frame_weight : World → Frame → ℕ
 frame_weight world frame = (1 + length frame.untried) * (length world.portals + 2) ^ count_by not frame.met
-
--- what becomes of an awaited leaf for which the portal is next: it is found, or awaited where the chain has gone on
-abbrev pub IsFoundOrAhead : World → Portal → Option Frame → List Bool → ℕ → Type 0
-IsFoundOrAhead world first child row n = IsIn row n ⊎ MatchOption child ⊥ (IsAwaited world first n)
 
 -- rows of a frame, and the one of what is found, have a place for each numbered leaf
 pub record AreWide (world : World) (frame : Frame) (row : List Bool) : Type 0 where
@@ -43,11 +36,9 @@ pub record IsBegun (world : World) (MayHave : ℕ → ℕ → Type 0) (p : ℕ) 
   pub shown : (n : ℕ) → IsIn row n → IsShown world.portals (MayHave n) p n
   pub none_missed : (first : Portal) → IsAt world.portals p first → (n : ℕ) → IsInSight world.tree first n → IsIn row n ⊎ IsAwaited world first n frame
 
--- a portal is tried at a frame: leaves may be found, and where the chain goes on there is a frame for it
+-- a portal is tried at a frame: it is looked through, and where the chain goes on it stays open; what is found is shown
 pub record IsTried (world : World) (MayHave : ℕ → ℕ → Type 0) (p : ℕ) (frame : Frame) (number : ℕ) (old new : List Bool) (child : Option Frame) : Type 0 where
-  pub same_length : length new ≡ length old
-  pub stays : (n : ℕ) → IsIn old n → IsIn new n
+  pub looked : IsLookedThrough world p frame number old new child
   pub gained : (n : ℕ) → IsIn new n → IsIn old n ⊎ IsShown world.portals (MayHave n) p n
   pub chain : MatchOption child (Unit {0}) (EndsChain world MayHave p)
   pub fewer : MatchOption child (Unit {0}) (λ after. (length after.untried < length world.portals + 1) × (count_by not after.met < count_by not frame.met))
-  pub none_missed : (first q : Portal) → IsAt world.portals p first → IsAt world.portals number q → (n : ℕ) → IsIn frame.mask n → IsNextTo world.tree first frame n q → IsFoundOrAhead world first child new n

@@ -4,6 +4,6 @@ use Rattle.qm_flow.specs.declared.own_rows.Place.TheVariants.{NotYet, Barred, Ro
 
 -- the row of a flow's own that a place stands for: none yet, a clear one with so many leaves, or the one that is there
 abbrev pub own_row : Place → Option (List Bool)
-own_row (NotYet noted) = None
+own_row NotYet = None
 own_row (Barred leaves) = Some (replicate leaves false)
 own_row (Row row) = Some row

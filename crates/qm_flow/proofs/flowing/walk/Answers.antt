@@ -44,12 +44,12 @@ bar_unseen-requires-clause-same_world g c = g.met.S.RowSource.same_world c.args.
 pub bar_unseen-requires-clause-pairs : goal.bar_unseen-requires-clause-pairs
 bar_unseen-requires-clause-pairs g c = c.requires.begun.are
 
-pub end_search-requires-clause-same_world : goal.end_search-requires-clause-same_world
-end_search-requires-clause-same_world g c = g.met.S.RowSource.same_world c.show_by_lines.new.source c.bar_unseen.new.source c.bar_unseen.ensures.on
+pub end_walk-requires-clause-same_world : goal.end_walk-requires-clause-same_world
+end_walk-requires-clause-same_world g c = g.met.S.RowSource.same_world c.show_by_lines.new.source c.bar_unseen.new.source c.bar_unseen.ensures.on
     ∙ g.met.S.RowSource.same_world c.args.source.now c.show_by_lines.new.source c.show_by_lines.ensures.on ∙ c.requires.same_world
 
-pub end_search-requires-clause-walk : goal.end_search-requires-clause-walk
-end_search-requires-clause-walk g c =
+pub end_walk-requires-clause-walk : goal.end_walk-requires-clause-walk
+end_walk-requires-clause-walk g c =
     let world = c.args.world.now in
     let now = g.S.RowSource.ceilings c.args.source.now in
     let seen = c.requires.seen in
@@ -68,8 +68,8 @@ end_search-requires-clause-walk g c =
           c.requires.begun (c.bar_unseen.ensures.pairs c.show_by_lines.new.row);
     }
 
-pub end_search-requires-clause-spares : goal.end_search-requires-clause-spares
-end_search-requires-clause-spares g c = c.in_ok-push_next.ensures.spares
+pub end_walk-requires-clause-spares : goal.end_walk-requires-clause-spares
+end_walk-requires-clause-spares g c = c.in_ok-push_next.ensures.spares
 
 pub returns-in_err-push_next-clause-on : goal.returns-in_err-push_next-clause-on
 returns-in_err-push_next-clause-on g c = g.met.S.RowSource.goes_on_itself c.args.source.now
@@ -87,8 +87,8 @@ returns-clause-walk g c =
     let lines = g.met.S.RowSource.narrower c.args.source.now c.show_by_lines.new.source c.show_by_lines.ensures.on in
     let both = g.met.S.RowSource.narrower c.args.source.now c.bar_unseen.new.source (g.met.S.RowSource.goes_on_in_turn c.args.source.now c.show_by_lines.new.source c.bar_unseen.new.source c.show_by_lines.ensures.on c.bar_unseen.ensures.on) in
     let frame = with_mask c.copy_from.new.self c.args.stack.now.next in
-    IfOk-weaker c.end_search.result (λ row. (p : ℕ) (ceilings : List (List Bool)) → LieWithin (g.S.RowSource.ceilings c.bar_unseen.new.source) ceilings → IsWalkSoFar world ceilings p c.bar_unseen.new.pairs c.push_next.new.self.frames.items c.show_by_lines.new.row →
-    IsWalkSoFar world ceilings p c.end_search.new.pairs [] row)
+    IfOk-weaker c.end_walk.result (λ row. (p : ℕ) (ceilings : List (List Bool)) → LieWithin (g.S.RowSource.ceilings c.bar_unseen.new.source) ceilings → IsWalkSoFar world ceilings p c.bar_unseen.new.pairs c.push_next.new.self.frames.items c.show_by_lines.new.row →
+    IsWalkSoFar world ceilings p c.end_walk.new.pairs [] row)
     (λ row. (ceilings : List (List Bool)) → LieWithin now ceilings → IsFirstMask world ceilings c.args.portal c.args.pairs.now.seen → HasEnded world ceilings c.args.portal row)
     (λ row all ceilings below mask. (all c.args.portal ceilings (λ place n is. below place n (both place n is))
     (rounds_begin world ceilings now (g.S.RowSource.ceilings c.show_by_lines.new.source) c.args.portal frame c.push_next.new.self.frames.items c.find.new.row c.show_by_lines.new.row c.args.pairs.now c.bar_unseen.new.pairs
@@ -97,9 +97,9 @@ returns-clause-walk g c =
     c.copy_from.ensures (subst (IsFirstMask world ceilings c.args.portal) (sym (ap (λ (p : Pairs). p.seen) c.pairs.view_is)) mask)
     (c.in_ok-found.ensures ∙ ap (λ (n : ℕ). replicate n false) c.leaves.ensures) c.to.ensures.value c.find.ensures) c.in_ok-show_by_lines.ensures.shown
     c.requires.begun (c.bar_unseen.ensures.pairs c.show_by_lines.new.row))).walk)
-    c.end_search.ensures.walk
+    c.end_walk.ensures.walk
 
 pub returns-clause-on : goal.returns-clause-on
 returns-clause-on g c =
-    g.met.S.RowSource.goes_on_in_turn c.args.source.now c.bar_unseen.new.source c.end_search.new.source
-    (g.met.S.RowSource.goes_on_in_turn c.args.source.now c.show_by_lines.new.source c.bar_unseen.new.source c.show_by_lines.ensures.on c.bar_unseen.ensures.on) c.end_search.ensures.on
+    g.met.S.RowSource.goes_on_in_turn c.args.source.now c.bar_unseen.new.source c.end_walk.new.source
+    (g.met.S.RowSource.goes_on_in_turn c.args.source.now c.show_by_lines.new.source c.bar_unseen.new.source c.show_by_lines.ensures.on c.bar_unseen.ensures.on) c.end_walk.ensures.on

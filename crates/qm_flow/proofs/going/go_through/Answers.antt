@@ -1,4 +1,4 @@
-use Rattle.std.proofs.Common.{◌≡◌, ◌⊎◌, ◌<◌, ℕ, true, List, Option, Bool, length, set, sym, ap, ◌∙◌, subst, arith, ⊎_elim}
+use Rattle.std.proofs.Common.{◌<◌, ℕ, true, List, Option, Bool, length, set, sym, ap, ◌∙◌, subst, arith, ⊎_elim}
 use Rattle.std.specs.Bool.{then_some}
 use Rattle.std.proofs.lemmas.Result.{IfOk-weaker}
 use Rattle.qm_lists.specs.WorkList.{IsIn}
@@ -8,12 +8,13 @@ use Rattle.qm_chains.specs.inner.Frame.{Frame, put_back, EndsChain, blocked}
 use Rattle.qm_chains.specs.inner.Narrowing.{IsNarrowed}
 use Rattle.qm_chains.specs.inner.OwnRows.{AreOwnRows, MustHave, CanHave}
 use Rattle.qm_chains.specs.inner.Pairs.{Pairs, LieWithinPairs}
+use Rattle.qm_chains.specs.inner.Search.{IsLookedThrough}
 use Rattle.qm_chains.specs.inner.Walk.{IsTried}
 use Rattle.qm_chains.specs.inner.Wanted.{IsWantedVia}
 use Rattle.qm_chains.proofs.Narrowing.{narrowed_as}
 use Rattle.qm_chains.proofs.PairRows.{wanted_answered, can_within, pairs_stay}
-use Rattle.qm_chains.proofs.TriedPortals.{tried_stopped}
-use Rattle.qm_chains.proofs.Cones.{tried_on_left}
+use Rattle.qm_chains.proofs.TriedPortals.{looked_stopped, tried_none, FindsLast}
+use Rattle.qm_chains.proofs.Cones.{looked_on_left, tried_on_left}
 use Rattle.qm_sight.specs.WordInSight.{ceiling_of, LieWithin}
 use Rattle.qm_sight.specs.InCeiling.{IsInCeiling}
 use Rattle.std.proofs.lemmas.List.{length-set}
@@ -33,12 +34,16 @@ narrow-requires-clause-own g c =
     subst (λ (own : List (Option (List Bool))). AreOwnRows (g.S.RowSource.world c.args.source.now) own) (sym (ap (λ (p : Pairs). p.own) c.pairs.view_is))
     (subst (λ (w : World). AreOwnRows w c.args.pairs.now.own) (sym c.requires.of_world.same_world) c.requires.of_world.pairs_are.own_are)
 
-pub returns-then-not-leads-clause-tried : goal.returns-then-not-leads-clause-tried
-returns-then-not-leads-clause-tried g c ceilings lie within ends =
+pub returns-then-not-leads-clause-looked : goal.returns-then-not-leads-clause-looked
+returns-then-not-leads-clause-looked g c =
     let pane = c.pane-pane.ensures in
-    tried_stopped c.args.world.now c.requires.own_portals (IsInCeiling ceilings) c.args.pairs.now.first c.args.frame.now c.args.portal c.args.found.now pane.0 pane.1
+    looked_stopped c.args.world.now c.args.pairs.now.first c.args.frame.now c.args.portal c.args.found.now pane.0 pane.1
     (blocked (blocked_there c.args.world.now.portals c.args.portal c.pane-pane.result.now.winding c.pane-pane.result.now.into pane c.frame.inside.state c.args.frame.now.state (ap (λ (f : Frame). f.state) c.frame.view_is)
     (c.in_ok-leads.ensures.blocks c.if-not-leads.true)))
+
+pub returns-then-not-leads-clause-tried : goal.returns-then-not-leads-clause-tried
+returns-then-not-leads-clause-tried g c ceilings lie within ends =
+    tried_none c.args.world.now c.args.pairs.now.first c.args.frame.now c.args.portal c.args.found.now (IsInCeiling ceilings) (returns-then-not-leads-clause-looked g c)
 
 pub returns-clause-tried : goal.returns-clause-tried
 returns-clause-tried g c =
@@ -66,15 +71,49 @@ returns-clause-tried g c =
     let is = q.2 in
     let child : Frame = record { state = c.step_into.new.spare; untried = c.leaving-next-inside.result.now; met = c.set.new.self; mask = c.narrow.new.mask } in
     IfOk-weaker c.left_of.result (λ left. IsLeftOf world pairs.first child c.find.new.row c.to-entered.result (then_some left c.left_of.new.frame)) Goal
-    (λ left its ceilings lie lie_own ends. tried_on_left c.args.world.now c.requires.own_portals (IsInCeiling ceilings) pairs.first frame c.args.portal c.args.found.now q.0 q.1
-    child (λ n. IsInCeiling ceilings n portal) (narrowed ceilings lie lie_own) (λ n has. has) ends step
-    (c.requires.new q.0 q.1)
-    (omega (arith, within, met_wide, is)) met_is
-    (subst (λ (n : ℕ). AreLeaving c.args.world.now.portals n c.leaving-next-inside.result.now) q.2 c.leaving-next-inside.ensures)
+    (λ left its ceilings lie lie_own ends.
+    let by_row = narrowed ceilings lie lie_own in
+    tried_on_left world c.requires.own_portals pairs.first frame portal c.args.found.now q.0 q.1
+    child by_row.keeps step (omega (arith, within, met_wide, is)) met_is
+    (subst (λ (n : ℕ). AreLeaving world.portals n c.leaving-next-inside.result.now) q.2 c.leaving-next-inside.ensures)
     (omega (arith, within, row_wide, is)) c.find.new.row
-    (subst (λ (n : ℕ). (IsIn c.narrow.new.mask n × (c.find.new.row ≡ set c.args.found.now n true)) ⊎ ((IsIn c.narrow.new.mask n → ⊥) × (c.find.new.row ≡ c.args.found.now))) q.2 c.find.ensures)
+    (subst (λ (n : ℕ). FindsLast c.narrow.new.mask n c.args.found.now c.find.new.row) q.2 c.find.ensures)
     (then_some left c.left_of.new.frame)
-    (subst (λ (n : ℕ). IsLeftOf world pairs.first child c.find.new.row n (then_some left c.left_of.new.frame)) q.2 its))
+    (subst (λ (n : ℕ). IsLeftOf world pairs.first child c.find.new.row n (then_some left c.left_of.new.frame)) q.2 its)
+    (IsInCeiling ceilings) by_row.within by_row.same_length ends (c.requires.new q.0 q.1))
+    c.left_of.ensures.left
+
+pub returns-clause-looked : goal.returns-clause-looked
+returns-clause-looked g c =
+    let q = c.to-entered.ensures.value in
+    let frame = c.args.frame.now in
+    let ceiling = ceiling_of (g.S.RowSource.ceilings c.args.source.now) c.args.portal in
+    let world = c.args.world.now in
+    let pairs = c.args.pairs.now in
+    let portal = c.args.portal in
+    let narrowed_here = subst (λ (w : World). IsNarrowed (MustHave w c.pairs.inside.own portal) (CanHave ceiling c.pairs.inside.own portal) c.copy_from.new.self c.narrow.new.mask) c.requires.of_world.same_world c.narrow.ensures.narrowed in
+    let narrowed_own = subst (λ (own : List (Option (List Bool))). IsNarrowed (MustHave world own portal) (CanHave ceiling own portal) c.copy_from.new.self c.narrow.new.mask) (ap (λ (p : Pairs). p.own) c.pairs.view_is) narrowed_here in
+    let narrowed_row = subst (λ (row : List Bool). IsNarrowed (MustHave world pairs.own portal) (CanHave ceiling pairs.own portal) row c.narrow.new.mask) (c.copy_from.ensures ∙ ap (λ (f : Frame). f.mask) c.frame.view_is) narrowed_own in
+    let keeps : (n : ℕ) → IsIn frame.mask n → IsWantedVia world pairs.first c.args.found.now portal n → IsIn c.narrow.new.mask n = λ n in_mask wanted. narrowed_row.keeps n in_mask (wanted_answered world c.args.found.now pairs c.requires.of_world.pairs_are portal n wanted) in
+    let step = steps_on world.portals portal c.pane-pane.result.now.winding c.pane-pane.result.now.into c.pane-pane.ensures c.frame.inside.state frame.state (ap (λ (f : Frame). f.state) c.frame.view_is) q.0 q.1 c.step_into.new.spare
+    (c.in_ok-leads.ensures.leads c.if-not-leads.false) in
+    let same_met = c.copy_from-2.ensures ∙ ap (λ (f : Frame). f.met) c.frame.view_is in
+    let met_is = c.set.ensures ∙ ap (λ (row : List Bool). set row c.to-entered.result true) same_met ∙ ap (λ (n : ℕ). set frame.met n true) q.2 in
+    let within = c.to-entered.ensures.within in
+    let met_wide = c.requires.of_world.wide.met in
+    let row_wide = c.requires.of_world.wide.found in
+    let is = q.2 in
+    let child : Frame = record { state = c.step_into.new.spare; untried = c.leaving-next-inside.result.now; met = c.set.new.self; mask = c.narrow.new.mask } in
+    IfOk-weaker c.left_of.result (λ left. IsLeftOf world pairs.first child c.find.new.row c.to-entered.result (then_some left c.left_of.new.frame))
+    (λ on. IsLookedThrough world pairs.first frame portal c.args.found.now c.find.new.row (then_some on c.left_of.new.frame))
+    (λ left its. looked_on_left world c.requires.own_portals pairs.first frame portal c.args.found.now q.0 q.1
+    child keeps step (omega (arith, within, met_wide, is)) met_is
+    (subst (λ (n : ℕ). AreLeaving world.portals n c.leaving-next-inside.result.now) q.2 c.leaving-next-inside.ensures)
+    (omega (arith, within, row_wide, is)) c.find.new.row
+    (subst (λ (n : ℕ). FindsLast c.narrow.new.mask n c.args.found.now c.find.new.row) q.2 c.find.ensures)
+    (then_some left c.left_of.new.frame)
+    (subst (λ (n : ℕ). IsLeftOf world pairs.first child c.find.new.row n (then_some left c.left_of.new.frame)) q.2 its)
+    met_wide (narrowed_row.same_length ∙ c.requires.of_world.wide.mask))
     c.left_of.ensures.left
 
 pub returns-clause-stays : goal.returns-clause-stays

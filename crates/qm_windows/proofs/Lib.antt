@@ -1,9 +1,0 @@
-mod Ways
-mod PlanesBeyond
-mod HandedLaw
-mod ClosedLaw
-mod SeenBack
-mod RowWords
-mod Read
-mod SoFar
-mod Excluded

@@ -1,2 +1,0 @@
-pub mod FoundOrInSight
-pub mod inner
