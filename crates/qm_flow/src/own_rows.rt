@@ -66,7 +66,7 @@ impl OwnRow {
             }
             Place::Barred { .. } => None,
             Place::Row(_) => match self.passed {
-                12 | 48 | 192 | 768 => Some(Due::Search),
+                24 | 96 | 384 | 1_536 => Some(Due::Search),
                 _ => None,
             },
         }

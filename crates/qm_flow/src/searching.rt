@@ -30,7 +30,7 @@ use qm_sight::RowSource;
 use std::alloc::{AllocError, Global};
 
 /// How many rounds a search may take.
-const ROUNDS: u64 = 2_048;
+const ROUNDS: u64 = 1_024;
 
 /// Narrows the row of the pair with a portal by a search from this pair on. Where that has not ended after some rounds, nothing is
 /// changed. What it finds is not shown by an open chain, and serves for nothing else.
