@@ -1,4 +1,4 @@
-//! A point that lies inside most brushes: the middle of what faces across an axis leave of the cube.
+//! A point that lies inside most brushes: the middle of a cuboid that has what faces leave of the cube.
 
 ghost use Rattle.std.specs.Prelude.{◌≡◌, ◌<◌, true, pos, length};
 ghost use Rattle.qm_space.specs.Point.{IsInCube, IsWithinExtent};
@@ -33,23 +33,36 @@ const ACROSS_Z: Plane = Plane {
     d: 0,
 };
 
-/// Whether the middle of what faces across an axis leave of the cube is strictly behind all faces: if so, they are full.
+/// Whether the middle of what faces leave of the cube is strictly behind all faces: if so, they are full. Where it is not, they
+/// go over what they left once more, of which slanted ones leave less.
 pub(crate) fn has_middle_inside(faces: &[FaceRef], planes: &[Plane]) -> bool
     requires numbered { AreNumberedIn planes.now faces.now }
     ensures { result ≡ true → IsFull (solid_behind planes.now faces.now) }
 {
-    let [x, y, z] = sums_of_ends(&left_of_cube(faces, planes));
+    let left = left_of(Cuboid::whole(), faces, planes);
+    if is_middle_inside(&left, faces, planes) {
+        return true;
+    }
+    is_middle_inside(&left_of(left, faces, planes), faces, planes)
+}
+
+/// Whether the middle of a cuboid is in the cube and strictly behind all faces: if so, they are full.
+fn is_middle_inside(cuboid: &Cuboid, faces: &[FaceRef], planes: &[Plane]) -> bool
+    requires numbered { AreNumberedIn planes.now faces.now }
+    ensures { result ≡ true → IsFull (solid_behind planes.now faces.now) }
+{
+    let [x, y, z] = sums_of_ends(cuboid);
     if !is_in_cube(x, y, z) {
         return false;
     }
     is_inside(faces, &Point { x, y, z, w: 2 }, planes)
 }
 
-/// What faces across an axis leave of the cube. It is only looked at for a point to try.
-fn left_of_cube(faces: &[FaceRef], planes: &[Plane]) -> Cuboid
+/// A cuboid that has what faces leave of another one. It is only looked at for a point to try.
+fn left_of(cuboid: Cuboid, faces: &[FaceRef], planes: &[Plane]) -> Cuboid
     requires numbered { AreNumberedIn planes.now faces.now }
 {
-    let mut left = Cuboid::whole();
+    let mut left = cuboid;
     for face in faces {
         left = left.tightened(&inward_plane(face, planes));
     }

@@ -32,7 +32,7 @@ use Rattle.qm_solids.proofs.BookFaces.{stands_at, same_number}
 use Rattle.qm_split.specs.declared.piece.Piece.{Piece}
 use Rattle.qm_split.specs.Pieces.{IsPieceInCell, HasPointOfFace, ArePiecesInCell, IsHeldWithin}
 use Rattle.qm_split.specs.inner.PieceParts.{IsNumberedPiece}
-use Rattle.qm_split.specs.inner.FacePieces.{solid_behind, IsFacePoint, IsFacePiece, HasNoFacePoint, IsPieceOfFace, HasPieceOfFace, HasFacePieces, HasAllBehind}
+use Rattle.qm_split.specs.inner.FacePieces.{solid_behind, IsFacePoint, IsFacePiece, HasNoFacePoint, IsPieceOfFace, HasPieceOfFace, HasFacePieces, HasAllBehind, LeavesAllBehind}
 use Rattle.qm_split.proofs.ListedItems.{all_of_listed}
 use Rattle.qm_split.proofs.PartedPieces.{meets_no_face}
 
@@ -226,15 +226,16 @@ pub contains_cube : (book : List Plane) (solid : Solid) → IsFull solid → Are
 contains_cube book solid full are = contains_throughout solid [] (meets_no_face book [] solid are) full.within full.in_cube (All-nil (λ h. IsInFront h full.within)) full.inside
 
 -- a cuboid that has all of the cube behind the outward planes has what the solid holds of it
-pub all_in_whole : (cuboid : Cuboid) → cuboid ≡ whole_cuboid → HasAllBehind cuboid []
-all_in_whole cuboid same x in_cube none = subst (λ (c : Cuboid). IsInCuboid c x) (sym same) (closed_cube_in_whole x (cube_in_closed x in_cube))
+pub all_left_twice : (outward : List Plane) (whole once twice : Cuboid) → whole ≡ whole_cuboid → LeavesAllBehind whole outward once → LeavesAllBehind once outward twice → HasAllBehind twice outward
+all_left_twice outward whole once twice same first second x in_cube none =
+    second x in_cube (first x in_cube (subst (λ (c : Cuboid). IsInCuboid c x) (sym same) (closed_cube_in_whole x (cube_in_closed x in_cube))) none) none
 
-pub all_in_tightened : (outward : List Plane) (o : Plane) (cuboid t : Cuboid) → HasAllBehind cuboid outward → IsTightened t cuboid (flipped o) → HasAllBehind t (outward ++ o ∷ [])
-all_in_tightened outward o cuboid t all tight x in_cube none =
+pub left_in_tightened : (outward : List Plane) (o : Plane) (cuboid left t : Cuboid) → LeavesAllBehind cuboid outward left → IsTightened t left (flipped o) → LeavesAllBehind cuboid (outward ++ o ∷ []) t
+left_in_tightened outward o cuboid left t all tight x in_cube within none =
     let k = in_cube.weight in
     let e = value_flipped o x in
     let behind = All-last_part (λ h. IsNotInFront h x) outward (o ∷ []) none 0 o (omega arith) in
-    tight x (omega (arith, linear)) (all x in_cube (All-first_part (λ h. IsNotInFront h x) outward (o ∷ []) none)) (omega (arith, linear))
+    tight x (omega (arith, linear)) (all x in_cube within (All-first_part (λ h. IsNotInFront h x) outward (o ∷ []) none)) (omega (arith, linear))
 
 pub held_in_cube : (cuboid : Cuboid) (one : Solid) → HasAllBehind cuboid one.outward → IsHeldWithin cuboid one []
 held_in_cube cuboid one all x in_cube in_cell holds = all x in_cube holds.not_in_front

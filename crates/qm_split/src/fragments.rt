@@ -150,11 +150,14 @@ fn halves_of_cell(
     })
 }
 
+/// For how many planes a longer list has room at the least, so that the lists of cells below are mostly not moved.
+const ROOM: usize = 8;
+
 /// Planes with one more.
 fn longer(planes: &Vec<Plane>, plane: Plane) -> Result<Vec<Plane>, AllocError>
     ensures { IfOk result (λ more. more.items ≡ planes.now.items ++ plane ∷ []) }
 {
-    let mut more = Vec::with_capacity(*planes.allocator(), planes.len() + 1)?;
+    let mut more = Vec::with_capacity(*planes.allocator(), planes.len() + ROOM)?;
     more.extend_from_slice(planes)?;
     more.push(plane)?;
     Ok(more)

@@ -6,7 +6,7 @@ ghost use Rattle.qm_solids.specs.Holding.{IsFull};
 ghost use Rattle.qm_solids.specs.Outward.{outward_of, outward_planes, AreNumberedIn};
 ghost use Rattle.qm_split.specs.Pieces.{ArePiecesInCell};
 ghost use Rattle.qm_split.specs.inner.Parts.{IsPartIn};
-ghost use Rattle.qm_split.specs.inner.FacePieces.{solid_behind, IsFacePiece, HasNoFacePoint, HasAllBehind};
+ghost use Rattle.qm_split.specs.inner.FacePieces.{solid_behind, IsFacePiece, HasNoFacePoint, HasAllBehind, LeavesAllBehind};
 
 use crate::contender::{Body, Contender, Part, least_of};
 use crate::piece::{Piece, numbered, push_some};
@@ -66,15 +66,24 @@ fn outward_planes(
     Ok(planes)
 }
 
-/// A cuboid that has all of the cube that is in front of none of these planes.
+/// A cuboid that has all of the cube that is in front of none of these planes. They go over it twice, since slanted ones leave
+/// less where the others have been.
 fn cuboid_behind(outward: &[Plane]) -> Cuboid
     ensures { HasAllBehind result outward.now }
 {
-    let mut cuboid = Cuboid::whole();
+    let once = left_behind(Cuboid::whole(), outward);
+    left_behind(once, outward)
+}
+
+/// A cuboid that has all of the cube in another one that is in front of none of these planes.
+fn left_behind(cuboid: Cuboid, outward: &[Plane]) -> Cuboid
+    ensures { LeavesAllBehind cuboid outward.now result }
+{
+    let mut left = cuboid;
     for face in outward {
-        cuboid = cuboid.tightened(&face.flipped());
+        left = left.tightened(&face.flipped());
     }
-    cuboid
+    left
 }
 
 /// The outward plane of a face.

@@ -37,6 +37,10 @@ pub record IsFacePiece (book : List Plane) (number : ℕ) (faces : List FaceRef)
 abbrev pub HasAllBehind : Cuboid → List Plane → Type 0
 HasAllBehind cuboid outward = (x : Point) → IsInCube x → IsInFrontOfNone outward x → IsInCuboid cuboid x
 
+-- of what a cuboid has of the cube, another one has all that is in front of none of the planes
+abbrev pub LeavesAllBehind : Cuboid → List Plane → Cuboid → Type 0
+LeavesAllBehind cuboid outward left = (x : Point) → IsInCube x → IsInCuboid cuboid x → IsInFrontOfNone outward x → IsInCuboid left x
+
 -- there is no such point
 abbrev pub HasNoFacePoint : List Plane → ℕ → List FaceRef → Type 0
 HasNoFacePoint book number faces = (x : Point) → IsFacePoint book number faces x → ⊥
