@@ -9,4 +9,6 @@ pub mod FirstTokens
 pub mod Lexers
 pub mod PassedBytes
 pub mod ReadersSoFar
+pub mod LineEnds
+pub mod BlankEnds
 pub mod WholeTokens

@@ -1,8 +1,8 @@
 -- The tokens that end within a piece, which begins between two tokens.
-use Rattle.std.proofs.Common.{◌≡◌, ℕ, ◌+◌, ◌-◌, ◌==◌, ◌<◌, ◌≤◌, List, [], ◌∷◌, ◌++◌, Option, Some, IfSome, Result, Ok, ⊎_elim, length, get_or, take, drop, take-add, take-append-drop, take_all, refl, sym, ap, subst, ◌∙◌, append_assoc, append-nil, length-append, add-zero, arith}
+use Rattle.std.proofs.Common.{◌≡◌, ℕ, ◌+◌, ◌-◌, ◌==◌, ◌<◌, ◌≤◌, List, [], ◌∷◌, ◌++◌, Option, Some, IfSome, Result, Ok, Err, IfOk, ⊎_elim, length, get_or, take, drop, take-add, take-append-drop, take_all, refl, sym, ap, subst, ◌∙◌, append_assoc, append-nil, length-append, add-zero, arith}
 use Rattle.std.specs.Prelude.{All}
 use Rattle.std.proofs.lemmas.Bool.{cases_lt}
-use Rattle.std.proofs.lemmas.List.{take_at, drop_at, drop-drop, length-drop, length-take, length-take-le, get_or-drop, take_more}
+use Rattle.std.proofs.lemmas.List.{take_at, take-take, drop_at, drop-drop, length-drop, length-take, length-take-le, get_or-drop, take_more}
 use Rattle.std.proofs.lemmas.List.Elements.{All-head, All-tail}
 use Rattle.std.proofs.lemmas.List.Sums.{count_by-le-length}
 use Rattle.qm_tokens.specs.Lexeme.{Lexeme, StandsIn, line_ends, quote_length}
@@ -25,7 +25,8 @@ use Rattle.qm_pieces.specs.ReadSoFar.{ReadSoFar, IsReadOf}
 use Rattle.qm_pieces.specs.declared.place.Place.{Place}
 use Rattle.qm_pieces.specs.inner.OpenToken.{IsPlaceBetween}
 use Rattle.qm_pieces.specs.inner.Accepting.{IsRefusedOn, IsReadOn}
-use Rattle.qm_pieces.specs.inner.Scanning.{line_within, IsReadBetween}
+use Rattle.qm_pieces.specs.inner.Scanning.{line_within, IsReadBetween, IsScannedInto}
+use Rattle.qm_pieces.proofs.BlankEnds.{EndsBefore, piece_ends}
 use Rattle.qm_pieces.proofs.ShiftedTexts.{read_shifted}
 use Rattle.qm_pieces.proofs.FirstTokens.{token_ends_in, rest_left}
 use Rattle.qm_pieces.proofs.TextsSoFar.{prepended}
@@ -187,14 +188,16 @@ pub record IsScanning (piece : List ℕ) (lines : ℕ) (first : Prefix) (taken :
   pub text_is : reading.text ≡ piece
   pub left : reading.left ≡ read between taken (line_within piece taken) (drop taken piece)
   pub stand : All (StandsIn piece) reading.left.lexemes
+  pub end : All (EndsBefore (length piece)) reading.left.lexemes
   pub is_read : (text : List ℕ) (offset : ℕ) → IsReadBetween text offset (lines + 1) first → offset + length piece ≤ text_limit → IsReadBetween (text ++ take taken piece) (offset + taken) (lines + line_within piece taken) prefix
 
-pub scan_begun : (piece : List ℕ) (lines : ℕ) (first : Prefix) (reading : Reading) → reading.text ≡ piece → IsLexingOf piece reading.left → All (StandsIn piece) reading.left.lexemes → IsScanning piece lines first 0 first reading
-scan_begun piece lines first reading text_is lexing stand = record {
+pub scan_begun : (piece : List ℕ) (lines : ℕ) (first : Prefix) (reading : Reading) → (0 < length piece → get_or piece (length piece - 1) 0 ≤ 32) → reading.text ≡ piece → IsLexingOf piece reading.left → All (StandsIn piece) reading.left.lexemes → IsScanning piece lines first 0 first reading
+scan_begun piece lines first reading blank text_is lexing stand = record {
   inside = omega arith;
   text_is = text_is;
   left = one_lexing piece reading.left lexing;
   stand = stand;
+  end = subst (λ (l : Lexing). All (EndsBefore (length piece)) l.lexemes) (sym (one_lexing piece reading.left lexing)) (piece_ends piece blank);
   is_read =
       λ text offset is fits.
       subst (λ (t : List ℕ). IsReadBetween t (offset + 0) (lines + 1) first) (sym (append-nil text))
@@ -215,25 +218,45 @@ module _ (piece : List ℕ) (lines : ℕ) (first : Prefix) (taken : ℕ) (prefix
       let front = take (token.start - quote_length token.kind) piece in
       omega (arith, its.line_is, count_by-le-length (λ byte. byte == 10) front, length-take (token.start - quote_length token.kind) piece)
 
-  pub scan_next : (new : Reading) (next : Prefix) → new.text ≡ reading.text → new.left ≡ rest → token.end < length piece → step prefix (symbol_of token) ≡ Ok next → IsScanning piece lines first (token.end + 1) next new
-  scan_next new next same left_is within read = record {
-    inside = omega (arith, within);
+  ends_all : All (EndsBefore (length piece)) (token ∷ rest.lexemes)
+  ends_all = subst (λ (l : Lexing). All (EndsBefore (length piece)) l.lexemes) next_is s.end
+
+  -- and ends within it
+  pub scan_within : token.end < length piece
+  scan_within = All-head (EndsBefore (length piece)) token rest.lexemes ends_all
+
+  pub scan_next : (new : Reading) (next : Prefix) → new.text ≡ reading.text → new.left ≡ rest → step prefix (symbol_of token) ≡ Ok next → IsScanning piece lines first (token.end + 1) next new
+  scan_next new next same left_is read = record {
+    inside = omega (arith, scan_within);
     text_is = same ∙ s.text_is;
-    left = left_is ∙ rest_is piece taken s.inside token rest here within;
+    left = left_is ∙ rest_is piece taken s.inside token rest here scan_within;
     stand = subst (λ (l : Lexing). All (StandsIn piece) l.lexemes) (sym left_is) (All-tail (StandsIn piece) token rest.lexemes stands);
+    end = subst (λ (l : Lexing). All (EndsBefore (length piece)) l.lexemes) (sym left_is) (All-tail (EndsBefore (length piece)) token rest.lexemes ends_all);
     is_read =
         λ text offset is fits.
-        token_read piece taken s.inside token rest here within offset lines text prefix fits (s.is_read text offset is fits) next read;
+        token_read piece taken s.inside token rest here scan_within offset lines text prefix fits (s.is_read text offset is fits) next read;
   }
 
-  pub scan_refused : (found : MapFault) → token.end < length piece → IsRefusedOn prefix (symbol_of token) (lines + token.line) found → (text : List ℕ) (offset : ℕ) → IsReadBetween text offset (lines + 1) first → offset + length piece ≤ text_limit → IsCertain (text ++ piece) found
-  scan_refused found within refused text offset is fits =
-      token_refused piece taken s.inside token rest here within offset lines text prefix fits (s.is_read text offset is fits) found refused
+  pub scan_refused : (found : MapFault) → IsRefusedOn prefix (symbol_of token) (lines + token.line) found → (text : List ℕ) (offset : ℕ) → IsReadBetween text offset (lines + 1) first → offset + length piece ≤ text_limit → IsCertain (text ++ piece) found
+  scan_refused found refused text offset is fits =
+      token_refused piece taken s.inside token rest here scan_within offset lines text prefix fits (s.is_read text offset is fits) found refused
 
 -- where no token is left, the piece can be taken up to a line end
 pub scan_ended : (piece : List ℕ) (lines : ℕ) (first : Prefix) (taken : ℕ) (prefix : Prefix) (reading : Reading) → IsScanning piece lines first taken prefix reading → reading.left ≡ nothing → (end : ℕ) → taken ≤ end → end ≤ length piece → (taken < end → get_or piece (end - 1) 0 ≡ 10) → (text : List ℕ) (offset : ℕ) → IsReadBetween text offset (lines + 1) first → offset + length piece ≤ text_limit → IsReadBetween (text ++ take end piece) (offset + end) (lines + line_within piece end) prefix
 scan_ended piece lines first taken prefix reading s none end further within ends text offset is fits =
     gap_read piece taken s.inside (sym s.left ∙ none) end further within ends offset lines text prefix fits (s.is_read text offset is fits)
+
+-- what was read of the first bytes of a piece was read of the piece
+pub scanned_of_first : (text piece : List ℕ) (count offset lines : ℕ) (prefix : Prefix) (answer : Result ℕ MapFault) → IfOk answer (λ taken. taken ≤ length (take count piece)) → IsScannedInto text (take count piece) offset lines prefix answer → IsScannedInto text piece offset lines prefix answer
+scanned_of_first text piece count offset lines prefix (Ok taken) within is =
+    let same : take taken (take count piece) ≡ take taken piece = take-take taken count piece (omega (arith, within, length-take count piece)) in
+    subst (λ (bytes : List ℕ). IsReadBetween (text ++ bytes) (offset + taken) (lines + (1 + line_ends bytes)) prefix) same is
+scanned_of_first text piece count offset lines prefix (Err found) within is =
+    λ other.
+    let first = take count piece in
+    let others = drop count piece in
+    let whole : (text ++ first) ++ others ≡ text ++ piece = append_assoc text first others ∙ ap (λ (bytes : List ℕ). text ++ bytes) (take-append-drop count piece) in
+    subst (λ (t : List ℕ). IsCertain t found) whole (certain_behind (text ++ first) others found (is other))
 
 -- ---- a lexer between two tokens
 

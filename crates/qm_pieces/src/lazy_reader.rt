@@ -1,12 +1,15 @@
-ghost use Rattle.std.specs.Prelude.{◌≡◌, ◌≢◌, [], Err, IsTrue, IsSome, OnOk};
+ghost use Rattle.std.specs.Prelude.{◌≡◌, ◌≢◌, ◌+◌, ◌-◌, ◌<◌, ◌≤◌, ◌^◌, ℕ, List, [], Err, IsTrue, IsSome, IfOk, OnOk, length};
 ghost use Rattle.qm_grammar.specs.declared.fault.MapFault.{MapFault};
+ghost use Rattle.qm_grammar.specs.Faults.{text_limit};
 ghost use Rattle.qm_grammar.specs.Prefix.{between_entities};
 ghost use Rattle.qm_pieces.specs.ReadSoFar.{prefix_so_far};
 ghost use Rattle.qm_pieces.specs.inner.Accepting.{IsAccepted, IsTokenAccepted, closed_on, end_answer, limit_fault};
+ghost use Rattle.qm_pieces.specs.inner.Scanning.{IsReadBetween, IsScannedInto};
 
 use crate::owned_token::OwnedToken;
+use crate::whole_tokens::{accept, take_whole_tokens};
 use qm_grammar::{Context, MapFault};
-use qm_map::{MapFile, Reader, Stop, fault_of};
+use qm_map::{MapFile, Reader};
 use qm_tokens::TokenKind;
 use std::alloc::{AllocError, Global};
 
@@ -51,11 +54,30 @@ impl LazyReader {
             return Err(MapFault::Memory);
         }
         match &mut self.reader {
-            Some(reader) => match reader.accept(kind, bytes) {
-                Ok(()) => Ok(()),
-                Err(Stop::Refused(reason)) => Err(fault_of(reason, line)),
-                Err(Stop::Memory) => Err(MapFault::Memory),
-            },
+            Some(reader) => accept(reader, kind, bytes, line),
+            None => unreachable!(),
+        }
+    }
+
+    /// Takes the tokens that end within a piece, which begins between two tokens and behind so many line ends. Answers how
+    /// many bytes of the piece were taken.
+    pub(crate) fn take_whole_tokens(
+        &mut self,
+        piece: &[u8],
+        line_ends: u64,
+    ) -> Result<usize, MapFault>
+        requires { line_ends + length piece.now < 2 ^ 64 - 1 }
+        ensures within { IfOk result (λ taken. taken ≤ length piece.now) }
+        ensures scanned { (text : List ℕ) (offset : ℕ)
+            → IsReadBetween text offset (line_ends + 1) (prefix_so_far self.old.reader)
+            → offset + length piece.now ≤ text_limit
+            → IsScannedInto text piece.now offset line_ends (prefix_so_far self.new.reader) result }
+    {
+        if self.wake().is_err() {
+            return Err(MapFault::Memory);
+        }
+        match &mut self.reader {
+            Some(reader) => take_whole_tokens(reader, piece, line_ends),
             None => unreachable!(),
         }
     }

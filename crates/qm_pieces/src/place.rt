@@ -26,10 +26,34 @@ impl Place {
     }
 }
 
+/// How many bytes a run has at most, so that the count of its line ends fits in a byte.
+const RUN: usize = 240;
+
 /// How many lines end in the bytes.
 fn line_ends(bytes: &[u8]) -> usize
     ensures value { result ≡ line_ends bytes.now }
     ensures within { result ≤ length bytes.now }
 {
-    bytes.iter().filter(|byte| **byte == b'\n').count()
+    let mut count = 0;
+    let mut counted = 0;
+    while counted < bytes.len() {
+        let end = bytes.len().min(counted + RUN);
+        count += line_ends_of_run(&bytes[counted..end]) as usize;
+        counted = end;
+    }
+    count
+}
+
+/// How many lines end in a run. The count is a byte, so that many bytes are looked at at once.
+fn line_ends_of_run(run: &[u8]) -> u8
+    requires { length run.now ≤ 240 }
+    ensures { result ≡ line_ends run.now }
+{
+    let mut count = 0;
+    for byte in run {
+        if *byte == b'\n' {
+            count += 1;
+        }
+    }
+    count
 }

@@ -10,7 +10,6 @@ ghost use Rattle.qm_pieces.specs.inner.Scanning.{IsReadInto};
 use crate::lazy_reader::LazyReader;
 use crate::piece_fault::PieceFault;
 use crate::piece_lexer::PieceLexer;
-use crate::whole_tokens::take_whole_tokens;
 use qm_grammar::{MapFault, TEXT_LIMIT};
 use qm_map::MapFile;
 use std::alloc::Global;
@@ -93,7 +92,7 @@ impl TextReader {
         if place.offset + piece.len() as u64 > TEXT_LIMIT as u64 {
             return Ok(0);
         }
-        match take_whole_tokens(&mut self.tokens, piece, place.line_ends) {
+        match self.tokens.take_whole_tokens(piece, place.line_ends) {
             Ok(taken) => {
                 self.lexer.go_on_from(place.behind(&piece[..taken]));
                 Ok(taken)

@@ -10,7 +10,7 @@ returns-in-Ok-clause-read c =
     let told = c.in-Ok.ensures {u = tt} in
     λ text is.
     let here = read_at_place place old.lexer c.in-Some.ensures text (prefix_so_far old.tokens.reader) (subst (λ (s : ReadSoFar). IsReadOf text s) (sym c.self.view_is) is) in
-    read_to_place c.behind.result c.go_on_from.new.self c.go_on_from.ensures text c.args.piece.now c.in-Ok.taken place.offset place.line_ends (prefix_so_far c.take_whole_tokens.new.tokens.reader) told.within c.behind.ensures.offset c.behind.ensures.line_ends
+    read_to_place c.behind.result c.go_on_from.new.self c.go_on_from.ensures text c.args.piece.now c.in-Ok.taken place.offset place.line_ends (prefix_so_far c.take_whole_tokens.new.self.reader) told.within c.behind.ensures.offset c.behind.ensures.line_ends
     (told.scanned text place.offset here (omega arith))
 
 pub returns-in-Err-clause-read : goal.returns-in-Err-clause-read
