@@ -1,12 +1,12 @@
 //! From a map to the bytes of its tree file and its listing, and what is printed of it.
 
-ghost use Rattle.std.specs.Prelude.{◌≤◌, IfOk};
+ghost use Rattle.std.specs.Prelude.{◌≡◌, ◌≤◌, IfOk};
 ghost use Rattle.qm_grammar.specs.Valid.{IsValidMap};
 ghost use Rattle.std.specs.Option.{option_map};
 ghost use Rattle.qm_commands.specs.declared.map_command.MapCommand.TheVariants.{Compile};
 ghost use Rattle.qm_statement.specs.Output.{IsListed, IsOutputOf};
 ghost use Rattle.qm_make.specs.inner.Made.{output_of};
-ghost use Rattle.qm_make.specs.inner.PutOut.{IsDonePutOut, IsLeakPutOut, IsPutOut};
+ghost use Rattle.qm_make.specs.inner.PutOut.{IsDonePutOut, IsLeakPutOut, IsPutOut, done_output};
 
 use crate::made::Product;
 use crate::outcome::Outcome;
@@ -70,6 +70,18 @@ fn put_out_done(
 {
     let listing = listing_of(alloc, listed, &world)?;
     drop(world);
+    put_out_listed(alloc, file, listing, summary)
+}
+
+/// The bytes of a tree file with a summary, beside a listing that is made.
+fn put_out_listed(
+    alloc: Global,
+    file: TreeFile,
+    listing: Option<Vec<u8>>,
+    summary: &Summary,
+) -> Result<Product, AllocError>
+    ensures { IfOk result (λ product. output_of product ≡ done_output file (option_map (λ bytes. bytes.items) listing) summary.now) }
+{
     let text = summary_text(alloc, summary)?;
     let file = encode(alloc, &file)?;
     Ok(Product {
