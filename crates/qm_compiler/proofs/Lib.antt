@@ -1,6 +1,7 @@
 pub mod BuiltTrees
 pub mod CompiledMap
 pub mod FlatSoFar
+pub mod Flooded
 pub mod NewFiles
 pub mod NumberedCounts
 pub mod Origins

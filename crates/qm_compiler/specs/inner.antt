@@ -1,4 +1,5 @@
 pub mod Counted
 pub mod Finished
 pub mod FlatCount
+pub mod Flooded
 pub mod NewFile

@@ -1,12 +1,12 @@
 //! From a map to the bytes of its tree file and its listing, and what is printed of it.
 
-ghost use Rattle.std.specs.Prelude.{◌≤◌, IfOk};
+ghost use Rattle.std.specs.Prelude.{◌≡◌, ◌≤◌, IfOk};
 ghost use Rattle.qm_grammar.specs.Valid.{IsValidMap};
 ghost use Rattle.std.specs.Option.{option_map};
 ghost use Rattle.qm_commands.specs.declared.map_command.MapCommand.TheVariants.{Compile};
 ghost use Rattle.qm_statement.specs.Output.{IsListed, IsOutputOf};
 ghost use Rattle.qm_make.specs.inner.Made.{output_of};
-ghost use Rattle.qm_make.specs.inner.PutOut.{IsPutOut};
+ghost use Rattle.qm_make.specs.inner.PutOut.{IsDonePutOut, IsLeakPutOut, IsPutOut, done_output};
 
 use crate::made::Product;
 use crate::outcome::Outcome;
@@ -14,10 +14,11 @@ use crate::printed::{leak_text, summary_text};
 use qm_commands::Options;
 use qm_compiler::{Compiled, compile};
 use qm_crew::Gate;
-use qm_file::encode;
+use qm_file::{TreeFile, encode};
 use qm_mapfile::MapFile;
 use qm_portal::World;
 use qm_prt::print;
+use qm_statement::Summary;
 use std::alloc::{AllocError, Global};
 use std::thread::Threads;
 
@@ -48,31 +49,64 @@ fn put_out(alloc: Global, listed: bool, compiled: Compiled) -> Result<Product, A
             file,
             world,
             summary,
-        } => {
-            let listing = listing_of(alloc, listed, &world)?;
-            drop(world);
-            let text = summary_text(alloc, &summary)?;
-            let file = encode(alloc, &file)?;
-            Ok(Product {
-                file,
-                listing,
-                outcome: Outcome::Done(text),
-            })
-        }
+        } => put_out_done(alloc, listed, file, world, &summary),
         Compiled::Leak {
             file,
             entity,
             trail,
-        } => {
-            let text = leak_text(alloc, entity, trail.as_slice())?;
-            let file = encode(alloc, &file)?;
-            Ok(Product {
-                file,
-                listing: None,
-                outcome: Outcome::Leak(text),
-            })
-        }
+        } => put_out_leak(alloc, &file, entity, trail.as_slice()),
     }
+}
+
+/// The same where no entity leaks. The world is let go of before the bytes of the tree are made.
+fn put_out_done(
+    alloc: Global,
+    listed: bool,
+    file: TreeFile,
+    world: World,
+    summary: &Summary,
+) -> Result<Product, AllocError>
+    ensures { IfOk result (λ product. IsDonePutOut listed file world summary.now (output_of product)) }
+{
+    let listing = listing_of(alloc, listed, &world)?;
+    drop(world);
+    put_out_listed(alloc, file, listing, summary)
+}
+
+/// The bytes of a tree file with a summary, beside a listing that is made.
+fn put_out_listed(
+    alloc: Global,
+    file: TreeFile,
+    listing: Option<Vec<u8>>,
+    summary: &Summary,
+) -> Result<Product, AllocError>
+    ensures { IfOk result (λ product. output_of product ≡ done_output file (option_map (λ bytes. bytes.items) listing) summary.now) }
+{
+    let text = summary_text(alloc, summary)?;
+    let file = encode(alloc, &file)?;
+    Ok(Product {
+        file,
+        listing,
+        outcome: Outcome::Done(text),
+    })
+}
+
+/// The same where one does.
+fn put_out_leak(
+    alloc: Global,
+    file: &TreeFile,
+    entity: u64,
+    trail: &[u64],
+) -> Result<Product, AllocError>
+    ensures { IfOk result (λ product. IsLeakPutOut file.now entity trail.now (output_of product)) }
+{
+    let text = leak_text(alloc, entity, trail)?;
+    let file = encode(alloc, file)?;
+    Ok(Product {
+        file,
+        listing: None,
+        outcome: Outcome::Leak(text),
+    })
 }
 
 /// The text of a listing of a world, where one is asked for.

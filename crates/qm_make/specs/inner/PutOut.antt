@@ -1,4 +1,4 @@
-use Rattle.std.specs.Prelude.{◌≡◌, ℕ, Bool, List, None}
+use Rattle.std.specs.Prelude.{◌≡◌, ℕ, Bool, List, Option, None}
 use Rattle.qm_contacts.specs.World.{World}
 use Rattle.qm_formats.specs.TreeFile.{TreeFile}
 use Rattle.qm_formats.specs.FileLayout.{file_bytes}
@@ -11,6 +11,10 @@ use Rattle.qm_compiler.specs.declared.compiled.Compiled.{Compiled}
 use Rattle.qm_compiler.specs.declared.compiled.Compiled.TheVariants.{Done, Leak}
 
 -- How what a map compiled to is put into bytes and printed.
+
+-- what is put out of a tree file beside its listing, where no entity leaks
+abbrev pub done_output : TreeFile → Option (List ℕ) → Summary → Output
+done_output file listing summary = record { file = file_bytes file; listing = listing; status = status.Done; text = summary_text summary }
 
 -- the bytes of a tree file, its world's listing where one is asked for, and the summary
 pub record IsDonePutOut (listed : Bool) (file : TreeFile) (world : World) (summary : Summary) (output : Output) : Type 0 where

@@ -18,7 +18,7 @@ returns g c =
     let world_of : Tree → World = λ t. record { tree = t; portals = portals_of t c.args.contacts.touchings } in
     record {
       is_tree = ◌∙◌ {b = c.with_filled-tree.result} (ap (λ (f : TreeFile). f.tree) file_is) c.with_filled-tree.ensures;
-      are_contacts = marked_contacts c.args.filled.now c.args.built.tree c.args.contacts c.requires.contacts;
+      are_contacts = marked_contacts c.args.filled c.args.built.tree c.args.contacts c.requires.contacts;
       is_world = c.in_ok-world.ensures ∙ ap world_of c.with_filled-tree.ensures;
       has_form = new_form c.new_file-file.result c.with_filled-tree.result (Some c.in_ok-rows.rows) file_is;
       rows = c.in_ok-rows.rows;
