@@ -10,6 +10,10 @@ compiles_a_made_level() {
     python3 .ci/made_variants.py "$folder/made.map" 3/1000 100.5,-7.125,3.001 >"$folder/fine.map" || return 1
     run_program compile fine.map fine.tree
     [[ $status == 0 ]] && grep -v '^seen' "$folder/printed" | cmp - "$folder/parts" || return 1
+    # one where chains come to some portals more than twenty times, so that searches are made
+    python3 .ci/made_levels.py 1 16 >"$folder/searched.map" || return 1
+    run_program compile searched.map searched.tree --threads 2
+    [[ $status == 0 ]] || return 1
     run_program compile courtyard.map courtyard.tree --prt courtyard.prt
     [[ $status == 0 ]]
 }
@@ -64,7 +68,7 @@ draws_slices_between_whole_heights() {
 }
 
 shows_what_is_seen_along_rays() {
-    (cd "$folder" && python3 "$top/.ci/check_views.py" rooms.tree courtyard.tree made.tree courtyard_leak.tree)
+    (cd "$folder" && python3 "$top/.ci/check_views.py" rooms.tree courtyard.tree made.tree searched.tree courtyard_leak.tree)
 }
 
 # the page of a tree begins at this place
