@@ -41,6 +41,7 @@ fn after_point(tail: &[u8]) -> Option<&[u8]>
 }
 
 /// An unsigned number in units of `10^-places`.
+#[inline(always)]
 fn magnitude(text: &[u8], places: u8) -> Result<u64, NumberFault>
     requires { places ≤ 6 }
     ensures { IsMagnitudeAnswer text.now places result }
@@ -67,6 +68,7 @@ fn magnitude(text: &[u8], places: u8) -> Result<u64, NumberFault>
 ///
 /// `Form` where the text is not of that form; else `TooFine` where a digit other than 0 stands past that many
 /// decimals; else `TooLarge` where the absolute value is above 1,000,000,000.
+#[inline(always)]
 pub fn read(text: &[u8], places: u8) -> Result<Fraction, NumberFault>
     requires { places ≤ 6 }
     ensures answer { IsAnswer text.now places result }

@@ -70,6 +70,13 @@ fn behind_gap(text: &[u8], position: Position) -> Option<Position>
     let offset = position.offset;
     let line = position.line;
     let byte = text[offset];
+    // most blanks are spaces, which end no line
+    if byte == b' ' {
+        return Some(Position {
+            offset: offset + 1,
+            line,
+        });
+    }
     if byte <= b' ' {
         return Some(Position {
             offset: offset + 1,

@@ -1,3 +1,4 @@
+pub mod DueMark
 pub mod Steady
 pub mod Stepping
 pub mod Taking

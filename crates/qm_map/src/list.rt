@@ -13,7 +13,9 @@ pub(crate) fn take_all<T>(alloc: Global, list: &mut Vec<T>) -> Result<Vec<T>, Al
     ensures empty { OnOk result (list.new.items ≡ []) }
     ensures err { OnErr result (list.new.items ≡ list.old.items) }
 {
-    if list.len() <= FEW {
+    if list.is_empty() {
+        Ok(Vec::new(alloc))
+    } else if list.len() <= FEW {
         list.split_off(0)
     } else {
         Ok(mem::replace(list, Vec::new(alloc)))

@@ -1,6 +1,7 @@
 ghost use Rattle.std.specs.Prelude.{◌≡◌, ◌+◌, ◌==◌, ◌&&◌, not, true, false, [], ◌∷◌, ◌++◌, Ok, IfOk, MatchOption, OnOk, length};
 ghost use Rattle.qm_grammar.specs.Prefix.{between_entities};
 ghost use Rattle.qm_grammar.specs.Slots.{points_of};
+ghost use Rattle.qm_grammar.specs.Symbol.{sort_of};
 ghost use Rattle.qm_grammar.specs.inner.Machine.{step, step_outside, step_entity, step_value, step_brush, step_face, step_slot, step_mark, with_value, without_brush, with_face, with_left, with_number, with_text, coordinate_of, give_plane, plane_refusal, is_bad_origin};
 ghost use Rattle.qm_map.specs.inner.Steady.{HasDueParts};
 ghost use Rattle.qm_map.specs.inner.Stepping.{IsStep};
@@ -11,7 +12,7 @@ use crate::list::take_all;
 use crate::number::coordinate;
 use crate::origin::{is_origin_key, lacks_behind, origin_of};
 use crate::slots::{behind_bracket, behind_first, behind_word};
-use crate::sort::{is_same_mark, sort_of};
+use crate::sort::{is_mark, sort_of};
 use crate::stop::Stop;
 use qm_grammar::{Context, Mark, Refusal, Slot, Sort};
 use qm_lists::Items;
@@ -105,18 +106,19 @@ impl Reader {
         }
     }
 
-    /// Takes the next token, of this kind and with these bytes.
+    /// Takes the next token, of this kind and with these bytes. It stands by itself, since in line in a loop over tokens it would
+    /// leave that loop no registers.
+    #[inline(never)]
     #[tactic(auto, unfolding(qm_grammar::specs::inner::Machine::step))]
     pub fn accept(&mut self, kind: TokenKind, bytes: &[u8]) -> Result<(), Stop>
         ensures { IsStep result self.new (step self.old (record { kind = kind; bytes = bytes.now })) }
     {
-        let sort = sort_of(kind, bytes);
         match self.context {
-            Context::Outside => self.step_outside(sort),
-            Context::Entity => self.step_entity(sort, bytes),
-            Context::Value => self.step_value(sort, bytes),
-            Context::Brush => self.step_brush(sort),
-            Context::Face => self.step_face(sort, bytes),
+            Context::Outside => self.step_outside(sort_of(kind, bytes)),
+            Context::Entity => self.step_entity(sort_of(kind, bytes), bytes),
+            Context::Value => self.step_value(sort_of(kind, bytes), bytes),
+            Context::Brush => self.step_brush(sort_of(kind, bytes)),
+            Context::Face => self.step_face(kind, bytes),
         }
     }
 
@@ -254,44 +256,125 @@ impl Reader {
         Ok(())
     }
 
-    fn step_face(&mut self, sort: Sort, bytes: &[u8]) -> Result<(), Stop>
+    #[inline(always)]
+    fn step_face(&mut self, kind: TokenKind, bytes: &[u8]) -> Result<(), Stop>
         requires { self.old.context ≡ Context.Face }
-        ensures { IsStep result self.new (step_face self.old self.old.left sort bytes.now) }
+        ensures { IsStep result self.new (step_face self.old self.old.left (sort_of (record { kind = kind; bytes = bytes.now })) bytes.now) }
     {
         match self.left {
-            [slot, others @ ..] => self.step_slot(*slot, others, sort, bytes),
+            [slot, others @ ..] => self.step_slot(*slot, others, kind, bytes),
             [] => Err(Stop::Refused(Refusal::Unexpected)),
         }
     }
 
+    /// Takes a token where this slot is due. Its sort is asked for where the slot is known, and so for no more than the slot needs.
+    #[inline(always)]
     #[tactic(auto, unfolding(qm_grammar::specs::inner::Machine::step_slot))]
     fn step_slot(
         &mut self,
         slot: Slot,
         others: &'static [Slot],
-        sort: Sort,
+        kind: TokenKind,
         bytes: &[u8],
     ) -> Result<(), Stop>
         requires context { self.old.context ≡ Context.Face }
         requires due { HasDueParts Context.Face (length self.old.numbers) (length self.old.texts) (slot ∷ others.now) }
-        ensures { IsStep result self.new (step_slot self.old slot others.now sort bytes.now) }
+        ensures { IsStep result self.new (step_slot self.old slot others.now (sort_of (record { kind = kind; bytes = bytes.now })) bytes.now) }
     {
-        match (slot, sort) {
-            (Slot::Mark(due), Sort::Mark(mark)) => {
-                if is_same_mark(due, mark) {
-                    self.step_mark(due, others)
-                } else {
-                    Err(Stop::Refused(Refusal::Unexpected))
-                }
-            }
-            (Slot::Coordinate, Sort::Name) => self.step_number(others, bytes),
-            (Slot::Texture, Sort::Name) => self.step_text(others, bytes),
-            (Slot::Texture, Sort::Quoted) => self.step_text(others, bytes),
-            (Slot::FirstOfMapping, Sort::Name) => self.step_text(behind_word(), bytes),
-            (Slot::FirstOfMapping, Sort::Mark(Mark::OpenBracket)) => {
-                self.step_over(behind_bracket())
-            }
-            (Slot::Word, Sort::Name) => self.step_text(others, bytes),
+        match slot {
+            Slot::Mark(due) => self.step_due(due, others, kind, bytes),
+            Slot::Coordinate => self.step_coordinate(others, sort_of(kind, bytes), bytes),
+            Slot::Texture => self.step_texture(others, sort_of(kind, bytes), bytes),
+            Slot::FirstOfMapping => self.step_first(others, sort_of(kind, bytes), bytes),
+            Slot::Word => self.step_word(others, sort_of(kind, bytes), bytes),
+        }
+    }
+
+    /// Takes a token where this mark is due.
+    #[inline]
+    #[tactic(auto, unfolding(qm_grammar::specs::inner::Machine::step_slot))]
+    fn step_due(
+        &mut self,
+        due: Mark,
+        others: &'static [Slot],
+        kind: TokenKind,
+        bytes: &[u8],
+    ) -> Result<(), Stop>
+        requires context { self.old.context ≡ Context.Face }
+        requires due { HasDueParts Context.Face (length self.old.numbers) (length self.old.texts) (Slot.Mark due ∷ others.now) }
+        ensures { IsStep result self.new (step_slot self.old (Slot.Mark due) others.now (sort_of (record { kind = kind; bytes = bytes.now })) bytes.now) }
+    {
+        if is_mark(due, kind, bytes) {
+            self.step_mark(due, others)
+        } else {
+            Err(Stop::Refused(Refusal::Unexpected))
+        }
+    }
+
+    /// Takes a token where a coordinate is due.
+    #[inline]
+    #[tactic(auto, unfolding(qm_grammar::specs::inner::Machine::step_slot))]
+    fn step_coordinate(
+        &mut self,
+        others: &'static [Slot],
+        sort: Sort,
+        bytes: &[u8],
+    ) -> Result<(), Stop>
+        requires context { self.old.context ≡ Context.Face }
+        requires due { HasDueParts Context.Face (length self.old.numbers) (length self.old.texts) (Slot.Coordinate ∷ others.now) }
+        ensures { IsStep result self.new (step_slot self.old Slot.Coordinate others.now sort bytes.now) }
+    {
+        match sort {
+            Sort::Name => self.step_number(others, bytes),
+            _ => Err(Stop::Refused(Refusal::Unexpected)),
+        }
+    }
+
+    /// Takes a token where a texture is due.
+    #[inline]
+    #[tactic(auto, unfolding(qm_grammar::specs::inner::Machine::step_slot))]
+    fn step_texture(
+        &mut self,
+        others: &'static [Slot],
+        sort: Sort,
+        bytes: &[u8],
+    ) -> Result<(), Stop>
+        requires context { self.old.context ≡ Context.Face }
+        requires due { HasDueParts Context.Face (length self.old.numbers) (length self.old.texts) (Slot.Texture ∷ others.now) }
+        ensures { IsStep result self.new (step_slot self.old Slot.Texture others.now sort bytes.now) }
+    {
+        match sort {
+            Sort::Name => self.step_text(others, bytes),
+            Sort::Quoted => self.step_text(others, bytes),
+            _ => Err(Stop::Refused(Refusal::Unexpected)),
+        }
+    }
+
+    /// Takes a token where the first of a mapping is due.
+    #[inline]
+    #[tactic(auto, unfolding(qm_grammar::specs::inner::Machine::step_slot))]
+    fn step_first(&mut self, others: &'static [Slot], sort: Sort, bytes: &[u8]) -> Result<(), Stop>
+        requires context { self.old.context ≡ Context.Face }
+        requires due { HasDueParts Context.Face (length self.old.numbers) (length self.old.texts) (Slot.FirstOfMapping ∷ others.now) }
+        ensures { IsStep result self.new (step_slot self.old Slot.FirstOfMapping others.now sort bytes.now) }
+    {
+        match sort {
+            Sort::Name => self.step_text(behind_word(), bytes),
+            Sort::Mark(Mark::OpenBracket) => self.step_over(behind_bracket()),
+            _ => Err(Stop::Refused(Refusal::Unexpected)),
+        }
+    }
+
+    /// Takes a token where a word of a mapping is due.
+    #[inline]
+    #[tactic(auto, unfolding(qm_grammar::specs::inner::Machine::step_slot))]
+    fn step_word(&mut self, others: &'static [Slot], sort: Sort, bytes: &[u8]) -> Result<(), Stop>
+        requires context { self.old.context ≡ Context.Face }
+        requires due { HasDueParts Context.Face (length self.old.numbers) (length self.old.texts) (Slot.Word ∷ others.now) }
+        ensures { IsStep result self.new (step_slot self.old Slot.Word others.now sort bytes.now) }
+    {
+        match sort {
+            Sort::Name => self.step_text(others, bytes),
             _ => Err(Stop::Refused(Refusal::Unexpected)),
         }
     }

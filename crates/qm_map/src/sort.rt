@@ -1,6 +1,7 @@
 ghost use Rattle.std.specs.Prelude.{◌≡◌};
 ghost use Rattle.qm_grammar.specs.Symbol.{mark_of_byte, mark_of, sort_of};
-ghost use Rattle.qm_grammar.specs.inner.Machine.{mark_byte, is_same_mark};
+ghost use Rattle.qm_grammar.specs.inner.Machine.{mark_byte};
+ghost use Rattle.qm_map.specs.inner.DueMark.{is_due};
 
 use qm_grammar::{Mark, Sort};
 use qm_tokens::TokenKind;
@@ -58,9 +59,13 @@ fn mark_byte(mark: Mark) -> u8
     }
 }
 
-/// Whether two marks are the same.
-pub(crate) fn is_same_mark(one: Mark, other: Mark) -> bool
-    ensures { result ≡ is_same_mark one other }
+/// Whether a token of this kind with these bytes is this mark.
+#[tactic(auto, unfolding(qm_grammar::specs::Symbol::sort_of))]
+pub(crate) fn is_mark(due: Mark, kind: TokenKind, bytes: &[u8]) -> bool
+    ensures { result ≡ is_due due (sort_of (record { kind = kind; bytes = bytes.now })) }
 {
-    mark_byte(one) == mark_byte(other)
+    match (kind, bytes) {
+        (TokenKind::Word, [byte]) => *byte == mark_byte(due),
+        _ => false,
+    }
 }

@@ -13,7 +13,8 @@ use qm_map::{MapFile, Reader};
 use qm_tokens::TokenKind;
 use std::alloc::{AllocError, Global};
 
-/// Takes the tokens of a map one by one. It takes no memory before the first.
+/// Takes the tokens of a map one by one. It takes no memory before the first token, or the first piece in which
+/// tokens may end.
 #[derive(Drop)]
 pub(crate) struct LazyReader {
     alloc: Global,

@@ -9,8 +9,8 @@ use qm_map::{Reader, Stop, fault_of};
 use qm_tokens::TokenKind;
 
 /// Takes the tokens that end within a piece, which begins between two tokens and behind so many line ends. Answers how many
-/// bytes of the piece were taken: up to the end of the last of these tokens, or up to the last line that ends before the
-/// piece's last word where no other follows.
+/// bytes of the piece were taken: up to the end of the last of these tokens, or up to a line end behind it where only blanks and
+/// comments stand between.
 pub(crate) fn take_whole_tokens(
     reader: &mut Reader,
     piece: &[u8],
@@ -26,7 +26,9 @@ pub(crate) fn take_whole_tokens(
     take_ended_tokens(reader, &piece[..last_blank(piece)], line_ends)
 }
 
-/// The same of a piece whose last byte is a blank, so that each of its tokens ends within it.
+/// The same of a piece whose last byte is a blank, so that each of its tokens ends within it. It is no part of its caller, so
+/// that its loop has the registers.
+#[inline(never)]
 fn take_ended_tokens(reader: &mut Reader, piece: &[u8], line_ends: u64) -> Result<usize, MapFault>
     requires blank { 0 < length piece.now → slice_index piece.now (length piece.now - 1) ≤ 32 }
     requires few { line_ends + length piece.now < 2 ^ 64 - 1 }

@@ -1,14 +1,9 @@
-use Rattle.std.proofs.Common.{◌<◌, get_or, arith}
-use Rattle.std.specs.Char.{digit_value}
-use Rattle.std.proofs.lemmas.Int.Digits.{digits_value_more, digits_more}
+use Rattle.std.proofs.Common.{arith}
+use Rattle.qm_decimal.proofs.NineDigits.{first_nine}
 use Rattle.qm_decimal.proofs.whole.whole_part.Goals as goal
 
-pub loop-count-preserved : goal.loop-count-preserved
-loop-count-preserved c =
-    let text = c.args.text.now in
-    let i = c.loop-count.count in
-    let is = c.in-Some.ensures.value.0 in
-    let small = c.in-Some.ensures.value.1 in
-    let digit : digit_value (get_or text i 0) < 10 = omega arith in
-    let more = digits_value_more 10 text i c.loop-count-test.true in
-    (digits_more 10 text i c.loop-count-test.true c.loop-count.invariant.0 digit, omega (arith, c.loop-count.invariant.1))
+pub returns-then-count-lt-FREE_DIGITS : goal.returns-then-count-lt-FREE_DIGITS
+returns-then-count-lt-FREE_DIGITS c =
+    let first = c.first_digits-value.ensures in
+    let below = first_nine c.args.text.now c.first_digits-value.result.1 first.digits first.few in
+    record { within = first.within; digits = first.digits; ends = first.ends c.if-count-lt-FREE_DIGITS.true; capped = omega (arith, first.value_is) }

@@ -1,7 +1,7 @@
 use Rattle.std.proofs.Common.{◌≡◌, ◌+◌, take, min}
 use Rattle.std.specs.Str.Parse.{digits_value, AllDigits}
 use Rattle.qm_numerals.specs.Answer.{limit}
-use Rattle.qm_decimal.proofs.whole.whole_part.Given as goal
+use Rattle.qm_decimal.proofs.whole.more_digits.Given as goal
 
 abbrev pub invariant-loop-count : goal.invariant-loop-count
 invariant-loop-count l =
