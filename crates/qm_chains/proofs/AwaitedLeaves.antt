@@ -1,4 +1,4 @@
--- A leaf in sight is found or awaited: at the start, and wherever a chain goes on.
+-- A leaf in sight is found or awaited: at the start, and wherever it is ahead of a chain.
 use Rattle.std.proofs.Common.{◌≡◌, ◌⊎◌, inl, inr, ⊎_elim, ◌↔◌, ℕ, List, [], ◌∷◌, Contains, Some, sym, ap, ◌∙◌, subst, arith}
 use Rattle.std.proofs.lemmas.Option.{slice_get-get_or}
 use Rattle.qm_lists.specs.WorkList.{IsIn}
@@ -10,7 +10,6 @@ use Rattle.qm_space.specs.Line.{IsBetween}
 use Rattle.qm_segments.specs.Segment.{Segment}
 use Rattle.qm_segments.specs.GoesThrough.{GoesThrough}
 use Rattle.qm_segments.specs.Sight.{IsInSight}
-use Rattle.qm_segments.specs.OpenChain.{leaves_met}
 use Rattle.qm_segments.specs.Ahead.{IsAhead}
 use Rattle.qm_segments.specs.Steps.{LetSegmentsThrough}
 use Rattle.qm_segments.proofs.AheadLaws.{IsNext, next_ahead}
@@ -20,8 +19,7 @@ use Rattle.qm_separators.proofs.PortalStepLaws.{are_convex, lets_pass}
 use Rattle.qm_separators.proofs.ChainLaws.{lets, ahead_at_start}
 use Rattle.qm_contacts.specs.OwnPortals.{HasOwnPortals}
 use Rattle.qm_chains.specs.Shown.{IsAt}
-use Rattle.qm_chains.specs.inner.Frame.{Frame, EndsChain, StopsAt, not_passed, blocked, IsNextTo, IsAwaited}
-use Rattle.qm_chains.proofs.ChainEnds.{GainsOne}
+use Rattle.qm_chains.specs.inner.Frame.{Frame, StopsAt, not_passed, blocked, IsAwaited}
 
 -- all portals that leave the leaf are among these numbers
 abbrev pub HasAllLeaving : List Portal → ℕ → List ℕ → Type 0
@@ -115,13 +113,3 @@ module _ (world : World) (own : HasOwnPortals world) (first : Portal) where
           (λ none. let range = none.1 in absurd (omega arith))
           (Contains-cons_cases b m [] later))
           (Contains-cons_cases a m (b ∷ []) there)
-
-  -- ---- after a step through the portal that is next
-
-  pub next_awaited : (MayHave : ℕ → ℕ → Type 0) (p : ℕ) (frame child : Frame) (q : Portal) (n : ℕ) → IsNextTo world.tree first frame n q → StepsThrough frame.state q child.state →
-      EndsChain world MayHave p child → GainsOne q.to frame.met child.met → HasAllLeaving world.portals q.to child.untried →
-      IsIn child.mask n → (q.to ≡ n) ⊎ IsAwaited world first n child
-  next_awaited MayHave p frame child q n next step ends gains leaving in_mask =
-      let met = leaves_met ends.first (ends.last ∷ ends.before) in
-      reached_or_awaited child q.to n met ends.met_is in_mask leaving
-      (next.ahead child.state step met (λ m there. (gains m).0 ((ends.met_is m).1 there)))

@@ -21,9 +21,6 @@ none_set word bit zero is =
     cc
 
 module _ (Must : ℕ → Type 0) (mask found : List Bool) where
-  pub shows_none : ShowsNothingNewUpTo Must 0 mask found
-  shows_none n before in_mask must = absurd (omega (arith, before))
-
   -- none that may be new is among those that an answer must have
   shows_more : (words mask_word found_word : ℕ) → ShowsNothingNewUpTo Must words mask found → IsWord mask words mask_word → IsWord found words found_word → found_word < 2 ^ 64 →
       ((bit : ℕ) → bit < 64 → Must (64 * words + bit) → has_bit (bit_and mask_word (bit_not w64 found_word)) bit ≡ true → ⊥) → ShowsNothingNewUpTo Must (words + 1) mask found

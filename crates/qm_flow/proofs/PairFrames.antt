@@ -52,7 +52,7 @@ module _ (world : World) (own : HasOwnPortals world) (found : List Bool) (pairs 
   -- else all that is sought is found or awaited at the frame of the pair, with all portals to be tried that leave the leaf which is
   -- entered
   module _ (ceiling : List Bool) (state : ChainState) (frame : Frame) (is : IsPairFrame world ceiling pairs state number frame) (step : StepsThrough pairs.start q state)
-      (untried : List ℕ) (leaving : AreLeaving world.portals q.to untried) (seen : List Bool) (within : q.to < length found) (finds : FindsLast frame.mask q.to found seen) where
+      (untried : List ℕ) (leaving : AreLeaving world.portals q.to untried) (sighted : List Bool) (within : q.to < length found) (finds : FindsLast frame.mask q.to found sighted) where
     abbrev pub begun_frame : Frame
     begun_frame = record { state = frame.state; untried = untried; met = frame.met; mask = frame.mask }
 
@@ -63,15 +63,15 @@ module _ (world : World) (own : HasOwnPortals world) (found : List Bool) (pairs 
       mask_wide = is.narrowed.same_length ∙ are.seen_wide;
     }
 
-    pub search_begins_there : IsSearchVia world pairs number found (begun_frame ∷ []) seen
+    pub search_begins_there : IsSearchVia world pairs number found (begun_frame ∷ []) sighted
     search_begins_there = record {
-      search = search_begins world pairs.first (λ first n. IsWantedVia world pairs.first found number n) begun_frame seen (found_long frame.mask q.to found seen within finds ∙ found_wide) frame_is
+      search = search_begins world pairs.first (λ first n. IsWantedVia world pairs.first found number n) begun_frame sighted (found_long frame.mask q.to found sighted within finds ∙ found_wide) frame_is
           (λ first at n wanted.
           let in_mask = is.narrowed.keeps n (wanted_seen world found pairs are number n wanted) (wanted_answered world found pairs are number n wanted) in
           ⊎_elim
-          (λ here. inl (subst (IsIn seen) here (found_last frame.mask q.to found seen within finds (subst (IsIn frame.mask) (sym here) in_mask))))
+          (λ here. inl (subst (IsIn sighted) here (found_last frame.mask q.to found sighted within finds (subst (IsIn frame.mask) (sym here) in_mask))))
           (λ awaited. inr awaited)
           (wanted_awaited world own found pairs are number q q_is begun_frame (subst (StepsThrough pairs.start q) (sym is.state_is) step) (λ first first_is m there. is.met_is first q first_is q_is m there)
           (all_leaving world.portals q.to untried leaving) first at n in_mask wanted));
-      pairs_are = pairs_stay world found seen pairs (found_keeps frame.mask q.to found seen within finds) are;
+      pairs_are = pairs_stay world found sighted pairs (found_keeps frame.mask q.to found sighted within finds) are;
     }

@@ -32,6 +32,10 @@ pub(crate) enum Due {
     Search,
 }
 
+/// How often a portal has passed the cheap tests of a try when a search is due for the row of its pair: each time four times as
+/// often as the time before.
+const SEARCH_TIMES: [u32; 4] = [24, 96, 384, 1_536];
+
 /// The row of the flow's own for one portal, or none yet, and how often the portal has passed the cheap tests of a try. The row
 /// of a barred portal takes no memory.
 #[derive(Drop)]
@@ -65,10 +69,12 @@ impl OwnRow {
                 Some(Due::Row)
             }
             Place::Barred { .. } => None,
-            Place::Row(_) => match self.passed {
-                24 | 96 | 384 | 1_536 => Some(Due::Search),
-                _ => None,
-            },
+            Place::Row(_) => {
+                if !SEARCH_TIMES.contains(&self.passed) {
+                    return None;
+                }
+                Some(Due::Search)
+            }
         }
     }
 }

@@ -17,7 +17,7 @@ ghost use Rattle.qm_flow.specs.inner.PairsGoOn.{PairsGoOn};
 
 use crate::frame::Frame;
 use crate::going::go_through;
-use crate::leading::may_lead_on;
+use crate::leading::passes_cheap_tests;
 use crate::narrowing::{list_new, may_show};
 use crate::own_rows::Due;
 use crate::pairing::pair;
@@ -53,9 +53,9 @@ pub(crate) fn try_portal<'a, S: RowSource>(
     ensures pairs { OnOk result (PairsGoOn world.now (S.ceilings source.old) found.new pairs.old pairs.new) }
     ensures on { S.goes_on source.old source.new }
 {
-    list_new(&frame.mask, found, &mut scratch.words)?;
-    let words = &scratch.words;
-    if !may_lead_on(world, source, pairs, frame, portal, found, words) {
+    let words = &mut scratch.words;
+    let passes = passes_cheap_tests(world, source, pairs, frame, portal, found, words)?;
+    if !passes {
         return Ok(false);
     }
     let may = own_may_show(

@@ -150,7 +150,7 @@ fn halves_of_cell(
     })
 }
 
-/// For how many planes a longer list has room at the least, so that the lists of cells below are mostly not moved.
+/// For how many planes more than the shorter list a longer one has room, so that the lists of cells below are mostly not moved.
 const ROOM: usize = 8;
 
 /// Planes with one more.

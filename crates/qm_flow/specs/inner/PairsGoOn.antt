@@ -4,8 +4,8 @@ use Rattle.qm_chains.specs.inner.Pairs.{Pairs, ArePairs, LieWithinPairs}
 use Rattle.qm_sight.specs.WordInSight.{LieWithin}
 use Rattle.qm_sight.specs.InCeiling.{IsInCeiling}
 
--- Pairs go on, with a row more or not: their first portal stays, and they are pairs for what is found. What their rows have
--- lies within all ceilings that have what rows had before, and what the source can answer now.
+-- Pairs go on, with a row more, or one narrowed, or neither: their first portal stays, and they are pairs for what is found. What
+-- their rows have lies within all ceilings that have what rows had before, and what the source can answer now.
 pub record PairsGoOn (world : World) (now : List (List Bool)) (found : List Bool) (old new : Pairs) : Type 0 where
   pub same_first : new.first ≡ old.first
   pub are : ArePairs world found new

@@ -41,7 +41,7 @@ HasAllBehind cuboid outward = (x : Point) → IsInCube x → IsInFrontOfNone out
 abbrev pub LeavesAllBehind : Cuboid → List Plane → Cuboid → Type 0
 LeavesAllBehind cuboid outward left = (x : Point) → IsInCube x → IsInCuboid cuboid x → IsInFrontOfNone outward x → IsInCuboid left x
 
--- there is no such point
+-- no point is one of the face
 abbrev pub HasNoFacePoint : List Plane → ℕ → List FaceRef → Type 0
 HasNoFacePoint book number faces = (x : Point) → IsFacePoint book number faces x → ⊥
 

@@ -1,7 +1,6 @@
 use Rattle.std.proofs.Common.{◌<◌, ℕ, true, List, Option, Bool, length, set, sym, ap, ◌∙◌, subst, arith, ⊎_elim}
 use Rattle.std.specs.Bool.{then_some}
 use Rattle.std.proofs.lemmas.Result.{IfOk-weaker}
-use Rattle.qm_lists.specs.WorkList.{IsIn}
 use Rattle.qm_contacts.specs.World.{World, AreLeaving}
 use Rattle.qm_chains.specs.inner.Cone.{IsLeftOf}
 use Rattle.qm_chains.specs.inner.Frame.{Frame, put_back, EndsChain, blocked}
@@ -45,22 +44,24 @@ pub returns-then-not-leads-clause-tried : goal.returns-then-not-leads-clause-tri
 returns-then-not-leads-clause-tried g c ceilings lie within ends =
     tried_none c.args.world.now c.args.pairs.now.first c.args.frame.now c.args.portal c.args.found.now (IsInCeiling ceilings) (returns-then-not-leads-clause-looked g c)
 
-pub returns-clause-tried : goal.returns-clause-tried
-returns-clause-tried g c =
+-- the step does not block: the chain goes on with what its cone leaves of its mask
+pub returns : goal.returns
+returns g c =
     let q = c.to-entered.ensures.value in
     let frame = c.args.frame.now in
-    let ceiling = ceiling_of (g.S.RowSource.ceilings c.args.source.now) c.args.portal in
+    let now = g.S.RowSource.ceilings c.args.source.now in
+    let ceiling = ceiling_of now c.args.portal in
     let world = c.args.world.now in
     let pairs = c.args.pairs.now in
     let portal = c.args.portal in
-    let narrowed_here = subst (λ (w : World). IsNarrowed (MustHave w c.pairs.inside.own portal) (CanHave ceiling c.pairs.inside.own portal) c.copy_from.new.self c.narrow.new.mask) c.requires.of_world.same_world c.narrow.ensures.narrowed in
-    let narrowed_own = subst (λ (own : List (Option (List Bool))). IsNarrowed (MustHave world own portal) (CanHave ceiling own portal) c.copy_from.new.self c.narrow.new.mask) (ap (λ (p : Pairs). p.own) c.pairs.view_is) narrowed_here in
-    let narrowed_row = subst (λ (row : List Bool). IsNarrowed (MustHave world pairs.own portal) (CanHave ceiling pairs.own portal) row c.narrow.new.mask) (c.copy_from.ensures ∙ ap (λ (f : Frame). f.mask) c.frame.view_is) narrowed_own in
-    let Goal = λ (on : Bool). (ceilings : List (List Bool)) → LieWithin (g.S.RowSource.ceilings c.args.source.now) ceilings → LieWithinPairs (IsInCeiling ceilings) pairs.own →
-    EndsChain world (IsInCeiling ceilings) pairs.first (put_back portal frame) → IsTried world (IsInCeiling ceilings) pairs.first frame portal c.args.found.now c.find.new.row (then_some on c.left_of.new.frame) in
-    let narrowed = λ (ceilings : List (List Bool)) (lie : LieWithin (g.S.RowSource.ceilings c.args.source.now) ceilings) (lie_own : LieWithinPairs (IsInCeiling ceilings) pairs.own). narrowed_as (MustHave world pairs.own portal) (CanHave ceiling pairs.own portal) (IsWantedVia world pairs.first c.args.found.now portal) (λ n. IsInCeiling ceilings n portal) frame.mask c.narrow.new.mask
-    (wanted_answered world c.args.found.now pairs c.requires.of_world.pairs_are portal)
-    (λ n can. can_within (IsInCeiling ceilings) ceiling pairs.own portal n (λ m has. lie portal m has) lie_own can) narrowed_row in
+    let found = c.args.found.now in
+    let row = c.find.new.row in
+    let mask = c.narrow.new.mask in
+    let next = c.left_of.new.frame in
+    let narrowed_here = subst (λ (w : World). IsNarrowed (MustHave w c.pairs.inside.own portal) (CanHave ceiling c.pairs.inside.own portal) c.copy_from.new.self mask) c.requires.of_world.same_world c.narrow.ensures.narrowed in
+    let narrowed_own = subst (λ (own : List (Option (List Bool))). IsNarrowed (MustHave world own portal) (CanHave ceiling own portal) c.copy_from.new.self mask) (ap (λ (p : Pairs). p.own) c.pairs.view_is) narrowed_here in
+    let narrowed_row = subst (λ (row : List Bool). IsNarrowed (MustHave world pairs.own portal) (CanHave ceiling pairs.own portal) row mask) (c.copy_from.ensures ∙ ap (λ (f : Frame). f.mask) c.frame.view_is) narrowed_own in
+    let answered = wanted_answered world found pairs c.requires.of_world.pairs_are portal in
     let step = steps_on world.portals portal c.pane-pane.result.now.winding c.pane-pane.result.now.into c.pane-pane.ensures c.frame.inside.state frame.state (ap (λ (f : Frame). f.state) c.frame.view_is) q.0 q.1 c.step_into.new.spare
     (c.in_ok-leads.ensures.leads c.if-not-leads.false) in
     let same_met = c.copy_from-2.ensures ∙ ap (λ (f : Frame). f.met) c.frame.view_is in
@@ -69,61 +70,34 @@ returns-clause-tried g c =
     let met_wide = c.requires.of_world.wide.met in
     let row_wide = c.requires.of_world.wide.found in
     let is = q.2 in
-    let child : Frame = record { state = c.step_into.new.spare; untried = c.leaving-next-inside.result.now; met = c.set.new.self; mask = c.narrow.new.mask } in
-    IfOk-weaker c.left_of.result (λ left. IsLeftOf world pairs.first child c.find.new.row c.to-entered.result (then_some left c.left_of.new.frame)) Goal
-    (λ left its ceilings lie lie_own ends.
-    let by_row = narrowed ceilings lie lie_own in
-    tried_on_left world c.requires.own_portals pairs.first frame portal c.args.found.now q.0 q.1
-    child by_row.keeps step (omega (arith, within, met_wide, is)) met_is
-    (subst (λ (n : ℕ). AreLeaving world.portals n c.leaving-next-inside.result.now) q.2 c.leaving-next-inside.ensures)
-    (omega (arith, within, row_wide, is)) c.find.new.row
-    (subst (λ (n : ℕ). FindsLast c.narrow.new.mask n c.args.found.now c.find.new.row) q.2 c.find.ensures)
-    (then_some left c.left_of.new.frame)
-    (subst (λ (n : ℕ). IsLeftOf world pairs.first child c.find.new.row n (then_some left c.left_of.new.frame)) q.2 its)
-    (IsInCeiling ceilings) by_row.within by_row.same_length ends (c.requires.new q.0 q.1))
-    c.left_of.ensures.left
-
-pub returns-clause-looked : goal.returns-clause-looked
-returns-clause-looked g c =
-    let q = c.to-entered.ensures.value in
-    let frame = c.args.frame.now in
-    let ceiling = ceiling_of (g.S.RowSource.ceilings c.args.source.now) c.args.portal in
-    let world = c.args.world.now in
-    let pairs = c.args.pairs.now in
-    let portal = c.args.portal in
-    let narrowed_here = subst (λ (w : World). IsNarrowed (MustHave w c.pairs.inside.own portal) (CanHave ceiling c.pairs.inside.own portal) c.copy_from.new.self c.narrow.new.mask) c.requires.of_world.same_world c.narrow.ensures.narrowed in
-    let narrowed_own = subst (λ (own : List (Option (List Bool))). IsNarrowed (MustHave world own portal) (CanHave ceiling own portal) c.copy_from.new.self c.narrow.new.mask) (ap (λ (p : Pairs). p.own) c.pairs.view_is) narrowed_here in
-    let narrowed_row = subst (λ (row : List Bool). IsNarrowed (MustHave world pairs.own portal) (CanHave ceiling pairs.own portal) row c.narrow.new.mask) (c.copy_from.ensures ∙ ap (λ (f : Frame). f.mask) c.frame.view_is) narrowed_own in
-    let keeps : (n : ℕ) → IsIn frame.mask n → IsWantedVia world pairs.first c.args.found.now portal n → IsIn c.narrow.new.mask n = λ n in_mask wanted. narrowed_row.keeps n in_mask (wanted_answered world c.args.found.now pairs c.requires.of_world.pairs_are portal n wanted) in
-    let step = steps_on world.portals portal c.pane-pane.result.now.winding c.pane-pane.result.now.into c.pane-pane.ensures c.frame.inside.state frame.state (ap (λ (f : Frame). f.state) c.frame.view_is) q.0 q.1 c.step_into.new.spare
-    (c.in_ok-leads.ensures.leads c.if-not-leads.false) in
-    let same_met = c.copy_from-2.ensures ∙ ap (λ (f : Frame). f.met) c.frame.view_is in
-    let met_is = c.set.ensures ∙ ap (λ (row : List Bool). set row c.to-entered.result true) same_met ∙ ap (λ (n : ℕ). set frame.met n true) q.2 in
-    let within = c.to-entered.ensures.within in
-    let met_wide = c.requires.of_world.wide.met in
-    let row_wide = c.requires.of_world.wide.found in
-    let is = q.2 in
-    let child : Frame = record { state = c.step_into.new.spare; untried = c.leaving-next-inside.result.now; met = c.set.new.self; mask = c.narrow.new.mask } in
-    IfOk-weaker c.left_of.result (λ left. IsLeftOf world pairs.first child c.find.new.row c.to-entered.result (then_some left c.left_of.new.frame))
-    (λ on. IsLookedThrough world pairs.first frame portal c.args.found.now c.find.new.row (then_some on c.left_of.new.frame))
-    (λ left its. looked_on_left world c.requires.own_portals pairs.first frame portal c.args.found.now q.0 q.1
-    child keeps step (omega (arith, within, met_wide, is)) met_is
-    (subst (λ (n : ℕ). AreLeaving world.portals n c.leaving-next-inside.result.now) q.2 c.leaving-next-inside.ensures)
-    (omega (arith, within, row_wide, is)) c.find.new.row
-    (subst (λ (n : ℕ). FindsLast c.narrow.new.mask n c.args.found.now c.find.new.row) q.2 c.find.ensures)
-    (then_some left c.left_of.new.frame)
-    (subst (λ (n : ℕ). IsLeftOf world pairs.first child c.find.new.row n (then_some left c.left_of.new.frame)) q.2 its)
-    met_wide (narrowed_row.same_length ∙ c.requires.of_world.wide.mask))
-    c.left_of.ensures.left
-
-pub returns-clause-stays : goal.returns-clause-stays
-returns-clause-stays g c =
-    let within = c.to-entered.ensures.within in
-    let wide = c.requires.of_world.wide.found in
-    found_stays c.args.found.now c.find.new.row c.narrow.new.mask c.to-entered.result (omega (arith, within, wide)) c.find.ensures
-
-pub returns-clause-on : goal.returns-clause-on
-returns-clause-on g c = g.met.S.RowSource.goes_on_in_turn c.args.source.now c.narrow.new.source c.left_of.new.source c.narrow.ensures.on c.left_of.ensures.on
+    let in_met : q.0.to < length frame.met = omega (arith, within, met_wide, is) in
+    let in_row : q.0.to < length found = omega (arith, within, row_wide, is) in
+    let leaving = subst (λ (n : ℕ). AreLeaving world.portals n c.leaving-next-inside.result.now) q.2 c.leaving-next-inside.ensures in
+    let finds = subst (λ (n : ℕ). FindsLast mask n found row) q.2 c.find.ensures in
+    let child : Frame = record { state = c.step_into.new.spare; untried = c.leaving-next-inside.result.now; met = c.set.new.self; mask = mask } in
+    let IsLeft = λ (n : ℕ) (left : Bool). IsLeftOf world pairs.first child row n (then_some left next) in
+    record {
+      tried = IfOk-weaker c.left_of.result (IsLeft c.to-entered.result)
+          (λ on. (ceilings : List (List Bool)) → LieWithin now ceilings → LieWithinPairs (IsInCeiling ceilings) pairs.own →
+          EndsChain world (IsInCeiling ceilings) pairs.first (put_back portal frame) → IsTried world (IsInCeiling ceilings) pairs.first frame portal found row (then_some on next))
+          (λ left its ceilings lie lie_own ends.
+          let by_row = narrowed_as (MustHave world pairs.own portal) (CanHave ceiling pairs.own portal) (IsWantedVia world pairs.first found portal) (λ n. IsInCeiling ceilings n portal) frame.mask mask answered
+          (λ n can. can_within (IsInCeiling ceilings) ceiling pairs.own portal n (λ m has. lie portal m has) lie_own can) narrowed_row in
+          tried_on_left world c.requires.own_portals pairs.first frame portal found q.0 q.1 child by_row.keeps step in_met met_is leaving in_row row finds
+          (then_some left next) (subst (λ (n : ℕ). IsLeft n left) q.2 its)
+          (IsInCeiling ceilings) by_row.within by_row.same_length ends (c.requires.new q.0 q.1))
+          c.left_of.ensures.left;
+      looked = IfOk-weaker c.left_of.result (IsLeft c.to-entered.result)
+          (λ on. IsLookedThrough world pairs.first frame portal found row (then_some on next))
+          (λ left its. looked_on_left world c.requires.own_portals pairs.first frame portal found q.0 q.1 child
+          (λ n in_mask wanted. narrowed_row.keeps n in_mask (answered n wanted)) step in_met met_is leaving in_row row finds
+          (then_some left next) (subst (λ (n : ℕ). IsLeft n left) q.2 its)
+          met_wide (narrowed_row.same_length ∙ c.requires.of_world.wide.mask))
+          c.left_of.ensures.left;
+      spares = c.left_of.ensures.wide;
+      stays = found_stays found row mask c.to-entered.result (omega (arith, within, row_wide)) c.find.ensures;
+      on = g.met.S.RowSource.goes_on_in_turn c.args.source.now c.narrow.new.source c.left_of.new.source c.narrow.ensures.on c.left_of.ensures.on;
+    }
 
 -- what is asked and kept besides
 
@@ -182,6 +156,3 @@ returns-then-not-leads-clause-on g c = g.met.S.RowSource.goes_on_itself c.args.s
 
 pub returns-in_err-leads-clause-on : goal.returns-in_err-leads-clause-on
 returns-in_err-leads-clause-on g c = g.met.S.RowSource.goes_on_itself c.args.source.now
-
-pub returns-clause-spares : goal.returns-clause-spares
-returns-clause-spares g c = c.left_of.ensures.wide

@@ -33,16 +33,11 @@ returns-clause-on g c = c.loop.invariant.on
 pub returns-in_err-look_round-clause-on : goal.returns-in_err-look_round-clause-on
 returns-in_err-look_round-clause-on g c = g.met.S.RowSource.goes_on_in_turn c.args.source.now c.loop.source c.look_round.new.source c.loop.invariant.on c.look_round.ensures.on
 
-pub returns-then-is_empty-clause-ended : goal.returns-then-is_empty-clause-ended
-returns-then-is_empty-clause-ended g c is number found before =
-    let none : c.loop.stack.frames.items ≡ [] = nil_from_length c.loop.stack.frames.items (let empty = c.is_empty.ensures in let test = c.if-is_empty.true in let ok = c.loop.stack.frames.ok.0 in grind (arith, common_steps)) in
-    subst (λ (frames : List Frame). IsSearchVia c.args.world.now c.args.pairs.now number found frames c.loop.seen) none
+pub returns-clause-ended : goal.returns-clause-ended
+returns-clause-ended g c is number found before =
+    let none : c.loop.stack.frames.items ≡ [] = nil_from_length c.loop.stack.frames.items (let empty = c.is_empty-2.ensures in let test = is in let ok = c.loop.stack.frames.ok.0 in grind (arith, common_steps)) in
+    subst (λ (frames : List Frame). IsSearchVia c.args.world.now c.args.pairs.now number found frames c.loop.sighted) none
     (c.loop.invariant.so_far number found before)
-
-pub returns-then-is_empty-clause-wide : goal.returns-then-is_empty-clause-wide
-returns-then-is_empty-clause-wide g c =
-    let its = c.requires.search in
-    (c.loop.invariant.so_far its.number its.found its.so_far).search.wide ∙ sym its.so_far.search.wide
 
 pub returns-clause-wide : goal.returns-clause-wide
 returns-clause-wide g c =

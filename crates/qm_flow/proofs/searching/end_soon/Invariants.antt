@@ -6,7 +6,7 @@ use Rattle.qm_flow.proofs.searching.end_soon.Given as goal
 -- each search that it was goes on so far; and the source goes on from what it was
 abbrev pub invariant-loop : goal.invariant-loop
 invariant-loop g l = record {
-  so_far : (number : ℕ) (found : List Bool) → IsSearchVia l.world l.pairs number found l.fn.stack.frames.items l.fn.seen → IsSearchVia l.world l.pairs number found l.stack.frames.items l.seen;
+  so_far : (number : ℕ) (found : List Bool) → IsSearchVia l.world l.pairs number found l.fn.stack.frames.items l.fn.sighted → IsSearchVia l.world l.pairs number found l.stack.frames.items l.sighted;
   spares : AreSparesWide l.world l.stack;
   on : g.S.RowSource.goes_on l.fn.source l.source;
 }

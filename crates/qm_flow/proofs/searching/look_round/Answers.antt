@@ -45,8 +45,8 @@ returns-in-None g c =
           (λ kept number found so_far. search_done_so_far so_far at c.in-None.ensures.0 after.frames.items (kept at.below frame ended).0)
           c.end_last.ensures.frames;
       spares = on_ok_weaker {P = Kept} c.end_last.result
-          (λ kept. spares_stay_wide c.args.world.now c.args.stack.now after frame c.args.seen.now c.requires.spares
-          (subst (λ (f : Frame). AreWide c.args.world.now f c.args.seen.now) (sym c.in-None.ensures.1) (last_search_wide c.requires.search.so_far at))
+          (λ kept. spares_stay_wide c.args.world.now c.args.stack.now after frame c.args.sighted.now c.requires.spares
+          (subst (λ (f : Frame). AreWide c.args.world.now f c.args.sighted.now) (sym c.in-None.ensures.1) (last_search_wide c.requires.search.so_far at))
           c.end_last.ensures.next c.end_last.ensures.cone (kept at.below frame ended).1)
           c.end_last.ensures.frames;
       on = g.met.S.RowSource.goes_on_itself c.args.source.now;
@@ -65,7 +65,7 @@ returns-then-not-on g c =
     let none = after_none kept c.in_ok-on-in-Some.on c.look_through.new.next c.if-not-on.true in
     record {
       search = λ number found so_far. looked_so_far so_far at c.in-Some.portal frame c.in-Some.ensures c.index-frame.result.now _ c.index-frame.ensures
-          c.look_through.new.seen child c.in_ok-on-in-Some.ensures.looked kept none;
+          c.look_through.new.sighted child c.in_ok-on-in-Some.ensures.looked kept none;
       spares = spares_after_try c.args.world.now c.args.stack.now _ c.requires.spares c.in_ok-on-in-Some.ensures.spares refl;
       on = c.look_through.ensures.on;
     }
@@ -90,7 +90,7 @@ returns-else-not-on g c =
     record {
       search = on_ok_weaker {P = Pushed} c.push_next.result
           (λ pushed number found so_far. looked_so_far so_far at c.in-Some.portal frame c.in-Some.ensures c.index-frame.result.now _ c.index-frame.ensures
-          c.look_through.new.seen child c.in_ok-on-in-Some.ensures.looked after (after_child kept after c.in_ok-on-in-Some.on next c.if-not-on.false pushed))
+          c.look_through.new.sighted child c.in_ok-on-in-Some.ensures.looked after (after_child kept after c.in_ok-on-in-Some.on next c.if-not-on.false pushed))
           c.push_next.ensures.frames;
       spares = c.push_next.ensures.spares;
       on = c.look_through.ensures.on;

@@ -14,14 +14,14 @@ pub returns-then-not-leads-clause-begun : goal.returns-then-not-leads-clause-beg
 returns-then-not-leads-clause-begun g c =
     let pairs = c.args.pairs.now in
     let pane = c.pane-pane.ensures in
-    none_sought c.args.world.now c.requires.own_portals c.args.seen.now pairs c.requires.pairs c.args.portal pane.0 pane.1 c.requires.wide
+    none_sought c.args.world.now c.requires.own_portals c.args.sighted.now pairs c.requires.pairs c.args.portal pane.0 pane.1 c.requires.wide
     (blocked_there c.args.world.now.portals c.args.portal c.pane-pane.result.now.winding c.pane-pane.result.now.into pane _ pairs.start (ap (λ (inside : Inside). inside.start.state) c.pairs-inside.view_is ∙ ap (λ (p : Pairs). p.start) c.pairs.view_is) (c.in_ok-leads.ensures.blocks c.if-not-leads.true))
 
 pub returns-clause-begun : goal.returns-clause-begun
 returns-clause-begun g c =
     let world = c.args.world.now in
     let pairs = c.args.pairs.now in
-    let found = c.args.seen.now in
+    let found = c.args.sighted.now in
     let frame = c.make_pair_frame.new.frame in
     let state = c.step_into.new.spare in
     let q = c.to-entered.ensures.value in

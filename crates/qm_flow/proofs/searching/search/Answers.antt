@@ -21,10 +21,10 @@ returns-then-ended-clause-pairs g c =
     let put = own_put _ old c.put.new.self portal (Some c.narrow.new.mask) c.pairs.view_is c.put.ensures in
     let same_world = g.met.S.RowSource.same_world c.args.source.now c.seek.new.source c.seek.ensures.on ∙ c.requires.same_world in
     let later = ceiling_of (g.S.RowSource.ceilings c.seek.new.source) portal in
-    let narrowed_here = subst (λ (w : World). IsNarrowed (MustHave w c.pairs.inside.own portal) (CanHave later c.pairs.inside.own portal) c.seek.new.seen c.narrow.new.mask) same_world c.narrow.ensures.narrowed in
-    let narrowed = subst (λ (pairs : Pairs). IsNarrowed (MustHave world pairs.own portal) (CanHave later pairs.own portal) c.seek.new.seen c.narrow.new.mask) c.pairs.view_is narrowed_here in
+    let narrowed_here = subst (λ (w : World). IsNarrowed (MustHave w c.pairs.inside.own portal) (CanHave later c.pairs.inside.own portal) c.seek.new.sighted c.narrow.new.mask) same_world c.narrow.ensures.narrowed in
+    let narrowed = subst (λ (pairs : Pairs). IsNarrowed (MustHave world pairs.own portal) (CanHave later pairs.own portal) c.seek.new.sighted c.narrow.new.mask) c.pairs.view_is narrowed_here in
     let row : IsPairRow world old.first found portal c.narrow.new.mask = λ n wanted. narrowed.keeps n
-    (c.in_ok-ended.ensures.ended c.if-ended.true n (subst (λ (seen : List Bool). IsWantedVia world old.first seen portal n) (sym c.copy_from.ensures) wanted))
+    (c.in_ok-ended.ensures.ended c.if-ended.true n (subst (λ (sighted : List Bool). IsWantedVia world old.first sighted portal n) (sym c.copy_from.ensures) wanted))
     (wanted_answered world found old c.requires.pairs portal n wanted) in
     record {
       same_first = ap (λ (p : Pairs). p.first) put;

@@ -10,12 +10,12 @@ pub returns-clause-ended : goal.returns-clause-ended
 returns-clause-ended g c =
     let world = c.args.world.now in
     let pairs = c.args.pairs.now in
-    let found = c.args.seen.now in
+    let found = c.args.sighted.now in
     let portal = c.args.portal in
     let frames = c.begin.new.stack.frames.items in
-    let seen = c.end_soon.new.seen in
+    let sighted = c.end_soon.new.sighted in
     IfOk-weaker c.end_soon.result
-    (λ ended. ended ≡ true → (number : ℕ) (sought : List Bool) → IsSearchVia world pairs number sought frames c.begin.new.seen → IsSearchVia world pairs number sought [] seen)
-    (λ ended. ended ≡ true → (n : ℕ) → IsWantedVia world pairs.first found portal n → IsIn seen n)
-    (λ ended all is n wanted. search_ends world pairs.first (λ first m. IsWantedVia world pairs.first found portal m) seen (all is portal found c.in_ok-begin.ensures.begun).search wanted.wanted.first wanted.wanted.first_is n wanted)
+    (λ ended. ended ≡ true → (number : ℕ) (sought : List Bool) → IsSearchVia world pairs number sought frames c.begin.new.sighted → IsSearchVia world pairs number sought [] sighted)
+    (λ ended. ended ≡ true → (n : ℕ) → IsWantedVia world pairs.first found portal n → IsIn sighted n)
+    (λ ended all is n wanted. search_ends world pairs.first (λ first m. IsWantedVia world pairs.first found portal m) sighted (all is portal found c.in_ok-begin.ensures.begun).search wanted.wanted.first wanted.wanted.first_is n wanted)
     c.end_soon.ensures.ended
