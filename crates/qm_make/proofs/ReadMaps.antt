@@ -1,5 +1,5 @@
 -- A text under a name is read in pieces, up to a fault that is certain or to its end.
-use Rattle.std.proofs.Common.{◌≡◌, ◌≢◌, ℕ, ◌+◌, ◌<◌, ◌≤◌, true, false, List, [], ◌++◌, Option, Some, None, Result, Ok, Err, length, take, drop, take-append-drop, take_all, refl, sym, ap, subst, ◌∙◌, arith}
+use Rattle.std.proofs.Common.{◌≡◌, ◌≢◌, ℕ, ◌+◌, ◌≤◌, true, false, List, [], ◌++◌, Option, Some, None, Result, Ok, Err, length, take, drop, take-append-drop, take_all, refl, sym, ap, subst, ◌∙◌, arith}
 use Rattle.std.specs.Prelude.{Bool, IsTrue, IfOk, IfErr}
 use Rattle.qm_lists.proofs.Cases.{by_cases}
 use Rattle.qm_lists.specs.Limit.{up_to_one_past}
@@ -61,8 +61,8 @@ module _ (tells : Bool) (whole : List ℕ) where
     pub fed_piece : 1 ≤ count → done + count ≤ text_limit + 1 → (answer : Option ℕ) (new : Result ReadSoFar MapFault) → IsFedPiece old piece (done + count) answer new → IsFed tells whole done old answer new
     fed_piece some within (Some place) new fed = (omega (arith, some, fed.0), omega (arith, within, fed.0), read_more place fed.0 new fed.1)
     fed_piece some within None new fed = λ so_far.
-      subst (λ (reader : Result ReadSoFar MapFault). HasReadEnough tells whole reader) (sym fed.1)
-      (to_a_fault (so_far.text ++ piece) (done + count) (front so_far) (fed.2 so_far.text so_far.is_read))
+        subst (λ (reader : Result ReadSoFar MapFault). HasReadEnough tells whole reader) (sym fed.1)
+        (to_a_fault (so_far.text ++ piece) (done + count) (front so_far) (fed.2 so_far.text so_far.is_read))
 
 -- ---- what was read over several calls
 

@@ -58,7 +58,7 @@ fn put_out(alloc: Global, listed: bool, compiled: Compiled) -> Result<Product, A
     }
 }
 
-/// The same where no entity leaks. The world is let go of before the bytes of the tree are made.
+/// What is put out where no entity leaks. The world is let go of before the bytes of the tree are made.
 fn put_out_done(
     alloc: Global,
     listed: bool,
@@ -91,7 +91,7 @@ fn put_out_listed(
     })
 }
 
-/// The same where one does.
+/// What is put out where an entity leaks.
 fn put_out_leak(
     alloc: Global,
     file: &TreeFile,

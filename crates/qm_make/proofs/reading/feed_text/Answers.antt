@@ -2,7 +2,7 @@ use Rattle.std.proofs.Common.{Some, refl, rules, arith}
 use Rattle.qm_shelf.specs.SeenForms.{shelf_state}
 use Rattle.qm_shelf.proofs.Counted.{stays_twice, no_fault_twice}
 use Rattle.qm_surroundings.specs.ShelfState.{text_under}
-use Rattle.qm_make.proofs.ReadMaps.{read_none, read_to_limit, fed_since, read_fault_twice}
+use Rattle.qm_make.proofs.ReadMaps.{read_none, read_to_limit, fed_since}
 use Rattle.qm_make.proofs.reading.feed_text.Goals as goal
 
 pub loop-done-init : goal.loop-done-init

@@ -1,6 +1,5 @@
 use Rattle.qm_shelf.specs.SeenForms.{shelf_state}
-use Rattle.qm_surroundings.specs.ShelfState.{text_under}
-use Rattle.qm_make.proofs.ReadMaps.{enough_means, told_means, told_valid, told_err}
+use Rattle.qm_make.proofs.ReadMaps.{enough_means, told_means, told_valid}
 use Rattle.qm_make.proofs.reading.read_map.Goals as goal
 
 pub returns-in-Ok-clause-means : goal.returns-in-Ok-clause-means
