@@ -1,6 +1,6 @@
 //! From a text under a name to what it means, piece by piece.
 
-ghost use Rattle.std.specs.Prelude.{◌≡◌, ◌≤◌, [], IfOk, IfErr, OnOk, length, vec_len};
+ghost use Rattle.std.specs.Prelude.{◌≡◌, ◌≤◌, [], IfOk, IfErr, OnOk, length};
 ghost use Rattle.qm_shelf.specs.SeenForms.{shelf_state};
 ghost use Rattle.qm_shelf.specs.FaultMeans.{ReadFaultMeans};
 ghost use Rattle.qm_shelf.specs.declared.shelf.TheConstants.{PIECE};
