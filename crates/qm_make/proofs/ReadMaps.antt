@@ -1,6 +1,6 @@
 -- A text under a name is read in pieces, up to a fault that is certain or to its end.
 use Rattle.std.proofs.Common.{◌≡◌, ◌≢◌, ℕ, ◌+◌, ◌≤◌, true, false, List, [], ◌++◌, Option, Some, None, Result, Ok, Err, length, take, drop, take-append-drop, take_all, refl, sym, ap, subst, ◌∙◌, arith}
-use Rattle.std.specs.Prelude.{Bool, IsTrue, IfOk, IfErr}
+use Rattle.std.specs.Prelude.{Bool, IsTrue, IfOk, IfErr, OnOk}
 use Rattle.qm_lists.proofs.Cases.{by_cases}
 use Rattle.qm_lists.specs.Limit.{up_to_one_past}
 use Rattle.qm_mapfile.specs.declared.entity.MapFile.{MapFile}
@@ -127,3 +127,8 @@ module _ (meaning : Result MapFile MapFault) where
   pub told_err : (before after : ShelfState) (name : List ℕ) (answer : Result (Result MapFile MapFault) ShelfFault) → IsToldMeaning meaning answer → MetNoFault before after → IfErr answer (λ found. ReadFaultMeans before after name found)
   told_err before after name (Ok told) is none = tt
   told_err before after name (Err found) is none = subst (λ (f : ShelfFault). ReadFaultMeans before after name f) (sym is) none
+
+-- what holds anyway holds where something is told
+pub told_ok : {T E P : Type 0} (answer : Result T E) → P → OnOk answer P
+told_ok (Ok told) p = p
+told_ok (Err fault) p = tt

@@ -70,20 +70,20 @@ fn put_out_done(
 {
     let listing = listing_of(alloc, listed, &world)?;
     drop(world);
-    put_out_listed(alloc, file, listing, summary)
+    put_out_listed(alloc, &file, listing, summary)
 }
 
 /// The bytes of a tree file with a summary, beside a listing that is made.
 fn put_out_listed(
     alloc: Global,
-    file: TreeFile,
+    file: &TreeFile,
     listing: Option<Vec<u8>>,
     summary: &Summary,
 ) -> Result<Product, AllocError>
-    ensures { IfOk result (λ product. output_of product ≡ done_output file (option_map (λ bytes. bytes.items) listing) summary.now) }
+    ensures { IfOk result (λ product. output_of product ≡ done_output file.now (option_map (λ bytes. bytes.items) listing) summary.now) }
 {
     let text = summary_text(alloc, summary)?;
-    let file = encode(alloc, &file)?;
+    let file = encode(alloc, file)?;
     Ok(Product {
         file,
         listing,

@@ -30,16 +30,32 @@ pub fn read_map<H: Shelf>(alloc: Global, shelf: &mut H, name: &str) -> Result<Me
     ensures ok { OnOk result (MetNoFault (shelf_state H.Shelf shelf.old) (shelf_state H.Shelf shelf.new)) }
     ensures err { IfErr result (ReadFaultMeans (shelf_state H.Shelf shelf.old) (shelf_state H.Shelf shelf.new) name.now) }
 {
-    let mut piece = piece_buffer(alloc)?;
     let mut reader = MapReader::new(alloc);
-    match feed_text(shelf, name, &mut piece, &mut reader) {
+    match feed_text(alloc, shelf, name, &mut reader) {
         Ok(()) => told(reader.finish()),
         Err(fault) => Err(fault),
     }
 }
 
-/// Feeds a reader the text under a name in pieces, until it knows what the text means.
+/// Feeds a reader the text under a name, until it knows what the text means.
 fn feed_text<H: Shelf>(
+    alloc: Global,
+    shelf: &mut H,
+    name: &str,
+    reader: &mut MapReader,
+) -> Result<(), ShelfFault>
+    requires { IsReaderOf [] reader.old }
+    ensures enough { OnOk result (HasReadEnough H.tells (text_under (shelf_state H.Shelf shelf.old) name.now) reader.new) }
+    ensures kept { IsKept (shelf_state H.Shelf shelf.old) (shelf_state H.Shelf shelf.new) }
+    ensures ok { OnOk result (MetNoFault (shelf_state H.Shelf shelf.old) (shelf_state H.Shelf shelf.new)) }
+    ensures err { IfErr result (ReadFaultMeans (shelf_state H.Shelf shelf.old) (shelf_state H.Shelf shelf.new) name.now) }
+{
+    let mut piece = piece_buffer(alloc)?;
+    feed_pieces(shelf, name, &mut piece, reader)
+}
+
+/// Feeds a reader the text under a name, piece by piece through this buffer.
+fn feed_pieces<H: Shelf>(
     shelf: &mut H,
     name: &str,
     piece: &mut [u8],

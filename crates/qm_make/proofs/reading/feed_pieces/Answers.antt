@@ -3,7 +3,7 @@ use Rattle.qm_shelf.specs.SeenForms.{shelf_state}
 use Rattle.qm_shelf.proofs.Counted.{stays_twice, no_fault_twice}
 use Rattle.qm_surroundings.specs.ShelfState.{text_under}
 use Rattle.qm_make.proofs.ReadMaps.{read_none, read_to_limit, fed_since}
-use Rattle.qm_make.proofs.reading.feed_text.Goals as goal
+use Rattle.qm_make.proofs.reading.feed_pieces.Goals as goal
 
 pub loop-done-init : goal.loop-done-init
 loop-done-init g c = record {

@@ -5,7 +5,7 @@ use Rattle.qm_shelf.specs.declared.shelf.TheConstants.{PIECE}
 use Rattle.qm_surroundings.specs.ShelfState.{text_under}
 use Rattle.qm_surroundings.specs.ShelfChanges.{IsKept, MetNoFault}
 use Rattle.qm_make.specs.inner.Reading.{HasRead}
-use Rattle.qm_make.proofs.reading.feed_text.Given as goal
+use Rattle.qm_make.proofs.reading.feed_pieces.Given as goal
 
 -- so many bytes were read, and no fault was met
 abbrev pub invariant-loop-done : goal.invariant-loop-done
