@@ -1,11 +1,17 @@
 -- Orders that are those of some words.
-use Rattle.std.proofs.Common.{◌≡◌, ◌≤◌, ℕ, List, Option, Some, None, sym, ◌∙◌, arith}
+use Rattle.std.proofs.Common.{◌≡◌, ◌≤◌, ℕ, List, Option, Some, None, Result, Ok, Err, refl, sym, subst, ◌∙◌, arith}
+use Rattle.std.specs.Prelude.{OnErr}
+use Rattle.qm_surroundings.specs.ShelfState.{ShelfState}
 use Rattle.qm_commands.specs.declared.map_command.MapCommand.{MapCommand}
 use Rattle.qm_commands.specs.declared.map_command.MapCommand.TheVariants.{Compile, Format}
 use Rattle.qm_commands.specs.FileNames.{FileNames, AreDifferent}
 use Rattle.qm_commands.specs.Options.{AreThreads}
 use Rattle.qm_commands.specs.Order.{Order, of_map, of_rooms}
 use Rattle.qm_commands.specs.Words.{AreWordsOf, AreNoCommand}
+use Rattle.qm_statement.specs.declared.status.Status.{Status}
+use Rattle.qm_statement.specs.declared.status.Status.TheVariants.{Done}
+use Rattle.qm_statement.specs.DemoComesOf.{IsSummaryOfRooms, DemoComesOf, summed_up}
+use Rattle.qm_statement.specs.Untouched.{IsUntouched}
 use Rattle.qm_make.specs.Workers.{HasWorkers}
 use Rattle.qm_compile.specs.inner.OneOrder.{IsOfWords, AreOneOrder}
 
@@ -37,3 +43,16 @@ one_order words order only first second is its = only first is ∙ sym (only sec
 -- words that are no command are no order
 pub no_order : (words : List (List ℕ)) → AreNoCommand words → AreOneOrder words
 no_order words none first second is its = absurd (none first is)
+
+-- ---- a shelf that nothing touches
+
+untouched : (shelf : ShelfState) → IsUntouched shelf shelf
+untouched shelf = record { kept = λ name. refl; no_fault = record { reads = λ name. refl; writes = λ name. refl } }
+
+pub untouched_on_err : {T E : Type 0} (shelf : ShelfState) (result : Result T E) → OnErr result (IsUntouched shelf shelf)
+untouched_on_err shelf (Ok done) = tt
+untouched_on_err shelf (Err fault) = untouched shelf
+
+pub rooms_summed_up : (shelf : ShelfState) (rooms number : ℕ) (status : Status) (text : List ℕ) → status ≡ Done → IsSummaryOfRooms rooms number text → DemoComesOf shelf shelf rooms number status text
+rooms_summed_up shelf rooms number status text is summary =
+    subst (λ (s : Status). DemoComesOf shelf shelf rooms number s text) (sym is) (summed_up summary (untouched shelf))

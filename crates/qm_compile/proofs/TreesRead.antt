@@ -1,5 +1,5 @@
 -- What is read of the bytes under a name is what they mean.
-use Rattle.std.proofs.Common.{◌≡◌, ℕ, true, false, List, Result, Ok, Err, refl, sym, ◌∙◌, ap}
+use Rattle.std.proofs.Common.{◌≡◌, ℕ, true, false, List, Result, Ok, Err, refl, sym, subst, ◌∙◌, ap}
 use Rattle.std.specs.Prelude.{OnErr}
 use Rattle.qm_lists.proofs.Cases.{by_cases}
 use Rattle.qm_surroundings.specs.ShelfState.{ShelfState, text_under}
@@ -16,7 +16,7 @@ use Rattle.qm_statement.specs.Untouched.{IsUntouched}
 use Rattle.qm_compile.specs.declared.tree_reading.TreeRead.{TreeRead}
 use Rattle.qm_compile.specs.declared.tree_reading.TreeRead.TheVariants.{File, Fault, Unread}
 use Rattle.qm_compile.specs.inner.FaultLine.{line_of_file_fault}
-use Rattle.qm_compile.specs.inner.TreeRead.{IsFaultIn, IsReadOfBytes, IsTreeRead}
+use Rattle.qm_compile.specs.inner.TreeRead.{IsFaultIn, IsReadFault, IsReadOfBytes, IsTreeRead}
 use Rattle.qm_compile.proofs.CutFiles.{read_of_cut}
 
 -- what was read of the bytes under a name means what they mean
@@ -42,7 +42,7 @@ read_under before after tree_name read is_read untouched (Fault line) is =
 read_under before after tree_name read is_read untouched Unread is = absurd is
 
 -- the fault of decoding is that of the bytes
-pub fault_read : (bytes : List ℕ) (fault : FileFault) → IsFaultOfFile fault (read_file bytes) → (fault ≡ faults.Memory → ⊥) → IsFaultIn (λ meaning. read_file bytes ≡ meaning) (line_of_file_fault fault)
+fault_read : (bytes : List ℕ) (fault : FileFault) → IsFaultOfFile fault (read_file bytes) → (fault ≡ faults.Memory → ⊥) → IsFaultIn (λ meaning. read_file bytes ≡ meaning) (line_of_file_fault fault)
 fault_read bytes (faults.Short offset) is alone = record { kind = short; place = offset; is_given = is; is_line = refl }
 fault_read bytes (faults.Magic offset) is alone = record { kind = magic; place = offset; is_given = is; is_line = refl }
 fault_read bytes (faults.Counts offset) is alone = record { kind = counts; place = offset; is_given = is; is_line = refl }
@@ -55,6 +55,12 @@ fault_read bytes (faults.TooLong offset) is alone = record { kind = too_long; pl
 fault_read bytes (faults.HeaderForm offset) is alone = record { kind = header_form; place = offset; is_given = is; is_line = refl }
 fault_read bytes (faults.SectionForm offset) is alone = record { kind = section_form; place = offset; is_given = is; is_line = refl }
 fault_read bytes faults.Memory is alone = absurd (alone refl)
+
+pub fault_told : (bytes : List ℕ) (fault : FileFault) → IsFaultOfFile fault (read_file bytes) → (found : TreeRead) → IsReadFault fault found → IsReadOfBytes bytes found
+fault_told bytes fault is (File file) never = absurd never
+fault_told bytes fault is (Fault line) (alone, told) =
+    subst (λ (text : List ℕ). IsFaultIn (λ meaning. read_file bytes ≡ meaning) text) (sym told) (fault_read bytes fault is alone)
+fault_told bytes fault is Unread never = absurd never
 
 -- what holds anyway holds of an error
 pub on_each_err : {T E P : Type 0} (r : Result T E) → P → OnErr r P

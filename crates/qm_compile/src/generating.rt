@@ -1,13 +1,16 @@
 //! Compiling a generated map.
 
 ghost use Rattle.std.specs.Prelude.{◌≤◌, IfOk, string_bytes};
+ghost use Rattle.qm_grammar.specs.Valid.{IsValidMap};
 ghost use Rattle.qm_statement.specs.DemoComesOf.{IsSummaryOfRooms};
+ghost use Rattle.qm_compile.specs.inner.MapSummary.{IsSummaryOfMap, LeaksNowhere};
 
 use qm_commands::Options;
 use qm_compiler::{Compiled, compile};
 use qm_crew::Gate;
 use qm_gen::{GenFault, rooms};
 use qm_make::summary_text;
+use qm_mapfile::MapFile;
 use std::alloc::{AllocError, Global};
 use std::thread::Threads;
 
@@ -23,16 +26,29 @@ pub fn sum_up_rooms<R: Threads + Sync, G: Gate + Sync>(
     requires few { count ≤ 64 }
     ensures { IfOk result (λ text. IsSummaryOfRooms count number (string_bytes text)) }
 {
-    let map = match rooms(alloc, count, number) {
-        Ok(map) => map,
+    match rooms(alloc, count, number) {
+        Ok(map) => sum_up_map(rt, alloc, &map, gate),
         Err(GenFault::SizeRange) => unreachable!(),
-        Err(GenFault::Memory) => return Err(AllocError),
-    };
+        Err(GenFault::Memory) => Err(AllocError),
+    }
+}
+
+/// The summary of a map in which no entity leaks, compiled with one worker.
+fn sum_up_map<R: Threads + Sync, G: Gate + Sync>(
+    rt: &R,
+    alloc: Global,
+    map: &MapFile,
+    gate: &G,
+) -> Result<String, AllocError>
+    requires valid { IsValidMap map.now }
+    requires leaks_nowhere { LeaksNowhere map.now }
+    ensures { IfOk result (λ text. IsSummaryOfMap map.now (string_bytes text)) }
+{
     let options = Options {
         threads: 1,
         fast: false,
     };
-    match compile(rt, alloc, &map, &options, gate)? {
+    match compile(rt, alloc, map, &options, gate)? {
         Compiled::Done { summary, .. } => summary_text(alloc, &summary),
         Compiled::Leak { .. } => unreachable!(),
     }

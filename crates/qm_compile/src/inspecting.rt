@@ -1,8 +1,10 @@
 //! From a tree file under a name to what it answers.
 
-ghost use Rattle.std.specs.Prelude.{IfOk, OnErr};
+ghost use Rattle.std.specs.Prelude.{◌≡◌, IfOk, OnErr};
 ghost use Rattle.qm_shelf.specs.SeenForms.{shelf_state};
 ghost use Rattle.qm_formats.specs.TreeFile.{IsValidFile};
+ghost use Rattle.qm_statement.specs.declared.status.Status.TheVariants.{QueryRefused};
+ghost use Rattle.qm_statement.specs.RefusalText.{refusal_text};
 ghost use Rattle.qm_statement.specs.InspectComesOf.{InspectComesOf};
 ghost use Rattle.qm_statement.specs.Untouched.{IsUntouched};
 ghost use Rattle.qm_compile.specs.inner.FileReport.{IsFileReport};
@@ -11,6 +13,7 @@ ghost use Rattle.qm_compile.specs.inner.Reported.{reported_status, reported_text
 use crate::refusal_line::refusal_line;
 use crate::report::Report;
 use crate::tree_reading::{TreeRead, read_tree};
+use qm_answers::QueryFault;
 use qm_commands::Query;
 use qm_file::TreeFile;
 use qm_inspect::{Told, tell};
@@ -42,8 +45,14 @@ fn ask(alloc: Global, file: &TreeFile, queries: &[Query]) -> Result<Report, Allo
 {
     match tell(alloc, file, queries)? {
         Told::Lines(lines) => Ok(Report::Answered(lines)),
-        Told::Refused { number, fault } => {
-            Ok(Report::QueryRefused(refusal_line(alloc, number, fault)?))
-        }
+        Told::Refused { number, fault } => refused(alloc, number, fault),
     }
+}
+
+/// What is reported of a query that is refused.
+fn refused(alloc: Global, number: u64, fault: QueryFault) -> Result<Report, AllocError>
+    ensures { IfOk result (λ report. (reported_status report ≡ QueryRefused) × (reported_text report ≡ refusal_text number fault)) }
+{
+    let line = refusal_line(alloc, number, fault)?;
+    Ok(Report::QueryRefused(line))
 }

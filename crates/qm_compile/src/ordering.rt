@@ -1,9 +1,15 @@
 //! Carrying out what words ask for.
 
-ghost use Rattle.std.specs.Prelude.{IfOk, OnErr};
+ghost use Rattle.std.specs.Prelude.{◌≡◌, ◌≤◌, IfOk, OnErr};
 ghost use Rattle.qm_shelf.specs.SeenForms.{shelf_state};
+ghost use Rattle.qm_commands.specs.FileNames.{AreDifferent};
 ghost use Rattle.qm_words.specs.SeenWords.{order_of};
 ghost use Rattle.qm_statement.specs.Run.{OrderComesOf, IsStopped};
+ghost use Rattle.qm_statement.specs.ComesOf.{ComesOf, IsCutShort};
+ghost use Rattle.qm_statement.specs.DemoComesOf.{IsSummaryOfRooms};
+ghost use Rattle.qm_statement.specs.declared.status.Status.TheVariants.{Done};
+ghost use Rattle.qm_make.specs.SeenFiles.{file_names};
+ghost use Rattle.qm_make.specs.Workers.{HasWorkers};
 ghost use Rattle.qm_compile.specs.inner.OneOrder.{IsOfWords};
 ghost use Rattle.qm_compile.specs.inner.Reported.{reported_status, reported_text};
 
@@ -49,7 +55,7 @@ pub fn carry_out_order<R: Threads + Sync, H: Shelf, G: Gate + Sync>(
                 out_name: out,
                 listing_name: prt,
             };
-            Ok(Report::OfFiles(carry_out_command(rt, alloc, shelf, command, &files, gate)?))
+            carry_out_on_files(rt, alloc, shelf, command, &files, gate)
         }
         Order::Format { map, out } => {
             let files = Files {
@@ -57,19 +63,45 @@ pub fn carry_out_order<R: Threads + Sync, H: Shelf, G: Gate + Sync>(
                 out_name: out,
                 listing_name: None,
             };
-            Ok(Report::OfFiles(carry_out_command(
-                rt,
-                alloc,
-                shelf,
-                MapCommand::Format,
-                &files,
-                gate,
-            )?))
+            carry_out_on_files(rt, alloc, shelf, MapCommand::Format, &files, gate)
         }
         Order::Inspect { tree, queries } => inspect(alloc, shelf, tree, &queries),
-        Order::Demo { rooms, number } => {
-            Ok(Report::SummedUp(sum_up_rooms(rt, alloc, rooms, number, gate)?))
-        }
+        Order::Demo { rooms, number } => sum_up(rt, alloc, rooms, number, gate),
         Order::Upgrade { tree, out } => upgrade_tree(alloc, shelf, tree, out),
     }
+}
+
+/// Carries out a command that makes files of a map.
+fn carry_out_on_files<R: Threads + Sync, H: Shelf, G: Gate + Sync>(
+    rt: &R,
+    alloc: Global,
+    shelf: &mut H,
+    command: MapCommand,
+    files: &Files<'_>,
+    gate: &G,
+) -> Result<Report, AllocError>
+    requires different { AreDifferent (file_names files.now) }
+    requires workers { HasWorkers command }
+    ensures due { IfOk result (λ report. ComesOf (shelf_state H.Shelf shelf.old) (shelf_state H.Shelf shelf.new) command (file_names files.now)
+        (reported_status report) (reported_text report)) }
+    ensures memory { OnErr result (IsCutShort (shelf_state H.Shelf shelf.old) (shelf_state H.Shelf shelf.new) command (file_names files.now)) }
+{
+    let outcome = carry_out_command(rt, alloc, shelf, command, files, gate)?;
+    Ok(Report::OfFiles(outcome))
+}
+
+/// Sums up a generated map of so many rooms.
+fn sum_up<R: Threads + Sync, G: Gate + Sync>(
+    rt: &R,
+    alloc: Global,
+    rooms: u32,
+    number: u64,
+    gate: &G,
+) -> Result<Report, AllocError>
+    requires some { 1 ≤ rooms }
+    requires few { rooms ≤ 64 }
+    ensures { IfOk result (λ report. (reported_status report ≡ Done) × IsSummaryOfRooms rooms number (reported_text report)) }
+{
+    let text = sum_up_rooms(rt, alloc, rooms, number, gate)?;
+    Ok(Report::SummedUp(text))
 }

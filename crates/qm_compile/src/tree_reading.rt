@@ -3,10 +3,10 @@
 ghost use Rattle.std.specs.Prelude.{IfOk, OnErr};
 ghost use Rattle.qm_shelf.specs.SeenForms.{shelf_state};
 ghost use Rattle.qm_statement.specs.Untouched.{IsUntouched};
-ghost use Rattle.qm_compile.specs.inner.TreeRead.{IsTreeRead, IsReadOfBytes};
+ghost use Rattle.qm_compile.specs.inner.TreeRead.{IsTreeRead, IsReadFault, IsReadOfBytes};
 
 use crate::tree_fault_line::tree_fault_line;
-use qm_file::{TreeFile, decode};
+use qm_file::{FileFault, TreeFile, decode};
 use qm_shelf::{Shelf, ShelfFault, read_whole};
 use std::alloc::{AllocError, Global};
 
@@ -48,6 +48,14 @@ fn read_bytes(alloc: Global, bytes: Vec<u8>) -> Result<TreeRead, AllocError>
     drop(bytes);
     match decoded {
         Ok(file) => Ok(TreeRead::File(file)),
-        Err(fault) => Ok(TreeRead::Fault(tree_fault_line(alloc, fault)?)),
+        Err(fault) => tree_fault(alloc, fault),
     }
+}
+
+/// The fault of bytes that are no tree file.
+fn tree_fault(alloc: Global, fault: FileFault) -> Result<TreeRead, AllocError>
+    ensures { IfOk result (λ found. IsReadFault fault found) }
+{
+    let line = tree_fault_line(alloc, fault)?;
+    Ok(TreeRead::Fault(line))
 }

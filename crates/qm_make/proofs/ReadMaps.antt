@@ -1,7 +1,6 @@
 -- A text under a name is read in pieces, up to a fault that is certain or to its end.
-use Rattle.std.proofs.Common.{◌≡◌, ◌≢◌, ◌↔◌, ℕ, ◌+◌, ◌≤◌, true, false, List, [], ◌++◌, Result, Ok, Err, length, take, drop, take-append-drop, take_all, refl, sym, ap, subst, ◌∙◌, arith}
-use Rattle.std.proofs.Math.Seq.{take-append_seam}
-use Rattle.std.specs.Prelude.{IsTrue, IfOk, IfErr}
+use Rattle.std.proofs.Common.{◌≡◌, ◌≢◌, ℕ, ◌+◌, ◌≤◌, true, false, List, [], ◌++◌, Option, Some, None, Result, Ok, Err, length, take, drop, take-append-drop, take_all, refl, sym, ap, subst, ◌∙◌, arith}
+use Rattle.std.specs.Prelude.{Bool, IsTrue, IfOk, IfErr, OnOk}
 use Rattle.qm_lists.proofs.Cases.{by_cases}
 use Rattle.qm_lists.specs.Limit.{up_to_one_past}
 use Rattle.qm_mapfile.specs.declared.entity.MapFile.{MapFile}
@@ -16,65 +15,98 @@ use Rattle.qm_pieces.specs.Certain.{IsCertain}
 use Rattle.qm_pieces.specs.ReadSoFar.{ReadSoFar, IsReaderOf}
 use Rattle.qm_pieces.proofs.Certainty.{certain_now}
 use Rattle.qm_shelf.specs.declared.shelf.ShelfFault.{ShelfFault}
+use Rattle.qm_shelf.specs.declared.shelf.ShelfFault.TheVariants.{Failed, Memory}
 use Rattle.qm_shelf.specs.FaultMeans.{ReadFaultMeans}
+use Rattle.qm_shelf.proofs.Counted.{stays_twice, no_fault_twice}
 use Rattle.qm_shelf.proofs.Pieces.{read_further}
+use Rattle.qm_surroundings.specs.Counts.{Rose}
+use Rattle.qm_surroundings.specs.HeldFile.{bytes_of_file}
 use Rattle.qm_surroundings.specs.ShelfState.{ShelfState, text_under}
-use Rattle.qm_surroundings.specs.ShelfChanges.{MetNoFault}
+use Rattle.qm_surroundings.specs.ShelfChanges.{IsKept, MetNoFault}
 use Rattle.qm_statement.specs.TextMeans.{TextMeans}
-use Rattle.qm_make.specs.inner.Reading.{IsToldMeaning, HasReadUnder}
+use Rattle.qm_make.specs.inner.Reading.{IsToldMeaning, HasRead, HasReadEnough, to_its_end, to_a_fault, IsFed, IsFedPiece}
 use Rattle.qm_make.proofs.ReadMeanings.{text_means}
 
--- a piece that is written over whole
-pub written_over : (new rest : List ℕ) (room : ℕ) → room ≡ length new → take room (new ++ rest) ≡ new
-written_over new rest room e = ap (λ (n : ℕ). take n (new ++ rest)) e ∙ take-append_seam new rest
+module _ (tells : Bool) (whole : List ℕ) where
+  -- before the first piece
+  pub read_none : (reader : Result ReadSoFar MapFault) → IsReaderOf [] reader → HasRead tells whole 0 reader
+  read_none reader is = record { text = []; is_front = λ _. refl; is_read = is }
 
--- before the first piece
-pub read_none : (before : ShelfState) (name : List ℕ) (reader : Result ReadSoFar MapFault) → IsReaderOf [] reader → HasReadUnder before name 0 reader
-read_none before name reader is = record { text = []; is_front = λ _. refl; is_read = is }
+  -- the text ends where it was read to
+  pub read_to_end : (done : ℕ) (reader : Result ReadSoFar MapFault) → done ≤ text_limit → (IsTrue tells → length whole ≤ done) → HasRead tells whole done reader → HasReadEnough tells whole reader
+  unfolding up_to_one_past
+  read_to_end done reader within ends so_far =
+      to_its_end so_far.text
+      (λ is. so_far.is_front is ∙ take_all done whole (ends is) ∙ sym (take_all (text_limit + 1) whole (omega (arith, ends is, within)))) so_far.is_read
 
--- one more piece
-module _ (before : ShelfState) (name : List ℕ) (done count : ℕ) (reader : Result ReadSoFar MapFault) (piece : List ℕ) (so_far : HasReadUnder before name done reader) (piece_is : IsTrue before.tells → piece ≡ take count (drop done (text_under before name))) where
-  front : IsTrue before.tells → so_far.text ++ piece ≡ take (done + count) (text_under before name)
-  front tells =
-      read_further (text_under before name) so_far.text (so_far.text ++ piece) done count (so_far.is_front tells) (ap (λ (p : List ℕ). so_far.text ++ p) (piece_is tells))
+  -- it was read to one byte past its limit
+  pub read_to_limit : (done : ℕ) (reader : Result ReadSoFar MapFault) → done ≡ text_limit + 1 → HasRead tells whole done reader → HasReadEnough tells whole reader
+  unfolding up_to_one_past
+  read_to_limit done reader full so_far =
+      to_its_end so_far.text (λ is. so_far.is_front is ∙ ap (λ (n : ℕ). take n whole) full) so_far.is_read
 
-  pub read_more : (new : Result ReadSoFar MapFault) → IsReaderOf (so_far.text ++ piece) new → HasReadUnder before name (done + count) new
-  read_more new is = record { text = so_far.text ++ piece; is_front = front; is_read = is }
+  -- one more piece
+  module _ (done count : ℕ) (old : Result ReadSoFar MapFault) (piece : List ℕ) (piece_is : IsTrue tells → piece ≡ take count (drop done whole)) where
+    front : (so_far : HasRead tells whole done old) → IsTrue tells → so_far.text ++ piece ≡ take (done + count) whole
+    front so_far is =
+        read_further whole so_far.text (so_far.text ++ piece) done count (so_far.is_front is) (ap (λ (p : List ℕ). so_far.text ++ p) (piece_is is))
 
-  -- a fault that is certain behind it is the text's, whatever follows
-  pub certain_means : (found : MapFault) → IsCertain (so_far.text ++ piece) found → TextMeans before name (Err found)
-  certain_means found certain =
+    read_more : (place : ℕ) → place ≡ done + count → (new : Result ReadSoFar MapFault) → ((text : List ℕ) → IsReaderOf text old → IsReaderOf (text ++ piece) new) → HasRead tells whole done old → HasRead tells whole place new
+    read_more place is new goes so_far = record {
+      text = so_far.text ++ piece;
+      is_front = λ its. front so_far its ∙ ap (λ (n : ℕ). take n whole) (sym is);
+      is_read = goes so_far.text so_far.is_read;
+    }
+
+    pub fed_piece : 1 ≤ count → done + count ≤ text_limit + 1 → (answer : Option ℕ) (new : Result ReadSoFar MapFault) → IsFedPiece old piece (done + count) answer new → IsFed tells whole done old answer new
+    fed_piece some within (Some place) new fed = (omega (arith, some, fed.0), omega (arith, within, fed.0), read_more place fed.0 new fed.1)
+    fed_piece some within None new fed = λ so_far.
+        subst (λ (reader : Result ReadSoFar MapFault). HasReadEnough tells whole reader) (sym fed.1)
+        (to_a_fault (so_far.text ++ piece) (done + count) (front so_far) (fed.2 so_far.text so_far.is_read))
+
+-- ---- what was read over several calls
+
+module _ (before between after : ShelfState) (kept : IsKept before between) (no_fault : MetNoFault before between) (name : List ℕ) where
+  same_text : text_under between name ≡ text_under before name
+  same_text = ap bytes_of_file (kept name)
+
+  pub fed_since : (tells : Bool) (done : ℕ) (old : Result ReadSoFar MapFault) (answer : Option ℕ) (new : Result ReadSoFar MapFault) → IsFed tells (text_under between name) done old answer new → IsFed tells (text_under before name) done old answer new
+  fed_since tells done old answer new fed = subst (λ (whole : List ℕ). IsFed tells whole done old answer new) same_text fed
+
+  pub read_fault_twice : (fault : ShelfFault) → ReadFaultMeans between after name fault → ReadFaultMeans before after name fault
+  read_fault_twice Failed fails = record {
+    rose = subst (λ (count : ℕ). Rose count (after.read_faults name)) (no_fault.reads name) fails.rose;
+    writes = stays_twice _ _ _ no_fault.writes fails.writes;
+  }
+  read_fault_twice Memory same = no_fault_twice before between after no_fault same
+
+-- ---- what was read shows what the text means
+
+module _ (before : ShelfState) (name : List ℕ) where
+  -- a fault that is certain is the text's, whatever follows
+  certain_means : (text : List ℕ) (place : ℕ) → (IsTrue before.tells → text ≡ take place (text_under before name)) → (found : MapFault) → IsCertain text found → TextMeans before name (Err found)
+  certain_means text place front found certain =
       by_cases before.tells
       (λ tells.
       let whole = text_under before name in
-      let rest = drop (done + count) whole in
-      let joined : (so_far.text ++ piece) ++ rest ≡ whole = ap (λ (t : List ℕ). t ++ rest) (front tells) ∙ take-append-drop (done + count) whole in
+      let rest = drop place whole in
+      let joined : text ++ rest ≡ whole = ap (λ (t : List ℕ). t ++ rest) (front tells) ∙ take-append-drop place whole in
       let its : Means whole (Err found) = subst (λ (t : List ℕ). IsFaultText t found) joined (certain rest) in
       record { text = whole; is_held = λ _. refl; means = its; only = λ other is. one_meaning whole other (Err found) is its })
       (λ silent.
-      let its : Means (so_far.text ++ piece) (Err found) = certain_now (so_far.text ++ piece) found certain in
+      let its : Means text (Err found) = certain_now text found certain in
       record {
-        text = so_far.text ++ piece;
+        text = text;
         is_held = λ tells. absurd (let e : true ≡ false = sym tells ∙ silent in cc);
         means = its;
-        only = λ other is. one_meaning (so_far.text ++ piece) other (Err found) is its;
+        only = λ other is. one_meaning text other (Err found) is its;
       })
 
--- the text ends here, or it was read to one byte past its limit
-module _ (before : ShelfState) (name : List ℕ) (done : ℕ) (reader : Result ReadSoFar MapFault) (so_far : HasReadUnder before name done reader) (answer : Result MapFile MapFault) (means : Means so_far.text answer) where
-  pub end_means : done ≤ text_limit + 1 → (IsTrue before.tells → length (text_under before name) ≤ done) → TextMeans before name answer
-  unfolding up_to_one_past
-  end_means within ends =
-      text_means before name so_far.text answer
-      (λ tells.
-      let whole = text_under before name in
-      so_far.is_front tells ∙ take_all done whole (ends tells) ∙ sym (take_all (text_limit + 1) whole (omega (arith, ends tells, within)))) means
-
-  pub limit_means : done ≡ text_limit + 1 → TextMeans before name answer
-  unfolding up_to_one_past
-  limit_means full =
-      text_means before name so_far.text answer
-      (λ tells. so_far.is_front tells ∙ ap (λ (n : ℕ). take n (text_under before name)) full) means
+  pub enough_means : (reader : Result ReadSoFar MapFault) → HasReadEnough before.tells (text_under before name) reader → (answer : Result MapFile MapFault) → ((text : List ℕ) → IsReaderOf text reader → answer ≢ Err fault.Memory → Means text answer) → IfErr reader (λ found. answer ≡ Err found) → answer ≢ Err fault.Memory → TextMeans before name answer
+  enough_means reader (to_its_end text front is) answer means stopped apart = text_means before name text answer front (means text is apart)
+  enough_means _ (to_a_fault {found} text place front certain) answer means stopped apart =
+      subst (λ (m : Result MapFile MapFault). TextMeans before name m) (sym stopped)
+      (certain_means text place front found (certain (λ same. apart (stopped ∙ ap (λ (f : MapFault). Err f) same))))
 
 -- ---- what is told
 
@@ -96,10 +128,7 @@ module _ (meaning : Result MapFile MapFault) where
   told_err before after name (Ok told) is none = tt
   told_err before after name (Err found) is none = subst (λ (f : ShelfFault). ReadFaultMeans before after name f) (sym is) none
 
--- a fault at which feeding one more piece stops
-pub fault_told : (before : ShelfState) (name : List ℕ) (done count : ℕ) (reader : Result ReadSoFar MapFault) (piece : List ℕ) (so_far : HasReadUnder before name done reader) (found : MapFault) → (IsTrue before.tells → piece ≡ take count (drop done (text_under before name))) → ((text : List ℕ) → IsReaderOf text reader → ◌≢◌ {A = Result (Unit {0}) MapFault} (Err found) (Err fault.Memory) → (other : MapFault) → (◌≡◌ {A = Result (Unit {0}) MapFault} (Err found) (Err other)) ↔ IsCertain (text ++ piece) other) → (answer : Result (Result MapFile MapFault) ShelfFault) → IsToldMeaning (Err found) answer → IfOk answer (λ m. TextMeans before name m)
-fault_told before name done count reader piece so_far found piece_is fed answer told =
-    told_means (Err found) before name answer told
-    (λ apart.
-    certain_means before name done count reader piece so_far piece_is found
-    ((fed so_far.text so_far.is_read (λ e. let same : found ≡ fault.Memory = cc in apart (ap (λ (f : MapFault). Err f) same)) found).0 refl))
+-- what holds anyway holds where something is told
+pub told_ok : {T E P : Type 0} (answer : Result T E) → P → OnOk answer P
+told_ok (Ok told) p = p
+told_ok (Err fault) p = tt

@@ -1,6 +1,6 @@
 -- Writing OUT and then FILE.
-use Rattle.std.proofs.Common.{◌≡◌, ℕ, List, Option, Some, None, sym, ◌∙◌, subst, ap, inl, inr}
-use Rattle.std.specs.Prelude.{IsTrue}
+use Rattle.std.proofs.Common.{◌≡◌, ℕ, List, Option, Some, None, Result, Ok, Err, sym, ◌∙◌, subst, ap, inl, inr}
+use Rattle.std.specs.Prelude.{IsTrue, OnOk, OnErr, IfErr}
 use Rattle.qm_surroundings.specs.ShelfState.{ShelfState}
 use Rattle.qm_surroundings.specs.ShelfChanges.{IsKept, IsKeptElsewhere, MetNoFault}
 use Rattle.qm_shelf.specs.FaultMeans.{WriteFaultMeans}
@@ -10,7 +10,7 @@ use Rattle.qm_shelf.proofs.Counted.{no_fault_twice, write_fault_twice}
 use Rattle.qm_commands.specs.FileNames.{FileNames, AreDifferent}
 use Rattle.qm_statement.specs.Output.{Output}
 use Rattle.qm_statement.specs.Written.{AreOthersKept}
-use Rattle.qm_make.specs.inner.Writing.{IsAllWritten, StopsInOut, StopsInListing}
+use Rattle.qm_make.specs.inner.Writing.{IsFileWriting, IsListingWriting, IsWriting, IsAllWritten, StopsInOut, StopsInListing}
 
 -- what is kept beside OUT is kept beside all that is written
 kept_beside : (before after : ShelfState) (files : FileNames) (listing : Option (List ℕ)) → IsKeptElsewhere before after files.out_name → AreOthersKept before after files listing
@@ -18,7 +18,7 @@ kept_beside before after files None kept name other = kept name (λ same. other 
 kept_beside before after files (Some listing) kept name other = kept name (λ same. other (inl same))
 
 -- there is no listing to be written, or no name for it
-pub out_alone : (before after : ShelfState) (files : FileNames) (output : Output) → IsKeptElsewhere before after files.out_name → (IsTrue before.tells → HoldsExactly after files.out_name output.file) → MetNoFault before after → ((name bytes : List ℕ) → files.listing_name ≡ Some name → output.listing ≡ Some bytes → ⊥) → IsAllWritten before after files output
+out_alone : (before after : ShelfState) (files : FileNames) (output : Output) → IsKeptElsewhere before after files.out_name → (IsTrue before.tells → HoldsExactly after files.out_name output.file) → MetNoFault before after → ((name bytes : List ℕ) → files.listing_name ≡ Some name → output.listing ≡ Some bytes → ⊥) → IsAllWritten before after files output
 out_alone before after files output kept holds no_fault none = record {
   others = kept_beside before after files output.listing kept;
   holds_out = holds;
@@ -45,7 +45,7 @@ module _ (before between after : ShelfState) (files : FileNames) (output : Outpu
   one_text : (other : List ℕ) → output.listing ≡ Some other → other ≡ bytes
   one_text other its = let same : Some other ≡ Some bytes = sym its ∙ due in cc
 
-  pub both_written : (IsTrue between.tells → HoldsExactly after name bytes) → MetNoFault between after → IsAllWritten before after files output
+  both_written : (IsTrue between.tells → HoldsExactly after name bytes) → MetNoFault between after → IsAllWritten before after files output
   both_written whole none = record {
     others = both_kept;
     holds_out = still_holds;
@@ -60,7 +60,7 @@ module _ (before between after : ShelfState) (files : FileNames) (output : Outpu
   part_since (inl same) = inl (same ∙ kept name (λ is. different.out_and_listing name asked (sym is)))
   part_since (inr part) = inr part
 
-  pub listing_stopped : (fault : ShelfFault) → (IsTrue between.tells → HoldsUnfinished between after name bytes) → WriteFaultMeans between after name fault → StopsInListing before after files output fault
+  listing_stopped : (fault : ShelfFault) → (IsTrue between.tells → HoldsUnfinished between after name bytes) → WriteFaultMeans between after name fault → StopsInListing before after files output fault
   listing_stopped fault part means = record {
     name = name;
     is_asked = asked;
@@ -71,6 +71,35 @@ module _ (before between after : ShelfState) (files : FileNames) (output : Outpu
     part = λ tells. part_since (part (subst IsTrue (sym tells_are) tells));
     means = write_fault_twice before between after fault name no_fault means;
   }
+
+-- OUT was written, and nothing after it
+module _ (before between after : ShelfState) (files : FileNames) (output : Output) (kept : IsKeptElsewhere before between files.out_name) (holds : IsTrue before.tells → HoldsExactly between files.out_name output.file) (no_fault : MetNoFault before between) (kept_then : IsKept between after) (no_fault_then : MetNoFault between after) where
+  alone : ((name bytes : List ℕ) → files.listing_name ≡ Some name → output.listing ≡ Some bytes → ⊥) → IsAllWritten before after files output
+  alone none =
+      out_alone before after files output (λ name apart. kept_then name ∙ kept name apart) (λ tells. kept_then files.out_name ∙ holds tells) (no_fault_twice before between after no_fault no_fault_then) none
+
+  pub unnamed : files.listing_name ≡ None → IsAllWritten before after files output
+  unnamed is = alone (λ name bytes asked due. absurd (let e : None ≡ Some name = sym is ∙ asked in cc))
+
+  pub unlisted : output.listing ≡ None → IsAllWritten before after files output
+  unlisted is = alone (λ name bytes asked due. absurd (let e : None ≡ Some bytes = sym is ∙ due in cc))
+
+-- OUT was written, and then the listing
+module _ {T : Type 0} (before between after : ShelfState) (files : FileNames) (output : Output) (different : AreDifferent files) (tells_are : between.tells ≡ before.tells) (kept : IsKeptElsewhere before between files.out_name) (holds : IsTrue before.tells → HoldsExactly between files.out_name output.file) (no_fault : MetNoFault before between) where
+  pub listing_ends : (name : Option (List ℕ)) → files.listing_name ≡ name → (listing : Option (List ℕ)) → output.listing ≡ listing → (result : Result T ShelfFault) → IsListingWriting between after name listing result → IsWriting before after files output result
+  listing_ends (Some name) asked (Some bytes) due (Ok done) (kept_then, whole, none) =
+      both_written before between after files output different tells_are kept holds no_fault name bytes asked due kept_then whole none
+  listing_ends (Some name) asked (Some bytes) due (Err fault) (kept_then, part, means) =
+      inr (listing_stopped before between after files output different tells_are kept holds no_fault name bytes asked due kept_then fault part means)
+  listing_ends None asked listing due (Ok done) (kept_then, none) = unnamed before between after files output kept holds no_fault kept_then none asked
+  listing_ends (Some name) asked None due (Ok done) (kept_then, none) = unlisted before between after files output kept holds no_fault kept_then none due
+  listing_ends None asked listing due (Err fault) never = absurd never
+  listing_ends (Some name) asked None due (Err fault) never = absurd never
+
+-- a file was written, or not to its end
+pub file_ends : {T : Type 0} (before after : ShelfState) (name bytes : List ℕ) (result : Result T ShelfFault) → OnOk result (IsTrue before.tells → HoldsExactly after name bytes) → OnErr result (IsTrue before.tells → HoldsUnfinished before after name bytes) → IsKeptElsewhere before after name → OnOk result (MetNoFault before after) → IfErr result (WriteFaultMeans before after name) → IsFileWriting before after name bytes result
+file_ends before after name bytes (Ok done) whole part kept none means = (kept, whole, none)
+file_ends before after name bytes (Err fault) whole part kept none means = (kept, part, means)
 
 -- MAP was read before
 module _ (before between after : ShelfState) (files : FileNames) (output : Output) (tells_are : between.tells ≡ before.tells) (kept : IsKept before between) (no_fault : MetNoFault before between) where

@@ -1,3 +1,4 @@
+pub mod Ending
 pub mod Made
 pub mod Reading
 pub mod PutOut

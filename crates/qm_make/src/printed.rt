@@ -10,19 +10,26 @@ use qm_statement::Summary;
 use std::alloc::{AllocError, Global};
 
 /// A line of what was found of leaks, and one for each count.
-#[tactic(auto, unfolding(qm_statement::specs::Summary::summary_text))]
 pub fn summary_text(alloc: Global, summary: &Summary) -> Result<String, AllocError>
     ensures { IfOk result (λ text. string_bytes text ≡ summary_text summary.now) }
 {
     let mut text = String::new(alloc);
+    put_summary(&mut text, summary)?;
+    Ok(text)
+}
+
+/// Adds these lines.
+#[tactic(auto, unfolding(qm_statement::specs::Summary::summary_text))]
+fn put_summary(text: &mut String, summary: &Summary) -> Result<(), AllocError>
+    ensures { OnOk result (string_bytes text.new ≡ string_bytes text.old ++ summary_text summary.now) }
+{
     let verdict = verdict(summary.sealed);
     writeln!(text, "{verdict}")?;
-    put_count_line(&mut text, "brushes", summary.brushes)?;
-    put_count_line(&mut text, "flat", summary.flat)?;
-    put_tree_lines(&mut text, summary)?;
-    put_count_line(&mut text, "portals", summary.portals)?;
-    put_count_line(&mut text, "seen", summary.seen)?;
-    Ok(text)
+    put_count_line(text, "brushes", summary.brushes)?;
+    put_count_line(text, "flat", summary.flat)?;
+    put_tree_lines(text, summary)?;
+    put_count_line(text, "portals", summary.portals)?;
+    put_count_line(text, "seen", summary.seen)
 }
 
 /// Adds the lines of what a tree has.
@@ -45,16 +52,23 @@ fn verdict(sealed: bool) -> &'static str
 }
 
 /// A line of the entity that leaks, and one of the leaves of its trail.
-#[tactic(auto, unfolding(qm_statement::specs::Texts::leak_text))]
 pub fn leak_text(alloc: Global, entity: u64, trail: &[u64]) -> Result<String, AllocError>
     ensures { IfOk result (λ text. string_bytes text ≡ leak_text entity trail.now) }
 {
     let mut text = String::new(alloc);
+    put_leak(&mut text, entity, trail)?;
+    Ok(text)
+}
+
+/// Adds these lines.
+#[tactic(auto, unfolding(qm_statement::specs::Texts::leak_text))]
+fn put_leak(text: &mut String, entity: u64, trail: &[u64]) -> Result<(), AllocError>
+    ensures { OnOk result (string_bytes text.new ≡ string_bytes text.old ++ leak_text entity trail.now) }
+{
     writeln!(text, "leak: entity {entity}")?;
     write!(text, "trail:")?;
-    put_trail(&mut text, trail)?;
-    writeln!(text)?;
-    Ok(text)
+    put_trail(text, trail)?;
+    writeln!(text)
 }
 
 /// Adds the numbers of leaves, each after a space.

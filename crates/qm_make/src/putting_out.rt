@@ -58,7 +58,7 @@ fn put_out(alloc: Global, listed: bool, compiled: Compiled) -> Result<Product, A
     }
 }
 
-/// The same where no entity leaks. The world is let go of before the bytes of the tree are made.
+/// What is put out where no entity leaks. The world is let go of before the bytes of the tree are made.
 fn put_out_done(
     alloc: Global,
     listed: bool,
@@ -70,20 +70,20 @@ fn put_out_done(
 {
     let listing = listing_of(alloc, listed, &world)?;
     drop(world);
-    put_out_listed(alloc, file, listing, summary)
+    put_out_listed(alloc, &file, listing, summary)
 }
 
 /// The bytes of a tree file with a summary, beside a listing that is made.
 fn put_out_listed(
     alloc: Global,
-    file: TreeFile,
+    file: &TreeFile,
     listing: Option<Vec<u8>>,
     summary: &Summary,
 ) -> Result<Product, AllocError>
-    ensures { IfOk result (λ product. output_of product ≡ done_output file (option_map (λ bytes. bytes.items) listing) summary.now) }
+    ensures { IfOk result (λ product. output_of product ≡ done_output file.now (option_map (λ bytes. bytes.items) listing) summary.now) }
 {
     let text = summary_text(alloc, summary)?;
-    let file = encode(alloc, &file)?;
+    let file = encode(alloc, file)?;
     Ok(Product {
         file,
         listing,
@@ -91,7 +91,7 @@ fn put_out_listed(
     })
 }
 
-/// The same where one does.
+/// What is put out where an entity leaks.
 fn put_out_leak(
     alloc: Global,
     file: &TreeFile,

@@ -1,12 +1,16 @@
 //! From a text under a name to what it means, piece by piece.
 
-ghost use Rattle.std.specs.Prelude.{IfOk, IfErr, OnOk};
+ghost use Rattle.std.specs.Prelude.{◌≡◌, ◌≤◌, [], IfOk, IfErr, OnOk, length};
 ghost use Rattle.qm_shelf.specs.SeenForms.{shelf_state};
 ghost use Rattle.qm_shelf.specs.FaultMeans.{ReadFaultMeans};
+ghost use Rattle.qm_shelf.specs.declared.shelf.TheConstants.{PIECE};
 ghost use Rattle.qm_surroundings.specs.ShelfChanges.{IsKept, MetNoFault};
+ghost use Rattle.qm_surroundings.specs.ShelfState.{text_under};
+ghost use Rattle.qm_grammar.specs.Faults.{text_limit};
 ghost use Rattle.qm_grammar.specs.Valid.{IsValidMap};
+ghost use Rattle.qm_pieces.specs.ReadSoFar.{IsReaderOf};
 ghost use Rattle.qm_statement.specs.TextMeans.{TextMeans};
-ghost use Rattle.qm_make.specs.inner.Reading.{IsToldMeaning};
+ghost use Rattle.qm_make.specs.inner.Reading.{HasReadEnough, IsFed, IsFedPiece, IsToldMeaning};
 
 use qm_grammar::{MapFault, TEXT_LIMIT};
 use qm_mapfile::MapFile;
@@ -27,22 +31,85 @@ pub fn read_map<H: Shelf>(alloc: Global, shelf: &mut H, name: &str) -> Result<Me
     ensures err { IfErr result (ReadFaultMeans (shelf_state H.Shelf shelf.old) (shelf_state H.Shelf shelf.new) name.now) }
 {
     let mut reader = MapReader::new(alloc);
+    match feed_text(alloc, shelf, name, &mut reader) {
+        Ok(()) => told(reader.finish()),
+        Err(fault) => Err(fault),
+    }
+}
+
+/// Feeds a reader the text under a name, until it knows what the text means.
+fn feed_text<H: Shelf>(
+    alloc: Global,
+    shelf: &mut H,
+    name: &str,
+    reader: &mut MapReader,
+) -> Result<(), ShelfFault>
+    requires { IsReaderOf [] reader.old }
+    ensures enough { OnOk result (HasReadEnough H.tells (text_under (shelf_state H.Shelf shelf.old) name.now) reader.new) }
+    ensures kept { IsKept (shelf_state H.Shelf shelf.old) (shelf_state H.Shelf shelf.new) }
+    ensures ok { OnOk result (MetNoFault (shelf_state H.Shelf shelf.old) (shelf_state H.Shelf shelf.new)) }
+    ensures err { IfErr result (ReadFaultMeans (shelf_state H.Shelf shelf.old) (shelf_state H.Shelf shelf.new) name.now) }
+{
     let mut piece = piece_buffer(alloc)?;
+    feed_pieces(shelf, name, &mut piece, reader)
+}
+
+/// Feeds a reader the text under a name, piece by piece through this buffer.
+fn feed_pieces<H: Shelf>(
+    shelf: &mut H,
+    name: &str,
+    piece: &mut [u8],
+    reader: &mut MapReader,
+) -> Result<(), ShelfFault>
+    requires fresh { IsReaderOf [] reader.old }
+    requires room { length piece.old ≡ PIECE }
+    ensures enough { OnOk result (HasReadEnough H.tells (text_under (shelf_state H.Shelf shelf.old) name.now) reader.new) }
+    ensures kept { IsKept (shelf_state H.Shelf shelf.old) (shelf_state H.Shelf shelf.new) }
+    ensures ok { OnOk result (MetNoFault (shelf_state H.Shelf shelf.old) (shelf_state H.Shelf shelf.new)) }
+    ensures err { IfErr result (ReadFaultMeans (shelf_state H.Shelf shelf.old) (shelf_state H.Shelf shelf.new) name.now) }
+{
     let mut done = 0;
     while done <= TEXT_LIMIT {
-        let count = match read_piece(shelf, name, done, TEXT_LIMIT, &mut piece) {
-            Ok(count) => count,
+        match feed_piece(shelf, name, done, piece, reader) {
+            Ok(Some(place)) => done = place,
+            Ok(None) => return Ok(()),
             Err(fault) => return Err(fault),
-        };
-        if count == 0 {
-            return told(reader.finish());
-        }
-        match reader.feed(&piece[..count]) {
-            Ok(()) => done += count,
-            Err(fault) => return told(Err(fault)),
         }
     }
-    told(reader.finish())
+    Ok(())
+}
+
+/// Feeds a reader the piece of the text under a name that begins at a place, and says where it ends; at no place, where the
+/// text has ended before or the reader stops.
+fn feed_piece<H: Shelf>(
+    shelf: &mut H,
+    name: &str,
+    done: usize,
+    piece: &mut [u8],
+    reader: &mut MapReader,
+) -> Result<Option<usize>, ShelfFault>
+    requires within { done ≤ text_limit }
+    requires room { length piece.old ≡ PIECE }
+    ensures fed { IfOk result (λ place. IsFed H.tells (text_under (shelf_state H.Shelf shelf.old) name.now) done reader.old place reader.new) }
+    ensures kept { IsKept (shelf_state H.Shelf shelf.old) (shelf_state H.Shelf shelf.new) }
+    ensures ok { OnOk result (MetNoFault (shelf_state H.Shelf shelf.old) (shelf_state H.Shelf shelf.new)) }
+    ensures err { IfErr result (ReadFaultMeans (shelf_state H.Shelf shelf.old) (shelf_state H.Shelf shelf.new) name.now) }
+{
+    match read_piece(shelf, name, done, TEXT_LIMIT, piece) {
+        Ok(0) => Ok(None),
+        Ok(count) => Ok(feed(reader, &piece[..count], done + count)),
+        Err(fault) => Err(fault),
+    }
+}
+
+/// Feeds a reader a piece that ends at a place, and says the place, unless the reader stops.
+fn feed(reader: &mut MapReader, piece: &[u8], place: usize) -> Option<usize>
+    ensures { IsFedPiece reader.old piece.now place result reader.new }
+{
+    match reader.feed(piece) {
+        Ok(()) => Some(place),
+        Err(_) => None,
+    }
 }
 
 /// What a text means, unless memory ran out.

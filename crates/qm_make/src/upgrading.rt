@@ -24,9 +24,17 @@ pub fn make_upgrade(alloc: Global, file: TreeFile) -> Result<Upgrade, AllocError
     ensures said { IfOk result (λ upgrade. string_bytes upgrade.line ≡ upgrade_text file.version) }
 {
     let line = upgrade_line(alloc, file.version)?;
-    let file = upgrade(file);
-    let bytes = encode(alloc, &file)?;
+    let bytes = upgraded_bytes(alloc, file)?;
     Ok(Upgrade { bytes, line })
+}
+
+/// The bytes of a tree file in version 2. The file is let go of.
+fn upgraded_bytes(alloc: Global, file: TreeFile) -> Result<Vec<u8>, AllocError>
+    requires { IsValidFile file }
+    ensures { IfOk result (λ bytes. IsUpgradeOf file bytes.items) }
+{
+    let file = upgrade(file);
+    encode(alloc, &file)
 }
 
 /// The line that is printed of a tree file that had this version.

@@ -1,10 +1,11 @@
 //! Writing what a command makes of a map.
 
+ghost use Rattle.std.specs.Option.{option_map};
 ghost use Rattle.qm_shelf.specs.SeenForms.{shelf_state};
 ghost use Rattle.qm_commands.specs.FileNames.{AreDifferent};
 ghost use Rattle.qm_make.specs.SeenFiles.{file_names};
 ghost use Rattle.qm_make.specs.inner.Made.{output_of};
-ghost use Rattle.qm_make.specs.inner.Writing.{IsWriting};
+ghost use Rattle.qm_make.specs.inner.Writing.{IsListingWriting, IsWriting};
 
 use crate::files::Files;
 use crate::made::Product;
@@ -20,10 +21,21 @@ pub fn write_product<H: Shelf>(
     ensures { IsWriting (shelf_state H.Shelf shelf.old) (shelf_state H.Shelf shelf.new) (file_names files.now) (output_of product.now) result }
 {
     match write_whole(shelf, files.out_name, &product.file) {
-        Ok(()) => {}
-        Err(fault) => return Err(fault),
+        Ok(()) => write_listing(shelf, files.listing_name, &product.listing),
+        Err(fault) => Err(fault),
     }
-    match (files.listing_name, &product.listing) {
+}
+
+/// Writes a listing, where there is one and a name for it.
+fn write_listing<H: Shelf>(
+    shelf: &mut H,
+    name: Option<&str>,
+    listing: &Option<Vec<u8>>,
+) -> Result<(), ShelfFault>
+    ensures { IsListingWriting (shelf_state H.Shelf shelf.old) (shelf_state H.Shelf shelf.new)
+        (option_map (λ name. name.now) name.entry) (option_map (λ listing. listing.items) listing.now) result }
+{
+    match (name, listing) {
         (Some(name), Some(listing)) => write_whole(shelf, name, listing),
         _ => Ok(()),
     }

@@ -1,15 +1,18 @@
-use Rattle.std.specs.Prelude.{◌≡◌, ℕ, List, string_bytes}
+use Rattle.std.specs.Prelude.{◌≡◌, ◌≢◌, ℕ, List, string_bytes}
 use Rattle.qm_surroundings.specs.ShelfState.{ShelfState}
 use Rattle.qm_surroundings.specs.ShelfChanges.{IsKept, FailedToRead}
 use Rattle.qm_formats.specs.FileLayout.{read_file}
 use Rattle.qm_formats.specs.FileParts.{FileFaultKind}
 use Rattle.qm_formats.specs.Layout.{Decoded, got, bad}
 use Rattle.qm_formats.specs.TreeFile.{TreeFile, IsValidFile}
+use Rattle.qm_file.specs.declared.file_fault.FileFault.{FileFault}
+use Rattle.qm_file.specs.declared.file_fault.FileFault.TheVariants.{Memory}
 use Rattle.qm_statement.specs.TreeFaultText.{tree_fault_text}
 use Rattle.qm_statement.specs.TreeMeans.{TreeMeans}
 use Rattle.qm_statement.specs.Untouched.{IsUntouched}
 use Rattle.qm_compile.specs.declared.tree_reading.TreeRead.{TreeRead}
 use Rattle.qm_compile.specs.declared.tree_reading.TreeRead.TheVariants.{File, Fault, Unread}
+use Rattle.qm_compile.specs.inner.FaultLine.{line_of_file_fault}
 
 -- What is read under TREE.
 
@@ -25,6 +28,12 @@ pub record IsFaultIn (Gives : Decoded FileFaultKind TreeFile → Type 0) (line :
   pub place : ℕ
   pub is_given : Gives (bad kind place)
   pub is_line : line ≡ tree_fault_text kind place
+
+-- a fault of decoding is told by its line; want of memory is none
+abbrev pub IsReadFault : FileFault → TreeRead → Type 0
+IsReadFault fault (File file) = ⊥
+IsReadFault fault (Fault line) = (fault ≢ Memory) × (string_bytes line ≡ line_of_file_fault fault)
+IsReadFault fault Unread = ⊥
 
 -- what is read in bytes
 abbrev pub IsReadOfBytes : List ℕ → TreeRead → Type 0

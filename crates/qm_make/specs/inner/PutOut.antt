@@ -16,12 +16,10 @@ use Rattle.qm_compiler.specs.declared.compiled.Compiled.TheVariants.{Done, Leak}
 abbrev pub done_output : TreeFile → Option (List ℕ) → Summary → Output
 done_output file listing summary = record { file = file_bytes file; listing = listing; status = status.Done; text = summary_text summary }
 
--- the bytes of a tree file, its world's listing where one is asked for, and the summary
-pub record IsDonePutOut (listed : Bool) (file : TreeFile) (world : World) (summary : Summary) (output : Output) : Type 0 where
-  pub is_file : output.file ≡ file_bytes file
-  pub is_listed : IsListed listed world output.listing
-  pub is_status : output.status ≡ status.Done
-  pub is_text : output.text ≡ summary_text summary
+-- the same, where the listing is that of a world, if one is asked for
+abbrev pub IsDonePutOut : Bool → TreeFile → World → Summary → Output → Type 0
+IsDonePutOut listed file world summary output =
+    (listing : Option (List ℕ)) × IsListed listed world listing × (output ≡ done_output file listing summary)
 
 -- where an entity leaks: the bytes of a tree file, no listing, and that entity and its trail
 pub record IsLeakPutOut (file : TreeFile) (entity : ℕ) (trail : List ℕ) (output : Output) : Type 0 where

@@ -1,8 +1,8 @@
-use Rattle.std.specs.Prelude.{◌≡◌, ◌⊎◌, ℕ, List, Result, Ok, Err, Some, IsTrue}
+use Rattle.std.specs.Prelude.{◌≡◌, ◌⊎◌, ℕ, List, Option, Result, Ok, Err, Some, IsTrue}
 use Rattle.qm_surroundings.specs.ShelfState.{ShelfState}
-use Rattle.qm_surroundings.specs.ShelfChanges.{IsKeptElsewhere, MetNoFault}
+use Rattle.qm_surroundings.specs.ShelfChanges.{IsKept, IsKeptElsewhere, MetNoFault}
 use Rattle.qm_shelf.specs.FaultMeans.{WriteFaultMeans}
-use Rattle.qm_surroundings.specs.WholeFiles.{HoldsUnfinished}
+use Rattle.qm_surroundings.specs.WholeFiles.{HoldsExactly, HoldsUnfinished}
 use Rattle.qm_shelf.specs.declared.shelf.ShelfFault.{ShelfFault}
 use Rattle.qm_commands.specs.FileNames.{FileNames}
 use Rattle.qm_statement.specs.Output.{Output}
@@ -33,6 +33,19 @@ pub record StopsInListing (before after : ShelfState) (files : FileNames) (outpu
   pub holds_out : HoldsOut before after files output.file
   pub part : IsTrue before.tells → HoldsUnfinished before after name bytes
   pub means : WriteFaultMeans before after name fault
+
+-- a file was written under a name, or not to its end
+abbrev pub IsFileWriting : {T : Type 0} → ShelfState → ShelfState → List ℕ → List ℕ → Result T ShelfFault → Type 0
+IsFileWriting before after name bytes (Ok _) =
+    IsKeptElsewhere before after name × (IsTrue before.tells → HoldsExactly after name bytes) × MetNoFault before after
+IsFileWriting before after name bytes (Err fault) =
+    IsKeptElsewhere before after name × (IsTrue before.tells → HoldsUnfinished before after name bytes) × WriteFaultMeans before after name fault
+
+-- a listing was written, or not to its end; nothing was changed where there is none, or no name for it
+abbrev pub IsListingWriting : {T : Type 0} → ShelfState → ShelfState → Option (List ℕ) → Option (List ℕ) → Result T ShelfFault → Type 0
+IsListingWriting before after (Some name) (Some bytes) result = IsFileWriting before after name bytes result
+IsListingWriting before after name listing (Ok _) = IsKept before after × MetNoFault before after
+IsListingWriting before after name listing (Err fault) = ⊥
 
 abbrev pub IsWriting : {T : Type 0} → ShelfState → ShelfState → FileNames → Output → Result T ShelfFault → Type 0
 IsWriting before after files output (Ok _) = IsAllWritten before after files output

@@ -1,6 +1,7 @@
 use Rattle.std.proofs.Common.{◌++◌, ◌∙◌, refl, sym, ap, subst, List, ℕ}
 use Rattle.std.specs.Prelude.{IsTrue}
 use Rattle.std.proofs.lemmas.List.{append-nil}
+use Rattle.qm_shelf.specs.SeenForms.{surroundings}
 use Rattle.qm_shelf.specs.FaultCounts.{SinkFaultCounted}
 use Rattle.qm_surroundings.specs.HeldFile.{ContinuesInto}
 use Rattle.qm_shelf.specs.declared.sink.SinkFault.{SinkFault}
@@ -15,32 +16,44 @@ use Rattle.qm_compile.proofs.program.run.Goals as goal
 
 pub returns-in_default-clause-answers : goal.returns-in_default-clause-answers
 returns-in_default-clause-answers g c =
-    answers_run_out _ _ _ (c.in_default.ensures.memory, record { printed = λ tells. sym (append-nil _); faults = refl })
+    let words = bytes_of_words c.args.words.now in
+    let before = surroundings g.H.Shelf g.S.Sink c.args.shelf.now c.args.out.now in
+    let after = surroundings g.H.Shelf g.S.Sink c.carry_out.new.shelf c.args.out.now in
+    answers_run_out words before after (c.in_default.ensures.memory, record { printed = λ tells. sym (append-nil _); faults = refl })
 
 pub returns-in-Ok-write-clause-answers : goal.returns-in-Ok-write-clause-answers
 returns-in-Ok-write-clause-answers g c =
+    let words = bytes_of_words c.args.words.now in
+    let before = surroundings g.H.Shelf g.S.Sink c.args.shelf.now c.args.out.now in
+    let after = surroundings g.H.Shelf g.S.Sink c.carry_out.new.shelf c.write.new.self in
     let report = c.in-Ok.report in
     let wrote = c.in-Ok-write.ensures in
     let printed = λ (tells : IsTrue g.S.Sink.tells). wrote.bytes tells ∙ ap (λ (text : List ℕ). g.S.Sink.written c.args.out.now ++ text) c.text.ensures in
-    answers_report _ _ _ report c.status.result c.status.ensures (reported_text report, c.in-Ok.ensures.due, record { printed = printed; faults = wrote.faults_counted })
+    answers_report words before after report c.status.result c.status.ensures (reported_text report, c.in-Ok.ensures.due, record { printed = printed; faults = wrote.faults_counted })
 
 pub returns-in-Err-Failed-clause-answers : goal.returns-in-Err-Failed-clause-answers
 returns-in-Err-Failed-clause-answers g c =
+    let words = bytes_of_words c.args.words.now in
+    let before = surroundings g.H.Shelf g.S.Sink c.args.shelf.now c.args.out.now in
+    let after = surroundings g.H.Shelf g.S.Sink c.carry_out.new.shelf c.write.new.self in
     let report = c.in-Ok.report in
     let sink = g.S.Sink in
     let wrote = c.in-Err-Failed.ensures in
     let rose = subst (λ (fault : SinkFault). SinkFaultCounted fault (sink.faults c.args.out.now) (sink.faults c.write.new.self)) c.in-Err-Failed.field-0-is wrote.faults_counted in
     let part = λ (tells : IsTrue sink.tells). subst (λ (text : List ℕ). ContinuesInto (sink.written c.args.out.now) text (sink.written c.write.new.self)) c.text.ensures (wrote.bytes tells) in
-    answers_failure _ _ _ (rose, (reported_status report, reported_text report, c.in-Ok.ensures.due, part))
+    answers_failure words before after (rose, (reported_status report, reported_text report, c.in-Ok.ensures.due, part))
 
 pub returns-clause-answers : goal.returns-clause-answers
 returns-clause-answers g c =
+    let words = bytes_of_words c.args.words.now in
+    let before = surroundings g.H.Shelf g.S.Sink c.args.shelf.now c.args.out.now in
+    let after = surroundings g.H.Shelf g.S.Sink c.carry_out.new.shelf c.write.new.self in
     let report = c.in-Ok.report in
     let sink = g.S.Sink in
     let wrote = c.in-Err-Memory.ensures in
     let same = subst (λ (fault : SinkFault). SinkFaultCounted fault (sink.faults c.args.out.now) (sink.faults c.write.new.self)) c.in-Err-Memory.field-0-is wrote.faults_counted in
     let part = λ (tells : IsTrue sink.tells). subst (λ (text : List ℕ). ContinuesInto (sink.written c.args.out.now) text (sink.written c.write.new.self)) c.text.ensures (wrote.bytes tells) in
-    answers_no_room _ _ _ (same, (reported_status report, reported_text report, c.in-Ok.ensures.due, part))
+    answers_no_room words before after (same, (reported_status report, reported_text report, c.in-Ok.ensures.due, part))
 
 pub returns-in_default-clause-complete : goal.returns-in_default-clause-complete
 returns-in_default-clause-complete g c = complete_short _ _ _

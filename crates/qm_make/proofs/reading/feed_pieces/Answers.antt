@@ -1,0 +1,37 @@
+use Rattle.std.proofs.Common.{Some, refl, rules, arith}
+use Rattle.qm_shelf.specs.SeenForms.{shelf_state}
+use Rattle.qm_shelf.proofs.Counted.{stays_twice, no_fault_twice}
+use Rattle.qm_surroundings.specs.ShelfState.{text_under}
+use Rattle.qm_make.proofs.ReadMaps.{read_none, read_to_limit, fed_since}
+use Rattle.qm_make.proofs.reading.feed_pieces.Goals as goal
+
+pub loop-done-init : goal.loop-done-init
+loop-done-init g c = record {
+  within = omega arith;
+  room = c.requires.room;
+  so_far = read_none g.H.Shelf.tells (text_under (shelf_state g.H.Shelf c.args.shelf.now) c.args.name.now) c.args.reader.now c.requires.fresh;
+  kept = λ name. refl;
+  no_fault = record { reads = λ name. refl; writes = λ name. refl };
+}
+
+pub loop-done-preserved : goal.loop-done-preserved
+loop-done-preserved g c =
+    let before = shelf_state g.H.Shelf c.args.shelf.now in
+    let between = shelf_state g.H.Shelf c.loop-done.shelf in
+    let after = shelf_state g.H.Shelf c.feed_piece.new.shelf in
+    let loop = c.loop-done.invariant in
+    let step = c.in-Ok-Some.ensures in
+    let fed = fed_since before between after loop.kept loop.no_fault c.args.name.now g.H.Shelf.tells c.loop-done.done c.loop-done.reader (Some c.in-Ok-Some.place) c.feed_piece.new.reader (rw c.in-Ok-Some.field-0-is at step.fed) in
+    record {
+      within = fed.1;
+      room = search rules;
+      so_far = fed.2 loop.so_far;
+      kept = stays_twice _ _ _ loop.kept step.kept;
+      no_fault = no_fault_twice before between after loop.no_fault step.ok;
+    }
+
+pub returns-clause-enough : goal.returns-clause-enough
+returns-clause-enough g c =
+    let loop = c.loop-done.invariant in
+    read_to_limit g.H.Shelf.tells (text_under (shelf_state g.H.Shelf c.args.shelf.now) c.args.name.now) c.loop-done.done c.loop-done.reader
+    (omega (arith, loop.within, c.loop-done-test.false)) loop.so_far
