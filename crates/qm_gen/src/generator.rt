@@ -3,7 +3,7 @@ ghost use Rattle.qm_partition.specs.Tree.{Tree};
 ghost use Rattle.qm_contacts.specs.Leak.{Origin};
 ghost use Rattle.qm_statement.specs.Built.{IsBuilt};
 ghost use Rattle.qm_statement.specs.CompiledMap.{NoneLeaks};
-ghost use Rattle.qm_rooms.specs.Rooms.{IsRoomCount, rooms_map};
+ghost use Rattle.qm_rooms.specs.Rooms.{IsRoomCount, boxed_world, room_boxes, rooms_map};
 ghost use Rattle.qm_grammar.specs.Valid.{IsValidMap};
 
 use crate::entities::{boxed_world, player_start};
@@ -37,13 +37,22 @@ fn rooms_map(alloc: Global, n: u32, number: u64) -> Result<MapFile, AllocError>
     requires few { n ≤ 64 }
     ensures { IfOk result (λ map. map ≡ rooms_map n number) }
 {
-    let boxes = room_boxes(alloc, n, number)?;
-    let world = boxed_world(alloc, &boxes)?;
+    let world = rooms_world(alloc, n, number)?;
     let start = player_start(alloc)?;
     let entities = in_turn(alloc, world, start)?;
     Ok(MapFile {
         entities: Items::from_vec(entities),
     })
+}
+
+/// The world of so many rooms.
+fn rooms_world(alloc: Global, n: u32, number: u64) -> Result<Entity, AllocError>
+    requires some { 1 ≤ n }
+    requires few { n ≤ 64 }
+    ensures { IfOk result (λ world. world ≡ boxed_world (room_boxes n number)) }
+{
+    let boxes = room_boxes(alloc, n, number)?;
+    boxed_world(alloc, &boxes)
 }
 
 fn in_turn(alloc: Global, world: Entity, start: Entity) -> Result<Vec<Entity>, AllocError>

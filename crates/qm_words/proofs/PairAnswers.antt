@@ -1,5 +1,6 @@
 -- What is answered of the words behind `format`, `upgrade` and `demo`.
-use Rattle.std.proofs.Common.{◌≡◌, ◌≢◌, ◌∙◌, ◌<◌, ◌^◌, ℕ, codes, refl, sym, ap, ap₂, subst, arith, List, [], ◌∷◌, Some, None, ⊎_elim, Ok, Err}
+use Rattle.std.proofs.Common.{◌≡◌, ◌≢◌, ◌∙◌, ◌<◌, ◌^◌, ℕ, codes, refl, sym, ap, ap₂, subst, arith, List, [], ◌∷◌, Option, Some, None, ⊎_elim, Bor, Ok, Err}
+use Rattle.std.specs.Prelude.{MatchOption, ok_or}
 use Rattle.std.specs.Fmt.{decimal}
 use Rattle.clap.specs.Walk.{rows_of}
 use Rattle.clap.specs.Matches.{found_of}
@@ -38,7 +39,7 @@ found_pair verb words matches each parsed = subst (ArePair words) (sym parsed.1)
 some_same : (a b : List ℕ) → Some a ≡ Some b → a ≡ b
 some_same a b same = cc
 
-pub pair_is : (verb : List ℕ) (words : List (List ℕ)) (matches : ArgMatches) (first second : List ℕ) → ArePlainWords words → IsParsedBy (pair_app verb) words (Ok matches)
+pair_is : (verb : List ℕ) (words : List (List ℕ)) (matches : ArgMatches) (first second : List ℕ) → ArePlainWords words → IsParsedBy (pair_app verb) words (Ok matches)
     → HasPair (codes "first") (codes "second") (rows_of (found_of matches)) first second → AreTwo words first second
 pair_is verb words matches first second each parsed has =
     let pair = found_pair verb words matches each parsed in
@@ -48,10 +49,17 @@ pair_is verb words matches first second each parsed has =
     let plain = subst ArePlainWords words_are each in
     record { words_are = words_are; first_is = plain.0; second_is = plain.1.0 }
 
-pub pair_is_there : (verb : List ℕ) (words : List (List ℕ)) (matches : ArgMatches) → ArePlainWords words → IsParsedBy (pair_app verb) words (Ok matches) → LacksPair (codes "first") (codes "second") (rows_of (found_of matches)) → ⊥
+pair_is_there : (verb : List ℕ) (words : List (List ℕ)) (matches : ArgMatches) → ArePlainWords words → IsParsedBy (pair_app verb) words (Ok matches) → LacksPair (codes "first") (codes "second") (rows_of (found_of matches)) → ⊥
 pair_is_there verb words matches each parsed lacks =
     let pair = found_pair verb words matches each parsed in
     ⊎_elim (λ none. let clash = sym none ∙ pair.first_is in absurd cc) (λ none. let clash = sym none ∙ pair.second_is in absurd cc) lacks
+
+-- what is found of words is their pair, or they have none
+pub pair_found : (verb : List ℕ) (words : List (List ℕ)) (matches : ArgMatches) (found : Option (Bor (List ℕ) × Bor (List ℕ))) → ArePlainWords words → IsParsedBy (pair_app verb) words (Ok matches)
+    → MatchOption found (LacksPair (codes "first") (codes "second") (rows_of (found_of matches))) (λ pair. HasPair (codes "first") (codes "second") (rows_of (found_of matches)) pair.0.now pair.1.now)
+    → IsPairOf words (ok_or found Usage)
+pair_found verb words matches None each parsed lacks = λ first second two. pair_is_there verb words matches each parsed lacks
+pair_found verb words matches (Some pair) each parsed has = pair_is verb words matches pair.0.now pair.1.now each parsed has
 
 first_same : (a b c d : List ℕ) → a ∷ b ∷ [] ≡ c ∷ d ∷ [] → a ≡ c
 first_same a b c d same = cc

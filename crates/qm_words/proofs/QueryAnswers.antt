@@ -6,9 +6,9 @@ use Rattle.std.specs.Fmt.{decimal}
 use Rattle.std.proofs.lemmas.List.{take_more}
 use Rattle.qm_commands.specs.QueryWord.{AreMillionths, AreQueryWords, IsPlaceWord, IsQueryWord, IsShort}
 use Rattle.qm_commands.specs.declared.query.Query.{Query}
-use Rattle.qm_commands.specs.declared.query.Query.TheVariants.{At, Row, Sees}
+use Rattle.qm_commands.specs.declared.query.Query.TheVariants.{Count, At, Row, Sees, Parts}
 use Rattle.qm_words.specs.SeenWords.{bytes_of_words}
-use Rattle.qm_words.specs.inner.QueriesRead.{IsCommaSplit}
+use Rattle.qm_words.specs.inner.QueriesRead.{AreNoPlace, IsCommaSplit, IsPlaceOf}
 use Rattle.qm_words.proofs.Commas.{no_split, split_found, splits_once}
 use Rattle.qm_words.proofs.QueryLaws.{has_query, one_behind, only_place, only_row, only_sees, place_splits}
 
@@ -49,16 +49,7 @@ no_place_rest text first rest outer never query is = only_place text query ⊥ (
     never p.1 p.2 (record { text_is = sym out.1; clear = p.4.clear })) is
 
 module _ (text first rest second third : List ℕ) (outer : IsCommaSplit text first rest) (inner : IsCommaSplit rest second third) where
-  pub no_place_x : ((n : ℤ) → AreMillionths first n → ⊥) → (query : Query) → IsQueryWord (codes "at=" ++ text) query → ⊥
-  no_place_x never query is = only_place text query ⊥ (λ x y z place. never x (place_parts text first rest second third x y z outer inner place).0) is
-
-  pub no_place_y : ((n : ℤ) → AreMillionths second n → ⊥) → (query : Query) → IsQueryWord (codes "at=" ++ text) query → ⊥
-  no_place_y never query is = only_place text query ⊥ (λ x y z place. never y (place_parts text first rest second third x y z outer inner place).1) is
-
-  pub no_place_z : ((n : ℤ) → AreMillionths third n → ⊥) → (query : Query) → IsQueryWord (codes "at=" ++ text) query → ⊥
-  no_place_z never query is = only_place text query ⊥ (λ x y z place. never z (place_parts text first rest second third x y z outer inner place).2) is
-
-  pub place_is : (x y z : ℤ) → AreMillionths first x → AreMillionths second y → AreMillionths third z → IsQueryWord (codes "at=" ++ text) (At x y z)
+  place_is : (x y z : ℤ) → AreMillionths first x → AreMillionths second y → AreMillionths third z → IsQueryWord (codes "at=" ++ text) (At x y z)
   place_is x y z is_x is_y is_z = record {
     first = first;
     second = second;
@@ -68,6 +59,30 @@ module _ (text first rest second third : List ℕ) (outer : IsCommaSplit text fi
     is_y = is_y;
     is_z = is_z;
   }
+
+  pub place_some : (r : Option Query) → IfSome r (λ query. IsPlaceOf first second third query) → IfSome r (λ query. IsQueryWord (codes "at=" ++ text) query)
+  place_some None place = tt
+  place_some (Some (At x y z)) place = place_is x y z place.0 place.1 place.2
+  place_some (Some Count) place = absurd place
+  place_some (Some (Row n)) place = absurd place
+  place_some (Some (Sees n m)) place = absurd place
+  place_some (Some Parts) place = absurd place
+
+  pub place_none : (r : Option Query) → IfNone r (AreNoPlace first second third) → IfNone r ((query : Query) → IsQueryWord (codes "at=" ++ text) query → ⊥)
+  place_none None never = λ query is. only_place text query ⊥ (λ x y z place.
+      let parts = place_parts text first rest second third x y z outer inner place in
+      never x y z parts.0 parts.1 parts.2) is
+  place_none (Some query) never = tt
+
+module _ (first second third : List ℕ) where
+  pub no_first : ((n : ℤ) → AreMillionths first n → ⊥) → AreNoPlace first second third
+  no_first never = λ x y z is_x is_y is_z. never x is_x
+
+  pub no_second : ((n : ℤ) → AreMillionths second n → ⊥) → AreNoPlace first second third
+  no_second never = λ x y z is_x is_y is_z. never y is_y
+
+  pub no_third : ((n : ℤ) → AreMillionths third n → ⊥) → AreNoPlace first second third
+  no_third never = λ x y z is_x is_y is_z. never z is_z
 
 -- ---- leaves
 

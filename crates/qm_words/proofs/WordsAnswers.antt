@@ -1,5 +1,5 @@
 -- What is answered of all words.
-use Rattle.std.proofs.Common.{◌≡◌, ◌≤◌, ◌-◌, ℕ, codes, sym, ap, arith, List, [], ◌∷◌, length, take, drop, get_or, Result, Ok, Err, IfOk}
+use Rattle.std.proofs.Common.{◌≡◌, ◌≤◌, ◌-◌, ℕ, codes, sym, ap, subst, arith, List, [], ◌∷◌, length, take, drop, get_or, Result, Ok, Err, IfOk}
 use Rattle.std.proofs.lemmas.List.{take_all}
 use Rattle.clap.specs.Walk.{Row}
 use Rattle.qm_commands.specs.declared.map_command.MapCommand.TheVariants.{Compile, Format}
@@ -49,12 +49,16 @@ first_and_rest {X} (word ∷ words) d some =
     let whole : length words ≤ length (word ∷ words) - 1 = omega arith in
     ap (λ (rest : List X). word ∷ rest) (sym (take_all (length (word ∷ words) - 1) words whole))
 
--- ---- what an answer says
+-- ---- what an answer says of words that are these
 
-pub order_answered : (words : List (List ℕ)) (r : Result SeenOrder WordsFault) → IsOrderFor words r → IfOk r (λ order. AreWordsOf (order_of order) words)
-order_answered words (Ok order) answer = answer
-order_answered words (Err fault) answer = tt
+module _ (words front : List (List ℕ)) (same : words ≡ front) where
+  pub order_answered : (r : Result SeenOrder WordsFault) → IsOrderFor front r → IfOk r (λ order. AreWordsOf (order_of order) words)
+  order_answered (Ok order) answer = subst (AreWordsOf (order_of order)) (sym same) answer
+  order_answered (Err fault) answer = tt
 
-pub only_answered : (words : List (List ℕ)) (r : Result SeenOrder WordsFault) → IsOrderFor words r → IfOk r (λ order. (other : Order) → AreWordsOf other words → other ≡ order_of order)
-only_answered words (Ok order) answer = λ other are. one_order words (order_of order) other answer are
-only_answered words (Err fault) answer = tt
+  pub only_answered : (r : Result SeenOrder WordsFault) → IsOrderFor front r → IfOk r (λ order. (other : Order) → AreWordsOf other words → other ≡ order_of order)
+  only_answered (Ok order) answer = λ other are. one_order front (order_of order) other answer (subst (AreWordsOf other) same are)
+  only_answered (Err fault) answer = tt
+
+  pub usage_answered : (r : Result SeenOrder WordsFault) → IsOrderFor front r → r ≡ Err Usage → AreNoCommand words
+  usage_answered r answer usage = subst AreNoCommand (sym same) (subst (IsOrderFor front) usage answer)

@@ -1,11 +1,13 @@
 //! The command lines of the verbs, and their parser.
 
-ghost use Rattle.std.specs.Prelude.{◌≡◌, false, true, IfOk};
+ghost use Rattle.std.specs.Prelude.{◌≡◌, ◌≢◌, false, true, IfOk};
 ghost use Rattle.clap.specs.Simple.{App, app_of, with_rule};
 ghost use Rattle.clap.specs.Walk.{rule_of};
 ghost use Rattle.clap.specs.Faults.{is_simple_and_free};
+ghost use Rattle.clap.specs.declared.error.kind.ErrorKind.TheVariants.{OutOfMemory};
+ghost use Rattle.qm_words.specs.declared.order.WordsFault.TheVariants.{Usage};
 ghost use Rattle.qm_words.specs.SeenWords.{bytes_of_words};
-ghost use Rattle.qm_words.specs.inner.CommandLines.{IsCommandLine, compile_app, inspect_app, names_app, pair_app, plain_app, rule_for};
+ghost use Rattle.qm_words.specs.inner.CommandLines.{IsCommandLine, compile_app, inspect_app, named_app, names_app, pair_app, plain_app, rule_for};
 ghost use Rattle.qm_words.specs.inner.Parsed.{IsParsedBy};
 
 use crate::order::WordsFault;
@@ -64,6 +66,17 @@ fn plain_command<'a>(alloc: Global, verb: &'a str) -> Command<'a>
         .disable_help_flag(true)
 }
 
+/// A verb with the first of its words.
+fn named_command<'a>(
+    alloc: Global,
+    verb: &'a str,
+    first: &'a str,
+) -> Result<Command<'a>, AllocError>
+    ensures { IsCommandLine (named_app verb.entry.now first.entry.now) result }
+{
+    plain_command(alloc, verb).arg(arg_of(alloc, ArgKind::Name, first))
+}
+
 /// A verb with two words.
 fn names_command<'a>(
     alloc: Global,
@@ -73,9 +86,8 @@ fn names_command<'a>(
 ) -> Result<Command<'a>, AllocError>
     ensures { IsCommandLine (names_app verb.entry.now first.entry.now second.entry.now) result }
 {
-    let plain = plain_command(alloc, verb);
-    let one = with_arg(alloc, Ok(plain), ArgKind::Name, first);
-    with_arg(alloc, one, ArgKind::Name, second)
+    let named = named_command(alloc, verb, first);
+    with_arg(alloc, named, ArgKind::Name, second)
 }
 
 /// `compile MAP OUT` with its options.
@@ -92,8 +104,7 @@ fn compile_command<'a>(alloc: Global) -> Result<Command<'a>, AllocError>
 fn inspect_command<'a>(alloc: Global) -> Result<Command<'a>, AllocError>
     ensures { IsCommandLine inspect_app result }
 {
-    let plain = plain_command(alloc, "inspect");
-    let tree = with_arg(alloc, Ok(plain), ArgKind::Name, "tree");
+    let tree = named_command(alloc, "inspect", "tree");
     with_arg(alloc, tree, ArgKind::Many, "query")
 }
 
@@ -149,9 +160,16 @@ fn parse<'a>(command: Command<'a>, words: &'a [&'a str]) -> Result<ArgMatches<'a
 {
     match command.try_get_matches_from(words) {
         Ok(matches) => Ok(matches),
-        Err(error) => match error.kind() {
-            ErrorKind::OutOfMemory => Err(WordsFault::Memory),
-            _ => Err(WordsFault::Usage),
-        },
+        Err(error) => Err(fault_of(error.kind())),
+    }
+}
+
+/// Why words are not read, by what the parser says.
+fn fault_of(kind: ErrorKind) -> WordsFault
+    ensures { result ≡ Usage → kind ≢ OutOfMemory }
+{
+    match kind {
+        ErrorKind::OutOfMemory => WordsFault::Memory,
+        _ => WordsFault::Usage,
     }
 }

@@ -5,6 +5,9 @@ ghost use Rattle.qm_words.specs.inner.Numbers.{IsCount};
 
 use itoa::Buffer;
 
+/// The greatest count.
+const GREATEST_COUNT: u64 = 64;
+
 /// The number that a text writes.
 pub fn number(text: &str) -> Option<u64>
     ensures some { IfSome result (λ n. (text.now ≡ decimal n) × (n < 2 ^ 64)) }
@@ -30,7 +33,7 @@ pub fn count(text: &str) -> Option<u8>
     match number(text) {
         None => None,
         Some(n) => {
-            if 1 <= n && n <= 64 {
+            if 1 <= n && n <= GREATEST_COUNT {
                 Some(n as u8)
             } else {
                 None

@@ -84,9 +84,6 @@ fn pair<'a>(
     }
     match pair_matches(alloc, verb, words) {
         Err(fault) => Err(fault),
-        Ok(matches) => match found_pair(&matches, "first", "second") {
-            Some(pair) => Ok(pair),
-            None => Err(WordsFault::Usage),
-        },
+        Ok(matches) => found_pair(&matches, "first", "second").ok_or(WordsFault::Usage),
     }
 }

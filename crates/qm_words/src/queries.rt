@@ -1,15 +1,18 @@
 //! The words of queries.
 
-ghost use Rattle.std.specs.Prelude.{◌≡◌, ◌<◌, ◌^◌, ◌++◌, ◌∷◌, ℕ, ℤ, List, codes, decimal, IfOk, IfErr, IfSome, IfNone};
+ghost use Rattle.std.specs.Prelude.{◌≡◌, ◌≢◌, ◌<◌, ◌^◌, ◌++◌, ◌∷◌, ℕ, ℤ, List, codes, decimal, IfOk, IfErr, IfSome, IfNone};
 ghost use Rattle.qm_commands.specs.QueryWord.{AreMillionths, AreQueryWords, IsQueryWord, IsShort};
 ghost use Rattle.qm_commands.specs.declared.query.Query.{Query as SeenQuery};
 ghost use Rattle.qm_words.specs.SeenWords.{bytes_of_words};
-ghost use Rattle.qm_words.specs.inner.QueriesRead.{AreNoQueries, IsCommaSplit};
+ghost use Rattle.qm_words.specs.inner.QueriesRead.{AreNoPlace, AreNoQueries, IsCommaSplit, IsPlaceOf};
 
 use crate::numbers::number;
 use crate::order::WordsFault;
 use qm_commands::Query;
 use std::alloc::Global;
+
+/// The number of a leaf is below it, so it has at most 18 digits.
+const LEAF_NUMBERS: u64 = 1_000_000_000_000_000_000;
 
 /// The queries of words, one by one.
 pub fn queries_of(alloc: Global, words: &[&str]) -> Result<Vec<Query>, WordsFault>
@@ -31,12 +34,20 @@ fn query(word: &str) -> Option<Query>
     ensures some { IfSome result (λ query. IsQueryWord word.now query) }
     ensures none { IfNone result ((query : SeenQuery) → IsQueryWord word.now query → ⊥) }
 {
-    if word == "count" {
-        return Some(Query::Count);
+    match word {
+        "count" => Some(Query::Count),
+        "parts" => Some(Query::Parts),
+        _ => query_behind(word),
     }
-    if word == "parts" {
-        return Some(Query::Parts);
-    }
+}
+
+/// The query of a word that begins with `at=`, `row=` or `sees=`.
+fn query_behind(word: &str) -> Option<Query>
+    requires no_count { word.now ≢ codes "count" }
+    requires no_parts { word.now ≢ codes "parts" }
+    ensures some { IfSome result (λ query. IsQueryWord word.now query) }
+    ensures none { IfNone result ((query : SeenQuery) → IsQueryWord word.now query → ⊥) }
+{
     if let Some(text) = word.strip_prefix("at=") {
         return place(text);
     }
@@ -56,6 +67,14 @@ fn place(text: &str) -> Option<Query>
 {
     let (first, rest) = at_comma(text)?;
     let (second, third) = at_comma(rest)?;
+    point(first, second, third)
+}
+
+/// The place that three numbers write.
+fn point(first: &str, second: &str, third: &str) -> Option<Query>
+    ensures some { IfSome result (λ query. IsPlaceOf first.now second.now third.now query) }
+    ensures none { IfNone result (AreNoPlace first.now second.now third.now) }
+{
     let x = millionths(first)?;
     let y = millionths(second)?;
     let z = millionths(third)?;
@@ -108,12 +127,6 @@ fn leaf_number(text: &str) -> Option<u64>
 {
     match number(text) {
         None => None,
-        Some(n) => {
-            if n < 1_000_000_000_000_000_000 {
-                Some(n)
-            } else {
-                None
-            }
-        }
+        Some(n) => { if n < LEAF_NUMBERS { Some(n) } else { None } }
     }
 }

@@ -35,9 +35,13 @@ rule_for Flag id = flag_rule id
 abbrev pub plain_app : Text → App
 plain_app verb = on_top (λ s. record s { no_binary_name = true; disable_help_flag = true }) (new_app verb)
 
+-- a verb with the first of its words
+abbrev pub named_app : Text → Text → App
+named_app verb first = with_rule (plain_app verb) (name_rule first)
+
 -- a verb with two words
 abbrev pub names_app : Text → Text → Text → App
-names_app verb first second = with_rule (with_rule (plain_app verb) (name_rule first)) (name_rule second)
+names_app verb first second = with_rule (named_app verb first) (name_rule second)
 
 abbrev pub pair_app : Text → App
 pair_app verb = names_app verb (codes "first") (codes "second")
@@ -48,7 +52,7 @@ compile_app =
     (value_rule (codes "prt"))) (value_rule (codes "threads"))) (flag_rule (codes "fast"))
 
 abbrev pub inspect_app : App
-inspect_app = with_rule (with_rule (plain_app (codes "inspect")) (name_rule (codes "tree"))) (many_rule (codes "query"))
+inspect_app = with_rule (named_app (codes "inspect") (codes "tree")) (many_rule (codes "query"))
 
 -- a command has this line, where there was memory for it
 abbrev pub IsCommandLine : {E : Type 0} → App → Result Command E → Type 0
