@@ -22,7 +22,7 @@ const FREE_DIGITS: usize = 9;
 
 /// The value of the digits that the text begins with, kept at one above the limit where it is more, and how
 /// many digits there are.
-#[inline]
+#[inline(always)]
 pub fn whole_part(text: &[u8]) -> (u64, usize)
     ensures { IsWholePart text.now result.0 result.1 }
 {
@@ -34,7 +34,7 @@ pub fn whole_part(text: &[u8]) -> (u64, usize)
 }
 
 /// The value of the digits that the text begins with, of nine at most, and how many they are.
-#[inline]
+#[inline(always)]
 fn first_digits(text: &[u8]) -> (u64, usize)
     ensures { AreFirstDigits text.now 9 result.0 result.1 }
 {

@@ -13,6 +13,7 @@ const PLACES: u8 = 3;
 const EXTENT: i64 = 1_000 * WORLD_EXTENT as i64;
 
 /// The coordinate that a word spells, in thousandths.
+#[inline(always)]
 #[tactic(auto, unfolding(qm_grammar::specs::inner::Machine::coordinate_of))]
 pub(crate) fn coordinate(word: &[u8]) -> Result<i32, Refusal>
     ensures value { result ≡ coordinate_of word.now }

@@ -106,9 +106,9 @@ impl Reader {
         }
     }
 
-    /// Takes the next token, of this kind and with these bytes. It stands by itself, since in line in a loop over tokens it would
-    /// leave that loop no registers.
-    #[inline(never)]
+    /// Takes the next token, of this kind and with these bytes. In line with it stands all that the tokens of faces need, which
+    /// nearly all tokens of a map are.
+    #[inline(always)]
     #[tactic(auto, unfolding(qm_grammar::specs::inner::Machine::step))]
     pub fn accept(&mut self, kind: TokenKind, bytes: &[u8]) -> Result<(), Stop>
         ensures { IsStep result self.new (step self.old (record { kind = kind; bytes = bytes.now })) }
@@ -291,7 +291,7 @@ impl Reader {
     }
 
     /// Takes a token where this mark is due.
-    #[inline]
+    #[inline(always)]
     #[tactic(auto, unfolding(qm_grammar::specs::inner::Machine::step_slot))]
     fn step_due(
         &mut self,
@@ -312,7 +312,7 @@ impl Reader {
     }
 
     /// Takes a token where a coordinate is due.
-    #[inline]
+    #[inline(always)]
     #[tactic(auto, unfolding(qm_grammar::specs::inner::Machine::step_slot))]
     fn step_coordinate(
         &mut self,
@@ -331,7 +331,7 @@ impl Reader {
     }
 
     /// Takes a token where a texture is due.
-    #[inline]
+    #[inline(always)]
     #[tactic(auto, unfolding(qm_grammar::specs::inner::Machine::step_slot))]
     fn step_texture(
         &mut self,
@@ -351,7 +351,7 @@ impl Reader {
     }
 
     /// Takes a token where the first of a mapping is due.
-    #[inline]
+    #[inline(always)]
     #[tactic(auto, unfolding(qm_grammar::specs::inner::Machine::step_slot))]
     fn step_first(&mut self, others: &'static [Slot], sort: Sort, bytes: &[u8]) -> Result<(), Stop>
         requires context { self.old.context ≡ Context.Face }
@@ -366,7 +366,7 @@ impl Reader {
     }
 
     /// Takes a token where a word of a mapping is due.
-    #[inline]
+    #[inline(always)]
     #[tactic(auto, unfolding(qm_grammar::specs::inner::Machine::step_slot))]
     fn step_word(&mut self, others: &'static [Slot], sort: Sort, bytes: &[u8]) -> Result<(), Stop>
         requires context { self.old.context ≡ Context.Face }
@@ -379,6 +379,7 @@ impl Reader {
         }
     }
 
+    #[inline(always)]
     #[tactic(auto, unfolding(qm_grammar::specs::inner::Machine::step_mark))]
     fn step_mark(&mut self, mark: Mark, others: &'static [Slot]) -> Result<(), Stop>
         requires context { self.old.context ≡ Context.Face }
@@ -409,6 +410,7 @@ impl Reader {
     }
 
     /// Takes a token that gives nothing.
+    #[inline(always)]
     fn step_over(&mut self, others: &'static [Slot]) -> Result<(), Stop>
         requires context { self.old.context ≡ Context.Face }
         requires due { HasDueParts Context.Face (length self.old.numbers) (length self.old.texts) others.now }
@@ -419,6 +421,7 @@ impl Reader {
         Ok(())
     }
 
+    #[inline(always)]
     fn step_number(&mut self, others: &'static [Slot], bytes: &[u8]) -> Result<(), Stop>
         requires context { self.old.context ≡ Context.Face }
         requires due { HasDueParts Context.Face (length self.old.numbers + 1) (length self.old.texts) others.now }
@@ -431,7 +434,7 @@ impl Reader {
         Ok(())
     }
 
-    #[inline]
+    #[inline(always)]
     fn step_text(&mut self, others: &'static [Slot], bytes: &[u8]) -> Result<(), Stop>
         requires context { self.old.context ≡ Context.Face }
         requires due { HasDueParts Context.Face (length self.old.numbers) (length self.old.texts + 1) others.now }
