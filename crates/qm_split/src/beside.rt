@@ -27,7 +27,7 @@ pub(crate) fn parts_in_cube<R: Threads + Sync>(
 }
 
 /// How many brushes a run has at the least.
-const FEWEST: u64 = 128;
+const FEWEST: u64 = 20;
 
 /// The brushes of a long list are looked at in fewer runs than this.
 const RUNS: u64 = 16;
