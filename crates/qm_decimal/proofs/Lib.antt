@@ -1,1 +1,1 @@
-pub mod NineDigits
+pub mod FreeDigits

@@ -1,7 +1,8 @@
-ghost use Rattle.std.specs.Prelude.{◌≡◌, ◌≤◌, ◌<◌, ◌^◌, length, slice_index, OnSome, IfSome, IfNone};
+ghost use Rattle.std.specs.Prelude.{◌≡◌, ◌≤◌, ◌<◌, IfSome, IfNone};
 ghost use Rattle.std.specs.Char.{digit_value};
 ghost use Rattle.qm_numerals.specs.inner.Parts.{IsWholePart};
 ghost use Rattle.qm_decimal.specs.inner.FirstDigits.{AreFirstDigits};
+ghost use Rattle.qm_decimal.specs.declared.whole.TheConstants.{FREE_DIGITS};
 
 /// The greatest absolute value that is read.
 pub const LIMIT: u64 = 1_000_000_000;
@@ -33,10 +34,10 @@ pub fn whole_part(text: &[u8]) -> (u64, usize)
     more_digits(text, value)
 }
 
-/// The value of the digits that the text begins with, of nine at most, and how many they are.
+/// The value of the digits that the text begins with, of the free ones at most, and how many they are.
 #[inline(always)]
 fn first_digits(text: &[u8]) -> (u64, usize)
-    ensures { AreFirstDigits text.now 9 result.0 result.1 }
+    ensures { AreFirstDigits text.now result.0 result.1 }
 {
     let most = text.len().min(FREE_DIGITS);
     let mut value = 0;
@@ -49,10 +50,10 @@ fn first_digits(text: &[u8]) -> (u64, usize)
     (value, most)
 }
 
-/// The same of a text that begins with nine digits of this value.
+/// What `whole_part` answers of a text that begins with all the free digits, which have this value.
 #[inline(never)]
 fn more_digits(text: &[u8], first: u64) -> (u64, usize)
-    requires { AreFirstDigits text.now 9 first 9 }
+    requires { AreFirstDigits text.now first FREE_DIGITS }
     ensures { IsWholePart text.now result.0 result.1 }
 {
     let mut value = first;

@@ -4,6 +4,7 @@
 mod empties;
 mod entity_origin;
 mod face;
+mod face_steps;
 pub mod laws;
 mod lines;
 mod list;

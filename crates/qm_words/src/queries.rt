@@ -125,8 +125,6 @@ fn leaf_number(text: &str) -> Option<u64>
     ensures some { IfSome result (λ n. (text.now ≡ decimal n) × IsShort n) }
     ensures none { IfNone result ((n : ℕ) → IsShort n → text.now ≡ decimal n → ⊥) }
 {
-    match number(text) {
-        None => None,
-        Some(n) => { if n < LEAF_NUMBERS { Some(n) } else { None } }
-    }
+    let n = number(text)?;
+    if n < LEAF_NUMBERS { Some(n) } else { None }
 }

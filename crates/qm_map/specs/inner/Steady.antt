@@ -1,8 +1,9 @@
-use Rattle.std.specs.Prelude.{◌≡◌, ◌≤◌, ℕ, ◌+◌, List, [], ◌∷◌}
+use Rattle.std.specs.Prelude.{◌≡◌, ◌≤◌, ℕ, ◌+◌, List, [], ◌∷◌, length}
 use Rattle.qm_grammar.specs.declared.slot.Slot.{Slot}
 use Rattle.qm_grammar.specs.declared.slot.Slot.TheVariants.{Coordinate, Texture, FirstOfMapping}
 use Rattle.qm_grammar.specs.declared.context.Context.{Context}
 use Rattle.qm_grammar.specs.declared.context.Context.TheVariants.{Face}
+use Rattle.qm_grammar.specs.Prefix.{Prefix}
 
 -- What a reader keeps true of the face that it reads.
 
@@ -24,3 +25,7 @@ textures_left (_ ∷ slots) = textures_left slots
 abbrev pub HasDueParts : Context → ℕ → ℕ → List Slot → Type 0
 HasDueParts Face numbers texts left = (numbers + coordinates_left left ≡ 9) × (1 ≤ texts + textures_left left)
 HasDueParts _ numbers texts left = numbers ≡ 0
+
+-- a face is open, of which these slots are due
+abbrev pub IsAwaiting : Prefix → List Slot → Type 0
+IsAwaiting prefix slots = (prefix.context ≡ Face) × HasDueParts Face (length prefix.numbers) (length prefix.texts) slots

@@ -1,17 +1,17 @@
 use Rattle.std.proofs.Common.{◌<◌, get_or, length, arith}
 use Rattle.std.specs.Char.{digit_value}
 use Rattle.std.proofs.lemmas.Int.Digits.{digits_value_more, digits_more}
-use Rattle.qm_decimal.proofs.NineDigits.{first_nine}
+use Rattle.qm_decimal.proofs.FreeDigits.{first_free}
 use Rattle.qm_decimal.proofs.whole.first_digits.Goals as goal
 
 pub overflow_mul-value : goal.overflow_mul-value
 overflow_mul-value c =
-    let below = first_nine c.args.text.now c.loop-count.count c.loop-count.invariant.0 (omega arith) in
+    let below = first_free c.args.text.now c.loop-count.count c.loop-count.invariant.0 (omega arith) in
     omega (arith, c.loop-count.invariant.1)
 
 pub overflow_add-value : goal.overflow_add-value
 overflow_add-value c =
-    let below = first_nine c.args.text.now c.loop-count.count c.loop-count.invariant.0 (omega arith) in
+    let below = first_free c.args.text.now c.loop-count.count c.loop-count.invariant.0 (omega arith) in
     let digit = c.in-Some.ensures.value.1 in
     omega (arith, c.loop-count.invariant.1)
 

@@ -4,6 +4,6 @@ use Rattle.qm_words.proofs.queries.leaf_number.Goals as goal
 
 pub returns-else-n-lt-LEAF_NUMBERS-clause-none : goal.returns-else-n-lt-LEAF_NUMBERS-clause-none
 returns-else-n-lt-LEAF_NUMBERS-clause-none c = λ n small is.
-    let some = c.in-Some.ensures.some in
-    let same : c.in-Some.n ≡ n = decimal_injective c.in-Some.n n some.1 (omega (arith, small)) (sym some.0 ∙ is) in
+    let some = c.in_ok-n.ensures.some in
+    let same : c.in_ok-n.n ≡ n = decimal_injective c.in_ok-n.n n some.1 (omega (arith, small)) (sym some.0 ∙ is) in
     absurd (omega (arith, same, small, c.if-n-lt-LEAF_NUMBERS.false))
