@@ -1,4 +1,3 @@
 pub mod DueMark
 pub mod Steady
-pub mod Stepping
 pub mod Taking

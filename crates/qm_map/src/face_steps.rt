@@ -5,7 +5,7 @@ ghost use Rattle.qm_grammar.specs.Slots.{points_of};
 ghost use Rattle.qm_grammar.specs.Symbol.{sort_of};
 ghost use Rattle.qm_grammar.specs.inner.Machine.{step_face, step_slot, step_mark, with_face, with_left, with_number, with_text, coordinate_of, give_plane, plane_refusal};
 ghost use Rattle.qm_map.specs.inner.Steady.{HasDueParts, IsAwaiting};
-ghost use Rattle.qm_map.specs.inner.Stepping.{IsStep};
+ghost use Rattle.qm_map.specs.Stepping.{IsStep};
 
 use crate::face::{face_of, refusal_of_points};
 use crate::number::coordinate;

@@ -1,7 +1,7 @@
 ghost use Rattle.std.specs.Prelude.{◌≡◌, [], ◌∷◌, ◌++◌, IfOk, OnOk};
 ghost use Rattle.qm_grammar.specs.Prefix.{between_entities};
 ghost use Rattle.qm_grammar.specs.inner.Machine.{step, step_outside, step_entity, step_value, step_brush, with_value, without_brush, is_bad_origin};
-ghost use Rattle.qm_map.specs.inner.Stepping.{IsStep};
+ghost use Rattle.qm_map.specs.Stepping.{IsStep};
 
 use crate::empties::Empties;
 use crate::list::take_all;

@@ -11,7 +11,7 @@ use Rattle.qm_pieces.specs.LexingState.{LexingState, state_behind, token_ended_b
 use Rattle.qm_pieces.specs.TextSoFar.{lexemes_then, IsLexedTo}
 use Rattle.qm_pieces.specs.Lexed.{HasLexed}
 use Rattle.qm_pieces.specs.inner.OpenToken.{state_of}
-use Rattle.qm_pieces.specs.inner.Pushing.{owned_lexeme, owned_lexemes, IsByteTaken, IsBytePushed, end_lexing, IsEndGiven, IsEndOf}
+use Rattle.qm_pieces.specs.Pushing.{owned_lexeme, owned_lexemes, IsByteTaken, IsBytePushed, end_lexing, IsEndGiven, IsEndOf}
 use Rattle.qm_pieces.proofs.TextsSoFar.{lexed_behind}
 
 -- where it is known what is open, a bound of the state is one of its offset

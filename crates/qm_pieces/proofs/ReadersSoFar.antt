@@ -32,7 +32,7 @@ use Rattle.qm_pieces.specs.Lexed.{HasLexed}
 use Rattle.qm_pieces.specs.Certain.{IsCertain}
 use Rattle.qm_pieces.specs.ReadSoFar.{ReadSoFar, IsReadOf, IsReaderOf, reader_of}
 use Rattle.qm_pieces.specs.inner.Keeping.{AreBytesPassed}
-use Rattle.qm_pieces.specs.inner.Pushing.{owned_lexeme, owned_lexemes, IsBytePushed, IsEndOf}
+use Rattle.qm_pieces.specs.Pushing.{owned_lexeme, owned_lexemes, IsBytePushed, IsEndOf}
 use Rattle.qm_pieces.specs.inner.Accepting.{IsTokenAccepted, IsReadOn, closed_on, closed_behind, end_answer, fault_at_limit, limit_fault, IsEndAnswer}
 use Rattle.qm_pieces.proofs.Letters.{EndsAt, last_ends, ended_ends}
 use Rattle.qm_pieces.proofs.TextsSoFar.{lexed_at_start}

@@ -1,4 +1,5 @@
 pub mod LexingState
+pub mod Pushing
 pub mod TextSoFar
 pub mod Certain
 pub mod Shifted

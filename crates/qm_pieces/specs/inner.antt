@@ -1,5 +1,4 @@
 pub mod Keeping
-pub mod Pushing
 pub mod OpenToken
 pub mod Accepting
 pub mod Scanning

@@ -2,7 +2,7 @@ ghost use Rattle.std.specs.Prelude.{◌≡◌, ℕ, ◌-◌, ◌<◌, ◌≤◌,
 ghost use Rattle.qm_tokens.specs.inner.Modes.{between, slash, in_comment, in_word, in_quote};
 ghost use Rattle.qm_pieces.specs.inner.Keeping.{KeepsMode, AllKeepMode};
 ghost use Rattle.qm_pieces.specs.inner.OpenToken.{mode_of};
-ghost use Rattle.qm_pieces.specs.inner.Pushing.{IsByteTaken, IsEndGiven, owned_lexeme};
+ghost use Rattle.qm_pieces.specs.Pushing.{IsByteTaken, IsEndGiven, owned_lexeme};
 
 use crate::owned_token::OwnedToken;
 use crate::piece_fault::PieceFault;

@@ -6,7 +6,7 @@ ghost use Rattle.qm_pieces.specs.TextSoFar.{lexemes_then};
 ghost use Rattle.qm_pieces.specs.Lexed.{HasLexed};
 ghost use Rattle.qm_pieces.specs.inner.Keeping.{AreBytesPassed};
 ghost use Rattle.qm_pieces.specs.inner.OpenToken.{IsPlaceBetween};
-ghost use Rattle.qm_pieces.specs.inner.Pushing.{IsBytePushed, IsEndOf, owned_lexemes, end_lexing};
+ghost use Rattle.qm_pieces.specs.Pushing.{IsBytePushed, IsEndOf, owned_lexemes, end_lexing};
 
 use crate::open_token::OpenToken;
 use crate::owned_token::OwnedToken;

@@ -13,7 +13,7 @@ use Rattle.qm_grammar.specs.inner.Machine.{step}
 use Rattle.qm_pieces.specs.declared.owned_token.OwnedToken.{OwnedToken}
 use Rattle.qm_pieces.specs.declared.piece_fault.PieceFault.{PieceFault}
 use Rattle.qm_pieces.specs.declared.piece_fault.PieceFault.TheVariants.{UnclosedQuote, Memory}
-use Rattle.qm_pieces.specs.inner.Pushing.{owned_lexeme}
+use Rattle.qm_pieces.specs.Pushing.{owned_lexeme}
 use Rattle.qm_pieces.specs.Certain.{IsCertain}
 use Rattle.qm_pieces.specs.ReadSoFar.{ReadSoFar, IsReadOf}
 

@@ -1,7 +1,7 @@
 use Rattle.std.proofs.Common.{Option, subst}
 use Rattle.qm_pieces.specs.LexingState.{LexingState}
 use Rattle.qm_pieces.specs.inner.OpenToken.{mode_of}
-use Rattle.qm_pieces.specs.inner.Pushing.{IsEndOf}
+use Rattle.qm_pieces.specs.Pushing.{IsEndOf}
 use Rattle.qm_pieces.proofs.Lexers.{end_of_state, lexed_end}
 use Rattle.qm_pieces.proofs.piece_lexer.PieceLexer.finish.Goals as goal
 

@@ -2,7 +2,7 @@ use Rattle.std.proofs.Common.{ℕ, ◌+◌, ◌∷◌, [], Option, sym, subst}
 use Rattle.qm_tokens.specs.Lexeme.{line_ends}
 use Rattle.qm_pieces.specs.LexingState.{LexingState}
 use Rattle.qm_pieces.specs.inner.OpenToken.{mode_of, state_of}
-use Rattle.qm_pieces.specs.inner.Pushing.{IsBytePushed}
+use Rattle.qm_pieces.specs.Pushing.{IsBytePushed}
 use Rattle.qm_pieces.proofs.Lexers.{pushed_is, has_lexed_behind}
 use Rattle.qm_pieces.proofs.piece_lexer.PieceLexer.push.Goals as goal
 

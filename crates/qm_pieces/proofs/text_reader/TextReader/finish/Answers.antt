@@ -3,7 +3,7 @@ use Rattle.qm_grammar.specs.declared.fault.MapFault.TheVariants as fault
 use Rattle.qm_pieces.specs.declared.piece_fault.PieceFault.{PieceFault}
 use Rattle.qm_pieces.specs.declared.piece_fault.PieceFault.TheVariants.{UnclosedQuote}
 use Rattle.qm_pieces.specs.ReadSoFar.{ReadSoFar, IsReadOf, prefix_so_far}
-use Rattle.qm_pieces.specs.inner.Pushing.{IsEndOf}
+use Rattle.qm_pieces.specs.Pushing.{IsEndOf}
 use Rattle.qm_pieces.proofs.ReadersSoFar.{end_meant}
 use Rattle.qm_pieces.proofs.text_reader.TextReader.finish.Goals as goal
 

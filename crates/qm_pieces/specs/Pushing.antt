@@ -7,6 +7,8 @@ use Rattle.qm_pieces.specs.declared.piece_fault.PieceFault.{PieceFault}
 use Rattle.qm_pieces.specs.declared.piece_fault.PieceFault.TheVariants.{UnclosedQuote, Memory}
 use Rattle.qm_pieces.specs.LexingState.{LexingState, state_behind, token_ended_by}
 
+-- What a byte, and the end of a text, do to a lexer.
+
 -- a token that owns its bytes, as a lexeme
 abbrev pub owned_lexeme : OwnedToken → Lexeme
 owned_lexeme token =
