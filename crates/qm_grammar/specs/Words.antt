@@ -13,7 +13,7 @@ abbrev pub is_at_gap : List ℕ → Bool
 is_at_gap [] = true
 is_at_gap (byte ∷ bytes) = parts_words byte
 
--- a byte put in prefix of the first word
+-- a byte put in front of the first word
 abbrev pub lengthened : ℕ → List Word → List Word
 lengthened byte [] = (byte ∷ []) ∷ []
 lengthened byte (word ∷ words) = (byte ∷ word) ∷ words

@@ -12,6 +12,12 @@ use qm_geom::PlaneBook;
 use std::alloc::{AllocError, Global};
 use std::thread::{Threads, join};
 
+/// How many brushes a run has at the least.
+const FEWEST: u64 = 20;
+
+/// The brushes of a long list are looked at in fewer runs than this.
+const RUNS: u64 = 16;
+
 /// What all brushes of a list are to the cube, in order.
 pub(crate) fn parts_in_cube<R: Threads + Sync>(
     rt: &R,
@@ -25,12 +31,6 @@ pub(crate) fn parts_in_cube<R: Threads + Sync>(
     let count = list.len();
     parts_of_halves(rt, alloc, list, book, FEWEST + count / RUNS, 0, count)
 }
-
-/// How many brushes a run has at the least.
-const FEWEST: u64 = 20;
-
-/// The brushes of a long list are looked at in fewer runs than this.
-const RUNS: u64 = 16;
 
 /// What the brushes of a list from one on, and before another, are to the cube, in order. They are looked at in halves beside one
 /// another as long as both have enough of them.

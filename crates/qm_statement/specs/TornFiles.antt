@@ -15,8 +15,8 @@ use Rattle.qm_statement.specs.ComesOf.{IsOutputOfText, IsDueInOut}
 use Rattle.qm_statement.specs.Output.{Output}
 use Rattle.qm_statement.specs.UpgradeComesOf.{IsUpgradeDue}
 
--- No file is taken for whole that was cut off. Whatever the end of a command, what it writes is as it was, is whole, or is
--- refused by who reads it.
+-- No tree file or listing is taken for whole that was cut off. Whatever the end of `compile` or `upgrade`, what it writes is as
+-- it was, is whole, or is refused by who reads it. Of `format` this says nothing, since the beginning of a text can be a map.
 
 -- of the bytes of a tree file, of which there are fewer than 2^62, only some of the first are there: reading them gives that
 -- they are too short, where they end, or that they are more than a file may have that is read
