@@ -1,6 +1,7 @@
 -- What the cube has of the faces of a solid, by the numbers of their planes in a book.
-use Rattle.std.proofs.Common.{◌≡◌, ◌≢◌, inl, inr, ⊎_elim, ℕ, ◌<◌, true, not, Option, Some, None, List, [], ◌∷◌, ◌++◌, length, All, Contains, option_to_list, append-nil, sym, ◌∙◌, ap, subst, arith}
+use Rattle.std.proofs.Common.{◌≡◌, ◌≢◌, inl, inr, ⊎_elim, ℕ, ◌<◌, Bool, true, false, not, Option, Some, None, List, [], ◌∷◌, ◌++◌, length, All, Contains, option_to_list, append-nil, sym, ◌∙◌, ap, subst, arith}
 use Rattle.std.specs.Prelude.{slice_get}
+use Rattle.std.specs.Bool.{MatchBool}
 use Rattle.std.specs.Option.{MatchOption}
 use Rattle.std.proofs.lemmas.List.Elements.{All-nil, All-contains, Contains-push, Contains-push_cases, Contains-append_left}
 use Rattle.qm_numbers.proofs.IntegerProducts.{linear}
@@ -19,6 +20,7 @@ use Rattle.qm_convex.specs.Winding.{Winding}
 use Rattle.qm_convex.specs.Sides.{HasNoneInFront}
 use Rattle.qm_convex.specs.Cut.{IsPartInFront}
 use Rattle.qm_convex.specs.World.{MissesCube, IsWorldPart}
+use Rattle.qm_wind.specs.Clipped.{IsCutDown}
 use Rattle.qm_contents.specs.declared.contents.Contents.{Contents}
 use Rattle.qm_solids.specs.declared.face.FaceRef.{FaceRef}
 use Rattle.qm_solids.specs.Outward.{outward_of, outward_planes, AreNumberedIn}
@@ -101,9 +103,9 @@ module _ (book : List Plane) (number : ℕ) (done : List FaceRef) (face : FaceRe
       );
     }
 
-    pub face_left : (left : Option Winding) → MatchOption left (HasNoneInFront w inner) (λ kept. IsPartInFront kept w inner) → MatchOption left (HasNoFacePoint book number (done ++ face ∷ [])) (IsFacePiece book number (done ++ face ∷ []))
-    face_left None none = face_gone none
-    face_left (Some kept) part = face_kept kept part
+    pub face_cut : (left : Bool) (kept : Winding) → IsCutDown left kept w inner → MatchBool left (IsFacePiece book number (done ++ face ∷ []) kept) (HasNoFacePoint book number (done ++ face ∷ []))
+    face_cut true kept part = face_kept kept part
+    face_cut false kept none = face_gone none.1
 
 -- ---- the pieces of all faces
 

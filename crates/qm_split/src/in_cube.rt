@@ -149,27 +149,27 @@ fn keep_behind_all(
     let _corners = winding.len();
     let mut left = winding;
     for face in faces {
-        left = match keep_behind(left, number, face, book)? {
-            Some(kept) => kept,
-            None => return Ok(None),
-        };
+        if !cut_behind(&mut left, number, face, book)? {
+            return Ok(None);
+        }
     }
     Ok(Some(left))
 }
 
-/// What a winding on the plane of a number has behind a face, if the face lies on another plane.
-fn keep_behind(
-    winding: Winding,
+/// Cuts a winding on the plane of a number down to what it has behind a face, if the face lies on another plane. `false` exactly
+/// where nothing is left.
+fn cut_behind(
+    winding: &mut Winding,
     number: u32,
     face: &FaceRef,
     book: &PlaneBook,
-) -> Result<Option<Winding>, AllocError>
+) -> Result<bool, AllocError>
     requires numbered { face.now.plane < length book.now }
-    ensures { IfOk result (λ part. (done : List FaceRef) → IsFacePiece book.now number done winding →
-        MatchOption part (HasNoFacePoint book.now number (done ++ face.now ∷ [])) (IsFacePiece book.now number (done ++ face.now ∷ []))) }
+    ensures { IfOk result (λ left. (done : List FaceRef) → IsFacePiece book.now number done winding.old →
+        MatchBool left (IsFacePiece book.now number (done ++ face.now ∷ []) winding.new) (HasNoFacePoint book.now number (done ++ face.now ∷ []))) }
 {
     if face.plane == number {
-        return Ok(Some(winding));
+        return Ok(true);
     }
-    winding.keep(&book.plane(face.plane), inner_side(face))
+    winding.cut(&book.plane(face.plane), inner_side(face))
 }

@@ -8,7 +8,7 @@ ghost use Rattle.qm_convex.specs.Sides.{LiesIn, HasNoneInFront, HasCornerInFront
 ghost use Rattle.qm_convex.specs.World.{MissesCube, IsWorldPart, IsInWorld, LiesWithin};
 ghost use Rattle.qm_convex.specs.Section.{IsSection, MissesCell, AreAxialBounds};
 ghost use Rattle.qm_space.specs.Cube.{IsInClosedCube};
-ghost use Rattle.qm_wind.specs.Clipped.{IsClip, is_front};
+ghost use Rattle.qm_wind.specs.Clipped.{IsClip, IsCutDown, is_front};
 ghost use Rattle.qm_wind.specs.Severing.{IsSevered};
 ghost use Rattle.qm_wind.specs.Split.{IsSplit};
 ghost use Rattle.qm_wind.specs.Lying.{IsLying, AreCornerSides};
@@ -161,11 +161,40 @@ impl Winding {
         ensures { IfOk result (λ left.
             MatchOption left (HasNoneInFront self (turned (is_front side) plane.now)) (λ w. IsPartInFront w self (turned (is_front side) plane.now))) }
     {
+        let mut left = self;
+        if left.cut(plane, side)? {
+            Ok(Some(left))
+        } else {
+            Ok(None)
+        }
+    }
+
+    /// The same, in its place. `false` exactly where none of its points is strictly on that side: then, and where memory runs
+    /// out, it stays as it is.
+    pub fn cut(&mut self, plane: &Plane, side: Side) -> Result<bool, AllocError>
+        ensures ok { IfOk result (λ left. IsCutDown left self.new self.old (turned (is_front side) plane.now)) }
+        ensures err { OnErr result (self.new ≡ self.old) }
+    {
+        match side {
+            Side::Front => self.cut_in_front_of(plane),
+            Side::Back => self.cut_in_front_of(&plane.flipped()),
+        }
+    }
+
+    /// The winding cut down to what it has in front of a plane.
+    fn cut_in_front_of(&mut self, plane: &Plane) -> Result<bool, AllocError>
+        ensures ok { IfOk result (λ left. IsCutDown left self.new self.old plane.now) }
+        ensures err { OnErr result (self.new ≡ self.old) }
+    {
         let _ = &self.polygon;
-        match self.clip(plane, side)? {
-            Clip::Whole => Ok(Some(self)),
-            Clip::Gone => Ok(None),
-            Clip::Cut(part) => Ok(Some(part)),
+        match self.found(plane) {
+            Found::Front => Ok(true),
+            Found::Back => Ok(false),
+            Found::On => Ok(false),
+            Found::Across(survey) => {
+                self.cut_down(plane, &survey.front)?;
+                Ok(true)
+            }
         }
     }
 
