@@ -1,9 +1,10 @@
-ghost use Rattle.std.specs.Prelude.{◌≡◌, ◌≢◌, ◌≤◌, ◌+◌, length, None, Ok, Err, IfOk, IfErr, Result};
+ghost use Rattle.std.specs.Prelude.{◌≡◌, ◌≢◌, ◌≤◌, ◌+◌, [], length, None, Ok, Err, IfOk, IfErr, Result};
 ghost use Rattle.qm_tokens.specs.Lexeme.{lexeme_of, quote_length};
 ghost use Rattle.qm_tokens.specs.Lexing.{fault_line};
 ghost use Rattle.qm_mapfile.specs.declared.entity.MapFile.{MapFile};
 ghost use Rattle.qm_grammar.specs.declared.fault.MapFault.{MapFault};
 ghost use Rattle.qm_grammar.specs.Faults.{fault_of};
+ghost use Rattle.qm_grammar.specs.Prefix.{between_entities};
 ghost use Rattle.qm_grammar.specs.inner.Machine.{refused_at, closed_by_end, ended, meaning_of};
 ghost use Rattle.qm_grammar.specs.Meaning.{Means, IsMapText, IsFaultText};
 ghost use Rattle.qm_grammar.specs.Valid.{IsValidMap};
@@ -120,25 +121,40 @@ fn quote_line(fault: LexFault) -> u64
     }
 }
 
-/// Takes the tokens of a text one by one, and then its end.
+/// Takes the tokens of a text one by one. The answer is the line of the quote that is not closed, if there is one. It stands by
+/// itself, with the reader behind a reference, so that its loop has the registers.
 #[inline(never)]
-fn meaning_of(alloc: Global, text: &[u8]) -> Result<MapFile, MapFault>
-    ensures { result ≢ Err MapFault.Memory → result ≡ meaning_of text.now }
+fn take_tokens(reader: &mut Reader, text: &[u8]) -> Result<Option<u64>, MapFault>
+    requires { reader.old ≡ between_entities [] }
+    ensures over { IfOk result (λ unclosed. meaning_of text.now ≡ ended text.now unclosed (Ok reader.new)) }
+    ensures fault { IfErr result (λ fault. fault ≢ MapFault.Memory → meaning_of text.now ≡ Err fault) }
 {
     let mut lexer = Lexer::new(text);
-    let Ok(mut reader) = Reader::new(alloc) else {
-        return Err(MapFault::Memory);
-    };
     'tokens: loop {
         match lexer.next() {
             Ok(Some(token)) => {
-                if let Err(fault) = take(&mut reader, text, token) {
-                    drop(reader);
+                if let Err(fault) = take(reader, text, token) {
                     return Err(fault);
                 }
             }
-            Ok(None) => return ended(text, None, reader),
-            Err(fault) => return ended(text, Some(quote_line(fault)), reader),
+            Ok(None) => return Ok(None),
+            Err(fault) => return Ok(Some(quote_line(fault))),
+        }
+    }
+}
+
+/// Takes the tokens of a text, and then its end.
+fn meaning_of(alloc: Global, text: &[u8]) -> Result<MapFile, MapFault>
+    ensures { result ≢ Err MapFault.Memory → result ≡ meaning_of text.now }
+{
+    let Ok(mut reader) = Reader::new(alloc) else {
+        return Err(MapFault::Memory);
+    };
+    match take_tokens(&mut reader, text) {
+        Ok(unclosed) => ended(text, unclosed, reader),
+        Err(fault) => {
+            drop(reader);
+            Err(fault)
         }
     }
 }

@@ -1,33 +1,8 @@
-use Rattle.std.proofs.Common.{◌≡◌, ◌∙◌, List, ℕ, ap, sym, subst, Some, Ok, Err}
-use Rattle.qm_tokens.specs.Lexeme.{lexeme_of}
-use Rattle.qm_tokens.specs.Lexing.{lexeme_then}
-use Rattle.qm_tokens.specs.Lexing.{fault_line}
-use Rattle.qm_grammar.specs.Prefix.{Prefix}
-use Rattle.qm_grammar.specs.inner.Machine.{ended}
-use Rattle.qm_map.proofs.Meanings.{IsUnderway, begun, lexing_is, refused_is, ended_is, unclosed_is}
+use Rattle.std.proofs.Common.{◌∙◌, ap, sym, Err}
 use Rattle.qm_map.proofs.text.meaning_of.Goals as goal
 
-pub tokens-init : goal.tokens-init
-tokens-init c =
-    let P : Prefix → Type 0 = λ prefix. IsUnderway c.args.text.now prefix c.new-lexer.result in
-    subst P (sym c.in-Ok.ensures)
-    (begun c.args.text.now c.new-lexer.result c.new-lexer.ensures.text (lexing_is c.args.text.now c.new-lexer.result.left c.new-lexer.ensures.only))
-
-pub returns-in-Err-take : goal.returns-in-Err-take
-returns-in-Err-take c =
-    λ other.
-    let refused = c.in-Err-take.ensures (λ e. other (ap Err e)) in
-    let left = rw c.in-Ok-Some.field-0-is at c.in-Ok-Some.ensures.token in
-    let P : List ℕ → Type 0 = λ text. c.tokens.lexer.left ≡ lexeme_then (lexeme_of text c.in-Ok-Some.token) c.next.new.self.left in
-    ap Err refused.fault_is ∙ sym (refused_is c.args.text.now c.tokens.reader c.tokens.lexer c.next.new.self.left _ refused.reason c.tokens.invariant
-    (subst P c.tokens.invariant.text_is left) refused.refused)
-
-pub returns-in-Ok-None : goal.returns-in-Ok-None
-returns-in-Ok-None c =
-    λ _. c.ended.ensures ∙ sym (ended_is c.args.text.now c.tokens.reader c.tokens.lexer c.tokens.invariant
-    (rw c.in-Ok-None.field-0-is at c.in-Ok-None.ensures.token))
+pub returns-in-Ok-take_tokens : goal.returns-in-Ok-take_tokens
+returns-in-Ok-take_tokens c = λ _. c.ended.ensures ∙ sym c.in-Ok-take_tokens.ensures.over
 
 pub returns-in-Err : goal.returns-in-Err
-returns-in-Err c =
-    λ _. c.ended-in-Err.ensures ∙ ap (λ line. ended c.args.text.now (Some line) (Ok c.tokens.reader)) c.quote_line.ensures
-    ∙ sym (unclosed_is c.args.text.now c.tokens.reader c.tokens.lexer (fault_line c.in-Err.fault) c.tokens.invariant c.in-Err.ensures.fault)
+returns-in-Err c = λ other. sym (c.in-Err.ensures.fault (λ e. other (ap Err e)))

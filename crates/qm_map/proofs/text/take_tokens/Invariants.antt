@@ -1,6 +1,6 @@
 use Rattle.std.proofs.Common.{length}
 use Rattle.qm_map.proofs.Meanings.{IsUnderway}
-use Rattle.qm_map.proofs.text.meaning_of.Given as goal
+use Rattle.qm_map.proofs.text.take_tokens.Given as goal
 
 -- what is left of the tokens leads on to what the text means
 abbrev pub invariant-tokens : goal.invariant-tokens
