@@ -6,7 +6,7 @@ ghost use Rattle.qm_solids.specs.InBook.{solids_in, IsBookOf};
 ghost use Rattle.qm_partition.specs.Ways.{HasPoints};
 ghost use Rattle.qm_solid_tree.specs.GivesContents.{GivesContents};
 ghost use Rattle.qm_solid_tree.specs.TreeOf.{IsTreeOf};
-ghost use Rattle.qm_compiler.specs.inner.Counted.{IsTreeOfBrushes};
+ghost use Rattle.qm_compiler.specs.inner.Counted.{IsTreeOfBrushes, HasCounts};
 ghost use Rattle.qm_compiler.specs.inner.FlatCount.{flat_count};
 
 use qm_brush::{BrushList, brushes};
@@ -37,11 +37,18 @@ pub fn build_map<R: Threads + Sync>(
 {
     let mut book = PlaneBook::new(alloc);
     let list = brushes(alloc, map, &mut book)?;
-    let tree = tree_of_brushes(rt, alloc, &list, &book, threads)?;
+    let tree = tree_of_brushes(rt, alloc, &list, &book, threads);
+    with_counts(tree, &list)
+}
+
+/// A tree with how many brushes it was built of, where there was memory for it.
+fn with_counts(tree: Result<Tree, AllocError>, list: &BrushList) -> Result<Built, AllocError>
+    ensures { IfOk result (λ built. HasCounts tree list.now built.tree built.brushes built.flat) }
+{
     Ok(Built {
-        tree,
+        tree: tree?,
         brushes: list.len(),
-        flat: count_flat(&list),
+        flat: count_flat(list),
     })
 }
 
