@@ -67,7 +67,7 @@ use Rattle.qm_compiler.specs.inner.Counted.{IsTreeOfBrushes}
 use Rattle.qm_compiler.specs.inner.Finished.{IsCount, IsFinished}
 use Rattle.qm_compiler.specs.inner.FlatCount.{flat_count}
 use Rattle.qm_compiler.specs.inner.NewFile.{new_file}
-use Rattle.qm_compiler.specs.inner.Prepared.{IsPrepared, marked_build, marked_of}
+use Rattle.qm_compiler.specs.inner.Prepared.{IsPrepared, marked_of}
 use Rattle.qm_compiler.proofs.BuiltTrees.{tree_well_made, tree_reduced}
 use Rattle.qm_compiler.proofs.NewFiles.{new_form}
 use Rattle.qm_compiler.proofs.Origins.{one_origins}
@@ -224,7 +224,7 @@ module _ (map : MapFile) (tree : Tree) (brushes flat : ℕ) (counted : IsTreeOfB
           subst (λ (c : Compiled). IsCompiled map options c) (sym made.is_done) (done_map options made.rows made.summary made.are_rows made.is_count)
 
       marked_map : IsPrepared map (marked_of sealed tree brushes flat contacts row)
-      unfolding IsPrepared marked_of marked_build
+      unfolding IsPrepared marked_of
       marked_map = record { becomes = becomes }
 
   -- it is sealed

@@ -6,7 +6,7 @@ ghost use Rattle.qm_solids.specs.InBook.{solids_in, IsBookOf};
 ghost use Rattle.qm_partition.specs.Ways.{HasPoints};
 ghost use Rattle.qm_solid_tree.specs.GivesContents.{GivesContents};
 ghost use Rattle.qm_solid_tree.specs.TreeOf.{IsTreeOf};
-ghost use Rattle.qm_compiler.specs.inner.Counted.{IsTreeOfBrushes, HasCounts};
+ghost use Rattle.qm_compiler.specs.inner.Counted.{IsTreeOfBrushes};
 ghost use Rattle.qm_compiler.specs.inner.FlatCount.{flat_count};
 
 use qm_brush::{BrushList, brushes};
@@ -37,38 +37,34 @@ pub fn build_map<R: Threads + Sync>(
 {
     let mut book = PlaneBook::new(alloc);
     let list = brushes(alloc, map, &mut book)?;
-    let tree = tree_of_brushes(rt, alloc, &list, &book, threads);
-    with_counts(tree, &list)
-}
-
-/// A tree with how many brushes it was built of, where there was memory for it.
-fn with_counts(tree: Result<Tree, AllocError>, list: &BrushList) -> Result<Built, AllocError>
-    ensures { IfOk result (λ built. HasCounts tree list.now built.tree built.brushes built.flat) }
-{
+    let brushes = list.len();
+    let flat = count_flat(&list);
+    let tree = tree_of_brushes(rt, alloc, list, book, threads)?;
     Ok(Built {
-        tree: tree?,
-        brushes: list.len(),
-        flat: count_flat(list),
+        tree,
+        brushes,
+        flat,
     })
 }
 
-/// The tree of the brushes of a list, whose halves are built beside one another where more than one thread is asked for.
+/// The tree of the brushes of a list, whose halves are built beside one another where more than one thread is asked for. The
+/// brushes and their book are let go of.
 fn tree_of_brushes<R: Threads + Sync>(
     rt: &R,
     alloc: Global,
-    list: &BrushList,
-    book: &PlaneBook,
+    list: BrushList,
+    book: PlaneBook,
     threads: u8,
 ) -> Result<Tree, AllocError>
-    requires filled { IsBookOf book.now list.now }
-    ensures tree { IfOk result (λ tree. IsTreeOf (solids_in book.now list.now) book.now tree) }
+    requires filled { IsBookOf book list }
+    ensures tree { IfOk result (λ tree. IsTreeOf (solids_in book list) book tree) }
     ensures points { IfOk result HasPoints }
-    ensures contents { IfOk result (λ tree. GivesContents tree (solids_in book.now list.now)) }
+    ensures contents { IfOk result (λ tree. GivesContents tree (solids_in book list)) }
 {
     if threads > 1 {
-        build_halves(rt, alloc, list, book, &OpenHalves)
+        build_halves(rt, alloc, &list, &book, &OpenHalves)
     } else {
-        build(alloc, list, book)
+        build(alloc, &list, &book)
     }
 }
 

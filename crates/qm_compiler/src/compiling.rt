@@ -3,7 +3,7 @@
 ghost use Rattle.std.specs.Prelude.{◌≤◌, IfOk};
 ghost use Rattle.qm_grammar.specs.Valid.{IsValidMap};
 ghost use Rattle.qm_compiler.specs.Answers.{IsCompiled};
-ghost use Rattle.qm_compiler.specs.inner.Finished.{IsFinished, IsCounted};
+ghost use Rattle.qm_compiler.specs.inner.Finished.{IsCounted};
 
 use crate::building::{Built, build_map};
 use crate::compiled::Compiled;
@@ -52,26 +52,11 @@ pub fn compile<R: Threads + Sync, G: Gate + Sync>(
             sealed,
             built,
             world,
-        } => finish(rt, alloc, options, gate, sealed, built, world),
+        } => {
+            let rows = rows_of(rt, alloc, &world, options.fast, options.threads, gate);
+            with_rows(alloc, sealed, built, world, rows)
+        }
     }
-}
-
-/// A tree with the rows and counts of its world.
-fn finish<R: Threads + Sync, G: Gate + Sync>(
-    rt: &R,
-    alloc: Global,
-    options: &Options,
-    gate: &G,
-    sealed: bool,
-    built: Built,
-    world: World,
-) -> Result<Compiled, AllocError>
-    requires some { 1 ≤ options.now.threads }
-    requires not_too_many { options.now.threads ≤ 64 }
-    ensures { IfOk result (λ compiled. IsFinished options.now sealed built.brushes built.flat built.tree world compiled) }
-{
-    let rows = rows_of(rt, alloc, &world, options.fast, options.threads, gate);
-    with_rows(alloc, sealed, built, world, rows)
 }
 
 /// A tree with rows in a file, with its world and what is counted, where there was memory for the rows.

@@ -1,14 +1,12 @@
 //! What is known of a map before rows are found.
 
-ghost use Rattle.std.specs.Prelude.{◌≡◌, IfOk, None, false, length, replicate};
+ghost use Rattle.std.specs.Prelude.{◌≡◌, IfOk, length};
 ghost use Rattle.qm_grammar.specs.Valid.{IsValidMap};
 ghost use Rattle.qm_partition.specs.Counting.{leaf_count};
 ghost use Rattle.qm_contacts.specs.Contacts.{AreContacts};
-ghost use Rattle.qm_compiler.specs.declared.preparing.Prepared.TheVariants.{Leak};
 ghost use Rattle.qm_compiler.specs.inner.Counted.{IsTreeOfBrushes};
 ghost use Rattle.qm_compiler.specs.inner.Flooded.{FitsTree, IsFloodOfMap};
-ghost use Rattle.qm_compiler.specs.inner.NewFile.{new_file};
-ghost use Rattle.qm_compiler.specs.inner.Prepared.{IsPrepared, IsPreparedForEachMap, marked_build, marked_of};
+ghost use Rattle.qm_compiler.specs.inner.Prepared.{IsPrepared, IsPreparedForEachMap, IsMarkedWith};
 
 use crate::building::Built;
 use crate::entity_origins::origins_of;
@@ -46,23 +44,8 @@ pub fn prepare(alloc: Global, map: &MapFile, built: Built) -> Result<Prepared, A
     ensures { IfOk result (λ prepared. IsPrepared map.now prepared) }
 {
     let contacts = touches(alloc, &built.tree)?;
-    prepare_by(alloc, map, built, &contacts)
-}
-
-/// The same by the contacts of the tree.
-fn prepare_by(
-    alloc: Global,
-    map: &MapFile,
-    built: Built,
-    contacts: &TouchList,
-) -> Result<Prepared, AllocError>
-    requires valid { IsValidMap map.now }
-    requires built { IsTreeOfBrushes map.now built.tree built.brushes built.flat }
-    requires contacts { AreContacts built.tree contacts.now }
-    ensures { IfOk result (λ prepared. IsPrepared map.now prepared) }
-{
-    let found = flood_map(alloc, map, &built.tree, contacts)?;
-    prepare_flooded(alloc, built, contacts, found)
+    let found = flood_map(alloc, map, &built.tree, &contacts);
+    prepare_found(alloc, built, &contacts, found)
 }
 
 /// What is found of the entities of a map in its tree.
@@ -80,73 +63,54 @@ fn flood_map(
     flood(alloc, contacts, tree, &origins)
 }
 
-/// What a tree comes to where this was found of the entities in it.
-fn prepare_flooded(
+/// What a tree comes to where this was found of the entities in it, if there was memory to find it.
+fn prepare_found(
     alloc: Global,
     built: Built,
     contacts: &TouchList,
-    found: Flood,
+    found: Result<Flood, AllocError>,
 ) -> Result<Prepared, AllocError>
     requires contacts { AreContacts built.tree contacts.now }
-    requires fits { FitsTree built.tree found }
+    requires fits { IfOk found (λ flood. FitsTree built.tree flood) }
     ensures { IfOk result (λ prepared. IsPreparedForEachMap built.tree built.brushes built.flat found prepared) }
 {
-    match found {
-        Flood::Sealed(filled) => mark(alloc, true, built, contacts, filled),
-        Flood::NoEntity => mark_none(alloc, built, contacts),
-        Flood::Leak { entity, trail } => Ok(leak(alloc, built, entity, trail)),
+    match found? {
+        Flood::Sealed(filled) => mark(alloc, true, built, contacts, Ok(filled)),
+        Flood::NoEntity => {
+            let unfilled = BitRow::with_len(alloc, built.tree.leaves());
+            mark(alloc, false, built, contacts, unfilled)
+        }
+        Flood::Leak { entity, trail } => Ok(Prepared::Leak {
+            file: new_file(alloc, built.tree, None),
+            entity,
+            trail,
+        }),
     }
 }
 
-/// The tree as it was built, where an entity leaks.
-fn leak(alloc: Global, built: Built, entity: u64, trail: Items<u64>) -> Prepared
-    ensures { result ≡ Leak (new_file built.tree None) entity trail }
-{
-    Prepared::Leak {
-        file: new_file(alloc, built.tree, None),
-        entity,
-        trail,
-    }
-}
-
-/// The tree in which no leaf is filled, with its world, where no entity takes part.
-fn mark_none(alloc: Global, built: Built, contacts: &TouchList) -> Result<Prepared, AllocError>
-    requires contacts { AreContacts built.tree contacts.now }
-    ensures { IfOk result (λ prepared. prepared ≡ marked_of false built.tree built.brushes built.flat contacts.now (replicate (leaf_count built.tree.shape) false)) }
-{
-    let unfilled = BitRow::with_len(alloc, built.tree.leaves())?;
-    mark(alloc, false, built, contacts, unfilled)
-}
-
-/// The tree in which these leaves are filled, with its world.
+/// The tree in which the leaves of a row are filled, with its world, if there was memory for the row.
 fn mark(
     alloc: Global,
     sealed: bool,
     built: Built,
     contacts: &TouchList,
-    filled: BitRow,
+    filled: Result<BitRow, AllocError>,
 ) -> Result<Prepared, AllocError>
     requires contacts { AreContacts built.tree contacts.now }
-    requires one_each { length filled ≡ leaf_count built.tree.shape }
-    ensures { IfOk result (λ prepared. prepared ≡ marked_of sealed built.tree built.brushes built.flat contacts.now filled) }
+    requires one_each { IfOk filled (λ row. length row ≡ leaf_count built.tree.shape) }
+    ensures { IfOk result (λ prepared. IsMarkedWith sealed built.tree built.brushes built.flat contacts.now filled prepared) }
 {
-    let built = with_filled(built, filled);
-    let world = world(alloc, &built.tree, contacts)?;
+    let filled = filled?;
+    let tree = built.tree.with_filled(&filled);
+    drop(filled);
+    let world = world(alloc, &tree, contacts)?;
     Ok(Prepared::Marked {
         sealed,
-        built,
+        built: Built {
+            tree,
+            brushes: built.brushes,
+            flat: built.flat,
+        },
         world,
     })
-}
-
-/// What was built, with these leaves of its tree filled.
-fn with_filled(built: Built, filled: BitRow) -> Built
-    requires { length filled ≡ leaf_count built.tree.shape }
-    ensures { result ≡ marked_build filled built.tree built.brushes built.flat }
-{
-    Built {
-        tree: built.tree.with_filled(&filled),
-        brushes: built.brushes,
-        flat: built.flat,
-    }
 }

@@ -1,15 +1,13 @@
-use Rattle.std.specs.Prelude.{◌≡◌, ℕ, List, Ok, Result, length, All}
+use Rattle.std.specs.Prelude.{◌≡◌, ℕ, length, All}
 use Rattle.qm_mapfile.specs.declared.entity.MapFile.{MapFile}
 use Rattle.qm_drawn.specs.Solids.{drawn_solids}
 use Rattle.qm_solids.specs.Flat.{HasFlat}
-use Rattle.qm_solids.specs.InBook.{BookSolid}
 use Rattle.qm_space.specs.Reduced.{IsReduced}
 use Rattle.qm_partition.specs.Tree.{Tree}
 use Rattle.qm_partition.specs.Ways.{HasPoints}
 use Rattle.qm_partition.specs.WellMade.{IsWellMade}
 use Rattle.qm_solid_tree.specs.GivesContents.{GivesContents}
 use Rattle.qm_statement.specs.TreeOfMap.{IsTreeOfMap}
-use Rattle.qm_compiler.specs.inner.FlatCount.{flat_count}
 
 -- the tree of a map, which can stand in a file, and is built of so many brushes, of which so many are flat
 pub record IsTreeOfBrushes (map : MapFile) (tree : Tree) (brushes flat : ℕ) : Type 0 where
@@ -20,9 +18,3 @@ pub record IsTreeOfBrushes (map : MapFile) (tree : Tree) (brushes flat : ℕ) : 
   pub reduced : All IsReduced tree.planes
   pub as_many : brushes ≡ length (drawn_solids map)
   pub has_flat : HasFlat (drawn_solids map) flat
-
--- the tree that was found, and how many brushes a list has, and how many flat ones
-pub record HasCounts {E : Type 0} (found : Result Tree E) (list : List BookSolid) (tree : Tree) (brushes flat : ℕ) : Type 0 where
-  pub found_is : found ≡ Ok tree
-  pub brushes_are : brushes ≡ length list
-  pub flat_are : flat ≡ flat_count list

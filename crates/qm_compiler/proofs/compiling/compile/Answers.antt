@@ -12,11 +12,11 @@ prepare-requires-clause-valid g c = c.requires.valid
 pub prepare-requires-clause-built : goal.prepare-requires-clause-built
 prepare-requires-clause-built g c = c.in_ok-built.ensures
 
-pub finish-requires-clause-some : goal.finish-requires-clause-some
-finish-requires-clause-some g c κs within = c.requires.some
+pub rows_of-rows-requires-clause-some : goal.rows_of-rows-requires-clause-some
+rows_of-rows-requires-clause-some g c κs within = c.requires.some
 
-pub finish-requires-clause-not_too_many : goal.finish-requires-clause-not_too_many
-finish-requires-clause-not_too_many g c κs within = c.requires.not_too_many
+pub rows_of-rows-requires-clause-not_too_many : goal.rows_of-rows-requires-clause-not_too_many
+rows_of-rows-requires-clause-not_too_many g c κs within = c.requires.not_too_many
 
 pub returns-in-Leak : goal.returns-in-Leak
 unfolding IsPrepared IsCompiled
@@ -26,4 +26,11 @@ pub returns-in-Marked : goal.returns-in-Marked
 unfolding IsPrepared
 returns-in-Marked g c =
     let prepared = rw c.in-Marked.is at c.in_ok-prepared.ensures in
-    IfOk-weaker c.finish.result _ _ (λ compiled made. prepared.becomes c.args.options.now compiled made) c.finish.ensures
+    IfOk-weaker c.with_rows.result _ _
+    (λ compiled made. prepared.becomes c.args.options.now compiled (record {
+      rows = made.rows;
+      are_rows = rw made.found_is at c.rows_of-rows.ensures;
+      summary = made.summary;
+      is_done = made.is_done;
+      is_count = made.is_count;
+    })) c.with_rows.ensures
