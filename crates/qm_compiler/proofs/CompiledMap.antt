@@ -1,11 +1,10 @@
 -- What is built of the brushes of a map, with what is made of its tree, is what the map compiles to.
-use Rattle.std.proofs.Common.{◌≡◌, ℕ, Bool, true, false, List, [], replicate, length, refl, sym, ap, ◌∙◌, subst, arith, ◌↔◌}
+use Rattle.std.proofs.Common.{◌≡◌, ℕ, Bool, true, false, List, [], replicate, length, refl, sym, ◌∙◌, subst, arith, ◌↔◌}
 use Rattle.std.specs.Prelude.{None, Some}
 use Rattle.std.specs.List.{All, AllZip}
 use Rattle.std.proofs.lemmas.List.{length-map}
 use Rattle.std.proofs.lemmas.List.Elements.{length_all_zip}
 use Rattle.qm_space.specs.Plane.{Plane}
-use Rattle.qm_space.specs.Reduced.{IsReduced}
 use Rattle.qm_space.specs.Entered.{AreEnteredInBook}
 use Rattle.qm_geom.proofs.EnteredPlanes.{one_book}
 use Rattle.qm_mapfile.specs.declared.entity.MapFile.{MapFile}
@@ -18,9 +17,8 @@ use Rattle.qm_solids.proofs.FlatCounts.{same_flat, counted_flat}
 use Rattle.qm_partition.specs.LeafOfPoint.{leaf_record_at}
 use Rattle.qm_partition.specs.Tree.{Tree}
 use Rattle.qm_partition.specs.Ways.{HasPoints}
-use Rattle.qm_partition.specs.WellMade.{IsWellMade}
 use Rattle.qm_partition.proofs.MarkedParts.{marked_well_made}
-use Rattle.qm_solid_tree.specs.GivesContents.{GivesContents, GivesContentsOrIsFilled}
+use Rattle.qm_solid_tree.specs.GivesContents.{GivesContents}
 use Rattle.qm_solid_tree.specs.TreeOf.{IsTreeOf}
 use Rattle.qm_solid_tree.proofs.OneDivision.{one_tree}
 use Rattle.qm_solid_tree.proofs.SameTree.{tree_back}
@@ -34,7 +32,7 @@ use Rattle.qm_contacts.specs.Filled.{NoneTakesPart, IsSealed, IsToBeFilled, IsFi
 use Rattle.qm_contacts.proofs.FilledLeaves.{filled_apart}
 use Rattle.qm_contacts.proofs.FloodedLeaves.{none_filled}
 use Rattle.qm_contacts.specs.Contacts.{Contacts, AreContacts}
-use Rattle.qm_contacts.specs.Portals.{portals_of, HasPassages}
+use Rattle.qm_contacts.specs.Portals.{portals_of}
 use Rattle.qm_contacts.specs.World.{World}
 use Rattle.qm_contacts.specs.OwnPortals.{HasOwnPortals}
 use Rattle.qm_contacts.proofs.MarkedTrees.{marked_contacts}
@@ -48,7 +46,7 @@ use Rattle.qm_segments.specs.Ends.{HoldLinesOfSight}
 use Rattle.qm_segments.specs.LedByPortals.{IsLedByPortals}
 use Rattle.qm_segments.proofs.EndRows.{sound_rows_hold_ends, coarse_rows_hold_ends}
 use Rattle.qm_segments.proofs.FilledRows.{filled_row_closed}
-use Rattle.qm_formats.specs.TreeFile.{TreeFile, IsValidFile}
+use Rattle.qm_formats.specs.TreeFile.{IsValidFile}
 use Rattle.qm_compiler.specs.declared.compiled.Compiled.{Compiled}
 use Rattle.qm_compiler.specs.declared.preparing.Prepared.TheVariants.{Leak}
 use Rattle.qm_commands.specs.declared.options.Options.{Options}
@@ -61,7 +59,6 @@ use Rattle.qm_statement.specs.Origins.{AreOriginsOf}
 use Rattle.qm_statement.specs.Rows.{AreRowsAsAsked}
 use Rattle.qm_statement.specs.Summary.{IsVerdict, IsSummary}
 use Rattle.qm_statement.specs.TreeOfMap.{IsTreeOfMap}
-use Rattle.qm_statement.specs.CompiledForm.{HasCompiledForm}
 use Rattle.qm_statement.proofs.LedLines.{lines_are_led}
 use Rattle.qm_compiler.specs.inner.Counted.{IsTreeOfBrushes}
 use Rattle.qm_compiler.specs.inner.Finished.{IsCount, IsFinished}
@@ -92,15 +89,15 @@ module _ (map : MapFile) (book : List Plane) (list : List BookSolid) (alike : Al
   as_many = length_all_zip IsAlike (drawn_solids map) (solids_in book list) alike ∙ length-map list (solid_in book)
 
   -- the tree that is built of the brushes is the map's, and the brushes are counted
-  pub counted_map : (tree : Tree) (brushes flat : ℕ) → AreEnteredInBook [] (drawn_planes map) book → IsTreeOf (solids_in book list) book tree → GivesContents tree (solids_in book list) → HasPoints tree → brushes ≡ length list → flat ≡ flat_count list → IsTreeOfBrushes map tree brushes flat
-  counted_map tree brushes flat entered is_tree gives points brushes_are flat_are = record {
+  pub counted_map : (tree : Tree) → AreEnteredInBook [] (drawn_planes map) book → IsTreeOf (solids_in book list) book tree → GivesContents tree (solids_in book list) → HasPoints tree → IsTreeOfBrushes map tree (length list) (flat_count list)
+  counted_map tree entered is_tree gives points = record {
     is_tree = record { book = book; entered = entered; is_tree = tree_back (drawn_solids map) (solids_in book list) alike book tree is_tree };
     gives_contents = gives_drawn tree gives;
     have_points = points;
     well_made = tree_well_made (solids_in book list) book filled.planes tree is_tree;
     reduced = tree_reduced (solids_in book list) book filled.planes tree is_tree;
-    as_many = brushes_are ∙ sym as_many;
-    has_flat = subst (λ (n : ℕ). HasFlat (drawn_solids map) n) (sym flat_are) (same_flat (drawn_solids map) (solids_in book list) (flat_count list) alike (counted_flat book list filled.each));
+    as_many = sym as_many;
+    has_flat = same_flat (drawn_solids map) (solids_in book list) (flat_count list) alike (counted_flat book list filled.each);
   }
 
 module _ (map : MapFile) (tree : Tree) (brushes flat : ℕ) (counted : IsTreeOfBrushes map tree brushes flat) (origins : List Origin) (are_origins : AreOriginsOf map origins) where

@@ -37,34 +37,31 @@ pub fn build_map<R: Threads + Sync>(
 {
     let mut book = PlaneBook::new(alloc);
     let list = brushes(alloc, map, &mut book)?;
-    let brushes = list.len();
-    let flat = count_flat(&list);
-    let tree = tree_of_brushes(rt, alloc, list, book, threads)?;
+    let tree = tree_of_brushes(rt, alloc, &list, &book, threads)?;
     Ok(Built {
         tree,
-        brushes,
-        flat,
+        brushes: list.len(),
+        flat: count_flat(&list),
     })
 }
 
-/// The tree of the brushes of a list, whose halves are built beside one another where more than one thread is asked for. The
-/// brushes and their book are let go of.
+/// The tree of the brushes of a list, whose halves are built beside one another where more than one thread is asked for.
 fn tree_of_brushes<R: Threads + Sync>(
     rt: &R,
     alloc: Global,
-    list: BrushList,
-    book: PlaneBook,
+    list: &BrushList,
+    book: &PlaneBook,
     threads: u8,
 ) -> Result<Tree, AllocError>
-    requires filled { IsBookOf book list }
-    ensures tree { IfOk result (λ tree. IsTreeOf (solids_in book list) book tree) }
+    requires filled { IsBookOf book.now list.now }
+    ensures tree { IfOk result (λ tree. IsTreeOf (solids_in book.now list.now) book.now tree) }
     ensures points { IfOk result HasPoints }
-    ensures contents { IfOk result (λ tree. GivesContents tree (solids_in book list)) }
+    ensures contents { IfOk result (λ tree. GivesContents tree (solids_in book.now list.now)) }
 {
     if threads > 1 {
-        build_halves(rt, alloc, &list, &book, &OpenHalves)
+        build_halves(rt, alloc, list, book, &OpenHalves)
     } else {
-        build(alloc, &list, &book)
+        build(alloc, list, book)
     }
 }
 

@@ -11,8 +11,6 @@ tree_of_brushes-requires-clause-filled g c κs within = c.in_ok-list.ensures.boo
 pub returns : goal.returns
 returns g c =
     let made = c.in_ok-list.ensures in
-    let book = c.brushes.new.book in
-    let map = c.args.map.now in
-    let found = c.in_ok-tree.ensures in
-    let entered = subst (λ (before : List Plane). AreEnteredInBook before (drawn_planes map) book) c.new-book.ensures made.entered in
-    counted_map map book c.in_ok-list.list made.solids made.book c.in_ok-tree.tree c.len-brushes.result c.count_flat-flat.result entered found.tree found.contents found.points c.len-brushes.ensures c.count_flat-flat.ensures
+    let built = c.in_ok-tree.ensures in
+    let entered = subst (λ (book : List Plane). AreEnteredInBook book (drawn_planes c.args.map.now) c.brushes.new.book) c.new-book.ensures made.entered in
+    rw (c.len.ensures, c.count_flat.ensures) (counted_map c.args.map.now c.brushes.new.book c.in_ok-list.list made.solids made.book c.in_ok-tree.tree entered built.tree built.contents built.points)

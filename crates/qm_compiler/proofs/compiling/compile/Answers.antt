@@ -1,5 +1,6 @@
 use Rattle.std.proofs.lemmas.Result.{IfOk-weaker}
 use Rattle.qm_compiler.specs.Answers.{IsCompiled}
+use Rattle.qm_compiler.specs.inner.Finished.{IsCounted}
 use Rattle.qm_compiler.specs.inner.Prepared.{IsPrepared}
 use Rattle.qm_compiler.proofs.compiling.compile.Goals as goal
 
@@ -26,7 +27,8 @@ pub returns-in-Marked : goal.returns-in-Marked
 unfolding IsPrepared
 returns-in-Marked g c =
     let prepared = rw c.in-Marked.is at c.in_ok-prepared.ensures in
-    IfOk-weaker c.with_rows.result _ _
+    let marked = c.in-Marked in
+    IfOk-weaker c.with_rows.result (IsCounted marked.sealed marked.built.brushes marked.built.flat marked.built.tree marked.world c.rows_of-rows.result) (IsCompiled c.args.map.now c.args.options.now)
     (λ compiled made. prepared.becomes c.args.options.now compiled (record {
       rows = made.rows;
       are_rows = rw made.found_is at c.rows_of-rows.ensures;

@@ -1,4 +1,3 @@
-use Rattle.std.specs.Prelude.{IfOk}
 use Rattle.std.proofs.lemmas.Result.{IfOk-weaker}
 use Rattle.qm_compiler.proofs.Flooded.{fits_tree}
 use Rattle.qm_compiler.proofs.preparing.prepare.Goals as goal
