@@ -1,4 +1,4 @@
-use Rattle.std.proofs.Common.{Bool, List, length, sym, subst}
+use Rattle.std.proofs.Common.{Bool, List, length, sym, subst, arith}
 use Rattle.std.proofs.lemmas.Result.{IfOk-weaker}
 use Rattle.qm_contacts.specs.NumberedLeaves.{numbered_leaves}
 use Rattle.qm_coarse_rows.specs.LeafRow.{AreLeafRows}
@@ -26,10 +26,10 @@ returns-then-fast g c =
     c.leaf_rows.ensures
 
 pub crew-requires-clause-some : goal.crew-requires-clause-some
-crew-requires-clause-some g c κs within = c.requires.some
+crew-requires-clause-some g c κs within = omega arith
 
 pub crew-requires-clause-not_too_many : goal.crew-requires-clause-not_too_many
-crew-requires-clause-not_too_many g c κs within = c.requires.not_too_many
+crew-requires-clause-not_too_many g c κs within = omega arith
 
 pub crew-requires-clause-coarse : goal.crew-requires-clause-coarse
 crew-requires-clause-coarse g c κs within = c.in_ok-coarse.ensures.rows
