@@ -3,3 +3,4 @@ pub mod Finished
 pub mod FlatCount
 pub mod Flooded
 pub mod NewFile
+pub mod Prepared

@@ -33,5 +33,11 @@ pub fn count(sealed: bool, brushes: u64, flat: u64, world: &World, rows: &[BitRo
 fn count_filled(leaves: &[Leaf]) -> usize
     ensures { result ≡ count_by (λ found. found.filled) leaves.now }
 {
-    leaves.iter().filter(|leaf| leaf.filled).count()
+    let mut count = 0;
+    for leaf in leaves {
+        if leaf.filled {
+            count += 1;
+        }
+    }
+    count
 }

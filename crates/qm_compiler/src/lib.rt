@@ -8,6 +8,8 @@ mod counting;
 mod entity_origins;
 pub mod laws;
 mod new_file;
+mod preparing;
+mod rows;
 
 pub use compiled::Compiled;
 pub use compiling::compile;

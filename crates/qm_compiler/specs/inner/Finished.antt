@@ -1,21 +1,17 @@
-use Rattle.std.specs.Prelude.{◌≡◌, ◌/◌, ℕ, Bool, List, Some, length, count_by}
+use Rattle.std.specs.Prelude.{◌≡◌, ◌/◌, ℕ, Bool, List, Ok, Result, Some, length, count_by}
 use Rattle.qm_partition.specs.Counting.{node_count, leaf_count, leaves_of}
-use Rattle.qm_partition.specs.Marked.{marked_tree}
 use Rattle.qm_partition.specs.Tree.{Tree}
-use Rattle.qm_contacts.specs.Contacts.{Contacts, AreContacts}
 use Rattle.qm_contacts.specs.NumberedLeaves.{is_numbered}
-use Rattle.qm_contacts.specs.Portals.{portals_of}
 use Rattle.qm_contacts.specs.World.{World}
-use Rattle.qm_formats.specs.TreeFile.{TreeFile}
 use Rattle.qm_coarse_rows.specs.Seen.{seen_of}
 use Rattle.qm_compiler.specs.declared.compiled.Compiled.{Compiled}
-use Rattle.qm_compiler.specs.declared.compiled.Compiled.TheVariants.{Done, Leak}
+use Rattle.qm_compiler.specs.declared.compiled.Compiled.TheVariants.{Done}
+use Rattle.qm_compiler.specs.inner.NewFile.{new_file}
 use Rattle.qm_commands.specs.declared.options.Options.{Options}
 use Rattle.qm_statement.specs.declared.summary.Summary.{Summary}
 use Rattle.qm_statement.specs.Rows.{AreRowsAsAsked}
-use Rattle.qm_statement.specs.CompiledForm.{HasCompiledForm}
 
--- What is made of a tree, whatever the map.
+-- What is made of a tree and its world, whatever the map.
 
 -- what is counted of a tree, its portals and its rows
 pub record IsCount (sealed : Bool) (brushes flat : ℕ) (world : World) (rows : List (List Bool)) (summary : Summary) : Type 0 where
@@ -30,17 +26,18 @@ pub record IsCount (sealed : Bool) (brushes flat : ℕ) (world : World) (rows : 
   pub portals_is : summary.portals ≡ length world.portals / 2
   pub seen_is : summary.seen ≡ seen_of rows
 
--- the tree in which the leaves of a row are filled, with its portals, rows and counts, in the form in which maps are compiled
-pub record IsFilledFile (options : Options) (sealed : Bool) (tree : Tree) (brushes flat : ℕ) (row : List Bool) (contacts : Contacts) (file : TreeFile) (world : World) (summary : Summary) : Type 0 where
-  pub is_tree : file.tree ≡ marked_tree row tree
-  pub are_contacts : AreContacts (marked_tree row tree) contacts
-  pub is_world : world ≡ record { tree = marked_tree row tree; portals = portals_of (marked_tree row tree) contacts.touchings }
-  pub has_form : HasCompiledForm file
+-- a new file of a tree with the rows that were found, with a world and what is counted of the two
+pub record IsCounted {E : Type 0} (sealed : Bool) (brushes flat : ℕ) (tree : Tree) (world : World) (found : Result (List (List Bool)) E) (compiled : Compiled) : Type 0 where
   pub rows : List (List Bool)
-  pub has_rows : file.rows ≡ Some rows
-  pub are_rows : AreRowsAsAsked options.fast options.threads world rows
+  pub found_is : found ≡ Ok rows
+  pub summary : Summary
+  pub is_done : compiled ≡ Done (new_file tree (Some rows)) world summary
   pub is_count : IsCount sealed brushes flat world rows summary
 
-unfoldable pub IsFinished : Options → Bool → Tree → ℕ → ℕ → List Bool → Contacts → Compiled → Type 0
-IsFinished options sealed tree brushes flat row contacts (Done file world summary) = IsFilledFile options sealed tree brushes flat row contacts file world summary
-IsFinished options sealed tree brushes flat row contacts (Leak file entity trail) = ⊥
+-- the same with rows as the options ask for them
+pub record IsFinished (options : Options) (sealed : Bool) (brushes flat : ℕ) (tree : Tree) (world : World) (compiled : Compiled) : Type 0 where
+  pub rows : List (List Bool)
+  pub are_rows : AreRowsAsAsked options.fast options.threads world rows
+  pub summary : Summary
+  pub is_done : compiled ≡ Done (new_file tree (Some rows)) world summary
+  pub is_count : IsCount sealed brushes flat world rows summary

@@ -1,4 +1,4 @@
-use Rattle.std.specs.Prelude.{◌≡◌, ℕ, List, length}
+use Rattle.std.specs.Prelude.{◌≡◌, List, length}
 use Rattle.qm_mapfile.specs.declared.entity.MapFile.{MapFile}
 use Rattle.qm_partition.specs.Counting.{leaf_count}
 use Rattle.qm_partition.specs.Tree.{Tree}
@@ -6,13 +6,9 @@ use Rattle.qm_contacts.specs.Leak.{Origin}
 use Rattle.qm_flood.specs.Found.{IsFloodOf}
 use Rattle.qm_flood.specs.declared.answer.Flood.{Flood}
 use Rattle.qm_flood.specs.declared.answer.Flood.TheVariants.{Sealed, NoEntity, Leak}
-use Rattle.qm_commands.specs.declared.options.Options.{Options}
 use Rattle.qm_statement.specs.Origins.{AreOriginsOf}
-use Rattle.qm_compiler.specs.Answers.{IsCompiled}
-use Rattle.qm_compiler.specs.declared.compiled.Compiled.{Compiled}
-use Rattle.qm_compiler.specs.inner.Counted.{IsTreeOfBrushes}
 
--- What is found of the entities of a map in its tree, and what the map compiles to then.
+-- What is found of the entities of a map in its tree.
 
 -- this is found of the entities of the map
 pub record IsFloodOfMap (map : MapFile) (tree : Tree) (found : Flood) : Type 0 where
@@ -25,8 +21,3 @@ abbrev pub FitsTree : Tree → Flood → Type 0
 FitsTree tree (Sealed row) = length row ≡ leaf_count tree.shape
 FitsTree tree NoEntity = Unit {0}
 FitsTree tree (Leak entity trail) = Unit {0}
-
--- whatever the map of which the tree is, and in which this is found: it compiles to that
-abbrev pub IsOfEachMap : Options → Tree → ℕ → ℕ → Flood → Compiled → Type 0
-IsOfEachMap options tree brushes flat found compiled =
-    (map : MapFile) → IsTreeOfBrushes map tree brushes flat → IsFloodOfMap map tree found → IsCompiled map options compiled

@@ -5,6 +5,9 @@ use Rattle.qm_drawn.specs.Planes.{drawn_planes}
 use Rattle.qm_compiler.proofs.CompiledMap.{counted_map}
 use Rattle.qm_compiler.proofs.building.build_map.Goals as goal
 
+pub tree_of_brushes-requires-clause-filled : goal.tree_of_brushes-requires-clause-filled
+tree_of_brushes-requires-clause-filled g c κs within = c.in_ok-list.ensures.book
+
 pub returns : goal.returns
 returns g c =
     let made = c.in_ok-list.ensures in

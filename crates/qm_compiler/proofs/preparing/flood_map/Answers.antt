@@ -3,7 +3,7 @@ use Rattle.std.proofs.lemmas.Result.{IfOk-weaker}
 use Rattle.qm_contacts.specs.Leak.{Origin}
 use Rattle.qm_flood.specs.Found.{IsFloodOf}
 use Rattle.qm_compiler.proofs.Origins.{origins_in_order}
-use Rattle.qm_compiler.proofs.compiling.flood_map.Goals as goal
+use Rattle.qm_compiler.proofs.preparing.flood_map.Goals as goal
 
 pub flood-requires-clause-in_order : goal.flood-requires-clause-in_order
 flood-requires-clause-in_order c = rw c.deref.ensures.value (origins_in_order c.args.map.now c.in_ok-origins.origins.items c.in_ok-origins.ensures)
