@@ -3,7 +3,7 @@
 ghost use Rattle.std.specs.Prelude.{◌≤◌, IfOk, string_bytes};
 ghost use Rattle.qm_grammar.specs.Valid.{IsValidMap};
 ghost use Rattle.qm_statement.specs.DemoComesOf.{IsSummaryOfRooms};
-ghost use Rattle.qm_compile.specs.inner.MapSummary.{IsItsSummary, IsSummaryOfMap, IsWithoutLeak, LeaksNowhere};
+ghost use Rattle.qm_compile.specs.inner.MapSummary.{IsSummaryOfMap, LeaksNowhere};
 
 use qm_commands::Options;
 use qm_compiler::{Compiled, compile};
@@ -48,17 +48,8 @@ fn sum_up_map<R: Threads + Sync, G: Gate + Sync>(
         threads: 1,
         fast: false,
     };
-    let compiled = compile(rt, alloc, map, &options, gate)?;
-    summary_of(alloc, &compiled)
-}
-
-/// The summary of what a map compiled to without a leak.
-fn summary_of(alloc: Global, compiled: &Compiled) -> Result<String, AllocError>
-    requires { IsWithoutLeak compiled.now }
-    ensures { IfOk result (λ text. IsItsSummary compiled.now (string_bytes text)) }
-{
-    match compiled {
-        Compiled::Done { summary, .. } => summary_text(alloc, summary),
+    match compile(rt, alloc, map, &options, gate)? {
+        Compiled::Done { summary, .. } => summary_text(alloc, &summary),
         Compiled::Leak { .. } => unreachable!(),
     }
 }

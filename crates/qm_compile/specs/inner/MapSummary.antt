@@ -9,8 +9,6 @@ use Rattle.qm_statement.specs.Built.{IsBuilt}
 use Rattle.qm_statement.specs.CompiledMap.{NoneLeaks, IsCompiledWithoutLeak}
 use Rattle.qm_statement.specs.DemoComesOf.{one_worker}
 use Rattle.qm_statement.specs.Summary.{summary_text}
-use Rattle.qm_compiler.specs.declared.compiled.Compiled.{Compiled}
-use Rattle.qm_compiler.specs.declared.compiled.Compiled.TheVariants.{Done, Leak}
 
 -- The summary of a map in which no entity leaks.
 
@@ -25,13 +23,3 @@ pub record IsSummaryOfMap (map : MapFile) (text : List ℕ) : Type 0 where
   pub summary : Summary
   pub is_compiled : IsCompiledWithoutLeak map one_worker file world summary
   pub is_text : text ≡ summary_text summary
-
--- a map compiled to a tree in which no entity leaks
-abbrev pub IsWithoutLeak : Compiled → Type 0
-IsWithoutLeak (Done file world summary) = Unit {0}
-IsWithoutLeak (Leak file entity trail) = ⊥
-
--- the lines of its summary
-abbrev pub IsItsSummary : Compiled → List ℕ → Type 0
-IsItsSummary (Done file world summary) text = text ≡ summary_text summary
-IsItsSummary (Leak file entity trail) text = ⊥
