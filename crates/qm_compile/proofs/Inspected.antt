@@ -1,28 +1,50 @@
 -- What is reported of a tree file, or of bytes that are none, comes of asking it.
-use Rattle.std.proofs.Common.{◌≡◌, ℕ, List, sym, subst}
+use Rattle.std.proofs.Common.{◌≡◌, ℕ, List, Result, Ok, Err, sym, subst}
+use Rattle.std.specs.Prelude.{IfOk, string_bytes}
 use Rattle.qm_surroundings.specs.ShelfState.{ShelfState}
 use Rattle.qm_formats.specs.TreeFile.{TreeFile}
 use Rattle.qm_commands.specs.declared.query.Query.{Query}
+use Rattle.qm_commands.specs.Order.{of_tree}
 use Rattle.qm_statement.specs.declared.status.Status.{Status}
 use Rattle.qm_statement.specs.declared.status.Status.TheVariants.{TreeFault, QueryRefused}
 use Rattle.qm_statement.specs.RefusalText.{refusal_text}
 use Rattle.qm_answers.specs.declared.query_fault.QueryFault.{QueryFault}
 use Rattle.qm_answers.specs.AllAnswers.{IsFirstRefused}
-use Rattle.qm_statement.specs.InspectComesOf.{InspectComesOf, no_tree_file, answered}
+use Rattle.qm_statement.specs.InspectComesOf.{InspectComesOf, unread, no_tree_file, answered}
 use Rattle.qm_statement.specs.InspectComesOf as comes
 use Rattle.qm_statement.specs.TreeMeans.{TreeMeans}
 use Rattle.qm_statement.specs.Untouched.{IsUntouched}
+use Rattle.qm_compile.specs.declared.report.Report.{Report}
+use Rattle.qm_compile.specs.declared.tree_reading.NoTree.{NoTree}
+use Rattle.qm_compile.specs.declared.tree_reading.NoTree.TheVariants.{Fault, Unread, Memory}
+use Rattle.qm_compile.specs.inner.CarriedOut.{IsCarriedOut}
 use Rattle.qm_compile.specs.inner.FileReport.{IsFileReport, refusal, all_lines}
-use Rattle.qm_compile.specs.inner.TreeRead.{IsFileIn, IsFaultIn}
+use Rattle.qm_compile.specs.inner.Reported.{reported_status, reported_text}
+use Rattle.qm_compile.specs.inner.TreeRead.{IsFileIn, IsFaultIn, IsReportOf, IsTreeRead}
 
-module _ (before after : ShelfState) (tree_name : List ℕ) (queries : List Query) (untouched : IsUntouched before after) where
-  pub inspected : (file : TreeFile) → IsFileIn (TreeMeans before tree_name) file → (status : Status) (text : List ℕ) → IsFileReport file queries status text → InspectComesOf before after tree_name queries status text
-  inspected file is status text (refusal first) = comes.refused is.is_given first untouched
-  inspected file is status text (all_lines are) = answered is.is_given are untouched
+module _ (before after : ShelfState) (tree_name : List ℕ) (queries : List Query) where
+  reported : IsUntouched before after → (file : TreeFile) → IsFileIn (TreeMeans before tree_name) file → (status : Status) (text : List ℕ) → IsFileReport file queries status text → InspectComesOf before after tree_name queries status text
+  reported untouched file is status text (refusal first) = comes.refused is.is_given first untouched
+  reported untouched file is status text (all_lines are) = answered is.is_given are untouched
 
-  pub faulty : (line : List ℕ) → IsFaultIn (TreeMeans before tree_name) line → InspectComesOf before after tree_name queries TreeFault line
-  faulty line is =
+  faulty : IsUntouched before after → (line : List ℕ) → IsFaultIn (TreeMeans before tree_name) line → InspectComesOf before after tree_name queries TreeFault line
+  faulty untouched line is =
       subst (λ (text : List ℕ). InspectComesOf before after tree_name queries TreeFault text) (sym is.is_line) (no_tree_file is.is_given untouched)
+
+  module _ {E : Type 0} where
+    -- a tree file was read, and asked
+    pub asked : (file : TreeFile) → IsTreeRead before after tree_name (Ok file) → (answer : Result Report E) → IfOk answer (λ report. IsFileReport file queries (reported_status report) (reported_text report)) → IsCarriedOut before after (of_tree tree_name queries) answer
+    asked file is (Ok report) told = record { due = reported is.1 file is.0 (reported_status report) (reported_text report) told; memory = tt }
+    asked file is (Err fault) told = record { due = tt; memory = is.1 }
+
+    -- none was read
+    pub unasked : (none : NoTree) → IsTreeRead before after tree_name (Err none) → (answer : Result Report E) → IsReportOf none answer → IsCarriedOut before after (of_tree tree_name queries) answer
+    unasked (Fault line) is answer said =
+        subst (λ (a : Result Report E). IsCarriedOut before after (of_tree tree_name queries) a) (sym said) (record { due = faulty is.1 (string_bytes line) is.0; memory = tt })
+    unasked Unread is answer said =
+        subst (λ (a : Result Report E). IsCarriedOut before after (of_tree tree_name queries) a) (sym said) (record { due = unread is.0 is.1; memory = tt })
+    unasked Memory is (Ok report) never = absurd never
+    unasked Memory is (Err fault) said = record { due = tt; memory = is }
 
 -- a query was refused
 pub refused : (file : TreeFile) (queries : List Query) (status : Status) (text : List ℕ) (number : ℕ) (fault : QueryFault) → IsFirstRefused file 1 queries number fault → status ≡ QueryRefused → text ≡ refusal_text number fault → IsFileReport file queries status text

@@ -1,4 +1,5 @@
 pub mod CutFiles
+pub mod FaultLines
 pub mod Inspected
 pub mod Orders
 pub mod Reported

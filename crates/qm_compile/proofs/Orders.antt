@@ -1,19 +1,18 @@
--- Orders that are those of some words.
-use Rattle.std.proofs.Common.{◌≡◌, ◌≤◌, ℕ, List, Option, Some, None, Result, Ok, Err, refl, sym, subst, ◌∙◌, arith}
-use Rattle.std.specs.Prelude.{OnErr}
+-- Orders that are those of some words, and what comes of them.
+use Rattle.std.proofs.Common.{◌≤◌, ℕ, List, Option, Some, None, Result, Ok, Err, refl, inl, inr, arith}
 use Rattle.qm_surroundings.specs.ShelfState.{ShelfState}
 use Rattle.qm_commands.specs.declared.map_command.MapCommand.{MapCommand}
 use Rattle.qm_commands.specs.declared.map_command.MapCommand.TheVariants.{Compile, Format}
 use Rattle.qm_commands.specs.FileNames.{FileNames, AreDifferent}
 use Rattle.qm_commands.specs.Options.{AreThreads}
-use Rattle.qm_commands.specs.Order.{Order, of_map, of_rooms}
+use Rattle.qm_commands.specs.Order.{Order, of_map}
 use Rattle.qm_commands.specs.Words.{AreWordsOf, AreNoCommand}
-use Rattle.qm_statement.specs.declared.status.Status.{Status}
-use Rattle.qm_statement.specs.declared.status.Status.TheVariants.{Done}
-use Rattle.qm_statement.specs.DemoComesOf.{IsSummaryOfRooms, DemoComesOf, summed_up}
+use Rattle.qm_statement.specs.Run.{usage, command}
 use Rattle.qm_statement.specs.Untouched.{IsUntouched}
 use Rattle.qm_make.specs.Workers.{HasWorkers}
-use Rattle.qm_compile.specs.inner.OneOrder.{IsOfWords, AreOneOrder}
+use Rattle.qm_compile.specs.declared.report.Report.{Report}
+use Rattle.qm_compile.specs.declared.report.Report.TheVariants.{Usage}
+use Rattle.qm_compile.specs.inner.CarriedOut.{IsOfWords, IsCarriedOut, AreCarriedOut}
 
 -- the names of a command that reads a map are different
 pub different_of : (command : MapCommand) (files : FileNames) → IsOfWords (of_map command files) → AreDifferent files
@@ -29,30 +28,20 @@ pub workers_of : (command : MapCommand) (files : FileNames) → IsOfWords (of_ma
 workers_of (Compile options listed) files is = some_workers is.1.asked.threads options.threads is.1.are_threads
 workers_of Format files is = tt
 
--- how many rooms are asked for
-pub some_rooms : (rooms number : ℕ) → IsOfWords (of_rooms rooms number) → 1 ≤ rooms
-some_rooms rooms number is = is.1.some
-
-pub few_rooms : (rooms number : ℕ) → IsOfWords (of_rooms rooms number) → rooms ≤ 64
-few_rooms rooms number is = is.1.few
-
--- all orders of words are the one that was read
-pub one_order : (words : List (List ℕ)) (order : Order) → ((other : Order) → AreWordsOf other words → other ≡ order) → AreOneOrder words
-one_order words order only first second is its = only first is ∙ sym (only second its)
-
--- words that are no command are no order
-pub no_order : (words : List (List ℕ)) → AreNoCommand words → AreOneOrder words
-no_order words none first second is its = absurd (none first is)
-
 -- ---- a shelf that nothing touches
 
-untouched : (shelf : ShelfState) → IsUntouched shelf shelf
+pub untouched : (shelf : ShelfState) → IsUntouched shelf shelf
 untouched shelf = record { kept = λ name. refl; no_fault = record { reads = λ name. refl; writes = λ name. refl } }
 
-pub untouched_on_err : {T E : Type 0} (shelf : ShelfState) (result : Result T E) → OnErr result (IsUntouched shelf shelf)
-untouched_on_err shelf (Ok done) = tt
-untouched_on_err shelf (Err fault) = untouched shelf
+-- words that are no command
+pub no_command : {E : Type 0} (words : List (List ℕ)) (shelf : ShelfState) → AreNoCommand words → AreCarriedOut {E = E} words shelf shelf (Ok Usage)
+no_command words shelf none = record { due = usage none (untouched shelf); memory = tt }
 
-pub rooms_summed_up : (shelf : ShelfState) (rooms number : ℕ) (status : Status) (text : List ℕ) → status ≡ Done → IsSummaryOfRooms rooms number text → DemoComesOf shelf shelf rooms number status text
-rooms_summed_up shelf rooms number status text is summary =
-    subst (λ (s : Status). DemoComesOf shelf shelf rooms number s text) (sym is) (summed_up summary (untouched shelf))
+-- memory ran out while they were read
+pub unread_words : {E : Type 0} (words : List (List ℕ)) (shelf : ShelfState) (fault : E) → AreCarriedOut words shelf shelf (Err fault)
+unread_words words shelf fault = record { due = tt; memory = inl (untouched shelf) }
+
+-- the command that words are was carried out
+pub words_carried_out : {E : Type 0} (words : List (List ℕ)) (before after : ShelfState) (order : Order) → AreWordsOf order words → (answer : Result Report E) → IsCarriedOut before after order answer → AreCarriedOut words before after answer
+words_carried_out words before after order are (Ok report) is = record { due = command order are is.due; memory = tt }
+words_carried_out words before after order are (Err fault) is = record { due = tt; memory = inr (order, are, is.memory) }

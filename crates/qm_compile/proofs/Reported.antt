@@ -1,14 +1,18 @@
-use Rattle.std.proofs.Common.{◌≡◌, ℕ, List, sym, subst, inl, inr}
+use Rattle.std.proofs.Common.{◌≡◌, ◌⊎◌, ℕ, List, ap, sym, ◌∙◌, inl, inr}
+use Rattle.std.proofs.lemmas.List.{append-nil}
+use Rattle.qm_surroundings.specs.SinkState.{SinkState}
 use Rattle.qm_surroundings.specs.Surroundings.{Surroundings}
 use Rattle.qm_statement.specs.declared.status.Status.{Status}
 use Rattle.qm_statement.specs.declared.status.Status.TheVariants as status
-use Rattle.qm_statement.specs.Run.{Answers, EndsPrinted, EndsByPrintFault, EndsShortOfMemoryPrinting, EndsShortOfMemoryBefore}
+use Rattle.qm_statement.specs.Run.{Answers, Due, EndsPrinted, IsCommandStopped}
+use Rattle.qm_statement.specs.Untouched.{IsUntouched}
 use Rattle.qm_make.specs.declared.outcome.Outcome.{Outcome}
 use Rattle.qm_make.specs.declared.outcome.Outcome.TheVariants as outcomes
 use Rattle.qm_make.specs.StatusAndText.{due_status}
 use Rattle.qm_compile.specs.declared.report.Report.{Report}
 use Rattle.qm_compile.specs.declared.report.Report.TheVariants.{Usage, OfFiles, ReadFault, TreeFault, QueryRefused, Answered, SummedUp}
-use Rattle.qm_compile.specs.inner.Reported.{reported_status}
+use Rattle.qm_compile.specs.inner.Printed.{EndsWith, whole, failed, no_room}
+use Rattle.qm_compile.specs.inner.Reported.{reported_status, reported_text}
 
 -- The ways in which a run ends.
 
@@ -31,22 +35,14 @@ module _ (words : List (List ℕ)) (before after : Surroundings) where
   answers_due (Answered lines) reports = reports
   answers_due (SummedUp text) reports = reports
 
-  -- the text that was due was printed, so the status that was due is answered
-  pub answers_report : (report : Report) (answer : Status) → answer ≡ reported_status report → EndsPrinted words before after (reported_status report) → Answers words before after answer
-  answers_report report answer is reports =
-      subst (λ (s : Status). Answers words before after s) (sym is) (answers_due report reports)
-
-  -- printing failed, whatever was due
-  pub answers_failure : EndsByPrintFault words before after → Answers words before after status.WriteFault
+  -- a report that was due was printed, to its end or not
+  pub answers_printed : (report : Report) → Due words before.shelf after.shelf (reported_status report) (reported_text report) → (answer : Status) → EndsWith before.sink after.sink report answer → Answers words before after answer
   unfolding Answers
-  answers_failure fails = inr fails
+  answers_printed report due answer (whole printed) = answers_due report (reported_text report, due, printed)
+  answers_printed report due answer (failed fails part) = inr (fails, (reported_status report, reported_text report, due, part))
+  answers_printed report due answer (no_room unmet part) = inr (unmet, (reported_status report, reported_text report, due, part))
 
-  -- memory ran out while printing
-  pub answers_no_room : EndsShortOfMemoryPrinting words before after → Answers words before after status.Memory
+  -- memory ran out before, and nothing was printed
+  pub answers_run_out : IsUntouched before.shelf after.shelf ⊎ IsCommandStopped words before.shelf after.shelf → after.sink ≡ before.sink → Answers words before after status.Memory
   unfolding Answers
-  answers_no_room runs_out = inr runs_out
-
-  -- memory ran out before
-  pub answers_run_out : EndsShortOfMemoryBefore words before after → Answers words before after status.Memory
-  unfolding Answers
-  answers_run_out runs_out = inl runs_out
+  answers_run_out stopped same = inl (stopped, record { printed = λ tells. ap (λ (sink : SinkState). sink.printed) same ∙ sym (append-nil before.sink.printed); faults = ap (λ (sink : SinkState). sink.faults) same })

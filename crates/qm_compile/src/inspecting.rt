@@ -1,18 +1,18 @@
 //! From a tree file under a name to what it answers.
 
-ghost use Rattle.std.specs.Prelude.{◌≡◌, IfOk, OnErr};
+ghost use Rattle.std.specs.Prelude.{◌≡◌, IfOk};
 ghost use Rattle.qm_shelf.specs.SeenForms.{shelf_state};
+ghost use Rattle.qm_commands.specs.Order.{of_tree};
 ghost use Rattle.qm_formats.specs.TreeFile.{IsValidFile};
 ghost use Rattle.qm_statement.specs.declared.status.Status.TheVariants.{QueryRefused};
 ghost use Rattle.qm_statement.specs.RefusalText.{refusal_text};
-ghost use Rattle.qm_statement.specs.InspectComesOf.{InspectComesOf};
-ghost use Rattle.qm_statement.specs.Untouched.{IsUntouched};
+ghost use Rattle.qm_compile.specs.inner.CarriedOut.{IsCarriedOut};
 ghost use Rattle.qm_compile.specs.inner.FileReport.{IsFileReport};
 ghost use Rattle.qm_compile.specs.inner.Reported.{reported_status, reported_text};
 
 use crate::refusal_line::refusal_line;
 use crate::report::Report;
-use crate::tree_reading::{TreeRead, read_tree};
+use crate::tree_reading::{read_tree, report_of};
 use qm_answers::QueryFault;
 use qm_commands::Query;
 use qm_file::TreeFile;
@@ -27,14 +27,11 @@ pub fn inspect<H: Shelf>(
     tree_name: &str,
     queries: &[Query],
 ) -> Result<Report, AllocError>
-    ensures due { IfOk result (λ report. InspectComesOf (shelf_state H.Shelf shelf.old) (shelf_state H.Shelf shelf.new) tree_name.now queries.now
-        (reported_status report) (reported_text report)) }
-    ensures memory { OnErr result (IsUntouched (shelf_state H.Shelf shelf.old) (shelf_state H.Shelf shelf.new)) }
+    ensures { IsCarriedOut (shelf_state H.Shelf shelf.old) (shelf_state H.Shelf shelf.new) (of_tree tree_name.now queries.now) result }
 {
-    match read_tree(alloc, shelf, tree_name)? {
-        TreeRead::File(file) => ask(alloc, &file, queries),
-        TreeRead::Fault(line) => Ok(Report::TreeFault(line)),
-        TreeRead::Unread => Ok(Report::ReadFault),
+    match read_tree(alloc, shelf, tree_name) {
+        Ok(file) => ask(alloc, &file, queries),
+        Err(none) => report_of(none),
     }
 }
 
@@ -43,9 +40,10 @@ fn ask(alloc: Global, file: &TreeFile, queries: &[Query]) -> Result<Report, Allo
     requires { IsValidFile file.now }
     ensures { IfOk result (λ report. IsFileReport file.now queries.now (reported_status report) (reported_text report)) }
 {
-    match tell(alloc, file, queries)? {
-        Told::Lines(lines) => Ok(Report::Answered(lines)),
-        Told::Refused { number, fault } => refused(alloc, number, fault),
+    match tell(alloc, file, queries) {
+        Ok(Told::Lines(lines)) => Ok(Report::Answered(lines)),
+        Ok(Told::Refused { number, fault }) => refused(alloc, number, fault),
+        Err(_) => Err(AllocError),
     }
 }
 

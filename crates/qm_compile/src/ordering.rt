@@ -1,17 +1,12 @@
 //! Carrying out what words ask for.
 
-ghost use Rattle.std.specs.Prelude.{◌≡◌, ◌≤◌, IfOk, OnErr};
+ghost use Rattle.std.specs.Prelude.{◌≤◌};
 ghost use Rattle.qm_shelf.specs.SeenForms.{shelf_state};
-ghost use Rattle.qm_commands.specs.FileNames.{AreDifferent};
+ghost use Rattle.qm_surroundings.specs.ShelfState.{ShelfState};
+ghost use Rattle.qm_commands.specs.Order.{of_map, of_rooms};
 ghost use Rattle.qm_words.specs.SeenWords.{order_of};
-ghost use Rattle.qm_statement.specs.Run.{OrderComesOf, IsStopped};
-ghost use Rattle.qm_statement.specs.ComesOf.{ComesOf, IsCutShort};
-ghost use Rattle.qm_statement.specs.DemoComesOf.{IsSummaryOfRooms};
-ghost use Rattle.qm_statement.specs.declared.status.Status.TheVariants.{Done};
 ghost use Rattle.qm_make.specs.SeenFiles.{file_names};
-ghost use Rattle.qm_make.specs.Workers.{HasWorkers};
-ghost use Rattle.qm_compile.specs.inner.OneOrder.{IsOfWords};
-ghost use Rattle.qm_compile.specs.inner.Reported.{reported_status, reported_text};
+ghost use Rattle.qm_compile.specs.inner.CarriedOut.{IsCarriedOut, IsOfWords};
 
 use crate::generating::sum_up_rooms;
 use crate::inspecting::inspect;
@@ -34,9 +29,7 @@ pub fn carry_out_order<R: Threads + Sync, H: Shelf, G: Gate + Sync>(
     gate: &G,
 ) -> Result<Report, AllocError>
     requires of_words { IsOfWords (order_of order) }
-    ensures due { IfOk result (λ report. OrderComesOf (shelf_state H.Shelf shelf.old) (shelf_state H.Shelf shelf.new) (order_of order.entry)
-        (reported_status report) (reported_text report)) }
-    ensures memory { OnErr result (IsStopped (order_of order.entry) (shelf_state H.Shelf shelf.old) (shelf_state H.Shelf shelf.new)) }
+    ensures { IsCarriedOut (shelf_state H.Shelf shelf.old) (shelf_state H.Shelf shelf.new) (order_of order.entry) result }
 {
     match order {
         Order::Compile {
@@ -80,17 +73,16 @@ fn carry_out_on_files<R: Threads + Sync, H: Shelf, G: Gate + Sync>(
     files: &Files<'_>,
     gate: &G,
 ) -> Result<Report, AllocError>
-    requires different { AreDifferent (file_names files.now) }
-    requires workers { HasWorkers command }
-    ensures due { IfOk result (λ report. ComesOf (shelf_state H.Shelf shelf.old) (shelf_state H.Shelf shelf.new) command (file_names files.now)
-        (reported_status report) (reported_text report)) }
-    ensures memory { OnErr result (IsCutShort (shelf_state H.Shelf shelf.old) (shelf_state H.Shelf shelf.new) command (file_names files.now)) }
+    requires of_words { IsOfWords (of_map command (file_names files.now)) }
+    ensures { IsCarriedOut (shelf_state H.Shelf shelf.old) (shelf_state H.Shelf shelf.new) (of_map command (file_names files.now)) result }
 {
-    let outcome = carry_out_command(rt, alloc, shelf, command, files, gate)?;
-    Ok(Report::OfFiles(outcome))
+    match carry_out_command(rt, alloc, shelf, command, files, gate) {
+        Ok(outcome) => Ok(Report::OfFiles(outcome)),
+        Err(_) => Err(AllocError),
+    }
 }
 
-/// Sums up a generated map of so many rooms.
+/// Sums up a generated map of so many rooms. No shelf is touched.
 fn sum_up<R: Threads + Sync, G: Gate + Sync>(
     rt: &R,
     alloc: Global,
@@ -100,8 +92,10 @@ fn sum_up<R: Threads + Sync, G: Gate + Sync>(
 ) -> Result<Report, AllocError>
     requires some { 1 ≤ rooms }
     requires few { rooms ≤ 64 }
-    ensures { IfOk result (λ report. (reported_status report ≡ Done) × IsSummaryOfRooms rooms number (reported_text report)) }
+    ensures { (shelf : ShelfState) → IsCarriedOut shelf shelf (of_rooms rooms number) result }
 {
-    let text = sum_up_rooms(rt, alloc, rooms, number, gate)?;
-    Ok(Report::SummedUp(text))
+    match sum_up_rooms(rt, alloc, rooms, number, gate) {
+        Ok(text) => Ok(Report::SummedUp(text)),
+        Err(_) => Err(AllocError),
+    }
 }

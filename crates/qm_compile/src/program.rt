@@ -1,15 +1,13 @@
 //! All that the program does.
 
-ghost use Rattle.std.specs.Prelude.{◌⊎◌, IfOk, OnErr};
-ghost use Rattle.qm_shelf.specs.SeenForms.{surroundings, shelf_state};
+ghost use Rattle.qm_shelf.specs.SeenForms.{surroundings, shelf_state, sink_state};
 ghost use Rattle.qm_words.specs.SeenWords.{bytes_of_words};
 ghost use Rattle.qm_statement.specs.Complete.{IsComplete};
 ghost use Rattle.qm_statement.specs.OwnFiles.{ChangesOwnFilesAlone};
-ghost use Rattle.qm_statement.specs.Run.{Answers, Due, IsCommandStopped};
+ghost use Rattle.qm_statement.specs.Run.{Answers};
 ghost use Rattle.qm_statement.specs.TornFiles.{NoneIsTorn};
-ghost use Rattle.qm_statement.specs.Untouched.{IsUntouched};
-ghost use Rattle.qm_compile.specs.inner.OneOrder.{AreOneOrder};
-ghost use Rattle.qm_compile.specs.inner.Reported.{reported_status, reported_text};
+ghost use Rattle.qm_compile.specs.inner.CarriedOut.{AreCarriedOut};
+ghost use Rattle.qm_compile.specs.inner.Printed.{EndsWith};
 
 use crate::ordering::carry_out_order;
 use crate::report::Report;
@@ -35,9 +33,16 @@ pub fn run<R: Threads + Sync, H: Shelf, S: Sink, G: Gate + Sync>(
     ensures own_files_alone { ChangesOwnFilesAlone (bytes_of_words words.now) (shelf_state H.Shelf shelf.old) (shelf_state H.Shelf shelf.new) result }
     ensures none_is_torn { NoneIsTorn (bytes_of_words words.now) (shelf_state H.Shelf shelf.old) (shelf_state H.Shelf shelf.new) }
 {
-    let Ok(report) = carry_out(rt, alloc, words, shelf, gate) else {
-        return Status::Memory;
-    };
+    match carry_out(rt, alloc, words, shelf, gate) {
+        Ok(report) => print(out, &report),
+        Err(_) => Status::Memory,
+    }
+}
+
+/// Prints what came of the words, and says with which status the run ends.
+fn print<S: Sink>(out: &mut S, report: &Report) -> Status
+    ensures { EndsWith (sink_state S.Sink out.old) (sink_state S.Sink out.new) report.now result }
+{
     match out.write(report.text()) {
         Ok(()) => report.status(),
         Err(SinkFault::Failed) => Status::WriteFault,
@@ -53,11 +58,7 @@ fn carry_out<R: Threads + Sync, H: Shelf, G: Gate + Sync>(
     shelf: &mut H,
     gate: &G,
 ) -> Result<Report, AllocError>
-    ensures due { IfOk result (λ report. Due (bytes_of_words words.now) (shelf_state H.Shelf shelf.old) (shelf_state H.Shelf shelf.new)
-        (reported_status report) (reported_text report)) }
-    ensures one { IfOk result (λ _. AreOneOrder (bytes_of_words words.now)) }
-    ensures memory { OnErr result (IsUntouched (shelf_state H.Shelf shelf.old) (shelf_state H.Shelf shelf.new)
-        ⊎ IsCommandStopped (bytes_of_words words.now) (shelf_state H.Shelf shelf.old) (shelf_state H.Shelf shelf.new)) }
+    ensures { AreCarriedOut (bytes_of_words words.now) (shelf_state H.Shelf shelf.old) (shelf_state H.Shelf shelf.new) result }
 {
     match read(alloc, words) {
         Ok(order) => carry_out_order(rt, alloc, shelf, order, gate),

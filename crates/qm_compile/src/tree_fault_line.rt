@@ -1,10 +1,9 @@
 //! How the fault of a tree file is printed.
 
-ghost use Rattle.std.specs.Prelude.{◌≡◌, ◌≢◌, ◌++◌, IfOk, codes, string_bytes};
+ghost use Rattle.std.specs.Prelude.{◌≡◌, ◌++◌, IfOk, codes, string_bytes};
 ghost use Rattle.std.specs.Fmt.{decimal};
-ghost use Rattle.qm_file.specs.declared.file_fault.FileFault.TheVariants.{Memory};
 ghost use Rattle.qm_statement.specs.Texts.{line};
-ghost use Rattle.qm_compile.specs.inner.FaultLine.{line_of_file_fault};
+ghost use Rattle.qm_compile.specs.inner.FaultLine.{IsTreeFaultLine};
 
 use qm_file::FileFault;
 use std::alloc::{AllocError, Global};
@@ -12,7 +11,7 @@ use std::alloc::{AllocError, Global};
 /// The line that is printed of a fault: its number, its place, and what it is. Want of memory is no fault of bytes.
 #[tactic(auto, unfolding(qm_statement::specs::TreeFaultText::tree_fault_text))]
 pub fn tree_fault_line(alloc: Global, fault: FileFault) -> Result<String, AllocError>
-    ensures { IfOk result (λ text. (fault ≢ Memory) × (string_bytes text ≡ line_of_file_fault fault)) }
+    ensures { IfOk result (λ text. IsTreeFaultLine fault (string_bytes text)) }
 {
     match fault {
         FileFault::Short { offset } => fault_line(alloc, 1, offset, "short"),

@@ -1,10 +1,9 @@
 //! From a name to the tree file under it.
 
-ghost use Rattle.std.specs.Prelude.{IfOk, OnErr};
 ghost use Rattle.qm_shelf.specs.SeenForms.{shelf_state};
-ghost use Rattle.qm_statement.specs.Untouched.{IsUntouched};
-ghost use Rattle.qm_compile.specs.inner.TreeRead.{IsTreeRead, IsReadFault, IsReadOfBytes};
+ghost use Rattle.qm_compile.specs.inner.TreeRead.{IsNoTreeOf, IsReadOfBytes, IsReportOf, IsTreeRead};
 
+use crate::report::Report;
 use crate::tree_fault_line::tree_fault_line;
 use qm_file::{FileFault, TreeFile, decode};
 use qm_shelf::{Shelf, ShelfFault, read_whole};
@@ -13,15 +12,14 @@ use std::alloc::{AllocError, Global};
 /// The most bytes of a tree file that is read.
 const FILE_LIMIT: usize = 1 << 30;
 
-/// What was read under a name.
+/// Why no tree file was read under a name.
 #[derive(Drop)]
-pub enum TreeRead {
-    /// The bytes are this tree file.
-    File(TreeFile),
-    /// They are no tree file; the text is the line that says why.
+pub enum NoTree {
+    /// The bytes are none; the text is the line that says why.
     Fault(String),
     /// They could not be read.
     Unread,
+    Memory,
 }
 
 /// Reads the tree file under a name.
@@ -29,33 +27,43 @@ pub fn read_tree<H: Shelf>(
     alloc: Global,
     shelf: &mut H,
     tree_name: &str,
-) -> Result<TreeRead, AllocError>
-    ensures found { IfOk result (λ found. IsTreeRead (shelf_state H.Shelf shelf.old) (shelf_state H.Shelf shelf.new) tree_name.now found) }
-    ensures memory { OnErr result (IsUntouched (shelf_state H.Shelf shelf.old) (shelf_state H.Shelf shelf.new)) }
+) -> Result<TreeFile, NoTree>
+    ensures { IsTreeRead (shelf_state H.Shelf shelf.old) (shelf_state H.Shelf shelf.new) tree_name.now result }
 {
     match read_whole(alloc, shelf, tree_name, FILE_LIMIT) {
         Ok(bytes) => read_bytes(alloc, bytes),
-        Err(ShelfFault::Failed) => Ok(TreeRead::Unread),
-        Err(ShelfFault::Memory) => Err(AllocError),
+        Err(ShelfFault::Failed) => Err(NoTree::Unread),
+        Err(ShelfFault::Memory) => Err(NoTree::Memory),
     }
 }
 
 /// The tree file that bytes are. They are let go of.
-fn read_bytes(alloc: Global, bytes: Vec<u8>) -> Result<TreeRead, AllocError>
-    ensures { IfOk result (λ found. IsReadOfBytes bytes.items found) }
+fn read_bytes(alloc: Global, bytes: Vec<u8>) -> Result<TreeFile, NoTree>
+    ensures { IsReadOfBytes bytes.items result }
 {
-    let decoded = decode(alloc, &bytes);
-    drop(bytes);
-    match decoded {
-        Ok(file) => Ok(TreeRead::File(file)),
-        Err(fault) => tree_fault(alloc, fault),
+    match decode(alloc, &bytes) {
+        Ok(file) => Ok(file),
+        Err(fault) => Err(no_tree(alloc, fault)),
     }
 }
 
-/// The fault of bytes that are no tree file.
-fn tree_fault(alloc: Global, fault: FileFault) -> Result<TreeRead, AllocError>
-    ensures { IfOk result (λ found. IsReadFault fault found) }
+/// Bytes that are no tree file, of which this is the fault.
+fn no_tree(alloc: Global, fault: FileFault) -> NoTree
+    ensures { IsNoTreeOf fault result }
 {
-    let line = tree_fault_line(alloc, fault)?;
-    Ok(TreeRead::Fault(line))
+    match tree_fault_line(alloc, fault) {
+        Ok(line) => NoTree::Fault(line),
+        Err(_) => NoTree::Memory,
+    }
+}
+
+/// What is reported where no tree file was read.
+pub fn report_of(none: NoTree) -> Result<Report, AllocError>
+    ensures { IsReportOf none result }
+{
+    match none {
+        NoTree::Fault(line) => Ok(Report::TreeFault(line)),
+        NoTree::Unread => Ok(Report::ReadFault),
+        NoTree::Memory => Err(AllocError),
+    }
 }

@@ -1,14 +1,15 @@
 //! From a tree file under a name to the same file in version 2 under another.
 
-ghost use Rattle.std.specs.Prelude.{IfOk, OnErr};
 ghost use Rattle.qm_shelf.specs.SeenForms.{shelf_state};
-ghost use Rattle.qm_statement.specs.UpgradeComesOf.{IsUpgradeCutShort, UpgradeComesOf};
+ghost use Rattle.qm_commands.specs.Order.{of_upgrade};
 ghost use Rattle.qm_formats.specs.TreeFile.{IsValidFile};
+ghost use Rattle.qm_make.specs.declared.outcome.Outcome.TheVariants.{Done};
+ghost use Rattle.qm_compile.specs.declared.report.Report.TheVariants.{OfFiles};
+ghost use Rattle.qm_compile.specs.inner.CarriedOut.{IsCarriedOut};
 ghost use Rattle.qm_compile.specs.inner.UpgradeEnds.{IsEnd, IsUpgradeWritten};
-ghost use Rattle.qm_compile.specs.inner.Reported.{reported_status, reported_text};
 
 use crate::report::Report;
-use crate::tree_reading::{TreeRead, read_tree};
+use crate::tree_reading::{read_tree, report_of};
 use qm_file::TreeFile;
 use qm_make::{Outcome, make_upgrade};
 use qm_shelf::{Shelf, ShelfFault, write_whole};
@@ -21,14 +22,11 @@ pub fn upgrade_tree<H: Shelf>(
     tree_name: &str,
     out_name: &str,
 ) -> Result<Report, AllocError>
-    ensures due { IfOk result (λ report. UpgradeComesOf (shelf_state H.Shelf shelf.old) (shelf_state H.Shelf shelf.new) tree_name.now out_name.now
-        (reported_status report) (reported_text report)) }
-    ensures memory { OnErr result (IsUpgradeCutShort (shelf_state H.Shelf shelf.old) (shelf_state H.Shelf shelf.new) tree_name.now out_name.now) }
+    ensures { IsCarriedOut (shelf_state H.Shelf shelf.old) (shelf_state H.Shelf shelf.new) (of_upgrade tree_name.now out_name.now) result }
 {
-    match read_tree(alloc, shelf, tree_name)? {
-        TreeRead::File(file) => write_upgrade(alloc, shelf, file, out_name),
-        TreeRead::Fault(line) => Ok(Report::TreeFault(line)),
-        TreeRead::Unread => Ok(Report::ReadFault),
+    match read_tree(alloc, shelf, tree_name) {
+        Ok(file) => write_upgrade(alloc, shelf, file, out_name),
+        Err(none) => report_of(none),
     }
 }
 
@@ -44,15 +42,15 @@ fn write_upgrade<H: Shelf>(
 {
     let upgrade = make_upgrade(alloc, file)?;
     let written = write_whole(shelf, out_name, &upgrade.bytes);
-    ended(written, Report::OfFiles(Outcome::Done(upgrade.line)))
+    ended(written, upgrade.line)
 }
 
-/// What is reported where writing ended so and this was due once all is written.
-fn ended(written: Result<(), ShelfFault>, due: Report) -> Result<Report, AllocError>
-    ensures { IsEnd written due result }
+/// What is reported where writing ended so: this line, once all is written.
+fn ended(written: Result<(), ShelfFault>, line: String) -> Result<Report, AllocError>
+    ensures { IsEnd written (OfFiles (Done line)) result }
 {
     match written {
-        Ok(()) => Ok(due),
+        Ok(()) => Ok(Report::OfFiles(Outcome::Done(line))),
         Err(ShelfFault::Failed) => Ok(Report::OfFiles(Outcome::WriteFault)),
         Err(ShelfFault::Memory) => Err(AllocError),
     }

@@ -24,7 +24,7 @@ use Rattle.qm_surroundings.specs.HeldFile.{bytes_of_file}
 use Rattle.qm_surroundings.specs.ShelfState.{ShelfState, text_under}
 use Rattle.qm_surroundings.specs.ShelfChanges.{IsKept, MetNoFault}
 use Rattle.qm_statement.specs.TextMeans.{TextMeans}
-use Rattle.qm_make.specs.inner.Reading.{IsToldMeaning, HasRead, HasReadEnough, to_its_end, to_a_fault, IsFed, IsFedPiece}
+use Rattle.qm_make.specs.inner.Reading.{IsToldMeaning, HasRead, HasReadEnough, to_its_end, to_a_fault, IsFed, IsFedPiece, IsFinished, IsReading}
 use Rattle.qm_make.proofs.ReadMeanings.{text_means}
 
 module _ (tells : Bool) (whole : List ℕ) where
@@ -120,15 +120,25 @@ module _ (meaning : Result MapFile MapFault) where
   told_means before name (Ok told) is means = subst (λ (m : Result MapFile MapFault). TextMeans before name m) (sym is.0) (means is.1)
   told_means before name (Err found) is means = tt
 
-  pub told_valid : (before : ShelfState) (name : List ℕ) (answer : Result (Result MapFile MapFault) ShelfFault) → IfOk answer (λ m. TextMeans before name m) → IfOk answer (λ m. IfOk m IsValidMap)
-  told_valid before name (Ok told) means = meant_valid before name told means
-  told_valid before name (Err found) means = tt
+  pub told_err : (answer : Result (Result MapFile MapFault) ShelfFault) → IsToldMeaning meaning answer → IfErr answer (λ found. found ≡ Memory)
+  told_err (Ok told) is = tt
+  told_err (Err found) is = is
 
-  pub told_err : (before after : ShelfState) (name : List ℕ) (answer : Result (Result MapFile MapFault) ShelfFault) → IsToldMeaning meaning answer → MetNoFault before after → IfErr answer (λ found. ReadFaultMeans before after name found)
-  told_err before after name (Ok told) is none = tt
-  told_err before after name (Err found) is none = subst (λ (f : ShelfFault). ReadFaultMeans before after name f) (sym is) none
+-- ---- what was read is told, or a fault
 
--- what holds anyway holds where something is told
-pub told_ok : {T E P : Type 0} (answer : Result T E) → P → OnOk answer P
-told_ok (Ok told) p = p
-told_ok (Err fault) p = tt
+module _ {T : Type 0} (before : ShelfState) (name : List ℕ) (reader : Result ReadSoFar MapFault) where
+  pub finished_means : (fed : Result T ShelfFault) → OnOk fed (HasReadEnough before.tells (text_under before name) reader) → (answer : Result (Result MapFile MapFault) ShelfFault) → IsFinished reader fed answer → IfOk answer (λ meaning. TextMeans before name meaning)
+  finished_means (Ok _) enough answer is = (is before name enough).0
+  finished_means (Err fault) enough answer is =
+      subst (λ (a : Result (Result MapFile MapFault) ShelfFault). IfOk a (λ meaning. TextMeans before name meaning)) (sym is) tt
+
+module _ {T : Type 0} (before after : ShelfState) (name : List ℕ) (reader : Result ReadSoFar MapFault) where
+  pub finished_reading : (fed : Result T ShelfFault) → OnOk fed (HasReadEnough before.tells (text_under before name) reader) → IsReading before after name fed → (answer : Result (Result MapFile MapFault) ShelfFault) → IsFinished reader fed answer → IsReading before after name answer
+  finished_reading (Ok _) enough reading (Ok meaning) is = record { kept = reading.kept; ok = reading.ok; err = tt }
+  finished_reading (Ok _) enough reading (Err fault) is = record {
+    kept = reading.kept;
+    ok = tt;
+    err = subst (λ (f : ShelfFault). ReadFaultMeans before after name f) (sym (is before name enough).1) reading.ok;
+  }
+  finished_reading (Err fault) enough reading answer is =
+      subst (λ (a : Result (Result MapFile MapFault) ShelfFault). IsReading before after name a) (sym is) (record { kept = reading.kept; ok = tt; err = reading.err })

@@ -1,6 +1,6 @@
 -- Writing OUT and then FILE.
 use Rattle.std.proofs.Common.{◌≡◌, ℕ, List, Option, Some, None, Result, Ok, Err, sym, ◌∙◌, subst, ap, inl, inr}
-use Rattle.std.specs.Prelude.{IsTrue, OnOk, OnErr, IfErr}
+use Rattle.std.specs.Prelude.{IsTrue}
 use Rattle.qm_surroundings.specs.ShelfState.{ShelfState}
 use Rattle.qm_surroundings.specs.ShelfChanges.{IsKept, IsKeptElsewhere, MetNoFault}
 use Rattle.qm_shelf.specs.FaultMeans.{WriteFaultMeans}
@@ -10,7 +10,7 @@ use Rattle.qm_shelf.proofs.Counted.{no_fault_twice, write_fault_twice}
 use Rattle.qm_commands.specs.FileNames.{FileNames, AreDifferent}
 use Rattle.qm_statement.specs.Output.{Output}
 use Rattle.qm_statement.specs.Written.{AreOthersKept}
-use Rattle.qm_make.specs.inner.Writing.{IsFileWriting, IsListingWriting, IsWriting, IsAllWritten, StopsInOut, StopsInListing}
+use Rattle.qm_make.specs.inner.Writing.{IsListingWriting, IsWriting, IsAllWritten, StopsInOut, StopsInListing}
 
 -- what is kept beside OUT is kept beside all that is written
 kept_beside : (before after : ShelfState) (files : FileNames) (listing : Option (List ℕ)) → IsKeptElsewhere before after files.out_name → AreOthersKept before after files listing
@@ -95,11 +95,6 @@ module _ {T : Type 0} (before between after : ShelfState) (files : FileNames) (o
   listing_ends (Some name) asked None due (Ok done) (kept_then, none) = unlisted before between after files output kept holds no_fault kept_then none due
   listing_ends None asked listing due (Err fault) never = absurd never
   listing_ends (Some name) asked None due (Err fault) never = absurd never
-
--- a file was written, or not to its end
-pub file_ends : {T : Type 0} (before after : ShelfState) (name bytes : List ℕ) (result : Result T ShelfFault) → OnOk result (IsTrue before.tells → HoldsExactly after name bytes) → OnErr result (IsTrue before.tells → HoldsUnfinished before after name bytes) → IsKeptElsewhere before after name → OnOk result (MetNoFault before after) → IfErr result (WriteFaultMeans before after name) → IsFileWriting before after name bytes result
-file_ends before after name bytes (Ok done) whole part kept none means = (kept, whole, none)
-file_ends before after name bytes (Err fault) whole part kept none means = (kept, part, means)
 
 -- MAP was read before
 module _ (before between after : ShelfState) (files : FileNames) (output : Output) (tells_are : between.tells ≡ before.tells) (kept : IsKept before between) (no_fault : MetNoFault before between) where

@@ -1,6 +1,6 @@
 //! From a map to the bytes of its tree file and its listing, and what is printed of it.
 
-ghost use Rattle.std.specs.Prelude.{◌≡◌, ◌≤◌, IfOk};
+ghost use Rattle.std.specs.Prelude.{◌≡◌, ◌≤◌, IfOk, true};
 ghost use Rattle.qm_grammar.specs.Valid.{IsValidMap};
 ghost use Rattle.std.specs.Option.{option_map};
 ghost use Rattle.qm_commands.specs.declared.map_command.MapCommand.TheVariants.{Compile};
@@ -68,8 +68,7 @@ fn put_out_done(
 ) -> Result<Product, AllocError>
     ensures { IfOk result (λ product. IsDonePutOut listed file world summary.now (output_of product)) }
 {
-    let listing = listing_of(alloc, listed, &world)?;
-    drop(world);
+    let listing = listing_of(alloc, listed, world)?;
     put_out_listed(alloc, &file, listing, summary)
 }
 
@@ -109,13 +108,21 @@ fn put_out_leak(
     })
 }
 
-/// The text of a listing of a world, where one is asked for.
-fn listing_of(alloc: Global, listed: bool, world: &World) -> Result<Option<Vec<u8>>, AllocError>
-    ensures { IfOk result (λ listing. IsListed listed world.now (option_map (λ bytes. bytes.items) listing)) }
+/// The text of a listing of a world, where one is asked for. The world is let go of.
+fn listing_of(alloc: Global, listed: bool, world: World) -> Result<Option<Vec<u8>>, AllocError>
+    ensures { IfOk result (λ listing. IsListed listed world (option_map (λ bytes. bytes.items) listing)) }
 {
-    if !listed {
-        return Ok(None);
+    if listed {
+        print_world(alloc, &world)
+    } else {
+        Ok(None)
     }
+}
+
+/// The text of the listing of a world.
+fn print_world(alloc: Global, world: &World) -> Result<Option<Vec<u8>>, AllocError>
+    ensures { IfOk result (λ listing. IsListed true world.now (option_map (λ bytes. bytes.items) listing)) }
+{
     let mut bytes = Vec::new(alloc);
     print(alloc, world, &mut bytes)?;
     Ok(Some(bytes))

@@ -1,16 +1,13 @@
 //! From a text under a name to what it means, piece by piece.
 
-ghost use Rattle.std.specs.Prelude.{◌≡◌, ◌≤◌, [], IfOk, IfErr, OnOk, length};
+ghost use Rattle.std.specs.Prelude.{◌≡◌, ◌≤◌, [], IfOk, OnOk, length};
 ghost use Rattle.qm_shelf.specs.SeenForms.{shelf_state};
-ghost use Rattle.qm_shelf.specs.FaultMeans.{ReadFaultMeans};
 ghost use Rattle.qm_shelf.specs.declared.shelf.TheConstants.{PIECE};
-ghost use Rattle.qm_surroundings.specs.ShelfChanges.{IsKept, MetNoFault};
 ghost use Rattle.qm_surroundings.specs.ShelfState.{text_under};
 ghost use Rattle.qm_grammar.specs.Faults.{text_limit};
-ghost use Rattle.qm_grammar.specs.Valid.{IsValidMap};
 ghost use Rattle.qm_pieces.specs.ReadSoFar.{IsReaderOf};
 ghost use Rattle.qm_statement.specs.TextMeans.{TextMeans};
-ghost use Rattle.qm_make.specs.inner.Reading.{HasReadEnough, IsFed, IsFedPiece, IsToldMeaning};
+ghost use Rattle.qm_make.specs.inner.Reading.{HasReadEnough, IsFed, IsFedPiece, IsFinished, IsReading, IsToldMeaning};
 
 use qm_grammar::{MapFault, TEXT_LIMIT};
 use qm_mapfile::MapFile;
@@ -25,13 +22,18 @@ pub type Meaning = Result<MapFile, MapFault>;
 /// limit, and says what it means.
 pub fn read_map<H: Shelf>(alloc: Global, shelf: &mut H, name: &str) -> Result<Meaning, ShelfFault>
     ensures means { IfOk result (λ meaning. TextMeans (shelf_state H.Shelf shelf.old) name.now meaning) }
-    ensures valid { IfOk result (λ meaning. IfOk meaning IsValidMap) }
-    ensures kept { IsKept (shelf_state H.Shelf shelf.old) (shelf_state H.Shelf shelf.new) }
-    ensures ok { OnOk result (MetNoFault (shelf_state H.Shelf shelf.old) (shelf_state H.Shelf shelf.new)) }
-    ensures err { IfErr result (ReadFaultMeans (shelf_state H.Shelf shelf.old) (shelf_state H.Shelf shelf.new) name.now) }
+    ensures reading { IsReading (shelf_state H.Shelf shelf.old) (shelf_state H.Shelf shelf.new) name.now result }
 {
     let mut reader = MapReader::new(alloc);
-    match feed_text(alloc, shelf, name, &mut reader) {
+    let fed = feed_text(alloc, shelf, name, &mut reader);
+    finish(reader, fed)
+}
+
+/// What a text means that a reader was fed, unless feeding it met a fault.
+fn finish(reader: MapReader, fed: Result<(), ShelfFault>) -> Result<Meaning, ShelfFault>
+    ensures { IsFinished reader fed result }
+{
+    match fed {
         Ok(()) => told(reader.finish()),
         Err(fault) => Err(fault),
     }
@@ -46,9 +48,7 @@ fn feed_text<H: Shelf>(
 ) -> Result<(), ShelfFault>
     requires { IsReaderOf [] reader.old }
     ensures enough { OnOk result (HasReadEnough H.tells (text_under (shelf_state H.Shelf shelf.old) name.now) reader.new) }
-    ensures kept { IsKept (shelf_state H.Shelf shelf.old) (shelf_state H.Shelf shelf.new) }
-    ensures ok { OnOk result (MetNoFault (shelf_state H.Shelf shelf.old) (shelf_state H.Shelf shelf.new)) }
-    ensures err { IfErr result (ReadFaultMeans (shelf_state H.Shelf shelf.old) (shelf_state H.Shelf shelf.new) name.now) }
+    ensures reading { IsReading (shelf_state H.Shelf shelf.old) (shelf_state H.Shelf shelf.new) name.now result }
 {
     let mut piece = piece_buffer(alloc)?;
     feed_pieces(shelf, name, &mut piece, reader)
@@ -64,9 +64,7 @@ fn feed_pieces<H: Shelf>(
     requires fresh { IsReaderOf [] reader.old }
     requires room { length piece.old ≡ PIECE }
     ensures enough { OnOk result (HasReadEnough H.tells (text_under (shelf_state H.Shelf shelf.old) name.now) reader.new) }
-    ensures kept { IsKept (shelf_state H.Shelf shelf.old) (shelf_state H.Shelf shelf.new) }
-    ensures ok { OnOk result (MetNoFault (shelf_state H.Shelf shelf.old) (shelf_state H.Shelf shelf.new)) }
-    ensures err { IfErr result (ReadFaultMeans (shelf_state H.Shelf shelf.old) (shelf_state H.Shelf shelf.new) name.now) }
+    ensures reading { IsReading (shelf_state H.Shelf shelf.old) (shelf_state H.Shelf shelf.new) name.now result }
 {
     let mut done = 0;
     while done <= TEXT_LIMIT {
@@ -91,9 +89,7 @@ fn feed_piece<H: Shelf>(
     requires within { done ≤ text_limit }
     requires room { length piece.old ≡ PIECE }
     ensures fed { IfOk result (λ place. IsFed H.tells (text_under (shelf_state H.Shelf shelf.old) name.now) done reader.old place reader.new) }
-    ensures kept { IsKept (shelf_state H.Shelf shelf.old) (shelf_state H.Shelf shelf.new) }
-    ensures ok { OnOk result (MetNoFault (shelf_state H.Shelf shelf.old) (shelf_state H.Shelf shelf.new)) }
-    ensures err { IfErr result (ReadFaultMeans (shelf_state H.Shelf shelf.old) (shelf_state H.Shelf shelf.new) name.now) }
+    ensures reading { IsReading (shelf_state H.Shelf shelf.old) (shelf_state H.Shelf shelf.new) name.now result }
 {
     match read_piece(shelf, name, done, TEXT_LIMIT, piece) {
         Ok(0) => Ok(None),

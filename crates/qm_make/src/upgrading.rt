@@ -23,8 +23,9 @@ pub fn make_upgrade(alloc: Global, file: TreeFile) -> Result<Upgrade, AllocError
     ensures made { IfOk result (λ upgrade. IsUpgradeOf file upgrade.bytes.items) }
     ensures said { IfOk result (λ upgrade. string_bytes upgrade.line ≡ upgrade_text file.version) }
 {
-    let line = upgrade_line(alloc, file.version)?;
+    let version = file.version;
     let bytes = upgraded_bytes(alloc, file)?;
+    let line = upgrade_line(alloc, version)?;
     Ok(Upgrade { bytes, line })
 }
 

@@ -1,4 +1,4 @@
-use Rattle.std.specs.Prelude.{◌≡◌, ◌≢◌, ℕ, List, string_bytes}
+use Rattle.std.specs.Prelude.{◌≡◌, ℕ, List, Result, Ok, Err, OnOk, string_bytes}
 use Rattle.qm_surroundings.specs.ShelfState.{ShelfState}
 use Rattle.qm_surroundings.specs.ShelfChanges.{IsKept, FailedToRead}
 use Rattle.qm_formats.specs.FileLayout.{read_file}
@@ -6,13 +6,14 @@ use Rattle.qm_formats.specs.FileParts.{FileFaultKind}
 use Rattle.qm_formats.specs.Layout.{Decoded, got, bad}
 use Rattle.qm_formats.specs.TreeFile.{TreeFile, IsValidFile}
 use Rattle.qm_file.specs.declared.file_fault.FileFault.{FileFault}
-use Rattle.qm_file.specs.declared.file_fault.FileFault.TheVariants.{Memory}
 use Rattle.qm_statement.specs.TreeFaultText.{tree_fault_text}
 use Rattle.qm_statement.specs.TreeMeans.{TreeMeans}
 use Rattle.qm_statement.specs.Untouched.{IsUntouched}
-use Rattle.qm_compile.specs.declared.tree_reading.TreeRead.{TreeRead}
-use Rattle.qm_compile.specs.declared.tree_reading.TreeRead.TheVariants.{File, Fault, Unread}
-use Rattle.qm_compile.specs.inner.FaultLine.{line_of_file_fault}
+use Rattle.qm_compile.specs.declared.report.Report.{Report}
+use Rattle.qm_compile.specs.declared.report.Report.TheVariants as report
+use Rattle.qm_compile.specs.declared.tree_reading.NoTree.{NoTree}
+use Rattle.qm_compile.specs.declared.tree_reading.NoTree.TheVariants.{Fault, Unread, Memory}
+use Rattle.qm_compile.specs.inner.FaultLine.{IsTreeFaultLine}
 
 -- What is read under TREE.
 
@@ -29,20 +30,28 @@ pub record IsFaultIn (Gives : Decoded FileFaultKind TreeFile → Type 0) (line :
   pub is_given : Gives (bad kind place)
   pub is_line : line ≡ tree_fault_text kind place
 
--- a fault of decoding is told by its line; want of memory is none
-abbrev pub IsReadFault : FileFault → TreeRead → Type 0
-IsReadFault fault (File file) = ⊥
-IsReadFault fault (Fault line) = (fault ≢ Memory) × (string_bytes line ≡ line_of_file_fault fault)
-IsReadFault fault Unread = ⊥
+-- a fault of decoding is told by its line, unless memory ran out
+abbrev pub IsNoTreeOf : FileFault → NoTree → Type 0
+IsNoTreeOf fault (Fault line) = IsTreeFaultLine fault (string_bytes line)
+IsNoTreeOf fault Unread = ⊥
+IsNoTreeOf fault Memory = Unit {0}
 
 -- what is read in bytes
-abbrev pub IsReadOfBytes : List ℕ → TreeRead → Type 0
-IsReadOfBytes bytes (File file) = IsFileIn (λ meaning. read_file bytes ≡ meaning) file
-IsReadOfBytes bytes (Fault line) = IsFaultIn (λ meaning. read_file bytes ≡ meaning) (string_bytes line)
-IsReadOfBytes bytes Unread = ⊥
+abbrev pub IsReadOfBytes : List ℕ → Result TreeFile NoTree → Type 0
+IsReadOfBytes bytes (Ok file) = IsFileIn (λ meaning. read_file bytes ≡ meaning) file
+IsReadOfBytes bytes (Err (Fault line)) = IsFaultIn (λ meaning. read_file bytes ≡ meaning) (string_bytes line)
+IsReadOfBytes bytes (Err Unread) = ⊥
+IsReadOfBytes bytes (Err Memory) = Unit {0}
 
 -- what is read under a name, and that the shelf holds what it held
-abbrev pub IsTreeRead : ShelfState → ShelfState → List ℕ → TreeRead → Type 0
-IsTreeRead before after tree_name (File file) = IsFileIn (TreeMeans before tree_name) file × IsUntouched before after
-IsTreeRead before after tree_name (Fault line) = IsFaultIn (TreeMeans before tree_name) (string_bytes line) × IsUntouched before after
-IsTreeRead before after tree_name Unread = FailedToRead before after tree_name × IsKept before after
+abbrev pub IsTreeRead : ShelfState → ShelfState → List ℕ → Result TreeFile NoTree → Type 0
+IsTreeRead before after tree_name (Ok file) = IsFileIn (TreeMeans before tree_name) file × IsUntouched before after
+IsTreeRead before after tree_name (Err (Fault line)) = IsFaultIn (TreeMeans before tree_name) (string_bytes line) × IsUntouched before after
+IsTreeRead before after tree_name (Err Unread) = FailedToRead before after tree_name × IsKept before after
+IsTreeRead before after tree_name (Err Memory) = IsUntouched before after
+
+-- why no tree file was read is reported, unless memory ran out
+abbrev pub IsReportOf : {E : Type 0} → NoTree → Result Report E → Type 0
+IsReportOf (Fault line) answer = answer ≡ Ok (report.TreeFault line)
+IsReportOf Unread answer = answer ≡ Ok report.ReadFault
+IsReportOf Memory answer = OnOk answer ⊥

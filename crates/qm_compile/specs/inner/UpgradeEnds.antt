@@ -1,16 +1,14 @@
-use Rattle.std.specs.Prelude.{◌≡◌, ℕ, List, Result, Ok, Err, IfOk, OnOk, OnErr}
+use Rattle.std.specs.Prelude.{◌≡◌, ℕ, List, Result, Ok, Err, OnOk}
 use Rattle.qm_surroundings.specs.ShelfState.{ShelfState}
 use Rattle.qm_shelf.specs.declared.shelf.ShelfFault.{ShelfFault}
 use Rattle.qm_shelf.specs.declared.shelf.ShelfFault.TheVariants.{Failed, Memory}
+use Rattle.qm_commands.specs.Order.{of_upgrade}
 use Rattle.qm_formats.specs.TreeFile.{TreeFile}
-use Rattle.qm_statement.specs.TreeMeans.{TreeMeans}
-use Rattle.qm_statement.specs.Untouched.{IsUntouched}
-use Rattle.qm_statement.specs.UpgradeComesOf.{UpgradeComesOf, IsUpgradeCutShort}
 use Rattle.qm_make.specs.declared.outcome.Outcome.TheVariants as outcomes
 use Rattle.qm_compile.specs.declared.report.Report.{Report}
 use Rattle.qm_compile.specs.declared.report.Report.TheVariants.{OfFiles}
-use Rattle.qm_compile.specs.inner.Reported.{reported_status, reported_text}
-use Rattle.qm_compile.specs.inner.TreeRead.{IsFileIn}
+use Rattle.qm_compile.specs.inner.CarriedOut.{IsCarriedOut}
+use Rattle.qm_compile.specs.inner.TreeRead.{IsTreeRead}
 
 -- How upgrading a tree file ends.
 
@@ -20,13 +18,8 @@ IsEnd (Ok _) due answer = answer ≡ Ok due
 IsEnd (Err Failed) due answer = answer ≡ Ok (OfFiles outcomes.WriteFault)
 IsEnd (Err Memory) due answer = OnOk answer ⊥
 
--- what comes of upgrading, unless memory runs out
-pub record IsUpgraded {E : Type 0} (before after : ShelfState) (tree_name out_name : List ℕ) (answer : Result Report E) : Type 0 where
-  pub due : IfOk answer (λ report. UpgradeComesOf before after tree_name out_name (reported_status report) (reported_text report))
-  pub memory : OnErr answer (IsUpgradeCutShort before after tree_name out_name)
-
--- what comes of it once this file was read, and nothing was changed yet
+-- what comes of upgrading once this file was read, and nothing was changed yet
 abbrev pub IsUpgradeWritten : {E : Type 0} → ShelfState → ShelfState → TreeFile → List ℕ → Result Report E → Type 0
 IsUpgradeWritten between after file out_name answer =
-    (before : ShelfState) (tree_name : List ℕ) → between.tells ≡ before.tells → IsUntouched before between →
-    IsFileIn (TreeMeans before tree_name) file → IsUpgraded before after tree_name out_name answer
+    (before : ShelfState) (tree_name : List ℕ) → between.tells ≡ before.tells → IsTreeRead before between tree_name (Ok file) →
+    IsCarriedOut before after (of_upgrade tree_name out_name) answer

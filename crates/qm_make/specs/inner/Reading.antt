@@ -1,4 +1,8 @@
-use Rattle.std.specs.Prelude.{◌≡◌, ◌≢◌, ◌<◌, ◌≤◌, ◌+◌, ◌++◌, ℕ, Bool, IsTrue, List, Option, Some, None, Result, Ok, Err, take}
+use Rattle.std.specs.Prelude.{◌≡◌, ◌≢◌, ◌<◌, ◌≤◌, ◌+◌, ◌++◌, ℕ, Bool, IsTrue, List, Option, Some, None, Result, Ok, Err, IfOk, IfErr, OnOk, take}
+use Rattle.qm_statement.specs.TextMeans.{TextMeans}
+use Rattle.qm_surroundings.specs.ShelfState.{ShelfState, text_under}
+use Rattle.qm_surroundings.specs.ShelfChanges.{IsKept, MetNoFault}
+use Rattle.qm_shelf.specs.FaultMeans.{ReadFaultMeans}
 use Rattle.qm_lists.specs.Limit.{up_to_one_past}
 use Rattle.qm_mapfile.specs.declared.entity.MapFile.{MapFile}
 use Rattle.qm_grammar.specs.declared.fault.MapFault.{MapFault}
@@ -10,6 +14,12 @@ use Rattle.qm_shelf.specs.declared.shelf.ShelfFault.{ShelfFault}
 use Rattle.qm_shelf.specs.declared.shelf.ShelfFault.TheVariants.{Memory}
 
 -- How far a text was read that a shelf has under a name, of which the shelf may tell nothing.
+
+-- reading under a name changes nothing, and meets no fault but the one that is answered
+pub record IsReading {T : Type 0} (before after : ShelfState) (name : List ℕ) (answer : Result T ShelfFault) : Type 0 where
+  pub kept : IsKept before after
+  pub ok : OnOk answer (MetNoFault before after)
+  pub err : IfErr answer (ReadFaultMeans before after name)
 
 -- what a text means is told as it is, but for want of memory
 abbrev pub IsToldMeaning : Result MapFile MapFault → Result (Result MapFile MapFault) ShelfFault → Type 0
@@ -44,3 +54,11 @@ IsFedPiece old piece place None new = (found : MapFault) × (new ≡ Err found) 
 abbrev pub IsFed : Bool → List ℕ → ℕ → Result ReadSoFar MapFault → Option ℕ → Result ReadSoFar MapFault → Type 0
 IsFed tells whole done old (Some place) new = (done < place) × (place ≤ text_limit + 1) × (HasRead tells whole done old → HasRead tells whole place new)
 IsFed tells whole done old None new = HasRead tells whole done old → HasReadEnough tells whole new
+
+-- a reader that has read enough of the text under a name tells what it means, unless memory runs out; a fault that was met
+-- before is told as it is
+abbrev pub IsFinished : {T : Type 0} → Result ReadSoFar MapFault → Result T ShelfFault → Result (Result MapFile MapFault) ShelfFault → Type 0
+IsFinished reader (Ok _) answer =
+    (before : ShelfState) (name : List ℕ) → HasReadEnough before.tells (text_under before name) reader →
+    IfOk answer (λ meaning. TextMeans before name meaning) × IfErr answer (λ fault. fault ≡ Memory)
+IsFinished reader (Err fault) answer = answer ≡ Err fault

@@ -1,5 +1,4 @@
 use Rattle.std.proofs.Common.{◌≡◌, ℕ, List, length, subst}
-use Rattle.std.proofs.lemmas.Result.{IfOk-weaker}
 use Rattle.qm_formats.specs.Layout.{got}
 use Rattle.qm_formats.specs.FileLayout.{read_file}
 use Rattle.qm_file.specs.Answers.{IsFaultOfFile}
@@ -13,7 +12,8 @@ returns-in-Ok c = record {
   is_valid = c.in-Ok.ensures.found.0;
 }
 
-pub returns-in-Err : goal.returns-in-Err
-returns-in-Err c =
-    let is = subst (λ (bytes : List ℕ). IsFaultOfFile c.in-Err.fault (read_file bytes)) c.deref.ensures.value c.in-Err.ensures.exact in
-    IfOk-weaker c.tree_fault.result _ _ (λ found told. fault_told c.args.bytes.items c.in-Err.fault is found told) c.tree_fault.ensures
+pub returns : goal.returns
+returns c =
+    fault_told c.args.bytes.items c.in-Err.fault
+    (subst (λ (bytes : List ℕ). IsFaultOfFile c.in-Err.fault (read_file bytes)) c.deref.ensures.value c.in-Err.ensures.exact)
+    c.no_tree.result c.no_tree.ensures

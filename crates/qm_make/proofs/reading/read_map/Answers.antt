@@ -1,33 +1,12 @@
 use Rattle.qm_shelf.specs.SeenForms.{shelf_state}
-use Rattle.qm_make.proofs.ReadMaps.{enough_means, told_means, told_valid, told_ok, told_err}
+use Rattle.qm_make.proofs.ReadMaps.{finished_means, finished_reading}
 use Rattle.qm_make.proofs.reading.read_map.Goals as goal
 
-pub returns-in-Ok-clause-means : goal.returns-in-Ok-clause-means
-returns-in-Ok-clause-means g c =
-    let before = shelf_state g.H.Shelf c.args.shelf.now in
-    let name = c.args.name.now in
-    told_means c.finish.result before name c.told.result c.told.ensures
-    (enough_means before name c.feed_text.new.reader c.in-Ok.ensures.enough c.finish.result c.finish.ensures.means c.finish.ensures.stopped)
+pub returns-clause-means : goal.returns-clause-means
+returns-clause-means g c =
+    finished_means (shelf_state g.H.Shelf c.args.shelf.now) c.args.name.now c.feed_text-fed.new.reader c.feed_text-fed.result c.feed_text-fed.ensures.enough c.finish.result c.finish.ensures
 
-pub returns-in-Ok-clause-valid : goal.returns-in-Ok-clause-valid
-returns-in-Ok-clause-valid g c =
-    let before = shelf_state g.H.Shelf c.args.shelf.now in
-    told_valid c.finish.result before c.args.name.now c.told.result (returns-in-Ok-clause-means g c)
-
-pub returns-in-Ok-clause-kept : goal.returns-in-Ok-clause-kept
-returns-in-Ok-clause-kept g c = c.in-Ok.ensures.kept
-
-pub returns-in-Ok-clause-ok : goal.returns-in-Ok-clause-ok
-returns-in-Ok-clause-ok g c = told_ok c.told.result c.in-Ok.ensures.ok
-
-pub returns-in-Ok-clause-err : goal.returns-in-Ok-clause-err
-returns-in-Ok-clause-err g c =
-    let before = shelf_state g.H.Shelf c.args.shelf.now in
-    let after = shelf_state g.H.Shelf c.feed_text.new.shelf in
-    told_err c.finish.result before after c.args.name.now c.told.result c.told.ensures c.in-Ok.ensures.ok
-
-pub returns-in-Err-clause-kept : goal.returns-in-Err-clause-kept
-returns-in-Err-clause-kept g c = c.in-Err.ensures.kept
-
-pub returns-in-Err-clause-err : goal.returns-in-Err-clause-err
-returns-in-Err-clause-err g c = c.in-Err.ensures.err
+pub returns-clause-reading : goal.returns-clause-reading
+returns-clause-reading g c =
+    finished_reading (shelf_state g.H.Shelf c.args.shelf.now) (shelf_state g.H.Shelf c.feed_text-fed.new.shelf) c.args.name.now
+    c.feed_text-fed.new.reader c.feed_text-fed.result c.feed_text-fed.ensures.enough c.feed_text-fed.ensures.reading c.finish.result c.finish.ensures
