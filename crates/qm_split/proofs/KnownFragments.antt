@@ -40,7 +40,7 @@ contender_does_not_contain book cell contender contends contains =
     let on_face = (is.points at.0).0 at.1 in
     let on = (lies_on_points is.face piece.winding.value.plane at.0 is.lies_on).1 on_face.on in
     let inside = contains.inside at.0 on_face.in_cube on_face.in_cell in
-    let behind = All-contains (λ h. IsBehind h at.0) contender.body.value.outward.items is.face (behind_all contender.body.value.outward.items at.0 inside) is.has_face in
+    let behind = All-contains (λ h. IsBehind h at.0) contender.body.value.outward.value.items is.face (behind_all contender.body.value.outward.value.items at.0 inside) is.has_face in
     absurd (omega (arith, linear))
 
 no_contents : {P : Type 0} (c : Contents) (o : Option Contents) → o ≡ None → o ≡ Some c → P

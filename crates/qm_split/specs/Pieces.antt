@@ -16,7 +16,7 @@ use Rattle.qm_split.specs.inner.Ranked.{IsLesser}
 
 -- the solid that a contender stands for
 abbrev pub solid_of_contender : Contender → Solid
-solid_of_contender contender = record { contents = contender.contents; outward = contender.body.value.outward.items }
+solid_of_contender contender = record { contents = contender.contents; outward = contender.body.value.outward.value.items }
 
 -- the piece is what the cell has of a face of the solid, on the plane of a number in the book
 pub record IsPieceInCell (book cell : List Plane) (solid : Solid) (piece : Piece) : Type 0 where
@@ -48,7 +48,7 @@ IsHeldWithin cuboid solid cell = (x : Point) → IsInCube x → IsInCell cell x 
 -- candidates, and a cuboid in which the solid lies in the cell
 pub record IsContender (book cell : List Plane) (contender : Contender) : Type 0 where
   pub full : IsFull (solid_of_contender contender)
-  pub reduced : All IsReduced contender.body.value.outward.items
+  pub reduced : All IsReduced contender.body.value.outward.value.items
   pub first : IsLesser None contender.body.value.pieces.items (Some contender.least)
   pub pieces : ArePiecesInCell book cell (solid_of_contender contender) contender.body.value.pieces.items
   pub within : IsHeldWithin contender.body.value.cuboid (solid_of_contender contender) cell

@@ -14,6 +14,7 @@ use qm_contents::Contents;
 use qm_geom::{Cuboid, Plane};
 use qm_wind::{Lies, Winding};
 use std::alloc::AllocError;
+use std::sync::Arc;
 
 /// A full solid that has a part of a face in a cell.
 #[derive(Drop)]
@@ -29,7 +30,8 @@ pub(crate) struct Contender {
 pub(crate) struct Body {
     /// It has all that the solid has of the cell.
     pub(crate) cuboid: Cuboid,
-    pub(crate) outward: Vec<Plane>,
+    /// The planes of all its faces, which its parts in other cells share.
+    pub(crate) outward: Arc<Vec<Plane>>,
     pub(crate) pieces: Vec<Piece>,
 }
 
@@ -157,19 +159,19 @@ impl Contender {
 /// lies on the plane in the cell.
 fn part_in_front(
     contents: Contents,
-    outward: &[Plane],
+    outward: &Arc<Vec<Plane>>,
     cuboid: Cuboid,
     pieces: Vec<Piece>,
     section: &Winding,
     plane: &Plane,
 ) -> Result<Part, AllocError>
-    ensures part { IfOk result (λ part. IsFoundPart (record { contents = contents; outward = outward.now }) section.now cuboid pieces.items part plane.now) }
+    ensures part { IfOk result (λ part. IsFoundPart (record { contents = contents; outward = outward.now.value.items }) section.now cuboid pieces.items part plane.now) }
     ensures count { IfOk result (λ part. part_count part ≡ length pieces.items) }
 {
     match least_of(&pieces) {
         Some(least) => {
             let alloc = *pieces.allocator();
-            let outward = Vec::from_slice(alloc, outward)?;
+            let outward = Arc::try_clone(outward)?;
             let body = Box::new(
                 alloc,
                 Body {
@@ -190,7 +192,7 @@ fn part_in_front(
 
 /// The same, by what is kept of it there.
 fn left_part(contents: Contents, body: Box<Body>, section: &Winding, plane: &Plane) -> Part
-    ensures part { IsFoundPart (record { contents = contents; outward = body.value.outward.items }) section.now body.value.cuboid body.value.pieces.items result plane.now }
+    ensures part { IsFoundPart (record { contents = contents; outward = body.value.outward.value.items }) section.now body.value.cuboid body.value.pieces.items result plane.now }
     ensures count { part_count result ≡ length body.value.pieces.items }
 {
     match least_of(&body.pieces) {

@@ -16,6 +16,7 @@ use qm_geom::{Cuboid, Plane, PlaneBook};
 use qm_solids::FaceRef;
 use qm_wind::Winding;
 use std::alloc::{AllocError, Global};
+use std::sync::Arc;
 
 /// What a full solid is to the cube, by its faces.
 pub(crate) fn part_in_cube(
@@ -35,6 +36,7 @@ pub(crate) fn part_in_cube(
     };
     let outward = outward_planes(alloc, faces, book)?;
     let cuboid = cuboid_behind(&outward);
+    let outward = Arc::new(alloc, outward)?;
     let body = Box::new(
         alloc,
         Body {

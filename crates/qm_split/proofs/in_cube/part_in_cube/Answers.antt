@@ -1,4 +1,4 @@
-use Rattle.std.proofs.Common.{List, Option, Some, None, [], refl, sym, ap, ◌∙◌, subst}
+use Rattle.std.proofs.Common.{Vec, Global, List, Option, Some, None, [], refl, sym, ap, ◌∙◌, subst}
 use Rattle.qm_space.specs.Plane.{Plane}
 use Rattle.qm_solids.specs.Solid.{Solid}
 use Rattle.qm_split.specs.declared.piece.Piece.{Piece}
@@ -28,7 +28,7 @@ returns c =
     let body = c.in_ok-body.ensures.ok in
     let solid = solid_behind c.args.book.now c.args.faces.now c.args.contents in
     kept_contender c.args.book.now [] _ solid
-    (ap (λ (os : List Plane). let s : Solid = record { contents = c.args.contents; outward = os } in s) (ap (λ (b : Body). b.outward.items) body ∙ c.in_ok-outward.ensures))
+    (ap (λ (os : List Plane). let s : Solid = record { contents = c.args.contents; outward = os } in s) (ap (λ (b : Body). b.outward.value.items) body ∙ ap (λ (os : Vec Plane Global). os.items) c.in_ok-outward-2.ensures.ok ∙ c.in_ok-outward.ensures))
     c.requires.full (outward_reduced c.args.book.now c.args.faces.now c.len-planes.ensures.planes c.requires.numbered)
     (subst (λ (b : Body). IsLesser None b.pieces.items (Some c.in-Some.least)) (sym body) (subst (λ (ps : List Piece). IsLesser None ps (Some c.in-Some.least)) c.deref.ensures.value c.in-Some.ensures))
     (subst (λ (b : Body). ArePiecesInCell c.args.book.now [] (solid_behind c.args.book.now c.args.faces.now c.args.contents) b.pieces.items) (sym body) (c.in_ok-pieces.ensures c.args.contents c.requires.full))

@@ -17,9 +17,9 @@ returns-clause-part c = λ book cell contends section none.
     let filtered = filter_same _ (stands_off c.args.plane.now) _ (λ x b q k. search (rules, tests)) _ _ c.retain.ensures.filtered in
     part_ahead c.args.self c.args.section.now c.args.self.body.value.cuboid (filter (stands_off c.args.plane.now) c.args.self.body.value.pieces.items) c.left_part.result c.args.plane.now
     (left_pieces book cell c.args.self contends c.args.plane.now (subst IsReduced c.plane.view_is c.plane.invariant) none)
-    (subst (λ (b : Body). IsFoundPart (record { contents = c.args.self.contents; outward = b.outward.items }) c.args.section.now b.cuboid (filter (stands_off c.args.plane.now) b.pieces.items) c.left_part.result c.args.plane.now)
+    (subst (λ (b : Body). IsFoundPart (record { contents = c.args.self.contents; outward = b.outward.value.items }) c.args.section.now b.cuboid (filter (stands_off c.args.plane.now) b.pieces.items) c.left_part.result c.args.plane.now)
     c.deref_mut.ensures.value
-    (subst (λ (ps : List Piece). IsFoundPart (record { contents = c.args.self.contents; outward = c.deref_mut.result.now.outward.items }) c.args.section.now c.deref_mut.result.now.cuboid ps c.left_part.result c.args.plane.now)
+    (subst (λ (ps : List Piece). IsFoundPart (record { contents = c.args.self.contents; outward = c.deref_mut.result.now.outward.value.items }) c.args.section.now c.deref_mut.result.now.cuboid ps c.left_part.result c.args.plane.now)
     filtered c.left_part.ensures.part))
     book cell contends section (held_beyond c.args.self.body.value.cuboid (solid_of_contender c.args.self) cell contends.within c.args.plane.now)
 

@@ -16,7 +16,7 @@ returns-clause-front c = λ book cell contends section.
     part_ahead c.args.self c.args.section.now c.tightened.result c.in_ok-lists.lists.front.items c.in_ok-front.front c.args.plane.now
     (subst (λ (b : Body). AreFront b.pieces.items c.args.plane.now c.in_ok-lists.lists.front.items) body c.in_ok-lists.ensures.front)
     (subst (λ (os : List Plane). IsFoundPart (record { contents = c.args.self.contents; outward = os }) c.args.section.now c.tightened.result c.in_ok-lists.lists.front.items c.in_ok-front.front c.args.plane.now)
-    (c.deref.ensures.value ∙ ap (λ (b : Body). b.outward.items) body) c.in_ok-front.ensures.part)
+    (ap (λ (b : Body). b.outward.value.items) body) c.in_ok-front.ensures.part)
     book cell contends section
     (held_tightened c.args.self.body.value.cuboid (solid_of_contender c.args.self) cell contends.within c.args.plane.now c.tightened.result
     (subst (λ (b : Body). IsTightened c.tightened.result b.cuboid c.args.plane.now) body c.tightened.ensures))
@@ -28,7 +28,7 @@ returns-clause-back c = λ book cell contends section.
     (subst (λ (b : Body). AreFront b.pieces.items (flipped c.args.plane.now) c.in_ok-lists.lists.back.items) body c.in_ok-lists.ensures.back)
     (subst (λ (f : Plane). IsFoundPart (solid_of_contender c.args.self) c.args.section.now c.tightened-2.result c.in_ok-lists.lists.back.items c.in_ok-back.back f) c.flipped-behind.ensures
     (subst (λ (os : List Plane). IsFoundPart (record { contents = c.args.self.contents; outward = os }) c.args.section.now c.tightened-2.result c.in_ok-lists.lists.back.items c.in_ok-back.back c.flipped-behind.result)
-    (c.deref-2.ensures.value ∙ ap (λ (b : Body). b.outward.items) body) c.in_ok-back.ensures.part))
+    (ap (λ (b : Body). b.outward.value.items) body) c.in_ok-back.ensures.part))
     book cell contends (section_flipped cell c.args.plane.now c.args.section.now section)
     (held_tightened c.args.self.body.value.cuboid (solid_of_contender c.args.self) cell contends.within (flipped c.args.plane.now) c.tightened-2.result
     (subst (λ (f : Plane). IsTightened c.tightened-2.result c.args.self.body.value.cuboid f) c.flipped-behind.ensures
