@@ -7,6 +7,7 @@ mod any_corner;
 mod axial_cell;
 mod circle;
 mod corner_sides;
+mod cutting;
 mod faces;
 mod found;
 mod halves;
