@@ -5,20 +5,20 @@ use Rattle.std.specs.List.{AllZip, Any, range_with_len}
 use Rattle.std.specs.List.Sorted.{IsStrictlyIncreasing}
 use Rattle.std.proofs.lemmas.Bool.{cases_lt}
 use Rattle.std.proofs.lemmas.Option.{slice_get_within}
-use Rattle.std.proofs.lemmas.List.{append_assoc, append-nil, reverse-append, reverse-reverse, get_or_append_left, get_or-append-add, length_push}
+use Rattle.std.proofs.lemmas.List.{append-nil, get_or_append_left, get_or-append-add, length_push}
 use Rattle.std.proofs.lemmas.List.FromFn.{length-range_with_len, get_or-range_with_len}
 use Rattle.std.proofs.lemmas.List.Elements.{All-nil, All-cons, All-head}
 use Rattle.std.proofs.lemmas.List.Sorted.{Contains-permutation, IsPermutation-reverse}
 use Rattle.qm_lists.specs.WorkList.{IsIn}
 use Rattle.qm_lists.proofs.Elements.{Contains-nil, Contains-cons_cases}
-use Rattle.qm_lists.proofs.Reversed.{reverse-push, reverse-cons}
+use Rattle.qm_lists.proofs.Reversed.{reverse-push}
 use Rattle.qm_contacts.specs.Portals.{Portal}
 use Rattle.qm_coarse_rows.specs.CoarseRow.{IsInCoarseRow, IsCoarseRow, AreCoarseRows}
 use Rattle.qm_separators.specs.PortalSteps.{IsInChainBound}
 use Rattle.qm_chains.specs.Shown.{IsAt, IsShown}
-use Rattle.qm_chains.specs.Turns.{IsInCoarseRowAt, MayHaveAfter, turns_up_to, IsInReuse, LieWithinTurns, LieInReuse}
+use Rattle.qm_chains.specs.Turns.{MayHaveAfter, turns_up_to, IsInReuse, LieWithinTurns, LieInReuse}
 use Rattle.qm_chains.specs.TurnLists.{AscendTwice, AreTurns, IsInReuseAlong, IsInReuseOver, LieInReuseOver}
-use Rattle.qm_chains.proofs.TurnLaws.{shown_in_bound, after_in_coarse, turn_taken}
+use Rattle.qm_chains.proofs.TurnLaws.{shown_in_bound, turn_taken}
 
 -- ---- the turns of one worker, in order
 
@@ -78,15 +78,6 @@ ascends_once list ascends = record {
   second_ascends = none_ascends;
 }
 
-pub ascends_again : (list after : List ℕ) → IsStrictlyIncreasing list → IsStrictlyIncreasing after → AscendTwice (list ++ after)
-ascends_again list after ascends after_ascends = record {
-  first = list;
-  second = after;
-  both = refl;
-  first_ascends = ascends;
-  second_ascends = after_ascends;
-}
-
 -- the one list of all portals in order is turns of one worker
 pub turns_in_order : (portals : ℕ) → AreTurns 1 portals (in_order portals ∷ [])
 turns_in_order portals =
@@ -130,48 +121,9 @@ module _ (portals : List Portal) where
   turn_appended list p Old New old found stays n q has =
       subst (λ (turns : List ℕ). MayHaveAfter portals turns n q) (sym (reverse-push list p)) (turn_taken portals (reverse list) p Old New old found stays n q has)
 
-  -- no row gains a leaf
-  pub stays_along : (list : List ℕ) (Old New : ℕ → ℕ → Type 0) →
-      ((n q : ℕ) → Old n q → IsInReuseAlong portals list q n) → ((n q : ℕ) → New n q → Old n q) →
-      (n q : ℕ) → New n q → IsInReuseAlong portals list q n
-  stays_along list Old New old kept n q has = old n q (kept n q has)
-
-  -- ---- place by place
+  -- ---- the bound
 
   module _ (n q : ℕ) where
-    -- turns that are followed by others
-    may_before : (later turns : List ℕ) → MayHaveAfter portals (later ++ turns) n q → MayHaveAfter portals turns n q
-    may_before [] turns may = may
-    may_before (p ∷ later) turns may = may_before later turns may.0
-
-    -- a leaf in the reuse along a list is shown at each place of the portal, over what rows may have after the turns before it
-    pub shown_at_place : (before after : List ℕ) → IsInReuseAlong portals (before ++ q ∷ after) q n → IsShown portals (λ r. IsInReuseAlong portals before r n) q n
-    shown_at_place before after may =
-        let turned : reverse (before ++ q ∷ after) ≡ reverse after ++ q ∷ reverse before =
-        reverse-append before (q ∷ after) ∙ ap (λ (l : List ℕ). l ++ reverse before) (reverse-cons q after) ∙ append_assoc (reverse after) (q ∷ []) (reverse before) in
-        (may_before (reverse after) (q ∷ reverse before) (subst (λ (turns : List ℕ). MayHaveAfter portals turns n q) turned may)).1 refl
-
-    may_by_places : (turns : List ℕ) → IsInCoarseRowAt portals n q →
-        ((later earlier : List ℕ) → turns ≡ later ++ q ∷ earlier → IsShown portals (MayHaveAfter portals earlier n) q n) → MayHaveAfter portals turns n q
-    may_by_places [] coarse shown = coarse
-    may_by_places (p ∷ turns) coarse shown = (
-      may_by_places turns coarse (λ later earlier is. shown (p ∷ later) earlier (ap (λ (l : List ℕ). p ∷ l) is)),
-      (λ same. subst (λ (r : ℕ). IsShown portals (MayHaveAfter portals turns n) r n) same (shown [] turns (ap (λ (r : ℕ). r ∷ turns) (sym same)))),
-    )
-
-    -- and a leaf of its coarse row that is shown at each place of the portal is in the reuse along the list
-    pub reuse_by_places : (list : List ℕ) → IsInCoarseRowAt portals n q →
-        ((before after : List ℕ) → list ≡ before ++ q ∷ after → IsShown portals (λ r. IsInReuseAlong portals before r n) q n) → IsInReuseAlong portals list q n
-    reuse_by_places list coarse shown = may_by_places (reverse list) coarse (λ later earlier is.
-        let turned : list ≡ reverse earlier ++ q ∷ reverse later =
-        sym (reverse-reverse list) ∙ ap reverse is ∙ reverse-append later (q ∷ earlier) ∙ ap (λ (l : List ℕ). l ++ reverse later) (reverse-cons q earlier) ∙ append_assoc (reverse earlier) (q ∷ []) (reverse later) in
-        subst (λ (turns : List ℕ). IsShown portals (MayHaveAfter portals turns n) q n) (reverse-reverse earlier) (shown (reverse earlier) (reverse later) turned))
-
-    pub along_in_coarse : (list : List ℕ) → IsInReuseAlong portals list q n → IsInCoarseRowAt portals n q
-    along_in_coarse list may = after_in_coarse portals (reverse list) n q may
-
-    -- ---- the bound
-
     module _ (portal : Portal) (at : IsAt portals q portal) where
       -- a leaf that the row of a portal may have once the portal had its turn is in the bound of the portal
       pub may_in_bound : (turns : List ℕ) → Contains turns q → MayHaveAfter portals turns n q → IsInChainBound portals portal n
