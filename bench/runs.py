@@ -19,9 +19,9 @@ class Cost(NamedTuple):
     memory: float
 
 
-def least_of(one, other):
-    """The least of each figure of two costs."""
-    return Cost(*map(min, one, other))
+def least_of_all(costs):
+    """The least of each figure of some costs."""
+    return Cost(*(min(figures) for figures in zip(*costs)))
 
 
 def run(words):
@@ -36,6 +36,19 @@ def run(words):
     return os.waitstatus_to_exitcode(status), cost
 
 
+def cost_of(command):
+    """What a run took that has to end with 0."""
+    ended, cost = run(command)
+    if ended != DONE:
+        sys.exit(f"{' '.join(command)} failed")
+    return cost
+
+
+def costs_in_turn(commands):
+    """What each command took, in each of some runs in turn."""
+    return [[cost_of(command) for command in commands] for _ in range(RUNS)]
+
+
 def least_costs(commands):
     """The least cost of each command, of some runs in turn; None where a run took too long, and None for all where a map leaks."""
     least = {}
@@ -48,5 +61,5 @@ def least_costs(commands):
                 return None
             if ended not in (DONE, PAST_LIMIT):
                 sys.exit(f"{' '.join(command)} failed")
-            least[command] = None if ended == PAST_LIMIT else least_of(least.get(command, cost), cost)
+            least[command] = None if ended == PAST_LIMIT else least_of_all((least.get(command, cost), cost))
     return least
