@@ -1,9 +1,5 @@
-use Rattle.std.proofs.Common.{◌≡◌, ◌⊎◌, ℕ, List, ap, sym, subst, ◌∙◌, inl, inr}
+use Rattle.std.proofs.Common.{◌≡◌, ◌⊎◌, ℕ, List, ap, sym, ◌∙◌, inl, inr}
 use Rattle.std.proofs.lemmas.List.{append-nil}
-use Rattle.qm_shelf.specs.FaultCounts.{SinkFaultCounted}
-use Rattle.qm_shelf.specs.declared.sink.SinkFault.{SinkFault}
-use Rattle.qm_shelf.specs.declared.sink.SinkFault.TheVariants.{Failed, Memory}
-use Rattle.qm_surroundings.specs.Printing.{IsPartlyPrinted}
 use Rattle.qm_surroundings.specs.SinkState.{SinkState}
 use Rattle.qm_surroundings.specs.Surroundings.{Surroundings}
 use Rattle.qm_statement.specs.declared.status.Status.{Status}
@@ -19,16 +15,6 @@ use Rattle.qm_compile.specs.inner.Printed.{EndsWith, whole, failed, no_room}
 use Rattle.qm_compile.specs.inner.Reported.{reported_status, reported_text}
 
 -- The ways in which a run ends.
-
--- the status with which it ends where printing met this fault
-abbrev pub status_of_fault : SinkFault → Status
-status_of_fault Failed = status.WriteFault
-status_of_fault Memory = status.Memory
-
--- printing met this fault, and what was printed is the beginning of the text that is due
-pub printed_in_part : (before after : SinkState) (report : Report) (text : List ℕ) → text ≡ reported_text report → (fault : SinkFault) → SinkFaultCounted fault before.faults after.faults → IsPartlyPrinted before after text → EndsWith before after report (status_of_fault fault)
-printed_in_part before after report text is Failed counted part = failed counted (subst (λ (t : List ℕ). IsPartlyPrinted before after t) is part)
-printed_in_part before after report text is Memory counted part = no_room counted (subst (λ (t : List ℕ). IsPartlyPrinted before after t) is part)
 
 module _ (words : List (List ℕ)) (before after : Surroundings) where
   map_answers_due : (outcome : Outcome) → EndsPrinted words before after (due_status outcome) → Answers words before after (due_status outcome)
