@@ -1,5 +1,5 @@
 -- What is reported of an order is due with it, or memory ran out on its way.
-use Rattle.std.proofs.Common.{◌≡◌, ℕ, List, Result, Ok, Err, sym, subst}
+use Rattle.std.proofs.Common.{◌≡◌, ℕ, List, Result, Ok, Err}
 use Rattle.std.specs.Prelude.{OnOk}
 use Rattle.qm_surroundings.specs.ShelfState.{ShelfState}
 use Rattle.qm_surroundings.specs.ShelfChanges.{IsKept, FailedToRead}
@@ -23,7 +23,7 @@ use Rattle.qm_compile.specs.inner.TreeRead.{IsReportOf, IsTreeRead}
 module _ {E : Type 0} (before after : ShelfState) (order : Order) where
   -- this report is due
   pub carried_out : (report : Report) → OrderComesOf before after order (reported_status report) (reported_text report) → (answer : Result Report E) → answer ≡ Ok report → IsCarriedOut before after order answer
-  carried_out report due answer is = subst (λ (a : Result Report E). IsCarriedOut before after order a) (sym is) (record { due = due; memory = tt })
+  carried_out report due answer is = rw is (record { due = due; memory = tt })
 
   -- memory ran out
   pub stopped : IsStopped order before after → (answer : Result Report E) → OnOk answer ⊥ → IsCarriedOut before after order answer
@@ -33,8 +33,6 @@ module _ {E : Type 0} (before after : ShelfState) (order : Order) where
   -- no tree file was read: its fault is due, or that it could not be read; or memory ran out
   pub carried_out_without_tree : (tree_name : List ℕ) → ((kind : FileFaultKind) (place : ℕ) → TreeMeans before tree_name (bad kind place) → IsUntouched before after → OrderComesOf before after order status.TreeFault (tree_fault_text kind place)) → (FailedToRead before after tree_name → IsKept before after → OrderComesOf before after order status.ReadFault read_fault_text) → (IsUntouched before after → IsStopped order before after) → (found : NoTree) → IsTreeRead before after tree_name (Err found) → (answer : Result Report E) → IsReportOf found answer → IsCarriedOut before after order answer
   carried_out_without_tree tree_name fault unread short (Fault line) is answer said =
-      carried_out (TreeFault line)
-      (subst (λ (text : List ℕ). OrderComesOf before after order status.TreeFault text) (sym is.0.is_line) (fault is.0.kind is.0.place is.0.is_given is.1))
-      answer said
+      carried_out (TreeFault line) (rw is.0.is_line (fault is.0.kind is.0.place is.0.is_given is.1)) answer said
   carried_out_without_tree tree_name fault unread short Unread is answer said = carried_out ReadFault (unread is.0 is.1) answer said
   carried_out_without_tree tree_name fault unread short Memory is answer said = stopped (short is) answer said

@@ -10,7 +10,7 @@ use Rattle.qm_statement.specs.TreeFaultText.{number_of_tree_fault, words_of_tree
 use Rattle.qm_compile.specs.inner.FaultLine.{fault_at, IsTreeFaultLine}
 
 -- where one is made with the number and the words of this kind, it is the line of the fault of this kind
-pub told : {Z E : Type 0} (kind : FileFaultKind) (place : ℕ) (fault : FileFault) → fault ≡ fault_at kind place → (answer : Result (String Z) E) → IfOk answer (λ text. string_bytes text ≡ line (codes "tree fault " ++ (decimal (number_of_tree_fault kind) ++ (codes " at byte " ++ (decimal place ++ (codes ": " ++ words_of_tree_fault kind)))))) → IfOk answer (λ text. IsTreeFaultLine fault (string_bytes text))
+pub told : {Z E : Type 0} (kind : FileFaultKind) (place : ℕ) {fault : FileFault} → fault ≡ fault_at kind place → (answer : Result (String Z) E) → IfOk answer (λ text. string_bytes text ≡ line (codes "tree fault " ++ (decimal (number_of_tree_fault kind) ++ (codes " at byte " ++ (decimal place ++ (codes ": " ++ words_of_tree_fault kind)))))) → IfOk answer (λ text. IsTreeFaultLine fault (string_bytes text))
 unfolding tree_fault_text
-told kind place fault is answer printed =
+told kind place is answer printed =
     IfOk-weaker answer _ _ (λ text is_line. record { kind = kind; place = place; is_fault = is; is_line = is_line }) printed

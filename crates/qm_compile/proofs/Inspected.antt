@@ -1,5 +1,5 @@
 -- What is reported of a tree file, or of bytes that are none, comes of asking it.
-use Rattle.std.proofs.Common.{◌≡◌, ℕ, List, Result, Ok, Err, sym, subst}
+use Rattle.std.proofs.Common.{◌≡◌, ℕ, List, Result, Ok, Err}
 use Rattle.std.specs.Prelude.{IfOk}
 use Rattle.qm_surroundings.specs.ShelfState.{ShelfState}
 use Rattle.qm_formats.specs.TreeFile.{TreeFile}
@@ -41,6 +41,4 @@ module _ (before after : ShelfState) (tree_name : List ℕ) (queries : List Quer
 
 -- a query was refused
 pub refused : (file : TreeFile) (queries : List Query) (status : Status) (text : List ℕ) (number : ℕ) (fault : QueryFault) → IsFirstRefused file 1 queries number fault → status ≡ QueryRefused → text ≡ refusal_text number fault → IsFileReport file queries status text
-refused file queries status text number fault first status_is text_is =
-    subst (λ (s : Status). IsFileReport file queries s text) (sym status_is)
-    (subst (λ (t : List ℕ). IsFileReport file queries QueryRefused t) (sym text_is) (refusal first))
+refused file queries status text number fault first status_is text_is = rw (status_is, text_is) (refusal first)

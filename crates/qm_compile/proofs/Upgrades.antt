@@ -1,5 +1,5 @@
 -- What is written of a tree file that was read comes of upgrading it.
-use Rattle.std.proofs.Common.{◌≡◌, ℕ, List, Result, Ok, Err, sym, subst}
+use Rattle.std.proofs.Common.{◌≡◌, ℕ, List, Result, Ok, Err}
 use Rattle.std.specs.Prelude.{IsTrue, OnOk, OnErr, IfErr}
 use Rattle.qm_surroundings.specs.ShelfState.{ShelfState}
 use Rattle.qm_surroundings.specs.ShelfChanges.{IsKeptElsewhere, MetNoFault}
@@ -10,7 +10,6 @@ use Rattle.qm_shelf.specs.declared.shelf.ShelfFault.TheVariants.{Failed, Memory}
 use Rattle.qm_shelf.proofs.Counted.{no_fault_twice, write_fault_twice}
 use Rattle.qm_formats.specs.TreeFile.{TreeFile}
 use Rattle.qm_commands.specs.Order.{of_upgrade}
-use Rattle.qm_statement.specs.declared.status.Status.{Status}
 use Rattle.qm_statement.specs.declared.status.Status.TheVariants.{Done}
 use Rattle.qm_statement.specs.Texts.{upgrade_text}
 use Rattle.qm_statement.specs.TreeMeans.{TreeMeans}
@@ -44,10 +43,7 @@ module _ (before between after : ShelfState) (tree_name out_name bytes : List �
   module _ {T E : Type 0} where
     pub written_ends : (written : Result T ShelfFault) → OnOk written (IsTrue between.tells → HoldsExactly after out_name bytes) → OnErr written (IsTrue between.tells → HoldsUnfinished between after out_name bytes) → OnOk written (MetNoFault between after) → IfErr written (WriteFaultMeans between after out_name) → (report : Report) → reported_status report ≡ Done → reported_text report ≡ upgrade_text file.version → (answer : Result Report E) → IsEnd written report answer → IsCarriedOut before after (of_upgrade tree_name out_name) answer
     written_ends (Ok _) holds part none means report status text answer is =
-        carried_out before after (of_upgrade tree_name out_name) report
-        (subst (λ (s : Status). UpgradeComesOf before after tree_name out_name s (reported_text report)) (sym status)
-        (subst (λ (t : List ℕ). UpgradeComesOf before after tree_name out_name Done t) (sym text) (whole holds none)))
-        answer is
+        carried_out before after (of_upgrade tree_name out_name) report (rw (status, text) (whole holds none)) answer is
     written_ends (Err Failed) holds part none means report status text answer is =
         carried_out before after (of_upgrade tree_name out_name) (OfFiles outcomes.WriteFault)
         (unwritten read.is_given (write_fault_twice before between after Failed out_name untouched.no_fault means) (in_part part))
