@@ -1,12 +1,12 @@
 -- What is reported of a tree file, or of bytes that are none, comes of asking it.
-use Rattle.std.proofs.Common.{◌≡◌, ℕ, List, Result, Ok, Err, sym, subst}
-use Rattle.std.specs.Prelude.{IfOk, string_bytes}
+use Rattle.std.proofs.Common.{◌≡◌, ℕ, List, Result, Ok, Err}
+use Rattle.std.specs.Prelude.{IfOk}
 use Rattle.qm_surroundings.specs.ShelfState.{ShelfState}
 use Rattle.qm_formats.specs.TreeFile.{TreeFile}
 use Rattle.qm_commands.specs.declared.query.Query.{Query}
 use Rattle.qm_commands.specs.Order.{of_tree}
 use Rattle.qm_statement.specs.declared.status.Status.{Status}
-use Rattle.qm_statement.specs.declared.status.Status.TheVariants.{TreeFault, QueryRefused}
+use Rattle.qm_statement.specs.declared.status.Status.TheVariants.{QueryRefused}
 use Rattle.qm_statement.specs.RefusalText.{refusal_text}
 use Rattle.qm_answers.specs.declared.query_fault.QueryFault.{QueryFault}
 use Rattle.qm_answers.specs.AllAnswers.{IsFirstRefused}
@@ -16,20 +16,16 @@ use Rattle.qm_statement.specs.TreeMeans.{TreeMeans}
 use Rattle.qm_statement.specs.Untouched.{IsUntouched}
 use Rattle.qm_compile.specs.declared.report.Report.{Report}
 use Rattle.qm_compile.specs.declared.tree_reading.NoTree.{NoTree}
-use Rattle.qm_compile.specs.declared.tree_reading.NoTree.TheVariants.{Fault, Unread, Memory}
 use Rattle.qm_compile.specs.inner.CarriedOut.{IsCarriedOut}
 use Rattle.qm_compile.specs.inner.FileReport.{IsFileReport, refusal, all_lines}
 use Rattle.qm_compile.specs.inner.Reported.{reported_status, reported_text}
-use Rattle.qm_compile.specs.inner.TreeRead.{IsFileIn, IsFaultIn, IsReportOf, IsTreeRead}
+use Rattle.qm_compile.specs.inner.TreeRead.{IsFileIn, IsReportOf, IsTreeRead}
+use Rattle.qm_compile.proofs.CarriedOut.{carried_out_without_tree}
 
 module _ (before after : ShelfState) (tree_name : List ℕ) (queries : List Query) where
   reported : IsUntouched before after → (file : TreeFile) → IsFileIn (TreeMeans before tree_name) file → (status : Status) (text : List ℕ) → IsFileReport file queries status text → InspectComesOf before after tree_name queries status text
   reported untouched file is status text (refusal first) = comes.refused is.is_given first untouched
   reported untouched file is status text (all_lines are) = answered is.is_given are untouched
-
-  faulty : IsUntouched before after → (line : List ℕ) → IsFaultIn (TreeMeans before tree_name) line → InspectComesOf before after tree_name queries TreeFault line
-  faulty untouched line is =
-      subst (λ (text : List ℕ). InspectComesOf before after tree_name queries TreeFault text) (sym is.is_line) (no_tree_file is.is_given untouched)
 
   module _ {E : Type 0} where
     -- a tree file was read, and asked
@@ -39,15 +35,10 @@ module _ (before after : ShelfState) (tree_name : List ℕ) (queries : List Quer
 
     -- none was read
     pub unasked : (none : NoTree) → IsTreeRead before after tree_name (Err none) → (answer : Result Report E) → IsReportOf none answer → IsCarriedOut before after (of_tree tree_name queries) answer
-    unasked (Fault line) is answer said =
-        subst (λ (a : Result Report E). IsCarriedOut before after (of_tree tree_name queries) a) (sym said) (record { due = faulty is.1 (string_bytes line) is.0; memory = tt })
-    unasked Unread is answer said =
-        subst (λ (a : Result Report E). IsCarriedOut before after (of_tree tree_name queries) a) (sym said) (record { due = unread is.0 is.1; memory = tt })
-    unasked Memory is (Ok report) never = absurd never
-    unasked Memory is (Err fault) said = record { due = tt; memory = is }
+    unasked =
+        carried_out_without_tree before after (of_tree tree_name queries) tree_name
+        (λ kind place means untouched. no_tree_file means untouched) (λ failed kept. unread failed kept) (λ untouched. untouched)
 
 -- a query was refused
 pub refused : (file : TreeFile) (queries : List Query) (status : Status) (text : List ℕ) (number : ℕ) (fault : QueryFault) → IsFirstRefused file 1 queries number fault → status ≡ QueryRefused → text ≡ refusal_text number fault → IsFileReport file queries status text
-refused file queries status text number fault first status_is text_is =
-    subst (λ (s : Status). IsFileReport file queries s text) (sym status_is)
-    (subst (λ (t : List ℕ). IsFileReport file queries QueryRefused t) (sym text_is) (refusal first))
+refused file queries status text number fault first status_is text_is = rw (status_is, text_is) (refusal first)

@@ -1,3 +1,4 @@
+pub mod CarriedOut
 pub mod CutFiles
 pub mod FaultLines
 pub mod Inspected

@@ -1,5 +1,5 @@
 -- What is read of the bytes under a name is what they mean.
-use Rattle.std.proofs.Common.{◌≡◌, ℕ, true, false, List, Result, Ok, Err, refl, sym, ◌∙◌, ap}
+use Rattle.std.proofs.Common.{◌≡◌, ℕ, true, false, List, Result, Ok, Err, refl, sym, ◌∙◌, ap, subst}
 use Rattle.std.specs.Prelude.{string_bytes}
 use Rattle.qm_lists.proofs.Cases.{by_cases}
 use Rattle.qm_surroundings.specs.ShelfState.{ShelfState, text_under}
@@ -10,12 +10,11 @@ use Rattle.qm_formats.specs.Layout.{Decoded, got, bad}
 use Rattle.qm_formats.specs.TreeFile.{TreeFile}
 use Rattle.qm_file.specs.Answers.{IsFaultOfFile}
 use Rattle.qm_file.specs.declared.file_fault.FileFault.{FileFault}
-use Rattle.qm_file.specs.declared.file_fault.FileFault.TheVariants as faults
 use Rattle.qm_statement.specs.TreeMeans.{TreeMeans}
 use Rattle.qm_statement.specs.Untouched.{IsUntouched}
 use Rattle.qm_compile.specs.declared.tree_reading.NoTree.{NoTree}
 use Rattle.qm_compile.specs.declared.tree_reading.NoTree.TheVariants.{Fault, Unread, Memory}
-use Rattle.qm_compile.specs.inner.FaultLine.{IsTreeFaultLine}
+use Rattle.qm_compile.specs.inner.FaultLine.{fault_at, IsTreeFaultLine}
 use Rattle.qm_compile.specs.inner.TreeRead.{IsFaultIn, IsNoTreeOf, IsReadOfBytes, IsTreeRead}
 use Rattle.qm_compile.proofs.CutFiles.{read_of_cut}
 
@@ -42,20 +41,28 @@ read_under before after tree_name read is_read untouched (Err (Fault line)) is =
 read_under before after tree_name read is_read untouched (Err Unread) is = absurd is
 read_under before after tree_name read is_read untouched (Err Memory) is = untouched
 
+-- a fault of decoding is the one that reading gives
+fault_given : {X : Type 0} (kind : FileFaultKind) (place : ℕ) (answer : Decoded FileFaultKind X) → IsFaultOfFile (fault_at kind place) answer → answer ≡ bad kind place
+fault_given short place answer is = is
+fault_given magic place answer is = is
+fault_given counts place answer is = is
+fault_given plane_form place answer is = is
+fault_given node_order place answer is = is
+fault_given leaf_form place answer is = is
+fault_given row_form place answer is = is
+fault_given trailing place answer is = is
+fault_given too_long place answer is = is
+fault_given header_form place answer is = is
+fault_given section_form place answer is = is
+
 -- the fault of decoding is that of the bytes
 fault_read : (bytes line : List ℕ) (fault : FileFault) → IsFaultOfFile fault (read_file bytes) → IsTreeFaultLine fault line → IsFaultIn (λ meaning. read_file bytes ≡ meaning) line
-fault_read bytes line (faults.Short offset) is told = record { kind = short; place = offset; is_given = is; is_line = told }
-fault_read bytes line (faults.Magic offset) is told = record { kind = magic; place = offset; is_given = is; is_line = told }
-fault_read bytes line (faults.Counts offset) is told = record { kind = counts; place = offset; is_given = is; is_line = told }
-fault_read bytes line (faults.PlaneForm offset) is told = record { kind = plane_form; place = offset; is_given = is; is_line = told }
-fault_read bytes line (faults.NodeOrder offset) is told = record { kind = node_order; place = offset; is_given = is; is_line = told }
-fault_read bytes line (faults.LeafForm offset) is told = record { kind = leaf_form; place = offset; is_given = is; is_line = told }
-fault_read bytes line (faults.RowForm offset) is told = record { kind = row_form; place = offset; is_given = is; is_line = told }
-fault_read bytes line (faults.Trailing offset) is told = record { kind = trailing; place = offset; is_given = is; is_line = told }
-fault_read bytes line (faults.TooLong offset) is told = record { kind = too_long; place = offset; is_given = is; is_line = told }
-fault_read bytes line (faults.HeaderForm offset) is told = record { kind = header_form; place = offset; is_given = is; is_line = told }
-fault_read bytes line (faults.SectionForm offset) is told = record { kind = section_form; place = offset; is_given = is; is_line = told }
-fault_read bytes line faults.Memory is never = absurd never
+fault_read bytes line fault is told = record {
+  kind = told.kind;
+  place = told.place;
+  is_given = fault_given told.kind told.place (read_file bytes) (subst (λ (f : FileFault). IsFaultOfFile f (read_file bytes)) told.is_fault is);
+  is_line = told.is_line;
+}
 
 pub fault_told : (bytes : List ℕ) (fault : FileFault) → IsFaultOfFile fault (read_file bytes) → (none : NoTree) → IsNoTreeOf fault none → IsReadOfBytes bytes (Err none)
 fault_told bytes fault is (Fault line) told = fault_read bytes (string_bytes line) fault is told

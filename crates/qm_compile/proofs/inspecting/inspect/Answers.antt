@@ -1,4 +1,3 @@
-use Rattle.qm_shelf.specs.SeenForms.{shelf_state}
 use Rattle.qm_compile.proofs.Inspected.{asked, unasked}
 use Rattle.qm_compile.proofs.inspecting.inspect.Goals as goal
 
@@ -6,11 +5,7 @@ pub ask-requires : goal.ask-requires
 ask-requires g c = c.in-Ok.ensures.0.is_valid
 
 pub returns-in-Ok : goal.returns-in-Ok
-returns-in-Ok g c =
-    asked (shelf_state g.H.Shelf c.args.shelf.now) (shelf_state g.H.Shelf c.read_tree.new.shelf) c.args.tree_name.now c.args.queries.now
-    c.in-Ok.file c.in-Ok.ensures c.ask.result c.ask.ensures
+returns-in-Ok g c = asked _ _ _ _ c.in-Ok.file c.in-Ok.ensures c.ask.result c.ask.ensures
 
 pub returns-in-Err : goal.returns-in-Err
-returns-in-Err g c =
-    unasked (shelf_state g.H.Shelf c.args.shelf.now) (shelf_state g.H.Shelf c.read_tree.new.shelf) c.args.tree_name.now c.args.queries.now
-    c.in-Err.none c.in-Err.ensures c.report_of.result c.report_of.ensures
+returns-in-Err g c = unasked _ _ _ _ c.in-Err.none c.in-Err.ensures c.report_of.result c.report_of.ensures

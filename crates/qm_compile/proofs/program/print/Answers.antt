@@ -1,10 +1,7 @@
 use Rattle.std.proofs.Common.{◌++◌, ◌∙◌, ap, sym, subst, List, ℕ}
 use Rattle.std.specs.Prelude.{IsTrue}
-use Rattle.qm_shelf.specs.FaultCounts.{SinkFaultCounted}
 use Rattle.qm_shelf.specs.SeenForms.{sink_state}
-use Rattle.qm_shelf.specs.declared.sink.SinkFault.{SinkFault}
 use Rattle.qm_statement.specs.declared.status.Status.{Status}
-use Rattle.qm_surroundings.specs.HeldFile.{ContinuesInto}
 use Rattle.qm_compile.specs.inner.Printed.{EndsWith, whole, failed, no_room}
 use Rattle.qm_compile.proofs.program.print.Goals as goal
 
@@ -18,16 +15,10 @@ returns-in-Ok g c =
 
 pub returns-in-Err-Failed : goal.returns-in-Err-Failed
 returns-in-Err-Failed g c =
-    let sink = g.S.Sink in
-    let wrote = c.in-Err-Failed.ensures in
-    failed
-    (subst (λ (fault : SinkFault). SinkFaultCounted fault (sink.faults c.args.out.now) (sink.faults c.write.new.self)) c.in-Err-Failed.field-0-is wrote.faults_counted)
-    (λ tells. subst (λ (text : List ℕ). ContinuesInto (sink.written c.args.out.now) text (sink.written c.write.new.self)) c.text.ensures (wrote.bytes tells))
+    let wrote = rw (c.in-Err-Failed.field-0-is, c.text.ensures) at c.in-Err-Failed.ensures in
+    failed wrote.faults_counted wrote.bytes
 
 pub returns-in-Err-Memory : goal.returns-in-Err-Memory
 returns-in-Err-Memory g c =
-    let sink = g.S.Sink in
-    let wrote = c.in-Err-Memory.ensures in
-    no_room
-    (subst (λ (fault : SinkFault). SinkFaultCounted fault (sink.faults c.args.out.now) (sink.faults c.write.new.self)) c.in-Err-Memory.field-0-is wrote.faults_counted)
-    (λ tells. subst (λ (text : List ℕ). ContinuesInto (sink.written c.args.out.now) text (sink.written c.write.new.self)) c.text.ensures (wrote.bytes tells))
+    let wrote = rw (c.in-Err-Memory.field-0-is, c.text.ensures) at c.in-Err-Memory.ensures in
+    no_room wrote.faults_counted wrote.bytes

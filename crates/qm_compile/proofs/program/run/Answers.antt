@@ -1,5 +1,4 @@
 use Rattle.std.proofs.Common.{refl, sym}
-use Rattle.qm_shelf.specs.SeenForms.{surroundings}
 use Rattle.qm_words.proofs.OneOrder.{one_order}
 use Rattle.qm_words.specs.SeenWords.{bytes_of_words}
 use Rattle.qm_statement.proofs.Completeness.{complete, complete_short}
@@ -9,16 +8,10 @@ use Rattle.qm_compile.proofs.Reported.{answers_printed, answers_run_out}
 use Rattle.qm_compile.proofs.program.run.Goals as goal
 
 pub returns-in-Ok-clause-answers : goal.returns-in-Ok-clause-answers
-returns-in-Ok-clause-answers g c =
-    let before = surroundings g.H.Shelf g.S.Sink c.args.shelf.now c.args.out.now in
-    let after = surroundings g.H.Shelf g.S.Sink c.carry_out.new.shelf c.print.new.out in
-    answers_printed (bytes_of_words c.args.words.now) before after c.in-Ok.report c.in-Ok.ensures.due c.print.result c.print.ensures
+returns-in-Ok-clause-answers g c = answers_printed _ _ _ c.in-Ok.report c.in-Ok.ensures.due c.print.result c.print.ensures
 
 pub returns-in-Err-clause-answers : goal.returns-in-Err-clause-answers
-returns-in-Err-clause-answers g c =
-    let before = surroundings g.H.Shelf g.S.Sink c.args.shelf.now c.args.out.now in
-    let after = surroundings g.H.Shelf g.S.Sink c.carry_out.new.shelf c.args.out.now in
-    answers_run_out (bytes_of_words c.args.words.now) before after c.in-Err.ensures.memory refl
+returns-in-Err-clause-answers g c = answers_run_out _ _ _ c.in-Err.ensures.memory refl
 
 pub returns-in-Ok-clause-complete : goal.returns-in-Ok-clause-complete
 returns-in-Ok-clause-complete g c = complete _ _ _ (λ order other is its. sym (one_order (bytes_of_words c.args.words.now) order other is its)) _ (returns-in-Ok-clause-answers g c)

@@ -1,7 +1,4 @@
-use Rattle.std.proofs.Common.{subst}
 use Rattle.qm_shelf.specs.SeenForms.{shelf_state}
-use Rattle.qm_shelf.specs.FaultMeans.{ReadFaultMeans}
-use Rattle.qm_shelf.specs.declared.shelf.ShelfFault.{ShelfFault}
 use Rattle.qm_compile.proofs.TreesRead.{read_under}
 use Rattle.qm_compile.proofs.tree_reading.read_tree.Goals as goal
 
@@ -13,18 +10,7 @@ returns-in-Ok g c =
     read_under before after c.args.tree_name.now c.in-Ok.bytes.items told.bytes (record { kept = told.kept; no_fault = told.ok }) c.read_bytes.result c.read_bytes.ensures
 
 pub returns-in-Err-Failed : goal.returns-in-Err-Failed
-returns-in-Err-Failed g c =
-    let before = shelf_state g.H.Shelf c.args.shelf.now in
-    let after = shelf_state g.H.Shelf c.read_whole.new.shelf in
-    let told = c.in-Err-Failed.ensures in
-    (subst (λ (fault : ShelfFault). ReadFaultMeans before after c.args.tree_name.now fault) c.in-Err-Failed.field-0-is told.err, told.kept)
+returns-in-Err-Failed g c = let told = rw c.in-Err-Failed.field-0-is at c.in-Err-Failed.ensures in (told.err, told.kept)
 
 pub returns-in-Err-Memory : goal.returns-in-Err-Memory
-returns-in-Err-Memory g c =
-    let before = shelf_state g.H.Shelf c.args.shelf.now in
-    let after = shelf_state g.H.Shelf c.read_whole.new.shelf in
-    let told = c.in-Err-Memory.ensures in
-    record {
-      kept = told.kept;
-      no_fault = subst (λ (fault : ShelfFault). ReadFaultMeans before after c.args.tree_name.now fault) c.in-Err-Memory.field-0-is told.err;
-    }
+returns-in-Err-Memory g c = let told = rw c.in-Err-Memory.field-0-is at c.in-Err-Memory.ensures in record { kept = told.kept; no_fault = told.err }

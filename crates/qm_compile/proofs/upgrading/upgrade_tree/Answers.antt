@@ -10,6 +10,4 @@ pub returns-in-Ok : goal.returns-in-Ok
 returns-in-Ok g c = c.write_upgrade.ensures (shelf_state g.H.Shelf c.args.shelf.now) c.args.tree_name.now refl c.in-Ok.ensures
 
 pub returns-in-Err : goal.returns-in-Err
-returns-in-Err g c =
-    unwritten_without_tree (shelf_state g.H.Shelf c.args.shelf.now) (shelf_state g.H.Shelf c.read_tree.new.shelf) c.args.tree_name.now c.args.out_name.now
-    c.in-Err.none c.in-Err.ensures c.report_of.result c.report_of.ensures
+returns-in-Err g c = unwritten_without_tree _ _ _ _ c.in-Err.none c.in-Err.ensures c.report_of.result c.report_of.ensures
