@@ -171,7 +171,7 @@ fn part_in_front(
     match least_of(&pieces) {
         Some(least) => {
             let alloc = *pieces.allocator();
-            let outward = Arc::try_clone(outward)?;
+            let outward = outward.clone()?;
             let body = Box::new(
                 alloc,
                 Body {

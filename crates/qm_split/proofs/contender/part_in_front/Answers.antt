@@ -14,7 +14,7 @@ pub returns-in_ok-body-in-Some-clause-part : goal.returns-in_ok-body-in-Some-cla
 returns-in_ok-body-in-Some-clause-part c = λ book cell full reduced section held pieces.
     let body = c.in_ok-body-in-Some.ensures.ok in
     kept_contender book _ _ (record { contents = c.args.contents; outward = c.args.outward.now.value.items })
-    (ap (λ (os : List Plane). let s : Solid = record { contents = c.args.contents; outward = os } in s) (ap (λ (b : Body). b.outward.value.items) body ∙ ap (λ (os : Vec Plane Global). os.items) c.in_ok-outward-in-Some.ensures))
+    (ap (λ (os : List Plane). let s : Solid = record { contents = c.args.contents; outward = os } in s) (ap (λ (b : Body). b.outward.value.items) body ∙ ap (λ (os : Vec Plane Global). os.items) c.in_ok-outward-in-Some.ensures.cases))
     full reduced
     (subst (λ (b : Body). IsLesser None b.pieces.items (Some c.in-Some.least)) (sym body) (subst (λ (ps : List Piece). IsLesser None ps (Some c.in-Some.least)) c.deref.ensures.value c.in-Some.ensures))
     (subst (λ (b : Body). ArePiecesInCell book (cell ++ c.args.plane.now ∷ []) (record { contents = c.args.contents; outward = c.args.outward.now.value.items }) b.pieces.items) (sym body) pieces)
