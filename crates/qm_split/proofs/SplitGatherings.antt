@@ -1,5 +1,5 @@
 -- What is known of a side of a cell while its contenders are cut one after another.
-use Rattle.std.proofs.Common.{◌≡◌, ⊎_elim, ◌+◌, ◌≤◌, Option, List, [], ◌∷◌, ◌++◌, map, All, sym, subst, arith}
+use Rattle.std.proofs.Common.{◌≡◌, ⊎_elim, ◌+◌, ◌<◌, ◌≤◌, Option, List, [], ◌∷◌, ◌++◌, map, All, sym, subst, arith}
 use Rattle.std.proofs.lemmas.List.{map-append}
 use Rattle.std.proofs.lemmas.List.Elements.{All-contains, Contains-push, Contains-push_cases}
 use Rattle.qm_lists.proofs.Elements.{All-first_part, Contains-nil}
@@ -11,9 +11,9 @@ use Rattle.qm_split.specs.declared.contender.Contender.{Contender}
 use Rattle.qm_split.specs.declared.contender.Part.{Part}
 use Rattle.qm_split.specs.declared.gathering.Gathering.{Gathering}
 use Rattle.qm_split.specs.Pieces.{solid_of_contender, IsContender}
-use Rattle.qm_split.specs.CellFragments.{pieces_of}
+use Rattle.qm_split.specs.CellFragments.{pieces_of, IsAtMostKnown, IsAccounted, IsKeptContender}
 use Rattle.qm_split.specs.inner.Parts.{IsWindingInCell, IsPartIn, part_count, HasPieceIn, IsShortened}
-use Rattle.qm_split.specs.inner.Gathered.{IsGathered, HasFewer}
+use Rattle.qm_split.specs.inner.Gathered.{IsGathered, IsRaisedBy, HasFewer}
 use Rattle.qm_split.proofs.Gatherings.{pieces_of-push}
 
 -- what is gathered in front of the plane g of a cell that the plane h parts
@@ -43,6 +43,27 @@ module _ (before : Option Contents) (h g : Plane) (w : Winding) where
       (are book cell (All-first_part (IsContender book cell) done (contender ∷ []) all) section)
       (is book cell (All-contains (IsContender book cell) (done ++ contender ∷ []) contender all (Contains-push done contender)) section))
 
+-- ---- what is known does not depend on room
+
+-- what is known, and the contenders, are the same
+abbrev pub HoldsTheSame : Gathering → Gathering → Type 0
+HoldsTheSame old new = (new.strongest ≡ old.strongest) × (new.contenders.items ≡ old.contenders.items)
+
+side_same : (before : Option Contents) (h g : Plane) (w : Winding) (done : List Contender) (old new : Gathering) → HoldsTheSame old new →
+    IsGatheredSide before h g w done old → IsGatheredSide before h g w done new
+side_same before h g w done old new (strongest, items) are book cell all section = let known = are book cell all section in record {
+  no_weaker = λ contents before_known. subst (λ (s : Option Contents). IsAtMostKnown s contents) (sym strongest) (known.no_weaker contents before_known);
+  given = subst (IsRaisedBy (map solid_of_contender done) (cell ++ g ∷ []) before) (sym strongest) known.given;
+  kept = subst (λ (s : Option Contents). All (IsKeptContender (map solid_of_contender done) book (cell ++ g ∷ []) s) new.contenders.items) (sym strongest)
+      (subst (All (IsKeptContender (map solid_of_contender done) book (cell ++ g ∷ []) old.strongest)) (sym items) known.kept);
+  accounted = λ solid listed full. subst (λ (s : Option Contents). IsAccounted (cell ++ g ∷ []) s new.contenders.items solid) (sym strongest)
+      (subst (λ (qs : List Contender). IsAccounted (cell ++ g ∷ []) old.strongest qs solid) (sym items) (known.accounted solid listed full));
+}
+
+pub side_within : (before : Option Contents) (h g : Plane) (w : Winding) (done whole : List Contender) (old new : Gathering) → HoldsTheSame old new → done ≡ whole →
+    IsGatheredSide before h g w done old → IsGatheredSide before h g w whole new
+side_within before h g w done whole old new same all are = subst (λ (qs : List Contender). IsGatheredSide before h g w qs new) all (side_same before h g w done old new same are)
+
 -- ---- how many pieces
 
 abbrev pub HasFewerOfSide : Plane → List Contender → Gathering → Type 0
@@ -68,3 +89,9 @@ fewer_more done h contender part old new are short count book cell all =
     (are book cell (All-first_part (IsContender book cell) done (contender ∷ []) all))
     (short book cell (All-contains (IsContender book cell) (done ++ contender ∷ []) contender all (Contains-push done contender)))
     count
+
+pub fewer_within : (h : Plane) (done whole : List Contender) (old new : Gathering) → HoldsTheSame old new → done ≡ whole → HasFewerOfSide h done old → HasFewerOfSide h whole new
+fewer_within h done whole old new (strongest, items) all are = subst (λ (qs : List Contender). HasFewerOfSide h qs new) all (λ book cell contend. let known = are book cell contend in record {
+  no_more = subst (λ (qs : List Contender). pieces_of qs ≤ pieces_of done) (sym items) known.no_more;
+  fewer = λ has. subst (λ (qs : List Contender). pieces_of qs < pieces_of done) (sym items) (known.fewer has);
+})

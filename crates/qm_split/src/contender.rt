@@ -14,6 +14,7 @@ use qm_contents::Contents;
 use qm_geom::{Cuboid, Plane};
 use qm_wind::{Lies, Winding};
 use std::alloc::AllocError;
+use std::mem::replace;
 use std::sync::Arc;
 
 /// A full solid that has a part of a face in a cell.
@@ -104,7 +105,7 @@ impl Contender {
         left_part(contents, body, section, plane)
     }
 
-    /// For a plane that may part its pieces.
+    /// For a plane that may part its pieces. What is kept of it behind the plane stands where the whole stood.
     fn parted(self, plane: &Plane, section: &Winding) -> Result<Parts, AllocError>
         ensures front { IfOk result (λ parts. (book cell : List Plane) →
             IsContender book cell self → IsWindingInCell cell plane.now section.now →
@@ -116,29 +117,22 @@ impl Contender {
         ensures back_count { IfOk result (λ parts. IsShortened self plane.now parts.back) }
     {
         let Contender { contents, body, .. } = self;
-        let Body {
-            cuboid,
-            outward,
-            pieces,
-        } = Box::into_inner(body);
+        let mut body = body;
+        let alloc = *body.pieces.allocator();
+        let pieces = replace(&mut body.pieces, Vec::new(alloc));
         let lists = split_pieces(pieces, plane)?;
         let behind = plane.flipped();
         let front = part_in_front(
             contents,
-            &outward,
-            cuboid.tightened(plane),
+            &body.outward,
+            body.cuboid.tightened(plane),
             lists.front,
             section,
             plane,
         )?;
-        let back = part_in_front(
-            contents,
-            &outward,
-            cuboid.tightened(&behind),
-            lists.back,
-            section,
-            &behind,
-        )?;
+        body.cuboid = body.cuboid.tightened(&behind);
+        body.pieces = lists.back;
+        let back = left_part(contents, body, section, &behind);
         Ok(Parts { front, back })
     }
 

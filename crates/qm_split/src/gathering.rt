@@ -21,6 +21,9 @@ use qm_wind::Winding;
 use std::alloc::{AllocError, Global};
 use std::thread::Threads;
 
+/// How many times what it holds a list of contenders has room for at most, beside what is less than this.
+const SPARE: usize = 8;
+
 /// What is known of a cell while solids are looked at one after another: the strongest contents of those that contain it,
 /// and the stronger ones that have a part of a face in it.
 #[derive(Drop)]
@@ -46,6 +49,33 @@ impl Gathering {
             strongest,
             contenders: Vec::new(alloc),
         }
+    }
+
+    /// The same, with room for so many contenders: lists that grow are moved, for which all threads wait for one another.
+    fn with_room(
+        alloc: Global,
+        strongest: Option<Contents>,
+        room: usize,
+    ) -> Result<Gathering, AllocError>
+        ensures gathered { IfOk result (λ gathering. (book cell : List Plane) → IsGathered book cell strongest [] gathering) }
+        ensures count { IfOk result (λ gathering. pieces_of gathering.contenders.items ≡ 0) }
+    {
+        Ok(Gathering {
+            strongest,
+            contenders: Vec::with_capacity(alloc, room)?,
+        })
+    }
+
+    /// The same, without room to spare where few contenders came, so that a row of cells that are cut off one after another does
+    /// not take room for all contenders each.
+    fn within_room(self) -> Gathering
+        ensures { (result.strongest ≡ self.strongest) × (result.contenders.items ≡ self.contenders.items) }
+    {
+        let mut gathering = self;
+        if gathering.contenders.capacity() / SPARE > gathering.contenders.len() {
+            gathering.contenders.shrink_to_fit();
+        }
+        gathering
     }
 
     /// With one solid more, by what it is to the cell.
@@ -182,14 +212,18 @@ impl Gathering {
             strongest,
             contenders,
         } = self;
-        let mut front = Gathering::new(alloc, strongest);
-        let mut back = Gathering::new(alloc, strongest);
+        let room = contenders.len();
+        let mut front = Gathering::with_room(alloc, strongest, room)?;
+        let mut back = Gathering::with_room(alloc, strongest, room)?;
         for contender in contenders {
             let parts = contender.split(plane, section)?;
             front.add(parts.front)?;
             back.add(parts.back)?;
         }
-        Ok(Gatherings { front, back })
+        Ok(Gatherings {
+            front: front.within_room(),
+            back: back.within_room(),
+        })
     }
 }
 

@@ -1,18 +1,17 @@
-use Rattle.std.proofs.Common.{List, refl, ◌∙◌, subst, arith}
+use Rattle.std.proofs.Common.{refl, ◌∙◌, arith}
 use Rattle.std.proofs.lemmas.Grind.{common_steps}
 use Rattle.qm_space.specs.Plane.{flipped}
-use Rattle.qm_split.specs.declared.contender.Contender.{Contender}
 use Rattle.qm_lists.proofs.Taken.{taken_none, taken_more, taken_all}
-use Rattle.qm_split.proofs.SplitGatherings.{IsGatheredSide, HasFewerOfSide, side_begins, side_more, fewer_begins, fewer_more}
+use Rattle.qm_split.proofs.SplitGatherings.{side_begins, side_more, side_within, fewer_begins, fewer_more, fewer_within}
 use Rattle.qm_split.proofs.gathering.Gathering.split.Goals as goal
 
 pub loop-contender-init : goal.loop-contender-init
 loop-contender-init c = record {
   taken = taken_none _ _ _ refl (grind (arith, common_steps));
-  front = side_begins c.args.self.strongest c.args.plane.now c.args.plane.now c.args.section.now c.new-front.result c.new-front.ensures.gathered;
-  back = side_begins c.args.self.strongest c.args.plane.now (flipped c.args.plane.now) c.args.section.now c.new-back.result c.new-back.ensures.gathered;
-  front_count = fewer_begins c.args.plane.now c.new-front.result c.new-front.ensures.count;
-  back_count = fewer_begins c.args.plane.now c.new-back.result c.new-back.ensures.count;
+  front = side_begins c.args.self.strongest c.args.plane.now c.args.plane.now c.args.section.now c.in_ok-front.front c.in_ok-front.ensures.gathered;
+  back = side_begins c.args.self.strongest c.args.plane.now (flipped c.args.plane.now) c.args.section.now c.in_ok-back.back c.in_ok-back.ensures.gathered;
+  front_count = fewer_begins c.args.plane.now c.in_ok-front.front c.in_ok-front.ensures.count;
+  back_count = fewer_begins c.args.plane.now c.in_ok-back.back c.in_ok-back.ensures.count;
 }
 
 pub loop-contender-preserved : goal.loop-contender-preserved
@@ -30,20 +29,20 @@ loop-contender-preserved c = record {
 
 pub returns-clause-front : goal.returns-clause-front
 returns-clause-front c =
-    subst (λ (qs : List Contender). IsGatheredSide c.args.self.strongest c.args.plane.now c.args.plane.now c.args.section.now qs c.loop-contender.front)
+    side_within c.args.self.strongest c.args.plane.now c.args.plane.now c.args.section.now c.loop-contender.yielded c.args.self.contenders.items c.loop-contender.front c.within_room.result c.within_room.ensures
     (taken_all _ _ _ _ c.loop-contender.invariant.taken c.in-None.ensures.steps.0 ∙ c.into_iter-contender-iterator.ensures.into_iter_gives.0) c.loop-contender.invariant.front
 
 pub returns-clause-back : goal.returns-clause-back
 returns-clause-back c =
-    subst (λ (qs : List Contender). IsGatheredSide c.args.self.strongest c.args.plane.now (flipped c.args.plane.now) c.args.section.now qs c.loop-contender.back)
+    side_within c.args.self.strongest c.args.plane.now (flipped c.args.plane.now) c.args.section.now c.loop-contender.yielded c.args.self.contenders.items c.loop-contender.back c.within_room-2.result c.within_room-2.ensures
     (taken_all _ _ _ _ c.loop-contender.invariant.taken c.in-None.ensures.steps.0 ∙ c.into_iter-contender-iterator.ensures.into_iter_gives.0) c.loop-contender.invariant.back
 
 pub returns-clause-front_count : goal.returns-clause-front_count
 returns-clause-front_count c =
-    subst (λ (qs : List Contender). HasFewerOfSide c.args.plane.now qs c.loop-contender.front)
+    fewer_within c.args.plane.now c.loop-contender.yielded c.args.self.contenders.items c.loop-contender.front c.within_room.result c.within_room.ensures
     (taken_all _ _ _ _ c.loop-contender.invariant.taken c.in-None.ensures.steps.0 ∙ c.into_iter-contender-iterator.ensures.into_iter_gives.0) c.loop-contender.invariant.front_count
 
 pub returns-clause-back_count : goal.returns-clause-back_count
 returns-clause-back_count c =
-    subst (λ (qs : List Contender). HasFewerOfSide c.args.plane.now qs c.loop-contender.back)
+    fewer_within c.args.plane.now c.loop-contender.yielded c.args.self.contenders.items c.loop-contender.back c.within_room-2.result c.within_room-2.ensures
     (taken_all _ _ _ _ c.loop-contender.invariant.taken c.in-None.ensures.steps.0 ∙ c.into_iter-contender-iterator.ensures.into_iter_gives.0) c.loop-contender.invariant.back_count
