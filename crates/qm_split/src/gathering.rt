@@ -21,7 +21,7 @@ use qm_wind::Winding;
 use std::alloc::{AllocError, Global};
 use std::thread::Threads;
 
-/// How many times what it holds a list of contenders has room for at most, beside what is less than this.
+/// A list of contenders gives room back where it has more than so many times what it needs.
 const SPARE: usize = 8;
 
 /// What is known of a cell while solids are looked at one after another: the strongest contents of those that contain it,
@@ -40,19 +40,9 @@ pub(crate) struct Gatherings {
 }
 
 impl Gathering {
-    /// Before the first solid, where some contents are known.
-    pub(crate) fn new(alloc: Global, strongest: Option<Contents>) -> Gathering
-        ensures gathered { (book cell : List Plane) → IsGathered book cell strongest [] result }
-        ensures count { pieces_of result.contenders.items ≡ 0 }
-    {
-        Gathering {
-            strongest,
-            contenders: Vec::new(alloc),
-        }
-    }
-
-    /// The same, with room for so many contenders: lists that grow are moved, for which all threads wait for one another.
-    fn with_room(
+    /// Before the first solid, where some contents are known, with room for so many contenders: a list that grows is moved, and
+    /// for each move threads wait for one another.
+    pub(crate) fn with_room(
         alloc: Global,
         strongest: Option<Contents>,
         room: usize,
@@ -66,7 +56,7 @@ impl Gathering {
         })
     }
 
-    /// The same, without room to spare where few contenders came, so that a row of cells that are cut off one after another does
+    /// The same, without the room to spare where few contenders came, so that a row of cells that are cut off one after another does
     /// not take room for all contenders each.
     fn within_room(self) -> Gathering
         ensures { (result.strongest ≡ self.strongest) × (result.contenders.items ≡ self.contenders.items) }
@@ -125,7 +115,7 @@ impl Gathering {
         requires filled { IsBookOf book.now list.now }
         ensures { IfOk result (IsGathered book.now [] None (solids_in book.now list.now)) }
     {
-        let mut gathering = Gathering::new(alloc, None);
+        let mut gathering = Gathering::with_room(alloc, None, list.len() as usize)?;
         for i in 0..list.len() {
             gathering.add(brush_in_cube(alloc, list, i, book)?)?;
         }
@@ -152,7 +142,7 @@ impl Gathering {
             IsBookOf book list → length parts.items ≡ length list → ArePartsOfCube book list 0 parts.items →
             IsGathered book [] None (solids_in book list) gathering) }
     {
-        let mut gathering = Gathering::new(alloc, None);
+        let mut gathering = Gathering::with_room(alloc, None, parts.len())?;
         for part in parts {
             gathering.add(part)?;
         }

@@ -6,7 +6,7 @@ use Rattle.qm_split.proofs.MadeFragments.{solids_more}
 use Rattle.qm_split.proofs.gathering.Gathering.in_cube.Goals as goal
 
 pub loop-i-init : goal.loop-i-init
-loop-i-init c = c.new-gathering.ensures.gathered c.args.book.now []
+loop-i-init c = c.in_ok-gathering.ensures.gathered c.args.book.now []
 
 pub loop-i-preserved : goal.loop-i-preserved
 loop-i-preserved c =

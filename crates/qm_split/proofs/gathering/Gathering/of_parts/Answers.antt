@@ -8,7 +8,7 @@ use Rattle.qm_split.proofs.gathering.Gathering.of_parts.Goals as goal
 pub loop-part-init : goal.loop-part-init
 loop-part-init c = record {
   taken = taken_none _ _ _ refl (grind (arith, common_steps));
-  gathered = λ book list. gathered_none book list c.new-gathering.result (c.new-gathering.ensures.gathered book []);
+  gathered = λ book list. gathered_none book list c.in_ok-gathering.gathering (c.in_ok-gathering.ensures.gathered book []);
 }
 
 pub loop-part-preserved : goal.loop-part-preserved
