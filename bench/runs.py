@@ -24,14 +24,19 @@ def least_of_all(costs):
     return Cost(*(min(figures) for figures in zip(*costs)))
 
 
-def run(words):
-    """How a run ended, and what it took. Its peak is at least that of this script, which is 10 megabytes or so."""
-    begun = time.monotonic()
+def begin(words):
+    """The number of the process of a run that has begun."""
     child = os.fork()
     if child == 0:
         os.dup2(os.open(os.devnull, os.O_WRONLY), 1)
         os.execv(TIMEOUT, [TIMEOUT, LIMIT, *words])
-    _, status, usage = os.wait4(child, 0)
+    return child
+
+
+def run(words):
+    """How a run ended, and what it took. Its peak is at least that of this script, which is 10 megabytes or so."""
+    begun = time.monotonic()
+    _, status, usage = os.wait4(begin(words), 0)
     cost = Cost(time.monotonic() - begun, usage.ru_utime + usage.ru_stime, usage.ru_maxrss / 1024)
     return os.waitstatus_to_exitcode(status), cost
 
@@ -44,9 +49,19 @@ def cost_of(command):
     return cost
 
 
-def costs_in_turn(commands):
-    """What each command took, in each of some runs in turn."""
-    return [[cost_of(command) for command in commands] for _ in range(RUNS)]
+def clock_beside(commands):
+    """Seconds by the clock from the beginning of some runs, which all begin at once and have to end with 0, to their ends: the
+    mean."""
+    begun = time.monotonic()
+    for command in commands:
+        begin(command)
+    clocks = []
+    for command in commands:
+        _, status = os.wait()
+        if os.waitstatus_to_exitcode(status) != DONE:
+            sys.exit(f"{' '.join(command)} failed")
+        clocks.append(time.monotonic() - begun)
+    return sum(clocks) / len(clocks)
 
 
 def least_costs(commands):

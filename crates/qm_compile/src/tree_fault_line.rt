@@ -9,7 +9,6 @@ use qm_file::FileFault;
 use std::alloc::{AllocError, Global};
 
 /// The line that is printed of a fault: its number, its place, and what it is. Want of memory is no fault of bytes.
-#[tactic(auto, unfolding(qm_statement::specs::TreeFaultText::tree_fault_text))]
 pub fn tree_fault_line(alloc: Global, fault: FileFault) -> Result<String, AllocError>
     ensures { IfOk result (λ text. IsTreeFaultLine fault (string_bytes text)) }
 {
