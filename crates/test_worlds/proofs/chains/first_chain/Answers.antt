@@ -2,7 +2,7 @@ use Rattle.std.proofs.Common.{ap, sym, ◌∙◌}
 use Rattle.qm_space.specs.Turned.{turned}
 use Rattle.qm_convex.specs.Winding.{Winding}
 use Rattle.qm_chains.proofs.Beginnings.{turned_of_portal}
-use Rattle.test_worlds.proofs.chains.shown.Goals as goal
+use Rattle.test_worlds.proofs.chains.first_chain.Goals as goal
 
 pub start-requires : goal.start-requires
 start-requires c =
