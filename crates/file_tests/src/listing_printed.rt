@@ -89,17 +89,29 @@ fn is_listed(alloc: Global, world: &World) -> Result<bool, AllocError> {
     )
 }
 
+/// Adds the six sides of a box between -64 and 64.
+fn put_sides(text: &mut String) -> Result<(), AllocError> {
+    for side in 0..6 {
+        let at = if side % 2 == 0 { -64 } else { 64 };
+        put_face(text, "stone", points_across(side, at))?;
+    }
+    Ok(())
+}
+
+/// Adds the planes through three points each.
+fn put_cuts(text: &mut String, cuts: &[[[i32; 3]; 3]]) -> Result<(), AllocError> {
+    for points in cuts {
+        put_face(text, "stone", *points)?;
+    }
+    Ok(())
+}
+
 /// The text of a world of one box between -64 and 64, each of its sides cut by the plane through three points.
 fn cut_box(alloc: Global, cuts: &[[[i32; 3]; 3]]) -> Result<String, AllocError> {
     let mut text = String::new(alloc);
     text.push_str("{\n{\n")?;
-    for side in 0..6 {
-        let at = if side % 2 == 0 { -64 } else { 64 };
-        put_face(&mut text, "stone", points_across(side, at))?;
-    }
-    for points in cuts {
-        put_face(&mut text, "stone", *points)?;
-    }
+    put_sides(&mut text)?;
+    put_cuts(&mut text, cuts)?;
     text.push_str("}\n}\n")?;
     Ok(text)
 }

@@ -91,12 +91,19 @@ static REFUSED: [Refused; 9] = [
     },
 ];
 
+/// Adds a byte so many times.
+fn put_run(bytes: &mut Vec<u8>, count: usize, byte: u8) -> Result<(), AllocError> {
+    for _ in 0..count {
+        bytes.push(byte)?;
+    }
+    Ok(())
+}
+
+/// The bytes of a row, of which it says how often each comes.
 fn bytes_of(alloc: Global, row: &[(usize, u8)]) -> Result<Vec<u8>, AllocError> {
     let mut bytes = Vec::new(alloc);
     for (count, byte) in row {
-        for _ in 0..*count {
-            bytes.push(*byte)?;
-        }
+        put_run(&mut bytes, *count, *byte)?;
     }
     Ok(bytes)
 }
