@@ -116,17 +116,28 @@ fn agree_in_world(alloc: Global, random: &mut Random, grid: Grid) -> Result<bool
     Ok(true)
 }
 
+/// Whether so many random worlds are built, and the tree and the brushes of each agree at many points.
+fn agree_in_worlds(
+    alloc: Global,
+    random: &mut Random,
+    grid: Grid,
+    count: u64,
+) -> Result<bool, AllocError> {
+    for _ in 0..count {
+        if !agree_in_world(alloc, random, grid)? {
+            return Ok(false);
+        }
+    }
+    Ok(true)
+}
+
 /// In many random worlds, the tree gives points off its node planes what the brushes hold. In some of the worlds the brushes
 /// meet in thousandths.
 #[test]
 fn random_worlds_are_built(rt: HostRuntime) -> Result<(), Fail> {
     let mut random = Random::new(1);
-    for _ in 0..200 {
-        assert!(rt; agree_in_world(rt.alloc(), &mut random, Grid::Whole)?);
-    }
-    for _ in 0..100 {
-        assert!(rt; agree_in_world(rt.alloc(), &mut random, Grid::Thousandths)?);
-    }
+    assert!(rt; agree_in_worlds(rt.alloc(), &mut random, Grid::Whole, 200)?);
+    assert!(rt; agree_in_worlds(rt.alloc(), &mut random, Grid::Thousandths, 100)?);
     Ok(())
 }
 

@@ -79,17 +79,24 @@ struct Seen {
 }
 
 impl Seen {
+    /// What all cells of the grid show.
     fn of(alloc: Global, found: &Touching) -> Result<Seen, AllocError> {
         let mut seen = Seen {
             pairs: Vec::new(alloc),
             outside: Vec::new(alloc),
         };
         for x in 0..CELLS {
-            for y in 0..CELLS {
-                seen.add_line(found, x, y)?;
-            }
+            seen.add_layer(found, x)?;
         }
         Ok(seen)
+    }
+
+    /// Adds what the lines of a layer of cells show.
+    fn add_layer(&mut self, found: &Touching, x: u8) -> Result<(), AllocError> {
+        for y in 0..CELLS {
+            self.add_line(found, x, y)?;
+        }
+        Ok(())
     }
 
     /// Adds what a line of cells shows, and what lies beside each of its cells.

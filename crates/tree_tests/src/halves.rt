@@ -93,16 +93,27 @@ fn is_same_leaf(leaf: &Leaf, other: &Leaf) -> bool {
     leaf.contents == other.contents && leaf.filled == other.filled
 }
 
-/// Whether two trees have the same nodes and leaves.
-fn is_same_tree(tree: &Tree, other: &Tree) -> bool {
-    let mut same = tree.nodes() == other.nodes() && tree.leaves() == other.leaves();
+/// Whether two trees have the same nodes.
+fn have_same_nodes(tree: &Tree, other: &Tree) -> bool {
+    let mut same = tree.nodes() == other.nodes();
     for n in 0..tree.nodes() {
         same &= n < other.nodes() && is_same_node(&tree.node(n), &other.node(n));
     }
+    same
+}
+
+/// Whether two trees have the same leaves.
+fn have_same_leaves(tree: &Tree, other: &Tree) -> bool {
+    let mut same = tree.leaves() == other.leaves();
     for n in 0..tree.leaves() {
         same &= n < other.leaves() && is_same_leaf(&tree.leaf(n), &other.leaf(n));
     }
     same
+}
+
+/// Whether two trees have the same nodes and leaves.
+fn is_same_tree(tree: &Tree, other: &Tree) -> bool {
+    have_same_nodes(tree, other) && have_same_leaves(tree, other)
 }
 
 /// Whether the tree of brushes is built in halves as it is cell by cell, and both halves came in time.
