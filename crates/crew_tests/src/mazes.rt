@@ -41,6 +41,15 @@ fn lies_within(world: &World, row: &BitRow, leaves: &[u64]) -> bool {
     right
 }
 
+/// Whether each row lies within the list of leaves at its place.
+fn lie_within(world: &World, rows: &[BitRow], lists: &[Vec<u64>]) -> bool {
+    let mut right = true;
+    for (row, leaves) in rows.iter().zip(lists) {
+        right &= lies_within(world, row, leaves);
+    }
+    right
+}
+
 /// Whether there is a row for each portal, and each lies within its reuse over turns.
 fn lie_within_reuse(
     alloc: Global,
@@ -51,9 +60,7 @@ fn lie_within_reuse(
     let mut right = rows.len() as u64 == world.portals();
     for list in turns {
         let after = after_turns(alloc, world, list.as_slice())?;
-        for (row, leaves) in rows.iter().zip(&after) {
-            right &= lies_within(world, row, leaves);
-        }
+        right &= lie_within(world, rows, &after);
     }
     Ok(right)
 }
