@@ -1,6 +1,7 @@
 //! Coarse rows of generated worlds, beside a flood that goes through all portals again and again, and tests corners.
 
 use qm_base::base;
+use qm_bits::BitRow;
 use qm_geom::Plane;
 use qm_portal::World;
 use qm_wind::Winding;
@@ -31,7 +32,17 @@ fn follows(world: &World, p: u64, q: u64) -> bool {
         && has_corner(&first.winding, &second.into, Ordering::Less)
 }
 
-/// The leaves that one comes to from a portal, some of them more than once.
+/// Adds the leaves that one comes to from the leaves of a list by one more portal that follows a portal.
+fn add_next(found: &mut Vec<u64>, world: &World, p: u64) -> Result<(), AllocError> {
+    for q in 0..world.portals() {
+        if found.contains(&world.from(q)) && !found.contains(&world.to(q)) && follows(world, p, q) {
+            found.push(world.to(q))?;
+        }
+    }
+    Ok(())
+}
+
+/// The leaves that one comes to from a portal, each once.
 fn reached(alloc: Global, world: &World, p: u64) -> Result<Vec<u64>, AllocError> {
     let mut found = Vec::new(alloc);
     if p < world.portals() {
@@ -39,14 +50,7 @@ fn reached(alloc: Global, world: &World, p: u64) -> Result<Vec<u64>, AllocError>
     }
     for _ in 0..world.leaves() {
         let before = found.len();
-        for q in 0..world.portals() {
-            if found.contains(&world.from(q))
-                && !found.contains(&world.to(q))
-                && follows(world, p, q)
-            {
-                found.push(world.to(q))?;
-            }
-        }
+        add_next(&mut found, world, p)?;
         if found.len() == before {
             break;
         }
@@ -54,17 +58,22 @@ fn reached(alloc: Global, world: &World, p: u64) -> Result<Vec<u64>, AllocError>
     Ok(found)
 }
 
+/// Whether a row has a place for each leaf, and just the leaves of a list.
+fn is_row_of(world: &World, row: &BitRow, leaves: &[u64]) -> bool {
+    let mut right = row.len() == world.leaves();
+    for leaf in 0..row.len() {
+        right &= row.get(leaf) == leaves.contains(&leaf);
+    }
+    right
+}
+
 /// Whether the rows of all portals are right.
 fn are_right(alloc: Global, world: &World) -> Result<bool, AllocError> {
     let rows = base(alloc, world)?;
     let mut right = rows.len() as u64 == world.portals();
     for p in 0..rows.len() {
-        let row = &rows.as_slice()[p];
         let found = reached(alloc, world, p as u64)?;
-        right &= row.len() == world.leaves();
-        for leaf in 0..row.len() {
-            right &= row.get(leaf) == found.contains(&leaf);
-        }
+        right &= is_row_of(world, &rows.as_slice()[p], &found);
     }
     Ok(right)
 }

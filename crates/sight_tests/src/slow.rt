@@ -74,19 +74,28 @@ fn least_distance(normal: &Numbers, corners: &[Corner]) -> i128 {
     least
 }
 
-/// Whether no corner of the pass is behind the plane, and some corner of one of the two is not on it.
+/// Whether some corner is behind a plane.
+fn has_behind(corners: &[Corner], plane: &Numbers) -> bool {
+    let mut behind = false;
+    for corner in corners {
+        behind = behind || value(plane, corner) < 0;
+    }
+    behind
+}
+
+/// Whether some corner is in front of a plane.
+fn has_in_front(corners: &[Corner], plane: &Numbers) -> bool {
+    let mut in_front = false;
+    for corner in corners {
+        in_front = in_front || value(plane, corner) > 0;
+    }
+    in_front
+}
+
+/// Whether no corner of the pass is behind the plane, and some corner of one of the two is not on it: one of the pass in front of it,
+/// or one of the source behind it.
 fn parts(source: &[Corner], pass: &[Corner], plane: &Numbers) -> bool {
-    let mut off = false;
-    for corner in pass {
-        if value(plane, corner) < 0 {
-            return false;
-        }
-        off = off || value(plane, corner) > 0;
-    }
-    for corner in source {
-        off = off || value(plane, corner) < 0;
-    }
-    off
+    !has_behind(pass, plane) && (has_in_front(pass, plane) || has_behind(source, plane))
 }
 
 fn step(from: [i32; 3], to: [i32; 3]) -> [i64; 3] {
@@ -158,33 +167,68 @@ fn mixed(corner: &Whole, mix: u32) -> [i32; 3] {
     ]
 }
 
+/// An edge of a winding: the whole points nearest to its two ends.
+#[derive(Clone, Copy)]
+struct Edge {
+    from: [i32; 3],
+    to: [i32; 3],
+}
+
+/// The source and the pass that separators are to part.
+#[derive(Drop)]
+struct TracedPair {
+    source: Traced,
+    pass: Traced,
+}
+
+/// Adds the separators through an edge and a corner: through each whole point around the corner, with both signs.
+fn add_of_corner(
+    found: &mut Vec<Numbers>,
+    pair: &TracedPair,
+    edge: &Edge,
+    corner: &Whole,
+) -> Result<(), AllocError> {
+    let source = pair.source.corners.as_slice();
+    let pass = pair.pass.corners.as_slice();
+    for mix in 0..16_u32 {
+        let sign = if mix < 8 { 1 } else { -1 };
+        let mut plane = normal(mixed(corner, mix), edge.from, edge.to, sign);
+        plane[3] = least_distance(&plane, source);
+        if plane[..3] != [0, 0, 0] && parts(source, pass, &plane) && !found.contains(&plane) {
+            found.push(plane)?;
+        }
+    }
+    Ok(())
+}
+
+/// Adds the separators through an edge and the corners of a winding.
+fn add_of_edge(
+    found: &mut Vec<Numbers>,
+    pair: &TracedPair,
+    edge: &Edge,
+    others: &Traced,
+) -> Result<(), AllocError> {
+    for corner in others.wholes.as_slice() {
+        add_of_corner(found, pair, edge, corner)?;
+    }
+    Ok(())
+}
+
 /// Adds the separators through the edges of the one and the corners of the other.
 fn add(
     found: &mut Vec<Numbers>,
-    source: &Traced,
-    pass: &Traced,
+    pair: &TracedPair,
     edges: &Traced,
     others: &Traced,
 ) -> Result<(), AllocError> {
     let mut from = match edges.wholes.last() {
         None => return Ok(()),
-        Some(last) => *last,
+        Some(last) => last.nearest,
     };
-    for to in edges.wholes.as_slice() {
-        for corner in others.wholes.as_slice() {
-            for mix in 0..16_u32 {
-                let sign = if mix < 8 { 1 } else { -1 };
-                let mut plane = normal(mixed(corner, mix), from.nearest, to.nearest, sign);
-                plane[3] = least_distance(&plane, source.corners.as_slice());
-                if plane[..3] != [0, 0, 0]
-                    && parts(source.corners.as_slice(), pass.corners.as_slice(), &plane)
-                    && !found.contains(&plane)
-                {
-                    found.push(plane)?;
-                }
-            }
-        }
-        from = *to;
+    for whole in edges.wholes.as_slice() {
+        let to = whole.nearest;
+        add_of_edge(found, pair, &Edge { from, to }, others)?;
+        from = to;
     }
     Ok(())
 }
@@ -195,10 +239,12 @@ pub(crate) fn separators(
     source: &Winding,
     pass: &Winding,
 ) -> Result<Vec<Numbers>, AllocError> {
-    let source = trace_of(alloc, source)?;
-    let pass = trace_of(alloc, pass)?;
+    let pair = TracedPair {
+        source: trace_of(alloc, source)?,
+        pass: trace_of(alloc, pass)?,
+    };
     let mut found = Vec::new(alloc);
-    add(&mut found, &source, &pass, &source, &pass)?;
-    add(&mut found, &source, &pass, &pass, &source)?;
+    add(&mut found, &pair, &pair.source, &pair.pass)?;
+    add(&mut found, &pair, &pair.pass, &pair.source)?;
     Ok(found)
 }

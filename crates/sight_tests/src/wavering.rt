@@ -33,6 +33,15 @@ fn wavering_rows<R: Threads + Sync>(
     Ok(rows)
 }
 
+/// Whether a row has only leaves of a list.
+fn lies_within(row: &BitRow, leaves: &[u64]) -> bool {
+    let mut right = true;
+    for leaf in 0..row.len() {
+        right &= !row.get(leaf) || leaves.contains(&leaf);
+    }
+    right
+}
+
 /// Whether the row of each portal has only leaves that open chains show over other rows.
 fn lie_within(
     alloc: Global,
@@ -42,11 +51,8 @@ fn lie_within(
 ) -> Result<bool, AllocError> {
     let mut right = rows.len() as u64 == world.portals();
     for p in 0..rows.len() {
-        let row = &rows[p];
         let found = shown(alloc, world, coarse, p as u64)?;
-        for leaf in 0..row.len() {
-            right &= !row.get(leaf) || found.contains(&leaf);
-        }
+        right &= lies_within(&rows[p], &found);
     }
     Ok(right)
 }
