@@ -72,7 +72,7 @@ fn cube_file_of(alloc: Global, numbered: u8, code: u8, rows: &[u8]) -> Result<Ve
     Ok(file)
 }
 
-/// The name on the first face decides what the inner leaf holds; a cube that is clip is no part of the world.
+/// The name on the first face decides what the inner leaf holds.
 #[test]
 fn names_give_contents(rt: HostRuntime) -> Result<(), Fail> {
     let rows = [
@@ -91,6 +91,12 @@ fn names_give_contents(rt: HostRuntime) -> Result<(), Fail> {
         )?;
         assert!(rt; gives(&rt, "compile", &text, 0, &printed, Some(file.as_slice()))?);
     }
+    Ok(())
+}
+
+/// A cube that is clip is no part of the world.
+#[test]
+fn clip_gives_no_contents(rt: HostRuntime) -> Result<(), Fail> {
     for name in ["clip", "CLIP"] {
         let text = named_cube(rt.alloc(), name)?;
         assert!(rt;

@@ -68,13 +68,18 @@ static ABSENT: [&str; 5] = ["program_tests_absent.txt", "/", "/dev/null/x", "", 
 
 static NEVER_MADE: [&str; 4] = ["/", "/dev/null/x", "", "a\0b"];
 
-/// Whether reading and appending are faults under each name that is not there, and making a file under each that no
-/// file can have.
-fn refuses<R: Files>(shelf: &mut FolderShelf<'_, R>) -> bool {
+/// Whether reading and appending are faults under each name that is not there.
+fn misses_absent<R: Files>(shelf: &mut FolderShelf<'_, R>) -> bool {
     let mut right = true;
     for name in &ABSENT {
         right &= shelf.read(name, 0, &mut [0; 4]).is_err() && shelf.append(name, b"x").is_err();
     }
+    right
+}
+
+/// Whether making a file is a fault under each name that no file can have.
+fn makes_none<R: Files>(shelf: &mut FolderShelf<'_, R>) -> bool {
+    let mut right = true;
     for name in &NEVER_MADE {
         right &= shelf.create(name).is_err();
     }
@@ -85,8 +90,9 @@ fn refuses<R: Files>(shelf: &mut FolderShelf<'_, R>) -> bool {
 #[test]
 fn the_folder_answers_faults(rt: HostRuntime) -> Result<(), Fail> {
     let mut shelf = FolderShelf::over(&rt);
-    let refused = refuses(&mut shelf);
-    assert!(rt; refused && TermSink::over(&rt).write(b"printed\n").is_ok());
+    let missed = misses_absent(&mut shelf);
+    let made_none = makes_none(&mut shelf);
+    assert!(rt; missed && made_none && TermSink::over(&rt).write(b"printed\n").is_ok());
     Ok(())
 }
 

@@ -26,6 +26,12 @@ const NO_SAMPLES: Tally = Tally {
     unseen: 0,
 };
 
+/// The words with which each world is compiled: for coarse rows, and for others.
+static WORDS: [&[&str]; 2] = [
+    &["compile", "map", "out", "--fast"],
+    &["compile", "map", "out"],
+];
+
 /// The file of a text, with coarse rows or with others; `None` where it is not made.
 fn file_of<R: AllocGlobal + Threads + Sync>(
     rt: &R,
@@ -82,6 +88,28 @@ fn sample(alloc: Global, file: &TreeFile, random: &mut Random) -> Result<Tally, 
     Ok(tally)
 }
 
+/// What samples of the files of a text show: the least of the segments that were clear and apart in one of them, and all that
+/// lack an end in a row.
+fn sample_both<R: AllocGlobal + Threads + Sync>(
+    rt: &R,
+    text: &[u8],
+    random: &mut Random,
+) -> Result<Tally, AllocError> {
+    let mut both = Tally {
+        apart: SAMPLES,
+        unseen: 0,
+    };
+    for &words in &WORDS {
+        let tally = match file_of(rt, text, words)? {
+            Some(file) => sample(rt.alloc(), &file, random)?,
+            None => NO_SAMPLES,
+        };
+        both.apart = both.apart.min(tally.apart);
+        both.unseen = both.unseen.saturating_add(tally.unseen);
+    }
+    Ok(both)
+}
+
 /// The rows of the two ends of a clear segment have each other, coarse or not.
 #[test]
 fn rows_hold_the_ends_of_segments(rt: HostRuntime) -> Result<(), Fail> {
@@ -90,17 +118,9 @@ fn rows_hold_the_ends_of_segments(rt: HostRuntime) -> Result<(), Fail> {
     let mut unseen = 0u64;
     for _ in 0..4 {
         let text = maze(rt.alloc(), &mut random, 4)?;
-        for words in [
-            ["compile", "map", "out", "--fast"].as_slice(),
-            ["compile", "map", "out"].as_slice(),
-        ] {
-            let tally = match file_of(&rt, text.as_bytes(), words)? {
-                Some(file) => sample(rt.alloc(), &file, &mut random)?,
-                None => NO_SAMPLES,
-            };
-            least = least.min(tally.apart);
-            unseen = unseen.saturating_add(tally.unseen);
-        }
+        let tally = sample_both(&rt, text.as_bytes(), &mut random)?;
+        least = least.min(tally.apart);
+        unseen = unseen.saturating_add(tally.unseen);
     }
     assert!(rt;
         unseen == 0 && least >= 100,

@@ -164,6 +164,36 @@ fn fails_so<R: AllocGlobal + Threads + Sync>(
     Ok(says && outside.holds(out, &file, faults))
 }
 
+/// Whether the file with sections answers what is asked of it.
+fn tells_sections<R: AllocGlobal + Threads + Sync>(
+    rt: &R,
+    parts: &[u8],
+) -> Result<bool, AllocError> {
+    let mut right = true;
+    for &(words, status, printed) in &ASKED {
+        right &= tells(rt, parts, words, status, printed)?;
+    }
+    Ok(right)
+}
+
+/// Whether each torn file is refused.
+fn refuses_torn<R: AllocGlobal + Threads + Sync>(rt: &R) -> Result<bool, AllocError> {
+    let mut right = true;
+    for &(place, byte, length, printed) in &TORN {
+        right &= is_refused(rt, &torn(rt.alloc(), place, byte, length)?, printed)?;
+    }
+    Ok(right)
+}
+
+/// Whether upgrading fails as it is to at each fault.
+fn answers_faults<R: AllocGlobal + Threads + Sync>(rt: &R) -> Result<bool, AllocError> {
+    let mut right = true;
+    for &(call, write, answer, length) in &FAULTS {
+        right &= fails_so(rt, call, write, answer, length)?;
+    }
+    Ok(right)
+}
+
 /// Tree files of both versions, and what is none.
 #[test]
 fn inspects_and_upgrades_tree_files(rt: HostRuntime) -> Result<(), Fail> {
@@ -176,15 +206,9 @@ fn inspects_and_upgrades_tree_files(rt: HostRuntime) -> Result<(), Fail> {
     right &= is_upgraded(&rt, &parts, SECOND_TO_SECOND, &parts)?;
     let told = "version 1 bound 4096 parts\n";
     right &= tells(&rt, &first, &["inspect", "map", "parts"], 0, told)?;
-    for &(words, status, printed) in &ASKED {
-        right &= tells(&rt, &parts, words, status, printed)?;
-    }
-    for &(place, byte, length, printed) in &TORN {
-        right &= is_refused(&rt, &torn(rt.alloc(), place, byte, length)?, printed)?;
-    }
-    for &(call, write, answer, length) in &FAULTS {
-        right &= fails_so(&rt, call, write, answer, length)?;
-    }
+    right &= tells_sections(&rt, &parts)?;
+    right &= refuses_torn(&rt)?;
+    right &= answers_faults(&rt)?;
     assert!(rt; right);
     Ok(())
 }
