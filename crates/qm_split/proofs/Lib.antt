@@ -12,3 +12,4 @@ pub mod MadeFragments
 pub mod CubeParts
 pub mod HeldCuboids
 pub mod BesidePieces
+pub mod SharedPlanes

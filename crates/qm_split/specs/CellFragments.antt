@@ -12,12 +12,13 @@ use Rattle.qm_solids.specs.Uniform.{LiesOutside}
 use Rattle.qm_split.specs.declared.contender.Contender.{Contender}
 use Rattle.qm_split.specs.declared.fragments.Fragments.{Fragments}
 use Rattle.qm_split.specs.Pieces.{solid_of_contender, IsContender}
+use Rattle.qm_split.specs.CellPlanes.{planes_of_cell}
 
 -- What fragments keep of a cell.
 
 -- the planes of the cell
 abbrev pub cell_of_fragments : Fragments → List Plane
-cell_of_fragments fragments = fragments.cell.items
+cell_of_fragments fragments = planes_of_cell fragments.cell
 
 -- how many pieces some contenders have
 abbrev pub pieces_of : List Contender → ℕ

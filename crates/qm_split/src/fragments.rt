@@ -6,11 +6,13 @@ ghost use Rattle.qm_solids.specs.Cells.{CellHasContents};
 ghost use Rattle.qm_solids.specs.Least.{IsLeastCandidate};
 ghost use Rattle.qm_solids.specs.InBook.{solids_in, IsBookOf};
 ghost use Rattle.qm_solid_tree.specs.Division.{HasNoCandidate, front_of, back_of};
+ghost use Rattle.qm_split.specs.CellPlanes.{planes_of_cell};
 ghost use Rattle.qm_split.specs.CellFragments.{AreFragmentsOf, cell_of_fragments, piece_count, HasPointOn};
 ghost use Rattle.qm_split.specs.SplitCounts.{IsCandidatePlane};
 ghost use Rattle.qm_split.specs.inner.Parts.{IsWindingInCell};
 ghost use Rattle.qm_split.specs.inner.Halves.{IsHalf};
 
+use crate::cell::CellPlanes;
 use crate::gathering::{Gathering, Gatherings};
 use crate::in_cube::part_in_cube;
 use crate::section::section_of_cell;
@@ -24,7 +26,7 @@ use std::thread::Threads;
 /// The faces of full brushes inside one cell, with the strongest of the brushes that contain the cell.
 #[derive(Drop)]
 pub struct Fragments {
-    cell: Vec<Plane>,
+    cell: CellPlanes,
     gathering: Gathering,
 }
 
@@ -44,7 +46,7 @@ impl Fragments {
         let _planes = book.len();
         let gathering = Gathering::in_cube(alloc, list, book)?;
         Ok(Fragments {
-            cell: Vec::new(alloc),
+            cell: CellPlanes::new(alloc),
             gathering,
         })
     }
@@ -62,7 +64,7 @@ impl Fragments {
         let _planes = book.len();
         let gathering = Gathering::in_cube_halves(rt, alloc, list, book)?;
         Ok(Fragments {
-            cell: Vec::new(alloc),
+            cell: CellPlanes::new(alloc),
             gathering,
         })
     }
@@ -110,7 +112,10 @@ impl Fragments {
     {
         match self.gathering.winding_on(plane) {
             Some(winding) => winding.copy(),
-            None => section_of_cell(*self.cell.allocator(), &self.cell, plane),
+            None => {
+                let planes = self.cell.listed()?;
+                section_of_cell(*planes.allocator(), &planes, plane)
+            }
         }
     }
 
@@ -127,17 +132,16 @@ impl Fragments {
 
 /// Both halves of a cell that a plane parts, by what is known of them.
 fn halves_of_cell(
-    cell: Vec<Plane>,
+    cell: CellPlanes,
     plane: &Plane,
     halves: Gatherings,
 ) -> Result<CellHalves, AllocError>
-    ensures front { IfOk result (λ made. IsHalf cell.items plane.now halves.front made.front) }
-    ensures back { IfOk result (λ made. IsHalf cell.items (flipped plane.now) halves.back made.back) }
+    ensures front { IfOk result (λ made. IsHalf (planes_of_cell cell) plane.now halves.front made.front) }
+    ensures back { IfOk result (λ made. IsHalf (planes_of_cell cell) (flipped plane.now) halves.back made.back) }
 {
     let _ = &plane.nx;
-    let behind = longer(&cell, plane.flipped())?;
-    let mut before = cell;
-    before.push(*plane)?;
+    let behind = cell.copied()?.with(plane.flipped())?;
+    let before = cell.with(*plane)?;
     Ok(CellHalves {
         front: Fragments {
             cell: before,
@@ -148,17 +152,4 @@ fn halves_of_cell(
             gathering: halves.back,
         },
     })
-}
-
-/// For how many planes more than the shorter list a longer one has room, so that the lists of cells below are mostly not moved.
-const ROOM: usize = 8;
-
-/// Planes with one more.
-fn longer(planes: &Vec<Plane>, plane: Plane) -> Result<Vec<Plane>, AllocError>
-    ensures { IfOk result (λ more. more.items ≡ planes.now.items ++ plane ∷ []) }
-{
-    let mut more = Vec::with_capacity(*planes.allocator(), planes.len() + ROOM)?;
-    more.extend_from_slice(planes)?;
-    more.push(plane)?;
-    Ok(more)
 }

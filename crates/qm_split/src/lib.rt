@@ -3,6 +3,7 @@
 #![tactic(auto)]
 
 mod beside;
+mod cell;
 mod contender;
 mod fragments;
 mod gathering;

@@ -1,0 +1,6 @@
+use Rattle.std.proofs.Common.{◌≡◌, take}
+use Rattle.qm_split.specs.CellPlanes.{planes_of_runs}
+use Rattle.qm_split.proofs.cell.CellPlanes.listed.Given as goal
+
+abbrev pub invariant-loop-run : goal.invariant-loop-run
+invariant-loop-run l = l.planes.items ≡ planes_of_runs (take l.run-index l.run-items)
