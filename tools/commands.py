@@ -6,6 +6,7 @@ import json
 import os
 import sys
 
+from bevels import bevelled
 from bodies import largest
 from cells import Cells, NoContact
 from eyes import Eye
@@ -165,9 +166,24 @@ def world_of(words):
     except maptext.NoMap as fault:
         raise Refused(f"{words.name} is no map: {fault}") from None
     write(found.parts, words.out)
-    counts = [f"{number} {one if number == 1 else many}" for number, one, many in (
-        (found.brushes, "brush", "brushes"), (found.entities, "entity", "entities"))]
-    print(f"qmlook: moved {counts[0]} of {counts[1]} into the world", file=sys.stderr)
+    brushes, entities = counted(found.brushes, "brush", "brushes"), counted(found.entities, "entity", "entities")
+    print(f"qmlook: moved {brushes} of {entities} into the world", file=sys.stderr)
+
+
+def counted(number, one, many):
+    """A number with the word for what it counts."""
+    return f"{number} {one if number == 1 else many}"
+
+
+def bevels_of(words):
+    """Writes the map with bevel faces, and then says how many these are."""
+    try:
+        found = bevelled(maptext.load(words.name))
+    except maptext.NoMap as fault:
+        raise Refused(f"{words.name} is no map: {fault}") from None
+    write(found.parts, words.out)
+    faces, brushes = counted(found.faces, "bevel face", "bevel faces"), counted(found.brushes, "brush", "brushes")
+    print(f"qmlook: added {faces} to {brushes}", file=sys.stderr)
 
 
 def faces_of(words):
@@ -224,7 +240,7 @@ def run(words):
     parser = argparse.ArgumentParser(prog="qmlook", description="Looks at a compiled map, or readies one.", allow_abbrev=False)
     given = words_of(parser, joined(words))
     does = {"plan": plan_of, "points": points_of, "view": view_of, "picture": picture_of, "json": json_of,
-            "world": world_of, "faces": faces_of}
+            "world": world_of, "faces": faces_of, "bevels": bevels_of}
     try:
         parts = does[given.command](given)
         if parts is not None:

@@ -36,6 +36,9 @@ def words_of(parser, words):
     world_words.add_argument("--out", metavar="FILE", help="writes it to FILE, for editors that know no `>`")
     command(commands, "faces", "the faces of a map whose points the compiler refuses, with points near by that it takes", "MAP",
             "a map, as an editor writes it")
+    bevels_words = command(commands, "bevels", "a map with bevel faces on the brushes that stop a player", "MAP",
+                           "a map, as an editor writes it")
+    bevels_words.add_argument("--out", metavar="FILE", help="writes it to FILE, for editors that know no `>`")
     return parser.parse_args(words)
 
 
