@@ -7,7 +7,7 @@ front of its plane a polygon goes round against the clock."""
 from fractions import Fraction
 from math import gcd
 
-from polygons import square
+from polygons import parted as parted_with, square
 
 
 def corner(point):
@@ -73,22 +73,7 @@ def split(polygon, plane):
 
 def parted(polygon, found):
     """The same, of a plane at which the corners have these values."""
-    if min(found) >= 0:
-        return polygon, None
-    if max(found) <= 0:
-        return None, polygon
-    front, back = [], []
-    for at, here in enumerate(found):
-        there = found[at - 1]
-        if here < 0 < there or there < 0 < here:
-            between = cut(polygon[at - 1], polygon[at], there, here)
-            front.append(between)
-            back.append(between)
-        if here >= 0:
-            front.append(polygon[at])
-        if here <= 0:
-            back.append(polygon[at])
-    return front, back
+    return parted_with(polygon, found, cut)
 
 
 def within(polygon, planes):

@@ -29,9 +29,10 @@ def between(first, second, part):
     return tuple(a + part * (b - a) for a, b in zip(first, second))
 
 
-def split(polygon, plane):
-    """What a plane leaves in front and behind, each None where nothing is there. What lies in the plane goes to the front."""
-    values = [value(plane, corner) for corner in polygon]
+def parted(polygon, values, cut):
+    """What a plane leaves of a polygon in front and behind, each None where nothing is there. What lies in the plane goes to the
+    front. The plane is told by a value for each corner: how far in front of it the corner is, in a measure of its own. `cut`
+    makes the corner on the plane between two on either side of it, from these and their values, so corners may have any form."""
     if min(values) >= 0:
         return polygon, None
     if max(values) <= 0:
@@ -40,14 +41,24 @@ def split(polygon, plane):
     for at, here in enumerate(values):
         there = values[at - 1]
         if here < 0 < there or there < 0 < here:
-            cut = between(polygon[at - 1], polygon[at], Fraction(there) / (there - here))
-            front.append(cut)
-            back.append(cut)
+            corner = cut(polygon[at - 1], polygon[at], there, here)
+            front.append(corner)
+            back.append(corner)
         if here >= 0:
             front.append(polygon[at])
         if here <= 0:
             back.append(polygon[at])
     return front, back
+
+
+def split(polygon, plane):
+    """What a plane leaves of a polygon in front and behind."""
+    return parted(polygon, [value(plane, corner) for corner in polygon], cut)
+
+
+def cut(first, second, here, there):
+    """The point on a plane, between two on either side of it whose values are given."""
+    return between(first, second, Fraction(here) / (here - there))
 
 
 def in_front(polygon, planes):
