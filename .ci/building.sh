@@ -1,5 +1,5 @@
 # shellcheck shell=bash disable=SC2154
-# How the launcher proves and builds the program, to be sourced with `top`, `program` and `stop` set. The gate of the
+# How the program is proved and built, to be sourced with `top` and `stop` set and after built.sh. The gate of the
 # toolchain proves the crates of a folder side by side, those with the longest chain of others behind them first, and
 # keeps each that is proved by what it was proved from: a build that was interrupted goes on where it was, and the gate
 # of the whole repository takes what was proved here. It also tries edits, and wants no second copy below the sources. So
@@ -66,16 +66,17 @@ tell_failure() { # tell_failure LOG
         END { if (inside) printf "%s", said }' "$1"
 }
 
-# makes the program of the sources: it is put in its place whole, or not at all
-build_program() {
-    local folder
+# makes the program of these sources: it is put in its place whole, or not at all, with a note of what it was built from
+build_program() { # build_program SOURCES
+    local folder toolchain
+    toolchain=$(rt version) || stop "the Rattle toolchain's command rt, which proves and builds the program, is not on the PATH"
     folder=$(build_folder) || stop "no folder for the build: set HOME or XDG_CACHE_HOME"
     mkdir -p "$folder" "$(dirname "$program")" || stop "the folder $folder for the build cannot be made"
     exec 9>"$folder/lock"
     if ! flock -n 9; then
         echo "qmapc: another call builds the program; waiting for it" >&2
         flock 9
-        is_built_from "$now" && return
+        is_built_from "$1" && return
     fi
     copy_sources "$folder" || stop "the sources cannot be copied to $folder"
     run_while_here prove_and_build "$folder"
@@ -85,5 +86,6 @@ build_program() {
     fi
     cp "$folder/crates/qmapc/out/qmapc" "$program.new" && mv "$program.new" "$program" ||
         stop "the program cannot be put at $program"
+    note_built_from "$1" "$toolchain" || stop "what the program was built from cannot be noted in $built_from"
     exec 9>&-
 }

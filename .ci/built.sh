@@ -1,19 +1,11 @@
 # shellcheck shell=bash disable=SC2154
-# What the launcher and the gate know of the built program, to be sourced with `top` set: from which sources and by
-# which toolchain it was built. The note of it stands beside the program and is never tracked.
+# What is known of the two programs that there can be, to be sourced with `top` set: the one that was built here, which is
+# never tracked, and the released one. Beside each stands a note of what it was built from: a line each for the checksum of
+# its sources, the version of the toolchain, and the checksum of the program.
 program=$top/crates/qmapc/out/qmapc
 built_from=$top/crates/qmapc/out/built-from
-
-# the version of the toolchain; where there is none, the one that was noted, since none newer can build anything
-toolchain() {
-    local noted=()
-    if command -v rt >/dev/null; then
-        rt version
-    else
-        [[ ! -f $built_from ]] || mapfile -t noted <"$built_from"
-        echo "${noted[1]:-no toolchain}"
-    fi
-}
+released=$top/release/qmapc-x86_64-linux
+release_note=$top/release/BUILT
 
 # the lines of crates.txt for the program and all that it stands on
 crates_of_program() {
@@ -39,27 +31,70 @@ crates_of_program() {
         }' "$top/crates.txt"
 }
 
-# the sum of what the program is built from: its crates, the handles, and each crate's sources, definitions and proofs;
-# and the version of the toolchain
+# the folders of each crate's sources, definitions and proofs
+source_folders() {
+    local name
+    crates_of_program | while IFS=': ' read -r name _; do
+        echo "crates/$name/src crates/$name/specs crates/$name/proofs"
+    done
+}
+
+# the checksum of what is read
+checksum() {
+    local sum
+    sum=$(sha256sum) && echo "${sum%% *}"
+}
+
+# the checksum of what the program is built from: its crates, the handles, and each crate's sources, definitions and proofs
 sources() {
     (
+        set -f
         cd "$top" || return
         [[ -f crates.txt && -d crates ]] || return
-        crates=$(crates_of_program)
+        crates=$(crates_of_program) && folders=$(source_folders)
         [[ -n $crates ]] || return
-        mapfile -t folders < <(sed 's|^\([^ :]*\).*|crates/\1/src\ncrates/\1/specs\ncrates/\1/proofs|' <<<"$crates")
         {
             sha256sum <<<"$crates"
-            { find HANDLES "${folders[@]}" -type f -print0 2>/dev/null || true; } | LC_ALL=C sort -z | xargs -0 sha256sum
-        } | sha256sum && toolchain
+            # shellcheck disable=SC2086  # the names of folders
+            { find -L HANDLES $folders -type f -print0 2>/dev/null || true; } | LC_ALL=C sort -z | xargs -0 sha256sum
+        } | checksum
     )
 }
 
-# whether the program is there, as it was built from these sources
-is_built_from() { # is_built_from SOURCES
-    [[ -x $program && -f $built_from ]] && [[ $(<"$built_from") == "$1"$'\n'$(sha256sum <"$program") ]]
+# what a note says under a name
+noted() { # noted NOTE NAME
+    local name value
+    while read -r name value; do
+        [[ $name != "$2" ]] || echo "$value"
+    done <"$1"
 }
 
-note_built_from() { # note_built_from SOURCES
-    printf '%s\n%s\n' "$1" "$(sha256sum <"$program")" >"$built_from"
+# whether a program is the one of its note
+is_noted() { # is_noted PROGRAM NOTE
+    [[ -x $1 && $(noted "$2" program) == "$(checksum <"$1")" ]]
+}
+
+# whether a program was built here from these sources
+is_built_from() { # is_built_from SOURCES
+    [[ -f $program && -f $built_from && $(noted "$built_from" sources) == "$1" ]] && is_noted "$program" "$built_from"
+}
+
+note_built_from() { # note_built_from SOURCES TOOLCHAIN
+    printf 'sources %s\ntoolchain %s\nprogram %s\n' "$1" "$2" "$(checksum <"$program")" >"$built_from"
+}
+
+# why the released program is not one of these sources; if it is, nothing is said
+release_fault() { # release_fault SOURCES
+    if [[ ! -f $released || ! -f $release_note ]]; then
+        echo "there is no released program"
+    elif [[ $(noted "$release_note" sources) != "$1" ]]; then
+        echo "the sources have changed since the release"
+    elif ! is_noted "$released" "$release_note"; then
+        echo "the released program is not the file that release/BUILT names"
+    fi
+}
+
+# the version of the product: the newest one of the change log
+version() {
+    awk '/^## \[[0-9]/ { gsub(/[][]/, "", $2); print $2; exit }' "$top/CHANGELOG.md"
 }

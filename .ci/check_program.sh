@@ -1,5 +1,5 @@
 # shellcheck shell=bash disable=SC2154
-# Sourced by .ci/checks: the program that the launcher has built, each exit status that it can have, on real files,
+# Sourced by .ci/checks: the program that the launcher runs, each exit status that it can have, on real files,
 # devices and pipes.
 
 # runs the program in the folder; `status` is how it ended, and the file `printed` has what it printed
@@ -589,8 +589,8 @@ check "status 6: OUT that cannot be made or not be written" says_that_a_file_is_
 check "status 6: OUT that grows past the limit of the shell" says_that_a_file_is_too_large
 check "status 6: a standard output that takes nothing" ends_with_six_where_nothing_can_be_printed
 check "status 7: too little memory" runs_out_of_memory
-check "status 7, or a whole result: a request for memory of each command is refused" refuses_requests
-check "status 5 or 6, or a whole result: a call to the system of each command fails" fails_calls
+check_fully "status 7, or a whole result: a request for memory of each command is refused" refuses_requests
+check_fully "status 5 or 6, or a whole result: a call to the system of each command fails" fails_calls
 check "status 8: damaged tree files have the faults that a plain slow reader finds" reads_damaged_files_as_a_slow_reader_does
 check "a pipe as standard output gets each byte" prints_all_into_a_pipe
 check "a map that is a pipe is read" reads_a_map_that_is_a_pipe
@@ -610,6 +610,6 @@ check "status 7: too little memory to upgrade a tree" upgrades_with_little_memor
 check "words of any number and length get a named answer" answers_words_of_any_length
 check "status 6: no answer can be printed" ends_with_six_where_no_answer_can_be_printed
 check "several workers say how far they are, on a terminal alone" says_how_far_several_workers_are
-check "generated texts have the faults that a plain slow reader finds" agrees_with_a_slow_reader
-check "altered tree files have the faults that a plain slow reader finds" reads_tree_files_as_a_slow_reader_does
+check_fully "generated texts have the faults that a plain slow reader finds" agrees_with_a_slow_reader
+check_fully "altered tree files have the faults that a plain slow reader finds" reads_tree_files_as_a_slow_reader_does
 check "the counts of clips are those of fractions without bound" counts_clips_as_fractions_do

@@ -516,4 +516,4 @@ check "tools: a text that is no map is refused" says_what_is_no_map
 check "tools: faces are listed as the program refuses them, and what is named instead is taken" lists_faces_as_the_program_refuses_them
 check "tools: all faces that are refused are listed" lists_all_faces
 check "tools: points that are near enough give no plane that is too fine" finds_no_plane_too_fine_near_by
-check "tools: the C of docs/TREEFILE.md finds leaves and rows" agrees_with_the_page_on_tree_files
+check_fully "tools: the C of docs/TREEFILE.md finds leaves and rows" agrees_with_the_page_on_tree_files

@@ -16,9 +16,8 @@ trap 'rm -rf "$folder"' EXIT
     cat "$folder/log" >&2
     exit 1
 }
-cp samples/cube.map "$folder/"
-./qmapc compile "$folder/cube.map" "$folder/cube.tree" >/dev/null
-python3 - "$maps" "$folder/out.tree" crates/compile_bench/out/compile_bench crates/qmapc/out/qmapc "$peer" <<'END'
+program=$(bash .ci/program)
+python3 - "$maps" "$folder/out.tree" crates/compile_bench/out/compile_bench "$program" "$peer" <<'END'
 import os, re, shutil, subprocess, sys
 
 maps, out, bench, program, peer = sys.argv[1:]

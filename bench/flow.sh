@@ -1,5 +1,5 @@
 #!/usr/bin/env bash
-# Times the flow. It builds `qmapc` first, and takes of each figure the least of RUNS runs in turn, three where RUNS is not set.
+# Times the flow, and takes of each figure the least of RUNS runs in turn, three where RUNS is not set.
 #
 # `bench/flow.sh FOLDER [PEER]` prints for each map of a folder that does not leak the seconds of processor time of `compile`
 # without `--fast`, less those with it. A run ends after LIMIT seconds by the clock, 120 where it is not set; then `-` stands for
@@ -8,7 +8,7 @@
 # `bench/flow.sh MAP..` prints for each of these maps, which do not leak, what `compile` takes with `--fast` and with one worker,
 # two and four: seconds by the clock, seconds of processor time, and the peak of memory in megabytes. Then come their ratios to
 # those of one worker: of both times less those with `--fast`, and of the whole peak. PROGRAM is the program, where it is set; else
-# it is the one that was built. Nothing else should run on the machine.
+# it is the one that `./qmapc` runs. Nothing else should run on the machine.
 set -euo pipefail
 usage='usage: bench/flow.sh FOLDER [PEER] | MAP..'
 first=$(realpath -- "${1:?$usage}")
@@ -20,11 +20,7 @@ cd "$(dirname "${BASH_SOURCE[0]}")/.."
 folder=$(mktemp -d)
 trap 'rm -rf "$folder"' EXIT
 
-if [[ -z ${PROGRAM:-} ]]; then
-    PROGRAM=$PWD/crates/qmapc/out/qmapc
-    cp samples/cube.map "$folder/"
-    ./qmapc compile "$folder/cube.map" "$folder/cube.tree" >/dev/null
-fi
+PROGRAM=${PROGRAM:-$(bash .ci/program)}
 export RUNS=${RUNS:-3} LIMIT=${LIMIT:-120}
 if [[ -d $first ]]; then
     python3 bench/flow.py "$PROGRAM" "$folder/out.tree" "${names[@]}"

@@ -11,10 +11,9 @@ megabytes=${1:-20}
 folder=$(mktemp -d)
 trap 'rm -rf "$folder"' EXIT
 
-# `./qmapc` proves and builds what it then runs; that program is timed without the script around it
-bench/make_map.py 1 >"$folder/small.map"
-./qmapc format "$folder/small.map" "$folder/small.out" >/dev/null
-programs=("$PWD/crates/qmapc/out/qmapc format")
+# what `./qmapc` runs, without the script around it
+program=$(bash .ci/program)
+programs=("$program format")
 if command -v rustc >/dev/null; then
     rustc -O --edition 2024 bench/plain_format.rs -o "$folder/plain"
     programs+=("$folder/plain")
