@@ -80,7 +80,7 @@ choose_program() {
     local begun names listing
     choice_files
     ! take_kept_choice || return 0
-    # shellcheck source=built.sh
+    # shellcheck source=.ci/built.sh
     . "$top/.ci/built.sh"
     printf -v begun '%(%s)T' -1
     names=$(names_of_choice)
@@ -106,7 +106,7 @@ choose_or_build() {
         stop "$unfit; and the Rattle toolchain's command rt, which proves and builds the program, is not on the PATH"
     echo "qmapc: $unfit" >&2
     echo "qmapc: proving and building the program; the first time takes half an hour on four processors, and can be interrupted" >&2
-    # shellcheck source=building.sh
+    # shellcheck source=.ci/building.sh
     . "$top/.ci/building.sh"
     build_program "$now"
     chosen=$program
