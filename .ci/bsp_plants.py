@@ -1,10 +1,13 @@
 """Damages a level for engines in one place at a time, for a check that has to find it. Only BSP29 is damaged."""
 
+import re
 from struct import calcsize, pack_into, unpack_from
 
-from bsp_reader import LAYOUTS, LUMPS, Level
+from bsp_reader import LAYOUTS, Level, SOLID
 
-BYTE_AT = 4
+# how far a player who falls is moved at a time
+STEP = 1 / 8
+
 
 
 class Copy:
@@ -64,6 +67,24 @@ def node_before_leaf(level):
     return None
 
 
+def floor_plane(level, head):
+    """The plane of a hull on which a player stands who comes in at the first spot, or None."""
+    found = re.search(rb'info_player_start"\s*"origin" "(\S+) (\S+) (\S+)"', level.entities)
+    if found is None:
+        return None
+    x, y, z = map(float, found.groups())
+    while z > -4096 and level.clip_at((x, y, z), head) != SOLID:
+        z -= STEP
+    child = head
+    while child >= 0:
+        plane, children = level.clip_nodes[child]
+        value = level.value(plane, (x, y, z))
+        if -STEP <= value < 0:
+            return plane
+        child = children[value < 0]
+    return None
+
+
 def planted(data, lump, number, change):
     """The bytes with one record changed, or None where there is no such record."""
     if number is None:
@@ -102,6 +123,8 @@ def plants(data, rng):
         yield f"the first node of hull {hull} has its children swapped", planted(data, "clip_nodes", head, swapped(1, 2))
         yield f"a node of hull {hull} has another plane", planted(
             data, "clip_nodes", head + 1 + rng.randrange(2), with_item(0, lambda plane: (plane + 1) % len(level.planes)))
+        yield f"a plane of hull {hull} is moved by a quarter", planted(
+            data, "planes", floor_plane(level, head), with_item(3, lambda far: far - 0.25))
     yield "a hull begins at the other one's head", planted(data, "models", 0, with_item(11, lambda _: level.models[0].heads[1]))
     yield "a plane is moved by half a unit", planted(data, "planes", level.nodes[0].plane, with_item(3, lambda far: far + 0.5))
     yield "a texture is moved by two texels", planted(data, "mappings", level.faces[face].mapping, with_item(3, lambda far: far + 2))
@@ -119,7 +142,7 @@ def swap_edges(data, level, face):
 
 def bit_lost(data, level):
     """The bytes with the lowest bit of the first byte of the visibility that is not 0 lost."""
-    at = level.places[LUMPS[BYTE_AT]][0]
+    at = level.places["visibility"][0]
     found = bytearray(data)
     for place in range(len(level.visibility)):
         byte = level.visibility[place]

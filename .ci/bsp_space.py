@@ -75,24 +75,13 @@ def is_among(plane, planes):
                for (x, y, z), d in planes)
 
 
-def faults_of_node_planes(level, tree, world):
-    """Where a node has a plane that is no node's of the tree, or a hull one that is no moved plane of a brush."""
+def faults_of_node_planes(level, tree):
+    """Where a node of the world has a plane that is no node's of the tree."""
     planes = [((a / size, b / size, c / size), d / size) for a, b, c, d in (tree.planes[node.plane] for node in tree.nodes)
               for size in [(a * a + b * b + c * c) ** 0.5]]
-    yield from planes_unlike(level, {node.plane for node in below(level.nodes, level.models[0].heads[0])}, set(planes), "the world")
-    for hull in BOXES:
-        moved = {plane for brush in Moved(world.brushes, hull).brushes for plane in brush}
-        used = {node.plane for node in below(level.clip_nodes, level.models[0].heads[hull])}
-        yield from planes_unlike(level, used, moved, f"hull {hull}")
-
-
-def planes_unlike(level, used, planes, what):
-    """Where a plane that is used is none of some planes."""
-    if not planes:
-        return
-    for number in used:
-        if not is_among(level.planes[number], planes):
-            yield f"{what} has a node on the plane {level.planes[number]}, and should not"
+    for node in below(level.nodes, level.models[0].heads[0]):
+        if set(planes) and not is_among(level.planes[node.plane], set(planes)):
+            yield f"a node is on the plane {level.planes[node.plane]}, which is no node's of the tree"
 
 
 def below(nodes, head):
@@ -194,11 +183,22 @@ def faults_of_clip_order(level):
         yield f"{len(level.clip_nodes) - len(used)} clip nodes are in no hull"
 
 
+def beside(tried, moved, rng):
+    """Places close to a moved plane by chance, each not far from one of some places."""
+    planes = [plane for brush in moved.brushes for plane in brush]
+    for _ in range(NEAR if planes else 0):
+        place, (normal, distance) = rng.choice(tried), rng.choice(planes)
+        away = distance - sum(a * b for a, b in zip(normal, place)) + rng.choice((-1, 1)) * 4 * MARGIN
+        if abs(away) < 100:
+            yield tuple(number + away * part for number, part in zip(place, normal))
+
+
 def faults_of_hulls(level, tree, bodies, world, rng):
     """Where a hull of the world is not as its moved brushes say. What lies outside a sealed level may be filled."""
-    tried = list(places(bodies, rng))
+    anywhere = list(places(bodies, rng))
     for hull in BOXES:
         moved, counts = Moved(world.brushes, hull), Counter()
+        tried = anywhere + list(beside(anywhere, moved, rng))
         for place in tried:
             found, wanted = level.clip_at(place, level.models[0].heads[hull], MARGIN), moved.is_met(place, MARGIN)
             if None in (found, wanted):

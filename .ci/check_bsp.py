@@ -91,7 +91,7 @@ def groups(level, source, texels, seed):
     yield surfaces.faults_of_nodes(level)
     yield surfaces.faults_of_textures(level)
     yield faults_of_entities(level, source)
-    yield space.faults_of_node_planes(level, tree, source.entities[0])
+    yield space.faults_of_node_planes(level, tree)
     yield space.faults_of_leaves(level, tree, corners, rng)
     yield space.faults_of_rows(level, tree)
     yield space.faults_of_boxes(level, corners, tree)
