@@ -27,6 +27,8 @@ from surfaces import OPEN
 import treefile
 
 TEXELS, MOST = 256, 5
+# entities that are there for editors alone
+GROUPS = ("func_group", "func_detail")
 
 
 class Source:
@@ -37,15 +39,17 @@ class Source:
         found = bodies(self.tree, contents_below(self.tree), OPEN)
         self.corners = {leaf: sorted(set(drawn(faces))) for leaf, faces in found}
         # the entities whose brushes are models, from the first one on
-        self.models = [entity for entity in self.entities[1:] if entity.brushes]
+        self.models = [entity for entity in self.entities[1:] if entity.brushes and entity.value("classname") not in GROUPS]
 
 
 def faults_of_entities(level, source):
-    """Where the entities are not those of the map: with a model in place of brushes, and otherwise as they are."""
+    """Where the entities are not those of the map: with a model in place of brushes, a world that is called so, without an editor's
+    groups, and otherwise as they are."""
     text = level.entities
     if text.count(0) != 1 or text[-1]:
         yield "the entities do not end with the one byte 0"
-    found, wanted, models = map_reader.entities_of(text.rstrip(b"\0").decode("latin-1")), source.entities, 0
+    found, models = map_reader.entities_of(text.rstrip(b"\0").decode("latin-1")), 0
+    wanted = [entity for entity in source.entities if entity.value("classname") not in GROUPS]
     if len(found) != len(wanted):
         yield f"there are {len(found)} entities, and {len(wanted)} in the map"
         return
@@ -54,6 +58,8 @@ def faults_of_entities(level, source):
         if number and own.brushes:
             models += 1
             pairs = [pair for pair in pairs if pair[0] != "model"] + [("model", f"*{models}")]
+        if not number and own.value("classname") is None:
+            pairs = pairs + [("classname", "worldspawn")]
         if sorted(entity.pairs) != sorted(pairs):
             yield f"entity {number} has the pairs {entity.pairs}, and not {pairs}"
     if len(level.models) != 1 + models:
