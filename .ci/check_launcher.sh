@@ -142,22 +142,30 @@ builds_where_something_changed() {
     launch two 'words each' && has_built 1 && [[ $(<"$folder/printed") == 'qmapc: two words each' ]] || return 1
     grep -q 'there is no released program' "$folder/said" && grep -q 'proving and building' "$folder/said" || return 1
     launch a b && has_built 1 && has_run qmapc || return 1
-    echo 'two' >"$small/crates/qmapc/src/main.rt"
-    launch a b && has_built 2 && grep -q 'proving and building' "$folder/said" || return 1
-    # a file that is new, and one that is gone
-    echo 'new' >"$small/crates/low/src/new.rt"
-    launch a b && has_built 3 || return 1
-    rm "$small/crates/low/src/new.rt"
-    launch a b && has_built 4 || return 1
+    local name count=1
+    for name in crates/qmapc/src/main.rt crates/near/specs/Lib.antt crates/low/proofs/Lib.antt HANDLES; do
+        mkdir -p "$(dirname "$small/$name")"
+        # a file that is new, is another one, and is gone
+        echo 'new' >"$small/$name"
+        launch a b && has_built $((count + 1)) && grep -q 'proving and building' "$folder/said" || return 1
+        echo 'two' >"$small/$name"
+        launch a b && has_built $((count + 2)) || return 1
+        rm "$small/$name"
+        launch a b && has_built $((count + 3)) || return 1
+        count=$((count + 3))
+    done
+    # what the program stands on
+    sed -i 's/near: low beside/near: beside low/' "$small/crates.txt"
+    launch a b && has_built $((count += 1)) || return 1
     # a crate on which the program does not stand
     echo 'two' >"$small/crates/other/src/main.rt"
-    launch a b && has_built 4 && has_run qmapc || return 1
+    launch a b && has_built $count && has_run qmapc || return 1
     # what an earlier version of the toolchain has proved is proved
     echo 'kit two' >"$folder/version"
-    launch a b && has_built 4 && has_run qmapc || return 1
+    launch a b && has_built $count && has_run qmapc || return 1
     # a program that was put there by other means
     echo 'exit 0' >>"$small/crates/qmapc/out/qmapc"
-    launch a b && has_built 5
+    launch a b && has_built $((count + 1))
 }
 
 # what changed a moment ago may change again without another time
