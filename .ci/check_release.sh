@@ -83,17 +83,25 @@ prints_its_usage() { # prints_its_usage FILE
 installs_what_runs_alone() {
     local name status=0
     tools/install "$folder/installed" >"$folder/printed" || return 1
-    # what was there before makes room
+    # what was there before makes room, and what it was linked to stays
     : >"$folder/installed/qmapc-tools/old.py"
-    tools/install "$folder/installed" >"$folder/printed" && [[ ! -e $folder/installed/qmapc-tools/old.py ]] || return 1
+    for name in qmapc tools/qmlook; do
+        cp "$name" "$folder/linked" && ln -sf "$folder/linked" "$folder/installed/${name##*/}" || return 1
+        tools/install "$folder/installed" >"$folder/printed" && cmp "$name" "$folder/linked" && [[ ! -L $folder/installed/${name##*/} ]] || return 1
+    done
+    [[ ! -e $folder/installed/qmapc-tools/old.py ]] || return 1
     mv "$folder/installed" "$folder/moved"
     (cd "$folder" && env -i "$folder/moved/qmapc" compile cube.map alone.tree >printed) && cmp "$folder/cube.tree" "$folder/alone.tree" || return 1
     "$folder/moved/qmlook" plan "$folder/alone.tree" >"$folder/alone.svg" && grep -q '^<svg' "$folder/alone.svg" || return 1
     for name in tools/qm*; do
+        [[ -x $name ]] || continue
         prints_its_usage "$folder/moved/${name##*/}" || return 1
     done
     [[ ! -e $folder/moved/install && ! -e $folder/moved/qmapc-tools/install && ! -e $folder/moved/qmapc-tools/release ]] || return 1
     ldd "$folder/moved/qmapc" >"$folder/needed" && ! grep -vE 'linux-vdso|/libc\.so|/ld-linux' "$folder/needed" || return 1
+    for name in . tools; do
+        ! tools/install "$name" >"$folder/printed" 2>"$folder/said" && grep -q 'where the sources are' "$folder/said" && bash -n qmapc && [[ ! -e tools/qmapc ]] || return 1
+    done
     for name in '' --archives '--archive a b' 'a b'; do
         # shellcheck disable=SC2086  # the words of a command
         status=0 && tools/install $name 2>"$folder/said" || status=$?
@@ -115,6 +123,7 @@ packs_what_runs_alone() {
         tools/qmlook plan cube.tree | grep -q '^<svg' && [[ ! -e tools/install && ! -e tools/release && ! -e tools/prove ]]
     ) || return 1
     for name in "$folder/packed/$name"/tools/qm*; do
+        [[ -x $name ]] || continue
         prints_its_usage "$name" || return 1
     done
 }
