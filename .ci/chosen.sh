@@ -11,15 +11,13 @@ choice_files() {
     [[ $cache != /* || $cache == /.cache ]] || kept_in+=("$cache/qmapc/chosen${top//\//%}")
 }
 
-# a line for each of these files, and for each file in these folders. The time is that of the last change of anything about
-# the file, which no command sets back
+# prints a line for each of these files, and for each file in these folders, and ends the shell that it is called in. The time
+# is that of the last change of anything about the file, which no command sets back
 list_files() { # list_files NAMES
-    (
-        set -f
-        cd "$top" || return
-        # shellcheck disable=SC2086  # the names
-        LC_ALL=C exec find -L $1 -type f -printf '%C@ %s %i %p\n' 2>/dev/null
-    ) || true
+    set -f
+    cd "$top" || exit
+    # shellcheck disable=SC2086  # the names
+    LC_ALL=C exec find -L $1 -type f -printf '%C@ %s %i %p\n' 2>/dev/null
 }
 
 # the names of what the choice depends on
@@ -84,7 +82,8 @@ choose_program() {
     . "$top/.ci/built.sh"
     printf -v begun '%(%s)T' -1
     names=$(names_of_choice)
-    listing=$(list_files "$names")
+    # find ends with 1 if one of the files is not there
+    listing=$(list_files "$names") || true
     now=$(sources) || stop "the sources in $top cannot be read"
     if is_built_from "$now"; then
         chosen=$program
