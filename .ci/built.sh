@@ -89,6 +89,8 @@ release_fault() { # release_fault SOURCES
         echo "there is no released program"
     elif [[ $(noted "$release_note" sources) != "$1" ]]; then
         echo "the sources have changed since the release"
+    elif [[ ! -x $released ]]; then
+        echo "the released program may not be executed, as by a copy that lost its modes: chmod +x $released"
     elif ! is_noted "$released" "$release_note"; then
         echo "the released program is not the file that release/BUILT names"
     fi

@@ -49,6 +49,8 @@ refuses_another_release() {
     change_a_byte "$small/crates/low/src/main.rt" && refused_in_small 'the sources have changed since the release' release --check || return 1
     make_a_small_release && change_a_byte "$small/release/qmapc-x86_64-linux" || return 1
     refused_in_small 'not the file that release/BUILT names' release --check || return 1
+    make_a_small_release && chmod -x "$small/release/qmapc-x86_64-linux" || return 1
+    refused_in_small 'may not be executed' release --check || return 1
     make_a_small_release && sed -i '0,/^## \[/s/^## \[/## [9./' "$small/CHANGELOG.md" || return 1
     refused_in_small 'another version than 9.' release --check || return 1
     make_a_small_release && rm "$folder/bin/rt" && in_small release --check
