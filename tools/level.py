@@ -9,8 +9,10 @@ from bodies import bodies
 import brushes
 from bspfile import MOST_SIGNED, File
 import clip
+import clip_cells
 import drawn_faces
 from mapping import laid
+from match import leading
 from miptex import Textures
 from smalltree import built
 from surfaces import OPEN
@@ -22,10 +24,9 @@ GROUPS = (b"func_group", b"func_detail")
 # the brightness of what looks up, down, and to the sides, from 0 to 255; and how many different ones there are
 BRIGHTNESS = {(2, 1): 210, (2, -1): 100, (0, 1): 165, (0, -1): 150, (1, 1): 185, (1, -1): 135}
 LEVELS = 16
-NO_STYLE, NO_LIGHT, UNLIT = 255, -1, 1
+NO_STYLE, NO_LIGHT, NO_ROW, SOLID_LEAF, UNLIT = 255, -1, -1, -1, 1
 # what no engine has lit: sky and liquids
 SPECIAL = (b"*", b"sky")
-FARTHEST = 1e9
 CODES = {contents: code for code, contents in CONTENTS.items()}
 
 
@@ -42,60 +43,65 @@ class Box(NamedTuple):
     high: tuple
 
 
+class Model(NamedTuple):
+    """The world or the brushes of another entity: their tree; their bodies; the box around each leaf that is not solid, by its number
+    among these; and the nodes of both clip hulls."""
+    tree: object
+    bodies: list
+    boxes: dict
+    hulls: list
+
+
+class Shown(NamedTuple):
+    """A part of a face as engines take it; how its texture lies; and whether it has light."""
+    part: object
+    ways: tuple
+    is_lit: bool
+
+
 class Level:
     """A level while it is put together."""
 
     def __init__(self, wanted):
         self.file, self.wanted, self.textures = File(), wanted, Textures(wanted.wads)
-        self.side = (wanted.texels + texels.STEP) // texels.STEP + 1
-        self.file.add("leaves", (clip.SOLID, -1, *(0,) * 12))
+        self.side = wanted.texels // texels.STEP + 2
+        self.file.add("leaves", (clip.SOLID, NO_ROW, *(0,) * 12))
 
-    def add_model(self, tree, bodies_here, visibility, hulls):
-        """Adds a model: the nodes, leaves and faces of a tree, with its clip hulls."""
-        first_leaf, first_node = len(self.file.records["leaves"]), len(self.file.records["nodes"])
-        shown = self.shown(drawn_faces.drawn(tree, brushes.drawn(bodies_here)))
-        first_face = len(self.file.records["faces"])
-        faces = self.add_faces(tree, shown, first_face)
-        boxes = leaf_boxes(tree)
-        self.add_leaves(tree, boxes, marks(tree, shown, first_face), visibility)
-        self.add_nodes(tree, boxes, faces, first_node, first_leaf)
-        heads = [first_node, *map(self.add_hull, hulls), 0]
-        numbered = sum(leaf.number is not None for leaf in tree.leaves)
-        around = around_all(bodies_here)
-        self.file.add("models", (*around.low, *around.high, 0, 0, 0, *heads, numbered, first_face, len(shown)))
+    def add_model(self, model, visibility):
+        """Adds a model: its nodes, leaves and faces, and its clip hulls. `visibility` has where the row of each leaf begins."""
+        first_leaf, first_node, first_face = (len(self.file.records[part]) for part in ("leaves", "nodes", "faces"))
+        shown = self.shown(drawn_faces.drawn(model.tree, brushes.drawn(model.bodies)))
+        faces = self.add_faces(model.tree, shown, first_face)
+        self.add_leaves(model, marks(model.tree, shown, first_face), visibility)
+        self.add_nodes(model, faces, first_node, first_leaf)
+        heads = [first_node, *map(self.add_hull, model.hulls), 0]
+        around = around_all(model.bodies)
+        self.file.add("models", (*around.low, *around.high, 0, 0, 0, *heads, len(model.boxes), first_face, len(shown)))
 
     def shown(self, drawn):
         """Parts of faces as engines take them: cut, and with corners wherever others have them."""
         found = []
         for part in drawn:
             ways = laid(part.face.plane, part.face.mapping)
-            if self.is_special(part, ways):
-                found.append(part)
-            else:
-                found += [part._replace(polygon=polygon) for polygon in texels.cut(part.polygon, ways, self.wanted.texels)]
-        polygons = texels.joined([part.polygon for part in found])
-        return [part._replace(polygon=polygon) for part, polygon in zip(found, polygons)]
-
-    def is_special(self, part, ways):
-        """Whether a face is not lit, and so not cut: sky and liquids, and what would be cut into too many parts."""
-        return part.face.texture.lower().rpartition(b"/")[2].startswith(SPECIAL) or texels.is_too_fine(
-            part.polygon, ways, self.wanted.texels)
+            # sky and liquids have no light, and so need no cutting
+            is_lit = not part.face.texture.lower().rpartition(b"/")[2].startswith(SPECIAL) and not texels.is_too_fine(
+                part.polygon, ways, self.wanted.texels)
+            for polygon in texels.cut(part.polygon, ways, self.wanted.texels) if is_lit else [part.polygon]:
+                found.append(Shown(part._replace(polygon=polygon), ways, is_lit))
+        polygons = texels.joined([one.part.polygon for one in found])
+        return [one._replace(part=one.part._replace(polygon=polygon)) for one, polygon in zip(found, polygons)]
 
     def add_faces(self, tree, shown, first):
         """Adds faces, and answers of each node its first one and how many it has."""
         found = {}
-        for number, part in enumerate(shown, first):
+        for number, (part, ways, is_lit) in enumerate(shown, first):
             begin, _ = found.get(part.node, (number, 0))
             found[part.node] = begin, number + 1 - begin
-            ways = laid(part.face.plane, part.face.mapping)
-            special = self.is_special(part, ways)
-            texinfo = self.file.texinfo((*(min(max(float(n), -FARTHEST), FARTHEST) for way in ways for n in way),
-                                         self.textures.number(part.face.texture), UNLIT if special else 0))
+            texture = self.textures.number(part.face.texture)
+            texinfo = self.file.texinfo(ways[0].written + ways[1].written + (texture, 0 if is_lit else UNLIT))
             plane = self.file.plane(tuple(tree.planes[tree.nodes[part.node].plane]))
-            edges = self.file.polygon(part.polygon)
-            light = NO_LIGHT if special else self.light(part)
-            style = NO_STYLE if special else 0
-            self.file.add("faces", (plane, int(part.is_behind), *edges, texinfo, style, NO_STYLE, NO_STYLE, NO_STYLE, light))
+            light = (0, NO_STYLE, NO_STYLE, NO_STYLE, self.light(part)) if is_lit else (*(NO_STYLE,) * 4, NO_LIGHT)
+            self.file.add("faces", (plane, int(part.is_behind), *self.file.polygon(part.polygon), texinfo, *light))
         self.file.shared.clear()
         return found
 
@@ -114,43 +120,39 @@ class Level:
             return bytes(block)
         return b"".join(bytes([256 // LEVELS * level + 256 // LEVELS // 2]) * block for level in range(LEVELS))
 
-    def add_leaves(self, tree, boxes, marked, visibility):
+    def add_leaves(self, model, marked, visibility):
         """Adds the leaves that are not solid, each with the faces that are seen from it."""
-        for leaf in (leaf for leaf in tree.leaves if leaf.number is not None):
-            first, faces = len(self.file.records["marks"]), marked.get(leaf.number, ())
+        for leaf in (leaf for leaf in model.tree.leaves if leaf.number is not None):
+            first, faces, box = len(self.file.records["marks"]), marked.get(leaf.number, ()), model.boxes[leaf.number]
             for face in faces:
                 self.file.add("marks", (face,))
-            self.file.add("leaves", (CODES[leaf.contents], visibility[leaf.number] if visibility else -1, *boxes[leaf.number].low,
-                                     *boxes[leaf.number].high, first, len(faces), 0, 0, 0, 0))
+            self.file.add("leaves", (CODES[leaf.contents], visibility[leaf.number] if visibility else NO_ROW, *box.low, *box.high,
+                                     first, len(faces), 0, 0, 0, 0))
 
-    def add_nodes(self, tree, boxes, faces, first_node, first_leaf):
+    def add_nodes(self, model, faces, first_node, first_leaf):
         """Adds the nodes above leaves that are not solid. What else there is, is leaf 0."""
-        around = boxes_below(tree, boxes)
+        tree, around = model.tree, boxes_below(model)
         kept = [number for number in range(len(tree.nodes)) if around[number]]
         names = {number: place for place, number in enumerate(kept, first_node)}
         for leaf, what in enumerate(tree.leaves):
-            names[-1 - leaf] = -1 if what.number is None else -1 - (first_leaf + what.number)
+            names[-1 - leaf] = SOLID_LEAF if what.number is None else -1 - (first_leaf + what.number)
         for number in kept:
             plane, front, back = tree.nodes[number]
-            box = around[number]
-            self.file.add("nodes", (self.file.plane(tuple(tree.planes[plane])), names.get(front, -1), names.get(back, -1),
-                                    *box.low, *box.high, *faces.get(number, (0, 0))))
+            self.file.add("nodes", (self.file.plane(tuple(tree.planes[plane])), names.get(front, SOLID_LEAF), names.get(back, SOLID_LEAF),
+                                    *around[number].low, *around[number].high, *faces.get(number, (0, 0))))
         if not kept:
-            child = names[tree.root()] if not tree.nodes else -1
-            self.file.add("nodes", (self.file.plane((1, 0, 0, 0)), child, child, *(0,) * 8))
+            # engines want a node
+            child = names.get(tree.root(), SOLID_LEAF)
+            self.file.add("nodes", (self.file.plane(clip.ANY), child, child, *(0,) * 8))
 
     def add_hull(self, nodes):
         """Adds the nodes of a clip hull, and answers the number of the first."""
         first = len(self.file.records["clip nodes"])
         for plane, *children in nodes:
-            plane, children = (plane, children) if leading(plane) else (tuple(-number for number in plane), children[::-1])
+            if leading(plane) != plane:
+                plane, children = leading(plane), children[::-1]
             self.file.add("clip nodes", (self.file.plane(plane), *(child if child < 0 else first + child for child in children)))
         return first
-
-
-def leading(plane):
-    """Whether the first part of a normal that is not 0 is above 0."""
-    return next(part for part in plane if part) > 0
 
 
 def clamped(numbers):
@@ -173,23 +175,21 @@ def leaf_boxes(tree):
     return found
 
 
-def boxes_below(tree, boxes):
-    """The box around what is not solid below each child, or None."""
-    around = [None] * len(tree.nodes) + [boxes.get(leaf.number) for leaf in reversed(tree.leaves)]
-    for number in reversed(range(len(tree.nodes))):
-        _, front, back = tree.nodes[number]
-        both = [around[child] for child in (front, back) if around[child]]
-        if both:
-            around[number] = Box(tuple(map(min, *(box.low for box in both))) if len(both) > 1 else both[0].low,
-                                 tuple(map(max, *(box.high for box in both))) if len(both) > 1 else both[0].high)
+def boxes_below(model):
+    """The box around what is not solid below each child of a node, or None."""
+    around = [None] * len(model.tree.nodes) + [model.boxes.get(leaf.number) for leaf in reversed(model.tree.leaves)]
+    for number in reversed(range(len(model.tree.nodes))):
+        _, front, back = model.tree.nodes[number]
+        one, other = around[front], around[back]
+        around[number] = Box(tuple(map(min, one.low, other.low)), tuple(map(max, one.high, other.high))) if one and other else one or other
     return around
 
 
 def marks(tree, shown, first):
     """The faces that are seen from each leaf, by the leaf's number among those that are not solid."""
     found = {}
-    for number, part in enumerate(shown, first):
-        for leaf in drawn_faces.seen_from(tree, part):
+    for number, one in enumerate(shown, first):
+        for leaf in drawn_faces.seen_from(tree, one.part):
             found.setdefault(leaf, []).append(number)
     return found
 
@@ -222,15 +222,26 @@ def entity_text(entities):
     return b"".join(parts) + b"\0"
 
 
-def level_of(tree, entities, wanted, world):
+def world_of(tree, bodies_here):
+    """The model of the world."""
+    boxes = leaf_boxes(tree)
+    hulls = [clip_cells.made(bodies_here, hull, tree.bound, list(boxes.values())) for hull in clip.BOXES]
+    return Model(tree, bodies_here, boxes, hulls)
+
+
+def model_of(entity, bound):
+    """The model of another entity."""
+    bodies_here = brushes.full(entity.brushes, bound)
+    tree = built(brushes.drawn(bodies_here), bound)
+    return Model(tree, bodies_here, leaf_boxes(tree), [clip_cells.made(bodies_here, hull, bound, None) for hull in clip.BOXES])
+
+
+def level_of(tree, entities, wanted, bodies_here):
     """The BSP file of a tree and the entities of its map, with the bodies of the world's brushes."""
-    level = Level(wanted)
-    rows, places = visibility_of(tree)
-    boxes = list(leaf_boxes(tree).values())
-    level.add_model(tree, world, places, [clip.made(world, hull, tree.bound, boxes) for hull in clip.BOXES])
+    level, (rows, places) = Level(wanted), visibility_of(tree)
+    level.add_model(world_of(tree, bodies_here), places)
     for entity in entities[1:]:
         if entity.brushes and entity.value(b"classname") not in GROUPS:
-            own = brushes.full(entity.brushes, tree.bound)
-            level.add_model(built(brushes.drawn(own), tree.bound), own, [], [clip.made(own, hull, tree.bound, None) for hull in clip.BOXES])
+            level.add_model(model_of(entity, tree.bound), [])
     level.file.bytes.update(entities=entity_text(entities), visibility=rows, lighting=level.lighting(), textures=level.textures.packed())
     return level.file

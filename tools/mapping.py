@@ -7,6 +7,7 @@ from fractions import Fraction
 from functools import lru_cache
 from math import cos, radians, sin
 import re
+from typing import NamedTuple
 
 from mapfaces import STANDARD
 from origins import NUMBER
@@ -17,8 +18,18 @@ LONGEST = 40
 BASES = (((0, 0, 1), 0, 1), ((0, 0, -1), 0, 1), ((1, 0, 0), 1, 2), ((-1, 0, 0), 1, 2), ((0, 1, 0), 0, 2), ((0, -1, 0), 0, 2))
 # sine and cosine of the angles at which they are whole
 QUARTERS = {0: (0, 1), 90: (1, 0), 180: (0, -1), 270: (-1, 0)}
+# fractions and whole numbers that engines do not round, and the farthest number that is written
+PLAIN, WHOLE, FARTHEST = (1, 2, 4, 8, 16), 1 << 12, 1e9
 # in how many parts of 1 others are counted
 PARTS = 1 << 20
+
+
+class Way(NamedTuple):
+    """A direction of a texture: its three parts and an offset; the same as they are written; and whether engines compute places along
+    it without rounding, for corners that are as plain."""
+    parts: tuple
+    written: tuple
+    is_plain: bool
 
 
 @lru_cache(maxsize=None)
@@ -30,7 +41,7 @@ def number(word):
 
 @lru_cache(maxsize=None)
 def laid(plane, mapping):
-    """Of a face with an outward plane: for columns and for rows a direction and an offset, as four fractions."""
+    """Of a face with an outward plane: the direction of the columns, and that of the rows."""
     numbers = [number(word) for word in mapping]
     if len(mapping) == STANDARD:
         shift, angle, scale = numbers[0:2], numbers[2], numbers[3:5]
@@ -38,8 +49,13 @@ def laid(plane, mapping):
     else:
         shift, scale = (numbers[3], numbers[7]), numbers[9:11]
         directions = numbers[0:3], numbers[4:7]
-    return tuple(tuple(part / (by or 1) for part in direction) + (offset,)
-                 for direction, by, offset in zip(directions, scale, shift))
+    return tuple(way([part / (by or 1) for part in direction] + [offset]) for direction, by, offset in zip(directions, scale, shift))
+
+
+def way(parts):
+    """A direction with some parts."""
+    written = tuple(min(max(float(part), -FARTHEST), FARTHEST) for part in parts)
+    return Way(tuple(parts), written, all(part.denominator in PLAIN and abs(part) < WHOLE for part in parts))
 
 
 def turned(plane, angle):

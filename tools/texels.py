@@ -1,54 +1,52 @@
 """Cuts faces to the size that engines take, counted in texels, and mends where the corner of one face stands on an edge of another."""
 
 from collections import defaultdict
-from functools import lru_cache
 from math import ceil, floor, gcd, lcm
 
 import corners
+from mapping import PLAIN
 
 # engines count texels in sixteens, rounded outward
 STEP = 16
+# how far they may be off where they round, in texels
+OFF = 1 / 64
 # into how many parts a face is cut at most along a direction of its texture
 MOST_PARTS = 64
 
 
 def extent(polygon, way):
-    """From where to where a polygon reaches along a direction of its texture, nearly."""
-    a, b, c, offset = (float(part) for part in way)
+    """From which step to which other one a polygon reaches along a direction of its texture, as engines count: where they may round
+    what stands between two steps to either, it counts to both."""
+    a, b, c, offset = way.written
     places = [(a * x + b * y + c * z) / w + offset for x, y, z, w in polygon]
-    return min(places), max(places)
+    off = 0 if way.is_plain and all(w in PLAIN for *_, w in polygon) else OFF
+    return floor((min(places) - off) / STEP), ceil((max(places) + off) / STEP)
 
 
 def is_too_fine(polygon, ways, most):
     """Whether a polygon would be cut into too many parts."""
-    return any(high - low > MOST_PARTS * most for low, high in (extent(polygon, way) for way in ways))
+    return any(high - low > MOST_PARTS * most // STEP for low, high in (extent(polygon, way) for way in ways))
 
 
 def cut(polygon, ways, most):
-    """The parts of a polygon, each of so many texels at most along both directions of its texture; a few more where rounding does
-    not make it more than a step."""
-    parts = [polygon]
+    """The parts of a polygon, each of so many texels at most along both directions of its texture, and a step more."""
+    parts, steps = [polygon], most // STEP + 1
     for way in ways:
         waiting, parts = parts, []
         while waiting:
             whole = waiting.pop()
             low, high = extent(whole, way)
-            if STEP * (ceil(high / STEP) - floor(low / STEP)) <= most + STEP:
-                parts.append(whole)
-                continue
-            before, behind = corners.split(whole, border(way, STEP * floor(low / STEP) + most))
-            if not before or not behind:
-                parts.append(whole)
-                continue
-            parts.append(behind)
-            waiting.append(before)
+            # between two steps, so that the place is rounded to the same ones everywhere
+            before, behind = corners.split(whole, border(way, low + steps)) if high - low > steps else (whole, None)
+            parts.append(behind if before and behind else whole)
+            if before and behind:
+                waiting.append(before)
     return parts
 
 
-@lru_cache(maxsize=None)
-def border(way, place):
-    """The plane at a place along a direction, in whole numbers."""
-    numbers = *way[:3], place - way[3]
+def border(way, step):
+    """The plane half a step before a step along a direction, in whole numbers."""
+    numbers = *way.parts[:3], STEP * step - STEP // 2 - way.parts[3]
     times = lcm(*(number.denominator for number in numbers))
     whole = [int(number * times) for number in numbers]
     common = gcd(*whole) or 1
