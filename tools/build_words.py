@@ -31,7 +31,7 @@ def words_of(words):
     if "" in (asked.level, asked.out):
         parser.error("a name is empty")
     if asked.name is None:
-        asked.name = re.sub(r"(?<=.)\.map$", "", os.path.basename(asked.level))
+        asked.name = re.sub(r"(?i)(?<=.)\.map$", "", os.path.basename(asked.level))
     return asked
 
 

@@ -2,6 +2,7 @@
 
 import os
 
+import bevels
 from build_words import words_of
 from cells import Cells, NoContact
 from compiler import DONE, FAULTY, LEAKS, NOT_RUN, Runs
@@ -19,7 +20,7 @@ import treefile
 
 NAME = "qmbuild"
 # exit statuses beside those of the compiler that `compiler` names
-NOT_READ, NOT_WRITTEN, NO_MEMORY = 5, 6, 7
+NO_COMMAND, NOT_READ, NOT_WRITTEN, NO_MEMORY = 2, 5, 6, 7
 # the most bytes that a text may have
 LIMIT = 1 << 26
 
@@ -43,6 +44,7 @@ class Build:
 
     def build(self):
         """Builds the level, and answers the exit status."""
+        self.keep_the_level()
         text = self.read()
         with self.signals.scratch(self.out) as self.folder:
             self.runs = Runs(self.folder, self.signals, self.progress)
@@ -68,6 +70,12 @@ class Build:
                 return file.read(LIMIT + 1)
         except OSError as fault:
             raise Stopped(NOT_READ, f"{self.asked.level}: {fault.strerror}") from None
+
+    def keep_the_level(self):
+        """Stops where a file that is written is the level itself."""
+        for name in [self.product(".tree"), self.product(".bsp"), *self.lines()]:
+            if os.path.exists(name) and os.path.exists(self.asked.level) and os.path.samefile(name, self.asked.level):
+                raise Stopped(NO_COMMAND, f"{name} is the level itself: name the products otherwise")
 
     def path(self, name):
         """A file of the folder for what is made on the way."""
@@ -104,8 +112,7 @@ class Build:
         with self.progress.doing("merging layers and groups"):
             text = b"".join(groups.moved(text).parts)
             if self.asked.bsp and self.asked.bevels:
-                from bevels import with_bevels
-                text = with_bevels(text)
+                text = b"".join(bevels.bevelled(text).parts)
         return text
 
     def tell_of_faults(self, text, first):
@@ -119,14 +126,16 @@ class Build:
             found[place.begin if place else len(text)] = first, place
         for _, (fault, place) in sorted(found.items()):
             say(*faults.told(self.asked.level, text, fault, place))
-        self.advise(first)
+        self.advise(text, first)
 
-    def advise(self, fault):
-        """Says which option may help."""
-        if fault.number == faults.UNEXPECTED and not self.asked.q3:
-            warn(f"{NAME}: a map of the Quake 3 family may be built with --q3\n")
-        if fault.name in faults.NUMBERS and not self.asked.mend:
-            warn(f"{NAME}: --mend takes points near by, where there are any; --all lists every face that is refused\n")
+    def advise(self, text, fault):
+        """Says which words may help."""
+        if fault.number == faults.UNEXPECTED:
+            found = quake3.plain(text)
+            if found.faces or found.patches:
+                warn(f"{NAME}: this is a map of the Quake 3 family: build it with --q3\n")
+        elif fault.name in faults.NUMBERS and not self.asked.mend:
+            warn(f"{NAME}: --mend takes points near by, where there are any{'' if self.asked.all else '; --all lists each such face'}\n")
 
     def compiled(self):
         """The answer of the compiler, for the tree level.tree: first with coarse visibility, which says how much is ahead."""
@@ -163,24 +172,34 @@ class Build:
         return os.path.join(self.out if folder is None else folder, self.asked.name + ending).removeprefix("./")
 
     def finish_the_tree(self, answer, text):
-        """Puts the tree into its place, and the leak line where there is a leak; else takes an old one away. Says what was found."""
+        """Puts the tree into its place, and says what was found. Where there is a leak its line is written; an old one goes once the
+        level is sealed."""
         line, why = None, None
         if answer.status == LEAKS:
             with self.progress.doing("finding the leak line"):
                 line, why = self.leak_line(answer.trail)
-        names = [self.product(ending, self.beside) for ending in (".pts", ".lin")[:1 + self.asked.lin]]
-        with self.signals.held():
-            self.place("level.tree", ".tree")
-            for name in names:
-                if line:
-                    with open(name, "w", encoding="ascii") as file:
-                        file.write(line)
-                elif answer.verdict == "sealed" and os.path.lexists(name):
-                    os.remove(name)
+        self.place("level.tree", ".tree")
         say(report.verdict(answer, text))
-        if answer.status == LEAKS:
-            say(f"leak line: {' and '.join(names)}" if line else f"no leak line: {why}", " ".join(["trail:", *map(str, answer.trail)]))
-        say(f"tree: {self.product('.tree')}")
+        if line:
+            say(f"leak line: {' and '.join(self.lines())}")
+        elif why:
+            say(f"no leak line: {why}")
+        say(*[" ".join(["trail:", *map(str, answer.trail)])] if answer.trail else [], f"tree: {self.product('.tree')}")
+        for name in self.lines():
+            self.replace_line(name, line, answer.verdict == "sealed")
+
+    def lines(self):
+        """The files of a leak line."""
+        return [self.product(ending, self.beside) for ending in (".pts", ".lin")[:1 + self.asked.lin]]
+
+    def replace_line(self, name, line, is_sealed):
+        """Writes a leak line as a whole, or takes an old one away."""
+        with self.signals.held():
+            if line:
+                with open(name, "w", encoding="ascii") as file:
+                    file.write(line)
+            elif is_sealed and os.path.lexists(name):
+                os.remove(name)
 
     def leak_line(self, trail):
         """The leak line as a point file, or why there is none."""

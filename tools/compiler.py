@@ -83,13 +83,18 @@ class Runs:
         while more := some_of(said):
             *lines, rest = re.split(rb"[\r\n]", rest + more)
             for line in lines:
-                begun = BEGUN.fullmatch(line) or BEGUN.fullmatch(rest)
-                if begun:
-                    self.progress.detail = f"{begun[1].decode()} of {portals} portals begun"
-                elif line.strip():
-                    self.progress.line(line.decode(errors="surrogateescape"))
-        if rest.strip() and not BEGUN.fullmatch(rest):
-            self.progress.line(rest.decode(errors="surrogateescape"))
+                self.heard(line, portals)
+            if BEGUN.fullmatch(rest):
+                self.heard(rest, portals)
+        self.heard(rest, portals)
+
+    def heard(self, line, portals):
+        """A line of a program."""
+        begun = BEGUN.fullmatch(line)
+        if begun:
+            self.progress.detail = f"{begun[1].decode()} of {portals} portals begun"
+        elif line.strip():
+            self.progress.line(line.decode(errors="surrogateescape"))
 
 
 def ends_of_a_terminal():
