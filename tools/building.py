@@ -117,15 +117,18 @@ class Build:
 
     def tell_of_faults(self, text, first):
         """Tells of the first fault, or of each face that is refused as well."""
-        found = {}
+        found, why = {}, None
         if self.asked.all:
             with self.progress.doing("looking for faces that are refused"):
-                found = {place.begin: (fault, place) for fault, place in faults.of_faces(text)}
+                listed, why = faults.of_faces(text)
+            found = {place.begin: (fault, place) for fault, place in listed}
         place = faults.place_of(text, first)
         if not place or place.begin not in found:
             found[place.begin if place else len(text)] = first, place
         for _, (fault, place) in sorted(found.items()):
             say(*faults.told(self.asked.level, text, fault, place))
+        if why:
+            warn(f"{NAME}: not all faces could be read: {why}\n")
         self.advise(text, first)
 
     def advise(self, text, fault):

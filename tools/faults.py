@@ -88,7 +88,7 @@ def bounds(text, line):
 
 
 def of_faces(text):
-    """The fault of each face that the compiler refuses, with its place, in their order, as far as faces can be read."""
+    """The fault of each face that the compiler refuses, with its place, in their order; and why not all faces can be read, or None."""
     found = []
     try:
         for face in faces.faces(text):
@@ -96,9 +96,9 @@ def of_faces(text):
             if what:
                 found.append((Fault(NUMBERS[what.fault], faces.line_of(text, what.place), what.fault),
                               Place(what.place, what.place + len(word_at(text, what.place)))))
-    except NoMap:
-        pass
-    return found
+    except NoMap as fault:
+        return found, fault
+    return found, None
 
 
 def word_at(text, place):
