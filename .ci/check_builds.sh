@@ -227,6 +227,27 @@ tree: courtyard.tree" && cmp "$folder/fast.tree" "$builds/levels/courtyard.tree"
     [[ $(tail -n 1 "$builds/printed") == *^ && $(tail -n 2 "$builds/printed" | head -n 1) == *' 0 134217728' ]]
 }
 
+# the .bsp is that of qmbsp, from a map with bevels and the tree of that map; one that is not made leaves the old one
+makes_levels_for_engines() {
+    local words
+    begin_builds gatehouse
+    look bevels merged.map --out bevelled.map
+    run_program compile bevelled.map bevelled.tree --fast
+    for words in 'bevelled ' 'merged --no-bevels'; do
+        "$top/tools/qmbsp" "$folder/${words%% *}.map" "$folder/${words%% *}.tree" "$folder/wanted.bsp" >"$folder/said" || return 1
+        # shellcheck disable=SC2086  # the words of a command
+        build gatehouse.map --bsp ${words#* }
+        built 0 $'sealed; 69 open leaves, each sees 47 on average\ntree: gatehouse.tree\ngatehouse'"$(sed 's|^.*wanted||' "$folder/said")" || return 1
+        cmp "$folder/${words%% *}.tree" "$builds/levels/gatehouse.tree" && cmp "$folder/wanted.bsp" "$builds/levels/gatehouse.bsp" || return 1
+    done
+    build gatehouse.map --bsp --wad gatehouse.map
+    [[ $status == 1 ]] && grep -q 'gatehouse.map is no WAD' "$builds/said" && cmp "$folder/wanted.bsp" "$builds/levels/gatehouse.bsp" || return 1
+    open_the_sky
+    build gatehouse.map --bsp
+    [[ $status == 3 && $(tail -n 1 "$builds/printed") == 'gatehouse.bsp: BSP'* ]] && grep -q 'gatehouse.tree has no rows' "$builds/said" || return 1
+    stand 'gatehouse.bsp gatehouse.map gatehouse.pts gatehouse.tree'
+}
+
 says_how_qmbuild_is_used() {
     local words
     begin_builds cube
@@ -312,6 +333,7 @@ check "builds: long lines are shown in part" marks_in_long_lines
 check "builds: all faces that are refused are listed" lists_all_faces_of_a_level
 check "builds: faces are mended" mends_faces
 check "builds: maps of the Quake 3 family are read" reads_maps_of_quake_3
+check "builds: levels for engines are made, with bevels or without" makes_levels_for_engines
 check "builds: words that are no command get the usage line, and status 2" says_how_qmbuild_is_used
 check "builds: what cannot be done is said, with the compiler's status" says_what_cannot_be_done
 check "builds: a run that is stopped leaves nothing, and a long one says how far it is" leaves_nothing_when_it_is_stopped
