@@ -22,7 +22,7 @@ built() { # built STATUS LINES
 
 # these are the files beside the levels
 stand() { # stand NAMES
-    [[ $(ls -A "$builds/levels") == "$(printf '%s\n' $1)" ]] && return
+    [[ $(ls -A "$builds/levels") == "${1// /$'\n'}" ]] && return
     echo "there are" "$builds"/levels/*
     return 1
 }
