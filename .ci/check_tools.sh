@@ -303,13 +303,12 @@ compiles_as_the_editors_do() {
     while read -ra words; do
         (cd "$folder" && "${words[@]//'${MAP_BASE_NAME}'/level}" >/dev/null 2>&1) || return 1
     done < <(sed -n 's/.*Tool path: `REPOSITORY\(.*\)`\. Parameters: `\(.*\)`\. Let .*/\1 \2/p' docs/EDITORS.md |
-        sed "s|^/tools/qmlook|$top/tools/qmlook|; s|^/qmapc|$program|")
+        sed "s|^/tools/|$top/tools/|")
     cmp "$folder/fast.tree" "$folder/level.tree" || return 1
     line=$(sed -n 's/^ *\("REPOSITORY.*\[MapFile\].*\)/\1/p' docs/EDITORS.md)
-    line=${line//REPOSITORY\/qmapc/$program}
     line=${line//REPOSITORY/$top}
     sh -c "${line//'[MapFile]'/$folder/a level.map}" >"$folder/printed" 2>"$folder/said" || return 1
-    cmp "$folder/fast.tree" "$folder/a level.map.tree" && cmp "$folder/printed" "$folder/a level.map.log"
+    cmp "$folder/fast.tree" "$folder/a level.tree" && cmp "$folder/printed" "$folder/a level.map.log"
 }
 
 # what is moved stands apart from its new neighbours, and entities of other classes keep their brushes
