@@ -54,7 +54,7 @@ builds_sealed_levels() {
     build courtyard.map --full
     built 0 $'sealed; 55 open leaves, each sees 25 on average\ntree: courtyard.tree' || return 1
     cmp "$folder/courtyard.tree" "$builds/levels/courtyard.tree" || return 1
-    build --threads 4 gatehouse.map
+    build --threads 4 gatehouse.map --out .
     built 0 $'sealed; 69 open leaves, each sees 47 on average\ntree: gatehouse.tree' || return 1
     look world "$top/samples/gatehouse.map" --out merged.map
     run_program compile merged.map merged.tree --fast
