@@ -87,23 +87,25 @@ def bounds(text, line):
     return begin, len(text) if end < 0 else end
 
 
+def found(text, first, with_faces):
+    """The first fault of a text, and of each face that is refused where these are asked for, in their order, each with its place; and
+    why not all faces can be read, or None."""
+    listed, why = of_faces(text) if with_faces else ({}, None)
+    place = place_of(text, first)
+    listed.setdefault(place.begin if place else len(text), (first, place))
+    return [listed[at] for at in sorted(listed)], why
+
+
 def of_faces(text):
-    """The fault of each face that the compiler refuses, with its place, in their order; and why not all faces can be read, or None."""
-    found = []
+    """The fault of each face that the compiler refuses, with its place, by where that begins; and why not all faces can be read."""
+    listed = {}
     try:
-        for face in faces.faces(text):
-            what = faces.refused(face)
-            if what:
-                found.append((Fault(NUMBERS[what.fault], faces.line_of(text, what.place), what.fault),
-                              Place(what.place, what.place + len(word_at(text, what.place)))))
+        for what in filter(None, map(faces.refused, faces.faces(text))):
+            fault = Fault(NUMBERS[what.fault], faces.line_of(text, what.place), what.fault)
+            listed[what.place] = fault, Place(what.place, grammar.TOKEN.match(text, what.place).end())
     except NoMap as fault:
-        return found, fault
-    return found, None
-
-
-def word_at(text, place):
-    """The word that begins at a place."""
-    return grammar.TOKEN.match(text, place)[0]
+        return listed, fault
+    return listed, None
 
 
 def told(name, text, fault, place):

@@ -30,6 +30,12 @@ def plain(text):
     return Plain(bytes(blanked), faces, patches)
 
 
+def is_such(text):
+    """Whether a text has such numbers or patches."""
+    found = plain(text)
+    return found.faces > 0 or found.patches > 0
+
+
 def brushes(text):
     """The tokens of each brush, with its brackets."""
     depth, tokens = 0, []

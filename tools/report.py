@@ -23,6 +23,11 @@ def average(answer):
     return (2 * seen + leaves) // (2 * leaves)
 
 
+def is_open(answer):
+    """Whether so much is seen that the full visibility takes hours."""
+    return answer.counts["numbered"] > 0 and average(answer) > OPEN
+
+
 def entity(text, number):
     """An entity by its class, its name, and where it stands."""
     found = maptext.entities(text)[number]
