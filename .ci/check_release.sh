@@ -95,6 +95,10 @@ installs_what_runs_alone() {
     mv "$folder/installed" "$folder/moved"
     (cd "$folder" && env -i "$folder/moved/qmapc" compile cube.map alone.tree >printed) && cmp "$folder/cube.tree" "$folder/alone.tree" || return 1
     "$folder/moved/qmlook" plan "$folder/alone.tree" >"$folder/alone.svg" && grep -q '^<svg' "$folder/alone.svg" || return 1
+    # a tool finds the program in the folder above its own
+    mkdir "$folder/by_qmbuild" && "$folder/moved/qmbuild" samples/room.map --out "$folder/by_qmbuild" >"$folder/printed" || return 1
+    "$folder/moved/qmapc" compile samples/room.map "$folder/room_alone.tree" --fast >"$folder/printed" || return 1
+    cmp "$folder/room_alone.tree" "$folder/by_qmbuild/room.tree" || return 1
     for name in tools/qm*; do
         [[ -x $name ]] || continue
         prints_its_usage "$folder/moved/${name##*/}" || return 1
