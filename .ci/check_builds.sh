@@ -251,8 +251,8 @@ makes_levels_for_engines() {
 says_how_qmbuild_is_used() {
     local words
     begin_builds cube
-    for words in '' '--full' 'cube.map more' 'cube.map --threads 0' 'cube.map --threads 65' 'cube.map --threads=04' 'cube.map --threads' \
-        'cube.map --ful' 'cube.map --wad a.wad' 'cube.map --out' 'cube.map --out=' 'cube.map --name a/b' 'cube.map --name=' '-cube.map' 'cube.map --fast'; do
+    for words in '' 'cube.map more' 'cube.map --threads 65' 'cube.map --threads=04' 'cube.map --ful' 'cube.map --wad a.wad' \
+        'cube.map --out=' 'cube.map --name a/b' '-cube.map' 'cube.map --fast'; do
         # shellcheck disable=SC2086  # the words of a command
         build $words
         [[ $status == 2 && ! -s $builds/printed ]] && grep -q '^usage: qmbuild' "$builds/said" || return 1
