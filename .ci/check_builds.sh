@@ -220,6 +220,13 @@ tree: gatehouse.tree' && cmp "$folder/merged.tree" "$builds/levels/gatehouse.tre
 faces mended: 0
 sealed; 55 open leaves, each sees 30 on average
 tree: courtyard.tree" && cmp "$folder/fast.tree" "$builds/levels/courtyard.tree" || return 1
+    # brush primitives are none of what is read, and are refused as they stand
+    sed '0,/^}/s/^}/&\n{\nbrushDef\n{\n( 0 0 0 ) ( 0 1 0 ) ( 1 0 0 ) ( ( 1 0 0 ) ( 0 1 0 ) ) a 0 0 0\n}\n}/' samples/courtyard.map >"$builds/levels/primitives.map"
+    build primitives.map --q3
+    built 4 'left out: the three numbers after the mapping of 0 faces, and 0 patches
+primitives.map:'"$(grep -n brushDef "$builds/levels/primitives.map" | cut -d : -f 1)"': fault 3: unexpected
+brushDef
+^^^^^^^^' || return 1
     # lines and marks are those of the level as it is; two more numbers are none of such a map
     sed -i '40s/ 0 134217728 -1/ 0 134217728/' "$builds/levels/courtyard.map"
     build courtyard.map --q3

@@ -58,7 +58,7 @@ def is_patch(tokens):
 def extras(tokens):
     """The three numbers after the mapping of each face of a brush that has them."""
     at, last = 1, len(tokens) - 1
-    while at < last:
+    while at < last and tokens[at]["word"] == b"(":
         behind = at + len(FORM) + 1
         behind += len(AXES) if behind < last and tokens[behind]["word"] == b"[" else len(PLAIN)
         at = next((index for index in range(behind, last) if tokens[index]["word"] == b"("), last)
