@@ -306,6 +306,11 @@ END
     cmp "$folder/courtyard.kept" "$folder/courtyard.tree"
 }
 
+# the rows of the tables: worlds and what they compile to, leaks, queries, damaged tree files, faulty texts, words
+does_what_the_tables_say() {
+    python3 .ci/check_rows.py "$program"
+}
+
 # the first query that is refused, and no answer
 says_which_query_is_refused() {
     local words text
@@ -582,6 +587,7 @@ check "the listing of samples/cube.map, in FILE behind a whole OUT, and none of 
 check "status 0: a text of a megabyte is read whole" formats_a_large_text
 check "status 0: a text with decimals is written as it stands" formats_a_text_with_decimals
 check "status 0: OUT that was there is written anew" writes_over_what_was_there
+check "every row of the tables: status, printed text and files" does_what_the_tables_say
 check "status 2: words that are no command print the usage line" prints_the_usage_line
 check "status 4: a map with a fault" says_which_fault_a_map_has
 check "status 5: a map that is missing or is a folder" says_that_a_map_is_not_read

@@ -21,6 +21,7 @@ import tempfile
 sys.path.insert(0, str(Path(__file__).resolve().parent.parent / "tools"))
 
 from made_trees import SOLID, cube, long_tree, random_tree, tree_file, written
+from rows.cube_files import LISTING
 import slow_listing
 import treefile
 
@@ -128,7 +129,8 @@ def altered_files():
 
 
 def listings():
-    """Listings of one portal, of two, and of none."""
+    """Listings of the cube's twelve portals, of none, of one and of two."""
+    yield LISTING
     yield b"PRT1\n1\n0\n"
     yield b"PRT1\n2\n1\n3 0 1 (0 0 -32768 ) (-1.000001 0.500000 32768 ) (7.000000 -0.000001 10 ) \n"
     yield (b"PRT1\n12\n2\n4 10 2 (-3488 -64 0 ) (-3488 -64 64 ) (-3488 -32 64 ) (-3488 -32 0 ) \n"

@@ -1,4 +1,4 @@
-use super::cube::{END, FIRST, OTHERS, joined};
+use super::cube::CUBE_TEXT;
 use super::cube_file::CUBE_FILE;
 use super::demo::ONE_ROOM;
 use super::outside::{Answer, Outside};
@@ -80,7 +80,7 @@ fn prints_at<R: AllocGlobal + Threads + Sync>(
 
 #[test]
 fn answers_each_fault_of_the_sink(rt: HostRuntime) -> Result<(), Fail> {
-    let text = joined(rt.alloc(), [FIRST, OTHERS, END])?;
+    let text = CUBE_TEXT.as_bytes();
     let mut right = true;
     for &(words, write, answer, is_made) in &FAULTS_OF_THE_SINK {
         let out = if is_made {
@@ -88,7 +88,7 @@ fn answers_each_fault_of_the_sink(rt: HostRuntime) -> Result<(), Fail> {
         } else {
             None
         };
-        right &= prints_at(&rt, words, &text, write, answer, out)?;
+        right &= prints_at(&rt, words, text, write, answer, out)?;
     }
     assert!(rt; right);
     Ok(())

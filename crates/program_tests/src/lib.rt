@@ -3,17 +3,11 @@
 #![tactic(auto)]
 
 #[cfg(test)]
-mod boxes;
-#[cfg(test)]
-mod compiled;
-#[cfg(test)]
 mod cube;
 #[cfg(test)]
 mod cube_file;
 #[cfg(test)]
 mod cube_listing;
-#[cfg(test)]
-mod demo;
 #[cfg(test)]
 mod devices;
 #[cfg(test)]
@@ -21,15 +15,7 @@ mod empty_file;
 #[cfg(test)]
 mod folder;
 #[cfg(test)]
-mod formatted;
-#[cfg(test)]
-mod inspected;
-#[cfg(test)]
-mod leaks;
-#[cfg(test)]
 mod listings;
-#[cfg(test)]
-mod map_faults;
 #[cfg(test)]
 mod outside;
 #[cfg(test)]
@@ -41,14 +27,14 @@ mod printed;
 #[cfg(test)]
 mod room;
 #[cfg(test)]
+mod room_in_pieces;
+#[cfg(test)]
 mod sampled;
 #[cfg(test)]
 mod sure_forms;
 #[cfg(test)]
 mod tightness;
 #[cfg(test)]
-mod tree_files;
-#[cfg(test)]
-mod words;
+mod upgrades;
 #[cfg(test)]
 mod workers;

@@ -1,48 +1,14 @@
 //! Listings that are written beside a tree.
 
 use self::Held::{Empty, Nothing, Whole};
-use super::boxes::world;
-use super::cube::{END, FIRST, OTHERS, joined};
+use super::cube::CUBE_TEXT;
 use super::cube_file::CUBE_FILE;
 use super::cube_listing::CUBE_LISTING;
 use super::outside::{Answer, Outside};
 use super::printed::{READ_FAULT, SUMMARY, WRITE_FAULT};
-use std::alloc::{AllocError, Global};
+use std::alloc::AllocError;
 use std::test::Fail;
 use std::thread::Threads;
-use test_texts::{BoxRow, TWO_ROOMS};
-
-const ROOMS_SUMMARY: &str =
-    "sealed\nbrushes 8\nflat 0\nplanes 16\nnodes 16\nleaves 17\nnumbered 3\nfilled 6\nportals 2\nseen 9\n";
-
-const ROOMS_LISTING: &str =
-    "PRT1\n3\n2\n4 1 2 (-3488 -64 0 ) (-3488 -64 64 ) (-3488 -32 64 ) (-3488 -32 0 ) \n4 0 1 (-3472 -64 0 ) (-3472 -64 64 ) (-3472 -32 64 ) (-3472 -32 0 ) \n";
-
-/// A world of boxes, with an entity at a point.
-fn world_with(alloc: Global, boxes: &[BoxRow], origin: &str) -> Result<String, AllocError> {
-    let mut text = world(alloc, "", boxes)?;
-    writeln!(
-        text,
-        "{{\n\"classname\" \"info_player_start\"\n\"origin\" \"{origin}\"\n}}"
-    )?;
-    Ok(text)
-}
-
-/// The tree and the listing of two rooms.
-#[test]
-fn lists_two_rooms(rt: HostRuntime) -> Result<(), Fail> {
-    let text = world_with(rt.alloc(), &TWO_ROOMS, "-3536 0 24")?;
-    let mut outside = Outside::new(rt.alloc(), text.as_bytes())?;
-    let words = ["compile", "map", "out", "--prt", "list"];
-    let says = outside.says(&rt, &words, 0, ROOMS_SUMMARY);
-    let has_rows = outside
-        .shelf
-        .get("out")
-        .is_some_and(|file| file.ends_with(&[7, 7, 7]));
-    let listed = outside.shelf.get("list") == Some(ROOMS_LISTING.as_bytes());
-    assert!(rt; says && outside.has_long_out(777) && has_rows && listed);
-    Ok(())
-}
 
 /// What a file holds.
 #[derive(Clone, Copy)]
@@ -96,8 +62,8 @@ fn fails_so<R: AllocGlobal + Threads + Sync>(
     list: Held,
 ) -> Result<bool, AllocError> {
     let (status, printed, faults) = answer;
-    let text = joined(rt.alloc(), [FIRST, OTHERS, END])?;
-    let mut outside = Outside::new(rt.alloc(), &text)?;
+    let text = CUBE_TEXT.as_bytes();
+    let mut outside = Outside::new(rt.alloc(), text)?;
     outside.shelf.fail_call(failing.call)?;
     outside.sink.fail_call(failing.write)?;
     let words = ["compile", "map", "out", "--prt", "list"];
@@ -105,7 +71,7 @@ fn fails_so<R: AllocGlobal + Threads + Sync>(
     let found = outside.shelf.get("out");
     Ok(
         says && outside.shelf.calls() == failing.call.min(5) + 1
-            && outside.holds(found, &text, faults)
+            && outside.holds(found, text, faults)
             && has(found, out, &CUBE_FILE)
             && has(outside.shelf.get("list"), list, CUBE_LISTING.as_bytes()),
     )

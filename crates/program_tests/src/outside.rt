@@ -64,20 +64,5 @@ impl Outside {
     }
 }
 
-/// Whether a text, under `map`, is answered with this status and this printed text, and `out` then holds
-/// these bytes; nothing else changes, and no fault is met.
-pub fn gives<R: AllocGlobal + Threads + Sync>(
-    rt: &R,
-    verb: &str,
-    text: &[u8],
-    status: u8,
-    printed: &str,
-    out: Option<&[u8]>,
-) -> Result<bool, AllocError> {
-    let mut outside = Outside::new(rt.alloc(), text)?;
-    let says = outside.says(rt, &[verb, "map", "out"], status, printed);
-    Ok(says && outside.holds(out, text, [0, 0, 0]))
-}
-
 /// What a run answers and prints, and how many reads, writes and prints failed.
 pub type Answer = (u8, &'static str, [u64; 3]);

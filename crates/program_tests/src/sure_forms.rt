@@ -1,6 +1,5 @@
-use super::demo::ONE_ROOM;
 use super::empty_file::{EMPTY_FILE, EMPTY_SUMMARY};
-use super::printed::{COUNTS, UNEXPECTED};
+use super::printed::{COUNTS, ONE_ROOM, UNEXPECTED};
 use qm_compile::laws::run_surely;
 use qm_compile::{OpenGate, exit_number};
 use qm_shelf::{SureShelf, SureSink};

@@ -1,0 +1,116 @@
+"""Words that are no command, and options in each place."""
+
+from rows.cube_files import LISTING, SUMMARY, TEXT, TREE
+from rows.table import Row
+
+USAGE = ("usage: qmapc compile MAP OUT [--prt FILE] [--threads N] [--fast] | inspect TREE QUERY.. | format MAP OUT | demo N NUMBER "
+         "| upgrade TREE OUT\n")
+
+# an empty word stands between two spaces
+NO_COMMANDS = """\
+compile
+compile map
+compile map map
+compile map out more
+Compile map out
+compile -map out
+compile map -out
+compile  out
+compile map\x20
+format
+format map
+format map map
+format map -out
+--help
+map out
+ map out
+compile map out --fast --fast
+compile --fast map --fast out
+compile map --fast
+compile --fast map map
+--fast compile map out
+compile map out --Fast
+compile map out --fast=1
+format map out --fast
+compile map out --prt
+compile --prt map out
+compile map out --prt=
+compile map out --prt\x20
+compile map out --prt -x
+compile map out --prt --fast
+compile map out --prt --prt=list
+compile map out --prt list --prt list
+compile --prt=list map out --prt=other
+compile map --prt list --prt=other out
+compile map out --prt map
+compile map out --prt=out
+compile map out --prt list more
+compile map out --prtlist
+format map out --prt list
+format map --prt=list out
+--prt list compile map out
+compile map out -- more
+compile map out --threads 65
+compile map out --threads 0
+compile map out --threads=04
+compile map out --threads=+4
+compile map out --threads
+compile map out --threads=4 --threads 4
+compile map out --thr 4
+format map out --threads 1
+inspect map
+inspect -map count
+inspect map count --fast
+inspect map counts
+inspect map at=1,2
+inspect map at=1,2,3,4
+inspect map at=1,2,0.0000001
+inspect map at=1,2,1000000001
+inspect map row=1000000000000000000
+inspect map count row=01
+inspect map sees=0
+inspect map sees=0,01
+inspect map parts=1
+upgrade
+upgrade map
+upgrade map map
+upgrade map out more
+upgrade map out --fast
+upgrade -map out
+upgrade map -out
+upgrade  out
+Upgrade map out
+demo 8
+demo 0 7
+demo 65 7
+demo 08 7
+demo 8 07
+demo 8 -7
+demo 8 18446744073709551616
+demo 8 7 map
+-h
+help
+"""
+
+# words that ask for a listing of the cube's portals, and its name
+LISTINGS = [
+    ("compile --prt list map out", "list"),
+    ("compile map --prt list out", "list"),
+    ("compile map out --prt list", "list"),
+    ("compile map --prt=list out", "list"),
+    ("compile map out --prt=-x", "-x"),
+    ("compile map out --prt=--fast", "--fast"),
+    ("compile --fast map --prt list out", "list"),
+    ("compile --prt=list --fast map out", "list"),
+    ("compile map out --prt== --fast", "="),
+    ("compile --threads 4 map out --prt list", "list"),
+    ("compile map --prt=list --threads=64 out --fast", "list"),
+    ("compile map --fast --threads=1 --prt list out", "list"),
+]
+
+
+def rows():
+    for words in ([], *NO_COMMANDS.splitlines()):
+        yield Row(words, 2, USAGE, {"map": b"{ }"})
+    for words, name in LISTINGS:
+        yield Row(words, 0, SUMMARY, {"map": TEXT}, {"out": TREE, name: LISTING})
