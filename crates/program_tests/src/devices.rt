@@ -1,8 +1,7 @@
 use super::cube::CUBE_TEXT;
 use super::cube_file::CUBE_FILE;
-use super::demo::ONE_ROOM;
 use super::outside::{Answer, Outside};
-use super::printed::{READ_FAULT, SUMMARY, UNEXPECTED, USAGE};
+use super::printed::{ONE_ROOM, READ_FAULT, SUMMARY, UNEXPECTED, USAGE};
 use std::alloc::AllocError;
 use std::test::Fail;
 use std::thread::Threads;
