@@ -72,17 +72,21 @@ def half(cell, axis, place, is_above):
     end = end[:axis] + (place,) + end[axis + 1:]
     low, high = (end, cell.high) if is_above else (cell.low, end)
     boxes = cell.boxes and [box for box in cell.boxes if (box.high[axis] > place if is_above else box.low[axis] < place)]
-    near = [(brush, crossing(planes, low, high)) for brush, planes in cell.near
+    near = [(brush, crossing(planes, low, high, axis)) for brush, planes in cell.near
             if (brush.high[axis] > place if is_above else brush.low[axis] < place)]
     near = [(brush, planes) for brush, planes in near if planes is not None]
     is_solid = boxes is not None and not boxes or not all(planes for _, planes in near)
     return Cell(low, high, None if is_solid else near, boxes)
 
 
-def crossing(planes, low, high):
-    """Those planes of a brush that cross a cell, or None where the cell is in front of one."""
+def crossing(planes, low, high, axis):
+    """Those planes of a brush that cross a part of a cell, of those that cross the cell, which is parted along an axis; or None where
+    the part is in front of one."""
     found = []
     for plane in planes:
+        if not plane[axis]:
+            found.append(plane)
+            continue
         least, most = span(plane, low, high)
         if least >= 0:
             return None

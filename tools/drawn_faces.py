@@ -51,8 +51,7 @@ def drawn(tree, bodies):
         start = within(tree, body)
         for number, polygon in body.polygons.items():
             face = body.faces[number]
-            before = [other for other in sharing[body.contents, face.plane] if other.number < body.number and meet(body, other)]
-            found += parts_of(known_tree, start, body.contents, face, polygon, before)
+            found += parts_of(known_tree, start, body, face, polygon, sharing[body.contents, face.plane])
     return sorted(found, key=lambda one: one.node)
 
 
@@ -73,20 +72,20 @@ def meet(one, other):
     return all(a <= d and c <= b for a, b, c, d in zip(one.low, one.high, other.low, other.high))
 
 
-def parts_of(known_tree, start, contents, face, polygon, before):
-    """What is drawn of a face of a brush that lies below a child; `before` are the brushes that have the face where they have it too."""
-    inner = frozenset((contents,))
-    outer = frozenset(STRENGTH[STRENGTH.index(contents) + 1:])
+def parts_of(known_tree, start, body, face, polygon, sharing):
+    """What is drawn of a face of a brush that lies below a child; `sharing` are the brushes with faces on the same plane."""
+    inner = frozenset((body.contents,))
+    outer = frozenset(STRENGTH[STRENGTH.index(body.contents) + 1:])
     is_behind = face.plane not in known_tree.numbers
     number = known_tree.numbers.get(tuple(-part for part in face.plane) if is_behind else face.plane)
-    for node, piece in on_nodes(known_tree, start, polygon, number, contents):
+    for node, piece in on_nodes(known_tree, start, polygon, number, body.contents):
         _, front, back = known_tree.tree.nodes[node]
         without, inside = (back, front) if is_behind else (front, back)
         for part in kept(known_tree, without, piece, outer):
             for own in kept(known_tree, inside, part, inner):
-                for rest in left(own, before, face.plane):
+                for rest in left(own, body, sharing, face.plane):
                     yield Drawn(node, is_behind, face, rest)
-                    if contents in LIQUID:
+                    if body.contents in LIQUID:
                         yield Drawn(node, not is_behind, face, rest[::-1])
 
 
@@ -102,12 +101,16 @@ def on_nodes(known_tree, child, polygon, number, contents):
         plane, front, back = tree.nodes[child]
         if plane == number:
             yield child, polygon
-            continue
-        before, behind = corners.split(polygon, tree.planes[plane])
-        if before:
-            waiting.append((front, before))
-        if behind:
-            waiting.append((back, behind))
+        else:
+            waiting += [(below_it, part) for below_it, part in zip((front, back), divided(polygon, tree.planes[plane])) if part]
+
+
+def divided(polygon, plane):
+    """What a plane leaves in front and behind, each None where nothing is there."""
+    found = corners.values(polygon, plane)
+    if min(found) >= 0:
+        return polygon, None
+    return (None, polygon) if max(found) <= 0 else corners.parted(polygon, found)
 
 
 def kept(known_tree, child, polygon, wanted):
@@ -125,7 +128,7 @@ def kept(known_tree, child, polygon, wanted):
             found.append((False, polygon))
         else:
             plane, front, back = tree.nodes[child]
-            before, behind = corners.split(polygon, tree.planes[plane])
+            before, behind = divided(polygon, tree.planes[plane])
             if before and behind:
                 waiting += [(None, polygon, len(found)), (back, behind, None), (front, before, None)]
             else:
@@ -133,12 +136,15 @@ def kept(known_tree, child, polygon, wanted):
     return [polygon for is_kept, polygon in found if is_kept]
 
 
-def left(polygon, before, plane):
-    """The parts of a polygon on a face's plane that are in none of some brushes."""
+def left(polygon, body, sharing, plane):
+    """The parts of a polygon on the plane of a brush's face that are in no brush before it; `sharing` are those with such a face."""
     parts = [polygon]
-    for body in before:
-        others = [other for other in body.planes() if other != plane]
-        parts = [part for whole in parts for part in outside(whole, others)]
+    for other in sharing:
+        if other.number >= body.number:
+            break
+        if meet(body, other):
+            others = [side for side in other.planes() if side != plane]
+            parts = [part for whole in parts for part in outside(whole, others)]
     return parts
 
 
@@ -164,9 +170,5 @@ def seen_from(tree, drawn):
             found.append(tree.leaves[-1 - child].number)
             continue
         plane, front, back = tree.nodes[child]
-        before, behind = corners.split(polygon, tree.planes[plane])
-        if before:
-            waiting.append((front, before))
-        if behind:
-            waiting.append((back, behind))
+        waiting += [(below_it, part) for below_it, part in zip((front, back), divided(polygon, tree.planes[plane])) if part]
     return found

@@ -14,6 +14,7 @@ import drawn_faces
 from mapping import laid
 from match import leading
 from miptex import Textures
+import sections
 from smalltree import built
 from surfaces import OPEN
 import texels
@@ -225,23 +226,29 @@ def entity_text(entities):
 def world_of(tree, bodies_here):
     """The model of the world."""
     boxes = leaf_boxes(tree)
-    hulls = [clip_cells.made(bodies_here, hull, tree.bound, list(boxes.values())) for hull in clip.BOXES]
+    hulls = [hull_of(tree, kind, bodies_here, list(boxes.values())) for kind in sections.HULLS]
     return Model(tree, bodies_here, boxes, hulls)
 
 
-def model_of(entity, bound):
-    """The model of another entity."""
+def hull_of(tree, kind, bodies_here, boxes):
+    """A clip hull of the world: that of the tree file, or one that is made here."""
+    stored = sections.hull(tree, kind)
+    return clip.of_section(stored, boxes) if stored else clip_cells.made(bodies_here, kind, tree.bound, boxes)
+
+
+def model_of(entity, tree, bound):
+    """The model of another entity, with its tree where there is one."""
     bodies_here = brushes.full(entity.brushes, bound)
-    tree = built(brushes.drawn(bodies_here), bound)
+    tree = tree or built(brushes.drawn(bodies_here), bound)
     return Model(tree, bodies_here, leaf_boxes(tree), [clip_cells.made(bodies_here, hull, bound, None) for hull in clip.BOXES])
 
 
 def level_of(tree, entities, wanted, bodies_here):
-    """The BSP file of a tree and the entities of its map, with the bodies of the world's brushes."""
-    level, (rows, places) = Level(wanted), visibility_of(tree)
+    """The BSP file of a tree and the entities of its map, with the bodies of the world's brushes. Raises `sections.BadSection`."""
+    level, (rows, places), stored = Level(wanted), visibility_of(tree), sections.models(tree)
     level.add_model(world_of(tree, bodies_here), places)
-    for entity in entities[1:]:
+    for number, entity in enumerate(entities[1:], 1):
         if entity.brushes and entity.value(b"classname") not in GROUPS:
-            level.add_model(model_of(entity, tree.bound), [])
+            level.add_model(model_of(entity, stored.get(number), tree.bound), [])
     level.file.bytes.update(entities=entity_text(entities), visibility=rows, lighting=level.lighting(), textures=level.textures.packed())
     return level.file
