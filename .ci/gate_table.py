@@ -31,8 +31,8 @@ def counts(crate):
 
 
 def seconds(lines, edits, tests):
-    # an edit that is alone is tried from nothing, and has no check before it
-    checks = 1 + (edits > 1) + (tests > 0)
+    # an edit that is alone has no check before it, and is tried from nothing, which costs as much
+    checks = 1 + (edits > 0) + (tests > 0)
     return checks * (8 + lines / 10) + 12 * edits + 7 * tests + 14 * (tests > 0)
 
 
