@@ -90,7 +90,7 @@ choose_program() {
     elif unfit=$(release_fault "$now") && [[ -n $unfit ]]; then
         return 1
     elif ! runs_here; then
-        unfit="the released program does not run on this machine: it needs Linux on x86-64, with glibc 2.34 or later"
+        unfit="the released program does not run on this machine: it needs Linux on x86-64-v2 with glibc 2.34 or later"
         return 1
     else
         chosen=$released
