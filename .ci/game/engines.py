@@ -9,11 +9,14 @@ import subprocess
 
 import make_game
 
-WIDTH, HEIGHT = 640, 480
+# the size of pictures, and that of the window where none are taken
+LARGE, SMALL = (640, 480), (160, 120)
 # seconds of the game from one frame to the next, so that a run does not hang on how fast the machine is
 FRAME = 0.05
 # what each engine is told before a level: nothing but the level is drawn
-PLAIN = ["viewsize 120", "scr_viewsize 120", "crosshair 0", "con_notifytime 0", "r_waterwarp 0", "r_drawviewmodel 0", "fov 90"]
+PLAIN = ["viewsize 120", "scr_viewsize 120", "crosshair 0", "con_notifytime 0", "con_notify 0", "r_waterwarp 0", "r_drawviewmodel 0",
+         "fov 90", 'alias rest "wait;wait;wait;wait;wait;wait;wait;wait"',
+         'alias pair "r_novis 0;rest;rest;rest;shot;r_novis 1;rest;shot;r_novis 0"']
 
 
 class Failed(Exception):
@@ -27,7 +30,7 @@ def program(name):
 
 def run(command, seconds):
     """What an engine prints. It is stopped after so many seconds."""
-    environment = {**os.environ, "LIBGL_ALWAYS_SOFTWARE": "1", "SDL_AUDIODRIVER": "dummy"}
+    environment = {**os.environ, "LIBGL_ALWAYS_SOFTWARE": "1", "LP_NUM_THREADS": "2", "SDL_AUDIODRIVER": "dummy"}
     done = subprocess.run(["timeout", "-k", "5", str(seconds), *map(str, command)], stdin=subprocess.DEVNULL,
                           stdout=subprocess.PIPE, stderr=subprocess.STDOUT, env=environment, text=True, errors="replace")
     return done.stdout
@@ -41,14 +44,14 @@ class DarkPlaces:
         self.folder, self.user = folder / "darkplaces", folder / "darkplaces-user"
         shutil.copytree(game, self.folder / "id1")
 
-    def play(self, level, lines, seconds):
+    def play(self, level, lines, seconds, size=SMALL):
         """Runs a level by some lines of the console, and gives what the engine prints."""
         shutil.copy(level, self.folder / "id1" / "maps" / level.name)
         shutil.rmtree(self.user, ignore_errors=True)
         told = ["scr_screenshot_jpeg 0", "scr_screenshot_png 0", 'alias shot "screenshot"', *PLAIN, f"host_framerate {FRAME}", *lines]
         (self.folder / "id1" / "play.cfg").write_text("\n".join([*told, f"map {level.stem}", ""]))
         return run([program("darkplaces"), "-basedir", self.folder, "-userdir", self.user, "-nosound", "+vid_fullscreen", 0, "+vid_width",
-                    WIDTH, "+vid_height", HEIGHT, "+exec", "play.cfg"], seconds)
+                    size[0], "+vid_height", size[1], "+exec", "play.cfg"], seconds)
 
     def pictures(self):
         """The pictures of the last run in their order."""
@@ -65,14 +68,14 @@ class QuakeSpasm:
         shutil.copytree(game, self.folder / "play")
         (self.folder / "id1").symlink_to(Path(data).resolve() / "id1", target_is_directory=True)
 
-    def play(self, level, lines, seconds):
+    def play(self, level, lines, seconds, size=SMALL):
         """Runs a level by some lines of the console, and gives what the engine prints."""
         shutil.copy(level, self.folder / "play" / "maps" / level.name)
         for picture in self.pictures():
             picture.unlink()
         told = ['alias shot "screenshot tga"', *PLAIN, f"host_framerate {FRAME}", *lines]
         (self.folder / "play" / "play.cfg").write_text("\n".join([*told, f"map {level.stem}", ""]))
-        printed = run([program("quakespasm"), "-basedir", self.folder, "-game", "play", "-width", WIDTH, "-height", HEIGHT, "-window",
+        printed = run([program("quakespasm"), "-basedir", self.folder, "-game", "play", "-width", size[0], "-height", size[1], "-window",
                        "-nosound", "+exec", "play.cfg"], seconds)
         if "registered version" in printed:
             raise Failed("QuakeSpasm plays other games only with the data of the full game: gfx/pop.lmp is not in the folder's id1")
@@ -90,14 +93,14 @@ class Nexuiz:
     def __init__(self, folder):
         self.user = folder / "nexuiz"
 
-    def play(self, level, lines, seconds):
+    def play(self, level, lines, seconds, size=SMALL):
         """Runs a level by some lines of the console, and gives what the engine prints."""
         shutil.rmtree(self.user, ignore_errors=True)
         (self.user / "data" / "maps").mkdir(parents=True)
         shutil.copy(level, self.user / "data" / "maps" / level.name)
         (self.user / "data" / "play.cfg").write_text("\n".join([*lines, f"map {level.stem}", ""]))
         return run([program("darkplaces"), "-nexuiz", "-basedir", self.data, "-userdir", self.user, "-nosound", "+vid_fullscreen", 0,
-                    "+vid_width", WIDTH, "+vid_height", HEIGHT, "+exec", "play.cfg"], seconds)
+                    "+vid_width", size[0], "+vid_height", size[1], "+exec", "play.cfg"], seconds)
 
     def pictures(self):
         """The pictures of the last run in their order."""

@@ -3,9 +3,9 @@
 import colorsys
 
 # the hue and the saturation of each ramp, and whether it ascends to the light
-RAMPS = [(0.0, 0.0, True), (0.08, 0.6, True), (0.63, 0.25, True), (0.17, 0.7, True), (0.0, 0.9, True), (0.13, 0.75, True),
-         (0.1, 0.7, True), (0.08, 0.5, True), (0.9, 0.25, False), (0.95, 0.3, False), (0.08, 0.3, False), (0.4, 0.2, False),
-         (0.16, 0.8, False), (0.64, 0.8, False), (0.05, 0.95, True), (0.14, 0.6, True)]
+RAMPS = [(0.0, 0.0, True), (0.08, 0.35, True), (0.62, 0.15, True), (0.2, 0.25, True), (0.02, 0.4, True), (0.13, 0.3, True),
+         (0.09, 0.4, True), (0.07, 0.25, True), (0.6, 0.2, False), (0.07, 0.15, False), (0.1, 0.2, False), (0.4, 0.15, False),
+         (0.13, 0.25, False), (0.6, 0.6, False), (0.05, 0.95, True), (0.14, 0.6, True)]
 STEPS, SHADES, BRIGHT = 16, 64, 32
 
 

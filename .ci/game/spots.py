@@ -35,4 +35,5 @@ def told(places, looks=None):
     """The lines that tell an engine some places, each with a pitch and a yaw."""
     for number, (x, y, z) in enumerate(places):
         pitch, yaw = looks[number] if looks else (0, 0)
-        yield f'alias place{number} "saved1 {x}; saved2 {y}; saved3 {z}; scratch1 {pitch}; scratch2 {yaw}"'
+        yield f'alias place{number} "saved1 {x}; saved2 {y}; saved3 {z}; scratch1 {pitch}; scratch2 {yaw}; temp1 {number + 1}"'
+        yield f'alias done{number} "saved4 {number + 1}"'

@@ -3,10 +3,10 @@
 from struct import unpack_from
 from typing import NamedTuple
 
-from engines import Failed
+from engines import Failed, LARGE
 from spots import EYES, spots, told
 
-VIEWS, LONGEST = 12, 200
+VIEWS, LONGEST = 8, 400
 
 
 class Pair(NamedTuple):
@@ -41,8 +41,8 @@ def look(engine, level_name, level, rng, count=VIEWS):
     """Pairs of views from places by chance."""
     places = [(x, y, z + EYES) for x, y, z in spots(level, count, rng)]
     looks = [(rng.choice((-15, 0, 0, 15, 30)), rng.randrange(0, 360, 5)) for _ in places]
-    lines = ["scratch4 2", f"scratch3 {len(places)}", *engine.still, *told(places, looks)]
-    printed = engine.play(level_name, lines, LONGEST)
+    lines = ["scratch4 2", "saved4 0", "temp1 0", f"scratch3 {len(places)}", *engine.still, *told(places, looks)]
+    printed = engine.play(level_name, lines, LONGEST, LARGE)
     pictures = engine.pictures()
     if len(pictures) != 2 * len(places):
         raise Failed(f"{engine.name} took {len(pictures)} pictures of {level_name.name}, and not {2 * len(places)}")

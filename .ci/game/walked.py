@@ -28,7 +28,7 @@ class Walk(NamedTuple):
 def walk(engine, level_name, level, tree, rng):
     """Lets a player walk, and tells where it was."""
     places = spots(level, TOLD, rng)
-    lines = ["scratch4 1", f"scratch3 {len(places)}", f"saved4 {SECONDS}", *told(places)]
+    lines = ["scratch4 1", "temp1 0", f"scratch3 {len(places)}", f"saved4 {SECONDS}", *told(places)]
     printed = engine.play(level_name, lines, LONGEST)
     found = []
     for numbers in PLACE.findall(printed):

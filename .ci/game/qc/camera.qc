@@ -1,8 +1,7 @@
 // A player that looks from places that it is told. From each two pictures are taken, with the console variable r_novis at 0 and at 1.
 
-// frames from one place to the next, and at which of them what is done
-float FRAMES = 20, FIRST = 8, CHANGES = 11, SECOND = 15;
-.float frames;
+// the place from which it looks, and whether the pictures are under way
+.float looked, is_looking;
 
 // as an eye that nothing stops
 void() stand_as_eye =
@@ -21,32 +20,32 @@ void() stand_as_eye =
     self.fixangle = TRUE;
 };
 
+// the engine has taken the pictures when it has set saved4 to the number of the next place
 void() look =
 {
-    local float place, at;
-    place = floor(self.frames / FRAMES);
-    at = self.frames - place * FRAMES;
-    if (place >= cvar("scratch3"))
+    if (self.is_looking && cvar("saved4") > self.looked)
     {
+        self.looked = self.looked + 1;
+        self.is_looking = FALSE;
+    }
+    if (self.looked >= cvar("scratch3"))
         localcmd("quit\n");
-        return;
-    }
-    if (at == 0)
+    else if (!self.is_looking)
     {
-        localcmd("r_novis 0\n");
-        ask_for(place);
+        self.is_looking = TRUE;
+        ask_for(self.looked);
+        localcmd("pair\ndone");
+        localcmd(ftos(self.looked));
+        localcmd("\n");
     }
-    if (at > 3)
+    if (has_come(self.looked))
         stand_as_eye();
-    if (at == FIRST || at == SECOND)
-        localcmd("shot\n");
-    if (at == CHANGES)
-        localcmd("r_novis 1\n");
-    self.frames = self.frames + 1;
 };
 
 void() PlayerPreThink =
 {
+    if (self.health <= 0)
+        return;
     if (way_to_play() == WALKS)
         walk();
     else if (way_to_play() == LOOKS)

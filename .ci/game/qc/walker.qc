@@ -1,8 +1,8 @@
 // A player that walks by itself: it runs where there is room, turns where it is stopped, jumps now and then, swims, and begins
 // anew from another spot after some seconds: in turn from one of the level and from one that it is told. Each tenth of a second it says where it is, and what the engine finds there.
 
-float RUN = 320, SWIM = 200, JUMP = 270, EYES = 400;
-.float turns_at, tells_at, moves_on_at, stands_at, legs, ends_at;
+float LEG = 4, RUN = 320, SWIM = 200, JUMP = 270, EYES = 400;
+.float turns_at, tells_at, moves_on_at, told_spots, is_asking, legs, ends_at;
 .vector heading, told_origin;
 
 // a coordinate as a whole part and 4096th parts, which say a number of the engine without rounding it far
@@ -74,22 +74,22 @@ void() run =
 // goes to another spot: the level's own are at hand, and one that is told comes with the engine's next frames
 void() move_on =
 {
-    self.moves_on_at = time + 6;
+    self.moves_on_at = time + LEG;
     self.legs = self.legs + 1;
-    self.stands_at = 0;
-    if (cvar("scratch3") < 1 || floor(self.legs / 2) * 2 != self.legs)
+    if (self.told_spots >= cvar("scratch3") || floor(self.legs / 2) * 2 != self.legs)
     {
         to_next_spot();
         choose_heading();
         return;
     }
-    ask_for(floor(self.legs / 2) - 1);
-    self.stands_at = time + 0.3;
+    self.told_spots = self.told_spots + 1;
+    ask_for(self.told_spots - 1);
+    self.is_asking = TRUE;
 };
 
 void() stand_where_told =
 {
-    self.stands_at = 0;
+    self.is_asking = FALSE;
     stand_at(told_place(), 0);
     choose_heading();
 };
@@ -102,7 +102,7 @@ void() walk =
         localcmd("quit\n");
     if (time > self.moves_on_at)
         move_on();
-    if (self.stands_at && time > self.stands_at)
+    if (self.is_asking && has_come(self.told_spots - 1))
         stand_where_told();
     if (time > self.turns_at)
         choose_heading();
