@@ -3,8 +3,8 @@
 
     .ci/game/make_game.py FOLDER
 
-FOLDER gets a palette, a table of shades, a font, pictures and a model of a player, each made by this program, and `progs.dat`, which
-`fteqcc` compiles from the folder qc. Levels are put into FOLDER/maps."""
+FOLDER gets a palette, a table of shades, a font, pictures and a model of a player, each made by this program; the settings of the folder
+cfg; and `progs.dat`, which `fteqcc` compiles from the folder qc. Levels are put into FOLDER/maps."""
 
 from pathlib import Path
 import shutil
@@ -63,6 +63,8 @@ def make(folder):
     (folder / "gfx.wad").write_bytes(wad(list(bar_pictures())))
     for name, (width, height) in ALONE.items():
         (folder / "gfx" / f"{name}.lmp").write_bytes(picture(width, height, 2))
+    for settings in (Path(__file__).resolve().parent / "cfg").iterdir():
+        shutil.copy(settings, folder)
     (folder / "progs" / "player.mdl").write_bytes(model.model(RED))
     compile_code(folder)
 
