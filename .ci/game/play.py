@@ -31,6 +31,8 @@ import walked
 
 # pixels that may differ of a picture: where two surfaces meet, rounding may fall either way
 FEW = 10
+# textures that engines do not draw, behind the points of a face
+UNDRAWN = re.compile(rb"(?i)(\) \S*\b(?:caulk|skip|hint)) ")
 SAMPLES = "room rooms rooms8 courtyard courtyard_leak gatehouse".split()
 HEAD = "| Engine | Level | Form | Places | Leaves | In liquids | In solid | In solid of hull 1 | Other contents | Pairs | Most pixels that differ |"
 
@@ -65,10 +67,20 @@ def call(*words):
     return done.returncode, done.stdout.strip()
 
 
+def show_all(name):
+    """Gives other names to textures of a map that engines do not draw: a face that is there and not drawn is looked through, at what
+    is rightly hidden."""
+    name.write_bytes(UNDRAWN.sub(rb"\1shown ", name.read_bytes()))
+
+
 def made(name, program, folder):
     """The level of a map and its tree file, by the tools as a designer uses them."""
     merged, bevelled, tree, level = (folder / f"{name.stem}{ending}" for ending in ("-world.map", "-bevels.map", ".tree", ".bsp"))
-    for words, allowed in (((TOP / "tools" / "qmlook", "world", name, "--out", merged), (0,)),
+    plain = folder / name.name
+    shutil.copy(name, plain)
+    plain.chmod(0o644)
+    show_all(plain)
+    for words, allowed in (((TOP / "tools" / "qmlook", "world", plain, "--out", merged), (0,)),
                            ((TOP / "tools" / "qmlook", "bevels", merged, "--out", bevelled), (0,)),
                            ((program, "compile", bevelled, tree, "--fast"), (0, 3)),
                            ((TOP / "tools" / "qmbsp", bevelled, tree, level), (0,))):
