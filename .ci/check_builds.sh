@@ -4,12 +4,18 @@
 
 builds=$folder/builds
 
-# runs qmbuild in the folder; `status` is how it ended, the file `printed` has what it printed, and `said` what it said beside
+# runs qmbuild in the folder; `status` is how it ended, the file `printed` has what it printed, and `said` what it said beside, but
+# how long it takes, which hangs on the machine
 build() {
     status=0
     (cd "$builds/levels" && ../tools/qmbuild "$@" >../printed 2>../said) || status=$?
+    say_no_times
     # nothing is left behind
     [[ -z $(find "$builds" -name '.qmbuild*') ]] || status=left
+}
+
+say_no_times() {
+    sed -i -E '/^qmbuild: ([a-zA-Z0-9. ]+,|took) [0-9]+ s$/d' "$builds/said"
 }
 
 # qmbuild ended so and printed exactly this
@@ -305,6 +311,7 @@ says_what_cannot_be_done() {
     [[ $status == 6 ]] && grep -q 'Is a directory$' "$builds/said" && rmdir "$builds/levels/cube.tree" || return 1
     status=0
     (cd "$builds/levels" && : >../printed && ../tools/qmbuild cube.map >/dev/full 2>../said) || status=$?
+    say_no_times
     stopped 6 'standard output: No space left on device' && rm "$builds/levels/cube.tree" || return 1
     answer_with 5 'read fault'
     build cube.map

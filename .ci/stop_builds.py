@@ -17,12 +17,11 @@ import subprocess
 import sys
 import time
 
-# of a text it says nothing; with coarse rows it is as fast as it should be, and without them it begins some portals
+# of a text it says nothing; for coarse rows it does what it should, and without them it begins some portals
 SLOW = """#!/bin/bash
-echo $$ >{folder}/began
 case "$*" in
 format*) exit ;;
-*--fast) sleep {coarse} ;;
+*--fast) echo $$ >{folder}/began; {coarse} ;;
 *) printf '\\rportals begun: 1' >&2; sleep 1.5; printf '\\rportals begun: 17' >&2; sleep 1.2; printf '\\r%35s\\r' '' >&2 ;;
 esac
 : >level.tree
@@ -32,7 +31,7 @@ OLD = b"what was there before"
 
 
 def begin(folder, coarse, *words, errors=subprocess.PIPE):
-    """A run in a session of its own, whose compiler takes so many seconds with coarse rows."""
+    """A run in a session of its own, whose compiler does this for coarse rows."""
     Path(folder, "qmapc").unlink(missing_ok=True)
     Path(folder, "qmapc").write_text(SLOW.format(folder=folder, coarse=coarse))
     Path(folder, "qmapc").chmod(0o755)
@@ -58,16 +57,15 @@ def is_running(number):
 def faults_of_stop(folder, number):
     """What is wrong with a run that a signal ends, twice, once the compiler runs."""
     before = files(folder)
-    run = begin(folder, 60)
-    scratch = None
-    while not scratch:
+    run, began = begin(folder, "exec sleep 100"), Path(folder, "began")
+    while not (began.exists() and began.read_text()):
         time.sleep(0.01)
-        scratch = [path for path in Path(folder, "levels").glob(".qmbuild-*/level.map")]
-    time.sleep(0.3)
-    compiler = int(Path(folder, "began").read_text())
+    if not list(Path(folder, "levels").glob(".qmbuild-*/level.map")):
+        yield "the folder for what is made on the way is not there"
+    compiler = int(began.read_text())
     run.send_signal(number)
     run.send_signal(number)
-    run.wait(timeout=20)
+    run.wait(timeout=60)
     if run.returncode != -number:
         yield f"stopped by {number!r} it ends with {run.returncode}"
     if files(folder) != before or list(Path(folder, "levels").glob(".*")):
@@ -80,18 +78,18 @@ def faults_of_stop(folder, number):
 
 def faults_of_lines(folder):
     """What is wrong with the lines of a run of some seconds."""
-    run = begin(folder, 2.6)
-    printed, said = run.communicate(timeout=30)
+    run = begin(folder, "sleep 2.6")
+    printed, said = run.communicate(timeout=100)
     if run.returncode or printed != b"sealed; 2 open leaves, each sees 2 on average\ntree: cube.tree\n":
         yield f"it ends with {run.returncode} and prints {printed}"
-    if not re.fullmatch(rb"qmbuild: compiling, [2-9] s\n(qmbuild: .*, [2-9] s\n)*qmbuild: took [2-9] s\n", said):
+    if not re.fullmatch(rb"(qmbuild: [a-z ]+, \d+ s\n)+qmbuild: took \d+ s\n", said):
         yield f"it says {said}"
 
 
 def faults_of_terminal(folder):
     """What is wrong with what a run of some seconds shows on a terminal."""
     ours, theirs = pty.openpty()
-    run = begin(folder, 0, "--full", "--threads", "2", errors=theirs)
+    run = begin(folder, ":", "--full", "--threads", "2", errors=theirs)
     os.close(theirs)
     shown = b""
     try:
@@ -99,9 +97,9 @@ def faults_of_terminal(folder):
             shown += part
     except OSError:
         pass
-    if run.wait() or not re.search(rb"\r\x1b\[Kqmbuild: computing the full visibility, 17 of 40 portals begun, [2-9] s", shown):
+    if run.wait() or not re.search(rb"\r\x1b\[Kqmbuild: computing the full visibility, 17 of 40 portals begun, \d+ s", shown):
         yield f"it shows {shown}"
-    if not re.fullmatch(rb".*\r\x1b\[Kqmbuild: took [2-9] s\r\n", shown, re.S):
+    if not re.fullmatch(rb".*\r\x1b\[Kqmbuild: took \d+ s\r\n", shown, re.S):
         yield f"it shows at its end {shown[-80:]}"
 
 
