@@ -1,12 +1,13 @@
 #!/usr/bin/env python3
 """Holds a page of `tools/qmlook view` to the tree from which it was written, and opens it.
 
-    .ci/check_pages.py PAGE TREE [LISTING]
+    .ci/check_pages.py PAGE TREE [LISTING MAP]
 
 The page needs no other file; what it holds, read back from its text, is the tree, its rows, and the surfaces with each corner
-rounded to a float. A page with a listing is that of the courtyard. It is opened without a window where there is a browser,
-Chromium or Chrome: at three places the colours of wall, water and sky stand where they should, keys change what the page
-counts to what is counted here of the tree and its rows, and without WebGL a line says so."""
+rounded to a float. A page with a listing and a map, whose entities it holds, is that of the courtyard. It is opened without a window
+where there is a browser, Chromium or Chrome: at three places the colours of wall, water and sky stand where they should, keys
+change what the page counts to what is counted here of the tree and its rows, what the row of a frozen place leaves out is grey where
+what it holds leaves room, the class of an entity is told under the pointer, and without WebGL a line says so."""
 
 from array import array
 from base64 import b64decode
@@ -37,6 +38,8 @@ FILLS = ["empty", "solid", "water", "slime", "lava", "sky", "filled"]
 # where one stands in the courtyard, and what stands where one looks
 PLACE, AIM = (40, -150, 90), (300, 40, 20)
 TARGETS = {"wall": (200, 192, 150), "water": (200, -50, 36), "sky": (416, 100, 150)}
+# where one looks from outside at what is seen from a frozen place
+OUTSIDE, DOWN, FROZEN = (40, -420, 520), (70, 50, 0), (-208, -128, 24)
 # by how much a part of a colour may differ
 NEAR = 4
 
@@ -44,6 +47,21 @@ NEAR = 4
 def list_of(layout, text):
     """The numbers of a part of the page."""
     return [number for number, in struct.iter_unpack(f"<{layout}", b64decode(text))]
+
+
+def faults_of_entities(text, name):
+    """What is wrong with the entities that a page holds of the courtyard, whose map has a class before each origin."""
+    found = re.findall(r'"classname" "(.*)"\n"origin" "(.*) (.*) (.*)"', Path(name).read_text())
+    kinds = {"info_player_start": "player start", "light": "light"}
+    wanted = [{"kind": kinds.get(its, "entity"), "told": f"{its} at {','.join(place)}", "name": its, "at": list(map(float, place))}
+              for its, *place in found]
+    if level_of(text)["entities"] != wanted or len(wanted) < 3:
+        yield "its entities are not those of the map"
+
+
+def level_of(text):
+    """What a page holds of its level."""
+    return json.loads(re.search(r"^const LEVEL = (.*);$", text, re.M).group(1))
 
 
 def drawn_of(tree, seen, leaf):
@@ -56,7 +74,7 @@ def faults_of_text(text, tree, seen):
     """What is wrong with what a page holds."""
     if re.search(r"https?:|\bsrc=|\bhref=|@import|fetch\(|XMLHttp|\bimport\b", text):
         yield "it asks for something from elsewhere"
-    level = json.loads(re.search(r"^const LEVEL = (.*);$", text, re.M).group(1))
+    level = level_of(text)
     drawn = [drawn_of(tree, seen, leaf) for leaf in range(len(tree.leaves))]
     polygons = [surface.polygon for those in drawn for surface in those]
     floats = list(array("f", (number for polygon in polygons for corner in polygon for number in corners.rounded(corner))))
@@ -86,8 +104,11 @@ class Browser:
     def __init__(self, name, page, folder):
         self.words, self.page, self.folder = [name, *WORDS, f"--user-data-dir={folder}/profile"], page, folder
 
-    def run(self, words, more):
-        address = f"{self.page.resolve().as_uri()}#{words}"
+    def run(self, words, more, script=""):
+        """What the browser prints; a script runs behind those of the page."""
+        page = Path(self.folder, "page.html")
+        page.write_text(self.page.read_text(encoding="ascii").replace("</body>", f"<script>{script}</script></body>"), encoding="ascii")
+        address = f"{page.as_uri()}#{words}"
         return subprocess.run([*self.words, *more, address], capture_output=True, text=True, timeout=120, check=True).stdout
 
     def told(self, words, *more):
@@ -146,15 +167,62 @@ def faults_of_pixels(browser, tree, seen):
     """What is wrong with what the page draws in the courtyard."""
     eye = Eye(PLACE, AIM)
     painter = Painter(tree, {leaf: what.surfaces for leaf, what in seen.items()}, eye.corner)
-    rows, step = browser.pixels("from={}&to={}&keys=H".format(*(",".join(map(str, place)) for place in (PLACE, AIM))))
+    rows, step = browser.pixels(f"from={spelled(PLACE)}&to={spelled(AIM)}&keys=HM")
     wide, high = len(rows[0]) // step, len(rows)
     for name, target in TARGETS.items():
         kind, wanted = colour_along(painter, target)
-        right, up = eye.at(corners.corner(target))
-        x, y = round(wide / 2 * (1 + right)), round(high / 2 - wide / 2 * up)
+        x, y = on_page(eye, target, wide, high)
         found = tuple(rows[y][step * x:step * x + 3])
         if kind != name or any(abs(a - b) > NEAR for a, b in zip(found, wanted)):
             yield f"at {x},{y} of the page {name} should stand with the colour {wanted}, and there is {found}"
+
+
+def spelled(place):
+    """A place as words."""
+    return ",".join(map(str, place))
+
+
+def on_page(eye, target, wide, high):
+    """Where a place stands on a page of a width and a height."""
+    right, up = eye.at(corners.corner(target))
+    return round(wide / 2 * (1 + right)), round(high / 2 - wide / 2 * up)
+
+
+def faults_of_grey(browser, tree, seen):
+    """What is wrong with what the page draws of the row of a frozen place: along rays from outside that meet something which the row
+    holds its pixel has a colour, and along those that meet only what it leaves out it is grey. Pixels beside an edge are passed over."""
+    eye, counts, wrong = Eye(OUTSIDE, DOWN), {True: 0, False: 0}, 0
+    held = surfaces.held(tree, seen, tree.leaf_at(FROZEN))
+    within, beyond = ({leaf: what.surfaces for leaf, what in seen.items() if (leaf in held) == is_held} for is_held in (True, False))
+    painters = [Painter(tree, those, eye.corner) for those in (within, beyond)]
+    rows, step = browser.pixels(f"from={spelled(OUTSIDE)}&to={spelled(DOWN)}&frozen={spelled(FROZEN)}&keys=HML")
+    wide, high = len(rows[0]) // step, len(rows)
+    for y in range(230, high, 11):
+        for x in range(6, wide, 11):
+            near = [rows[y + up][step * (x + right):step * (x + right) + 3] for up in (-2, 0, 2) for right in (-2, 0, 2)]
+            way = [round((1 << 20) * (a + b * eye.wide * (2 * x + 1 - wide) / wide + c * eye.high * (high - 2 * y - 1) / wide))
+                   for a, b, c in zip(eye.ahead, eye.right, eye.up)][:3]
+            found = [painter.along(way) for painter in painters]
+            if None in found or not any(found) or any(abs(a - b) > NEAR for one in near for a, b in zip(one, near[4])):
+                continue
+            is_held, is_grey = bool(found[0]), max(near[4]) - min(near[4]) <= NEAR
+            counts[is_held] += 1
+            wrong += is_held == is_grey
+    if wrong > sum(counts.values()) // 100 or min(counts.values()) < 50:
+        yield f"of {counts[True]} pixels of what a row holds and {counts[False]} of what it leaves out {wrong} have a wrong colour"
+
+
+def faults_of_pointer(browser, entities):
+    """What is wrong with what is told under the pointer: of the first entity, seen from the east, its class and place, and nothing
+    beside it, nor of the last one where the rim of the pool hides it."""
+    first, last = entities[0], entities[-1]
+    for entity, east, aside, wanted in ((first, 100, 0, first["told"]), (first, 100, 200, ""), (last, -100, 0, "")):
+        place, (x, y, z) = f"innerWidth / 2 + {aside}, clientY: innerHeight / 2", entity["at"]
+        move = f"setTimeout(() => view.dispatchEvent(new PointerEvent('pointermove', {{ clientX: {place} }})), 500);"
+        text = browser.run(f"from={x + east},{y},{z}&to={x},{y},{z}", ["--dump-dom"], move)
+        hidden, told = re.search(r'<pre id="pointed"( hidden="")?[^>]*>(.*?)</pre>', text).groups()
+        if (hidden is None, told) != (bool(wanted), wanted):
+            yield f"{aside} beside {entity['told']} {told!r} is told under the pointer"
 
 
 def count_told(text, words):
@@ -163,20 +231,22 @@ def count_told(text, words):
     return tuple(map(int, match.groups())) if match else None
 
 
-def faults_of_keys(browser, tree, seen, portals):
+def faults_of_keys(browser, tree, seen, portals, entities):
     """What is wrong with what the page counts before and after keys."""
     leaf = tree.leaf_at(PLACE)
     number = tree.leaves[leaf].number
     numbered = [other for other, what in enumerate(tree.leaves) if what.number is not None]
     held = surfaces.held(tree, seen, leaf)
-    for keys, shown in (("", numbered), ("VP", sorted(held)), ("VPV", numbered), ("f", sorted(held))):
-        text = browser.told("from={},{},{}&keys={}".format(*PLACE, keys))
+    for keys, shown in (("", numbered), ("VP", sorted(held)), ("VPV", numbered), ("f", sorted(held)), ("V&frozen=" + spelled(PLACE), sorted(held))):
+        text = browser.told(f"from={spelled(PLACE)}&keys={keys}")
         triangles = sum(len(surface.polygon) - 2 for other in shown for surface in drawn_of(tree, seen, other))
         outlined = sum(numbered[front] in shown and numbered[back] in shown for front, back, _ in portals)
         wanted = {
-            r"leaf (\d+), empty, number (\d+)": (leaf, number), r"row: (\d+) leaves": (len(tree.row(number)),),
+            r"leaf (\d+), empty, number (\d+)": (leaf, number), r"sees (\d+) of (\d+) leaves": (len(tree.row(number)), len(numbered)),
+            r"marked: (\d+) of (\d+) entities": (sum(tree.leaf_at(entity["at"]) in shown for entity in entities), len(entities)),
             r"drawn: (\d+) leaves, (\d+) triangles": (len(shown), triangles),
             r"portals: (\d+)": (outlined,) if "P" in keys else None,
+            r"(\d+) triangles, by the row": None if shown == numbered else (triangles,),
         }
         for words, numbers in wanted.items():
             if count_told(text, words) != numbers:
@@ -190,24 +260,28 @@ def runs(browser):
     return subprocess.run([browser, "--version"], capture_output=True, timeout=120, check=False).returncode == 0
 
 
-def faults_of_view(page, tree, seen, portals):
-    """What is wrong with the page of the courtyard as a browser shows it, where there is one."""
+def opened(page, faults):
+    """What is wrong with a page as a browser shows it, where there is one."""
     browser = next((path for path in map(shutil.which, BROWSERS) if path and runs(path)), None)
     if browser is None:
         print("no browser is here: the page of qmlook view was not opened")
         return []
     with tempfile.TemporaryDirectory() as folder:
-        opened = Browser(browser, page, folder)
-        return [*faults_of_pixels(opened, tree, seen), *faults_of_keys(opened, tree, seen, portals)]
+        return list(faults(Browser(browser, page, folder)))
 
 
 def main():
     page, tree = Path(sys.argv[1]), treefile.load(sys.argv[2])
-    seen = surfaces.seen(tree)
-    found = list(faults_of_text(page.read_text(encoding="ascii"), tree, seen))
+    seen, text = surfaces.seen(tree), page.read_text(encoding="ascii")
+    found = list(faults_of_text(text, tree, seen))
     if len(sys.argv) > 3:
-        found += faults_of_view(page, tree, seen, listing.load(sys.argv[3])[1])
+        portals, entities = listing.load(sys.argv[3])[1], level_of(text)["entities"]
+        found += faults_of_entities(text, sys.argv[4])
+        found += opened(page, lambda browser: (
+            *faults_of_pixels(browser, tree, seen), *faults_of_grey(browser, tree, seen),
+            *faults_of_keys(browser, tree, seen, portals, entities), *faults_of_pointer(browser, entities)))
     sys.exit("\n".join(found) or 0)
 
 
-main()
+if __name__ == "__main__":
+    main()

@@ -5,7 +5,8 @@
 
 Of each tree, at some heights: the pieces of a slice fill the cube once, and each point of the slice lies in the piece of the
 leaf to which the tree leads it. The picture is XML, has each piece that it shows with the fill of its leaf, and no two of
-its texts overlap. Of a row just the leaves that it holds are drawn."""
+its texts overlap. Of a row just the leaves that it holds are drawn. Of entities just those are marked from which the way straight up
+or down to the slice meets nothing solid, as the leaves between the planes along it are."""
 
 from fractions import Fraction
 from itertools import combinations
@@ -17,11 +18,14 @@ from xml.etree import ElementTree
 
 sys.path.insert(0, str(Path(__file__).resolve().parent.parent / "tools"))
 
+from origins import Mark
 import plan
 import slices
 import treefile
 
 SVG = "{http://www.w3.org/2000/svg}"
+# how many entities are marked by chance in a slice
+MARKS = 40
 
 
 def area(corners):
@@ -85,12 +89,39 @@ def faults_of_row(tree, picture, number):
         yield f"row {number} has {len(marked)} pieces drawn, and holds {len(held)} of those that are shown"
 
 
+def is_open(tree, place, height):
+    """Whether nothing solid is straight between a place and a height: the leaves are asked for between neighbouring planes."""
+    x, y, z = place
+    met = {Fraction(plane.d - plane.nx * x - plane.ny * y, plane.nz) for plane in tree.planes if plane.nz}
+    low, high = min(z, height), max(z, height)
+    ends = [low, *sorted(at for at in met if low < at < high), high]
+    asked = [height, *((one + other) / 2 for one, other in zip(ends, ends[1:]))]
+    return all(tree.leaves[tree.leaf_at((x, y, at))].number is not None for at in asked)
+
+
+def faults_of_marks(tree, height, found, rng):
+    """What is wrong with the entities that are marked: some by chance, above and below what is open in the slice and elsewhere."""
+    drawn, marks = plan.Picture(tree, height, found, plan.View(slices.extent(tree, found))), []
+    for at in range(MARKS):
+        _, corners = rng.choice([piece for piece in found if at % 4 == 0 or tree.leaves[piece[0]].number is not None] or found)
+        weights = [rng.randrange(1, 100) for _ in corners]
+        x, y = (sum(weight * corner[axis] for weight, corner in zip(weights, corners)) / sum(weights) for axis in (0, 1))
+        marks.append(Mark(rng.choice(("light", "info_player_start", "<>")), str(at), (x, y, height + rng.randrange(-150, 150)), None))
+    drawn.mark(marks)
+    told = {int(at) for at in re.findall(r"<title>\S+ (\d+) at \S+</title>", "".join(drawn.overlay))}
+    wanted = {at for at, mark in enumerate(marks) if drawn.view.holds(mark.place) and is_open(tree, mark.place, height)}
+    if told != wanted:
+        yield f"the entities {sorted(told)} are marked, and {sorted(wanted)} should be, of {marks}"
+    ElementTree.fromstring(plan.drawn(drawn, "a map"))
+
+
 def faults(tree, rng):
     heights = {slices.usual_height(tree), Fraction(rng.randrange(-100, 200)), *rng.sample(slices.heights(tree), 2)}
     for height in sorted(heights):
         found = slices.pieces(tree, height)
         picture = plan.Picture(tree, height, found, plan.View(slices.extent(tree, found)))
-        for fault in (*faults_of_slice(tree, height, found, rng), *faults_of_picture(tree, plan.drawn(picture, "a <map>"))):
+        for fault in (*faults_of_slice(tree, height, found, rng), *faults_of_picture(tree, plan.drawn(picture, "a <map>")),
+                      *faults_of_marks(tree, height, found, rng)):
             yield f"at height {height}: {fault}"
     everyone = [leaf.number for leaf in tree.leaves if leaf.number is not None]
     rows = [sum(1 << n for n in {own, everyone[-1 - own]}).to_bytes((len(everyone) + 7) // 8, "little") for own in everyone]

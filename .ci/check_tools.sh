@@ -36,6 +36,23 @@ compiles_the_samples() {
     grep -qxF "    trail: $(<"$folder/courtyard_leak.trail")" docs/EDITORS.md
 }
 
+# a slice without --z stands at the eyes of a player at the start, and has the entities upon it; the class of each is told
+marks_the_entities() {
+    look plan courtyard.tree --map courtyard.map
+    looked && grep -q 'slice at z = 46,' "$folder/printed" || return 1
+    grep -qx '<path fill="#00803c".*><title>info_player_start at -208,-128,24</title></path>' "$folder/printed" || return 1
+    [[ $(grep -c '<title>light at' "$folder/printed") == 3 && $(grep -c '<text.*>player start</text>' "$folder/printed") == 1 ]] || return 1
+    # above the ceiling of the hall there is what stands in the courtyard alone
+    look plan courtyard.tree --map courtyard.map --z 150
+    looked && ! grep -q 'info_player_start' "$folder/printed" && [[ $(grep -c '<title>light at' "$folder/printed") == 1 ]] || return 1
+    look plan cube.tree --map cube.map
+    refused "cube.map has no entity that stands in the open" || return 1
+    look plan cube.tree --map cube.map --z 0
+    looked || return 1
+    look plan cube.tree --map cube.tree
+    refused "cube.tree is no map: line 1: no entity begins there"
+}
+
 draws_what_the_pages_show() {
     look plan courtyard.tree --z 32
     looked && cmp "$folder/printed" docs/courtyard.svg || return 1
@@ -498,6 +515,7 @@ cp samples/*.map "$folder/"
 check "the samples compile, and leak where they should" compiles_the_samples
 check "inspect answers as the slow reader finds" answers_as_the_slow_reader_finds
 check "tools: the pictures of the pages are those of the samples" draws_what_the_pages_show
+check "tools: the entities of a map are marked, at a player's height" marks_the_entities
 check "tools: each kind of contents has a fill of its own" draws_each_kind_of_contents
 check "tools: slices agree with their trees, and no texts overlap" draws_slices_that_agree_with_the_tree
 check "tools: a row and the portals of a listing are drawn" draws_rows_and_portals

@@ -4,9 +4,10 @@
     .ci/check_views.py TREE..
 
 Of each tree, from some places: what the picture has along each of many rays is what a slow painter finds who looks at every
-surface, and sorts by depth. And along many more rays, which begin in leaves and end where contents change: each leaf that is
-passed is in the row of the first, where the tree has rows, and the last has one surface there, before what comes next. That is
-drawn too, by the row of the first, where it is not solid.
+surface, and sorts by depth; what a row leaves out is drawn where nothing that it holds covers it, the nearest alone. And along many
+more rays, which begin in leaves and end where contents change: each leaf that is passed is in the row of the first, where the tree
+has rows, and the last has one surface there, before what comes next. That is drawn too, by the row of the first, where it is not
+solid.
 
 Where a file beside a tree, with the ending `.trail`, has the trail of a leak, its line is drawn in pictures exactly where the
 painter finds nothing before it that is not seen through."""
@@ -111,18 +112,22 @@ def ray_of(eye, rng):
     return tuple(round(number / max(map(abs, way)) * FINE) for number in way)
 
 
-def faults_of_picture(tree, shown, place, aim, rng):
+def faults_of_picture(tree, shown, left_out, place, aim, rng):
     """Where a picture is not what the painter finds."""
     eye = Eye(place, aim)
-    drawn = picture.Picture(tree, eye, shown)
-    parts = [(part, [sides(eye.corner, polygon) for polygon in part.polygons]) for part in drawn.parts]
-    painter, compared = Painter(tree, shown, eye.corner), 0
+    drawn = picture.Picture(tree, eye, shown, left_out=left_out)
+    parts, unseen = ([(part, [sides(eye.corner, polygon) for polygon in part.polygons]) for part in those]
+                     for those in (drawn.parts, drawn.unseen))
+    painter, behind, compared = Painter(tree, shown, eye.corner), Painter(tree, left_out, eye.corner), 0
     for _ in range(RAYS):
         way = ray_of(eye, rng)
-        wanted, found = painter.along(way), along_picture(parts, way)
-        compared += None not in (wanted, found)
-        if None not in (wanted, found) and wanted != found:
-            yield f"from {place} along {way} the picture has {found}, and the painter {wanted}"
+        wanted, rest, found, grey = painter.along(way), behind.along(way), along_picture(parts, way), along_picture(unseen, way)
+        if None in (wanted, rest, found, grey):
+            continue
+        compared += 1
+        is_covered = any(colours.KINDS[kind][1] == 1 for _, kind, _ in wanted)
+        if wanted != found or grey != ([] if is_covered else rest[:1]):
+            yield f"from {place} along {way} the picture has {found} and {grey}, and the painter {wanted} before {rest}"
     if compared < RAYS * 9 // 10:
         yield f"from {place} only {compared} rays of {RAYS} meet no rim"
 
@@ -242,9 +247,10 @@ def faults(tree, rng):
             place = tuple(number + 700 for number in place)
         if at % 2 and tree.rows is not None:
             held = surfaces.held(tree, seen, leaf)
-            yield from faults_of_picture(tree, {other: shown[other] for other in held if other in shown}, place, aim, rng)
+            within, left_out = ({other: those for other, those in shown.items() if (other in held) == is_held} for is_held in (True, False))
+            yield from faults_of_picture(tree, within, left_out, place, aim, rng)
         else:
-            yield from faults_of_picture(tree, shown, place, aim, rng)
+            yield from faults_of_picture(tree, shown, {}, place, aim, rng)
     yield from faults_through(tree, seen, rng)
 
 

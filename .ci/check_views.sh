@@ -33,12 +33,13 @@ draws_what_a_row_holds() {
     sed '/<text/d' "$folder/printed" >"$folder/whole"
     # the row leaves nothing out that is seen from its own leaf; the title alone says that it is asked for
     look picture courtyard.tree --from -208,-128,24 --to 0,0,32 --row
-    looked && grep -q 'what row 53 holds' "$folder/printed" && sed '/<text/d' "$folder/printed" | cmp - "$folder/whole" || return 1
+    looked && grep -q ', row 53 sees 37 of 55 leaves<' "$folder/printed" && sed '/<text/d' "$folder/printed" | cmp - "$folder/whole" || return 1
     # the third room is not seen from the first
     look picture seen.tree --from 0,0,600 --to 0,0,0
     looked && cp "$folder/printed" "$folder/whole" || return 1
     look picture seen.tree --from 0,0,600 --to 0,0,0 --row=-64,0,32
-    looked && [[ $(grep -c 'class="surface"' "$folder/printed") -lt $(grep -c 'class="surface"' "$folder/whole") ]]
+    looked && [[ $(grep -c ', not in the row</title>' "$folder/printed") -gt 0 ]] || return 1
+    [[ $(grep 'class="surface"' "$folder/printed" | grep -vc ', not in the row<') -lt $(grep -c 'class="surface"' "$folder/whole") ]]
 }
 
 # from above, and from inside
@@ -79,6 +80,8 @@ begins_at() { # begins_at PLACE
 writes_a_page() {
     look view courtyard.tree --at=-208,1/2,24
     begins_at '-208.0, 0.5, 24.0' || return 1
+    look view courtyard.tree --at=-208,1/2,24 --map courtyard.map
+    begins_at '-208.0, 0.5, 24.0' && grep -q '"entities": \[{"kind": "player start"' "$folder/printed" || return 1
     look view courtyard_leak.tree --leak "$(<"$folder/courtyard_leak.trail")"
     begins_at '-192.0, -112.0, 64.0' || return 1
     # without a place, in the middle of the largest leaf that is not solid
@@ -87,14 +90,49 @@ writes_a_page() {
     look view made.tree
     looked && python3 .ci/check_pages.py "$folder/printed" "$folder/made.tree" || return 1
     look view courtyard.tree --map courtyard.map --prt courtyard.prt
-    begins_at '-208.0, -128.0, 24.0' && cp "$folder/printed" "$folder/page.html" || return 1
-    python3 .ci/check_pages.py "$folder/page.html" "$folder/courtyard.tree" "$folder/courtyard.prt"
+    begins_at '-208.0, -128.0, 46.0' && cp "$folder/printed" "$folder/page.html" || return 1
+    python3 .ci/check_pages.py "$folder/page.html" "$folder/courtyard.tree" "$folder/courtyard.prt" "$folder/courtyard.map"
+}
+
+# the plan in the corner reaches farther in the hall than in the store, and eight times as far in a level that is eight times as large
+fits_the_plan_to_the_room() {
+    look view courtyard.tree --map courtyard.map
+    looked && cp "$folder/printed" "$folder/page.html" || return 1
+    (cd "$folder" && python3 "$top/.ci/check_page_plans.py" page.html courtyard.tree -208,-128,24=512 -144,304,24=128) || return 1
+    python3 .ci/made_variants.py "$folder/courtyard.map" 8 >"$folder/wide.map" || return 1
+    run_program compile wide.map wide.tree
+    [[ $status == 0 ]] || return 1
+    look view wide.tree
+    looked && cp "$folder/printed" "$folder/page.html" || return 1
+    (cd "$folder" && python3 "$top/.ci/check_page_plans.py" page.html wide.tree -1664,-1024,192=4096)
+}
+
+# each line is an entity, and where a page begins, and looks, whose map has this entity and those of the lines before it
+begins_at_a_start() {
+    local class place angle from to
+    sed '/^\/\/ entity 1$/,$d' "$folder/courtyard.map" >"$folder/starts.map"
+    while IFS='|' read -r class place angle from to; do
+        printf '{\n"classname" "%s"\n"origin" "%s"\n%s\n}\n' "$class" "$place" "$angle" >>"$folder/starts.map"
+        look view courtyard.tree --map starts.map
+        begins_at "$from" && grep -q "^const LEVEL = .*\"to\": $to[,}]" "$folder/printed" || return 1
+        look plan courtyard.tree --map starts.map
+        looked && grep -q "slice at z = $(sed 's/.* //; s/[.]0$//' <<<"$from")," "$folder/printed" || return 1
+    done <<'END'
+light|-208 96 112||-208.0, 96.0, 112.0|null
+light|-208 96 100||-208.0, 96.0, 112.0|null
+info_player_intermission|-208 96 100||-208.0, 96.0, 112.0|null
+team_CTF_redplayer|-144 304 24|"angle" "180"|-144.0, 304.0, 46.0|\[-208.0, 304.0, 46.0\]
+info_player_deathmatch|352 0 32||352.0, 0.0, 54.0|null
+info_player_start|0 0 -5000||352.0, 0.0, 54.0|null
+info_player_start|-208 -128 110|"angles" "0 0 0"|-208.0, -128.0, 110.0|\[-144.0, -128.0, 110.0\]
+info_player_start|-208 -128 24||-208.0, -128.0, 110.0|\[-144.0, -128.0, 110.0\]
+END
 }
 
 says_how_views_are_used() {
     local words
     for words in 'view' 'picture hole.tree' 'picture hole.tree --from 1,2,3' 'view hole.tree --at 1,2' 'view hole.tree --at 1,2,3,4' \
-        'view hole.tree --at 1,2,32768' 'view hole.tree --at=1,x,3' 'view hole.tree --at 1,2,3 --map hole.map' \
+        'view hole.tree --at 1,2,32768' 'view hole.tree --at=1,x,3' 'view hole.tree --map' 'plan hole.tree --map' \
         'view hole.tree --leak=' 'picture hole.tree --from 1,2,3 --to 1,2,3/0' 'picture hole.tree --from 1,2,3 --to 4,5,6 --row=1'; do
         # shellcheck disable=SC2086  # the words of a command
         look $words
@@ -154,5 +192,7 @@ check "views: surfaces fill the borders of solid leaves once" fills_the_borders_
 check "views: slices of a tree whose planes are fractions agree with it" draws_slices_between_whole_heights
 check "views: pictures and rows have what is seen along rays" shows_what_is_seen_along_rays
 check "views: a page holds its tree, and draws it" writes_a_page
+check "views: a page begins at the first player start of the best kind" begins_at_a_start
+check "views: the plan of a page shows the leaves, and fits the room" fits_the_plan_to_the_room
 check "views: words that are no command get the usage line, and status 2" says_how_views_are_used
 check "views: what cannot be shown is refused by a line" says_why_there_is_no_view

@@ -10,6 +10,8 @@ KINDS = {
     "lava": ((224, 96, 26), 0.8),
     "sky": ((150, 198, 238), 1.0),
 }
+# what a row leaves out, where what it holds leaves room
+UNSEEN = (226, 225, 222)
 # what lies behind all
 GROUND = (52, 50, 48)
 # how bright a surface is that faces neither way of any axis, and how much more for facing along each
@@ -30,6 +32,11 @@ def shade(plane):
     """How bright a surface is, by its plane, which is turned to where it is seen from."""
     nx, ny, nz = plane[:3]
     return MEAN + (EAST * nx + NORTH * ny + UP * nz) / hypot(nx, ny, nz)
+
+
+def unseen(plane):
+    """The colour of a surface that a row leaves out: grey, with half of what makes others darker or lighter."""
+    return tuple(round(part * (1 + shade(plane)) / 2) for part in UNSEEN)
 
 
 def colour(name, plane):

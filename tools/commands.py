@@ -35,24 +35,30 @@ def plan_of(words):
     own = None if words.row is None else leaf_of_row(words, tree)
     portals = None if words.prt is None else portals_of(words.prt, tree)
     line = leak_line(Cells(tree), words.leak) if words.leak else None
-    z = height_of(tree, line, own) if words.z is None else inside(words, tree, (words.z,))[0]
+    marks = None if words.map is None else marks_of(words.map)
+    z = height_of(words, tree, line, own, marks) if words.z is None else inside(words, tree, (words.z,))[0]
     found = slices.pieces(tree, z)
     drawn = plan.Picture(tree, z, found, plan.View(slices.extent(tree, found)))
     if own is not None:
         drawn.hold(words.row)
     if portals is not None:
         drawn.join(portals)
+    if marks is not None:
+        drawn.mark(marks)
     if line:
         drawn.follow(line)
     return [plan.drawn(drawn, plain_name(words.name))]
 
 
-def height_of(tree, line, own):
+def height_of(words, tree, line, own, marks):
     """The height of a slice where none is asked for: that at which a leak line comes into its last leaf, which touches the
-    outside; else that of the middle of the row's own leaf; else one at which there is much to see."""
+    outside; else that of the middle of the row's own leaf; else that of the eyes at the start of a map; else one at which there is
+    much to see."""
     if line and len(line) > 2:
         return line[-3][2]
-    return slices.usual_height(tree) if own is None else Cells(tree).middle(own)[2]
+    if own is not None:
+        return Cells(tree).middle(own)[2]
+    return slices.usual_height(tree) if marks is None else start_of(words.map, marks, tree)[1][2]
 
 
 def leaf_of_row(words, tree):
@@ -74,24 +80,39 @@ def view_of(words):
     tree = tree_of(words.name)
     portals = None if words.prt is None else page.portals_of(portals_of(words.prt, tree))
     line = leak_line(Cells(tree), words.leak) if words.leak else None
-    begin = inside(words, tree, words.at) if words.map is None else origin_of(words.map, tree)
+    marks = None if words.map is None else marks_of(words.map)
+    at, to = begin_of(words, tree, line, marks)
     seen = surfaces.seen(tree)
     if not seen:
         raise Refused(f"{words.name} has nothing but solid leaves")
-    at = begin or (line[0] if line else Cells(tree).middle(largest({leaf: what.faces for leaf, what in seen.items()})))
+    at = at or Cells(tree).middle(largest({leaf: what.faces for leaf, what in seen.items()}))
     level = {**page.level_of(tree, seen), "portals": portals, "leak": line and page.places(line),
-             "at": page.places([at])[0], "to": page.places(line)[1] if line and not begin else None}
+             "entities": page.entities_of(marks or []), "at": page.places([at])[0], "to": to and page.places([to])[0]}
     return page.page(plain_name(words.name), level)
 
 
-def origin_of(name, tree):
-    """Where the first entity of a map stands that does not stand in solid."""
+def begin_of(words, tree, line, marks):
+    """Where a page begins and where one looks, each None where nothing asked for says so: at the place that is asked for; else at
+    the start of the map; else at the beginning of the leak line."""
+    if words.at:
+        return inside(words, tree, words.at), None
+    if marks is not None:
+        mark, eyes = start_of(words.map, marks, tree)
+        return eyes, None if mark.angle is None else page.ahead(eyes, mark.angle)
+    return line[:2] if line else (None, None)
+
+
+def marks_of(name):
+    """The entities of a map that stand at a place."""
     try:
-        places = origins.load(name)
+        return origins.load(name)
     except maptext.NoMap as fault:
         raise Refused(f"{name} is no map: {fault}") from None
-    within = (place for place in places if is_inside(tree, place))
-    found = next((place for place in within if tree.leaves[tree.leaf_at(place)].number is not None), None)
+
+
+def start_of(name, marks, tree):
+    """The entity of a map at which a look around begins, and the place of the eyes there."""
+    found = origins.start(marks, lambda place: is_inside(tree, place) and tree.leaves[tree.leaf_at(place)].number is not None)
     if found is None:
         raise Refused(f"{name} has no entity that stands in the open")
     return found
@@ -105,13 +126,16 @@ def picture_of(words):
         raise Refused("the place from which one looks is the one to which one looks")
     looking, row, mark = Eye(eye, aim), None, None
     line = leak_line(Cells(tree), words.leak) if words.leak else None
-    shown = {leaf: what.surfaces for leaf, what in surfaces.seen(tree, picture.frame(looking)).items()}
+    shown, left_out = {leaf: what.surfaces for leaf, what in surfaces.seen(tree, picture.frame(looking)).items()}, {}
     if words.row:
         mark = None if words.row is True else inside(words, tree, words.row)
         own = leaf_with_row(words, tree, mark or eye)
-        row = tree.leaves[own].number
-        shown = {leaf: shown[leaf] for leaf in surfaces.held(tree, surfaces.seen_beside(tree, own), own) if leaf in shown}
-    drawn = picture.Picture(tree, looking, shown, line, words.leak, mark)
+        row = tree.leaves[own].number, plan.counted(tree, tree.leaves[own].number)
+        held = surfaces.held(tree, surfaces.seen_beside(tree, own), own)
+        left_out = {leaf: those for leaf, those in shown.items() if leaf not in held}
+        shown = {leaf: those for leaf, those in shown.items() if leaf in held}
+    drawn = picture.Picture(tree, looking, shown, line, words.leak, left_out)
+    drawn.mark = mark
     return [picture.drawn(drawn, picture.titled(plain_name(words.name), eye, aim, row))]
 
 

@@ -10,13 +10,20 @@ WIDE, HIGH = 0.66, 1.0
 
 def place(text, corners, lines):
     """The middle and the size of a label inside a convex piece, off some lines where that can be, or None."""
-    middle = centre(corners)
+    middle, lines = centre(corners), near(lines, corners)
     rim = corners + [mean(side) for side in sides(corners)]
     aside = [((middle[0] + x) / 2, (middle[1] + y) / 2) for x, y in rim]
     places = [(x, y, size) for size in SIZES for x, y in (middle, mean(corners), *aside)]
     fitting = [found for found in places if holds(corners, box(text, *found))]
     clear = (found for found in fitting if not any(crosses(line, box(text, *found)) for line in lines))
     return next(clear, fitting[0] if fitting else None)
+
+
+def near(lines, corners):
+    """Of some lines those whose boxes meet that of some corners."""
+    spans = [(min(numbers), max(numbers)) for numbers in zip(*corners)]
+    return [line for line in lines
+            if all(min(ends) <= high and max(ends) >= low for ends, (low, high) in zip(zip(*line), spans))]
 
 
 def crosses(line, corners):

@@ -5,12 +5,14 @@ planes (four doubles each), nodes (plane, front, back: 4 bytes, signed), leaves 
 middles (three floats each); corners (three floats each); of each surface, leaf by leaf, how many corners it has (2 bytes), its
 corners by their numbers (4 bytes each), its kind and its red, green and blue (a byte each); of each leaf how many surfaces
 it has, how many leaves it touches that hold other contents, and these (4 bytes each); and the rows, bit by bit. Beside these
-stand the bound of the world; and the portals of a listing, the points of a leak line, where one begins, and where one looks, each
-null where it is not said."""
+stand the bound of the world; the entities of a map that stand at a place, each with its kind, what is said of it, its class and its
+place; and the portals of a listing, the points of a leak line, where one begins, and where one looks, each null where it is not
+said."""
 
 from base64 import b64encode
 from html import escape
 import json
+from math import cos, radians, sin
 from pathlib import Path
 from struct import pack
 
@@ -20,9 +22,11 @@ from corners import rounded
 from patterns import FILLED, kind as fill_of
 
 FOLDER = Path(__file__).resolve().parent / "web"
-SCRIPTS = ["level.js", "walking.js", "drawing.js", "marks.js", "main.js"]
+SCRIPTS = ["level.js", "walking.js", "drawing.js", "marks.js", "entities.js", "plan.js", "main.js"]
 FILLS = ["empty", "solid", "water", "slime", "lava", "sky", FILLED]
 KINDS = list(colours.KINDS)
+# how far ahead of a place the point is to which one looks
+AHEAD = 64
 
 
 def spelled(layout, numbers):
@@ -82,6 +86,17 @@ def portals_of(portals):
         "lengths": spelled("H", (len(corners) for _, _, corners in portals)),
         "corners": spelled("f", flat(corner for _, _, corners in portals for corner in corners)),
     }
+
+
+def entities_of(marks):
+    """The entities of a map, as the page reads them."""
+    return [{"kind": mark.kind(), "told": mark.told(), "name": mark.name, "at": places([mark.place])[0]} for mark in marks]
+
+
+def ahead(place, angle):
+    """A point that is straight ahead of a place for one who looks at an angle, in degrees."""
+    x, y, z = place
+    return float(x) + AHEAD * cos(radians(angle)), float(y) + AHEAD * sin(radians(angle)), z
 
 
 def page(name, level):

@@ -41,11 +41,10 @@ def frame(eye):
     return eye.frame(Fraction(HIGH, WIDE))
 
 
-def look(tree, eye, shown, pieces):
-    """What is seen of the surfaces of some leaves, from the nearest on, and of the pieces of a line, each of which is given with
-    the leaf in which it lies: its ends."""
-    beam, found, ends = Beam(), [], []
-    beam.narrow(frame(eye), OPEN, COVERED)
+def look(tree, eye, beam, shown, pieces, covers):
+    """What is seen in a beam of the surfaces of some leaves, from the nearest on, and of the pieces of a line, each of which is given
+    with the leaf in which it lies: its ends. A test says of which kinds surfaces cover what is behind them."""
+    found, ends = [], []
     for leaf in nearest_first(tree, eye.corner):
         if beam.state == COVERED:
             break
@@ -54,7 +53,7 @@ def look(tree, eye, shown, pieces):
         for surface in shown.get(leaf, ()):
             kind = colours.kind(tree.leaves[leaf].contents, surface.beyond)
             if kind and corners.value(surface.plane, eye.corner) > 0:
-                polygons = beam.put(eye.corner, surface.polygon, colours.KINDS[kind][1] == 1)
+                polygons = beam.put(eye.corner, surface.polygon, covers(kind))
                 found += [Part(leaf, kind, surface, polygons)] if polygons else []
     return found, ends
 
@@ -70,12 +69,16 @@ def line_pieces(eye, line, trail):
 
 
 class Picture:
-    """Where things stand in the picture, and what is drawn: surfaces, a leak line, and a place that is marked."""
+    """Where things stand in the picture, and what is drawn: surfaces, others that a row leaves out, a leak line, and a place that is
+    marked. What a row leaves out hides nothing that it holds: it is drawn where this leaves room, and nothing is seen through it."""
 
-    def __init__(self, tree, eye, shown, line=None, trail=(), mark=None):
-        self.tree, self.eye, self.mark = tree, eye, mark
+    def __init__(self, tree, eye, shown, line=None, trail=(), left_out=None):
+        self.tree, self.eye, self.mark = tree, eye, None
         self.pieces = line_pieces(eye, line, trail) if line else {}
-        self.parts, self.ends = look(tree, eye, shown, self.pieces)
+        beam = Beam()
+        beam.narrow(frame(eye), OPEN, COVERED)
+        self.parts, self.ends = look(tree, eye, beam, shown, self.pieces, lambda kind: colours.KINDS[kind][1] == 1)
+        self.unseen, _ = look(tree, eye, beam, left_out or {}, {}, lambda kind: True)
 
     def at(self, corner):
         """Where a corner stands."""
@@ -94,16 +97,23 @@ class Picture:
 
 
 def drawn_parts(picture):
-    """The surfaces, from the farthest on. A browser shows what each is under the pointer."""
+    """The surfaces, from the farthest on, those that a row leaves out below. A browser shows what each is under the pointer."""
+    for part in reversed(picture.unseen):
+        yield drawn_part(picture, part, colours.unseen(part.surface.plane), 1, ", not in the row")
     for part in reversed(picture.parts):
-        colour, share = colours.hexadecimal(colours.colour(part.kind, part.surface.plane)), colours.KINDS[part.kind][1]
-        fill = f'fill="#{colour}" ' + (f'stroke="#{colour}"' if share == 1 else f'fill-opacity="{share}"')
-        title = f"leaf {part.leaf}, {picture.tree.leaves[part.leaf].contents}, before {part.surface.beyond}"
-        path = "".join(picture.path(polygon) + "Z" for polygon in part.polygons)
-        yield f'<path class="surface" {fill} d="{path}"><title>{title}</title></path>\n'
+        yield drawn_part(picture, part, colours.colour(part.kind, part.surface.plane), colours.KINDS[part.kind][1])
         rules = "".join(picture.path(ends) for polygon in part.polygons for ends in rules_of(picture, part, polygon))
         if rules:
             yield f'<path class="rule" d="{rules}"/>\n'
+
+
+def drawn_part(picture, part, colour, share, rest=""):
+    """A surface with its colour, and how much of it is seen."""
+    colour = colours.hexadecimal(colour)
+    fill = f'fill="#{colour}" ' + (f'stroke="#{colour}"' if share == 1 else f'fill-opacity="{share}"')
+    title = f"leaf {part.leaf}, {picture.tree.leaves[part.leaf].contents}, before {part.surface.beyond}{rest}"
+    path = "".join(picture.path(polygon) + "Z" for polygon in part.polygons)
+    return f'<path class="surface" {fill} d="{path}"><title>{title}</title></path>\n'
 
 
 def rules_of(picture, part, polygon):
@@ -143,6 +153,9 @@ def drawn_legend(picture):
     kinds = {part.kind for part in picture.parts}
     items = [(f'<rect y="-14" width="24" height="16" fill="#{colours.hexadecimal(shown)}" stroke="#55504a"/>', name)
              for name, (shown, _) in colours.KINDS.items() if name in kinds]
+    if picture.unseen:
+        items.append((f'<rect y="-14" width="24" height="16" fill="#{colours.hexadecimal(colours.UNSEEN)}" stroke="#55504a"/>',
+                      "not in the row"))
     if picture.pieces:
         items.append(('<path class="trail" d="M0,-5H24"/>', "leak line, dotted where it is hidden"))
     items += [('<circle class="mark" cx="12" cy="-6" r="7"/>', "the place whose row is shown") for _ in drawn_mark(picture)]
@@ -166,8 +179,8 @@ def drawn(picture, title):
 
 
 def titled(name, place, aim, row=None):
-    """What stands above the picture."""
-    rest = "" if row is None else f", what row {row} holds"
+    """What stands above the picture; of a row its number, and what is counted of it."""
+    rest = "" if row is None else ", row {} {}".format(*row)
     return f"{name}, from {written(place)} to {written(aim)}{rest}"
 
 

@@ -1,12 +1,15 @@
 """The picture of a slice through a tree: its pieces, what a row holds, portals, and the trail of a leak, as SVG."""
 
 from fractions import Fraction
+from math import cos, radians, sin
 from xml.sax.saxutils import escape
 
 import labels
+from origins import LIGHT, OTHER, START
 import patterns
 from points import decimal
 from polygons import crossing, in_front
+from slices import is_shown
 
 # in units of the picture: the longer side of what is shown and the least width of what is written; the rim around it; a
 # line of the legend, a letter in it, and the gap between two items
@@ -24,6 +27,13 @@ text { font-family: sans-serif; fill: #111111 }
 .start { stroke: #ffffff; stroke-width: 2; fill: #c00018 }
 </style>
 """
+# how entities are marked, from those that are drawn first: the colour, that of the rim, and the corners of the mark, which is turned
+# to where the entity looks
+MARKS = {
+    LIGHT: ("#ffd028", "#6b4a00", [(4, 0), (1.4, 1.4), (0, 4), (-1.4, 1.4), (-4, 0), (-1.4, -1.4), (0, -4), (1.4, -1.4)]),
+    OTHER: ("#1d5c9c", "#ffffff", [(5, 0), (0, 5), (-5, 0), (0, -5)]),
+    START: ("#00803c", "#ffffff", [(10, 0), (-7, 7), (-4, 0), (-7, -7)]),
+}
 
 
 class View:
@@ -39,6 +49,10 @@ class View:
     def at(self, point):
         """A point of the world in the picture, north above."""
         return RIM + float(point[0] - self.west) * self.scale, RIM + LINE + float(self.north - point[1]) * self.scale
+
+    def holds(self, point):
+        """Whether a point of the world lies in the picture."""
+        return self.west < point[0] < self.east and self.south < point[1] < self.north
 
     def shown(self, polygon):
         """The corners in the picture of what is shown of a piece, or None."""
@@ -71,7 +85,7 @@ class Picture:
             if self.tree.leaves[leaf].number == number:
                 self.overlay.append(f'<path class="own" d="{outline(corners)}"/>\n')
         self.kinds.append(patterns.HELD)
-        self.legend.append(('<path class="own" d="M2,-14H26V2H2Z"/>', f"the leaf of row {number}"))
+        self.legend.append(('<path class="own" d="M2,-14H26V2H2Z"/>', f"the leaf of row {number}, which {counted(self.tree, number)}"))
         self.label_by_number = True
 
     def join(self, portals):
@@ -88,13 +102,38 @@ class Picture:
     def follow(self, line):
         """Draws a leak line, with a ring at each contact and a dot where it begins."""
         points = [self.view.at(point) for point in line]
-        self.lines = [*zip(points, points[1:]), *(line for point in points[1::2] for line in plus(point, 5)), *plus(points[0], 8)]
+        self.lines += [*zip(points, points[1:]), *(line for point in points[1::2] for line in plus(point, 5)), *plus(points[0], 8)]
         path = "M" + "L".join(f"{x:.1f},{y:.1f}" for x, y in points)
         self.overlay.append(f'<path class="below" d="{path}"/>\n<path class="trail" d="{path}"/>\n')
         self.overlay += [f'<circle class="stop" cx="{x:.1f}" cy="{y:.1f}" r="4"/>\n' for x, y in points[1::2]]
         self.overlay.append('<circle class="start" cx="{:.1f}" cy="{:.1f}" r="7"/>\n'.format(*points[0]))
         self.legend.append(('<path class="trail" d="M2,-5H26"/><circle class="stop" cx="14" cy="-5" r="4"/>',
                             "leak line, with its contacts"))
+
+    def mark(self, marks):
+        """Draws the entities that belong to what the slice shows. A browser shows the class of each under the pointer."""
+        shown = [mark for mark in marks if self.view.holds(mark.place) and is_shown(self.tree, self.height, mark.place)]
+        for kind in MARKS:
+            these = [mark for mark in shown if mark.kind() == kind]
+            for mark in these:
+                x, y = self.view.at(mark.place)
+                self.lines += plus((x, y), 5)
+                self.overlay.append(drawn_mark(kind, mark.angle or 0, x, y, f"<title>{escape(mark.told())}</title>"))
+            if these:
+                self.legend.append((drawn_mark(kind, 0, 14, -5, ""), kind))
+
+
+def counted(tree, number):
+    """How many leaves a row holds, of how many."""
+    return f"sees {len(tree.row(number))} of {len(tree.rows)} leaves"
+
+
+def drawn_mark(kind, angle, x, y, title):
+    """The mark of an entity of a kind, turned by an angle in degrees, with its middle at a place of the picture."""
+    colour, rim, corners = MARKS[kind]
+    right, up = cos(radians(angle)), sin(radians(angle))
+    path = outline([(x + a * right - b * up, y - a * up - b * right) for a, b in corners])
+    return f'<path fill="{colour}" stroke="{rim}" stroke-width="0.9" d="{path}">{title}</path>\n'
 
 
 def plus(point, reach):

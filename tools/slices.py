@@ -5,27 +5,26 @@ are those of corners.py, so no fraction is made on the way."""
 
 from fractions import Fraction
 
-from below import SOLID, contents_below
 import corners
 from polygons import square
 
 # how many heights are tried where none is asked for
 MOST_TRIED = 12
+# how far above the floor the eyes of a player are, as in Quake
+STANDING = 46
 
 
 def pieces(tree, height):
     """Each leaf that the slice meets, with its piece, in the order of the leaves."""
     return [(leaf, [(Fraction(x, w), Fraction(y, w), height) for x, y, _, w in polygon])
-            for leaf, polygon in whole_pieces(tree, height, lambda child: False)]
+            for leaf, polygon in whole_pieces(tree, height)]
 
 
-def whole_pieces(tree, height, is_left_out):
-    """The same with corners of four whole numbers; leaves are left out below each child that a test names."""
+def whole_pieces(tree, height):
+    """The same with corners of four whole numbers."""
     waiting = [(tree.root(), [corners.corner((x, y, height)) for x, y in square(tree.bound)])]
     while waiting:
         child, polygon = waiting.pop()
-        if is_left_out(child):
-            continue
         if child < 0:
             yield -1 - child, polygon
             continue
@@ -41,19 +40,41 @@ def heights(tree):
 
 
 def usual_height(tree):
-    """Where there is most to see: of some heights between neighbouring horizontal planes of nodes the one with most pieces
-    that are not solid and reach no wall of the cube, and of such ones the lowest. It is 0 where there are no two planes."""
+    """Where there is much to see: of some heights the one with most open pieces and most walls, of which the fewer count, and of such
+    ones that with most open pieces, and the lowest. Each stands above a horizontal plane of a node as high as eyes above a floor, or
+    half way to the next plane where that is near. It is 0 where there are no two planes."""
     found = heights(tree)
-    between = [(low + high) / 2 for low, high in zip(found, found[1:])] or [Fraction(0)]
-    some = between[::len(between) // MOST_TRIED + 1]
-    below = contents_below(tree)
-    return max(some, key=lambda height: (seen(tree, height, lambda child: below[child] == SOLID), -height))
+    between = [min((low + high) / 2, low + STANDING) for low, high in zip(found, found[1:])] or [Fraction(0)]
+    return max(between[::len(between) // MOST_TRIED + 1], key=lambda height: (*worth(tree, height), -height))
 
 
-def seen(tree, height, is_solid):
-    """How many pieces of a slice are not solid and reach no wall of the cube."""
-    found = whole_pieces(tree, height, is_solid)
-    return sum(all(max(abs(x), abs(y)) < tree.bound * w for x, y, _, w in polygon) for _, polygon in found)
+def worth(tree, height):
+    """What there is to see at a height: of the pieces of a slice that reach no wall of the cube those that are open and those that are
+    solid, and not filled, the fewer of both and those that are open."""
+    inner = [tree.leaves[leaf] for leaf, polygon in whole_pieces(tree, height)
+             if all(max(abs(x), abs(y)) < tree.bound * w for x, y, _, w in polygon)]
+    opened = sum(leaf.number is not None for leaf in inner)
+    return min(opened, sum(leaf.number is None and not leaf.filled for leaf in inner)), opened
+
+
+def is_open_between(tree, first, second):
+    """Whether each leaf that the straight way between two points goes through is not solid."""
+    waiting = [(tree.root(), [corners.corner(first), corners.corner(second)])]
+    while waiting:
+        child, way = waiting.pop()
+        if child < 0 and tree.leaves[-1 - child].number is None:
+            return False
+        if child >= 0:
+            plane, front, back = tree.nodes[child]
+            before, behind = corners.split(way, tree.planes[plane])
+            waiting += [(side, part) for side, part in ((back, behind), (front, before)) if part]
+    return True
+
+
+def is_shown(tree, height, place):
+    """Whether a place belongs to what a slice shows: nothing solid is straight between the two, nor where the slice is met."""
+    met = (*place[:2], height)
+    return tree.leaves[tree.leaf_at(met)].number is not None and is_open_between(tree, place, met)
 
 
 def extent(tree, found):

@@ -4,8 +4,11 @@ const NEAR = 2, FAR = 4 * LEVEL.bound, BAND = 1.5, VERTEX = 20;
 
 // surfaces are ruled each 64 units, so that one sees how far things are
 const SURFACES = [`#version 300 es
-uniform mat4 camera; in vec3 place; in vec4 colour; in float ruled; out vec3 at; out vec4 tint; flat out float lines;
-void main() { gl_Position = camera * vec4(place, 1); at = place; tint = colour; lines = ruled; }`, `#version 300 es
+uniform mat4 camera; in vec3 place; in vec4 colour; in float ruled; uniform bool grey; out vec3 at; out vec4 tint; flat out float lines;
+void main() {
+    gl_Position = camera * vec4(place, 1); at = place;
+    tint = grey ? vec4(vec3(0.45 + 0.65 * dot(colour.rgb, vec3(0.4, 0.4, 0.2))), 1) : colour; lines = grey ? 0.4 * ruled : ruled;
+}`, `#version 300 es
 precision highp float; in vec3 at; in vec4 tint; flat in float lines; out vec4 seen;
 void main() {
     vec3 n = abs(cross(dFdx(at), dFdy(at)));
@@ -32,7 +35,7 @@ function program([vertex, fragment]) {
     ["place", "colour", "ruled"].forEach((name, at) => gl.bindAttribLocation(linked, at, name));
     gl.linkProgram(linked);
     if (!gl.getProgramParameter(linked, gl.LINK_STATUS)) throw new Error(gl.getProgramInfoLog(linked));
-    return { linked, camera: gl.getUniformLocation(linked, "camera"), colour: gl.getUniformLocation(linked, "colour") };
+    return { linked, camera: gl.getUniformLocation(linked, "camera"), colour: gl.getUniformLocation(linked, "colour"), grey: gl.getUniformLocation(linked, "grey") };
 }
 
 // of each corner of each surface: its place, its colour, and whether the surface is ruled
@@ -52,7 +55,7 @@ function prepare(view) {
     gl = view.getContext("webgl2", { alpha: false });
     if (!gl) throw new Error("this browser does not have WebGL 2, or has switched it off");
     made = { surfaces: program(SURFACES), lines: program(LINES) };
-    for (const name of ["vertices", "opaque", "edges", "through", "path"]) made[name] = gl.createBuffer();
+    for (const name of ["vertices", "opaque", "unseen", "edges", "through", "path"]) made[name] = gl.createBuffer();
     gl.bindBuffer(gl.ARRAY_BUFFER, made.vertices);
     gl.bufferData(gl.ARRAY_BUFFER, surfaceVertices(), gl.STATIC_DRAW);
     gl.enable(gl.DEPTH_TEST);
@@ -60,20 +63,27 @@ function prepare(view) {
     gl.blendFunc(gl.SRC_ALPHA, gl.ONE_MINUS_SRC_ALPHA);
 }
 
-// what is shown; it changes only with the leaf from which one sees, and with keys
+// what is shown, and what the row leaves out; it changes only with the leaf from which one sees, and with keys
 function choose() {
     const leaf = leafAt(state.frozen || state.eye), limited = state.row && rows !== null && !isSolid(leaf);
     const mark = `${limited && leaf} ${state.portals}`;
     if (drawn && drawn.mark === mark) return;
-    const shown = limited ? held(leaf) : everyLeaf, opaque = [], through = [], edges = [];
-    leaves.forEach((_, at) => { if (shown[at]) { addTriangles(opaque, at, false); addTriangles(through, at, true); addEdges(edges, at); } });
+    const shown = limited ? held(leaf) : everyLeaf, opaque = [], through = [], edges = [], unseen = [];
+    leaves.forEach((_, at) => {
+        addTriangles(shown[at] ? opaque : unseen, at, false);
+        addTriangles(shown[at] ? through : unseen, at, true);
+        if (shown[at]) addEdges(edges, at);
+    });
     const isShown = one => shown[numbered[portals.sides[2 * one]]] && shown[numbered[portals.sides[2 * one + 1]]];
     const wanted = state.portals && portals ? Array.from(portals.sides.subarray(0, portals.sides.length / 2).keys()).filter(isShown) : [];
     drawn = {
-        mark, shown, limited, opaque: opaque.length, edges: edges.length, triangles: (opaque.length + through.length) / 3,
+        mark, shown, limited, opaque: opaque.length, unseen: unseen.length, edges: edges.length, triangles: (opaque.length + through.length) / 3,
         leaves: numbered.filter(at => shown[at]).length, portals: wanted.length, outlines: outlines(wanted),
     };
+    drawn.marks = markParts();
+    drawn.entities = LEVEL.entities.filter(entity => shown[leafAt(entity.at)]).length;
     fill(made.opaque, opaque);
+    fill(made.unseen, unseen);
     fill(made.edges, edges);
 }
 
@@ -141,6 +151,7 @@ function camera(view) {
     return new Float32Array([...columns, off[0], high * off[1], deep * off[2] - 2 * FAR * NEAR / (FAR - NEAR), off[2]]);
 }
 
+// What the row leaves out hides nothing that it holds, so it is drawn first, in grey.
 // Where one surface ends between the corners of another a gap finer than a pixel can be left: so sides are drawn too.
 function drawSurfaces(matrix) {
     gl.useProgram(made.surfaces.linked);
@@ -151,6 +162,11 @@ function drawSurfaces(matrix) {
         gl.vertexAttribPointer(at, size, type, whole, VERTEX, from);
     });
     gl.enable(gl.CULL_FACE);
+    gl.uniform1i(made.surfaces.grey, 1);
+    gl.bindBuffer(gl.ELEMENT_ARRAY_BUFFER, made.unseen);
+    gl.drawElements(gl.TRIANGLES, drawn.unseen, gl.UNSIGNED_INT, 0);
+    gl.uniform1i(made.surfaces.grey, 0);
+    gl.clear(gl.DEPTH_BUFFER_BIT);
     if (!isSolid(leafAt(state.eye)) && !state.frozen) {
         gl.disableVertexAttribArray(2);
         gl.vertexAttrib1f(2, 0);
@@ -187,6 +203,7 @@ function drawLines(matrix) {
     gl.disableVertexAttribArray(2);
     gl.bindBuffer(gl.ARRAY_BUFFER, made.path);
     gl.vertexAttribPointer(0, 3, gl.FLOAT, false, 0, 0);
+    for (const { points, colour } of state.marks ? drawn.marks : []) drawPoints(points, gl.TRIANGLES, colour, true);
     drawPoints(drawn.outlines, gl.LINES, [0, 0.75, 0.5, 1], true);
     if (state.leak && LEVEL.leak) {
         drawPoints(bands(LEVEL.leak), gl.TRIANGLES, [0.9, 0, 0.1, 1], true);

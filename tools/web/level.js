@@ -64,6 +64,29 @@ function passed(first, second) {
     return found;
 }
 
+// what a polygon that lies at a height, of two coordinates a corner, has of each leaf that it meets
+function slice(height, polygon) {
+    const found = [], waiting = [[root, polygon]];
+    while (waiting.length) {
+        const [at, corners] = waiting.pop();
+        if (at < 0) { found.push([-1 - at, corners]); continue; }
+        const values = corners.map(([x, y]) => sideOf(at, [x, y, height])), parts = [[], []];
+        if (values.every(value => value >= 0)) { waiting.push([child(at, true), corners]); continue; }
+        if (values.every(value => value <= 0)) { waiting.push([child(at, false), corners]); continue; }
+        values.forEach((here, to) => {
+            const [x, y] = corners[to], from = (to || values.length) - 1, there = values[from], [u, v] = corners[from];
+            if (here * there < 0) {
+                const cut = there / (there - here), between = [u + cut * (x - u), v + cut * (y - v)];
+                parts.forEach(part => part.push(between));
+            }
+            if (here >= 0) parts[0].push(corners[to]);
+            if (here <= 0) parts[1].push(corners[to]);
+        });
+        parts.forEach((part, side) => waiting.push([child(at, side === 0), part]));
+    }
+    return found;
+}
+
 // the numbers that the row of a leaf holds
 function row(leaf) {
     const from = rowBytes * numbers[leaf];

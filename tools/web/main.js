@@ -14,6 +14,7 @@ function show() {
     const pen = over.getContext("2d"), matrix = draw(view);
     pen.clearRect(0, 0, over.width, over.height);
     if (state.numbers) drawNumbers(pen, matrix, over);
+    if (state.marks) drawNames(pen, matrix, over);
     drawPlan(pen, over);
     document.getElementById("help").hidden = !state.help;
     told.textContent = tell();

@@ -6,7 +6,7 @@ const SPEED = 320, FAST = 4, TURN = 1.8, STEP = 32, DRAG = 0.004, STEEPEST = 1.5
 // `frozen` is the place whose row is shown while one walks on, or null
 const state = {
     eye: LEVEL.at, yaw: 0, pitch: 0, frozen: null,
-    row: false, portals: false, leak: LEVEL.leak !== null, numbers: false, help: true, changed: true,
+    row: false, portals: false, leak: LEVEL.leak !== null, numbers: false, marks: true, zoom: 0, help: true, changed: true,
 };
 const held_down = new Set();
 
@@ -16,7 +16,11 @@ const KEYS = {
     p() { state.portals = !state.portals; },
     l() { state.leak = !state.leak; },
     n() { state.numbers = !state.numbers; },
+    m() { state.marks = !state.marks; },
     h() { state.help = !state.help; },
+    "+"() { state.zoom -= 1; },
+    "="() { state.zoom -= 1; },
+    "-"() { state.zoom += 1; },
 };
 
 function freeze(place) {
@@ -62,7 +66,7 @@ function lookFarthest() {
     }
 }
 
-// from=X,Y,Z and to=X,Y,Z, frozen=X,Y,Z, and keys=.. as if they were pressed
+// from=X,Y,Z and to=X,Y,Z, keys=.. as if they were pressed, and then frozen=X,Y,Z, which turns the row on as the key F does
 function obey(words) {
     const place = name => {
         const found = (words.get(name) || "").split(",").map(Number);
@@ -71,8 +75,8 @@ function obey(words) {
     state.eye = place("from") || state.eye;
     const to = place("to") || LEVEL.to;
     if (to) lookTo(to); else lookFarthest();
-    if (place("frozen")) freeze(place("frozen"));
     for (const key of words.get("keys") || "") press(key);
+    if (place("frozen")) freeze(place("frozen"));
 }
 
 function press(key) {
@@ -103,7 +107,7 @@ function listen(view) {
     view.addEventListener("contextmenu", event => event.preventDefault());
     view.addEventListener("pointerdown", event => view.setPointerCapture(event.pointerId));
     view.addEventListener("pointermove", event => {
-        if (!event.buttons) return;
+        if (!event.buttons) { tellMark(event.clientX, event.clientY); return; }
         turn(-DRAG * event.movementX, -DRAG * event.movementY);
         state.changed = true;
     });
