@@ -155,7 +155,13 @@ marks_in_long_lines() {
     build long.map
     built 4 "long.map:1: fault 3: unexpected
 $(printf '%071d' 0)\" \"é� \" x $(printf '%078d' 0)
-$(printf '%79s' '')^"
+$(printf '%79s' '')^" || return 1
+    # what is too long to be read as a number has no mark
+    printf '{ { ( 0 0 %09999d1.0001 ) ( 0 0 1 ) ( 0 1 0 ) x 0 0 0 1 1 } }' 0 >"$builds/levels/long.map"
+    build long.map --all --mend
+    built 4 "long.map:1: fault 6: fraction
+{ { ( 0 0 $(printf '%0190d' 0)" || return 1
+    [[ $(<"$builds/said") == 'qmbuild: not all faces could be read: line 1: no three points of a face stand there' ]]
 }
 
 # each face that is refused is listed as qmlook lists them, behind a first fault of another kind

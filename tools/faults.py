@@ -54,7 +54,7 @@ class Judge:
             return 10 if self.key == b"origin" and part.entity and not is_origin(part.word) else None
         if part.kind == grammar.NUMBER:
             self.words.append(part.word)
-            return NUMBERS.get(faces.fault_of(part.word))
+            return NUMBERS.get(faces.fault_of(part.word)) if is_short(part.word) else None
         if part.kind == grammar.POINTS_END:
             words, self.words = self.words, []
             return fault_of_points(words)
@@ -63,7 +63,7 @@ class Judge:
 
 def fault_of_points(words):
     """The number of the fault of three points, whose numbers are coordinates; or None."""
-    if any(map(faces.fault_of, words)):
+    if not all(map(is_short, words)) or any(map(faces.fault_of, words)):
         return None
     plane = faces.outward(faces.grouped([faces.thousandths(word) for word in words]))
     if plane is None:
@@ -71,9 +71,14 @@ def fault_of_points(words):
     return NUMBERS["plane too fine"] if faces.is_too_fine(plane) else None
 
 
+def is_short(word):
+    """Whether a word is short enough to be read as a number here."""
+    return len(word) <= faces.LONGEST
+
+
 def is_origin(value):
     """Whether the value of an origin gives a point of the world."""
-    match = ORIGIN.fullmatch(value)
+    match = ORIGIN.fullmatch(value) if is_short(value) else None
     numbers = [Fraction(word.decode()) for word in match.groups()] if match else []
     return bool(match) and all(abs(number) < EXTENT and 10 ** PLACES % number.denominator == 0 for number in numbers)
 
