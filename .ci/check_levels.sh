@@ -67,3 +67,127 @@ END
 check "levels: bevels are added where a brush is slanted and stops a player" bevels_what_is_slanted
 check "levels: bevels change no contents and no line's number" bevels_change_no_contents
 check "levels: a text whose brushes are no brushes gets no bevels" refuses_maps_without_faces
+
+# runs qmbsp in the folder, as `look` runs qmlook
+engine_level() {
+    status=0
+    (cd "$folder" && "$top/tools/qmbsp" "$@" >printed 2>said) || status=$?
+}
+
+# no level is made, what was there stays, and this one line is said
+no_level() { # no_level LINE WORD..
+    local line=$1
+    shift
+    echo kept >"$folder/kept.bsp"
+    engine_level "$@"
+    [[ $status == 1 && ! -s $folder/printed && $(<"$folder/said") == "qmbsp: $line" && $(<"$folder/kept.bsp") == kept ]] && return
+    echo "ended with $status and said: $(<"$folder/said")"
+    return 1
+}
+
+# writes wall.wad: of the textures `brick`, 32 x 16, and `+0lamp`, and an entry that is none; and files that are no WADs
+makes_wads() {
+    python3 - "$folder" <<'END'
+import struct, sys
+
+
+def texture(name, width, height, size=None):
+    data = struct.pack("<16s6I", name, width, height, *(40 + width * height * part // 64 for part in (0, 64, 80, 84)))
+    return data + bytes([7]) * (width * height * 85 // 64 if size is None else size)
+
+
+def wad(textures, magic=b"WAD2"):
+    places, data = [], b""
+    for name, kind, bytes_ in textures:
+        places.append(struct.pack("<iiibbxx16s", 12 + len(data), len(bytes_), len(bytes_), kind, 0, name))
+        data += bytes_
+    return magic + struct.pack("<ii", len(places), 12 + len(data)) + data + b"".join(places)
+
+
+brick = (b"BRICK", 0x44, texture(b"BRICK", 32, 16))
+files = {
+    "wall": wad([brick, (b"palette", 0x40, b"x" * 9), (b"+0lamp", 0x44, texture(b"+0lamp", 16, 16))]), "half": wad([brick], b"WAD3"),
+    "short": wad([brick])[:-1], "odd": wad([(b"odd", 0x44, texture(b"odd", 24, 16))]), "cut": wad([(b"cut", 0x44, texture(b"cut", 16, 16, 9))]),
+}
+for name, data in files.items():
+    open(f"{sys.argv[1]}/{name}.wad", "wb").write(data)
+END
+}
+
+says_how_levels_are_made() {
+    local words
+    while read -ra words; do
+        engine_level "${words[@]}"
+        [[ $status == 2 && ! -s $folder/printed ]] && grep -q '^usage: qmbsp ' "$folder/said" || return 1
+    done <<'END'
+
+room.map room.tree
+room.map room.tree a.bsp b.bsp
+room.map room.tree a.bsp --bsp2 --bsp29
+room.map room.tree a.bsp --texels 31
+room.map room.tree a.bsp --texels 4065
+room.map room.tree a.bsp --texels 2e2
+room.map room.tree a.bsp --wad
+room.map room.tree a.bsp --dar
+END
+    [[ ! -e $folder/a.bsp ]]
+}
+
+refuses_levels() {
+    makes_wads || return 1
+    no_level "courtyard.tree was not made from room.map: it has 65 planes, and the brushes of the map's world have 12" \
+        room.map courtyard.tree kept.bsp || return 1
+    sed 's/__TB_empty/*water/' "$folder/room.map" >"$folder/wet.map"
+    sed 's/( 80 /( 81 /g' "$folder/room.map" >"$folder/moved.map"
+    no_level "room.tree was not made from moved.map: its plane 1 is another one than the map has there" moved.map room.tree kept.bsp || return 1
+    run_program compile wet.map wet.tree --fast
+    no_level "wet.tree was not made from room.map: in the middle of brush 0, which is solid, it has water" room.map wet.tree kept.bsp || return 1
+    head -c 99 "$folder/room.tree" >"$folder/short.tree"
+    no_level "short.tree is no tree file: short at byte 99" room.map short.tree kept.bsp || return 1
+    no_level "room.tree is no map: line 1: no entity begins there" room.tree room.tree kept.bsp || return 1
+    no_level "missing.wad: No such file or directory" room.map room.tree kept.bsp --wad missing.wad || return 1
+    no_level "half.wad is no WAD of textures: it is a WAD3 of Half-Life, whose textures have palettes of their own" \
+        room.map room.tree kept.bsp --wad wall.wad --wad half.wad || return 1
+    no_level "short.wad is no WAD of textures: its list of entries does not lie in it" room.map room.tree kept.bsp --wad short.wad || return 1
+    no_level "odd.wad is no WAD of textures: the texture odd is 24 x 16, which are no sixteens from 16 to 4096" \
+        room.map room.tree kept.bsp --wad odd.wad || return 1
+    no_level "cut.wad is no WAD of textures: the texture cut ends too early" room.map room.tree kept.bsp --wad cut.wad || return 1
+    cp "$folder/room.tree" "$folder/kept.tree"
+    no_level "kept.tree is one of the files that are read" room.map kept.tree kept.tree && cmp "$folder/room.tree" "$folder/kept.tree" || return 1
+    no_level "no_such_folder/a.bsp: No such file or directory" room.map room.tree no_such_folder/a.bsp
+}
+
+# textures come from a WAD under the names of the map; what a WAD lacks is made
+takes_textures() {
+    engine_level courtyard.map courtyard.tree wall.bsp --wad wall.wad
+    [[ $status == 0 && $(<"$folder/printed") == "wall.bsp: BSP29, "*" faces, "*" clip nodes, 0 models" ]] || return 1
+    grep -qx 'qmbsp: [0-9]* of [0-9]* textures are in no WAD: they are checkers' "$folder/said" || return 1
+    sed 's/brick/+1lamp/' "$folder/courtyard.map" >"$folder/lamps.map"
+    engine_level lamps.map courtyard.tree lamps.bsp --wad wall.wad --dark --bsp2
+    [[ $status == 0 && $(<"$folder/printed") == "lamps.bsp: BSP2, "* ]] || return 1
+    python3 - "$folder" <<'END'
+import struct, sys
+
+
+def textures(name):
+    data = open(f"{sys.argv[1]}/{name}.bsp", "rb").read()
+    begin, length, = struct.unpack_from("<2i", data, 4 + 8 * 2)
+    count, = struct.unpack_from("<i", data, begin)
+    places = struct.unpack_from(f"<{count}i", data, begin + 4)
+    light, lights = struct.unpack_from("<2i", data, 4 + 8 * 8)
+    return {data[begin + at:begin + at + 16].rstrip(b"\0"): struct.unpack_from("<2I", data, begin + at + 16) for at in places}, \
+        data[light:light + lights]
+
+
+wall, bright = textures("wall")
+lamps, dark = textures("lamps")
+if wall[b"brick"] != (32, 16) or wall[b"sky1"] != (256, 128) or not max(bright):
+    sys.exit(f"textures {wall}")
+if lamps[b"+0lamp"] != (16, 16) or lamps[b"+1lamp"] != (64, 64) or b"brick" in lamps or not dark or max(dark):
+    sys.exit(f"textures {lamps}")
+END
+}
+
+check "levels: words that ask for none get the usage line, and status 2" says_how_levels_are_made
+check "levels: none is made of the wrong tree, of files that are none, and over what is read" refuses_levels
+check "levels: textures come from WADs, or are made, and a dark level has no light" takes_textures

@@ -44,6 +44,9 @@ class Box(NamedTuple):
     high: tuple
 
 
+NOWHERE = Box((0, 0, 0), (0, 0, 0))
+
+
 class Model(NamedTuple):
     """The world or the brushes of another entity: their tree; their bodies; the box around each leaf that is not solid, by its number
     among these; and the nodes of both clip hulls."""
@@ -76,8 +79,9 @@ class Level:
         self.add_leaves(model, marks(model.tree, shown, first_face), visibility)
         self.add_nodes(model, faces, first_node, first_leaf)
         heads = [first_node, *map(self.add_hull, model.hulls), 0]
+        numbered = len(self.file.records["leaves"]) - first_leaf
         around = around_all(model.bodies)
-        self.file.add("models", (*around.low, *around.high, 0, 0, 0, *heads, len(model.boxes), first_face, len(shown)))
+        self.file.add("models", (*around.low, *around.high, 0, 0, 0, *heads, numbered, first_face, len(shown)))
 
     def shown(self, drawn):
         """Parts of faces as engines take them: cut, and with corners wherever others have them."""
@@ -124,7 +128,7 @@ class Level:
     def add_leaves(self, model, marked, visibility):
         """Adds the leaves that are not solid, each with the faces that are seen from it."""
         for leaf in (leaf for leaf in model.tree.leaves if leaf.number is not None):
-            first, faces, box = len(self.file.records["marks"]), marked.get(leaf.number, ()), model.boxes[leaf.number]
+            first, faces, box = len(self.file.records["marks"]), marked.get(leaf.number, ()), model.boxes.get(leaf.number, NOWHERE)
             for face in faces:
                 self.file.add("marks", (face,))
             self.file.add("leaves", (CODES[leaf.contents], visibility[leaf.number] if visibility else NO_ROW, *box.low, *box.high,
@@ -143,8 +147,8 @@ class Level:
                                     *around[number].low, *around[number].high, *faces.get(number, (0, 0))))
         if not kept:
             # engines want a node
-            child = names.get(tree.root(), SOLID_LEAF)
-            self.file.add("nodes", (self.file.plane(clip.ANY), child, child, *(0,) * 8))
+            child, box = names.get(tree.root(), SOLID_LEAF), around[tree.root()] or NOWHERE
+            self.file.add("nodes", (self.file.plane(clip.ANY), child, child, *box.low, *box.high, 0, 0))
 
     def add_hull(self, nodes):
         """Adds the nodes of a clip hull, and answers the number of the first."""
@@ -164,7 +168,7 @@ def clamped(numbers):
 def around_all(bodies_here):
     """The box around some brushes."""
     if not bodies_here:
-        return Box((0, 0, 0), (0, 0, 0))
+        return NOWHERE
     return Box(clamped(map(min, zip(*(body.low for body in bodies_here)))), clamped(map(max, zip(*(body.high for body in bodies_here)))))
 
 
@@ -244,11 +248,11 @@ def model_of(entity, tree, bound):
 
 
 def level_of(tree, entities, wanted, bodies_here):
-    """The BSP file of a tree and the entities of its map, with the bodies of the world's brushes. Raises `sections.BadSection`."""
+    """The level of a tree and the entities of its map, with the bodies of the world's brushes. Raises `sections.BadSection`."""
     level, (rows, places), stored = Level(wanted), visibility_of(tree), sections.models(tree)
     level.add_model(world_of(tree, bodies_here), places)
     for number, entity in enumerate(entities[1:], 1):
         if entity.brushes and entity.value(b"classname") not in GROUPS:
             level.add_model(model_of(entity, stored.get(number), tree.bound), [])
     level.file.bytes.update(entities=entity_text(entities), visibility=rows, lighting=level.lighting(), textures=level.textures.packed())
-    return level.file
+    return level

@@ -2,13 +2,13 @@
 
 from brushes import STRENGTH, room
 from bodies import Face, parted
-from polygons import turned
+from match import leading
 from treefile import Leaf, Node, Plane, Tree
 
 
 def built(bodies, bound):
     """The tree of some brushes, in which each leaf holds the strongest of what is there."""
-    numbers, nodes, leaves = {}, [], []
+    numbers, nodes, leaves, count = {}, [], [], 0
     waiting = [([(body.contents, parts_of(body, bound)) for body in bodies], None, None)]
     while waiting:
         parts, parent, side = waiting.pop()
@@ -17,8 +17,8 @@ def built(bodies, bound):
             nodes[parent][side] = len(nodes) if plane else -1 - len(leaves)
         if plane is None:
             contents = min((contents for contents, _ in parts), key=STRENGTH.index, default="empty")
-            number = None if contents == "solid" else sum(leaf.number is not None for leaf in leaves)
-            leaves.append(Leaf(contents, False, number))
+            leaves.append(Leaf(contents, False, None if contents == "solid" else count))
+            count += contents != "solid"
             continue
         nodes.append([numbers.setdefault(plane, len(numbers)), None, None])
         divided = [(contents, sides(faces, plane)) for contents, faces in parts]
@@ -40,11 +40,6 @@ def candidate(parts):
     planes = [face.plane for contents, faces in parts if STRENGTH.index(contents) < hidden for face in faces if face.node]
     plane = next((plane for plane in planes if plane[:3].count(0) == 2), planes[0] if planes else None)
     return plane and leading(plane)
-
-
-def leading(plane):
-    """The plane, turned so that the first part of its normal that is not 0 is above 0."""
-    return turned(plane, next(part for part in plane if part) > 0)
 
 
 def sides(faces, plane):
