@@ -114,7 +114,7 @@ begins_at_a_start() {
     while IFS='|' read -r class place angle from to; do
         printf '{\n"classname" "%s"\n"origin" "%s"\n%s\n}\n' "$class" "$place" "$angle" >>"$folder/starts.map"
         look view courtyard.tree --map starts.map
-        begins_at "$from" && grep -q "^const LEVEL = .*\"to\": $to[,}]" "$folder/printed" || return 1
+        begins_at "$from" && grep -q "^const LEVEL = .*\"to\": ${to}[,}]" "$folder/printed" || return 1
         look plan courtyard.tree --map starts.map
         looked && grep -q "slice at z = $(sed 's/.* //; s/[.]0$//' <<<"$from")," "$folder/printed" || return 1
     done <<'END'
