@@ -67,8 +67,8 @@ def node_before_leaf(level):
     return None
 
 
-def floor_plane(level, head):
-    """The plane of a hull on which a player stands who comes in at the first spot, or None."""
+def floor_node(level, head):
+    """The node of a hull on whose plane a player stands who comes in at the first spot, or None."""
     found = re.search(rb'info_player_start"\s*"origin" "(\S+) (\S+) (\S+)"', level.entities)
     if found is None:
         return None
@@ -80,9 +80,14 @@ def floor_plane(level, head):
         plane, children = level.clip_nodes[child]
         value = level.value(plane, (x, y, z))
         if -STEP <= value < 0:
-            return plane
+            return child
         child = children[value < 0]
     return None
+
+
+def plane_of(level, node):
+    """The plane of a node of a hull, or None where there is no such node."""
+    return None if node is None else level.clip_nodes[node][0]
 
 
 def planted(data, lump, number, change):
@@ -121,10 +126,12 @@ def plants(data, rng):
     for hull in (1, 2):
         head = level.models[0].heads[hull]
         yield f"the first node of hull {hull} has its children swapped", planted(data, "clip_nodes", head, swapped(1, 2))
-        yield f"a node of hull {hull} has another plane", planted(
-            data, "clip_nodes", head + 1 + rng.randrange(2), with_item(0, lambda plane: (plane + 1) % len(level.planes)))
+        floor = floor_node(level, head)
+        # what is below a node lies on one side of its plane, so that plane parts nothing there
+        yield f"a node of hull {hull} has the plane of the first", planted(
+            data, "clip_nodes", None if floor == head else floor, with_item(0, lambda _, plane=plane_of(level, head): plane))
         yield f"a plane of hull {hull} is moved by a quarter", planted(
-            data, "planes", floor_plane(level, head), with_item(3, lambda far: far - 0.25))
+            data, "planes", plane_of(level, floor), with_item(3, lambda far: far - 0.25))
     yield "a hull begins at the other one's head", planted(data, "models", 0, with_item(11, lambda _: level.models[0].heads[1]))
     yield "a plane is moved by half a unit", planted(data, "planes", level.nodes[0].plane, with_item(3, lambda far: far + 0.5))
     yield "a texture is moved by two texels", planted(data, "mappings", level.faces[face].mapping, with_item(3, lambda far: far + 2))
