@@ -42,6 +42,7 @@ class Stopped(Exception):
 
 
 def words_of(words):
+    """The words of the command line, or the usage line and status 2."""
     parser = argparse.ArgumentParser(prog="play.sh", description="Plays levels in the engines that are installed.")
     parser.add_argument("maps", metavar="MAP", nargs="*", help="a map, or a folder of maps; without any, those of the samples")
     parser.add_argument("--quake", metavar="FOLDER", help="the folder whose id1 has a game's data, for QuakeSpasm")
@@ -62,7 +63,7 @@ def maps_of(names):
 
 
 def call(*words):
-    """Runs a command; ends all where it fails."""
+    """Runs a command: its status, and what it said."""
     done = subprocess.run(list(map(str, words)), stdout=subprocess.PIPE, stderr=subprocess.STDOUT, text=True)
     return done.returncode, done.stdout.strip()
 
@@ -151,7 +152,8 @@ def main():
     with tempfile.TemporaryDirectory() as name:
         folder = Path(name)
         found, missing = engines.installed(folder, words.quake)
-        print("\n".join(missing), file=sys.stderr)
+        for line in missing:
+            print(line, file=sys.stderr)
         found = [engine for engine in found if words.only in (None, engine.name)]
         print(HEAD + "\n|" + " --- |" * 11)
         for at, map_name in enumerate(maps_of(words.maps)):
