@@ -9,6 +9,7 @@ from typing import NamedTuple
 
 from brushes import STRENGTH, span
 import corners
+from sections import BadSection
 
 FILLED = "filled"
 LIQUID = frozenset(("water", "slime", "lava"))
@@ -41,7 +42,7 @@ def known(tree):
 
 
 def drawn(tree, bodies):
-    """What is drawn of some brushes, whose faces are those of a tree, in the order of the nodes."""
+    """What is drawn of some brushes, whose faces are those of a tree."""
     known_tree, found = known(tree), []
     sharing = defaultdict(list)
     for body in bodies:
@@ -52,7 +53,19 @@ def drawn(tree, bodies):
         for number, polygon in body.polygons.items():
             face = body.faces[number]
             found += parts_of(known_tree, start, body, face, polygon, sharing[body.contents, face.plane])
-    return sorted(found, key=lambda one: one.node)
+    return found
+
+
+def of_pieces(tree, listed, pieces):
+    """What is drawn of the solid brushes of a tree's list, by the pieces of their faces that a tree file has."""
+    above = {child: (number, is_back) for number, node in enumerate(tree.nodes) for is_back, child in enumerate(node[1:])}
+    for piece in pieces:
+        node, is_behind = above.get(-1 - piece.leaf, (None, 0))
+        while node is not None and tree.nodes[node].plane != piece.plane:
+            node, is_behind = above.get(node, (None, 0))
+        if node is None or piece.brush >= len(listed) or piece.face >= len(listed[piece.brush].faces):
+            raise BadSection("a piece of a face is of no node or no brush")
+        yield Drawn(node, bool(is_behind), listed[piece.brush].faces[piece.face], piece.polygon)
 
 
 def within(tree, body):

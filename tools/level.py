@@ -11,8 +11,10 @@ from bspfile import MOST_SIGNED, File
 import clip
 import clip_cells
 import drawn_faces
+from mapfaces import CLIP
 from mapping import laid
 from match import leading
+from merging import merged
 from miptex import Textures
 import sections
 from smalltree import built
@@ -48,10 +50,11 @@ NOWHERE = Box((0, 0, 0), (0, 0, 0))
 
 
 class Model(NamedTuple):
-    """The world or the brushes of another entity: their tree; their bodies; the box around each leaf that is not solid, by its number
-    among these; and the nodes of both clip hulls."""
+    """The world or the brushes of another entity: their tree; their bodies, and the parts of faces that are drawn; the box around each
+    leaf that is not solid, by its number among these; and the nodes of both clip hulls."""
     tree: object
     bodies: list
+    drawn: list
     boxes: dict
     hulls: list
 
@@ -74,7 +77,7 @@ class Level:
     def add_model(self, model, visibility):
         """Adds a model: its nodes, leaves and faces, and its clip hulls. `visibility` has where the row of each leaf begins."""
         first_leaf, first_node, first_face = (len(self.file.records[part]) for part in ("leaves", "nodes", "faces"))
-        shown = self.shown(drawn_faces.drawn(model.tree, brushes.drawn(model.bodies)))
+        shown = self.shown(merged(model.drawn))
         faces = self.add_faces(model.tree, shown, first_face)
         self.add_leaves(model, marks(model.tree, shown, first_face), visibility)
         self.add_nodes(model, faces, first_node, first_leaf)
@@ -227,11 +230,17 @@ def entity_text(entities):
     return b"".join(parts) + b"\0"
 
 
-def world_of(tree, bodies_here):
+def world_of(tree, entity, bodies_here):
     """The model of the world."""
-    boxes = leaf_boxes(tree)
+    boxes, pieces = leaf_boxes(tree), sections.faces(tree)
     hulls = [hull_of(tree, kind, bodies_here, list(boxes.values())) for kind in sections.HULLS]
-    return Model(tree, bodies_here, boxes, hulls)
+    bodies_drawn, stored = brushes.drawn(bodies_here), []
+    if pieces is not None:
+        listed = [brush for brush in entity.brushes if brush.contents() != CLIP]
+        stored = list(drawn_faces.of_pieces(tree, listed, pieces))
+        # the section has the faces of solid brushes alone
+        bodies_drawn = [body for body in bodies_drawn if body.contents != "solid"]
+    return Model(tree, bodies_here, stored + drawn_faces.drawn(tree, bodies_drawn), boxes, hulls)
 
 
 def hull_of(tree, kind, bodies_here, boxes):
@@ -243,14 +252,15 @@ def hull_of(tree, kind, bodies_here, boxes):
 def model_of(entity, tree, bound):
     """The model of another entity, with its tree where there is one."""
     bodies_here = brushes.full(entity.brushes, bound)
-    tree = tree or built(brushes.drawn(bodies_here), bound)
-    return Model(tree, bodies_here, leaf_boxes(tree), [clip_cells.made(bodies_here, hull, bound, None) for hull in clip.BOXES])
+    bodies_drawn = brushes.drawn(bodies_here)
+    tree = tree or built(bodies_drawn, bound)
+    return Model(tree, bodies_here, drawn_faces.drawn(tree, bodies_drawn), leaf_boxes(tree), [clip_cells.made(bodies_here, hull, bound, None) for hull in clip.BOXES])
 
 
 def level_of(tree, entities, wanted, bodies_here):
     """The level of a tree and the entities of its map, with the bodies of the world's brushes. Raises `sections.BadSection`."""
     level, (rows, places), stored = Level(wanted), visibility_of(tree), sections.models(tree)
-    level.add_model(world_of(tree, bodies_here), places)
+    level.add_model(world_of(tree, entities[0], bodies_here), places)
     for number, entity in enumerate(entities[1:], 1):
         if entity.brushes and entity.value(b"classname") not in GROUPS:
             level.add_model(model_of(entity, stored.get(number), tree.bound), [])

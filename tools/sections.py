@@ -3,6 +3,8 @@
 from struct import calcsize, unpack_from
 from typing import NamedTuple
 
+from corners import reduced
+from polygons import walls
 import treefile
 
 # the kinds of the sections
@@ -11,6 +13,16 @@ HULLS, MODELS, FACES = (1, 2), 3, 4
 
 class BadSection(Exception):
     """Why a section is not what its kind says."""
+
+
+class Piece(NamedTuple):
+    """A piece of a face: the leaf in front of it, its brush among those of the world that are in the tree, the number of its face there,
+    the number of its plane, and its polygon, which goes round with the clock as seen from the leaf."""
+    leaf: int
+    brush: int
+    face: int
+    plane: int
+    polygon: list
 
 
 class Reader:
@@ -78,3 +90,41 @@ def models(tree):
         found[entity] = plain_tree(reader.bytes(*reader.take("<Q")), MODELS, tree.bound)
     reader.end()
     return found
+
+
+def faces(tree):
+    """The pieces of the faces between solid leaves and others, or None where the file has none."""
+    section, found = of_kind(tree, FACES), []
+    if section is None:
+        return None
+    reader = Reader(section)
+    for _ in range(*reader.take("<Q")):
+        leaf, brush, face, count = reader.take("<QQII")
+        triples = [reader.take("<3q") for _ in range(count)]
+        if count < 3 or leaf >= len(tree.leaves) or tree.leaves[leaf].number is None:
+            raise BadSection(f"section {FACES} has a piece that is none")
+        found.append(Piece(leaf, brush, face, triples[0][0], [meeting(*(plane_of(tree, number) for number in triple)) for triple in triples]))
+    reader.end()
+    return found
+
+
+def plane_of(tree, number):
+    """The plane of a number: one of the tree, or below 0 a wall of the cube."""
+    if not -6 <= number < len(tree.planes):
+        raise BadSection(f"section {FACES} has a plane that is none")
+    return tree.planes[number] if number >= 0 else walls(tree.bound)[-1 - number]
+
+
+def meeting(*planes):
+    """The corner in which three planes meet."""
+    crosses = [cross(planes[at - 2], planes[at - 1]) for at in range(3)]
+    weight = sum(a * b for a, b in zip(planes[0], crosses[0]))
+    if not weight:
+        raise BadSection(f"section {FACES} has planes that meet in no corner")
+    way = 1 if weight > 0 else -1
+    return reduced(*(way * sum(plane[3] * part[axis] for plane, part in zip(planes, crosses)) for axis in range(3)), way * weight)
+
+
+def cross(one, other):
+    """The direction across the normals of two planes."""
+    return one[1] * other[2] - one[2] * other[1], one[2] * other[0] - one[0] * other[2], one[0] * other[1] - one[1] * other[0]
