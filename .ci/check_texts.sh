@@ -49,7 +49,7 @@ has_no_paths_of_a_machine() {
 }
 
 has_a_short_readme() {
-    local words most=900
+    local words most=800
     words=$(wc -w <README.md)
     if ((words > most)); then
         echo "README.md has $words words, and $most are allowed"
