@@ -188,6 +188,47 @@ if lamps[b"+0lamp"] != (16, 16) or lamps[b"+1lamp"] != (64, 64) or b"brick" in l
 END
 }
 
+# sections of a tree file are used, and where one is not what its kind says there is no level
+takes_sections() {
+    local name words
+    for name in room cube; do
+        for words in hull:1 hull:2 ${name/#room/model:2}; do
+            [[ $words == cube ]] && continue
+            python3 .ci/made_sections.py "${words%:*}" "$folder/$name.map" "${words#*:}" >"$folder/part.map" || return 1
+            run_program compile part.map "${words/:/}.tree" --fast
+            [[ $status == 0 ]] || return 1
+        done
+        words="1:hull1.tree 2:hull2.tree 3:2:model2.tree"
+        [[ $name == room ]] || words="1:hull1.tree 2:hull2.tree 4"
+        # shellcheck disable=SC2086
+        (cd "$folder" && python3 "$top/.ci/made_sections.py" add $name.tree parts.tree $words) || return 1
+        engine_level $name.map parts.tree parts.bsp
+        [[ $status == 0 ]] && python3 .ci/check_bsp.py "$folder/$name.map" "$folder/$name.tree" "$folder/parts.bsp" || return 1
+    done
+    # the clip nodes are those of the sections
+    grep -qx 'parts.bsp: BSP29, 6 faces, 12 clip nodes, 0 models' "$folder/printed" || return 1
+    (cd "$folder" && python3 "$top/.ci/made_sections.py" add cube.tree parts.tree 1:hull2.tree 2:hull1.tree) || return 1
+    engine_level cube.map parts.tree parts.bsp
+    [[ $status == 0 ]] && ! python3 .ci/check_bsp.py "$folder/cube.map" "$folder/cube.tree" "$folder/parts.bsp" >"$folder/said" || return 1
+    refuses_bad_sections
+}
+
+refuses_bad_sections() {
+    python3 - "$folder" <<'END' || return 1
+import sys
+sys.path[:0] = [".ci", "tools"]
+import made_trees, treefile
+tree = treefile.load(sys.argv[1] + "/cube.tree")
+for name, kind, data in ("bad1", 1, b"QMTREE02"), ("bad3", 3, bytes(5)), ("bad4", 4, (1).to_bytes(8, "little") + bytes(24)):
+    sections = [treefile.Section(kind, data)]
+    open(f"{sys.argv[1]}/{name}.tree", "wb").write(made_trees.written(tree._replace(sections=sections)))
+END
+    no_level "bad1.tree is no tree file for a level: a tree in section 1 is none: short at byte 8" cube.map bad1.tree kept.bsp || return 1
+    no_level "bad3.tree is no tree file for a level: section 3 goes on too long" cube.map bad3.tree kept.bsp || return 1
+    no_level "bad4.tree is no tree file for a level: section 4 has a piece that is none" cube.map bad4.tree kept.bsp
+}
+
 check "levels: words that ask for none get the usage line, and status 2" says_how_levels_are_made
 check "levels: none is made of the wrong tree, of files that are none, and over what is read" refuses_levels
 check "levels: textures come from WADs, or are made, and a dark level has no light" takes_textures
+check "levels: sections of a tree file are used, and bad ones refused" takes_sections

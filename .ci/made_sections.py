@@ -1,0 +1,87 @@
+#!/usr/bin/env python3
+"""Makes tree files with the sections that a level for engines takes, for levels whose brushes are boxes.
+
+    made_sections.py hull MAP N        prints a map whose tree is clip hull N of a map
+    made_sections.py model MAP ENTITY  prints a map whose tree is that of an entity
+    made_sections.py add TREE OUT [KIND:TREE | 3:ENTITY:TREE | 4].. adds sections to a tree file; 4 are the faces of one cube"""
+
+from pathlib import Path
+from struct import pack
+import sys
+
+sys.path.insert(0, str(Path(__file__).resolve().parent.parent / "tools"))
+
+from made_trees import written
+import map_reader
+import treefile
+
+# the points of the faces of a box; X is where one stands
+POINTS = (("X 0 0", "X 1 0", "X 0 1"), ("X 0 0", "X 0 1", "X 1 0"), ("0 X 0", "0 X 1", "1 X 0"), ("0 X 0", "1 X 0", "0 X 1"),
+          ("0 0 X", "1 0 X", "0 1 X"), ("0 0 X", "0 1 X", "1 0 X"))
+
+
+def ends(brush):
+    """The low and the high end of a box."""
+    places = {}
+    for face in brush.faces:
+        axis = next(axis for axis in range(3) if face.normal[axis])
+        places[axis, face.normal[axis] > 0] = int(face.distance * face.normal[axis])
+    return [[places[axis, is_high] for axis in range(3)] for is_high in (False, True)]
+
+
+def printed(brushes, box):
+    """A map of boxes, larger by another one."""
+    print("{")
+    for brush in brushes:
+        low, high = ([a - b for a, b in zip(end, other)] for end, other in zip(ends(brush), box[::-1]))
+        faces = zip(POINTS, (place for both in zip(low, high) for place in both))
+        print("{", *(f"( {' ) ( '.join(points).replace('X', str(place))} ) x 0 0 0 1 1" for points, place in faces), "}", sep="\n")
+    print("}")
+
+
+def bytes_of(name):
+    """The bytes of a tree without rows."""
+    return written(treefile.load(name)._replace(rows=None))
+
+
+def model(entity, name):
+    """The bytes of a section with one model."""
+    data = bytes_of(name)
+    return pack("<IQ6iQQ", 1, entity, *(0,) * 6, 0, len(data)) + data
+
+
+def cube_faces(tree):
+    """The bytes of the faces of the cube of samples/cube.map, whose planes are in the order of its faces."""
+    parts = [pack("<Q", 6)]
+    for face in range(6):
+        axis, is_high = face // 2, face % 2
+        outside = [32, 32, 32]
+        outside[axis] = 96 if is_high else -32
+        one, other = (axis + 1) % 3, (axis + 2) % 3
+        corners = [(2 * one + a, 2 * other + b) for a, b in ((0, 0), (1, 0), (1, 1), (0, 1))]
+        corners = corners[::-1] if is_high else corners
+        parts.append(pack("<QQII", tree.leaf_at(outside), 0, face, 4))
+        parts += [pack("<3q", face, *both) for both in corners]
+    return b"".join(parts)
+
+
+def sections(tree, words):
+    """The sections that some words ask for."""
+    for word in words:
+        kind, *rest = word.split(":")
+        data = cube_faces(tree) if kind == "4" else model(int(rest[0]), rest[1]) if kind == "3" else bytes_of(rest[0])
+        yield treefile.Section(int(kind), data)
+
+
+def main():
+    what, name, *words = sys.argv[1:]
+    if what == "add":
+        tree = treefile.load(name)
+        Path(words[0]).write_bytes(written(tree._replace(sections=list(sections(tree, words[1:])))))
+        return
+    entity = map_reader.load(name)[int(words[0]) if what == "model" else 0]
+    printed(entity.brushes, map_reader.BOXES[int(words[0])] if what == "hull" else ((0, 0, 0), (0, 0, 0)))
+
+
+if __name__ == "__main__":
+    main()
