@@ -26,8 +26,8 @@ class Cell(NamedTuple):
 
 
 def made(bodies, hull, bound, open_boxes):
-    """The nodes of a hull of those brushes that are in the way. `open_boxes` are boxes around the open leaves, or None where nothing is
-    to be filled."""
+    """The nodes of a hull of those brushes that are in the way. `open_boxes` are boxes around the open leaves, or None where nothing
+    is to be filled."""
     brushes = [moved(body, hull, bound) for body in bodies if body.contents in BLOCKING]
     whole = Cell((-bound,) * 3, (bound,) * 3, [(brush, brush.planes) for brush in brushes], open_boxes)
     nodes, waiting = [[ANY, EMPTY, EMPTY]], [(whole, 0, (1, 2))]

@@ -134,8 +134,8 @@ class Level:
             first, faces, box = len(self.file.records["marks"]), marked.get(leaf.number, ()), model.boxes.get(leaf.number, NOWHERE)
             for face in faces:
                 self.file.add("marks", (face,))
-            self.file.add("leaves", (CODES[leaf.contents], visibility[leaf.number] if visibility else NO_ROW, *box.low, *box.high,
-                                     first, len(faces), 0, 0, 0, 0))
+            row = visibility[leaf.number] if visibility else NO_ROW
+            self.file.add("leaves", (CODES[leaf.contents], row, *box.low, *box.high, first, len(faces), 0, 0, 0, 0))
 
     def add_nodes(self, model, faces, first_node, first_leaf):
         """Adds the nodes above leaves that are not solid. What else there is, is leaf 0."""
@@ -146,8 +146,9 @@ class Level:
             names[-1 - leaf] = SOLID_LEAF if what.number is None else -1 - (first_leaf + what.number)
         for number in kept:
             plane, front, back = tree.nodes[number]
-            self.file.add("nodes", (self.file.plane(tuple(tree.planes[plane])), names.get(front, SOLID_LEAF), names.get(back, SOLID_LEAF),
-                                    *around[number].low, *around[number].high, *faces.get(number, (0, 0))))
+            children = (names.get(child, SOLID_LEAF) for child in (front, back))
+            self.file.add("nodes", (self.file.plane(tuple(tree.planes[plane])), *children, *around[number].low, *around[number].high,
+                                    *faces.get(number, (0, 0))))
         if not kept:
             # engines want a node
             child, box = names.get(tree.root(), SOLID_LEAF), around[tree.root()] or NOWHERE
@@ -172,7 +173,8 @@ def around_all(bodies_here):
     """The box around some brushes."""
     if not bodies_here:
         return NOWHERE
-    return Box(clamped(map(min, zip(*(body.low for body in bodies_here)))), clamped(map(max, zip(*(body.high for body in bodies_here)))))
+    lows, highs = zip(*(body.low for body in bodies_here)), zip(*(body.high for body in bodies_here))
+    return Box(clamped(map(min, lows)), clamped(map(max, highs)))
 
 
 def leaf_boxes(tree):
@@ -189,7 +191,8 @@ def boxes_below(model):
     for number in reversed(range(len(model.tree.nodes))):
         _, front, back = model.tree.nodes[number]
         one, other = around[front], around[back]
-        around[number] = Box(tuple(map(min, one.low, other.low)), tuple(map(max, one.high, other.high))) if one and other else one or other
+        both = one and other and Box(tuple(map(min, one.low, other.low)), tuple(map(max, one.high, other.high)))
+        around[number] = both or one or other
     return around
 
 
@@ -254,7 +257,8 @@ def model_of(entity, tree, bound):
     bodies_here = brushes.full(entity.brushes, bound)
     bodies_drawn = brushes.drawn(bodies_here)
     tree = tree or built(bodies_drawn, bound)
-    return Model(tree, bodies_here, drawn_faces.drawn(tree, bodies_drawn), leaf_boxes(tree), [clip_cells.made(bodies_here, hull, bound, None) for hull in clip.BOXES])
+    hulls = [clip_cells.made(bodies_here, hull, bound, None) for hull in clip.BOXES]
+    return Model(tree, bodies_here, drawn_faces.drawn(tree, bodies_drawn), leaf_boxes(tree), hulls)
 
 
 def level_of(tree, entities, wanted, bodies_here):
@@ -264,5 +268,6 @@ def level_of(tree, entities, wanted, bodies_here):
     for number, entity in enumerate(entities[1:], 1):
         if entity.brushes and entity.value(b"classname") not in GROUPS:
             level.add_model(model_of(entity, stored.get(number), tree.bound), [])
-    level.file.bytes.update(entities=entity_text(entities), visibility=rows, lighting=level.lighting(), textures=level.textures.packed())
+    level.file.bytes.update(entities=entity_text(entities), visibility=rows, lighting=level.lighting(),
+                            textures=level.textures.packed())
     return level

@@ -1,4 +1,5 @@
-"""The sections of a tree file that a level for engines takes: clip hulls, models of other entities, and faces. Each is there or not."""
+"""The sections of a tree file that a level for engines takes: clip hulls, models of other entities, and faces. Each is there or
+not."""
 
 from struct import calcsize, unpack_from
 from typing import NamedTuple
@@ -16,8 +17,8 @@ class BadSection(Exception):
 
 
 class Piece(NamedTuple):
-    """A piece of a face: the leaf in front of it, its brush among those of the world that are in the tree, the number of its face there,
-    the number of its plane, and its polygon, which goes round with the clock as seen from the leaf."""
+    """A piece of a face: the leaf in front of it, its brush among those of the world that are in the tree, the number of its face
+    there, the number of its plane, and its polygon, which goes round with the clock as seen from the leaf."""
     leaf: int
     brush: int
     face: int
@@ -103,7 +104,8 @@ def faces(tree):
         triples = [reader.take("<3q") for _ in range(count)]
         if count < 3 or leaf >= len(tree.leaves) or tree.leaves[leaf].number is None:
             raise BadSection(f"section {FACES} has a piece that is none")
-        found.append(Piece(leaf, brush, face, triples[0][0], [meeting(*(plane_of(tree, number) for number in triple)) for triple in triples]))
+        polygon = [meeting(*(plane_of(tree, number) for number in triple)) for triple in triples]
+        found.append(Piece(leaf, brush, face, triples[0][0], polygon))
     reader.end()
     return found
 
