@@ -12,7 +12,7 @@ use Rattle.qm_answers.specs.declared.answer.Answer.TheVariants as answers
 use Rattle.qm_answers.specs.declared.query_fault.QueryFault.{QueryFault}
 use Rattle.qm_answers.specs.AnswerText.{answer_line, answer_words, words_of_row}
 use Rattle.qm_answers.specs.Answers.{AnswersPlace, AnswersQuery}
-use Rattle.qm_answers.specs.InsideBound.{IsInsideBound}
+use Rattle.qm_space.specs.InsideBound.{IsInsideBound}
 use Rattle.qm_answers.specs.SameAnswers.{HaveSameAnswers}
 
 -- ---- cubes

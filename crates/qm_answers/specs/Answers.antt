@@ -11,7 +11,7 @@ use Rattle.qm_answers.specs.declared.answer.Answer.{Answer}
 use Rattle.qm_answers.specs.declared.answer.Answer.TheVariants.{Count, Place, Row, Sees, Parts}
 use Rattle.qm_answers.specs.declared.query_fault.QueryFault.{QueryFault}
 use Rattle.qm_answers.specs.declared.query_fault.QueryFault.TheVariants.{OutsideCube, NoSuchLeaf, NoRows}
-use Rattle.qm_answers.specs.InsideBound.{IsInsideBound}
+use Rattle.qm_space.specs.InsideBound.{IsInsideBound}
 
 -- What a tree file answers to a query.
 

@@ -1,5 +1,4 @@
 pub mod AllAnswers
 pub mod Answers
 pub mod AnswerText
-pub mod InsideBound
 pub mod SameAnswers

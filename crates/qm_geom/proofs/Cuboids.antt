@@ -9,7 +9,7 @@ use Rattle.qm_numbers.proofs.Kept.{kept, three_less_one_kept, one_less_two_kept}
 use Rattle.qm_numbers.proofs.Signs.{abs_sum, abs_difference}
 use Rattle.qm_space.specs.Bounds.{normal_bound, distance_bound, product_bound}
 use Rattle.qm_space.specs.Plane.{Plane}
-use Rattle.qm_space.specs.Cuboid.{Span, IsTightenedSpan, IsTightenedBetween}
+use Rattle.qm_space.specs.Cuboid.{Stretch, IsTightenedStretch, IsTightenedBetween}
 use Rattle.qm_space.proofs.Cuboids.{tightened_multiple}
 use Rattle.qm_geom.specs.declared.vector.Vector.{Vector}
 use Rattle.qm_geom.specs.Vectors.{HasSmallComponents}
@@ -25,20 +25,20 @@ component_kept f n h e = ap (λ (z : ℤ). kept w64 z) (widened f n h e) ∙ kep
 component_turned : (f n : ℤ) → unsigned_abs n ≤ normal_bound → f ≡ kept w32 n → kept w64 (pos 0 -ℤ kept w64 f) ≡ neg_ℤ n
 component_turned f n h e = ap (λ (z : ℤ). kept w64 (pos 0 -ℤ kept w64 z)) (widened f n h e) ∙ negated_64 n normal_bound h (lit≤ tt)
 
-module _ (t span : Span) (n least q f : ℤ) (n_small : unsigned_abs n ≤ normal_bound) (least_small : unsigned_abs least ≤ 2 ^ 45) (q_small : unsigned_abs q ≤ 2 ^ 45) (same : f ≡ kept w32 n) where
-  pub from_quotient : pos 0 <ℤ n → IsRoundedDown (kept w64 least) (kept w64 f) q → IsTightenedSpan t span (pos 1) (kept w64 q) → IsTightenedSpan t span n least
+module _ (t stretch : Stretch) (n least q f : ℤ) (n_small : unsigned_abs n ≤ normal_bound) (least_small : unsigned_abs least ≤ 2 ^ 45) (q_small : unsigned_abs q ≤ 2 ^ 45) (same : f ≡ kept w32 n) where
+  pub from_quotient : pos 0 <ℤ n → IsRoundedDown (kept w64 least) (kept w64 f) q → IsTightenedStretch t stretch (pos 1) (kept w64 q) → IsTightenedStretch t stretch n least
   from_quotient p r k =
-      subst (λ (m : ℤ). IsTightenedSpan t span m least) (*ℤ_comm n (pos 1) ∙ one_*ℤ n)
-      (tightened_multiple t span (pos 1) n q least p
+      subst (λ (m : ℤ). IsTightenedStretch t stretch m least) (*ℤ_comm n (pos 1) ∙ one_*ℤ n)
+      (tightened_multiple t stretch (pos 1) n q least p
       (rw (component_kept f n n_small same, kept_64 least (2 ^ 45) least_small (lit≤ tt)) at r.at_most)
       (rw (kept_64 q (2 ^ 45) q_small (lit≤ tt)) at k))
 
-  pub up_to_quotient : n <ℤ pos 0 → IsRoundedDown (kept w64 least) (kept w64 (pos 0 -ℤ kept w64 f)) q → IsTightenedSpan t span (negsuc 0) (neg_ℤ (kept w64 (pos 0 -ℤ kept w64 q))) → IsTightenedSpan t span n least
+  pub up_to_quotient : n <ℤ pos 0 → IsRoundedDown (kept w64 least) (kept w64 (pos 0 -ℤ kept w64 f)) q → IsTightenedStretch t stretch (negsuc 0) (neg_ℤ (kept w64 (pos 0 -ℤ kept w64 q))) → IsTightenedStretch t stretch n least
   up_to_quotient p r k =
-      subst (λ (m : ℤ). IsTightenedSpan t span m least) turned
-      (tightened_multiple t span (negsuc 0) (neg_ℤ n) q least (omega (arith, ints))
+      subst (λ (m : ℤ). IsTightenedStretch t stretch m least) turned
+      (tightened_multiple t stretch (negsuc 0) (neg_ℤ n) q least (omega (arith, ints))
       (rw (component_turned f n n_small same, kept_64 least (2 ^ 45) least_small (lit≤ tt)) at r.at_most)
-      (subst (λ (m : ℤ). IsTightenedSpan t span (negsuc 0) m) (ap neg_ℤ (negated_64 q (2 ^ 45) q_small (lit≤ tt)) ∙ twice q) k))
+      (subst (λ (m : ℤ). IsTightenedStretch t stretch (negsuc 0) m) (ap neg_ℤ (negated_64 q (2 ^ 45) q_small (lit≤ tt)) ∙ twice q) k))
     where
       twice : (z : ℤ) → neg_ℤ (neg_ℤ z) ≡ z
       twice z = omega (arith, ints)
@@ -90,14 +90,14 @@ left_small p d s h = record {
   z_small = one_left_small d p.x p.y h s.x_small s.y_small;
 }
 
--- ---- spans by the numbers of a plane
+-- ---- stretches by the numbers of a plane
 
-pub tightened_same : (t s s' : Span) (n n' z z' : ℤ) → s ≡ s' → n ≡ n' → z ≡ z' → IsTightenedSpan t s n z → IsTightenedSpan t s' n' z'
+pub tightened_same : (t s s' : Stretch) (n n' z z' : ℤ) → s ≡ s' → n ≡ n' → z ≡ z' → IsTightenedStretch t s n z → IsTightenedStretch t s' n' z'
 tightened_same t s s' n n' z z' e f g k =
-    subst (λ (u : Span). IsTightenedSpan t u n' z') e (subst (λ (m : ℤ). IsTightenedSpan t s m z') f (subst (λ (y : ℤ). IsTightenedSpan t s n y) g k))
+    subst (λ (u : Stretch). IsTightenedStretch t u n' z') e (subst (λ (m : ℤ). IsTightenedStretch t s m z') f (subst (λ (y : ℤ). IsTightenedStretch t s n y) g k))
 
-pub between_same : (t s s' : Span) (n n' z z' y y' : ℤ) → s ≡ s' → n ≡ n' → z ≡ z' → y ≡ y' → IsTightenedBetween t s n z y → IsTightenedBetween t s' n' z' y'
+pub between_same : (t s s' : Stretch) (n n' z z' y y' : ℤ) → s ≡ s' → n ≡ n' → z ≡ z' → y ≡ y' → IsTightenedBetween t s n z y → IsTightenedBetween t s' n' z' y'
 between_same t s s' n n' z z' y y' e f g h k =
-    subst (λ (u : Span). IsTightenedBetween t u n' z' y') e
+    subst (λ (u : Stretch). IsTightenedBetween t u n' z' y') e
     (subst (λ (m : ℤ). IsTightenedBetween t s m z' y') f
     (subst (λ (x : ℤ). IsTightenedBetween t s n x y') g (subst (λ (x : ℤ). IsTightenedBetween t s n z x) h k)))

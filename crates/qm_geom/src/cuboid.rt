@@ -3,7 +3,7 @@ ghost use Rattle.qm_numbers.specs.Rounding.{IsRoundedDown};
 ghost use Rattle.qm_space.specs.Bounds.{normal_bound, distance_bound, product_bound};
 ghost use Rattle.qm_space.specs.Point.{Point, IsCoordinate};
 ghost use Rattle.qm_space.specs.Plane.{value};
-ghost use Rattle.qm_space.specs.Cuboid.{IsInSpan, IsInCuboid, whole_span, whole_cuboid, least_product, greatest_product, least_value, greatest_value, IsTightened, IsTightenedOn, IsTightenedSpan, IsTightenedBetween};
+ghost use Rattle.qm_space.specs.Cuboid.{IsInStretch, IsInCuboid, whole_stretch, whole_cuboid, least_product, greatest_product, least_value, greatest_value, IsTightened, IsTightenedOn, IsTightenedStretch, IsTightenedBetween};
 ghost use Rattle.qm_geom.specs.Vectors.{HasSmallComponents};
 ghost use Rattle.qm_geom.specs.inner.Products.{least_products, greatest_products, sum_less, left_of};
 
@@ -14,41 +14,41 @@ use std::marker::Model;
 
 /// From one whole coordinate of the closed cube to another, both included.
 #[derive(Clone, Copy)]
-pub struct Span {
+pub struct Stretch {
     low: i32,
     high: i32,
 }
 
-impl Model for Span {
-    ghost use Rattle.qm_space.specs.Cuboid.{Span, IsCoordinateSpan};
+impl Model for Stretch {
+    ghost use Rattle.qm_space.specs.Cuboid.{Stretch, IsCoordinateStretch};
 
-    ghost Value = { Span };
+    ghost Value = { Stretch };
 
     ghost view = { λ s. record { low = s.low; high = s.high } };
 
-    ghost invariant = { λ s. IsCoordinateSpan (record { low = s.low; high = s.high }) };
+    ghost invariant = { λ s. IsCoordinateStretch (record { low = s.low; high = s.high }) };
 
     ghost inverse = { λ s. record { low = s.low; high = s.high } };
 }
 
-impl Span {
+impl Stretch {
     /// All coordinates of the closed cube.
-    pub fn whole() -> Span
-        ensures { result ≡ whole_span }
+    pub fn whole() -> Stretch
+        ensures { result ≡ whole_stretch }
     {
-        Span {
+        Stretch {
             low: -WORLD_EXTENT,
             high: WORLD_EXTENT,
         }
     }
 
     /// From one coordinate to another.
-    pub fn between(low: i32, high: i32) -> Span
+    pub fn between(low: i32, high: i32) -> Stretch
         requires low { IsCoordinate low }
         requires high { IsCoordinate high }
         ensures { result ≡ record { low = low; high = high } }
     {
-        Span { low, high }
+        Stretch { low, high }
     }
 
     /// The whole number in its middle; of two, the one nearer to 0.
@@ -58,12 +58,12 @@ impl Span {
         (self.low + self.high) / 2
     }
 
-    /// What is, times a component, at least a number, rounded outward. The span itself where that is all
+    /// What is, times a component, at least a number, rounded outward. The stretch itself where that is all
     /// of it.
-    fn tightened(self, component: i32, least: i64) -> Span
+    fn tightened(self, component: i32, least: i64) -> Stretch
         requires component_small { unsigned_abs component ≤ normal_bound }
         requires least_small { unsigned_abs least ≤ 2 ^ 45 }
-        ensures { IsTightenedSpan result self component least }
+        ensures { IsTightenedStretch result self component least }
     {
         if self.least_product(component) >= least {
             return self;
@@ -78,7 +78,7 @@ impl Span {
     }
 
     /// What is, times a component, from one number to another, rounded outward.
-    fn tightened_between(self, component: i32, least: i64, greatest: i64) -> Span
+    fn tightened_between(self, component: i32, least: i64, greatest: i64) -> Stretch
         requires component_small { unsigned_abs component ≤ normal_bound }
         requires least_small { unsigned_abs least ≤ 2 ^ 45 }
         requires greatest_small { unsigned_abs greatest ≤ 2 ^ 45 }
@@ -88,11 +88,11 @@ impl Span {
             .tightened(-component, -greatest)
     }
 
-    /// The numbers of the span from a number on; only its high end where that is above them all.
-    fn from(self, least: i64) -> Span
-        ensures { IsTightenedSpan result self (pos 1) least }
+    /// The numbers of the stretch from a number on; only its high end where that is above them all.
+    fn from(self, least: i64) -> Stretch
+        ensures { IsTightenedStretch result self (pos 1) least }
     {
-        Span {
+        Stretch {
             low: self.low_from(least),
             high: self.high,
         }
@@ -111,11 +111,11 @@ impl Span {
         self.high
     }
 
-    /// The numbers of the span up to a number; only its low end where that is below them all.
-    fn up_to(self, greatest: i64) -> Span
-        ensures { IsTightenedSpan result self (negsuc 0) (neg_ℤ greatest) }
+    /// The numbers of the stretch up to a number; only its low end where that is below them all.
+    fn up_to(self, greatest: i64) -> Stretch
+        ensures { IsTightenedStretch result self (negsuc 0) (neg_ℤ greatest) }
     {
-        Span {
+        Stretch {
             low: self.low,
             high: self.high_up_to(greatest),
         }
@@ -134,7 +134,7 @@ impl Span {
         self.low
     }
 
-    /// The least product of a component and a number of the span.
+    /// The least product of a component and a number of the stretch.
     #[tactic(auto, unfolding(qm_space::specs::Cuboid::least_product))]
     fn least_product(&self, component: i32) -> i64
         requires { unsigned_abs component ≤ normal_bound }
@@ -148,7 +148,7 @@ impl Span {
         }
     }
 
-    /// The greatest product of a component and a number of the span.
+    /// The greatest product of a component and a number of the stretch.
     #[tactic(auto, unfolding(qm_space::specs::Cuboid::greatest_product))]
     fn greatest_product(&self, component: i32) -> i64
         requires { unsigned_abs component ≤ normal_bound }
@@ -183,12 +183,12 @@ fn rounded_down(number: i64, factor: i64) -> i64
     number.div_euclid(factor)
 }
 
-/// A span across each axis: of something in the closed cube, all its points lie in it.
+/// A stretch across each axis: of something in the closed cube, all its points lie in it.
 #[derive(Clone, Copy)]
 pub struct Cuboid {
-    pub x: Span,
-    pub y: Span,
-    pub z: Span,
+    pub x: Stretch,
+    pub y: Stretch,
+    pub z: Stretch,
 }
 
 impl Model for Cuboid {
@@ -207,9 +207,9 @@ impl Cuboid {
         ensures { result ≡ whole_cuboid }
     {
         Cuboid {
-            x: Span::whole(),
-            y: Span::whole(),
-            z: Span::whole(),
+            x: Stretch::whole(),
+            y: Stretch::whole(),
+            z: Stretch::whole(),
         }
     }
 

@@ -21,7 +21,7 @@ mod vector;
 mod whole;
 
 pub use corner::Corner;
-pub use cuboid::{Cuboid, Span};
+pub use cuboid::{Cuboid, Stretch};
 pub use distance::least_distance;
 pub use factor::common_divisor;
 pub use line::Line;

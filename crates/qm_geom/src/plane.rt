@@ -123,7 +123,8 @@ impl Plane {
         }
     }
 
-    fn value(&self, at: &Point) -> i128
+    /// The value at a point: above 0 in front of the plane, 0 on it, below 0 behind it.
+    pub fn value(&self, at: &Point) -> i128
         ensures { result ≡ value self.now at.now }
     {
         let along = self.normal().dot(&Vector {

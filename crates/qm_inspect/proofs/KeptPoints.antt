@@ -8,7 +8,7 @@ use Rattle.qm_partition.specs.Tree.{Tree}
 use Rattle.qm_formats.specs.TreeFile.{TreeFile}
 use Rattle.qm_answers.specs.declared.answer.Answer.{Answer}
 use Rattle.qm_answers.specs.Answers.{point_in_millionths, IsPlaceAnswer, AnswersPlace}
-use Rattle.qm_answers.specs.InsideBound.{IsInsideBound, IsWithinBound}
+use Rattle.qm_space.specs.InsideBound.{IsInsideBound, IsWithinBound}
 
 module _ (x y z : ℤ) (fx : FitsSigned w64 x) (fy : FitsSigned w64 y) (fz : FitsSigned w64 z) where
   abbrev kept_point : Point

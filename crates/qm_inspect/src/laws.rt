@@ -8,7 +8,7 @@ ghost use Rattle.qm_formats.specs.Upgraded.{upgraded};
 ghost use Rattle.qm_commands.specs.declared.query.Query.{Query};
 ghost use Rattle.qm_answers.specs.declared.query_fault.QueryFault.{QueryFault};
 ghost use Rattle.qm_answers.specs.AllAnswers.{AreAnswered, IsFirstRefused};
-ghost use Rattle.qm_answers.specs.InsideBound.{IsInsideBound};
+ghost use Rattle.qm_space.specs.InsideBound.{IsInsideBound};
 ghost use Rattle.qm_answers.specs.SameAnswers.{HaveSameAnswers};
 
 /// What is told of queries is one text or one refusal, and never both.

@@ -3,7 +3,7 @@
 ghost use Rattle.std.specs.Prelude.{IsTrue, ◌↔◌};
 ghost use Rattle.qm_partition.specs.Counting.{leaves_of};
 ghost use Rattle.qm_answers.specs.Answers.{point_in_millionths, IsPlaceAnswer, AnswersPlace};
-ghost use Rattle.qm_answers.specs.InsideBound.{IsInsideBound};
+ghost use Rattle.qm_space.specs.InsideBound.{IsInsideBound};
 ghost use Rattle.qm_inspect.specs.inner.BlockCounts.{AreBlockCounts};
 
 use crate::numbered::number_of_leaf;

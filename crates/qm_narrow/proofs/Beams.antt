@@ -12,7 +12,7 @@ use Rattle.qm_space.specs.Point.{Point, point_sum, point_times}
 use Rattle.qm_space.specs.Plane.{Plane, value, flipped, IsOn, IsBehind, IsInFront, IsNotInFront}
 use Rattle.qm_space.specs.Line.{IsBetween}
 use Rattle.qm_space.specs.Turned.{turned}
-use Rattle.qm_space.specs.Cuboid.{IsInSpan, least_product, greatest_product, least_value, greatest_value}
+use Rattle.qm_space.specs.Cuboid.{IsInStretch, least_product, greatest_product, least_value, greatest_value}
 use Rattle.qm_space.proofs.Planes.{same_point, flipped_in_front}
 use Rattle.qm_space.proofs.TurnedPlanes.{turned_on}
 use Rattle.qm_space.proofs.Cuboids.{least_product_bound, greatest_product_bound, least_value_bound, greatest_value_bound}
@@ -142,13 +142,13 @@ module _ (beam : Beam) (p q : Point) (of_beam : IsOfBeam beam p q) where
     not_in_front : IsNotInFront e p
     not_in_front = let b = behind in omega (arith, linear)
 
-    ends : IsInSpan (record { low = crossing.end_least; high = crossing.end_greatest }) (value e q) q.w
+    ends : IsInStretch (record { low = crossing.end_least; high = crossing.end_greatest }) (value e q) q.w
     ends = record {
       above = subst (λ (z : ℤ). (z *ℤ q.w) ≤ℤ value e q) (sym is.end_least_is) (least_value_bound e beam.to q of_beam.to);
       below = subst (λ (z : ℤ). value e q ≤ℤ (z *ℤ q.w)) (sym is.end_greatest_is) (greatest_value_bound e beam.to q of_beam.to);
     }
 
-    begins : IsInSpan (record { low = crossing.least; high = crossing.greatest }) (value e p) p.w
+    begins : IsInStretch (record { low = crossing.least; high = crossing.greatest }) (value e p) p.w
     begins = record {
       above = subst (λ (z : ℤ). (z *ℤ p.w) ≤ℤ value e p) (sym is.least_is) (least_value_bound e beam.from p of_beam.from);
       below = subst (λ (z : ℤ). value e p ≤ℤ (z *ℤ p.w)) (sym is.greatest_is) (greatest_value_bound e beam.from p of_beam.from);

@@ -10,7 +10,7 @@ use Rattle.qm_space.specs.Point.{Point, point_times}
 use Rattle.qm_space.specs.Plane.{Plane, value, IsBehind, IsNotInFront, IsNotBehind, flipped, scaled}
 use Rattle.qm_space.specs.Vector.{normal_of}
 use Rattle.qm_space.specs.Turned.{turned}
-use Rattle.qm_space.specs.Cuboid.{IsInSpan, least_product, greatest_product}
+use Rattle.qm_space.specs.Cuboid.{IsInStretch, least_product, greatest_product}
 use Rattle.qm_space.specs.ThreePoints.{outward_plane, IsPlaneThrough}
 use Rattle.qm_space.proofs.Planes.{same_point}
 use Rattle.qm_space.proofs.Cuboids.{least_product_bound, greatest_product_bound}
@@ -34,18 +34,18 @@ use Rattle.qm_narrow.specs.declared.reach.Reach.{Reach}
 use Rattle.qm_narrow.specs.declared.outlook.Outlook.{Outlook}
 use Rattle.qm_narrow.specs.declared.spot.Spot.{Spot}
 use Rattle.qm_narrow.specs.inner.Trace.{IsSpotOf}
-use Rattle.qm_narrow.specs.inner.Look.{at_distance, span_of, least_between, least_along, greatest_along, IsReach, PartsNowhere, IsOutlook}
+use Rattle.qm_narrow.specs.inner.Look.{at_distance, stretch_of, least_between, least_along, greatest_along, IsReach, PartsNowhere, IsOutlook}
 
 -- ---- one corner
 
 module _ (n : Vector) (p : Point) (spot : Spot) (weight : pos 0 <ℤ p.w) (is : IsSpotOf p spot) where
-  in_x : IsInSpan (span_of spot 0) p.x p.w
+  in_x : IsInStretch (stretch_of spot 0) p.x p.w
   in_x = record { above = is.below.of_x.at_most; below = is.above.of_x.at_least }
 
-  in_y : IsInSpan (span_of spot 1) p.y p.w
+  in_y : IsInStretch (stretch_of spot 1) p.y p.w
   in_y = record { above = is.below.of_y.at_most; below = is.above.of_y.at_least }
 
-  in_z : IsInSpan (span_of spot 2) p.z p.w
+  in_z : IsInStretch (stretch_of spot 2) p.z p.w
   in_z = record { above = is.below.of_z.at_most; below = is.above.of_z.at_least }
 
   abbrev total : ℤ
@@ -58,21 +58,21 @@ module _ (n : Vector) (p : Point) (spot : Spot) (weight : pos 0 <ℤ p.w) (is : 
   least_bound : (least_along n spot *ℤ p.w) ≤ℤ total
   unfolding least_between
   least_bound =
-      let a = least_product n.x (span_of spot 0) in let b = least_product n.y (span_of spot 1) in let c = least_product n.z (span_of spot 2) in
+      let a = least_product n.x (stretch_of spot 0) in let b = least_product n.y (stretch_of spot 1) in let c = least_product n.z (stretch_of spot 2) in
       let e = +ℤ-*ℤ (a +ℤ b) c p.w in let f = +ℤ-*ℤ a b p.w in
-      let x = least_product_bound n.x (span_of spot 0) p.x p.w in_x in
-      let y = least_product_bound n.y (span_of spot 1) p.y p.w in_y in
-      let z = least_product_bound n.z (span_of spot 2) p.z p.w in_z in
+      let x = least_product_bound n.x (stretch_of spot 0) p.x p.w in_x in
+      let y = least_product_bound n.y (stretch_of spot 1) p.y p.w in_y in
+      let z = least_product_bound n.z (stretch_of spot 2) p.z p.w in_z in
       omega (arith, linear)
 
   greatest_bound : total ≤ℤ (greatest_along n spot *ℤ p.w)
   unfolding greatest_along
   greatest_bound =
-      let a = greatest_product n.x (span_of spot 0) in let b = greatest_product n.y (span_of spot 1) in let c = greatest_product n.z (span_of spot 2) in
+      let a = greatest_product n.x (stretch_of spot 0) in let b = greatest_product n.y (stretch_of spot 1) in let c = greatest_product n.z (stretch_of spot 2) in
       let e = +ℤ-*ℤ (a +ℤ b) c p.w in let f = +ℤ-*ℤ a b p.w in
-      let x = greatest_product_bound n.x (span_of spot 0) p.x p.w in_x in
-      let y = greatest_product_bound n.y (span_of spot 1) p.y p.w in_y in
-      let z = greatest_product_bound n.z (span_of spot 2) p.z p.w in_z in
+      let x = greatest_product_bound n.x (stretch_of spot 0) p.x p.w in_x in
+      let y = greatest_product_bound n.y (stretch_of spot 1) p.y p.w in_y in
+      let z = greatest_product_bound n.z (stretch_of spot 2) p.z p.w in_z in
       omega (arith, linear)
 
   least_not_in_front : (d : ℤ) → IsNotInFront (at_distance n d) p → least_along n spot ≤ℤ d

@@ -7,7 +7,7 @@ ghost use Rattle.qm_space.specs.Turned.{turned};
 ghost use Rattle.qm_narrow.specs.inner.Beam.{IsBeamCrossing, IsCrossedAhead, IsOfBeam, SeesThrough};
 
 use crate::crossing::Crossing;
-use qm_geom::{Cuboid, Plane, Span};
+use qm_geom::{Cuboid, Plane, Stretch};
 use qm_wind::Winding;
 
 /// All lines from a point of one cuboid to a point of another.
@@ -27,9 +27,9 @@ impl Beam {
         Beam {
             from: *from,
             to: Cuboid {
-                x: Span::between(at[0], at[0]),
-                y: Span::between(at[1], at[1]),
-                z: Span::between(at[2], at[2]),
+                x: Stretch::between(at[0], at[0]),
+                y: Stretch::between(at[1], at[1]),
+                z: Stretch::between(at[2], at[2]),
             },
         }
     }

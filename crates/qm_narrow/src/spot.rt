@@ -13,7 +13,7 @@ ghost use Rattle.qm_narrow.specs.inner.Trace.{IsSpotOf};
 use crate::near::Near;
 use crate::normal::sum;
 use crate::whole::whole_corner;
-use qm_geom::{Corner, Cuboid, Span, Vector};
+use qm_geom::{Corner, Cuboid, Stretch, Vector};
 
 /// The whole points near a corner: the nearest one, and the coordinates rounded down and up.
 #[derive(Clone, Copy)]
@@ -51,9 +51,9 @@ impl Spot {
         ensures { (p : Point) → IsSpotOf p self.now → IsInCuboid result p }
     {
         Cuboid {
-            x: Span::between(self.below[0], self.above[0]),
-            y: Span::between(self.below[1], self.above[1]),
-            z: Span::between(self.below[2], self.above[2]),
+            x: Stretch::between(self.below[0], self.above[0]),
+            y: Stretch::between(self.below[1], self.above[1]),
+            z: Stretch::between(self.below[2], self.above[2]),
         }
     }
 

@@ -1,5 +1,6 @@
 pub mod Counts
 pub mod NodePlanes
+pub mod OffPlanes
 pub mod LeafNumbers
 pub mod Cells
 pub mod JoinedLeaves

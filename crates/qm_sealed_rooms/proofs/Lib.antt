@@ -1,5 +1,4 @@
 pub mod Borders
-pub mod OffPlanes
 pub mod LedPoints
 pub mod SolidLeaves
 pub mod Shells

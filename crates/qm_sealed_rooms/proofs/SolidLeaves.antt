@@ -27,7 +27,7 @@ use Rattle.qm_partition.proofs.Cells.{number_of_cell}
 use Rattle.qm_partition.proofs.LeafNumbers.{leaf_of_number}
 use Rattle.qm_partition.proofs.NodePlanes.{off_node_planes}
 use Rattle.qm_solid_tree.specs.GivesContents.{GivesContents}
-use Rattle.qm_sealed_rooms.proofs.OffPlanes.{IsOffPlace, off_place, node_normals}
+use Rattle.qm_partition.proofs.OffPlanes.{IsOffPlace, off_place, node_normals}
 
 -- nothing is as strong as solid
 pub only_solid : (c : Contents) → IsAtMost contents.Solid c → c ≡ contents.Solid

@@ -4,45 +4,45 @@ use Rattle.qm_space.specs.Point.{Point, IsCoordinate}
 use Rattle.qm_space.specs.Plane.{Plane, IsOn, IsNotBehind}
 
 -- from one whole number to another, both included
-pub record Span : Type 0 where
+pub record Stretch : Type 0 where
   pub low : ℤ
   pub high : ℤ
 
--- a span across each axis
+-- a stretch across each axis
 pub record Cuboid : Type 0 where
-  pub x : Span
-  pub y : Span
-  pub z : Span
+  pub x : Stretch
+  pub y : Stretch
+  pub z : Stretch
 
 -- both ends are coordinates of the closed cube
-pub record IsCoordinateSpan (span : Span) : Type 0 where
-  pub low : IsCoordinate span.low
-  pub high : IsCoordinate span.high
+pub record IsCoordinateStretch (stretch : Stretch) : Type 0 where
+  pub low : IsCoordinate stretch.low
+  pub high : IsCoordinate stretch.high
 
--- a coordinate of a point lies in the span
-pub record IsInSpan (span : Span) (coordinate w : ℤ) : Type 0 where
-  pub above : (span.low *ℤ w) ≤ℤ coordinate
-  pub below : coordinate ≤ℤ (span.high *ℤ w)
+-- a coordinate of a point lies in the stretch
+pub record IsInStretch (stretch : Stretch) (coordinate w : ℤ) : Type 0 where
+  pub above : (stretch.low *ℤ w) ≤ℤ coordinate
+  pub below : coordinate ≤ℤ (stretch.high *ℤ w)
 
 -- a point of the cuboid or of its sides
 pub record IsInCuboid (c : Cuboid) (p : Point) : Type 0 where
-  pub x : IsInSpan c.x p.x p.w
-  pub y : IsInSpan c.y p.y p.w
-  pub z : IsInSpan c.z p.z p.w
+  pub x : IsInStretch c.x p.x p.w
+  pub y : IsInStretch c.y p.y p.w
+  pub z : IsInStretch c.z p.z p.w
 
 -- the closed cube as a cuboid
-abbrev pub whole_span : Span
-whole_span = record { low = neg_ℤ extent; high = extent }
+abbrev pub whole_stretch : Stretch
+whole_stretch = record { low = neg_ℤ extent; high = extent }
 
 abbrev pub whole_cuboid : Cuboid
-whole_cuboid = record { x = whole_span; y = whole_span; z = whole_span }
+whole_cuboid = record { x = whole_stretch; y = whole_stretch; z = whole_stretch }
 
--- the least and the greatest product of a number and one of a span
-unfoldable pub least_product : ℤ → Span → ℤ
-least_product n span = if int_lt n (pos 0) then n *ℤ span.high else n *ℤ span.low
+-- the least and the greatest product of a number and one of a stretch
+unfoldable pub least_product : ℤ → Stretch → ℤ
+least_product n stretch = if int_lt n (pos 0) then n *ℤ stretch.high else n *ℤ stretch.low
 
-unfoldable pub greatest_product : ℤ → Span → ℤ
-greatest_product n span = if int_lt n (pos 0) then n *ℤ span.low else n *ℤ span.high
+unfoldable pub greatest_product : ℤ → Stretch → ℤ
+greatest_product n stretch = if int_lt n (pos 0) then n *ℤ stretch.low else n *ℤ stretch.high
 
 -- the least and the greatest value of a plane at a point of a cuboid, for points of w = 1
 unfoldable pub least_value : Plane → Cuboid → ℤ
@@ -59,10 +59,10 @@ IsTightened t c h = (p : Point) → pos 0 ≤ℤ p.w → IsInCuboid c p → IsNo
 abbrev pub IsTightenedOn : Cuboid → Cuboid → Plane → Type 0
 IsTightenedOn t c h = (p : Point) → pos 0 ≤ℤ p.w → IsInCuboid c p → IsOn h p → IsInCuboid t p
 
--- the span t has all of a span that is, times a number n, at least d
-abbrev pub IsTightenedSpan : Span → Span → ℤ → ℤ → Type 0
-IsTightenedSpan t span n d = (c w : ℤ) → pos 0 ≤ℤ w → IsInSpan span c w → (d *ℤ w) ≤ℤ (n *ℤ c) → IsInSpan t c w
+-- the stretch t has all of a stretch that is, times a number n, at least d
+abbrev pub IsTightenedStretch : Stretch → Stretch → ℤ → ℤ → Type 0
+IsTightenedStretch t stretch n d = (c w : ℤ) → pos 0 ≤ℤ w → IsInStretch stretch c w → (d *ℤ w) ≤ℤ (n *ℤ c) → IsInStretch t c w
 
--- the span t has all of a span that is, times a number n, from d to e
-abbrev pub IsTightenedBetween : Span → Span → ℤ → ℤ → ℤ → Type 0
-IsTightenedBetween t span n d e = (c w : ℤ) → pos 0 ≤ℤ w → IsInSpan span c w → (d *ℤ w) ≤ℤ (n *ℤ c) → (n *ℤ c) ≤ℤ (e *ℤ w) → IsInSpan t c w
+-- the stretch t has all of a stretch that is, times a number n, from d to e
+abbrev pub IsTightenedBetween : Stretch → Stretch → ℤ → ℤ → ℤ → Type 0
+IsTightenedBetween t stretch n d e = (c w : ℤ) → pos 0 ≤ℤ w → IsInStretch stretch c w → (d *ℤ w) ≤ℤ (n *ℤ c) → (n *ℤ c) ≤ℤ (e *ℤ w) → IsInStretch t c w

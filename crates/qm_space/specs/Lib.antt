@@ -13,6 +13,7 @@ pub mod ThreePoints
 pub mod Turned
 pub mod Cell
 pub mod Cube
+pub mod InsideBound
 pub mod Cuboid
 pub mod Coordinates
 pub mod LeastDistance

@@ -6,7 +6,7 @@ ghost use Rattle.qm_convex.specs.inner.Parallelogram.{LeaveRoom};
 ghost use Rattle.qm_wind.specs.inner.AxialCells.{bounds_of, IsOpen, LeaveNone, IsShut, axial_cuboid};
 
 use crate::walls::{mirrored, wall_x, wall_y, wall_z};
-use qm_geom::{Cuboid, Plane, Span};
+use qm_geom::{Cuboid, Plane, Stretch};
 
 /// Two planes that face one another.
 #[derive(Clone, Copy)]
@@ -44,12 +44,12 @@ impl Opposites {
     }
 
     /// The distances between them, along their axis.
-    fn span(&self) -> Span
+    fn stretch(&self) -> Stretch
         requires near { IsCoordinate self.now.near.d }
         requires far { IsCoordinate (neg_ℤ self.now.far.d) }
         ensures { result ≡ record { low = self.now.near.d; high = neg_ℤ self.now.far.d } }
     {
-        Span::between(self.near.d as i32, (-self.far.d) as i32)
+        Stretch::between(self.near.d as i32, (-self.far.d) as i32)
     }
 }
 
@@ -100,9 +100,9 @@ impl AxialCell {
         ensures { result ≡ axial_cuboid self.now }
     {
         Cuboid {
-            x: self.x.span(),
-            y: self.y.span(),
-            z: self.z.span(),
+            x: self.x.stretch(),
+            y: self.y.stretch(),
+            z: self.z.stretch(),
         }
     }
 }

@@ -1,7 +1,7 @@
 use Rattle.std.specs.Prelude.{◌≡◌, false, ◌*◌, List, ℤ, pos, ◌+ℤ◌, ◌≤ℤ◌, ℕ, slice_index_or}
 use Rattle.qm_space.specs.Bounds.{world_extent, whole_normal_bound}
 use Rattle.qm_space.specs.Plane.{Plane}
-use Rattle.qm_space.specs.Cuboid.{Span, least_product, greatest_product}
+use Rattle.qm_space.specs.Cuboid.{Stretch, least_product, greatest_product}
 use Rattle.qm_convex.specs.Winding.{Winding}
 use Rattle.qm_convex.specs.Sides.{HasNoCornerInFront, HasNoCornerBehind}
 use Rattle.qm_geom.specs.declared.vector.Vector.{Vector}
@@ -25,23 +25,23 @@ abbrev pub at_distance : Vector → ℤ → Plane
 at_distance n d = record { nx = n.x; ny = n.y; nz = n.z; d = d }
 
 -- across one axis, from the coordinate of the one whole point to that of the other
-abbrev pub span_between : List ℤ → List ℤ → ℕ → Span
-span_between low high axis = record { low = slice_index_or low axis (pos 0); high = slice_index_or high axis (pos 0) }
+abbrev pub stretch_between : List ℤ → List ℤ → ℕ → Stretch
+stretch_between low high axis = record { low = slice_index_or low axis (pos 0); high = slice_index_or high axis (pos 0) }
 
 -- from a coordinate rounded down to it rounded up
-abbrev pub span_of : Spot → ℕ → Span
-span_of spot axis = span_between spot.below spot.above axis
+abbrev pub stretch_of : Spot → ℕ → Stretch
+stretch_of spot axis = stretch_between spot.below spot.above axis
 
 -- the least that the normal has along a point between two whole points
 unfoldable pub least_between : Vector → List ℤ → List ℤ → ℤ
-least_between n low high = (least_product n.x (span_between low high 0) +ℤ least_product n.y (span_between low high 1)) +ℤ least_product n.z (span_between low high 2)
+least_between n low high = (least_product n.x (stretch_between low high 0) +ℤ least_product n.y (stretch_between low high 1)) +ℤ least_product n.z (stretch_between low high 2)
 
 -- the least and the greatest that it has along a point between the whole points below and above a corner
 abbrev pub least_along : Vector → Spot → ℤ
 least_along n spot = least_between n spot.below spot.above
 
 unfoldable pub greatest_along : Vector → Spot → ℤ
-greatest_along n spot = (greatest_product n.x (span_of spot 0) +ℤ greatest_product n.y (span_of spot 1)) +ℤ greatest_product n.z (span_of spot 2)
+greatest_along n spot = (greatest_product n.x (stretch_of spot 0) +ℤ greatest_product n.y (stretch_of spot 1)) +ℤ greatest_product n.z (stretch_of spot 2)
 
 -- a plane with the normal that has no corner of the winding in front has at least the low distance, and one that has none
 -- behind has at most the high one

@@ -1,7 +1,7 @@
 use Rattle.std.proofs.Common.{ap, ◌∙◌}
 use Rattle.qm_wind.specs.declared.axial_cell.Opposites.{Opposites}
 use Rattle.qm_wind.proofs.Distances.{kept_distance, kept_negated}
-use Rattle.qm_wind.proofs.axial_cell.Opposites.span.Goals as goal
+use Rattle.qm_wind.proofs.axial_cell.Opposites.stretch.Goals as goal
 
 pub returns : goal.returns
 returns c =

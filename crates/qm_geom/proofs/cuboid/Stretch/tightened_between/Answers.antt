@@ -3,7 +3,7 @@ use Rattle.qm_numbers.proofs.Bits.{kept_32, kept_64, negated_32, negated_64}
 use Rattle.qm_space.specs.Bounds.{normal_bound}
 use Rattle.qm_space.proofs.Cuboids.{tightened_between}
 use Rattle.qm_geom.proofs.Cuboids.{tightened_same}
-use Rattle.qm_geom.proofs.cuboid.Span.tightened_between.Goals as goal
+use Rattle.qm_geom.proofs.cuboid.Stretch.tightened_between.Goals as goal
 
 pub returns : goal.returns
 returns c =

@@ -1,7 +1,7 @@
 use Rattle.std.proofs.Common.{arith}
 use Rattle.std.proofs.lemmas.Int.{ints}
 use Rattle.qm_geom.proofs.Cuboids.{from_quotient, up_to_quotient}
-use Rattle.qm_geom.proofs.cuboid.Span.tightened.Goals as goal
+use Rattle.qm_geom.proofs.cuboid.Stretch.tightened.Goals as goal
 
 pub returns-then-component-gt0 : goal.returns-then-component-gt0
 returns-then-component-gt0 c =
