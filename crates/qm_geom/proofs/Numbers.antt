@@ -1,4 +1,5 @@
-use Rattle.std.proofs.Common.{◌≡◌, ℕ, ◌+◌, ◌<◌, ◌^◌, List, [], ◌∷◌, ◌++◌, length, refl, sym, subst, ap, ◌∙◌, arith, true, length-append, slice_get, Some, None, IsTrue, ⊎_elim}
+use Rattle.std.proofs.Common.{◌≡◌, ℕ, ◌+◌, ◌<◌, ◌^◌, List, [], ◌∷◌, ◌++◌, length, refl, sym, subst, ap, ◌∙◌, arith, true, length-append, slice_get, Option, Some, None, IsTrue, ⊎_elim}
+use Rattle.std.specs.Option.{MatchOption}
 use Rattle.std.specs.declared.cmp.Ordering.{Ordering}
 use Rattle.std.specs.declared.cmp.Ordering.TheVariants.{Less, Equal, Greater}
 use Rattle.std.specs.BTreeMap.{BTreeMap, get, Updates, IsUnchanged}
@@ -76,3 +77,9 @@ AreBookPlanes-from xs m b = record {
 -- a plane that has no number is at no place
 pub absent_from : (xs : List Plane) (m : BTreeMap Plane ℕ) (x : Plane) → IsNumbered xs m → get plane_cmp m x ≡ None → (k : ℕ) → slice_get xs k ≡ Some x → ⊥
 absent_from xs m x b none k at = let e : get plane_cmp m x ≡ Some k = b.placed k x at in cc
+
+-- so what is found of a plane is its number, or that it is at no place
+pub number_found : (xs : List Plane) (m : BTreeMap Plane ℕ) (x : Plane) (found : Option ℕ) → IsNumbered xs m → found ≡ get plane_cmp m x →
+    MatchOption found ((n : ℕ) → slice_get xs n ≡ Some x → ⊥) (λ n. slice_get xs n ≡ Some x)
+number_found xs m x None b is = absent_from xs m x b (sym is)
+number_found xs m x (Some n) b is = b.found n x (sym is)

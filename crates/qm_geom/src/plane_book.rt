@@ -1,4 +1,4 @@
-ghost use Rattle.std.specs.Prelude.{◌≡◌, ◌<◌, ◌≤◌, ◌+◌, ◌-◌, ◌^◌, ◌↔◌, [], IsTrue, Some, slice_get, length, IfOk, OnErr};
+ghost use Rattle.std.specs.Prelude.{◌≡◌, ℕ, ◌<◌, ◌≤◌, ◌+◌, ◌-◌, ◌^◌, ◌↔◌, [], IsTrue, Some, slice_get, length, MatchOption, IfOk, OnErr};
 ghost use Rattle.qm_space.specs.Reduced.{leads_positive, IsReduced};
 ghost use Rattle.qm_space.specs.Book.{AreBookPlanes};
 ghost use Rattle.qm_space.specs.Entered.{EntersBook};
@@ -69,6 +69,13 @@ impl PlaneBook {
         ensures planes { AreBookPlanes self.now }
     {
         &self.planes
+    }
+
+    /// The number of a plane. `None` exactly where the book does not have it.
+    pub fn find(&self, plane: &Plane) -> Option<u32>
+        ensures { MatchOption result ((n : ℕ) → slice_get self.now n ≡ Some plane.now → ⊥) (λ n. slice_get self.now n ≡ Some plane.now) }
+    {
+        self.numbers.get(plane).copied()
     }
 
     /// The number of a plane, which enters the book at its end if it is not there yet. Numbers given
