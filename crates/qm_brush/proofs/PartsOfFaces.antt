@@ -8,8 +8,7 @@ use Rattle.qm_space.specs.Plane.{Plane, flipped, IsOn}
 use Rattle.qm_space.specs.Turned.{turned}
 use Rattle.qm_space.proofs.Planes.{flipped_in_front}
 use Rattle.qm_space.proofs.TurnedPlanes.{turned_other}
-use Rattle.qm_convex.specs.Winding.{Winding, IsConvex}
-use Rattle.qm_convex.specs.Sides.{IsWhollyInFront}
+use Rattle.qm_convex.specs.Winding.{Winding}
 use Rattle.qm_convex.specs.Cut.{IsPartInFront}
 use Rattle.qm_convex.specs.World.{MissesCube, IsWorldPart}
 use Rattle.qm_convex.proofs.Central.{has_a_point}
@@ -32,9 +31,6 @@ of_more P xs i d within all =
 pub inner_plane : (planes : List Plane) (other : FaceRef) (h : Plane) (side : Bool) → other.plane < length planes → h ≡ get_or planes other.plane h → side ≡ not other.out_is_front → turned side h ≡ inward_of planes other
 inner_plane planes other h side within is its =
     ap (λ (b : Bool). turned b h) its ∙ turned_other other.out_is_front h ∙ ap (λ (g : Plane). flipped (turned other.out_is_front g)) (sym (plane_read planes other.plane h within is))
-
-pub wholly_kept : (v : Winding) (g : Plane) → IsConvex v → IsWhollyInFront v g → IsPartInFront v v g
-wholly_kept v g convex wholly = record { convex = convex; plane = refl; points = λ p. ((λ inside. (inside, wholly p inside)), (λ both. both.0)) }
 
 module _ (planes : List Plane) (face other : FaceRef) (before after : Winding) where
   -- one on another plane leaves what is behind it

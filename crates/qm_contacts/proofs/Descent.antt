@@ -1,10 +1,10 @@
 -- From the root down: each leaf below has a point, so each node has a section, and each side of it the facets of its cell.
-use Rattle.std.proofs.Common.{◌≡◌, ℕ, pos, ◌<ℤ◌, Bool, true, false, List, [], ◌∷◌, ◌++◌, All, map, Contains, sym, ap, ◌∙◌, subst, arith, Some, ◌⊎◌, ⊎_elim, ◌↔◌}
+use Rattle.std.proofs.Common.{◌≡◌, ℕ, Bool, true, false, List, [], ◌∷◌, ◌++◌, All, map, Contains, sym, ap, ◌∙◌, subst, arith, Some, ◌⊎◌, ⊎_elim, ◌↔◌}
 use Rattle.std.specs.Prelude.{slice_get}
 use Rattle.std.specs.List.{AllZip}
 use Rattle.std.proofs.lemmas.List.{map-append}
-use Rattle.std.proofs.lemmas.List.Elements.{All-nil, All-cons, All-head, All-tail, All-push, All-pop, All-append, All-contains, All-contains_itself, Contains-append_left, Contains-append_right}
-use Rattle.qm_lists.proofs.Elements.{Contains-map, Contains-first, All-first_part, All-last_part}
+use Rattle.std.proofs.lemmas.List.Elements.{All-nil, All-cons, All-head, All-tail, All-push, All-pop, All-append, All-contains, All-contains_itself, All-weaker, Contains-append_left, Contains-append_right, Contains-push}
+use Rattle.qm_lists.proofs.Elements.{Contains-map, Contains-first, Contains-cons_cases, All-first_part, All-last_part}
 use Rattle.qm_space.specs.Point.{Point, IsInCube}
 use Rattle.qm_space.specs.Plane.{Plane, IsOn, IsInFront}
 use Rattle.qm_space.specs.Turned.{turned}
@@ -30,6 +30,7 @@ use Rattle.qm_partition.specs.Tree.{Tree}
 use Rattle.qm_partition.specs.Ways.{Way, after_step, ways, turned_to, cell_of_way, HasPoints}
 use Rattle.qm_contacts.specs.Meeting.{then_step}
 use Rattle.qm_contacts.specs.Outside.{TouchesOutside}
+use Rattle.qm_contacts.specs.inner.Bounds.{IsBoundAdded}
 use Rattle.qm_contacts.specs.inner.Pieces.{walled_cell}
 use Rattle.qm_contacts.specs.inner.Descent.{HasPointsBelow, AreBounds, AreWallFacets}
 use Rattle.qm_contacts.proofs.Pieces.{walled_split}
@@ -132,18 +133,29 @@ facets_below planes above n side section on_walls walls is are cut_walls = recor
 -- ---- bounds
 
 pub bounds_at_root : (planes : List Plane) → AreBounds planes [] cube_walls
-bounds_at_root planes x weight = ((λ inside. inside), (λ inside. inside))
+bounds_at_root planes = record { points = λ x weight. ((λ inside. inside), (λ inside. inside)); among = All-contains_itself cube_walls }
 
 -- the bounds of the cell on one side of a node
-pub bounds_below : (planes : List Plane) (above : Way) (n : ℕ) (side : Bool) (bounds half : List Plane) → AreBounds planes above bounds → ((x : Point) → pos 0 <ℤ x.w → IsInCell half x ↔ (IsInCell bounds x × IsInFront (turned side (plane_at planes n)) x)) → AreBounds planes (then_step above n side) half
-bounds_below planes above n side bounds half are added x weight = (
-  (λ inside.
-      let both = All-pop (λ g. IsInFront g x) (walled_cell planes (then_step above n side)) (walled_cell planes above) (Some (turned side (plane_at planes n))) (walled-then_step planes above n side) inside in
-      (added x weight).1 ((are x weight).0 both.0, both.1)),
-  (λ inside.
-      let both = (added x weight).0 inside in
-      subst (λ (cell : List Plane). IsInCell cell x) (sym (walled-then_step planes above n side)) (All-push (λ g. IsInFront g x) (walled_cell planes above) (turned side (plane_at planes n)) ((are x weight).1 both.0) both.1)),
-)
+pub bounds_below : (planes : List Plane) (above : Way) (n : ℕ) (side : Bool) (bounds half : List Plane) → AreBounds planes above bounds → IsBoundAdded (turned side (plane_at planes n)) bounds half → AreBounds planes (then_step above n side) half
+bounds_below planes above n side bounds half are added = record {
+  points = λ x weight. (
+    (λ inside.
+        let both = All-pop (λ g. IsInFront g x) (walled_cell planes (then_step above n side)) (walled_cell planes above) (Some (turned side (plane_at planes n))) (walled-then_step planes above n side) inside in
+        (added.points x weight).1 ((are.points x weight).0 both.0, both.1)),
+    (λ inside.
+        let both = (added.points x weight).0 inside in
+        subst (λ (cell : List Plane). IsInCell cell x) (sym (walled-then_step planes above n side)) (All-push (λ g. IsInFront g x) (walled_cell planes above) (turned side (plane_at planes n)) ((are.points x weight).1 both.0) both.1)),
+  );
+  among = subst (λ (cell : List Plane). All (Contains cell) half) (sym (walled-then_step planes above n side)) among;
+}
+  where
+    among : All (Contains (walled_cell planes above ++ turned side (plane_at planes n) ∷ [])) half
+    among = All-weaker (Contains (turned side (plane_at planes n) ∷ bounds)) (Contains (walled_cell planes above ++ turned side (plane_at planes n) ∷ []))
+        (λ g has. ⊎_elim
+        (λ same. subst (Contains (walled_cell planes above ++ turned side (plane_at planes n) ∷ [])) same (Contains-push (walled_cell planes above) (turned side (plane_at planes n))))
+        (λ old. Contains-append_left (walled_cell planes above) (turned side (plane_at planes n) ∷ []) g (All-contains (Contains (walled_cell planes above)) bounds g are.among old))
+        (Contains-cons_cases (turned side (plane_at planes n)) g bounds has))
+        half added.among
 
 -- ---- the outside
 

@@ -13,7 +13,7 @@ use Rattle.qm_numbers.proofs.IntegerProducts.{linear, one_*ℤ, zero_*ℤ}
 use Rattle.qm_numbers.proofs.Signs.{product_positive}
 use Rattle.qm_convex.specs.Winding.{Winding}
 use Rattle.qm_convex.specs.inner.Square.{square}
-use Rattle.qm_convex.proofs.Squares.{square_convex, square_region, turn_y_z, between_y, between_z}
+use Rattle.qm_convex.proofs.Squares.{square_convex, square_region, square_all, turn_y_z, between_y, between_z}
 use Rattle.qm_contents.specs.declared.contents.Contents.{Contents}
 use Rattle.qm_contents.specs.declared.contents.Contents.TheVariants.{Empty, Sky}
 use Rattle.qm_partition.specs.declared.node.Leaf.{Leaf}
@@ -23,6 +23,7 @@ use Rattle.qm_partition.specs.LeafOfPoint.{node_value}
 use Rattle.qm_partition.specs.Marked.{filled_leaf, marked_tree}
 use Rattle.qm_partition.specs.Ways.{Way, ways, cell_of_way, IsInLeaf, HasPoints}
 use Rattle.qm_contacts.specs.Meeting.{meetings, Meeting, meeting_at}
+use Rattle.qm_contacts.specs.Contact.{bounds_of_contact}
 use Rattle.qm_contacts.specs.Touching.{Touching, IsTouching, AreTouchings, none, touching}
 use Rattle.qm_contacts.specs.Contacts.{AreContacts}
 use Rattle.qm_contacts.specs.Outside.{TouchesOutside}
@@ -86,6 +87,7 @@ found_is = record {
         }),
     (λ c. (square_region half wall_y wall_z p).1 (c.in_cube.weight, c.on, (between_y p).1 c.in_cube.y, (between_z p).1 c.in_cube.z)),
   );
+  edges = square_all (Contains (bounds_of_contact (half ∷ []) meeting)) half wall_y wall_z (1, omega arith, refl) (2, omega arith, refl) (4, omega arith, refl) (5, omega arith, refl);
 }
 
 touchings_row : AreTouchings (half ∷ []) (meeting ∷ []) (found ∷ [])

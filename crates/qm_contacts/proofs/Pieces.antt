@@ -1,8 +1,8 @@
 -- How a polygon is pushed down a tree, and how the pieces of a node's section give the contacts at the node.
-use Rattle.std.proofs.Common.{ℕ, Bool, List, [], ◌∷◌, ◌++◌, map, refl, sym, ◌∙◌, subst, ◌↔◌, arith}
+use Rattle.std.proofs.Common.{ℕ, Bool, List, [], ◌∷◌, ◌++◌, map, All, Contains, refl, sym, ◌∙◌, subst, ◌↔◌, arith}
 use Rattle.std.proofs.lemmas.List.Concat.{flat_map-cons}
-use Rattle.std.proofs.lemmas.List.Elements.{All-cons, All-head, All-tail, All-append}
-use Rattle.qm_lists.proofs.Elements.{All-first_part, All-last_part}
+use Rattle.std.proofs.lemmas.List.Elements.{All-cons, All-head, All-tail, All-append, All-contains_itself}
+use Rattle.qm_lists.proofs.Elements.{All-first_part, All-last_part, Contains-first}
 use Rattle.qm_space.specs.Point.{Point, IsInCube}
 use Rattle.qm_space.specs.Plane.{Plane, IsInFront}
 use Rattle.qm_space.specs.Turned.{turned}
@@ -15,12 +15,13 @@ use Rattle.qm_convex.specs.Winding.{Winding, IsInRegion, IsConvex}
 use Rattle.qm_convex.specs.Cut.{IsPartInFront, IsPartWithin}
 use Rattle.qm_convex.specs.Sides.{HasNoneInFront}
 use Rattle.qm_convex.specs.Section.{IsSection}
+use Rattle.qm_convex.proofs.Among.{first_among, second_among, own_edges, edges_among, edges_of_part, edges_within}
 use Rattle.qm_convex.proofs.Cutting.{all_at_first}
 use Rattle.qm_partition.specs.declared.node.Leaf.{Leaf}
 use Rattle.qm_partition.specs.Partition.{leaf}
 use Rattle.qm_partition.specs.Ways.{Way, after_step, cell_of_way}
 use Rattle.qm_contacts.specs.Meeting.{LeafBelow, Meeting, seen_from, leaves_below, meeting_at, meetings_at}
-use Rattle.qm_contacts.specs.Contact.{IsContact}
+use Rattle.qm_contacts.specs.Contact.{IsContact, bounds_of_contact}
 use Rattle.qm_contacts.specs.Touching.{Touching, AreTouchings, none, touching, apart}
 use Rattle.qm_contacts.specs.inner.Pieces.{walled_cell, LeafPiece, HasNoPiece, ArePieces, no_pieces, piece, nothing, touching_at, ArePiecesOfEach, no_rows, row}
 
@@ -59,7 +60,14 @@ module _ (planes : List Plane) where
             (p.0, All-cons (λ g. IsInFront g x) h (cell_of_way planes way) p.1 q.1)),
         (λ q. (within.points x).1 ((is_part.points x).1 (q.0, All-head (λ g. IsInFront g x) h (cell_of_way planes way) q.1), All-tail (λ g. IsInFront g x) h (cell_of_way planes way) q.1)),
       );
+      edges = edges_within winding part (cell_of_way planes way) all within
+          (second_among (h ∷ []) (cell_of_way planes way ++ whole.edges) (cell_of_way planes way) (first_among (cell_of_way planes way) whole.edges))
+          (edges_of_part part whole h all is_part (Contains-first h (cell_of_way planes way ++ whole.edges))
+          (second_among (h ∷ cell_of_way planes way) whole.edges whole.edges (own_edges whole)));
     }
+      where
+        all : List Plane
+        all = h ∷ (cell_of_way planes way ++ whole.edges)
 
     -- the pieces of its part in front of a node's plane are pieces of the polygon
     pub seen_through : (leaves : List LeafBelow) (pieces : List LeafPiece) → ArePieces planes part leaves pieces → ArePieces planes whole (map (seen_from n side) leaves) pieces
@@ -97,6 +105,27 @@ module _ (planes : List Plane) (n plane : ℕ) (above : Way) (section : Winding)
   )
 
   module _ (front : LeafBelow) where
+    -- the planes of the cell, and those below it on either side, are among the bounds of a contact
+    abbrev on_sides : LeafBelow → List Plane
+    on_sides back = cell_of_way planes front.way ++ cell_of_way planes back.way
+
+    walled : (back : LeafBelow) → All (Contains (bounds_of_contact planes (meeting_at n plane above front back))) (walled_cell planes above)
+    walled back =
+        All-append (Contains (bounds_of_contact planes (meeting_at n plane above front back))) cube_walls (cell_of_way planes above)
+        (first_among cube_walls (cell_of_way planes above ++ on_sides back))
+        (second_among cube_walls (cell_of_way planes above ++ on_sides back) (cell_of_way planes above) (first_among (cell_of_way planes above) (on_sides back)))
+
+    in_front : (back : LeafBelow) → All (Contains (bounds_of_contact planes (meeting_at n plane above front back))) (cell_of_way planes front.way)
+    in_front back =
+        second_among cube_walls (cell_of_way planes above ++ on_sides back) (cell_of_way planes front.way)
+        (second_among (cell_of_way planes above) (on_sides back) (cell_of_way planes front.way) (first_among (cell_of_way planes front.way) (cell_of_way planes back.way)))
+
+    behind : (back : LeafBelow) → All (Contains (bounds_of_contact planes (meeting_at n plane above front back))) (cell_of_way planes back.way)
+    behind back =
+        second_among cube_walls (cell_of_way planes above ++ on_sides back) (cell_of_way planes back.way)
+        (second_among (cell_of_way planes above) (on_sides back) (cell_of_way planes back.way)
+        (second_among (cell_of_way planes front.way) (cell_of_way planes back.way) (cell_of_way planes back.way) (All-contains_itself (cell_of_way planes back.way))))
+
     -- the front leaf has nothing of the section
     no_front : HasNoPiece planes section front.way → (backs : List LeafBelow) → AreTouchings planes (map (meeting_at n plane above front) backs) []
     no_front never [] = none
@@ -115,6 +144,9 @@ module _ (planes : List Plane) (n plane : ℕ) (above : Way) (section : Winding)
         (λ r. let q = (within.points x).0 r in (contact_point front back x).1 ((part.points x).0 q.0, q.1)),
         (λ c. let q = (contact_point front back x).0 c in (within.points x).1 ((part.points x).1 q.0, q.1)),
       );
+      edges = edges_within found winding (cell_of_way planes back.way) (bounds_of_contact planes (meeting_at n plane above front back)) within (behind back)
+          (edges_within winding section (cell_of_way planes front.way) (bounds_of_contact planes (meeting_at n plane above front back)) part (in_front back)
+          (edges_among section (walled_cell planes above) (bounds_of_contact planes (meeting_at n plane above front back)) (walled back) is_section.edges));
     }) (with_front winding part _ _ have)
     with_front winding part backs pieces (nothing {below = back} never have) =
         apart (λ x c. let q = (contact_point front back x).0 c in never x ((part.points x).1 q.0) q.1) (with_front winding part _ _ have)

@@ -2,9 +2,9 @@ use Rattle.std.specs.Prelude.{◌≡◌, ℕ, List, [], ◌∷◌, ◌↔◌}
 use Rattle.qm_space.specs.Point.{Point}
 use Rattle.qm_space.specs.Plane.{Plane}
 use Rattle.qm_space.specs.Book.{plane_at}
-use Rattle.qm_convex.specs.Winding.{Winding, IsInRegion, IsConvex}
+use Rattle.qm_convex.specs.Winding.{Winding, HasEdgesAmong, IsInRegion, IsConvex}
 use Rattle.qm_contacts.specs.Meeting.{Meeting}
-use Rattle.qm_contacts.specs.Contact.{IsContact}
+use Rattle.qm_contacts.specs.Contact.{IsContact, bounds_of_contact}
 
 -- The touching pairs of leaves, each with the polygon of the points at which the two touch.
 
@@ -23,6 +23,7 @@ pub record IsTouching (planes : List Plane) (meeting : Meeting) (touching : Touc
   pub convex : IsConvex touching.winding
   pub plane : touching.winding.plane ≡ plane_at planes meeting.plane
   pub points : (x : Point) → IsInRegion touching.winding x ↔ IsContact planes meeting x
+  pub edges : HasEdgesAmong touching.winding (bounds_of_contact planes meeting)
 
 -- the leaves of a meeting do not touch
 abbrev pub AreApart : List Plane → Meeting → Type 0

@@ -1,9 +1,10 @@
 -- The sides of a winding's edges on which its corners lie.
 use Rattle.std.proofs.Common.{◌≡◌, ℕ, ◌<◌, ◌≤◌, pos, ◌+ℤ◌, ◌*ℤ◌, ◌≤ℤ◌, ◌*◌, ◌^◌, unsigned_abs, List, length, get_or, ap, sym, arith, subst, ⊎_elim}
-use Rattle.std.specs.List.{All}
+use Rattle.std.specs.List.{All, Contains}
 use Rattle.std.proofs.lemmas.List.{get_or_past}
 use Rattle.std.proofs.lemmas.List.FromFn.{length-map-range_with_len, get_or-map-range_with_len, fill_by_all}
 use Rattle.std.proofs.lemmas.Bool.{cases_eq, cases_lt}
+use Rattle.std.proofs.lemmas.List.Elements.{Contains-get_or}
 use Rattle.qm_space.specs.Point.{Point}
 use Rattle.qm_space.specs.Plane.{Plane, value, IsOn, IsInFront}
 use Rattle.qm_space.specs.Meet.{HasMeetSizes}
@@ -12,7 +13,7 @@ use Rattle.qm_numbers.proofs.IntegerProducts.{linear}
 use Rattle.qm_space.proofs.Planes.{first_holds_meet, second_holds_meet, third_holds_meet}
 use Rattle.qm_space.proofs.Exchange.{value_on_line}
 use Rattle.qm_space.proofs.Sizes.{meet_sizes, value_at_meet_small}
-use Rattle.qm_convex.specs.Winding.{Winding, next_place, edge_at, corner_at, corners, IsConvex}
+use Rattle.qm_convex.specs.Winding.{Winding, next_place, edge_at, edge_after, corner_at, corners, IsConvex}
 use Rattle.qm_convex.proofs.Places.{next_below, next_other, next_next_other}
 
 -- a corner lies on the plane and on the two edges that meet there
@@ -28,6 +29,17 @@ corner_on_edge v i = second_holds_meet v.plane (edge_at v i) (edge_at v (next_pl
 pub corner_on_next : (v : Winding) (i : ℕ) → value (edge_at v (next_place (length v.edges) i)) (corner_at v i) ≡ pos 0
 unfolding corner_at
 corner_on_next v i = third_holds_meet v.plane (edge_at v i) (edge_at v (next_place (length v.edges) i))
+
+-- so the edge after a corner holds it and the next one
+
+pub edge_after_listed : (v : Winding) (i : ℕ) → i < length v.edges → Contains v.edges (edge_after v i)
+edge_after_listed v i within = Contains-get_or v.edges (next_place (length v.edges) i) v.plane (next_below (length v.edges) i within)
+
+pub edge_after_here : (v : Winding) (i : ℕ) → IsOn (edge_after v i) (corner_at v i)
+edge_after_here v i = corner_on_next v i
+
+pub edge_after_next : (v : Winding) (i : ℕ) → IsOn (edge_after v i) (corner_at v (next_place (length v.edges) i))
+edge_after_next v i = corner_on_edge v (next_place (length v.edges) i)
 
 -- an edge is one of the two at a corner, or another
 pub by_edge : {P : Type 0} (n i k : ℕ) → (k ≡ i → P) → (k ≡ next_place n i → P) → ((k ≡ i → ⊥) → (k ≡ next_place n i → ⊥) → P) → P

@@ -1,9 +1,10 @@
 -- Cutting a winding by a plane.
 use Rattle.std.proofs.Common.{◌≡◌, ℕ, zero, suc, ◌-◌, ◌<◌, ◌≤◌, pos, ◌≤ℤ◌, List, [], ◌∷◌, ◌++◌, length, get_or, take, drop, ◌↔◌, refl, ap, sym, ◌∙◌, arith, subst, ◌⊎◌, inl, inr, ⊎_elim}
-use Rattle.std.specs.List.{All}
+use Rattle.std.specs.List.{All, Contains}
 use Rattle.std.proofs.lemmas.Bool.{cases_eq, cases_lt}
 use Rattle.std.proofs.lemmas.List.{ext_get_or, get_or-take, get_or_append_left, get_or-append_right, get_or_at, length-take-le, length-append}
-use Rattle.std.proofs.lemmas.List.Elements.{All-nil, All-push, All-take, All-drop, All-append, All-from_get_or}
+use Rattle.std.proofs.lemmas.List.Elements.{All-nil, All-push, All-take, All-drop, All-append, All-from_get_or, Contains-append_left, Contains-push}
+use Rattle.qm_lists.proofs.Elements.{All-first_part, Contains-first}
 use Rattle.qm_space.specs.Point.{Point}
 use Rattle.qm_space.specs.Plane.{Plane, value, IsInFront, IsBehind, flipped}
 use Rattle.qm_space.specs.Meet.{meet}
@@ -16,6 +17,7 @@ use Rattle.qm_convex.specs.Rotation.{place_after, rotated_list, rotated}
 use Rattle.qm_convex.specs.Sides.{HasCornerInFront, HasCornerBehind, IsWhollyInFront, HasSomeInFront}
 use Rattle.qm_convex.specs.Cut.{IsPartInFront, IsParted, IsPartWithin}
 use Rattle.qm_convex.specs.inner.FrontRun.{IsFrontRun, cut}
+use Rattle.qm_convex.proofs.Among.{first_among, second_among, own_edges, own_edges_later, edges_of_part, edges_within}
 use Rattle.qm_convex.proofs.Places.{after_below, after_none, after_next, next_inner, next_last, next_injective, steps_to}
 use Rattle.qm_convex.proofs.Rotation.{rotated_list_length, rotated_list_at, rotated_length, rotated_edge, rotated_corner, rotated_convex, rotated_region}
 use Rattle.qm_convex.proofs.Central.{middle, middle_in_region, some_in_front}
@@ -259,11 +261,16 @@ cut_all P v g start count a p =
 -- ---- parts
 
 pub cut_is_part : (v : Winding) (g : Plane) (start count : ℕ) → IsConvex v → IsFrontRun v g start count → HasCornerBehind v g → IsPartInFront (cut v g start count) v g
-cut_is_part v g start count c x b = record { convex = cut_convex v g start count c x b; plane = refl; points = cut_region v g start count c x b }
+cut_is_part v g start count c x b = record {
+  convex = cut_convex v g start count c x b;
+  plane = refl;
+  points = cut_region v g start count c x b;
+  edges = cut_all (Contains (g ∷ v.edges)) v g start count (own_edges_later v g) (Contains-first g v.edges);
+}
 
 -- a winding that is wholly in front is its own part
 pub whole_is_part : (v : Winding) (g : Plane) → IsConvex v → IsWhollyInFront v g → IsPartInFront v v g
-whole_is_part v g c a = record { convex = c; plane = refl; points = λ p. ((λ r. (r, a p r)), (λ s. s.0)) }
+whole_is_part v g c a = record { convex = c; plane = refl; points = λ p. ((λ r. (r, a p r)), (λ s. s.0)); edges = own_edges_later v g }
 
 -- a part is not empty: where no point is in front, there is none
 pub part_has_front : (w v : Winding) (g : Plane) → IsPartInFront w v g → HasSomeInFront v g
@@ -304,10 +311,18 @@ parted v g c x y =
 -- ---- the part in front of several planes, cut one after another
 
 pub all_at_first : (v : Winding) → IsConvex v → IsPartWithin v v []
-all_at_first v c = record { convex = c; plane = refl; points = λ p. ((λ r. (r, All-nil (λ g. IsInFront g p))), (λ s. s.0)) }
+all_at_first v c = record { convex = c; plane = refl; points = λ p. ((λ r. (r, All-nil (λ g. IsInFront g p))), (λ s. s.0)); edges = own_edges v }
 
 pub within_one_more : (u w v : Winding) (gs : List Plane) (g : Plane) → IsPartWithin w v gs → IsPartInFront u w g → IsPartWithin u v (gs ++ g ∷ [])
-within_one_more u w v gs g x y = record { convex = y.convex; plane = y.plane ∙ x.plane; points = λ p. (inner p, outer p) }
+within_one_more u w v gs g x y = record {
+  convex = y.convex;
+  plane = y.plane ∙ x.plane;
+  points = λ p. (inner p, outer p);
+  edges = edges_of_part u w g ((gs ++ g ∷ []) ++ v.edges) y (Contains-append_left (gs ++ g ∷ []) v.edges g (Contains-push gs g))
+      (edges_within w v gs ((gs ++ g ∷ []) ++ v.edges) x
+      (All-first_part (Contains ((gs ++ g ∷ []) ++ v.edges)) gs (g ∷ []) (first_among (gs ++ g ∷ []) v.edges))
+      (second_among (gs ++ g ∷ []) v.edges v.edges (own_edges v)));
+}
   where
     inner : (p : Point) → IsInRegion u p → IsInRegion v p × All (λ g. IsInFront g p) (gs ++ g ∷ [])
     inner p r =

@@ -1,7 +1,7 @@
 -- The facets of a half of a cell: what the plane leaves of the cell's facets, and the part of the plane in the cell.
-use Rattle.std.proofs.Common.{ℕ, ◌<◌, Bool, List, [], ◌∷◌, ◌++◌, get_or, length, map, refl, ◌∙◌, arith, ◌⊎◌, inl, inr, ⊎_elim, ◌↔◌, Some}
+use Rattle.std.proofs.Common.{ℕ, ◌<◌, Bool, List, [], ◌∷◌, ◌++◌, get_or, length, refl, arith, ◌⊎◌, inl, inr, ⊎_elim, ◌↔◌, Some}
 use Rattle.std.proofs.lemmas.List.Elements.{All-push, All-pop, All-head, All-tail}
-use Rattle.qm_space.specs.Point.{Point, IsInCube}
+use Rattle.qm_space.specs.Point.{Point}
 use Rattle.qm_space.specs.Plane.{Plane, IsOn, IsInFront, IsBehind}
 use Rattle.qm_space.specs.Turned.{turned}
 use Rattle.qm_space.specs.Cell.{IsInCell}
@@ -11,13 +11,12 @@ use Rattle.qm_space.proofs.SameSides.{same_in_front, same_sides_itself, same_sid
 use Rattle.qm_space.proofs.TurnedPlanes.{turned_on}
 use Rattle.qm_space.proofs.Crossings.{through, crossing_on, crossing_in_cell}
 use Rattle.qm_convex.specs.Winding.{Winding, IsInRegion, IsConvex}
-use Rattle.qm_convex.specs.Cut.{IsPartInFront, IsPartWithin}
-use Rattle.qm_convex.specs.Sides.{HasNoneInFront, HasSomeInFront}
-use Rattle.qm_convex.specs.World.{IsWorldPart}
-use Rattle.qm_convex.specs.inner.Facets.{IsOnFacet, HasNoFacet, Facet, IsFacet, AreFacetsOn, AreFacets, none, facet, hidden, AreCut, left, gone, inward_of}
+use Rattle.qm_convex.specs.Cut.{IsPartInFront}
+use Rattle.qm_convex.specs.Sides.{HasNoneInFront}
+use Rattle.qm_convex.specs.inner.Facets.{IsOnFacet, HasNoFacet, Facet, IsFacet, AreFacetsOn, AreFacets, none, facet, hidden, AreCut, left, gone}
 use Rattle.qm_convex.specs.Section.{IsSection}
 use Rattle.qm_convex.proofs.Central.{has_a_point}
-use Rattle.qm_convex.proofs.ImpliedPlanes.{beside_of_cell, facets_from_cell, cell_from_facets}
+use Rattle.qm_convex.proofs.ImpliedPlanes.{beside_of_cell}
 
 -- facets of one cell on planes of two lists
 pub facets_append : (cell first second : List Plane) (facets others : List Facet) → AreFacetsOn cell first facets → AreFacetsOn cell second others → AreFacetsOn cell (first ++ second) (facets ++ others)
@@ -125,21 +124,3 @@ crosses_cell cell h p q in_p front in_q behind = (
   crossing_on h p q front (omega (arith, linear)),
   crossing_in_cell h p q front (omega (arith, linear)) cell in_p in_q,
 )
-
--- what the planes of the facets leave of the plane's part in the cube is the section
-pub section_by_facets : (cell : List Plane) (h : Plane) (facets : List Facet) (whole section : Winding) (c : Point) → ((x : Point) → IsInCell cell x → IsInCube x) → AreFacets cell facets → IsInCell cell c → IsWorldPart whole h → IsPartWithin section whole (map inward_of facets) → IsSection cell h section
-section_by_facets cell h facets whole section c walled are in_cell world part = record {
-  convex = part.convex;
-  plane = part.plane ∙ world.plane;
-  points = λ x. (
-    (λ r.
-        let q = (part.points x).0 r in
-        let w = (world.points x).0 q.0 in
-        (w.0, cell_from_facets cell facets c x are (walled c in_cell).weight in_cell r.weight q.1)),
-    (λ q. (part.points x).1 ((world.points x).1 (q.0, walled x q.1), facets_from_cell cell cell facets x are q.1)),
-  );
-}
-
--- as long as not all of them have cut it, some of what is left is in front of the next, if the section has a point
-pub more_of_section : (cell : List Plane) (h : Plane) (whole so_far : Winding) (planes : List Plane) (g : Plane) (x : Point) → IsWorldPart whole h → IsPartWithin so_far whole planes → IsOn h x → IsInCube x → IsInCell planes x → IsInFront g x → HasSomeInFront so_far g
-more_of_section cell h whole so_far planes g x world part on in_cube inside front = (x, (part.points x).1 ((world.points x).1 (on, in_cube), inside), front)

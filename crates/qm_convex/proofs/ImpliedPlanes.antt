@@ -90,11 +90,11 @@ module _ (kept left : List Plane) (c : Point) (weight : pos 0 <ℤ c.w) (in_kept
 -- ---- the planes on which a cell has facets are enough
 
 -- no facet on q of the cell of both lists
-abbrev NoFacet : List Plane → List Plane → Plane → Type 0
+abbrev pub NoFacet : List Plane → List Plane → Plane → Type 0
 NoFacet kept left q = (x : Point) → pos 0 <ℤ x.w → IsOn q x → IsBeside kept q x → IsBeside left q x → ⊥
 
 -- some planes, and those of them that are kept
-data Keeps (No : Plane → Type 0) : List Plane → List Plane → Type 0 where
+pub data Keeps (No : Plane → Type 0) : List Plane → List Plane → Type 0 where
   nothing : Keeps No [] []
   keep : {h : Plane} {planes some : List Plane} → Keeps No planes some → Keeps No (h ∷ planes) (h ∷ some)
   leave : {h : Plane} {planes some : List Plane} → No h → Keeps No planes some → Keeps No (h ∷ planes) some
@@ -107,7 +107,7 @@ weaker No Nor planes some c inside each (leave {h = h} {planes = rest} never kee
     leave (each h (All-head (λ g. IsInFront g c) h rest inside) never) (weaker No Nor rest some c (All-tail (λ g. IsInFront g c) h rest inside) each keeps)
 
 -- a point in front of those that are kept is in front of all
-enough : (kept left some : List Plane) (c : Point) → pos 0 <ℤ c.w → IsInCell kept c → IsInCell left c → Keeps (NoFacet kept left) left some → (x : Point) → pos 0 <ℤ x.w → IsInCell kept x → IsInCell some x → IsInCell left x
+pub enough : (kept left some : List Plane) (c : Point) → pos 0 <ℤ c.w → IsInCell kept c → IsInCell left c → Keeps (NoFacet kept left) left some → (x : Point) → pos 0 <ℤ x.w → IsInCell kept x → IsInCell some x → IsInCell left x
 enough kept left some c weight in_kept in_left nothing x w k s = s
 enough kept (h ∷ rest) some c weight in_kept in_left (keep {some = fewer} keeps) x w k s =
     let front = All-head (λ g. IsInFront g c) h rest in_left in

@@ -1,6 +1,7 @@
 pub mod Places
 pub mod Corners
 pub mod Regions
+pub mod Among
 pub mod Hull
 pub mod Rotation
 pub mod Central

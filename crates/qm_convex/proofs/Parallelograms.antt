@@ -1,5 +1,6 @@
 -- The parallelogram that two pairs of opposite planes cut out of a plane, and what a third pair leaves of it.
 use Rattle.std.proofs.Common.{◌≡◌, ℕ, zero, suc, ◌<◌, ℤ, pos, neg_ℤ, ◌+ℤ◌, ◌*ℤ◌, ◌<ℤ◌, ◌≤ℤ◌, List, [], ◌∷◌, ◌↔◌, refl, sym, ◌∙◌, arith, subst}
+use Rattle.std.specs.List.{All, Contains}
 use Rattle.std.proofs.lemmas.List.Elements.{All-from_recursion}
 use Rattle.qm_space.specs.Point.{Point}
 use Rattle.qm_space.specs.Plane.{Plane, value, IsOn, IsInFront}
@@ -15,6 +16,7 @@ use Rattle.qm_convex.specs.Cut.{IsPartInFront}
 use Rattle.qm_convex.specs.Sides.{HasNoneInFront}
 use Rattle.qm_convex.specs.Section.{IsSection, MissesCell}
 use Rattle.qm_convex.specs.inner.Parallelogram.{facing, AreOpposite, LeaveRoom, IsBetweenPlanes, parallelogram}
+use Rattle.qm_convex.proofs.Among.{edges_of_part}
 use Rattle.qm_convex.proofs.Corners.{corner_on_edge, corner_on_next}
 
 -- ---- planes that face one another
@@ -176,8 +178,14 @@ module _ (cell : List Plane) (h a b c d e f : Plane)
       omega (arith, linear)
 
   -- else what both leave is the section
-  pub section_of_parallelogram : (v w : Winding) → AreOpposite a d → LeaveRoom a d → IsPartInFront v (parallelogram h a b d e) c → IsPartInFront w v f → IsSection cell h w
-  section_of_parallelogram v w of_a a_apart x y = record { convex = y.convex; plane = y.plane ∙ x.plane; points = λ p. (to_cell p, from_cell p) }
+  pub section_of_parallelogram : (v w : Winding) → AreOpposite a d → LeaveRoom a d → All (Contains cell) (a ∷ b ∷ d ∷ e ∷ []) → Contains cell c → Contains cell f →
+      IsPartInFront v (parallelogram h a b d e) c → IsPartInFront w v f → IsSection cell h w
+  section_of_parallelogram v w of_a a_apart among has_c has_f x y = record {
+    convex = y.convex;
+    plane = y.plane ∙ x.plane;
+    points = λ p. (to_cell p, from_cell p);
+    edges = edges_of_part w v f cell y has_f (edges_of_part v (parallelogram h a b d e) c cell x has_c among);
+  }
     where
       to_cell : (p : Point) → IsInRegion w p → IsOn h p × IsInCell cell p
       to_cell p r =

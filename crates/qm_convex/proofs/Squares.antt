@@ -86,6 +86,7 @@ world_part_of_section w h x = record {
     (λ r. let s = (x.points p).0 r in (s.0, (cube_is_cell p).1 s.1)),
     (λ s. (x.points p).1 (s.0, (cube_is_cell p).0 s.1)),
   );
+  edges = x.edges;
 }
 
 pub misses_cube_by_walls : (h : Plane) → MissesCell cube_walls h → MissesCube h

@@ -1,14 +1,15 @@
-use Rattle.std.specs.Prelude.{◌≡◌, List, ◌↔◌, ◌⊎◌}
+use Rattle.std.specs.Prelude.{◌≡◌, List, ◌∷◌, ◌++◌, ◌↔◌, ◌⊎◌}
 use Rattle.qm_space.specs.Point.{Point}
 use Rattle.qm_space.specs.Plane.{Plane, IsOn, IsInFront, flipped}
 use Rattle.qm_space.specs.Cell.{IsInCell}
-use Rattle.qm_convex.specs.Winding.{Winding, IsInRegion, IsConvex}
+use Rattle.qm_convex.specs.Winding.{Winding, HasEdgesAmong, IsInRegion, IsConvex}
 
 -- the winding w is the part of the winding v in front of the plane
 pub record IsPartInFront (w v : Winding) (g : Plane) : Type 0 where
   pub convex : IsConvex w
   pub plane : w.plane ≡ v.plane
   pub points : (p : Point) → IsInRegion w p ↔ (IsInRegion v p × IsInFront g p)
+  pub edges : HasEdgesAmong w (g ∷ v.edges)
 
 -- the plane parts the winding v: it is made up of a winding in front, one behind, and what is on the plane
 pub record IsParted (v : Winding) (g : Plane) (in_front behind : Winding) : Type 0 where
@@ -25,3 +26,4 @@ pub record IsPartWithin (w v : Winding) (gs : List Plane) : Type 0 where
   pub convex : IsConvex w
   pub plane : w.plane ≡ v.plane
   pub points : (p : Point) → IsInRegion w p ↔ (IsInRegion v p × IsInCell gs p)
+  pub edges : HasEdgesAmong w (gs ++ v.edges)

@@ -4,13 +4,14 @@ use Rattle.qm_space.specs.Point.{Point}
 use Rattle.qm_space.specs.Plane.{Plane, IsOn}
 use Rattle.qm_space.specs.Cell.{IsInCell}
 use Rattle.qm_space.specs.Cube.{cube_walls}
-use Rattle.qm_convex.specs.Winding.{Winding, IsInRegion, IsConvex}
+use Rattle.qm_convex.specs.Winding.{Winding, HasEdgesAmong, IsInRegion, IsConvex}
 
 -- the polygon is the part of a plane in a cell
 pub record IsSection (cell : List Plane) (h : Plane) (section : Winding) : Type 0 where
   pub convex : IsConvex section
   pub plane : section.plane ≡ h
   pub points : (x : Point) → IsInRegion section x ↔ (IsOn h x × IsInCell cell x)
+  pub edges : HasEdgesAmong section cell
 
 -- no point of a cell is on the plane
 abbrev pub MissesCell : List Plane → Plane → Type 0

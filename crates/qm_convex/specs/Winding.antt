@@ -1,4 +1,4 @@
-use Rattle.std.specs.Prelude.{◌≡◌, ℕ, suc, ◌<◌, ◌≤◌, ◌==◌, pos, ◌<ℤ◌, List, length, map, slice_index_or, if◌then◌else◌}
+use Rattle.std.specs.Prelude.{◌≡◌, ℕ, suc, ◌<◌, ◌≤◌, ◌==◌, pos, ◌<ℤ◌, List, length, map, slice_index_or, All, Contains, if◌then◌else◌}
 use Rattle.std.specs.List.{range_with_len}
 use Rattle.qm_space.specs.Point.{Point}
 use Rattle.qm_space.specs.Plane.{Plane, IsOn, IsInFront}
@@ -18,6 +18,14 @@ next_place n i = if suc i == n then 0 else suc i
 -- the plane of the edge at the place k
 abbrev pub edge_at : Winding → ℕ → Plane
 edge_at v k = slice_index_or v.edges k v.plane
+
+-- the plane of the edge that holds the corner at the place i and the next one
+abbrev pub edge_after : Winding → ℕ → Plane
+edge_after v i = edge_at v (next_place (length v.edges) i)
+
+-- each edge is one of these planes
+abbrev pub HasEdgesAmong : Winding → List Plane → Type 0
+HasEdgesAmong v planes = All (Contains planes) v.edges
 
 -- the point in which the edge at the place i meets the next edge
 unfoldable pub corner_at : Winding → ℕ → Point

@@ -2,8 +2,8 @@ use Rattle.std.specs.Prelude.{◌≡◌, ◌↔◌}
 use Rattle.qm_space.specs.Point.{Point, IsInCube}
 use Rattle.qm_space.specs.Plane.{Plane, IsOn}
 use Rattle.qm_space.specs.Cuboid.{Cuboid, IsInCuboid}
-use Rattle.qm_space.specs.Cube.{IsInClosedCube, IsOnCubeFace}
-use Rattle.qm_convex.specs.Winding.{Winding, IsInRegion, IsConvex}
+use Rattle.qm_space.specs.Cube.{cube_walls, IsInClosedCube, IsOnCubeFace}
+use Rattle.qm_convex.specs.Winding.{Winding, HasEdgesAmong, IsInRegion, IsConvex}
 
 -- no point of the world's cube is on the plane
 abbrev pub MissesCube : Plane → Type 0
@@ -14,6 +14,7 @@ pub record IsWorldPart (w : Winding) (h : Plane) : Type 0 where
   pub convex : IsConvex w
   pub plane : w.plane ≡ h
   pub points : (p : Point) → IsInRegion w p ↔ (IsOn h p × IsInCube p)
+  pub edges : HasEdgesAmong w cube_walls
 
 -- a convex polygon in the world's cube or on its walls
 pub record IsInWorld (v : Winding) : Type 0 where

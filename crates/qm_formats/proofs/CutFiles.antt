@@ -14,7 +14,7 @@ use Rattle.qm_formats.specs.FileLayout.{Header, magic_layout, count_layout, flag
 use Rattle.qm_formats.proofs.ReadToEnd.{read_own}
 use Rattle.qm_formats.proofs.ExactFile.{file_exact}
 use Rattle.qm_formats.proofs.ValidFiles.{valid_right}
-use Rattle.qm_formats.proofs.Cuttable.{IsCuttable, seen_as_cuttable, recast_cuttable, tested_cuttable, pair_cuttable, part_cuttable, last_part_cuttable, each_cuttable, each_after_cuttable, choice_cuttable, present_cuttable}
+use Rattle.qm_formats.proofs.Cuttable.{IsCuttable, seen_as_cuttable, recast_cuttable, tested_cuttable, followed_by_cuttable, part_cuttable, last_part_cuttable, each_cuttable, each_after_cuttable, choice_cuttable, present_cuttable}
 use Rattle.qm_formats.proofs.CutFields.{raw_cuttable, unsigned_cuttable, signed_cuttable, fixed_before_cuttable, unwritten_cuttable}
 use Rattle.qm_formats.proofs.CutRows.{own_row_cuttable}
 
@@ -43,12 +43,12 @@ node_cuttable =
 leaf_cuttable : IsCuttable short leaf_layout
 unfolding leaf_layout
 leaf_cuttable =
-    recast_cuttable short _ _ _ (tested_cuttable short _ _ _ _ (pair_cuttable short (signed short w32) (unsigned short w8) (signed_cuttable short w32) (unsigned_cuttable short w8)))
+    recast_cuttable short _ _ _ (tested_cuttable short _ _ _ _ (followed_by_cuttable short (signed short w32) (unsigned short w8) (signed_cuttable short w32) (unsigned_cuttable short w8)))
 
 section_cuttable : (before : ℕ) → IsCuttable short (section_layout before)
 unfolding section_layout section_head_layout
 section_cuttable before =
-    part_cuttable short (λ section. (section.kind, length section.bytes)) _ _ (tested_cuttable short _ _ _ _ (pair_cuttable short (unsigned short w32) (unsigned short w64) (unsigned_cuttable short w32) (unsigned_cuttable short w64))) (λ head.
+    part_cuttable short (λ section. (section.kind, length section.bytes)) _ _ (tested_cuttable short _ _ _ _ (followed_by_cuttable short (unsigned short w32) (unsigned short w64) (unsigned_cuttable short w32) (unsigned_cuttable short w64))) (λ head.
     last_part_cuttable short (λ section. section.bytes) _ _ (raw_cuttable short head.1))
 
 -- ---- the file

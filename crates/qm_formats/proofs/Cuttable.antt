@@ -1,6 +1,6 @@
 -- Where a whole file is read, what is read of a cut one is the same as far as it goes, and then it is too short.
 use Rattle.std.proofs.Common.{◌≡◌, ◌≤◌, ◌⊎◌, ℕ, zero, suc, ◌+◌, Bool, true, false, cond, List, ◌∷◌, ◌++◌, length, Option, Some, sym, ap, subst, ◌∙◌, arith, inl, inr}
-use Rattle.qm_formats.specs.Layout.{Decoded, got, bad, Layout, decoded_map, decoded_then, seen_as, recast, tested, both, pair, part, last_part, each_from, each_after, choice, present}
+use Rattle.qm_formats.specs.Layout.{Decoded, got, bad, Layout, decoded_map, decoded_then, seen_as, recast, tested, both, followed_by, part, last_part, each_from, each_after, choice, present}
 use Rattle.qm_formats.proofs.ExactParts.{map_got, then_got, chosen_got}
 
 -- what is read of a cut file, where a value is read of the whole one: the same within it, or that it is too short
@@ -55,8 +55,8 @@ both_cuttable short first second of_first of_second =
           map_cut short front (λ (y : _). (one.0, y)) other.0 v next ((second one.0).read front one.1) ((of_second one.0).cut front behind one.1 other.0 next fits other.1) other.2);
     }
 
-pub pair_cuttable : {F X Y : Type 0} (short : F) (first : Layout F X) (second : Layout F Y) → IsCuttable short first → IsCuttable short second → IsCuttable short (pair first second)
-pair_cuttable short first second of_first of_second = both_cuttable short first (λ _. second) of_first (λ _. of_second)
+pub followed_by_cuttable : {F X Y : Type 0} (short : F) (first : Layout F X) (second : Layout F Y) → IsCuttable short first → IsCuttable short second → IsCuttable short (followed_by first second)
+followed_by_cuttable short first second of_first of_second = both_cuttable short first (λ _. second) of_first (λ _. of_second)
 
 pub part_cuttable : {F X Y : Type 0} (short : F) (of : Y → X) (first : Layout F X) (behind : X → Layout F Y) → IsCuttable short first → ((x : X) → IsCuttable short (behind x)) → IsCuttable short (part of first behind)
 part_cuttable short of first behind of_first of_behind =

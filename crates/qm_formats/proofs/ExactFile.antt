@@ -13,13 +13,13 @@ use Rattle.qm_partition.specs.Numbering.{nodes_of, AreNumbered}
 use Rattle.qm_partition.specs.Arrays.{partition_of, tree_of}
 use Rattle.qm_partition.proofs.OwnArrays.{partition_of-numbered}
 use Rattle.qm_contacts.specs.NumberedLeaves.{is_numbered}
-use Rattle.qm_formats.specs.Layout.{Layout, right_each, right_each_after, right_option, pair, each, many}
+use Rattle.qm_formats.specs.Layout.{Layout, right_each, right_each_after, right_option, followed_by, each, many}
 use Rattle.qm_formats.specs.Fields.{are_bytes, raw, unsigned, fixed_before, unwritten}
 use Rattle.qm_formats.specs.Exact.{IsExact}
 use Rattle.qm_formats.specs.FileParts.{short, magic, counts, node_order, header_form, section_form, plane_layout, node_layout, leaf_layout}
 use Rattle.qm_formats.specs.TreeFile.{Section, small_bound}
 use Rattle.qm_formats.specs.FileLayout.{Header, is_version, magic_layout, count_layout, flag_layout, is_bound, bound_layout, section_count_layout, file_header_layout, are_numbered, are_ordered, own_row_layout, planes_layout, nodes_layout, leaves_layout, rows_layout, tree_layout, section_head_layout, section_layout, sections_layout, header_of, file_layout}
-use Rattle.qm_formats.proofs.ExactParts.{seen_as_exact, recast_exact, tested_exact, pair_exact, choice_exact, part_exact, last_part_exact, IsAny, exact_of_parts, each_exact, each_after_exact, present_exact}
+use Rattle.qm_formats.proofs.ExactParts.{seen_as_exact, recast_exact, tested_exact, followed_by_exact, choice_exact, part_exact, last_part_exact, IsAny, exact_of_parts, each_exact, each_after_exact, present_exact}
 use Rattle.qm_formats.proofs.ExactFields.{raw_exact, byte_exact, unsigned_32_exact, unsigned_64_exact, fixed_before_exact, unwritten_exact}
 use Rattle.qm_formats.proofs.ExactRecords.{plane_exact, node_exact, leaf_exact, flag_number, number_flag}
 use Rattle.qm_formats.proofs.ExactRows.{own_row_exact}
@@ -262,7 +262,7 @@ tree_exact header of_header =
 pub section_head_exact : (before : ℕ) → IsExact (section_head_layout before)
 unfolding section_head_layout
 section_head_exact before =
-    tested_exact (λ head. ltb before head.0) section_form (λ _ at. at) (pair (unsigned short w32) (unsigned short w64)) (pair_exact (unsigned short w32) (unsigned short w64) (unsigned_32_exact short) (unsigned_64_exact short))
+    tested_exact (λ head. ltb before head.0) section_form (λ _ at. at) (followed_by (unsigned short w32) (unsigned short w64)) (followed_by_exact (unsigned short w32) (unsigned short w64) (unsigned_32_exact short) (unsigned_64_exact short))
 
 -- right bytes are as many as are due
 right_raw_length : (count : ℕ) (bytes : List ℕ) → (raw short count).right bytes ≡ true → length bytes ≡ count

@@ -3,7 +3,7 @@ use Rattle.std.proofs.Common.{◌≡◌, ◌≤◌, ℕ, zero, suc, ◌+◌, Boo
 use Rattle.std.specs.Prelude.{IsTrue}
 use Rattle.std.proofs.lemmas.Bool.{and_parts, and_from}
 use Rattle.qm_formats.specs.Fields.{AreBytes}
-use Rattle.qm_formats.specs.Layout.{Decoded, got, bad, Layout, decoded_map, decoded_then, seen_as, recast, tested, both, pair, part, last_part, each_from, each_after, choice, present}
+use Rattle.qm_formats.specs.Layout.{Decoded, got, bad, Layout, decoded_map, decoded_then, seen_as, recast, tested, both, followed_by, part, last_part, each_from, each_after, choice, present}
 use Rattle.qm_formats.specs.Exact.{StandsAt, IsRightAt, IsExact}
 use Rattle.qm_formats.proofs.Standing.{stands_nothing, stands_both, stands_first, stands_second}
 
@@ -94,8 +94,8 @@ both_exact first second exact exact_second =
           ap (λ (answer : _). decoded_then answer (λ x mid. decoded_map (λ y. (x, y)) ((second x).read file mid))) one ∙ ap (decoded_map (λ y. (v.0, y))) other;
     }
 
-pub pair_exact : {F X Y : Type 0} (first : Layout F X) (second : Layout F Y) → IsExact first → IsExact second → IsExact (pair first second)
-pair_exact first second exact other = both_exact first (λ _. second) exact (λ _. other)
+pub followed_by_exact : {F X Y : Type 0} (first : Layout F X) (second : Layout F Y) → IsExact first → IsExact second → IsExact (followed_by first second)
+followed_by_exact first second exact other = both_exact first (λ _. second) exact (λ _. other)
 
 -- a value is read exactly where it is right, its bytes stand, and something more holds of it; what is read is so
 pub record IsExactWhere {F Y : Type 0} (holds : Y → Type 0) (layout : Layout F Y) : Type 0 where

@@ -8,11 +8,11 @@ use Rattle.qm_contents.specs.Codes.{code_of}
 use Rattle.qm_contacts.specs.NumberedLeaves.{is_solid}
 use Rattle.qm_partition.specs.declared.node.Child.{Child}
 use Rattle.qm_partition.specs.declared.node.Child.TheVariants.{Node, Leaf}
-use Rattle.qm_formats.specs.Layout.{pair}
+use Rattle.qm_formats.specs.Layout.{followed_by}
 use Rattle.qm_formats.specs.Fields.{unsigned, signed}
 use Rattle.qm_formats.specs.Exact.{IsExact}
 use Rattle.qm_formats.specs.FileParts.{short, plane_form, leaf_form, is_plane, plane_layout, child_of_number, number_of_child, child_layout, node_layout, contents_of_code, is_code, is_leaf, leaf_layout}
-use Rattle.qm_formats.proofs.ExactParts.{recast_exact, tested_exact, pair_exact, part_exact, last_part_exact, exact_of_parts}
+use Rattle.qm_formats.proofs.ExactParts.{recast_exact, tested_exact, followed_by_exact, part_exact, last_part_exact, exact_of_parts}
 use Rattle.qm_formats.proofs.ExactFields.{byte_exact, unsigned_32_exact, signed_32_exact, signed_64_exact}
 
 pub plane_exact : IsExact plane_layout
@@ -76,8 +76,8 @@ number_flag false = refl
 pub leaf_exact : IsExact leaf_layout
 unfolding leaf_layout is_leaf
 leaf_exact =
-    let fields = pair (signed short w32) (unsigned short w8) in
-    recast_exact _ _ _ (tested_exact is_leaf leaf_form (λ _ at. at) fields (pair_exact (signed short w32) (unsigned short w8) (signed_32_exact short) (byte_exact short))) (λ v right.
+    let fields = followed_by (signed short w32) (unsigned short w8) in
+    recast_exact _ _ _ (tested_exact is_leaf leaf_form (λ _ at. at) fields (followed_by_exact (signed short w32) (unsigned short w8) (signed_32_exact short) (byte_exact short))) (λ v right.
     let tests = and_parts (is_code v.0) (leb v.1 1 && (eqb v.1 0 || is_solid (contents_of_code v.0))) (and_parts (fields.right v) (is_leaf v) right).1 in
     let code = code_back v.0 tests.0 in
     let flag = flag_number v.1 (and_parts (leb v.1 1) (eqb v.1 0 || is_solid (contents_of_code v.0)) tests.1).0 in

@@ -12,7 +12,7 @@ use Rattle.qm_partition.specs.Counting.{leaves_of}
 use Rattle.qm_partition.specs.Numbering.{nodes_of}
 use Rattle.qm_partition.specs.Arrays.{partition_of, tree_of}
 use Rattle.qm_contacts.specs.NumberedLeaves.{is_numbered}
-use Rattle.qm_formats.specs.Layout.{Decoded, Layout, seen_as, recast, tested, pair, part, last_part, each, many, each_after, choice, present, read_whole_file}
+use Rattle.qm_formats.specs.Layout.{Decoded, Layout, seen_as, recast, tested, followed_by, part, last_part, each, many, each_after, choice, present, read_whole_file}
 use Rattle.qm_formats.specs.Fields.{raw, unsigned, fixed_before, unwritten}
 use Rattle.qm_formats.specs.RowBits.{row_bits}
 use Rattle.qm_formats.specs.FileParts.{FileFaultKind, short, magic, counts, node_order, row_form, trailing, too_long, header_form, section_form, plane_layout, node_layout, leaf_layout}
@@ -130,7 +130,7 @@ tree_layout header =
 
 -- the kind of a section, in 32 bits, which is above another, and how many bytes it has, in 64, as one record
 unfoldable pub section_head_layout : ℕ → Layout FileFaultKind (ℕ × ℕ)
-section_head_layout before = tested (λ head. nat_lt before head.0) section_form (λ _ at. at) (pair (unsigned short w32) (unsigned short w64))
+section_head_layout before = tested (λ head. nat_lt before head.0) section_form (λ _ at. at) (followed_by (unsigned short w32) (unsigned short w64))
 
 -- a section of a kind above another: its head and its bytes
 unfoldable pub section_layout : ℕ → Layout FileFaultKind Section

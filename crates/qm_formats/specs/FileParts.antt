@@ -12,7 +12,7 @@ use Rattle.qm_partition.specs.declared.node.Child.TheVariants.{Node, Leaf}
 use Rattle.qm_partition.specs.declared.node.Node.{Node as NodeRecord}
 use Rattle.qm_partition.specs.declared.node.Leaf.{Leaf as LeafRecord}
 use Rattle.qm_contacts.specs.NumberedLeaves.{is_solid}
-use Rattle.qm_formats.specs.Layout.{Layout, recast, tested, pair, part, last_part}
+use Rattle.qm_formats.specs.Layout.{Layout, recast, tested, followed_by, part, last_part}
 use Rattle.qm_formats.specs.Fields.{unsigned, signed}
 
 -- The records of a tree file.
@@ -86,4 +86,4 @@ is_leaf v = is_code v.0 && (nat_le v.1 1 && ((v.1 == 0) || is_solid (contents_of
 unfoldable pub leaf_layout : Layout FileFaultKind LeafRecord
 leaf_layout =
     recast (λ v. record { contents = contents_of_code v.0; filled = v.1 == 1 }) (λ found. (code_of found.contents, if found.filled then 1 else 0))
-    (tested is_leaf leaf_form (λ _ at. at) (pair (signed short w32) (unsigned short w8)))
+    (tested is_leaf leaf_form (λ _ at. at) (followed_by (signed short w32) (unsigned short w8)))

@@ -56,8 +56,8 @@ both first second =
     }
 
 -- two values one behind the other
-abbrev pub pair : {F X Y : Type 0} → Layout F X → Layout F Y → Layout F (X × Y)
-pair first second = both first (λ _. second)
+abbrev pub followed_by : {F X Y : Type 0} → Layout F X → Layout F Y → Layout F (X × Y)
+followed_by first second = both first (λ _. second)
 
 -- a value part by part: the part that stands first, and then what stands behind it, whose layout follows from the part
 abbrev pub part : {F X Y : Type 0} → (Y → X) → Layout F X → (X → Layout F Y) → Layout F Y

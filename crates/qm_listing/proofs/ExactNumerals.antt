@@ -5,10 +5,10 @@ use Rattle.std.proofs.lemmas.Bool.{and_parts, and_from, eqb-true, eq-eqb}
 use Rattle.std.proofs.lemmas.List.{length-drop, drop-drop}
 use Rattle.std.proofs.lemmas.List.Folds.{length-prefix_len}
 use Rattle.std.proofs.lemmas.List.Sums.{prefix_len-le-length}
-use Rattle.qm_formats.specs.Layout.{Decoded, got, bad, Layout, decoded_map, decoded_then, tested, pair}
+use Rattle.qm_formats.specs.Layout.{Decoded, got, bad, Layout, decoded_map, decoded_then, tested, followed_by}
 use Rattle.qm_formats.specs.Fields.{first_difference}
 use Rattle.qm_formats.specs.Exact.{StandsAt, IsRightAt, IsExact}
-use Rattle.qm_formats.proofs.ExactParts.{map_got, then_got, chosen_got, recast_exact, pair_exact}
+use Rattle.qm_formats.proofs.ExactParts.{map_got, then_got, chosen_got, recast_exact, followed_by_exact}
 use Rattle.qm_formats.proofs.ExactFields.{part_stands}
 use Rattle.qm_formats.proofs.Standing.{stands_both, stands_first, stands_second}
 use Rattle.qm_listing.specs.Numerals.{is_number_byte, numeral_ahead, Spelling, spelled, numeral, literal, before, behind}
@@ -135,7 +135,7 @@ module _ {F X : Type 0} (fault shape : F) (spelling : Spelling X) (is_spelling :
   unfolding literal
   last_stands text at next stand = stand.stands
 
-  numeral_and_byte : IsExact (pair tested_numeral last_byte)
+  numeral_and_byte : IsExact (followed_by tested_numeral last_byte)
   numeral_and_byte =
       record {
         found = λ text at v next are within is.
@@ -143,11 +143,11 @@ module _ {F X : Type 0} (fault shape : F) (spelling : Spelling X) (is_spelling :
             let other = map_got (λ (y : Unit {0}). (one.0, y)) (last_byte.read text one.1) v next one.3 in
             let front = found_tested text at one.0 one.1 within one.2 in
             let back = (literal_exact shape (byte ∷ [])).found text one.1 other.0 next are front.stands.within other.1 in
-            let whole : IsRightAt (pair tested_numeral last_byte) text at (one.0, other.0) next = record {
+            let whole : IsRightAt (followed_by tested_numeral last_byte) text at (one.0, other.0) next = record {
               right = and_from (tested_numeral.right one.0) (last_byte.right other.0) front.right back.right;
               stands = stands_both text at (tested_numeral.bytes_of one.0) one.1 (last_byte.bytes_of other.0) next front.stands back.stands;
             } in
-            subst (λ (w : _). IsRightAt (pair tested_numeral last_byte) text at w next) other.2 whole;
+            subst (λ (w : _). IsRightAt (followed_by tested_numeral last_byte) text at w next) other.2 whole;
         again = λ text at v next found.
             let rights = and_parts (tested_numeral.right v.0) (last_byte.right v.1) found.right in
             let p = tested_numeral.bytes_of v.0 in
@@ -159,10 +159,10 @@ module _ {F X : Type 0} (fault shape : F) (spelling : Spelling X) (is_spelling :
       }
 
   pub numeral_exact : IsExact (before tested_numeral last_byte)
-  numeral_exact = recast_exact (λ v. v.0) (λ x. (x, tt)) (pair tested_numeral last_byte) numeral_and_byte (λ v right. refl) (λ x right. refl)
+  numeral_exact = recast_exact (λ v. v.0) (λ x. (x, tt)) (followed_by tested_numeral last_byte) numeral_and_byte (λ v right. refl) (λ x right. refl)
 
 pub before_exact : {F X : Type 0} (first : Layout F X) (last : Layout F (Unit {0})) → IsExact first → IsExact last → IsExact (before first last)
-before_exact first last exact other = recast_exact (λ v. v.0) (λ x. (x, tt)) (pair first last) (pair_exact first last exact other) (λ v right. refl) (λ x right. refl)
+before_exact first last exact other = recast_exact (λ v. v.0) (λ x. (x, tt)) (followed_by first last) (followed_by_exact first last exact other) (λ v right. refl) (λ x right. refl)
 
 pub behind_exact : {F X : Type 0} (first : Layout F (Unit {0})) (last : Layout F X) → IsExact first → IsExact last → IsExact (behind first last)
-behind_exact first last exact other = recast_exact (λ v. v.1) (λ x. (tt, x)) (pair first last) (pair_exact first last exact other) (λ v right. refl) (λ x right. refl)
+behind_exact first last exact other = recast_exact (λ v. v.1) (λ x. (tt, x)) (followed_by first last) (followed_by_exact first last exact other) (λ v right. refl) (λ x right. refl)

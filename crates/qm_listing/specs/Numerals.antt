@@ -1,7 +1,7 @@
 use Rattle.std.specs.Prelude.{ℕ, ◌+◌, Bool, true, ◌||◌, ◌==◌, List, take, drop, length, Option, Some, None, if◌then◌else◌}
 use Rattle.std.specs.Char.{is_ascii_digit}
 use Rattle.std.specs.List.{prefix_len}
-use Rattle.qm_formats.specs.Layout.{Decoded, got, bad, Layout, recast, pair}
+use Rattle.qm_formats.specs.Layout.{Decoded, got, bad, Layout, recast, followed_by}
 use Rattle.qm_formats.specs.Fields.{first_difference}
 
 -- Numerals in a text, and the fixed bytes between them.
@@ -45,7 +45,7 @@ literal fault bytes =
 
 -- a value with fixed bytes behind it, and with fixed bytes before it
 abbrev pub before : {F X : Type 0} → Layout F X → Layout F (Unit {0}) → Layout F X
-before first last = recast (λ v. v.0) (λ x. (x, tt)) (pair first last)
+before first last = recast (λ v. v.0) (λ x. (x, tt)) (followed_by first last)
 
 abbrev pub behind : {F X : Type 0} → Layout F (Unit {0}) → Layout F X → Layout F X
-behind first last = recast (λ v. v.1) (λ x. (tt, x)) (pair first last)
+behind first last = recast (λ v. v.1) (λ x. (tt, x)) (followed_by first last)

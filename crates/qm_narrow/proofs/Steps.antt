@@ -16,7 +16,8 @@ use Rattle.qm_separators.specs.ChainState.{ChainState}
 use Rattle.qm_separators.specs.ChainStep.{StepsTo, Blocks, second_cut}
 use Rattle.qm_separators.specs.inner.Narrowed.{NarrowsTo, CutsAway, source_gone}
 use Rattle.qm_separators.proofs.Parts.{part_within_list, no_part_within_list}
-use Rattle.qm_separators.proofs.NarrowedSteps.{whole_part, step_by}
+use Rattle.qm_convex.proofs.Cutting.{whole_is_part}
+use Rattle.qm_separators.proofs.NarrowedSteps.{step_by}
 use Rattle.qm_narrow.specs.inner.LastCut.{EndsAt}
 
 -- what is left in front of planes
@@ -82,7 +83,7 @@ module _ (state : ChainState) (target far : Winding) (into : Plane) (far_is : Is
 
   pub stepped_whole : {E : Type 0} (answer : Result (Option ChainState) E) → clip ≡ Whole → IsConvex state.source → IfOk answer (IsNarrowed state state.source far) → IfOk answer IsStep
   stepped_whole answer e convex = IfOk-weaker answer (IsNarrowed state state.source far) IsStep
-      (step_by state target into state.source far far_is (whole_part state.source (flipped into) convex (subst (λ (o : Clip). IsClip o state.source (flipped into)) e clipped)))
+      (step_by state target into state.source far far_is (whole_is_part state.source (flipped into) convex (subst (λ (o : Clip). IsClip o state.source (flipped into)) e clipped)))
 
   pub stepped_part : {E : Type 0} (answer : Result (Option ChainState) E) (near : Winding) → clip ≡ Cut near → IfOk answer (IsNarrowed state near far) → IfOk answer IsStep
   stepped_part answer near e = IfOk-weaker answer (IsNarrowed state near far) IsStep (step_by state target into near far far_is (part_is near e))

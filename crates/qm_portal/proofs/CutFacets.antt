@@ -1,5 +1,5 @@
 -- What facets leave on one side of a plane, one after another, and the section of a cell by its bounds.
-use Rattle.std.proofs.Common.{◌≡◌, ℕ, ◌+◌, ◌<◌, Option, Some, None, List, [], ◌∷◌, ◌++◌, length, take, drop, get_or, sym, ◌∙◌, subst, ◌↔◌}
+use Rattle.std.proofs.Common.{◌≡◌, ℕ, ◌+◌, ◌<◌, Option, Some, None, List, [], ◌∷◌, ◌++◌, length, take, drop, get_or, All, Contains, sym, ◌∙◌, subst, ◌↔◌}
 use Rattle.std.specs.Option.{MatchOption}
 use Rattle.std.proofs.lemmas.List.{append-nil}
 use Rattle.std.proofs.lemmas.List.Elements.{All-head, All-append}
@@ -13,6 +13,7 @@ use Rattle.qm_convex.specs.Sides.{HasNoneInFront, HasSomeInFront, IsWhollyInFron
 use Rattle.qm_convex.specs.Cut.{IsPartInFront, IsPartWithin}
 use Rattle.qm_convex.specs.inner.Facets.{Facet, AreCut, none, left, gone}
 use Rattle.qm_convex.specs.Section.{IsSection, MissesCell}
+use Rattle.qm_convex.proofs.Among.{edges_among, edges_within}
 use Rattle.qm_convex.proofs.Cutting.{within_one_more, whole_is_part}
 use Rattle.qm_contacts.specs.inner.Due.{DueCell}
 use Rattle.qm_portal.specs.inner.Cells.{left_facet, IsLeftAdded, CrossesCell, HasPointBefore}
@@ -37,6 +38,10 @@ module _ (cell : List Plane) (due : DueCell) (h : Plane) (crosses : CrossesCell 
   crossing_before : IsInCell axial crosses.point × IsInCell slanted crosses.point
   crossing_before = (before_bounds crosses.point).0 ((crosses.bounds crosses.point (crosses.in_cube crosses.point crosses.inside).weight).0 crosses.inside)
 
+  -- all of them are planes of the cell
+  among : All (Contains cell) (axial ++ slanted)
+  among = subst (All (Contains cell)) parts crosses.among
+
   -- the plane does not miss the cell of the axial ones
   pub crosses_axial : MissesCell axial h → ⊥
   crosses_axial misses = misses crosses.point (crosses.in_cube crosses.point crosses.inside).weight crosses.on crossing_before.0
@@ -55,6 +60,8 @@ module _ (cell : List Plane) (due : DueCell) (h : Plane) (crosses : CrossesCell 
         (λ r. let q = (part.points x).0 r in let s = (is.points x).0 q.0 in (s.0, (crosses.bounds x r.weight).1 ((before_bounds x).1 (s.1, q.1)))),
         (λ q. let both = (before_bounds x).0 ((crosses.bounds x (crosses.in_cube x q.1).weight).0 q.1) in (part.points x).1 ((is.points x).1 (q.0, both.0), both.1)),
       );
+      edges = edges_within section whole slanted cell part (All-last_part (Contains cell) axial slanted among)
+          (edges_among whole axial cell (All-first_part (Contains cell) axial slanted among) is.edges);
     }
 
 -- ---- plane after plane

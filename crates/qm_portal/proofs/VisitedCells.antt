@@ -101,7 +101,8 @@ module _ (tree : Tree) (cell : DueCell) (n : ℕ) (here : NodeRecord) (g : Plane
     crosses_at =
         subst (λ (d : DueCell). CrossesCell (walled_cell tree.planes entry.above) d g) same
         (subst (λ (h : Plane). CrossesCell (walled_cell tree.planes entry.above) entry.due h) same_plane (record {
-          bounds = known.bounds;
+          bounds = known.bounds.points;
+          among = known.bounds.among;
           in_cube = λ x inside. ((walled_split tree.planes entry.above x).0 inside).0;
           point = p.0;
           on = p.1;

@@ -25,4 +25,5 @@ mod worlds;
 pub use finding::touches;
 pub use making::world;
 pub use touch_list::TouchList;
+pub use touching::Touching;
 pub use worlds::World;

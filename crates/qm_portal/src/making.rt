@@ -19,7 +19,7 @@ pub fn world(alloc: Global, tree: &Tree, touches: &TouchList) -> Result<World, A
     ensures { IfOk result (λ world. world ≡ record { tree = tree.now; portals = portals_of tree.now touches.now.touchings }) }
 {
     let numbers = Numbers::of(alloc, tree.all_leaves())?;
-    let portals = portals(alloc, tree, &numbers.before, touches.pairs())?;
+    let portals = portals(alloc, tree, &numbers.before, touches.touchings())?;
     let leaving = Leaving::of(alloc, &portals, numbers.numbered.len())?;
     Ok(World::of(tree.copy(alloc)?, numbers, portals, leaving))
 }

@@ -1,4 +1,4 @@
-ghost use Rattle.std.specs.Prelude.{◌≡◌, ◌<◌, length, slice_index_or, slice_set, false, IfOk};
+ghost use Rattle.std.specs.Prelude.{◌≡◌, ◌<◌, length, slice_get, slice_index_or, slice_set, false, Some, IfOk};
 ghost use Rattle.qm_partition.specs.Tree.{Tree};
 ghost use Rattle.qm_contacts.specs.Contacts.{AreContacts, AreNeighbours};
 
@@ -73,8 +73,23 @@ impl TouchList {
         self.rows.row(leaf)
     }
 
+    /// How many touching pairs there are.
+    pub fn pairs(&self) -> u64
+        ensures { result ≡ length self.now.touchings }
+    {
+        self.pairs.len() as u64
+    }
+
+    /// The touching pair at a place.
+    pub fn pair(&self, i: u64) -> &Touching
+        requires { i < length self.now.touchings }
+        ensures { slice_get self.now.touchings i ≡ Some result.now }
+    {
+        &self.pairs[i as usize]
+    }
+
     /// The touching pairs in order.
-    pub(crate) fn pairs(&self) -> &[Touching]
+    pub(crate) fn touchings(&self) -> &[Touching]
         ensures { result.now ≡ self.now.touchings }
     {
         &self.pairs

@@ -4,11 +4,11 @@ use std::marker::Model;
 /// Two leaves that touch, by the numbers of the node that parts them and of the leaves in front of it and behind it, with
 /// the polygon of their contact.
 #[derive(Drop)]
-pub(crate) struct Touching {
-    pub(crate) node: u64,
-    pub(crate) front: u64,
-    pub(crate) back: u64,
-    pub(crate) winding: Box<Winding>,
+pub struct Touching {
+    pub node: u64,
+    pub front: u64,
+    pub back: u64,
+    pub winding: Box<Winding>,
 }
 
 impl Model for Touching {

@@ -1,6 +1,6 @@
 -- Worked rows: the three rooms with all that the laws ask for, so that none of them is empty: the last room is in the
 -- coarse row of the first door, and the rows of the first and the last room have each other.
-use Rattle.std.proofs.Common.{◌≡◌, ℤ, pos, neg_ℤ, ◌+ℤ◌, ◌-ℤ◌, ◌*ℤ◌, ◌<ℤ◌, true, false, [], ◌∷◌, refl, sym, ◌∙◌, arith, inl, ◌↔◌}
+use Rattle.std.proofs.Common.{◌≡◌, ℤ, pos, neg_ℤ, ◌+ℤ◌, ◌-ℤ◌, ◌*ℤ◌, ◌<ℤ◌, true, false, [], ◌∷◌, Contains, refl, sym, ◌∙◌, arith, inl, ◌↔◌}
 use Rattle.std.proofs.lemmas.Int.{ints}
 use Rattle.std.proofs.lemmas.List.Elements.{All-from_recursion, All-contains, All-nil}
 use Rattle.qm_space.specs.Bounds.{extent}
@@ -11,11 +11,12 @@ use Rattle.qm_space.proofs.Planes.{value_flipped}
 use Rattle.qm_numbers.proofs.IntegerProducts.{linear, neg-*ℤ, +ℤ-*ℤ, -ℤ-*ℤ}
 use Rattle.qm_numbers.proofs.Signs.{product_positive}
 use Rattle.qm_convex.specs.Winding.{IsInRegion}
-use Rattle.qm_convex.proofs.Squares.{square_convex, square_region, turn_y_z, between_y, between_z}
+use Rattle.qm_convex.proofs.Squares.{square_convex, square_region, square_all, turn_y_z, between_y, between_z}
 use Rattle.qm_contents.specs.declared.contents.Contents.TheVariants.{Empty}
 use Rattle.qm_partition.specs.LeafOfPoint.{node_value}
 use Rattle.qm_partition.specs.Ways.{ways, IsInLeaf, HasPoints}
 use Rattle.qm_contacts.specs.Meeting.{Meeting, meeting_at, meetings}
+use Rattle.qm_contacts.specs.Contact.{bounds_of_contact}
 use Rattle.qm_contacts.specs.Touching.{IsTouching, AreApart, AreTouchings, none, touching, apart}
 use Rattle.qm_contacts.specs.Portals.{portals_of}
 use Rattle.qm_coarse_rows.specs.CoarseRow.{IsInCoarseRow}
@@ -91,6 +92,7 @@ is_first = record {
         }),
     (λ c. (in_door (pos 64) (omega (arith, ints)) (omega (arith, ints)) p).1 (c.on, c.in_cube)),
   );
+  edges = square_all (Contains (bounds_of_contact rooms.planes first_meeting)) (at (pos 64)) wall_y wall_z (1, omega arith, refl) (2, omega arith, refl) (4, omega arith, refl) (5, omega arith, refl);
 }
 
 is_second : IsTouching rooms.planes second_meeting (record { node = 1; front = 1; back = 2; winding = door (pos 0) })
@@ -116,6 +118,7 @@ is_second = record {
         }),
     (λ c. (in_door (pos 0) (omega (arith, ints)) (omega (arith, ints)) p).1 (c.on, c.in_cube)),
   );
+  edges = square_all (Contains (bounds_of_contact rooms.planes second_meeting)) (at (pos 0)) wall_y wall_z (1, omega arith, refl) (2, omega arith, refl) (4, omega arith, refl) (5, omega arith, refl);
 }
 
 -- the first room and the last do not touch

@@ -1,21 +1,17 @@
 -- How a step is made: the last two cuts of a step after the first two.
 use Rattle.std.specs.Option.{MatchOption}
-use Rattle.std.proofs.Common.{List, [], ◌∷◌, ◌++◌, Option, Some, None, refl, subst, ⊎_elim}
+use Rattle.std.proofs.Common.{List, [], ◌∷◌, ◌++◌, Option, Some, None, subst, ⊎_elim}
 use Rattle.std.proofs.lemmas.List.Elements.{Contains-append_cases}
 use Rattle.qm_lists.proofs.Elements.{Contains-nil, Contains-cons_cases}
 use Rattle.qm_space.specs.Plane.{Plane, flipped}
 use Rattle.qm_convex.specs.Winding.{Winding, IsConvex}
-use Rattle.qm_convex.specs.Sides.{IsWhollyInFront, LiesIn, HasCornerInFront}
+use Rattle.qm_convex.specs.Sides.{LiesIn, HasCornerInFront}
 use Rattle.qm_convex.specs.Cut.{IsPartInFront}
 use Rattle.qm_separators.specs.Part.{IsPartBy}
 use Rattle.qm_separators.specs.ChainState.{ChainState, IsChainState}
 use Rattle.qm_separators.specs.ChainStep.{IsCutByPlanes, StepsTo, Blocks, third_cut, fourth_cut}
 use Rattle.qm_separators.specs.inner.Found.{HasCornersBeyond}
 use Rattle.qm_separators.specs.inner.Narrowed.{NarrowsTo, CutsAway, target_gone, source_gone}
-
--- a winding wholly in front of a plane is what it has there
-pub whole_part : (v : Winding) (g : Plane) → IsConvex v → IsWhollyInFront v g → IsPartInFront v v g
-whole_part v g convex whole = record { convex = convex; plane = refl; points = λ p. ((λ r. (r, whole p r)), (λ both. both.0)) }
 
 -- ---- corners in front of planes
 

@@ -13,6 +13,7 @@ use Rattle.qm_convex.specs.Winding.{Winding, IsConvex}
 use Rattle.qm_convex.specs.Sides.{HasNoneInFront, IsWhollyInFront}
 use Rattle.qm_convex.specs.Cut.{IsPartInFront}
 use Rattle.qm_convex.proofs.Central.{has_a_point}
+use Rattle.qm_convex.proofs.Cutting.{whole_is_part}
 use Rattle.qm_wind.specs.Split.{IsFrontOf}
 use Rattle.qm_solids.specs.Solid.{Solid}
 use Rattle.qm_solids.specs.Candidates.{IsSamePlane, IsOnFace}
@@ -81,7 +82,7 @@ numbered_part p g (Some w) (Some q) front is = record { number = is.0; part = su
 -- ---- all on one side
 
 pub front_itself : (p : Piece) (g : Plane) → IsConvex p.winding.value → IsWhollyInFront p.winding.value g → IsFrontPiece p g p
-front_itself p g convex whole = record { number = refl; part = record { convex = convex; plane = refl; points = λ x. ((λ r. (r, whole x r)), (λ both. both.0)) } }
+front_itself p g convex whole = record { number = refl; part = whole_is_part p.winding.value g convex whole }
 
 -- and so is a piece of the same winding
 pub whole_part : (p q : Piece) (g : Plane) → IsConvex p.winding.value → q.number ≡ p.number → (q.winding.value ≡ p.winding.value) × IsWhollyInFront p.winding.value g → IsFrontPiece p g q

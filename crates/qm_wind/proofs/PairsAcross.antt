@@ -1,5 +1,6 @@
 -- The pairs of planes of a cell, in the order in which they stand across a plane.
-use Rattle.std.proofs.Common.{◌≡◌, ℤ, pos, neg_ℤ, ◌<ℤ◌, ◌≤ℤ◌, ⊎_elim, List, [], ◌∷◌, get_or, sym, subst, arith, int_cmp, Less, Equal, Greater, Ordering, ◌∙◌}
+use Rattle.std.proofs.Common.{◌≡◌, ℤ, pos, neg_ℤ, ◌<ℤ◌, ◌≤ℤ◌, ⊎_elim, List, [], ◌∷◌, get_or, refl, sym, subst, arith, int_cmp, Less, Equal, Greater, Ordering, ◌∙◌}
+use Rattle.std.specs.List.{All, Contains}
 use Rattle.std.proofs.lemmas.Int.{ints}
 use Rattle.std.proofs.lemmas.List.Elements.{All-from_recursion}
 use Rattle.qm_numbers.proofs.IntegerProducts.{linear}
@@ -40,6 +41,11 @@ pairs_rotated cell a b c are = record {
   third = are.first;
 }
 
+-- the planes of the first two pairs, in the order of a parallelogram's edges, are planes of the cell
+pub edges_across : (cell : AxialCell) (a b c : Opposites) → ArePairs cell a b c → All (Contains (bounds_of cell)) (a.near ∷ b.near ∷ a.far ∷ b.far ∷ [])
+edges_across cell a b c are =
+    All-from_recursion (Contains (bounds_of cell)) (a.near ∷ b.near ∷ a.far ∷ b.far ∷ []) (are.first.near, (are.second.near, (are.first.far, (are.second.far, tt))))
+
 -- pairs that stand across a plane, as the sign of the component across the first two says
 across_front : (h : Plane) (cell : AxialCell) (a b c : Opposites) (z : ℤ) → ArePairs cell a b c → (meet h a.near b.near).w ≡ z → pos 0 <ℤ z → StandAcross h cell (record { first = a; second = b; third = c })
 across_front h cell a b c z are e f = record { are = are; turn = omega (arith, linear) }
@@ -60,9 +66,9 @@ module _ (h : Plane) (cell : AxialCell) (are : AreAxialBounds (bounds_of cell)) 
       )),
       (λ s. All-from_recursion (λ g. IsInFront g p) (bounds_of cell) (s.0.near, (s.1.near, (s.2.near, (s.0.far, (s.1.far, (s.2.far, tt))))))),
     );
-    first = record { opposite = opposite_by_normals cell.x.near cell.x.far wall_x are.0.normal are.1.1.1.0.normal; apart = wide.x };
-    second = record { opposite = opposite_by_normals cell.y.near cell.y.far wall_y are.1.0.normal are.1.1.1.1.0.normal; apart = wide.y };
-    third = record { opposite = opposite_by_normals cell.z.near cell.z.far wall_z are.1.1.0.normal are.1.1.1.1.1.0.normal; apart = wide.z };
+    first = record { near = (0, omega arith, refl); far = (3, omega arith, refl); opposite = opposite_by_normals cell.x.near cell.x.far wall_x are.0.normal are.1.1.1.0.normal; apart = wide.x };
+    second = record { near = (1, omega arith, refl); far = (4, omega arith, refl); opposite = opposite_by_normals cell.y.near cell.y.far wall_y are.1.0.normal are.1.1.1.1.0.normal; apart = wide.y };
+    third = record { near = (2, omega arith, refl); far = (5, omega arith, refl); opposite = opposite_by_normals cell.z.near cell.z.far wall_z are.1.1.0.normal are.1.1.1.1.1.0.normal; apart = wide.z };
   }
 
   pairs_y_z_x : ArePairs cell cell.y cell.z cell.x

@@ -1,5 +1,5 @@
 ghost use Rattle.std.specs.Prelude.{◌≡◌, ◌<◌, ◌≤◌, ◌↔◌, length, IsTrue, IsOk, IfOk, OnOk, OnErr, MatchBool};
-ghost use Rattle.qm_convex.specs.Winding.{corner_at, IsConvex};
+ghost use Rattle.qm_convex.specs.Winding.{edge_after, corner_at, IsConvex};
 ghost use Rattle.qm_convex.specs.inner.Parallelogram.{parallelogram};
 ghost use Rattle.qm_convex.specs.Cut.{IsPartInFront};
 ghost use Rattle.qm_convex.specs.Section.{HasSameNormal};
@@ -50,6 +50,16 @@ impl Polygon {
         ensures { result ≡ corner_at self.now i }
     {
         corner(&self.plane, self.edges.as_slice(), i)
+    }
+
+    /// The plane of the edge from the corner at a place to the next one.
+    pub(crate) fn edge(&self, i: usize) -> Plane
+        requires { i < length self.now.edges }
+        ensures { result ≡ edge_after self.now i }
+    {
+        let edges = self.edges.as_slice();
+        let next = next_place(edges.len(), i);
+        edges[next]
     }
 
     /// The plane on which it lies.

@@ -1,6 +1,7 @@
-ghost use Rattle.std.specs.Prelude.{◌≡◌, ◌<◌, ◌≤◌, ◌↔◌, length, IsTrue, IsOk, IfOk, MatchOption};
+ghost use Rattle.std.specs.Prelude.{◌≡◌, ◌<◌, ◌≤◌, ◌↔◌, length, Contains, IsTrue, IsOk, IfOk, MatchOption};
 ghost use Rattle.qm_space.specs.Coordinates.{HasSmallCoordinates};
-ghost use Rattle.qm_convex.specs.Winding.{corner_at};
+ghost use Rattle.qm_space.specs.Plane.{IsOn};
+ghost use Rattle.qm_convex.specs.Winding.{next_place, edge_after, corner_at};
 ghost use Rattle.qm_convex.specs.Vertex.{IsVertex, HasVerticesAsCorners};
 ghost use Rattle.qm_convex.specs.Sides.{LiesIn, HasCornerInFront, HasCornerBehind};
 ghost use Rattle.qm_convex.specs.World.{MissesCube, IsWorldPart, IsInWorld, LiesWithin};
@@ -259,6 +260,18 @@ impl Winding {
         ensures small { HasSmallCoordinates result }
     {
         self.polygon.corner(i)
+    }
+
+    /// The plane of the edge from the corner at a place to the next one. The edge that ends at the corner is the one
+    /// before it.
+    pub fn edge(&self, i: usize) -> Plane
+        requires { i < length self.now.edges }
+        ensures exact { result ≡ edge_after self.now i }
+        ensures edge { Contains self.now.edges result }
+        ensures corner { IsOn result (corner_at self.now i) }
+        ensures next { IsOn result (corner_at self.now (next_place (length self.now.edges) i)) }
+    {
+        self.polygon.edge(i)
     }
 
     /// The plane on which it lies.

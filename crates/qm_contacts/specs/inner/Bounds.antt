@@ -1,8 +1,9 @@
-use Rattle.std.specs.Prelude.{pos, ◌<ℤ◌, List, ◌↔◌}
+use Rattle.std.specs.Prelude.{pos, ◌<ℤ◌, List, ◌∷◌, All, Contains, ◌↔◌}
 use Rattle.qm_space.specs.Point.{Point}
 use Rattle.qm_space.specs.Plane.{Plane, IsInFront}
 use Rattle.qm_space.specs.Cell.{IsInCell}
 
--- a plane is added to those that bound a cell
-abbrev pub IsBoundAdded : Plane → List Plane → List Plane → Type 0
-IsBoundAdded h old new = (x : Point) → pos 0 <ℤ x.w → IsInCell new x ↔ (IsInCell old x × IsInFront h x)
+-- a plane is added to those that bound a cell; one of those that it makes needless may be left out
+pub record IsBoundAdded (h : Plane) (old new : List Plane) : Type 0 where
+  pub points : (x : Point) → pos 0 <ℤ x.w → IsInCell new x ↔ (IsInCell old x × IsInFront h x)
+  pub among : All (Contains (h ∷ old)) new

@@ -14,9 +14,10 @@ abbrev pub HasPointsBelow : List Plane → Way → Partition → Type 0
 HasPointsBelow planes above shape =
     (way : Way) → Contains (ways shape) way → (x : Point) × IsInCell (walled_cell planes above) x × IsInCell (cell_of_way planes way) x
 
--- these planes bound the cell at the end of a way
-abbrev pub AreBounds : List Plane → Way → List Plane → Type 0
-AreBounds planes way bounds = (x : Point) → pos 0 <ℤ x.w → IsInCell (walled_cell planes way) x ↔ IsInCell bounds x
+-- these planes bound the cell at the end of a way, and are among its own
+pub record AreBounds (planes : List Plane) (way : Way) (bounds : List Plane) : Type 0 where
+  pub points : (x : Point) → pos 0 <ℤ x.w → IsInCell (walled_cell planes way) x ↔ IsInCell bounds x
+  pub among : All (Contains (walled_cell planes way)) bounds
 
 -- the facets of that cell on walls of the cube; none of the way's steps has the sides of a wall
 pub record AreWallFacets (planes : List Plane) (way : Way) (on_walls : List Facet) : Type 0 where

@@ -1,5 +1,5 @@
 -- A cell with its bounds is parted by a plane.
-use Rattle.std.specs.Prelude.{◌≡◌, ℕ, ◌<◌, pos, ◌<ℤ◌, ◌↔◌, Option, Some, None, List, [], ◌∷◌, ◌++◌, length, get_or, take, All}
+use Rattle.std.specs.Prelude.{◌≡◌, ℕ, ◌<◌, pos, ◌<ℤ◌, ◌↔◌, Option, Some, None, List, [], ◌∷◌, ◌++◌, length, get_or, take, All, Contains}
 use Rattle.qm_space.specs.Point.{Point, IsInCube}
 use Rattle.qm_space.specs.Plane.{Plane, IsOn}
 use Rattle.qm_space.specs.Cell.{IsInCell}
@@ -21,9 +21,10 @@ pub record IsLeftAdded (h : Plane) (facet : Facet) (old new : List Facet) : Type
   pub added : new ≡ old ++ left
   pub cut : AreCut h (facet ∷ []) left
 
--- the cell of some planes, which others bound, lies inside the cube, and the plane has a point of it
+-- the cell of some planes, of which some bound it, lies inside the cube, and the plane has a point of it
 pub record CrossesCell (cell : List Plane) (due : DueCell) (h : Plane) : Type 0 where
   pub bounds : (x : Point) → pos 0 <ℤ x.w → IsInCell cell x ↔ IsInCell due.bounds x
+  pub among : All (Contains cell) due.bounds
   pub in_cube : (x : Point) → IsInCell cell x → IsInCube x
   pub point : Point
   pub on : IsOn h point

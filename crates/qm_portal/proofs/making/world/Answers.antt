@@ -15,7 +15,7 @@ use Rattle.qm_contacts.proofs.PortalLists.{pairs_have_leaves, portals_among}
 use Rattle.qm_portal.proofs.making.world.Goals as goal
 
 pub portals-requires-clause-leaves : goal.portals-requires-clause-leaves
-portals-requires-clause-leaves c = rw c.pairs.ensures (pairs_have_leaves c.args.tree.now c.args.touches.now.touchings c.requires.touching)
+portals-requires-clause-leaves c = rw c.touchings.ensures (pairs_have_leaves c.args.tree.now c.args.touches.now.touchings c.requires.touching)
 
 pub of-requires-2-clause-among : goal.of-requires-2-clause-among
 of-requires-2-clause-among c =
@@ -23,7 +23,7 @@ of-requires-2-clause-among c =
     let touchings = c.args.touches.now.touchings in
     let numbered = c.in_ok-numbers.numbers.numbered in
     let count : length numbered.items ≡ length (numbered_leaves tree) = ap length c.in_ok-numbers.ensures.numbered_are ∙ ap (λ (all : List Leaf). length (numbered_from all 0)) c.all_leaves.ensures in
-    let portals_are : c.deref-2.result.now ≡ portals_of tree touchings = c.deref-2.ensures.value ∙ c.in_ok-portals.ensures ∙ ap (portals_of tree) c.pairs.ensures in
+    let portals_are : c.deref-2.result.now ≡ portals_of tree touchings = c.deref-2.ensures.value ∙ c.in_ok-portals.ensures ∙ ap (portals_of tree) c.touchings.ensures in
     subst (All (λ (p : Portal). p.from < c.len.result)) (sym portals_are)
     (All-weaker (IsAmong (length (numbered_leaves tree))) (λ (p : Portal). p.from < c.len.result) (λ p is. omega (arith, is.from, count, c.len.ensures, numbered.ok.0)) (portals_of tree touchings) (portals_among tree touchings c.requires.touching))
 
@@ -34,7 +34,7 @@ of-requires-3 c =
     let numbered = c.in_ok-numbers.numbers.numbered in
     let portals = c.in_ok-portals.portals.items in
     let count : length (numbered_leaves tree) ≡ length numbered.items = sym (ap length c.in_ok-numbers.ensures.numbered_are ∙ ap (λ (all : List Leaf). length (numbered_from all 0)) c.all_leaves.ensures) in
-    let portals_are : portals_of tree touchings ≡ portals = sym (c.in_ok-portals.ensures ∙ ap (portals_of tree) c.pairs.ensures) in
+    let portals_are : portals_of tree touchings ≡ portals = sym (c.in_ok-portals.ensures ∙ ap (portals_of tree) c.touchings.ensures) in
     let all : c.len.result ≡ length numbered.items = omega (arith, c.len.ensures, numbered.ok.0) in
     let leaves : c.all_leaves.result.now ≡ leaves_of c.in_ok-copy.field-0.shape = c.all_leaves.ensures ∙ ap (λ (t : Tree). leaves_of t.shape) (sym c.in_ok-copy.ensures) in
     let leaving : AreLeavingInRows portals c.len.result c.in_ok-leaving.leaving.begins.items c.in_ok-leaving.leaving.places.items = rw c.deref-2.ensures.value at c.in_ok-leaving.ensures in
@@ -52,5 +52,5 @@ of-requires-3 c =
 
 pub returns : goal.returns
 returns c =
-    let portals_are = c.in_ok-portals.ensures ∙ ap (portals_of c.args.tree.now) c.pairs.ensures in
+    let portals_are = c.in_ok-portals.ensures ∙ ap (portals_of c.args.tree.now) c.touchings.ensures in
     c.of-3.ensures ∙ (λ i. record { tree = c.in_ok-copy.ensures i; portals = portals_are i })

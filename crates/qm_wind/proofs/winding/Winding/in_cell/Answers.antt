@@ -5,7 +5,7 @@ use Rattle.qm_convex.specs.Section.{IsSection}
 use Rattle.qm_convex.proofs.Parallelograms.{parallelogram_convex, misses_near, misses_far, section_of_parallelogram}
 use Rattle.qm_wind.specs.inner.AxialCells.{bounds_of, IsOpen, IsShut}
 use Rattle.qm_wind.proofs.Clips.{none_kept, some_kept}
-use Rattle.qm_wind.proofs.PairsAcross.{shut_misses, section_in_world, section_in_cuboid}
+use Rattle.qm_wind.proofs.PairsAcross.{edges_across, shut_misses, section_in_world, section_in_cuboid}
 use Rattle.qm_wind.proofs.winding.Winding.in_cell.Goals as goal
 use Rattle.qm_wind.proofs.winding.Winding.in_cell.Goals.{Else-not-branch-2}
 
@@ -35,6 +35,7 @@ part : (c : Else-not-branch-2) → IsSection (bounds_of c.args.cell.now) c.args.
 part c =
     section_of_parallelogram (bounds_of c.args.cell.now) c.args.plane.now _ _ _ _ _ _ c.of-pairs.ensures.are.inside _ c.keep_in_front_of-2.new.self
     c.of-pairs.ensures.are.first.opposite c.of-pairs.ensures.are.first.apart
+    (edges_across _ _ _ _ c.of-pairs.ensures.are) c.of-pairs.ensures.are.third.near c.of-pairs.ensures.are.third.far
     (some_kept _ _ _ _ _ c.in_ok-polygon.ensures c.if-not-branch.false c.in_ok-keep_in_front_of.ensures)
     (some_kept _ _ _ _ _ refl c.if-not-branch-2.false c.in_ok-keep_in_front_of-2.ensures)
 

@@ -5,16 +5,17 @@ use Rattle.qm_space.specs.Cell.{IsInCell}
 use Rattle.qm_convex.specs.Sides.{HasNoneInFront}
 use Rattle.qm_convex.specs.Cut.{IsPartInFront, IsPartWithin}
 use Rattle.qm_lists.proofs.Places.{take-read, parted-read}
-use Rattle.qm_convex.proofs.CellParts.{within_none, within_more, none_within}
+use Rattle.qm_convex.proofs.Cutting.{all_at_first, within_one_more}
+use Rattle.qm_convex.proofs.CellParts.{none_within}
 use Rattle.qm_wind.proofs.winding.Winding.keep_all.Goals as goal
 
 pub loop-plane-init : goal.loop-plane-init
-loop-plane-init c = within_none c.args.self c.len-corners.ensures.in_world.convex
+loop-plane-init c = all_at_first c.args.self c.len-corners.ensures.in_world.convex
 
 pub loop-plane-preserved : goal.loop-plane-preserved
 loop-plane-preserved c =
     subst (λ (cell : List Plane). IsPartWithin c.cut.new.self c.args.self cell) (sym (take-read c.args.planes.now c.loop-plane.plane-index c.plane-item.result c.loop-plane-test.true c.plane-item.is))
-    (within_more c.args.self c.loop-plane.left c.cut.new.self (take c.loop-plane.plane-index c.args.planes.now) c.plane-item.result c.loop-plane.invariant
+    (within_one_more c.cut.new.self c.loop-plane.left c.args.self (take c.loop-plane.plane-index c.args.planes.now) c.plane-item.result c.loop-plane.invariant
     (MatchBool-at_true (IsPartInFront c.cut.new.self c.loop-plane.left c.plane-item.result) ((c.cut.new.self ≡ c.loop-plane.left) × HasNoneInFront c.loop-plane.left c.plane-item.result) c.if-not-branch.false c.in_ok-cut.ensures.ok))
 
 pub returns-then-not-branch : goal.returns-then-not-branch
