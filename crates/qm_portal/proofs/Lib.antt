@@ -1,5 +1,5 @@
 pub mod PushedPolygons
-pub mod CutFacets
+pub mod CellSections
 pub mod AxialBounds
 pub mod AddedPairs
 pub mod VisitedCells

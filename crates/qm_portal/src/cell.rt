@@ -7,7 +7,7 @@ ghost use Rattle.qm_portal.specs.inner.Cells.{CrossesCell, IsHalf};
 ghost use Rattle.qm_portal.specs.inner.Walks.{has_facets};
 
 use crate::bounds::{AXIAL_BOUNDS, add_bound};
-use crate::facet::{Facet, split_facets};
+use qm_body::{Facet, split_facets};
 use qm_geom::Plane;
 use qm_tree::{Child, Node};
 use qm_wind::Winding;

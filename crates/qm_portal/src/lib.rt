@@ -4,7 +4,6 @@
 
 mod bounds;
 mod cell;
-mod facet;
 mod finding;
 pub mod laws;
 mod leaving;

@@ -1,25 +1,14 @@
 -- A cell with its bounds is parted by a plane.
-use Rattle.std.specs.Prelude.{◌≡◌, ℕ, ◌<◌, pos, ◌<ℤ◌, ◌↔◌, Option, Some, None, List, [], ◌∷◌, ◌++◌, length, get_or, take, All, Contains}
+use Rattle.std.specs.Prelude.{◌≡◌, ℕ, ◌<◌, pos, ◌<ℤ◌, ◌↔◌, List, length, get_or, take, All, Contains}
 use Rattle.qm_space.specs.Point.{Point, IsInCube}
 use Rattle.qm_space.specs.Plane.{Plane, IsOn}
 use Rattle.qm_space.specs.Cell.{IsInCell}
 use Rattle.qm_convex.specs.Winding.{Winding, IsInRegion}
-use Rattle.qm_convex.specs.inner.Facets.{Facet, AreCut}
+use Rattle.qm_convex.specs.inner.Facets.{AreCut}
 use Rattle.qm_partition.specs.declared.node.Child.{Child}
 use Rattle.qm_convex.specs.Section.{HasSameNormal, AreAxialBounds}
 use Rattle.qm_contacts.specs.inner.Bounds.{IsBoundAdded}
 use Rattle.qm_contacts.specs.inner.Due.{DueCell}
-
--- what is left of a facet on one side, if there is anything
-abbrev pub left_facet : Plane → Option Winding → List Facet
-left_facet inward None = []
-left_facet inward (Some winding) = record { inward = inward; winding = winding } ∷ []
-
--- what is left of a facet in front of a plane is added to others
-pub record IsLeftAdded (h : Plane) (facet : Facet) (old new : List Facet) : Type 0 where
-  pub left : List Facet
-  pub added : new ≡ old ++ left
-  pub cut : AreCut h (facet ∷ []) left
 
 -- the cell of some planes, of which some bound it, lies inside the cube, and the plane has a point of it
 pub record CrossesCell (cell : List Plane) (due : DueCell) (h : Plane) : Type 0 where

@@ -7,7 +7,7 @@ use Rattle.qm_portal.specs.inner.Cells.{CrossesCell}
 use Rattle.qm_convex.specs.Cut.{IsPartWithin, HasNoneWithin}
 use Rattle.qm_convex.specs.Winding.{Winding}
 use Rattle.qm_portal.proofs.AxialBounds.{six_axial}
-use Rattle.qm_portal.proofs.CutFacets.{crosses_axial, point_before_slanted, section_by_bounds}
+use Rattle.qm_portal.proofs.CellSections.{crosses_axial, point_before_slanted, section_by_bounds}
 use Rattle.qm_portal.proofs.cell.DueCell.section.Goals as goal
 use Rattle.qm_portal.proofs.cell.DueCell.section.Goals.{After-split_at, In-Some}
 

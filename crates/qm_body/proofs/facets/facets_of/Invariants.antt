@@ -2,7 +2,7 @@ use Rattle.std.proofs.Common.{◌≡◌, map}
 use Rattle.std.specs.Vec.Iter.{into_iter_items, into_iter_len}
 use Rattle.qm_lists.specs.inner.Taking.{IsTakenFrom}
 use Rattle.qm_convex.specs.inner.Facets.{facing_in}
-use Rattle.qm_portal.proofs.finding.facets_of.Given as goal
+use Rattle.qm_body.proofs.facets.facets_of.Given as goal
 
 abbrev pub invariant-loop-winding : goal.invariant-loop-winding
 invariant-loop-winding l = record {

@@ -3,7 +3,7 @@
 ghost use Rattle.std.specs.Prelude.{◌≡◌, ◌++◌, IfOk, OnOk};
 ghost use Rattle.qm_space.specs.Plane.{flipped};
 ghost use Rattle.qm_convex.specs.inner.Facets.{AreCut};
-ghost use Rattle.qm_portal.specs.inner.Cells.{left_facet, IsLeftAdded};
+ghost use Rattle.qm_body.specs.inner.LeftFacets.{left_facet, IsLeftAdded};
 
 use qm_geom::Plane;
 use qm_wind::{Lies, Winding};
@@ -12,9 +12,9 @@ use std::marker::Model;
 
 /// What the border of a cell has on one of its planes, which is turned to the cell.
 #[derive(Drop)]
-pub(crate) struct Facet {
-    pub(crate) inward: Plane,
-    pub(crate) winding: Box<Winding>,
+pub struct Facet {
+    pub inward: Plane,
+    pub winding: Box<Winding>,
 }
 
 impl Model for Facet {
@@ -27,7 +27,7 @@ impl Model for Facet {
 
 impl Facet {
     /// A polygon as a facet on a plane that is turned to the cell.
-    pub(crate) fn of(alloc: Global, inward: Plane, winding: Winding) -> Result<Facet, AllocError>
+    pub fn of(alloc: Global, inward: Plane, winding: Winding) -> Result<Facet, AllocError>
         ensures { IfOk result (λ facet. facet ≡ record { inward = inward; winding = winding }) }
     {
         let winding = Box::new(alloc, winding)?;
@@ -37,13 +37,13 @@ impl Facet {
 
 /// What facets have in front of a plane, and behind it.
 #[derive(Drop)]
-pub(crate) struct FacetLists {
-    pub(crate) front: Vec<Facet>,
-    pub(crate) back: Vec<Facet>,
+pub struct FacetLists {
+    pub front: Vec<Facet>,
+    pub back: Vec<Facet>,
 }
 
 /// What facets have in front of a plane, and behind it.
-pub(crate) fn split_facets(facets: Vec<Facet>, plane: &Plane) -> Result<FacetLists, AllocError>
+pub fn split_facets(facets: Vec<Facet>, plane: &Plane) -> Result<FacetLists, AllocError>
     ensures front { IfOk result (λ lists. AreCut plane.now facets.items lists.front.items) }
     ensures back { IfOk result (λ lists. AreCut (flipped plane.now) facets.items lists.back.items) }
 {

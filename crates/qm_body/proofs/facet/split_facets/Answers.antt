@@ -3,8 +3,8 @@ use Rattle.std.proofs.lemmas.Grind.{common_steps}
 use Rattle.qm_lists.proofs.Taken.{taken_none, taken_more, taken_all}
 use Rattle.qm_space.specs.Plane.{flipped}
 use Rattle.qm_convex.specs.inner.Facets.{Facet, AreCut, none}
-use Rattle.qm_portal.proofs.CutFacets.{cut_append}
-use Rattle.qm_portal.proofs.facet.split_facets.Goals as goal
+use Rattle.qm_body.proofs.CutFacets.{cut_append}
+use Rattle.qm_body.proofs.facet.split_facets.Goals as goal
 
 pub loop-facet-init : goal.loop-facet-init
 loop-facet-init c = record {

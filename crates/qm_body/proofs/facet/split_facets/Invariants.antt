@@ -2,7 +2,7 @@ use Rattle.std.specs.Vec.Iter.{into_iter_items, into_iter_len}
 use Rattle.qm_lists.specs.inner.Taking.{IsTakenFrom}
 use Rattle.qm_space.specs.Plane.{flipped}
 use Rattle.qm_convex.specs.inner.Facets.{AreCut}
-use Rattle.qm_portal.proofs.facet.split_facets.Given as goal
+use Rattle.qm_body.proofs.facet.split_facets.Given as goal
 
 abbrev pub invariant-loop-facet : goal.invariant-loop-facet
 invariant-loop-facet l = record {

@@ -4,9 +4,9 @@ use Rattle.qm_convex.specs.Winding.{Winding, IsConvex}
 use Rattle.qm_convex.specs.Sides.{IsWhollyInFront, LiesIn}
 use Rattle.qm_convex.specs.inner.Facets.{Facet}
 use Rattle.qm_wind.proofs.Clips.{front_is_whole, back_is_gone, on_is_gone, on_is_gone_behind}
-use Rattle.qm_portal.proofs.CutFacets.{all_added, none_added}
-use Rattle.qm_portal.proofs.facet.split_facet.Goals as goal
-use Rattle.qm_portal.proofs.facet.split_facet.Goals.{After-len-corners, In-Front, In-Back, In-On}
+use Rattle.qm_body.proofs.CutFacets.{all_added, none_added}
+use Rattle.qm_body.proofs.facet.split_facet.Goals as goal
+use Rattle.qm_body.proofs.facet.split_facet.Goals.{After-len-corners, In-Front, In-Back, In-On}
 
 convex : (c : After-len-corners) → IsConvex c.args.facet.winding
 convex c = subst IsConvex (c.deref.ensures ∙ ap (λ (f : Facet). f.winding) c.facet.view_is) c.len-corners.ensures.in_world.convex

@@ -3,10 +3,10 @@ use Rattle.qm_space.specs.Plane.{Plane, flipped}
 use Rattle.qm_convex.specs.Winding.{Winding}
 use Rattle.qm_convex.specs.inner.Facets.{Facet}
 use Rattle.qm_wind.specs.Split.{IsSplit}
-use Rattle.qm_portal.specs.inner.Cells.{left_facet}
-use Rattle.qm_portal.proofs.CutFacets.{half_added}
-use Rattle.qm_portal.proofs.facet.part_facet.Goals as goal
-use Rattle.qm_portal.proofs.facet.part_facet.Goals.{In_ok-halves}
+use Rattle.qm_body.specs.inner.LeftFacets.{left_facet}
+use Rattle.qm_body.proofs.CutFacets.{half_added}
+use Rattle.qm_body.proofs.facet.part_facet.Goals as goal
+use Rattle.qm_body.proofs.facet.part_facet.Goals.{In_ok-halves}
 
 split_is : (c : In_ok-halves) → IsSplit c.in_ok-halves.halves c.args.facet.winding c.args.plane.now
 split_is c = subst (λ (w : Winding). IsSplit c.in_ok-halves.halves w c.args.plane.now) (c.into_inner.ensures ∙ ap (λ (f : Facet). f.winding) c.facet.view_is) c.in_ok-halves.ensures
