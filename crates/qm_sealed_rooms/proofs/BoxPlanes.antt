@@ -1,38 +1,41 @@
 -- The planes of the faces of boxes, before they are brought to lowest terms and in them.
-use Rattle.std.proofs.Common.{◌≡◌, ◌∙◌, Bool, true, false, ℤ, pos, neg_ℤ, ◌*ℤ◌, List, [], ◌∷◌, IsTrue, slice_index_or, refl, sym, ap, subst, lit≤, arith}
+use Rattle.std.proofs.Common.{◌≡◌, ◌∙◌, Bool, true, false, ℤ, pos, neg_ℤ, ◌*ℤ◌, ◌-ℤ◌, List, [], ◌∷◌, IsTrue, slice_index_or, refl, sym, ap, subst, lit≤, arith}
 use Rattle.std.proofs.Math.Nat.{eq-one_of_dvd-one}
 use Rattle.std.proofs.lemmas.Int.{ints}
-use Rattle.qm_numbers.proofs.Ring.{Expression, variable, number, negated, ◌⊕◌, ◌⊖◌, ◌⊗◌, solved}
-use Rattle.qm_space.specs.Plane.{Plane, flipped, scaled}
-use Rattle.qm_space.specs.Reduced.{HasNormal, HasSmallNormal, leads_positive}
+use Rattle.qm_numbers.proofs.IntegerProducts.{*ℤ_zero}
+use Rattle.qm_numbers.proofs.Ring.{Expression, value_of, AreIdentical, variable, number, negated, ◌⊕◌, ◌⊖◌, ◌⊗◌, solved}
+use Rattle.qm_space.specs.Point.{Point}
+use Rattle.qm_space.specs.Plane.{Plane, value, flipped, scaled}
+use Rattle.qm_space.specs.Reduced.{HasNormal, HasNoNormal, HasSmallNormal, leads_positive}
 use Rattle.qm_space.specs.Turned.{turned}
 use Rattle.qm_space.specs.ThreePoints.{outward_plane, in_space, spanned_plane, common_factor, reduced, plane_through}
 use Rattle.qm_space.proofs.Lines.{thousandths_weights}
-use Rattle.qm_space.proofs.PlaneSymbols.{PlaneSymbols, PointSymbols, symbol_scaled, symbol_flipped}
+use Rattle.qm_space.proofs.Planes.{value_scaled}
+use Rattle.qm_space.proofs.PlaneSymbols.{PlaneSymbols, PointSymbols, point_from, numbers_of_point, symbol_value, symbol_scaled, symbol_flipped}
 use Rattle.qm_space.proofs.ReducedPlanes.{IsLowest, same_plane, common_factor_positive, reduced_back, reduced_leads, reduced_lowest, multiples_equal}
 use Rattle.qm_space.proofs.PlanesThroughPoints.{one_line_no_normal, through_is_fine}
 use Rattle.qm_mapfile.specs.Face.{point_at, SpanPlane, GivePlane}
 use Rattle.qm_rooms.specs.Boxes.{points_west, points_east, points_south, points_north, points_bottom, points_top}
 
 -- ---- the plane that three points span
-abbrev pub symbol_step : PointSymbols → PointSymbols → PointSymbols
+abbrev symbol_step : PointSymbols → PointSymbols → PointSymbols
 symbol_step from to = record { x = to.x ⊖ from.x; y = to.y ⊖ from.y; z = to.z ⊖ from.z; w = number (pos 0) }
 
-abbrev pub symbol_cross : PointSymbols → PointSymbols → PointSymbols
+abbrev symbol_cross : PointSymbols → PointSymbols → PointSymbols
 symbol_cross a b = record { x = a.y ⊗ b.z ⊖ a.z ⊗ b.y; y = a.z ⊗ b.x ⊖ a.x ⊗ b.z; z = a.x ⊗ b.y ⊖ a.y ⊗ b.x; w = number (pos 0) }
 
-abbrev pub symbol_outward : PointSymbols → PointSymbols → PointSymbols → PlaneSymbols
+abbrev symbol_outward : PointSymbols → PointSymbols → PointSymbols → PlaneSymbols
 symbol_outward p0 p1 p2 =
     let n = symbol_cross (symbol_step p1 p0) (symbol_step p1 p2) in
     record { nx = n.x; ny = n.y; nz = n.z; d = n.x ⊗ p1.x ⊕ n.y ⊗ p1.y ⊕ n.z ⊗ p1.z }
 
 -- the plane in space, whose numbers are over thousandths
-abbrev pub symbol_in_space : PlaneSymbols → PlaneSymbols
+abbrev symbol_in_space : PlaneSymbols → PlaneSymbols
 symbol_in_space h =
     let w = number (pos 1000) in
     record { nx = w ⊗ h.nx; ny = w ⊗ h.ny; nz = w ⊗ h.nz; d = h.d }
 
-abbrev pub symbol_point : Expression → Expression → Expression → PointSymbols
+abbrev symbol_point : Expression → Expression → Expression → PointSymbols
 symbol_point x y z = record { x = x; y = y; z = z; w = number (pos 1000) }
 
 -- by how much the plane of a face is a multiple of the plane in lowest terms
@@ -45,20 +48,20 @@ spanned_by points = spanned_plane (point_at points 0) (point_at points 1) (point
 
 -- ---- a plane across an axis, in lowest terms
 
-record IsUnitPlane (h : Plane) : Type 0 where
-  lowest : IsLowest h
-  leads : IsTrue (leads_positive h)
-  small : HasSmallNormal h
-  multiple_normal : HasNormal (scaled billion h)
-  multiple_leads : IsTrue (leads_positive (scaled billion h))
+pub record IsUnitPlane (h : Plane) : Type 0 where
+  pub lowest : IsLowest h
+  pub leads : IsTrue (leads_positive h)
+  pub small : HasSmallNormal h
+  pub multiple_normal : HasNormal (scaled billion h)
+  pub multiple_leads : IsTrue (leads_positive (scaled billion h))
 
-abbrev across_x : ℤ → Plane
+abbrev pub across_x : ℤ → Plane
 across_x c = record { nx = pos 1; ny = pos 0; nz = pos 0; d = c }
 
-abbrev across_y : ℤ → Plane
+abbrev pub across_y : ℤ → Plane
 across_y c = record { nx = pos 0; ny = pos 1; nz = pos 0; d = c }
 
-abbrev across_z : ℤ → Plane
+abbrev pub across_z : ℤ → Plane
 across_z c = record { nx = pos 0; ny = pos 0; nz = pos 1; d = c }
 
 unit_x : (c : ℤ) → IsUnitPlane (across_x c)
@@ -109,7 +112,59 @@ given points h unit is spans =
       not_too_fine = through_is_fine (point_at points 0) (point_at points 1) (point_at points 2) (subst HasSmallNormal (sym through) unit.small);
     }
 
--- ---- the points of the sides of a box
+-- ---- a side of a box: its points span a multiple of a plane across an axis, turned to the front of that plane or to its back
+
+pub record IsSide (points : List (List ℤ)) (h : Plane) (front : Bool) : Type 0 where
+  pub unit : IsUnitPlane h
+  pub spans : spanned_by points ≡ scaled billion (turned front h)
+  pub leads : leads_positive (scaled billion (turned front h)) ≡ front
+
+twice : (n : ℤ) → neg_ℤ (billion *ℤ neg_ℤ n) ≡ billion *ℤ n
+twice n = solved (n ∷ []) (negated (number billion ⊗ negated (variable 0))) (number billion ⊗ variable 0) tt
+
+turned_back : (front : Bool) (h : Plane) → turned front (scaled billion (turned front h)) ≡ scaled billion h
+turned_back true h = refl
+turned_back false h = same_plane (flipped (scaled billion (flipped h))) (scaled billion h) (twice h.nx) (twice h.ny) (twice h.nz) (twice h.d)
+
+turned_normal : (front : Bool) (h : Plane) → HasNormal (scaled billion h) → HasNormal (scaled billion (turned front h))
+turned_normal true h normal = normal
+turned_normal false h normal = λ x y z. normal (sym (twice h.nx) ∙ ap neg_ℤ x) (sym (twice h.ny) ∙ ap neg_ℤ y) (sym (twice h.nz) ∙ ap neg_ℤ z)
+
+no_normal_in_space : (w : ℤ) (h : Plane) → HasNoNormal h → HasNormal (in_space w h) → ⊥
+unfolding in_space
+no_normal_in_space w h flat normal =
+    normal (ap (λ (n : ℤ). w *ℤ n) flat.0 ∙ *ℤ_zero w) (ap (λ (n : ℤ). w *ℤ n) flat.1 ∙ *ℤ_zero w) (ap (λ (n : ℤ). w *ℤ n) flat.2 ∙ *ℤ_zero w)
+
+module _ (points : List (List ℤ)) (h : Plane) (front : Bool) (side : IsSide points h front) where
+  -- its points give a plane
+  pub side_gives : GivePlane points
+  side_gives = given points h side.unit is spans
+    where
+      is : turned (leads_positive (spanned_by points)) (spanned_by points) ≡ scaled billion h
+      is =
+          ap (λ (o : Plane). turned (leads_positive o) o) side.spans
+          ∙ ap (λ (t : Bool). turned t (scaled billion (turned front h))) side.leads
+          ∙ turned_back front h
+
+      spans : SpanPlane points
+      spans = λ line.
+          no_normal_in_space (point_at points 1).w (outward_plane (point_at points 0) (point_at points 1) (point_at points 2))
+          (one_line_no_normal (point_at points 0) (point_at points 1) (point_at points 2)
+          (thousandths_weights (slice_index_or points 0 []) (slice_index_or points 1 []) (slice_index_or points 2 [])) line)
+          (subst HasNormal (sym side.spans) (turned_normal front h side.unit.multiple_normal))
+
+  -- of which the value at a point is a multiple of its value at the plane across the axis
+  pub side_value : (p : Point) → value (spanned_by points) p ≡ billion *ℤ value (turned front h) p
+  side_value p = ap (λ (g : Plane). value g p) side.spans ∙ value_scaled billion (turned front h) p
+
+-- ---- the six sides
+
+abbrev plane_of : List ℤ → PlaneSymbols → Plane
+plane_of zs s = record { nx = value_of zs s.nx; ny = value_of zs s.ny; nz = value_of zs s.nz; d = value_of zs s.d }
+
+planes_solved : (zs : List ℤ) (s t : PlaneSymbols) → AreIdentical s.nx t.nx → AreIdentical s.ny t.ny → AreIdentical s.nz t.nz → AreIdentical s.d t.d → plane_of zs s ≡ plane_of zs t
+planes_solved zs s t x y z d =
+    same_plane (plane_of zs s) (plane_of zs t) (solved zs s.nx t.nx x) (solved zs s.ny t.ny y) (solved zs s.nz t.nz z) (solved zs s.d t.d d)
 
 module _ (c : ℤ) where
   abbrev at : Expression
@@ -124,125 +179,87 @@ module _ (c : ℤ) where
   abbrev symbols : PointSymbols → PointSymbols → PointSymbols → PlaneSymbols
   symbols p0 p1 p2 = symbol_in_space (symbol_outward p0 p1 p2)
 
-  abbrev multiple : ℤ → ℤ → ℤ → PlaneSymbols
-  multiple x y z = symbol_scaled (number billion) (record { nx = number x; ny = number y; nz = number z; d = variable 0 })
+  -- the plane across an axis, by its normal
+  abbrev across : ℤ → ℤ → ℤ → PlaneSymbols
+  across x y z = record { nx = number x; ny = number y; nz = number z; d = variable 0 }
 
-  -- the same plane by the numbers of two
-  alike : (points : List (List ℤ)) (h : Plane) → spanned_by points ≡ scaled billion h → leads_positive (scaled billion h) ≡ true → turned (leads_positive (spanned_by points)) (spanned_by points) ≡ scaled billion h
-  alike points h is leads =
-      ap (λ (o : Plane). turned (leads_positive o) o) is ∙ ap (λ (t : Bool). turned t (scaled billion h)) leads
+  abbrev multiple : PlaneSymbols → PlaneSymbols
+  multiple h = symbol_scaled (number billion) h
 
-  against : (points : List (List ℤ)) (h : Plane) → spanned_by points ≡ scaled billion (flipped h) → leads_positive (scaled billion (flipped h)) ≡ false → flipped (scaled billion (flipped h)) ≡ scaled billion h → turned (leads_positive (spanned_by points)) (spanned_by points) ≡ scaled billion h
-  against points h is leads again =
-      ap (λ (o : Plane). turned (leads_positive o) o) is ∙ ap (λ (t : Bool). turned t (scaled billion (flipped h))) leads ∙ again
-
-  twice : neg_ℤ (billion *ℤ neg_ℤ c) ≡ billion *ℤ c
-  twice = solved (c ∷ []) (negated (number billion ⊗ negated (variable 0))) (number billion ⊗ variable 0) tt
-
-  west_spans : SpanPlane (points_west c)
-  unfolding outward_plane
-  west_spans = λ line.
-      let flat = one_line_no_normal (point_at (points_west c) 0) (point_at (points_west c) 1) (point_at (points_west c) 2)
-      (thousandths_weights (slice_index_or (points_west c) 0 []) (slice_index_or (points_west c) 1 []) (slice_index_or (points_west c) 2 [])) line in
-      absurd (let e = flat.0 in omega (arith, ints, e))
-
-  pub west_gives : GivePlane (points_west c)
+  pub west_side : IsSide (points_west c) (across_x c) false
   unfolding outward_plane in_space
-  west_gives =
-      let s = symbols (symbol_point at no no) (symbol_point at one no) (symbol_point at no one) in
-      let t = (symbol_scaled (number billion) (symbol_flipped (record { nx = number (pos 1); ny = number (pos 0); nz = number (pos 0); d = variable 0 }))) in
-      let is : spanned_by (points_west c) ≡ scaled billion (flipped (across_x c)) =
-      same_plane (spanned_by (points_west c)) (scaled billion (flipped (across_x c)))
-      (solved (c ∷ []) s.nx t.nx tt) (solved (c ∷ []) s.ny t.ny tt) (solved (c ∷ []) s.nz t.nz tt) (solved (c ∷ []) s.d t.d tt) in
-      given (points_west c) (across_x c) (unit_x c)
-      (against (points_west c) (across_x c) is refl (same_plane (flipped (scaled billion (flipped (across_x c)))) (scaled billion (across_x c)) refl refl refl twice)) west_spans
+  west_side = record {
+    unit = unit_x c;
+    spans = planes_solved (c ∷ []) (symbols (symbol_point at no no) (symbol_point at one no) (symbol_point at no one)) (multiple (symbol_flipped (across (pos 1) (pos 0) (pos 0)))) tt tt tt tt;
+    leads = refl;
+  }
 
-  east_spans : SpanPlane (points_east c)
-  unfolding outward_plane
-  east_spans = λ line.
-      let flat = one_line_no_normal (point_at (points_east c) 0) (point_at (points_east c) 1) (point_at (points_east c) 2)
-      (thousandths_weights (slice_index_or (points_east c) 0 []) (slice_index_or (points_east c) 1 []) (slice_index_or (points_east c) 2 [])) line in
-      absurd (let e = flat.0 in omega (arith, ints, e))
-
-  pub east_gives : GivePlane (points_east c)
+  pub east_side : IsSide (points_east c) (across_x c) true
   unfolding outward_plane in_space
-  east_gives =
-      let s = symbols (symbol_point at no no) (symbol_point at no one) (symbol_point at one no) in
-      let t = (multiple (pos 1) (pos 0) (pos 0)) in
-      let is : spanned_by (points_east c) ≡ scaled billion (across_x c) =
-      same_plane (spanned_by (points_east c)) (scaled billion (across_x c))
-      (solved (c ∷ []) s.nx t.nx tt) (solved (c ∷ []) s.ny t.ny tt) (solved (c ∷ []) s.nz t.nz tt) (solved (c ∷ []) s.d t.d tt) in
-      given (points_east c) (across_x c) (unit_x c)
-      (alike (points_east c) (across_x c) is refl) east_spans
+  east_side = record {
+    unit = unit_x c;
+    spans = planes_solved (c ∷ []) (symbols (symbol_point at no no) (symbol_point at no one) (symbol_point at one no)) (multiple (across (pos 1) (pos 0) (pos 0))) tt tt tt tt;
+    leads = refl;
+  }
 
-  south_spans : SpanPlane (points_south c)
-  unfolding outward_plane
-  south_spans = λ line.
-      let flat = one_line_no_normal (point_at (points_south c) 0) (point_at (points_south c) 1) (point_at (points_south c) 2)
-      (thousandths_weights (slice_index_or (points_south c) 0 []) (slice_index_or (points_south c) 1 []) (slice_index_or (points_south c) 2 [])) line in
-      absurd (let e = flat.1 in omega (arith, ints, e))
-
-  pub south_gives : GivePlane (points_south c)
+  pub south_side : IsSide (points_south c) (across_y c) false
   unfolding outward_plane in_space
-  south_gives =
-      let s = symbols (symbol_point no at no) (symbol_point no at one) (symbol_point one at no) in
-      let t = (symbol_scaled (number billion) (symbol_flipped (record { nx = number (pos 0); ny = number (pos 1); nz = number (pos 0); d = variable 0 }))) in
-      let is : spanned_by (points_south c) ≡ scaled billion (flipped (across_y c)) =
-      same_plane (spanned_by (points_south c)) (scaled billion (flipped (across_y c)))
-      (solved (c ∷ []) s.nx t.nx tt) (solved (c ∷ []) s.ny t.ny tt) (solved (c ∷ []) s.nz t.nz tt) (solved (c ∷ []) s.d t.d tt) in
-      given (points_south c) (across_y c) (unit_y c)
-      (against (points_south c) (across_y c) is refl (same_plane (flipped (scaled billion (flipped (across_y c)))) (scaled billion (across_y c)) refl refl refl twice)) south_spans
+  south_side = record {
+    unit = unit_y c;
+    spans = planes_solved (c ∷ []) (symbols (symbol_point no at no) (symbol_point no at one) (symbol_point one at no)) (multiple (symbol_flipped (across (pos 0) (pos 1) (pos 0)))) tt tt tt tt;
+    leads = refl;
+  }
 
-  north_spans : SpanPlane (points_north c)
-  unfolding outward_plane
-  north_spans = λ line.
-      let flat = one_line_no_normal (point_at (points_north c) 0) (point_at (points_north c) 1) (point_at (points_north c) 2)
-      (thousandths_weights (slice_index_or (points_north c) 0 []) (slice_index_or (points_north c) 1 []) (slice_index_or (points_north c) 2 [])) line in
-      absurd (let e = flat.1 in omega (arith, ints, e))
-
-  pub north_gives : GivePlane (points_north c)
+  pub north_side : IsSide (points_north c) (across_y c) true
   unfolding outward_plane in_space
-  north_gives =
-      let s = symbols (symbol_point no at no) (symbol_point one at no) (symbol_point no at one) in
-      let t = (multiple (pos 0) (pos 1) (pos 0)) in
-      let is : spanned_by (points_north c) ≡ scaled billion (across_y c) =
-      same_plane (spanned_by (points_north c)) (scaled billion (across_y c))
-      (solved (c ∷ []) s.nx t.nx tt) (solved (c ∷ []) s.ny t.ny tt) (solved (c ∷ []) s.nz t.nz tt) (solved (c ∷ []) s.d t.d tt) in
-      given (points_north c) (across_y c) (unit_y c)
-      (alike (points_north c) (across_y c) is refl) north_spans
+  north_side = record {
+    unit = unit_y c;
+    spans = planes_solved (c ∷ []) (symbols (symbol_point no at no) (symbol_point one at no) (symbol_point no at one)) (multiple (across (pos 0) (pos 1) (pos 0))) tt tt tt tt;
+    leads = refl;
+  }
 
-  bottom_spans : SpanPlane (points_bottom c)
-  unfolding outward_plane
-  bottom_spans = λ line.
-      let flat = one_line_no_normal (point_at (points_bottom c) 0) (point_at (points_bottom c) 1) (point_at (points_bottom c) 2)
-      (thousandths_weights (slice_index_or (points_bottom c) 0 []) (slice_index_or (points_bottom c) 1 []) (slice_index_or (points_bottom c) 2 [])) line in
-      absurd (let e = flat.2 in omega (arith, ints, e))
-
-  pub bottom_gives : GivePlane (points_bottom c)
+  pub bottom_side : IsSide (points_bottom c) (across_z c) false
   unfolding outward_plane in_space
-  bottom_gives =
-      let s = symbols (symbol_point no no at) (symbol_point one no at) (symbol_point no one at) in
-      let t = (symbol_scaled (number billion) (symbol_flipped (record { nx = number (pos 0); ny = number (pos 0); nz = number (pos 1); d = variable 0 }))) in
-      let is : spanned_by (points_bottom c) ≡ scaled billion (flipped (across_z c)) =
-      same_plane (spanned_by (points_bottom c)) (scaled billion (flipped (across_z c)))
-      (solved (c ∷ []) s.nx t.nx tt) (solved (c ∷ []) s.ny t.ny tt) (solved (c ∷ []) s.nz t.nz tt) (solved (c ∷ []) s.d t.d tt) in
-      given (points_bottom c) (across_z c) (unit_z c)
-      (against (points_bottom c) (across_z c) is refl (same_plane (flipped (scaled billion (flipped (across_z c)))) (scaled billion (across_z c)) refl refl refl twice)) bottom_spans
+  bottom_side = record {
+    unit = unit_z c;
+    spans = planes_solved (c ∷ []) (symbols (symbol_point no no at) (symbol_point one no at) (symbol_point no one at)) (multiple (symbol_flipped (across (pos 0) (pos 0) (pos 1)))) tt tt tt tt;
+    leads = refl;
+  }
 
-  top_spans : SpanPlane (points_top c)
-  unfolding outward_plane
-  top_spans = λ line.
-      let flat = one_line_no_normal (point_at (points_top c) 0) (point_at (points_top c) 1) (point_at (points_top c) 2)
-      (thousandths_weights (slice_index_or (points_top c) 0 []) (slice_index_or (points_top c) 1 []) (slice_index_or (points_top c) 2 [])) line in
-      absurd (let e = flat.2 in omega (arith, ints, e))
-
-  pub top_gives : GivePlane (points_top c)
+  pub top_side : IsSide (points_top c) (across_z c) true
   unfolding outward_plane in_space
-  top_gives =
-      let s = symbols (symbol_point no no at) (symbol_point no one at) (symbol_point one no at) in
-      let t = (multiple (pos 0) (pos 0) (pos 1)) in
-      let is : spanned_by (points_top c) ≡ scaled billion (across_z c) =
-      same_plane (spanned_by (points_top c)) (scaled billion (across_z c))
-      (solved (c ∷ []) s.nx t.nx tt) (solved (c ∷ []) s.ny t.ny tt) (solved (c ∷ []) s.nz t.nz tt) (solved (c ∷ []) s.d t.d tt) in
-      given (points_top c) (across_z c) (unit_z c)
-      (alike (points_top c) (across_z c) is refl) top_spans
+  top_side = record {
+    unit = unit_z c;
+    spans = planes_solved (c ∷ []) (symbols (symbol_point no no at) (symbol_point no one at) (symbol_point one no at)) (multiple (across (pos 0) (pos 0) (pos 1))) tt tt tt tt;
+    leads = refl;
+  }
+
+  -- and how far a point lies beyond each of them, times its w
+  module _ (p : Point) where
+    abbrev beyond : Bool → ℤ → ℤ → ℤ → Expression
+    beyond true x y z = symbol_value (across x y z) (point_from 1)
+    beyond false x y z = symbol_value (symbol_flipped (across x y z)) (point_from 1)
+
+    pub beyond_west : value (turned false (across_x c)) p ≡ (c *ℤ p.w) -ℤ p.x
+    unfolding value
+    beyond_west = solved (c ∷ numbers_of_point p []) (beyond false (pos 1) (pos 0) (pos 0)) (variable 0 ⊗ variable 4 ⊖ variable 1) tt
+
+    pub beyond_east : value (turned true (across_x c)) p ≡ p.x -ℤ (c *ℤ p.w)
+    unfolding value
+    beyond_east = solved (c ∷ numbers_of_point p []) (beyond true (pos 1) (pos 0) (pos 0)) (variable 1 ⊖ variable 0 ⊗ variable 4) tt
+
+    pub beyond_south : value (turned false (across_y c)) p ≡ (c *ℤ p.w) -ℤ p.y
+    unfolding value
+    beyond_south = solved (c ∷ numbers_of_point p []) (beyond false (pos 0) (pos 1) (pos 0)) (variable 0 ⊗ variable 4 ⊖ variable 2) tt
+
+    pub beyond_north : value (turned true (across_y c)) p ≡ p.y -ℤ (c *ℤ p.w)
+    unfolding value
+    beyond_north = solved (c ∷ numbers_of_point p []) (beyond true (pos 0) (pos 1) (pos 0)) (variable 2 ⊖ variable 0 ⊗ variable 4) tt
+
+    pub beyond_bottom : value (turned false (across_z c)) p ≡ (c *ℤ p.w) -ℤ p.z
+    unfolding value
+    beyond_bottom = solved (c ∷ numbers_of_point p []) (beyond false (pos 0) (pos 0) (pos 1)) (variable 0 ⊗ variable 4 ⊖ variable 3) tt
+
+    pub beyond_top : value (turned true (across_z c)) p ≡ p.z -ℤ (c *ℤ p.w)
+    unfolding value
+    beyond_top = solved (c ∷ numbers_of_point p []) (beyond true (pos 0) (pos 0) (pos 1)) (variable 3 ⊖ variable 0 ⊗ variable 4) tt

@@ -1,75 +1,25 @@
 -- The solid of a box of stone: the points that it holds, and that it is full.
 use Rattle.std.specs.Prelude.{map as mapped}
-use Rattle.std.proofs.Common.{◌≡◌, ℤ, pos, neg_ℤ, ◌+ℤ◌, ◌-ℤ◌, ◌*ℤ◌, ◌<ℤ◌, ◌≤ℤ◌, List, [], ◌∷◌, Some, refl, sym, subst, arith}
-use Rattle.std.specs.List.{filter_map}
+use Rattle.std.proofs.Common.{◌≡◌, Bool, true, false, ℤ, pos, neg_ℤ, ◌+ℤ◌, ◌-ℤ◌, ◌*ℤ◌, ◌<ℤ◌, ◌≤ℤ◌, List, [], ◌∷◌, Some, refl, sym, ap, ◌∙◌, subst, arith}
+use Rattle.std.specs.List.{All, AllZip, AllByRecursion, filter_map}
 use Rattle.std.proofs.lemmas.Int.{ints}
-use Rattle.std.proofs.lemmas.List.Elements.{All-from_recursion}
+use Rattle.std.proofs.lemmas.List.Elements.{All-nil, All-cons, All-head, All-tail}
 use Rattle.qm_contents.specs.declared.contents.Contents.TheVariants as contents
 use Rattle.qm_contents.specs.Texture.{contents_of_texture}
 use Rattle.qm_mapfile.specs.Face.{face_outward}
 use Rattle.qm_numbers.proofs.IntegerProducts.{linear}
 use Rattle.qm_numbers.proofs.Signs.{positive_times_negative, product_not_positive, negative_beside, not_positive_beside}
-use Rattle.qm_numbers.proofs.Ring.{Expression, variable, number, ◌⊖◌, ◌⊗◌, solved}
 use Rattle.qm_space.specs.Bounds.{extent}
 use Rattle.qm_space.specs.Point.{Point, IsWithinExtent}
 use Rattle.qm_space.specs.Plane.{Plane, value, IsBehind, IsNotInFront}
-use Rattle.qm_space.specs.ThreePoints.{outward_plane, in_space}
-use Rattle.qm_space.proofs.PlaneSymbols.{PointSymbols, point_from, numbers_of_point, symbol_value}
+use Rattle.qm_space.specs.Turned.{turned}
 use Rattle.qm_solids.specs.Solid.{Solid}
 use Rattle.qm_solids.specs.Holding.{IsInFrontOfNone, IsFull, Holds}
 use Rattle.qm_solids.proofs.Insides.{inside_of_behind}
 use Rattle.qm_drawn.specs.Solids.{solid_of_brush}
 use Rattle.qm_rooms.specs.Boxes.{StoneBox, points_west, points_east, points_south, points_north, points_bottom, points_top, face_points, stone_face, box_brush}
 use Rattle.qm_sealed_rooms.proofs.Borders.{IsBehindEach}
-use Rattle.qm_sealed_rooms.proofs.BoxPlanes.{symbol_outward, symbol_in_space, symbol_point, billion, spanned_by}
-
--- ---- the plane of each face
-
-module _ (c : ℤ) (p : Point) where
-  abbrev at : Expression
-  at = number (pos 1000) ⊗ variable 0
-
-  abbrev no : Expression
-  no = number (pos 0)
-
-  abbrev one : Expression
-  one = number (pos 1000)
-
-  abbrev q : PointSymbols
-  q = point_from 1
-
-  abbrev symbol_plane : PointSymbols → PointSymbols → PointSymbols → Expression
-  symbol_plane p0 p1 p2 = symbol_value (symbol_in_space (symbol_outward p0 p1 p2)) q
-
-  abbrev below : Expression → Expression
-  below x = number billion ⊗ (variable 0 ⊗ q.w ⊖ x)
-
-  abbrev above : Expression → Expression
-  above x = number billion ⊗ (x ⊖ variable 0 ⊗ q.w)
-
-  west_value : value (spanned_by (points_west c)) p ≡ billion *ℤ ((c *ℤ p.w) -ℤ p.x)
-  unfolding value outward_plane in_space
-  west_value = solved (c ∷ numbers_of_point p []) (symbol_plane (symbol_point at no no) (symbol_point at one no) (symbol_point at no one)) (below q.x) tt
-
-  east_value : value (spanned_by (points_east c)) p ≡ billion *ℤ (p.x -ℤ (c *ℤ p.w))
-  unfolding value outward_plane in_space
-  east_value = solved (c ∷ numbers_of_point p []) (symbol_plane (symbol_point at no no) (symbol_point at no one) (symbol_point at one no)) (above q.x) tt
-
-  south_value : value (spanned_by (points_south c)) p ≡ billion *ℤ ((c *ℤ p.w) -ℤ p.y)
-  unfolding value outward_plane in_space
-  south_value = solved (c ∷ numbers_of_point p []) (symbol_plane (symbol_point no at no) (symbol_point no at one) (symbol_point one at no)) (below q.y) tt
-
-  north_value : value (spanned_by (points_north c)) p ≡ billion *ℤ (p.y -ℤ (c *ℤ p.w))
-  unfolding value outward_plane in_space
-  north_value = solved (c ∷ numbers_of_point p []) (symbol_plane (symbol_point no at no) (symbol_point one at no) (symbol_point no at one)) (above q.y) tt
-
-  bottom_value : value (spanned_by (points_bottom c)) p ≡ billion *ℤ ((c *ℤ p.w) -ℤ p.z)
-  unfolding value outward_plane in_space
-  bottom_value = solved (c ∷ numbers_of_point p []) (symbol_plane (symbol_point no no at) (symbol_point one no at) (symbol_point no one at)) (below q.z) tt
-
-  top_value : value (spanned_by (points_top c)) p ≡ billion *ℤ (p.z -ℤ (c *ℤ p.w))
-  unfolding value outward_plane in_space
-  top_value = solved (c ∷ numbers_of_point p []) (symbol_plane (symbol_point no no at) (symbol_point no one at) (symbol_point one no at)) (above q.z) tt
+use Rattle.qm_sealed_rooms.proofs.BoxPlanes.{billion, spanned_by, across_x, across_y, across_z, IsSide, side_value, west_side, east_side, south_side, north_side, bottom_side, top_side, beyond_west, beyond_east, beyond_south, beyond_north, beyond_bottom, beyond_top}
 
 -- the side of a point, where its value is a multiple of a number
 module _ (h : Plane) (p : Point) (n : ℤ) (is : value h p ≡ billion *ℤ n) where
@@ -109,41 +59,62 @@ pub record IsStrictlyWithin (box : StoneBox) (p : Point) : Type 0 where
   pub bottom : (box.bottom *ℤ p.w) <ℤ p.z
   pub top : p.z <ℤ (box.top *ℤ p.w)
 
+-- how far a point lies beyond each side of a box, times its w
+abbrev beyond : StoneBox → Point → List ℤ
+beyond box p =
+    ((box.west *ℤ p.w) -ℤ p.x) ∷ (p.x -ℤ (box.east *ℤ p.w)) ∷ ((box.south *ℤ p.w) -ℤ p.y) ∷ (p.y -ℤ (box.north *ℤ p.w))
+    ∷ ((box.bottom *ℤ p.w) -ℤ p.z) ∷ (p.z -ℤ (box.top *ℤ p.w)) ∷ []
+
+-- what holds of planes, by what holds of numbers of which their values are multiples, and the other way
+module _ (p : Point) (P : Plane → Type 0) (Q : ℤ → Type 0) where
+  abbrev AreMultiples : List Plane → List ℤ → Type 0
+  AreMultiples planes numbers = AllZip (λ h n. value h p ≡ billion *ℤ n) planes numbers
+
+  of_planes : ((h : Plane) (n : ℤ) → value h p ≡ billion *ℤ n → Q n → P h) → (planes : List Plane) (numbers : List ℤ) → AreMultiples planes numbers → AllByRecursion Q numbers → All P planes
+  of_planes each [] [] are all = All-nil P
+  of_planes each (h ∷ planes) (n ∷ numbers) are all = All-cons P h planes (each h n are.0 all.0) (of_planes each planes numbers are.1 all.1)
+  of_planes each [] (n ∷ numbers) are all = absurd are
+  of_planes each (h ∷ planes) [] are all = absurd are
+
+  of_numbers : ((h : Plane) (n : ℤ) → value h p ≡ billion *ℤ n → P h → Q n) → (planes : List Plane) (numbers : List ℤ) → AreMultiples planes numbers → All P planes → AllByRecursion Q numbers
+  of_numbers each [] [] are all = tt
+  of_numbers each (h ∷ planes) (n ∷ numbers) are all = (each h n are.0 (All-head P h planes all), of_numbers each planes numbers are.1 (All-tail P h planes all))
+  of_numbers each [] (n ∷ numbers) are all = absurd are
+  of_numbers each (h ∷ planes) [] are all = absurd are
+
 module _ (box : StoneBox) (p : Point) where
-  pub none_from_within : IsWithin box p → IsInFrontOfNone (box_outward box) p
+  its_value : (points : List (List ℤ)) (h : Plane) (front : Bool) (n : ℤ) → IsSide points h front → value (turned front h) p ≡ n → value (spanned_by points) p ≡ billion *ℤ n
+  its_value points h front n side is = side_value points h front side p ∙ ap (λ (m : ℤ). billion *ℤ m) is
+
+  are_multiples : AllZip (λ h n. value h p ≡ billion *ℤ n) (box_outward box) (beyond box p)
   unfolding box_outward face_points stone_face
-  none_from_within i =
-      let a = i.west in let b = i.east in let c = i.south in let d = i.north in let e = i.bottom in let f = i.top in
-      All-from_recursion (λ h. IsNotInFront h p) (box_outward box) (
-        not_in_front (spanned_by (points_west box.west)) p ((box.west *ℤ p.w) -ℤ p.x) (west_value box.west p) (omega (arith, linear)),
+  are_multiples = (
+    its_value (points_west box.west) (across_x box.west) false _ (west_side box.west) (beyond_west box.west p),
+    (
+      its_value (points_east box.east) (across_x box.east) true _ (east_side box.east) (beyond_east box.east p),
+      (
+        its_value (points_south box.south) (across_y box.south) false _ (south_side box.south) (beyond_south box.south p),
         (
-          not_in_front (spanned_by (points_east box.east)) p (p.x -ℤ (box.east *ℤ p.w)) (east_value box.east p) (omega (arith, linear)),
+          its_value (points_north box.north) (across_y box.north) true _ (north_side box.north) (beyond_north box.north p),
           (
-            not_in_front (spanned_by (points_south box.south)) p ((box.south *ℤ p.w) -ℤ p.y) (south_value box.south p) (omega (arith, linear)),
-            (
-              not_in_front (spanned_by (points_north box.north)) p (p.y -ℤ (box.north *ℤ p.w)) (north_value box.north p) (omega (arith, linear)),
-              (
-                not_in_front (spanned_by (points_bottom box.bottom)) p ((box.bottom *ℤ p.w) -ℤ p.z) (bottom_value box.bottom p) (omega (arith, linear)),
-                (
-                  not_in_front (spanned_by (points_top box.top)) p (p.z -ℤ (box.top *ℤ p.w)) (top_value box.top p) (omega (arith, linear)),
-                  tt,
-                ),
-              ),
-            ),
+            its_value (points_bottom box.bottom) (across_z box.bottom) false _ (bottom_side box.bottom) (beyond_bottom box.bottom p),
+            (its_value (points_top box.top) (across_z box.top) true _ (top_side box.top) (beyond_top box.top p), tt),
           ),
         ),
-      )
+      ),
+    ),
+  )
+
+  pub none_from_within : IsWithin box p → IsInFrontOfNone (box_outward box) p
+  none_from_within i =
+      let a = i.west in let b = i.east in let c = i.south in let d = i.north in let e = i.bottom in let f = i.top in
+      of_planes p (λ h. IsNotInFront h p) (λ n. n ≤ℤ pos 0) (λ h n is low. not_in_front h p n is low) (box_outward box) (beyond box p) are_multiples
+      (omega (arith, linear), (omega (arith, linear), (omega (arith, linear), (omega (arith, linear), (omega (arith, linear), (omega (arith, linear), tt))))))
 
   pub within_from_none : IsInFrontOfNone (box_outward box) p → IsWithin box p
-  unfolding box_outward face_points stone_face
   within_from_none none =
-      let h : Plane = record { nx = pos 0; ny = pos 0; nz = pos 0; d = pos 0 } in
-      let a = at_most (spanned_by (points_west box.west)) p ((box.west *ℤ p.w) -ℤ p.x) (west_value box.west p) (none 0 h (omega arith)) in
-      let b = at_most (spanned_by (points_east box.east)) p (p.x -ℤ (box.east *ℤ p.w)) (east_value box.east p) (none 1 h (omega arith)) in
-      let c = at_most (spanned_by (points_south box.south)) p ((box.south *ℤ p.w) -ℤ p.y) (south_value box.south p) (none 2 h (omega arith)) in
-      let d = at_most (spanned_by (points_north box.north)) p (p.y -ℤ (box.north *ℤ p.w)) (north_value box.north p) (none 3 h (omega arith)) in
-      let e = at_most (spanned_by (points_bottom box.bottom)) p ((box.bottom *ℤ p.w) -ℤ p.z) (bottom_value box.bottom p) (none 4 h (omega arith)) in
-      let f = at_most (spanned_by (points_top box.top)) p (p.z -ℤ (box.top *ℤ p.w)) (top_value box.top p) (none 5 h (omega arith)) in
+      let n = of_numbers p (λ h. IsNotInFront h p) (λ n. n ≤ℤ pos 0) (λ h n is low. at_most h p n is low) (box_outward box) (beyond box p) are_multiples none in
+      let a = n.0 in let b = n.1.0 in let c = n.1.1.0 in let d = n.1.1.1.0 in let e = n.1.1.1.1.0 in let f = n.1.1.1.1.1.0 in
       record {
         west = omega (arith, linear);
         east = omega (arith, linear);
@@ -154,39 +125,15 @@ module _ (box : StoneBox) (p : Point) where
       }
 
   pub behind_from_strict : IsStrictlyWithin box p → IsBehindEach (box_outward box) p
-  unfolding box_outward face_points stone_face
   behind_from_strict i =
       let a = i.west in let b = i.east in let c = i.south in let d = i.north in let e = i.bottom in let f = i.top in
-      All-from_recursion (λ h. IsBehind h p) (box_outward box) (
-        is_behind (spanned_by (points_west box.west)) p ((box.west *ℤ p.w) -ℤ p.x) (west_value box.west p) (omega (arith, linear)),
-        (
-          is_behind (spanned_by (points_east box.east)) p (p.x -ℤ (box.east *ℤ p.w)) (east_value box.east p) (omega (arith, linear)),
-          (
-            is_behind (spanned_by (points_south box.south)) p ((box.south *ℤ p.w) -ℤ p.y) (south_value box.south p) (omega (arith, linear)),
-            (
-              is_behind (spanned_by (points_north box.north)) p (p.y -ℤ (box.north *ℤ p.w)) (north_value box.north p) (omega (arith, linear)),
-              (
-                is_behind (spanned_by (points_bottom box.bottom)) p ((box.bottom *ℤ p.w) -ℤ p.z) (bottom_value box.bottom p) (omega (arith, linear)),
-                (
-                  is_behind (spanned_by (points_top box.top)) p (p.z -ℤ (box.top *ℤ p.w)) (top_value box.top p) (omega (arith, linear)),
-                  tt,
-                ),
-              ),
-            ),
-          ),
-        ),
-      )
+      of_planes p (λ h. IsBehind h p) (λ n. n <ℤ pos 0) (λ h n is low. is_behind h p n is low) (box_outward box) (beyond box p) are_multiples
+      (omega (arith, linear), (omega (arith, linear), (omega (arith, linear), (omega (arith, linear), (omega (arith, linear), (omega (arith, linear), tt))))))
 
   pub strict_from_behind : IsBehindEach (box_outward box) p → IsStrictlyWithin box p
-  unfolding box_outward face_points stone_face
   strict_from_behind behind =
-      let h : Plane = record { nx = pos 0; ny = pos 0; nz = pos 0; d = pos 0 } in
-      let a = less (spanned_by (points_west box.west)) p ((box.west *ℤ p.w) -ℤ p.x) (west_value box.west p) (behind 0 h (omega arith)) in
-      let b = less (spanned_by (points_east box.east)) p (p.x -ℤ (box.east *ℤ p.w)) (east_value box.east p) (behind 1 h (omega arith)) in
-      let c = less (spanned_by (points_south box.south)) p ((box.south *ℤ p.w) -ℤ p.y) (south_value box.south p) (behind 2 h (omega arith)) in
-      let d = less (spanned_by (points_north box.north)) p (p.y -ℤ (box.north *ℤ p.w)) (north_value box.north p) (behind 3 h (omega arith)) in
-      let e = less (spanned_by (points_bottom box.bottom)) p ((box.bottom *ℤ p.w) -ℤ p.z) (bottom_value box.bottom p) (behind 4 h (omega arith)) in
-      let f = less (spanned_by (points_top box.top)) p (p.z -ℤ (box.top *ℤ p.w)) (top_value box.top p) (behind 5 h (omega arith)) in
+      let n = of_numbers p (λ h. IsBehind h p) (λ n. n <ℤ pos 0) (λ h n is low. less h p n is low) (box_outward box) (beyond box p) are_multiples behind in
+      let a = n.0 in let b = n.1.0 in let c = n.1.1.0 in let d = n.1.1.1.0 in let e = n.1.1.1.1.0 in let f = n.1.1.1.1.1.0 in
       record {
         west = omega (arith, linear);
         east = omega (arith, linear);

@@ -15,7 +15,7 @@ use Rattle.qm_grammar.specs.Valid.{HasNoQuote, IsNameText, IsValidFace, IsValidB
 use Rattle.qm_grammar.proofs.OriginTexts.{origin_spelled}
 use Rattle.qm_rooms.specs.Boxes.{StoneBox, triple, unit, points_west, points_east, points_south, points_north, points_bottom, points_top, face_points, plain_mapping, stone_face, box_brush}
 use Rattle.qm_rooms.specs.Rooms.{east_end, hull_boxes, wall_part, doorway_place, doorway_south, open_wall, closed_wall, open_walls, room_boxes, pair_of, boxed_world, player_start, rooms_map}
-use Rattle.qm_sealed_rooms.proofs.BoxPlanes.{west_gives, east_gives, south_gives, north_gives, bottom_gives, top_gives}
+use Rattle.qm_sealed_rooms.proofs.BoxPlanes.{side_gives, west_side, east_side, south_side, north_side, bottom_side, top_side}
 use Rattle.qm_sealed_rooms.proofs.RoomOrigins.{start_point, start_read}
 
 -- ---- texts
@@ -96,27 +96,27 @@ module _ (c : ℤ) (is : IsCoordinate c) where
 
   west_face : IsValidFace (stone_face (points_west c))
   west_face = valid_face (triple (unit *ℤ c) (pos 0) (pos 0)) (triple (unit *ℤ c) unit (pos 0)) (triple (unit *ℤ c) (pos 0) unit) refl refl refl
-      (coordinates (unit *ℤ c) (pos 0) (pos 0) its no_thousandths no_thousandths) (coordinates (unit *ℤ c) unit (pos 0) its unit_in no_thousandths) (coordinates (unit *ℤ c) (pos 0) unit its no_thousandths unit_in) (west_gives c)
+      (coordinates (unit *ℤ c) (pos 0) (pos 0) its no_thousandths no_thousandths) (coordinates (unit *ℤ c) unit (pos 0) its unit_in no_thousandths) (coordinates (unit *ℤ c) (pos 0) unit its no_thousandths unit_in) (side_gives _ _ _ (west_side c))
 
   east_face : IsValidFace (stone_face (points_east c))
   east_face = valid_face (triple (unit *ℤ c) (pos 0) (pos 0)) (triple (unit *ℤ c) (pos 0) unit) (triple (unit *ℤ c) unit (pos 0)) refl refl refl
-      (coordinates (unit *ℤ c) (pos 0) (pos 0) its no_thousandths no_thousandths) (coordinates (unit *ℤ c) (pos 0) unit its no_thousandths unit_in) (coordinates (unit *ℤ c) unit (pos 0) its unit_in no_thousandths) (east_gives c)
+      (coordinates (unit *ℤ c) (pos 0) (pos 0) its no_thousandths no_thousandths) (coordinates (unit *ℤ c) (pos 0) unit its no_thousandths unit_in) (coordinates (unit *ℤ c) unit (pos 0) its unit_in no_thousandths) (side_gives _ _ _ (east_side c))
 
   south_face : IsValidFace (stone_face (points_south c))
   south_face = valid_face (triple (pos 0) (unit *ℤ c) (pos 0)) (triple (pos 0) (unit *ℤ c) unit) (triple unit (unit *ℤ c) (pos 0)) refl refl refl
-      (coordinates (pos 0) (unit *ℤ c) (pos 0) no_thousandths its no_thousandths) (coordinates (pos 0) (unit *ℤ c) unit no_thousandths its unit_in) (coordinates unit (unit *ℤ c) (pos 0) unit_in its no_thousandths) (south_gives c)
+      (coordinates (pos 0) (unit *ℤ c) (pos 0) no_thousandths its no_thousandths) (coordinates (pos 0) (unit *ℤ c) unit no_thousandths its unit_in) (coordinates unit (unit *ℤ c) (pos 0) unit_in its no_thousandths) (side_gives _ _ _ (south_side c))
 
   north_face : IsValidFace (stone_face (points_north c))
   north_face = valid_face (triple (pos 0) (unit *ℤ c) (pos 0)) (triple unit (unit *ℤ c) (pos 0)) (triple (pos 0) (unit *ℤ c) unit) refl refl refl
-      (coordinates (pos 0) (unit *ℤ c) (pos 0) no_thousandths its no_thousandths) (coordinates unit (unit *ℤ c) (pos 0) unit_in its no_thousandths) (coordinates (pos 0) (unit *ℤ c) unit no_thousandths its unit_in) (north_gives c)
+      (coordinates (pos 0) (unit *ℤ c) (pos 0) no_thousandths its no_thousandths) (coordinates unit (unit *ℤ c) (pos 0) unit_in its no_thousandths) (coordinates (pos 0) (unit *ℤ c) unit no_thousandths its unit_in) (side_gives _ _ _ (north_side c))
 
   bottom_face : IsValidFace (stone_face (points_bottom c))
   bottom_face = valid_face (triple (pos 0) (pos 0) (unit *ℤ c)) (triple unit (pos 0) (unit *ℤ c)) (triple (pos 0) unit (unit *ℤ c)) refl refl refl
-      (coordinates (pos 0) (pos 0) (unit *ℤ c) no_thousandths no_thousandths its) (coordinates unit (pos 0) (unit *ℤ c) unit_in no_thousandths its) (coordinates (pos 0) unit (unit *ℤ c) no_thousandths unit_in its) (bottom_gives c)
+      (coordinates (pos 0) (pos 0) (unit *ℤ c) no_thousandths no_thousandths its) (coordinates unit (pos 0) (unit *ℤ c) unit_in no_thousandths its) (coordinates (pos 0) unit (unit *ℤ c) no_thousandths unit_in its) (side_gives _ _ _ (bottom_side c))
 
   top_face : IsValidFace (stone_face (points_top c))
   top_face = valid_face (triple (pos 0) (pos 0) (unit *ℤ c)) (triple (pos 0) unit (unit *ℤ c)) (triple unit (pos 0) (unit *ℤ c)) refl refl refl
-      (coordinates (pos 0) (pos 0) (unit *ℤ c) no_thousandths no_thousandths its) (coordinates (pos 0) unit (unit *ℤ c) no_thousandths unit_in its) (coordinates unit (pos 0) (unit *ℤ c) unit_in no_thousandths its) (top_gives c)
+      (coordinates (pos 0) (pos 0) (unit *ℤ c) no_thousandths no_thousandths its) (coordinates (pos 0) unit (unit *ℤ c) no_thousandths unit_in its) (coordinates unit (pos 0) (unit *ℤ c) unit_in no_thousandths its) (side_gives _ _ _ (top_side c))
 
 valid_brush : (box : StoneBox) → HasCoordinates box → IsValidBrush (box_brush box)
 unfolding box_brush face_points
