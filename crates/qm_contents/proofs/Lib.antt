@@ -1,1 +1,3 @@
+pub mod SixKinds
+pub mod CodeLaws
 pub mod Strengths

@@ -1,43 +1,29 @@
 -- Of two contents that are not stronger than each other both are the same.
 use Rattle.std.proofs.Common.{◌≡◌, ◌⊎◌, inl, inr, ℕ, ◌<◌, ◌≤◌, zero, suc, sym, ap, ◌∙◌, refl, arith}
 use Rattle.qm_contents.specs.declared.contents.Contents.{Contents}
-use Rattle.qm_contents.specs.declared.contents.Contents.TheVariants.{Empty, Solid, Water, Slime, Lava, Sky}
-use Rattle.qm_contents.specs.Precedence.{strength, IsAtMost}
+use Rattle.qm_contents.specs.declared.contents.Contents.TheVariants.{Empty, Solid}
+use Rattle.qm_contents.specs.Precedence.{strength, contents_of_strength, IsAtMost}
+use Rattle.qm_contents.proofs.SixKinds.{each_kind}
 
--- the contents of a strength
-of_strength : ℕ → Contents
-of_strength zero = Empty
-of_strength (suc zero) = Water
-of_strength (suc (suc zero)) = Slime
-of_strength (suc (suc (suc zero))) = Lava
-of_strength (suc (suc (suc (suc zero)))) = Sky
-of_strength (suc (suc (suc (suc (suc n))))) = Solid
-
-its_strength : (a : Contents) → of_strength (strength a) ≡ a
-unfolding of_strength
-its_strength Empty = refl
-its_strength Solid = refl
-its_strength Water = refl
-its_strength Slime = refl
-its_strength Lava = refl
-its_strength Sky = refl
+-- the strength of contents leads to them
+pub strength_back : (a : Contents) → contents_of_strength (strength a) ≡ a
+strength_back = each_kind (λ a. contents_of_strength (strength a) ≡ a) refl refl refl refl refl refl
 
 pub same_strength : (a b : Contents) → IsAtMost a b → IsAtMost b a → a ≡ b
 same_strength a b up down =
     let same : strength a ≡ strength b = omega (arith, up, down) in
-    sym (its_strength a) ∙ ap of_strength same ∙ its_strength b
+    sym (strength_back a) ∙ ap contents_of_strength same ∙ strength_back b
 
 pub empty_is_least : (a : Contents) → IsAtMost Empty a
 empty_is_least a = omega arith
 
 -- nothing is stronger than solid
 pub at_most_solid : (a : Contents) → IsAtMost a Solid
-at_most_solid Empty = omega arith
-at_most_solid Solid = omega arith
-at_most_solid Water = omega arith
-at_most_solid Slime = omega arith
-at_most_solid Lava = omega arith
-at_most_solid Sky = omega arith
+at_most_solid = each_kind (λ a. IsAtMost a Solid) (omega arith) (omega arith) (omega arith) (omega arith) (omega arith) (omega arith)
+
+-- nothing else is as strong as solid
+pub only_solid : (a : Contents) → IsAtMost Solid a → a ≡ Solid
+only_solid a most = same_strength a Solid (at_most_solid a) most
 
 pub at_most_itself : (a b : Contents) → a ≡ b → IsAtMost a b
 at_most_itself a b same = rw same (omega arith)

@@ -1,4 +1,4 @@
-use Rattle.std.specs.Prelude.{ℕ, ◌≤◌, ◌==◌, Bool, nat_lt, if◌then◌else◌}
+use Rattle.std.specs.Prelude.{ℕ, zero, suc, ◌≤◌, ◌==◌, Bool, nat_lt, if◌then◌else◌}
 use Rattle.qm_contents.specs.declared.contents.Contents.{Contents}
 use Rattle.qm_contents.specs.declared.contents.Contents.TheVariants.{Empty, Solid, Water, Slime, Lava, Sky}
 
@@ -10,6 +10,15 @@ strength Slime = 2
 strength Lava = 3
 strength Sky = 4
 strength Solid = 5
+
+-- the contents of a strength
+abbrev pub contents_of_strength : ℕ → Contents
+contents_of_strength zero = Empty
+contents_of_strength (suc zero) = Water
+contents_of_strength (suc (suc zero)) = Slime
+contents_of_strength (suc (suc (suc zero))) = Lava
+contents_of_strength (suc (suc (suc (suc zero)))) = Sky
+contents_of_strength (suc (suc (suc (suc (suc n))))) = Solid
 
 -- no stronger than others
 abbrev pub IsAtMost : Contents → Contents → Type 0

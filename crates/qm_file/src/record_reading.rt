@@ -2,7 +2,8 @@
 
 ghost use Rattle.std.specs.Prelude.{◌≡◌, ◌<◌, ◌==◌, true, false, length, IfOk, MatchOption};
 ghost use Rattle.qm_formats.specs.Layout.{Layout, many};
-ghost use Rattle.qm_formats.specs.FileParts.{FileFaultKind, plane_layout, child_layout, node_layout, contents_of_code, is_leaf, leaf_layout};
+ghost use Rattle.qm_contents.specs.Codes.{contents_of_code};
+ghost use Rattle.qm_formats.specs.FileParts.{FileFaultKind, plane_layout, child_layout, node_layout, is_leaf, leaf_layout};
 ghost use Rattle.qm_file.specs.Answers.{IsFaultOfFile, AnswersTreeFile};
 
 use crate::field_reading::{i32_at, i64_at, u8_at, u32_at};

@@ -2,7 +2,8 @@
 use Rattle.std.proofs.Common.{◌≡◌, ℕ, ◌↔◌, Bool, true, false, not, refl, Some, slice_get, sym, ap, ◌∙◌}
 use Rattle.std.specs.Prelude.{IsTrue}
 use Rattle.qm_contents.specs.declared.contents.Contents.{Contents}
-use Rattle.qm_contents.specs.declared.contents.Contents.TheVariants.{Empty, Solid, Water, Slime, Lava, Sky}
+use Rattle.qm_contents.specs.declared.contents.Contents.TheVariants.{Solid}
+use Rattle.qm_contents.proofs.SixKinds.{each_but_solid}
 use Rattle.qm_partition.specs.declared.node.Leaf.{Leaf}
 use Rattle.qm_partition.specs.Tree.{Tree}
 use Rattle.qm_partition.specs.Counting.{leaves_of}
@@ -21,12 +22,7 @@ solid_test : (contents : Contents) → is_solid contents ≡ false → contents 
 solid_test contents other is = let e : is_solid contents ≡ true = ap is_solid is in absurd (let f : true ≡ false = sym e ∙ other in cc)
 
 not_solid_test : (contents : Contents) → (contents ≡ Solid → ⊥) → is_solid contents ≡ false
-not_solid_test Solid never = absurd (never refl)
-not_solid_test Empty never = refl
-not_solid_test Water never = refl
-not_solid_test Slime never = refl
-not_solid_test Lava never = refl
-not_solid_test Sky never = refl
+not_solid_test = each_but_solid (λ contents. is_solid contents ≡ false) refl refl refl refl refl
 
 -- it takes part exactly where the leaf is not solid
 pub takes_part_test : (tree : Tree) (origin : Origin) (found : Leaf) (solid : Bool) → found ≡ leaf_record_at tree.planes tree.shape origin.point → solid ≡ is_solid found.contents → IsTrue (not solid) ↔ TakesPart tree origin

@@ -1,18 +1,17 @@
 -- The records of a tree file are read exactly.
 use Rattle.std.proofs.Common.{◌≡◌, ℕ, zero, suc, Bool, true, false, cond, eqb, leb, ◌&&◌, ◌||◌, ℤ, pos, negsuc, refl, sym, arith}
-use Rattle.std.proofs.lemmas.Bool.{and_parts, leb-true, ltb-true}
+use Rattle.std.proofs.lemmas.Bool.{and_parts, leb-true}
 use Rattle.std.specs.Int.{w8, w32, w64}
-use Rattle.qm_contents.specs.declared.contents.Contents.{Contents}
-use Rattle.qm_contents.specs.declared.contents.Contents.TheVariants.{Empty, Solid, Water, Slime, Lava, Sky}
-use Rattle.qm_contents.specs.Codes.{code_of}
+use Rattle.qm_contents.specs.Codes.{contents_of_code, is_code}
+use Rattle.qm_contents.proofs.CodeLaws.{code_back, contents_back}
 use Rattle.qm_contacts.specs.NumberedLeaves.{is_solid}
 use Rattle.qm_partition.specs.declared.node.Child.{Child}
 use Rattle.qm_partition.specs.declared.node.Child.TheVariants.{Node, Leaf}
 use Rattle.qm_formats.specs.Layout.{followed_by}
 use Rattle.qm_formats.specs.Fields.{unsigned, signed}
 use Rattle.qm_formats.specs.Exact.{IsExact}
-use Rattle.qm_formats.specs.FileParts.{short, plane_form, leaf_form, is_plane, plane_layout, child_of_number, number_of_child, child_layout, node_layout, contents_of_code, is_code, is_leaf, leaf_layout}
-use Rattle.qm_formats.proofs.ExactParts.{recast_exact, tested_exact, followed_by_exact, part_exact, last_part_exact, exact_of_parts}
+use Rattle.qm_formats.specs.FileParts.{short, plane_form, leaf_form, is_plane, plane_layout, child_of_number, number_of_child, child_layout, node_layout, is_leaf, leaf_layout}
+use Rattle.qm_formats.proofs.ExactParts.{recast_exact, tested_exact, pair_exact, part_exact, last_part_exact, exact_of_parts}
 use Rattle.qm_formats.proofs.ExactFields.{byte_exact, unsigned_32_exact, signed_32_exact, signed_64_exact}
 
 pub plane_exact : IsExact plane_layout
@@ -45,24 +44,6 @@ node_exact =
     part_exact _ _ _ _ child_exact (λ front _.
     last_part_exact _ _ _ _ child_exact (λ back _. record { before = record { before = record { before = tt; is = refl }; is = refl }; is = refl }) (λ here known.
     λ i. record { plane = sym known.before.is i; front = sym known.is i; back = here.back }))))
-
-code_back : (code : ℤ) → is_code code ≡ true → code_of (contents_of_code code) ≡ code
-code_back (pos n) is = absurd cc
-code_back (negsuc zero) is = refl
-code_back (negsuc (suc zero)) is = refl
-code_back (negsuc (suc (suc zero))) is = refl
-code_back (negsuc (suc (suc (suc zero)))) is = refl
-code_back (negsuc (suc (suc (suc (suc zero))))) is = refl
-code_back (negsuc (suc (suc (suc (suc (suc zero)))))) is = refl
-code_back (negsuc (suc (suc (suc (suc (suc (suc n))))))) is = absurd (let e = ltb-true (suc (suc (suc (suc (suc (suc n)))))) 6 is in omega (arith, e))
-
-contents_back : (contents : Contents) → contents_of_code (code_of contents) ≡ contents
-contents_back Empty = refl
-contents_back Solid = refl
-contents_back Water = refl
-contents_back Slime = refl
-contents_back Lava = refl
-contents_back Sky = refl
 
 pub flag_number : (n : ℕ) → leb n 1 ≡ true → cond (eqb n 1) 1 0 ≡ n
 flag_number zero is = refl

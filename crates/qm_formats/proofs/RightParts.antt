@@ -1,5 +1,5 @@
 -- Which planes, nodes, leaves and rows can stand in a tree file.
-use Rattle.std.proofs.Common.{◌≡◌, ◌<◌, ℕ, zero, suc, ◌+◌, ◌^◌, Bool, true, false, eqb, ltb, leb, ◌&&◌, ℤ, pos, negsuc, List, [], ◌∷◌, length, get_or, refl, subst, arith}
+use Rattle.std.proofs.Common.{◌≡◌, ◌<◌, ℕ, zero, suc, ◌+◌, ◌^◌, Bool, true, false, eqb, ltb, leb, ◌&&◌, ℤ, pos, negsuc, List, [], ◌∷◌, length, get_or, inl, inr, refl, sym, subst, arith}
 use Rattle.std.specs.Prelude.{IsTrue, unsigned_abs}
 use Rattle.std.specs.Int.{◌∣◌, Width, w32, w64}
 use mir.Val.{hbits}
@@ -11,7 +11,8 @@ use Rattle.qm_space.specs.Reduced.{leads_positive, IsReduced}
 use Rattle.qm_space.specs.ThreePoints.{common_factor}
 use Rattle.qm_space.proofs.ReducedPlanes.{leading_has_normal, common_factor_divides, divides_common_factor}
 use Rattle.qm_contents.specs.declared.contents.Contents.{Contents}
-use Rattle.qm_contents.specs.declared.contents.Contents.TheVariants.{Empty, Solid, Water, Slime, Lava, Sky}
+use Rattle.qm_contents.specs.declared.contents.Contents.TheVariants.{Solid}
+use Rattle.qm_contents.proofs.SixKinds.{each_kind, each_but_solid, solid_or_not}
 use Rattle.qm_partition.specs.declared.node.Child.{Child}
 use Rattle.qm_partition.specs.declared.node.Child.TheVariants.{Node, Leaf}
 use Rattle.qm_partition.specs.declared.node.Node.{Node as NodeRecord}
@@ -130,27 +131,19 @@ node_right here plane below =
 
 right_by_contents : (contents : Contents) (filled : Bool) → (IsTrue filled → contents ≡ Solid) → leaf_layout.right (record { contents = contents; filled = filled }) ≡ true
 unfolding leaf_layout is_leaf signed unsigned
-right_by_contents Empty false solid = refl
-right_by_contents Solid false solid = refl
-right_by_contents Water false solid = refl
-right_by_contents Slime false solid = refl
-right_by_contents Lava false solid = refl
-right_by_contents Sky false solid = refl
-right_by_contents Solid true solid = refl
-right_by_contents Empty true solid = absurd (let e = solid refl in cc)
-right_by_contents Water true solid = absurd (let e = solid refl in cc)
-right_by_contents Slime true solid = absurd (let e = solid refl in cc)
-right_by_contents Lava true solid = absurd (let e = solid refl in cc)
-right_by_contents Sky true solid = absurd (let e = solid refl in cc)
+right_by_contents contents false solid = each_kind (λ c. leaf_layout.right (record { contents = c; filled = false }) ≡ true) refl refl refl refl refl refl contents
+right_by_contents contents true solid = subst (λ (c : Contents). leaf_layout.right (record { contents = c; filled = true }) ≡ true) (sym (solid refl)) refl
+
+-- a filled leaf that is not solid cannot stand in a file
+filled_other : (contents : Contents) → (contents ≡ Solid → ⊥) → leaf_layout.right (record { contents = contents; filled = true }) ≡ false
+unfolding leaf_layout is_leaf signed unsigned
+filled_other = each_but_solid (λ c. leaf_layout.right (record { contents = c; filled = true }) ≡ false) refl refl refl refl refl
 
 contents_by_right : (contents : Contents) (filled : Bool) → leaf_layout.right (record { contents = contents; filled = filled }) ≡ true → IsTrue filled → contents ≡ Solid
-unfolding leaf_layout is_leaf signed unsigned
-contents_by_right Empty true right is = absurd cc
-contents_by_right Solid true right is = refl
-contents_by_right Water true right is = absurd cc
-contents_by_right Slime true right is = absurd cc
-contents_by_right Lava true right is = absurd cc
-contents_by_right Sky true right is = absurd cc
+contents_by_right contents true right is = elim (solid_or_not contents) [
+  | inl solid ↦ solid
+  | inr other ↦ absurd (let e = filled_other contents other in cc)
+]
 contents_by_right contents false right is = absurd (let e = is in cc)
 
 pub leaf_right : (found : LeafRecord) → IsSolidIfFilled found → leaf_layout.right found ≡ true

@@ -1,12 +1,10 @@
-use Rattle.std.specs.Prelude.{ℕ, zero, suc, ℤ, pos, negsuc, Bool, false, ◌&&◌, ◌||◌, ◌==◌, nat_lt, nat_le, unsigned_abs, if◌then◌else◌}
+use Rattle.std.specs.Prelude.{ℕ, ℤ, pos, negsuc, Bool, ◌&&◌, ◌||◌, ◌==◌, nat_le, unsigned_abs, if◌then◌else◌}
 use Rattle.std.specs.Int.{w8, w32, w64}
 use Rattle.qm_space.specs.Bounds.{normal_bound, distance_bound}
 use Rattle.qm_space.specs.Plane.{Plane}
 use Rattle.qm_space.specs.Reduced.{leads_positive}
 use Rattle.qm_space.specs.ThreePoints.{common_factor}
-use Rattle.qm_contents.specs.declared.contents.Contents.{Contents}
-use Rattle.qm_contents.specs.declared.contents.Contents.TheVariants.{Empty, Solid, Water, Slime, Lava, Sky}
-use Rattle.qm_contents.specs.Codes.{code_of}
+use Rattle.qm_contents.specs.Codes.{code_of, is_code, contents_of_code}
 use Rattle.qm_partition.specs.declared.node.Child.{Child}
 use Rattle.qm_partition.specs.declared.node.Child.TheVariants.{Node, Leaf}
 use Rattle.qm_partition.specs.declared.node.Node.{Node as NodeRecord}
@@ -64,19 +62,6 @@ node_layout =
     part (λ here. here.plane) (unsigned short w32) (λ plane.
     part (λ here. here.front) child_layout (λ front.
     last_part (λ here. here.back) child_layout (λ back. record { plane = plane; front = front; back = back })))
-
--- the contents of a code, which is one of -1 to -6
-abbrev pub contents_of_code : ℤ → Contents
-contents_of_code (negsuc zero) = Empty
-contents_of_code (negsuc (suc zero)) = Solid
-contents_of_code (negsuc (suc (suc zero))) = Water
-contents_of_code (negsuc (suc (suc (suc zero)))) = Slime
-contents_of_code (negsuc (suc (suc (suc (suc zero))))) = Lava
-contents_of_code _ = Sky
-
-abbrev pub is_code : ℤ → Bool
-is_code (pos n) = false
-is_code (negsuc n) = nat_lt n 6
 
 -- a code of contents, and a byte that is 0, or 1 where these are solid
 unfoldable pub is_leaf : ℤ × ℕ → Bool

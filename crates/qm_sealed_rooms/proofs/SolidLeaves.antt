@@ -1,6 +1,6 @@
 -- A leaf that has a point of a full solid of stone, be it on its border, is solid: near the point the leaf has points
 -- strictly inside the solid, and some of them are on no node plane.
-use Rattle.std.proofs.Common.{◌≡◌, ℕ, ◌+◌, suc, pos, List, ◌++◌, Contains, Some, refl, sym, ap, ◌∙◌, subst, arith}
+use Rattle.std.proofs.Common.{◌≡◌, ℕ, ◌+◌, suc, pos, List, ◌++◌, Contains, Some, sym, ap, ◌∙◌, subst, arith}
 use Rattle.std.specs.Prelude.{slice_get}
 use Rattle.std.proofs.lemmas.Int.{ints}
 use Rattle.std.proofs.lemmas.List.Elements.{All-append}
@@ -8,6 +8,7 @@ use Rattle.qm_lists.proofs.Elements.{All-first_part, All-last_part}
 use Rattle.qm_contents.specs.declared.contents.Contents.{Contents}
 use Rattle.qm_contents.specs.declared.contents.Contents.TheVariants as contents
 use Rattle.qm_contents.specs.Precedence.{IsAtMost}
+use Rattle.qm_contents.proofs.Strengths.{only_solid}
 use Rattle.qm_space.specs.Point.{Point}
 use Rattle.qm_space.specs.Plane.{Plane, IsInFront}
 use Rattle.qm_space.specs.Cell.{IsInCell}
@@ -28,15 +29,6 @@ use Rattle.qm_partition.proofs.LeafNumbers.{leaf_of_number}
 use Rattle.qm_partition.proofs.NodePlanes.{off_node_planes}
 use Rattle.qm_solid_tree.specs.GivesContents.{GivesContents}
 use Rattle.qm_partition.proofs.OffPlanes.{IsOffPlace, off_place, node_normals}
-
--- nothing is as strong as solid
-pub only_solid : (c : Contents) → IsAtMost contents.Solid c → c ≡ contents.Solid
-only_solid contents.Empty most = absurd (omega (arith, most))
-only_solid contents.Solid most = refl
-only_solid contents.Water most = absurd (omega (arith, most))
-only_solid contents.Slime most = absurd (omega (arith, most))
-only_solid contents.Lava most = absurd (omega (arith, most))
-only_solid contents.Sky most = absurd (omega (arith, most))
 
 module _ (tree : Tree) (solids : List Solid) (gives : GivesContents tree solids) (k : ℕ) (way : Way) (found : Leaf) (leads : LeadsTo tree.shape k way found) where
   -- a point in the cell of the way has this leaf

@@ -8,7 +8,8 @@ use Rattle.qm_lists.proofs.Cases.{by_cases}
 use Rattle.qm_lists.proofs.EachPair.{EachPair}
 use Rattle.qm_lists.proofs.Elements.{Contains-first, Contains-later, Contains-cons_cases}
 use Rattle.qm_contents.specs.declared.contents.Contents.{Contents}
-use Rattle.qm_contents.specs.declared.contents.Contents.TheVariants.{Empty, Solid, Water, Slime, Lava, Sky}
+use Rattle.qm_contents.specs.declared.contents.Contents.TheVariants.{Solid}
+use Rattle.qm_contents.proofs.SixKinds.{each_but_solid}
 use Rattle.qm_contents.specs.Precedence.{strength}
 use Rattle.qm_partition.specs.declared.node.Leaf.{Leaf}
 use Rattle.qm_partition.specs.Tree.{Tree}
@@ -77,12 +78,7 @@ pairs_cases R (first ∷ xs) x y each x_there y_there = ⊎_elim
 -- ---- leaves of one contents
 
 pub numbered_from_contents : (contents : Contents) → contents ≢ Solid → not (is_solid contents) ≡ true
-numbered_from_contents Empty other = refl
-numbered_from_contents Solid other = absurd (other refl)
-numbered_from_contents Water other = refl
-numbered_from_contents Slime other = refl
-numbered_from_contents Lava other = refl
-numbered_from_contents Sky other = refl
+numbered_from_contents = each_but_solid (λ contents. not (is_solid contents) ≡ true) refl refl refl refl refl
 
 -- the leaf of number k is there, with these contents
 pub record HasLeaf (tree : Tree) (contents : Contents) (k : ℕ) : Type 0 where
