@@ -52,7 +52,7 @@ face_through face coordinates plane =
     plane.spans plane.not_too_fine
 
 -- the outward plane of a valid face is a positive multiple of its plane in lowest terms, turned outward
-outward_multiple : (face : Face) → IsValidFace face → IsPositiveMultiple (face_outward face) (turned_outward face)
+outward_multiple : (face : Face) → IsValidFace face → IsPositiveMultiple (face_outward face) (turned_outward face_plane face)
 outward_multiple face valid = (face_through face valid.coordinates valid.plane).multiple
 
 -- the plane through three points that give one is answered
@@ -61,7 +61,7 @@ ok_if_plane points (Ok plane) line found gives = refl
 ok_if_plane points (Err NoNormal) line found gives = absurd (gives.spans (line refl))
 ok_if_plane points (Err TooFine) line found gives = absurd (gives.not_too_fine (found refl))
 
-outward_multiples : (faces : List Face) → All IsValidFace faces → AllZip IsPositiveMultiple (map face_outward faces) (map turned_outward faces)
+pub outward_multiples : (faces : List Face) → All IsValidFace faces → AllZip IsPositiveMultiple (map face_outward faces) (map (turned_outward face_plane) faces)
 outward_multiples [] valid = tt
 outward_multiples (face ∷ faces) valid = (outward_multiple face (All-head IsValidFace face faces valid), outward_multiples faces (All-tail IsValidFace face faces valid))
 
@@ -117,7 +117,7 @@ faces_after faces more entry starts ends =
 
 -- ---- the brush that is added
 
-module _ (brush : Brush) (faces after : List FaceRef) (entries : List Entry) (entry : Entry) (old new : List Plane) (valid : All IsValidFace brush.faces) (entered : AreFacesEntered brush.faces faces after old new) (starts : entry.start ≡ length faces) (ends : entry.end ≡ length after) where
+module _ {F : Type 0} (side_of : F → Plane × Bool) (sides : List F) (faces after : List FaceRef) (entries : List Entry) (entry : Entry) (old new : List Plane) (entered : AreFacesEntered side_of sides faces after old new) (starts : entry.start ≡ length faces) (ends : entry.end ≡ length after) where
   its_faces : faces_of_entry after entry ≡ entered.its
   its_faces =
       ap (λ (those : List FaceRef). faces_of_entry those entry) entered.added
@@ -126,7 +126,7 @@ module _ (brush : Brush) (faces after : List FaceRef) (entries : List Entry) (en
   pub its_numbered : AreNumberedIn new (faces_of_entry after entry)
   its_numbered = subst (AreNumberedIn new) (sym its_faces) entered.numbered
 
-  its_outward : outward_planes new (faces_of_entry after entry) ≡ map turned_outward brush.faces
+  pub its_outward : outward_planes new (faces_of_entry after entry) ≡ map (turned_outward side_of) sides
   its_outward = ap (outward_planes new) its_faces ∙ entered.outward
 
   pub one_more_within : AreWithin faces entries → AreWithin after (entries ++ entry ∷ [])
@@ -135,22 +135,29 @@ module _ (brush : Brush) (faces after : List FaceRef) (entries : List Entry) (en
       let m = length-append faces entered.its in
       All-push (IsWithin after) entries entry (longer_within faces after entered.its entries entered.added within) (record { ordered = omega arith; bounded = omega arith })
 
-  pub brush_added : AreWithin faces entries → AreBookPlanes new →
+  -- the list has the entry at its end
+  pub entry_added : AreWithin faces entries → solids_of_entries after (entries ++ entry ∷ []) ≡ solids_of_entries faces entries ++ solid_of_entry after entry ∷ []
+  entry_added within =
+      map-append (solid_of_entry after) entries (entry ∷ [])
+      ∙ ap (λ (those : List BookSolid). those ++ solid_of_entry after entry ∷ [])
+      (ap (λ (refs : List FaceRef). solids_of_entries refs entries) entered.added ∙ solids_before faces entered.its entries within)
+
+module _ (brush : Brush) (faces after : List FaceRef) (entries : List Entry) (entry : Entry) (old new : List Plane) (entered : AreFacesEntered face_plane brush.faces faces after old new) (starts : entry.start ≡ length faces) (ends : entry.end ≡ length after) where
+  pub brush_added : All IsValidFace brush.faces → AreWithin faces entries → AreBookPlanes new →
       MatchBool entry.full (IsFull (solid_behind new (faces_of_entry after entry))) (IsFull (solid_behind new (faces_of_entry after entry)) → ⊥) →
       IsBrushAdded brush entry.contents (solids_of_entries faces entries) (solids_of_entries after (entries ++ entry ∷ [])) old new
-  brush_added within book full = record {
+  brush_added valid within book full = record {
     its = solid_of_entry after entry;
-    added =
-        map-append (solid_of_entry after) entries (entry ∷ [])
-        ∙ ap (λ (those : List BookSolid). those ++ solid_of_entry after entry ∷ [])
-        (ap (λ (refs : List FaceRef). solids_of_entries refs entries) entered.added ∙ solids_before faces entered.its entries within);
+    added = entry_added face_plane brush.faces faces after entries entry old new entered starts ends within;
     kept = record {
-      numbered = its_numbered;
+      numbered = its_numbered face_plane brush.faces faces after entries entry old new entered starts ends;
       flag = flag_with_planes entry.full (solid_behind new (faces_of_entry after entry)) (solid_in new (solid_of_entry after entry)) refl full;
     };
     alike = record {
       same_contents = refl;
-      multiples = subst (λ (planes : List Plane). AllZip IsPositiveMultiple (map face_outward brush.faces) planes) (sym its_outward) (outward_multiples brush.faces valid);
+      multiples =
+          subst (λ (planes : List Plane). AllZip IsPositiveMultiple (map face_outward brush.faces) planes)
+          (sym (its_outward face_plane brush.faces faces after entries entry old new entered starts ends)) (outward_multiples brush.faces valid);
     };
     planes = book;
     entered = entered.entered;

@@ -1,5 +1,5 @@
 -- Faces whose planes enter a book, one after another.
-use Rattle.std.proofs.Common.{◌≡◌, ℕ, ◌<◌, ◌≤◌, ◌+◌, List, [], ◌∷◌, ◌++◌, length, get_or, take, drop, Some, Result, Ok, Err, refl, sym, ap, ◌∙◌, subst, arith}
+use Rattle.std.proofs.Common.{◌≡◌, ℕ, ◌<◌, ◌≤◌, ◌+◌, Bool, List, [], ◌∷◌, ◌++◌, length, get_or, take, drop, Some, Result, Ok, Err, refl, sym, ap, ◌∙◌, subst, arith}
 use Rattle.std.specs.Prelude.{slice_get, OnErr}
 use Rattle.std.specs.Prelude.{map as mapped}
 use Rattle.std.proofs.lemmas.Option.{slice_get-get_or, slice_get_within}
@@ -12,11 +12,9 @@ use Rattle.qm_space.proofs.Books.{plane_at_from}
 use Rattle.qm_space.specs.Entered.{AreEnteredInBook, none}
 use Rattle.qm_geom.proofs.Entering.{entered_at, earlier_stay}
 use Rattle.qm_geom.proofs.EnteredPlanes.{one_entered, more_entered, length-all_entered}
-use Rattle.qm_mapfile.specs.declared.face.Face.{Face}
 use Rattle.qm_solids.specs.declared.face.FaceRef.{FaceRef}
 use Rattle.qm_solids.specs.Outward.{outward_of, outward_planes, AreNumberedIn}
-use Rattle.qm_drawn.specs.Planes.{plane_of_face}
-use Rattle.qm_brush.specs.inner.Entered.{is_out_front, turned_outward, AreFirstEntered, IsFaceEntered, AreFacesEntered}
+use Rattle.qm_brush.specs.inner.Entered.{plane_on_side, turned_outward, AreFirstEntered, IsFaceEntered, AreFacesEntered}
 
 -- what holds in any case holds where there is an error
 pub on_error : {T E P : Type 0} (result : Result T E) → P → OnErr result P
@@ -49,59 +47,62 @@ module _ (old new : List Plane) (stay : Stay old new) where
 
 -- ---- faces
 
--- no face yet
-pub none_entered : (faces : List Face) (into : List FaceRef) (book : List Plane) → AreFacesEntered (take 0 faces) into into book book
-none_entered faces into book = record { its = []; added = sym (append-nil into); numbered = All-nil (λ f. f.plane < length book); outward = refl; entered = none }
+module _ {F : Type 0} (side_of : F → Plane × Bool) where
+  -- no face yet
+  pub none_entered : (faces : List F) (into : List FaceRef) (book : List Plane) → AreFacesEntered side_of (take 0 faces) into into book book
+  none_entered faces into book = record { its = []; added = sym (append-nil into); numbered = All-nil (λ f. f.plane < length book); outward = refl; entered = none }
 
-module _ (faces : List Face) (face : Face) (before middle after : List FaceRef) (old mid new : List Plane) where
+module _ {F : Type 0} (side_of : F → Plane × Bool) (faces : List F) (face : F) (before middle after : List FaceRef) (old mid new : List Plane) where
   -- one face more
-  pub one_more_entered : AreFacesEntered faces before middle old mid → IsFaceEntered face middle after mid new → AreFacesEntered (faces ++ face ∷ []) before after old new
+  pub one_more_entered : AreFacesEntered side_of faces before middle old mid → IsFaceEntered side_of face middle after mid new → AreFacesEntered side_of (faces ++ face ∷ []) before after old new
   one_more_entered those this =
-      let its_ref : FaceRef = record { plane = this.number; out_is_front = is_out_front face } in
-      let stay : Stay mid new = earlier_stay mid new (plane_of_face face) this.number this.enters in
-      let at = entered_at mid new (plane_of_face face) this.number this.enters in
+      let its_plane : Plane = plane_on_side side_of face in
+      let its_ref : FaceRef = record { plane = this.number; out_is_front = (side_of face).1 } in
+      let stay : Stay mid new = earlier_stay mid new its_plane this.number this.enters in
+      let at = entered_at mid new its_plane this.number this.enters in
       record {
         its = those.its ++ its_ref ∷ [];
         added = this.added ∙ ap (λ (refs : List FaceRef). refs ++ its_ref ∷ []) those.added ∙ append_assoc before those.its (its_ref ∷ []);
-        numbered = All-push (λ f. f.plane < length new) those.its its_ref (still_numbered mid new stay those.its those.numbered) (slice_get_within new this.number (plane_of_face face) at);
+        numbered = All-push (λ f. f.plane < length new) those.its its_ref (still_numbered mid new stay those.its those.numbered) (slice_get_within new this.number its_plane at);
         outward =
             map-append (outward_of new) those.its (its_ref ∷ [])
             ∙ ap (λ (planes : List Plane). planes ++ outward_of new its_ref ∷ []) (same_outward mid new stay those.its those.numbered ∙ those.outward)
-            ∙ ap (λ (h : Plane). mapped turned_outward faces ++ turned (is_out_front face) h ∷ []) (plane_at_from new this.number (plane_of_face face) at)
-            ∙ sym (map-append turned_outward faces (face ∷ []));
+            ∙ ap (λ (h : Plane). mapped (turned_outward side_of) faces ++ turned (side_of face).1 h ∷ []) (plane_at_from new this.number its_plane at)
+            ∙ sym (map-append (turned_outward side_of) faces (face ∷ []));
         entered =
-            subst (λ (planes : List Plane). AreEnteredInBook old planes new) (sym (map-append plane_of_face faces (face ∷ [])))
-            (more_entered old mid new (mapped plane_of_face faces) (plane_of_face face ∷ []) those.entered (one_entered mid new (plane_of_face face) this.number this.enters));
+            subst (λ (planes : List Plane). AreEnteredInBook old planes new) (sym (map-append (plane_on_side side_of) faces (face ∷ [])))
+            (more_entered old mid new (mapped (plane_on_side side_of) faces) (its_plane ∷ []) those.entered (one_entered mid new its_plane this.number this.enters));
       }
 
 -- along a list of faces
-module _ (faces : List Face) (i : ℕ) (before middle : List FaceRef) (old mid : List Plane) (those : AreFacesEntered (take i faces) before middle old mid) where
-  pub next_entered : (face : Face) (after : List FaceRef) (new : List Plane) → i < length faces → face ≡ get_or faces i face → IsFaceEntered face middle after mid new → AreFacesEntered (take (i + 1) faces) before after old new
+module _ {F : Type 0} (side_of : F → Plane × Bool) (faces : List F) (i : ℕ) (before middle : List FaceRef) (old mid : List Plane) (those : AreFacesEntered side_of (take i faces) before middle old mid) where
+  pub next_entered : (face : F) (after : List FaceRef) (new : List Plane) → i < length faces → face ≡ get_or faces i face → IsFaceEntered side_of face middle after mid new → AreFacesEntered side_of (take (i + 1) faces) before after old new
   next_entered face after new within is this =
-      subst (λ (fs : List Face). AreFacesEntered fs before after old new) (sym (take_more faces i face within ∙ ap (λ (f : Face). take i faces ++ f ∷ []) (sym is)))
-      (one_more_entered (take i faces) face before middle after old mid new those this)
+      subst (λ (fs : List F). AreFacesEntered side_of fs before after old new) (sym (take_more faces i face within ∙ ap (λ (f : F). take i faces ++ f ∷ []) (sym is)))
+      (one_more_entered side_of (take i faces) face before middle after old mid new those this)
 
-  pub all_entered : length faces ≤ i → AreFacesEntered faces before middle old mid
-  all_entered past = subst (λ (fs : List Face). AreFacesEntered fs before middle old mid) (take_all i faces past) those
+  pub all_entered : length faces ≤ i → AreFacesEntered side_of faces before middle old mid
+  all_entered past = subst (λ (fs : List F). AreFacesEntered side_of fs before middle old mid) (take_all i faces past) those
 
   -- the book has at most so many planes more
   pub length-entered_faces : i ≤ length faces → length mid ≤ length old + i
   length-entered_faces within =
-      let n = length-all_entered old mid (mapped plane_of_face (take i faces)) those.entered in
-      let m = length-map (take i faces) plane_of_face in
+      let n = length-all_entered old mid (mapped (plane_on_side side_of) (take i faces)) those.entered in
+      let m = length-map (take i faces) (plane_on_side side_of) in
       let t = length-take i faces in
       omega arith
 
   -- want of memory
-  pub first_entered : AreFirstEntered old (mapped plane_of_face faces) mid
+  pub first_entered : AreFirstEntered old (mapped (plane_on_side side_of) faces) mid
   first_entered = record {
-    first = mapped plane_of_face (take i faces);
-    rest = mapped plane_of_face (drop i faces);
-    parts = ap (λ (fs : List Face). mapped plane_of_face fs) (sym (take-append-drop i faces)) ∙ map-append plane_of_face (take i faces) (drop i faces);
+    first = mapped (plane_on_side side_of) (take i faces);
+    rest = mapped (plane_on_side side_of) (drop i faces);
+    parts = ap (λ (fs : List F). mapped (plane_on_side side_of) fs) (sym (take-append-drop i faces)) ∙ map-append (plane_on_side side_of) (take i faces) (drop i faces);
     entered = those.entered;
   }
 
--- all of them are first ones
-pub whole_entered : (faces : List Face) (before after : List FaceRef) (old new : List Plane) → AreFacesEntered faces before after old new → AreFirstEntered old (mapped plane_of_face faces) new
-whole_entered faces before after old new those =
-    record { first = mapped plane_of_face faces; rest = []; parts = sym (append-nil (mapped plane_of_face faces)); entered = those.entered }
+module _ {F : Type 0} (side_of : F → Plane × Bool) where
+  -- all of them are first ones
+  pub whole_entered : (faces : List F) (before after : List FaceRef) (old new : List Plane) → AreFacesEntered side_of faces before after old new → AreFirstEntered old (mapped (plane_on_side side_of) faces) new
+  whole_entered faces before after old new those =
+      record { first = mapped (plane_on_side side_of) faces; rest = []; parts = sym (append-nil (mapped (plane_on_side side_of) faces)); entered = those.entered }

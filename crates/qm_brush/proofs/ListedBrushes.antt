@@ -1,9 +1,9 @@
--- The brushes of a world that are added to a list, one after another.
+-- Brushes that are added to a list, one after another.
 use Rattle.std.proofs.Common.{◌≡◌, ℕ, ◌<◌, ◌≤◌, ◌+◌, Bool, true, false, cond, List, [], ◌∷◌, ◌++◌, length, get_or, take, drop, filter, All, Option, Some, None, refl, sym, ap, ◌∙◌, subst, arith}
 use Rattle.std.specs.Prelude.{MatchOption, IsTrue, is_some, option_map, sum_by, flat_map}
 use Rattle.std.specs.List.{AllZip, filter_map, cons_option}
 use Rattle.std.proofs.lemmas.Grind.{flat_map-append}
-use Rattle.std.proofs.lemmas.List.{take_more, take_at, drop_more, append_assoc, append-nil, map-append, take-append-drop, length-append, length-map}
+use Rattle.std.proofs.lemmas.List.{take_all, take_more, take_at, drop_more, append_assoc, append-nil, map-append, take-append-drop, length-append, length-map}
 use Rattle.std.proofs.lemmas.List.Sums.{sum_by-cons, sum_by-take-le}
 use Rattle.std.proofs.lemmas.List.Elements.{AllZip-push, All-nil, All-push, All-head, All-tail, filter_map-append, filter-append}
 use Rattle.qm_space.specs.Plane.{Plane}
@@ -114,6 +114,9 @@ module _ (brushes : List Brush) (i : ℕ) (list : List BookSolid) (old mid : Lis
   next_added brush after new within is this =
       subst (λ (bs : List Brush). AreAdded bs after old new) (sym (take_more brushes i brush within ∙ ap (λ (b : Brush). take i brushes ++ b ∷ []) (sym is)))
       (one_more_added (take i brushes) brush list after old mid new those (contents_of_brush brush) refl this)
+
+  pub all_added : length brushes ≤ i → AreAdded brushes list old mid
+  all_added past = subst (λ (bs : List Brush). AreAdded bs list old mid) (take_all i brushes past) those
 
   -- the book has room for the faces of another brush
   pub length-added : length mid ≤ length old + sum_by (λ brush. length brush.faces) brushes

@@ -1,3 +1,4 @@
+pub mod ValidFaces
 pub mod Entries
 pub mod Entered
 pub mod Added

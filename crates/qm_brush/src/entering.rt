@@ -23,7 +23,7 @@ pub(crate) fn enter_faces(
 ) -> Result<(), AllocError>
     requires valid { All IsValidFace faces.now }
     requires room { length book.old + length faces.now < 2 ^ 32 - 1 }
-    ensures ok { IfOk result (λ _. AreFacesEntered faces.now into.old.items into.new.items book.old book.new) }
+    ensures ok { IfOk result (λ _. AreFacesEntered face_plane faces.now into.old.items into.new.items book.old book.new) }
     ensures err { OnErr result (AreFirstEntered book.old (map plane_of_face faces.now) book.new) }
     ensures longer { (more : List FaceRef) × (into.new.items ≡ into.old.items ++ more) }
 {
@@ -38,7 +38,7 @@ fn enter_face(into: &mut Vec<FaceRef>, face: &Face, book: &mut PlaneBook) -> Res
     requires coordinates { All AreThousandths face.now.points }
     requires plane { HasPlane face.now }
     requires room { length book.old < 2 ^ 32 - 1 }
-    ensures ok { IfOk result (λ _. IsFaceEntered face.now into.old.items into.new.items book.old book.new) }
+    ensures ok { IfOk result (λ _. IsFaceEntered face_plane face.now into.old.items into.new.items book.old book.new) }
     ensures same_faces { OnErr result (into.new.items ≡ into.old.items) }
     ensures same_book { OnErr result (book.new ≡ book.old) }
 {

@@ -1,4 +1,4 @@
-//! From a map to the solids of its world: which brushes it has, what fills them, and behind which planes they lie.
+//! From a map to the solids of its entities: which brushes each has, what fills them, and behind which planes they lie.
 #![tactic(auto)]
 
 mod brush_list;
@@ -11,7 +11,7 @@ mod sides;
 mod world;
 
 pub use brush_list::BrushList;
-pub use listing::brushes;
+pub use listing::{brushes, brushes_of};
 pub use qm_contents::Contents;
 pub use qm_solids::FaceRef;
 pub use sides::inner_side;

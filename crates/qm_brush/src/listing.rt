@@ -1,4 +1,4 @@
-//! From a map to the list of the brushes of its world.
+//! From a map to the lists of the brushes of its entities.
 
 ghost use Rattle.std.specs.Prelude.{ℕ, ◌<◌, ◌≤◌, ◌+◌, ◌-◌, ◌^◌, length, take, IfOk, OnErr, IsTrue, All};
 ghost use Rattle.std.specs.List.{AllZip};
@@ -6,14 +6,15 @@ ghost use Rattle.qm_grammar.specs.Valid.{IsValidMap, IsValidFace};
 ghost use Rattle.qm_space.specs.Entered.{AreEnteredInBook};
 ghost use Rattle.qm_solids.specs.Alike.{IsAlike};
 ghost use Rattle.qm_solids.specs.InBook.{solids_in, IsBookOf};
-ghost use Rattle.qm_drawn.specs.Planes.{planes_of_brush, drawn_planes};
-ghost use Rattle.qm_drawn.specs.Solids.{drawn_solids};
+ghost use Rattle.qm_drawn.specs.Planes.{planes_of_brush, planes_of_drawn, drawn_planes, entity_planes};
+ghost use Rattle.qm_drawn.specs.Solids.{drawn_solids, entity_solids};
 ghost use Rattle.qm_drawn.specs.Brushes.{is_drawn};
-ghost use Rattle.qm_brush.specs.inner.Added.{IsAddedIfDrawn};
+ghost use Rattle.qm_brush.specs.inner.ValidFaces.{HaveValidFaces};
+ghost use Rattle.qm_brush.specs.inner.Added.{IsAddedIfDrawn, AreAdded};
 ghost use Rattle.qm_brush.specs.inner.Entered.{AreFirstEntered};
 
 use crate::brush_list::BrushList;
-use crate::world::{contents_of_brush, world_brushes};
+use crate::world::{contents_of_brush, entity_brushes, world_brushes};
 use qm_geom::PlaneBook;
 use qm_mapfile::{Brush, MapFile};
 use std::alloc::{AllocError, Global};
@@ -28,10 +29,43 @@ pub fn brushes(alloc: Global, map: &MapFile, book: &mut PlaneBook) -> Result<Bru
     ensures entered { IfOk result (λ _. AreEnteredInBook book.old (drawn_planes map.now) book.new) }
     ensures prefix { OnErr result ((k : ℕ) × AreEnteredInBook book.old (take k (drawn_planes map.now)) book.new) }
 {
+    listed(alloc, world_brushes(map), book)
+}
+
+/// The drawn brushes of one entity of a map, whose number is its place in the text: the world is 0. What `brushes`
+/// says of the world's holds of these.
+pub fn brushes_of(
+    alloc: Global,
+    map: &MapFile,
+    entity: u64,
+    book: &mut PlaneBook,
+) -> Result<BrushList, AllocError>
+    requires valid { IsValidMap map.now }
+    requires there { entity < length map.now.entities }
+    requires room { length book.old ≤ 2 ^ 31 }
+    ensures solids { IfOk result (λ list. AllZip IsAlike (entity_solids map.now entity) (solids_in book.new list)) }
+    ensures book { IfOk result (λ list. IsBookOf book.new list) }
+    ensures entered { IfOk result (λ _. AreEnteredInBook book.old (entity_planes map.now entity) book.new) }
+    ensures prefix { OnErr result ((k : ℕ) × AreEnteredInBook book.old (take k (entity_planes map.now entity)) book.new) }
+{
+    listed(alloc, entity_brushes(map, entity), book)
+}
+
+/// Those of some brushes that are drawn, in their order.
+fn listed(
+    alloc: Global,
+    brushes: &[Brush],
+    book: &mut PlaneBook,
+) -> Result<BrushList, AllocError>
+    requires valid { HaveValidFaces brushes.now }
+    requires room { length book.old ≤ 2 ^ 31 }
+    ensures ok { IfOk result (λ list. AreAdded brushes.now list book.old book.new) }
+    ensures prefix { OnErr result ((k : ℕ) × AreEnteredInBook book.old (take k (planes_of_drawn brushes.now)) book.new) }
+{
     // Of a book it is known from its length that its planes are in lowest terms and each there once.
     let _ = book.len();
     let mut list = BrushList::new(alloc);
-    for brush in world_brushes(map) {
+    for brush in brushes {
         add_if_drawn(alloc, &mut list, brush, book)?;
     }
     Ok(list)

@@ -1,5 +1,5 @@
-ghost use Rattle.std.specs.Prelude.{◌≡◌};
-ghost use Rattle.qm_drawn.specs.Brushes.{world_brushes, first_texture, contents_of_brush};
+ghost use Rattle.std.specs.Prelude.{◌≡◌, ◌<◌, length};
+ghost use Rattle.qm_drawn.specs.Brushes.{world_brushes, entity_brushes, first_texture, contents_of_brush};
 
 use qm_contents::{Contents, of_texture};
 use qm_mapfile::{Brush, MapFile};
@@ -12,6 +12,14 @@ pub(crate) fn world_brushes(map: &MapFile) -> &[Brush]
         [world, ..] => world.brushes.as_slice(),
         [] => &[],
     }
+}
+
+/// The brushes of an entity.
+pub(crate) fn entity_brushes(map: &MapFile, entity: u64) -> &[Brush]
+    requires { entity < length map.now.entities }
+    ensures { result.now ≡ entity_brushes map.now entity }
+{
+    map.entities.as_slice()[entity as usize].brushes.as_slice()
 }
 
 /// The contents of a brush, which the texture's name on its first face gives; `None` for clip.

@@ -1,4 +1,4 @@
-use Rattle.std.specs.Prelude.{ℕ, Bool, List, [], ◌∷◌, Option, filter, is_some}
+use Rattle.std.specs.Prelude.{ℕ, Bool, List, [], ◌∷◌, slice_index_or, Option, filter, is_some}
 use Rattle.qm_mapfile.specs.declared.face.Face.{Face}
 use Rattle.qm_mapfile.specs.declared.entity.Brush.{Brush}
 use Rattle.qm_mapfile.specs.declared.entity.Entity.{Entity}
@@ -14,6 +14,10 @@ brushes_of_first (world ∷ others) = world.brushes
 abbrev pub world_brushes : MapFile → List Brush
 world_brushes map = brushes_of_first map.entities
 
+-- the brushes of the entity of that number, of which the world is 0
+abbrev pub entity_brushes : MapFile → ℕ → List Brush
+entity_brushes map e = (slice_index_or map.entities e (record { pairs = []; brushes = [] })).brushes
+
 -- the name of the texture on the first face
 abbrev pub first_texture : List Face → List ℕ
 first_texture [] = []
@@ -27,6 +31,10 @@ contents_of_brush brush = contents_of_texture (first_texture brush.faces)
 abbrev pub is_drawn : Brush → Bool
 is_drawn brush = is_some (contents_of_brush brush)
 
+-- those of some brushes that are not clip, in their order
+abbrev pub drawn_ones : List Brush → List Brush
+drawn_ones brushes = filter is_drawn brushes
+
 -- the world's brushes that are not clip, in the order of the text
 abbrev pub drawn_brushes : MapFile → List Brush
-drawn_brushes map = filter is_drawn (world_brushes map)
+drawn_brushes map = drawn_ones (world_brushes map)

@@ -2,35 +2,36 @@ use Rattle.std.proofs.Common.{sym, ◌∙◌, subst, arith}
 use Rattle.qm_space.specs.Plane.{Plane}
 use Rattle.qm_grammar.specs.Valid.{IsValidFace}
 use Rattle.qm_drawn.specs.Planes.{plane_of_face}
+use Rattle.qm_mapfile.specs.Face.{face_plane}
 use Rattle.qm_brush.specs.inner.Entered.{AreFirstEntered}
 use Rattle.std.specs.Prelude.{List, map}
 use Rattle.qm_brush.proofs.EnteredFaces.{on_error, none_entered, next_entered, all_entered, length-entered_faces, first_entered}
 use Rattle.qm_brush.proofs.entering.enter_faces.Goals as goal
 
 pub loop-face-init : goal.loop-face-init
-loop-face-init c = none_entered c.args.faces.now c.args.into.now.items c.args.book.now
+loop-face-init c = none_entered face_plane c.args.faces.now c.args.into.now.items c.args.book.now
 
 pub enter_face-requires-clause-room : goal.enter_face-requires-clause-room
 enter_face-requires-clause-room c =
-    let n = length-entered_faces c.args.faces.now c.loop-face.face-index c.args.into.now.items c.loop-face.into.items c.args.book.now c.loop-face.book c.loop-face.invariant c.loop-face.auto.face-index-end in
+    let n = length-entered_faces face_plane c.args.faces.now c.loop-face.face-index c.args.into.now.items c.loop-face.into.items c.args.book.now c.loop-face.book c.loop-face.invariant c.loop-face.auto.face-index-end in
     let room = c.requires.room in
     let within = c.loop-face-test.true in
     omega (arith, n, room, within)
 
 pub loop-face-preserved : goal.loop-face-preserved
 loop-face-preserved c =
-    next_entered c.args.faces.now c.loop-face.face-index c.args.into.now.items c.loop-face.into.items c.args.book.now c.loop-face.book c.loop-face.invariant
+    next_entered face_plane c.args.faces.now c.loop-face.face-index c.args.into.now.items c.loop-face.into.items c.args.book.now c.loop-face.book c.loop-face.invariant
     c.face-item.result c.enter_face.new.into.items c.enter_face.new.book c.loop-face-test.true c.face-item.is c.in_ok-enter_face.ensures.ok
 
 pub returns-in_err-enter_face-clause-err : goal.returns-in_err-enter_face-clause-err
 returns-in_err-enter_face-clause-err c =
     on_error c.from_residual.result
     (subst (λ (book : List Plane). AreFirstEntered c.args.book.now (map plane_of_face c.args.faces.now) book) (sym c.in_err-enter_face.ensures.same_book)
-    (first_entered c.args.faces.now c.loop-face.face-index c.args.into.now.items c.loop-face.into.items c.args.book.now c.loop-face.book c.loop-face.invariant))
+    (first_entered face_plane c.args.faces.now c.loop-face.face-index c.args.into.now.items c.loop-face.into.items c.args.book.now c.loop-face.book c.loop-face.invariant))
 
 pub returns-clause-ok : goal.returns-clause-ok
 returns-clause-ok c =
-    all_entered c.args.faces.now c.loop-face.face-index c.args.into.now.items c.loop-face.into.items c.args.book.now c.loop-face.book c.loop-face.invariant c.loop-face-test.false
+    all_entered face_plane c.args.faces.now c.loop-face.face-index c.args.into.now.items c.loop-face.into.items c.args.book.now c.loop-face.book c.loop-face.invariant c.loop-face-test.false
 
 pub returns-clause-longer : goal.returns-clause-longer
 returns-clause-longer c = (c.loop-face.invariant.its, c.loop-face.invariant.added)

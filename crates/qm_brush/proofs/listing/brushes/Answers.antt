@@ -1,35 +1,5 @@
-use Rattle.std.proofs.Common.{arith}
-use Rattle.qm_drawn.specs.Brushes.{world_brushes}
-use Rattle.qm_brush.proofs.EnteredFaces.{on_error}
-use Rattle.qm_brush.proofs.ListedBrushes.{none_added, next_added, length-added, part_entered}
-use Rattle.qm_brush.proofs.ValidBrushes.{valid_brush_at, world_faces}
+use Rattle.qm_brush.proofs.ValidBrushes.{valid_world}
 use Rattle.qm_brush.proofs.listing.brushes.Goals as goal
 
-pub loop-brush-init : goal.loop-brush-init
-loop-brush-init c =
-    rw c.new-list.ensures (none_added (world_brushes c.args.map.now) c.args.book.now c.len.ensures.planes)
-
-pub add_if_drawn-requires-clause-valid : goal.add_if_drawn-requires-clause-valid
-add_if_drawn-requires-clause-valid c =
-    (valid_brush_at c.args.map.now c.requires.valid c.world_brushes-brush-items.result.now c.loop-brush.brush-index c.brush-item.result c.world_brushes-brush-items.ensures c.loop-brush-test.true c.brush-item.is).faces
-
-pub add_if_drawn-requires-clause-room : goal.add_if_drawn-requires-clause-room
-add_if_drawn-requires-clause-room c =
-    let few = (valid_brush_at c.args.map.now c.requires.valid c.world_brushes-brush-items.result.now c.loop-brush.brush-index c.brush-item.result c.world_brushes-brush-items.ensures c.loop-brush-test.true c.brush-item.is).few in
-    let n = length-added (world_brushes c.args.map.now) c.loop-brush.brush-index c.loop-brush.list c.args.book.now c.loop-brush.book c.loop-brush.invariant in
-    let all = world_faces c.args.map.now c.requires.valid in
-    let room = c.requires.room in
-    omega (arith, few, n, all, room)
-
-pub loop-brush-preserved : goal.loop-brush-preserved
-loop-brush-preserved c =
-    next_added (world_brushes c.args.map.now) c.loop-brush.brush-index c.loop-brush.list c.args.book.now c.loop-brush.book c.loop-brush.invariant
-    c.brush-item.result c.add_if_drawn.new.list c.add_if_drawn.new.book (rw (← c.world_brushes-brush-items.ensures) c.loop-brush-test.true)
-    (rw (← c.world_brushes-brush-items.ensures) c.brush-item.is) c.in_ok-add_if_drawn.ensures.ok
-
-pub returns-in_err-add_if_drawn-clause-prefix : goal.returns-in_err-add_if_drawn-clause-prefix
-returns-in_err-add_if_drawn-clause-prefix c =
-    on_error c.from_residual.result
-    (part_entered (world_brushes c.args.map.now) c.loop-brush.brush-index c.loop-brush.list c.args.book.now c.loop-brush.book c.loop-brush.invariant
-    c.brush-item.result c.add_if_drawn.new.book (rw (← c.world_brushes-brush-items.ensures) c.loop-brush-test.true)
-    (rw (← c.world_brushes-brush-items.ensures) c.brush-item.is) c.in_err-add_if_drawn.ensures.drawn c.in_err-add_if_drawn.ensures.err)
+pub listed-requires-clause-valid : goal.listed-requires-clause-valid
+listed-requires-clause-valid c = rw c.world_brushes.ensures (valid_world c.args.map.now c.requires.valid)

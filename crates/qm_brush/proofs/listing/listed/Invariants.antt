@@ -1,8 +1,7 @@
 use Rattle.std.proofs.Common.{take}
-use Rattle.qm_drawn.specs.Brushes.{world_brushes}
 use Rattle.qm_brush.specs.inner.Added.{AreAdded}
-use Rattle.qm_brush.proofs.listing.brushes.Given as goal
+use Rattle.qm_brush.proofs.listing.listed.Given as goal
 
 -- the brushes before are in the list
 abbrev pub invariant-loop-brush : goal.invariant-loop-brush
-invariant-loop-brush l = AreAdded (take l.brush-index (world_brushes l.map)) l.list l.initial.book l.book
+invariant-loop-brush l = AreAdded (take l.brush-index l.brushes) l.list l.initial.book l.book
