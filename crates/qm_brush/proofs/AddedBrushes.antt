@@ -1,10 +1,10 @@
 -- A brush that is added to a list.
-use Rattle.std.proofs.Common.{◌≡◌, ℕ, ℤ, ◌-◌, Bool, true, false, List, [], ◌∷◌, ◌++◌, length, get_or, take, drop, map, All, Result, Ok, Err, inl, inr, refl, sym, ap, ◌∙◌, subst, arith}
+use Rattle.std.proofs.Common.{◌≡◌, ℕ, ℤ, ◌-◌, ◌<◌, ◌^◌, Bool, true, false, List, [], ◌∷◌, ◌++◌, length, get_or, take, drop, map, All, Result, Ok, Err, inl, inr, refl, sym, ap, ◌∙◌, subst, arith}
 use Rattle.std.specs.Prelude.{IsOk}
 use Rattle.std.specs.List.{AllZip}
 use Rattle.std.specs.Bool.{MatchBool}
 use Rattle.std.proofs.lemmas.Bool.{cases_lt}
-use Rattle.std.proofs.lemmas.List.{take_all, take-append-le, drop-append-le, drop_at, map-append, length-append, length-drop, get_or_past}
+use Rattle.std.proofs.lemmas.List.{take_all, take-append-le, drop-append-le, drop_at, map-append, length-append, length-map, length-take, length-drop, get_or_past}
 use Rattle.std.proofs.lemmas.List.Elements.{All-nil, All-head, All-tail, All-push}
 use Rattle.qm_space.specs.Point.{AreThousandths, IsThousandths}
 use Rattle.qm_space.specs.Plane.{Plane}
@@ -26,7 +26,7 @@ use Rattle.qm_grammar.specs.Valid.{IsValidFace}
 use Rattle.qm_solids.specs.declared.face.FaceRef.{FaceRef}
 use Rattle.qm_solids.specs.Solid.{Solid}
 use Rattle.qm_solids.specs.Holding.{IsFull}
-use Rattle.qm_solids.specs.Outward.{outward_planes, AreNumberedIn}
+use Rattle.qm_solids.specs.Outward.{outward_of, outward_planes, AreNumberedIn}
 use Rattle.qm_solids.specs.InBook.{BookSolid, solid_in}
 use Rattle.qm_brush.specs.declared.entry.Entry.{Entry}
 use Rattle.qm_brush.specs.inner.Entries.{faces_of_entry, solid_of_entry, solids_of_entries, IsWithin, AreWithin}
@@ -107,7 +107,14 @@ longer_within faces after more entries added within = λ k d there.
     let bounded = its.bounded in
     let n = ap (λ (those : List FaceRef). length those) added in
     let m = length-append faces more in
-    record { ordered = ordered; bounded = omega arith }
+    record { ordered = ordered; bounded = omega arith; few = its.few }
+
+-- an entry has no more faces than 32 bits can count
+pub length-faces_of_entry : (faces : List FaceRef) (entry : Entry) → IsWithin faces entry → length (faces_of_entry faces entry) < 2 ^ 32
+length-faces_of_entry faces entry within =
+    let few = within.few in
+    let n = length-take (entry.end - entry.start) (drop entry.start faces) in
+    omega (arith, few, n)
 
 -- the faces that follow are those of an entry that begins there
 faces_after : (faces more : List FaceRef) (entry : Entry) → entry.start ≡ length faces → entry.end ≡ length (faces ++ more) → faces_of_entry (faces ++ more) entry ≡ more
@@ -129,11 +136,17 @@ module _ {F : Type 0} (side_of : F → Plane × Bool) (sides : List F) (faces af
   pub its_outward : outward_planes new (faces_of_entry after entry) ≡ map (turned_outward side_of) sides
   its_outward = ap (outward_planes new) its_faces ∙ entered.outward
 
-  pub one_more_within : AreWithin faces entries → AreWithin after (entries ++ entry ∷ [])
-  one_more_within within =
+  -- as many faces as there are
+  its_count : length entered.its ≡ length sides
+  its_count =
+      sym (length-map entered.its (outward_of new)) ∙ ap (λ (planes : List Plane). length planes) entered.outward ∙ length-map sides (turned_outward side_of)
+
+  pub one_more_within : length sides < 2 ^ 32 → AreWithin faces entries → AreWithin after (entries ++ entry ∷ [])
+  one_more_within few within =
+      let count = its_count in
       let n = ap (λ (those : List FaceRef). length those) entered.added in
       let m = length-append faces entered.its in
-      All-push (IsWithin after) entries entry (longer_within faces after entered.its entries entered.added within) (record { ordered = omega arith; bounded = omega arith })
+      All-push (IsWithin after) entries entry (longer_within faces after entered.its entries entered.added within) (record { ordered = omega arith; bounded = omega arith; few = omega (arith, n, m, count, few, starts, ends) })
 
   -- the list has the entry at its end
   pub entry_added : AreWithin faces entries → solids_of_entries after (entries ++ entry ∷ []) ≡ solids_of_entries faces entries ++ solid_of_entry after entry ∷ []

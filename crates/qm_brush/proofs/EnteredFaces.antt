@@ -54,7 +54,7 @@ module _ {F : Type 0} (side_of : F → Plane × Bool) where
 
 module _ {F : Type 0} (side_of : F → Plane × Bool) (faces : List F) (face : F) (before middle after : List FaceRef) (old mid new : List Plane) where
   -- one face more
-  pub one_more_entered : AreFacesEntered side_of faces before middle old mid → IsFaceEntered side_of face middle after mid new → AreFacesEntered side_of (faces ++ face ∷ []) before after old new
+  pub one_more_entered : AreFacesEntered side_of faces before middle old mid → IsFaceEntered (side_of face) middle after mid new → AreFacesEntered side_of (faces ++ face ∷ []) before after old new
   one_more_entered those this =
       let its_plane : Plane = plane_on_side side_of face in
       let its_ref : FaceRef = record { plane = this.number; out_is_front = (side_of face).1 } in
@@ -76,7 +76,7 @@ module _ {F : Type 0} (side_of : F → Plane × Bool) (faces : List F) (face : F
 
 -- along a list of faces
 module _ {F : Type 0} (side_of : F → Plane × Bool) (faces : List F) (i : ℕ) (before middle : List FaceRef) (old mid : List Plane) (those : AreFacesEntered side_of (take i faces) before middle old mid) where
-  pub next_entered : (face : F) (after : List FaceRef) (new : List Plane) → i < length faces → face ≡ get_or faces i face → IsFaceEntered side_of face middle after mid new → AreFacesEntered side_of (take (i + 1) faces) before after old new
+  pub next_entered : (face : F) (after : List FaceRef) (new : List Plane) → i < length faces → face ≡ get_or faces i face → IsFaceEntered (side_of face) middle after mid new → AreFacesEntered side_of (take (i + 1) faces) before after old new
   next_entered face after new within is this =
       subst (λ (fs : List F). AreFacesEntered side_of fs before after old new) (sym (take_more faces i face within ∙ ap (λ (f : F). take i faces ++ f ∷ []) (sym is)))
       (one_more_entered side_of (take i faces) face before middle after old mid new those this)

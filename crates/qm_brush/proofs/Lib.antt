@@ -5,4 +5,7 @@ pub mod AddedBrushes
 pub mod ListedBrushes
 pub mod FacesOfBook
 pub mod PartsOfFaces
+pub mod MovedFaces
+pub mod MovedBrushes
+pub mod MovedEnds
 pub mod Samples

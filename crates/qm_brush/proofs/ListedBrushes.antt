@@ -35,10 +35,10 @@ module _ (old new : List Plane) (stay : Stay old new) where
     flag = flag_with_planes solid.full (solid_in old solid) (solid_in new solid) (sym (same_outward old new stay solid.faces kept.numbered)) kept.flag;
   }
 
-  all_kept : (solids : List BookSolid) → All (IsKeptIn old) solids → All (IsKeptIn new) solids
+  pub all_kept : (solids : List BookSolid) → All (IsKeptIn old) solids → All (IsKeptIn new) solids
   all_kept solids kept = λ k d within. still_kept (get_or solids k d) (kept k d within)
 
-  same_solids : (solids : List BookSolid) → All (IsKeptIn old) solids → solids_in new solids ≡ solids_in old solids
+  pub same_solids : (solids : List BookSolid) → All (IsKeptIn old) solids → solids_in new solids ≡ solids_in old solids
   same_solids [] kept = refl
   same_solids (solid ∷ solids) kept =
       let first : solid_in new solid ≡ solid_in old solid =

@@ -1,1 +1,2 @@
+pub mod MovedBrushes
 pub mod inner

@@ -2,7 +2,12 @@ ghost use Rattle.std.specs.Prelude.{◌≡◌, ◌<◌, ◌+◌, ◌-◌, ◌^�
 ghost use Rattle.qm_grammar.specs.Valid.{IsValidFace};
 ghost use Rattle.qm_solids.specs.InBook.{solid_at, solid_in, solids_in, IsKeptIn, IsBookOf};
 ghost use Rattle.qm_solids.specs.Contents.{HasContents};
+ghost use Rattle.qm_solids.specs.Holding.{IsFull};
 ghost use Rattle.qm_drawn.specs.Planes.{planes_of_brush};
+ghost use Rattle.qm_blocking.specs.Moved.{IsMovingBox};
+ghost use Rattle.qm_blocking.specs.Blocking.{solid_part};
+ghost use Rattle.qm_blocking.specs.MovedSolids.{moved_planes_of_brush};
+ghost use Rattle.qm_brush.specs.inner.MovedAdded.{IsMovedAdded};
 ghost use Rattle.qm_brush.specs.inner.Added.{IsBrushAdded};
 ghost use Rattle.qm_brush.specs.inner.Entered.{AreFirstEntered};
 ghost use Rattle.qm_brush.specs.inner.Entries.{solid_of_entry, IsWithin};
@@ -10,9 +15,10 @@ ghost use Rattle.qm_brush.specs.inner.Entries.{solid_of_entry, IsWithin};
 use crate::entering::enter_faces;
 use crate::entry::Entry;
 use crate::fullness::is_full;
+use crate::moving::enter_moved_faces;
 use crate::sides::is_in_front_of_none;
 use qm_contents::{Contents, stronger};
-use qm_geom::{Plane, PlaneBook, Point};
+use qm_geom::{Cuboid, Plane, PlaneBook, Point};
 use qm_mapfile::Brush;
 use qm_solids::FaceRef;
 use std::alloc::{AllocError, Global};
@@ -74,6 +80,35 @@ impl BrushList {
         Ok(())
     }
 
+    /// Adds a full brush as a solid one, whatever its name, behind its planes moved outward by a box. These planes enter the
+    /// book, in their order; where memory runs out, first ones of them.
+    pub(crate) fn add_moved(
+        &mut self,
+        brush: &Brush,
+        cuboid: &Cuboid,
+        book: &mut PlaneBook,
+    ) -> Result<(), AllocError>
+        requires valid { All IsValidFace brush.now.faces }
+        requires moving { IsMovingBox cuboid.now }
+        requires full { IsFull (solid_part brush.now) }
+        requires room { length book.old + length brush.now.faces < 2 ^ 32 - 1 }
+        ensures ok { IfOk result (λ _. IsMovedAdded cuboid.now brush.now self.old self.new book.old book.new) }
+        ensures err { OnErr result (AreFirstEntered book.old (moved_planes_of_brush cuboid.now brush.now) book.new) }
+    {
+        let start = self.faces.len();
+        enter_moved_faces(&mut self.faces, brush.faces.as_slice(), cuboid, book)?;
+        let end = self.faces.len();
+        // Of a book it is known from its length that its planes are in lowest terms and each there once.
+        let _ = book.len();
+        self.entries.push(Entry {
+            contents: Contents::Solid,
+            full: true,
+            start,
+            end,
+        })?;
+        Ok(())
+    }
+
     /// How many brushes there are.
     pub fn len(&self) -> u64
         ensures { result ≡ length self.now }
@@ -97,10 +132,11 @@ impl BrushList {
         self.entries[i as usize].contents
     }
 
-    /// The faces of a brush, in the order of the text.
+    /// The faces of a brush, in the order of the text, so that a place among them is a number of 32 bits.
     pub fn faces(&self, i: u64) -> &[FaceRef]
         requires { i < length self.now }
-        ensures { result.now ≡ (solid_at self.now i).faces }
+        ensures are { result.now ≡ (solid_at self.now i).faces }
+        ensures few { length result.now < 2 ^ 32 }
     {
         let entry = self.entries[i as usize];
         &self.faces[entry.start..entry.end]

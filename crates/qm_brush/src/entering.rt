@@ -38,11 +38,26 @@ fn enter_face(into: &mut Vec<FaceRef>, face: &Face, book: &mut PlaneBook) -> Res
     requires coordinates { All AreThousandths face.now.points }
     requires plane { HasPlane face.now }
     requires room { length book.old < 2 ^ 32 - 1 }
-    ensures ok { IfOk result (λ _. IsFaceEntered face_plane face.now into.old.items into.new.items book.old book.new) }
+    ensures ok { IfOk result (λ _. IsFaceEntered (face_plane face.now) into.old.items into.new.items book.old book.new) }
     ensures same_faces { OnErr result (into.new.items ≡ into.old.items) }
     ensures same_book { OnErr result (book.new ≡ book.old) }
 {
-    let (plane, out_is_front) = plane_of_face(face);
+    enter_side(into, plane_of_face(face), book)
+}
+
+/// Adds a face of this plane and flag. Where memory runs out, all stays as it was.
+pub(crate) fn enter_side(
+    into: &mut Vec<FaceRef>,
+    side: (Plane, bool),
+    book: &mut PlaneBook,
+) -> Result<(), AllocError>
+    requires leads { IsTrue (leads_positive side.0) }
+    requires room { length book.old < 2 ^ 32 - 1 }
+    ensures ok { IfOk result (λ _. IsFaceEntered side into.old.items into.new.items book.old book.new) }
+    ensures same_faces { OnErr result (into.new.items ≡ into.old.items) }
+    ensures same_book { OnErr result (book.new ≡ book.old) }
+{
+    let (plane, out_is_front) = side;
     into.reserve(1)?;
     let plane = book.number(plane)?;
     into.push(FaceRef {
@@ -53,7 +68,7 @@ fn enter_face(into: &mut Vec<FaceRef>, face: &Face, book: &mut PlaneBook) -> Res
 }
 
 /// The plane of a face, and whether outward is its front.
-fn plane_of_face(face: &Face) -> (Plane, bool)
+pub(crate) fn plane_of_face(face: &Face) -> (Plane, bool)
     requires coordinates { All AreThousandths face.now.points }
     requires plane { HasPlane face.now }
     ensures value { result ≡ face_plane face.now }

@@ -52,11 +52,7 @@ pub fn brushes_of(
 }
 
 /// Those of some brushes that are drawn, in their order.
-fn listed(
-    alloc: Global,
-    brushes: &[Brush],
-    book: &mut PlaneBook,
-) -> Result<BrushList, AllocError>
+fn listed(alloc: Global, brushes: &[Brush], book: &mut PlaneBook) -> Result<BrushList, AllocError>
     requires valid { HaveValidFaces brushes.now }
     requires room { length book.old ≤ 2 ^ 31 }
     ensures ok { IfOk result (λ list. AreAdded brushes.now list book.old book.new) }

@@ -16,6 +16,12 @@ pub record AreFirstEntered (old planes new : List Plane) : Type 0 where
   pub parts : planes ≡ first ++ rest
   pub entered : AreEnteredInBook old first new
 
+-- a face of this plane and flag was added at the end of a list of faces, and the plane entered
+pub record IsFaceEntered (side : Plane × Bool) (before after : List FaceRef) (old new : List Plane) : Type 0 where
+  pub number : ℕ
+  pub enters : EntersBook old new side.0 number
+  pub added : after ≡ before ++ record { plane = number; out_is_front = side.1 } ∷ []
+
 module _ {F : Type 0} (side_of : F → Plane × Bool) where
   -- the plane of a face
   abbrev pub plane_on_side : F → Plane
@@ -24,12 +30,6 @@ module _ {F : Type 0} (side_of : F → Plane × Bool) where
   -- the same, turned outward
   abbrev pub turned_outward : F → Plane
   turned_outward face = turned (side_of face).1 (side_of face).0
-
-  -- a face was added at the end of a list of faces, and its plane entered
-  pub record IsFaceEntered (face : F) (before after : List FaceRef) (old new : List Plane) : Type 0 where
-    pub number : ℕ
-    pub enters : EntersBook old new (side_of face).0 number
-    pub added : after ≡ before ++ record { plane = number; out_is_front = (side_of face).1 } ∷ []
 
   -- faces were added at the end of a list of faces, and their planes entered
   pub record AreFacesEntered (faces : List F) (before after : List FaceRef) (old new : List Plane) : Type 0 where

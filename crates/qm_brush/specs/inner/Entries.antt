@@ -1,4 +1,4 @@
-use Rattle.std.specs.Prelude.{◌-◌, ◌≤◌, List, length, take, drop, map, All}
+use Rattle.std.specs.Prelude.{◌-◌, ◌≤◌, ◌<◌, ◌^◌, List, length, take, drop, map, All}
 use Rattle.qm_solids.specs.declared.face.FaceRef.{FaceRef}
 use Rattle.qm_solids.specs.InBook.{BookSolid}
 use Rattle.qm_brush.specs.declared.entry.Entry.{Entry}
@@ -14,10 +14,11 @@ solid_of_entry faces entry = record { contents = entry.contents; full = entry.fu
 abbrev pub solids_of_entries : List FaceRef → List Entry → List BookSolid
 solids_of_entries faces entries = map (solid_of_entry faces) entries
 
--- the faces of an entry stand in the list of all faces
+-- the faces of an entry stand in the list of all faces, and their places in the entry are numbers of 32 bits
 pub record IsWithin (faces : List FaceRef) (entry : Entry) : Type 0 where
   pub ordered : entry.start ≤ entry.end
   pub bounded : entry.end ≤ length faces
+  pub few : entry.end - entry.start < 2 ^ 32
 
 abbrev pub AreWithin : List FaceRef → List Entry → Type 0
 AreWithin faces entries = All (IsWithin faces) entries

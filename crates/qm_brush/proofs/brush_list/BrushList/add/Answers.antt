@@ -1,4 +1,4 @@
-use Rattle.std.proofs.Common.{false, rules}
+use Rattle.std.proofs.Common.{false, rules, arith}
 use Rattle.qm_mapfile.specs.Face.{face_plane}
 use Rattle.qm_brush.specs.declared.entry.Entry.{Entry}
 use Rattle.qm_brush.proofs.EnteredFaces.{on_error, whole_entered}
@@ -41,7 +41,7 @@ invariant_of-self-2 c =
     let entered = rw c.as_slice.ensures at c.in_ok-enter_faces.ensures.ok in
     rw c.in_ok-push.ensures.items
     (one_more_within face_plane c.args.brush.now.faces c.self.inside.faces.items c.enter_faces.new.into.items c.self.inside.entries.items entry c.args.book.now c.enter_faces.new.book
-    entered (search rules) (search rules) c.self.invariant)
+    entered (search rules) (search rules) (let room = c.requires.room in omega (arith, room)) c.self.invariant)
 
 pub returns-in_err-enter_faces-clause-err : goal.returns-in_err-enter_faces-clause-err
 returns-in_err-enter_faces-clause-err c = on_error c.from_residual.result (rw c.as_slice.ensures at c.in_err-enter_faces.ensures.err)

@@ -1,0 +1,4 @@
+pub mod MovedPlanes
+pub mod MovedParts
+pub mod Obstacles
+pub mod MovingBoxes

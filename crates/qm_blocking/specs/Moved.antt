@@ -1,0 +1,40 @@
+use Rattle.std.specs.Prelude.{ℕ, ◌≤◌, ℤ, pos, ◌+ℤ◌, ◌-ℤ◌, ◌≤ℤ◌, unsigned_abs}
+use Rattle.qm_space.specs.Plane.{Plane}
+use Rattle.qm_space.specs.Cuboid.{Span, Cuboid, least_product}
+
+-- Planes that are moved outward by a box. Where they are turned outward of a solid, a point that is behind none of them is one at
+-- which the box can stand without meeting the solid.
+
+-- the least value that the normal of a plane has at a corner of the box
+abbrev pub least_over : Cuboid → Plane → ℤ
+least_over box h = (least_product h.nx box.x +ℤ least_product h.ny box.y) +ℤ least_product h.nz box.z
+
+-- the plane, so much nearer
+abbrev pub moved_by : Cuboid → Plane → Plane
+moved_by box h = record { nx = h.nx; ny = h.ny; nz = h.nz; d = h.d -ℤ least_over box h }
+
+-- the span has 0
+pub record HasZero (span : Span) : Type 0 where
+  pub low : span.low ≤ℤ pos 0
+  pub high : pos 0 ≤ℤ span.high
+
+-- the box has the point that it is set at
+pub record HasOrigin (box : Cuboid) : Type 0 where
+  pub x : HasZero box.x
+  pub y : HasZero box.y
+  pub z : HasZero box.z
+
+-- a span within a bound
+pub record IsSpanUpTo (bound : ℕ) (span : Span) : Type 0 where
+  pub low : unsigned_abs span.low ≤ bound
+  pub high : unsigned_abs span.high ≤ bound
+
+pub record IsBoxUpTo (bound : ℕ) (box : Cuboid) : Type 0 where
+  pub x : IsSpanUpTo bound box.x
+  pub y : IsSpanUpTo bound box.y
+  pub z : IsSpanUpTo bound box.z
+
+-- a box that moves: it has the point that it is set at, and does not reach farther than 64
+pub record IsMovingBox (box : Cuboid) : Type 0 where
+  pub has_origin : HasOrigin box
+  pub short : IsBoxUpTo 64 box
