@@ -7,6 +7,7 @@ mod field_reading;
 mod file_fault;
 mod header_reading;
 mod laws;
+mod plain;
 mod plane_form;
 mod reading;
 mod record_bytes;
@@ -24,6 +25,7 @@ pub use laws::{
     cut_file, exact_layout, first_version_file, numbered_nodes, one_tree_file, reduced_planes,
     upgraded_file,
 };
+pub use plain::plain_file;
 pub use reading::decode;
 pub use tree_file::{Section, TreeFile};
 pub use upgrading::upgrade;
