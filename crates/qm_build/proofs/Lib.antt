@@ -1,4 +1,5 @@
 pub mod DefinedTrees
+pub mod BuiltTrees
 pub mod LeastPlanes
 pub mod Walks
 pub mod WalkedHalves

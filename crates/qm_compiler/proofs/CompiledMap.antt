@@ -65,7 +65,7 @@ use Rattle.qm_compiler.specs.inner.Finished.{IsCount, IsFinished}
 use Rattle.qm_compiler.specs.inner.FlatCount.{flat_count}
 use Rattle.qm_compiler.specs.inner.NewFile.{new_file}
 use Rattle.qm_compiler.specs.inner.Prepared.{IsPrepared, marked_of}
-use Rattle.qm_compiler.proofs.BuiltTrees.{tree_well_made, tree_reduced}
+use Rattle.qm_build.proofs.BuiltTrees.{tree_well_made, tree_reduced}
 use Rattle.qm_compiler.proofs.NewFiles.{new_form}
 use Rattle.qm_compiler.proofs.Origins.{one_origins}
 use Rattle.qm_compiler.proofs.WrittenRows.{valid_without_rows, valid_with_rows, leaf_rows_over}

@@ -1,4 +1,3 @@
-pub mod BuiltTrees
 pub mod CompiledMap
 pub mod FlatSoFar
 pub mod Flooded
