@@ -31,7 +31,7 @@ contents_of_brush brush = contents_of_texture (first_texture brush.faces)
 abbrev pub is_drawn : Brush → Bool
 is_drawn brush = is_some (contents_of_brush brush)
 
--- those of some brushes that are not clip, in their order
+-- the brushes among some that are not clip, in their order
 abbrev pub drawn_ones : List Brush → List Brush
 drawn_ones brushes = filter is_drawn brushes
 

@@ -18,10 +18,10 @@ planes_of_brush brush = mapped plane_of_face brush.faces
 abbrev pub planes_of_drawn : List Brush → List Plane
 planes_of_drawn brushes = flat_map planes_of_brush (drawn_ones brushes)
 
--- those of the world's brushes, in the order of the text
+-- the planes of all faces of the world's brushes that are not clip, in the order of the text
 abbrev pub drawn_planes : MapFile → List Plane
 drawn_planes map = planes_of_drawn (world_brushes map)
 
--- those of an entity's brushes, in the order of the text
+-- the planes of all faces of an entity's brushes that are not clip, in the order of the text
 abbrev pub entity_planes : MapFile → ℕ → List Plane
 entity_planes map e = planes_of_drawn (entity_brushes map e)
