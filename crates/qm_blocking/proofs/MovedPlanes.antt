@@ -14,25 +14,25 @@ use Rattle.qm_space.specs.Point.{Point}
 use Rattle.qm_space.specs.Plane.{Plane, value, IsBehind, scaled}
 use Rattle.qm_space.specs.Multiple.{IsPositiveMultiple}
 use Rattle.qm_space.specs.Reduced.{IsReduced}
-use Rattle.qm_space.specs.Cuboid.{Span, Cuboid, least_product}
+use Rattle.qm_space.specs.Cuboid.{Stretch, Cuboid, least_product}
 use Rattle.qm_space.proofs.Cuboids.{least_product_bound}
 use Rattle.qm_space.proofs.ReducedPlanes.{same_plane}
-use Rattle.qm_blocking.specs.Moved.{least_over, moved_by, HasZero, HasOrigin, IsSpanUpTo, IsBoxUpTo, IsMovingBox}
+use Rattle.qm_blocking.specs.Moved.{least_over, moved_by, HasZero, HasOrigin, IsStretchUpTo, IsBoxUpTo, IsMovingBox}
 
 -- ---- the least product
 
-least_of_negative : (n : ℤ) (span : Span) → n <ℤ pos 0 → least_product n span ≡ n *ℤ span.high
+least_of_negative : (n : ℤ) (stretch : Stretch) → n <ℤ pos 0 → least_product n stretch ≡ n *ℤ stretch.high
 unfolding least_product
-least_of_negative n span less = elim (side_test n) [
-  | inl test ↦ ap (λ (c : Bool). cond c (n *ℤ span.high) (n *ℤ span.low)) test.0
+least_of_negative n stretch less = elim (side_test n) [
+  | inl test ↦ ap (λ (c : Bool). cond c (n *ℤ stretch.high) (n *ℤ stretch.low)) test.0
   | inr test ↦ absurd (let not = test.1 in omega (arith, ints))
 ]
 
-least_of_other : (n : ℤ) (span : Span) → pos 0 ≤ℤ n → least_product n span ≡ n *ℤ span.low
+least_of_other : (n : ℤ) (stretch : Stretch) → pos 0 ≤ℤ n → least_product n stretch ≡ n *ℤ stretch.low
 unfolding least_product
-least_of_other n span not = elim (side_test n) [
+least_of_other n stretch not = elim (side_test n) [
   | inl test ↦ absurd (let less = test.1 in omega (arith, ints))
-  | inr test ↦ ap (λ (c : Bool). cond c (n *ℤ span.high) (n *ℤ span.low)) test.0
+  | inr test ↦ ap (λ (c : Bool). cond c (n *ℤ stretch.high) (n *ℤ stretch.low)) test.0
 ]
 
 -- it is a product of the component
@@ -40,32 +40,32 @@ record IsProduct (n product : ℤ) : Type 0 where
   factor : ℤ
   is : product ≡ n *ℤ factor
 
-least_is_product : (n : ℤ) (span : Span) → IsProduct n (least_product n span)
-least_is_product n span = by_least n (pos 0)
-    (λ less. record { factor = span.high; is = least_of_negative n span less })
-    (λ not. record { factor = span.low; is = least_of_other n span not })
+least_is_product : (n : ℤ) (stretch : Stretch) → IsProduct n (least_product n stretch)
+least_is_product n stretch = by_least n (pos 0)
+    (λ less. record { factor = stretch.high; is = least_of_negative n stretch less })
+    (λ not. record { factor = stretch.low; is = least_of_other n stretch not })
 
-least_scaled : (k n : ℤ) (span : Span) → pos 0 <ℤ k → least_product (k *ℤ n) span ≡ k *ℤ least_product n span
-least_scaled k n span positive = by_least n (pos 0)
-    (λ less. least_of_negative (k *ℤ n) span (positive_times_negative k n positive less) ∙ *ℤ_assoc k n span.high ∙ sym (ap (λ z. k *ℤ z) (least_of_negative n span less)))
+least_scaled : (k n : ℤ) (stretch : Stretch) → pos 0 <ℤ k → least_product (k *ℤ n) stretch ≡ k *ℤ least_product n stretch
+least_scaled k n stretch positive = by_least n (pos 0)
+    (λ less. least_of_negative (k *ℤ n) stretch (positive_times_negative k n positive less) ∙ *ℤ_assoc k n stretch.high ∙ sym (ap (λ z. k *ℤ z) (least_of_negative n stretch less)))
     (λ not.
     let some : pos 0 ≤ℤ k = omega (arith, linear) in
-    least_of_other (k *ℤ n) span (product_not_negative k n some not) ∙ *ℤ_assoc k n span.low ∙ sym (ap (λ z. k *ℤ z) (least_of_other n span not)))
+    least_of_other (k *ℤ n) stretch (product_not_negative k n some not) ∙ *ℤ_assoc k n stretch.low ∙ sym (ap (λ z. k *ℤ z) (least_of_other n stretch not)))
 
-least_small : (n : ℤ) (span : Span) → unsigned_abs n ≤ normal_bound → IsSpanUpTo 64 span → unsigned_abs (least_product n span) ≤ 2 ^ 32
-least_small n span small short = by_least n (pos 0)
-    (λ less. let e = ap unsigned_abs (least_of_negative n span less) in let s = abs_product_bound n span.high normal_bound 64 small short.high in omega (arith, e, s))
-    (λ not. let e = ap unsigned_abs (least_of_other n span not) in let s = abs_product_bound n span.low normal_bound 64 small short.low in omega (arith, e, s))
+least_small : (n : ℤ) (stretch : Stretch) → unsigned_abs n ≤ normal_bound → IsStretchUpTo 64 stretch → unsigned_abs (least_product n stretch) ≤ 2 ^ 32
+least_small n stretch small short = by_least n (pos 0)
+    (λ less. let e = ap unsigned_abs (least_of_negative n stretch less) in let s = abs_product_bound n stretch.high normal_bound 64 small short.high in omega (arith, e, s))
+    (λ not. let e = ap unsigned_abs (least_of_other n stretch not) in let s = abs_product_bound n stretch.low normal_bound 64 small short.low in omega (arith, e, s))
 
-least_not_positive : (n : ℤ) (span : Span) → HasZero span → least_product n span ≤ℤ pos 0
-least_not_positive n span zero =
+least_not_positive : (n : ℤ) (stretch : Stretch) → HasZero stretch → least_product n stretch ≤ℤ pos 0
+least_not_positive n stretch zero =
     let low = zero.low in let high = zero.high in
-    let low_once = *ℤ_one span.low in let high_once = *ℤ_one span.high in
-    let above : (span.low *ℤ pos 1) ≤ℤ pos 0 = omega (arith, linear) in
-    let below : pos 0 ≤ℤ (span.high *ℤ pos 1) = omega (arith, linear) in
-    let bound = least_product_bound n span (pos 0) (pos 1) (record { above = above; below = below }) in
+    let low_once = *ℤ_one stretch.low in let high_once = *ℤ_one stretch.high in
+    let above : (stretch.low *ℤ pos 1) ≤ℤ pos 0 = omega (arith, linear) in
+    let below : pos 0 ≤ℤ (stretch.high *ℤ pos 1) = omega (arith, linear) in
+    let bound = least_product_bound n stretch (pos 0) (pos 1) (record { above = above; below = below }) in
     let none = *ℤ_zero n in
-    let once = *ℤ_one (least_product n span) in
+    let once = *ℤ_one (least_product n stretch) in
     omega (arith, linear)
 
 -- ---- multiples

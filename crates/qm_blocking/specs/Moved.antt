@@ -1,6 +1,6 @@
 use Rattle.std.specs.Prelude.{ℕ, ◌≤◌, ℤ, pos, ◌+ℤ◌, ◌-ℤ◌, ◌≤ℤ◌, unsigned_abs}
 use Rattle.qm_space.specs.Plane.{Plane}
-use Rattle.qm_space.specs.Cuboid.{Span, Cuboid, least_product}
+use Rattle.qm_space.specs.Cuboid.{Stretch, Cuboid, least_product}
 
 -- Planes that are moved outward by a box. Where they are turned outward of a solid, a point that is behind none of them is one at
 -- which the box can stand without meeting the solid.
@@ -13,10 +13,10 @@ least_over box h = (least_product h.nx box.x +ℤ least_product h.ny box.y) +ℤ
 abbrev pub moved_by : Cuboid → Plane → Plane
 moved_by box h = record { nx = h.nx; ny = h.ny; nz = h.nz; d = h.d -ℤ least_over box h }
 
--- the span has 0
-pub record HasZero (span : Span) : Type 0 where
-  pub low : span.low ≤ℤ pos 0
-  pub high : pos 0 ≤ℤ span.high
+-- the stretch has 0
+pub record HasZero (stretch : Stretch) : Type 0 where
+  pub low : stretch.low ≤ℤ pos 0
+  pub high : pos 0 ≤ℤ stretch.high
 
 -- the box has the point that it is set at
 pub record HasOrigin (box : Cuboid) : Type 0 where
@@ -24,15 +24,15 @@ pub record HasOrigin (box : Cuboid) : Type 0 where
   pub y : HasZero box.y
   pub z : HasZero box.z
 
--- a span within a bound
-pub record IsSpanUpTo (bound : ℕ) (span : Span) : Type 0 where
-  pub low : unsigned_abs span.low ≤ bound
-  pub high : unsigned_abs span.high ≤ bound
+-- a stretch within a bound
+pub record IsStretchUpTo (bound : ℕ) (stretch : Stretch) : Type 0 where
+  pub low : unsigned_abs stretch.low ≤ bound
+  pub high : unsigned_abs stretch.high ≤ bound
 
 pub record IsBoxUpTo (bound : ℕ) (box : Cuboid) : Type 0 where
-  pub x : IsSpanUpTo bound box.x
-  pub y : IsSpanUpTo bound box.y
-  pub z : IsSpanUpTo bound box.z
+  pub x : IsStretchUpTo bound box.x
+  pub y : IsStretchUpTo bound box.y
+  pub z : IsStretchUpTo bound box.z
 
 -- a box that moves: it has the point that it is set at, and does not reach farther than 64
 pub record IsMovingBox (box : Cuboid) : Type 0 where

@@ -21,7 +21,7 @@ use crate::entering::enter_faces;
 use crate::fullness::is_full;
 use crate::world::{contents_of_brush, world_brushes};
 use qm_contents::Contents;
-use qm_geom::{Cuboid, PlaneBook, Span};
+use qm_geom::{Cuboid, PlaneBook, Stretch};
 use qm_mapfile::{Brush, MapFile};
 use std::alloc::{AllocError, Global};
 
@@ -53,19 +53,19 @@ fn box_between(lo: [i32; 3], hi: [i32; 3]) -> Cuboid
     ensures { result ≡ box_between lo hi }
 {
     Cuboid {
-        x: span_between(lo[0], hi[0]),
-        y: span_between(lo[1], hi[1]),
-        z: span_between(lo[2], hi[2]),
+        x: stretch_between(lo[0], hi[0]),
+        y: stretch_between(lo[1], hi[1]),
+        z: stretch_between(lo[2], hi[2]),
     }
 }
 
-/// The span from a low end of a box to a high one.
-fn span_between(low: i32, high: i32) -> Span
+/// The stretch from a low end of a box to a high one.
+fn stretch_between(low: i32, high: i32) -> Stretch
     requires low { IsLowEnd low }
     requires high { IsHighEnd high }
     ensures { result ≡ record { low = low; high = high } }
 {
-    Span::between(low, high)
+    Stretch::between(low, high)
 }
 
 /// The obstacles among some brushes, moved, in their order.

@@ -11,7 +11,7 @@ use Rattle.qm_formats.specs.Layout.{followed_by}
 use Rattle.qm_formats.specs.Fields.{unsigned, signed}
 use Rattle.qm_formats.specs.Exact.{IsExact}
 use Rattle.qm_formats.specs.FileParts.{short, plane_form, leaf_form, is_plane, plane_layout, child_of_number, number_of_child, child_layout, node_layout, is_leaf, leaf_layout}
-use Rattle.qm_formats.proofs.ExactParts.{recast_exact, tested_exact, pair_exact, part_exact, last_part_exact, exact_of_parts}
+use Rattle.qm_formats.proofs.ExactParts.{recast_exact, tested_exact, followed_by_exact, part_exact, last_part_exact, exact_of_parts}
 use Rattle.qm_formats.proofs.ExactFields.{byte_exact, unsigned_32_exact, signed_32_exact, signed_64_exact}
 
 pub plane_exact : IsExact plane_layout

@@ -1,5 +1,5 @@
 use Rattle.qm_brush.proofs.MovedEnds.{low_kept}
 use Rattle.qm_brush.proofs.blocking.box_between.Goals as goal
 
-pub span_between-requires-3-clause-low : goal.span_between-requires-3-clause-low
-span_between-requires-3-clause-low c = low_kept c.args.lo c.requires.low 2
+pub stretch_between-requires-3-clause-low : goal.stretch_between-requires-3-clause-low
+stretch_between-requires-3-clause-low c = low_kept c.args.lo c.requires.low 2

@@ -1,5 +1,5 @@
 use Rattle.qm_brush.proofs.MovedEnds.{low_in_cube, high_in_cube}
-use Rattle.qm_brush.proofs.blocking.span_between.Goals as goal
+use Rattle.qm_brush.proofs.blocking.stretch_between.Goals as goal
 
 pub between-requires-clause-low : goal.between-requires-clause-low
 between-requires-clause-low c = low_in_cube c.args.low c.requires.low
