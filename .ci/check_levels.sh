@@ -209,7 +209,7 @@ takes_sections() {
     grep -qx 'parts.bsp: BSP29, 6 faces, 12 clip nodes, 0 models' "$folder/printed" || return 1
     (cd "$folder" && python3 "$top/.ci/made_sections.py" add cube.tree parts.tree 1:hull2.tree 2:hull1.tree) || return 1
     engine_level cube.map parts.tree parts.bsp
-    [[ $status == 0 ]] && ! python3 .ci/check_bsp.py "$folder/cube.map" "$folder/cube.tree" "$folder/parts.bsp" >"$folder/said" || return 1
+    [[ $status == 0 ]] && ! python3 .ci/check_bsp.py "$folder/cube.map" "$folder/cube.tree" "$folder/parts.bsp" >"$folder/said" 2>&1 || return 1
     refuses_bad_sections
 }
 
