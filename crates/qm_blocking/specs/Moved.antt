@@ -2,14 +2,14 @@ use Rattle.std.specs.Prelude.{ℕ, ◌≤◌, ℤ, pos, ◌+ℤ◌, ◌-ℤ◌, 
 use Rattle.qm_space.specs.Plane.{Plane}
 use Rattle.qm_space.specs.Cuboid.{Stretch, Cuboid, least_product}
 
--- Planes that are moved outward by a box. Where they are turned outward of a solid, a point that is behind none of them is one at
--- which the box can stand without meeting the solid.
+-- Planes that are moved outward by a box. Where they are turned outward of a solid, a point at which the box meets the solid is
+-- behind all of them.
 
 -- the least value that the normal of a plane has at a corner of the box
 abbrev pub least_over : Cuboid → Plane → ℤ
 least_over box h = (least_product h.nx box.x +ℤ least_product h.ny box.y) +ℤ least_product h.nz box.z
 
--- the plane, so much nearer
+-- the plane, moved to its front by the opposite of that value
 abbrev pub moved_by : Cuboid → Plane → Plane
 moved_by box h = record { nx = h.nx; ny = h.ny; nz = h.nz; d = h.d -ℤ least_over box h }
 

@@ -115,9 +115,9 @@ fn add_if_obstacle(
 fn is_obstacle(alloc: Global, brush: &Brush) -> Result<bool, AllocError>
     requires valid { All IsValidFace brush.now.faces }
     requires few { length brush.now.faces < 2 ^ 32 - 1 }
-    ensures { IfOk result (λ takes. MatchBool takes (IsObstacle brush.now) (IsObstacle brush.now → ⊥)) }
+    ensures { IfOk result (λ obstacle. MatchBool obstacle (IsObstacle brush.now) (IsObstacle brush.now → ⊥)) }
 {
-    if stands_in_the_way(contents_of_brush(brush)) {
+    if is_in_the_way(contents_of_brush(brush)) {
         is_brush_full(alloc, brush)
     } else {
         Ok(false)
@@ -125,7 +125,7 @@ fn is_obstacle(alloc: Global, brush: &Brush) -> Result<bool, AllocError>
 }
 
 /// Whether what fills a brush stands in the way: clip, which has no contents, solid and sky do.
-fn stands_in_the_way(contents: Option<Contents>) -> bool
+fn is_in_the_way(contents: Option<Contents>) -> bool
     ensures { result ≡ is_in_the_way contents }
 {
     match contents {

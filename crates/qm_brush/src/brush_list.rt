@@ -24,7 +24,8 @@ use qm_solids::FaceRef;
 use std::alloc::{AllocError, Global};
 use std::marker::Model;
 
-/// The drawn brushes of a map's world in the order of the text, by the faces that they have in a book of planes.
+/// Brushes in the order of the text, by the faces that they have in a book of planes: the drawn ones of a map's world, or its
+/// obstacles behind moved planes.
 #[derive(Drop)]
 pub struct BrushList {
     faces: Vec<FaceRef>,

@@ -16,7 +16,7 @@ use std::alloc::{AllocError, Global};
 const PLAIN_VERSION: u8 = 2;
 
 /// The plain file of bytes: one of version 2 with this bound, without rows and without sections. `None` exactly where the
-/// bytes are not those of one.
+/// bytes are not those of one, or are more than a reader takes.
 pub fn plain_file(alloc: Global, bytes: &[u8], bound: u32) -> Result<Option<TreeFile>, AllocError>
     ensures exact { IfOk result (λ found. found ≡ read_plain bound bytes.now) }
     ensures plain { IfOk result (λ found. MatchOption found ((file : TreeFile) → ArePlainBytes bound bytes.now file → ⊥) (ArePlainBytes bound bytes.now)) }

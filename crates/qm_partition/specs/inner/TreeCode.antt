@@ -1,10 +1,11 @@
 -- How a tree is told from another: by its planes and its visits, each as numbers.
-use Rattle.std.specs.Prelude.{◌≡◌, ℕ, zero, suc, ℤ, Bool, false, ◌⊎◌, List, [], ◌∷◌, Option, Some, None, map, refl}
+use Rattle.std.specs.Prelude.{◌≡◌, ℕ, ℤ, Bool, false, ◌⊎◌, List, [], ◌∷◌, Option, Some, None, map, refl}
 use Rattle.std.proofs.Common.{inl, inr, ap, ◌∙◌}
 use Rattle.std.specs.Coded.{Coded, code_by, coded_ℕ, coded_ℤ, coded_bool, coded_list, coded×, coded⊎}
 use Rattle.qm_contents.specs.declared.contents.Contents.{Contents}
-use Rattle.qm_contents.specs.declared.contents.Contents.TheVariants.{Empty, Solid, Water, Slime, Lava, Sky}
-use Rattle.qm_contents.specs.Precedence.{strength}
+use Rattle.qm_contents.specs.declared.contents.Contents.TheVariants.{Empty}
+use Rattle.qm_contents.specs.Precedence.{strength, contents_of_strength}
+use Rattle.qm_contents.proofs.Strengths.{strength_back}
 use Rattle.qm_space.specs.Plane.{Plane}
 use Rattle.qm_partition.specs.declared.visit.Visit.{Visit}
 use Rattle.qm_partition.specs.declared.visit.Visit.TheVariants.{Node, Leaf}
@@ -32,22 +33,6 @@ plane_numbers h = (h.nx, (h.ny, (h.nz, h.d)))
 abbrev numbered_plane : PlaneNumbers → Plane
 numbered_plane h = record { nx = h.0; ny = h.1.0; nz = h.1.1.0; d = h.1.1.1 }
 
-abbrev contents_of_strength : ℕ → Contents
-contents_of_strength zero = Empty
-contents_of_strength (suc zero) = Water
-contents_of_strength (suc (suc zero)) = Slime
-contents_of_strength (suc (suc (suc zero))) = Lava
-contents_of_strength (suc (suc (suc (suc zero)))) = Sky
-contents_of_strength (suc (suc (suc (suc (suc n))))) = Solid
-
-contents_again : (contents : Contents) → contents_of_strength (strength contents) ≡ contents
-contents_again Empty = refl
-contents_again Solid = refl
-contents_again Water = refl
-contents_again Slime = refl
-contents_again Lava = refl
-contents_again Sky = refl
-
 abbrev visit_numbers : Visit → VisitNumbers
 visit_numbers (Node n) = inl n
 visit_numbers (Leaf found) = inr (strength found.contents, found.filled)
@@ -58,7 +43,7 @@ numbered_visit (inr found) = Leaf (record { contents = contents_of_strength foun
 
 visit_again : (visit : Visit) → numbered_visit (visit_numbers visit) ≡ visit
 visit_again (Node n) = refl
-visit_again (Leaf found) = ap (λ (contents : Contents). Leaf (record { contents = contents; filled = found.filled })) (contents_again found.contents)
+visit_again (Leaf found) = ap (λ (contents : Contents). Leaf (record { contents = contents; filled = found.filled })) (strength_back found.contents)
 
 -- the first partition, where there is one
 abbrev first_grown : Option (List Partition) → Partition
