@@ -3,15 +3,35 @@ use Rattle.qm_commands.specs.FileNames.{IsFileName}
 
 -- What the words behind `compile` ask for.
 
--- names of files, in the order of the words; coarse rows; a listing under a name; and workers, as a number is written
+-- names of files, in the order of the words; coarse rows; hulls; a listing under a name; and workers, as a number is written
 pub record Request : Type 0 where
   pub names : List (List ℕ)
   pub fast : Bool
+  pub hulls : Bool
   pub listing : Option (List ℕ)
   pub threads : Option (List ℕ)
 
 abbrev pub no_request : Request
-no_request = record { names = []; fast = false; listing = None; threads = None }
+no_request = record { names = []; fast = false; hulls = false; listing = None; threads = None }
+
+-- an option without a value
+pub data FlagOption : Type 0 where
+  fast_option : FlagOption
+  hulls_option : FlagOption
+
+-- how it is written
+abbrev pub flag_spelling : FlagOption → List ℕ
+flag_spelling fast_option = codes "--fast"
+flag_spelling hulls_option = codes "--hulls"
+
+-- whether it is asked for so far
+abbrev pub flag_in : Request → FlagOption → Bool
+flag_in asked fast_option = asked.fast
+flag_in asked hulls_option = asked.hulls
+
+abbrev pub with_flag : Request → FlagOption → Request
+with_flag asked fast_option = record asked { fast = true }
+with_flag asked hulls_option = record asked { hulls = true }
 
 -- an option that has a value
 pub data ValuedOption : Type 0 where
@@ -35,9 +55,6 @@ with_option asked threads_option text = record asked { threads = Some text }
 abbrev pub with_name : Request → List ℕ → Request
 with_name asked name = record asked { names = asked.names ++ (name ∷ []) }
 
-abbrev pub with_fast : Request → Request
-with_fast asked = record asked { fast = true }
-
 -- words ask for more, one after another: from what was asked for before them to all that is asked for with them. An
 -- option is asked for once at most, and may stand anywhere among the names.
 pub data Asks : Request → List (List ℕ) → Request → Type 0 where
@@ -47,10 +64,10 @@ pub data Asks : Request → List (List ℕ) → Request → Type 0 where
       {asked all : Request} {word : List ℕ} {words : List (List ℕ)} →
       IsFileName word → Asks (with_name asked word) words all →
       Asks asked (word ∷ words) all
-  -- `--fast` in front
-  coarse_rows :
-      {asked all : Request} {word : List ℕ} {words : List (List ℕ)} →
-      word ≡ codes "--fast" → asked.fast ≡ false → Asks (with_fast asked) words all →
+  -- an option without a value in front
+  without_value :
+      {asked all : Request} {word : List ℕ} {words : List (List ℕ)} (option : FlagOption) →
+      word ≡ flag_spelling option → flag_in asked option ≡ false → Asks (with_flag asked option) words all →
       Asks asked (word ∷ words) all
   -- an option in front, and its value as a word of its own
   value_behind :

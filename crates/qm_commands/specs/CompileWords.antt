@@ -5,7 +5,7 @@ use Rattle.qm_commands.specs.CompileRequest.{Request, no_request, Asks}
 use Rattle.qm_commands.specs.FileNames.{FileNames, AreDifferent}
 use Rattle.qm_commands.specs.Options.{AreThreads}
 
--- `compile MAP OUT`, with the options `--prt FILE`, `--threads N` and `--fast` anywhere behind `compile`: the files are
+-- `compile MAP OUT`, with the options `--prt FILE`, `--threads N`, `--fast` and `--hulls` anywhere behind `compile`: the files are
 -- different from one another
 pub record AreCompileWords (words : List (List ℕ)) (options : Options) (listed : Bool) (files : FileNames) : Type 0 where
   pub rest : List (List ℕ)
@@ -16,5 +16,6 @@ pub record AreCompileWords (words : List (List ℕ)) (options : Options) (listed
   pub is_listing : asked.listing ≡ files.listing_name
   pub is_listed : listed ≡ is_some asked.listing
   pub is_fast : options.fast ≡ asked.fast
+  pub are_hulls : options.hulls ≡ asked.hulls
   pub are_threads : AreThreads asked.threads options.threads
   pub different : AreDifferent files

@@ -1,8 +1,8 @@
-use Rattle.std.specs.Prelude.{◌≡◌, ◌<◌, ◌^◌, ℕ, ℤ, List, [], ◌∷◌, ◌++◌, codes}
+use Rattle.std.specs.Prelude.{◌≡◌, ◌<◌, ◌^◌, ◌⊎◌, ℕ, zero, suc, ℤ, List, [], ◌∷◌, ◌++◌, codes}
 use Rattle.std.specs.Fmt.{decimal}
 use Rattle.qm_numerals.specs.Answer.{IsValue}
 use Rattle.qm_commands.specs.declared.query.Query.{Query}
-use Rattle.qm_commands.specs.declared.query.Query.TheVariants.{Count, At, Row, Sees, Parts}
+use Rattle.qm_commands.specs.declared.query.Query.TheVariants.{Count, At, Hull, Row, Sees, Parts}
 
 -- How a query is written.
 
@@ -10,15 +10,30 @@ use Rattle.qm_commands.specs.declared.query.Query.TheVariants.{Count, At, Row, S
 abbrev pub AreMillionths : List ℕ → ℤ → Type 0
 AreMillionths text n = IsValue text 6 (record { numerator = n; places = 6 })
 
--- `at=X,Y,Z`
-pub record IsPlaceWord (word : List ℕ) (x y z : ℤ) : Type 0 where
+-- `X,Y,Z`
+pub record ArePlaceNumbers (text : List ℕ) (x y z : ℤ) : Type 0 where
   pub first : List ℕ
   pub second : List ℕ
   pub third : List ℕ
-  pub word_is : word ≡ codes "at=" ++ (first ++ (44 ∷ (second ++ (44 ∷ third))))
+  pub text_is : text ≡ first ++ (44 ∷ (second ++ (44 ∷ third)))
   pub is_x : AreMillionths first x
   pub is_y : AreMillionths second y
   pub is_z : AreMillionths third z
+
+-- a place behind the name of what is asked there
+pub record IsPlaceWord (name word : List ℕ) (x y z : ℤ) : Type 0 where
+  pub numbers : List ℕ
+  pub word_is : word ≡ name ++ numbers
+  pub are_numbers : ArePlaceNumbers numbers x y z
+
+-- there are two hulls
+abbrev pub IsHullNumber : ℕ → Type 0
+IsHullNumber hull = (hull ≡ 1) ⊎ (hull ≡ 2)
+
+-- `hull=H,`
+abbrev pub hull_name : ℕ → List ℕ
+hull_name (suc zero) = codes "hull=1,"
+hull_name _ = codes "hull=2,"
 
 -- a number of a leaf as it may be asked for has at most 18 digits
 abbrev pub IsShort : ℕ → Type 0
@@ -27,7 +42,8 @@ IsShort n = n < 10 ^ 18
 -- the word of a query
 abbrev pub IsQueryWord : List ℕ → Query → Type 0
 IsQueryWord word Count = word ≡ codes "count"
-IsQueryWord word (At x y z) = IsPlaceWord word x y z
+IsQueryWord word (At x y z) = IsPlaceWord (codes "at=") word x y z
+IsQueryWord word (Hull hull x y z) = IsHullNumber hull × IsPlaceWord (hull_name hull) word x y z
 IsQueryWord word (Row n) = (word ≡ codes "row=" ++ decimal n) × IsShort n
 IsQueryWord word (Sees n m) = (word ≡ codes "sees=" ++ (decimal n ++ (44 ∷ decimal m))) × IsShort n × IsShort m
 IsQueryWord word Parts = word ≡ codes "parts"

@@ -5,4 +5,6 @@ pub struct Options {
     pub threads: u8,
     /// Whether the rows are coarse.
     pub fast: bool,
+    /// Whether the trees of both hulls are sections of the tree file.
+    pub hulls: bool,
 }

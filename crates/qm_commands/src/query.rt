@@ -5,6 +5,9 @@ pub enum Query {
     Count,
     /// What is at a point, whose coordinates are given in millionths of a map unit.
     At { x: i64, y: i64, z: i64 },
+    /// Whether the tree of a hull, of which there are 1 and 2, is solid at a point, whose coordinates are given in millionths
+    /// of a map unit.
+    Hull { hull: u8, x: i64, y: i64, z: i64 },
     /// Which leaves the row of a numbered leaf has.
     Row(u64),
     /// Whether the row of the first numbered leaf has the second.
