@@ -1,0 +1,3 @@
+pub mod HullBoxes
+pub mod HullTree
+pub mod Hull
