@@ -1,0 +1,4 @@
+pub mod Place
+pub mod Spans
+pub mod SegmentTrace
+pub mod inner
