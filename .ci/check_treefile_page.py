@@ -1,6 +1,6 @@
 #!/usr/bin/env python3
 """Takes the pieces of C from docs/TREEFILE.md, compiles them as one program, and compares what it prints with what
-`tools/treefile.py` reads: the leaves of points, rows and sections. And the bytes that the page shows are those of a world without
+`tools/treefile.py` reads: the leaves of points, rows, sections and clip hulls. And the bytes that the page shows are those of a world without
 brushes.
 
     .ci/check_treefile_page.py FOLDER TREE..
@@ -21,9 +21,10 @@ from made_trees import CODES, cube, long_tree, random_tree, tree_file, written
 import treefile
 
 PAGE = Path("docs/TREEFILE.md")
-PIECES = 4
+PIECES = 5
 POINTS = 25
-SECTIONS = [(1, b"abc"), (7, b""), (2 ** 32 - 1, bytes(300))]
+# sections behind those of clip hulls
+SECTIONS = [(7, b""), (2 ** 32 - 1, bytes(300))]
 
 
 def compiled(folder):
@@ -51,9 +52,10 @@ def with_rows(tree, rng):
     return tree._replace(rows=spelled)
 
 
-def with_sections(tree):
-    """The tree with sections."""
-    return tree._replace(sections=[treefile.Section(*section) for section in SECTIONS])
+def with_sections(tree, hulls):
+    """The tree with sections: clip hulls, by their kinds, and others."""
+    stored = [(kind, written(hull._replace(version=2, bound=tree.bound, rows=None, sections=[]))) for kind, hull in hulls]
+    return tree._replace(sections=[treefile.Section(*section) for section in (*stored, *SECTIONS)])
 
 
 def wanted(tree, point):
@@ -63,7 +65,9 @@ def wanted(tree, point):
     text = f"leaf {leaf} contents {CODES[what.contents]}\n"
     if tree.rows is not None and what.number is not None:
         text += " ".join([f"row {what.number}:", *map(str, tree.row(what.number))]) + "\n"
-    return text + "".join(f"section {section.kind}: {len(section.data)} bytes\n" for section in tree.sections)
+    text += "".join(f"section {section.kind}: {len(section.data)} bytes\n" for section in tree.sections)
+    hulls = [kind for kind in treefile.HULLS if any(section.kind == kind for section in tree.sections)]
+    return text + "".join(f"hull {kind} {'solid' if tree.hull(kind).is_solid_at(point) else 'empty'}\n" for kind in hulls)
 
 
 def place(rng, reach):
@@ -90,8 +94,11 @@ def main():
     program = compiled(folder)
     read = [treefile.load(folder / name) for name in sys.argv[2:]]
     trees = read + [with_rows(tree, rng) for tree in read]
-    trees += [treefile.decode(data) for data in (cube(), random_tree(rng, 60, True, 2, treefile.BOUNDS[-1]), long_tree(3000))]
-    trees += [tree._replace(version=1, bound=treefile.BOUNDS[0]) for tree in trees] + [with_sections(tree) for tree in trees[-3:] + read]
+    made = [treefile.decode(data) for data in (cube(), random_tree(rng, 60, True, 2, treefile.BOUNDS[-1]), long_tree(3000))]
+    trees += made
+    trees += [tree._replace(version=1, bound=treefile.BOUNDS[0], sections=[]) for tree in trees]
+    trees += [with_sections(tree, hulls) for tree in made + read
+              for hulls in ([], [(2, made[2])], [(1, rng.choice(made)), (2, rng.choice(read))])]
     for number, tree in enumerate(trees):
         points = [place(rng, rng.choice((600, 2000, tree.bound))) for _ in range(POINTS)]
         found = fault(program, folder, tree, points)

@@ -7,10 +7,9 @@ plane and both children, the front first: a node by its number, or what is there
 from typing import NamedTuple
 
 from brushes import box, room, span
+from treefile import HULLS
 
 EMPTY, SOLID = -1, -2
-# the boxes of both hulls, each by its low and its high end
-BOXES = {1: ((-16, -16, -24), (16, 16, 32)), 2: ((-32, -32, -24), (32, 32, 64))}
 # a plane for a node that parts nothing
 ANY = (1, 0, 0, 0)
 
@@ -24,7 +23,7 @@ class Moved(NamedTuple):
 
 def moved(body, hull, bound):
     """A brush as it is in the way of the box of a hull."""
-    low, high = BOXES[hull]
+    low, high = HULLS[hull]
     planes = [plane[:3] + (plane[3] - span(plane[:3] + (0,), low, high)[0],) for plane in dict.fromkeys(body.planes())]
     sides = {(axis, plane[axis] > 0) for plane in planes if plane[:3].count(0) == 2 for axis in range(3) if plane[axis]}
     if len(sides) < 6:

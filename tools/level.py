@@ -20,7 +20,7 @@ import sections
 from smalltree import built
 from surfaces import OPEN
 import texels
-from treefile import CONTENTS
+from treefile import CONTENTS, HULLS
 
 # entities that are there for editors alone
 GROUPS = (b"func_group", b"func_detail")
@@ -236,7 +236,7 @@ def entity_text(entities):
 def world_of(tree, entity, bodies_here):
     """The model of the world."""
     boxes, pieces = leaf_boxes(tree), sections.faces(tree)
-    hulls = [hull_of(tree, kind, bodies_here, list(boxes.values())) for kind in sections.HULLS]
+    hulls = [hull_of(tree, kind, bodies_here, list(boxes.values())) for kind in HULLS]
     bodies_drawn, stored = brushes.drawn(bodies_here), []
     if pieces is not None:
         listed = [brush for brush in entity.brushes if brush.contents() != CLIP]
@@ -257,7 +257,7 @@ def model_of(entity, tree, bound):
     bodies_here = brushes.full(entity.brushes, bound)
     bodies_drawn = brushes.drawn(bodies_here)
     tree = tree or built(bodies_drawn, bound)
-    hulls = [clip_cells.made(bodies_here, hull, bound, None) for hull in clip.BOXES]
+    hulls = [clip_cells.made(bodies_here, hull, bound, None) for hull in HULLS]
     return Model(tree, bodies_here, drawn_faces.drawn(tree, bodies_drawn), leaf_boxes(tree), hulls)
 
 

@@ -8,8 +8,8 @@ from corners import reduced
 from polygons import walls
 import treefile
 
-# the kinds of the sections
-HULLS, MODELS, FACES = (1, 2), 3, 4
+# the kinds of the sections but for clip hulls
+MODELS, FACES = 3, 4
 
 
 class BadSection(Exception):
@@ -60,14 +60,11 @@ def of_kind(tree, kind):
 
 
 def plain_tree(data, kind, bound):
-    """The tree of some bytes, without rows and sections, in a cube of the same size."""
+    """The tree of bytes that stand in a section."""
     try:
-        found = treefile.decode(data)
-    except treefile.Fault as fault:
-        raise BadSection(f"a tree in section {kind} is none: {fault}") from None
-    if found.version != 2 or found.bound != bound or found.rows is not None or found.sections:
-        raise BadSection(f"a tree in section {kind} has what it should not have")
-    return found
+        return treefile.plain(data, bound)
+    except treefile.BadPart as fault:
+        raise BadSection(f"section {kind} has {fault}") from None
 
 
 def hull(tree, kind):

@@ -4,6 +4,7 @@
     tree = treefile.load("room.tree")
     leaf = tree.leaf_at((0, 0, 24))
     print(leaf, tree.leaves[leaf].contents)
+    print(tree.hull(1).is_solid_at((0, 0, 24)))
 
 docs/TREEFILE.md describes the file, of which both versions are read. This module needs nothing but the standard library, and
 may be copied. It refuses what is no tree file by the first fault in the order of the file, with the place of its byte.
@@ -20,6 +21,8 @@ MAGICS = (b"QMTREE01", b"QMTREE02")
 BOUNDS = (4096, 32768)
 CONTENTS = {-1: "empty", -2: "solid", -3: "water", -4: "slime", -5: "lava", -6: "sky"}
 SOLID = -2
+# the kinds of the sections that have clip hulls, each with the box that is a point there, by its low and its high end
+HULLS = {1: ((-16, -16, -24), (16, 16, 32)), 2: ((-32, -32, -24), (32, 32, 64))}
 
 
 class Fault(Exception):
@@ -28,6 +31,14 @@ class Fault(Exception):
     def __init__(self, words, place):
         super().__init__(f"{words} at byte {place}")
         self.words, self.place = words, place
+
+
+class NoPart(Exception):
+    """That a file has no section of the kind that is asked for."""
+
+
+class BadPart(Exception):
+    """Why the bytes of a section are not what its kind says."""
 
 
 class Plane(NamedTuple):
@@ -53,7 +64,7 @@ class Leaf(NamedTuple):
 
 
 class Section(NamedTuple):
-    """A part of the file for which this reader has no use: its kind, and its bytes as they are."""
+    """A part of the file besides: its kind, and its bytes as they are."""
     kind: int
     data: bytes
 
@@ -80,6 +91,22 @@ class Tree(NamedTuple):
             plane, front, back = self.nodes[child]
             child = front if value(self.planes[plane], point) >= 0 else back
         return -1 - child
+
+    def is_solid_at(self, point):
+        """Whether the leaf to which a point leads is solid."""
+        return self.leaves[self.leaf_at(point)].contents == "solid"
+
+    def part(self, kind):
+        """The bytes of the section of a kind. Raises `NoPart`."""
+        for section in self.sections:
+            if section.kind == kind:
+                return section.data
+        raise NoPart(f"no section {kind}")
+
+    def hull(self, kind):
+        """The tree of a clip hull, 1 or 2, in which a moving box is a point. Raises `NoPart`, or `BadPart` where the section has no
+        such tree."""
+        return plain(self.part(kind), self.bound)
 
     def row(self, number):
         """The numbers of the leaves that a row holds, from the least on."""
@@ -114,6 +141,20 @@ def decode(data):
     if at < len(data):
         raise Fault("trailing", at)
     return Tree(version, bound, planes, nodes, leaves, rows, sections)
+
+
+def plain(data, bound):
+    """The tree of bytes that stand in a section: a whole file of version 2 in a cube of the same size, without rows and without
+    sections. Raises `BadPart`."""
+    try:
+        found = decode(data)
+    except Fault as fault:
+        raise BadPart(f"no tree file: {fault}") from None
+    if found.version != 2 or found.bound != bound:
+        raise BadPart(f"a tree file of version {found.version} and bound {found.bound}")
+    if found.rows is not None or found.sections:
+        raise BadPart("a tree file with rows or sections")
+    return found
 
 
 def take(data, at, count):
