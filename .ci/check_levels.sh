@@ -213,6 +213,18 @@ takes_sections() {
     refuses_bad_sections
 }
 
+# the hulls that the compiler writes make a level that is as good, with clip nodes of their own
+takes_hulls_of_the_compiler() {
+    local name
+    for name in rooms8 courtyard; do
+        run_program compile $name.map hulled.tree --fast --hulls
+        [[ $status == 0 ]] || return 1
+        engine_level $name.map hulled.tree hulled.bsp
+        [[ $status == 0 ]] && python3 .ci/check_bsp.py "$folder/$name.map" "$folder/hulled.tree" "$folder/hulled.bsp" || return 1
+    done
+    grep -qx 'hulled.bsp: BSP29, 188 faces, 262 clip nodes, 0 models' "$folder/printed"
+}
+
 refuses_bad_sections() {
     python3 - "$folder" <<'END' || return 1
 import sys
@@ -223,7 +235,7 @@ for name, kind, data in ("bad1", 1, b"QMTREE02"), ("bad3", 3, bytes(5)), ("bad4"
     sections = [treefile.Section(kind, data)]
     open(f"{sys.argv[1]}/{name}.tree", "wb").write(made_trees.written(tree._replace(sections=sections)))
 END
-    no_level "bad1.tree is no tree file for a level: a tree in section 1 is none: short at byte 8" cube.map bad1.tree kept.bsp || return 1
+    no_level "bad1.tree is no tree file for a level: section 1 has no tree file: short at byte 8" cube.map bad1.tree kept.bsp || return 1
     no_level "bad3.tree is no tree file for a level: section 3 goes on too long" cube.map bad3.tree kept.bsp || return 1
     no_level "bad4.tree is no tree file for a level: section 4 has a piece that is none" cube.map bad4.tree kept.bsp
 }
@@ -232,3 +244,4 @@ check "levels: words that ask for none get the usage line, and status 2" says_ho
 check "levels: none is made of the wrong tree, of files that are none, and over what is read" refuses_levels
 check "levels: textures come from WADs, or are made, and a dark level has no light" takes_textures
 check "levels: sections of a tree file are used, and bad ones refused" takes_sections
+check "levels: clip hulls that the compiler writes are used" takes_hulls_of_the_compiler

@@ -5,11 +5,13 @@
 
 Of each tree, at some heights: the pieces of a slice fill the cube once, and each point of the slice lies in the piece of the
 leaf to which the tree leads it. The picture is XML, has each piece that it shows with the fill of its leaf, and no two of
-its texts overlap. Of a row just the leaves that it holds are drawn. Of entities just those are marked from which the way straight up
+its texts overlap. Of a row just the leaves that it holds are drawn, and of a clip hull, which is the tree
+itself with every other leaf solid, just what is solid. Of entities just those are marked from which the way straight up
 or down to the slice meets nothing solid, as the leaves between the planes along it are."""
 
 from fractions import Fraction
 from itertools import combinations
+from math import hypot
 from pathlib import Path
 import random
 import re
@@ -80,6 +82,33 @@ def faults_of_picture(tree, text):
             yield f"{path.find(f'{SVG}title').text}: its fill is {path.get('fill')}"
 
 
+def distance_within(corners, x, y):
+    """How far inside a convex polygon of the picture a point lies, or below 0 how far outside."""
+    turns = [((b[0] - a[0]) * (y - a[1]) - (b[1] - a[1]) * (x - a[0])) / max(hypot(b[0] - a[0], b[1] - a[1]), 0.01)
+             for a, b in zip(corners, corners[1:] + corners[:1])]
+    return max(min(turns), -max(turns))
+
+
+def faults_of_hull(picture, rng):
+    """What is wrong with what is drawn of a clip hull: points by chance, off the borders, are covered just where they are solid."""
+    leaves = [leaf._replace(contents="solid" if number % 2 else "empty") for number, leaf in enumerate(picture.tree.leaves)]
+    hull = picture.tree._replace(leaves=leaves)
+    picture.block(1, hull)
+    paths = re.findall(r'd="M(\S+)Z" fill="url\(#blocked\)"', "".join(picture.overlay))
+    drawn = [[tuple(map(float, corner.split(","))) for corner in path.split("L")] for path in paths]
+    view = picture.view
+    for _ in range(300):
+        x, y = (low + (high - low) * Fraction(rng.randrange(1, 9973), 9973)
+                for low, high in ((view.west, view.east), (view.south, view.north)))
+        within = max((distance_within(corners, *view.at((x, y))) for corners in drawn), default=-1)
+        is_solid = hull.is_solid_at((x, y, picture.height))
+        if abs(within) > 0.2 and is_solid != (within > 0):
+            yield f"the point {x} {y} is {'' if is_solid else 'not '}solid in the hull, and is {'not ' if is_solid else ''}covered"
+    legend = plan.drawn(picture, "a map")
+    if legend.count(">solid in hull 1</text>") != 1 or legend.count('<pattern id="blocked"') != 1:
+        yield "the hull stands not once in the legend"
+
+
 def faults_of_row(tree, picture, number):
     """What is wrong with what is drawn of a row: it has just the outlines of the leaves that it holds."""
     picture.hold(number)
@@ -121,7 +150,7 @@ def faults(tree, rng):
         found = slices.pieces(tree, height)
         picture = plan.Picture(tree, height, found, plan.View(slices.extent(tree, found)))
         for fault in (*faults_of_slice(tree, height, found, rng), *faults_of_picture(tree, plan.drawn(picture, "a <map>")),
-                      *faults_of_marks(tree, height, found, rng)):
+                      *faults_of_marks(tree, height, found, rng), *faults_of_hull(picture, rng)):
             yield f"at height {height}: {fault}"
     everyone = [leaf.number for leaf in tree.leaves if leaf.number is not None]
     rows = [sum(1 << n for n in {own, everyone[-1 - own]}).to_bytes((len(everyone) + 7) // 8, "little") for own in everyone]

@@ -118,6 +118,34 @@ draws_rows_and_portals() {
     looked && grep -q 'z = 32' "$folder/printed" && [[ $(grep -c 'class="own"' "$folder/printed") == 2 ]]
 }
 
+# the rooms with the cube, and with the rooms, as their clip hulls; with what is no hull; and the hull of a compiled level
+shows_a_clip_hull() {
+    python3 .ci/made_sections.py add "$folder/rooms.tree" "$folder/hulled.tree" "1:$folder/cube.tree" "2:$folder/rooms.tree" || return 1
+    look plan hulled.tree --z 32 --hull 1
+    looked && [[ $(grep -c ' fill="url(#blocked)"' "$folder/printed") == 2 ]] || return 1
+    look plan hulled.tree --z 32 --hull 2
+    looked && grep -q '>solid in hull 2</text>' "$folder/printed" && [[ $(grep -c ' fill="url(#blocked)"' "$folder/printed") == \
+        $((1 + $(grep -cE ' fill="url\(#(solid|filled)\)" d=' "$folder/printed"))) ]] || return 1
+    look plan rooms.tree --hull 2
+    refused 'rooms.tree has no clip hull 2: `qmapc compile --hulls` writes it, but not of a level that leaks' || return 1
+    # a tree with rows is none
+    python3 - "$folder" <<'END' || return 1
+import sys
+sys.path[:0] = [".ci", "tools"]
+import made_trees, treefile
+names = [f"{sys.argv[1]}/{name}.tree" for name in ("rooms", "cube", "bad")]
+section = treefile.Section(1, open(names[1], "rb").read())
+open(names[2], "wb").write(made_trees.written(treefile.load(names[0])._replace(sections=[section])))
+END
+    look plan bad.tree --hull 1
+    refused "section 1 of bad.tree is no clip hull: a tree file with rows or sections" || return 1
+    mkdir -p "$folder/walls"
+    run_program compile courtyard.map walls/courtyard.tree --fast --hulls
+    [[ $status == 0 ]] || return 1
+    look plan walls/courtyard.tree --hull 1 --map courtyard.map
+    looked && cmp "$folder/printed" docs/courtyard_hull.svg
+}
+
 makes_point_files() {
     local name
     for name in hole courtyard_leak; do
@@ -194,7 +222,7 @@ shows_both_versions_and_both_worlds() {
 says_how_the_tools_are_used() {
     local words
     for words in '' 'plan' 'points hole.tree' 'faces' 'faces hole.map more' 'json' 'draw hole.tree' 'plan hole.tree --z 32768' 'plan hole.tree --z 1/0' \
-        'plan hole.tree --row -1' 'plan hole.tree --row=x' 'points hole.tree --leak=8,6' 'points hole.tree --leak=' \
+        'plan hole.tree --row -1' 'plan hole.tree --hull' 'plan hole.tree --hull 3' 'plan hole.tree --hull=0' 'plan hole.tree --row=x' 'points hole.tree --leak=8,6' 'points hole.tree --leak=' \
         'plan hole.tree --lea=8' 'json hole.tree more' 'world' 'world hole.map more' 'world hole.map --out'; do
         # shellcheck disable=SC2086  # the words of a command
         look $words
@@ -519,6 +547,7 @@ check "tools: the entities of a map are marked, at a player's height" marks_the_
 check "tools: each kind of contents has a fill of its own" draws_each_kind_of_contents
 check "tools: slices agree with their trees, and no texts overlap" draws_slices_that_agree_with_the_tree
 check "tools: a row and the portals of a listing are drawn" draws_rows_and_portals
+check "tools: a clip hull is drawn, and refused where there is none" shows_a_clip_hull
 check "tools: point files go through the leaves of their trails alone" makes_point_files
 check "tools: a tree as JSON has all of its file" prints_a_tree_as_json
 check "tools: both versions of a tree file are shown, and a larger world" shows_both_versions_and_both_worlds

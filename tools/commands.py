@@ -36,9 +36,12 @@ def plan_of(words):
     portals = None if words.prt is None else portals_of(words.prt, tree)
     line = leak_line(Cells(tree), words.leak) if words.leak else None
     marks = None if words.map is None else marks_of(words.map)
+    hull = None if words.hull is None else hull_of(words.name, tree, words.hull)
     z = height_of(words, tree, line, own, marks) if words.z is None else inside(words, tree, (words.z,))[0]
     found = slices.pieces(tree, z)
     drawn = plan.Picture(tree, z, found, plan.View(slices.extent(tree, found)))
+    if hull is not None:
+        drawn.block(words.hull, hull)
     if own is not None:
         drawn.hold(words.row)
     if portals is not None:
@@ -52,13 +55,16 @@ def plan_of(words):
 
 def height_of(words, tree, line, own, marks):
     """The height of a slice where none is asked for: that at which a leak line comes into its last leaf, which touches the
-    outside; else that of the middle of the row's own leaf; else that of the eyes at the start of a map; else one at which there is
-    much to see."""
+    outside; else that of the middle of the row's own leaf; else that of the eyes at the start of a map, or of the start itself
+    where a clip hull is shown; else one at which there is much to see."""
     if line and len(line) > 2:
         return line[-3][2]
     if own is not None:
         return Cells(tree).middle(own)[2]
-    return slices.usual_height(tree) if marks is None else start_of(words.map, marks, tree)[1][2]
+    if marks is None:
+        return slices.usual_height(tree)
+    start, eyes = start_of(words.map, marks, tree)
+    return eyes[2] if words.hull is None else start.place[2]
 
 
 def leaf_of_row(words, tree):
@@ -233,6 +239,16 @@ def tree_of(name):
         return treefile.load(name)
     except treefile.Fault as fault:
         raise Refused(f"{name} is no tree file: {fault}") from None
+
+
+def hull_of(name, tree, which):
+    """The tree of a clip hull that a tree file has."""
+    try:
+        return tree.hull(which)
+    except treefile.NoPart:
+        raise Refused(f"{name} has no clip hull {which}: `qmapc compile --hulls` writes it, but not of a level that leaks") from None
+    except treefile.BadPart as fault:
+        raise Refused(f"section {which} of {name} is no clip hull: {fault}") from None
 
 
 def portals_of(name, tree):

@@ -1,4 +1,4 @@
-"""The picture of a slice through a tree: its pieces, what a row holds, portals, and the trail of a leak, as SVG."""
+"""The picture of a slice through a tree: its pieces, what a row holds, a clip hull, portals, and the trail of a leak, as SVG."""
 
 from fractions import Fraction
 from math import cos, radians, sin
@@ -9,7 +9,7 @@ from origins import LIGHT, OTHER, START
 import patterns
 from points import decimal
 from polygons import crossing, in_front
-from slices import is_shown
+from slices import is_shown, pieces
 
 # in units of the picture: the longer side of what is shown and the least width of what is written; the rim around it; a
 # line of the legend, a letter in it, and the gap between two items
@@ -72,6 +72,7 @@ class Picture:
         self.view, self.overlay, self.legend = view, [], []
         kinds = {patterns.kind(tree.leaves[leaf]) for leaf, _ in self.shown}
         self.kinds = [name for name in patterns.KINDS if name in kinds]
+        self.named = {patterns.HELD: "held by the row"}
         self.label_by_number = False
         self.lines = []
 
@@ -87,6 +88,15 @@ class Picture:
         self.kinds.append(patterns.HELD)
         self.legend.append(('<path class="own" d="M2,-14H26V2H2Z"/>', f"the leaf of row {number}, which {counted(self.tree, number)}"))
         self.label_by_number = True
+
+    def block(self, which, hull):
+        """Draws what of the slice is solid in a clip hull, whose tree is given."""
+        for leaf, piece in pieces(hull, self.height):
+            corners = self.view.shown(piece) if hull.leaves[leaf].contents == "solid" else None
+            if corners:
+                self.overlay.append(f'<path d="{outline(corners)}" fill="url(#{patterns.BLOCKED})"/>\n')
+        self.kinds.append(patterns.BLOCKED)
+        self.named[patterns.BLOCKED] = f"solid in hull {which}"
 
     def join(self, portals):
         """Draws the portals that the slice crosses."""
@@ -169,8 +179,8 @@ def drawn_labels(picture):
 
 def drawn_legend(picture, top):
     """What each fill and line means, item behind item in lines, and how high all of it is."""
-    items = [(f'<rect x="2" y="-14" width="24" height="16" class="piece" fill="url(#{name})"/>',
-              "held by the row" if name == patterns.HELD else name) for name in picture.kinds]
+    items = [(f'<rect x="2" y="-14" width="24" height="16" class="piece" fill="url(#{name})"/>', picture.named.get(name, name))
+             for name in picture.kinds]
     items += picture.legend
     items.append(("", "labels: numbers of rows" if picture.label_by_number else "labels: numbers of leaves"))
     text, x, y = "", RIM, top + LINE

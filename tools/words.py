@@ -3,7 +3,7 @@
 from fractions import Fraction
 import re
 
-from treefile import BOUNDS
+from treefile import BOUNDS, HULLS
 
 # the options behind which a place may stand
 PLACED = ("--at", "--from", "--to", "--row")
@@ -19,6 +19,7 @@ def words_of(parser, words):
     plan_words.add_argument("--leak", metavar="TRAIL", type=trail, help='the numbers behind `trail: `, as "8 6 0"')
     plan_words.add_argument("--row", metavar="N", type=number, help="shows the leaves that row N holds")
     plan_words.add_argument("--prt", metavar="FILE", help="shows the portals of a listing")
+    plan_words.add_argument("--hull", metavar="H", type=number, choices=sorted(HULLS), help="shows what is solid in clip hull 1 or 2")
     points_words = command(commands, "points", "the line of a leak, as a point file for editors")
     points_words.add_argument("--leak", metavar="TRAIL", type=trail, required=True, help="the same")
     view_words = command(commands, "view", "a page in which one walks through the level, for a browser")
