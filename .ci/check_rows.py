@@ -11,10 +11,10 @@ import sys
 
 sys.path.insert(0, str(Path(__file__).resolve().parent))
 
-from rows import asked, compiled, demo, leaks, texts, trees, words  # noqa: E402
+from rows import asked, brushes, compiled, demo, leaks, portals, texts, trees, words, workers  # noqa: E402
 from rows.table import fault_of, words_of  # noqa: E402
 
-TABLES = (compiled, leaks, asked, trees, texts, words, demo)
+TABLES = (brushes, compiled, portals, leaks, workers, asked, trees, texts, words, demo)
 
 
 def wrong_in(program, table):
@@ -23,7 +23,7 @@ def wrong_in(program, table):
     for row in table.rows():
         fault = fault_of(program, row)
         if fault:
-            print(f"{table.__name__}, {' '.join(words_of(row.words))!r}: {fault}; wanted {row.status} and {row.printed[:300]!r}")
+            print(f"{table.__name__}, {' '.join(words_of(row.words))!r}: {fault}; wanted {row.status} and {str(row.printed)[:300]!r}")
         rows, wrong = rows + 1, wrong + bool(fault)
     return rows, wrong
 

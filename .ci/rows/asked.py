@@ -1,12 +1,14 @@
 """What `inspect` answers of compiled levels."""
 
 from rows.table import Row
-from rows.worlds import ABOVE, CORNER_ROOMS, CUBE, HOLE_ROOM, INSIDE, ROOM, brush, world
+from rows.worlds import ABOVE, APART, CORNER_ROOMS, CUBE, HOLE_ROOM, INSIDE, ROOM, brush, world
 
 SEALED = world(*ROOM, origins=("0 0 24",))
 LEAKING = world(*HOLE_ROOM, origins=("0 0 24",))
 CORNER = world(*CORNER_ROOMS, origins=("-64 0 24",))
 SHARING = world(CUBE, ABOVE)
+# behind a flat brush, whose planes have the first numbers, so that the node between the two is joined away
+JOINED = world(CUBE, ABOVE, brushes=APART)
 # water round a stone, in both orders of the text, and a cube of sky
 POND = world(INSIDE, texture="*water1", first=(CUBE,))
 POND_FROM_INSIDE = world(brushes=brush(INSIDE) + brush(CUBE, "*water1"))
@@ -24,6 +26,7 @@ ANSWERS = [
     (LEAKING, "count at=0,0,24", "planes 14 nodes 14 leaves 15 numbered 8 rows no\nleaf 8 empty number 4\n"),
     (CORNER, "row=1 row=4 sees=4,0 sees=4,2", "row 1: 0 1 2 3\nrow 4: 2 3 4\nno\nyes\n"),
     (SHARING, "at=32,32,64", "leaf 3 solid\n"),
+    (JOINED, "at=32,32,64 at=32,32,1 at=32,32,127", "leaf 3 solid\nleaf 3 solid\nleaf 3 solid\n"),
     (POND, "at=32,32,32 at=8,8,8", "leaf 6 solid\nleaf 9 water number 8\n"),
     (POND_FROM_INSIDE, "at=32,32,32 at=8,8,8", "leaf 12 solid\nleaf 21 water number 20\n"),
     (SKY, "at=32,32,32", "leaf 3 sky number 3\n"),

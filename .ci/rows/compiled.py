@@ -12,8 +12,10 @@ AMONG = ('// a cube\r\n{ "classname" "worldspawn"\n{ ( 9 0 0 ) ( 9 1 0 ) ( 9 0 1
 # worlds without brushes: the one brush of the second text stands in another entity
 BARE = [b"{ }", ("{ } {\n{\n" + faces(CUBE)[0] + "} }").encode()]
 
-# the name on the cube's first face, the code of what is inside, and what is seen
-NAMES = [("clip1", -2, 34), ("*lava", -5, 35), ("*Slime2", -4, 35), ("*x", -3, 35), ("Sky1", -6, 35), ('""', -2, 34)]
+# the name on the cube's first face, and the code of what is inside by the first rule that fits; and names that leave the cube out
+NAMES = [("*lava", -5), ("*LAVA_2", -5), ("*Slime2", -4), ("*slim", -3), ("*lav", -3), ("*x", -3), ("*", -3), ("sky", -6), ("Sky1", -6),
+         ("SKY9", -6), ("clip1", -2), ("cli", -2), ("sk", -2), ("lava", -2), ("stone", -2), ('""', -2)]
+CLIP_NAMES = ["clip", "CLIP", "ClIp"]
 
 # a world, what is counted of it (brushes, flat ones, planes, nodes, leaves, numbered and filled ones, portals, what is seen), and the
 # length of its file: a box that ends at the cube's face, flat brushes, solids that share a face, water round stone in both orders, a
@@ -42,9 +44,9 @@ def named(name):
     return "".join(("{\n{\n", first.replace("stone", name), *others, "}\n}\n")).encode()
 
 
-def named_row(name, code, seen):
+def named_row(name, code):
     """The name on the first face decides what is inside."""
-    numbered, rows = (6, cube_files.ROWS_AROUND) if code == cube_files.SOLID else (7, cube_files.ROWS_WITH_INSIDE)
+    numbered, rows, seen = (6, cube_files.ROWS_AROUND, 34) if code == cube_files.SOLID else (7, cube_files.ROWS_WITH_INSIDE, 35)
     printed = summary("no entity", 1, 0, 6, 6, 7, numbered, 0, 12, seen)
     return compiled(named(name), printed, cube_files.tree_with(code, numbered, rows))
 
@@ -53,7 +55,7 @@ def rows():
     for text in (cube_files.TEXT, AGAIN.encode(), AMONG.encode()):
         yield compiled(text, cube_files.SUMMARY, cube_files.TREE)
     yield compiled(cube_files.TEXT, cube_files.SUMMARY, cube_files.TREE, "compile map out --fast")
-    for text in (*BARE, named("clip"), named("CLIP")):
+    for text in (*BARE, *(named(name) for name in CLIP_NAMES)):
         yield compiled(text, cube_files.BARE_SUMMARY, cube_files.BARE_TREE)
     yield from (named_row(*row) for row in NAMES)
     for text, counts, length in WORLDS:

@@ -65,10 +65,3 @@ PRT1
 def tree_with(inside, numbered, rows):
     """The tree file where the cube holds something else."""
     return header(6, 6, 7, numbered) + PLANES + NODES + leaves(inside) + rows
-
-
-def changed(place, byte, length=len(TREE)):
-    """The tree file with another byte at a place, and of another length."""
-    data = bytearray(TREE)
-    data[place] = byte
-    return bytes(data[:length]) + bytes(max(0, length - len(data)))

@@ -27,6 +27,12 @@ WITHOUT_ENTITY = [
     (world(ALL), (1, 0, 6, 0, 1, 0, 0, 0, 0), 174, b""),
 ]
 
+# entities of the room that the first origin places alone: a millionth above the floor, and a millionth inside the cube's face
+ABOVE_THE_FLOOR = b'{\n"classname" "light"\n"origin" " 1 -2.5 0.000001"\n"origin" "x"\n}\n'
+FAR_IN_THE_WEST = b'{\n"Origin" "x"\n"origin " "y"\n"origin" "\t-32767.999999 0.5\n1. "\n}\n'
+# the room, of which the origin of the first entity is not read
+PLACED = world(*ROOM).replace(b'"classname"', b'"origin" "x"\n"classname"', 1)
+
 # worlds that leak, what is printed, and the length of the file: the room with a hole; an entity in the hole, on a node's plane; the
 # first of two entities inside a wall, nowhere, and both in the open; lava in the hole; an entity in an empty world
 LEAKS = [
@@ -83,4 +89,6 @@ def rows():
     yield closed(FINE, SEALED[3][0], "sealed", *SEALED[3][1:])
     for words in WORKERS:
         yield closed(words, CORNER, "sealed", FINE_COUNTS, 989, FINE_ROWS)
+    yield closed(FAST, PLACED + ABOVE_THE_FLOOR, "sealed", ROOM_COUNTS, 595, b"\1")
+    yield leaking(FAST, PLACED + FAR_IN_THE_WEST, "1", "12", 594)
     yield listed()
