@@ -6,11 +6,12 @@
 The page needs no other file; what it holds, read back from its text, is the tree, its rows, and the surfaces with each corner
 rounded to a float. A page with a listing and a map, whose entities it holds, is that of the courtyard. It is opened without a window
 where there is a browser, Chromium or Chrome: at three places the colours of wall, water and sky stand where they should, keys
-change what the page counts to what is counted here of the tree and its rows, what the row of a frozen place leaves out is grey where
+change what the page counts to what is counted here of the tree and its rows, walls stop one who walks by its clip hull, what the row of a frozen place leaves out is grey where
 what it holds leaves room, the class of an entity is told under the pointer, and without WebGL a line says so."""
 
 from array import array
 from base64 import b64decode
+from fractions import Fraction
 import json
 from pathlib import Path
 import re
@@ -42,6 +43,8 @@ TARGETS = {"wall": (200, 192, 150), "water": (200, -50, 36), "sky": (416, 100, 1
 OUTSIDE, DOWN, FROZEN = (40, -420, 520), (70, 50, 0), (-208, -128, 24)
 # by how much a part of a colour may differ
 NEAR = 4
+# how far the eyes of a player are above the point of the clip hull, how near one comes to a wall, how far one walks, and how far aside
+EYES, GAP, FAR, SLANT = 22, Fraction(1, 32), 2000, 0.5
 
 
 def list_of(layout, text):
@@ -96,6 +99,16 @@ def faults_of_text(text, tree, seen):
         yield "its corners are not those of the surfaces"
     if b64decode(level["rows"]) != b"".join(tree.rows):
         yield "its rows are not those of the tree"
+    if (level["hull"] is not None) != any(section.kind == 1 for section in tree.sections):
+        yield "it has a clip hull that the tree has not, or lacks one"
+    elif level["hull"] is not None:
+        hull = tree.hull(1)
+        for part, (layout, numbers) in {
+                "planes": ("d", [number for plane in hull.planes for number in plane]),
+                "nodes": ("i", [number for node in hull.nodes for number in node]),
+                "solid": ("B", [int(leaf.contents == "solid") for leaf in hull.leaves])}.items():
+            if list_of(layout, level["hull"][part]) != numbers:
+                yield f"the {part} of its clip hull are not those of the tree"
 
 
 class Browser:
@@ -113,14 +126,19 @@ class Browser:
 
     def told(self, words, *more):
         """What stands at the edge of the page."""
-        match = re.search(r'<pre id="told">(.*?)</pre>', self.run(words, ["--dump-dom", *more]), re.S)
-        return match.group(1) if match else ""
+        return told_by(self.run(words, ["--dump-dom", *more]))
 
     def pixels(self, words):
         """The width, and the rows of pixels, each three or four bytes a pixel, and how many."""
         picture = Path(self.folder, "page.png")
         self.run(words, [f"--screenshot={picture}"])
         return unpacked(picture.read_bytes())
+
+
+def told_by(text):
+    """What stands at the edge of a page."""
+    match = re.search(r'<pre id="told">(.*?)</pre>', text, re.S)
+    return match.group(1) if match else ""
 
 
 def unpacked(data):
@@ -225,6 +243,53 @@ def faults_of_pointer(browser, entities):
             yield f"{aside} beside {entity['told']} {told!r} is told under the pointer"
 
 
+def faults_of_walls(browser, tree):
+    """What is wrong with how walls stop one who walks. Along an axis one comes as near to them as the clip hull and a gap allow;
+    aslant one slides along the first wall as far as the next one; and without the key, and without the hull, nothing stops."""
+    hull, walks = tree.hull(1), []
+    for axis in range(3):
+        for way in (1, -1):
+            reached = list(PLACE)
+            reached[axis] = float(stop_of(hull, PLACE, axis, way))
+            walks.append((PLACE, [way * int(axis == other) for other in range(3)], reached))
+            other = (axis + 2) % 3
+            slid = [*reached]
+            slid[other] = float(stop_of(hull, reached, other, 1))
+            walks.append((PLACE, [way if at == axis else SLANT if at == other else 0 for at in range(3)], slid))
+    script = f"""setTimeout(() => {{
+        const ends = {json.dumps([(place, way) for place, way, _ in walks])}.map(([place, way]) => {{
+            state.eye = place;
+            go(way, {FAR});
+            return state.eye;
+        }});
+        document.body.append(Object.assign(document.createElement("pre"), {{ id: "walked", textContent: JSON.stringify(ends) }}));
+    }}, 500);"""
+    for keys, is_stopped in (("", False), ("C", True), ("CC", False)):
+        text = browser.run(f"from={spelled(PLACE)}&keys={keys}", ["--dump-dom"], script)
+        ends = json.loads(re.search(r'<pre id="walked">(.*?)</pre>', text).group(1))
+        for (place, way, reached), end in zip(walks, ends, strict=True):
+            wanted = reached if is_stopped else [a + FAR * b for a, b in zip(place, way)]
+            if any(abs(a - b) > 1e-6 for a, b in zip(end, wanted)):
+                yield f"with the keys {keys!r} one walks from {place} by {way} to {end}, and should come to {wanted}"
+        if is_stopped != ("walls stop you, by clip hull 1" in told_by(text)):
+            yield f"with the keys {keys!r} it is not told whether walls stop one"
+    bare = Path(browser.folder, "bare.html")
+    bare.write_text(re.sub(r'"hull": {.*?}', '"hull": null', browser.page.read_text(encoding="ascii")), encoding="ascii")
+    if "nothing stops you, since the tree has no clip hull 1" not in Browser(browser.words[0], bare, browser.folder).told("keys=C"):
+        yield "it is not told that nothing stops one where there is no clip hull"
+
+
+def stop_of(hull, eyes, axis, way):
+    """Where one comes who walks along an axis of a clip hull until something solid is a gap away, by the planes on the way."""
+    def place(at):
+        point = [*eyes[:axis], at, *eyes[axis + 1:]]
+        return point[:2] + [point[2] - EYES]
+    met = {Fraction(plane.d - sum(plane[other] * Fraction(place(0)[other]) for other in range(3)), plane[axis])
+           for plane in hull.planes if plane[axis]}
+    ends = sorted((at for at in met if way * (at - Fraction(eyes[axis])) > 0), key=lambda at: way * at)
+    return next(at for at, after in zip(ends, ends[1:]) if hull.is_solid_at(place((at + after) / 2))) - way * GAP
+
+
 def count_told(text, words):
     """The numbers of a line of the page."""
     match = re.search(words, text)
@@ -279,7 +344,8 @@ def main():
         found += faults_of_entities(text, sys.argv[4])
         found += opened(page, lambda browser: (
             *faults_of_pixels(browser, tree, seen), *faults_of_grey(browser, tree, seen),
-            *faults_of_keys(browser, tree, seen, portals, entities), *faults_of_pointer(browser, entities)))
+            *faults_of_keys(browser, tree, seen, portals, entities), *faults_of_pointer(browser, entities),
+            *faults_of_walls(browser, tree)))
     sys.exit("\n".join(found) or 0)
 
 

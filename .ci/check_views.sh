@@ -89,9 +89,16 @@ writes_a_page() {
     begins_at '0.0, 0.0, 48.0' || return 1
     look view made.tree
     looked && python3 .ci/check_pages.py "$folder/printed" "$folder/made.tree" || return 1
-    look view courtyard.tree --map courtyard.map --prt courtyard.prt
+    # and with the clip hull of players
+    run_program compile courtyard.map walled.tree --hulls
+    [[ $status == 0 ]] || return 1
+    look view walled.tree --map courtyard.map --prt courtyard.prt
     begins_at '-208.0, -128.0, 46.0' && cp "$folder/printed" "$folder/page.html" || return 1
-    python3 .ci/check_pages.py "$folder/page.html" "$folder/courtyard.tree" "$folder/courtyard.prt" "$folder/courtyard.map"
+    python3 .ci/check_pages.py "$folder/page.html" "$folder/walled.tree" "$folder/courtyard.prt" "$folder/courtyard.map" || return 1
+    python3 .ci/made_sections.py add "$folder/rooms.tree" "$folder/hulled.tree" "1:$folder/cube.tree" && look view hulled.tree || return 1
+    looked && python3 .ci/check_pages.py "$folder/printed" "$folder/hulled.tree" || return 1
+    look view bad.tree
+    refused "section 1 of bad.tree is no clip hull: a tree file with rows or sections"
 }
 
 # the plan in the corner reaches farther in the hall than in the store, and eight times as far in a level that is eight times as large

@@ -25,6 +25,10 @@ import treefile
 from words import joined, words_of
 
 
+# the clip hull of players
+PLAYERS = 1
+
+
 class Refused(Exception):
     """Why a command cannot be done, in a line."""
 
@@ -92,7 +96,8 @@ def view_of(words):
     if not seen:
         raise Refused(f"{words.name} has nothing but solid leaves")
     at = at or Cells(tree).middle(largest({leaf: what.faces for leaf, what in seen.items()}))
-    level = {**page.level_of(tree, seen), "portals": portals, "leak": line and page.places(line),
+    hull = page.hull_of(hull_of(words.name, tree, PLAYERS)) if any(section.kind == PLAYERS for section in tree.sections) else None
+    level = {**page.level_of(tree, seen), "hull": hull, "portals": portals, "leak": line and page.places(line),
              "entities": page.entities_of(marks or []), "at": page.places([at])[0], "to": to and page.places([to])[0]}
     return page.page(plain_name(words.name), level)
 

@@ -6,8 +6,8 @@ middles (three floats each); corners (three floats each); of each surface, leaf 
 corners by their numbers (4 bytes each), its kind and its red, green and blue (a byte each); of each leaf how many surfaces
 it has, how many leaves it touches that hold other contents, and these (4 bytes each); and the rows, bit by bit. Beside these
 stand the bound of the world; the entities of a map that stand at a place, each with its kind, what is said of it, its class and its
-place; and the portals of a listing, the points of a leak line, where one begins, and where one looks, each null where it is not
-said."""
+place; and, each null where it is not there or not said, the planes, nodes and leaves of clip hull 1 (a byte that is 1 where a leaf is
+solid), the portals of a listing, the points of a leak line, where one begins, and where one looks."""
 
 from base64 import b64encode
 from html import escape
@@ -22,7 +22,7 @@ from corners import rounded
 from patterns import FILLED, kind as fill_of
 
 FOLDER = Path(__file__).resolve().parent / "web"
-SCRIPTS = ["level.js", "walking.js", "drawing.js", "marks.js", "entities.js", "plan.js", "main.js"]
+SCRIPTS = ["level.js", "walking.js", "colliding.js", "drawing.js", "marks.js", "entities.js", "plan.js", "main.js"]
 FILLS = ["empty", "solid", "water", "slime", "lava", "sky", FILLED]
 KINDS = list(colours.KINDS)
 # how far ahead of a place the point is to which one looks
@@ -54,8 +54,7 @@ def level_of(tree, seen):
     rounds = [numbers.setdefault(corner, len(numbers)) for surface, _ in surfaces for corner in surface.polygon]
     return {
         "bound": tree.bound,
-        "planes": spelled("d", (number for plane in tree.planes for number in plane)),
-        "nodes": spelled("i", (number for node in tree.nodes for number in node)),
+        **nodes_of(tree),
         "leaves": spelled("B", (FILLS.index(fill_of(leaf)) for leaf in tree.leaves)),
         "middles": spelled("f", flat(middle(what.faces) if what else (0, 0, 0) for what in everyone)),
         "corners": spelled("f", flat(map(rounded, numbers))),
@@ -70,6 +69,17 @@ def level_of(tree, seen):
         "kind": [{"name": name, "part": part} for name, (_, part) in colours.KINDS.items()],
         "ground": colours.GROUND,
     }
+
+
+def nodes_of(tree):
+    """The planes and the nodes of a tree."""
+    return {"planes": spelled("d", (number for plane in tree.planes for number in plane)),
+            "nodes": spelled("i", (number for node in tree.nodes for number in node))}
+
+
+def hull_of(hull):
+    """The tree of a clip hull."""
+    return {**nodes_of(hull), "solid": spelled("B", (leaf.contents == "solid" for leaf in hull.leaves))}
 
 
 def surfaces_drawn(tree, leaf, what):

@@ -110,7 +110,7 @@ function addEdges(found, leaf) {
 
 // leaves that are shown, from the farthest on: on the other side of a plane than the eye's come first
 function farthestFirst() {
-    const found = [], waiting = [root];
+    const found = [], waiting = [root()];
     while (waiting.length) {
         const at = waiting.pop();
         if (at >= 0) {

@@ -15,7 +15,10 @@ function begins(lengths) {
     return from;
 }
 
-const planes = read(Float64Array, LEVEL.planes), nodes = read(Int32Array, LEVEL.nodes), root = nodes.length ? 0 : -1;
+// the planes and nodes of a tree: that of the level, and that of clip hull 1, of which a leaf is solid or not
+function treeOf(part) { return { planes: read(Float64Array, part.planes), nodes: read(Int32Array, part.nodes) }; }
+
+const world = treeOf(LEVEL), hull = LEVEL.hull && { ...treeOf(LEVEL.hull), solid: read(Uint8Array, LEVEL.hull.solid) };
 const leaves = read(Uint8Array, LEVEL.leaves), middles = read(Float32Array, LEVEL.middles);
 const corners = read(Float32Array, LEVEL.corners), rounds = read(Uint32Array, LEVEL.rounds);
 const roundFrom = begins(read(Uint16Array, LEVEL.lengths)), kinds = read(Uint8Array, LEVEL.kinds);
@@ -35,38 +38,41 @@ function isSolid(leaf) { return leaves[leaf] === SOLID || leaves[leaf] === FILLE
 
 function isSeenThrough(surface) { return LEVEL.kind[kinds[surface]].part < 1; }
 
+function root(tree = world) { return tree.nodes.length ? 0 : -1; }
+
 // how far in front of a node's plane a point is, as a multiple of the normal's length
-function sideOf(node, point) {
+function sideOf(node, point, { planes, nodes } = world) {
     const at = 4 * nodes[3 * node];
     return planes[at] * point[0] + planes[at + 1] * point[1] + planes[at + 2] * point[2] - planes[at + 3];
 }
 
-function child(node, toFront) { return nodes[3 * node + (toFront ? 1 : 2)]; }
+function child(node, toFront, tree = world) { return tree.nodes[3 * node + (toFront ? 1 : 2)]; }
 
-function leafAt(point) {
-    let at = root;
-    while (at >= 0) at = child(at, sideOf(at, point) >= 0);
+function leafAt(point, tree = world) {
+    let at = root(tree);
+    while (at >= 0) at = child(at, sideOf(at, point, tree) >= 0, tree);
     return -1 - at;
 }
 
-// the leaves through which a straight way goes from one point to another, each with the part of the way at which it begins
-function passed(first, second) {
-    const found = [], waiting = [[root, 0, 1]];
+// the leaves through which a straight way goes from one point to another, each with the part of the way at which it begins, and the
+// node on whose plane that is
+function passed(first, second, tree = world) {
+    const found = [], waiting = [[root(tree), 0, 1, null]];
     while (waiting.length) {
-        const [at, low, high] = waiting.pop();
-        if (at < 0) { found.push([-1 - at, low]); continue; }
-        const here = sideOf(at, first), there = sideOf(at, second);
+        const [at, low, high, node] = waiting.pop();
+        if (at < 0) { found.push([-1 - at, low, node]); continue; }
+        const here = sideOf(at, first, tree), there = sideOf(at, second, tree);
         const near = here + low * (there - here) >= 0, far = here + high * (there - here) >= 0;
-        if (near === far) { waiting.push([child(at, near), low, high]); continue; }
+        if (near === far) { waiting.push([child(at, near, tree), low, high, node]); continue; }
         const cut = Math.max(low, Math.min(high, here / (here - there)));
-        waiting.push([child(at, far), cut, high], [child(at, near), low, cut]);
+        waiting.push([child(at, far, tree), cut, high, at], [child(at, near, tree), low, cut, node]);
     }
     return found;
 }
 
 // what a polygon that lies at a height, of two coordinates a corner, has of each leaf that it meets
 function slice(height, polygon) {
-    const found = [], waiting = [[root, polygon]];
+    const found = [], waiting = [[root(), polygon]];
     while (waiting.length) {
         const [at, corners] = waiting.pop();
         if (at < 0) { found.push([-1 - at, corners]); continue; }

@@ -34,6 +34,8 @@ function tell() {
     const sees = () => `sees ${row(from).length} of ${numbered.length} leaves`;
     lines.push(!rows ? "has no row, since the tree has none" : isSolid(from) ? "has no row, since the leaf is solid" : sees());
     lines.push(`drawn: ${drawn.leaves} leaves, ${drawn.triangles} triangles` + (drawn.limited ? ", by the row" : ""));
+    const stops = () => isInTheWay(state.eye) ? "walls stop you, but you stand in one" : "walls stop you, by clip hull 1";
+    if (state.solid) lines.push(hull ? stops() : "nothing stops you, since the tree has no clip hull 1");
     if (state.portals) lines.push(portals ? `portals: ${drawn.portals}` : "portals: none, since no listing was given");
     if (state.marks && LEVEL.entities.length) lines.push(`marked: ${drawn.entities} of ${LEVEL.entities.length} entities`);
     return lines.join("\n");

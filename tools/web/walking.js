@@ -6,7 +6,7 @@ const SPEED = 320, FAST = 4, TURN = 1.8, STEP = 32, DRAG = 0.004, STEEPEST = 1.5
 // `frozen` is the place whose row is shown while one walks on, or null
 const state = {
     eye: LEVEL.at, yaw: 0, pitch: 0, frozen: null,
-    row: false, portals: false, leak: LEVEL.leak !== null, numbers: false, marks: true, zoom: 0, help: true, changed: true,
+    row: false, portals: false, leak: LEVEL.leak !== null, numbers: false, marks: true, solid: false, zoom: 0, help: true, changed: true,
 };
 const held_down = new Set();
 
@@ -17,6 +17,7 @@ const KEYS = {
     l() { state.leak = !state.leak; },
     n() { state.numbers = !state.numbers; },
     m() { state.marks = !state.marks; },
+    c() { state.solid = !state.solid; },
     h() { state.help = !state.help; },
     "+"() { state.zoom -= 1; },
     "="() { state.zoom -= 1; },
@@ -45,7 +46,8 @@ function turn(left, up) {
 }
 
 function go(way, by) {
-    state.eye = moved(state.eye, way, by).map(number => Math.max(-FARTHEST, Math.min(FARTHEST, number)));
+    const to = state.solid && hull ? stopped(state.eye, way.map(number => by * number)) : moved(state.eye, way, by);
+    state.eye = to.map(number => Math.max(-FARTHEST, Math.min(FARTHEST, number)));
 }
 
 function lookTo(point) {
