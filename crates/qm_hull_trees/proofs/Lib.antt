@@ -1,0 +1,4 @@
+pub mod HullContents
+pub mod BoxesOfHulls
+pub mod Samples
+pub mod PlainSamples
