@@ -11,13 +11,13 @@ use Rattle.qm_commands.specs.Order.{Order, of_map, of_tree, of_rooms, of_upgrade
 use Rattle.qm_commands.specs.Words.{AreWordsOf}
 use Rattle.qm_statement.specs.declared.status.Status.{Status}
 use Rattle.qm_statement.specs.declared.status.Status.TheVariants.{Done, Usage, Leak, MapFault as TextFault, ReadFault, WriteFault, Memory, TreeFault, QueryRefused}
-use Rattle.qm_statement.specs.ComesOf.{ComesOf, IsOutUnfinished, IsListingUnfinished, IsCutShort, read_fault, map_fault, write_fault, listing_fault, written}
+use Rattle.qm_statement.specs.ComesOf.{ComesOf, IsOutUnfinished, IsListingUnfinished, read_fault, map_fault, write_fault, listing_fault, written}
 use Rattle.qm_statement.specs.Complete.{IsReadBy}
 use Rattle.qm_statement.specs.InspectComesOf.{InspectComesOf, unread, no_tree_file, refused, answered}
 use Rattle.qm_statement.specs.KeptFile.{KeepsWhatItReads}
 use Rattle.qm_statement.specs.Run.{OrderComesOf, IsStopped, Due, usage, command, IsCommandStopped, Answers}
 use Rattle.qm_statement.specs.Untouched.{IsUntouched}
-use Rattle.qm_statement.specs.UpgradeComesOf.{UpgradeComesOf, IsUpgradeCutShort, tree_unread, tree_fault, unwritten, upgrade_written}
+use Rattle.qm_statement.specs.UpgradeComesOf.{UpgradeComesOf, tree_unread, tree_fault, unwritten, upgrade_written}
 use Rattle.qm_statement.specs.Written.{IsWrittenTo}
 
 -- ---- MAP

@@ -13,9 +13,9 @@ use Rattle.qm_statement.specs.Untouched.{IsUntouched}
 
 -- What comes of a command that compiles a generated map.
 
--- one worker finds finer rows
+-- one worker finds finer rows, and there is no section
 abbrev pub one_worker : Options
-one_worker = record { threads = 1; fast = false }
+one_worker = record { threads = 1; fast = false; hulls = false }
 
 -- the summary of the map of so many rooms that is generated from a number: of its tree and rows, which it compiles to without
 -- a leak

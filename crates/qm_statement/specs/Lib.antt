@@ -1,3 +1,4 @@
+pub mod AskedSections
 pub mod Built
 pub mod ComesOf
 pub mod CompiledForm

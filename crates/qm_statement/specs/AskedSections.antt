@@ -1,0 +1,35 @@
+use Rattle.std.specs.Prelude.{◌≡◌, ℕ, Bool, true, false, List, [], ◌∷◌}
+use Rattle.qm_mapfile.specs.declared.entity.MapFile.{MapFile}
+use Rattle.qm_formats.specs.TreeFile.{Section, TreeFile}
+use Rattle.qm_hull_trees.specs.HullBoxes.{hull_box}
+use Rattle.qm_hull_trees.specs.Hull.{IsHull}
+use Rattle.qm_commands.specs.declared.options.Options.{Options}
+use Rattle.qm_statement.specs.TreeBytes.{AreBytesOf}
+
+-- The sections that stand in a file beside the tree of a map.
+
+-- the hull of a number: its kind is that number, and its bytes are those of the hull's own tree file
+pub record IsHullSection (map : MapFile) (hull : ℕ) (section : Section) : Type 0 where
+  pub kind_is : section.kind ≡ hull
+  pub file : TreeFile
+  pub is_hull : IsHull map (hull_box hull) file
+  pub bytes_are : AreBytesOf file section.bytes
+
+-- the first hull and then the second, and nothing else
+pub record AreBothHulls (map : MapFile) (sections : List Section) : Type 0 where
+  pub first : Section
+  pub second : Section
+  pub is_first : IsHullSection map 1 first
+  pub is_second : IsHullSection map 2 second
+  pub are_both : sections ≡ first ∷ second ∷ []
+
+-- both hulls with `--hulls`, and none without it
+abbrev pub AreHullsAsAsked : Bool → MapFile → List Section → Type 0
+AreHullsAsAsked true map sections = AreBothHulls map sections
+AreHullsAsAsked false map sections = sections ≡ []
+
+-- the sections of the options that are given, in the order of their kinds
+pub record AreSectionsAsked (map : MapFile) (options : Options) (sections : List Section) : Type 0 where
+  pub hulls : List Section
+  pub are_hulls : AreHullsAsAsked options.hulls map hulls
+  pub are_all : sections ≡ hulls
