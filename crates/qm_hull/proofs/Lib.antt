@@ -1,0 +1,2 @@
+pub mod OneHull
+pub mod BuiltHulls
