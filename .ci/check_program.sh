@@ -18,7 +18,7 @@ prints_the_usage_line() {
     local words
     for words in '' 'compil room.map none' 'compile room.map' 'format room.map none more' 'format none none' \
         'format -room.map none' 'format room.map -none' 'format --fast room.map none' \
-        'compile room.map none --fast --fast' 'compile room.map none --prt' 'compile room.map none --prt=' \
+        'compile room.map none --fast --fast' 'compile room.map none --hulls --hulls' 'compile room.map none --prt' 'compile room.map none --prt=' \
         'compile room.map none --prt -x' 'compile room.map --prt --fast none' 'compile --prt room.map room.map none' \
         'compile room.map none --prt=none' 'format room.map none --prt list' '--help' 'help' '-h' 'compile --help' \
         'compile room.map none --threads 0' 'compile room.map none --threads=04' 'compile room.map none --threads 65' \

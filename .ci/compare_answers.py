@@ -4,7 +4,8 @@
     .ci/compare_answers.py PROGRAM TREE..
 
 Of each tree, and of some that are made here, 1,000 queries are asked in one call: places of whole numbers and of decimals, many
-of them on planes of nodes, rows, and whether one leaf sees another. Then short lists of queries, of which some are refused.
+of them on planes of nodes, in the tree and in its clip hulls, rows, and whether one leaf sees another. Then short lists of queries, of
+which some are refused.
 """
 
 from fractions import Fraction
@@ -16,6 +17,7 @@ import tempfile
 
 sys.path.insert(0, str(Path(__file__).resolve().parent.parent / "tools"))
 
+import made_sections
 import made_trees
 import treefile
 
@@ -41,26 +43,45 @@ def number(draw, near, bound):
     return f"{value}.{draw.choice(['', '0', '5', '000001'])}" if kind == 2 else str(value)
 
 
-def place(draw, tree):
-    """A query for a place, often on a plane across an axis, or next to it."""
-    words = [number(draw, draw.randint(-300, 300), tree.bound) for _ in range(3)]
-    for plane in draw.choices(tree.planes, k=3) if tree.planes else []:
+def place(draw, planes, bound):
+    """A place, often on a plane across an axis, or next to it."""
+    words = [number(draw, draw.randint(-300, 300), bound) for _ in range(3)]
+    for plane in draw.choices(planes, k=3) if planes else []:
         if sorted(plane[:3]) == [0, 0, 1]:
-            words[plane[:3].index(1)] = number(draw, plane[3], tree.bound)
-    return "at=" + ",".join(words)
+            words[plane[:3].index(1)] = number(draw, plane[3], bound)
+    return ",".join(words)
 
 
-def query(draw, tree, below):
+def part(tree, kind):
+    """The tree of a clip hull, or why it cannot be asked."""
+    try:
+        return tree.hull(kind)
+    except treefile.NoPart:
+        return "no part"
+    except treefile.BadPart:
+        return "bad part"
+
+
+def hull_query(draw, tree, hulls):
+    """A query for a place in a clip hull, often one that is there."""
+    kind = draw.choice([kind for kind, hull in hulls.items() if isinstance(hull, treefile.Tree)] + list(hulls))
+    hull = hulls[kind] if isinstance(hulls[kind], treefile.Tree) else tree
+    return f"hull={kind}," + place(draw, hull.planes, tree.bound)
+
+
+def query(draw, tree, hulls, below):
     """A query of some sort, with numbers of leaves below another."""
     kind = draw.randrange(20)
     if kind == 0:
         return draw.choice(["count", "parts"])
+    if kind < 6:
+        return hull_query(draw, tree, hulls)
     if kind < 12 or not below:
-        return place(draw, tree)
+        return "at=" + place(draw, tree.planes, tree.bound)
     return f"row={draw.randrange(below)}" if kind == 12 else f"sees={draw.randrange(below)},{draw.randrange(below)}"
 
 
-def answer(tree, word):
+def answer(tree, hulls, word):
     """The line that answers a query."""
     verb, _, rest = word.partition("=")
     values = rest.split(",")
@@ -71,7 +92,9 @@ def answer(tree, word):
     if verb == "parts":
         return " ".join([f"version {tree.version} bound {tree.bound} parts", *(str(section.kind) for section in tree.sections)])
     if verb == "at":
-        return answer_at(tree, tuple(Fraction(value.rstrip(".")) for value in values))
+        return answer_at(tree, point(tree, values))
+    if verb == "hull":
+        return answer_hull(hulls[int(values[0])], point(tree, values[1:]))
     numbers = list(map(int, values))
     if max(numbers) >= numbered(tree):
         raise Refused("no such leaf")
@@ -83,34 +106,51 @@ def answer(tree, word):
     return "yes" if numbers[1] in row else "no"
 
 
-def answer_at(tree, point):
-    """The line of the leaf at a point."""
-    if max(map(abs, point)) >= tree.bound:
+def point(tree, values):
+    """The point of three numbers."""
+    found = tuple(Fraction(value.rstrip(".")) for value in values)
+    if max(map(abs, found)) >= tree.bound:
         raise Refused("outside the cube")
-    leaf = tree.leaf_at(point)
+    return found
+
+
+def answer_hull(hull, place):
+    """The line of a point in a clip hull."""
+    if not isinstance(hull, treefile.Tree):
+        raise Refused(hull)
+    return "hull solid" if hull.is_solid_at(place) else "hull empty"
+
+
+def answer_at(tree, place):
+    """The line of the leaf at a point."""
+    leaf = tree.leaf_at(place)
     contents, filled, own = tree.leaves[leaf]
     return f"leaf {leaf} {contents}" + ("" if own is None else f" number {own}") + (" filled" if filled else "")
 
 
-def due(tree, words):
+def due(tree, hulls, words):
     """The status to end with, and what has to be printed of queries."""
     lines = []
     for word in words:
         try:
-            lines.append(answer(tree, word) + "\n")
+            lines.append(answer(tree, hulls, word) + "\n")
         except Refused as refused:
             return 9, f"query {len(lines) + 1} refused: {refused}\n"
     return 0, "".join(lines)
 
 
-def lists(tree):
+def lists(tree, hulls):
     """The lists of queries to ask."""
     draw = random.Random(1)
     below = 0 if tree.rows is None else numbered(tree)
-    many = (query(draw, tree, below) for _ in range(2000))
-    yield [word for word in many if due(tree, [word])[0] == 0][:1000]
+    many = (query(draw, tree, hulls, below) for _ in range(2000))
+    yield [word for word in many if due(tree, hulls, [word])[0] == 0][:1000]
     for _ in range(100):
-        yield [query(draw, tree, numbered(tree) + 1) for _ in range(draw.randint(1, 6))]
+        yield [query(draw, tree, hulls, numbered(tree) + 1) for _ in range(draw.randint(1, 6))]
+    for kind in hulls:
+        # that a place is outside goes before that there is no hull, or a bad one
+        yield [f"hull={kind},{tree.bound},0,0"]
+        yield [f"hull={kind},0,0,0", f"hull={kind},0,-{tree.bound},0"]
     yield [f"row={numbered(tree)}", f"at={tree.bound},0,0"]
     yield [f"at=0,0,{-tree.bound}", f"row={numbered(tree)}"]
     yield ["parts", f"at=0,{tree.bound - 1}.999999,0", "at=4096,0,0", "at=0,-32768,0"]
@@ -118,12 +158,15 @@ def lists(tree):
 
 def made(folder):
     """The names of trees that are made in a folder: of slanted planes, with rows of which one can lack a leaf whose row has its
-    own, without rows, and with long rows; of both versions, in a large world, and with sections."""
+    own, without rows, and with long rows; of both versions, in a large world, and with sections, of which some are clip hulls, and others
+have what a clip hull has not: rows, sections, another version or bound, or something behind."""
     draw = random.Random(2)
     trees = {"slanted": made_trees.random_tree(draw, 90, True), "without": made_trees.random_tree(draw, 90, False),
              "long": made_trees.long_tree(700), "first": made_trees.random_tree(draw, 40, True, 1),
              "large": made_trees.random_tree(draw, 40, True, 2, treefile.BOUNDS[-1]),
              "parts": made_trees.random_tree(draw, 40, True, 2, treefile.BOUNDS[0], [(1, b"a"), (9, b""), (2 ** 32 - 1, bytes(300))])}
+    for number, hulls in enumerate(made_sections.hulls(draw)):
+        trees[f"hulls{number}"] = made_trees.random_tree(draw, 40, True, 2, treefile.BOUNDS[-1], hulls)
     for name, data in trees.items():
         Path(folder, f"{name}.tree").write_bytes(data)
         yield f"{folder}/{name}.tree"
@@ -132,9 +175,10 @@ def made(folder):
 def faults(program, name):
     """For each list of queries to a tree what is wrong with its answers, or None."""
     tree = treefile.load(name)
-    for words in lists(tree):
+    hulls = {kind: part(tree, kind) for kind in treefile.HULLS}
+    for words in lists(tree, hulls):
         ran = subprocess.run([program, "inspect", name, *words], capture_output=True, text=True, check=False)
-        found, wanted = (ran.returncode, ran.stdout + ran.stderr), due(tree, words)
+        found, wanted = (ran.returncode, ran.stdout + ran.stderr), due(tree, hulls, words)
         yield None if found == wanted else f"{name}, asked {words[:6]}: {str(found)[:300]}, and due are {str(wanted)[:300]}"
 
 

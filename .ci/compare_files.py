@@ -125,6 +125,8 @@ def altered_files():
     yield 0, random_tree(rng, 24, True)
     yield 0, tree_file([], [], [(-1, 0)], [{0}], 2, 32768, SECTIONS)
     yield 0, random_tree(rng, 5, True, 2, 4096, SECTIONS)
+    # what stands in a section is no matter of the file
+    yield 0, tree_file([], [], [(-1, 0)], [{0}], 2, 4096, [(1, random_tree(rng, 1, False)), (2, b"")])
     yield len(long_one) - 3, long_one
 
 

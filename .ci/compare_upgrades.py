@@ -5,7 +5,7 @@
 
 The trees are files as the compiler wrote them: each is written in version 1, which has the least bound, and the program has to
 make of that what the plain writer makes of it in version 2. Others are made here: of slanted planes, with long rows and without rows, in a large world and with sections. What was
-upgraded is upgraded once more, and stays. The file that is read stays, and has the same answers. Where it is cut off, or has a
+upgraded is upgraded once more, and stays; some of the sections are clip hulls, and some only say so. The file that is read stays, and has the same answers. Where it is cut off, or has a
 byte too many, its fault is printed, and OUT is as it was."""
 
 import os
@@ -17,6 +17,7 @@ import tempfile
 
 sys.path.insert(0, str(Path(__file__).resolve().parent.parent / "tools"))
 
+import made_sections
 from made_trees import SOLID, cube, long_tree, random_tree, tree_file, written
 import treefile
 
@@ -24,7 +25,7 @@ SECTIONS = [(3, b"abc"), (4, b""), (2 ** 32 - 1, bytes(70000))]
 FAULTS = {"short": 1, "magic": 2, "trailing": 8}
 OLD = b"what OUT had before" * 9999
 QUERIES = ["count", "at=0,0,0", "at=-300.5,17,80.25", "at=4095.999999,-1,2", "at=4096,0,0", "at=0,-32767,0", "at=0,0,32768",
-           "row=0", "row=3", "row=999999", "sees=0,1", "sees=2,0", "sees=0,999999"]
+           "hull=1,0,0,0", "hull=2,-300.5,17,80.25", "hull=1,4096,0,0", "hull=2,0,-32768,0", "row=0", "row=3", "row=999999", "sees=0,1", "sees=2,0", "sees=0,999999"]
 
 
 def told(program, *words):
@@ -66,7 +67,8 @@ def faults(program, data):
 def made():
     """Tree files of both versions."""
     rng = random.Random(5)
-    for form in (1,), (2, treefile.BOUNDS[-1]), (2, treefile.BOUNDS[0], SECTIONS):
+    hulls = [(2, treefile.BOUNDS[-1], sections) for sections in made_sections.hulls(rng)]
+    for form in (1,), (2, treefile.BOUNDS[-1]), (2, treefile.BOUNDS[0], SECTIONS), *hulls:
         yield from (cube(*form), random_tree(rng, 40, True, *form), random_tree(rng, 7, False, *form))
         yield tree_file([], [], [(SOLID, 1)], None, *form)
     yield written(treefile.decode(long_tree(700)), 1)

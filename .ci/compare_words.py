@@ -5,7 +5,7 @@
 
 The program runs in an empty folder: on each list of up to three telling words, and on each of four that begins with `compile`,
 or with --all on each of up to four; on single words in each place where they are a number or a query; and on lists of five to
-nine words, made of a command by one change or none; and on those of the table of mistakes in docs/EDITORS.md. Words that are no
+ten words, made of a command by one change or none; and on those of the table of mistakes in docs/EDITORS.md. Words that are no
 command have to print the usage line and end with 2. Of any others a demo ends with 0, and the rest with 5, since their files are
 missing.
 """
@@ -26,7 +26,7 @@ from compare_texts import read_number
 PAGE = Path(__file__).resolve().parent.parent.joinpath("docs/EDITORS.md").read_text(encoding="utf-8")
 USAGE = (b"usage: qmapc compile MAP OUT [--prt FILE] [--threads N] [--fast] [--hulls] | inspect TREE QUERY.. | format MAP OUT"
          b" | demo N NUMBER | upgrade TREE OUT\n")
-TELLING = ["compile", "inspect", "format", "demo", "upgrade", "a", "8", "04", "count", "--fast", "--prt", "--prt=a", "--threads",
+TELLING = ["compile", "inspect", "format", "demo", "upgrade", "a", "8", "04", "count", "--fast", "--hulls", "--prt", "--prt=a", "--threads",
            "--threads=8", "-x", ""]
 NUMBERS = ["", "0", "00", "1", "01", "2", "7", "+1", "-1", "1.", "1.0", "1e0", "0x1", " 1", "1 ", "1,", "1_0", "\u0661", "\uff11",
            "\udcff", "64", "65", "256", "257", "4294967297", "999999999999999999", "1000000000000000000", "18446744073709551615",
@@ -36,7 +36,10 @@ PLACES = ["0", "-0", "+1", "1.5", ".5", "5.", "1.2345670", "1.2345678", "1.23456
 QUERIES = ["count", "COUNT", "count=", "count ", "Count", "cou", "parts", "PARTS", "part", "parts=", "parts=1", "parts ",
            "at", "at=", "at=,,", "at=1,2", "at=1,2,3", "at=1,2,3,", "at=1,2,3,4", "at= 1,2,3", "at=1, 2,3", "at 1,2,3",
            "AT=1,2,3", "at=1;2;3", "at==1,2,3", "row", "row=", "row 0", "row=0,", "rows=0", "sees", "sees=", "sees=0", "sees=0,",
-           "sees=,0", "sees=0,1", "sees=0,1,2", "sees=0 1", "see=0,1", "help", "--help", "-count", "-", "--", "\u00e9", "at=1,2,\u00b3", "\udcff"]
+           "sees=,0", "sees=0,1", "sees=0,1,2", "sees=0 1", "see=0,1", "hull", "hull=", "hull=1", "hull=1,2,3", "hull=1,2,3,4",
+           "hull=2,-1.5,+3,.5", "hull=0,2,3,4", "hull=3,2,3,4", "hull=12,2,3,4", "hull=01,2,3,4", "hull=+1,2,3,4", "hull=1.,2,3,4",
+           "hull=,2,3,4", "hull= 1,2,3,4", "hull=1 ,2,3,4", "hull=1,2,3,4,5", "hull=1,2,3,", "hull=\u0661,2,3,4", "hull==1,2,3,4",
+           "HULL=1,2,3,4", "hulls=1,2,3,4", "hull1,2,3,4", "help", "--help", "-count", "-", "--", "\u00e9", "at=1,2,\u00b3", "\udcff"]
 
 
 def bytes_of(word):
@@ -70,6 +73,8 @@ def is_query(word):
     values = rest.split(",")
     if verb == "at":
         return len(values) == 3 and all(map(is_place, values))
+    if verb == "hull":
+        return values[0] in ("1", "2") and len(values) == 4 and all(map(is_place, values[1:]))
     if verb not in ("row", "sees"):
         return word in ("count", "parts")
     return len(values) == (1 if verb == "row" else 2) and all(is_number(value, 0, 10 ** 18 - 1) for value in values)
@@ -82,7 +87,7 @@ def is_compile(words):
     while words:
         word = words.pop(0)
         option, equals, value = word.partition("=")
-        if option == "--fast" and not equals:
+        if option in ("--fast", "--hulls") and not equals:
             value = "given"
         elif option in ("--prt", "--threads"):
             if not equals:
@@ -128,6 +133,7 @@ def single_words():
     for word in PLACES:
         for places in itertools.permutations([word, "0", "-1.5"]):
             yield ["inspect", "a", "at=" + ",".join(places)]
+            yield ["inspect", "a", "hull=2," + ",".join(places)]
     for word in QUERIES:
         yield ["inspect", "a", word]
         yield ["inspect", "count", word, "count"]
@@ -135,16 +141,16 @@ def single_words():
 
 
 def long_lists(count):
-    """Lists of five to nine words, each a command of one sort or another with one change or none."""
+    """Lists of five to ten words, each a command of one sort or another with one change or none."""
     draw = random.Random(7)
     while count:
-        options = draw.sample([["--fast"], draw.choice([["--prt", "c"], ["--prt=c"], ["--prt=-c"]]),
-                               draw.choice([["--threads", "8"], ["--threads=64"]])], draw.randint(1, 3))
+        options = draw.sample([["--fast"], ["--hulls"], draw.choice([["--prt", "c"], ["--prt=c"], ["--prt=-c"]]),
+                               draw.choice([["--threads", "8"], ["--threads=64"]])], draw.randint(1, 4))
         parts = [["a"], ["b"], *options]
         draw.shuffle(parts)
         words = ["compile", *itertools.chain(*parts)]
         if draw.random() < 0.2:
-            words = ["inspect", "a", *draw.choices(["count", "parts", "at=1,2,3", "row=0", "sees=0,1"], k=draw.randint(3, 7))]
+            words = ["inspect", "a", *draw.choices(["count", "parts", "at=1,2,3", "hull=1,2,3,4", "row=0", "sees=0,1"], k=draw.randint(3, 7))]
         at = draw.randrange(len(words))
         change = draw.randrange(5)
         if change == 1:
@@ -155,7 +161,7 @@ def long_lists(count):
             words[at] = draw.choice(TELLING)
         elif change == 4:
             words.insert(at, draw.choice(TELLING))
-        if 5 <= len(words) <= 9:
+        if 5 <= len(words) <= 10:
             count -= 1
             yield words
 

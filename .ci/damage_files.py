@@ -5,8 +5,9 @@
 
 Each bit of a small file of both versions is turned; files of other programs, and headers that promise what no file has, are read;
 and larger files are edited by chance, 200 times in all where no number is named: bits turned, bytes put in, left out, doubled, moved
-and cut off, records exchanged, numbers replaced by such as stand at an end of their type. Each has to end with 0 and what the slow
-reader counts, or with 8 and the slow reader's fault and place; and with a peak of memory that is at most `MOST` times as long as the
+and cut off, records exchanged, numbers replaced by such as stand at an end of their type. So is a clip hull in a section of a whole
+file: it is cut off at each byte, and each byte is changed, left out and doubled; and larger ones are edited. Each has to end with 0
+and what the slow reader counts, or with 8 and the slow reader's fault and place, or with 9 where the slow reader refuses the hull; and with a peak of memory that is at most `MOST` times as long as the
 file, beside what a run takes that reads an empty one. Where READER is named, the program `file_faults`, listings of portals are
 damaged too, and as many edited, and what `READER read` says of them is compared with what `.ci/slow_listing.py` says. Tree files,
 and listings whose names end with `.prt`, that are named as FILE are edited in place of those that are made here.
@@ -24,6 +25,7 @@ import zlib
 
 sys.path.insert(0, str(Path(__file__).resolve().parent.parent / "tools"))
 
+import compare_answers  # noqa: E402
 from made_trees import cube, long_tree, random_tree, tree_file  # noqa: E402
 import slow_listing  # noqa: E402
 import treefile  # noqa: E402
@@ -44,6 +46,19 @@ def due_of_tree(data):
     numbered = sum(leaf.number is not None for leaf in tree.leaves)
     return 0, (f"planes {len(tree.planes)} nodes {len(tree.nodes)} leaves {len(tree.leaves)} numbered {numbered} "
                f"rows {'no' if tree.rows is None else 'yes'}\n")
+
+
+# what is asked of files with clip hulls; of one of these the answer depends on each plane
+ASKED = ["parts", "hull=2,1,1,1", "hull=1,0.5,-20,33"]
+
+
+def due_of_hulls(data):
+    """How the program has to end on a tree file that is asked for places in its clip hulls, and what it has to print."""
+    try:
+        tree = treefile.decode(data)
+    except treefile.Fault:
+        return due_of_tree(data)
+    return compare_answers.due(tree, {kind: compare_answers.part(tree, kind) for kind in treefile.HULLS}, ASKED)
 
 
 def due_of_listing(text):
@@ -70,6 +85,24 @@ def turned(data):
     for place in range(len(data)):
         for bit in range(8):
             yield data[:place] + bytes([data[place] ^ 1 << bit]) + data[place + 1:]
+
+
+def around(hull, bound=4096):
+    """A whole file with some bytes as its first clip hull, and with a second one that is none the worse."""
+    return tree_file([], [], [(-1, 0)], [{0}], 2, bound, [(1, hull), (2, tree_file([], [], [(-2, 0)], None, 2, bound))])
+
+
+def damaged_hulls():
+    """Files in which the bytes of a small clip hull are cut off, changed, left out and doubled, one at a time."""
+    planes, nodes = [(1, 0, 0, 0), (0, 0, 1, 32)], [(0, -1, 1), (1, -2, -3)]
+    hull = tree_file(planes, nodes, [(-1, 0), (-2, 0), (-1, 0)], None, 2, 4096)
+    yield around(hull)
+    for at in range(len(hull)):
+        yield around(hull[:at])
+        yield around(hull[:at] + hull[at + 1:])
+        yield around(hull[:at + 1] + hull[at:])
+        for byte in {hull[at] ^ 1 << bit for bit in range(8)} | {0, 0xff, hull[at] ^ 0xff} - {hull[at]}:
+            yield around(hull[:at] + bytes([byte]) + hull[at + 1:])
 
 
 def others():
@@ -154,6 +187,18 @@ def coordinate(rng):
     return f"{whole}" if rng.random() < 0.7 else f"{whole}.{rng.randrange(1000000):06}"
 
 
+def larger_hulls():
+    """Larger files with clip hulls: the random ones would lead nearly all places one way, so their planes are those of boxes."""
+    rng = random.Random(9)
+    for count in (60, 400):
+        hull = treefile.decode(random_tree(rng, count, False, 2, 4096))
+        places = [(axis, rng.randrange(-60, 60)) for axis in range(3) for _ in range(4)]
+        planes = [(*(int(axis == at) for at in range(3)), place) for axis, place in places]
+        nodes = [node._replace(plane=rng.randrange(len(planes))) for node in hull.nodes]
+        leaves = [(rng.choice((-1, -2)), 0) for _ in hull.leaves]
+        yield around(tree_file(planes, nodes, leaves, None, 2, 4096))
+
+
 def larger_listings():
     """Larger listings."""
     rng = random.Random(5)
@@ -163,7 +208,7 @@ def larger_listings():
 
 def name_of(told):
     """What was found, without its place."""
-    return told[1].split(": ")[1].strip() if told[0] == 8 else told[1].split(" at byte ")[0] if " at byte " in told[1] else "read"
+    return told[1].split(": ")[1].strip() if told[0] in (8, 9) else told[1].split(" at byte ")[0] if " at byte " in told[1] else "read"
 
 
 class Damage:
@@ -210,6 +255,14 @@ def try_trees(program, files, edits):
     return damage
 
 
+def try_hulls(program, edits):
+    """Damages clip hulls in sections of tree files."""
+    damage = Damage([program, "inspect", "damaged.tree", *ASKED], "damaged.tree", due_of_hulls)
+    damage.try_all("bytes of a clip hull", damaged_hulls())
+    damage.try_all("edits of clip hulls", edits_of([*larger_hulls()], edits))
+    return damage
+
+
 def try_listings(reader, files, edits):
     """Damages listings."""
     damage = Damage([reader, "read", "damaged.prt"], "damaged.prt", due_of_listing)
@@ -226,6 +279,7 @@ def main(program, edits=200, reader=None, *named):
     with tempfile.TemporaryDirectory() as folder:
         os.chdir(folder)
         damages.append(try_trees(program, trees, edits))
+        damages.append(try_hulls(program, edits))
         if reader:
             damages.append(try_listings(reader, listings, edits))
         os.chdir("/")

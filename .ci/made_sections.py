@@ -11,7 +11,7 @@ import sys
 
 sys.path.insert(0, str(Path(__file__).resolve().parent.parent / "tools"))
 
-from made_trees import written
+from made_trees import random_tree, written
 import map_reader
 import treefile
 
@@ -71,6 +71,24 @@ def sections(tree, words):
         kind, *rest = word.split(":")
         data = cube_faces(tree) if kind == "4" else model(int(rest[0]), rest[1]) if kind == "3" else bytes_of(rest[0])
         yield treefile.Section(int(kind), data)
+
+
+def hulls(draw):
+    """The sections of files in the largest world: two clip hulls; one of these; and one that is none beside one that is."""
+    bound = treefile.BOUNDS[-1]
+
+    def plain(count, version=2, bound=bound, rows=False, sections=()):
+        return random_tree(draw, count, rows, version, bound, sections)
+
+    good = plain(60)
+    yield [(1, good), (2, plain(25))]
+    yield [(1, plain(0)), (2, plain(1))]
+    yield [(1, good), (7, b"abc")]
+    yield [(2, good)]
+    odd = [plain(9, rows=True), plain(9, sections=[(7, b"")]), plain(9, version=1), plain(9, bound=treefile.BOUNDS[0]),
+           plain(9) + b"x", plain(9)[:-1], b""]
+    for number, data in enumerate(odd):
+        yield [(1, data), (2, good)] if number % 2 else [(1, good), (2, data)]
 
 
 def main():

@@ -3,8 +3,8 @@
 from rows.cube_files import LISTING, SUMMARY, TEXT, TREE
 from rows.table import Row
 
-USAGE = ("usage: qmapc compile MAP OUT [--prt FILE] [--threads N] [--fast] [--hulls] | inspect TREE QUERY.. | format MAP OUT | demo N NUMBER "
-         "| upgrade TREE OUT\n")
+USAGE = ("usage: qmapc compile MAP OUT [--prt FILE] [--threads N] [--fast] [--hulls] | inspect TREE QUERY.. | format MAP OUT | "
+         "demo N NUMBER | upgrade TREE OUT\n")
 
 # an empty word stands between two spaces
 NO_COMMANDS = """\
@@ -32,7 +32,18 @@ compile --fast map map
 compile map out --Fast
 compile map out --fast=1
 format map out --fast
+compile map out --hulls --hulls
+compile --hulls map --fast --hulls out
+compile map --hulls
+compile --hulls map map
+--hulls compile map out
+compile map out --Hulls
+compile map out --hulls=1
+compile map out --hulls=
+compile map out --hull
+format map out --hulls
 compile map out --prt
+compile map out --prt --hulls
 compile --prt map out
 compile map out --prt=
 compile map out --prt\x20
@@ -66,6 +77,17 @@ inspect map at=1,2
 inspect map at=1,2,3,4
 inspect map at=1,2,0.0000001
 inspect map at=1,2,1000000001
+inspect map hull=3,0,0,0
+inspect map hull=0,0,0,0
+inspect map hull=01,0,0,0
+inspect map hull=1.,0,0,0
+inspect map hull=,0,0,0
+inspect map hull=1,2,3
+inspect map hull=1,2,3,4,5
+inspect map hull=1,2,3,0.0000001
+inspect map hull=1
+inspect map --hulls
+inspect map count --hulls
 inspect map row=1000000000000000000
 inspect map count row=01
 inspect map sees=0
@@ -76,6 +98,7 @@ upgrade map
 upgrade map map
 upgrade map out more
 upgrade map out --fast
+upgrade map out --hulls
 upgrade -map out
 upgrade map -out
 upgrade  out
@@ -88,6 +111,7 @@ demo 8 07
 demo 8 -7
 demo 8 18446744073709551616
 demo 8 7 map
+demo 8 7 --hulls
 -h
 help
 """
