@@ -1,5 +1,5 @@
 -- A query has one answer, and a leaf one number.
-use Rattle.std.proofs.Common.{◌≡◌, ℕ, true, false, Option, Some, None, slice_get, Result, Ok, Err, refl, sym, ap, ◌∙◌}
+use Rattle.std.proofs.Common.{◌≡◌, inl, inr, ℕ, true, false, Option, Some, None, slice_get, Result, Ok, Err, refl, sym, ap, ◌∙◌}
 use Rattle.qm_space.specs.Point.{Point}
 use Rattle.qm_partition.specs.declared.node.Leaf.{Leaf}
 use Rattle.qm_partition.specs.Tree.{Tree}
@@ -12,9 +12,12 @@ use Rattle.qm_formats.specs.TreeFile.{TreeFile}
 use Rattle.qm_commands.specs.declared.query.Query.{Query}
 use Rattle.qm_commands.specs.declared.query.Query.TheVariants as queries
 use Rattle.qm_answers.specs.declared.answer.Answer.{Answer}
-use Rattle.qm_answers.specs.declared.answer.Answer.TheVariants.{Place}
+use Rattle.qm_answers.specs.declared.answer.Answer.TheVariants.{Place, Hull}
 use Rattle.qm_answers.specs.declared.query_fault.QueryFault.{QueryFault}
-use Rattle.qm_answers.specs.Answers.{IsNumberOfLeaf, IsPlaceAnswer, AnswersPlace, AnswersQuery}
+use Rattle.qm_answers.specs.declared.decoded_section.DecodedSection.{DecodedSection}
+use Rattle.qm_answers.specs.declared.decoded_section.DecodedSection.TheVariants.{Missing, Bad, Known}
+use Rattle.qm_answers.specs.DecodedSections.{decoded_hull}
+use Rattle.qm_answers.specs.Answers.{IsNumberOfLeaf, IsPlaceAnswer, AnswersPlace, AnswersWhere, AnswersBySection, is_solid_at, AnswersHull, AnswersQuery}
 
 -- ---- numbers of leaves
 
@@ -51,12 +54,37 @@ one_place_answer file point (Ok a) (Err b) is_a is_b = absurd (is_b.1 is_a.0)
 one_place_answer file point (Err a) (Ok b) is_a is_b = absurd (is_a.1 is_b.0)
 one_place_answer file point (Err a) (Err b) is_a is_b = ap Err (is_b.0 ∙ sym is_a.0)
 
+-- ---- conditions and sections
+
+-- one answer, of those that satisfy this
+abbrev HasOne : (Result Answer QueryFault → Type 0) → Type 0
+HasOne Answers = (a b : Result Answer QueryFault) → Answers a → Answers b → b ≡ a
+
+one_where : (Holds : Type 0) (fault : QueryFault) (Answers : Result Answer QueryFault → Type 0) → HasOne Answers → HasOne (AnswersWhere Holds fault Answers)
+one_where Holds fault Answers one a b (inl is_a) (inl is_b) = one a b is_a.1 is_b.1
+one_where Holds fault Answers one a b (inl is_a) (inr not_b) = absurd (not_b.0 is_a.0)
+one_where Holds fault Answers one a b (inr not_a) (inl is_b) = absurd (not_a.0 is_b.0)
+one_where Holds fault Answers one a b (inr not_a) (inr not_b) = not_b.1 ∙ sym not_a.1
+
+one_by_section : {X : Type 0} (section : DecodedSection X) (Answers : X → Result Answer QueryFault → Type 0) → ((content : X) → HasOne (Answers content)) → HasOne (AnswersBySection section Answers)
+one_by_section Missing Answers one a b is_a is_b = is_b ∙ sym is_a
+one_by_section Bad Answers one a b is_a is_b = is_b ∙ sym is_a
+one_by_section (Known content) Answers one a b is_a is_b = one content a b is_a is_b
+
+-- ---- hulls
+
+one_hull_answer : (file : TreeFile) (hull : ℕ) (point : Point) → HasOne (AnswersHull file hull point)
+unfolding AnswersHull
+one_hull_answer file hull point =
+    one_where _ _ _ (one_by_section (decoded_hull file hull) (λ found answer. answer ≡ Ok (Hull (is_solid_at found.tree point))) (λ found a b is_a is_b. is_b ∙ sym is_a))
+
 -- ---- queries
 
 pub one_answer : (file : TreeFile) (query : Query) (a b : Result Answer QueryFault) → AnswersQuery file query a → AnswersQuery file query b → b ≡ a
 unfolding AnswersQuery
 one_answer file queries.Count a b is_a is_b = is_b ∙ sym is_a
 one_answer file (queries.At x y z) a b is_a is_b = one_place_answer file _ a b is_a is_b
+one_answer file (queries.Hull hull x y z) a b is_a is_b = one_hull_answer file hull _ a b is_a is_b
 one_answer file (queries.Row n) a b is_a is_b = is_b ∙ sym is_a
 one_answer file (queries.Sees n m) a b is_a is_b = is_b ∙ sym is_a
 one_answer file queries.Parts a b is_a is_b = is_b ∙ sym is_a

@@ -4,9 +4,9 @@ use Rattle.qm_contents.specs.declared.contents.Contents.{Contents}
 use Rattle.qm_contents.specs.declared.contents.Contents.TheVariants.{Empty, Solid, Water, Slime, Lava, Sky}
 use Rattle.qm_formats.specs.TreeFile.{Section, TreeFile}
 use Rattle.qm_answers.specs.declared.answer.Answer.{Answer}
-use Rattle.qm_answers.specs.declared.answer.Answer.TheVariants.{Count, Place, Row, Sees, Parts}
+use Rattle.qm_answers.specs.declared.answer.Answer.TheVariants.{Count, Place, Hull, Row, Sees, Parts}
 use Rattle.qm_answers.specs.declared.query_fault.QueryFault.{QueryFault}
-use Rattle.qm_answers.specs.declared.query_fault.QueryFault.TheVariants.{OutsideCube, NoSuchLeaf, NoRows}
+use Rattle.qm_answers.specs.declared.query_fault.QueryFault.TheVariants.{OutsideCube, NoSuchLeaf, NoRows, NoPart, BadPart}
 
 -- How answers and refusals are printed.
 
@@ -60,6 +60,10 @@ unfoldable pub words_of_place : ℕ → Contents → Bool → Option ℕ → Lis
 words_of_place leaf contents filled number =
     codes "leaf " ++ (decimal leaf ++ (32 ∷ (name_of_contents contents ++ (number_words number ++ filled_words filled))))
 
+-- the words of what a hull is at a point
+abbrev pub words_of_hull : Bool → List ℕ
+words_of_hull solid = if solid then codes "hull solid" else codes "hull empty"
+
 -- the words of the row of a numbered leaf
 unfoldable pub words_of_row : TreeFile → ℕ → List ℕ
 words_of_row file n = codes "row " ++ (decimal n ++ (58 ∷ set_places 0 (printed_row file n)))
@@ -73,6 +77,7 @@ words_of_parts file =
 unfoldable pub answer_words : TreeFile → Answer → List ℕ
 answer_words file (Count planes nodes leaves numbered rows) = words_of_count planes nodes leaves numbered rows
 answer_words file (Place leaf contents filled number) = words_of_place leaf contents filled number
+answer_words file (Hull solid) = words_of_hull solid
 answer_words file (Row n) = words_of_row file n
 answer_words file (Sees sees) = yes_or_no sees
 answer_words file Parts = words_of_parts file
@@ -86,3 +91,5 @@ abbrev pub words_of_refusal : QueryFault → List ℕ
 words_of_refusal OutsideCube = codes "outside the cube"
 words_of_refusal NoSuchLeaf = codes "no such leaf"
 words_of_refusal NoRows = codes "no rows"
+words_of_refusal NoPart = codes "no part"
+words_of_refusal BadPart = codes "bad part"

@@ -1,16 +1,19 @@
-use Rattle.std.specs.Prelude.{◌≡◌, ℕ, ℤ, pos, Bool, false, ◌&&◌, nat_lt, List, [], length, slice_get, slice_index_or, Option, Some, None, is_some, Result, Ok, Err, count_by, if◌then◌else◌}
+use Rattle.std.specs.Prelude.{◌≡◌, ◌⊎◌, ℕ, ℤ, pos, Bool, false, ◌&&◌, nat_lt, List, [], length, slice_get, slice_index_or, Option, Some, None, is_some, Result, Ok, Err, count_by, if◌then◌else◌}
 use Rattle.qm_space.specs.Point.{Point}
 use Rattle.qm_partition.specs.Counting.{node_count, leaf_count, leaves_of}
 use Rattle.qm_partition.specs.LeafOfPoint.{leaf_at, leaf_record_at}
 use Rattle.qm_partition.specs.Tree.{Tree}
-use Rattle.qm_contacts.specs.NumberedLeaves.{is_numbered, numbered_leaves}
+use Rattle.qm_contacts.specs.NumberedLeaves.{is_solid, is_numbered, numbered_leaves}
 use Rattle.qm_formats.specs.TreeFile.{TreeFile}
 use Rattle.qm_commands.specs.declared.query.Query.{Query}
 use Rattle.qm_commands.specs.declared.query.Query.TheVariants as queries
 use Rattle.qm_answers.specs.declared.answer.Answer.{Answer}
-use Rattle.qm_answers.specs.declared.answer.Answer.TheVariants.{Count, Place, Row, Sees, Parts}
+use Rattle.qm_answers.specs.declared.answer.Answer.TheVariants.{Count, Place, Hull, Row, Sees, Parts}
 use Rattle.qm_answers.specs.declared.query_fault.QueryFault.{QueryFault}
-use Rattle.qm_answers.specs.declared.query_fault.QueryFault.TheVariants.{OutsideCube, NoSuchLeaf, NoRows}
+use Rattle.qm_answers.specs.declared.query_fault.QueryFault.TheVariants.{OutsideCube, NoSuchLeaf, NoRows, NoPart, BadPart}
+use Rattle.qm_answers.specs.declared.decoded_section.DecodedSection.{DecodedSection}
+use Rattle.qm_answers.specs.declared.decoded_section.DecodedSection.TheVariants.{Missing, Bad, Known}
+use Rattle.qm_answers.specs.DecodedSections.{decoded_hull}
 use Rattle.qm_space.specs.InsideBound.{IsInsideBound}
 
 -- What a tree file answers to a query.
@@ -42,6 +45,26 @@ abbrev pub AnswersPlace : TreeFile → Point → Result Answer QueryFault → Ty
 AnswersPlace file point (Ok answer) = IsInsideBound file.bound point × IsPlaceAnswer file.tree point answer
 AnswersPlace file point (Err fault) = (fault ≡ OutsideCube) × (IsInsideBound file.bound point → ⊥)
 
+-- where something holds, it is answered so; else it is refused for this reason
+abbrev pub AnswersWhere : Type 0 → QueryFault → (Result Answer QueryFault → Type 0) → Result Answer QueryFault → Type 0
+AnswersWhere Holds fault Answers answer = (Holds × Answers answer) ⊎ ((Holds → ⊥) × (answer ≡ Err fault))
+
+-- where a section is there and its bytes are read, its content answers; else it is refused
+abbrev pub AnswersBySection : {X : Type 0} → DecodedSection X → (X → Result Answer QueryFault → Type 0) → Result Answer QueryFault → Type 0
+AnswersBySection Missing Answers answer = answer ≡ Err NoPart
+AnswersBySection Bad Answers answer = answer ≡ Err BadPart
+AnswersBySection (Known content) Answers answer = Answers content answer
+
+-- whether the leaf of a point is solid
+abbrev pub is_solid_at : Tree → Point → Bool
+is_solid_at tree point = is_solid (leaf_record_at tree.planes tree.shape point).contents
+
+-- a point in the cube of the file's bound is answered by the tree of the hull, and any other refused
+unfoldable pub AnswersHull : TreeFile → ℕ → Point → Result Answer QueryFault → Type 0
+AnswersHull file hull point answer =
+    AnswersWhere (IsInsideBound file.bound point) OutsideCube
+    (AnswersBySection (decoded_hull file hull) (λ found answer. answer ≡ Ok (Hull (is_solid_at found.tree point)))) answer
+
 -- where rows are there, what they answer
 abbrev pub answer_of_rows : Option (List (List Bool)) → (List (List Bool) → Answer) → Result Answer QueryFault
 answer_of_rows None answer = Err NoRows
@@ -67,6 +90,7 @@ point_in_millionths x y z = record { x = x; y = y; z = z; w = pos 1000000 }
 unfoldable pub AnswersQuery : TreeFile → Query → Result Answer QueryFault → Type 0
 AnswersQuery file queries.Count answer = answer ≡ Ok (answer_to_count file)
 AnswersQuery file (queries.At x y z) answer = AnswersPlace file (point_in_millionths x y z) answer
+AnswersQuery file (queries.Hull hull x y z) answer = AnswersHull file hull (point_in_millionths x y z) answer
 AnswersQuery file (queries.Row n) answer = answer ≡ answer_to_row file n
 AnswersQuery file (queries.Sees n m) answer = answer ≡ answer_to_sees file n m
 AnswersQuery file queries.Parts answer = answer ≡ Ok Parts

@@ -1,4 +1,5 @@
 pub mod AllAnswers
 pub mod Answers
 pub mod AnswerText
+pub mod DecodedSections
 pub mod SameAnswers

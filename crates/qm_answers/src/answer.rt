@@ -18,6 +18,8 @@ pub enum Answer {
         filled: bool,
         number: Option<u64>,
     },
+    /// Whether a hull is solid at a point.
+    Hull(bool),
     /// The row of this numbered leaf is there.
     Row(u64),
     /// Whether the one leaf's row has the other.

@@ -7,4 +7,8 @@ pub enum QueryFault {
     NoSuchLeaf,
     /// The file has no rows.
     NoRows,
+    /// The file has no section of the kind that is asked.
+    NoPart,
+    /// The reader of its kind refuses the section that is asked.
+    BadPart,
 }

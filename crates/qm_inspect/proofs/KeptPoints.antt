@@ -1,5 +1,5 @@
--- Points as the code keeps their numbers, and whether they are inside a cube.
-use Rattle.std.proofs.Common.{◌≡◌, ◌<◌, ◌*◌, ℕ, ℤ, pos, unsigned_abs, FitsSigned, w64, subst, arith, Ok}
+-- Points as the code keeps their numbers, what is answered at them, and whether they are inside a cube.
+use Rattle.std.proofs.Common.{◌≡◌, ◌∙◌, ◌<◌, ◌*◌, inl, ℕ, ℤ, pos, unsigned_abs, FitsSigned, w64, subst, arith, Result, Ok}
 use Rattle.std.specs.Prelude.{◌↔◌, max}
 use Rattle.std.proofs.lemmas.Int.{ints, to_z-of_z}
 use Rattle.qm_numbers.proofs.Kept.{kept}
@@ -7,7 +7,13 @@ use Rattle.qm_space.specs.Point.{Point}
 use Rattle.qm_partition.specs.Tree.{Tree}
 use Rattle.qm_formats.specs.TreeFile.{TreeFile}
 use Rattle.qm_answers.specs.declared.answer.Answer.{Answer}
-use Rattle.qm_answers.specs.Answers.{point_in_millionths, IsPlaceAnswer, AnswersPlace}
+use Rattle.qm_answers.specs.declared.answer.Answer.TheVariants.{Hull}
+use Rattle.qm_answers.specs.declared.decoded_section.DecodedSection.{DecodedSection}
+use Rattle.qm_answers.specs.declared.query_fault.QueryFault.{QueryFault}
+use Rattle.qm_answers.specs.Answers.{point_in_millionths, IsPlaceAnswer, AnswersPlace, AnswersBySection, is_solid_at, AnswersHull}
+use Rattle.qm_inspect.specs.declared.parts.Parts.{Parts}
+use Rattle.qm_inspect.specs.Parts.{ArePartsOf, hull_in}
+use Rattle.qm_inspect.proofs.HullsOfFiles.{hull_of_file}
 use Rattle.qm_space.specs.InsideBound.{IsInsideBound, IsWithinBound}
 
 module _ (x y z : ℤ) (fx : FitsSigned w64 x) (fy : FitsSigned w64 y) (fz : FitsSigned w64 z) where
@@ -17,14 +23,29 @@ module _ (x y z : ℤ) (fx : FitsSigned w64 x) (fy : FitsSigned w64 y) (fz : Fit
   same_point : kept_point ≡ point_in_millionths x y z
   same_point = λ i. point_in_millionths (to_z-of_z w64 x fx i) (to_z-of_z w64 y fy i) (to_z-of_z w64 z fz i)
 
-  -- the answer at the point that is kept is one to the point, in a file of this bound and tree
-  pub kept_place :
-      (file : TreeFile) (bound : ℕ) (tree : Tree) (answer : Answer) → bound ≡ file.bound → tree ≡ file.tree →
-      IsInsideBound bound (point_in_millionths (kept w64 x) (kept w64 y) (kept w64 z)) → IsPlaceAnswer tree (point_in_millionths (kept w64 x) (kept w64 y) (kept w64 z)) answer → AnswersPlace file (point_in_millionths x y z) (Ok answer)
-  kept_place file bound tree answer bound_is tree_is inside is = (
-    subst (λ (b : ℕ). IsInsideBound b (point_in_millionths x y z)) bound_is (subst (IsInsideBound bound) same_point inside),
-    subst (λ (t : Tree). IsPlaceAnswer t (point_in_millionths x y z) answer) tree_is (subst (λ (point : Point). IsPlaceAnswer tree point answer) same_point is),
-  )
+  -- a file of this bound has the point that is kept, and so the point, in its cube
+  inside : (file : TreeFile) (bound : ℕ) → bound ≡ file.bound → IsInsideBound bound (point_in_millionths (kept w64 x) (kept w64 y) (kept w64 z)) → IsInsideBound file.bound (point_in_millionths x y z)
+  inside file bound bound_is is = subst (λ (b : ℕ). IsInsideBound b (point_in_millionths x y z)) bound_is (subst (IsInsideBound bound) same_point is)
+
+  module _ (file : TreeFile) (bound : ℕ) (point : Point) (bound_is : bound ≡ file.bound) (point_is : point ≡ point_in_millionths (kept w64 x) (kept w64 y) (kept w64 z)) (is_inside : IsInsideBound bound (point_in_millionths (kept w64 x) (kept w64 y) (kept w64 z))) where
+    -- the answer at the point that is kept is one to the point, in a file of this tree
+    pub kept_place : (tree : Tree) (answer : Answer) → tree ≡ file.tree → IsPlaceAnswer tree point answer → AnswersPlace file (point_in_millionths x y z) (Ok answer)
+    kept_place tree answer tree_is is = (
+      inside file bound bound_is is_inside,
+      subst (λ (t : Tree). IsPlaceAnswer t (point_in_millionths x y z) answer) tree_is (subst (λ (at : Point). IsPlaceAnswer tree at answer) (point_is ∙ same_point) is),
+    )
+
+    -- and so in one of these parts
+    pub kept_hull :
+        (parts : Parts) (hull : ℕ) (section : DecodedSection TreeFile) (answer : Result Answer QueryFault) → ArePartsOf file parts → section ≡ hull_in parts hull →
+        AnswersBySection section (λ found given. given ≡ Ok (Hull (is_solid_at found.tree point))) answer → AnswersHull file hull (point_in_millionths x y z) answer
+    unfolding AnswersHull
+    kept_hull parts hull section answer are section_is is = inl (
+      inside file bound bound_is is_inside,
+      subst (λ (of_file : DecodedSection TreeFile). AnswersBySection of_file (λ found given. given ≡ Ok (Hull (is_solid_at found.tree (point_in_millionths x y z)))) answer)
+          (section_is ∙ hull_of_file file parts hull are)
+          (subst (λ (at : Point). AnswersBySection section (λ found given. given ≡ Ok (Hull (is_solid_at found.tree at))) answer) (point_is ∙ same_point) is),
+    )
 
 -- ---- a coordinate in millionths
 

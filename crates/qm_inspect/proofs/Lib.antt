@@ -1,3 +1,4 @@
 pub mod CountedBlocks
+pub mod HullsOfFiles
 pub mod KeptPoints
 pub mod SetPlaces

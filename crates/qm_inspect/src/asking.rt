@@ -5,8 +5,11 @@ ghost use Rattle.qm_partition.specs.Counting.{leaves_of};
 ghost use Rattle.qm_formats.specs.TreeFile.{IsValidFile};
 ghost use Rattle.qm_answers.specs.Answers.{AnswersQuery, answer_to_count};
 ghost use Rattle.qm_inspect.specs.inner.BlockCounts.{AreBlockCounts};
+ghost use Rattle.qm_inspect.specs.Parts.{ArePartsOf};
 
+use crate::hulls::hull;
 use crate::numbered::numbered;
+use crate::parts::Parts;
 use crate::places::place;
 use crate::rows::{row, sees};
 use qm_answers::{Answer, QueryFault};
@@ -15,15 +18,17 @@ use qm_file::TreeFile;
 
 /// What a tree file answers to a query. `OutsideCube` exactly for a point that is not strictly inside the cube of the file's
 /// bound, `NoSuchLeaf` exactly for a number that no numbered leaf has, `NoRows` exactly where that leaf is there and rows are not.
-/// It takes no memory.
-pub fn query(file: &TreeFile, ask: &Query) -> Result<Answer, QueryFault>
-    requires { IsValidFile file.now }
+/// For a hull at a point inside, `NoPart` exactly where the file has no section of it, and `BadPart` exactly where its reader
+/// refuses that section. It takes no memory.
+pub fn query(file: &TreeFile, parts: &Parts, ask: &Query) -> Result<Answer, QueryFault>
+    requires valid { IsValidFile file.now }
+    requires parts { ArePartsOf file.now parts.now }
     ensures answers { AnswersQuery file.now ask.now result }
 
     // There is no other answer.
     ensures only { (other : Result Answer QueryFault) → AnswersQuery file.now ask.now other → other ≡ result }
 {
-    answer(file, &NONE_BEFORE, ask)
+    answer(file, parts, &NONE_BEFORE, ask)
 }
 
 /// Before the first block of leaves none is numbered.
@@ -31,14 +36,26 @@ const NONE_BEFORE: [u64; 1] = [0];
 
 /// What a tree file answers to a query, where it was counted how many leaves are numbered before the first blocks of leaves.
 #[tactic(auto, unfolding(qm_answers::specs::Answers::AnswersQuery))]
-pub(crate) fn answer(file: &TreeFile, counts: &[u64], ask: &Query) -> Result<Answer, QueryFault>
+pub(crate) fn answer(
+    file: &TreeFile,
+    parts: &Parts,
+    counts: &[u64],
+    ask: &Query,
+) -> Result<Answer, QueryFault>
     requires valid { IsValidFile file.now }
+    requires parts { ArePartsOf file.now parts.now }
     requires counts { AreBlockCounts (leaves_of file.now.tree.shape) counts.now }
     ensures { AnswersQuery file.now ask.now result }
 {
     match *ask {
         Query::Count => Ok(count(file, counts)),
         Query::At { x, y, z } => place(file, counts, x, y, z),
+        Query::Hull {
+            hull: number,
+            x,
+            y,
+            z,
+        } => hull(file, parts, number, x, y, z),
         Query::Row(n) => row(file, counts, n),
         Query::Sees(n, m) => sees(file, counts, n, m),
         Query::Parts => Ok(Answer::Parts),

@@ -2,8 +2,10 @@
 #![tactic(auto)]
 
 mod asking;
+mod hulls;
 mod laws;
 mod numbered;
+mod parts;
 mod places;
 mod printing;
 mod room;
@@ -13,6 +15,7 @@ mod telling;
 
 pub use asking::query;
 pub use laws::{same_answers, same_cube, told_once};
+pub use parts::Parts;
 pub use printing::print;
 pub use qm_answers::{Answer, QueryFault};
 pub use qm_commands::Query;

@@ -1,6 +1,6 @@
 //! What is at a point.
 
-ghost use Rattle.std.specs.Prelude.{IsTrue, ◌↔◌};
+ghost use Rattle.std.specs.Prelude.{◌≡◌, IsTrue, ◌↔◌};
 ghost use Rattle.qm_partition.specs.Counting.{leaves_of};
 ghost use Rattle.qm_answers.specs.Answers.{point_in_millionths, IsPlaceAnswer, AnswersPlace};
 ghost use Rattle.qm_space.specs.InsideBound.{IsInsideBound};
@@ -30,18 +30,25 @@ pub(crate) fn place(
     if !is_inside_bound(file.bound, x, y, z) {
         return Err(QueryFault::OutsideCube);
     }
-    let point = Point {
+    let point = point_in_millionths(x, y, z);
+    Ok(answer_at(&file.tree, counts, &point))
+}
+
+/// The point whose coordinates are given in millionths.
+pub(crate) fn point_in_millionths(x: i64, y: i64, z: i64) -> Point
+    ensures { result ≡ point_in_millionths x y z }
+{
+    Point {
         x,
         y,
         z,
         w: PARTS_OF_UNIT,
-    };
-    Ok(answer_at(&file.tree, counts, &point))
+    }
 }
 
 /// Whether a point, whose coordinates are given in millionths, lies strictly inside the cube of a bound: so does the one of
 /// them that is farthest from 0.
-fn is_inside_bound(bound: u32, x: i64, y: i64, z: i64) -> bool
+pub(crate) fn is_inside_bound(bound: u32, x: i64, y: i64, z: i64) -> bool
     ensures { IsTrue result ↔ IsInsideBound bound (point_in_millionths x y z) }
 {
     let farthest = x.unsigned_abs().max(y.unsigned_abs()).max(z.unsigned_abs());

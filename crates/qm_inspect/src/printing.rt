@@ -2,18 +2,20 @@
 
 ghost use Rattle.std.specs.Prelude.{◌≡◌, ◌++◌, ◌∷◌, OnOk, OnErr, string_bytes};
 ghost use Rattle.std.specs.Fmt.{decimal};
-ghost use Rattle.qm_answers.specs.AnswerText.{name_of_contents, number_words, filled_words, yes_or_no, printed_row, section_kinds, set_places, words_of_count, words_of_place, words_of_row, words_of_parts, answer_words, answer_line};
+ghost use Rattle.qm_answers.specs.AnswerText.{name_of_contents, number_words, filled_words, yes_or_no, printed_row, section_kinds, set_places, words_of_count, words_of_place, words_of_hull, words_of_row, words_of_parts, answer_words, answer_line};
 
+use crate::parts::Parts;
 use crate::row_places::put_set_places;
 use qm_answers::Answer;
 use qm_contents::Contents;
 use qm_file::{Section, TreeFile};
 use std::alloc::{AllocError, Global};
 
-/// Appends the line of an answer. After an error `out` is as it was.
+/// Appends the line of an answer. After an error `out` is as it was. Each line is one of the file alone: parts are not read.
 pub fn print(
     alloc: Global,
     file: &TreeFile,
+    _parts: &Parts,
     answer: &Answer,
     out: &mut Vec<u8>,
 ) -> Result<(), AllocError>
@@ -56,6 +58,7 @@ fn put_words(text: &mut String, file: &TreeFile, answer: &Answer) -> Result<(), 
             filled,
             number,
         } => put_place(text, leaf, contents, filled, number),
+        Answer::Hull(solid) => text.push_str(hull_words(solid)),
         Answer::Row(n) => put_row(text, file, n),
         Answer::Sees(sees) => text.push_str(yes_or_no(sees)),
         Answer::Parts => put_parts(text, file),
@@ -122,6 +125,13 @@ fn yes_or_no(holds: bool) -> &'static str
     ensures { result.now ≡ yes_or_no holds }
 {
     if holds { "yes" } else { "no" }
+}
+
+/// The words of what a hull is at a point.
+fn hull_words(solid: bool) -> &'static str
+    ensures { result.now ≡ words_of_hull solid }
+{
+    if solid { "hull solid" } else { "hull empty" }
 }
 
 /// The name of contents.

@@ -3,8 +3,10 @@
 ghost use Rattle.qm_partition.specs.Counting.{leaves_of};
 ghost use Rattle.qm_formats.specs.TreeFile.{IsValidFile};
 ghost use Rattle.qm_inspect.specs.inner.BlockCounts.{AreBlockCounts};
+ghost use Rattle.qm_inspect.specs.Parts.{ArePartsOf};
 
 use crate::asking::answer;
+use crate::parts::Parts;
 use itoa::Buffer;
 use qm_answers::Answer;
 use qm_bits::BitRow;
@@ -18,13 +20,19 @@ const SHORT_LINE: usize = 122;
 const KIND: usize = 11;
 
 /// Room for the lines of the answers to all queries.
-pub(crate) fn room_for_lines(file: &TreeFile, counts: &[u64], queries: &[Query]) -> usize
+pub(crate) fn room_for_lines(
+    file: &TreeFile,
+    parts: &Parts,
+    counts: &[u64],
+    queries: &[Query],
+) -> usize
     requires valid { IsValidFile file.now }
+    requires parts { ArePartsOf file.now parts.now }
     requires counts { AreBlockCounts (leaves_of file.now.tree.shape) counts.now }
 {
     let mut room: usize = 0;
     for ask in queries {
-        if let Ok(answer) = answer(file, counts, ask) {
+        if let Ok(answer) = answer(file, parts, counts, ask) {
             room = room.saturating_add(room_for_line(file, &answer));
         }
     }

@@ -6,6 +6,7 @@ ghost use Rattle.qm_inspect.specs.Told.{IsTold};
 
 use crate::asking::answer;
 use crate::numbered::block_counts;
+use crate::parts::Parts;
 use crate::printing::put_line;
 use crate::room::room_for_lines;
 use qm_answers::QueryFault;
@@ -27,10 +28,12 @@ pub fn tell(alloc: Global, file: &TreeFile, queries: &[Query]) -> Result<Told, A
     requires { IsValidFile file.now }
     ensures { IfOk result (λ told. IsTold file.now queries.now told) }
 {
+    let parts = Parts::of(alloc, file)?;
     let counts = block_counts(alloc, file.tree.all_leaves())?;
-    let mut lines = String::with_capacity(alloc, room_for_lines(file, &counts, queries))?;
+    let room = room_for_lines(file, &parts, &counts, queries);
+    let mut lines = String::with_capacity(alloc, room)?;
     for k in 0..queries.len() {
-        match answer(file, &counts, &queries[k]) {
+        match answer(file, &parts, &counts, &queries[k]) {
             Ok(answer) => put_line(&mut lines, file, &answer)?,
             Err(fault) => {
                 return Ok(Told::Refused {

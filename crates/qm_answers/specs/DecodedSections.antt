@@ -1,0 +1,31 @@
+use Rattle.std.specs.Prelude.{ℕ, zero, suc, ◌==◌, List, [], ◌∷◌, Option, Some, None, if◌then◌else◌}
+use Rattle.qm_formats.specs.TreeFile.{Section, TreeFile}
+use Rattle.qm_plain.specs.PlainFile.{read_plain}
+use Rattle.qm_answers.specs.declared.decoded_section.DecodedSection.{DecodedSection}
+use Rattle.qm_answers.specs.declared.decoded_section.DecodedSection.TheVariants.{Missing, Bad, Known}
+
+-- What the sections of a tree file are decoded to.
+
+-- the bytes of the section of a kind; kinds ascend, so that a valid file has one such section at most
+abbrev pub section_bytes : List Section → ℕ → Option (List ℕ)
+section_bytes [] kind = None
+section_bytes (section ∷ sections) kind = if section.kind == kind then Some section.bytes else section_bytes sections kind
+
+-- bytes that a reader has gone through
+abbrev pub known_if_read : {X : Type 0} → Option X → DecodedSection X
+known_if_read None = Bad
+known_if_read (Some content) = Known content
+
+-- what a reader makes of the bytes of a section, where they are there
+abbrev pub decoded_by : {X : Type 0} → (List ℕ → Option X) → Option (List ℕ) → DecodedSection X
+decoded_by read None = Missing
+decoded_by read (Some bytes) = known_if_read (read bytes)
+
+-- the kind of the section of a hull
+abbrev pub kind_of_hull : ℕ → ℕ
+kind_of_hull (suc zero) = 1
+kind_of_hull _ = 2
+
+-- a hull of a file: its section is read as a plain file of the same bound
+abbrev pub decoded_hull : TreeFile → ℕ → DecodedSection TreeFile
+decoded_hull file hull = decoded_by (read_plain file.bound) (section_bytes file.sections (kind_of_hull hull))

@@ -1,0 +1,10 @@
+use Rattle.std.proofs.Common.{ap, ◌∙◌}
+use Rattle.qm_contacts.specs.NumberedLeaves.{is_solid}
+use Rattle.qm_partition.specs.declared.node.Leaf.{Leaf}
+use Rattle.qm_answers.proofs.Places.{found_at}
+use Rattle.qm_inspect.proofs.hulls.is_solid_at.Goals as goal
+
+pub returns : goal.returns
+returns c =
+    c.is_solid.ensures
+    ∙ ap (λ (found : Leaf). is_solid found.contents) (found_at c.args.tree.now c.args.point.now c.leaf_at-leaf.result c.leaf.result c.leaf_at-leaf.ensures.value c.leaf.ensures)
