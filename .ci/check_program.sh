@@ -301,6 +301,12 @@ TREEFILE.md|inspect courtyard.tree at=-208,-128,24 at=64,0,24
 TREEFILE.md|inspect courtyard.tree sees=53,27 sees=53,0
 EDITORS.md|inspect courtyard.tree at=-208,-128,24
 END
+    # with clip hulls, of which the page shows both lines before the answers
+    grep -qxF '    ./qmapc compile samples/courtyard.map courtyard.tree --hulls' docs/EDITORS.md || return 1
+    run_program compile courtyard.map hulled.tree --hulls
+    run_program inspect hulled.tree hull=1,-208,-128,24 hull=1,-240,-60,24 hull=1,-272,-128,24
+    [[ $status == 0 ]] && page_shows EDITORS.md "inspect courtyard.tree hull=1,-208,-128,24 hull=1,-240,-60,24 hull=1,-272,-128,24" |
+        cmp - "$folder/printed" || return 1
     run_program inspect courtyard.tree count parts at=0,0,300 sees=54,54 at=208,-60,24 at=64.000001,-.5,+24. row=22
     ended 0 'planes 65 nodes 140 leaves 141 numbered 55 rows yes\nversion 2 bound '"$extent"' parts\nleaf 15 solid filled\nyes\nleaf 46 water number 22\nleaf 54 empty number 27\nrow 22: 20 21 22 23\n' || return 1
     cmp "$folder/courtyard.kept" "$folder/courtyard.tree"

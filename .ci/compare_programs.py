@@ -5,7 +5,7 @@
 
 It is called by hand. Each map is taken as it is, moved by 20,000, scaled so that halves, quarters and thousandths occur, and both; a
 variant that would need a fourth decimal is left out. Of each text both programs have to make the same tree file and the same
-listing with `compile MAP OUT --prt FILE --fast`, and the same text with `format MAP OUT`, and to print the same and end alike.
+listing with `compile MAP OUT --prt FILE --fast --hulls`, and the same text with `format MAP OUT`, and to print the same and end alike.
 What has to be set for either stands in the environment, as for all programs."""
 
 from collections import Counter
@@ -22,7 +22,7 @@ from maptext import EXTENT
 
 FAR = 20_000
 SCALES = [Fraction(1, 2), Fraction(1, 4), Fraction(1, 8), Fraction(5, 8), Fraction(1, 100), Fraction(1, 1000), Fraction(2)]
-CALLS = {"compile": ["--prt", "listing", "--fast"], "format": []}
+CALLS = {"compile": ["--prt", "listing", "--fast", "--hulls"], "format": []}
 
 
 def way(text, times):

@@ -18,7 +18,10 @@ import tempfile
 HERE = Path(__file__).resolve().parent
 sys.path.insert(0, str(HERE))
 
-from made_trees import cube  # noqa: E402
+sys.path.insert(0, str(HERE.parent / "tools"))
+
+from made_trees import cube, written  # noqa: E402
+import treefile  # noqa: E402
 
 DONE, WANT_OF_MEMORY = 0, 7
 OUTPUTS = ("out", "list")
@@ -26,6 +29,8 @@ COMMANDS = {
     "one cube, two workers": ("compile", "cube.map", "out", "--prt", "list", "--threads", "2"),
     "three rooms, four workers": ("compile", "rooms.map", "out", "--threads", "4"),
     "three rooms, coarse rows": ("compile", "rooms.map", "out", "--fast"),
+    "three rooms, clip hulls, two workers": ("compile", "rooms.map", "out", "--fast", "--hulls", "--threads", "2"),
+    "inspect hulls": ("inspect", "hulled.tree", "parts", "hull=1,1,2,3", "hull=2,-40,0,0"),
     "inspect": ("inspect", "first.tree", "count", "parts", "at=1,2,3", "row=2", "sees=0,1"),
     "upgrade": ("upgrade", "first.tree", "out"),
     "format": ("format", "rooms.map", "out"),
@@ -83,6 +88,8 @@ def main(program, step=23):
         for name in ("cube.map", "rooms.map"):
             Path(folder, name).write_bytes(Path(HERE.parent, "samples", name).read_bytes())
         Path(folder, "first.tree").write_bytes(cube(1))
+        plain = written(treefile.decode(cube())._replace(rows=None))
+        Path(folder, "hulled.tree").write_bytes(cube(2, treefile.BOUNDS[-1], [(1, plain), (2, plain)]))
         for name, words in COMMANDS.items():
             wanting, whole = Runs([os.path.abspath(program), *words], folder, shim).refuse(int(step))
             print(f"{name}: {wanting + whole} requests refused, {wanting} ended with want of memory, {whole} whole")
