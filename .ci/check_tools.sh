@@ -119,6 +119,7 @@ draws_rows_and_portals() {
 }
 
 # the rooms with the cube, and with the rooms, as their clip hulls; with what is no hull; and the hull of a compiled level
+# shellcheck disable=SC2016  # what is said has backquotes
 shows_a_clip_hull() {
     python3 .ci/made_sections.py add "$folder/rooms.tree" "$folder/hulled.tree" "1:$folder/cube.tree" "2:$folder/rooms.tree" || return 1
     look plan hulled.tree --z 32 --hull 1
