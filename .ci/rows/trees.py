@@ -2,7 +2,7 @@
 
 import struct
 
-from rows.cube_files import BARE_TREE, FIRST_TREE, SMALL_TREE, TREE, TREE_WITH_SECTIONS, header
+from rows.cube_files import BARE_TREE, EMPTY, FIRST_TREE, SMALL_TREE, SOLID, TREE, TREE_WITH_SECTIONS, header
 from rows.table import Row
 
 # of the cube's files in version 2, and in version 1, which has eight bytes less: where other bytes stand and which, how many of the first
@@ -71,9 +71,11 @@ MOST = 2 ** 64 - 1
 PROMISES = [
     # more planes than 32 bits number
     (2 ** 32, 0, 1, 1, "3 at byte 8: counts", "3 at byte 8: counts"),
+    (2 ** 32, 0, 0, 0, "3 at byte 8: counts", "3 at byte 8: counts"),
     # one node more would be none
     (1, MOST, 0, 0, "3 at byte 24: counts", "3 at byte 24: counts"),
     (4_000_000_000, 0, 1, 1, "1 at byte 41: short", "1 at byte 49: short"),
+    (4_000_000_000, 0, 1, 0, "1 at byte 41: short", "1 at byte 49: short"),
     (0, MOST - 1, MOST, MOST, "1 at byte 41: short", "1 at byte 49: short"),
     (0, 0, 1, 2, "3 at byte 32: counts", "3 at byte 32: counts"),
 ]
@@ -112,7 +114,7 @@ ASKED = [
 # a file, its version, and what it is upgraded to
 UPGRADED = [(FIRST_TREE, 1, SMALL_TREE), (SMALL_TREE, 2, SMALL_TREE), (TREE, 2, TREE), (TREE_WITH_SECTIONS, 2, TREE_WITH_SECTIONS)]
 
-# how many nodes stand in a row
+# how many nodes stand in a row in the longest files
 LONG = 1_000_000
 
 
@@ -144,11 +146,35 @@ def no_trees():
         yield with_sections(count, head, behind), fault
 
 
-def in_a_row():
-    """A file whose nodes stand in a row, each in front of the one before it, all on the plane x = 8, with empty leaves and no rows."""
-    nodes = b"".join(struct.pack("<I2q", 0, number if number < LONG else -1, number - LONG - 2) for number in range(1, LONG + 1))
-    head = b"QMTREE02" + struct.pack("<4QB2I", 1, LONG, LONG + 1, LONG + 1, 0, 32768, 0) + struct.pack("<3iq", 1, 0, 0, 8)
-    return head + nodes + (LONG + 1) * struct.pack("<iB", -1, 0)
+def in_a_row(version, at, nodes, code):
+    """A file whose nodes stand in a row on the plane x = at, each below the one before it, with leaves of one contents and no rows."""
+    numbered = 0 if code == SOLID else LONG + 1
+    head = b"QMTREE0%d" % version + struct.pack("<4QB", 1, LONG, LONG + 1, numbered, 0)
+    bound = struct.pack("<2I", 32768, 0) if version == 2 else b""
+    parts = struct.pack("<3iq", 1, 0, 0, at) + b"".join(struct.pack("<I2q", 0, *node) for node in nodes)
+    return head + bound + parts + (LONG + 1) * struct.pack("<iB", code, 0)
+
+
+def behind():
+    """The children of nodes of which each is behind the one before it."""
+    return ((-1 - number, number + 1 if number + 1 < LONG else -1 - LONG) for number in range(LONG))
+
+
+def in_front():
+    """The children of nodes of which each is in front of the one before it."""
+    return ((number + 1 if number + 1 < LONG else -1, number - LONG - 1) for number in range(LONG))
+
+
+def long_rows():
+    """Files of a million nodes in a row: of version 1, where the others are behind the first node, and of version 2."""
+    counts = f"planes 1 nodes {LONG} leaves {LONG + 1} numbered"
+    first = in_a_row(1, 0, behind(), SOLID)
+    assert len(first) == 25_000_066
+    yield Row("inspect tree count at=1,0,0 at=-1,0,0", 0, f"{counts} 0 rows no\nleaf 0 solid\nleaf {LONG} solid\n", {"tree": first})
+    second = in_a_row(2, 8, in_front(), EMPTY)
+    yield Row("inspect tree count at=8,0,0 at=7,0,0", 0,
+              f"{counts} {LONG + 1} rows no\nleaf 0 empty number 0\nleaf {LONG} empty number {LONG}\n", {"tree": second})
+    yield Row("upgrade tree out", 0, "version 2 to 2\n", {"tree": second}, {"out": second})
 
 
 def rows():
@@ -161,8 +187,4 @@ def rows():
     for data, fault in no_trees():
         for words in ("inspect tree count row=99", "upgrade tree out"):
             yield Row(words, 8, f"tree fault {fault}\n", {"tree": data})
-    long = in_a_row()
-    yield Row("inspect tree count at=8,0,0 at=7,0,0", 0,
-              "planes 1 nodes 1000000 leaves 1000001 numbered 1000001 rows no\nleaf 0 empty number 0\nleaf 1000000 empty number 1000000\n",
-              {"tree": long})
-    yield Row("upgrade tree out", 0, "version 2 to 2\n", {"tree": long}, {"out": long})
+    yield from long_rows()

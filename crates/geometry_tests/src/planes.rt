@@ -16,19 +16,17 @@ fn is_through(points: [[i32; 3]; 3], numbers: (i32, i32, i32, i64), out_is_front
     }
 }
 
-#[test]
-fn planes_through_points(rt: HostRuntime) {
-    assert!(rt;
-        is_through(
-            [[128, 0, 0], [128, 1, 0], [128, 0, 1]],
-            (1, 0, 0, 128),
-            false
-        ) && is_through(
-            [[4096, -4095, 0], [-4096, -4096, 0], [-4095, 4096, 1]],
-            (1, -8192, 67108863, 33550336),
-            true
-        ) && Plane::through_whole([0, 0, 0], [1, 1, 1], [2, 2, 2]).is_err()
-    );
+/// Whether planes through whole points are as they were worked out by hand.
+fn are_through_whole() -> bool {
+    is_through(
+        [[128, 0, 0], [128, 1, 0], [128, 0, 1]],
+        (1, 0, 0, 128),
+        false,
+    ) && is_through(
+        [[4096, -4095, 0], [-4096, -4096, 0], [-4095, 4096, 1]],
+        (1, -8192, 67108863, 33550336),
+        true,
+    ) && Plane::through_whole([0, 0, 0], [1, 1, 1], [2, 2, 2]).is_err()
 }
 
 /// What three points give.
@@ -79,11 +77,12 @@ fn given_by(points: [[i32; 3]; 3]) -> Answer {
 }
 
 #[test]
-fn planes_through_thousandths(rt: HostRuntime) {
+fn planes_through_points(rt: HostRuntime) {
     assert!(rt;
-        THOUSANDTHS
-            .iter()
-            .all(|(points, wanted)| given_by(*points) == *wanted)
+        are_through_whole()
+            && THOUSANDTHS
+                .iter()
+                .all(|(points, wanted)| given_by(*points) == *wanted)
     );
 }
 
@@ -96,13 +95,6 @@ fn side_of_wall(x: i64) -> Ordering {
         z: -7,
         w: 2,
     })
-}
-
-#[test]
-fn sides(rt: HostRuntime) {
-    assert!(rt;
-        side_of_wall(255).is_lt() && side_of_wall(256).is_eq() && side_of_wall(257).is_gt()
-    );
 }
 
 /// The number of the plane through three points, in a book of few planes.
@@ -120,15 +112,30 @@ fn number(book: &mut PlaneBook, points: [[i32; 3]; 3]) -> Option<u32> {
 
 /// The numbers that three planes get, of which the first and the last are the same, and how many there
 /// are then.
-fn numbers(alloc: Global) -> Option<(u32, u32, u32, u32)> {
-    let mut book = PlaneBook::new(alloc);
-    let first = number(&mut book, [[128, 0, 0], [128, 1, 0], [128, 0, 1]])?;
-    let second = number(&mut book, [[0, 0, 0], [1, 0, 0], [0, 1, 0]])?;
-    let third = number(&mut book, [[128, 0, 0], [128, 1, 0], [128, 0, 1]])?;
+fn numbers(book: &mut PlaneBook) -> Option<(u32, u32, u32, u32)> {
+    let first = number(book, [[128, 0, 0], [128, 1, 0], [128, 0, 1]])?;
+    let second = number(book, [[0, 0, 0], [1, 0, 0], [0, 1, 0]])?;
+    let third = number(book, [[128, 0, 0], [128, 1, 0], [128, 0, 1]])?;
     Some((first, second, third, book.len()))
 }
 
+/// Whether each plane gets one number, by which it is found, and no other is found.
+fn have_numbers(alloc: Global) -> bool {
+    let mut book = PlaneBook::new(alloc);
+    let found = numbers(&mut book);
+    found == Some((0, 1, 0, 2))
+        && book.find(&through([[0, 0, 0], [1, 0, 0], [0, 1, 0]])) == Some(1)
+        && book
+            .find(&through([[0, 0, 1], [1, 0, 1], [0, 1, 1]]))
+            .is_none()
+}
+
 #[test]
-fn a_plane_has_one_number(rt: HostRuntime) {
-    assert!(rt; numbers(rt.alloc()) == Some((0, 1, 0, 2)));
+fn sides_and_numbers_of_planes(rt: HostRuntime) {
+    assert!(rt;
+        side_of_wall(255).is_lt()
+            && side_of_wall(256).is_eq()
+            && side_of_wall(257).is_gt()
+            && have_numbers(rt.alloc())
+    );
 }

@@ -27,37 +27,6 @@ fn has_faces(alloc: Global) -> bool {
     }
 }
 
-#[test]
-fn parts_of_planes(rt: HostRuntime) {
-    let alloc = rt.alloc();
-    assert!(rt;
-        has_faces(alloc)
-            && has_part(alloc, [[32768, 0, 0], [32768, 1, 0], [32768, 0, 1]], &[])
-            && has_part(
-                alloc,
-                [[0, 0, 0], [1, 0, 0], [0, 1, 0]],
-                &[
-                    [-32768, -32768, 0],
-                    [32768, -32768, 0],
-                    [32768, 32768, 0],
-                    [-32768, 32768, 0]
-                ]
-            )
-            && has_part(
-                alloc,
-                [[0, 0, 0], [1, -1, 0], [0, 1, -1]],
-                &[
-                    [32768, -32768, 0],
-                    [32768, 0, -32768],
-                    [0, 32768, -32768],
-                    [-32768, 32768, 0],
-                    [-32768, 0, 32768],
-                    [0, -32768, 32768],
-                ]
-            )
-    );
-}
-
 /// What is left of a winding: so many corners, where it was cut.
 const GONE: usize = 0;
 
@@ -158,59 +127,45 @@ fn steepest_planes_meet(alloc: Global) -> bool {
     }
 }
 
-#[test]
-fn windings_are_cut(rt: HostRuntime) {
-    let alloc = rt.alloc();
-    assert!(rt; floor_is_cut(alloc) && part_is_touched(alloc) && steepest_planes_meet(alloc));
+/// The cuts that take a corner of the floor off, the one to the west or east and to the south or north, and then the corner that this
+/// leaves on the side.
+fn cuts_at(west: bool, south: bool) -> [([[i32; 3]; 3], Side); 2] {
+    let x = |at: i32| if west { at.wrapping_neg() } else { at };
+    let y = |at: i32| if south { at.wrapping_neg() } else { at };
+    let keep = if west { Side::Front } else { Side::Back };
+    let long = [
+        [x(24000), y(24000), 0],
+        [x(24000), y(24000), 1],
+        [x(16000), y(32000), 0],
+    ];
+    let short = [
+        [x(32000), y(12000), 0],
+        [x(32000), y(12000), 1],
+        [x(31200), y(13600), 0],
+    ];
+    [(long, keep), (short, keep)]
 }
 
 /// The floor's square without its corners, by so many cuts that its edges no longer stand inline.
 fn twelve_corners(alloc: Global) -> Option<Winding> {
-    cut_by(
-        on(alloc, &floor())?,
-        &[
-            (
-                [[24000, 24000, 0], [24000, 24000, 1], [16000, 32000, 0]],
-                Side::Back,
-            ),
-            (
-                [[24000, -24000, 0], [24000, -24000, 1], [16000, -32000, 0]],
-                Side::Back,
-            ),
-            (
-                [
-                    [-24000, -24000, 0],
-                    [-24000, -24000, 1],
-                    [-16000, -32000, 0],
-                ],
-                Side::Front,
-            ),
-            (
-                [[-24000, 24000, 0], [-24000, 24000, 1], [-16000, 32000, 0]],
-                Side::Front,
-            ),
-            (
-                [[32000, 12000, 0], [32000, 12000, 1], [31200, 13600, 0]],
-                Side::Back,
-            ),
-            (
-                [[32000, -12000, 0], [32000, -12000, 1], [31200, -13600, 0]],
-                Side::Back,
-            ),
-            (
-                [
-                    [-32000, -12000, 0],
-                    [-32000, -12000, 1],
-                    [-31200, -13600, 0],
-                ],
-                Side::Front,
-            ),
-            (
-                [[-32000, 12000, 0], [-32000, 12000, 1], [-31200, 13600, 0]],
-                Side::Front,
-            ),
-        ],
-    )
+    let start = on(alloc, &floor())?;
+    let east = cut_by(
+        cut_by(start, &cuts_at(false, false))?,
+        &cuts_at(false, true),
+    )?;
+    cut_by(cut_by(east, &cuts_at(true, true))?, &cuts_at(true, false))
+}
+
+/// Whether the plane of each edge goes through the corner at its place and through the next one.
+fn has_edges(winding: &Winding) -> bool {
+    let count = winding.len();
+    let mut right = true;
+    for i in 0..count {
+        let edge = winding.edge(i);
+        let next = if i + 1 < count { i + 1 } else { 0 };
+        right &= winding.corner(i).side(&edge).is_eq() && winding.corner(next).side(&edge).is_eq();
+    }
+    right
 }
 
 /// Whether a winding is the one of twelve corners, and its halves have eight.
@@ -231,6 +186,7 @@ fn is_the_one_of_twelve(winding: &Winding) -> bool {
     ];
     has_corners(winding, Way::Nearest, &places)
         && winding.plane() == floor()
+        && has_edges(winding)
         && leaves(winding, &[([[0, 0, 0], [0, 1, 0], [0, 0, 1]], 8, 8)])
 }
 
@@ -241,8 +197,14 @@ fn copy_has_twelve(alloc: Global) -> Option<bool> {
 }
 
 #[test]
-fn a_copy_of_more_corners_than_stand_inline(rt: HostRuntime) {
-    assert!(rt; copy_has_twelve(rt.alloc()) == Some(true));
+fn windings_are_cut(rt: HostRuntime) {
+    let alloc = rt.alloc();
+    assert!(rt;
+        floor_is_cut(alloc)
+            && part_is_touched(alloc)
+            && steepest_planes_meet(alloc)
+            && copy_has_twelve(alloc) == Some(true)
+    );
 }
 
 /// Whether the plane x = 0, entered to a side, faces as is said.
@@ -254,9 +216,34 @@ fn leads_into(alloc: Global, side: Side, into: Plane) -> bool {
 }
 
 #[test]
-fn a_pane_leads_to_its_side(rt: HostRuntime) {
+fn parts_of_planes(rt: HostRuntime) {
+    let alloc = rt.alloc();
     assert!(rt;
-        leads_into(rt.alloc(), Side::Back, middle().flipped())
-            && leads_into(rt.alloc(), Side::Front, middle())
+        has_faces(alloc)
+            && leads_into(alloc, Side::Back, middle().flipped())
+            && leads_into(alloc, Side::Front, middle())
+            && has_part(alloc, [[32768, 0, 0], [32768, 1, 0], [32768, 0, 1]], &[])
+            && has_part(
+                alloc,
+                [[0, 0, 0], [1, 0, 0], [0, 1, 0]],
+                &[
+                    [-32768, -32768, 0],
+                    [32768, -32768, 0],
+                    [32768, 32768, 0],
+                    [-32768, 32768, 0]
+                ]
+            )
+            && has_part(
+                alloc,
+                [[0, 0, 0], [1, -1, 0], [0, 1, -1]],
+                &[
+                    [32768, -32768, 0],
+                    [32768, 0, -32768],
+                    [0, 32768, -32768],
+                    [-32768, 32768, 0],
+                    [-32768, 0, 32768],
+                    [0, -32768, 32768],
+                ]
+            )
     );
 }

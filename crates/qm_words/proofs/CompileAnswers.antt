@@ -7,7 +7,7 @@ use Rattle.clap.specs.Walk.{Row, first_of, one_of, rows_of}
 use Rattle.clap.specs.Faults.{fault_of}
 use Rattle.qm_commands.specs.declared.options.Options.{Options}
 use Rattle.qm_commands.specs.declared.map_command.MapCommand.TheVariants.{Compile, Format}
-use Rattle.qm_commands.specs.CompileRequest.{Request, Asks, no_request}
+use Rattle.qm_commands.specs.CompileRequest.{Request, Asks, fast_option, hulls_option, no_request}
 use Rattle.qm_commands.specs.CompileWords.{AreCompileWords}
 use Rattle.qm_commands.specs.FileNames.{FileNames, AreDifferent}
 use Rattle.qm_commands.specs.Options.{AreThreads}
@@ -66,20 +66,22 @@ answer_compile words rows (Err Memory) taken answer = tt
 some_same : (a b : List ℕ) → Some a ≡ Some b → a ≡ b
 some_same a b same = cc
 
-pub order_is : (rows : List Row) (map_name out_name : List ℕ) (listing_name threads_text : Option (List ℕ)) (threads : ℕ) (fast : Bool)
+pub order_is : (rows : List Row) (map_name out_name : List ℕ) (listing_name threads_text : Option (List ℕ)) (listed : Bool) (threads : ℕ) (fast hulls : Bool)
     → first_of (codes "map") rows ≡ Some map_name → first_of (codes "out") rows ≡ Some out_name → first_of (codes "prt") rows ≡ listing_name → first_of (codes "threads") rows ≡ threads_text
-    → AreThreads threads_text threads → ((b : Bool) → one_of (codes "fast") rows ≡ Some (cond b (codes "true") (codes "false")) → fast ≡ b)
+    → listed ≡ is_some listing_name → AreThreads threads_text threads → ((b : Bool) → one_of (codes "fast") rows ≡ Some (cond b (codes "true") (codes "false")) → fast ≡ b)
+    → ((b : Bool) → one_of (codes "hulls") rows ≡ Some (cond b (codes "true") (codes "false")) → hulls ≡ b)
     → AreDifferent (names_of map_name out_name listing_name)
-    → IsCompileOrder rows (of_map (Compile (record { threads = threads; fast = fast }) (is_some listing_name)) (names_of map_name out_name listing_name))
-order_is rows map_name out_name listing_name threads_text threads fast is_map is_out is_listing is_threads are_threads is_fast different words asked asks found = record {
+    → IsCompileOrder rows (of_map (Compile (record { threads = threads; fast = fast; hulls = hulls }) listed) (names_of map_name out_name listing_name))
+order_is rows map_name out_name listing_name threads_text listed threads fast hulls is_map is_out is_listing is_threads is_listed are_threads is_fast are_hulls different words asked asks found = record {
   rest = words;
   words_are = refl;
   asked = asked;
   asks = asks;
   are_names = found.names ∙ ap₂ (λ (m o : List ℕ). m ∷ o ∷ []) (some_same found.map_name map_name (sym found.map_is ∙ is_map)) (some_same found.out_name out_name (sym found.out_is ∙ is_out));
   is_listing = sym found.listing_is ∙ is_listing;
-  is_listed = ap (λ (o : Option (List ℕ)). is_some o) (sym is_listing ∙ found.listing_is);
-  is_fast = is_fast asked.fast found.fast_is;
+  is_listed = is_listed ∙ ap (λ (o : Option (List ℕ)). is_some o) (sym is_listing ∙ found.listing_is);
+  is_fast = is_fast asked.fast (found.flags_are fast_option);
+  are_hulls = are_hulls asked.hulls (found.flags_are hulls_option);
   are_threads = subst (λ (o : Option (List ℕ)). AreThreads o threads) (sym is_threads ∙ found.threads_is) are_threads;
   different = different;
 }

@@ -1,11 +1,14 @@
 -- One word more of the words behind `compile`.
-use Rattle.std.proofs.Common.{◌≡◌, ◌≢◌, ◌∙◌, ℕ, Bool, codes, true, false, refl, sym, ap, List, [], ◌∷◌, ◌++◌, Option, Some, None, is_some}
+use Rattle.std.proofs.Common.{◌≡◌, ◌≢◌, ◌∙◌, ◌||◌, ℕ, Bool, codes, true, false, refl, sym, ap, subst, List, [], ◌∷◌, ◌++◌, Option, Some, None, is_some}
+use Rattle.std.specs.Str.{bytes_eq}
+use Rattle.std.proofs.lemmas.Slice.Eq.{bytes_eq-Decides}
 use Rattle.clap.specs.Walk.{Held, Row, Rule, Text, Walk, idle, option, walked, settled, has_row, used}
 use Rattle.clap.specs.Simple.{filled, with_index}
 use Rattle.clap.specs.Faults.{settle_fault, other_fault, set_fault, values_fault}
-use Rattle.qm_commands.specs.CompileRequest.{Request, ValuedOption, listing_option, threads_option, option_spelling}
+use Rattle.qm_commands.specs.CompileRequest.{Request, FlagOption, fast_option, hulls_option, flag_spelling, ValuedOption, listing_option, threads_option, option_spelling}
 use Rattle.qm_commands.specs.FileNames.{IsFileName}
-use Rattle.qm_words.specs.inner.CompileWord.{IsCompileWord, plain, flag, alone, within}
+use Rattle.qm_words.specs.inner.CompileWord.{IsCompileWord, plain, bare, alone, within}
+use Rattle.qm_words.specs.inner.FoundWords.{flag_id}
 use Rattle.qm_words.proofs.Given.{Given, has_row_is, rows, value_of, not_given, used_once, value_past, value_last}
 use Rattle.qm_words.proofs.Walks.{Leads, first_none, or_else-none, second_none, set_free, plain_leads, positional_holds, positional_settles, set_passes}
 use Rattle.qm_words.proofs.CompileCommand.{compile_shape}
@@ -44,12 +47,21 @@ out_of (both map_name out_name) = Some out_name
 -- what was asked for so far
 pub record Seen : Type 0 where
   pub names : Names
-  pub fast : Bool
+  pub flags : FlagOption → Bool
   pub listing : Option Text
   pub threads : Option Text
 
 abbrev pub request_of : Seen → Request
-request_of seen = record { names = list_of seen.names; fast = seen.fast; listing = seen.listing; threads = seen.threads }
+request_of seen = record {
+  names = list_of seen.names;
+  fast = seen.flags fast_option;
+  hulls = seen.flags hulls_option;
+  listing = seen.listing;
+  threads = seen.threads;
+}
+
+abbrev pub seen_with_flag : Seen → FlagOption → Seen
+seen_with_flag seen flag = record seen { flags = λ other. bytes_eq (flag_id flag) (flag_id other) || seen.flags other }
 
 abbrev pub seen_value : Seen → ValuedOption → Option Text
 seen_value seen listing_option = seen.listing
@@ -78,7 +90,7 @@ option_id threads_option = codes "threads"
 pub record Knows (given : List Given) (seen : Seen) : Type 0 where
   pub map_is : value_of (codes "map") given ≡ map_of seen.names
   pub out_is : value_of (codes "out") given ≡ out_of seen.names
-  pub fast_is : value_of (codes "fast") given ≡ flag_text seen.fast
+  pub flags_are : (flag : FlagOption) → value_of (flag_id flag) given ≡ flag_text (seen.flags flag)
   pub listing_is : value_of (codes "prt") given ≡ seen.listing
   pub threads_is : value_of (codes "threads") given ≡ seen.threads
 
@@ -112,8 +124,8 @@ out_rule = with_index 2 (filled (name_rule (codes "out")))
 abbrev pub option_rule : ValuedOption → Rule
 option_rule kind = with_index 3 (filled (value_rule (option_id kind)))
 
-abbrev pub fast_rule : Rule
-fast_rule = with_index 3 (filled (flag_rule (codes "fast")))
+abbrev pub bare_rule : Text → Rule
+bare_rule id = with_index 3 (filled (flag_rule id))
 
 set_is : (a : Rule) (values : List Text) (r : List Row) (given : List Given) → r ≡ rows given → value_of a.id given ≡ None → values_fault a values ≡ []
     → set_fault false a values r ≡ []
@@ -121,13 +133,18 @@ set_is a values r given rows_are free pass = ap (set_fault false a values) rows_
 
 -- ---- words that are options
 
-pub fast_leads : (h : Held) (position : ℕ) (given : List Given) → settle_fault rules false h ≡ [] → (settled rules h).rows ≡ rows given → value_of (codes "fast") given ≡ None
-    → Leads compile_shape (idle_at h position) (codes "--fast") (idle_at (resting h (rows (given ++ (codes "fast", codes "true") ∷ []))) position)
+pub flag_leads : (h : Held) (position : ℕ) (given : List Given) (flag : FlagOption) → settle_fault rules false h ≡ [] → (settled rules h).rows ≡ rows given → value_of (flag_id flag) given ≡ None
+    → Leads compile_shape (idle_at h position) (flag_spelling flag) (idle_at (resting h (rows (given ++ (flag_id flag, codes "true") ∷ []))) position)
 unfolding walked
-fast_leads h position given settles rows_are free = record {
-  turn = or_else-none _ [] (or_else-none (settle_fault rules false h) (set_fault false fast_rule (codes "true" ∷ []) (settled rules h).rows) settles
-      (set_is fast_rule (codes "true" ∷ []) (settled rules h).rows given rows_are free refl)) refl;
-  walks = ap (λ (r : List Row). idle_at (resting h r) position) (ap (used fast_rule []) rows_are ∙ used_once (codes "fast") (codes "true") given free);
+flag_leads h position given fast_option settles rows_are free = record {
+  turn = or_else-none _ [] (or_else-none (settle_fault rules false h) (set_fault false (bare_rule (codes "fast")) (codes "true" ∷ []) (settled rules h).rows) settles
+      (set_is (bare_rule (codes "fast")) (codes "true" ∷ []) (settled rules h).rows given rows_are free refl)) refl;
+  walks = ap (λ (r : List Row). idle_at (resting h r) position) (ap (used (bare_rule (codes "fast")) []) rows_are ∙ used_once (codes "fast") (codes "true") given free);
+}
+flag_leads h position given hulls_option settles rows_are free = record {
+  turn = or_else-none _ [] (or_else-none (settle_fault rules false h) (set_fault false (bare_rule (codes "hulls")) (codes "true" ∷ []) (settled rules h).rows) settles
+      (set_is (bare_rule (codes "hulls")) (codes "true" ∷ []) (settled rules h).rows given rows_are free refl)) refl;
+  walks = ap (λ (r : List Row). idle_at (resting h r) position) (ap (used (bare_rule (codes "hulls")) []) rows_are ∙ used_once (codes "hulls") (codes "true") given free);
 }
 
 pub within_leads : (h : Held) (position : ℕ) (given : List Given) (kind : ValuedOption) (text : Text) → settle_fault rules false h ≡ [] → (settled rules h).rows ≡ rows given → value_of (option_id kind) given ≡ None
@@ -174,11 +191,42 @@ value_none : (kind : ValuedOption) (given : List Given) (seen : Seen) → Knows 
 value_none listing_option given seen knows free = knows.listing_is ∙ free
 value_none threads_option given seen knows free = knows.threads_is ∙ free
 
+-- the ids of other arguments are none of an option without a value
+record IsOther (id : Text) : Type 0 where
+  behind : (flag : FlagOption) → bytes_eq id (flag_id flag) ≡ false
+  before : (flag : FlagOption) → bytes_eq (flag_id flag) id ≡ false
+
+-- an id that differs from each
+is_other : (id : Text) → bytes_eq id (codes "fast") ≡ false → bytes_eq id (codes "hulls") ≡ false → bytes_eq (codes "fast") id ≡ false → bytes_eq (codes "hulls") id ≡ false → IsOther id
+is_other id no_fast no_hulls fast_no hulls_no = record { behind = behind_of; before = before_of }
+  where
+    behind_of : (flag : FlagOption) → bytes_eq id (flag_id flag) ≡ false
+    behind_of fast_option = no_fast
+    behind_of hulls_option = no_hulls
+
+    before_of : (flag : FlagOption) → bytes_eq (flag_id flag) id ≡ false
+    before_of fast_option = fast_no
+    before_of hulls_option = hulls_no
+
+map_other : IsOther (codes "map")
+map_other = is_other (codes "map") refl refl refl refl
+
+out_other : IsOther (codes "out")
+out_other = is_other (codes "out") refl refl refl refl
+
+option_other : (kind : ValuedOption) → IsOther (option_id kind)
+option_other listing_option = is_other (codes "prt") refl refl refl refl
+option_other threads_option = is_other (codes "threads") refl refl refl refl
+
+-- a value of another argument is none of an option without a value
+flags_past : (given : List Given) (seen : Seen) (id text : Text) → IsOther id → Knows given seen → (flag : FlagOption) → value_of (flag_id flag) (given ++ (id, text) ∷ []) ≡ flag_text (seen.flags flag)
+flags_past given seen id text other knows flag = value_past (flag_id flag) given (id, text) (other.behind flag) ∙ knows.flags_are flag
+
 knows_map : (given : List Given) (seen : Seen) (word : Text) → Knows given (record seen { names = neither }) → Knows (given ++ (codes "map", word) ∷ []) (record seen { names = one word })
 knows_map given seen word knows = record {
   map_is = value_last (codes "map") given (codes "map", word) knows.map_is refl;
   out_is = value_past (codes "out") given (codes "map", word) refl ∙ knows.out_is;
-  fast_is = value_past (codes "fast") given (codes "map", word) refl ∙ knows.fast_is;
+  flags_are = flags_past given (record seen { names = neither }) (codes "map") word map_other knows;
   listing_is = value_past (codes "prt") given (codes "map", word) refl ∙ knows.listing_is;
   threads_is = value_past (codes "threads") given (codes "map", word) refl ∙ knows.threads_is;
 }
@@ -187,32 +235,39 @@ knows_out : (given : List Given) (seen : Seen) (map_name word : Text) → Knows 
 knows_out given seen map_name word knows = record {
   map_is = value_past (codes "map") given (codes "out", word) refl ∙ knows.map_is;
   out_is = value_last (codes "out") given (codes "out", word) knows.out_is refl;
-  fast_is = value_past (codes "fast") given (codes "out", word) refl ∙ knows.fast_is;
+  flags_are = flags_past given (record seen { names = one map_name }) (codes "out") word out_other knows;
   listing_is = value_past (codes "prt") given (codes "out", word) refl ∙ knows.listing_is;
   threads_is = value_past (codes "threads") given (codes "out", word) refl ∙ knows.threads_is;
 }
 
-knows_fast : (given : List Given) (seen : Seen) → Knows given seen → seen.fast ≡ false → Knows (given ++ (codes "fast", codes "true") ∷ []) (record seen { fast = true })
-knows_fast given seen knows free = record {
-  map_is = value_past (codes "map") given (codes "fast", codes "true") refl ∙ knows.map_is;
-  out_is = value_past (codes "out") given (codes "fast", codes "true") refl ∙ knows.out_is;
-  fast_is = value_last (codes "fast") given (codes "fast", codes "true") (knows.fast_is ∙ ap flag_text free) refl;
-  listing_is = value_past (codes "prt") given (codes "fast", codes "true") refl ∙ knows.listing_is;
-  threads_is = value_past (codes "threads") given (codes "fast", codes "true") refl ∙ knows.threads_is;
+knows_flag : (given : List Given) (seen : Seen) (flag : FlagOption) → Knows given seen → seen.flags flag ≡ false → Knows (given ++ (flag_id flag, codes "true") ∷ []) (seen_with_flag seen flag)
+knows_flag given seen flag knows free = record {
+  map_is = value_past (codes "map") given (flag_id flag, codes "true") (map_other.before flag) ∙ knows.map_is;
+  out_is = value_past (codes "out") given (flag_id flag, codes "true") (out_other.before flag) ∙ knows.out_is;
+  flags_are = λ other. by other (bytes_eq (flag_id flag) (flag_id other)) refl;
+  listing_is = value_past (codes "prt") given (flag_id flag, codes "true") ((option_other listing_option).before flag) ∙ knows.listing_is;
+  threads_is = value_past (codes "threads") given (flag_id flag, codes "true") ((option_other threads_option).before flag) ∙ knows.threads_is;
 }
+  where
+    by : (other : FlagOption) (b : Bool) → bytes_eq (flag_id flag) (flag_id other) ≡ b → value_of (flag_id other) (given ++ (flag_id flag, codes "true") ∷ []) ≡ flag_text (b || seen.flags other)
+    by other true same =
+        let ids : flag_id flag ≡ flag_id other = (bytes_eq-Decides (flag_id flag) (flag_id other)).0 same in
+        let none = subst (λ (id : Text). value_of id given ≡ None) ids (knows.flags_are flag ∙ ap flag_text free) in
+        value_last (flag_id other) given (flag_id flag, codes "true") none same
+    by other false differ = value_past (flag_id other) given (flag_id flag, codes "true") differ ∙ knows.flags_are other
 
 knows_value : (given : List Given) (seen : Seen) (kind : ValuedOption) (text : Text) → Knows given seen → seen_value seen kind ≡ None → Knows (given ++ (option_id kind, text) ∷ []) (seen_with seen kind text)
 knows_value given seen listing_option text knows free = record {
   map_is = value_past (codes "map") given (codes "prt", text) refl ∙ knows.map_is;
   out_is = value_past (codes "out") given (codes "prt", text) refl ∙ knows.out_is;
-  fast_is = value_past (codes "fast") given (codes "prt", text) refl ∙ knows.fast_is;
+  flags_are = flags_past given seen (codes "prt") text (option_other listing_option) knows;
   listing_is = value_last (codes "prt") given (codes "prt", text) (knows.listing_is ∙ free) refl;
   threads_is = value_past (codes "threads") given (codes "prt", text) refl ∙ knows.threads_is;
 }
 knows_value given seen threads_option text knows free = record {
   map_is = value_past (codes "map") given (codes "threads", text) refl ∙ knows.map_is;
   out_is = value_past (codes "out") given (codes "threads", text) refl ∙ knows.out_is;
-  fast_is = value_past (codes "fast") given (codes "threads", text) refl ∙ knows.fast_is;
+  flags_are = flags_past given seen (codes "threads") text (option_other threads_option) knows;
   listing_is = value_past (codes "prt") given (codes "threads", text) refl ∙ knows.listing_is;
   threads_is = value_last (codes "threads") given (codes "threads", text) (knows.threads_is ∙ free) refl;
 }
@@ -223,11 +278,11 @@ pub record Goes (h : Held) (position : ℕ) (word : Text) (seen : Seen) (place :
   pub leads : Leads compile_shape (idle_at h position) word (idle_at next place)
   pub holds : Holds next seen
 
-pub goes_fast : (h : Held) (position : ℕ) (seen : Seen) → Holds h seen → seen.fast ≡ false → Goes h position (codes "--fast") (record seen { fast = true }) position
-goes_fast h position seen holds free = record {
-  next = resting h (rows (holds.given ++ (codes "fast", codes "true") ∷ []));
-  leads = fast_leads h position holds.given holds.settles holds.rows_are (holds.knows.fast_is ∙ ap flag_text free);
-  holds = record { settles = refl; given = holds.given ++ (codes "fast", codes "true") ∷ []; rows_are = refl; knows = knows_fast holds.given seen holds.knows free };
+pub goes_flag : (h : Held) (position : ℕ) (seen : Seen) (flag : FlagOption) → Holds h seen → seen.flags flag ≡ false → Goes h position (flag_spelling flag) (seen_with_flag seen flag) position
+goes_flag h position seen flag holds free = record {
+  next = resting h (rows (holds.given ++ (flag_id flag, codes "true") ∷ []));
+  leads = flag_leads h position holds.given flag holds.settles holds.rows_are (holds.knows.flags_are flag ∙ ap flag_text free);
+  holds = record { settles = refl; given = holds.given ++ (flag_id flag, codes "true") ∷ []; rows_are = refl; knows = knows_flag holds.given seen flag holds.knows free };
 }
 
 pub goes_within : (h : Held) (position : ℕ) (seen : Seen) (kind : ValuedOption) (text : Text) → Holds h seen → seen_value seen kind ≡ None
@@ -295,9 +350,14 @@ none_of (Some text) free = absurd cc
 not_seen : (id : Text) (r : List Row) (given : List Given) → r ≡ rows given → has_row id r ≡ false → value_of id given ≡ None
 not_seen id r given rows_are free = none_of (value_of id given) (sym (has_row_is id given) ∙ ap (has_row id) (sym rows_are) ∙ free)
 
-pub fast_free : (h : Held) (seen : Seen) → Holds h seen → other_fault compile_shape None (codes "--fast") h ≡ [] → seen.fast ≡ false
-fast_free h seen holds right = free seen.fast (sym holds.knows.fast_is ∙ not_seen (codes "fast") (settled rules h).rows holds.given holds.rows_are
-    (set_free fast_rule (codes "true" ∷ []) (settled rules h).rows (second_none (settle_fault rules false h) (set_fault false fast_rule (codes "true" ∷ []) (settled rules h).rows) right)))
+-- an option without a value that could be used
+flag_right : (h : Held) (flag : FlagOption) → other_fault compile_shape None (flag_spelling flag) h ≡ [] → set_fault false (bare_rule (flag_id flag)) (codes "true" ∷ []) (settled rules h).rows ≡ []
+flag_right h fast_option right = second_none (settle_fault rules false h) (set_fault false (bare_rule (codes "fast")) (codes "true" ∷ []) (settled rules h).rows) right
+flag_right h hulls_option right = second_none (settle_fault rules false h) (set_fault false (bare_rule (codes "hulls")) (codes "true" ∷ []) (settled rules h).rows) right
+
+pub flag_free : (h : Held) (seen : Seen) (flag : FlagOption) → Holds h seen → other_fault compile_shape None (flag_spelling flag) h ≡ [] → seen.flags flag ≡ false
+flag_free h seen flag holds right = free (seen.flags flag) (sym (holds.knows.flags_are flag) ∙ not_seen (flag_id flag) (settled rules h).rows holds.given holds.rows_are
+    (set_free (bare_rule (flag_id flag)) (codes "true" ∷ []) (settled rules h).rows (flag_right h flag right)))
   where
     free : (b : Bool) → flag_text b ≡ None → b ≡ false
     free true some = absurd cc
@@ -321,13 +381,15 @@ read_free h seen threads_option text holds right = value_free h seen threads_opt
 -- ---- what has to settle
 
 -- an option in front settles what is held
-pub flag_settles : (h : Held) (word : Text) → IsCompileWord word → (IsFileName word → ⊥) → other_fault compile_shape None word h ≡ [] → settle_fault rules false h ≡ []
-flag_settles h word (plain is) other right = absurd (other is)
-flag_settles h word (flag is) other right =
+pub option_settles : (h : Held) (word : Text) → IsCompileWord word → (IsFileName word → ⊥) → other_fault compile_shape None word h ≡ [] → settle_fault rules false h ≡ []
+option_settles h word (plain is) other right = absurd (other is)
+option_settles h word (bare fast_option is) other right =
     first_none (settle_fault rules false h) _ (ap (λ (w : Text). other_fault compile_shape None w h) (sym is) ∙ right)
-flag_settles h word (alone listing_option is) other right = ap (λ (w : Text). other_fault compile_shape None w h) (sym is) ∙ right
-flag_settles h word (alone threads_option is) other right = ap (λ (w : Text). other_fault compile_shape None w h) (sym is) ∙ right
-flag_settles h word (within listing_option text is some) other right =
+option_settles h word (bare hulls_option is) other right =
     first_none (settle_fault rules false h) _ (ap (λ (w : Text). other_fault compile_shape None w h) (sym is) ∙ right)
-flag_settles h word (within threads_option text is some) other right =
+option_settles h word (alone listing_option is) other right = ap (λ (w : Text). other_fault compile_shape None w h) (sym is) ∙ right
+option_settles h word (alone threads_option is) other right = ap (λ (w : Text). other_fault compile_shape None w h) (sym is) ∙ right
+option_settles h word (within listing_option text is some) other right =
+    first_none (settle_fault rules false h) _ (ap (λ (w : Text). other_fault compile_shape None w h) (sym is) ∙ right)
+option_settles h word (within threads_option text is some) other right =
     first_none (settle_fault rules false h) _ (ap (λ (w : Text). other_fault compile_shape None w h) (sym is) ∙ right)

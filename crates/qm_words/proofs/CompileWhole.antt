@@ -4,15 +4,15 @@ use Rattle.clap.specs.Walk.{Held, Row, Text, Walk, idle, option, nothing_held, s
 use Rattle.clap.specs.Kinds.{check_kinds}
 use Rattle.clap.specs.declared.error.kind.ErrorKind.TheVariants.{InvalidValue, MissingRequiredArgument, UnknownArgument}
 use Rattle.clap.specs.Faults.{fault_of, settle_fault, turn_fault}
-use Rattle.qm_commands.specs.CompileRequest.{Request, Asks, ValuedOption, listing_option, threads_option, no_more, a_name, coarse_rows, value_behind, value_within, no_request, option_spelling, value_in, with_fast, with_name, with_option}
+use Rattle.qm_commands.specs.CompileRequest.{Request, Asks, FlagOption, fast_option, hulls_option, ValuedOption, listing_option, threads_option, no_more, a_name, without_value, value_behind, value_within, no_request, flag_in, flag_spelling, option_spelling, value_in, with_flag, with_name, with_option}
 use Rattle.qm_commands.specs.FileNames.{IsFileName}
 use Rattle.qm_words.specs.inner.CommandLines.{compile_app}
-use Rattle.qm_words.specs.inner.CompileWord.{EachIsCompileWord, IsCompileWord, plain, flag, alone, within}
+use Rattle.qm_words.specs.inner.CompileWord.{EachIsCompileWord, IsCompileWord, plain, bare, alone, within}
 use Rattle.qm_words.specs.inner.FoundWords.{AreFound}
 use Rattle.qm_words.proofs.Walks.{Leads, end_fault_is, fault_from, fault_on, first_is_right, first_none, plain_turn, positional_settles, rows_from, rows_on, some_wrong, word_right}
 use Rattle.clap.specs.Simple.{matches_of}
 use Rattle.qm_words.proofs.CompileCommand.{compile_fault, compile_rows, compile_shape}
-use Rattle.qm_words.proofs.CompileSteps.{Holds, Names, Seen, neither, one, both, alone_leads, due_at, fast_free, flag_settles, goes_fast, goes_map, goes_out, goes_within, holds_value, idle_at, map_rule, out_rule, option_id, place_of, reading, read_free, request_of, rules, seen_value, seen_with, value_leads, with_value_read, within_free}
+use Rattle.qm_words.proofs.CompileSteps.{Holds, Names, Seen, neither, one, both, alone_leads, due_at, flag_free, option_settles, goes_flag, goes_map, goes_out, goes_within, holds_value, idle_at, map_rule, out_rule, option_id, place_of, reading, read_free, request_of, rules, seen_value, seen_with, seen_with_flag, value_leads, with_value_read, within_free}
 use Rattle.qm_words.proofs.CompileEnds.{ends_fault, ends_found, missing}
 
 abbrev due : Held → ValuedOption → Held
@@ -26,8 +26,9 @@ name_settles h neither (byte ∷ bytes) is right = sym (positional_settles rules
 name_settles h (one map_name) (byte ∷ bytes) is right = sym (positional_settles rules out_rule h refl) ∙ sym (plain_turn compile_shape h idle 2 byte bytes is) ∙ right
 name_settles h (both map_name out_name) (byte ∷ bytes) is right = absurd (some_wrong UnknownArgument [] (sym (plain_turn compile_shape h idle 3 byte bytes is) ∙ right))
 
-no_name_flag : (word : Text) → word ≡ codes "--fast" → IsFileName word → ⊥
-no_name_flag word is name = subst IsFileName is name refl
+no_name_flag : (flag : FlagOption) (word : Text) → word ≡ flag_spelling flag → IsFileName word → ⊥
+no_name_flag fast_option word is name = subst IsFileName is name refl
+no_name_flag hulls_option word is name = subst IsFileName is name refl
 
 no_name_alone : (kind : ValuedOption) (word : Text) → word ≡ option_spelling kind → IsFileName word → ⊥
 no_name_alone listing_option word is name = subst IsFileName is name refl
@@ -39,9 +40,9 @@ no_name_within threads_option text word is name = subst IsFileName is name refl
 
 word_settles : (h : Held) (names : Names) (word : Text) → IsCompileWord word → turn_fault compile_shape [] (idle_at h (place_of names)) word ≡ [] → settle_fault rules false h ≡ []
 word_settles h names word (plain is) right = name_settles h names word is right
-word_settles h names word (flag is) right = flag_settles h word (flag is) (no_name_flag word is) (word_right compile_shape h idle (place_of names) word right)
-word_settles h names word (alone kind is) right = flag_settles h word (alone kind is) (no_name_alone kind word is) (word_right compile_shape h idle (place_of names) word right)
-word_settles h names word (within kind text is some) right = flag_settles h word (within kind text is some) (no_name_within kind text word is) (word_right compile_shape h idle (place_of names) word right)
+word_settles h names word (bare flag is) right = option_settles h word (bare flag is) (no_name_flag flag word is) (word_right compile_shape h idle (place_of names) word right)
+word_settles h names word (alone kind is) right = option_settles h word (alone kind is) (no_name_alone kind word is) (word_right compile_shape h idle (place_of names) word right)
+word_settles h names word (within kind text is some) right = option_settles h word (within kind text is some) (no_name_within kind text word is) (word_right compile_shape h idle (place_of names) word right)
 
 words_settle : (h : Held) (names : Names) (words : List Text) → EachIsCompileWord words → fault_from compile_shape (idle_at h (place_of names)) words ≡ [] → settle_fault rules false h ≡ []
 words_settle h names [] each right = first_none (settle_fault rules false h) _ (sym (end_fault_is compile_shape (idle_at h (place_of names))) ∙ right)
@@ -72,6 +73,14 @@ value_seen seen threads_option = refl
 request_with : (seen : Seen) (kind : ValuedOption) (text : Text) → request_of (seen_with seen kind text) ≡ with_option (request_of seen) kind text
 request_with seen listing_option text = refl
 request_with seen threads_option text = refl
+
+flag_seen : (seen : Seen) (flag : FlagOption) → flag_in (request_of seen) flag ≡ seen.flags flag
+flag_seen seen fast_option = refl
+flag_seen seen hulls_option = refl
+
+request_with_flag : (seen : Seen) (flag : FlagOption) → request_of (seen_with_flag seen flag) ≡ with_flag (request_of seen) flag
+request_with_flag seen fast_option = refl
+request_with_flag seen hulls_option = refl
 
 -- with the same words and rows under other names
 read_as : (seen : Seen) (words : List Text) (r q : List Row) → r ≡ q → IsRead seen words q → IsRead seen words r
@@ -108,15 +117,21 @@ taken_name words taken (byte ∷ bytes) is h (one map_name) seen holds right =
 taken_name words taken (byte ∷ bytes) is h (both map_name out_name) seen holds right =
     absurd (some_wrong UnknownArgument [] (sym (plain_turn compile_shape h idle 3 byte bytes is) ∙ first_is_right compile_shape (idle_at h 3) (byte ∷ bytes) words right))
 
-taken_fast : (words : List Text) → Taken words → (h : Held) (seen : Seen) → Holds h seen → fault_from compile_shape (idle_at h (place_of seen.names)) (codes "--fast" ∷ words) ≡ []
-    → IsRead seen (codes "--fast" ∷ words) (rows_from compile_shape (idle_at h (place_of seen.names)) (codes "--fast" ∷ words))
-taken_fast words taken h seen holds right =
+taken_flag : (words : List Text) → Taken words → (flag : FlagOption) → (h : Held) (seen : Seen) → Holds h seen
+    → fault_from compile_shape (idle_at h (place_of seen.names)) (flag_spelling flag ∷ words) ≡ []
+    → IsRead seen (flag_spelling flag ∷ words) (rows_from compile_shape (idle_at h (place_of seen.names)) (flag_spelling flag ∷ words))
+taken_flag words taken flag h seen holds right =
     let place = place_of seen.names in
-    let free = fast_free h seen holds (word_right compile_shape h idle place (codes "--fast") (first_is_right compile_shape (idle_at h place) (codes "--fast") words right)) in
-    let goes = goes_fast h place seen holds free in
-    let read = taken goes.next (record seen { fast = true }) goes.holds (sym (fault_on compile_shape (idle_at h place) (idle_at goes.next place) (codes "--fast") words goes.leads) ∙ right) in
-    read_as seen (codes "--fast" ∷ words) _ _ (rows_on compile_shape (idle_at h place) (idle_at goes.next place) (codes "--fast") words goes.leads)
-    (record { all = read.all; asks = coarse_rows refl free read.asks; found = read.found })
+    let word = flag_spelling flag in
+    let free = flag_free h seen flag holds (word_right compile_shape h idle place word (first_is_right compile_shape (idle_at h place) word words right)) in
+    let goes = goes_flag h place seen flag holds free in
+    let read = taken goes.next (seen_with_flag seen flag) goes.holds (sym (fault_on compile_shape (idle_at h place) (idle_at goes.next place) word words goes.leads) ∙ right) in
+    read_as seen (word ∷ words) _ _ (rows_on compile_shape (idle_at h place) (idle_at goes.next place) word words goes.leads)
+    (record {
+      all = read.all;
+      asks = without_value flag refl (flag_seen seen flag ∙ free) (subst (λ (r : Request). Asks r words read.all) (request_with_flag seen flag) read.asks);
+      found = read.found;
+    })
 
 taken_within : (words : List Text) → Taken words → (kind : ValuedOption) (text : Text) → text ≢ [] → (h : Held) (seen : Seen) → Holds h seen
     → fault_from compile_shape (idle_at h (place_of seen.names)) ((option_spelling kind ++ (61 ∷ text)) ∷ words) ≡ []
@@ -162,12 +177,12 @@ no_value h seen kind holds right = absurd (due_wrong h kind (first_none (settle_
 a_value : (word : Text) (words : List Text) → IsCompileWord word → EachIsCompileWord words → Taken words → TakenDue (word ∷ words)
 a_value [] words (plain is) each taken h seen kind holds right = absurd is
 a_value (byte ∷ bytes) words (plain is) each taken h seen kind holds right = taken_due words each taken byte bytes is h seen kind holds right
-a_value word words (flag is) each taken h seen kind holds right =
-    absurd (due_wrong h kind (flag_settles (due h kind) word (flag is) (no_name_flag word is) (word_right compile_shape (due h kind) (option (option_id kind)) (place_of seen.names) word (first_is_right compile_shape (due_walk h seen kind) word words right))))
+a_value word words (bare flag is) each taken h seen kind holds right =
+    absurd (due_wrong h kind (option_settles (due h kind) word (bare flag is) (no_name_flag flag word is) (word_right compile_shape (due h kind) (option (option_id kind)) (place_of seen.names) word (first_is_right compile_shape (due_walk h seen kind) word words right))))
 a_value word words (alone k is) each taken h seen kind holds right =
-    absurd (due_wrong h kind (flag_settles (due h kind) word (alone k is) (no_name_alone k word is) (word_right compile_shape (due h kind) (option (option_id kind)) (place_of seen.names) word (first_is_right compile_shape (due_walk h seen kind) word words right))))
+    absurd (due_wrong h kind (option_settles (due h kind) word (alone k is) (no_name_alone k word is) (word_right compile_shape (due h kind) (option (option_id kind)) (place_of seen.names) word (first_is_right compile_shape (due_walk h seen kind) word words right))))
 a_value word words (within k text is some) each taken h seen kind holds right =
-    absurd (due_wrong h kind (flag_settles (due h kind) word (within k text is some) (no_name_within k text word is) (word_right compile_shape (due h kind) (option (option_id kind)) (place_of seen.names) word (first_is_right compile_shape (due_walk h seen kind) word words right))))
+    absurd (due_wrong h kind (option_settles (due h kind) word (within k text is some) (no_name_within k text word is) (word_right compile_shape (due h kind) (option (option_id kind)) (place_of seen.names) word (first_is_right compile_shape (due_walk h seen kind) word words right))))
 
 taken_alone : (words : List Text) → EachIsCompileWord words → TakenDue words → (kind : ValuedOption) → (h : Held) (seen : Seen) → Holds h seen
     → fault_from compile_shape (idle_at h (place_of seen.names)) (option_spelling kind ∷ words) ≡ []
@@ -179,9 +194,9 @@ taken_alone words each taken kind h seen holds right =
 
 a_word : (word : Text) (words : List Text) → IsCompileWord word → EachIsCompileWord words → Taken words → TakenDue words → Taken (word ∷ words)
 a_word word words (plain is) each taken due h seen holds right = taken_name words taken word is h seen.names seen holds right
-a_word word words (flag is) each taken due h seen holds right =
+a_word word words (bare flag is) each taken due h seen holds right =
     let W : Text → Type 0 = λ w. fault_from compile_shape (idle_at h (place_of seen.names)) (w ∷ words) ≡ [] → IsRead seen (w ∷ words) (rows_from compile_shape (idle_at h (place_of seen.names)) (w ∷ words)) in
-    subst W (sym is) (taken_fast words taken h seen holds) right
+    subst W (sym is) (taken_flag words taken flag h seen holds) right
 a_word word words (alone kind is) each taken due h seen holds right =
     let W : Text → Type 0 = λ w. fault_from compile_shape (idle_at h (place_of seen.names)) (w ∷ words) ≡ [] → IsRead seen (w ∷ words) (rows_from compile_shape (idle_at h (place_of seen.names)) (w ∷ words)) in
     subst W (sym is) (taken_alone words each due kind h seen holds) right
@@ -213,7 +228,8 @@ GivenBack asked words all = (h : Held) (seen : Seen) → asked ≡ request_of se
 pub names_stay : {asked all : Request} {words : List Text} → Asks asked words all → length asked.names ≤ length all.names
 names_stay no_more = omega arith
 names_stay {asked} {all} (a_name {word = word} is more) = omega (arith, names_stay more, length-append asked.names (word ∷ []))
-names_stay (coarse_rows is free more) = names_stay more
+names_stay (without_value fast_option is free more) = names_stay more
+names_stay (without_value hulls_option is free more) = names_stay more
 names_stay (value_behind listing_option is some free more) = names_stay more
 names_stay (value_behind threads_option is some free more) = names_stay more
 names_stay (value_within listing_option is some free more) = names_stay more
@@ -251,12 +267,12 @@ back_name asked all (byte ∷ bytes) words is few back h seen same two holds =
         let three : length (with_name asked (byte ∷ bytes)).names ≡ 3 = ap (λ (r : Request). length r.names) (named (both map_name out_name) e) in
         absurd (omega (arith, three, few, two))
 
-back_fast : (asked all : Request) (words : List Text) → asked.fast ≡ false → GivenBack (with_fast asked) words all → GivenBack asked (codes "--fast" ∷ words) all
-back_fast asked all words free back h seen same two holds =
+back_flag : (asked all : Request) (words : List Text) (flag : FlagOption) → flag_in asked flag ≡ false → GivenBack (with_flag asked flag) words all → GivenBack asked (flag_spelling flag ∷ words) all
+back_flag asked all words flag free back h seen same two holds =
     let place = place_of seen.names in
-    let goes = goes_fast h place seen holds (sym (ap (λ (r : Request). r.fast) same) ∙ free) in
-    found_on (idle_at h place) (idle_at goes.next place) (codes "--fast") words all goes.leads
-    (back goes.next (record seen { fast = true }) (ap (λ (r : Request). with_fast r) same) two goes.holds)
+    let goes = goes_flag h place seen flag holds (sym (flag_seen seen flag) ∙ sym (ap (λ (r : Request). flag_in r flag) same) ∙ free) in
+    found_on (idle_at h place) (idle_at goes.next place) (flag_spelling flag) words all goes.leads
+    (back goes.next (seen_with_flag seen flag) (ap (λ (r : Request). with_flag r flag) same ∙ sym (request_with_flag seen flag)) two goes.holds)
 
 seen_free : (asked : Request) (seen : Seen) (kind : ValuedOption) → asked ≡ request_of seen → value_in asked kind ≡ None → seen_value seen kind ≡ None
 seen_free asked seen kind same free = sym (value_seen seen kind) ∙ sym (ap (λ (r : Request). value_in r kind) same) ∙ free
@@ -284,8 +300,8 @@ back_behind asked all words kind (byte ∷ bytes) is free back h seen same two h
 all_back : {asked all : Request} {words : List Text} → Asks asked words all → GivenBack asked words all
 all_back {asked} no_more = back_end asked
 all_back {asked} {all} (a_name {word = word} {words = words} is more) = back_name asked all word words is (names_stay more) (all_back more)
-all_back {asked} {all} (coarse_rows {words = words} is free more) =
-    subst (λ (w : Text). GivenBack asked (w ∷ words) all) (sym is) (back_fast asked all words free (all_back more))
+all_back {asked} {all} (without_value {words = words} flag is free more) =
+    subst (λ (w : Text). GivenBack asked (w ∷ words) all) (sym is) (back_flag asked all words flag free (all_back more))
 all_back {asked} {all} (value_behind {text = text} {words = words} kind is some free more) =
     subst (λ (w : Text). GivenBack asked (w ∷ text ∷ words) all) (sym is) (back_behind asked all words kind text some free (all_back more))
 all_back {asked} {all} (value_within {text = text} {words = words} kind is some free more) =
@@ -295,18 +311,18 @@ all_back {asked} {all} (value_within {text = text} {words = words} kind is some 
 pub each_asked : {asked all : Request} {words : List Text} → Asks asked words all → EachIsCompileWord words
 each_asked no_more = tt
 each_asked (a_name is more) = (plain is, each_asked more)
-each_asked (coarse_rows is free more) = (flag is, each_asked more)
+each_asked (without_value flag is free more) = (bare flag is, each_asked more)
 each_asked (value_behind kind is some free more) = (alone kind is, (plain some, each_asked more))
 each_asked (value_within {text = text} kind is some free more) = (within kind text is some, each_asked more)
 
 -- ---- from the first word on
 
 nothing_seen : Seen
-nothing_seen = record { names = neither; fast = false; listing = None; threads = None }
+nothing_seen = record { names = neither; flags = λ flag. false; listing = None; threads = None }
 
 holds_nothing : Holds nothing_held nothing_seen
 unfolding nothing_seen
-holds_nothing = record { settles = refl; given = []; rows_are = refl; knows = record { map_is = refl; out_is = refl; fast_is = refl; listing_is = refl; threads_is = refl } }
+holds_nothing = record { settles = refl; given = []; rows_are = refl; knows = record { map_is = refl; out_is = refl; flags_are = λ flag. refl; listing_is = refl; threads_is = refl } }
 
 -- the parser finds nothing wrong: its rows are what the words ask for
 pub record IsTaken (words : List Text) (r : List Row) : Type 0 where
@@ -339,14 +355,15 @@ found_once r a b found_a found_b =
     let names = found_a.names ∙ ap₂ (λ (m o : Text). m ∷ o ∷ []) map_same out_same ∙ sym found_b.names in
     let listing = sym found_a.listing_is ∙ found_b.listing_is in
     let threads = sym found_a.threads_is ∙ found_b.threads_is in
-    let fast = fast_same a.fast b.fast (sym found_a.fast_is ∙ found_b.fast_is) in
-    λ i. record { names = names i; fast = fast i; listing = listing i; threads = threads i }
+    let fast = flag_same a.fast b.fast (sym (found_a.flags_are fast_option) ∙ found_b.flags_are fast_option) in
+    let hulls = flag_same a.hulls b.hulls (sym (found_a.flags_are hulls_option) ∙ found_b.flags_are hulls_option) in
+    λ i. record { names = names i; fast = fast i; hulls = hulls i; listing = listing i; threads = threads i }
   where
-    fast_same : (x y : Bool) → Some (cond x (codes "true") (codes "false")) ≡ Some (cond y (codes "true") (codes "false")) → x ≡ y
-    fast_same true true same = refl
-    fast_same true false same = absurd cc
-    fast_same false true same = absurd cc
-    fast_same false false same = refl
+    flag_same : (x y : Bool) → Some (cond x (codes "true") (codes "false")) ≡ Some (cond y (codes "true") (codes "false")) → x ≡ y
+    flag_same true true same = refl
+    flag_same true false same = absurd cc
+    flag_same false true same = absurd cc
+    flag_same false false same = refl
 
 pub asked_once : (words : List Text) (a b : Request) → Asks no_request words a → Asks no_request words b → length a.names ≡ 2 → length b.names ≡ 2 → a ≡ b
 asked_once words a b asks_a asks_b two_a two_b =

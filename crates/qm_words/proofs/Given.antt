@@ -24,7 +24,7 @@ abbrev pub value_of : Text → List Given → Option Text
 value_of id [] = None
 value_of id (p ∷ given) = cond (bytes_eq p.0 id) (Some p.1) (value_of id given)
 
-abbrev named : Text → Row → Bool
+abbrev pub named : Text → Row → Bool
 named id r = bytes_eq r.id id
 
 pub has_row_is : (id : Text) (given : List Given) → has_row id (rows given) ≡ is_some (value_of id given)
@@ -46,6 +46,15 @@ pub given_is : (id : Text) (given : List Given) → is_given id (rows given) ≡
 given_is id [] = refl
 given_is id (p ∷ given) =
     elim (bytes_eq p.0 id) as (λ b. option_map_or (λ (r : Row). explicit_source r.source) (cond b (Some (row p)) (find (named id) (rows given))) false ≡ is_some (cond b (Some p.1) (value_of id given))) [ true ↦ refl | false ↦ given_is id given ]
+
+has_row_found : (id : Text) (all : List Row) → has_row id all ≡ is_some (find (named id) all)
+has_row_found id [] = refl
+has_row_found id (r ∷ all) =
+    elim (bytes_eq r.id id) as (λ b. (b || has_row id all) ≡ is_some (cond b (Some r) (find (named id) all))) [ true ↦ refl | false ↦ has_row_found id all ]
+
+-- where the same row is found, an argument has a row where it was given
+pub row_kept : (id : Text) (all : List Row) (given : List Given) → find (named id) all ≡ find (named id) (rows given) → has_row id all ≡ is_some (value_of id given)
+row_kept id all given same = has_row_found id all ∙ ap (λ (o : Option Row). is_some o) same ∙ sym (has_row_found id (rows given)) ∙ has_row_is id given
 
 -- a row of another argument behind the rest
 pub find_past : (id : Text) (all : List Row) (last : Row) → bytes_eq last.id id ≡ false → find (named id) (all ++ last ∷ []) ≡ find (named id) all

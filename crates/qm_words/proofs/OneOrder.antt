@@ -1,11 +1,11 @@
 -- Words are those of one order at most.
-use Rattle.std.proofs.Common.{◌≡◌, ◌∙◌, ℕ, ℤ, Bool, codes, refl, sym, ap, ap₂, subst, arith, List, [], ◌∷◌, ◌++◌, length, Option, Some, None, is_some}
+use Rattle.std.proofs.Common.{◌≡◌, ◌∙◌, ℕ, ℤ, Bool, codes, refl, sym, ap, ap₂, subst, arith, List, [], ◌∷◌, ◌++◌, drop, length, Option, Some, None, is_some}
 use Rattle.std.specs.Fmt.{decimal}
 use Rattle.std.proofs.lemmas.Fmt.{decimal_injective}
 use Rattle.qm_commands.specs.declared.options.Options.{Options}
 use Rattle.qm_commands.specs.declared.map_command.MapCommand.TheVariants.{Compile, Format}
 use Rattle.qm_commands.specs.declared.query.Query.{Query}
-use Rattle.qm_commands.specs.declared.query.Query.TheVariants.{Count, At, Row, Sees, Parts}
+use Rattle.qm_commands.specs.declared.query.Query.TheVariants.{Count, At, Hull, Row, Sees, Parts}
 use Rattle.qm_commands.specs.CompileRequest.{Request, Asks, no_request}
 use Rattle.qm_commands.specs.CompileWords.{AreCompileWords}
 use Rattle.qm_commands.specs.DemoWords.{AreDemoWords}
@@ -13,13 +13,13 @@ use Rattle.qm_commands.specs.FileNames.{FileNames}
 use Rattle.qm_commands.specs.FormatWords.{AreFormatWords}
 use Rattle.qm_commands.specs.InspectWords.{AreInspectWords}
 use Rattle.qm_commands.specs.Options.{AreThreads}
-use Rattle.qm_commands.specs.QueryWord.{AreMillionths, AreQueryWords, IsPlaceWord, IsQueryWord, IsShort, no_more, one_more}
+use Rattle.qm_commands.specs.QueryWord.{ArePlaceNumbers, AreQueryWords, IsHullNumber, IsQueryWord, IsShort, hull_name, no_more, one_more}
 use Rattle.qm_commands.specs.Order.{Order, of_map, of_tree, of_rooms, of_upgrade}
 use Rattle.qm_commands.specs.UpgradeWords.{AreUpgradeWords}
 use Rattle.qm_commands.specs.Words.{AreWordsOf}
 use Rattle.qm_words.proofs.Commas.{clear_decimal, splits_once}
 use Rattle.qm_words.proofs.CompileWhole.{asked_once}
-use Rattle.qm_words.proofs.QueryLaws.{apart, millionths_once, place_splits}
+use Rattle.qm_words.proofs.QueryLaws.{apart, hull_head, no_hull_word, place_once, same_hull}
 use Rattle.qm_words.proofs.SingleWords.{verbs_apart}
 
 two_same : (a b c d : List ℕ) → a ∷ b ∷ [] ≡ c ∷ d ∷ [] → (a ≡ c) × (b ≡ d)
@@ -45,8 +45,9 @@ compile_once words options other listed other_listed files other_files one two =
     let listing = sym two.is_listing ∙ ap (λ (r : Request). r.listing) same ∙ one.is_listing in
     let lists = two.is_listed ∙ ap (λ (r : Request). is_some r.listing) same ∙ sym one.is_listed in
     let fast = two.is_fast ∙ ap (λ (r : Request). r.fast) same ∙ sym one.is_fast in
+    let hulls = two.are_hulls ∙ ap (λ (r : Request). r.hulls) same ∙ sym one.are_hulls in
     let threads = threads_same one.asked.threads other.threads options.threads (subst (λ (t : Option (List ℕ)). AreThreads t other.threads) (ap (λ (r : Request). r.threads) same) two.are_threads) one.are_threads in
-    λ i. of_map (Compile (record { threads = threads i; fast = fast i }) (lists i)) (record { map_name = names.0 i; out_name = names.1 i; listing_name = listing i })
+    λ i. of_map (Compile (record { threads = threads i; fast = fast i; hulls = hulls i }) (lists i)) (record { map_name = names.0 i; out_name = names.1 i; listing_name = listing i })
 
 -- ---- `format`
 
@@ -77,20 +78,10 @@ demo_once words rooms number other_rooms other_number one two =
 short_same : (n m : ℕ) → IsShort n → IsShort m → decimal n ≡ decimal m → n ≡ m
 short_same n m short_n short_m same = decimal_injective n m (omega (arith, short_n)) (omega (arith, short_m)) same
 
-place_same : (text : List ℕ) (x y z a b c : ℤ) → IsPlaceWord (codes "at=" ++ text) x y z → IsPlaceWord (codes "at=" ++ text) a b c → ◌≡◌ {A = Query} (At a b c) (At x y z)
-place_same text x y z a b c one two =
-    let p = place_splits text x y z one in
-    let q = place_splits text a b c two in
-    let outer = splits_once text q.0 (q.1 ++ (44 ∷ q.2)) p.0 (p.1 ++ (44 ∷ p.2)) q.3 p.3 in
-    let inner = splits_once (q.1 ++ (44 ∷ q.2)) q.1 q.2 p.1 p.2 q.4 (record { text_is = outer.1; clear = p.4.clear }) in
-    let is_x = millionths_once p.0 a x (subst (λ (t : List ℕ). AreMillionths t a) outer.0 q.5) p.5 in
-    let is_y = millionths_once p.1 b y (subst (λ (t : List ℕ). AreMillionths t b) inner.0 q.6) p.6 in
-    let is_z = millionths_once p.2 c z (subst (λ (t : List ℕ). AreMillionths t c) inner.1 q.7) p.7 in
-    λ i. At (is_x i) (is_y i) (is_z i)
-
 count_only : (query : Query) → IsQueryWord (codes "count") query → query ≡ Count
 count_only Count is = refl
 count_only (At x y z) is = absurd (apart 99 97 _ _ refl is.word_is)
+count_only (Hull hull x y z) is = absurd (no_hull_word 99 _ hull x y z refl is.1)
 count_only (Row n) is = absurd (apart 99 114 _ _ refl is.0)
 count_only (Sees n m) is = absurd (apart 99 115 _ _ refl is.0)
 count_only Parts is = absurd (apart 99 112 _ _ refl is)
@@ -98,20 +89,36 @@ count_only Parts is = absurd (apart 99 112 _ _ refl is)
 parts_only : (query : Query) → IsQueryWord (codes "parts") query → query ≡ Parts
 parts_only Count is = absurd (apart 112 99 _ _ refl is)
 parts_only (At x y z) is = absurd (apart 112 97 _ _ refl is.word_is)
+parts_only (Hull hull x y z) is = absurd (no_hull_word 112 _ hull x y z refl is.1)
 parts_only (Row n) is = absurd (apart 112 114 _ _ refl is.0)
 parts_only (Sees n m) is = absurd (apart 112 115 _ _ refl is.0)
 parts_only Parts is = refl
 
-place_only : (text : List ℕ) (x y z : ℤ) → IsPlaceWord (codes "at=" ++ text) x y z → (query : Query) → IsQueryWord (codes "at=" ++ text) query → query ≡ At x y z
+place_only : (text : List ℕ) (x y z : ℤ) → ArePlaceNumbers text x y z → (query : Query) → IsQueryWord (codes "at=" ++ text) query → query ≡ At x y z
 place_only text x y z place Count is = absurd (apart 97 99 _ _ refl is)
-place_only text x y z place (At a b c) is = place_same text x y z a b c place is
+place_only text x y z place (At a b c) is =
+    let same = place_once text a b c x y z (subst (λ (t : List ℕ). ArePlaceNumbers t a b c) (sym (ap (drop 3) is.word_is)) is.are_numbers) place in
+    λ i. At (same.0 i) (same.1 i) (same.2 i)
+place_only text x y z place (Hull hull a b c) is = absurd (no_hull_word 97 _ hull a b c refl is.1)
 place_only text x y z place (Row n) is = absurd (apart 97 114 _ _ refl is.0)
 place_only text x y z place (Sees n m) is = absurd (apart 97 115 _ _ refl is.0)
 place_only text x y z place Parts is = absurd (apart 97 112 _ _ refl is)
 
+hull_only : (hull : ℕ) (text : List ℕ) (x y z : ℤ) → IsHullNumber hull → ArePlaceNumbers text x y z → (query : Query) → IsQueryWord (hull_name hull ++ text) query → query ≡ Hull hull x y z
+hull_only hull text x y z number place Count is = absurd (apart 104 99 _ _ refl (sym (hull_head hull text) ∙ is))
+hull_only hull text x y z number place (At a b c) is = absurd (apart 104 97 _ _ refl (sym (hull_head hull text) ∙ is.word_is))
+hull_only hull text x y z number place (Hull other a b c) is =
+    let hulls = same_hull hull other number is.0 text is.1.numbers is.1.word_is in
+    let same = place_once text a b c x y z (subst (λ (t : List ℕ). ArePlaceNumbers t a b c) (sym hulls.1) is.1.are_numbers) place in
+    λ i. Hull (sym hulls.0 i) (same.0 i) (same.1 i) (same.2 i)
+hull_only hull text x y z number place (Row n) is = absurd (apart 104 114 _ _ refl (sym (hull_head hull text) ∙ is.0))
+hull_only hull text x y z number place (Sees n m) is = absurd (apart 104 115 _ _ refl (sym (hull_head hull text) ∙ is.0))
+hull_only hull text x y z number place Parts is = absurd (apart 104 112 _ _ refl (sym (hull_head hull text) ∙ is))
+
 row_only : (n : ℕ) → IsShort n → (query : Query) → IsQueryWord (codes "row=" ++ decimal n) query → query ≡ Row n
 row_only n short Count is = absurd (apart 114 99 _ _ refl is)
 row_only n short (At x y z) is = absurd (apart 114 97 _ _ refl is.word_is)
+row_only n short (Hull hull x y z) is = absurd (no_hull_word 114 _ hull x y z refl is.1)
 row_only n short (Row m) is =
     let same : decimal m ≡ decimal n = let whole = is.0 in cc in
     ap (λ (k : ℕ). Row k) (short_same m n is.1 short same)
@@ -121,6 +128,7 @@ row_only n short Parts is = absurd (apart 114 112 _ _ refl is)
 sees_only : (n m : ℕ) → IsShort n → IsShort m → (query : Query) → IsQueryWord (codes "sees=" ++ (decimal n ++ (44 ∷ decimal m))) query → query ≡ Sees n m
 sees_only n m short_n short_m Count is = absurd (apart 115 99 _ _ refl is)
 sees_only n m short_n short_m (At x y z) is = absurd (apart 115 97 _ _ refl is.word_is)
+sees_only n m short_n short_m (Hull hull x y z) is = absurd (no_hull_word 115 _ hull x y z refl is.1)
 sees_only n m short_n short_m (Row k) is = absurd (apart 115 114 _ _ refl is.0)
 sees_only n m short_n short_m (Sees a b) is =
     let same : decimal a ++ (44 ∷ decimal b) ≡ decimal n ++ (44 ∷ decimal m) = let whole = is.0 in cc in
@@ -131,8 +139,8 @@ sees_only n m short_n short_m Parts is = absurd (apart 115 112 _ _ refl is)
 
 query_once : (word : List ℕ) (query other : Query) → IsQueryWord word query → IsQueryWord word other → other ≡ query
 query_once word Count other is also = count_only other (subst (λ (w : List ℕ). IsQueryWord w other) is also)
-query_once word (At x y z) other is also =
-    place_only (is.first ++ (44 ∷ (is.second ++ (44 ∷ is.third)))) x y z (subst (λ (w : List ℕ). IsPlaceWord w x y z) is.word_is is) other (subst (λ (w : List ℕ). IsQueryWord w other) is.word_is also)
+query_once word (At x y z) other is also = place_only is.numbers x y z is.are_numbers other (subst (λ (w : List ℕ). IsQueryWord w other) is.word_is also)
+query_once word (Hull hull x y z) other is also = hull_only hull is.1.numbers x y z is.0 is.1.are_numbers other (subst (λ (w : List ℕ). IsQueryWord w other) is.1.word_is also)
 query_once word (Row n) other is also = row_only n is.1 other (subst (λ (w : List ℕ). IsQueryWord w other) is.0 also)
 query_once word (Sees n m) other is also = sees_only n m is.1 is.2 other (subst (λ (w : List ℕ). IsQueryWord w other) is.0 also)
 query_once word Parts other is also = parts_only other (subst (λ (w : List ℕ). IsQueryWord w other) is also)

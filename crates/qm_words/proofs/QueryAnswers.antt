@@ -4,13 +4,13 @@ use Rattle.std.specs.Prelude.{IfSome, IfNone, MatchOption}
 use Rattle.std.specs.List.{position_or_len, before_first, after_first}
 use Rattle.std.specs.Fmt.{decimal}
 use Rattle.std.proofs.lemmas.List.{take_more}
-use Rattle.qm_commands.specs.QueryWord.{AreMillionths, AreQueryWords, IsPlaceWord, IsQueryWord, IsShort}
+use Rattle.qm_commands.specs.QueryWord.{AreMillionths, ArePlaceNumbers, AreQueryWords, IsHullNumber, IsQueryWord, IsShort, hull_name}
 use Rattle.qm_commands.specs.declared.query.Query.{Query}
-use Rattle.qm_commands.specs.declared.query.Query.TheVariants.{Count, At, Row, Sees, Parts}
+use Rattle.qm_commands.specs.declared.query.Query.TheVariants.{At, Hull, Row, Sees}
 use Rattle.qm_words.specs.SeenWords.{bytes_of_words}
-use Rattle.qm_words.specs.inner.QueriesRead.{AreNoPlace, IsCommaSplit, IsPlaceOf}
+use Rattle.qm_words.specs.inner.QueriesRead.{IsCommaSplit, IsNumberBefore}
 use Rattle.qm_words.proofs.Commas.{no_split, split_found, splits_once}
-use Rattle.qm_words.proofs.QueryLaws.{has_query, one_behind, only_place, only_row, only_sees, place_splits}
+use Rattle.qm_words.proofs.QueryLaws.{has_query, number_splits, one_behind, one_number_before, only_hull, only_place, only_row, only_sees, place_parts}
 
 -- ---- the first comma
 
@@ -26,63 +26,62 @@ pub comma_none : (text : List ℕ) (r : Option (Bor (List ℕ) × Bor (List ℕ)
 comma_none text None h = λ first rest split. no_split text first rest h split
 comma_none text (Some parts) h = tt
 
+-- ---- numbers before commas
+
+-- no comma, or none before which a number stands
+pub no_number_split : (text : List ℕ) → ((first rest : List ℕ) → IsCommaSplit text first rest → ⊥) → (n : ℤ) (rest : List ℕ) → IsNumberBefore text n rest → ⊥
+no_number_split text never n rest is = never is.first rest (number_splits text n rest is)
+
+pub no_number_first : (text first rest : List ℕ) → IsCommaSplit text first rest → ((n : ℤ) → AreMillionths first n → ⊥) → (n : ℤ) (other : List ℕ) → IsNumberBefore text n other → ⊥
+no_number_first text first rest split never n other is =
+    never n (subst (λ (t : List ℕ). AreMillionths t n) (splits_once text is.first other first rest (number_splits text n other is) split).0 is.is_number)
+
+pub number_before_is : (text first rest : List ℕ) (n : ℤ) → IsCommaSplit text first rest → AreMillionths first n → IsNumberBefore text n rest
+number_before_is text first rest n split is = record { first = first; text_is = split.text_is; is_number = is }
+
 -- ---- places
 
-place_parts : (text first rest second third : List ℕ) (x y z : ℤ) → IsCommaSplit text first rest → IsCommaSplit rest second third → IsPlaceWord (codes "at=" ++ text) x y z
-    → AreMillionths first x × AreMillionths second y × AreMillionths third z
-place_parts text first rest second third x y z outer inner place =
-    let p = place_splits text x y z place in
-    let out = splits_once text p.0 (p.1 ++ (44 ∷ p.2)) first rest p.3 outer in
-    let inside = splits_once rest p.1 p.2 second third (record { text_is = sym out.1; clear = p.4.clear }) inner in (
-      subst (λ (t : List ℕ). AreMillionths t x) out.0 p.5,
-      subst (λ (t : List ℕ). AreMillionths t y) inside.0 p.6,
-      subst (λ (t : List ℕ). AreMillionths t z) inside.1 p.7,
-    )
+pub no_x : (text : List ℕ) → ((n : ℤ) (rest : List ℕ) → IsNumberBefore text n rest → ⊥) → (x y z : ℤ) → ArePlaceNumbers text x y z → ⊥
+no_x text never x y z are = let parts = place_parts text x y z are in never x parts.behind parts.is_x
 
-pub no_place_split : (text : List ℕ) → ((first rest : List ℕ) → IsCommaSplit text first rest → ⊥) → (query : Query) → IsQueryWord (codes "at=" ++ text) query → ⊥
-no_place_split text never query is = only_place text query ⊥ (λ x y z place. let p = place_splits text x y z place in never p.0 (p.1 ++ (44 ∷ p.2)) p.3) is
+module _ (text behind : List ℕ) (x : ℤ) (is_x : IsNumberBefore text x behind) where
+  behind_x : (a b c : ℤ) (are : ArePlaceNumbers text a b c) → (place_parts text a b c are).behind ≡ behind
+  behind_x a b c are = let parts = place_parts text a b c are in (one_number_before text a x parts.behind behind parts.is_x is_x).1
 
-pub no_place_rest : (text first rest : List ℕ) → IsCommaSplit text first rest → ((second third : List ℕ) → IsCommaSplit rest second third → ⊥) → (query : Query) → IsQueryWord (codes "at=" ++ text) query → ⊥
-no_place_rest text first rest outer never query is = only_place text query ⊥ (λ x y z place.
-    let p = place_splits text x y z place in
-    let out = splits_once text p.0 (p.1 ++ (44 ∷ p.2)) first rest p.3 outer in
-    never p.1 p.2 (record { text_is = sym out.1; clear = p.4.clear })) is
+  pub no_y : ((n : ℤ) (rest : List ℕ) → IsNumberBefore behind n rest → ⊥) → (a b c : ℤ) → ArePlaceNumbers text a b c → ⊥
+  no_y never a b c are =
+      let parts = place_parts text a b c are in
+      never b parts.last (subst (λ (t : List ℕ). IsNumberBefore t b parts.last) (behind_x a b c are) parts.is_y)
 
-module _ (text first rest second third : List ℕ) (outer : IsCommaSplit text first rest) (inner : IsCommaSplit rest second third) where
-  place_is : (x y z : ℤ) → AreMillionths first x → AreMillionths second y → AreMillionths third z → IsQueryWord (codes "at=" ++ text) (At x y z)
-  place_is x y z is_x is_y is_z = record {
-    first = first;
-    second = second;
-    third = third;
-    word_is = ap (λ (t : List ℕ). codes "at=" ++ t) (outer.text_is ∙ ap (λ (r : List ℕ). first ++ (44 ∷ r)) inner.text_is);
-    is_x = is_x;
-    is_y = is_y;
-    is_z = is_z;
-  }
+  module _ (last : List ℕ) (y : ℤ) (is_y : IsNumberBefore behind y last) where
+    pub no_z : ((n : ℤ) → AreMillionths last n → ⊥) → (a b c : ℤ) → ArePlaceNumbers text a b c → ⊥
+    no_z never a b c are =
+        let parts = place_parts text a b c are in
+        let at_y = subst (λ (t : List ℕ). IsNumberBefore t b parts.last) (behind_x a b c are) parts.is_y in
+        never c (subst (λ (t : List ℕ). AreMillionths t c) (one_number_before behind b y parts.last last at_y is_y).1 parts.is_z)
 
-  pub place_some : (r : Option Query) → IfSome r (λ query. IsPlaceOf first second third query) → IfSome r (λ query. IsQueryWord (codes "at=" ++ text) query)
-  place_some None place = tt
-  place_some (Some (At x y z)) place = place_is x y z place.0 place.1 place.2
-  place_some (Some Count) place = absurd place
-  place_some (Some (Row n)) place = absurd place
-  place_some (Some (Sees n m)) place = absurd place
-  place_some (Some Parts) place = absurd place
+    pub place_is : (z : ℤ) → AreMillionths last z → ArePlaceNumbers text x y z
+    place_is z is_z = record {
+      first = is_x.first;
+      second = is_y.first;
+      third = last;
+      text_is = is_x.text_is ∙ ap (λ (rest : List ℕ). is_x.first ++ (44 ∷ rest)) is_y.text_is;
+      is_x = is_x.is_number;
+      is_y = is_y.is_number;
+      is_z = is_z;
+    }
 
-  pub place_none : (r : Option Query) → IfNone r (AreNoPlace first second third) → IfNone r ((query : Query) → IsQueryWord (codes "at=" ++ text) query → ⊥)
-  place_none None never = λ query is. only_place text query ⊥ (λ x y z place.
-      let parts = place_parts text first rest second third x y z outer inner place in
-      never x y z parts.0 parts.1 parts.2) is
-  place_none (Some query) never = tt
+pub no_at : (text : List ℕ) → ((x y z : ℤ) → ArePlaceNumbers text x y z → ⊥) → (query : Query) → IsQueryWord (codes "at=" ++ text) query → ⊥
+no_at text never query is = only_place text query ⊥ never is
 
-module _ (first second third : List ℕ) where
-  pub no_first : ((n : ℤ) → AreMillionths first n → ⊥) → AreNoPlace first second third
-  no_first never = λ x y z is_x is_y is_z. never x is_x
+pub at_is : (text : List ℕ) (x y z : ℤ) → ArePlaceNumbers text x y z → IsQueryWord (codes "at=" ++ text) (At x y z)
+at_is text x y z are = record { numbers = text; word_is = refl; are_numbers = are }
 
-  pub no_second : ((n : ℤ) → AreMillionths second n → ⊥) → AreNoPlace first second third
-  no_second never = λ x y z is_x is_y is_z. never y is_y
+pub no_hull : (hull : ℕ) (text : List ℕ) → IsHullNumber hull → ((x y z : ℤ) → ArePlaceNumbers text x y z → ⊥) → (query : Query) → IsQueryWord (hull_name hull ++ text) query → ⊥
+no_hull hull text number never query is = only_hull hull text query ⊥ number never is
 
-  pub no_third : ((n : ℤ) → AreMillionths third n → ⊥) → AreNoPlace first second third
-  no_third never = λ x y z is_x is_y is_z. never z is_z
+pub hull_is : (hull : ℕ) (text : List ℕ) (x y z : ℤ) → IsHullNumber hull → ArePlaceNumbers text x y z → IsQueryWord (hull_name hull ++ text) (Hull hull x y z)
+hull_is hull text x y z number are = (number, record { numbers = text; word_is = refl; are_numbers = are })
 
 -- ---- leaves
 

@@ -1,15 +1,15 @@
 -- Words by themselves.
-use Rattle.std.proofs.Common.{◌≡◌, ◌≢◌, ◌∙◌, ◌≤◌, ◌+◌, ◌<◌, ℕ, Bool, codes, true, false, refl, sym, ap, subst, List, [], ◌∷◌, ◌++◌, append-nil, drop, get_or, length, Option, Some, None, Result, Ok, Err}
+use Rattle.std.proofs.Common.{◌≡◌, ◌≢◌, ◌∙◌, ◌≤◌, ◌+◌, ◌<◌, ℕ, Bool, codes, true, false, refl, sym, ap, subst, List, [], ◌∷◌, ◌++◌, append-nil, drop, get_or, length, Option, Some, None, is_some, option_map, Result, Ok, Err}
 use Rattle.std.specs.Prelude.{IfNone}
 use Rattle.std.specs.Borrow.{Bor}
 use Rattle.std.specs.Str.{bytes_eq}
 use Rattle.std.proofs.lemmas.Slice.Eq.{bytes_eq-Decides}
 use Rattle.std.proofs.lemmas.List.{drop_more, drop_all}
-use Rattle.qm_commands.specs.CompileRequest.{ValuedOption, listing_option, threads_option, option_spelling}
+use Rattle.qm_commands.specs.CompileRequest.{FlagOption, fast_option, hulls_option, flag_spelling, ValuedOption, listing_option, threads_option, option_spelling}
 use Rattle.qm_commands.specs.FileNames.{IsFileName}
 use Rattle.qm_words.specs.SeenWords.{bytes_of_words}
 use Rattle.qm_words.specs.inner.EachWord.{Each}
-use Rattle.qm_words.specs.inner.CompileWord.{IsCompileWord, IsValueBehind, IsValued, plain, flag, alone, within}
+use Rattle.qm_words.specs.inner.CompileWord.{IsCompileWord, IsFlag, IsValueBehind, IsValued, plain, bare, alone, within}
 
 -- an option with or without its value is a word behind `compile`
 pub valued_word : (kind : ValuedOption) (word : List ℕ) → IsValued (option_spelling kind) word → IsCompileWord word
@@ -27,10 +27,22 @@ within_valued : (kind : ValuedOption) (word text : List ℕ) → word ≡ option
 within_valued kind word [] is some = absurd (some refl)
 within_valued kind word (byte ∷ bytes) is some = record { rest = 61 ∷ byte ∷ bytes; word_is = is; is_value = refl }
 
+-- an option without a value is one as well
+pub flag_word : (word : List ℕ) → IsFlag word → IsCompileWord word
+flag_word word is = bare is.flag is.word_is
+
+-- a word that is spelled like none of them is no option without a value
+pub no_flag_word : (word : List ℕ) → (word ≡ codes "--fast" → ⊥) → (word ≡ codes "--hulls" → ⊥) → IsFlag word → ⊥
+no_flag_word word no_fast no_hulls is = by is.flag is.word_is
+  where
+    by : (flag : FlagOption) → word ≡ flag_spelling flag → ⊥
+    by fast_option spelled = no_fast spelled
+    by hulls_option spelled = no_hulls spelled
+
 -- a word that is none of these is not one behind `compile`
-pub no_compile_word : (word : List ℕ) → (IsFileName word → ⊥) → (word ≡ codes "--fast" → ⊥) → (IsValued (codes "--prt") word → ⊥) → (IsValued (codes "--threads") word → ⊥) → IsCompileWord word → ⊥
+pub no_compile_word : (word : List ℕ) → (IsFileName word → ⊥) → (IsFlag word → ⊥) → (IsValued (codes "--prt") word → ⊥) → (IsValued (codes "--threads") word → ⊥) → IsCompileWord word → ⊥
 no_compile_word word no_name no_flag no_listing no_threads (plain is) = no_name is
-no_compile_word word no_name no_flag no_listing no_threads (flag is) = no_flag is
+no_compile_word word no_name no_flag no_listing no_threads (bare flag is) = no_flag (record { flag = flag; word_is = is })
 no_compile_word word no_name no_flag no_listing no_threads (alone listing_option is) = no_listing (alone_valued listing_option word is)
 no_compile_word word no_name no_flag no_listing no_threads (alone threads_option is) = no_threads (alone_valued threads_option word is)
 no_compile_word word no_name no_flag no_listing no_threads (within listing_option text is some) = no_listing (within_valued listing_option word text is some)
@@ -70,6 +82,10 @@ module _ (P : List ℕ → Type 0) (words : List (Bor (List ℕ))) (i : ℕ) (no
 pub if_none : {X : Type 0} (o : Option X) (P : Type 0) → P → IfNone o P
 if_none None P p = p
 if_none (Some x) P p = tt
+
+pub some_kept : {X Y : Type 0} (f : X → Y) (o : Option X) → is_some o ≡ is_some (option_map f o)
+some_kept f None = refl
+some_kept f (Some x) = refl
 
 -- ---- of a Result
 

@@ -60,16 +60,17 @@ fn named_order<'a>(
             out,
             prt,
             threads,
-            fast: is_fast(matches),
+            fast: has_flag(matches, "fast"),
+            hulls: has_flag(matches, "hulls"),
         }),
     }
 }
 
-/// Whether `--fast` was found.
-fn is_fast(matches: &ArgMatches<'_>) -> bool
-    ensures { (fast : Bool) → one_of (codes "fast") (rows_of (found_of matches.now)) ≡ Some (if fast then codes "true" else codes "false") → result ≡ fast }
+/// Whether an option without a value was found.
+fn has_flag(matches: &ArgMatches<'_>, id: &str) -> bool
+    ensures { (given : Bool) → one_of id.now (rows_of (found_of matches.now)) ≡ Some (if given then codes "true" else codes "false") → result ≡ given }
 {
-    matches.get_flag("fast")
+    matches.get_flag(id)
 }
 
 /// How many workers are asked for: one where nothing is said.

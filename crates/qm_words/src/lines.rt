@@ -97,7 +97,8 @@ fn compile_command<'a>(alloc: Global) -> Result<Command<'a>, AllocError>
     let names = names_command(alloc, "compile", "map", "out");
     let listed = with_arg(alloc, names, ArgKind::Value, "prt");
     let shared = with_arg(alloc, listed, ArgKind::Value, "threads");
-    with_arg(alloc, shared, ArgKind::Flag, "fast")
+    let coarse = with_arg(alloc, shared, ArgKind::Flag, "fast");
+    with_arg(alloc, coarse, ArgKind::Flag, "hulls")
 }
 
 /// `inspect TREE QUERY..`.

@@ -14,6 +14,7 @@ pub enum Order<'a> {
         prt: Option<&'a str>,
         threads: u8,
         fast: bool,
+        hulls: bool,
     },
     /// Answers from a tree file.
     Inspect {

@@ -1,10 +1,10 @@
 //! The words of queries.
 
 ghost use Rattle.std.specs.Prelude.{◌≡◌, ◌≢◌, ◌<◌, ◌^◌, ◌++◌, ◌∷◌, ℕ, ℤ, List, codes, decimal, IfOk, IfErr, IfSome, IfNone};
-ghost use Rattle.qm_commands.specs.QueryWord.{AreMillionths, AreQueryWords, IsQueryWord, IsShort};
+ghost use Rattle.qm_commands.specs.QueryWord.{AreMillionths, ArePlaceNumbers, AreQueryWords, IsHullNumber, IsQueryWord, IsShort, hull_name};
 ghost use Rattle.qm_commands.specs.declared.query.Query.{Query as SeenQuery};
 ghost use Rattle.qm_words.specs.SeenWords.{bytes_of_words};
-ghost use Rattle.qm_words.specs.inner.QueriesRead.{AreNoPlace, AreNoQueries, IsCommaSplit, IsPlaceOf};
+ghost use Rattle.qm_words.specs.inner.QueriesRead.{AreNoQueries, IsCommaSplit, IsNumberBefore};
 
 use crate::numbers::number;
 use crate::order::WordsFault;
@@ -41,7 +41,7 @@ fn query(word: &str) -> Option<Query>
     }
 }
 
-/// The query of a word that begins with `at=`, `row=` or `sees=`.
+/// The query of a word that begins with `at=`, `hull=`, `row=` or `sees=`.
 fn query_behind(word: &str) -> Option<Query>
     requires no_count { word.now ≢ codes "count" }
     requires no_parts { word.now ≢ codes "parts" }
@@ -49,7 +49,13 @@ fn query_behind(word: &str) -> Option<Query>
     ensures none { IfNone result ((query : SeenQuery) → IsQueryWord word.now query → ⊥) }
 {
     if let Some(text) = word.strip_prefix("at=") {
-        return place(text);
+        return at(text);
+    }
+    if let Some(text) = word.strip_prefix("hull=1,") {
+        return hull(1, text);
+    }
+    if let Some(text) = word.strip_prefix("hull=2,") {
+        return hull(2, text);
     }
     if let Some(text) = word.strip_prefix("row=") {
         return row(text);
@@ -61,24 +67,22 @@ fn query_behind(word: &str) -> Option<Query>
 }
 
 /// The query `at=` with what stands behind it.
-fn place(text: &str) -> Option<Query>
+fn at(text: &str) -> Option<Query>
     ensures some { IfSome result (λ query. IsQueryWord (codes "at=" ++ text.now) query) }
     ensures none { IfNone result ((query : SeenQuery) → IsQueryWord (codes "at=" ++ text.now) query → ⊥) }
 {
-    let (first, rest) = at_comma(text)?;
-    let (second, third) = at_comma(rest)?;
-    point(first, second, third)
+    let (x, y, z) = place(text)?;
+    Some(Query::At { x, y, z })
 }
 
-/// The place that three numbers write.
-fn point(first: &str, second: &str, third: &str) -> Option<Query>
-    ensures some { IfSome result (λ query. IsPlaceOf first.now second.now third.now query) }
-    ensures none { IfNone result (AreNoPlace first.now second.now third.now) }
+/// The query `hull=H,` with what stands behind it.
+fn hull(hull: u8, text: &str) -> Option<Query>
+    requires { IsHullNumber hull }
+    ensures some { IfSome result (λ query. IsQueryWord (hull_name hull ++ text.now) query) }
+    ensures none { IfNone result ((query : SeenQuery) → IsQueryWord (hull_name hull ++ text.now) query → ⊥) }
 {
-    let x = millionths(first)?;
-    let y = millionths(second)?;
-    let z = millionths(third)?;
-    Some(Query::At { x, y, z })
+    let (x, y, z) = place(text)?;
+    Some(Query::Hull { hull, x, y, z })
 }
 
 /// The query `row=` with what stands behind it.
@@ -99,6 +103,27 @@ fn sees(text: &str) -> Option<Query>
     let from = leaf_number(first)?;
     let to = leaf_number(second)?;
     Some(Query::Sees(from, to))
+}
+
+/// The place that three numbers write, with commas between them.
+fn place(text: &str) -> Option<(i64, i64, i64)>
+    ensures some { IfSome result (λ at. ArePlaceNumbers text.now at.0 at.1 at.2) }
+    ensures none { IfNone result ((x y z : ℤ) → ArePlaceNumbers text.now x y z → ⊥) }
+{
+    let (x, behind) = number_before(text)?;
+    let (y, last) = number_before(behind)?;
+    let z = millionths(last)?;
+    Some((x, y, z))
+}
+
+/// The number before the first comma of a text, and what stands behind it.
+fn number_before(text: &str) -> Option<(i64, &str)>
+    ensures some { IfSome result (λ found. IsNumberBefore text.now found.0 found.1.now) }
+    ensures none { IfNone result ((n : ℤ) (rest : List ℕ) → IsNumberBefore text.now n rest → ⊥) }
+{
+    let (first, rest) = at_comma(text)?;
+    let n = millionths(first)?;
+    Some((n, rest))
 }
 
 /// What stands before the first comma of a text, and behind it.

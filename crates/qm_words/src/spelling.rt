@@ -3,7 +3,7 @@
 ghost use Rattle.std.specs.Prelude.{◌≡◌, ◌∷◌, [], codes, IsTrue, ◌↔◌};
 ghost use Rattle.qm_commands.specs.FileNames.{IsFileName};
 ghost use Rattle.qm_words.specs.SeenWords.{bytes_of_words};
-ghost use Rattle.qm_words.specs.inner.CompileWord.{IsCompileWord, EachIsCompileWord, IsValued, IsValueBehind};
+ghost use Rattle.qm_words.specs.inner.CompileWord.{IsCompileWord, EachIsCompileWord, IsFlag, IsValued, IsValueBehind};
 ghost use Rattle.qm_words.specs.inner.PlainWords.{ArePlainWords};
 
 /// Whether each word behind `compile` may stand there.
@@ -37,13 +37,24 @@ fn is_compile_word(word: &str) -> bool
     if is_file_name(word) {
         return true;
     }
-    if word == "--fast" {
+    if is_flag(word) {
         return true;
     }
     if is_valued(word, "--prt") {
         return true;
     }
     is_valued(word, "--threads")
+}
+
+/// Whether a word is an option of `compile` without a value.
+fn is_flag(word: &str) -> bool
+    ensures { IsTrue result ↔ IsFlag word.now }
+{
+    match word {
+        "--fast" => true,
+        "--hulls" => true,
+        _ => false,
+    }
 }
 
 /// Whether a word can name a file: it is not empty and does not begin with a hyphen.

@@ -1,5 +1,5 @@
-use Rattle.std.specs.Prelude.{◌≡◌, ◌≢◌, ℕ, List, [], ◌∷◌, ◌++◌, codes}
-use Rattle.qm_commands.specs.CompileRequest.{ValuedOption, option_spelling}
+use Rattle.std.specs.Prelude.{◌≡◌, ◌≢◌, ℕ, List, [], ◌∷◌, ◌++◌}
+use Rattle.qm_commands.specs.CompileRequest.{FlagOption, flag_spelling, ValuedOption, option_spelling}
 use Rattle.qm_commands.specs.FileNames.{IsFileName}
 use Rattle.qm_words.specs.inner.EachWord.{Each}
 
@@ -7,8 +7,8 @@ use Rattle.qm_words.specs.inner.EachWord.{Each}
 pub data IsCompileWord (word : List ℕ) : Type 0 where
   -- the name of a file, or the value of an option
   plain : IsFileName word → IsCompileWord word
-  -- `--fast`
-  flag : word ≡ codes "--fast" → IsCompileWord word
+  -- an option without a value
+  bare : (flag : FlagOption) → word ≡ flag_spelling flag → IsCompileWord word
   -- an option whose value is the next word
   alone : (option : ValuedOption) → word ≡ option_spelling option → IsCompileWord word
   -- an option with its value
@@ -17,6 +17,11 @@ pub data IsCompileWord (word : List ℕ) : Type 0 where
 -- each word is one of these
 abbrev pub EachIsCompileWord : List (List ℕ) → Type 0
 EachIsCompileWord = Each IsCompileWord
+
+-- a word is an option without a value
+pub record IsFlag (word : List ℕ) : Type 0 where
+  pub flag : FlagOption
+  pub word_is : word ≡ flag_spelling flag
 
 -- behind an option stands nothing, or `=` and a value
 abbrev pub IsValueBehind : List ℕ → Type 0

@@ -1,7 +1,6 @@
 use Rattle.std.specs.Prelude.{◌≡◌, ◌≢◌, ℕ, ℤ, List, [], ◌∷◌, ◌++◌}
 use Rattle.qm_commands.specs.QueryWord.{AreMillionths, AreQueryWords}
 use Rattle.qm_commands.specs.declared.query.Query.{Query}
-use Rattle.qm_commands.specs.declared.query.Query.TheVariants.{Count, At, Row, Sees, Parts}
 use Rattle.qm_words.specs.declared.order.WordsFault.{WordsFault}
 use Rattle.qm_words.specs.declared.order.WordsFault.TheVariants.{Usage, Memory}
 
@@ -22,14 +21,8 @@ pub record IsCommaSplit (text first rest : List ℕ) : Type 0 where
   pub text_is : text ≡ first ++ (44 ∷ rest)
   pub clear : HasNoComma first
 
--- three texts write the coordinates of the place that is asked for
-abbrev pub IsPlaceOf : List ℕ → List ℕ → List ℕ → Query → Type 0
-IsPlaceOf first second third (At x y z) = AreMillionths first x × AreMillionths second y × AreMillionths third z
-IsPlaceOf first second third Count = ⊥
-IsPlaceOf first second third (Row n) = ⊥
-IsPlaceOf first second third (Sees n m) = ⊥
-IsPlaceOf first second third Parts = ⊥
-
--- they write no place
-abbrev pub AreNoPlace : List ℕ → List ℕ → List ℕ → Type 0
-AreNoPlace first second third = (x y z : ℤ) → AreMillionths first x → AreMillionths second y → AreMillionths third z → ⊥
+-- a number before the first comma of a text, and what stands behind it
+pub record IsNumberBefore (text : List ℕ) (n : ℤ) (rest : List ℕ) : Type 0 where
+  pub first : List ℕ
+  pub text_is : text ≡ first ++ (44 ∷ rest)
+  pub is_number : AreMillionths first n

@@ -1,6 +1,6 @@
 use Rattle.std.proofs.Common.{codes}
 use Rattle.clap.specs.Simple.{with_rule}
-use Rattle.qm_words.specs.inner.CommandLines.{names_app, value_rule}
+use Rattle.qm_words.specs.inner.CommandLines.{flag_rule, names_app, value_rule}
 use Rattle.qm_words.proofs.lines.compile_command.Goals as goal
 
 pub returns : goal.returns
@@ -8,4 +8,5 @@ returns c =
     let names = names_app (codes "compile") (codes "map") (codes "out") in
     let listed = with_rule names (value_rule (codes "prt")) in
     let shared = with_rule listed (value_rule (codes "threads")) in
-    c.with_arg.ensures shared (c.with_arg-shared.ensures listed (c.with_arg-listed.ensures names c.names_command-names.ensures))
+    let coarse = with_rule shared (flag_rule (codes "fast")) in
+    c.with_arg.ensures coarse (c.with_arg-coarse.ensures shared (c.with_arg-shared.ensures listed (c.with_arg-listed.ensures names c.names_command-names.ensures)))

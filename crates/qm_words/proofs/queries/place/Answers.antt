@@ -1,18 +1,23 @@
-use Rattle.qm_words.proofs.QueryAnswers.{no_place_rest, no_place_split, place_none, place_some}
+use Rattle.std.proofs.Common.{rules, FitsSigned, w64}
+use Rattle.std.proofs.lemmas.Int.{to_z-of_z}
+use Rattle.qm_words.proofs.QueryAnswers.{no_x, no_y, no_z, place_is}
 use Rattle.qm_words.proofs.SingleWords.{if_none}
 use Rattle.qm_words.proofs.queries.place.Goals as goal
 
-pub returns-in_err-first-clause-none : goal.returns-in_err-first-clause-none
-returns-in_err-first-clause-none c = if_none c.from_residual.result _ (no_place_split c.args.text.now c.in_err-first.ensures.none)
+pub returns-in_err-x-clause-none : goal.returns-in_err-x-clause-none
+returns-in_err-x-clause-none c = if_none c.from_residual.result _ (no_x c.args.text.now c.in_err-x.ensures.none)
 
-pub returns-in_err-second-clause-none : goal.returns-in_err-second-clause-none
-returns-in_err-second-clause-none c =
-    if_none c.from_residual-in_err-second.result _ (no_place_rest c.args.text.now c.in_ok-first.first.now c.in_ok-first.rest.now c.in_ok-first.ensures.some c.in_err-second.ensures.none)
+pub returns-in_err-y-clause-none : goal.returns-in_err-y-clause-none
+returns-in_err-y-clause-none c = if_none c.from_residual-in_err-y.result _ (no_y c.args.text.now c.in_ok-x.behind.now c.in_ok-x.x c.in_ok-x.ensures.some c.in_err-y.ensures.none)
+
+pub returns-in_err-z-clause-none : goal.returns-in_err-z-clause-none
+returns-in_err-z-clause-none c =
+    if_none c.from_residual-in_err-z.result _
+    (no_z c.args.text.now c.in_ok-x.behind.now c.in_ok-x.x c.in_ok-x.ensures.some c.in_ok-y.last.now c.in_ok-y.y c.in_ok-y.ensures.some c.in_err-z.ensures.none)
 
 pub returns-clause-some : goal.returns-clause-some
 returns-clause-some c =
-    place_some c.args.text.now c.in_ok-first.first.now c.in_ok-first.rest.now c.in_ok-second.second.now c.in_ok-second.third.now c.in_ok-first.ensures.some c.in_ok-second.ensures.some c.point.result c.point.ensures.some
-
-pub returns-clause-none : goal.returns-clause-none
-returns-clause-none c =
-    place_none c.args.text.now c.in_ok-first.first.now c.in_ok-first.rest.now c.in_ok-second.second.now c.in_ok-second.third.now c.in_ok-first.ensures.some c.in_ok-second.ensures.some c.point.result c.point.ensures.none
+    let x : FitsSigned w64 c.in_ok-x.x = search rules in
+    let y : FitsSigned w64 c.in_ok-y.y = search rules in
+    let z : FitsSigned w64 c.in_ok-z.z = search rules in
+    simp to_z-of_z (place_is c.args.text.now c.in_ok-x.behind.now c.in_ok-x.x c.in_ok-x.ensures.some c.in_ok-y.last.now c.in_ok-y.y c.in_ok-y.ensures.some c.in_ok-z.z c.in_ok-z.ensures.some)
