@@ -25,7 +25,11 @@ fn rows_of_rooms<R: AllocGlobal + Threads + Sync>(
     let Ok(map) = rooms(rt.alloc(), 8, 7) else {
         return Err(AllocError);
     };
-    let options = Options { threads, fast };
+    let options = Options {
+        threads,
+        fast,
+        hulls: false,
+    };
     match compile(rt, rt.alloc(), &map, &options, &OpenGate)? {
         Compiled::Done { file, .. } => Ok(file.rows),
         Compiled::Leak { .. } => Ok(None),
@@ -77,16 +81,40 @@ static FAST: [&[&str]; 2] = [
     &["compile", "map", "out", "--threads", "8", "--fast"],
 ];
 
-/// A world whose halves are built beside one another has the same bytes as one that is built cell by cell.
-#[test]
-fn halves_make_the_same_bytes(rt: HostRuntime) -> Result<(), Fail> {
+/// The same with both hulls.
+static HULLS: [&[&str]; 2] = [
+    &["compile", "map", "out", "--threads", "1", "--fast", "--hulls"],
+    &["compile", "map", "out", "--threads", "8", "--fast", "--hulls"],
+];
+
+/// How many bytes a world comes to, with both of these words; `None` where they are not the same with both, or the printed text
+/// is not.
+fn bytes_with_both<R: AllocGlobal + Threads + Sync>(
+    rt: &R,
+    words: &[&[&str]; 2],
+) -> Result<Option<usize>, AllocError> {
     let text = boxes_on_both_sides(rt.alloc())?;
     let mut one = Outside::new(rt.alloc(), text.as_bytes())?;
     let mut eight = Outside::new(rt.alloc(), text.as_bytes())?;
-    let mut right = one.runs(&rt, FAST[0]) == 0 && eight.runs(&rt, FAST[1]) == 0;
-    right &= one.shelf.get("out").is_some_and(|file| file.len() > 41);
+    let mut right = one.runs(rt, words[0]) == 0 && eight.runs(rt, words[1]) == 0;
     right &= one.shelf.get("out") == eight.shelf.get("out");
     right &= one.sink.bytes() == eight.sink.bytes();
+    if right {
+        Ok(one.shelf.get("out").map(|file| file.len()))
+    } else {
+        Ok(None)
+    }
+}
+
+/// A world whose halves are built beside one another has the same bytes as one that is built cell by cell, and so do its hulls.
+#[test]
+fn halves_make_the_same_bytes(rt: HostRuntime) -> Result<(), Fail> {
+    let alone = bytes_with_both(&rt, &FAST)?;
+    let with_hulls = bytes_with_both(&rt, &HULLS)?;
+    let right = match (alone, with_hulls) {
+        (Some(alone), Some(with_hulls)) => alone > 41 && with_hulls > 3 * alone,
+        _ => false,
+    };
     assert!(rt; right);
     Ok(())
 }

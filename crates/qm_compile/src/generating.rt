@@ -47,6 +47,7 @@ fn sum_up_map<R: Threads + Sync, G: Gate + Sync>(
     let options = Options {
         threads: 1,
         fast: false,
+        hulls: false,
     };
     match compile(rt, alloc, map, &options, gate)? {
         Compiled::Done { summary, .. } => summary_text(alloc, &summary),

@@ -38,9 +38,14 @@ pub fn carry_out_order<R: Threads + Sync, H: Shelf, G: Gate + Sync>(
             prt,
             threads,
             fast,
+            hulls,
         } => {
             let command = MapCommand::Compile {
-                options: Options { threads, fast },
+                options: Options {
+                    threads,
+                    fast,
+                    hulls,
+                },
                 listed: prt.is_some(),
             };
             let files = Files {

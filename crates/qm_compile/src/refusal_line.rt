@@ -26,5 +26,7 @@ fn words_of_refusal(fault: QueryFault) -> &'static str
         QueryFault::OutsideCube => "outside the cube",
         QueryFault::NoSuchLeaf => "no such leaf",
         QueryFault::NoRows => "no rows",
+        QueryFault::NoPart => "no part",
+        QueryFault::BadPart => "bad part",
     }
 }

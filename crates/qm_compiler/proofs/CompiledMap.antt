@@ -46,12 +46,14 @@ use Rattle.qm_segments.specs.Ends.{HoldLinesOfSight}
 use Rattle.qm_segments.specs.LedByPortals.{IsLedByPortals}
 use Rattle.qm_segments.proofs.EndRows.{sound_rows_hold_ends, coarse_rows_hold_ends}
 use Rattle.qm_segments.proofs.FilledRows.{filled_row_closed}
-use Rattle.qm_formats.specs.TreeFile.{IsValidFile}
+use Rattle.qm_formats.specs.TreeFile.{TreeFile, IsValidFile}
+use Rattle.qm_compiler.specs.declared.asking.Asked.{Asked}
 use Rattle.qm_compiler.specs.declared.compiled.Compiled.{Compiled}
 use Rattle.qm_compiler.specs.declared.preparing.Prepared.TheVariants.{Leak}
 use Rattle.qm_commands.specs.declared.options.Options.{Options}
 use Rattle.qm_statement.specs.declared.summary.Summary.{Summary}
 use Rattle.qm_statement.specs.Built.{IsBuilt}
+use Rattle.qm_statement.specs.CompiledForm.{HasCompiledForm}
 use Rattle.qm_statement.specs.CompiledMap.{NoneLeaks, IsLineOfSightIn, IsCompiledWithoutLeak}
 use Rattle.qm_compiler.specs.Answers.{IsCompiled}
 use Rattle.qm_statement.specs.Marked.{IsMarked}
@@ -61,7 +63,7 @@ use Rattle.qm_statement.specs.Summary.{IsVerdict, IsSummary}
 use Rattle.qm_statement.specs.TreeOfMap.{IsTreeOfMap}
 use Rattle.qm_statement.proofs.LedLines.{lines_are_led}
 use Rattle.qm_compiler.specs.inner.Counted.{IsTreeOfBrushes}
-use Rattle.qm_compiler.specs.inner.Finished.{IsCount, IsFinished}
+use Rattle.qm_compiler.specs.inner.Finished.{AreAsAsked, IsCount, IsFinished}
 use Rattle.qm_compiler.specs.inner.FlatCount.{flat_count}
 use Rattle.qm_compiler.specs.inner.NewFile.{new_file}
 use Rattle.qm_compiler.specs.inner.Prepared.{IsPrepared, marked_of}
@@ -112,18 +114,19 @@ module _ (map : MapFile) (tree : Tree) (brushes flat : ℕ) (counted : IsTreeOfB
   }
 
   -- an entity leaks
-  pub leaking_map : (entity : ℕ) (trail : List ℕ) → IsLeak tree origins entity trail → IsPrepared map (Leak (new_file tree None) entity trail)
+  pub leaking_map : (entity : ℕ) (trail : List ℕ) → IsLeak tree origins entity trail → IsPrepared map (Leak (new_file tree None []) entity trail)
   unfolding IsPrepared
   leaking_map entity trail leak =
-      let file = new_file tree None in
-      let form = new_form file tree None refl in
+      let file = new_file tree None [] in
+      let form = new_form file tree None [] refl in
       record {
         origins = origins;
         is_built = is_built;
         is_leak = leak;
         has_no_rows = refl;
+        has_no_sections = refl;
         has_form = form;
-        is_valid = valid_without_rows file form counted.well_made counted.reduced refl;
+        is_valid = valid_without_rows file form counted.well_made counted.reduced tt refl;
       }
 
   -- none does, and these leaves are to be filled
@@ -188,15 +191,24 @@ module _ (map : MapFile) (tree : Tree) (brushes flat : ℕ) (counted : IsTreeOfB
           (λ x c d has also. one_contents (λ solid. Holds solid x) (drawn_solids map) c d has also)
           contacts.touchings are.touching s sight
 
-      -- the tree with its rows can stand in a file
-      valid : (options : Options) (rows : List (List Bool)) → AreRowsAsAsked options.fast options.threads marked_world rows → IsValidFile (new_file (marked_tree row tree) (Some rows))
-      valid options rows are_rows =
-          let file = new_file (marked_tree row tree) (Some rows) in
-          valid_with_rows file (new_form file (marked_tree row tree) (Some rows) refl) (marked_well_made row tree counted.well_made) counted.reduced
-          marked_world rows refl refl (leaf_rows_over options.fast options.threads marked_world rows are_rows)
+      -- what is written: the tree with its rows and sections
+      abbrev written : Asked → TreeFile
+      written asked = new_file (marked_tree row tree) (Some asked.rows) asked.sections
 
-      done_map : (options : Options) (rows : List (List Bool)) (summary : Summary) → AreRowsAsAsked options.fast options.threads marked_world rows → IsCount sealed brushes flat marked_world rows summary → IsCompiledWithoutLeak map options (new_file (marked_tree row tree) (Some rows)) marked_world summary
-      done_map options rows summary are_rows is_count = record {
+      form : (asked : Asked) → HasCompiledForm (written asked)
+      form asked = new_form (written asked) (marked_tree row tree) (Some asked.rows) asked.sections refl
+
+      -- it can stand in a file
+      valid : (options : Options) (asked : Asked) → AreAsAsked map options marked_world asked → IsValidFile (written asked)
+      valid options asked are =
+          valid_with_rows (written asked) (form asked) (marked_well_made row tree counted.well_made) counted.reduced are.can_stand
+          marked_world asked.rows refl refl (leaf_rows_over options.fast options.threads marked_world asked.rows are.are_rows)
+
+      done_map :
+          (options : Options) (asked : Asked) (summary : Summary) →
+          AreAsAsked map options marked_world asked → IsCount sealed brushes flat marked_world asked.rows summary →
+          IsCompiledWithoutLeak map options (written asked) marked_world summary
+      done_map options asked summary are is_count = record {
         tree = tree;
         origins = origins;
         is_built = is_built;
@@ -206,19 +218,20 @@ module _ (map : MapFile) (tree : Tree) (brushes flat : ℕ) (counted : IsTreeOfB
         apart = λ origin listed takes_part k fill chain. filled_apart tree origins origin k fill listed takes_part chain;
         is_world = record { is_tree = refl; own_portals = own_portals };
         led_by_portals = led;
-        rows = rows;
+        rows = asked.rows;
         has_rows = refl;
-        are_rows = are_rows;
-        hold_sight = rows_hold options.fast options.threads rows are_rows;
-        has_form = new_form (new_file (marked_tree row tree) (Some rows)) (marked_tree row tree) (Some rows) refl;
-        is_valid = valid options rows are_rows;
-        is_summary = is_summary rows summary is_count;
+        are_rows = are.are_rows;
+        hold_sight = rows_hold options.fast options.threads asked.rows are.are_rows;
+        has_sections = are.are_sections;
+        has_form = form asked;
+        is_valid = valid options asked are;
+        is_summary = is_summary asked.rows summary is_count;
       }
 
-      becomes : (options : Options) (compiled : Compiled) → IsFinished options sealed brushes flat (marked_tree row tree) marked_world compiled → IsCompiled map options compiled
+      becomes : (options : Options) (compiled : Compiled) → IsFinished map options sealed brushes flat (marked_tree row tree) marked_world compiled → IsCompiled map options compiled
       unfolding IsCompiled
       becomes options compiled made =
-          subst (λ (c : Compiled). IsCompiled map options c) (sym made.is_done) (done_map options made.rows made.summary made.are_rows made.is_count)
+          subst (λ (c : Compiled). IsCompiled map options c) (sym made.is_done) (done_map options made.asked made.summary made.are_as_asked made.is_count)
 
       marked_map : IsPrepared map (marked_of sealed tree brushes flat contacts row)
       unfolding IsPrepared marked_of

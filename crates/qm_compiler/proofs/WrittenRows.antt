@@ -10,7 +10,7 @@ use Rattle.qm_contacts.specs.NumberedLeaves.{is_numbered, numbered_leaves}
 use Rattle.qm_contacts.specs.Portals.{Portal}
 use Rattle.qm_contacts.specs.World.{World}
 use Rattle.qm_coarse_rows.specs.LeafRow.{AreLeafRows}
-use Rattle.qm_formats.specs.TreeFile.{Section, TreeFile, IsOfVersion, AreRows, AreSections, IsValidFile}
+use Rattle.qm_formats.specs.TreeFile.{TreeFile, IsOfVersion, AreRows, AreSections, IsValidFile}
 use Rattle.qm_statement.specs.Rows.{AreRowsAsAsked}
 use Rattle.qm_statement.specs.CompiledForm.{HasCompiledForm}
 use Rattle.qm_compiler.proofs.NumberedCounts.{as_many_numbered}
@@ -34,12 +34,9 @@ pub leaf_rows_over : (fast : Bool) (workers : ℕ) (world : World) (rows : List 
 leaf_rows_over true workers world rows made = record { portal_rows = made.portal_rows; are = made.are_leaf_rows }
 leaf_rows_over false workers world rows made = record { portal_rows = made.portal_rows; are = made.are_leaf_rows }
 
-module _ (file : TreeFile) (form : HasCompiledForm file) (well : IsWellMade file.tree) (reduced : All IsReduced file.tree.planes) where
+module _ (file : TreeFile) (form : HasCompiledForm file) (well : IsWellMade file.tree) (reduced : All IsReduced file.tree.planes) (are_sections : AreSections file.sections) where
   of_version : IsOfVersion file
   of_version = inr (record { version = form.version; bound = inr form.bound })
-
-  are_sections : AreSections file.sections
-  are_sections = subst (λ (sections : List Section). AreSections sections) (sym form.no_sections) tt
 
   abbrev fits : Option (List (List Bool)) → Type 0
   fits rows = IfSome rows (AreRows (count_by is_numbered (leaves_of file.tree.shape)))

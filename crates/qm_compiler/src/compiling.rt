@@ -5,16 +5,14 @@ ghost use Rattle.qm_grammar.specs.Valid.{IsValidMap};
 ghost use Rattle.qm_compiler.specs.Answers.{IsCompiled};
 ghost use Rattle.qm_compiler.specs.inner.Finished.{IsCounted};
 
+use crate::asking::{Asked, make_asked};
 use crate::building::{Built, build_map};
 use crate::compiled::Compiled;
 use crate::counting::count;
 use crate::new_file::new_file;
 use crate::preparing::{Prepared, prepare};
-use crate::rows::rows_of;
-use qm_bits::BitRow;
 use qm_commands::Options;
 use qm_crew::Gate;
-use qm_lists::Items;
 use qm_mapfile::MapFile;
 use qm_portal::World;
 use std::alloc::{AllocError, Global};
@@ -53,26 +51,26 @@ pub fn compile<R: Threads + Sync, G: Gate + Sync>(
             built,
             world,
         } => {
-            let rows = rows_of(rt, alloc, &world, options.fast, options.threads, gate);
-            with_rows(alloc, sealed, built, world, rows)
+            let asked = make_asked(rt, alloc, map, &world, options, gate);
+            with_asked(sealed, built, world, asked)
         }
     }
 }
 
-/// A tree with rows in a file, with its world and what is counted, where there was memory for the rows.
-fn with_rows(
-    alloc: Global,
+/// A tree with rows and sections in a file, with its world and what is counted, where there was memory for what is asked for.
+fn with_asked(
     sealed: bool,
     built: Built,
     world: World,
-    rows: Result<Items<BitRow>, AllocError>,
+    asked: Result<Asked, AllocError>,
 ) -> Result<Compiled, AllocError>
-    ensures { IfOk result (λ compiled. IsCounted sealed built.brushes built.flat built.tree world rows compiled) }
+    ensures { IfOk result (λ compiled. IsCounted sealed built.brushes built.flat built.tree world asked compiled) }
 {
-    let rows = rows?;
-    let summary = count(sealed, built.brushes, built.flat, &world, rows.as_slice());
+    let asked = asked?;
+    let rows = asked.rows.as_slice();
+    let summary = count(sealed, built.brushes, built.flat, &world, rows);
     Ok(Compiled::Done {
-        file: new_file(alloc, built.tree, Some(rows)),
+        file: new_file(built.tree, Some(asked.rows), asked.sections),
         world,
         summary,
     })

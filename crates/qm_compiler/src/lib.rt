@@ -1,6 +1,7 @@
 //! Compiles a map to a tree with rows of visibility, and looks for leaks.
 #![tactic(auto)]
 
+mod asking;
 mod building;
 mod compiled;
 mod compiling;

@@ -1,6 +1,6 @@
 //! What is known of a map before rows are found.
 
-ghost use Rattle.std.specs.Prelude.{◌≡◌, IfOk, length};
+ghost use Rattle.std.specs.Prelude.{◌≡◌, [], IfOk, length};
 ghost use Rattle.qm_grammar.specs.Valid.{IsValidMap};
 ghost use Rattle.qm_partition.specs.Counting.{leaf_count};
 ghost use Rattle.qm_contacts.specs.Contacts.{AreContacts};
@@ -12,7 +12,7 @@ use crate::building::Built;
 use crate::entity_origins::origins_of;
 use crate::new_file::new_file;
 use qm_bits::BitRow;
-use qm_file::TreeFile;
+use qm_file::{Section, TreeFile};
 use qm_flood::{Flood, flood};
 use qm_lists::Items;
 use qm_mapfile::MapFile;
@@ -81,11 +81,18 @@ fn prepare_found(
             mark(alloc, false, built, contacts, unfilled)
         }
         Flood::Leak { entity, trail } => Ok(Prepared::Leak {
-            file: new_file(alloc, built.tree, None),
+            file: new_file(built.tree, None, no_sections(alloc)),
             entity,
             trail,
         }),
     }
+}
+
+/// No sections; they take no memory.
+fn no_sections(alloc: Global) -> Items<Section>
+    ensures { result ≡ [] }
+{
+    Items::from_vec(Vec::new(alloc))
 }
 
 /// The tree in which the leaves of a row are filled, with its world, if there was memory for the row.

@@ -31,9 +31,9 @@ pub record IsMarkedWith {E : Type 0} (sealed : Bool) (tree : Tree) (brushes flat
   pub found_is : found ≡ Ok row
   pub is_marked : prepared ≡ marked_of sealed tree brushes flat contacts row
 
--- whatever the options: with the rows and counts of its world, this is what the map compiles to
+-- whatever the options: with the rows and counts of its world, and with the map's sections, this is what the map compiles to
 pub record BecomesCompiled (map : MapFile) (sealed : Bool) (built : Built) (world : World) : Type 0 where
-  pub becomes : (options : Options) (compiled : Compiled) → IsFinished options sealed built.brushes built.flat built.tree world compiled → IsCompiled map options compiled
+  pub becomes : (options : Options) (compiled : Compiled) → IsFinished map options sealed built.brushes built.flat built.tree world compiled → IsCompiled map options compiled
 
 -- the leak of the map, or what becomes what it compiles to
 unfoldable pub IsPrepared : MapFile → Prepared → Type 0

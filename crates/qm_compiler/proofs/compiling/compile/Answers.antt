@@ -13,11 +13,14 @@ prepare-requires-clause-valid g c = c.requires.valid
 pub prepare-requires-clause-built : goal.prepare-requires-clause-built
 prepare-requires-clause-built g c = c.in_ok-built.ensures
 
-pub rows_of-rows-requires-clause-some : goal.rows_of-rows-requires-clause-some
-rows_of-rows-requires-clause-some g c κs within = c.requires.some
+pub make_asked-asked-requires-clause-valid : goal.make_asked-asked-requires-clause-valid
+make_asked-asked-requires-clause-valid g c κs within = c.requires.valid
 
-pub rows_of-rows-requires-clause-not_too_many : goal.rows_of-rows-requires-clause-not_too_many
-rows_of-rows-requires-clause-not_too_many g c κs within = c.requires.not_too_many
+pub make_asked-asked-requires-clause-some : goal.make_asked-asked-requires-clause-some
+make_asked-asked-requires-clause-some g c κs within = c.requires.some
+
+pub make_asked-asked-requires-clause-not_too_many : goal.make_asked-asked-requires-clause-not_too_many
+make_asked-asked-requires-clause-not_too_many g c κs within = c.requires.not_too_many
 
 pub returns-in-Leak : goal.returns-in-Leak
 unfolding IsPrepared IsCompiled
@@ -28,11 +31,11 @@ unfolding IsPrepared
 returns-in-Marked g c =
     let prepared = rw c.in-Marked.is at c.in_ok-prepared.ensures in
     let marked = c.in-Marked in
-    IfOk-weaker c.with_rows.result (IsCounted marked.sealed marked.built.brushes marked.built.flat marked.built.tree marked.world c.rows_of-rows.result) (IsCompiled c.args.map.now c.args.options.now)
+    IfOk-weaker c.with_asked.result (IsCounted marked.sealed marked.built.brushes marked.built.flat marked.built.tree marked.world c.make_asked-asked.result) (IsCompiled c.args.map.now c.args.options.now)
     (λ compiled made. prepared.becomes c.args.options.now compiled (record {
-      rows = made.rows;
-      are_rows = rw made.found_is at c.rows_of-rows.ensures;
+      asked = made.asked;
+      are_as_asked = rw made.made_is at c.make_asked-asked.ensures;
       summary = made.summary;
       is_done = made.is_done;
       is_count = made.is_count;
-    })) c.with_rows.ensures
+    })) c.with_asked.ensures

@@ -1,9 +1,11 @@
 use Rattle.std.proofs.Common.{◌≡◌, Bool, false, List, length, sym, ap, ◌∙◌, subst}
+use Rattle.std.specs.Prelude.{None}
 use Rattle.std.proofs.lemmas.List.{length-replicate}
 use Rattle.std.proofs.lemmas.Result.{IfOk-weaker}
-use Rattle.qm_formats.specs.TreeFile.{TreeFile}
+use Rattle.qm_formats.specs.TreeFile.{Section, TreeFile}
 use Rattle.qm_compiler.specs.declared.preparing.Prepared.{Prepared}
 use Rattle.qm_compiler.specs.declared.preparing.Prepared.TheVariants.{Leak}
+use Rattle.qm_compiler.specs.inner.NewFile.{new_file}
 use Rattle.qm_compiler.specs.inner.Prepared.{IsPrepared}
 use Rattle.qm_compiler.proofs.CompiledMap.{leaking_map, sealed_map, empty_map}
 use Rattle.qm_compiler.proofs.preparing.prepare_found.Goals as goal
@@ -51,5 +53,6 @@ returns-in-Leak c = λ map counted of_found.
     let built = c.args.built in
     let of_flood = rw c.in_ok-filled.was at of_found in
     let of_map = rw c.in-Leak.is at of_flood in
-    subst (λ (file : TreeFile). IsPrepared map (Leak file c.in-Leak.entity c.in-Leak.trail)) (sym c.new_file.ensures)
+    let file_is = c.new_file.ensures ∙ ap (λ (sections : List Section). new_file built.tree None sections) c.no_sections.ensures in
+    subst (λ (file : TreeFile). IsPrepared map (Leak file c.in-Leak.entity c.in-Leak.trail)) (sym file_is)
     (leaking_map map built.tree built.brushes built.flat counted of_map.origins of_map.are_origins c.in-Leak.entity c.in-Leak.trail of_map.is_flood)
