@@ -69,7 +69,7 @@ check "specs/ and proofs/ hold .antt files alone" keeps_definitions_and_proofs_a
 check "there are few must-fail edits, and docs/GATE.md says why" has_few_edits
 check "no word looks like a label" has_no_labels
 check "no path of a machine is named" has_no_paths_of_a_machine
-check "README.md has at most 900 words" has_a_short_readme
+check "README.md has at most 800 words" has_a_short_readme
 check "pages for users hold no words of the workshop" speaks_to_users
 check "docs/ARCHITECTURE.md has each crate with what it stands on" python3 .ci/check_crates.py
 check "docs/PROOF.md has the definitions in reading order" python3 .ci/reading_order.py

@@ -121,6 +121,7 @@ draws_rows_and_portals() {
 }
 
 # by the file and by its clip hull, also straight up, and where there is no hull
+# shellcheck disable=SC2016  # what is said has backquotes
 shows_a_segment() {
     python3 .ci/made_sections.py add "$folder/rooms.tree" "$folder/hulled.tree" "1:$folder/cube.tree" || return 1
     look plan hulled.tree --trace -64,0,32,32,128,32
@@ -139,6 +140,7 @@ shows_a_segment() {
 }
 
 # the rooms with the cube, and with the rooms, as their clip hulls; with what is no hull; and the hull of a compiled level
+# shellcheck disable=SC2016  # what is said has backquotes
 shows_a_clip_hull() {
     python3 .ci/made_sections.py add "$folder/rooms.tree" "$folder/hulled.tree" "1:$folder/cube.tree" "2:$folder/rooms.tree" || return 1
     look plan hulled.tree --z 32 --hull 1

@@ -93,10 +93,14 @@ def around(hull, bound=4096):
 
 
 def damaged_hulls():
-    """Files in which the bytes of a small clip hull are cut off, changed, left out and doubled, one at a time."""
+    """Files in which the bytes of a small clip hull are cut off, changed, left out and doubled, one at a time; and in which it is
+    written in another form."""
     planes, nodes = [(1, 0, 0, 0), (0, 0, 1, 32)], [(0, -1, 1), (1, -2, -3)]
-    hull = tree_file(planes, nodes, [(-1, 0), (-2, 0), (-1, 0)], None, 2, 4096)
+    parts = planes, nodes, [(-1, 0), (-2, 0), (-1, 0)]
+    hull = tree_file(*parts, None, 2, 4096)
     yield around(hull)
+    for form in (None, 1), (None, 2, 32768), ([{0}, {1}], 2, 4096), (None, 2, 4096, [(7, b"")]):
+        yield around(tree_file(*parts, *form))
     for at in range(len(hull)):
         yield around(hull[:at])
         yield around(hull[:at] + hull[at + 1:])
