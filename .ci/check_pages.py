@@ -6,13 +6,14 @@
 The page needs no other file; what it holds, read back from its text, is the tree, its rows, and the surfaces with each corner
 rounded to a float. A page with a listing and a map, whose entities it holds, is that of the courtyard. It is opened without a window
 where there is a browser, Chromium or Chrome: at three places the colours of wall, water and sky stand where they should, keys
-change what the page counts to what is counted here of the tree and its rows, walls stop one who walks by its clip hull, what the row of a frozen place leaves out is grey where
+change what the page counts to what is counted here of the tree and its rows, walls stop one who walks by its clip hull, what one looks at is told, what the row of a frozen place leaves out is grey where
 what it holds leaves room, the class of an entity is told under the pointer, and without WebGL a line says so."""
 
 from array import array
 from base64 import b64decode
 from fractions import Fraction
 import json
+from math import hypot
 from pathlib import Path
 import re
 import shutil
@@ -243,6 +244,46 @@ def faults_of_pointer(browser, entities):
             yield f"{aside} beside {entity['told']} {told!r} is told under the pointer"
 
 
+def faults_of_aim(browser, tree):
+    """What is wrong with what is told below the crosshair: each change of contents straight ahead, as far as something solid."""
+    # also from under water, from beyond the walls, and out of the world
+    looks = [(PLACE, AIM), *((PLACE, target) for target in TARGETS.values()), ((200, -50, 20), (200, -50, 90)), (OUTSIDE, DOWN), (OUTSIDE, (40, -420, 900))]
+    script = f"""setTimeout(() => document.body.append(Object.assign(document.createElement("pre"), {{ id: "looks", textContent: JSON.stringify(
+        {json.dumps(looks)}.map(([place, aim]) => {{ state.eye = place; lookTo(aim); return toldAim(); }})) }})), 500);"""
+    text = browser.run(f"from={spelled(PLACE)}&to={spelled(AIM)}&keys=X", ["--dump-dom"], script)
+    told = json.loads(re.search(r'<pre id="looks">(.*?)</pre>', text).group(1))
+    for (place, aim), found in zip(looks, told, strict=True):
+        ends = re.findall(r"^leaf (\d+), (\w+)(?:, number \d+)?, ([\d.]+) away$", found, re.M)
+        wanted = changes(tree, place, aim)
+        if [(int(leaf), kind) for leaf, kind, _ in ends] != [(leaf, kind) for leaf, kind, _ in wanted] or any(
+                abs(float(far) - exact) > 0.06 for (*_, far), (*_, exact) in zip(ends, wanted)):
+            yield f"from {place} to {aim} the page tells {found!r}, and there are {wanted}"
+        if not wanted and found != "nothing, as far as the wall of the world":
+            yield f"from {place} to {aim} there is nothing, and the page tells {found!r}"
+    shown, hidden = (re.search(r'<pre id="aimed"( hidden="")?[^>]*>(.*?)</pre>', page, re.S).groups() for page in (
+        text, browser.run(f"from={spelled(PLACE)}&to={spelled(AIM)}", ["--dump-dom"])))
+    if shown != (None, told[0]) or hidden != (' hidden=""', ""):
+        yield f"below the crosshair stands {shown}, and without the key {hidden}"
+
+
+def changes(tree, place, aim):
+    """The leaves with which other contents begin from one place on towards another one, as far as something solid or the wall of the
+    world: each with its kind, and how far away it is."""
+    way = [b - a for a, b in zip(place, aim)]
+    part = min(Fraction(tree.bound - a if b > 0 else -tree.bound - a, b) for a, b in zip(place, way) if b)
+    end = [a + part * b for a, b in zip(place, way)]
+    last, low, found = tree.leaves[tree.leaf_at(place)].contents, 0, []
+    for leaf, to in tree.spans(place, end):
+        what = tree.leaves[leaf]
+        if what.contents != last:
+            last = what.contents
+            found.append((leaf, "filled" if what.filled else what.contents, float(low * part) * hypot(*way)))
+            if last == "solid":
+                break
+        low = to
+    return found
+
+
 def faults_of_walls(browser, tree):
     """What is wrong with how walls stop one who walks. Along an axis one comes as near to them as the clip hull and a gap allow;
     aslant one slides along the first wall as far as the next one; and without the key, and without the hull, nothing stops."""
@@ -345,7 +386,7 @@ def main():
         found += opened(page, lambda browser: (
             *faults_of_pixels(browser, tree, seen), *faults_of_grey(browser, tree, seen),
             *faults_of_keys(browser, tree, seen, portals, entities), *faults_of_pointer(browser, entities),
-            *faults_of_walls(browser, tree)))
+            *faults_of_walls(browser, tree), *faults_of_aim(browser, tree)))
     sys.exit("\n".join(found) or 0)
 
 

@@ -6,7 +6,7 @@
 Of each tree, at some heights: the pieces of a slice fill the cube once, and each point of the slice lies in the piece of the
 leaf to which the tree leads it. The picture is XML, has each piece that it shows with the fill of its leaf, and no two of
 its texts overlap. Of a row just the leaves that it holds are drawn, and of a clip hull, which is the tree
-itself with every other leaf solid, just what is solid. Of entities just those are marked from which the way straight up
+itself with every other leaf solid, just what is solid. Of a segment each part has the fill of the leaf to which its points lead, and ends where it says. Of entities just those are marked from which the way straight up
 or down to the slice meets nothing solid, as the leaves between the planes along it are."""
 
 from fractions import Fraction
@@ -21,11 +21,14 @@ from xml.etree import ElementTree
 sys.path.insert(0, str(Path(__file__).resolve().parent.parent / "tools"))
 
 from origins import Mark
+import patterns
 import plan
 import slices
 import treefile
 
 SVG = "{http://www.w3.org/2000/svg}"
+# the fill of each kind of leaf
+FILLS = {kind: fill for kind, (fill, *_) in patterns.KINDS.items()}
 # how many entities are marked by chance in a slice
 MARKS = 40
 
@@ -60,7 +63,7 @@ def boxes(root):
         for text in parent.findall(f"{SVG}text"):
             x, y, size = (float(text.get(name, 0)) for name in ("x", "y", "font-size"))
             wide = 0.56 * size * len(text.text)
-            left = x - wide / 2 if text.get("class") == "label" else x
+            left = x - wide / 2 if text.get("class") in ("label", "place") else x
             left, y = left + float(shift[0]), y + float(shift[1])
             yield left, left + wide, y - 0.75 * size, y + 0.05 * size
 
@@ -109,6 +112,32 @@ def faults_of_hull(picture, rng):
         yield "the hull stands not once in the legend"
 
 
+def faults_of_trace(tree, height, found, rng):
+    """What is wrong with what is drawn of a segment between two points by chance, the first at the height of the slice."""
+    picture = plan.Picture(tree, height, found, plan.View(slices.extent(tree, found)))
+    view = picture.view
+    first, second = (tuple(low + (high - low) * Fraction(rng.randrange(1, 97), 97) for low, high in (
+        (view.west, view.east), (view.south, view.north))) + (height + rng.choice((0, 0, tall)),) for tall in (0, rng.randrange(-90, 90)))
+    picture.trace(tree, first, second)
+    text = plan.drawn(picture, "a <map>")
+    begin = Fraction(0)
+    for fill, *ends, leaf, kind, at, of in re.findall(
+            r'<line class="span" stroke="(\S+)" x1="(\S+)" y1="(\S+)" x2="(\S+)" y2="(\S+)"><title>leaf (\d+), (\w+), to (\d+)/(\d+)<', text):
+        end, own = Fraction(int(at), int(of)), tree.leaves[int(leaf)]
+        points = [tuple(a + part * (b - a) for a, b in zip(first, second)) for part in (begin, (begin + end) / 2, end)]
+        wanted = [*view.at(points[0]), *view.at(points[2])]
+        if not begin < end or any(abs(float(a) - b) > 0.06 for a, b in zip(ends, wanted)):
+            yield f"a part of {first} to {second} that ends at {end} is drawn at {ends}, and not at {wanted}"
+        if tree.leaf_at(points[1]) != int(leaf) or kind != ("filled" if own.filled else own.contents) or fill != FILLS[kind]:
+            yield f"in the middle of the part of {first} to {second} up to {end} is not leaf {leaf}, {kind} and {fill}"
+        if text.count(f">{at}/{of}<") > 2 or end < 1 and f"<title>{at}/{of}</title>" not in text:
+            yield f"the change at {end} is not told once"
+        begin = end
+    if begin != 1:
+        yield f"the segment is drawn as far as {begin}"
+    yield from faults_of_picture(tree, text)
+
+
 def faults_of_row(tree, picture, number):
     """What is wrong with what is drawn of a row: it has just the outlines of the leaves that it holds."""
     picture.hold(number)
@@ -150,7 +179,8 @@ def faults(tree, rng):
         found = slices.pieces(tree, height)
         picture = plan.Picture(tree, height, found, plan.View(slices.extent(tree, found)))
         for fault in (*faults_of_slice(tree, height, found, rng), *faults_of_picture(tree, plan.drawn(picture, "a <map>")),
-                      *faults_of_marks(tree, height, found, rng), *faults_of_hull(picture, rng)):
+                      *faults_of_marks(tree, height, found, rng), *faults_of_hull(picture, rng),
+                      *faults_of_trace(tree, height, found, rng)):
             yield f"at height {height}: {fault}"
     everyone = [leaf.number for leaf in tree.leaves if leaf.number is not None]
     rows = [sum(1 << n for n in {own, everyone[-1 - own]}).to_bytes((len(everyone) + 7) // 8, "little") for own in everyone]

@@ -307,6 +307,9 @@ END
     run_program inspect hulled.tree hull=1,-208,-128,24 hull=1,-240,-60,24 hull=1,-272,-128,24
     [[ $status == 0 ]] && page_shows EDITORS.md "inspect courtyard.tree hull=1,-208,-128,24 hull=1,-240,-60,24 hull=1,-272,-128,24" |
         cmp - "$folder/printed" || return 1
+    run_program inspect courtyard.tree trace=-208,96,112,-208,-128,46 trace=-208,-128,46,208,-128,46
+    [[ $status == 0 ]] && page_shows EDITORS.md "inspect courtyard.tree trace=-208,96,112,-208,-128,46 trace=-208,-128,46,208,-128,46" |
+        cmp - "$folder/printed" || return 1
     run_program inspect courtyard.tree count parts at=0,0,300 sees=54,54 at=208,-60,24 at=64.000001,-.5,+24. row=22
     ended 0 'planes 65 nodes 140 leaves 141 numbered 55 rows yes\nversion 2 bound '"$extent"' parts\nleaf 15 solid filled\nyes\nleaf 46 water number 22\nleaf 54 empty number 27\nrow 22: 20 21 22 23\n' || return 1
     cmp "$folder/courtyard.kept" "$folder/courtyard.tree"

@@ -58,6 +58,8 @@ draws_what_the_pages_show() {
     looked && cmp "$folder/printed" docs/courtyard.svg || return 1
     look plan rooms8.tree --z 32 --row 23
     looked && cmp "$folder/printed" docs/rooms8.svg || return 1
+    look plan courtyard.tree --trace -208,-128,46,400,150,60 --map courtyard.map
+    looked && cmp "$folder/printed" docs/courtyard_trace.svg || return 1
     look plan courtyard_leak.tree --leak "$(<"$folder/courtyard_leak.trail")"
     looked && cmp "$folder/printed" docs/courtyard_leak.svg || return 1
     look plan courtyard_leak.tree --leak "trail: $(<"$folder/courtyard_leak.trail")" --z 76
@@ -116,6 +118,25 @@ draws_rows_and_portals() {
     # without --z the row's own leaf is met
     look plan seen.tree --row 3
     looked && grep -q 'z = 32' "$folder/printed" && [[ $(grep -c 'class="own"' "$folder/printed") == 2 ]]
+}
+
+# by the file and by its clip hull, also straight up, and where there is no hull
+# shellcheck disable=SC2016  # what is said has backquotes
+shows_a_segment() {
+    python3 .ci/made_sections.py add "$folder/rooms.tree" "$folder/hulled.tree" "1:$folder/cube.tree" || return 1
+    look plan hulled.tree --trace -64,0,32,32,128,32
+    looked && grep -q 'slice at z = 32,' "$folder/printed" && [[ $(grep -c '<text class="place"' "$folder/printed") == 2 ]] || return 1
+    [[ $(grep -o ', [a-z]*, to [0-9/]*<' "$folder/printed") == $', empty, to 1/2<\n, solid, to 2/3<\n, empty, to 1/1<' ]] || return 1
+    look plan hulled.tree --trace=-64,32,32,32,32,32 --hull 1
+    looked && [[ $(grep -o ', [a-z]*, to [0-9/]*<' "$folder/printed") == $', empty, to 2/3<\n, solid, to 1/1<' ]] || return 1
+    look plan hulled.tree --trace 32,32,32,32,32,96 --hull 1 --z 40
+    looked && [[ $(grep -o ', [a-z]*, to [0-9/]*<' "$folder/printed") == $', solid, to 1/2<\n, empty, to 1/1<' ]] || return 1
+    look plan hulled.tree --trace 1,2,3,1,2,3
+    looked && [[ $(grep -c '<line class="span"' "$folder/printed") == 1 ]] || return 1
+    look plan rooms.tree --trace 1,2,3,4,5,6 --hull 1
+    refused 'rooms.tree has no clip hull 1: `qmapc compile --hulls` writes it, but not of a level that leaks' || return 1
+    look plan small.tree --trace 1,2,3,4,-5000,6
+    refused "4,-5000,6 is outside the cube of small.tree, which ends at 4096"
 }
 
 # the rooms with the cube, and with the rooms, as their clip hulls; with what is no hull; and the hull of a compiled level
@@ -223,6 +244,7 @@ shows_both_versions_and_both_worlds() {
 says_how_the_tools_are_used() {
     local words
     for words in '' 'plan' 'points hole.tree' 'faces' 'faces hole.map more' 'json' 'draw hole.tree' 'plan hole.tree --z 32768' 'plan hole.tree --z 1/0' \
+        'plan hole.tree --trace 1,2,3' 'plan hole.tree --trace=1,2,3,4,5,6,7' 'plan hole.tree --trace 1,2,3,4,5,x' \
         'plan hole.tree --row -1' 'plan hole.tree --hull' 'plan hole.tree --hull 3' 'plan hole.tree --hull=0' 'plan hole.tree --row=x' 'points hole.tree --leak=8,6' 'points hole.tree --leak=' \
         'plan hole.tree --lea=8' 'json hole.tree more' 'world' 'world hole.map more' 'world hole.map --out'; do
         # shellcheck disable=SC2086  # the words of a command
@@ -554,6 +576,7 @@ check "tools: a clip hull is drawn, and refused where there is none" shows_a_cli
 check "tools: point files go through the leaves of their trails alone" makes_point_files
 check "tools: a tree as JSON has all of its file" prints_a_tree_as_json
 check "tools: both versions of a tree file are shown, and a larger world" shows_both_versions_and_both_worlds
+check "tools: a segment is drawn with its spans" shows_a_segment
 check "tools: words that are no command get the usage line, and status 2" says_how_the_tools_are_used
 check "tools: a file that is no tree file is refused, and status 1" says_what_is_no_tree_file
 check "tools: a trail, a leaf or a row that a tree does not have is refused" says_what_a_tree_does_not_have

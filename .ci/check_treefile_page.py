@@ -1,6 +1,6 @@
 #!/usr/bin/env python3
 """Takes the pieces of C from docs/TREEFILE.md, compiles them as one program, and compares what it prints with what
-`tools/treefile.py` reads: the leaves of points, rows, sections and clip hulls. And the bytes that the page shows are those of a world without
+`tools/treefile.py` reads: the leaves of points, rows, sections, clip hulls and what is met on segments. And the bytes that the page shows are those of a world without
 brushes.
 
     .ci/check_treefile_page.py FOLDER TREE..
@@ -21,7 +21,7 @@ from made_trees import CODES, cube, long_tree, random_tree, tree_file, written
 import treefile
 
 PAGE = Path("docs/TREEFILE.md")
-PIECES = 5
+PIECES = 6
 POINTS = 25
 # sections behind those of clip hulls
 SECTIONS = [(7, b""), (2 ** 32 - 1, bytes(300))]
@@ -70,6 +70,16 @@ def wanted(tree, point):
     return text + "".join(f"hull {kind} {'solid' if tree.hull(kind).is_solid_at(point) else 'empty'}\n" for kind in hulls)
 
 
+def struck(tree, first, second):
+    """At which part of a segment something solid is met, or 1."""
+    low = 0
+    for leaf, to in tree.spans(first, second):
+        if tree.leaves[leaf].contents == "solid":
+            return low
+        low = to
+    return low
+
+
 def place(rng, reach):
     """A point whose coordinates are quarters or sixteenths, or whole, so far from 0."""
     parts = [rng.choice((1, 4, 16)) for _ in range(3)]
@@ -79,11 +89,15 @@ def place(rng, reach):
 def fault(program, folder, tree, points):
     """The first point of which the program says something else, or None."""
     (folder / "look.tree").write_bytes(written(tree))
-    for point in points:
-        words = [str(float(number)) for number in point]
-        done = subprocess.run([program, "look.tree", *words], cwd=folder, capture_output=True, text=True, check=True)
-        if done.stdout != wanted(tree, point):
-            return f"of {words} it prints {done.stdout!r}, and should print {wanted(tree, point)!r}"
+    for point, end in zip(points, points[1:] + points[:1]):
+        words = [str(float(number)) for number in (*point, *end)]
+        alone, both = (subprocess.run([program, "look.tree", *words[:many]], cwd=folder, capture_output=True, text=True, check=True)
+                       for many in (3, 6))
+        if alone.stdout != wanted(tree, point):
+            return f"of {words[:3]} it prints {alone.stdout!r}, and should print {wanted(tree, point)!r}"
+        met, due = re.fullmatch(re.escape(alone.stdout) + r"solid at ([\d.]+)\n", both.stdout), struck(tree, point, end)
+        if not met or abs(float(met.group(1)) - due) > 1e-8:
+            return f"of {words} it prints {both.stdout!r}, and something solid is met at {float(due)}"
     return None
 
 

@@ -4,7 +4,7 @@
     .ci/compare_answers.py PROGRAM TREE..
 
 Of each tree, and of some that are made here, 1,000 queries are asked in one call: places of whole numbers and of decimals, many
-of them on planes of nodes, in the tree and in its clip hulls, rows, and whether one leaf sees another. Then short lists of queries, of
+of them on planes of nodes, in the tree and in its clip hulls, segments through these, rows, and whether one leaf sees another. Then short lists of queries, of
 which some are refused.
 """
 
@@ -20,6 +20,10 @@ sys.path.insert(0, str(Path(__file__).resolve().parent.parent / "tools"))
 import made_sections
 import made_trees
 import treefile
+
+
+# how far from 0 the distance of a plane may be whose tree is asked for segments
+MOST_DISTANCE = 3 << 41
 
 
 class Refused(Exception):
@@ -69,13 +73,28 @@ def hull_query(draw, tree, hulls):
     return f"hull={kind}," + place(draw, hull.planes, tree.bound)
 
 
+def trace_query(draw, tree, hulls):
+    """A query for a segment through the tree or a clip hull: often along an axis or a plane, and at times one point."""
+    kind = draw.choice([None, None, *hulls])
+    walked = hulls[kind] if isinstance(hulls.get(kind), treefile.Tree) else tree
+    first, second = (place(draw, walked.planes, tree.bound).split(",") for _ in range(2))
+    same = draw.choice([(), (), (2,), (0, 1), (1, 2), (0, 1, 2)])
+    second = [first[axis] if axis in same else second[axis] for axis in range(3)]
+    if draw.randrange(8) == 0:
+        # between the farthest corners
+        first, second = ([draw.choice(("-", "")) + f"{tree.bound - 1}.999999" for _ in range(3)] for _ in range(2))
+    return ("trace=" if kind is None else f"hulltrace={kind},") + ",".join(first + second)
+
+
 def query(draw, tree, hulls, below):
     """A query of some sort, with numbers of leaves below another."""
     kind = draw.randrange(20)
     if kind == 0:
         return draw.choice(["count", "parts"])
-    if kind < 6:
+    if kind < 4:
         return hull_query(draw, tree, hulls)
+    if kind < 8:
+        return trace_query(draw, tree, hulls)
     if kind < 12 or not below:
         return "at=" + place(draw, tree.planes, tree.bound)
     return f"row={draw.randrange(below)}" if kind == 12 else f"sees={draw.randrange(below)},{draw.randrange(below)}"
@@ -95,6 +114,10 @@ def answer(tree, hulls, word):
         return answer_at(tree, point(tree, values))
     if verb == "hull":
         return answer_hull(hulls[int(values[0])], point(tree, values[1:]))
+    if verb == "trace":
+        return answer_trace(tree, *ends(tree, values))
+    if verb == "hulltrace":
+        return answer_trace(hulls[int(values[0])], *ends(tree, values[1:]))
     numbers = list(map(int, values))
     if max(numbers) >= numbered(tree):
         raise Refused("no such leaf")
@@ -119,6 +142,24 @@ def answer_hull(hull, place):
     if not isinstance(hull, treefile.Tree):
         raise Refused(hull)
     return "hull solid" if hull.is_solid_at(place) else "hull empty"
+
+
+def ends(tree, values):
+    """Both ends of a segment."""
+    return point(tree, values[:3]), point(tree, values[3:])
+
+
+def answer_trace(walked, first, second):
+    """The lines of a segment through a tree or a clip hull."""
+    if not isinstance(walked, treefile.Tree):
+        raise Refused(walked)
+    if any(abs(walked.planes[node.plane].d) > MOST_DISTANCE for node in walked.nodes):
+        raise Refused("plane too wide")
+    lines = []
+    for leaf, to in walked.spans(first, second):
+        contents, filled, _ = walked.leaves[leaf]
+        lines.append(f"leaf {leaf} {contents}{' filled' if filled else ''} to {to.numerator}/{to.denominator}")
+    return "\n".join(lines)
 
 
 def answer_at(tree, place):
@@ -151,9 +192,22 @@ def lists(tree, hulls):
         # that a place is outside goes before that there is no hull, or a bad one
         yield [f"hull={kind},{tree.bound},0,0"]
         yield [f"hull={kind},0,0,0", f"hull={kind},0,-{tree.bound},0"]
+        yield [f"hulltrace={kind},0,0,0,0,{tree.bound},0"]
+    yield [f"trace={tree.bound},0,0,0,0,0"]
     yield [f"row={numbered(tree)}", f"at={tree.bound},0,0"]
     yield [f"at=0,0,{-tree.bound}", f"row={numbered(tree)}"]
     yield ["parts", f"at=0,{tree.bound - 1}.999999,0", "at=4096,0,0", "at=0,-32768,0"]
+
+
+def near_tree(draw, count):
+    """A tree of slanted planes that all meet the cube."""
+    while True:
+        tree = treefile.decode(made_trees.random_tree(draw, count, False, 2, treefile.BOUNDS[-1]))
+        tree = tree._replace(planes=[plane._replace(d=plane.d >> 4) for plane in tree.planes])
+        try:
+            return treefile.decode(made_trees.written(tree))
+        except treefile.Fault:
+            pass
 
 
 def made(folder):
@@ -165,6 +219,10 @@ have what a clip hull has not: rows, sections, another version or bound, or some
              "long": made_trees.long_tree(700), "first": made_trees.random_tree(draw, 40, True, 1),
              "large": made_trees.random_tree(draw, 40, True, 2, treefile.BOUNDS[-1]),
              "parts": made_trees.random_tree(draw, 40, True, 2, treefile.BOUNDS[0], [(1, b"a"), (9, b""), (2 ** 32 - 1, bytes(300))])}
+    # slanted planes that all meet the cube, in the tree and in its hulls
+    near = [near_tree(draw, count) for count in (90, 60, 30)]
+    trees["near"] = made_trees.written(near[0]._replace(sections=[
+        treefile.Section(kind, made_trees.written(hull)) for kind, hull in enumerate(near[1:], 1)]))
     for number, hulls in enumerate(made_sections.hulls(draw)):
         trees[f"hulls{number}"] = made_trees.random_tree(draw, 40, True, 2, treefile.BOUNDS[-1], hulls)
     for name, data in trees.items():

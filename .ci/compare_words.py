@@ -39,7 +39,11 @@ QUERIES = ["count", "COUNT", "count=", "count ", "Count", "cou", "parts", "PARTS
            "sees=,0", "sees=0,1", "sees=0,1,2", "sees=0 1", "see=0,1", "hull", "hull=", "hull=1", "hull=1,2,3", "hull=1,2,3,4",
            "hull=2,-1.5,+3,.5", "hull=0,2,3,4", "hull=3,2,3,4", "hull=12,2,3,4", "hull=01,2,3,4", "hull=+1,2,3,4", "hull=1.,2,3,4",
            "hull=,2,3,4", "hull= 1,2,3,4", "hull=1 ,2,3,4", "hull=1,2,3,4,5", "hull=1,2,3,", "hull=\u0661,2,3,4", "hull==1,2,3,4",
-           "HULL=1,2,3,4", "hulls=1,2,3,4", "hull1,2,3,4", "help", "--help", "-count", "-", "--", "\u00e9", "at=1,2,\u00b3", "\udcff"]
+           "HULL=1,2,3,4", "hulls=1,2,3,4", "hull1,2,3,4", "trace", "trace=", "trace=1,2,3",
+           "trace=1,2,3,4,5", "trace=1,2,3,4,5,6", "trace=-1.5,+2,.5,3.,0,-0", "trace=1,2,3,4,5,6,7", "trace=1,2,3,4,5,", "trace=1,2,3;4,5,6",
+           "TRACE=1,2,3,4,5,6", "traces=1,2,3,4,5,6", "hulltrace", "hulltrace=1", "hulltrace=1,2,3,4,5,6", "hulltrace=1,2,3,4,5,6,7",
+           "hulltrace=2,1,2,3,4,5,6", "hulltrace=3,1,2,3,4,5,6", "hulltrace=02,1,2,3,4,5,6", "hulltrace=,1,2,3,4,5,6", "hulltrace=1,1,2,3,4,5,6,7",
+           "hull=1,1,2,3,4,5,6", "help", "--help", "-count", "-", "--", "\u00e9", "at=1,2,\u00b3", "\udcff"]
 
 
 def bytes_of(word):
@@ -75,6 +79,10 @@ def is_query(word):
         return len(values) == 3 and all(map(is_place, values))
     if verb == "hull":
         return values[0] in ("1", "2") and len(values) == 4 and all(map(is_place, values[1:]))
+    if verb == "trace":
+        return len(values) == 6 and all(map(is_place, values))
+    if verb == "hulltrace":
+        return values[0] in ("1", "2") and len(values) == 7 and all(map(is_place, values[1:]))
     if verb not in ("row", "sees"):
         return word in ("count", "parts")
     return len(values) == (1 if verb == "row" else 2) and all(is_number(value, 0, 10 ** 18 - 1) for value in values)
@@ -134,6 +142,7 @@ def single_words():
         for places in itertools.permutations([word, "0", "-1.5"]):
             yield ["inspect", "a", "at=" + ",".join(places)]
             yield ["inspect", "a", "hull=2," + ",".join(places)]
+            yield ["inspect", "a", "trace=" + ",".join([*places, *places[::-1]])]
     for word in QUERIES:
         yield ["inspect", "a", word]
         yield ["inspect", "count", word, "count"]
@@ -150,7 +159,7 @@ def long_lists(count):
         draw.shuffle(parts)
         words = ["compile", *itertools.chain(*parts)]
         if draw.random() < 0.2:
-            words = ["inspect", "a", *draw.choices(["count", "parts", "at=1,2,3", "hull=1,2,3,4", "row=0", "sees=0,1"], k=draw.randint(3, 7))]
+            words = ["inspect", "a", *draw.choices(["count", "parts", "at=1,2,3", "hull=1,2,3,4", "trace=1,2,3,4,5,6", "row=0", "sees=0,1"], k=draw.randint(3, 7))]
         at = draw.randrange(len(words))
         change = draw.randrange(5)
         if change == 1:

@@ -41,7 +41,7 @@ def printed(brushes, box):
 
 def bytes_of(name):
     """The bytes of a tree without rows."""
-    return written(treefile.load(name)._replace(rows=None))
+    return written(treefile.load(name)._replace(rows=None, sections=[]))
 
 
 def model(entity, name):

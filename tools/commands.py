@@ -41,6 +41,7 @@ def plan_of(words):
     line = leak_line(Cells(tree), words.leak) if words.leak else None
     marks = None if words.map is None else marks_of(words.map)
     hull = None if words.hull is None else hull_of(words.name, tree, words.hull)
+    ends = [inside(words, tree, end) for end in words.trace or ()]
     z = height_of(words, tree, line, own, marks) if words.z is None else inside(words, tree, (words.z,))[0]
     found = slices.pieces(tree, z)
     drawn = plan.Picture(tree, z, found, plan.View(slices.extent(tree, found)))
@@ -54,15 +55,19 @@ def plan_of(words):
         drawn.mark(marks)
     if line:
         drawn.follow(line)
+    if ends:
+        drawn.trace(tree if hull is None else hull, *ends)
     return [plan.drawn(drawn, plain_name(words.name))]
 
 
 def height_of(words, tree, line, own, marks):
     """The height of a slice where none is asked for: that at which a leak line comes into its last leaf, which touches the
-    outside; else that of the middle of the row's own leaf; else that of the eyes at the start of a map, or of the start itself
-    where a clip hull is shown; else one at which there is much to see."""
+    outside; else that at which a segment begins; else that of the middle of the row's own leaf; else that of the eyes at the start of
+    a map, or of the start itself where a clip hull is shown; else one at which there is much to see."""
     if line and len(line) > 2:
         return line[-3][2]
+    if words.trace:
+        return words.trace[0][2]
     if own is not None:
         return Cells(tree).middle(own)[2]
     if marks is None:

@@ -39,6 +39,12 @@ def box(text, x, y, size):
     return [(x + a * half_wide, y + b * half_high) for a, b in ((-1, -1), (1, -1), (1, 1), (-1, 1))]
 
 
+def overlap(one, other):
+    """Whether two boxes have points in common."""
+    spans = [[(min(numbers), max(numbers)) for numbers in zip(*corners)] for corners in (one, other)]
+    return all(low < top and bottom < high for (low, high), (bottom, top) in zip(*spans))
+
+
 def mean(corners):
     """The mean of the corners."""
     return sum(x for x, _ in corners) / len(corners), sum(y for _, y in corners) / len(corners)

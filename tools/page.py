@@ -22,7 +22,7 @@ from corners import rounded
 from patterns import FILLED, kind as fill_of
 
 FOLDER = Path(__file__).resolve().parent / "web"
-SCRIPTS = ["level.js", "walking.js", "colliding.js", "drawing.js", "marks.js", "entities.js", "plan.js", "main.js"]
+SCRIPTS = ["level.js", "walking.js", "colliding.js", "drawing.js", "marks.js", "aiming.js", "entities.js", "plan.js", "main.js"]
 FILLS = ["empty", "solid", "water", "slime", "lava", "sky", FILLED]
 KINDS = list(colours.KINDS)
 # how far ahead of a place the point is to which one looks

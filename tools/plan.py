@@ -1,14 +1,15 @@
-"""The picture of a slice through a tree: its pieces, what a row holds, a clip hull, portals, and the trail of a leak, as SVG."""
+"""The picture of a slice through a tree: its pieces, what a row holds, a clip hull, portals, the trail of a leak, and the spans of a
+segment, as SVG."""
 
 from fractions import Fraction
-from math import cos, radians, sin
+from math import cos, hypot, radians, sin
 from xml.sax.saxutils import escape
 
 import labels
 from origins import LIGHT, OTHER, START
 import patterns
 from points import decimal
-from polygons import crossing, in_front
+from polygons import between, crossing, in_front
 from slices import is_shown, pieces
 
 # in units of the picture: the longer side of what is shown and the least width of what is written; the rim around it; a
@@ -25,6 +26,13 @@ text { font-family: sans-serif; fill: #111111 }
 .trail { stroke: #c00018; stroke-width: 3; fill: none; stroke-linejoin: round }
 .stop { stroke: #c00018; stroke-width: 2; fill: #ffffff }
 .start { stroke: #ffffff; stroke-width: 2; fill: #c00018 }
+</style>
+"""
+TRACE_STYLE = """<style>
+.rim { stroke: #111111; stroke-width: 7; stroke-linecap: round }
+.span { stroke-width: 4 }
+.change { stroke: #111111; stroke-width: 1.5; fill: #ffd028 }
+.place { text-anchor: middle; paint-order: stroke; stroke: #ffffff; stroke-width: 3px }
 </style>
 """
 # how entities are marked, from those that are drawn first: the colour, that of the rim, and the corners of the mark, which is turned
@@ -74,7 +82,7 @@ class Picture:
         self.kinds = [name for name in patterns.KINDS if name in kinds]
         self.named = {patterns.HELD: "held by the row"}
         self.label_by_number = False
-        self.lines = []
+        self.lines, self.boxes = [], []
 
     def hold(self, number):
         """Draws the leaves that a row holds, and the row's own leaf; labels are now the numbers of rows."""
@@ -120,6 +128,37 @@ class Picture:
         self.legend.append(('<path class="trail" d="M2,-5H26"/><circle class="stop" cx="14" cy="-5" r="4"/>',
                             "leak line, with its contacts"))
 
+    def trace(self, walked, first, second):
+        """Draws a segment with its spans through a tree or a clip hull, from a dot on, and with each change its place as a fraction of
+        the segment."""
+        spans = walked.spans(first, second)
+        points = [self.view.at(between(first, second, part)) for part in (0, *(span.to for span in spans))]
+        ends = list(zip(points, points[1:]))
+        self.lines += ends
+        lines = [f'x1="{x:.1f}" y1="{y:.1f}" x2="{u:.1f}" y2="{v:.1f}"' for (x, y), (u, v) in ends]
+        self.overlay += [TRACE_STYLE, *(f'<line class="rim" {line}/>\n' for line in lines)]
+        for span, line in zip(spans, lines):
+            kind = patterns.kind(walked.leaves[span.leaf])
+            title = f"leaf {span.leaf}, {kind}, to {written(span.to)}"
+            self.overlay.append(f'<line class="span" stroke="{patterns.KINDS[kind][0]}" {line}><title>{title}</title></line>\n')
+        for span, (_, point) in zip(spans[:-1], ends):
+            self.change(written(span.to), point, (points[-1][0] - points[0][0], points[-1][1] - points[0][1]))
+        self.overlay.append('<circle cx="{:.1f}" cy="{:.1f}" r="6"/>\n'.format(*points[0]))
+        self.legend.append(('<path class="rim" d="M4,-5H24"/><path class="span" stroke="#ffffff" d="M4,-5H24"/>'
+                            '<circle class="change" cx="14" cy="-5" r="4"/>', "segment, by contents, with its changes"))
+
+    def change(self, text, point, way):
+        """Draws where a segment that leads some way comes into another leaf, and writes its place aside, where no other one stands."""
+        (x, y), long = point, hypot(*way) or 1
+        self.overlay.append(f'<circle class="change" cx="{x:.1f}" cy="{y:.1f}" r="4"><title>{text}</title></circle>\n')
+        for side in (1, -1):
+            middle = x + side * way[1] / long * (9 + 4 * len(text)), y - side * way[0] / long * 16
+            box = labels.box(text, *middle, labels.SIZES[1])
+            if not any(labels.overlap(box, other) for other in self.boxes):
+                self.boxes.append(box)
+                self.overlay.append(f'<text class="place" x="{middle[0]:.1f}" y="{middle[1] + 4.3:.1f}" font-size="12">{text}</text>\n')
+                return
+
     def mark(self, marks):
         """Draws the entities that belong to what the slice shows. A browser shows the class of each under the pointer."""
         shown = [mark for mark in marks if self.view.holds(mark.place) and is_shown(self.tree, self.height, mark.place)]
@@ -131,6 +170,11 @@ class Picture:
                 self.overlay.append(drawn_mark(kind, mark.angle or 0, x, y, f"<title>{escape(mark.told())}</title>"))
             if these:
                 self.legend.append((drawn_mark(kind, 0, 14, -5, ""), kind))
+
+
+def written(place):
+    """A place on a segment, as the compiler prints it."""
+    return f"{place.numerator}/{place.denominator}"
 
 
 def counted(tree, number):
@@ -172,7 +216,7 @@ def drawn_labels(picture):
         number = picture.tree.leaves[leaf].number
         text = str(number if picture.label_by_number else leaf)
         placed = labels.place(text, corners, picture.lines) if number is not None else None
-        if placed:
+        if placed and not any(labels.overlap(labels.box(text, *placed), box) for box in picture.boxes):
             x, y, size = placed
             yield f'<text class="label" x="{x:.1f}" y="{y + 0.36 * size:.1f}" font-size="{size}">{text}</text>\n'
 

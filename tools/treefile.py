@@ -5,11 +5,13 @@
     leaf = tree.leaf_at((0, 0, 24))
     print(leaf, tree.leaves[leaf].contents)
     print(tree.hull(1).is_solid_at((0, 0, 24)))
+    print(tree.spans((0, 0, 24), (0, 0, 200)))
 
 docs/TREEFILE.md describes the file, of which both versions are read. This module needs nothing but the standard library, and
 may be copied. It refuses what is no tree file by the first fault in the order of the file, with the place of its byte.
 """
 
+from fractions import Fraction
 from math import gcd
 from os.path import getsize
 from struct import calcsize, iter_unpack, unpack
@@ -69,6 +71,12 @@ class Section(NamedTuple):
     data: bytes
 
 
+class Span(NamedTuple):
+    """A part of a segment: the leaf in which it lies, and the part of the whole segment, above 0 and at most 1, at which it ends."""
+    leaf: int
+    to: Fraction
+
+
 class Tree(NamedTuple):
     """A whole file. The world is the cube in which each coordinate lies between -`bound` and `bound`. `rows` has the bytes of a
     row for each numbered leaf, or is None where the file has no rows."""
@@ -91,6 +99,26 @@ class Tree(NamedTuple):
             plane, front, back = self.nodes[child]
             child = front if value(self.planes[plane], point) >= 0 else back
         return -1 - child
+
+    def spans(self, first, second):
+        """The spans of the segment from one point to another, whose coordinates are whole numbers or fractions. Between two of their
+        ends each point leads to the leaf there; so what lies on a plane is in front of it, also where the whole segment does."""
+        found, waiting = [], [(self.root(), Fraction(0), Fraction(1))]
+        while waiting:
+            child, low, high = waiting.pop()
+            if child < 0:
+                found.append(Span(-1 - child, high))
+                continue
+            plane, front, back = self.nodes[child]
+            here, there = (value(self.planes[plane], point) for point in (first, second))
+            at_low, at_high = (here + part * (there - here) for part in (low, high))
+            if at_low >= 0 and at_high >= 0 or at_low <= 0 and at_high <= 0:
+                waiting.append((front if at_low >= 0 and at_high >= 0 else back, low, high))
+            else:
+                cut = Fraction(here) / (here - there)
+                near, far = (front, back) if at_low > 0 else (back, front)
+                waiting += [(far, cut, high), (near, low, cut)]
+        return found
 
     def is_solid_at(self, point):
         """Whether the leaf to which a point leads is solid."""

@@ -6,7 +6,7 @@ import re
 from treefile import BOUNDS, HULLS
 
 # the options behind which a place may stand
-PLACED = ("--at", "--from", "--to", "--row")
+PLACED = ("--at", "--from", "--to", "--row", "--trace")
 
 
 def words_of(parser, words):
@@ -20,6 +20,8 @@ def words_of(parser, words):
     plan_words.add_argument("--row", metavar="N", type=number, help="shows the leaves that row N holds")
     plan_words.add_argument("--prt", metavar="FILE", help="shows the portals of a listing")
     plan_words.add_argument("--hull", metavar="H", type=number, choices=sorted(HULLS), help="shows what is solid in clip hull 1 or 2")
+    plan_words.add_argument("--trace", metavar="X,Y,Z,U,V,W", type=segment, help="shows the leaves along the segment from one point to "
+                            "another, or with --hull those of that hull")
     points_words = command(commands, "points", "the line of a leak, as a point file for editors")
     points_words.add_argument("--leak", metavar="TRAIL", type=trail, required=True, help="the same")
     view_words = command(commands, "view", "a page in which one walks through the level, for a browser")
@@ -75,6 +77,12 @@ def place(words):
     if len(numbers) != 3:
         raise ValueError
     return numbers
+
+
+def segment(words):
+    """Six numbers parted by commas: two points."""
+    numbers = words.split(",")
+    return place(",".join(numbers[:3])), place(",".join(numbers[3:]))
 
 
 def joined(words):

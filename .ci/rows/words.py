@@ -88,6 +88,15 @@ inspect map hull=1,2,3,0.0000001
 inspect map hull=1
 inspect map --hulls
 inspect map count --hulls
+inspect map trace=1,2,3
+inspect map trace=1,2,3,4,5
+inspect map trace=1,2,3,4,5,6,7
+inspect map trace=1,2,3,4,5,0.0000001
+inspect map trace=1,2,3,4,5,6 trace=1
+inspect map hulltrace=1,2,3,4,5,6
+inspect map hulltrace=3,0,0,0,1,1,1
+inspect map hulltrace=01,0,0,0,1,1,1
+inspect map hulltrace=1,0,0,0,1,1,1,1
 inspect map row=1000000000000000000
 inspect map count row=01
 inspect map sees=0

@@ -1,6 +1,7 @@
 // Begins, and draws again where something changed.
 
 const view = document.getElementById("view"), over = document.getElementById("over"), told = document.getElementById("told");
+const aimed = document.getElementById("aimed");
 let before = null;
 
 function fit(canvas, scale) {
@@ -16,6 +17,7 @@ function show() {
     if (state.numbers) drawNumbers(pen, matrix, over);
     if (state.marks) drawNames(pen, matrix, over);
     drawPlan(pen, over);
+    drawAim(pen, over, aimed);
     document.getElementById("help").hidden = !state.help;
     told.textContent = tell();
 }

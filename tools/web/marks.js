@@ -25,12 +25,13 @@ function drawNumbers(pen, matrix, over) {
     }
 }
 
+function nameOf(leaf) { return `leaf ${leaf}, ${NAMES[leaves[leaf]]}` + (isSolid(leaf) ? "" : `, number ${numbers[leaf]}`); }
+
 function tell() {
     const write = point => point.map(number => +number.toFixed(1)).join(",");
-    const name = leaf => `leaf ${leaf}, ${NAMES[leaves[leaf]]}` + (isSolid(leaf) ? "" : `, number ${numbers[leaf]}`);
     const from = leafAt(state.frozen || state.eye), lines = [LEVEL.name];
-    lines.push(`from ${write(state.eye)} to ${write(moved(state.eye, ahead(), 64))}`, name(leafAt(state.eye)));
-    if (state.frozen) lines.push(`frozen at ${write(state.frozen)}: ${name(from)}`);
+    lines.push(`from ${write(state.eye)} to ${write(moved(state.eye, ahead(), 64))}`, nameOf(leafAt(state.eye)));
+    if (state.frozen) lines.push(`frozen at ${write(state.frozen)}: ${nameOf(from)}`);
     const sees = () => `sees ${row(from).length} of ${numbered.length} leaves`;
     lines.push(!rows ? "has no row, since the tree has none" : isSolid(from) ? "has no row, since the leaf is solid" : sees());
     lines.push(`drawn: ${drawn.leaves} leaves, ${drawn.triangles} triangles` + (drawn.limited ? ", by the row" : ""));

@@ -1,8 +1,9 @@
 use Rattle.std.specs.Prelude.{◌≡◌, ◌<◌, ◌^◌, ◌⊎◌, ℕ, zero, suc, ℤ, List, [], ◌∷◌, ◌++◌, codes}
 use Rattle.std.specs.Fmt.{decimal}
 use Rattle.qm_numerals.specs.Answer.{IsValue}
+use Rattle.qm_commands.specs.declared.millionths.Millionths.{Millionths}
 use Rattle.qm_commands.specs.declared.query.Query.{Query}
-use Rattle.qm_commands.specs.declared.query.Query.TheVariants.{Count, At, Hull, Row, Sees, Parts}
+use Rattle.qm_commands.specs.declared.query.Query.TheVariants.{Count, At, Hull, Trace, HullTrace, Row, Sees, Parts}
 
 -- How a query is written.
 
@@ -35,6 +36,25 @@ abbrev pub hull_name : ℕ → List ℕ
 hull_name (suc zero) = codes "hull=1,"
 hull_name _ = codes "hull=2,"
 
+-- the ends of a segment: `X,Y,Z,U,V,W`
+pub record AreEndNumbers (text : List ℕ) (from to : Millionths) : Type 0 where
+  pub from_text : List ℕ
+  pub to_text : List ℕ
+  pub text_is : text ≡ from_text ++ (44 ∷ to_text)
+  pub is_from : ArePlaceNumbers from_text from.x from.y from.z
+  pub is_to : ArePlaceNumbers to_text to.x to.y to.z
+
+-- two ends behind the name of what is asked along their segment
+pub record IsTraceWord (name word : List ℕ) (from to : Millionths) : Type 0 where
+  pub numbers : List ℕ
+  pub word_is : word ≡ name ++ numbers
+  pub are_ends : AreEndNumbers numbers from to
+
+-- `hulltrace=H,`
+abbrev pub hull_trace_name : ℕ → List ℕ
+hull_trace_name (suc zero) = codes "hulltrace=1,"
+hull_trace_name _ = codes "hulltrace=2,"
+
 -- a number of a leaf as it may be asked for has at most 18 digits
 abbrev pub IsShort : ℕ → Type 0
 IsShort n = n < 10 ^ 18
@@ -44,6 +64,8 @@ abbrev pub IsQueryWord : List ℕ → Query → Type 0
 IsQueryWord word Count = word ≡ codes "count"
 IsQueryWord word (At x y z) = IsPlaceWord (codes "at=") word x y z
 IsQueryWord word (Hull hull x y z) = IsHullNumber hull × IsPlaceWord (hull_name hull) word x y z
+IsQueryWord word (Trace from to) = IsTraceWord (codes "trace=") word from to
+IsQueryWord word (HullTrace hull from to) = IsHullNumber hull × IsTraceWord (hull_trace_name hull) word from to
 IsQueryWord word (Row n) = (word ≡ codes "row=" ++ decimal n) × IsShort n
 IsQueryWord word (Sees n m) = (word ≡ codes "sees=" ++ (decimal n ++ (44 ∷ decimal m))) × IsShort n × IsShort m
 IsQueryWord word Parts = word ≡ codes "parts"

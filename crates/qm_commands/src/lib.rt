@@ -3,9 +3,11 @@
 #![tactic(auto)]
 
 mod map_command;
+mod millionths;
 mod options;
 mod query;
 
 pub use map_command::MapCommand;
+pub use millionths::Millionths;
 pub use options::Options;
 pub use query::Query;

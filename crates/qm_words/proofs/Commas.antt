@@ -8,7 +8,7 @@ use Rattle.std.proofs.lemmas.Bool.Decides.{Decides-eqb}
 use Rattle.std.proofs.lemmas.Fmt.{decimal_is_IsNumeral}
 use Rattle.qm_numerals.specs.Number.{Number, Sign, SpellsNumber, IsTail, missing, plus, minus, sign_text}
 use Rattle.qm_commands.specs.FileNames.{IsFileName}
-use Rattle.qm_words.specs.inner.QueriesRead.{HasNoComma, IsCommaSplit}
+use Rattle.qm_words.specs.inner.PlacesRead.{HasNoComma, IsCommaSplit}
 
 abbrev is_comma : ℕ → Bool
 is_comma byte = byte == 44

@@ -9,6 +9,7 @@ pub mod InspectLaws
 pub mod SingleWords
 pub mod CompileAnswers
 pub mod Commas
+pub mod PlaceLaws
 pub mod QueryLaws
 pub mod PairAnswers
 pub mod InspectAnswers

@@ -4,8 +4,9 @@ use Rattle.std.specs.Fmt.{decimal}
 use Rattle.std.proofs.lemmas.Fmt.{decimal_injective}
 use Rattle.qm_commands.specs.declared.options.Options.{Options}
 use Rattle.qm_commands.specs.declared.map_command.MapCommand.TheVariants.{Compile, Format}
+use Rattle.qm_commands.specs.declared.millionths.Millionths.{Millionths}
 use Rattle.qm_commands.specs.declared.query.Query.{Query}
-use Rattle.qm_commands.specs.declared.query.Query.TheVariants.{Count, At, Hull, Row, Sees, Parts}
+use Rattle.qm_commands.specs.declared.query.Query.TheVariants.{Count, At, Hull, Trace, HullTrace, Row, Sees, Parts}
 use Rattle.qm_commands.specs.CompileRequest.{Request, Asks, no_request}
 use Rattle.qm_commands.specs.CompileWords.{AreCompileWords}
 use Rattle.qm_commands.specs.DemoWords.{AreDemoWords}
@@ -13,13 +14,14 @@ use Rattle.qm_commands.specs.FileNames.{FileNames}
 use Rattle.qm_commands.specs.FormatWords.{AreFormatWords}
 use Rattle.qm_commands.specs.InspectWords.{AreInspectWords}
 use Rattle.qm_commands.specs.Options.{AreThreads}
-use Rattle.qm_commands.specs.QueryWord.{ArePlaceNumbers, AreQueryWords, IsHullNumber, IsQueryWord, IsShort, hull_name, no_more, one_more}
+use Rattle.qm_commands.specs.QueryWord.{AreEndNumbers, ArePlaceNumbers, AreQueryWords, IsHullNumber, IsQueryWord, IsShort, hull_name, hull_trace_name, no_more, one_more}
 use Rattle.qm_commands.specs.Order.{Order, of_map, of_tree, of_rooms, of_upgrade}
 use Rattle.qm_commands.specs.UpgradeWords.{AreUpgradeWords}
 use Rattle.qm_commands.specs.Words.{AreWordsOf}
 use Rattle.qm_words.proofs.Commas.{clear_decimal, splits_once}
 use Rattle.qm_words.proofs.CompileWhole.{asked_once}
-use Rattle.qm_words.proofs.QueryLaws.{apart, hull_head, no_hull_word, place_once, same_hull}
+use Rattle.qm_words.proofs.PlaceLaws.{ends_once, place_once}
+use Rattle.qm_words.proofs.QueryLaws.{apart, hull_head, hull_trace_head, no_hull_trace_word, no_hull_word, no_trace_of_hull, same_hull, same_hull_trace}
 use Rattle.qm_words.proofs.SingleWords.{verbs_apart}
 
 two_same : (a b c d : List ℕ) → a ∷ b ∷ [] ≡ c ∷ d ∷ [] → (a ≡ c) × (b ≡ d)
@@ -82,6 +84,8 @@ count_only : (query : Query) → IsQueryWord (codes "count") query → query ≡
 count_only Count is = refl
 count_only (At x y z) is = absurd (apart 99 97 _ _ refl is.word_is)
 count_only (Hull hull x y z) is = absurd (no_hull_word 99 _ hull x y z refl is.1)
+count_only (Trace from to) is = absurd (apart 99 116 _ _ refl is.word_is)
+count_only (HullTrace hull from to) is = absurd (no_hull_trace_word 99 _ hull from to refl is.1)
 count_only (Row n) is = absurd (apart 99 114 _ _ refl is.0)
 count_only (Sees n m) is = absurd (apart 99 115 _ _ refl is.0)
 count_only Parts is = absurd (apart 99 112 _ _ refl is)
@@ -90,6 +94,8 @@ parts_only : (query : Query) → IsQueryWord (codes "parts") query → query ≡
 parts_only Count is = absurd (apart 112 99 _ _ refl is)
 parts_only (At x y z) is = absurd (apart 112 97 _ _ refl is.word_is)
 parts_only (Hull hull x y z) is = absurd (no_hull_word 112 _ hull x y z refl is.1)
+parts_only (Trace from to) is = absurd (apart 112 116 _ _ refl is.word_is)
+parts_only (HullTrace hull from to) is = absurd (no_hull_trace_word 112 _ hull from to refl is.1)
 parts_only (Row n) is = absurd (apart 112 114 _ _ refl is.0)
 parts_only (Sees n m) is = absurd (apart 112 115 _ _ refl is.0)
 parts_only Parts is = refl
@@ -100,6 +106,8 @@ place_only text x y z place (At a b c) is =
     let same = place_once text a b c x y z (subst (λ (t : List ℕ). ArePlaceNumbers t a b c) (sym (ap (drop 3) is.word_is)) is.are_numbers) place in
     λ i. At (same.0 i) (same.1 i) (same.2 i)
 place_only text x y z place (Hull hull a b c) is = absurd (no_hull_word 97 _ hull a b c refl is.1)
+place_only text x y z place (Trace from to) is = absurd (apart 97 116 _ _ refl is.word_is)
+place_only text x y z place (HullTrace hull from to) is = absurd (no_hull_trace_word 97 _ hull from to refl is.1)
 place_only text x y z place (Row n) is = absurd (apart 97 114 _ _ refl is.0)
 place_only text x y z place (Sees n m) is = absurd (apart 97 115 _ _ refl is.0)
 place_only text x y z place Parts is = absurd (apart 97 112 _ _ refl is)
@@ -111,14 +119,44 @@ hull_only hull text x y z number place (Hull other a b c) is =
     let hulls = same_hull hull other number is.0 text is.1.numbers is.1.word_is in
     let same = place_once text a b c x y z (subst (λ (t : List ℕ). ArePlaceNumbers t a b c) (sym hulls.1) is.1.are_numbers) place in
     λ i. Hull (sym hulls.0 i) (same.0 i) (same.1 i) (same.2 i)
+hull_only hull text x y z number place (Trace from to) is = absurd (apart 104 116 _ _ refl (sym (hull_head hull text) ∙ is.word_is))
+hull_only hull text x y z number place (HullTrace other from to) is = absurd (no_trace_of_hull hull other text is.1.numbers is.1.word_is)
 hull_only hull text x y z number place (Row n) is = absurd (apart 104 114 _ _ refl (sym (hull_head hull text) ∙ is.0))
 hull_only hull text x y z number place (Sees n m) is = absurd (apart 104 115 _ _ refl (sym (hull_head hull text) ∙ is.0))
 hull_only hull text x y z number place Parts is = absurd (apart 104 112 _ _ refl (sym (hull_head hull text) ∙ is))
+
+trace_only : (text : List ℕ) (from to : Millionths) → AreEndNumbers text from to → (query : Query) → IsQueryWord (codes "trace=" ++ text) query → query ≡ Trace from to
+trace_only text from to ends Count is = absurd (apart 116 99 _ _ refl is)
+trace_only text from to ends (At x y z) is = absurd (apart 116 97 _ _ refl is.word_is)
+trace_only text from to ends (Hull hull x y z) is = absurd (no_hull_word 116 _ hull x y z refl is.1)
+trace_only text from to ends (Trace other last) is =
+    let same = ends_once text other last from to (subst (λ (t : List ℕ). AreEndNumbers t other last) (sym (ap (drop 6) is.word_is)) is.are_ends) ends in
+    ap₂ (λ (f t : Millionths). Trace f t) same.0 same.1
+trace_only text from to ends (HullTrace hull other last) is = absurd (no_hull_trace_word 116 _ hull other last refl is.1)
+trace_only text from to ends (Row n) is = absurd (apart 116 114 _ _ refl is.0)
+trace_only text from to ends (Sees n m) is = absurd (apart 116 115 _ _ refl is.0)
+trace_only text from to ends Parts is = absurd (apart 116 112 _ _ refl is)
+
+hull_trace_only : (hull : ℕ) (text : List ℕ) (from to : Millionths) → IsHullNumber hull → AreEndNumbers text from to → (query : Query) → IsQueryWord (hull_trace_name hull ++ text) query
+    → query ≡ HullTrace hull from to
+hull_trace_only hull text from to number ends Count is = absurd (apart 104 99 _ _ refl (sym (hull_trace_head hull text) ∙ is))
+hull_trace_only hull text from to number ends (At x y z) is = absurd (apart 104 97 _ _ refl (sym (hull_trace_head hull text) ∙ is.word_is))
+hull_trace_only hull text from to number ends (Hull other x y z) is = absurd (no_trace_of_hull other hull is.1.numbers text (sym is.1.word_is))
+hull_trace_only hull text from to number ends (Trace other last) is = absurd (apart 104 116 _ _ refl (sym (hull_trace_head hull text) ∙ is.word_is))
+hull_trace_only hull text from to number ends (HullTrace number_asked other last) is =
+    let hulls = same_hull_trace hull number_asked number is.0 text is.1.numbers is.1.word_is in
+    let same = ends_once text other last from to (subst (λ (t : List ℕ). AreEndNumbers t other last) (sym hulls.1) is.1.are_ends) ends in
+    λ i. HullTrace (sym hulls.0 i) (same.0 i) (same.1 i)
+hull_trace_only hull text from to number ends (Row n) is = absurd (apart 104 114 _ _ refl (sym (hull_trace_head hull text) ∙ is.0))
+hull_trace_only hull text from to number ends (Sees n m) is = absurd (apart 104 115 _ _ refl (sym (hull_trace_head hull text) ∙ is.0))
+hull_trace_only hull text from to number ends Parts is = absurd (apart 104 112 _ _ refl (sym (hull_trace_head hull text) ∙ is))
 
 row_only : (n : ℕ) → IsShort n → (query : Query) → IsQueryWord (codes "row=" ++ decimal n) query → query ≡ Row n
 row_only n short Count is = absurd (apart 114 99 _ _ refl is)
 row_only n short (At x y z) is = absurd (apart 114 97 _ _ refl is.word_is)
 row_only n short (Hull hull x y z) is = absurd (no_hull_word 114 _ hull x y z refl is.1)
+row_only n short (Trace from to) is = absurd (apart 114 116 _ _ refl is.word_is)
+row_only n short (HullTrace hull from to) is = absurd (no_hull_trace_word 114 _ hull from to refl is.1)
 row_only n short (Row m) is =
     let same : decimal m ≡ decimal n = let whole = is.0 in cc in
     ap (λ (k : ℕ). Row k) (short_same m n is.1 short same)
@@ -129,6 +167,8 @@ sees_only : (n m : ℕ) → IsShort n → IsShort m → (query : Query) → IsQu
 sees_only n m short_n short_m Count is = absurd (apart 115 99 _ _ refl is)
 sees_only n m short_n short_m (At x y z) is = absurd (apart 115 97 _ _ refl is.word_is)
 sees_only n m short_n short_m (Hull hull x y z) is = absurd (no_hull_word 115 _ hull x y z refl is.1)
+sees_only n m short_n short_m (Trace from to) is = absurd (apart 115 116 _ _ refl is.word_is)
+sees_only n m short_n short_m (HullTrace hull from to) is = absurd (no_hull_trace_word 115 _ hull from to refl is.1)
 sees_only n m short_n short_m (Row k) is = absurd (apart 115 114 _ _ refl is.0)
 sees_only n m short_n short_m (Sees a b) is =
     let same : decimal a ++ (44 ∷ decimal b) ≡ decimal n ++ (44 ∷ decimal m) = let whole = is.0 in cc in
@@ -141,6 +181,8 @@ query_once : (word : List ℕ) (query other : Query) → IsQueryWord word query 
 query_once word Count other is also = count_only other (subst (λ (w : List ℕ). IsQueryWord w other) is also)
 query_once word (At x y z) other is also = place_only is.numbers x y z is.are_numbers other (subst (λ (w : List ℕ). IsQueryWord w other) is.word_is also)
 query_once word (Hull hull x y z) other is also = hull_only hull is.1.numbers x y z is.0 is.1.are_numbers other (subst (λ (w : List ℕ). IsQueryWord w other) is.1.word_is also)
+query_once word (Trace from to) other is also = trace_only is.numbers from to is.are_ends other (subst (λ (w : List ℕ). IsQueryWord w other) is.word_is also)
+query_once word (HullTrace hull from to) other is also = hull_trace_only hull is.1.numbers from to is.0 is.1.are_ends other (subst (λ (w : List ℕ). IsQueryWord w other) is.1.word_is also)
 query_once word (Row n) other is also = row_only n is.1 other (subst (λ (w : List ℕ). IsQueryWord w other) is.0 also)
 query_once word (Sees n m) other is also = sees_only n m is.1 is.2 other (subst (λ (w : List ℕ). IsQueryWord w other) is.0 also)
 query_once word Parts other is also = parts_only other (subst (λ (w : List ℕ). IsQueryWord w other) is also)

@@ -4,13 +4,14 @@ use Rattle.std.specs.Prelude.{IfSome, IfNone, MatchOption}
 use Rattle.std.specs.List.{position_or_len, before_first, after_first}
 use Rattle.std.specs.Fmt.{decimal}
 use Rattle.std.proofs.lemmas.List.{take_more}
-use Rattle.qm_commands.specs.QueryWord.{AreMillionths, ArePlaceNumbers, AreQueryWords, IsHullNumber, IsQueryWord, IsShort, hull_name}
+use Rattle.qm_commands.specs.QueryWord.{AreEndNumbers, ArePlaceNumbers, AreQueryWords, IsHullNumber, IsQueryWord, IsShort, hull_name, hull_trace_name}
+use Rattle.qm_commands.specs.declared.millionths.Millionths.{Millionths}
 use Rattle.qm_commands.specs.declared.query.Query.{Query}
-use Rattle.qm_commands.specs.declared.query.Query.TheVariants.{At, Hull, Row, Sees}
+use Rattle.qm_commands.specs.declared.query.Query.TheVariants.{At, Hull, Trace, HullTrace, Row, Sees}
 use Rattle.qm_words.specs.SeenWords.{bytes_of_words}
-use Rattle.qm_words.specs.inner.QueriesRead.{IsCommaSplit, IsNumberBefore}
+use Rattle.qm_words.specs.inner.PlacesRead.{IsCommaSplit}
 use Rattle.qm_words.proofs.Commas.{no_split, split_found, splits_once}
-use Rattle.qm_words.proofs.QueryLaws.{has_query, number_splits, one_behind, one_number_before, only_hull, only_place, only_row, only_sees, place_parts}
+use Rattle.qm_words.proofs.QueryLaws.{has_query, one_behind, only_hull, only_hull_trace, only_place, only_row, only_sees, only_trace}
 
 -- ---- the first comma
 
@@ -26,50 +27,7 @@ pub comma_none : (text : List ℕ) (r : Option (Bor (List ℕ) × Bor (List ℕ)
 comma_none text None h = λ first rest split. no_split text first rest h split
 comma_none text (Some parts) h = tt
 
--- ---- numbers before commas
-
--- no comma, or none before which a number stands
-pub no_number_split : (text : List ℕ) → ((first rest : List ℕ) → IsCommaSplit text first rest → ⊥) → (n : ℤ) (rest : List ℕ) → IsNumberBefore text n rest → ⊥
-no_number_split text never n rest is = never is.first rest (number_splits text n rest is)
-
-pub no_number_first : (text first rest : List ℕ) → IsCommaSplit text first rest → ((n : ℤ) → AreMillionths first n → ⊥) → (n : ℤ) (other : List ℕ) → IsNumberBefore text n other → ⊥
-no_number_first text first rest split never n other is =
-    never n (subst (λ (t : List ℕ). AreMillionths t n) (splits_once text is.first other first rest (number_splits text n other is) split).0 is.is_number)
-
-pub number_before_is : (text first rest : List ℕ) (n : ℤ) → IsCommaSplit text first rest → AreMillionths first n → IsNumberBefore text n rest
-number_before_is text first rest n split is = record { first = first; text_is = split.text_is; is_number = is }
-
 -- ---- places
-
-pub no_x : (text : List ℕ) → ((n : ℤ) (rest : List ℕ) → IsNumberBefore text n rest → ⊥) → (x y z : ℤ) → ArePlaceNumbers text x y z → ⊥
-no_x text never x y z are = let parts = place_parts text x y z are in never x parts.behind parts.is_x
-
-module _ (text behind : List ℕ) (x : ℤ) (is_x : IsNumberBefore text x behind) where
-  behind_x : (a b c : ℤ) (are : ArePlaceNumbers text a b c) → (place_parts text a b c are).behind ≡ behind
-  behind_x a b c are = let parts = place_parts text a b c are in (one_number_before text a x parts.behind behind parts.is_x is_x).1
-
-  pub no_y : ((n : ℤ) (rest : List ℕ) → IsNumberBefore behind n rest → ⊥) → (a b c : ℤ) → ArePlaceNumbers text a b c → ⊥
-  no_y never a b c are =
-      let parts = place_parts text a b c are in
-      never b parts.last (subst (λ (t : List ℕ). IsNumberBefore t b parts.last) (behind_x a b c are) parts.is_y)
-
-  module _ (last : List ℕ) (y : ℤ) (is_y : IsNumberBefore behind y last) where
-    pub no_z : ((n : ℤ) → AreMillionths last n → ⊥) → (a b c : ℤ) → ArePlaceNumbers text a b c → ⊥
-    no_z never a b c are =
-        let parts = place_parts text a b c are in
-        let at_y = subst (λ (t : List ℕ). IsNumberBefore t b parts.last) (behind_x a b c are) parts.is_y in
-        never c (subst (λ (t : List ℕ). AreMillionths t c) (one_number_before behind b y parts.last last at_y is_y).1 parts.is_z)
-
-    pub place_is : (z : ℤ) → AreMillionths last z → ArePlaceNumbers text x y z
-    place_is z is_z = record {
-      first = is_x.first;
-      second = is_y.first;
-      third = last;
-      text_is = is_x.text_is ∙ ap (λ (rest : List ℕ). is_x.first ++ (44 ∷ rest)) is_y.text_is;
-      is_x = is_x.is_number;
-      is_y = is_y.is_number;
-      is_z = is_z;
-    }
 
 pub no_at : (text : List ℕ) → ((x y z : ℤ) → ArePlaceNumbers text x y z → ⊥) → (query : Query) → IsQueryWord (codes "at=" ++ text) query → ⊥
 no_at text never query is = only_place text query ⊥ never is
@@ -82,6 +40,23 @@ no_hull hull text number never query is = only_hull hull text query ⊥ number n
 
 pub hull_is : (hull : ℕ) (text : List ℕ) (x y z : ℤ) → IsHullNumber hull → ArePlaceNumbers text x y z → IsQueryWord (hull_name hull ++ text) (Hull hull x y z)
 hull_is hull text x y z number are = (number, record { numbers = text; word_is = refl; are_numbers = are })
+
+pub no_trace : (text : List ℕ) → ((from to : Millionths) → AreEndNumbers text from to → ⊥) → (query : Query) → IsQueryWord (codes "trace=" ++ text) query → ⊥
+no_trace text never query is = only_trace text query ⊥ never is
+
+pub trace_is : (text : List ℕ) (from to : Millionths) → AreEndNumbers text from to → IsQueryWord (codes "trace=" ++ text) (Trace from to)
+trace_is text from to are = record { numbers = text; word_is = refl; are_ends = are }
+
+pub no_hull_trace : (hull : ℕ) (text : List ℕ) → IsHullNumber hull → ((from to : Millionths) → AreEndNumbers text from to → ⊥) → (query : Query) → IsQueryWord (hull_trace_name hull ++ text) query → ⊥
+no_hull_trace hull text number never query is = only_hull_trace hull text query ⊥ number never is
+
+pub hull_trace_is : (hull : ℕ) (text : List ℕ) (from to : Millionths) → IsHullNumber hull → AreEndNumbers text from to → IsQueryWord (hull_trace_name hull ++ text) (HullTrace hull from to)
+hull_trace_is hull text from to number are = (number, record { numbers = text; word_is = refl; are_ends = are })
+
+-- a word that is spelled so has no query where none is spelled so
+pub none_spelled : (word spelled : List ℕ) → word ≡ spelled → (r : Option Query) → IfNone r ((query : Query) → IsQueryWord spelled query → ⊥) → IfNone r ((query : Query) → IsQueryWord word query → ⊥)
+none_spelled word spelled same None never = λ query is. never query (subst (λ (w : List ℕ). IsQueryWord w query) same is)
+none_spelled word spelled same (Some query) never = tt
 
 -- ---- leaves
 

@@ -5,6 +5,7 @@ pub mod EachWord
 pub mod FoundWords
 pub mod Numbers
 pub mod Parsed
+pub mod PlacesRead
 pub mod PlainWords
 pub mod QueriesRead
 pub mod TreeAndQueries

@@ -8,6 +8,7 @@ mod lines;
 mod numbers;
 mod order;
 mod pairs;
+mod places;
 mod queries;
 mod spelling;
 mod words;

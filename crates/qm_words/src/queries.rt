@@ -1,14 +1,15 @@
 //! The words of queries.
 
-ghost use Rattle.std.specs.Prelude.{◌≡◌, ◌≢◌, ◌<◌, ◌^◌, ◌++◌, ◌∷◌, ℕ, ℤ, List, codes, decimal, IfOk, IfErr, IfSome, IfNone};
-ghost use Rattle.qm_commands.specs.QueryWord.{AreMillionths, ArePlaceNumbers, AreQueryWords, IsHullNumber, IsQueryWord, IsShort, hull_name};
+ghost use Rattle.std.specs.Prelude.{◌≡◌, ◌≢◌, ◌<◌, ◌^◌, ◌++◌, ◌∷◌, ℕ, codes, decimal, IfOk, IfErr, IfSome, IfNone};
+ghost use Rattle.qm_commands.specs.QueryWord.{AreQueryWords, IsHullNumber, IsQueryWord, IsShort, hull_name, hull_trace_name};
 ghost use Rattle.qm_commands.specs.declared.query.Query.{Query as SeenQuery};
 ghost use Rattle.qm_words.specs.SeenWords.{bytes_of_words};
-ghost use Rattle.qm_words.specs.inner.QueriesRead.{AreNoQueries, IsCommaSplit, IsNumberBefore};
+ghost use Rattle.qm_words.specs.inner.QueriesRead.{AreNoQueries};
 
 use crate::numbers::number;
 use crate::order::WordsFault;
-use qm_commands::Query;
+use crate::places::{at_comma, ends, place};
+use qm_commands::{Millionths, Query};
 use std::alloc::Global;
 
 /// The number of a leaf is below it, so it has at most 18 digits.
@@ -41,7 +42,7 @@ fn query(word: &str) -> Option<Query>
     }
 }
 
-/// The query of a word that begins with `at=`, `hull=`, `row=` or `sees=`.
+/// The query of a word that begins with the name of a query.
 fn query_behind(word: &str) -> Option<Query>
     requires no_count { word.now ≢ codes "count" }
     requires no_parts { word.now ≢ codes "parts" }
@@ -57,6 +58,15 @@ fn query_behind(word: &str) -> Option<Query>
     if let Some(text) = word.strip_prefix("hull=2,") {
         return hull(2, text);
     }
+    if let Some(text) = word.strip_prefix("trace=") {
+        return trace(text);
+    }
+    if let Some(text) = word.strip_prefix("hulltrace=1,") {
+        return hull_trace(1, text);
+    }
+    if let Some(text) = word.strip_prefix("hulltrace=2,") {
+        return hull_trace(2, text);
+    }
     if let Some(text) = word.strip_prefix("row=") {
         return row(text);
     }
@@ -71,7 +81,7 @@ fn at(text: &str) -> Option<Query>
     ensures some { IfSome result (λ query. IsQueryWord (codes "at=" ++ text.now) query) }
     ensures none { IfNone result ((query : SeenQuery) → IsQueryWord (codes "at=" ++ text.now) query → ⊥) }
 {
-    let (x, y, z) = place(text)?;
+    let Millionths { x, y, z } = place(text)?;
     Some(Query::At { x, y, z })
 }
 
@@ -81,8 +91,27 @@ fn hull(hull: u8, text: &str) -> Option<Query>
     ensures some { IfSome result (λ query. IsQueryWord (hull_name hull ++ text.now) query) }
     ensures none { IfNone result ((query : SeenQuery) → IsQueryWord (hull_name hull ++ text.now) query → ⊥) }
 {
-    let (x, y, z) = place(text)?;
+    let Millionths { x, y, z } = place(text)?;
     Some(Query::Hull { hull, x, y, z })
+}
+
+/// The query `trace=` with what stands behind it.
+fn trace(text: &str) -> Option<Query>
+    ensures some { IfSome result (λ query. IsQueryWord (codes "trace=" ++ text.now) query) }
+    ensures none { IfNone result ((query : SeenQuery) → IsQueryWord (codes "trace=" ++ text.now) query → ⊥) }
+{
+    let (from, to) = ends(text)?;
+    Some(Query::Trace { from, to })
+}
+
+/// The query `hulltrace=H,` with what stands behind it.
+fn hull_trace(hull: u8, text: &str) -> Option<Query>
+    requires { IsHullNumber hull }
+    ensures some { IfSome result (λ query. IsQueryWord (hull_trace_name hull ++ text.now) query) }
+    ensures none { IfNone result ((query : SeenQuery) → IsQueryWord (hull_trace_name hull ++ text.now) query → ⊥) }
+{
+    let (from, to) = ends(text)?;
+    Some(Query::HullTrace { hull, from, to })
 }
 
 /// The query `row=` with what stands behind it.
@@ -103,46 +132,6 @@ fn sees(text: &str) -> Option<Query>
     let from = leaf_number(first)?;
     let to = leaf_number(second)?;
     Some(Query::Sees(from, to))
-}
-
-/// The place that three numbers write, with commas between them.
-fn place(text: &str) -> Option<(i64, i64, i64)>
-    ensures some { IfSome result (λ at. ArePlaceNumbers text.now at.0 at.1 at.2) }
-    ensures none { IfNone result ((x y z : ℤ) → ArePlaceNumbers text.now x y z → ⊥) }
-{
-    let (x, behind) = number_before(text)?;
-    let (y, last) = number_before(behind)?;
-    let z = millionths(last)?;
-    Some((x, y, z))
-}
-
-/// The number before the first comma of a text, and what stands behind it.
-fn number_before(text: &str) -> Option<(i64, &str)>
-    ensures some { IfSome result (λ found. IsNumberBefore text.now found.0 found.1.now) }
-    ensures none { IfNone result ((n : ℤ) (rest : List ℕ) → IsNumberBefore text.now n rest → ⊥) }
-{
-    let (first, rest) = at_comma(text)?;
-    let n = millionths(first)?;
-    Some((n, rest))
-}
-
-/// What stands before the first comma of a text, and behind it.
-fn at_comma(text: &str) -> Option<(&str, &str)>
-    ensures some { IfSome result (λ parts. IsCommaSplit text.now parts.0.now parts.1.now) }
-    ensures none { IfNone result ((first rest : List ℕ) → IsCommaSplit text.now first rest → ⊥) }
-{
-    text.split_once(',')
-}
-
-/// A number with at most six decimals, in millionths.
-fn millionths(text: &str) -> Option<i64>
-    ensures some { IfSome result (λ n. AreMillionths text.now n) }
-    ensures none { IfNone result ((n : ℤ) → AreMillionths text.now n → ⊥) }
-{
-    match qm_decimal::read(text.as_bytes(), 6) {
-        Err(_) => None,
-        Ok(fraction) => Some(fraction.numerator),
-    }
 }
 
 /// The number of a leaf, with at most 18 digits.

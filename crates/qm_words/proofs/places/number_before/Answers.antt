@@ -1,6 +1,6 @@
-use Rattle.qm_words.proofs.QueryAnswers.{no_number_first, no_number_split}
+use Rattle.qm_words.proofs.PlaceLaws.{no_number_first, no_number_split}
 use Rattle.qm_words.proofs.SingleWords.{if_none}
-use Rattle.qm_words.proofs.queries.number_before.Goals as goal
+use Rattle.qm_words.proofs.places.number_before.Goals as goal
 
 pub returns-in_err-first-clause-none : goal.returns-in_err-first-clause-none
 returns-in_err-first-clause-none c = if_none c.from_residual.result _ (no_number_split c.args.text.now c.in_err-first.ensures.none)

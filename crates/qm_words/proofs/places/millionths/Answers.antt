@@ -1,7 +1,7 @@
 use Rattle.std.proofs.Common.{◌≡◌, rules, ℕ, List, sym, subst}
 use Rattle.qm_commands.specs.QueryWord.{AreMillionths}
-use Rattle.qm_words.proofs.QueryLaws.{no_millionths}
-use Rattle.qm_words.proofs.queries.millionths.Goals as goal
+use Rattle.qm_words.proofs.PlaceLaws.{no_millionths}
+use Rattle.qm_words.proofs.places.millionths.Goals as goal
 
 pub returns-in-Err-clause-none : goal.returns-in-Err-clause-none
 returns-in-Err-clause-none c =
