@@ -4,6 +4,7 @@
 mod asking;
 mod hulls;
 mod laws;
+mod names;
 mod numbered;
 mod parts;
 mod places;
@@ -12,6 +13,8 @@ mod room;
 mod row_places;
 mod rows;
 mod telling;
+mod trace_lines;
+mod traces;
 
 pub use asking::query;
 pub use laws::{same_answers, same_cube, told_once};
