@@ -6,7 +6,7 @@ use Rattle.qm_partition.specs.declared.node.Leaf.{Leaf}
 use Rattle.qm_partition.specs.Tree.{Tree}
 use Rattle.qm_partition.specs.Counting.{leaves_of}
 use Rattle.qm_spans.specs.declared.span.Span.{Span}
-use Rattle.qm_spans.specs.inner.ComputedSpans.{trace_of}
+use Rattle.qm_spans.specs.ComputedSpans.{trace_of}
 use Rattle.qm_formats.specs.TreeFile.{Section, TreeFile}
 use Rattle.qm_commands.specs.declared.millionths.Millionths.{Millionths}
 use Rattle.qm_answers.specs.declared.answer.Answer.{Answer}
