@@ -1,5 +1,5 @@
 -- Spans that are printed one after another, and when a trace can be printed.
-use Rattle.std.proofs.Common.{◌≡◌, ◌∙◌, ◌<◌, ◌+◌, ℕ, suc, List, [], ◌∷◌, ◌++◌, length, Option, Some, None, sym, ap, subst, append_assoc, append-nil, arith}
+use Rattle.std.proofs.Common.{◌≡◌, ◌∙◌, ℕ, suc, List, [], ◌∷◌, ◌++◌, Option, Some, None, sym, ap, subst, append_assoc, append-nil, arith}
 use Rattle.qm_partition.specs.Tree.{Tree}
 use Rattle.qm_spans.specs.declared.span.Span.{Span}
 use Rattle.qm_spans.specs.Spans.{AreLeavesThere, TakesFirst}

@@ -11,7 +11,6 @@ use Rattle.qm_answers.specs.declared.decoded_section.DecodedSection.{DecodedSect
 use Rattle.qm_answers.specs.declared.query_fault.QueryFault.{QueryFault}
 use Rattle.qm_answers.specs.declared.query_fault.QueryFault.TheVariants.{OutsideCube, TooWide}
 use Rattle.qm_answers.specs.Answers.{HasEndsInside, AnswersBySection, AnswersByTree, AnswersTrace, AnswersHullTrace}
-use Rattle.qm_answers.specs.DecodedSections.{decoded_hull}
 use Rattle.qm_inspect.specs.declared.parts.Parts.{Parts}
 use Rattle.qm_inspect.specs.Parts.{ArePartsOf, FitsIfKnown, hull_in, fits_in}
 use Rattle.qm_inspect.proofs.HullsOfFiles.{hull_of_file}
