@@ -1,4 +1,6 @@
 pub mod Place
 pub mod Spans
 pub mod SegmentTrace
+pub mod Partings
+pub mod ComputedSpans
 pub mod inner

@@ -1,7 +1,7 @@
 //! Where a segment crosses a plane, and on which side it goes on, by the plane's values at the two ends.
 
 ghost use Rattle.std.specs.Prelude.{◌≡◌, ◌<◌, ◌^◌, ◌&&◌, pos, int_lt, unsigned_abs};
-ghost use Rattle.qm_spans.specs.inner.Partings.{is_earlier, are_opposed, crossing_at, crosses_between, is_behind_after};
+ghost use Rattle.qm_spans.specs.Partings.{is_earlier, are_opposed, crossing_at, crosses_between, is_behind_after};
 
 use crate::parting::is_earlier;
 use qm_spans::Parting;
