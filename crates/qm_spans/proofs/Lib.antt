@@ -1,0 +1,9 @@
+pub mod PartingOrder
+pub mod PlaneEnds
+pub mod PlaneSides
+pub mod LowestPlaces
+pub mod JoinedSpans
+pub mod ComputedSpans
+pub mod OneTrace
+pub mod WalkedSpans
+pub mod TracedValues

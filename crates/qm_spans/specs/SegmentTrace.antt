@@ -1,6 +1,7 @@
-use Rattle.std.specs.Prelude.{◌≤◌, unsigned_abs, List, All}
+use Rattle.std.specs.Prelude.{ℕ, ◌≤◌, unsigned_abs, List, All}
 use Rattle.qm_space.specs.Bounds.{world_extent, cube_distance_bound}
-use Rattle.qm_space.specs.Point.{Point}
+use Rattle.qm_space.specs.Point.{Point, IsInCube}
+use Rattle.qm_space.specs.Plane.{IsOn}
 use Rattle.qm_space.specs.Book.{plane_at}
 use Rattle.qm_space.specs.InsideBound.{IsInsideBound}
 use Rattle.qm_partition.specs.Tree.{Tree}
@@ -17,6 +18,12 @@ IsSegmentTrace tree a b spans = AreSpans (leaf_at tree.planes tree.shape) a b st
 -- no plane of a node is farther than a plane can be that has a point of the closed cube
 abbrev pub FitsTraces : Tree → Type 0
 FitsTraces tree = All (λ n. unsigned_abs (plane_at tree.planes n).d ≤ cube_distance_bound) (node_planes tree.shape)
+
+-- the plane of a number has a point of the cube
+pub record MeetsCube (tree : Tree) (n : ℕ) : Type 0 where
+  pub point : Point
+  pub in_cube : IsInCube point
+  pub on : IsOn (plane_at tree.planes n) point
 
 -- an end of a segment that can be traced: inside the cube, in parts no finer than millionths
 pub record IsTraceEnd (p : Point) : Type 0 where

@@ -1,2 +1,4 @@
 pub mod Partings
 pub mod ComputedSpans
+pub mod NextChild
+pub mod NearNodes

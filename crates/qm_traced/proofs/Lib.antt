@@ -1,0 +1,3 @@
+pub mod SegmentPoints
+pub mod PointsInSolids
+pub mod SpanLaws
