@@ -1,5 +1,5 @@
-//! What holds of a run: how it ends over forms that never fail, and that it leaves what it reads. And what the spans of a segment
-//! say of a map, in the files that it compiles to.
+//! What holds of a run: how it ends over forms that never fail, and that it leaves what it reads; and what the spans of a
+//! segment say of a map, in the files that it compiles to.
 
 ghost use Rattle.std.specs.Prelude.{ℕ, List};
 ghost use Rattle.qm_mapfile.specs.declared.entity.MapFile.{MapFile};

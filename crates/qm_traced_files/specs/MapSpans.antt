@@ -24,8 +24,8 @@ pub record IsTraceInCube (tree : Tree) (a b : Point) (spans : List Span) : Type 
   pub end : IsInCube b
   pub is_trace : IsSegmentTrace tree a b spans
 
--- at a point strictly within a span, on no node plane, the map's drawn solids define the contents of the span's leaf, unless the
--- leaf is filled
+-- at a point strictly within a span, on no node plane, the map's drawn solids define the contents of the span's leaf, unless
+-- that leaf is filled
 abbrev pub SpansTellContents : MapFile → Tree → Type 0
 SpansTellContents map tree =
     (a b : Point) (spans : List Span) (x : Point) (span : Span) → IsTraceInCube tree a b spans → IsWithinSpan a b start_place spans x span →
