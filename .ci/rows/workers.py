@@ -14,7 +14,7 @@ import treefile  # noqa: E402
 # eight generated rooms
 ROOMS = TOP.joinpath("samples/rooms8.map").read_bytes()
 # a world whose halves are built in parallel where there is more than one worker
-HALVES, HALVES_COUNTS = world(*BOTH_SIDES), (41, 0, 86, 94, 95, 54, 0, 188, 1192)
+HALVES, HALVES_COUNTS, HALVES_LENGTH = world(*BOTH_SIDES), (41, 0, 86, 94, 95, 54, 0, 188, 1192), 4552
 
 
 def lies_within(row, wide):
@@ -30,8 +30,13 @@ def keeps_to(data, coarse):
 
 
 def is_same(data, other):
-    """Whether two files have the same bytes."""
-    return data == other
+    """Whether two files have the same bytes, as many as the tree alone has."""
+    return data == other and len(data) == HALVES_LENGTH
+
+
+def has_same_hulls(data, other):
+    """Whether two files have the same bytes, with hulls that are longer than the tree."""
+    return data == other and len(data) > 3 * HALVES_LENGTH
 
 
 def rows():
@@ -41,3 +46,5 @@ def rows():
     for workers in (2, 8, 64):
         yield Row(f"compile map out --threads {workers} --fast", 0, summary("no entity", *HALVES_COUNTS), {"map": HALVES},
                   {"out": Beside("one", is_same)}, ("compile map one --threads 1 --fast",))
+    yield Row("compile map out --threads 8 --fast --hulls", 0, summary("no entity", *HALVES_COUNTS), {"map": HALVES},
+              {"out": Beside("one", has_same_hulls)}, ("compile map one --threads 1 --fast --hulls",))

@@ -1,10 +1,8 @@
-//! Tests of rows in runs, of tree files and of portal listings, by the calls that these crates offer.
+//! Tests of MAP texts, of rows in runs, of tree files and of portal listings, by the calls that these crates offer.
 #![tactic(auto)]
 
 #[cfg(test)]
-mod cube;
-#[cfg(test)]
-mod file_altered;
+mod fractions;
 #[cfg(test)]
 mod listing_altered;
 #[cfg(test)]
@@ -12,9 +10,9 @@ mod listing_of_rooms;
 #[cfg(test)]
 mod listing_printed;
 #[cfg(test)]
-mod long;
+mod maps;
 #[cfg(test)]
-mod promised;
+mod pieces;
 #[cfg(test)]
 mod runs;
 #[cfg(test)]

@@ -4,122 +4,49 @@ use crate::listing_of_rooms::LISTING;
 use qm_prt::{PrtFault, read};
 use std::alloc::{AllocError, Global};
 
-/// So many of the first bytes, one of them another, and more behind them.
-struct Altered {
+/// How many of the first bytes are kept, which of them is another, what stands behind them, and the fault.
+static ALTERED: [(usize, usize, u8, &[u8], PrtFault); 12] = [
+    (147, 0, b'Q', b"", PrtFault::Header { offset: 0 }),
+    (147, 4, b' ', b"", PrtFault::Header { offset: 0 }),
+    (147, 5, b'x', b"", PrtFault::Number { offset: 5 }),
+    (147, 6, b' ', b"", PrtFault::Shape { offset: 6 }),
+    // two corners, a leaf that is not there, the same leaf again, another bracket
+    (147, 9, b'2', b"", PrtFault::Shape { offset: 9 }),
+    (147, 11, b'3', b"", PrtFault::Shape { offset: 11 }),
+    (147, 13, b'1', b"", PrtFault::Shape { offset: 13 }),
+    (147, 15, b'[', b"", PrtFault::Shape { offset: 15 }),
+    // a sign in a count, and one inside a number
+    (147, 10, b'-', b"", PrtFault::Number { offset: 9 }),
+    (147, 18, b'-', b"", PrtFault::Number { offset: 16 }),
+    (146, 0, b'P', b"", PrtFault::Shape { offset: 146 }),
+    (147, 0, b'P', b"\n", PrtFault::Trailing { offset: 147 }),
+];
+
+/// The listing with these alterations.
+fn altered_text(
+    alloc: Global,
     kept: usize,
     at: usize,
     byte: u8,
-    more: &'static [u8],
-    fault: PrtFault,
-}
-
-static ALTERED: [Altered; 12] = [
-    Altered {
-        kept: 147,
-        at: 0,
-        byte: b'Q',
-        more: b"",
-        fault: PrtFault::Header { offset: 0 },
-    },
-    Altered {
-        kept: 147,
-        at: 4,
-        byte: b' ',
-        more: b"",
-        fault: PrtFault::Header { offset: 0 },
-    },
-    Altered {
-        kept: 147,
-        at: 5,
-        byte: b'x',
-        more: b"",
-        fault: PrtFault::Number { offset: 5 },
-    },
-    Altered {
-        kept: 147,
-        at: 6,
-        byte: b' ',
-        more: b"",
-        fault: PrtFault::Shape { offset: 6 },
-    },
-    // two corners, a leaf that is not there, the same leaf again, another bracket
-    Altered {
-        kept: 147,
-        at: 9,
-        byte: b'2',
-        more: b"",
-        fault: PrtFault::Shape { offset: 9 },
-    },
-    Altered {
-        kept: 147,
-        at: 11,
-        byte: b'3',
-        more: b"",
-        fault: PrtFault::Shape { offset: 11 },
-    },
-    Altered {
-        kept: 147,
-        at: 13,
-        byte: b'1',
-        more: b"",
-        fault: PrtFault::Shape { offset: 13 },
-    },
-    Altered {
-        kept: 147,
-        at: 15,
-        byte: b'[',
-        more: b"",
-        fault: PrtFault::Shape { offset: 15 },
-    },
-    // a sign in a count, and one inside a number
-    Altered {
-        kept: 147,
-        at: 10,
-        byte: b'-',
-        more: b"",
-        fault: PrtFault::Number { offset: 9 },
-    },
-    Altered {
-        kept: 147,
-        at: 18,
-        byte: b'-',
-        more: b"",
-        fault: PrtFault::Number { offset: 16 },
-    },
-    Altered {
-        kept: 146,
-        at: 0,
-        byte: b'P',
-        more: b"",
-        fault: PrtFault::Shape { offset: 146 },
-    },
-    Altered {
-        kept: 147,
-        at: 0,
-        byte: b'P',
-        more: b"\n",
-        fault: PrtFault::Trailing { offset: 147 },
-    },
-];
-
-fn altered_text(alloc: Global, sample: &Altered) -> Result<Vec<u8>, AllocError> {
-    let mut text = Vec::new(alloc);
-    for (place, byte) in LISTING.iter().enumerate() {
-        if place < sample.kept {
-            text.push(if place == sample.at {
-                sample.byte
-            } else {
-                *byte
-            })?;
-        }
+    more: &[u8],
+) -> Result<Vec<u8>, AllocError> {
+    let mut text = LISTING.to_vec(alloc)?;
+    if let Some(other) = text.get_mut(at) {
+        *other = byte;
     }
-    text.extend_from_slice(sample.more)?;
+    text.truncate(kept);
+    text.extend_from_slice(more)?;
     Ok(text)
 }
 
-fn has_fault(alloc: Global, sample: &Altered) -> Option<bool> {
-    let text = altered_text(alloc, sample).ok()?;
-    Some(read(alloc, &text).err() == Some(sample.fault))
+/// Whether each alteration has its fault.
+fn have_faults(alloc: Global) -> Result<bool, AllocError> {
+    let mut right = true;
+    for &(kept, at, byte, more, fault) in &ALTERED {
+        let text = altered_text(alloc, kept, at, byte, more)?;
+        right &= read(alloc, &text).err() == Some(fault);
+    }
+    Ok(right)
 }
 
 /// Whether no text is read that ends before the listing does.
@@ -180,9 +107,7 @@ fn faults_of_altered_listings(rt: HostRuntime) {
     let alloc = rt.alloc();
     assert!(rt;
         no_prefix_is_read(alloc)
-            && ALTERED
-                .iter()
-                .all(|sample| has_fault(alloc, sample) == Some(true))
+            && have_faults(alloc) == Ok(true)
             && COORDINATES.iter().all(|(word, expected)| is_read_so(alloc, word, *expected)
                 == Some(true))
     );

@@ -3,92 +3,30 @@
 use qm_runs::{RunFault, decode, encode};
 use std::alloc::{AllocError, Global};
 
-/// A row, by how often each byte comes, and its spelling.
-struct Spelt {
-    row: &'static [(usize, u8)],
-    spelling: &'static [u8],
-}
-
-static SPELT: [Spelt; 6] = [
-    Spelt {
-        row: &[],
-        spelling: &[],
-    },
-    Spelt {
-        row: &[(300, 0), (1, 5)],
-        spelling: &[0, 255, 0, 45, 5],
-    },
-    Spelt {
-        row: &[(1, 1), (2, 0), (1, 128)],
-        spelling: &[1, 0, 2, 128],
-    },
-    Spelt {
-        row: &[(255, 0)],
-        spelling: &[0, 255],
-    },
-    Spelt {
-        row: &[(256, 0), (1, 255)],
-        spelling: &[0, 255, 0, 1, 255],
-    },
-    Spelt {
-        row: &[(1, 0), (1, 7), (1, 0), (2, 7), (3, 0)],
-        spelling: &[0, 1, 7, 0, 1, 7, 7, 0, 3],
-    },
+/// Rows, by how often each byte comes, and how they are spelled.
+static SPELT: [(&[(usize, u8)], &[u8]); 6] = [
+    (&[], &[]),
+    (&[(300, 0), (1, 5)], &[0, 255, 0, 45, 5]),
+    (&[(1, 1), (2, 0), (1, 128)], &[1, 0, 2, 128]),
+    (&[(255, 0)], &[0, 255]),
+    (&[(256, 0), (1, 255)], &[0, 255, 0, 1, 255]),
+    (
+        &[(1, 0), (1, 7), (1, 0), (2, 7), (3, 0)],
+        &[0, 1, 7, 0, 1, 7, 7, 0, 3],
+    ),
 ];
 
 /// Bytes that do not begin with a row of a width.
-struct Refused {
-    bytes: &'static [u8],
-    width: usize,
-    fault: RunFault,
-}
-
-static REFUSED: [Refused; 9] = [
-    Refused {
-        bytes: &[0, 0],
-        width: 4,
-        fault: RunFault::ZeroCount,
-    },
-    Refused {
-        bytes: &[0, 2, 0, 2],
-        width: 4,
-        fault: RunFault::SplitRun,
-    },
-    Refused {
-        bytes: &[0, 2, 0],
-        width: 4,
-        fault: RunFault::SplitRun,
-    },
-    Refused {
-        bytes: &[0, 5],
-        width: 4,
-        fault: RunFault::Overrun,
-    },
-    Refused {
-        bytes: &[0],
-        width: 4,
-        fault: RunFault::Short,
-    },
-    Refused {
-        bytes: &[9, 0, 2],
-        width: 4,
-        fault: RunFault::Short,
-    },
-    Refused {
-        bytes: &[],
-        width: 1,
-        fault: RunFault::Short,
-    },
-    Refused {
-        bytes: &[0, 255, 0, 0],
-        width: 300,
-        fault: RunFault::ZeroCount,
-    },
-    Refused {
-        bytes: &[0, 255, 0, 2],
-        width: 256,
-        fault: RunFault::Overrun,
-    },
+static REFUSED: [(&[u8], usize, RunFault); 9] = [
+    (&[0, 0], 4, RunFault::ZeroCount),
+    (&[0, 2, 0, 2], 4, RunFault::SplitRun),
+    (&[0, 2, 0], 4, RunFault::SplitRun),
+    (&[0, 5], 4, RunFault::Overrun),
+    (&[0], 4, RunFault::Short),
+    (&[9, 0, 2], 4, RunFault::Short),
+    (&[], 1, RunFault::Short),
+    (&[0, 255, 0, 0], 300, RunFault::ZeroCount),
+    (&[0, 255, 0, 2], 256, RunFault::Overrun),
 ];
 
 /// Adds a byte so many times.
@@ -109,27 +47,22 @@ fn bytes_of(alloc: Global, row: &[(usize, u8)]) -> Result<Vec<u8>, AllocError> {
 }
 
 /// Whether the row is written so behind what was there, and read again with other bytes behind it.
-fn is_spelt(alloc: Global, sample: &Spelt) -> Option<bool> {
-    let row = bytes_of(alloc, sample.row).ok()?;
+fn is_spelt(alloc: Global, runs: &[(usize, u8)], spelling: &[u8]) -> Option<bool> {
+    let row = bytes_of(alloc, runs).ok()?;
     let mut out = [3_u8].to_vec(alloc).ok()?;
     encode(&row, &mut out).ok()?;
-    let written = out.split_first()?.1 == sample.spelling;
+    let written = out.split_first()?.1 == spelling;
     out.push(0).ok()?;
     let (read, used) = decode(alloc, out.split_first()?.1, row.len()).ok()?;
-    Some(written && read.as_slice() == row.as_slice() && used == sample.spelling.len())
-}
-
-fn is_refused(alloc: Global, sample: &Refused) -> bool {
-    decode(alloc, sample.bytes, sample.width).err() == Some(sample.fault)
+    Some(written && read.as_slice() == row.as_slice() && used == spelling.len())
 }
 
 #[test]
 fn rows_in_runs(rt: HostRuntime) {
     let alloc = rt.alloc();
     assert!(rt;
-        SPELT
-            .iter()
-            .all(|sample| is_spelt(alloc, sample) == Some(true))
-            && REFUSED.iter().all(|sample| is_refused(alloc, sample))
+        SPELT.iter().all(|(runs, spelling)| is_spelt(alloc, runs, spelling) == Some(true))
+            && REFUSED.iter().all(|(bytes, width, fault)| decode(alloc, bytes, *width).err()
+                == Some(*fault))
     );
 }

@@ -2,7 +2,7 @@
 
 use qm_bits::BitRow;
 use qm_contents::Contents::{self, Empty, Solid};
-use qm_file::{FileFault, Section, TreeFile, decode, encode, upgrade};
+use qm_file::{Section, TreeFile, decode, encode, plain_file, upgrade};
 use qm_lists::Items;
 use qm_tree::{Leaf, Tree};
 use std::alloc::{AllocError, Global};
@@ -20,7 +20,7 @@ struct Small {
     bytes: &'static [u8],
 }
 
-/// A world without brushes: one leaf, one numbered, rows, the bound 4096, no sections, the code -1, and a row of one place.
+/// A world without brushes: one leaf, one numbered, rows, the bound 4096 and no sections.
 const EMPTY: Small = Small {
     version: 2,
     bound: 4096,
@@ -28,14 +28,10 @@ const EMPTY: Small = Small {
     filled: false,
     has_rows: true,
     sections: &[],
-    bytes: &[
-        1, 0, 0, 0, 0, 0, 0, 0, 1, 0, 0, 0, 0, 0, 0, 0, 1, 0, 16, 0, 0, 0, 0, 0, 0, 255, 255, 255,
-        255, 0, 1,
-    ],
+    bytes: &[],
 };
 
-static SMALL: [Small; 8] = [
-    EMPTY,
+static SMALL: [Small; 4] = [
     // in a large world, with three sections
     Small {
         bound: 32_768,
@@ -47,19 +43,11 @@ static SMALL: [Small; 8] = [
         ],
         ..EMPTY
     },
+    // a plain file
     Small {
         has_rows: false,
         bytes: &[
             1, 0, 0, 0, 0, 0, 0, 0, 1, 0, 0, 0, 0, 0, 0, 0, 0, 0, 16, 0, 0, 0, 0, 0, 0, 255, 255,
-            255, 255, 0,
-        ],
-        ..EMPTY
-    },
-    // a world that is solid everywhere: rows are there, and none is written
-    Small {
-        contents: Solid,
-        bytes: &[
-            1, 0, 0, 0, 0, 0, 0, 0, 0, 0, 0, 0, 0, 0, 0, 0, 1, 0, 16, 0, 0, 0, 0, 0, 0, 254, 255,
             255, 255, 0,
         ],
         ..EMPTY
@@ -72,29 +60,13 @@ static SMALL: [Small; 8] = [
         ],
         ..EMPTY
     },
-    Small {
-        version: 1,
-        has_rows: false,
-        bytes: &[
-            1, 0, 0, 0, 0, 0, 0, 0, 1, 0, 0, 0, 0, 0, 0, 0, 0, 255, 255, 255, 255, 0,
-        ],
-        ..EMPTY
-    },
-    Small {
-        version: 1,
-        contents: Solid,
-        bytes: &[
-            1, 0, 0, 0, 0, 0, 0, 0, 0, 0, 0, 0, 0, 0, 0, 0, 1, 254, 255, 255, 255, 0,
-        ],
-        ..EMPTY
-    },
+    // a world that is solid everywhere: rows are there, and none is written
     Small {
         version: 1,
         contents: Solid,
         filled: true,
-        has_rows: false,
         bytes: &[
-            1, 0, 0, 0, 0, 0, 0, 0, 0, 0, 0, 0, 0, 0, 0, 0, 0, 254, 255, 255, 255, 1,
+            1, 0, 0, 0, 0, 0, 0, 0, 0, 0, 0, 0, 0, 0, 0, 0, 1, 254, 255, 255, 255, 1,
         ],
         ..EMPTY
     },
@@ -186,35 +158,22 @@ fn is_written(alloc: Global, sample: &Small) -> Option<bool> {
     )
 }
 
-/// Two sections of a kind and of no bytes, and their fault.
-static TWO_SECTIONS: [(u8, u8, FileFault); 3] = [
-    (7, 7, FileFault::SectionForm { offset: 67 }),
-    (7, 6, FileFault::SectionForm { offset: 67 }),
-    (0, 7, FileFault::SectionForm { offset: 55 }),
-];
-
-/// Whether a world without brushes that has two such sections has this fault.
-fn is_refused(alloc: Global, first: u8, second: u8, fault: FileFault) -> Option<bool> {
-    let mut bytes = bytes_of(alloc, &EMPTY).ok()?;
-    if let Some(count) = bytes.get_mut(45) {
-        *count = 2;
-    }
-    for kind in [first, second] {
-        bytes.push(kind).ok()?;
-        bytes.extend_from_slice(&[0; 11]).ok()?;
-    }
-    Some(decode(alloc, &bytes).err() == Some(fault))
+/// Whether a file of version 2 without rows and sections is read as a plain one with its bound, and with no other.
+fn is_plain(alloc: Global, sample: &Small) -> Option<bool> {
+    let bytes = bytes_of(alloc, sample).ok()?;
+    let wanted = sample.version == 2 && !sample.has_rows && sample.sections.is_empty();
+    let same = match plain_file(alloc, &bytes, 4096).ok()? {
+        Some(file) => encode(alloc, &file).ok()?.as_slice() == bytes.as_slice(),
+        None => false,
+    };
+    Some(same == wanted && plain_file(alloc, &bytes, 32_768).ok()?.is_none())
 }
 
 #[test]
 fn files_of_one_leaf(rt: HostRuntime) {
     let alloc = rt.alloc();
     assert!(rt;
-        SMALL
-            .iter()
-            .all(|sample| is_written(alloc, sample) == Some(true))
-            && TWO_SECTIONS.iter().all(|(first, second, fault)| is_refused(
-                alloc, *first, *second, *fault
-            ) == Some(true))
+        SMALL.iter().all(|sample| is_written(alloc, sample) == Some(true)
+            && is_plain(alloc, sample) == Some(true))
     );
 }

@@ -25,8 +25,6 @@ mod pipe;
 #[cfg(test)]
 mod printed;
 #[cfg(test)]
-mod room;
-#[cfg(test)]
 mod room_in_pieces;
 #[cfg(test)]
 mod sampled;
@@ -36,5 +34,3 @@ mod sure_forms;
 mod tightness;
 #[cfg(test)]
 mod upgrades;
-#[cfg(test)]
-mod workers;

@@ -4,6 +4,7 @@
 ghost use Rattle.std.specs.Prelude.{IfOk};
 ghost use Rattle.qm_wind.specs.Entered.{IsPane};
 
+use crate::large::are_right;
 use crate::shapes::{across_x, across_y, across_z, cut_by};
 use qm_geom::Plane;
 use qm_narrow::{ChainState, StepBuffers, may_pass, separators, step, step_into};
@@ -104,13 +105,10 @@ fn stops_at_second(alloc: Global) -> Result<bool, AllocError> {
 }
 
 #[test]
-fn separators_cross_a_doorway(rt: HostRuntime) -> Result<(), Fail> {
-    assert!(rt; has_plane_across(rt.alloc())?);
-    Ok(())
-}
-
-#[test]
-fn chain_stops_at_second_doorway(rt: HostRuntime) -> Result<(), Fail> {
-    assert!(rt; stops_at_second(rt.alloc())?);
+fn separators_and_steps(rt: HostRuntime) -> Result<(), Fail> {
+    let right = has_plane_across(rt.alloc())?
+        && stops_at_second(rt.alloc())?
+        && are_right(rt.alloc())?;
+    assert!(rt; right);
     Ok(())
 }

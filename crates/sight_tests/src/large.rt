@@ -6,7 +6,6 @@ use qm_narrow::separators;
 use qm_space::WORLD_EXTENT;
 use qm_wind::{Side, Winding};
 use std::alloc::{AllocError, Global};
-use std::test::Fail;
 
 /// How long two steps are, and whether the plane along both is a separator. The largest component of its normal is the square
 /// of that length.
@@ -59,7 +58,7 @@ fn is_listed(alloc: Global, long: i32) -> Result<bool, AllocError> {
 }
 
 /// Whether all rows of which the points lie in the cube are right.
-fn are_right(alloc: Global) -> Result<bool, AllocError> {
+pub(crate) fn are_right(alloc: Global) -> Result<bool, AllocError> {
     let mut right = true;
     for (long, listed) in &ROWS {
         if long.wrapping_add(LOW) <= WORLD_EXTENT {
@@ -67,10 +66,4 @@ fn are_right(alloc: Global) -> Result<bool, AllocError> {
         }
     }
     Ok(right)
-}
-
-#[test]
-fn separators_have_small_normals(rt: HostRuntime) -> Result<(), Fail> {
-    assert!(rt; are_right(rt.alloc())?);
-    Ok(())
 }

@@ -12,8 +12,6 @@ mod plain;
 #[cfg(test)]
 mod random;
 #[cfg(test)]
-mod rooms;
-#[cfg(test)]
 mod shapes;
 #[cfg(test)]
 mod slow;

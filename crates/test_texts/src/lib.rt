@@ -7,4 +7,4 @@ mod rooms;
 
 pub use boxes::{BoxRow, boxes_on_both_sides, put_box, put_boxes, text_of};
 pub use faces::{points_across, put_face, put_fine_face};
-pub use rooms::{APART, CORNER_ROOMS, CUBE, HOLE_ROOM, ROOM, TWO_ROOMS};
+pub use rooms::{CORNER_ROOMS, ROOM, TWO_ROOMS};

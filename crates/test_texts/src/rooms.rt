@@ -1,9 +1,6 @@
-//! Parts of worlds that several tests have: rooms of boxes, and brushes.
+//! Rooms of boxes that several tests have.
 
 use crate::boxes::BoxRow;
-
-/// A box of which many worlds are made.
-pub const CUBE: BoxRow = ([0, 0, 0], [64, 64, 64]);
 
 /// A room of six walls.
 pub const ROOM: [BoxRow; 6] = [
@@ -13,17 +10,6 @@ pub const ROOM: [BoxRow; 6] = [
     ([-80, 64, 0], [80, 80, 96]),
     ([-80, -64, 0], [-64, 64, 96]),
     ([64, -64, 0], [80, 64, 96]),
-];
-
-/// The room with a hole one unit wide in the wall to the east.
-pub const HOLE_ROOM: [BoxRow; 7] = [
-    ([-80, -80, -16], [80, 80, 0]),
-    ([-80, -80, 96], [80, 80, 112]),
-    ([-80, -80, 0], [80, -64, 96]),
-    ([-80, 64, 0], [80, 80, 96]),
-    ([-80, -64, 0], [-64, 64, 96]),
-    ([64, -64, 0], [80, 0, 96]),
-    ([64, 1, 0], [80, 64, 96]),
 ];
 
 /// Three rooms round a corner.
@@ -53,7 +39,3 @@ pub const TWO_ROOMS: [BoxRow; 8] = [
     ([-3488, -64, 64], [-3472, -32, 96]),
     ([-3376, -64, 0], [-3360, 64, 96]),
 ];
-
-/// A flat brush of two faces that look away from each other, with nothing behind both.
-pub const APART: &str = "{\n( 0 0 0 ) ( 0 1 0 ) ( 1 0 0 ) stone 0 0 0 1 1\n\
-    ( 0 0 128 ) ( 1 0 128 ) ( 0 1 128 ) stone 0 0 0 1 1\n}\n";

@@ -7,7 +7,6 @@ use crate::worlds::{Grid, random_world};
 use qm_brush::{BrushList, brushes};
 use qm_build::build;
 use qm_contents::Contents;
-use qm_contents::Contents::{Sky, Solid, Water};
 use qm_geom::{PlaneBook, Point};
 use qm_map::parse;
 use qm_tree::Tree;
@@ -15,7 +14,6 @@ use std::alloc::{AllocError, Global};
 use std::cmp::Ordering;
 use std::test::Fail;
 use test_numbers::Random;
-use test_texts::{APART, put_box};
 
 /// The brushes of a world, and the tree that is built of them.
 #[derive(Drop)]
@@ -65,14 +63,6 @@ impl Built {
     {
         let contents = self.list.contents_at(at, &self.book);
         self.leads_to(at, contents) || !self.is_off_node_planes(at)
-    }
-
-    /// Whether these contents are those of the point, by the brushes and by the tree, and it is on no node plane.
-    fn gives(&self, at: &Point, contents: Contents) -> bool
-        requires { IsBookOf self.now.book self.now.list }
-    {
-        let by_brushes = self.list.contents_at(at, &self.book) == contents;
-        by_brushes && self.leads_to(at, contents) && self.is_off_node_planes(at)
     }
 }
 
@@ -138,64 +128,5 @@ fn random_worlds_are_built(rt: HostRuntime) -> Result<(), Fail> {
     let mut random = Random::new(1);
     assert!(rt; agree_in_worlds(rt.alloc(), &mut random, Grid::Whole, 200)?);
     assert!(rt; agree_in_worlds(rt.alloc(), &mut random, Grid::Thousandths, 100)?);
-    Ok(())
-}
-
-/// Whether a world is built, and its tree and its brushes give a point these contents.
-fn is_built(alloc: Global, text: &str, [x, y, z]: [i64; 3], contents: Contents) -> bool {
-    let Some(built) = Built::of(alloc, text) else {
-        return false;
-    };
-    built.gives(&Point { x, y, z, w: 1 }, contents)
-}
-
-/// Two solids that share a face, behind a flat brush, whose planes have the first numbers, so that the node between the solids is
-/// joined away.
-fn shared_face(alloc: Global) -> Result<String, AllocError> {
-    let mut text = String::new(alloc);
-    text.push_str("{\n")?;
-    text.push_str(APART)?;
-    put_box(&mut text, "stone", [0, 0, 0], [64, 64, 64])?;
-    put_box(&mut text, "stone", [0, 0, 64], [64, 64, 128])?;
-    text.push_str("}\n")?;
-    Ok(text)
-}
-
-/// Water round stone.
-fn water_round_stone(alloc: Global, water_comes_first: bool) -> Result<String, AllocError> {
-    let mut text = String::new(alloc);
-    text.push_str("{\n")?;
-    if water_comes_first {
-        put_box(&mut text, "*water1", [0, 0, 0], [64, 64, 64])?;
-    }
-    put_box(&mut text, "stone", [16, 16, 16], [48, 48, 48])?;
-    if !water_comes_first {
-        put_box(&mut text, "*water1", [0, 0, 0], [64, 64, 64])?;
-    }
-    text.push_str("}\n")?;
-    Ok(text)
-}
-
-/// A box of sky.
-fn box_of_sky(alloc: Global) -> Result<String, AllocError> {
-    let mut text = String::new(alloc);
-    text.push_str("{\n")?;
-    put_box(&mut text, "Sky1", [0, 0, 0], [64, 64, 64])?;
-    text.push_str("}\n")?;
-    Ok(text)
-}
-
-/// A point on a face that two solids share, one in sky, and points in water round stone, whichever comes first.
-#[test]
-fn boxes_are_built(rt: HostRuntime) -> Result<(), Fail> {
-    let alloc = rt.alloc();
-    let shared = shared_face(alloc)?;
-    assert!(rt; is_built(alloc, &shared, [32, 32, 64], Solid));
-    assert!(rt; is_built(alloc, &box_of_sky(alloc)?, [32, 32, 32], Sky));
-    for water_comes_first in [true, false] {
-        let text = water_round_stone(alloc, water_comes_first)?;
-        assert!(rt; is_built(alloc, &text, [32, 32, 32], Solid));
-        assert!(rt; is_built(alloc, &text, [8, 8, 8], Water));
-    }
     Ok(())
 }

@@ -2,14 +2,13 @@
 
 ghost use Rattle.std.specs.Prelude.{◌<◌};
 
-use qm_contents::Contents::Solid;
 use qm_geom::Point;
 use qm_portal::{TouchList, touches};
 use qm_tree::Tree;
 use std::alloc::{AllocError, Global};
 use std::test::Fail;
 use test_numbers::Random;
-use test_texts::{BoxRow, CUBE, put_box, text_of};
+use test_texts::put_box;
 use test_worlds::tree_of;
 
 /// A tree with its contacts.
@@ -50,6 +49,16 @@ impl Touching {
         leaf < self.contacts.leaves() && self.contacts.outside(leaf)
     }
 
+    /// Whether the touching pairs are these pairs of leaves, and there are as many.
+    fn has_pairs(&self, pairs: &[(u64, u64)]) -> bool {
+        let mut right = self.contacts.pairs() == pairs.len() as u64;
+        for i in 0..self.contacts.pairs() {
+            let pair = self.contacts.pair(i);
+            right &= pairs.contains(&in_order(pair.front, pair.back));
+        }
+        right
+    }
+
     /// How many neighbours all leaves have, and how many leaves touch the outside.
     fn counts(&self) -> (usize, usize) {
         let mut neighbours = 0usize;
@@ -69,6 +78,11 @@ const CELLS: u8 = 12;
 
 fn middle(cell: u8) -> i64 {
     16 * i64::from(cell) - 88
+}
+
+/// Two leaves, the lesser number first.
+fn in_order(a: u64, b: u64) -> (u64, u64) {
+    if a < b { (a, b) } else { (b, a) }
 }
 
 /// What the cells of a grid show: each two leaves that have cells beside one another, and each leaf with a cell at a wall.
@@ -121,7 +135,7 @@ impl Seen {
     }
 
     fn add_pair(&mut self, a: u64, b: u64) -> Result<(), AllocError> {
-        let pair = if a < b { (a, b) } else { (b, a) };
+        let pair = in_order(a, b);
         if a != b && !self.pairs.contains(&pair) {
             self.pairs.push(pair)?;
         }
@@ -162,6 +176,7 @@ fn agree(alloc: Global, text: &str) -> Result<bool, AllocError> {
     Ok(
         neighbours == seen.pairs.len().saturating_mul(2)
             && outside == seen.outside.len()
+            && found.has_pairs(&seen.pairs)
             && seen.pairs.iter().all(|pair| found.touch(pair.0, pair.1))
             && seen.outside.iter().all(|leaf| found.touches_outside(*leaf)),
     )
@@ -175,48 +190,5 @@ fn contacts_agree_with_grid(rt: HostRuntime) -> Result<(), Fail> {
         let text = random_rooms(rt.alloc(), &mut random)?;
         assert!(rt; agree(rt.alloc(), &text)?);
     }
-    Ok(())
-}
-
-/// The walls of a room, which meet in edges alone.
-static WALLS: [BoxRow; 6] = [
-    ([-16, 0, 0], [0, 64, 64]),
-    ([64, 0, 0], [80, 64, 64]),
-    ([0, -16, 0], [64, 0, 64]),
-    ([0, 64, 0], [64, 80, 64]),
-    ([0, 0, -16], [64, 64, 0]),
-    ([0, 0, 64], [64, 64, 80]),
-];
-
-/// Whether the room inside some walls has no neighbours but six solid leaves, and does not touch the outside.
-fn is_closed(alloc: Global, walls: &[BoxRow]) -> Result<bool, AllocError> {
-    let text = text_of(alloc, walls)?;
-    let found = Touching::of(alloc, &text)?;
-    let inside = found.leaf_of([7, 7, 7]);
-    if inside >= found.contacts.leaves() || found.contacts.outside(inside) {
-        return Ok(false);
-    }
-    let neighbours = found.contacts.neighbours(inside);
-    Ok(
-        neighbours.len() == 6
-            && neighbours.iter().all(|leaf| *leaf < found.tree.leaves()
-                && found.tree.leaf(*leaf).contents == Solid),
-    )
-}
-
-/// Whether the seven leaves of one cube have eighteen contacts, and all but the stone touch the outside.
-fn cube_is_counted(alloc: Global) -> Result<bool, AllocError> {
-    let text = text_of(alloc, &[CUBE])?;
-    let found = Touching::of(alloc, &text)?;
-    Ok(found.counts() == (36, 6))
-}
-
-/// A room that meets what is around it in edges alone is closed, it is not once a wall is gone; and one cube.
-#[test]
-fn rooms_and_cube(rt: HostRuntime) -> Result<(), Fail> {
-    let alloc = rt.alloc();
-    assert!(rt;
-        is_closed(alloc, &WALLS)? && !is_closed(alloc, &WALLS[..5])? && cube_is_counted(alloc)?
-    );
     Ok(())
 }

@@ -2,29 +2,15 @@
 #![tactic(auto)]
 
 #[cfg(test)]
-mod brushes;
-#[cfg(test)]
 mod built;
 #[cfg(test)]
 mod contacts;
 #[cfg(test)]
-mod cube;
-#[cfg(test)]
-mod fragments;
-#[cfg(test)]
 mod halves;
-#[cfg(test)]
-mod joined;
 #[cfg(test)]
 mod long;
 #[cfg(test)]
-mod parts;
-#[cfg(test)]
-mod portals;
-#[cfg(test)]
-mod refused;
-#[cfg(test)]
-mod rows;
+mod moved;
 #[cfg(test)]
 mod trails;
 #[cfg(test)]

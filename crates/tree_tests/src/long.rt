@@ -1,21 +1,43 @@
 //! Trees of a million nodes in a row, each below the one before it.
 
-use crate::parts::{across_x, leaf, node};
-use qm_contents::Contents::{Empty, Solid};
-use qm_geom::Point;
-use qm_tree::Child::{Leaf as L, Node as N};
+use qm_contents::Contents::{self, Empty, Solid};
+use qm_geom::{Plane, Point};
+use qm_tree::Child::{self, Leaf as L, Node as N};
 use qm_tree::{Leaf, Node, Tree};
 use std::alloc::{AllocError, Global};
 
 const NODES: u64 = 1_000_000;
 
+/// The plane x = 8.
+fn plane() -> Plane {
+    match Plane::through_whole([8, 0, 0], [8, 1, 0], [8, 0, 1]) {
+        Ok((plane, _)) => plane,
+        Err(_) => Plane::default(),
+    }
+}
+
+fn node(front: Child, back: Child) -> Node {
+    Node {
+        plane: 0,
+        front,
+        back,
+    }
+}
+
+fn leaf(contents: Contents) -> Leaf {
+    Leaf {
+        contents,
+        filled: false,
+    }
+}
+
 /// Each node in front of the one before it.
 fn in_front(alloc: Global) -> Result<Vec<Node>, AllocError> {
     let mut nodes = Vec::new(alloc);
     for n in 1..NODES {
-        nodes.push(node(0, N(n), L(NODES + 1 - n)))?;
+        nodes.push(node(N(n), L(NODES + 1 - n)))?;
     }
-    nodes.push(node(0, L(0), L(1)))?;
+    nodes.push(node(L(0), L(1)))?;
     Ok(nodes)
 }
 
@@ -23,9 +45,9 @@ fn in_front(alloc: Global) -> Result<Vec<Node>, AllocError> {
 fn behind(alloc: Global) -> Result<Vec<Node>, AllocError> {
     let mut nodes = Vec::new(alloc);
     for n in 1..NODES {
-        nodes.push(node(0, L(n - 1), N(n)))?;
+        nodes.push(node(L(n - 1), N(n)))?;
     }
-    nodes.push(node(0, L(NODES - 1), L(NODES)))?;
+    nodes.push(node(L(NODES - 1), L(NODES)))?;
     Ok(nodes)
 }
 
@@ -40,7 +62,7 @@ fn leaves(alloc: Global, first: Leaf) -> Result<Vec<Leaf>, AllocError> {
 }
 
 fn row(alloc: Global, nodes: Vec<Node>, first: Leaf) -> Option<Tree> {
-    let planes = [across_x(8)].to_vec(alloc).ok()?;
+    let planes = [plane()].to_vec(alloc).ok()?;
     Tree::of(alloc, planes, nodes, leaves(alloc, first).ok()?).ok()
 }
 
