@@ -1,15 +1,23 @@
-//! What holds of a run: how it ends over forms that never fail, and that it leaves what it reads.
+//! What holds of a run: how it ends over forms that never fail, and that it leaves what it reads; and what the spans of a
+//! segment say of a map, in the files that it compiles to.
 
 ghost use Rattle.std.specs.Prelude.{ℕ, List};
+ghost use Rattle.qm_mapfile.specs.declared.entity.MapFile.{MapFile};
+ghost use Rattle.qm_contacts.specs.World.{World};
+ghost use Rattle.qm_formats.specs.TreeFile.{TreeFile};
 ghost use Rattle.qm_shelf.specs.SeenForms.{surroundings};
 ghost use Rattle.qm_surroundings.specs.Surroundings.{Surroundings};
+ghost use Rattle.qm_commands.specs.declared.options.Options.{Options as SeenOptions};
 ghost use Rattle.qm_commands.specs.Order.{Order};
 ghost use Rattle.qm_commands.specs.Words.{AreWordsOf};
 ghost use Rattle.qm_words.specs.SeenWords.{bytes_of_words};
 ghost use Rattle.qm_statement.specs.declared.status.Status.{Status as SeenStatus};
+ghost use Rattle.qm_statement.specs.declared.summary.Summary.{Summary as SeenSummary};
+ghost use Rattle.qm_statement.specs.CompiledMap.{IsCompiledWithoutLeak, IsCompiledToLeak};
 ghost use Rattle.qm_statement.specs.Complete.{MayEndWhereNoneMet};
 ghost use Rattle.qm_statement.specs.KeptFile.{KeepsWhatItReads};
 ghost use Rattle.qm_statement.specs.Run.{Answers};
+ghost use Rattle.qm_traced_files.specs.MapSpans.{SpansTellContents, HullSpansTellObstacles};
 
 use crate::program::run;
 use qm_crew::Gate;
@@ -39,4 +47,17 @@ pub fn run_surely<R: Threads + Sync, G: Gate + Sync>(
 /// The file that a command reads, MAP or TREE, is as it was, however the run ends.
 pub fn kept_file()
     ensures { (words : List (List ℕ)) (before after : Surroundings) (status : SeenStatus) → Answers words before after status → KeepsWhatItReads words before.shelf after.shelf }
+{}
+
+/// Within the spans of a segment through the tree of a map stand the contents that the map's brushes define, unless the span's
+/// leaf is filled.
+pub fn spans_tell_contents()
+    ensures without_leak { (map : MapFile) (options : SeenOptions) (file : TreeFile) (world : World) (summary : SeenSummary) → IsCompiledWithoutLeak map options file world summary → SpansTellContents map file.tree }
+    ensures to_leak { (map : MapFile) (file : TreeFile) (entity : ℕ) (trail : List ℕ) → IsCompiledToLeak map file entity trail → SpansTellContents map file.tree }
+{}
+
+/// Where the box of a hull, set at some point of a segment, has a point strictly inside an obstacle, some span of the segment
+/// through that hull is solid.
+pub fn hull_spans_tell_obstacles()
+    ensures { (map : MapFile) (options : SeenOptions) (file : TreeFile) (world : World) (summary : SeenSummary) → IsCompiledWithoutLeak map options file world summary → HullSpansTellObstacles map file }
 {}

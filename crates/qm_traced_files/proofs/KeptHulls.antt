@@ -1,0 +1,62 @@
+-- A hull that is read in a section of a compiled file is the map's hull for its box.
+use Rattle.std.proofs.Common.{◌≡◌, ℕ, zero, suc, Bool, true, false, List, [], ◌∷◌, Option, Some, None, refl, sym, ◌∙◌, subst}
+use Rattle.qm_space.specs.Bounds.{world_extent}
+use Rattle.qm_mapfile.specs.declared.entity.MapFile.{MapFile}
+use Rattle.qm_formats.specs.Fields.{AreBytes}
+use Rattle.qm_formats.specs.TreeFile.{Section, TreeFile, AreSections, IsValidFile}
+use Rattle.qm_plain.specs.PlainFile.{read_plain}
+use Rattle.qm_plain.proofs.PlainFiles.{plain_found, plain_again}
+use Rattle.qm_hull_trees.specs.HullBoxes.{hull_box}
+use Rattle.qm_hull_trees.specs.Hull.{IsHull}
+use Rattle.qm_answers.specs.declared.decoded_section.DecodedSection.{DecodedSection}
+use Rattle.qm_answers.specs.declared.decoded_section.DecodedSection.TheVariants.{Missing, Known}
+use Rattle.qm_answers.specs.DecodedSections.{section_bytes, known_if_read, decoded_by, kind_of_hull, decoded_hull}
+use Rattle.qm_commands.specs.declared.options.Options.{Options}
+use Rattle.qm_statement.specs.AskedSections.{IsHullSection, AreHullsAsAsked, AreSectionsAsked}
+
+known_from : (read : Option TreeFile) (found : TreeFile) → ◌≡◌ {A = DecodedSection TreeFile} (known_if_read read) (Known found) → read ≡ Some found
+known_from None found known = absurd cc
+known_from (Some other) found known = cc
+
+module _ (map : MapFile) where
+  -- what is read in the bytes of a hull is that hull
+  hull_of_bytes : (hull : ℕ) (section : Section) (found : TreeFile) → IsHullSection map hull section → AreBytes section.bytes → read_plain world_extent section.bytes ≡ Some found → IsHull map (hull_box hull) found
+  hull_of_bytes hull section found is are read =
+      let its = plain_found world_extent section.bytes found are read in
+      let again = plain_again world_extent section.bytes is.file (record { is_plain = is.is_hull.is_plain; is_valid = is.is_hull.is_valid; bytes_are = is.bytes_are.exactly; fits = its.fits }) in
+      let both : ◌≡◌ {A = Option TreeFile} (Some is.file) (Some found) = sym again ∙ read in
+      let same : is.file ≡ found = cc in
+      subst (IsHull map (hull_box hull)) same is.is_hull
+
+  hull_of_section : (hull : ℕ) (section : Section) (bytes : Option (List ℕ)) (found : TreeFile) → IsHullSection map hull section → AreBytes section.bytes → bytes ≡ Some section.bytes →
+      decoded_by (read_plain world_extent) bytes ≡ Known found → IsHull map (hull_box hull) found
+  hull_of_section hull section bytes found is are there decoded =
+      let known = subst (λ (b : Option (List ℕ)). decoded_by (read_plain world_extent) b ≡ Known found) there decoded in
+      hull_of_bytes hull section found is are (known_from (read_plain world_extent section.bytes) found known)
+
+  module _ (first second : Section) (rest : List Section) (is_first : IsHullSection map 1 first) (is_second : IsHullSection map 2 second) (are : AreSections (first ∷ second ∷ rest)) (found : TreeFile) where
+    first_there : section_bytes (first ∷ second ∷ rest) 1 ≡ Some first.bytes
+    first_there = rw is_first.kind_is refl
+
+    second_there : section_bytes (first ∷ second ∷ rest) 2 ≡ Some second.bytes
+    second_there = rw (is_first.kind_is, is_second.kind_is) refl
+
+    of_both : (hull : ℕ) → decoded_by (read_plain world_extent) (section_bytes (first ∷ second ∷ rest) (kind_of_hull hull)) ≡ Known found → IsHull map (hull_box hull) found
+    of_both zero decoded = hull_of_section 2 second (section_bytes (first ∷ second ∷ rest) 2) found is_second are.1.0.are_bytes second_there decoded
+    of_both (suc zero) decoded = hull_of_section 1 first (section_bytes (first ∷ second ∷ rest) 1) found is_first are.0.are_bytes first_there decoded
+    of_both (suc (suc n)) decoded = hull_of_section 2 second (section_bytes (first ∷ second ∷ rest) 2) found is_second are.1.0.are_bytes second_there decoded
+
+  as_asked : (asked : Bool) (sections : List Section) (hull : ℕ) (found : TreeFile) → AreHullsAsAsked asked map sections → AreSections sections →
+      decoded_by (read_plain world_extent) (section_bytes sections (kind_of_hull hull)) ≡ Known found → IsHull map (hull_box hull) found
+  as_asked true sections hull found both are decoded =
+      of_both both.first both.second [] both.is_first both.is_second (subst AreSections both.are_both are) found hull
+      (subst (λ (s : List Section). decoded_by (read_plain world_extent) (section_bytes s (kind_of_hull hull)) ≡ Known found) both.are_both decoded)
+  as_asked false sections hull found no_sections are decoded = absurd (
+      let missing : ◌≡◌ {A = DecodedSection TreeFile} Missing (Known found) = subst (λ (s : List Section). decoded_by (read_plain world_extent) (section_bytes s (kind_of_hull hull)) ≡ Known found) no_sections decoded in cc
+      )
+
+  pub kept_hull : (options : Options) (file : TreeFile) (hull : ℕ) (found : TreeFile) → AreSectionsAsked map options file.sections → file.bound ≡ world_extent → IsValidFile file →
+      decoded_hull file hull ≡ Known found → IsHull map (hull_box hull) found
+  kept_hull options file hull found asked bound valid decoded =
+      as_asked options.hulls file.sections hull found (subst (AreHullsAsAsked options.hulls map) (sym asked.are_all) asked.are_hulls) valid.sections
+      (subst (λ (n : ℕ). decoded_by (read_plain n) (section_bytes file.sections (kind_of_hull hull)) ≡ Known found) bound decoded)

@@ -1,0 +1,3 @@
+pub mod HullSpans
+pub mod KeptHulls
+pub mod MapSpanLaws

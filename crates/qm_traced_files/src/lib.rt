@@ -1,0 +1,2 @@
+//! What the spans of a segment say of a map, in the files that the map compiles to. This crate has only definitions and laws.
+#![tactic(auto)]
