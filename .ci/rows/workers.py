@@ -15,6 +15,8 @@ import treefile  # noqa: E402
 ROOMS = TOP.joinpath("samples/rooms8.map").read_bytes()
 # a world whose halves are built in parallel where there is more than one worker
 HALVES, HALVES_COUNTS, HALVES_LENGTH = world(*BOTH_SIDES), (41, 0, 86, 94, 95, 54, 0, 188, 1192), 4552
+# how long its file is with both hulls
+HULLS_LENGTH = 10854
 
 
 def lies_within(row, wide):
@@ -35,8 +37,8 @@ def is_same(data, other):
 
 
 def has_same_hulls(data, other):
-    """Whether two files have the same bytes, with hulls that are longer than the tree."""
-    return data == other and len(data) > 3 * HALVES_LENGTH
+    """Whether two files have the same bytes, as many as the tree and both hulls have."""
+    return data == other and len(data) == HULLS_LENGTH
 
 
 def rows():

@@ -1,4 +1,4 @@
-use Rattle.std.proofs.Common.{rules, ◌≡◌, ◌*◌, ℕ, max, FitsSigned, w64, ap, ap₂, ◌∙◌, unsigned_abs, subst, sym}
+use Rattle.std.proofs.Common.{rules, ◌≡◌, ◌*◌, ℕ, max, FitsSigned, w64, ap, ap₂, ◌∙◌, unsigned_abs, subst}
 use Rattle.std.specs.Prelude.{pos, ◌<ℤ◌}
 use Rattle.std.proofs.lemmas.Int.{to_z-of_z}
 use Rattle.qm_space.specs.Point.{Point}

@@ -1,6 +1,5 @@
-use Rattle.std.proofs.Common.{◌≡◌, ◌<◌, ◌≤◌, ◌^◌, ℕ, ◌∙◌, ap, sym, subst, unsigned_abs, lit≤, arith}
+use Rattle.std.proofs.Common.{◌<◌, ◌≤◌, ◌^◌, ◌∙◌, sym, subst, unsigned_abs, lit≤, arith}
 use Rattle.qm_numbers.proofs.Bits.{kept_128}
-use Rattle.qm_space.specs.Plane.{value}
 use Rattle.qm_spans.proofs.TracedValues.{end_value_small, node_is_near, value_of_node}
 use Rattle.qm_trace.proofs.walk.value_at_end.Goals as goal
 use Rattle.qm_trace.proofs.walk.value_at_end.Goals.{After-value}
