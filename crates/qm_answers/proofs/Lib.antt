@@ -1,5 +1,6 @@
 pub mod OneAnswer
 pub mod Places
+pub mod PrintableAnswers
 pub mod SectionKinds
 pub mod Told
 pub mod UpgradedAnswers

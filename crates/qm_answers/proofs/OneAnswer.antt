@@ -9,15 +9,16 @@ use Rattle.qm_contacts.specs.NumberedLeaves.{is_numbered}
 use Rattle.qm_contacts.specs.Portals.{leaf_number}
 use Rattle.qm_contacts.proofs.Numbers.{leaf_at_number, number_at_leaf}
 use Rattle.qm_formats.specs.TreeFile.{TreeFile}
+use Rattle.qm_commands.specs.declared.millionths.Millionths.{Millionths}
 use Rattle.qm_commands.specs.declared.query.Query.{Query}
 use Rattle.qm_commands.specs.declared.query.Query.TheVariants as queries
 use Rattle.qm_answers.specs.declared.answer.Answer.{Answer}
-use Rattle.qm_answers.specs.declared.answer.Answer.TheVariants.{Place, Hull}
+use Rattle.qm_answers.specs.declared.answer.Answer.TheVariants.{Place, Hull, Trace, HullTrace}
 use Rattle.qm_answers.specs.declared.query_fault.QueryFault.{QueryFault}
 use Rattle.qm_answers.specs.declared.decoded_section.DecodedSection.{DecodedSection}
 use Rattle.qm_answers.specs.declared.decoded_section.DecodedSection.TheVariants.{Missing, Bad, Known}
 use Rattle.qm_answers.specs.DecodedSections.{decoded_hull}
-use Rattle.qm_answers.specs.Answers.{IsNumberOfLeaf, IsPlaceAnswer, AnswersPlace, AnswersWhere, AnswersBySection, is_solid_at, AnswersHull, AnswersQuery}
+use Rattle.qm_answers.specs.Answers.{IsNumberOfLeaf, IsPlaceAnswer, AnswersPlace, AnswersWhere, AnswersBySection, is_solid_at, AnswersHull, AnswersByTree, AnswersTrace, AnswersHullTrace, AnswersQuery}
 
 -- ---- numbers of leaves
 
@@ -78,6 +79,20 @@ unfolding AnswersHull
 one_hull_answer file hull point =
     one_where _ _ _ (one_by_section (decoded_hull file hull) (λ found answer. answer ≡ Ok (Hull (is_solid_at found.tree point))) (λ found a b is_a is_b. is_b ∙ sym is_a))
 
+-- ---- traces
+
+one_by_tree : (tree : Tree) (trace : Answer) → HasOne (AnswersByTree tree trace)
+one_by_tree tree trace = one_where _ _ _ (λ a b is_a is_b. is_b ∙ sym is_a)
+
+one_trace_answer : (file : TreeFile) (from to : Millionths) → HasOne (AnswersTrace file from to)
+unfolding AnswersTrace
+one_trace_answer file from to = one_where _ _ _ (one_by_tree file.tree (Trace from to))
+
+one_hull_trace_answer : (file : TreeFile) (hull : ℕ) (from to : Millionths) → HasOne (AnswersHullTrace file hull from to)
+unfolding AnswersHullTrace
+one_hull_trace_answer file hull from to =
+    one_where _ _ _ (one_by_section (decoded_hull file hull) (λ found. AnswersByTree found.tree (HullTrace hull from to)) (λ found. one_by_tree found.tree (HullTrace hull from to)))
+
 -- ---- queries
 
 pub one_answer : (file : TreeFile) (query : Query) (a b : Result Answer QueryFault) → AnswersQuery file query a → AnswersQuery file query b → b ≡ a
@@ -85,6 +100,8 @@ unfolding AnswersQuery
 one_answer file queries.Count a b is_a is_b = is_b ∙ sym is_a
 one_answer file (queries.At x y z) a b is_a is_b = one_place_answer file _ a b is_a is_b
 one_answer file (queries.Hull hull x y z) a b is_a is_b = one_hull_answer file hull _ a b is_a is_b
+one_answer file (queries.Trace from to) a b is_a is_b = one_trace_answer file from to a b is_a is_b
+one_answer file (queries.HullTrace hull from to) a b is_a is_b = one_hull_trace_answer file hull from to a b is_a is_b
 one_answer file (queries.Row n) a b is_a is_b = is_b ∙ sym is_a
 one_answer file (queries.Sees n m) a b is_a is_b = is_b ∙ sym is_a
 one_answer file queries.Parts a b is_a is_b = is_b ∙ sym is_a

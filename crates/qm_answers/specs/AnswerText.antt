@@ -1,12 +1,22 @@
-use Rattle.std.specs.Prelude.{ℕ, ◌+◌, Bool, List, [], ◌∷◌, ◌++◌, slice_index_or, Option, Some, None, codes, if◌then◌else◌}
+use Rattle.std.specs.Prelude.{ℕ, ◌+◌, Bool, List, [], ◌∷◌, ◌++◌, slice_get, slice_index_or, Option, Some, None, codes, if◌then◌else◌}
 use Rattle.std.specs.Fmt.{decimal}
 use Rattle.qm_contents.specs.declared.contents.Contents.{Contents}
 use Rattle.qm_contents.specs.declared.contents.Contents.TheVariants.{Empty, Solid, Water, Slime, Lava, Sky}
+use Rattle.qm_partition.specs.declared.node.Leaf.{Leaf}
+use Rattle.qm_partition.specs.Tree.{Tree}
+use Rattle.qm_partition.specs.Counting.{leaves_of}
+use Rattle.qm_spans.specs.declared.span.Span.{Span}
+use Rattle.qm_spans.specs.ComputedSpans.{trace_of}
 use Rattle.qm_formats.specs.TreeFile.{Section, TreeFile}
+use Rattle.qm_commands.specs.declared.millionths.Millionths.{Millionths}
 use Rattle.qm_answers.specs.declared.answer.Answer.{Answer}
-use Rattle.qm_answers.specs.declared.answer.Answer.TheVariants.{Count, Place, Hull, Row, Sees, Parts}
+use Rattle.qm_answers.specs.declared.answer.Answer.TheVariants.{Count, Place, Hull, Trace, HullTrace, Row, Sees, Parts}
 use Rattle.qm_answers.specs.declared.query_fault.QueryFault.{QueryFault}
-use Rattle.qm_answers.specs.declared.query_fault.QueryFault.TheVariants.{OutsideCube, NoSuchLeaf, NoRows, NoPart, BadPart}
+use Rattle.qm_answers.specs.declared.query_fault.QueryFault.TheVariants.{OutsideCube, NoSuchLeaf, NoRows, NoPart, BadPart, TooWide}
+use Rattle.qm_answers.specs.declared.decoded_section.DecodedSection.{DecodedSection}
+use Rattle.qm_answers.specs.declared.decoded_section.DecodedSection.TheVariants.{Missing, Bad, Known}
+use Rattle.qm_answers.specs.Answers.{point_of}
+use Rattle.qm_answers.specs.DecodedSections.{decoded_hull}
 
 -- How answers and refusals are printed.
 
@@ -64,6 +74,40 @@ words_of_place leaf contents filled number =
 abbrev pub words_of_hull : Bool → List ℕ
 words_of_hull solid = if solid then codes "hull solid" else codes "hull empty"
 
+-- the words of a span of a leaf: where it ends is a fraction of the segment's length
+unfoldable pub words_of_span : Leaf → Span → List ℕ
+words_of_span found span =
+    codes "leaf " ++ (decimal span.leaf ++ (32 ∷ (name_of_contents found.contents
+    ++ (filled_words found.filled ++ (codes " to " ++ (decimal span.to.0 ++ (47 ∷ decimal span.to.1)))))))
+
+-- those of a span of the leaf at a place; one that is not there has no words
+abbrev pub words_of_span_of : Option Leaf → Span → List ℕ
+words_of_span_of None span = []
+words_of_span_of (Some found) span = words_of_span found span
+
+abbrev pub span_words : Tree → Span → List ℕ
+span_words tree span = words_of_span_of (slice_get (leaves_of tree.shape) span.leaf) span
+
+-- spans, each on a line of its own behind the line before
+unfoldable pub words_of_later_spans : Tree → List Span → List ℕ
+words_of_later_spans tree [] = []
+words_of_later_spans tree (span ∷ spans) = 10 ∷ (span_words tree span ++ words_of_later_spans tree spans)
+
+-- spans, each on a line of its own
+unfoldable pub words_of_spans : Tree → List Span → List ℕ
+words_of_spans tree [] = []
+words_of_spans tree (span ∷ spans) = span_words tree span ++ words_of_later_spans tree spans
+
+-- the words of the trace of a segment
+abbrev pub words_of_trace : Tree → (from to : Millionths) → List ℕ
+words_of_trace tree from to = words_of_spans tree (trace_of tree (point_of from) (point_of to))
+
+-- those of the trace through a hull; a hull that is not known has none
+abbrev pub words_of_hull_trace : DecodedSection TreeFile → (from to : Millionths) → List ℕ
+words_of_hull_trace Missing from to = []
+words_of_hull_trace Bad from to = []
+words_of_hull_trace (Known hull) from to = words_of_trace hull.tree from to
+
 -- the words of the row of a numbered leaf
 unfoldable pub words_of_row : TreeFile → ℕ → List ℕ
 words_of_row file n = codes "row " ++ (decimal n ++ (58 ∷ set_places 0 (printed_row file n)))
@@ -78,11 +122,13 @@ unfoldable pub answer_words : TreeFile → Answer → List ℕ
 answer_words file (Count planes nodes leaves numbered rows) = words_of_count planes nodes leaves numbered rows
 answer_words file (Place leaf contents filled number) = words_of_place leaf contents filled number
 answer_words file (Hull solid) = words_of_hull solid
+answer_words file (Trace from to) = words_of_trace file.tree from to
+answer_words file (HullTrace hull from to) = words_of_hull_trace (decoded_hull file hull) from to
 answer_words file (Row n) = words_of_row file n
 answer_words file (Sees sees) = yes_or_no sees
 answer_words file Parts = words_of_parts file
 
--- the line of an answer
+-- the line of an answer, or its lines
 abbrev pub answer_line : TreeFile → Answer → List ℕ
 answer_line file answer = answer_words file answer ++ (10 ∷ [])
 
@@ -93,3 +139,4 @@ words_of_refusal NoSuchLeaf = codes "no such leaf"
 words_of_refusal NoRows = codes "no rows"
 words_of_refusal NoPart = codes "no part"
 words_of_refusal BadPart = codes "bad part"
+words_of_refusal TooWide = codes "plane too wide"

@@ -5,12 +5,14 @@ use Rattle.qm_partition.specs.LeafOfPoint.{leaf_at, leaf_record_at}
 use Rattle.qm_partition.specs.Tree.{Tree}
 use Rattle.qm_contacts.specs.NumberedLeaves.{is_solid, is_numbered, numbered_leaves}
 use Rattle.qm_formats.specs.TreeFile.{TreeFile}
+use Rattle.qm_spans.specs.SegmentTrace.{FitsTraces}
+use Rattle.qm_commands.specs.declared.millionths.Millionths.{Millionths}
 use Rattle.qm_commands.specs.declared.query.Query.{Query}
 use Rattle.qm_commands.specs.declared.query.Query.TheVariants as queries
 use Rattle.qm_answers.specs.declared.answer.Answer.{Answer}
-use Rattle.qm_answers.specs.declared.answer.Answer.TheVariants.{Count, Place, Hull, Row, Sees, Parts}
+use Rattle.qm_answers.specs.declared.answer.Answer.TheVariants.{Count, Place, Hull, Trace, HullTrace, Row, Sees, Parts}
 use Rattle.qm_answers.specs.declared.query_fault.QueryFault.{QueryFault}
-use Rattle.qm_answers.specs.declared.query_fault.QueryFault.TheVariants.{OutsideCube, NoSuchLeaf, NoRows, NoPart, BadPart}
+use Rattle.qm_answers.specs.declared.query_fault.QueryFault.TheVariants.{OutsideCube, NoSuchLeaf, NoRows, NoPart, BadPart, TooWide}
 use Rattle.qm_answers.specs.declared.decoded_section.DecodedSection.{DecodedSection}
 use Rattle.qm_answers.specs.declared.decoded_section.DecodedSection.TheVariants.{Missing, Bad, Known}
 use Rattle.qm_answers.specs.DecodedSections.{decoded_hull}
@@ -86,11 +88,36 @@ answer_to_sees file n m =
 abbrev pub point_in_millionths : (x y z : ℤ) → Point
 point_in_millionths x y z = record { x = x; y = y; z = z; w = pos 1000000 }
 
+-- the point of coordinates in millionths
+abbrev pub point_of : Millionths → Point
+point_of at = point_in_millionths at.x at.y at.z
+
+-- both ends of a segment are inside the cube of a bound
+pub record HasEndsInside (bound : ℕ) (from to : Millionths) : Type 0 where
+  pub start : IsInsideBound bound (point_of from)
+  pub end : IsInsideBound bound (point_of to)
+
+-- a tree whose planes are near enough has the trace
+abbrev pub AnswersByTree : Tree → Answer → Result Answer QueryFault → Type 0
+AnswersByTree tree trace answer = AnswersWhere (FitsTraces tree) TooWide (λ answer. answer ≡ Ok trace) answer
+
+-- the trace of a segment through the file's own tree
+unfoldable pub AnswersTrace : TreeFile → (from to : Millionths) → Result Answer QueryFault → Type 0
+AnswersTrace file from to answer = AnswersWhere (HasEndsInside file.bound from to) OutsideCube (AnswersByTree file.tree (Trace from to)) answer
+
+-- the trace of a segment through a hull
+unfoldable pub AnswersHullTrace : TreeFile → ℕ → (from to : Millionths) → Result Answer QueryFault → Type 0
+AnswersHullTrace file hull from to answer =
+    AnswersWhere (HasEndsInside file.bound from to) OutsideCube
+    (AnswersBySection (decoded_hull file hull) (λ found. AnswersByTree found.tree (HullTrace hull from to))) answer
+
 -- what a file answers to a query
 unfoldable pub AnswersQuery : TreeFile → Query → Result Answer QueryFault → Type 0
 AnswersQuery file queries.Count answer = answer ≡ Ok (answer_to_count file)
 AnswersQuery file (queries.At x y z) answer = AnswersPlace file (point_in_millionths x y z) answer
 AnswersQuery file (queries.Hull hull x y z) answer = AnswersHull file hull (point_in_millionths x y z) answer
+AnswersQuery file (queries.Trace from to) answer = AnswersTrace file from to answer
+AnswersQuery file (queries.HullTrace hull from to) answer = AnswersHullTrace file hull from to answer
 AnswersQuery file (queries.Row n) answer = answer ≡ answer_to_row file n
 AnswersQuery file (queries.Sees n m) answer = answer ≡ answer_to_sees file n m
 AnswersQuery file queries.Parts answer = answer ≡ Ok Parts

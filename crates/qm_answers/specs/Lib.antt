@@ -2,4 +2,5 @@ pub mod AllAnswers
 pub mod Answers
 pub mod AnswerText
 pub mod DecodedSections
+pub mod Printable
 pub mod SameAnswers

@@ -1,3 +1,4 @@
+use qm_commands::Millionths;
 use qm_contents::Contents;
 
 /// What a tree file answers to a query.
@@ -20,6 +21,17 @@ pub enum Answer {
     },
     /// Whether a hull is solid at a point.
     Hull(bool),
+    /// The trace of this segment is there.
+    Trace {
+        from: Millionths,
+        to: Millionths,
+    },
+    /// The trace of this segment through a hull is there.
+    HullTrace {
+        hull: u8,
+        from: Millionths,
+        to: Millionths,
+    },
     /// The row of this numbered leaf is there.
     Row(u64),
     /// Whether the one leaf's row has the other.

@@ -1,7 +1,7 @@
 /// Why a query is refused.
 #[derive(Clone, Copy)]
 pub enum QueryFault {
-    /// The point is not strictly inside the cube of the file's bound.
+    /// The point, or an end of the segment, is not strictly inside the cube of the file's bound.
     OutsideCube,
     /// There are not that many numbered leaves.
     NoSuchLeaf,
@@ -11,4 +11,6 @@ pub enum QueryFault {
     NoPart,
     /// The reader of its kind refuses the section that is asked.
     BadPart,
+    /// The plane of a node is too far from the cube for traces.
+    TooWide,
 }

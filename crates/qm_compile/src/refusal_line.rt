@@ -28,5 +28,6 @@ fn words_of_refusal(fault: QueryFault) -> &'static str
         QueryFault::NoRows => "no rows",
         QueryFault::NoPart => "no part",
         QueryFault::BadPart => "bad part",
+        QueryFault::TooWide => "plane too wide",
     }
 }

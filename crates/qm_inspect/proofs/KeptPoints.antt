@@ -1,5 +1,5 @@
 -- Points as the code keeps their numbers, what is answered at them, and whether they are inside a cube.
-use Rattle.std.proofs.Common.{◌≡◌, ◌∙◌, ◌<◌, ◌*◌, inl, ℕ, ℤ, pos, unsigned_abs, FitsSigned, w64, subst, arith, Result, Ok}
+use Rattle.std.proofs.Common.{◌≡◌, ◌∙◌, ◌<◌, ◌*◌, inl, inr, ℕ, ℤ, pos, unsigned_abs, FitsSigned, w64, refl, sym, subst, arith, Result, Ok, Err}
 use Rattle.std.specs.Prelude.{◌↔◌, max}
 use Rattle.std.proofs.lemmas.Int.{ints, to_z-of_z}
 use Rattle.qm_numbers.proofs.Kept.{kept}
@@ -10,6 +10,7 @@ use Rattle.qm_answers.specs.declared.answer.Answer.{Answer}
 use Rattle.qm_answers.specs.declared.answer.Answer.TheVariants.{Hull}
 use Rattle.qm_answers.specs.declared.decoded_section.DecodedSection.{DecodedSection}
 use Rattle.qm_answers.specs.declared.query_fault.QueryFault.{QueryFault}
+use Rattle.qm_answers.specs.declared.query_fault.QueryFault.TheVariants.{OutsideCube}
 use Rattle.qm_answers.specs.Answers.{point_in_millionths, IsPlaceAnswer, AnswersPlace, AnswersBySection, is_solid_at, AnswersHull}
 use Rattle.qm_inspect.specs.declared.parts.Parts.{Parts}
 use Rattle.qm_inspect.specs.Parts.{ArePartsOf, hull_in}
@@ -46,6 +47,16 @@ module _ (x y z : ℤ) (fx : FitsSigned w64 x) (fy : FitsSigned w64 y) (fz : Fit
           (section_is ∙ hull_of_file file parts hull are)
           (subst (λ (at : Point). AnswersBySection section (λ found given. given ≡ Ok (Hull (is_solid_at found.tree at))) answer) (point_is ∙ same_point) is),
     )
+
+  -- a point that is not inside when it is kept is not inside
+  outside : (file : TreeFile) (bound : ℕ) → bound ≡ file.bound → (IsInsideBound bound (point_in_millionths (kept w64 x) (kept w64 y) (kept w64 z)) → ⊥) → IsInsideBound file.bound (point_in_millionths x y z) → ⊥
+  outside file bound bound_is not_kept is =
+      not_kept (subst (λ (b : ℕ). IsInsideBound b (point_in_millionths (kept w64 x) (kept w64 y) (kept w64 z))) (sym bound_is) (subst (IsInsideBound file.bound) (sym same_point) is))
+
+  pub hull_outside :
+      (file : TreeFile) (bound hull : ℕ) → bound ≡ file.bound → (IsInsideBound bound (point_in_millionths (kept w64 x) (kept w64 y) (kept w64 z)) → ⊥) → AnswersHull file hull (point_in_millionths x y z) (Err OutsideCube)
+  unfolding AnswersHull
+  hull_outside file bound hull bound_is not_kept = inr (outside file bound bound_is not_kept, refl)
 
 -- ---- a coordinate in millionths
 

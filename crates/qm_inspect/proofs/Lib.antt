@@ -1,4 +1,6 @@
 pub mod CountedBlocks
 pub mod HullsOfFiles
 pub mod KeptPoints
+pub mod PrintedSpans
 pub mod SetPlaces
+pub mod TraceAnswers

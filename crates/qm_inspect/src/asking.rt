@@ -1,9 +1,10 @@
 //! What a tree file answers to a query.
 
-ghost use Rattle.std.specs.Prelude.{◌≡◌, Result};
+ghost use Rattle.std.specs.Prelude.{◌≡◌, IfOk, Result};
 ghost use Rattle.qm_partition.specs.Counting.{leaves_of};
 ghost use Rattle.qm_formats.specs.TreeFile.{IsValidFile};
 ghost use Rattle.qm_answers.specs.Answers.{AnswersQuery, answer_to_count};
+ghost use Rattle.qm_answers.specs.Printable.{IsPrintable};
 ghost use Rattle.qm_inspect.specs.inner.BlockCounts.{AreBlockCounts};
 ghost use Rattle.qm_inspect.specs.Parts.{ArePartsOf};
 
@@ -12,6 +13,7 @@ use crate::numbered::numbered;
 use crate::parts::Parts;
 use crate::places::place;
 use crate::rows::{row, sees};
+use crate::traces::{hull_trace, trace};
 use qm_answers::{Answer, QueryFault};
 use qm_commands::Query;
 use qm_file::TreeFile;
@@ -19,11 +21,13 @@ use qm_file::TreeFile;
 /// What a tree file answers to a query. `OutsideCube` exactly for a point that is not strictly inside the cube of the file's
 /// bound, `NoSuchLeaf` exactly for a number that no numbered leaf has, `NoRows` exactly where that leaf is there and rows are not.
 /// For a hull at a point inside, `NoPart` exactly where the file has no section of it, and `BadPart` exactly where its reader
-/// refuses that section. It takes no memory.
+/// refuses that section. For a trace the same, of both ends, and then `TooWide` exactly where the plane of a node is too far.
+/// It takes no memory.
 pub fn query(file: &TreeFile, parts: &Parts, ask: &Query) -> Result<Answer, QueryFault>
     requires valid { IsValidFile file.now }
     requires parts { ArePartsOf file.now parts.now }
     ensures answers { AnswersQuery file.now ask.now result }
+    ensures printable { IfOk result (IsPrintable file.now) }
 
     // There is no other answer.
     ensures only { (other : Result Answer QueryFault) → AnswersQuery file.now ask.now other → other ≡ result }
@@ -56,6 +60,12 @@ pub(crate) fn answer(
             y,
             z,
         } => hull(file, parts, number, x, y, z),
+        Query::Trace { from, to } => trace(file, parts, from, to),
+        Query::HullTrace {
+            hull: number,
+            from,
+            to,
+        } => hull_trace(file, parts, number, from, to),
         Query::Row(n) => row(file, counts, n),
         Query::Sees(n, m) => sees(file, counts, n, m),
         Query::Parts => Ok(Answer::Parts),

@@ -7,8 +7,9 @@ ghost use Rattle.qm_answers.specs.Answers.{point_in_millionths, is_solid_at, Ans
 ghost use Rattle.qm_inspect.specs.Parts.{ArePartsOf};
 
 use crate::parts::Parts;
-use crate::places::{is_inside_bound, point_in_millionths};
+use crate::places::{is_inside_bound, point_of};
 use qm_answers::{Answer, DecodedSection, QueryFault};
+use qm_commands::Millionths;
 use qm_contents::Contents;
 use qm_file::TreeFile;
 use qm_geom::Point;
@@ -29,10 +30,11 @@ pub(crate) fn hull(
     requires { ArePartsOf file.now parts.now }
     ensures { AnswersHull file.now hull (point_in_millionths x y z) result }
 {
-    if !is_inside_bound(file.bound, x, y, z) {
+    let at = Millionths { x, y, z };
+    if !is_inside_bound(file.bound, at) {
         return Err(QueryFault::OutsideCube);
     }
-    let point = point_in_millionths(x, y, z);
+    let point = point_of(at);
     answer_at(parts.hull(hull), &point)
 }
 

@@ -3,10 +3,16 @@
 ghost use Rattle.std.specs.Prelude.{◌≡◌, ◌↔◌, ℕ, List};
 ghost use Rattle.qm_space.specs.Bounds.{world_extent};
 ghost use Rattle.qm_space.specs.Point.{Point, IsInCube};
+ghost use Rattle.qm_partition.specs.Tree.{Tree};
+ghost use Rattle.qm_spans.specs.declared.span.Span.{Span};
+ghost use Rattle.qm_spans.specs.SegmentTrace.{IsSegmentTrace};
+ghost use Rattle.qm_spans.specs.ComputedSpans.{trace_of};
 ghost use Rattle.qm_formats.specs.TreeFile.{TreeFile as FileRecord};
+ghost use Rattle.qm_commands.specs.declared.millionths.Millionths.{Millionths};
 ghost use Rattle.qm_formats.specs.Upgraded.{upgraded};
 ghost use Rattle.qm_commands.specs.declared.query.Query.{Query};
 ghost use Rattle.qm_answers.specs.declared.query_fault.QueryFault.{QueryFault};
+ghost use Rattle.qm_answers.specs.Answers.{point_of};
 ghost use Rattle.qm_answers.specs.AllAnswers.{AreAnswered, IsFirstRefused};
 ghost use Rattle.qm_space.specs.InsideBound.{IsInsideBound};
 ghost use Rattle.qm_answers.specs.SameAnswers.{HaveSameAnswers};
@@ -26,4 +32,10 @@ pub fn same_answers()
 /// The cube of a file whose bound is the world's extent is the world's cube.
 pub fn same_cube()
     ensures { (point : Point) → IsInsideBound world_extent point ↔ IsInCube point }
+{}
+
+/// The spans that are printed of a segment are its trace through the tree, and no other spans are.
+pub fn exact_traces()
+    ensures are_trace { (tree : Tree) (from to : Millionths) → IsSegmentTrace tree (point_of from) (point_of to) (trace_of tree (point_of from) (point_of to)) }
+    ensures only { (tree : Tree) (from to : Millionths) (other : List Span) → IsSegmentTrace tree (point_of from) (point_of to) other → other ≡ trace_of tree (point_of from) (point_of to) }
 {}

@@ -4,6 +4,7 @@
 mod asking;
 mod hulls;
 mod laws;
+mod names;
 mod numbered;
 mod parts;
 mod places;
@@ -12,9 +13,11 @@ mod room;
 mod row_places;
 mod rows;
 mod telling;
+mod trace_lines;
+mod traces;
 
 pub use asking::query;
-pub use laws::{same_answers, same_cube, told_once};
+pub use laws::{exact_traces, same_answers, same_cube, told_once};
 pub use parts::Parts;
 pub use printing::print;
 pub use qm_answers::{Answer, QueryFault};

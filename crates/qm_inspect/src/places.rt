@@ -2,12 +2,13 @@
 
 ghost use Rattle.std.specs.Prelude.{◌≡◌, IsTrue, ◌↔◌};
 ghost use Rattle.qm_partition.specs.Counting.{leaves_of};
-ghost use Rattle.qm_answers.specs.Answers.{point_in_millionths, IsPlaceAnswer, AnswersPlace};
+ghost use Rattle.qm_answers.specs.Answers.{point_in_millionths, point_of, IsPlaceAnswer, AnswersPlace};
 ghost use Rattle.qm_space.specs.InsideBound.{IsInsideBound};
 ghost use Rattle.qm_inspect.specs.inner.BlockCounts.{AreBlockCounts};
 
 use crate::numbered::number_of_leaf;
 use qm_answers::{Answer, QueryFault};
+use qm_commands::Millionths;
 use qm_file::TreeFile;
 use qm_geom::Point;
 use qm_tree::Tree;
@@ -27,31 +28,36 @@ pub(crate) fn place(
     requires { AreBlockCounts (leaves_of file.now.tree.shape) counts.now }
     ensures { AnswersPlace file.now (point_in_millionths x y z) result }
 {
-    if !is_inside_bound(file.bound, x, y, z) {
+    let at = Millionths { x, y, z };
+    if !is_inside_bound(file.bound, at) {
         return Err(QueryFault::OutsideCube);
     }
-    let point = point_in_millionths(x, y, z);
+    let point = point_of(at);
     Ok(answer_at(&file.tree, counts, &point))
 }
 
-/// The point whose coordinates are given in millionths.
-pub(crate) fn point_in_millionths(x: i64, y: i64, z: i64) -> Point
-    ensures { result ≡ point_in_millionths x y z }
+/// The point of coordinates in millionths.
+pub(crate) fn point_of(at: Millionths) -> Point
+    ensures { result ≡ point_of at }
 {
     Point {
-        x,
-        y,
-        z,
+        x: at.x,
+        y: at.y,
+        z: at.z,
         w: PARTS_OF_UNIT,
     }
 }
 
 /// Whether a point, whose coordinates are given in millionths, lies strictly inside the cube of a bound: so does the one of
 /// them that is farthest from 0.
-pub(crate) fn is_inside_bound(bound: u32, x: i64, y: i64, z: i64) -> bool
-    ensures { IsTrue result ↔ IsInsideBound bound (point_in_millionths x y z) }
+pub(crate) fn is_inside_bound(bound: u32, at: Millionths) -> bool
+    ensures { IsTrue result ↔ IsInsideBound bound (point_of at) }
 {
-    let farthest = x.unsigned_abs().max(y.unsigned_abs()).max(z.unsigned_abs());
+    let farthest = at
+        .x
+        .unsigned_abs()
+        .max(at.y.unsigned_abs())
+        .max(at.z.unsigned_abs());
     farthest < u64::from(bound) * PARTS_OF_UNIT as u64
 }
 

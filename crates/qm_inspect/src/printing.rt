@@ -2,46 +2,66 @@
 
 ghost use Rattle.std.specs.Prelude.{◌≡◌, ◌++◌, ◌∷◌, OnOk, OnErr, string_bytes};
 ghost use Rattle.std.specs.Fmt.{decimal};
-ghost use Rattle.qm_answers.specs.AnswerText.{name_of_contents, number_words, filled_words, yes_or_no, printed_row, section_kinds, set_places, words_of_count, words_of_place, words_of_hull, words_of_row, words_of_parts, answer_words, answer_line};
+ghost use Rattle.qm_formats.specs.TreeFile.{IsValidFile};
+ghost use Rattle.qm_answers.specs.AnswerText.{number_words, yes_or_no, printed_row, section_kinds, set_places, words_of_count, words_of_place, words_of_hull, words_of_row, words_of_parts, answer_words, answer_line};
+ghost use Rattle.qm_answers.specs.Printable.{IsPrintable};
+ghost use Rattle.qm_inspect.specs.Parts.{ArePartsOf};
 
+use crate::names::{name_of, put_filled};
 use crate::parts::Parts;
 use crate::row_places::put_set_places;
+use crate::trace_lines::{put_hull_trace, put_trace};
 use qm_answers::Answer;
 use qm_contents::Contents;
 use qm_file::{Section, TreeFile};
 use std::alloc::{AllocError, Global};
 
-/// Appends the line of an answer. After an error `out` is as it was. Each line is one of the file alone: parts are not read.
+/// Appends the lines of an answer that the file gives: one, and of a trace one for each span. After an error `out` is as it was.
 pub fn print(
     alloc: Global,
     file: &TreeFile,
-    _parts: &Parts,
+    parts: &Parts,
     answer: &Answer,
     out: &mut Vec<u8>,
 ) -> Result<(), AllocError>
+    requires valid { IsValidFile file.now }
+    requires parts { ArePartsOf file.now parts.now }
+    requires printable { IsPrintable file.now answer.now }
     ensures ok { OnOk result (out.new.items ≡ out.old.items ++ answer_line file.now answer.now) }
     ensures err { OnErr result (out.new.items ≡ out.old.items) }
 {
     let mut line = String::new(alloc);
-    put_line(&mut line, file, answer)?;
+    put_line(&mut line, file, parts, answer)?;
     out.extend_from_slice(line.as_bytes())
 }
 
-/// Adds the line of an answer. No copy of it is kept.
+/// Adds the lines of an answer. No copy of them is kept.
 pub(crate) fn put_line(
     text: &mut String,
     file: &TreeFile,
+    parts: &Parts,
     answer: &Answer,
 ) -> Result<(), AllocError>
+    requires valid { IsValidFile file.now }
+    requires parts { ArePartsOf file.now parts.now }
+    requires printable { IsPrintable file.now answer.now }
     ensures { OnOk result (string_bytes text.new ≡ string_bytes text.old ++ answer_line file.now answer.now) }
 {
-    put_words(text, file, answer)?;
+    put_words(text, file, parts, answer)?;
     text.push('\n')
 }
 
 /// Adds the words of an answer.
 #[tactic(auto, unfolding(qm_answers::specs::AnswerText::answer_words))]
-fn put_words(text: &mut String, file: &TreeFile, answer: &Answer) -> Result<(), AllocError>
+fn put_words(
+    text: &mut String,
+    file: &TreeFile,
+    parts: &Parts,
+    answer: &Answer,
+) -> Result<(), AllocError>
+    requires valid { IsValidFile file.now }
+    requires parts { ArePartsOf file.now parts.now }
+    requires printable { IsPrintable file.now answer.now }
     ensures { OnOk result (string_bytes text.new ≡ string_bytes text.old ++ answer_words file.now answer.now) }
 {
     match *answer {
@@ -59,6 +79,10 @@ fn put_words(text: &mut String, file: &TreeFile, answer: &Answer) -> Result<(), 
             number,
         } => put_place(text, leaf, contents, filled, number),
         Answer::Hull(solid) => text.push_str(hull_words(solid)),
+        Answer::Trace { from, to } => put_trace(text, &file.tree, file.bound, from, to),
+        Answer::HullTrace { hull, from, to } => {
+            put_hull_trace(text, parts.hull(hull), file.bound, from, to)
+        }
         Answer::Row(n) => put_row(text, file, n),
         Answer::Sees(sees) => text.push_str(yes_or_no(sees)),
         Answer::Parts => put_parts(text, file),
@@ -134,36 +158,12 @@ fn hull_words(solid: bool) -> &'static str
     if solid { "hull solid" } else { "hull empty" }
 }
 
-/// The name of contents.
-fn name_of(contents: Contents) -> &'static str
-    ensures { result.now ≡ name_of_contents contents }
-{
-    match contents {
-        Contents::Empty => "empty",
-        Contents::Solid => "solid",
-        Contents::Water => "water",
-        Contents::Slime => "slime",
-        Contents::Lava => "lava",
-        Contents::Sky => "sky",
-    }
-}
-
 /// Adds the number of a leaf, where it has one.
 fn put_number(text: &mut String, number: Option<u64>) -> Result<(), AllocError>
     ensures { OnOk result (string_bytes text.new ≡ string_bytes text.old ++ number_words number) }
 {
     if let Some(number) = number {
         write!(text, " number {number}")?;
-    }
-    Ok(())
-}
-
-/// Adds that a leaf is filled, where it is.
-fn put_filled(text: &mut String, filled: bool) -> Result<(), AllocError>
-    ensures { OnOk result (string_bytes text.new ≡ string_bytes text.old ++ filled_words filled) }
-{
-    if filled {
-        text.push_str(" filled")?;
     }
     Ok(())
 }

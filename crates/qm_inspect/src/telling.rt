@@ -34,7 +34,7 @@ pub fn tell(alloc: Global, file: &TreeFile, queries: &[Query]) -> Result<Told, A
     let mut lines = String::with_capacity(alloc, room)?;
     for k in 0..queries.len() {
         match answer(file, &parts, &counts, &queries[k]) {
-            Ok(answer) => put_line(&mut lines, file, &answer)?,
+            Ok(answer) => put_line(&mut lines, file, &parts, &answer)?,
             Err(fault) => {
                 return Ok(Told::Refused {
                     number: k as u64 + 1,

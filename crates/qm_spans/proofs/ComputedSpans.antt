@@ -20,8 +20,8 @@ use Rattle.qm_spans.specs.declared.parting.Parting.{Parting}
 use Rattle.qm_spans.specs.Place.{PlaceOnSegment, end_place, point_on}
 use Rattle.qm_spans.specs.Spans.{AreSpans, AreLeavesThere}
 use Rattle.qm_spans.specs.SegmentTrace.{IsSegmentTrace}
-use Rattle.qm_spans.specs.inner.Partings.{start_parting, end_parting, crossing_at, crosses_between, is_behind_after, lowest_place}
-use Rattle.qm_spans.specs.inner.ComputedSpans.{spans_between, spans_from, trace_of}
+use Rattle.qm_spans.specs.Partings.{start_parting, end_parting, crossing_at, crosses_between, is_behind_after, lowest_place}
+use Rattle.qm_spans.specs.ComputedSpans.{spans_between, spans_from, trace_of}
 use Rattle.qm_spans.proofs.PartingOrder.{parts, IsEarlier, parts_behind, parts_before, earlier_then_earlier}
 use Rattle.qm_spans.proofs.PlaneEnds.{value_at, value_on, sides_differ}
 use Rattle.qm_spans.proofs.PlaneSides.{crossed, one_side, side_before, side_after}

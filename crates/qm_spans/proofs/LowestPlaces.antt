@@ -6,7 +6,7 @@ use Rattle.qm_numbers.specs.Gcd.{gcd, gcd_within}
 use Rattle.qm_numbers.proofs.Divisors.{gcd_divides_left, gcd_divides_right, divides_gcd}
 use Rattle.qm_spans.specs.declared.parting.Parting.{Parting}
 use Rattle.qm_spans.specs.Place.{PlaceOnSegment, start_place, end_place, place_by_parts, IsEarlierPlace, IsLowestPlace}
-use Rattle.qm_spans.specs.inner.Partings.{start_parting, end_parting, lowest_place}
+use Rattle.qm_spans.specs.Partings.{start_parting, end_parting, lowest_place}
 use Rattle.qm_spans.proofs.PartingOrder.{parts, IsEarlier, parts_behind, parts_before}
 
 pub lowest_start : lowest_place start_parting ≡ start_place

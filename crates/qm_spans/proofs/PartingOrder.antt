@@ -3,7 +3,7 @@ use Rattle.std.proofs.Common.{◌≡◌, ℕ, zero, suc, ◌*◌, ◌<◌, ◌�
 use Rattle.std.proofs.lemmas.Bool.{ltb-true, ltb-false, lt-ltb, le-ltb, cases_lt}
 use Rattle.std.proofs.Math.Nat.{mul-lt-mul_of_pos_right, lt_of_mul-lt-mul_left}
 use Rattle.qm_spans.specs.declared.parting.Parting.{Parting}
-use Rattle.qm_spans.specs.inner.Partings.{is_earlier}
+use Rattle.qm_spans.specs.Partings.{is_earlier}
 
 -- the parting with j parts before it and i parts behind it
 abbrev pub parts : (i j : ℕ) → Parting

@@ -9,7 +9,7 @@ use Rattle.qm_space.specs.Plane.{Plane, value}
 use Rattle.qm_space.proofs.Planes.{value_sum, value_times}
 use Rattle.qm_spans.specs.declared.parting.Parting.{Parting}
 use Rattle.qm_spans.specs.Place.{point_on}
-use Rattle.qm_spans.specs.inner.Partings.{are_opposed, crossing_at}
+use Rattle.qm_spans.specs.Partings.{are_opposed, crossing_at}
 use Rattle.qm_spans.proofs.PartingOrder.{IsEarlier}
 
 -- the value at a parting of a plane with the values u and v at the ends

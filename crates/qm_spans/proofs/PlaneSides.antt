@@ -4,7 +4,7 @@ use Rattle.std.proofs.Common.{◌≡◌, ◌<◌, ℤ, pos, Bool, true, false, �
 use Rattle.std.specs.Prelude.{int_lt}
 use Rattle.qm_lists.proofs.Cases.{by_cases}
 use Rattle.qm_spans.specs.declared.parting.Parting.{Parting}
-use Rattle.qm_spans.specs.inner.Partings.{is_earlier, are_opposed, crossing_at, crosses_between, is_behind_after}
+use Rattle.qm_spans.specs.Partings.{is_earlier, are_opposed, crossing_at, crosses_between, is_behind_after}
 use Rattle.qm_spans.proofs.PartingOrder.{IsEarlier, IsNotLater, earlier_from_test, test_from_earlier, not_later_from_test, test_from_not_later, parts_behind, parts_before, not_later_then_earlier, earlier_then_not_later, not_earlier_than_itself}
 use Rattle.qm_spans.proofs.PlaneEnds.{value_at, differ, before_crossing, after_crossing, one_sided, parts_of_crossing}
 

@@ -16,8 +16,8 @@ use Rattle.qm_partition.specs.inner.PlacedPart.{IsPart, nodes_from}
 use Rattle.qm_partition.proofs.PlacedParts.{top_node, whole_part, part_node, part_front, part_back, sides_come_later}
 use Rattle.qm_spans.specs.declared.span.Span.{Span}
 use Rattle.qm_spans.specs.declared.parting.Parting.{Parting}
-use Rattle.qm_spans.specs.inner.Partings.{end_parting, crossing_at, crosses_between, is_behind_after, lowest_place}
-use Rattle.qm_spans.specs.inner.ComputedSpans.{spans_between, spans_while_left, spans_from}
+use Rattle.qm_spans.specs.Partings.{end_parting, crossing_at, crosses_between, is_behind_after, lowest_place}
+use Rattle.qm_spans.specs.ComputedSpans.{spans_between, spans_while_left, spans_from}
 use Rattle.qm_spans.specs.inner.NextChild.{child_on, next_child}
 use Rattle.qm_spans.proofs.PartingOrder.{IsEarlier, IsNotLater, parts_behind, earlier_then_earlier}
 use Rattle.qm_spans.proofs.PlaneSides.{Crosses, crossed, crosses_from, not_crossed_later, side_at_crossing}

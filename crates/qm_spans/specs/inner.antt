@@ -1,4 +1,2 @@
-pub mod Partings
-pub mod ComputedSpans
 pub mod NextChild
 pub mod NearNodes

@@ -1,7 +1,7 @@
 //! The order of partings, and their places.
 
 ghost use Rattle.std.specs.Prelude.{◌≡◌, ◌<◌, ◌+◌};
-ghost use Rattle.qm_spans.specs.inner.Partings.{is_earlier, lowest_place};
+ghost use Rattle.qm_spans.specs.Partings.{is_earlier, lowest_place};
 
 use qm_geom::common_divisor;
 use qm_spans::Parting;

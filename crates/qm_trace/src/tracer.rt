@@ -4,7 +4,7 @@ ghost use Rattle.qm_space.specs.InsideBound.{IsInsideBound};
 ghost use Rattle.qm_partition.specs.Counting.{leaf_count, node_planes};
 ghost use Rattle.qm_spans.specs.Spans.{AreLeavesThere, TakesFirst};
 ghost use Rattle.qm_spans.specs.SegmentTrace.{IsSegmentTrace, FitsTraces, MeetsCube};
-ghost use Rattle.qm_spans.specs.inner.ComputedSpans.{trace_of};
+ghost use Rattle.qm_spans.specs.ComputedSpans.{trace_of};
 ghost use Rattle.qm_trace.specs.declared.trace_fault.TraceFault.TheVariants.{OutsideCube};
 
 use crate::cube::are_inside_bound;
@@ -30,7 +30,7 @@ impl<'a> Model for Tracer<'a> {
     ghost use Rattle.std.specs.Prelude.{List};
     ghost use Rattle.qm_spans.specs.declared.span.Span.{Span};
     ghost use Rattle.qm_spans.specs.SegmentTrace.{CanTrace};
-    ghost use Rattle.qm_spans.specs.inner.ComputedSpans.{spans_from};
+    ghost use Rattle.qm_spans.specs.ComputedSpans.{spans_from};
 
     ghost Value = { List Span };
 

@@ -6,8 +6,8 @@ ghost use Rattle.qm_partition.specs.Counting.{node_count};
 ghost use Rattle.qm_partition.specs.Numbering.{nodes_of};
 ghost use Rattle.qm_partition.specs.LeafOfPoint.{node_value};
 ghost use Rattle.qm_spans.specs.SegmentTrace.{FitsTraces, IsTraceEnd, CanTrace};
-ghost use Rattle.qm_spans.specs.inner.Partings.{lowest_place};
-ghost use Rattle.qm_spans.specs.inner.ComputedSpans.{spans_from};
+ghost use Rattle.qm_spans.specs.Partings.{lowest_place};
+ghost use Rattle.qm_spans.specs.ComputedSpans.{spans_from};
 ghost use Rattle.qm_spans.specs.inner.NextChild.{child_on, next_child};
 
 use crate::crossing::{crosses_between, crossing_at, is_behind, is_behind_after};

@@ -2,7 +2,7 @@ use Rattle.std.specs.Prelude.{ℤ, pos, Bool, int_lt, if◌then◌else◌}
 use Rattle.qm_partition.specs.declared.node.Node.{Node}
 use Rattle.qm_partition.specs.declared.node.Child.{Child}
 use Rattle.qm_spans.specs.declared.parting.Parting.{Parting}
-use Rattle.qm_spans.specs.inner.Partings.{crossing_at, crosses_between, is_behind_after}
+use Rattle.qm_spans.specs.Partings.{crossing_at, crosses_between, is_behind_after}
 
 -- A walk to the leaf just after a parting, which is known to leave what it has come to no later than at another one.
 

@@ -1,5 +1,5 @@
 use Rattle.std.proofs.Common.{ℕ, ◌<◌, refl, sym, subst}
-use Rattle.qm_spans.specs.inner.Partings.{lowest_place}
+use Rattle.qm_spans.specs.Partings.{lowest_place}
 use Rattle.qm_spans.proofs.LowestPlaces.{some_divisor}
 use Rattle.qm_trace.proofs.parting.lowest_place.Goals as goal
 

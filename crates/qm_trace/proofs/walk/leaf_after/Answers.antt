@@ -1,7 +1,7 @@
 use Rattle.std.proofs.Common.{sym, subst}
 use Rattle.qm_partition.specs.declared.node.Child.{Child}
 use Rattle.qm_partition.specs.LeafOfPoint.{node_value}
-use Rattle.qm_spans.specs.inner.Partings.{end_parting}
+use Rattle.qm_spans.specs.Partings.{end_parting}
 use Rattle.qm_spans.proofs.WalkedSpans.{LeadsAfter, leads_to_root, leads_further, first_span, next_child_later}
 use Rattle.qm_trace.proofs.walk.leaf_after.Goals as goal
 

@@ -7,7 +7,7 @@ use Rattle.qm_partition.specs.Numbering.{leaves_after}
 use Rattle.qm_partition.specs.LeafOfPoint.{node_value}
 use Rattle.qm_spans.specs.declared.span.Span.{Span}
 use Rattle.qm_spans.specs.declared.parting.Parting.{Parting}
-use Rattle.qm_spans.specs.inner.Partings.{start_parting, end_parting, crossing_at, crosses_between, is_behind_after, lowest_place}
+use Rattle.qm_spans.specs.Partings.{start_parting, end_parting, crossing_at, crosses_between, is_behind_after, lowest_place}
 
 -- the spans between two partings through a part of a tree whose leaves are numbered from k on
 unfoldable pub spans_between : List Plane → (a b : Point) → Partition → ℕ → (from to : Parting) → List Span
