@@ -1,3 +1,5 @@
+pub mod ComputedSpans
+pub mod Partings
 pub mod Place
 pub mod Spans
 pub mod SegmentTrace

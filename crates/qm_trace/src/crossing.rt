@@ -33,7 +33,7 @@ pub(crate) fn crossing_at(first: i128, second: i128) -> Parting
 }
 
 /// Whether the segment crosses the plane strictly between two partings.
-#[tactic(auto, unfolding(qm_spans::specs::inner::Partings::crosses_between))]
+#[tactic(auto, unfolding(qm_spans::specs::Partings::crosses_between))]
 pub(crate) fn crosses_between(first: i128, second: i128, from: Parting, to: Parting) -> bool
     requires first { unsigned_abs first < 2 ^ 64 }
     requires second { unsigned_abs second < 2 ^ 64 }
@@ -50,7 +50,7 @@ fn lies_between(at: Parting, from: Parting, to: Parting) -> bool
 }
 
 /// Whether the segment is behind the plane just after a parting. A segment that lies in the plane is in front.
-#[tactic(auto, unfolding(qm_spans::specs::inner::Partings::is_behind_after))]
+#[tactic(auto, unfolding(qm_spans::specs::Partings::is_behind_after))]
 pub(crate) fn is_behind_after(first: i128, second: i128, from: Parting) -> bool
     requires first { unsigned_abs first < 2 ^ 64 }
     requires second { unsigned_abs second < 2 ^ 64 }
