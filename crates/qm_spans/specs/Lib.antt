@@ -1,5 +1,3 @@
-pub mod ComputedSpans
-pub mod Partings
 pub mod Place
 pub mod Spans
 pub mod SegmentTrace
