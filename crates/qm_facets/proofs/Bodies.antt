@@ -1,16 +1,15 @@
 -- What a plane leaves of a body: all of it or nothing, or what it leaves of the facets, with its section.
-use Rattle.std.proofs.Common.{◌≡◌, ◌+◌, ℕ, Bool, true, false, ℤ, pos, ◌+ℤ◌, ◌*ℤ◌, ◌<ℤ◌, List, [], ◌∷◌, ◌++◌, All, Some, Contains, map, get_or, unsigned_abs, refl, ap, sym, ◌∙◌, subst, arith, ◌⊎◌, ⊎_elim}
+use Rattle.std.proofs.Common.{◌+◌, Bool, true, false, ℤ, pos, ◌*ℤ◌, List, [], ◌∷◌, ◌++◌, All, Some, Contains, map, get_or, unsigned_abs, refl, ap, sym, ◌∙◌, subst, arith, ⊎_elim}
 use Rattle.std.specs.List.{AllZip}
 use Rattle.std.proofs.lemmas.Int.{ints}
-use Rattle.std.proofs.lemmas.List.Elements.{All-nil, All-cons, All-append, All-push, All-pop, All-weaker, All-contains_itself, Contains-append_left}
+use Rattle.std.proofs.lemmas.List.Elements.{All-nil, All-cons, All-push, All-pop, All-weaker}
 use Rattle.qm_lists.proofs.Elements.{Contains-nil, Contains-first, Contains-later, Contains-cons_cases}
 use Rattle.qm_numbers.proofs.IntegerProducts.{linear, *ℤ_zero}
 use Rattle.qm_numbers.proofs.Signs.{by_sign}
 use Rattle.qm_space.specs.Point.{Point, IsInCube}
-use Rattle.qm_space.specs.Plane.{Plane, value, flipped, IsOn, IsInFront, IsNotInFront, IsBehind}
+use Rattle.qm_space.specs.Plane.{Plane, value, flipped, IsOn, IsInFront, IsNotInFront}
 use Rattle.qm_space.specs.Turned.{turned}
 use Rattle.qm_space.specs.Reduced.{HasNormal}
-use Rattle.qm_space.specs.Multiple.{HasSameSides}
 use Rattle.qm_space.specs.Cell.{IsInCell, HasPoint}
 use Rattle.qm_space.specs.Cube.{cube_walls}
 use Rattle.qm_space.proofs.Planes.{value_flipped, flipped_in_front}
@@ -19,11 +18,11 @@ use Rattle.qm_space.proofs.TurnedPlanes.{turned_has_normal}
 use Rattle.qm_space.proofs.Cubes.{cube_is_cell}
 use Rattle.qm_space.proofs.Openness.{moved, value_moved, reach, moved_in_front, moved_in_cell, ahead, ahead_in_front}
 use Rattle.qm_space.proofs.ClosedCells.{IsInClosedCell, cell_from_closed}
-use Rattle.qm_convex.specs.Winding.{Winding, HasEdgesAmong, IsInRegion}
+use Rattle.qm_convex.specs.Winding.{Winding}
 use Rattle.qm_convex.specs.Cut.{IsPartWithin, HasNoneWithin}
 use Rattle.qm_convex.specs.World.{MissesCube, IsWorldPart, IsCubeFace}
 use Rattle.qm_convex.specs.Section.{IsSection}
-use Rattle.qm_convex.specs.inner.Facets.{IsOnFacet, Facet, IsFacet, AreFacetsOn, AreFacets, none, facet, hidden, AreCut, inward_of, facing_in}
+use Rattle.qm_convex.specs.inner.Facets.{IsOnFacet, Facet, IsFacet, AreFacetsOn, none, facet, hidden, AreCut, inward_of, facing_in}
 use Rattle.qm_convex.proofs.Among.{first_among, edges_among, edges_within}
 use Rattle.qm_convex.proofs.ImpliedPlanes.{facets_from_cell, cell_from_facets}
 use Rattle.qm_convex.proofs.Facets.{facets_of_side, crosses_cell}

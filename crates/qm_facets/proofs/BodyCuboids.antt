@@ -1,24 +1,24 @@
 -- A cuboid has all of a body where it has all corners of the facets.
-use Rattle.std.proofs.Common.{◌≡◌, ◌+◌, ◌<◌, ℕ, ℤ, pos, neg_ℤ, ◌+ℤ◌, ◌*ℤ◌, ◌≤ℤ◌, ◌<ℤ◌, List, [], ◌∷◌, All, get_or, length, unsigned_abs, arith, ◌↔◌, Some, refl}
+use Rattle.std.proofs.Common.{◌≡◌, ◌+◌, pos, neg_ℤ, ◌+ℤ◌, ◌*ℤ◌, List, [], ◌∷◌, All, get_or, unsigned_abs, arith, ◌↔◌, Some, refl}
 use Rattle.std.proofs.lemmas.Int.{ints}
-use Rattle.std.proofs.lemmas.List.Elements.{All-from_recursion, All-push, All-pop, Contains-get_or}
+use Rattle.std.proofs.lemmas.List.Elements.{All-from_recursion, All-pop, Contains-get_or}
 use Rattle.qm_numbers.proofs.IntegerProducts.{linear, neg-*ℤ, one_*ℤ, zero_*ℤ}
 use Rattle.qm_numbers.proofs.Signs.{by_least}
 use Rattle.qm_space.specs.Point.{Point, IsInCube}
 use Rattle.qm_space.specs.Plane.{Plane, value, IsInFront, IsNotInFront}
 use Rattle.qm_space.specs.Cell.{IsInCell}
-use Rattle.qm_space.specs.Cube.{cube_walls, IsInClosedCube}
-use Rattle.qm_space.specs.Cuboid.{Stretch, Cuboid, IsInStretch, IsInCuboid}
+use Rattle.qm_space.specs.Cube.{cube_walls}
+use Rattle.qm_space.specs.Cuboid.{Cuboid, IsInCuboid}
 use Rattle.qm_space.proofs.Cubes.{cube_is_cell, cube_in_closed, walls_from_closed}
 use Rattle.qm_space.proofs.Openness.{moved, moved_in_front}
 use Rattle.qm_space.proofs.ClosedCells.{cell_is_closed, cell_from_closed}
-use Rattle.qm_convex.specs.Winding.{corner_at, IsInRegion}
-use Rattle.qm_convex.specs.Sides.{HasNoneInFront, HasNoCornerInFront}
-use Rattle.qm_convex.specs.inner.Facets.{Facet, IsFacet}
+use Rattle.qm_convex.specs.Winding.{corner_at}
+use Rattle.qm_convex.specs.Sides.{HasNoCornerInFront}
+use Rattle.qm_convex.specs.inner.Facets.{Facet}
 use Rattle.qm_convex.proofs.Central.{none_in_front as none_in_front_by_corners}
 use Rattle.qm_facets.specs.Body.{IsBody, with_plane, HasNoFacetInFront}
 use Rattle.qm_facets.specs.Extent.{HasEachPoint, IsInClosure}
-use Rattle.qm_facets.specs.inner.Joined.{HasCorners, HasCornersOfAll}
+use Rattle.qm_facets.specs.inner.Joined.{HasCornersOfAll}
 use Rattle.qm_facets.proofs.Bodies.{one_of_facets, none_in_front, some_in_front}
 
 -- ---- the planes of a cuboid, with what is outside in front

@@ -1,5 +1,5 @@
 -- A cuboid that grows by the corners of facets, one after another, until it has all of a body.
-use Rattle.std.proofs.Common.{◌≡◌, ◌+◌, ◌<◌, ◌≤◌, ℕ, List, [], ◌∷◌, ◌++◌, All, get_or, length, take, subst, sym, refl, arith, ◌↔◌, Some, ⊎_elim}
+use Rattle.std.proofs.Common.{◌+◌, ◌<◌, ◌≤◌, ℕ, List, [], ◌∷◌, ◌++◌, get_or, length, subst, sym, refl, arith, Some, ⊎_elim}
 use Rattle.std.proofs.lemmas.Bool.{cases_eq}
 use Rattle.std.proofs.lemmas.List.Elements.{All-nil, All-push, All-pop, Contains-get_or}
 use Rattle.qm_space.specs.Plane.{Plane}

@@ -1,5 +1,5 @@
 -- A cuboid that grows by one thing after another, and by one corner.
-use Rattle.std.proofs.Common.{◌≡◌, ◌<◌, ℕ, ℤ, pos, ◌+ℤ◌, ◌-ℤ◌, ◌*ℤ◌, ◌≤ℤ◌, ◌<ℤ◌, List, arith, ◌↔◌, ◌⊎◌, ⊎_elim}
+use Rattle.std.proofs.Common.{ℤ, pos, ◌+ℤ◌, ◌-ℤ◌, ◌*ℤ◌, ◌≤ℤ◌, ◌<ℤ◌, arith, ◌↔◌, ⊎_elim}
 use Rattle.std.proofs.Math.IntN.{*ℤ_comm}
 use Rattle.qm_numbers.specs.Rounding.{IsRoundedDown, IsRoundedUp}
 use Rattle.qm_numbers.proofs.IntegerProducts.{linear}

@@ -1,5 +1,5 @@
 -- Cells of several planes, one after another; and facets by their corners.
-use Rattle.std.proofs.Common.{◌≡◌, ◌+◌, Bool, true, false, pos, Option, Some, None, List, [], ◌∷◌, ◌++◌, IsTrue, ◌↔◌, refl, arith}
+use Rattle.std.proofs.Common.{◌≡◌, Bool, true, false, pos, Option, Some, None, List, [], ◌∷◌, ◌++◌, IsTrue, ◌↔◌, refl, arith}
 use Rattle.std.specs.Prelude.{is_some}
 use Rattle.std.specs.Bool.{MatchBool}
 use Rattle.std.proofs.lemmas.List.Elements.{All-push}

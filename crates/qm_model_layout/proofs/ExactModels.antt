@@ -1,10 +1,10 @@
 -- The section of brush models is read exactly.
-use Rattle.std.proofs.Common.{◌≡◌, ◌<◌, ◌≤◌, ℕ, zero, suc, ◌+◌, ◌^◌, Bool, true, false, cond, eqb, ltb, leb, ◌&&◌, List, [], ◌∷◌, length, refl, sym, ap, subst, ◌∙◌, arith}
+use Rattle.std.proofs.Common.{◌≡◌, ℕ, true, eqb, ltb, leb, ◌&&◌, List, length, refl, sym, ap, subst, arith}
 use Rattle.std.proofs.lemmas.Bool.{and_parts, and_from, leb-true, le-leb, eqb-true}
 use Rattle.std.specs.Prelude.{IsTrue}
-use Rattle.std.specs.Int.{w32, w64}
-use Rattle.qm_formats.specs.Layout.{Decoded, got, bad, Layout, many}
-use Rattle.qm_formats.specs.Fields.{AreBytes, are_bytes, raw, unsigned, signed}
+use Rattle.std.specs.Int.{w64}
+use Rattle.qm_formats.specs.Layout.{Decoded, got, bad}
+use Rattle.qm_formats.specs.Fields.{AreBytes, are_bytes, raw, unsigned}
 use Rattle.qm_formats.specs.Exact.{IsExact}
 use Rattle.qm_formats.specs.FileParts.{FileFaultKind, short, section_form}
 use Rattle.qm_formats.specs.TreeFile.{TreeFile}

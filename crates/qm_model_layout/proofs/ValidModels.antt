@@ -1,16 +1,12 @@
 -- What can stand in a section of brush models, in words: what the tests of the layout pass.
-use Rattle.std.proofs.Common.{◌≡◌, ◌<◌, ◌≤◌, ℕ, zero, suc, ◌+◌, ◌^◌, ℤ, Bool, true, false, ltb, leb, eqb, ◌&&◌, ◌≤ℤ◌, Option, Some, None, List, [], ◌∷◌, length, refl, arith}
-use Rattle.std.specs.Prelude.{IsTrue, int_le, is_none}
-use Rattle.std.specs.Int.{w32, w64}
-use Rattle.std.proofs.lemmas.Bool.{and_parts, and_from, ltb-true, lt-ltb, leb-true, le-leb, eqb-true, eq-eqb}
-use Rattle.qm_space.specs.Cuboid.{Stretch, Cuboid}
-use Rattle.qm_formats.specs.Layout.{right_each, right_each_after, many}
-use Rattle.qm_formats.specs.Fields.{unsigned, signed, fits_signed, raw, are_bytes}
+use Rattle.std.proofs.Common.{◌≡◌, ◌<◌, ℕ, ◌+◌, ◌^◌, true, ltb, leb, ◌&&◌, List, [], ◌∷◌, length, refl}
+use Rattle.std.specs.Int.{w64}
+use Rattle.std.proofs.lemmas.Bool.{and_parts, and_from, ltb-true, lt-ltb, leb-true, le-leb}
+use Rattle.qm_formats.specs.Layout.{right_each}
+use Rattle.qm_formats.specs.Fields.{unsigned}
 use Rattle.qm_formats.specs.FileParts.{short}
-use Rattle.qm_formats.specs.TreeFile.{Section, TreeFile}
-use Rattle.qm_formats.specs.FileLayout.{file_layout, file_bytes, file_limit, read_file}
-use Rattle.qm_model_layout.specs.BrushModel.{BrushModel, IsWrittenStretch, IsWrittenBox, AscendFrom, IsModelFile}
-use Rattle.qm_model_layout.specs.ModelLayout.{box_layout, model_leaves_layout, is_in_order, is_box, ascend_from, has_no_sections, is_of_model}
+use Rattle.qm_model_layout.specs.BrushModel.{AscendFrom}
+use Rattle.qm_model_layout.specs.ModelLayout.{ascend_from}
 
 -- ---- numbers
 

@@ -1,8 +1,8 @@
 -- A section of brush models is read exactly where its bytes are those of models that can stand there.
-use Rattle.std.proofs.Common.{◌≡◌, ◌≤◌, ℕ, ◌+◌, List, [], ◌∷◌, ◌++◌, length, refl, sym, ap, ◌∙◌}
+use Rattle.std.proofs.Common.{◌≡◌, ◌≤◌, ℕ, List, [], ◌∷◌, ◌++◌, length, refl, sym, ap, ◌∙◌}
 use Rattle.std.specs.Prelude.{IsTrue}
 use Rattle.std.specs.Int.{w32}
-use Rattle.qm_formats.specs.Layout.{got, bytes_of_each_after, read_to_end}
+use Rattle.qm_formats.specs.Layout.{got, bytes_of_each_after}
 use Rattle.qm_formats.specs.Fields.{AreBytes, unsigned}
 use Rattle.qm_formats.specs.FileParts.{short, trailing}
 use Rattle.qm_formats.specs.TreeFile.{small_bound}

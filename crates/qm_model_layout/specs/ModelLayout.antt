@@ -1,7 +1,6 @@
-use Rattle.std.specs.Prelude.{◌^◌, ℕ, ◌+◌, ℤ, Bool, true, false, ◌&&◌, ◌==◌, nat_lt, nat_le, int_le, Option, Some, None, is_none, List, [], ◌∷◌, length}
+use Rattle.std.specs.Prelude.{ℕ, ◌+◌, Bool, true, false, ◌&&◌, ◌==◌, nat_lt, nat_le, int_le, None, is_none, List, [], ◌∷◌, length}
 use Rattle.std.specs.Int.{w32, w64}
 use Rattle.qm_space.specs.Cuboid.{Stretch, Cuboid}
-use Rattle.qm_partition.specs.Tree.{Tree}
 use Rattle.qm_partition.specs.Partition.{leaf}
 use Rattle.qm_contents.specs.declared.contents.Contents.TheVariants.{Empty}
 use Rattle.qm_formats.specs.Layout.{Decoded, got, bad, Layout, seen_as, tested, part, last_part, many, each_after, read_to_end}

@@ -1,7 +1,7 @@
 -- Solids that are alike, place by place, have the same box and touch the same leaves.
-use Rattle.std.proofs.Common.{◌≡◌, ◌<◌, ℕ, List, [], ◌∷◌, All, Contains, get_or, subst, sym, ◌↔◌}
+use Rattle.std.proofs.Common.{◌<◌, ℕ, List, Contains, get_or, subst, sym}
 use Rattle.std.specs.List.{AllZip}
-use Rattle.std.proofs.lemmas.List.Elements.{All-nil, All-cons, All-head, All-tail, All-append, AllZip-get_or, length_all_zip, Contains-get_or}
+use Rattle.std.proofs.lemmas.List.Elements.{All-append, AllZip-get_or, length_all_zip, Contains-get_or}
 use Rattle.qm_lists.proofs.Elements.{All-first_part, All-last_part}
 use Rattle.qm_space.specs.Point.{Point}
 use Rattle.qm_space.specs.Plane.{Plane, IsBehind, IsInFront}

@@ -1,27 +1,26 @@
 -- The box of solids, by one solid after another: a full one holds the closure of its inside, a flat one holds nothing.
-use Rattle.std.proofs.Common.{◌≡◌, ℤ, pos, neg_ℤ, ◌+ℤ◌, ◌*ℤ◌, ◌<ℤ◌, ◌≤ℤ◌, false, List, [], ◌∷◌, ◌++◌, All, Contains, get_or, map, subst, sym, arith, ◌↔◌, ◌⊎◌, ⊎_elim}
+use Rattle.std.proofs.Common.{◌≡◌, ℤ, pos, neg_ℤ, ◌<ℤ◌, false, List, [], ◌∷◌, ◌++◌, All, Contains, get_or, map, subst, sym, arith, ⊎_elim}
 use Rattle.std.proofs.Math.IntN.{*ℤ_comm}
-use Rattle.std.proofs.lemmas.List.Elements.{All-head, All-contains, Contains-append_left, Contains-append_right, Contains-append_cases}
+use Rattle.std.proofs.lemmas.List.Elements.{Contains-append_left, Contains-append_right, Contains-append_cases}
 use Rattle.qm_lists.proofs.Elements.{All-from_map, Contains-nil, Contains-first, Contains-cons_cases}
 use Rattle.qm_numbers.proofs.IntegerProducts.{linear, *ℤ-neg}
-use Rattle.qm_numbers.proofs.Signs.{by_least, times_at_most, cancel_less}
+use Rattle.qm_numbers.proofs.Signs.{cancel_less}
 use Rattle.qm_space.specs.Bounds.{extent}
-use Rattle.qm_space.specs.Point.{Point, IsInCube, IsWithinExtent}
-use Rattle.qm_space.specs.Plane.{Plane, IsNotBehind, IsNotInFront}
+use Rattle.qm_space.specs.Point.{Point, IsWithinExtent}
+use Rattle.qm_space.specs.Plane.{Plane, IsNotBehind}
 use Rattle.qm_space.specs.Turned.{turned}
 use Rattle.qm_space.specs.Cell.{HasPoint}
 use Rattle.qm_space.specs.Cuboid.{Stretch, Cuboid, IsInStretch, IsInCuboid}
 use Rattle.qm_space.proofs.Planes.{value_flipped}
 use Rattle.qm_space.proofs.Cubes.{cube_in_closed}
 use Rattle.qm_solids.specs.Solid.{Solid, inward}
-use Rattle.qm_solids.specs.Holding.{IsFull, IsInFrontOfNone, Holds}
-use Rattle.qm_solids.specs.Flat.{IsFlat}
+use Rattle.qm_solids.specs.Holding.{IsFull, IsInFrontOfNone}
 use Rattle.qm_solids.proofs.HeldPoints.{behind_no_inward}
 use Rattle.qm_solids.proofs.Insides.{inside_in_front_of_none}
 use Rattle.qm_facets.specs.Extent.{IsStretchWithin, IsCuboidWithin, HasEachPoint, IsInClosure}
 use Rattle.qm_facets.specs.inner.Joined.{IsJoined, no_cuboid}
 use Rattle.qm_facets.proofs.Joining.{in_wider, joined_nothing, joined_same, joined_more}
-use Rattle.qm_outlines.specs.HeldPoints.{IsHeldPoint, IsModelBox, HasFull, HasNoFull}
+use Rattle.qm_outlines.specs.HeldPoints.{IsHeldPoint, IsModelBox, HasFull}
 
 -- ---- one solid
 

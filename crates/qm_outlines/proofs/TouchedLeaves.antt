@@ -1,5 +1,5 @@
 -- The leaves that solids touch, by one solid after another, and their numbers.
-use Rattle.std.proofs.Common.{◌≡◌, ℕ, Bool, true, false, List, [], ◌∷◌, ◌++◌, Contains, slice_index_or, IsTrue, subst, sym, ◌↔◌, ◌⊎◌, inl, inr, ⊎_elim}
+use Rattle.std.proofs.Common.{◌≡◌, ℕ, Bool, List, [], ◌∷◌, ◌++◌, Contains, subst, sym, ◌↔◌, ◌⊎◌, inl, inr, ⊎_elim}
 use Rattle.std.proofs.lemmas.List.Elements.{Contains-append_left, Contains-append_right, Contains-append_cases}
 use Rattle.qm_lists.proofs.Elements.{Contains-nil, Contains-first, Contains-cons_cases}
 use Rattle.qm_space.specs.Point.{Point, IsInCube}
@@ -10,7 +10,7 @@ use Rattle.qm_partition.specs.LeafOfPoint.{leaf_at, IsOffNodePlanes}
 use Rattle.qm_segments.specs.LeafNumber.{IsNumberOf}
 use Rattle.qm_reach.specs.ReachedLeaves.{ReachesLeaf}
 use Rattle.qm_reach.proofs.FoundLeaves.{leaf_of_point_reached}
-use Rattle.qm_outlines.specs.ModelLeaves.{IsTouchedLeaf, IsModelLeaf, AreModelLeaves}
+use Rattle.qm_outlines.specs.ModelLeaves.{IsTouchedLeaf, AreModelLeaves}
 use Rattle.qm_outlines.specs.inner.Outlined.{MarksTouched, AreMarkedNumbers}
 
 module _ (tree : Tree) where

@@ -1,5 +1,5 @@
 -- The leaves that a cell reaches, by their numbers.
-use Rattle.std.proofs.Common.{◌≡◌, ◌+◌, ◌<◌, ℕ, List, [], ◌∷◌, All, Contains, Some, sym, ap, ◌∙◌, subst, arith, ◌↔◌, ⊎_elim}
+use Rattle.std.proofs.Common.{◌≡◌, ◌+◌, ◌<◌, ℕ, List, ◌∷◌, All, Contains, sym, ap, ◌∙◌, subst, arith, ◌↔◌, ⊎_elim}
 use Rattle.std.specs.Prelude.{slice_get}
 use Rattle.std.specs.List.Sorted.{IsStrictlyIncreasing}
 use Rattle.std.proofs.lemmas.List.Elements.{All-nil, All-cons, All-append, All-head, All-tail}
@@ -9,7 +9,7 @@ use Rattle.qm_space.specs.Point.{Point, IsInCube}
 use Rattle.qm_space.specs.Plane.{Plane, IsInFront}
 use Rattle.qm_space.specs.Cell.{IsInCell}
 use Rattle.qm_partition.specs.Tree.{Tree}
-use Rattle.qm_partition.specs.Ways.{Way, ways, cell_of_way}
+use Rattle.qm_partition.specs.Ways.{ways, cell_of_way}
 use Rattle.qm_partition.specs.LeafOfPoint.{leaf_at, IsOffNodePlanes}
 use Rattle.qm_partition.proofs.Cells.{leaf_of_point}
 use Rattle.qm_contacts.specs.Meeting.{LeafBelow, leaves_below}

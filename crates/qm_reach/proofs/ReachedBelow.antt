@@ -1,5 +1,5 @@
 -- What a cell reaches below a node: in front of the node's plane what its half there reaches, and behind it the other.
-use Rattle.std.proofs.Common.{◌≡◌, ◌+◌, ℕ, Bool, List, [], ◌∷◌, ◌++◌, map, All, sym, ◌∙◌, subst}
+use Rattle.std.proofs.Common.{◌≡◌, ℕ, Bool, List, [], ◌∷◌, ◌++◌, map, sym, subst}
 use Rattle.std.proofs.lemmas.List.{append_assoc, append-nil}
 use Rattle.qm_space.specs.Plane.{Plane}
 use Rattle.qm_space.specs.Turned.{turned}
@@ -11,7 +11,7 @@ use Rattle.qm_partition.specs.Ways.{Way, after_step, cell_of_way}
 use Rattle.qm_contacts.specs.Meeting.{LeafBelow, seen_from, leaves_below}
 use Rattle.qm_facets.specs.Body.{with_plane}
 use Rattle.qm_facets.proofs.MorePlanes.{none_of_more}
-use Rattle.qm_reach.specs.ReachedLeaves.{ReachesWay, AreReached, no_leaves, reached, missed}
+use Rattle.qm_reach.specs.ReachedLeaves.{AreReached, no_leaves, reached, missed}
 
 module _ (planes cell : List Plane) where
   pub reached_append : (first second : List LeafBelow) (found others : List ℕ) → AreReached planes cell first found → AreReached planes cell second others → AreReached planes cell (first ++ second) (found ++ others)

@@ -1,14 +1,13 @@
 -- A body goes down a tree by a list of those that are due: what is found at a leaf, and what is due at a node.
 use Rattle.std.proofs.Common.{◌≡◌, ◌<◌, ◌≤◌, ℕ, ◌+◌, ◌^◌, Bool, true, false, Option, Some, None, List, [], ◌∷◌, ◌++◌, All, map, refl, sym, ap, ◌∙◌, subst, arith}
 use Rattle.std.specs.Prelude.{slice_get, sum_by}
-use Rattle.std.specs.Option.{MatchOption}
 use Rattle.std.proofs.lemmas.List.{map-append, append-nil, append_assoc}
 use Rattle.std.proofs.lemmas.List.Elements.{All-nil, All-cons, All-append}
 use Rattle.std.proofs.lemmas.List.Sums.{sum_by-append}
 use Rattle.qm_numbers.proofs.Powers.{some_power, two_powers}
 use Rattle.qm_lists.specs.inner.Stack.{ComesTo, IsLeft}
 use Rattle.qm_lists.proofs.Stacks.{comes_append}
-use Rattle.qm_lists.proofs.KeptStacks.{under_way_first, under_way_goes_on, under_way_last}
+use Rattle.qm_lists.proofs.KeptStacks.{under_way_first, under_way_last}
 use Rattle.qm_space.specs.Plane.{Plane, flipped}
 use Rattle.qm_space.specs.Turned.{turned}
 use Rattle.qm_space.specs.Cell.{HasPoint}

@@ -1,5 +1,5 @@
 -- What has been found of some solids: a box that has what they hold, and a mark for each leaf that they touch.
-use Rattle.std.specs.Prelude.{◌<◌, ℕ, Bool, false, List, Contains, IsTrue, length, slice_index_or, ◌↔◌}
+use Rattle.std.specs.Prelude.{ℕ, Bool, false, List, Contains, IsTrue, slice_index_or, ◌↔◌}
 use Rattle.std.specs.List.Sorted.{IsStrictlyIncreasing}
 use Rattle.std.specs.Bool.{MatchBool}
 use Rattle.qm_space.specs.Cuboid.{Cuboid}
