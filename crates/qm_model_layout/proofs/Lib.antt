@@ -1,0 +1,3 @@
+pub mod ExactModels
+pub mod WholeSections
+pub mod ValidModels

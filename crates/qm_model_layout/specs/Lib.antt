@@ -1,0 +1,2 @@
+pub mod BrushModel
+pub mod ModelLayout

@@ -1,0 +1,4 @@
+pub mod ModelBoxes
+pub mod TouchedLeaves
+pub mod AlikeModels
+pub mod ShownModels

@@ -1,0 +1,5 @@
+pub mod HeldPoints
+pub mod ModelLeaves
+pub mod Models
+pub mod ShownModels
+pub mod inner

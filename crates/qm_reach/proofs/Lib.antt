@@ -1,0 +1,3 @@
+pub mod ReachedBelow
+pub mod Walks
+pub mod FoundLeaves

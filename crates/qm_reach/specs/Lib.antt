@@ -1,0 +1,2 @@
+pub mod ReachedLeaves
+pub mod inner
