@@ -112,7 +112,7 @@ fn have_same_leaves(tree: &Tree, other: &Tree) -> bool {
 }
 
 /// Whether two trees have the same nodes and leaves.
-fn is_same_tree(tree: &Tree, other: &Tree) -> bool {
+pub(crate) fn is_same_tree(tree: &Tree, other: &Tree) -> bool {
     have_same_nodes(tree, other) && have_same_leaves(tree, other)
 }
 

@@ -8,6 +8,8 @@ mod contacts;
 #[cfg(test)]
 mod halves;
 #[cfg(test)]
+mod hulls;
+#[cfg(test)]
 mod long;
 #[cfg(test)]
 mod moved;
