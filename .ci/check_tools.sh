@@ -560,6 +560,10 @@ answers_as_the_slow_reader_finds() {
     (cd "$folder" && python3 "$top/.ci/compare_answers.py" "$program" {cube,hole,rooms,rooms8,courtyard,courtyard_leak,hulled}.tree)
 }
 
+traces_as_the_slow_trace_finds() {
+    (cd "$folder" && python3 "$top/.ci/compare_traces.py" "$program" -n 60 cube.tree courtyard.tree)
+}
+
 agrees_with_the_page_on_tree_files() {
     python3 .ci/check_treefile_page.py "$folder" cube.tree hole.tree rooms.tree courtyard.tree
 }
@@ -567,6 +571,7 @@ agrees_with_the_page_on_tree_files() {
 cp samples/*.map "$folder/"
 check "the samples compile, and leak where they should" compiles_the_samples
 check "inspect answers as the slow reader finds" answers_as_the_slow_reader_finds
+check "inspect traces segments as the slow trace finds" traces_as_the_slow_trace_finds
 check "tools: the pictures of the pages are those of the samples" draws_what_the_pages_show
 check "tools: the entities of a map are marked, at a player's height" marks_the_entities
 check "tools: each kind of contents has a fill of its own" draws_each_kind_of_contents
