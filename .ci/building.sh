@@ -43,17 +43,21 @@ prove_and_build() { # prove_and_build FOLDER
     done 3>"$folder/log" || rm -f "$folder/crates/qmapc/out/qmapc"
 }
 
-# runs a command in a process group of its own, which ends with this process where that is told to end
+# runs a command in a process group of its own, which ends with this process where that is told to end, however soon
 run_while_here() {
-    local group
+    trap 'end_group 130' INT
+    trap 'end_group 143' HUP TERM
     set -m
     "$@" &
-    group=$!
     set +m
-    trap "kill -TERM -- -$group; exit 130" INT
-    trap "kill -TERM -- -$group; exit 143" HUP TERM
-    wait "$group" || true
+    wait $! || true
     trap - INT HUP TERM
+}
+
+# ends the process group that was started last, if there is one, and this process
+end_group() { # end_group STATUS
+    [[ -z ${!-} ]] || kill -TERM -- "-$!" || true
+    exit "$1"
 }
 
 # what was printed of each crate that was tried and not proved, and of the whole
