@@ -104,6 +104,9 @@ def faults_of_terminal(folder):
 
 
 def main(folder):
+    # what runs beside a shell may have been begun with signals that are ignored
+    for number in (signal.SIGINT, signal.SIGTERM, signal.SIGHUP):
+        signal.signal(number, signal.SIG_DFL)
     for ending in (".tree", ".pts"):
         Path(folder, "levels", "cube" + ending).write_bytes(OLD)
     found = [fault for number in (signal.SIGINT, signal.SIGTERM, signal.SIGHUP) for fault in faults_of_stop(folder, number)]
