@@ -1,5 +1,5 @@
 -- The bytes of a map's brush models are read again.
-use Rattle.std.proofs.Common.{◌≡◌, ◌<◌, ◌≤◌, ℕ, ◌^◌, List, [], ◌∷◌, ◌++◌, All, length, refl, sym, ap, ◌∙◌, length-append, arith}
+use Rattle.std.proofs.Common.{◌≡◌, ◌<◌, ◌≤◌, ℕ, ◌^◌, List, [], ◌∷◌, ◌++◌, All, length, refl, sym, ap, ◌∙◌, subst, length-append, arith}
 use Rattle.std.specs.Prelude.{map as mapped}
 use Rattle.std.specs.Int.{w32}
 use Rattle.std.proofs.lemmas.List.Elements.{All-head, All-tail, All-weaker}
@@ -7,7 +7,10 @@ use Rattle.qm_space.specs.Bounds.{world_extent}
 use Rattle.qm_mapfile.specs.declared.entity.MapFile.{MapFile}
 use Rattle.qm_drawn.specs.Solids.{entity_solids}
 use Rattle.qm_partition.specs.Tree.{Tree}
+use Rattle.qm_partition.specs.Counting.{leaves_of}
 use Rattle.qm_contacts.specs.NumberedLeaves.{numbered_leaves}
+use Rattle.qm_contacts.proofs.NumberingLeaves.{numbered_count}
+use Rattle.qm_formats.specs.Layout.{got}
 use Rattle.qm_formats.specs.Fields.{AreBytes, are_bytes, unsigned}
 use Rattle.qm_formats.specs.FileParts.{short}
 use Rattle.qm_formats.specs.TreeFile.{small_bound, IsValidFile}
@@ -16,10 +19,10 @@ use Rattle.qm_formats.proofs.ExactFields.{are_bytes-from}
 use Rattle.qm_plain.specs.PlainFile.{IsPlainFile}
 use Rattle.qm_outlines.specs.Models.{IsModelOf}
 use Rattle.qm_model_layout.specs.BrushModel.{BrushModel, AreModelsBehind, AreValidModels}
-use Rattle.qm_model_layout.specs.ModelLayout.{models_layout, models_bytes}
+use Rattle.qm_model_layout.specs.ModelLayout.{models_layout, models_bytes, read_models}
 use Rattle.qm_model_layout.proofs.WholeSections.{read_models_again}
 use Rattle.qm_model_sections.specs.MapModels.{model_found, AreBrushModelsOf}
-use Rattle.qm_model_sections.specs.ModelBytes.{AreModelBytesOf}
+use Rattle.qm_model_sections.specs.ModelBytes.{AreBytesOfModels}
 use Rattle.qm_model_sections.proofs.WrittenBoxes.{box_written}
 use Rattle.qm_model_sections.proofs.EachModel.{EntitiesAscend, found_ascend, each_model}
 use Rattle.qm_model_sections.proofs.WrittenLeaves.{leaves_ascend, no_more}
@@ -78,12 +81,14 @@ module _ (map : MapFile) (world : Tree) (few_entities : length map.entities < 2 
           each = behind 0 models (found_ascend map world (mapped model_found models) are.are_found) (each_model map world models are) are.are_plain are.are_valid fit;
         }
 
-    pub model_bytes_of : AreBytes bytes → AreModelBytesOf world models bytes
-    model_bytes_of each_byte = record {
+    -- their bytes are read again
+    pub bytes_of_models : AreBytes bytes → AreBytesOfModels world models bytes
+    bytes_of_models each_byte = record {
       exactly = exactly;
       read_again = λ fits.
           let all = ap are_bytes (sym (exactly ∙ count_first models)) ∙ are_bytes-from bytes each_byte in
           let trees = files_are_bytes small_bound 0 0 models (parts_are_bytes ((unsigned short w32).bytes_of (length models)) (bytes_behind small_bound 0 0 models) all).1 in
-          read_models_again world_extent (length (numbered_leaves world)) bytes models
-          (record { right = valid_models_right world_extent (length (numbered_leaves world)) models (valid_models fits) trees; bytes_are = exactly });
+          let right = valid_models_right world_extent (length (numbered_leaves world)) models (valid_models fits) trees in
+          let read = read_models_again world_extent (length (numbered_leaves world)) bytes models (record { right = right; bytes_are = exactly }) in
+          subst (λ (n : ℕ). read_models world_extent n bytes ≡ got models (length bytes)) (numbered_count (leaves_of world.shape) 0) read;
     }
