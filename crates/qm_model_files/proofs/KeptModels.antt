@@ -3,18 +3,17 @@ use Rattle.std.proofs.Common.{◌≡◌, ◌≤◌, ℕ, Bool, true, false, List
 use Rattle.std.specs.Prelude.{IsTrue}
 use Rattle.qm_space.specs.Bounds.{world_extent}
 use Rattle.qm_mapfile.specs.declared.entity.MapFile.{MapFile}
-use Rattle.qm_partition.specs.Tree.{Tree}
 use Rattle.qm_formats.specs.FileLayout.{file_limit}
 use Rattle.qm_formats.specs.TreeFile.{Section, TreeFile}
 use Rattle.qm_model_layout.specs.BrushModel.{BrushModel}
 use Rattle.qm_model_layout.specs.ModelLayout.{read_models}
 use Rattle.qm_model_sections.specs.MapModels.{AreBrushModelsOf}
 use Rattle.qm_answers.specs.declared.decoded_section.DecodedSection.{DecodedSection}
-use Rattle.qm_answers.specs.declared.decoded_section.DecodedSection.TheVariants.{Missing, Known}
+use Rattle.qm_answers.specs.declared.decoded_section.DecodedSection.TheVariants.{Known}
 use Rattle.qm_answers.specs.DecodedSections.{section_bytes, numbered_count, if_decoded, decoded_by, known_if_read, kind_of_models, decoded_models}
 use Rattle.qm_commands.specs.declared.options.Options.{Options}
 use Rattle.qm_statement.specs.AskedSections.{AreHullsAsAsked, IsModelSection, AreModelsAsAsked, AreSectionsAsked}
-use Rattle.qm_model_files.specs.ReadModels.{HasModelBytes, AreReadModels, HasModels}
+use Rattle.qm_model_files.specs.ReadModels.{AreReadModels, HasModels}
 
 module _ (map : MapFile) where
   -- no hull has the kind of the models
@@ -39,7 +38,7 @@ module _ (map : MapFile) where
       is_decoded fits =
           let read = ap if_decoded (is.bytes_are.read_again fits) in
           let of_bytes : if_decoded (read_models file.bound (numbered_count file) section.bytes) ≡ Some is.models =
-              subst (λ (n : ℕ). if_decoded (read_models n (numbered_count file) section.bytes) ≡ Some is.models) (sym bound) read in
+          subst (λ (n : ℕ). if_decoded (read_models n (numbered_count file) section.bytes) ≡ Some is.models) (sym bound) read in
           ap (λ (b : Option (List ℕ)). decoded_by (λ bytes. if_decoded (read_models file.bound (numbered_count file) bytes)) b) has_bytes ∙ ap known_if_read of_bytes
 
       has_models : HasModels file
@@ -54,13 +53,13 @@ module _ (map : MapFile) where
           let both : ◌≡◌ {A = Option (List ℕ)} (Some section.bytes) (Some read.bytes) = sym has_bytes ∙ read.has_bytes.there in
           let bytes : section.bytes ≡ read.bytes = cc in
           let known : ◌≡◌ {A = DecodedSection (List BrushModel)} (Known is.models) (Known models) =
-              sym (is_decoded (subst (λ (b : List ℕ). length b ≤ file_limit) (sym bytes) read.has_bytes.fits)) ∙ read.are_decoded in
+          sym (is_decoded (subst (λ (b : List ℕ). length b ≤ file_limit) (sym bytes) read.has_bytes.fits)) ∙ read.are_decoded in
           let same : is.models ≡ models = cc in
           subst (AreBrushModelsOf map file.tree) same is.are_models
 
     has_as_asked : (models_asked : Bool) → AreModelsAsAsked models_asked map file.tree asked.models → IsTrue models_asked → HasModels file
-    has_as_asked true alone yes = has_models alone.section alone.is_section alone.are_alone
-    has_as_asked false none yes = absurd (let e : false ≡ true = yes in cc)
+    has_as_asked true alone given = has_models alone.section alone.is_section alone.are_alone
+    has_as_asked false none given = absurd (let e : false ≡ true = given in cc)
 
     kept_as_asked : (models_asked : Bool) (models : List BrushModel) → AreModelsAsAsked models_asked map file.tree asked.models → AreReadModels file models → AreBrushModelsOf map file.tree models
     kept_as_asked true models alone read = own_models alone.section alone.is_section alone.are_alone models read
@@ -69,7 +68,7 @@ module _ (map : MapFile) where
         )
 
     pub models_there : IsTrue options.models → HasModels file
-    models_there yes = has_as_asked options.models asked.are_models yes
+    models_there given = has_as_asked options.models asked.are_models given
 
     pub kept_models : (models : List BrushModel) → AreReadModels file models → AreBrushModelsOf map file.tree models
     kept_models models read = kept_as_asked options.models models asked.are_models read

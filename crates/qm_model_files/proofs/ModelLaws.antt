@@ -1,5 +1,5 @@
 -- What the brush models say of a map, in the files that it compiles to.
-use Rattle.std.proofs.Common.{◌≡◌, ℕ, Bool, List, All, Option, Some, sym, ◌∙◌, subst}
+use Rattle.std.proofs.Common.{◌≡◌, Bool, List, All, Option, Some, sym, ◌∙◌, subst}
 use Rattle.std.specs.Prelude.{IsTrue}
 use Rattle.std.proofs.lemmas.List.Elements.{All-weaker}
 use Rattle.qm_mapfile.specs.declared.entity.MapFile.{MapFile}
