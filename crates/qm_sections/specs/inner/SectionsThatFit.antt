@@ -1,4 +1,4 @@
-use Rattle.std.specs.Prelude.{◌<◌, ◌^◌, ℕ, List, length}
+use Rattle.std.specs.Prelude.{◌<◌, ◌^◌, ℕ, length}
 use Rattle.qm_mapfile.specs.declared.entity.MapFile.{MapFile}
 use Rattle.qm_partition.specs.Tree.{Tree}
 use Rattle.qm_formats.specs.Fields.{AreBytes}
