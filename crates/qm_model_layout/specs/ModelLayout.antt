@@ -1,4 +1,4 @@
-use Rattle.std.specs.Prelude.{ℕ, ◌+◌, Bool, true, false, ◌&&◌, ◌==◌, nat_lt, nat_le, int_le, None, is_none, List, [], ◌∷◌, length}
+use Rattle.std.specs.Prelude.{◌≡◌, ℕ, ◌+◌, Bool, true, false, ◌&&◌, nat_lt, nat_le, int_le, None, List, [], ◌∷◌, length}
 use Rattle.std.specs.Int.{w32, w64}
 use Rattle.qm_space.specs.Cuboid.{Stretch, Cuboid}
 use Rattle.qm_partition.specs.Partition.{leaf}
@@ -6,9 +6,10 @@ use Rattle.qm_contents.specs.declared.contents.Contents.TheVariants.{Empty}
 use Rattle.qm_formats.specs.Layout.{Decoded, got, bad, Layout, seen_as, tested, part, last_part, many, each_after, read_to_end}
 use Rattle.qm_formats.specs.Fields.{raw, unsigned, signed}
 use Rattle.qm_formats.specs.FileParts.{FileFaultKind, short, trailing, section_form}
-use Rattle.qm_formats.specs.TreeFile.{Section, TreeFile, small_bound}
+use Rattle.qm_formats.specs.TreeFile.{TreeFile, small_bound}
 use Rattle.qm_formats.specs.FileLayout.{file_layout, file_bytes, file_limit, read_file}
-use Rattle.qm_model_layout.specs.BrushModel.{BrushModel}
+use Rattle.qm_plain.specs.PlainFile.{is_plain}
+use Rattle.qm_model_layout.specs.BrushModel.{BrushModel, AreValidModels}
 
 -- The bytes of the section of brush models: how many there are, and each model. A number that is due and a list of which too
 -- little is there are faults at the end; what is wrong of a model whose bytes are all there is one at its first byte; and what
@@ -63,17 +64,9 @@ unfoldable pub ascend_from : ℕ → ℕ → List ℕ → Bool
 ascend_from least limit [] = true
 ascend_from least limit (n ∷ rest) = nat_le least n && (nat_lt n limit && ascend_from (n + 1) limit rest)
 
-abbrev pub has_no_sections : List Section → Bool
-has_no_sections [] = true
-has_no_sections (section ∷ sections) = false
-
--- version 2, for that cube, without rows and sections
-abbrev pub is_of_model : ℕ → TreeFile → Bool
-is_of_model bound file = (file.version == 2) && ((file.bound == bound) && (is_none file.rows && has_no_sections file.sections))
-
--- such a file is read in the bytes
+-- a plain file for that cube is read in the bytes
 abbrev pub decodes_for : ℕ → Decoded FileFaultKind TreeFile → Bool
-decodes_for bound (got file next) = is_of_model bound file
+decodes_for bound (got file next) = is_plain bound file
 decodes_for bound (bad fault place) = false
 
 -- what a model has to be, behind one of another entity
@@ -113,6 +106,11 @@ models_layout bound numbered =
 -- the bytes of models, whatever the cube and the number of leaves
 unfoldable pub models_bytes : List BrushModel → List ℕ
 models_bytes models = (models_layout small_bound 0).bytes_of models
+
+-- these are the bytes of models that can stand in a section
+pub record AreModelsBytes (bound numbered : ℕ) (bytes : List ℕ) (models : List BrushModel) : Type 0 where
+  pub are_valid : AreValidModels bound numbered models
+  pub bytes_are : bytes ≡ models_bytes models
 
 -- what is read in the bytes of a section, or the first fault
 unfoldable pub read_models : ℕ → ℕ → List ℕ → Decoded FileFaultKind (List BrushModel)

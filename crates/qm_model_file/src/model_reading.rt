@@ -1,0 +1,103 @@
+//! Models, read at a place, each behind the one before.
+
+ghost use Rattle.std.specs.Prelude.{◌≡◌, ◌&&◌, nat_lt, Some, None, IfOk, if◌then◌else◌};
+ghost use Rattle.qm_formats.specs.Layout.{each_after};
+ghost use Rattle.qm_model_layout.specs.ModelLayout.{is_box, ascend_from, is_model, model_of_kept, model_layout};
+ghost use Rattle.qm_model_file.specs.Answers.{IsFaultOfModels, AnswersModels};
+ghost use Rattle.qm_model_file.specs.inner.SeenKept.{seen_kept};
+
+use crate::box_fields::is_box;
+use crate::brush_model::BrushModel;
+use crate::kept_reading::{Kept, kept_at};
+use crate::models_fault::ModelsFault;
+use qm_file::plain_file;
+use qm_lists::Items;
+use std::alloc::{AllocError, Global};
+
+/// So many models, each of an entity above that of the one before, and where they end. No room is made before the bytes are
+/// there.
+pub(crate) fn all_models_at(
+    alloc: Global,
+    bytes: &[u8],
+    at: usize,
+    count: u32,
+    bound: u32,
+    numbered: u64,
+) -> Result<(Vec<BrushModel>, usize), ModelsFault>
+    ensures { AnswersModels (λ read. read.0.items) (λ read. read.1) result ((each_after (λ model. model.entity) (model_layout bound numbered) 0 count).read bytes.now at) }
+{
+    let mut models = Vec::new(alloc);
+    let mut next = at;
+    let mut last_entity = 0;
+    for _ in 0..count {
+        let (model, after) = model_at(alloc, bytes, next, bound, numbered, last_entity)?;
+        last_entity = model.entity;
+        models.push(model)?;
+        next = after;
+    }
+    Ok((models, next))
+}
+
+/// A model of an entity above the last one, and where it ends.
+#[tactic(auto, unfolding(qm_model_layout::specs::ModelLayout::model_layout))]
+fn model_at(
+    alloc: Global,
+    bytes: &[u8],
+    at: usize,
+    bound: u32,
+    numbered: u64,
+    last_entity: u64,
+) -> Result<(BrushModel, usize), ModelsFault>
+    ensures { AnswersModels (λ read. read.0) (λ read. read.1) result ((model_layout bound numbered last_entity).read bytes.now at) }
+{
+    let (kept, next) = kept_at(alloc, bytes, at)?;
+    match model_of_kept(alloc, kept, bound, numbered, last_entity)? {
+        Some(model) => Ok((model, next)),
+        None => Err(ModelsFault::Form { offset: at as u64 }),
+    }
+}
+
+/// The model that is kept, where it is of an entity above the last one and can stand in such a section.
+fn model_of_kept(
+    alloc: Global,
+    kept: Kept,
+    bound: u32,
+    numbered: u64,
+    last_entity: u64,
+) -> Result<Option<BrushModel>, AllocError>
+    ensures { IfOk result (λ found. found ≡ (if is_model bound numbered last_entity (seen_kept kept) then Some (model_of_kept (seen_kept kept)) else None)) }
+{
+    if !can_stand(&kept, numbered, last_entity) {
+        return Ok(None);
+    }
+    let Some(file) = plain_file(alloc, kept.tree, bound)? else {
+        return Ok(None);
+    };
+    Ok(Some(BrushModel {
+        entity: kept.entity,
+        bounding_box: kept.bounding_box,
+        leaves: Items::from_vec(kept.leaves),
+        file,
+    }))
+}
+
+/// Whether all but the tree of a model can stand in a section behind one of the last entity.
+fn can_stand(kept: &Kept, numbered: u64, last_entity: u64) -> bool
+    ensures { result ≡ (nat_lt last_entity kept.now.entity && (is_box kept.now.bounding_box && ascend_from 0 numbered kept.now.leaves.items)) }
+{
+    last_entity < kept.entity && is_box(&kept.bounding_box) && ascend(&kept.leaves, numbered)
+}
+
+/// Whether leaves ascend, each below a limit.
+fn ascend(leaves: &[u64], limit: u64) -> bool
+    ensures { result ≡ ascend_from 0 limit leaves.now }
+{
+    let mut least = 0;
+    for &leaf in leaves {
+        if leaf < least || leaf >= limit {
+            return false;
+        }
+        least = leaf + 1;
+    }
+    true
+}

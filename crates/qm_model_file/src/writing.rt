@@ -1,0 +1,66 @@
+ghost use Rattle.std.specs.Prelude.{◌≡◌, ◌++◌, IfOk, OnOk, flat_map};
+ghost use Rattle.std.specs.Int.{w64};
+ghost use Rattle.qm_formats.specs.Layout.{bytes_of_each};
+ghost use Rattle.qm_formats.specs.Fields.{AreBytes, unsigned};
+ghost use Rattle.qm_formats.specs.FileParts.{short};
+ghost use Rattle.qm_formats.specs.TreeFile.{small_bound};
+ghost use Rattle.qm_model_layout.specs.ModelLayout.{model_leaves_layout, model_layout, models_bytes};
+
+use crate::box_fields::put_box;
+use crate::brush_model::BrushModel;
+use crate::field_bytes::{put_small_count, put_u64};
+use qm_file::encode;
+use std::alloc::{AllocError, Global};
+
+/// The bytes of a section of these models.
+pub fn encode_models(alloc: Global, models: &[BrushModel]) -> Result<Vec<u8>, AllocError>
+    ensures exact { IfOk result (λ bytes. bytes.items ≡ models_bytes models.now) }
+    ensures are_bytes { IfOk result (λ bytes. AreBytes bytes.items) }
+{
+    let mut bytes = Vec::new(alloc);
+    put_small_count(&mut bytes, models.len())?;
+    put_models(alloc, &mut bytes, models)?;
+    Ok(bytes)
+}
+
+/// Appends the models one behind the other.
+fn put_models(alloc: Global, bytes: &mut Vec<u8>, models: &[BrushModel]) -> Result<(), AllocError>
+    ensures { OnOk result (bytes.new.items ≡ bytes.old.items ++ flat_map (model_layout small_bound 0 0).bytes_of models.now) }
+{
+    for model in models {
+        put_model(alloc, bytes, model)?;
+    }
+    Ok(())
+}
+
+/// Appends the entity, the box, the leaves behind their number, and the bytes of the tree's file behind theirs.
+#[tactic(auto, unfolding(qm_model_layout::specs::ModelLayout::model_layout, qm_model_layout::specs::ModelLayout::kept_layout, qm_model_layout::specs::ModelLayout::counted_bytes_layout, qm_formats::specs::Fields::raw))]
+fn put_model(alloc: Global, bytes: &mut Vec<u8>, model: &BrushModel) -> Result<(), AllocError>
+    ensures { OnOk result (bytes.new.items ≡ bytes.old.items ++ (model_layout small_bound 0 0).bytes_of model.now) }
+{
+    let tree = encode(alloc, &model.file)?;
+    put_u64(bytes, model.entity)?;
+    put_box(bytes, &model.bounding_box)?;
+    put_leaves(bytes, model.leaves.as_slice())?;
+    put_u64(bytes, tree.len() as u64)?;
+    bytes.extend_from_slice(&tree)
+}
+
+/// Appends the leaves behind their number.
+#[tactic(auto, unfolding(qm_model_layout::specs::ModelLayout::model_leaves_layout))]
+fn put_leaves(bytes: &mut Vec<u8>, leaves: &[u64]) -> Result<(), AllocError>
+    ensures { OnOk result (bytes.new.items ≡ bytes.old.items ++ model_leaves_layout.bytes_of leaves.now) }
+{
+    put_u64(bytes, leaves.len() as u64)?;
+    put_numbers(bytes, leaves)
+}
+
+/// Appends numbers one behind the other.
+fn put_numbers(bytes: &mut Vec<u8>, numbers: &[u64]) -> Result<(), AllocError>
+    ensures { OnOk result (bytes.new.items ≡ bytes.old.items ++ bytes_of_each (λ _. unsigned short w64) 0 numbers.now) }
+{
+    for number in numbers {
+        put_u64(bytes, *number)?;
+    }
+    Ok(())
+}
