@@ -38,7 +38,8 @@ pub(crate) fn put_box(bytes: &mut Vec<u8>, bounding_box: &BoundingBox) -> Result
     put_i32(bytes, bounding_box.lo[2])?;
     put_i32(bytes, bounding_box.hi[0])?;
     put_i32(bytes, bounding_box.hi[1])?;
-    put_i32(bytes, bounding_box.hi[2])
+    put_i32(bytes, bounding_box.hi[2])?;
+    Ok(())
 }
 
 /// Whether no low end of a box is above its high end.

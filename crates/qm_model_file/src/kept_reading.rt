@@ -1,4 +1,4 @@
-//! A model as it is kept, read at a place, with the bytes of its tree's file.
+//! A model as it is kept, read at a place, with its tree as bytes.
 
 ghost use Rattle.std.specs.Prelude.{◌≡◌, length};
 ghost use Rattle.std.specs.Int.{w64};
@@ -15,35 +15,33 @@ use crate::field_reading::{short, u64_at};
 use crate::models_fault::ModelsFault;
 use std::alloc::Global;
 
-/// A model as it is kept: the bytes of its tree's file in place of the file.
+/// What stands before the tree of a model: its entity, its box and its leaves.
 #[derive(Drop)]
-pub(crate) struct Kept<'a> {
+pub(crate) struct ModelHead {
     pub entity: u64,
     pub bounding_box: BoundingBox,
     pub leaves: Vec<u64>,
-    pub tree: &'a [u8],
 }
 
-/// A model as it is kept, and where it ends.
+/// A model as it is kept: what stands before its tree, and the bytes of the tree's file; and where it ends.
 #[tactic(auto, unfolding(qm_model_layout::specs::ModelLayout::kept_layout))]
-pub(crate) fn kept_at<'a>(
+pub(crate) fn kept_at(
     alloc: Global,
-    bytes: &'a [u8],
+    bytes: &[u8],
     at: usize,
-) -> Result<(Kept<'a>, usize), ModelsFault>
-    ensures { AnswersModels (λ read. seen_kept read.0) (λ read. read.1) result (kept_layout.read bytes.now at) }
+) -> Result<(ModelHead, &[u8], usize), ModelsFault>
+    ensures { AnswersModels (λ read. seen_kept read.0 read.1.now) (λ read. read.2) result (kept_layout.read bytes.now at) }
 {
     let (entity, next) = u64_at(bytes, at)?;
     let (bounding_box, next) = box_at(bytes, next)?;
     let (leaves, next) = leaves_at(alloc, bytes, next)?;
     let (tree, next) = counted_bytes_at(bytes, next)?;
-    let kept = Kept {
+    let head = ModelHead {
         entity,
         bounding_box,
         leaves,
-        tree,
     };
-    Ok((kept, next))
+    Ok((head, tree, next))
 }
 
 /// The leaves of a model behind their number, and where they end.

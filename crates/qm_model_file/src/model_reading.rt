@@ -1,16 +1,16 @@
 //! Models, read at a place, each behind the one before.
 
-ghost use Rattle.std.specs.Prelude.{◌≡◌, ◌&&◌, nat_lt, Some, None, IfOk, if◌then◌else◌};
+ghost use Rattle.std.specs.Prelude.{◌≡◌, ℕ, List, IfOk};
 ghost use Rattle.qm_formats.specs.Layout.{each_after};
-ghost use Rattle.qm_model_layout.specs.ModelLayout.{is_box, ascend_from, is_model, model_of_kept, model_layout};
+ghost use Rattle.qm_model_layout.specs.ModelLayout.{ascend_from, can_stand, kept_model, model_layout};
 ghost use Rattle.qm_model_file.specs.Answers.{IsFaultOfModels, AnswersModels};
 ghost use Rattle.qm_model_file.specs.inner.SeenKept.{seen_kept};
 
 use crate::box_fields::is_box;
 use crate::brush_model::BrushModel;
-use crate::kept_reading::{Kept, kept_at};
+use crate::kept_reading::{ModelHead, kept_at};
 use crate::models_fault::ModelsFault;
-use qm_file::plain_file;
+use qm_file::{TreeFile, plain_file};
 use qm_lists::Items;
 use std::alloc::{AllocError, Global};
 
@@ -50,42 +50,39 @@ fn model_at(
 ) -> Result<(BrushModel, usize), ModelsFault>
     ensures { AnswersModels (λ read. read.0) (λ read. read.1) result ((model_layout bound numbered last_entity).read bytes.now at) }
 {
-    let (kept, next) = kept_at(alloc, bytes, at)?;
-    match model_of_kept(alloc, kept, bound, numbered, last_entity)? {
+    let (head, tree, next) = kept_at(alloc, bytes, at)?;
+    match model_of(alloc, head, tree, bound, numbered, last_entity)? {
         Some(model) => Ok((model, next)),
         None => Err(ModelsFault::Form { offset: at as u64 }),
     }
 }
 
 /// The model that is kept, where it is of an entity above the last one and can stand in such a section.
-fn model_of_kept(
+fn model_of(
     alloc: Global,
-    kept: Kept,
+    head: ModelHead,
+    tree: &[u8],
     bound: u32,
     numbered: u64,
     last_entity: u64,
 ) -> Result<Option<BrushModel>, AllocError>
-    ensures { IfOk result (λ found. found ≡ (if is_model bound numbered last_entity (seen_kept kept) then Some (model_of_kept (seen_kept kept)) else None)) }
+    ensures { IfOk result (λ found. found ≡ kept_model bound numbered last_entity (seen_kept head tree.now)) }
 {
-    if !can_stand(&kept, numbered, last_entity) {
+    if !can_stand(&head, numbered, last_entity) {
         return Ok(None);
     }
-    let Some(file) = plain_file(alloc, kept.tree, bound)? else {
-        return Ok(None);
-    };
-    Ok(Some(BrushModel {
-        entity: kept.entity,
-        bounding_box: kept.bounding_box,
-        leaves: Items::from_vec(kept.leaves),
-        file,
-    }))
+    match plain_file(alloc, tree, bound)? {
+        Some(file) => Ok(Some(with_file(head, file))),
+        None => Ok(None),
+    }
 }
 
-/// Whether all but the tree of a model can stand in a section behind one of the last entity.
-fn can_stand(kept: &Kept, numbered: u64, last_entity: u64) -> bool
-    ensures { result ≡ (nat_lt last_entity kept.now.entity && (is_box kept.now.bounding_box && ascend_from 0 numbered kept.now.leaves.items)) }
+/// Whether a model can stand in a section behind one of the last entity, but for its tree.
+#[tactic(auto, unfolding(qm_model_layout::specs::ModelLayout::can_stand))]
+fn can_stand(head: &ModelHead, numbered: u64, last_entity: u64) -> bool
+    ensures { (tree : List ℕ) → result ≡ can_stand numbered last_entity (seen_kept head.now tree) }
 {
-    last_entity < kept.entity && is_box(&kept.bounding_box) && ascend(&kept.leaves, numbered)
+    last_entity < head.entity && is_box(&head.bounding_box) && ascend(&head.leaves, numbered)
 }
 
 /// Whether leaves ascend, each below a limit.
@@ -100,4 +97,21 @@ fn ascend(leaves: &[u64], limit: u64) -> bool
         least = leaf + 1;
     }
     true
+}
+
+/// The model with this file.
+fn with_file(head: ModelHead, file: TreeFile) -> BrushModel
+    ensures { result ≡ record { entity = head.entity; box = head.bounding_box; leaves = head.leaves.items; file = file } }
+{
+    let ModelHead {
+        entity,
+        bounding_box,
+        leaves,
+    } = head;
+    BrushModel {
+        entity,
+        bounding_box,
+        leaves: Items::from_vec(leaves),
+        file,
+    }
 }

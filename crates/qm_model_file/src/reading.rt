@@ -1,6 +1,6 @@
 ghost use Rattle.std.specs.Prelude.{◌≡◌, List, length, IfOk, MatchResult};
-ghost use Rattle.qm_model_layout.specs.BrushModel.{BrushModel, AreValidModels};
-ghost use Rattle.qm_model_layout.specs.ModelLayout.{models_layout, models_bytes, read_models};
+ghost use Rattle.qm_model_layout.specs.BrushModel.{BrushModel};
+ghost use Rattle.qm_model_layout.specs.ModelLayout.{AreModelsBytes, models_layout, read_models};
 ghost use Rattle.qm_model_file.specs.Answers.{IsFaultOfModels, AnswersModels};
 
 use crate::brush_model::BrushModel;
@@ -19,9 +19,9 @@ pub fn decode_models(
     numbered: u64,
 ) -> Result<Items<BrushModel>, ModelsFault>
     // What is read can stand there and is written so.
-    ensures found { IfOk result (λ models. AreValidModels bound numbered models × (bytes.now ≡ models_bytes models)) }
+    ensures found { IfOk result (λ models. AreModelsBytes bound numbered bytes.now models) }
     // What can stand there and is written so is read, unless memory runs out.
-    ensures only { (models : List BrushModel) → AreValidModels bound numbered models → bytes.now ≡ models_bytes models → MatchResult result (λ found. found ≡ models) (λ fault. fault ≡ ModelsFault.Memory) }
+    ensures only { (models : List BrushModel) → AreModelsBytes bound numbered bytes.now models → MatchResult result (λ found. found ≡ models) (λ fault. fault ≡ ModelsFault.Memory) }
     // Which fault it is.
     ensures exact { AnswersModels (λ models. models) (λ _. length bytes.now) result (read_models bound numbered bytes.now) }
 {

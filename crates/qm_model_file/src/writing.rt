@@ -1,6 +1,5 @@
 ghost use Rattle.std.specs.Prelude.{◌≡◌, ◌++◌, IfOk, OnOk, flat_map};
 ghost use Rattle.std.specs.Int.{w64};
-ghost use Rattle.qm_formats.specs.Layout.{bytes_of_each};
 ghost use Rattle.qm_formats.specs.Fields.{AreBytes, unsigned};
 ghost use Rattle.qm_formats.specs.FileParts.{short};
 ghost use Rattle.qm_formats.specs.TreeFile.{small_bound};
@@ -10,6 +9,7 @@ use crate::box_fields::put_box;
 use crate::brush_model::BrushModel;
 use crate::field_bytes::{put_small_count, put_u64};
 use qm_file::encode;
+use qm_lists::{Encoding, append_all};
 use std::alloc::{AllocError, Global};
 
 /// The bytes of a section of these models.
@@ -34,7 +34,6 @@ fn put_models(alloc: Global, bytes: &mut Vec<u8>, models: &[BrushModel]) -> Resu
 }
 
 /// Appends the entity, the box, the leaves behind their number, and the bytes of the tree's file behind theirs.
-#[tactic(auto, unfolding(qm_model_layout::specs::ModelLayout::model_layout, qm_model_layout::specs::ModelLayout::kept_layout, qm_model_layout::specs::ModelLayout::counted_bytes_layout, qm_formats::specs::Fields::raw))]
 fn put_model(alloc: Global, bytes: &mut Vec<u8>, model: &BrushModel) -> Result<(), AllocError>
     ensures { OnOk result (bytes.new.items ≡ bytes.old.items ++ (model_layout small_bound 0 0).bytes_of model.now) }
 {
@@ -43,24 +42,30 @@ fn put_model(alloc: Global, bytes: &mut Vec<u8>, model: &BrushModel) -> Result<(
     put_box(bytes, &model.bounding_box)?;
     put_leaves(bytes, model.leaves.as_slice())?;
     put_u64(bytes, tree.len() as u64)?;
-    bytes.extend_from_slice(&tree)
+    bytes.extend_from_slice(&tree)?;
+    Ok(())
 }
 
 /// Appends the leaves behind their number.
-#[tactic(auto, unfolding(qm_model_layout::specs::ModelLayout::model_leaves_layout))]
 fn put_leaves(bytes: &mut Vec<u8>, leaves: &[u64]) -> Result<(), AllocError>
     ensures { OnOk result (bytes.new.items ≡ bytes.old.items ++ model_leaves_layout.bytes_of leaves.now) }
 {
     put_u64(bytes, leaves.len() as u64)?;
-    put_numbers(bytes, leaves)
+    append_all::<NumberBytes>(bytes, leaves)?;
+    Ok(())
 }
 
-/// Appends numbers one behind the other.
-fn put_numbers(bytes: &mut Vec<u8>, numbers: &[u64]) -> Result<(), AllocError>
-    ensures { OnOk result (bytes.new.items ≡ bytes.old.items ++ bytes_of_each (λ _. unsigned short w64) 0 numbers.now) }
-{
-    for number in numbers {
-        put_u64(bytes, *number)?;
+/// A number in 64 bits.
+struct NumberBytes;
+
+impl Encoding for NumberBytes {
+    type Value = u64;
+
+    ghost can_append = { λ _. Unit {0} };
+
+    ghost bytes_of = { (unsigned short w64).bytes_of };
+
+    fn append(bytes: &mut Vec<u8>, number: &u64) -> Result<(), AllocError> {
+        put_u64(bytes, *number)
     }
-    Ok(())
 }

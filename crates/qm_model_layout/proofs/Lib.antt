@@ -1,3 +1,5 @@
 pub mod ExactModels
+pub mod KeptModels
 pub mod WholeSections
 pub mod ValidModels
+pub mod WrittenModels

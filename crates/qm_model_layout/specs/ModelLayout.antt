@@ -1,4 +1,4 @@
-use Rattle.std.specs.Prelude.{◌≡◌, ℕ, ◌+◌, Bool, true, false, ◌&&◌, nat_lt, nat_le, int_le, None, List, [], ◌∷◌, length}
+use Rattle.std.specs.Prelude.{◌≡◌, ℕ, ◌+◌, Bool, true, false, ◌&&◌, nat_lt, nat_le, int_le, Option, Some, None, List, [], ◌∷◌, length, if◌then◌else◌}
 use Rattle.std.specs.Int.{w32, w64}
 use Rattle.qm_space.specs.Cuboid.{Stretch, Cuboid}
 use Rattle.qm_partition.specs.Partition.{leaf}
@@ -69,9 +69,13 @@ abbrev pub decodes_for : ℕ → Decoded FileFaultKind TreeFile → Bool
 decodes_for bound (got file next) = is_plain bound file
 decodes_for bound (bad fault place) = false
 
+-- what a model has to be but for its tree: its entity is above another, its box has no end above the other, and its leaves ascend
+unfoldable pub can_stand : ℕ → ℕ → KeptModel → Bool
+can_stand numbered before kept = nat_lt before kept.entity && (is_box kept.box && ascend_from 0 numbered kept.leaves)
+
 -- what a model has to be, behind one of another entity
 unfoldable pub is_model : ℕ → ℕ → ℕ → KeptModel → Bool
-is_model bound numbered before kept = nat_lt before kept.entity && (is_box kept.box && (ascend_from 0 numbered kept.leaves && decodes_for bound (read_file kept.bytes)))
+is_model bound numbered before kept = can_stand numbered before kept && decodes_for bound (read_file kept.bytes)
 
 -- the file that is read in bytes; bytes in which none is read never pass the test
 abbrev pub file_read : Decoded FileFaultKind TreeFile → TreeFile
@@ -80,6 +84,10 @@ file_read (bad fault place) = record { version = 2; bound = small_bound; tree = 
 
 abbrev pub model_of_kept : KeptModel → BrushModel
 model_of_kept kept = record { entity = kept.entity; box = kept.box; leaves = kept.leaves; file = file_read (read_file kept.bytes) }
+
+-- the model that is kept, where it can stand behind one of another entity
+abbrev pub kept_model : ℕ → ℕ → ℕ → KeptModel → Option BrushModel
+kept_model bound numbered before kept = if is_model bound numbered before kept then Some (model_of_kept kept) else None
 
 abbrev pub kept_of_model : BrushModel → KeptModel
 kept_of_model model = record { entity = model.entity; box = model.box; leaves = model.leaves; bytes = file_bytes model.file }

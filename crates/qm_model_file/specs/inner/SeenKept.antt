@@ -1,6 +1,7 @@
+use Rattle.std.specs.Prelude.{ℕ, List}
 use Rattle.qm_model_layout.specs.ModelLayout.{KeptModel}
-use Rattle.qm_model_file.specs.declared.kept_reading.Kept.{Kept}
+use Rattle.qm_model_file.specs.declared.kept_reading.ModelHead.{ModelHead}
 
--- a model that was read as it is kept, as the layouts know it
-abbrev pub seen_kept : Kept → KeptModel
-seen_kept kept = record { entity = kept.entity; box = kept.bounding_box; leaves = kept.leaves.items; bytes = kept.tree.now }
+-- a model that was read as it is kept, with the bytes of its tree's file, as the layouts know it
+abbrev pub seen_kept : ModelHead → List ℕ → KeptModel
+seen_kept head bytes = record { entity = head.entity; box = head.bounding_box; leaves = head.leaves.items; bytes = bytes }
