@@ -73,7 +73,7 @@ kept_exact =
     λ i. record { entity = sym known.before.before.is i; box = sym known.before.is i; leaves = sym known.is i; bytes = kept.bytes })))))
 
 -- the tree's bytes of a model that can be kept are bytes
-kept_bytes : (kept : KeptModel) → kept_layout.right kept ≡ true → AreBytes kept.bytes
+pub kept_bytes : (kept : KeptModel) → kept_layout.right kept ≡ true → AreBytes kept.bytes
 unfolding kept_layout
 kept_bytes kept right =
     let of_bytes = counted_bytes_layout.right kept.bytes in

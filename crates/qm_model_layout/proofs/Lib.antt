@@ -3,3 +3,4 @@ pub mod KeptModels
 pub mod WholeSections
 pub mod ValidModels
 pub mod WrittenModels
+pub mod AscendingLeaves
