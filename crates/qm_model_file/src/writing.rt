@@ -25,7 +25,8 @@ pub fn encode_models(alloc: Global, models: &[BrushModel]) -> Result<Vec<u8>, Al
 
 /// Appends the models one behind the other.
 fn put_models(alloc: Global, bytes: &mut Vec<u8>, models: &[BrushModel]) -> Result<(), AllocError>
-    ensures { OnOk result (bytes.new.items ≡ bytes.old.items ++ flat_map (model_layout small_bound 0 0).bytes_of models.now) }
+    ensures exact { OnOk result (bytes.new.items ≡ bytes.old.items ++ flat_map (model_layout small_bound 0 0).bytes_of models.now) }
+    ensures are_bytes { OnOk result (AreBytes bytes.new.items) }
 {
     for model in models {
         put_model(alloc, bytes, model)?;

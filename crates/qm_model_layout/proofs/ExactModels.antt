@@ -1,5 +1,5 @@
 -- The section of brush models is read exactly.
-use Rattle.std.proofs.Common.{◌≡◌, ℕ, true, eqb, ltb, leb, ◌&&◌, List, length, refl, sym, ap, subst, arith}
+use Rattle.std.proofs.Common.{◌≡◌, ℕ, true, eqb, leb, ◌&&◌, List, length, refl, sym, ap, subst, arith}
 use Rattle.std.proofs.lemmas.Bool.{and_parts, and_from, leb-true, le-leb, eqb-true}
 use Rattle.std.specs.Prelude.{IsTrue}
 use Rattle.std.specs.Int.{w64}

@@ -1,9 +1,8 @@
 -- What can stand in a section of brush models, in words: what the tests of the layout pass.
-use Rattle.std.proofs.Common.{◌≡◌, ◌<◌, ◌≤◌, ℕ, zero, suc, ◌+◌, ◌^◌, ℤ, pos, negsuc, ◌≤ℤ◌, Bool, true, false, cond, eqb, ltb, leb, int_le, ◌&&◌, List, [], ◌∷◌, ◌++◌, length, get_or, drop, Option, Some, None, refl, sym, ap, ◌∙◌, subst, arith}
+use Rattle.std.proofs.Common.{◌≡◌, ◌<◌, ◌≤◌, ℕ, zero, suc, ◌+◌, ◌^◌, ℤ, ◌≤ℤ◌, Bool, true, false, cond, eqb, ltb, leb, ◌&&◌, List, [], ◌∷◌, length, Option, Some, None, refl, ap, ◌∙◌, arith}
 use Rattle.std.specs.Int.{w32, w64}
-use Rattle.std.proofs.lemmas.Bool.{and_parts, and_from, ltb-true, lt-ltb, le-ltb, leb-true, le-leb, eq-eqb, true_from_ne_false}
+use Rattle.std.proofs.lemmas.Bool.{and_parts, and_from, ltb-true, lt-ltb, leb-true, le-leb, eq-eqb, true_from_ne_false}
 use Rattle.std.proofs.lemmas.Int.{ints}
-use Rattle.std.proofs.lemmas.List.{at_drop_more, at_drop_all}
 use Rattle.qm_space.specs.Cuboid.{Stretch, Cuboid}
 use Rattle.qm_formats.specs.Layout.{Decoded, got, bad, right_each, right_each_after}
 use Rattle.qm_formats.specs.Fields.{AreBytes, are_bytes, raw, unsigned, signed}
@@ -13,11 +12,10 @@ use Rattle.qm_formats.specs.FileLayout.{file_layout, file_bytes, file_limit, rea
 use Rattle.qm_formats.proofs.ExactFields.{are_bytes-from, bytes-are}
 use Rattle.qm_formats.proofs.ValidFiles.{right_valid, valid_right}
 use Rattle.qm_formats.proofs.WholeFile.{read_file_again}
-use Rattle.qm_plain.specs.PlainFile.{ArePlainBytes, is_plain, plain_of, read_plain}
+use Rattle.qm_plain.specs.PlainFile.{is_plain, plain_of, read_plain}
 use Rattle.qm_plain.proofs.PlainFiles.{plain_found, plain_again}
-use Rattle.qm_model_layout.specs.BrushModel.{BrushModel, IsWrittenStretch, IsWrittenBox, AscendFrom, IsModelFile, IsModelBehind, AreModelsBehind, AreValidModels}
-use Rattle.qm_model_layout.specs.ModelLayout.{box_layout, model_leaves_layout, counted_bytes_layout, kept_layout, is_in_order, is_box, ascend_from, decodes_for, can_stand, is_model, file_read, kept_of_model, tested_model_layout, model_layout, models_layout}
-use Rattle.qm_model_layout.proofs.ExactModels.{kept_bytes}
+use Rattle.qm_model_layout.specs.BrushModel.{BrushModel, IsWrittenBox, AscendFrom, IsModelFile, IsModelBehind, AreModelsBehind, AreValidModels}
+use Rattle.qm_model_layout.specs.ModelLayout.{box_layout, model_leaves_layout, counted_bytes_layout, kept_layout, is_in_order, is_box, ascend_from, decodes_for, can_stand, is_model, file_read, kept_of_model, model_layout, models_layout}
 
 -- ---- numbers
 
@@ -113,9 +111,9 @@ module _ (box : Cuboid) where
   box_by_test : IsWrittenBox box → (box_layout.right box ≡ true) × (is_box box ≡ true)
   unfolding is_box signed
   box_by_test is = (
-        written_right (record { x_low = is.x.low_fits; y_low = is.y.low_fits; z_low = is.z.low_fits; x_high = is.x.high_fits; y_high = is.y.high_fits; z_high = is.z.high_fits }),
-        and_from (is_in_order box.x) (is_in_order box.y && is_in_order box.z) (order_by_test box.x is.x.in_order) (and_from (is_in_order box.y) (is_in_order box.z) (order_by_test box.y is.y.in_order) (order_by_test box.z is.z.in_order)),
-      )
+    written_right (record { x_low = is.x.low_fits; y_low = is.y.low_fits; z_low = is.z.low_fits; x_high = is.x.high_fits; y_high = is.y.high_fits; z_high = is.z.high_fits }),
+    and_from (is_in_order box.x) (is_in_order box.y && is_in_order box.z) (order_by_test box.x is.x.in_order) (and_from (is_in_order box.y) (is_in_order box.z) (order_by_test box.y is.y.in_order) (order_by_test box.z is.z.in_order)),
+  )
 
 -- ---- the tree
 
