@@ -2,7 +2,7 @@
 
 ghost use Rattle.std.specs.Prelude.{◌≡◌, ℕ, List, IfOk};
 ghost use Rattle.qm_formats.specs.Layout.{each_after};
-ghost use Rattle.qm_model_layout.specs.ModelLayout.{ascend_from, can_stand, kept_model, model_layout};
+ghost use Rattle.qm_model_layout.specs.ModelLayout.{ascend_from, is_model_head, kept_model, model_layout};
 ghost use Rattle.qm_model_file.specs.Answers.{IsFaultOfModels, AnswersModels};
 ghost use Rattle.qm_model_file.specs.inner.SeenKept.{seen_kept};
 
@@ -68,7 +68,7 @@ fn model_of(
 ) -> Result<Option<BrushModel>, AllocError>
     ensures { IfOk result (λ found. found ≡ kept_model bound numbered last_entity (seen_kept head tree.now)) }
 {
-    if !can_stand(&head, numbered, last_entity) {
+    if !is_model_head(&head, numbered, last_entity) {
         return Ok(None);
     }
     match plain_file(alloc, tree, bound)? {
@@ -78,9 +78,9 @@ fn model_of(
 }
 
 /// Whether a model can stand in a section behind one of the last entity, but for its tree.
-#[tactic(auto, unfolding(qm_model_layout::specs::ModelLayout::can_stand))]
-fn can_stand(head: &ModelHead, numbered: u64, last_entity: u64) -> bool
-    ensures { (tree : List ℕ) → result ≡ can_stand numbered last_entity (seen_kept head.now tree) }
+#[tactic(auto, unfolding(qm_model_layout::specs::ModelLayout::is_model_head))]
+fn is_model_head(head: &ModelHead, numbered: u64, last_entity: u64) -> bool
+    ensures { (tree : List ℕ) → result ≡ is_model_head numbered last_entity (seen_kept head.now tree) }
 {
     last_entity < head.entity && is_box(&head.bounding_box) && ascend(&head.leaves, numbered)
 }

@@ -15,7 +15,7 @@ use Rattle.qm_formats.proofs.ExactFile.{right_each_length, right_each_after_leng
 use Rattle.qm_formats.proofs.ValidFiles.{right_valid, valid_right}
 use Rattle.qm_formats.proofs.WholeFile.{IsFileOf, read_file_found, read_file_again}
 use Rattle.qm_model_layout.specs.BrushModel.{BrushModel}
-use Rattle.qm_model_layout.specs.ModelLayout.{KeptModel, box_layout, model_leaves_layout, counted_bytes_layout, kept_layout, decodes_for, can_stand, is_model, file_read, model_of_kept, kept_of_model, tested_model_layout, can_be_kept, model_layout, models_layout}
+use Rattle.qm_model_layout.specs.ModelLayout.{KeptModel, box_layout, model_leaves_layout, counted_bytes_layout, kept_layout, decodes_for, is_model_head, is_model, file_read, model_of_kept, kept_of_model, tested_model_layout, can_be_kept, model_layout, models_layout}
 
 -- ---- a model as it is kept
 
@@ -96,7 +96,7 @@ module _ (bound numbered before : ℕ) where
   file_of_kept kept right =
       let both = and_parts (kept_layout.right kept) (is_model bound numbered before kept) right in
       let decodes = decodes_for bound (read_file kept.bytes) in
-      file_of_bytes bound kept.bytes (read_file kept.bytes) refl (kept_bytes kept both.0) (and_parts (can_stand numbered before kept) decodes both.1).1
+      file_of_bytes bound kept.bytes (read_file kept.bytes) refl (kept_bytes kept both.0) (and_parts (is_model_head numbered before kept) decodes both.1).1
 
   there : (kept : KeptModel) → (tested_model_layout bound numbered before).right kept ≡ true → (kept_of_model (model_of_kept kept) ≡ kept) × IsTrue (can_be_kept bound numbered before (model_of_kept kept))
   there kept right =

@@ -7,7 +7,7 @@ use Rattle.qm_formats.specs.TreeFile.{TreeFile}
 use Rattle.qm_formats.specs.FileLayout.{read_file}
 use Rattle.qm_plain.specs.PlainFile.{is_plain, plain_of, read_plain}
 use Rattle.qm_model_layout.specs.BrushModel.{BrushModel}
-use Rattle.qm_model_layout.specs.ModelLayout.{KeptModel, kept_layout, decodes_for, can_stand, is_model, file_read, model_of_kept, kept_model, model_layout}
+use Rattle.qm_model_layout.specs.ModelLayout.{KeptModel, kept_layout, decodes_for, is_model_head, is_model, file_read, model_of_kept, kept_model, model_layout}
 
 module _ (bound numbered before : ℕ) where
   -- what is read at a place where a model is kept
@@ -26,7 +26,7 @@ module _ (bound numbered before : ℕ) where
       rw (behind, found_is) (by_test at next kept test)
 
   -- a model whose entity, box or leaves cannot stand
-  pub none_kept : (kept : KeptModel) → can_stand numbered before kept ≡ false → ◌≡◌ {A = Option BrushModel} None (kept_model bound numbered before kept)
+  pub none_kept : (kept : KeptModel) → is_model_head numbered before kept ≡ false → ◌≡◌ {A = Option BrushModel} None (kept_model bound numbered before kept)
   unfolding is_model
   none_kept kept is = sym (ap (λ (stands : Bool). cond (stands && decodes_for bound (read_file kept.bytes)) (Some (model_of_kept kept)) None) is)
 
@@ -44,7 +44,7 @@ module _ (bound numbered before : ℕ) where
   by_answer kept (got file next) = by_plain kept file (is_plain bound file)
   by_answer kept (bad fault place) = refl
 
-  pub file_kept : (kept : KeptModel) (found : Option TreeFile) → can_stand numbered before kept ≡ true → found ≡ read_plain bound kept.bytes → with_file kept found ≡ kept_model bound numbered before kept
+  pub file_kept : (kept : KeptModel) (found : Option TreeFile) → is_model_head numbered before kept ≡ true → found ≡ read_plain bound kept.bytes → with_file kept found ≡ kept_model bound numbered before kept
   unfolding is_model read_plain
   file_kept kept found stands found_is =
       ap (with_file kept) found_is

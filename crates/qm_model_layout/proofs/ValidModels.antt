@@ -15,7 +15,7 @@ use Rattle.qm_formats.proofs.WholeFile.{read_file_again}
 use Rattle.qm_plain.specs.PlainFile.{is_plain, plain_of, read_plain}
 use Rattle.qm_plain.proofs.PlainFiles.{plain_found, plain_again}
 use Rattle.qm_model_layout.specs.BrushModel.{BrushModel, IsWrittenBox, AscendFrom, IsModelFile, IsModelBehind, AreModelsBehind, AreValidModels}
-use Rattle.qm_model_layout.specs.ModelLayout.{box_layout, model_leaves_layout, counted_bytes_layout, kept_layout, is_in_order, is_box, ascend_from, decodes_for, can_stand, is_model, file_read, kept_of_model, model_layout, models_layout}
+use Rattle.qm_model_layout.specs.ModelLayout.{box_layout, model_leaves_layout, counted_bytes_layout, kept_layout, is_in_order, is_box, ascend_from, decodes_for, is_model_head, is_model, file_read, kept_of_model, model_layout, models_layout}
 
 -- ---- numbers
 
@@ -154,7 +154,7 @@ module _ (bound numbered before : ℕ) (model : BrushModel) where
     box : box_layout.right model.box ≡ true
     leaves : model_leaves_layout.right model.leaves ≡ true
     bytes : counted_bytes_layout.right (file_bytes model.file) ≡ true
-    stands : can_stand numbered before (kept_of_model model) ≡ true
+    stands : is_model_head numbered before (kept_of_model model) ≡ true
     decodes : decodes_for bound (read_file (file_bytes model.file)) ≡ true
     file : file_layout.right model.file ≡ true
     fits : leb (length (file_bytes model.file)) file_limit ≡ true
@@ -166,7 +166,7 @@ module _ (bound numbered before : ℕ) (model : BrushModel) where
       let its_leaves = model_leaves_layout.right model.leaves && its_bytes in
       let its_box = box_layout.right model.box && its_leaves in
       let kept = (unsigned short w64).right model.entity && its_box in
-      let stands = can_stand numbered before (kept_of_model model) in
+      let stands = is_model_head numbered before (kept_of_model model) in
       let decodes = decodes_for bound (read_file (file_bytes model.file)) in
       let written = file_layout.right model.file && leb (length (file_bytes model.file)) file_limit in
       let whole = and_parts (kept && (stands && decodes)) written right in
@@ -185,7 +185,7 @@ module _ (bound numbered before : ℕ) (model : BrushModel) where
       let its_leaves = model_leaves_layout.right model.leaves && its_bytes in
       let its_box = box_layout.right model.box && its_leaves in
       let kept = (unsigned short w64).right model.entity && its_box in
-      let stands = can_stand numbered before (kept_of_model model) in
+      let stands = is_model_head numbered before (kept_of_model model) in
       let decodes = decodes_for bound (read_file (file_bytes model.file)) in
       let written = file_layout.right model.file && leb (length (file_bytes model.file)) file_limit in
       and_from (kept && (stands && decodes)) written
@@ -195,7 +195,7 @@ module _ (bound numbered before : ℕ) (model : BrushModel) where
       (and_from (file_layout.right model.file) (leb (length (file_bytes model.file)) file_limit) is.file is.fits)
 
   pub model_in_words : (model_layout bound numbered before).right model ≡ true → IsModelBehind bound numbered before model
-  unfolding can_stand model_leaves_layout counted_bytes_layout raw
+  unfolding is_model_head model_leaves_layout counted_bytes_layout raw
   model_in_words right =
       let is = parts_of_right right in
       let head = and_parts (ltb before model.entity) (is_box model.box && ascend_from 0 numbered model.leaves) is.stands in
@@ -214,7 +214,7 @@ module _ (bound numbered before : ℕ) (model : BrushModel) where
       }
 
   pub model_by_test : AreBytes (file_bytes model.file) → IsModelBehind bound numbered before model → (model_layout bound numbered before).right model ≡ true
-  unfolding can_stand model_leaves_layout counted_bytes_layout raw
+  unfolding is_model_head model_leaves_layout counted_bytes_layout raw
   model_by_test are is =
       let bytes = file_bytes model.file in
       let box = box_by_test model.box is.box in

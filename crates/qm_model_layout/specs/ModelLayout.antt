@@ -69,13 +69,13 @@ abbrev pub decodes_for : ℕ → Decoded FileFaultKind TreeFile → Bool
 decodes_for bound (got file next) = is_plain bound file
 decodes_for bound (bad fault place) = false
 
--- what a model has to be but for its tree: its entity is above another, its box has no end above the other, and its leaves ascend
-unfoldable pub can_stand : ℕ → ℕ → KeptModel → Bool
-can_stand numbered before kept = nat_lt before kept.entity && (is_box kept.box && ascend_from 0 numbered kept.leaves)
+-- what stands before the tree of a model, behind one of another entity: the entity is above that one, the box is one, and the leaves ascend
+unfoldable pub is_model_head : ℕ → ℕ → KeptModel → Bool
+is_model_head numbered before kept = nat_lt before kept.entity && (is_box kept.box && ascend_from 0 numbered kept.leaves)
 
 -- what a model has to be, behind one of another entity
 unfoldable pub is_model : ℕ → ℕ → ℕ → KeptModel → Bool
-is_model bound numbered before kept = can_stand numbered before kept && decodes_for bound (read_file kept.bytes)
+is_model bound numbered before kept = is_model_head numbered before kept && decodes_for bound (read_file kept.bytes)
 
 -- the file that is read in bytes; bytes in which none is read never pass the test
 abbrev pub file_read : Decoded FileFaultKind TreeFile → TreeFile
