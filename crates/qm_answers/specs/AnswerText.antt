@@ -56,10 +56,14 @@ printed_row file n = row_in file.rows
     row_in None = []
     row_in (Some rows) = slice_index_or rows n []
 
--- the kinds of sections, each after a space
+-- numbers of what a list has, each after a space
+abbrev pub spaced_numbers : {X : Type 0} → (X → ℕ) → List X → List ℕ
+spaced_numbers number [] = []
+spaced_numbers number (x ∷ rest) = 32 ∷ (decimal (number x) ++ spaced_numbers number rest)
+
+-- the kinds of sections
 abbrev pub section_kinds : List Section → List ℕ
-section_kinds [] = []
-section_kinds (section ∷ sections) = 32 ∷ (decimal section.kind ++ section_kinds sections)
+section_kinds sections = spaced_numbers (λ (section : Section). section.kind) sections
 
 -- the words of how much there is
 unfoldable pub words_of_count : (planes nodes leaves numbered : ℕ) → Bool → List ℕ
@@ -116,10 +120,9 @@ words_of_box box =
     signed_decimal box.x.low ++ (32 ∷ (signed_decimal box.y.low ++ (32 ∷ (signed_decimal box.z.low
     ++ (32 ∷ (signed_decimal box.x.high ++ (32 ∷ (signed_decimal box.y.high ++ (32 ∷ signed_decimal box.z.high)))))))))
 
--- numbers of leaves, each after a space
+-- numbers of leaves
 abbrev pub leaf_numbers : List ℕ → List ℕ
-leaf_numbers [] = []
-leaf_numbers (n ∷ leaves) = 32 ∷ (decimal n ++ leaf_numbers leaves)
+leaf_numbers leaves = spaced_numbers (λ (leaf : ℕ). leaf) leaves
 
 -- the words of a model: its entity, its box and the leaves that it touches
 unfoldable pub words_of_model : BrushModel → List ℕ

@@ -1,6 +1,6 @@
 use Rattle.std.specs.Prelude.{◌≡◌, ◌⊎◌, ℕ, ℤ, pos, Bool, false, ◌&&◌, nat_lt, List, [], ◌∷◌, length, slice_get, slice_index_or, Option, Some, None, is_some, Result, Ok, Err, ◌==◌, if◌then◌else◌}
 use Rattle.qm_space.specs.Point.{Point}
-use Rattle.qm_partition.specs.Counting.{node_count, leaf_count, leaves_of}
+use Rattle.qm_partition.specs.Counting.{node_count, leaf_count}
 use Rattle.qm_partition.specs.LeafOfPoint.{leaf_at, leaf_record_at}
 use Rattle.qm_partition.specs.Tree.{Tree}
 use Rattle.qm_contents.specs.declared.contents.Contents.{Contents}

@@ -1,4 +1,4 @@
-use Rattle.std.specs.Prelude.{ℕ, zero, suc, ◌==◌, List, [], ◌∷◌, Option, Some, None, count_by, if◌then◌else◌}
+use Rattle.std.specs.Prelude.{◌<◌, ℕ, zero, suc, ◌==◌, List, [], ◌∷◌, Option, Some, None, count_by, if◌then◌else◌}
 use Rattle.qm_partition.specs.Counting.{leaves_of}
 use Rattle.qm_contacts.specs.NumberedLeaves.{is_numbered}
 use Rattle.qm_formats.specs.FileParts.{FileFaultKind}
@@ -52,3 +52,8 @@ kind_of_models = 3
 -- the brush models of a file: their section is read for its own bound and its own number of numbered leaves
 abbrev pub decoded_models : TreeFile → DecodedSection (List BrushModel)
 decoded_models file = decoded_by (λ bytes. if_decoded (read_models file.bound (numbered_count file) bytes)) (section_bytes file.sections kind_of_models)
+
+-- models of entities that ascend, the first above a number
+abbrev pub AscendByEntity : ℕ → List BrushModel → Type 0
+AscendByEntity before [] = Unit {0}
+AscendByEntity before (model ∷ models) = (before < model.entity) × AscendByEntity model.entity models
