@@ -1,20 +1,24 @@
 //! What holds of a run: how it ends over forms that never fail, and that it leaves what it reads; and what the spans of a
 //! segment say of a map, in the files that it compiles to.
 
-ghost use Rattle.std.specs.Prelude.{ℕ, List};
+ghost use Rattle.std.specs.Prelude.{ℕ, Bool, IsTrue, List};
 ghost use Rattle.qm_mapfile.specs.declared.entity.MapFile.{MapFile};
 ghost use Rattle.qm_contacts.specs.World.{World};
 ghost use Rattle.qm_formats.specs.TreeFile.{TreeFile};
 ghost use Rattle.qm_shelf.specs.SeenForms.{surroundings};
 ghost use Rattle.qm_surroundings.specs.Surroundings.{Surroundings};
+ghost use Rattle.qm_commands.specs.declared.map_command.MapCommand.TheVariants.{Compile};
 ghost use Rattle.qm_commands.specs.declared.options.Options.{Options as SeenOptions};
-ghost use Rattle.qm_commands.specs.Order.{Order};
+ghost use Rattle.qm_commands.specs.FileNames.{FileNames};
+ghost use Rattle.qm_commands.specs.Order.{Order, of_map};
 ghost use Rattle.qm_commands.specs.Words.{AreWordsOf};
 ghost use Rattle.qm_words.specs.SeenWords.{bytes_of_words};
 ghost use Rattle.qm_statement.specs.declared.status.Status.{Status as SeenStatus};
+ghost use Rattle.qm_statement.specs.declared.status.Status.TheVariants.{Done};
 ghost use Rattle.qm_statement.specs.declared.summary.Summary.{Summary as SeenSummary};
 ghost use Rattle.qm_statement.specs.CompiledMap.{IsCompiledWithoutLeak, IsCompiledToLeak};
 ghost use Rattle.qm_statement.specs.Complete.{MayEndWhereNoneMet};
+ghost use Rattle.qm_statement.specs.Headline.{IsHeadline};
 ghost use Rattle.qm_statement.specs.KeptFile.{KeepsWhatItReads};
 ghost use Rattle.qm_statement.specs.Run.{Answers};
 ghost use Rattle.qm_traced_files.specs.MapSpans.{SpansTellContents, HullSpansTellObstacles};
@@ -43,6 +47,13 @@ pub fn run_surely<R: Threads + Sync, G: Gate + Sync>(
 {
     run(rt, alloc, words, shelf, out, gate)
 }
+
+/// What a successful `compile` means for the tree file that is read in OUT, if the shelf tells what it holds.
+pub fn headline()
+    ensures { (words : List (List ℕ)) (before after : Surroundings) (options : SeenOptions) (listed : Bool) (files : FileNames) →
+        AreWordsOf (of_map (Compile options listed) files) words → IsTrue before.shelf.tells → Answers words before after Done →
+        IsHeadline before.shelf after.shelf options files }
+{}
 
 /// The file that a command reads, MAP or TREE, is as it was, however the run ends.
 pub fn kept_file()
