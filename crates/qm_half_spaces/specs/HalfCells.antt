@@ -3,9 +3,9 @@ use Rattle.qm_space.specs.Plane.{Plane}
 use Rattle.qm_space.specs.Turned.{turned}
 use Rattle.qm_half_spaces.specs.declared.half.Half.{Half}
 
--- What several half spaces have in common, as a cell.
+-- What several half-spaces have in common, as a cell.
 
--- the plane of a half space, turned to it
+-- the plane of a half-space, turned to it
 abbrev pub inward_of_half : Half → Plane
 inward_of_half half = turned half.front half.plane
 

@@ -53,13 +53,13 @@ impl Body {
         Ok(Body { facets })
     }
 
-    /// What half spaces have in common of the cube. `None` exactly where they have no point of it.
+    /// What half-spaces have in common of the cube. `None` exactly where they have no point of it.
     pub fn within(alloc: Global, halves: &[Half]) -> Result<Option<Body>, AllocError>
         ensures { IfOk result (λ left. IsBodyOrNone (cell_of_halves halves.now) left) }
     {
         let mut body = Body::whole(alloc)?;
         for half in halves {
-            match body.kept(&half.inward())? {
+            match body.kept(&half.inward_plane())? {
                 Some(left) => body = left,
                 None => return Ok(None),
             }
@@ -126,7 +126,8 @@ impl Body {
         ensures back { IfOk result (λ halves. (cell : List SpacePlane) → IsBody cell self → IsBodyOrNone (with_plane cell (flipped plane.now)) halves.back) }
     {
         let Body { facets } = self;
-        let section = section_of(&facets, plane)?;
+        let alloc = *facets.allocator();
+        let section = section_of(alloc, &facets, plane)?;
         let again = section.copy()?;
         let lists = split_facets(facets, plane)?;
         Ok(BodyHalves {
@@ -148,12 +149,11 @@ impl Body {
 }
 
 /// What a body has of a plane that parts it.
-fn section_of(facets: &Vec<Facet>, plane: &Plane) -> Result<Winding, AllocError>
-    requires parted { IsPartedBy plane.now facets.now.items }
-    requires body { IsSomeBody facets.now.items }
-    ensures { IfOk result (IsSectionOfBody facets.now.items plane.now) }
+fn section_of(alloc: Global, facets: &[Facet], plane: &Plane) -> Result<Winding, AllocError>
+    requires parted { IsPartedBy plane.now facets.now }
+    requires body { IsSomeBody facets.now }
+    ensures { IfOk result (IsSectionOfBody facets.now plane.now) }
 {
-    let alloc = *facets.allocator();
     let walls = walls_of(alloc, facets)?;
     match Winding::on(alloc, plane)? {
         Some(whole) => match whole.keep_all(&walls)? {

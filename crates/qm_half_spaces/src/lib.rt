@@ -1,4 +1,4 @@
-//! Half spaces, and what several of them have in common of the cube: whether there is a point, as a body by its facets; how a
+//! Half-spaces, and what several of them have in common of the cube: whether there is a point, as a body by its facets; how a
 //! plane parts a body; and the box round it.
 #![tactic(auto)]
 

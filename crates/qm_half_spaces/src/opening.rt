@@ -1,4 +1,4 @@
-//! Whether several half spaces have a point of the cube in common.
+//! Whether several half-spaces have a point of the cube in common.
 
 ghost use Rattle.std.specs.Prelude.{◌↔◌, IfOk, IsTrue};
 ghost use Rattle.qm_space.specs.Cell.{HasPoint};
