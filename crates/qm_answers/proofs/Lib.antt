@@ -1,6 +1,7 @@
+pub mod ModelsByEntity
 pub mod OneAnswer
 pub mod Places
 pub mod PrintableAnswers
-pub mod SectionKinds
+pub mod SpacedNumbers
 pub mod Told
 pub mod UpgradedAnswers

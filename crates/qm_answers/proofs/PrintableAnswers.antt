@@ -10,13 +10,14 @@ use Rattle.qm_commands.specs.declared.millionths.Millionths.{Millionths}
 use Rattle.qm_commands.specs.declared.query.Query.{Query}
 use Rattle.qm_commands.specs.declared.query.Query.TheVariants as queries
 use Rattle.qm_answers.specs.declared.answer.Answer.{Answer}
-use Rattle.qm_answers.specs.declared.answer.Answer.TheVariants.{Hull, Trace, HullTrace, Row, Sees, Parts}
+use Rattle.qm_answers.specs.declared.answer.Answer.TheVariants.{Hull, Trace, HullTrace, Model, ModelAt, Row, Sees, Parts}
 use Rattle.qm_answers.specs.declared.decoded_section.DecodedSection.{DecodedSection}
 use Rattle.qm_answers.specs.declared.decoded_section.DecodedSection.TheVariants.{Missing, Bad, Known}
 use Rattle.qm_answers.specs.declared.query_fault.QueryFault.{QueryFault}
 use Rattle.qm_answers.specs.declared.query_fault.QueryFault.TheVariants.{OutsideCube, NoSuchLeaf, TooWide}
-use Rattle.qm_answers.specs.DecodedSections.{decoded_hull}
-use Rattle.qm_answers.specs.Answers.{numbered_count, answer_to_count, is_solid_at, answer_of_rows, AnswersWhere, AnswersBySection, AnswersByTree, AnswersHull, AnswersTrace, AnswersHullTrace, AnswersQuery, HasEndsInside}
+use Rattle.qm_model_layout.specs.BrushModel.{BrushModel}
+use Rattle.qm_answers.specs.DecodedSections.{numbered_count, decoded_hull, decoded_models}
+use Rattle.qm_answers.specs.Answers.{answer_to_count, is_solid_at, answer_of_rows, AnswersWhere, AnswersBySection, AnswersByTree, AnswersHull, AnswersTrace, AnswersHullTrace, model_of_entity, answer_of_model, contents_at, AnswersModel, AnswersModelAt, AnswersQuery, HasEndsInside}
 use Rattle.qm_answers.specs.Printable.{IsKnownTo, IsTraceable, IsPrintable}
 
 -- ---- parts of answers
@@ -83,6 +84,30 @@ module _ (file : TreeFile) where
       (where_answered (IsInsideBound file.bound point) OutsideCube
       (AnswersBySection (decoded_hull file hull) (λ found given. given ≡ Ok (Hull (is_solid_at found.tree point)))) answer is).1
 
+  -- ---- models
+
+  by_model : (found : Option BrushModel) (of_model : BrushModel → Answer) (answer : Answer) → ((model : BrushModel) → IsPrintable file (of_model model)) → Ok answer ≡ answer_of_model found of_model → IsPrintable file answer
+  by_model None of_model answer each is = absurd cc
+  by_model (Some model) of_model answer each is = printed_as answer (of_model model) is (each model)
+
+  by_models : (section : DecodedSection (List BrushModel)) (entity : ℕ) (of_model : BrushModel → Answer) (answer : Answer) → ((model : BrushModel) → IsPrintable file (of_model model)) →
+      AnswersBySection section (λ models given. given ≡ answer_of_model (model_of_entity models entity) of_model) (Ok answer) → IsPrintable file answer
+  by_models Missing entity of_model answer each is = absurd cc
+  by_models Bad entity of_model answer each is = absurd cc
+  by_models (Known models) entity of_model answer each is = by_model (model_of_entity models entity) of_model answer each is
+
+  model_printable : (entity : ℕ) (answer : Answer) → AnswersModel file entity (Ok answer) → IsPrintable file answer
+  unfolding AnswersModel
+  model_printable entity answer is = by_models (decoded_models file) entity (λ _. Model entity) answer (λ model. tt) is
+
+  model_at_printable : (entity : ℕ) (point : Point) (answer : Answer) → AnswersModelAt file entity point (Ok answer) → IsPrintable file answer
+  unfolding AnswersModelAt
+  model_at_printable entity point answer is =
+      let of_model : BrushModel → Answer = λ model. ModelAt entity (contents_at model.file.tree point) in
+      by_models (decoded_models file) entity of_model answer (λ model. tt)
+      (where_answered (IsInsideBound file.bound point) OutsideCube
+      (AnswersBySection (decoded_models file) (λ models given. given ≡ answer_of_model (model_of_entity models entity) of_model)) answer is).1
+
   -- ---- queries
 
   pub answers_are_printable : (query : Query) (answer : Answer) → AnswersQuery file query (Ok answer) → IsPrintable file answer
@@ -92,6 +117,8 @@ module _ (file : TreeFile) where
   answers_are_printable (queries.Hull hull x y z) answer is = hull_printable hull _ answer is
   answers_are_printable (queries.Trace from to) answer is = trace_printable from to answer is
   answers_are_printable (queries.HullTrace hull from to) answer is = hull_trace_printable hull from to answer is
+  answers_are_printable (queries.Model entity) answer is = model_printable entity answer is
+  answers_are_printable (queries.ModelAt entity x y z) answer is = model_at_printable entity _ answer is
   answers_are_printable (queries.Row n) answer is =
       by_test (nat_lt n (numbered_count file)) (answer_of_rows file.rows (λ _. Row n)) answer (by_rows file.rows (λ _. Row n) answer (λ rows. tt)) is
   answers_are_printable (queries.Sees n m) answer is =

@@ -11,7 +11,7 @@ use Rattle.qm_answers.specs.declared.answer.Answer.{Answer}
 use Rattle.qm_answers.specs.declared.answer.Answer.TheVariants as answers
 use Rattle.qm_answers.specs.declared.query_fault.QueryFault.{QueryFault}
 use Rattle.qm_answers.specs.AnswerText.{answer_line, answer_words, words_of_row}
-use Rattle.qm_answers.specs.Answers.{AnswersPlace, AnswersHull, AnswersTrace, AnswersHullTrace, AnswersQuery}
+use Rattle.qm_answers.specs.Answers.{AnswersPlace, AnswersHull, AnswersTrace, AnswersHullTrace, AnswersModel, AnswersModelAt, AnswersQuery}
 use Rattle.qm_space.specs.InsideBound.{IsInsideBound}
 use Rattle.qm_answers.specs.SameAnswers.{HaveSameAnswers}
 
@@ -40,12 +40,14 @@ same_place file point (Ok answer) = (λ is. is, λ is. is)
 same_place file point (Err fault) = (λ is. is, λ is. is)
 
 same_answer : (file : TreeFile) (query : Query) (answer : Result Answer QueryFault) → query ≢ queries.Parts → AnswersQuery file query answer ↔ AnswersQuery (upgraded file) query answer
-unfolding AnswersQuery AnswersHull AnswersTrace AnswersHullTrace
+unfolding AnswersQuery AnswersHull AnswersTrace AnswersHullTrace AnswersModel AnswersModelAt
 same_answer file queries.Count answer other = (λ is. is, λ is. is)
 same_answer file (queries.At x y z) answer other = same_place file _ answer
 same_answer file (queries.Hull hull x y z) answer other = (λ is. is, λ is. is)
 same_answer file (queries.Trace from to) answer other = (λ is. is, λ is. is)
 same_answer file (queries.HullTrace hull from to) answer other = (λ is. is, λ is. is)
+same_answer file (queries.Model entity) answer other = (λ is. is, λ is. is)
+same_answer file (queries.ModelAt entity x y z) answer other = (λ is. is, λ is. is)
 same_answer file (queries.Row n) answer other = (λ is. is, λ is. is)
 same_answer file (queries.Sees n m) answer other = (λ is. is, λ is. is)
 same_answer file queries.Parts answer other = absurd (other refl)
@@ -57,6 +59,8 @@ same_line file (answers.Place leaf contents filled number) other = refl
 same_line file (answers.Hull solid) other = refl
 same_line file (answers.Trace from to) other = refl
 same_line file (answers.HullTrace hull from to) other = refl
+same_line file (answers.Model entity) other = refl
+same_line file (answers.ModelAt entity contents) other = refl
 same_line file (answers.Row n) other = refl
 same_line file (answers.Sees sees) other = refl
 same_line file answers.Parts other = absurd (other refl)

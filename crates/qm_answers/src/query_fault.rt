@@ -11,6 +11,8 @@ pub enum QueryFault {
     NoPart,
     /// The reader of its kind refuses the section that is asked.
     BadPart,
+    /// The section of brush models has none of the entity that is asked.
+    NoSuchModel,
     /// The plane of a node is too far from the cube for traces.
     TooWide,
 }

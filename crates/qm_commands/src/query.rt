@@ -30,6 +30,15 @@ pub enum Query {
         from: Millionths,
         to: Millionths,
     },
+    /// The box of the brush model of an entity, and which numbered leaves it touches.
+    Model(u64),
+    /// What the brush model of an entity is at a point, whose coordinates are given in millionths of a map unit.
+    ModelAt {
+        entity: u64,
+        x: i64,
+        y: i64,
+        z: i64,
+    },
     /// Which leaves the row of a numbered leaf has.
     Row(u64),
     /// Whether the row of the first numbered leaf has the second.

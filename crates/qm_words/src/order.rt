@@ -15,6 +15,7 @@ pub enum Order<'a> {
         threads: u8,
         fast: bool,
         hulls: bool,
+        models: bool,
     },
     /// Answers from a tree file.
     Inspect {

@@ -53,6 +53,7 @@ fn is_flag(word: &str) -> bool
     match word {
         "--fast" => true,
         "--hulls" => true,
+        "--models" => true,
         _ => false,
     }
 }

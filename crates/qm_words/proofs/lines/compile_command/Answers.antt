@@ -9,4 +9,5 @@ returns c =
     let listed = with_rule names (value_rule (codes "prt")) in
     let shared = with_rule listed (value_rule (codes "threads")) in
     let coarse = with_rule shared (flag_rule (codes "fast")) in
-    c.with_arg.ensures coarse (c.with_arg-coarse.ensures shared (c.with_arg-shared.ensures listed (c.with_arg-listed.ensures names c.names_command-names.ensures)))
+    let hulled = with_rule coarse (flag_rule (codes "hulls")) in
+    c.with_arg.ensures hulled (c.with_arg-hulled.ensures coarse (c.with_arg-coarse.ensures shared (c.with_arg-shared.ensures listed (c.with_arg-listed.ensures names c.names_command-names.ensures))))
