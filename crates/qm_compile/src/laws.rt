@@ -1,10 +1,14 @@
 //! What holds of a run: how it ends over forms that never fail, and that it leaves what it reads; and what the spans of a
-//! segment say of a map, in the files that it compiles to.
+//! segment and the brush models say of a map, in the files that it compiles to.
 
-ghost use Rattle.std.specs.Prelude.{ℕ, Bool, IsTrue, List};
+ghost use Rattle.std.specs.Prelude.{◌≡◌, ℕ, Bool, List, Some, IsTrue, All};
 ghost use Rattle.qm_mapfile.specs.declared.entity.MapFile.{MapFile};
 ghost use Rattle.qm_contacts.specs.World.{World};
 ghost use Rattle.qm_formats.specs.TreeFile.{TreeFile};
+ghost use Rattle.qm_model_layout.specs.BrushModel.{BrushModel};
+ghost use Rattle.qm_model_files.specs.ReadModels.{AreReadModels, HasModels};
+ghost use Rattle.qm_model_files.specs.ExactModels.{AreExactModels};
+ghost use Rattle.qm_model_files.specs.SeenModels.{HasLeavesOfPoints, IsShownByLines};
 ghost use Rattle.qm_shelf.specs.SeenForms.{surroundings};
 ghost use Rattle.qm_surroundings.specs.Surroundings.{Surroundings};
 ghost use Rattle.qm_commands.specs.declared.map_command.MapCommand.TheVariants.{Compile};
@@ -71,4 +75,22 @@ pub fn spans_tell_contents()
 /// through that hull is solid.
 pub fn hull_spans_tell_obstacles()
     ensures { (map : MapFile) (options : SeenOptions) (file : TreeFile) (world : World) (summary : SeenSummary) → IsCompiledWithoutLeak map options file world summary → HullSpansTellObstacles map file }
+{}
+
+/// With `--models` the file has a section of models, and what is read in it are exactly the models of the map: one for each entity
+/// but the world with a full brush that is not clip, with its box, the leaves that it touches, and a tree that gives its contents.
+pub fn models_are_exact()
+    ensures there { (map : MapFile) (options : SeenOptions) (file : TreeFile) (world : World) (summary : SeenSummary) → IsCompiledWithoutLeak map options file world summary → IsTrue options.models → HasModels file }
+    ensures exact { (map : MapFile) (options : SeenOptions) (file : TreeFile) (world : World) (summary : SeenSummary) → IsCompiledWithoutLeak map options file world summary → (models : List BrushModel) → AreReadModels file models → AreExactModels map file.tree models }
+{}
+
+/// A point strictly inside a brush of a model, off the node planes of the world's tree, has its leaf among the model's, if that
+/// leaf is numbered.
+pub fn models_have_leaves_of_points()
+    ensures { (map : MapFile) (options : SeenOptions) (file : TreeFile) (world : World) (summary : SeenSummary) → IsCompiledWithoutLeak map options file world summary → (models : List BrushModel) → AreReadModels file models → All (HasLeavesOfPoints map file.tree) models }
+{}
+
+/// Where a line of sight ends strictly inside a brush of a model, the row of its first leaf has a leaf of the model.
+pub fn lines_of_sight_show_models()
+    ensures { (map : MapFile) (options : SeenOptions) (file : TreeFile) (world : World) (summary : SeenSummary) → IsCompiledWithoutLeak map options file world summary → (models : List BrushModel) (rows : List (List Bool)) → AreReadModels file models → file.rows ≡ Some rows → All (IsShownByLines map file.tree rows) models }
 {}
