@@ -31,9 +31,9 @@ use Rattle.qm_solids.specs.Outward.{AreNumberedIn}
 use Rattle.qm_solids.specs.InBook.{BookSolid, solid_at, solids_in, IsKeptIn, IsBookOf}
 use Rattle.qm_solid_tree.specs.GivesContents.{GivesContentsOrIsFilled}
 use Rattle.qm_surface.specs.Boundary.{rock_side, leaf_on, IsBoundaryPoint}
-use Rattle.qm_surface.specs.Owner.{is_towards, FaceOwner, owning_face, owners_from, MayOwn, IsOwner}
+use Rattle.qm_surface.specs.Owner.{is_towards, FaceOwner, owning_face, owners_from, MayOwn, IsOwnerAt}
 use Rattle.qm_surface.specs.Cutting.{cutters}
-use Rattle.qm_surface.specs.Surface.{FacePiece, owner_of, piece_of, ArePiecesOf, plane_of_node, IsCutUp, boundary, no_boundary, AreFacePieces, none, more}
+use Rattle.qm_surface.specs.Surface.{FacePiece, owner_of, piece_of, AreOwnedPieces, plane_of_node, IsCutUp, boundary, no_boundary, AreFacePieces, none, more}
 use Rattle.qm_surface.specs.Covered.{IsInPiece, HasOwnPiece, IsBookEdge, IsWithinContact, CoverBoundary}
 use Rattle.qm_surface.proofs.OnlyOne.{NoneHas, HasOne, here, IsFirstThat, decide_all, one_before, one_behind, only_place}
 use Rattle.qm_surface.proofs.Carving.{Covers, IsBehindAll}
@@ -111,7 +111,7 @@ module _ (tree : Tree) (solids : List BookSolid) (book : IsBookOf tree.planes so
     pub record HasFirst : Type 0 where
       pub owner : FaceOwner
       pub first_that : IsFirstThat Behind owner (owners_from n side solids 0)
-      pub is_owner : IsOwner planes solids n side x owner
+      pub is_owner : IsOwnerAt planes solids n side x owner
 
     first_owner : HasFirst
     first_owner =
@@ -141,7 +141,7 @@ module _ (tree : Tree) (solids : List BookSolid) (book : IsBookOf tree.planes so
       pub piece : FacePiece
       pub one : HasOne (IsInPiece x) piece pieces
       pub leaf : piece.leaf ≡ leaf_on (not side) m.front.leaf m.back.leaf
-      pub owner : IsOwner planes solids n side x (owner_of piece)
+      pub owner : IsOwnerAt planes solids n side x (owner_of piece)
 
     own_piece : (found : Touching) (own : List FacePiece) → IsTouching planes m found → IsCutUp tree solids found own → HasPiece own
     own_piece found own is (no_boundary sides) = absurd (let e : None ≡ Some side = sym sides ∙ (λ i. rock_side tree (is.front i) (is.back i)) ∙ point.sides in cc)
@@ -149,8 +149,8 @@ module _ (tree : Tree) (solids : List BookSolid) (book : IsBookOf tree.planes so
         let its_side : s ≡ side = let e : Some s ≡ Some side = sym sides ∙ (λ i. rock_side tree (is.front i) (is.back i)) ∙ point.sides in cc in
         let plane_is : plane_of_node tree found.node ≡ n = ap (plane_of_node tree) is.node ∙ plane_by_node tree m point.listed in
         let leaf_is : leaf_on (not side) found.front found.back ≡ leaf_on (not side) m.front.leaf m.back.leaf = λ i. leaf_on (not side) (is.front i) (is.back i) in
-        let of_side = subst (λ (t : Bool). ArePiecesOf planes solids (plane_of_node tree found.node) t (leaf_on (not t) found.front found.back) (owners_from (plane_of_node tree found.node) t solids 0) (found.winding ∷ []) own) its_side pieces in
-        let of_plane = subst (λ (k : ℕ). ArePiecesOf planes solids k side (leaf_on (not side) found.front found.back) (owners_from k side solids 0) (found.winding ∷ []) own) plane_is of_side in
+        let of_side = subst (λ (t : Bool). AreOwnedPieces planes solids (plane_of_node tree found.node) t (leaf_on (not t) found.front found.back) (owners_from (plane_of_node tree found.node) t solids 0) (found.winding ∷ []) own) its_side pieces in
+        let of_plane = subst (λ (k : ℕ). AreOwnedPieces planes solids k side (leaf_on (not side) found.front found.back) (owners_from k side solids 0) (found.winding ∷ []) own) plane_is of_side in
         let leaf = leaf_on (not side) found.front found.back in
         let covers : HasOne (Covers x) found.winding (found.winding ∷ []) = here ((is.points x).1 point.contact) (All-nil (λ w. Covers x w → ⊥)) in
         let piece = piece_found planes solids n side leaf x (owners_from n side solids 0) (found.winding ∷ []) own first_owner.owner found.winding of_plane

@@ -10,7 +10,7 @@ use Rattle.qm_convex.specs.Cut.{IsPartInFront}
 use Rattle.qm_solids.specs.InBook.{BookSolid, solid_at}
 use Rattle.qm_surface.specs.Owner.{FaceOwner}
 use Rattle.qm_surface.specs.Cutting.{cutters, IsFrontPart, IsCarved, behind_all, goes_on, ends, AreCarved, none, more}
-use Rattle.qm_surface.specs.Surface.{FacePiece, piece_of, ArePiecesOf, all_cut, cut_by}
+use Rattle.qm_surface.specs.Surface.{FacePiece, piece_of, AreOwnedPieces, all_cut, cut_by}
 
 module _ (Kept : Winding → Type 0) (Cuts : Plane → Type 0) (in_front : (w v : Winding) (g : Plane) → Cuts g → Kept w → IsPartInFront v w g → Kept v) (behind : (w v : Winding) (g : Plane) → Cuts g → Kept w → IsPartInFront v w (flipped g) → Kept v) where
   front_kept : (front : Option Winding) (w : Winding) (g : Plane) → Cuts g → Kept w → IsFrontPart front w g → All Kept (option_to_list front)
@@ -44,7 +44,7 @@ module _ (Kept : Winding → Type 0) (Cuts : Plane → Type 0) (in_front : (w v 
         All-map IsKeptPiece (piece_of leaf side owner) inners
         (All-weaker Kept (λ v. IsKeptPiece (piece_of leaf side owner v)) (λ v is. record { kept = is; leaf_is = refl; into = refl }) inners kept)
 
-    pub pieces_kept : (owners : List FaceOwner) (rest : List Winding) (pieces : List FacePiece) → ArePiecesOf planes solids n side leaf owners rest pieces → All Kept rest → All IsKeptPiece pieces
+    pub pieces_kept : (owners : List FaceOwner) (rest : List Winding) (pieces : List FacePiece) → AreOwnedPieces planes solids n side leaf owners rest pieces → All Kept rest → All IsKeptPiece pieces
     pieces_kept owners rest pieces all_cut kept = All-nil IsKeptPiece
     pieces_kept owners rest pieces (cut_by {owner = owner} {owners = others} {left = left} {inners = inners} {pieces = later} carved are) kept =
         let parts = all_carved_kept (cutters planes n (solid_at solids owner.brush).faces) rest left inners carved (each_cuts owner) kept in

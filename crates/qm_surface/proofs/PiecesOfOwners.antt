@@ -7,7 +7,7 @@ use Rattle.qm_convex.specs.Winding.{Winding}
 use Rattle.qm_solids.specs.InBook.{BookSolid, solid_at}
 use Rattle.qm_surface.specs.Owner.{FaceOwner}
 use Rattle.qm_surface.specs.Cutting.{cutters}
-use Rattle.qm_surface.specs.Surface.{FacePiece, piece_of, ArePiecesOf, all_cut, cut_by}
+use Rattle.qm_surface.specs.Surface.{FacePiece, piece_of, AreOwnedPieces, all_cut, cut_by}
 use Rattle.qm_surface.specs.Covered.{IsInPiece}
 use Rattle.qm_surface.proofs.OnlyOne.{NoneHas, HasOne, IsFirstThat, first, after, one_before, one_behind, one_mapped}
 use Rattle.qm_surface.proofs.Carving.{Covers, IsBehindAll, IsOffAll, FallsInto, inside, beside, all_carved_none, all_carved_fall}
@@ -27,7 +27,7 @@ module _ (planes : List Plane) (solids : List BookSolid) (n : ℕ) (side : Bool)
   Lacks piece = IsInPiece x piece → ⊥
 
   -- polygons without the point have no piece with it
-  pub pieces_none : (owners : List FaceOwner) (rest : List Winding) (pieces : List FacePiece) → ArePiecesOf planes solids n side leaf owners rest pieces → NoneHas (Covers x) rest → NoneHas (IsInPiece x) pieces
+  pub pieces_none : (owners : List FaceOwner) (rest : List Winding) (pieces : List FacePiece) → AreOwnedPieces planes solids n side leaf owners rest pieces → NoneHas (Covers x) rest → NoneHas (IsInPiece x) pieces
   pieces_none owners rest pieces all_cut lacks = All-nil Lacks
   pieces_none owners rest pieces (cut_by {owner = owner} {owners = others} {left = left} {inners = inners} {pieces = later} carved are) lacks =
       let parts = all_carved_none x (cutters_of owner) rest left inners carved lacks in
@@ -48,7 +48,7 @@ module _ (planes : List Plane) (solids : List BookSolid) (n : ℕ) (side : Bool)
       let its = below v one in
       (its.0, one_behind (IsInPiece x) (piece_of leaf side found its.0) (map (piece_of leaf side owner) inners) later (All-map Lacks (piece_of leaf side owner) inners none_inners) its.1)
 
-  pub piece_found : (owners : List FaceOwner) (rest : List Winding) (pieces : List FacePiece) (owner : FaceOwner) (w : Winding) → ArePiecesOf planes solids n side leaf owners rest pieces → All IsOffIts owners → IsFirstThat IsBehindIts owner owners → HasOne (Covers x) w rest → HasPieceOf owner pieces
+  pub piece_found : (owners : List FaceOwner) (rest : List Winding) (pieces : List FacePiece) (owner : FaceOwner) (w : Winding) → AreOwnedPieces planes solids n side leaf owners rest pieces → All IsOffIts owners → IsFirstThat IsBehindIts owner owners → HasOne (Covers x) w rest → HasPieceOf owner pieces
   piece_found owners rest pieces owner w all_cut off found one = elim found [ ]
   piece_found owners rest pieces owner w (cut_by {owners = others} {left = left} {inners = inners} {pieces = later} carved are) off (first behind) one =
       own_piece owner left inners later (all_carved_fall x (cutters_of owner) rest left inners w carved (All-head IsOffIts owner others off) one) behind

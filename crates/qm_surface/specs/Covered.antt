@@ -10,7 +10,7 @@ use Rattle.qm_contacts.specs.Meeting.{Meeting, meetings}
 use Rattle.qm_contacts.specs.Contact.{IsContact}
 use Rattle.qm_solids.specs.InBook.{BookSolid}
 use Rattle.qm_surface.specs.Boundary.{rock_side, leaf_on, IsBoundaryPoint}
-use Rattle.qm_surface.specs.Owner.{IsOwner}
+use Rattle.qm_surface.specs.Owner.{IsOwnerAt}
 use Rattle.qm_surface.specs.Surface.{FacePiece, owner_of}
 
 -- Pieces cover the boundary of a map exactly: each boundary point lies in one piece alone, and no piece goes beyond its contact.
@@ -31,7 +31,7 @@ pub record HasOwnPiece (tree : Tree) (solids : List BookSolid) (meeting : Meetin
   pub piece : FacePiece
   pub alone : IsOnlyPlace (IsInPiece x) pieces place piece
   pub leaf : piece.leaf ≡ leaf_on (not side) meeting.front.leaf meeting.back.leaf
-  pub owner : IsOwner tree.planes solids meeting.plane side x (owner_of piece)
+  pub owner : IsOwnerAt tree.planes solids meeting.plane side x (owner_of piece)
 
 -- a face of the cube, turned inward, or a plane of the book, turned to either side
 pub data IsBookEdge (planes : List Plane) : Plane → Type 0 where

@@ -36,7 +36,7 @@ pub record MayOwn (planes : List Plane) (solids : List BookSolid) (n : ℕ) (sid
   pub holds : Holds (solid_in planes solid) x
 
 -- the least brush that may
-pub record IsOwner (planes : List Plane) (solids : List BookSolid) (n : ℕ) (side : Bool) (x : Point) (owner : FaceOwner) : Type 0 where
+pub record IsOwnerAt (planes : List Plane) (solids : List BookSolid) (n : ℕ) (side : Bool) (x : Point) (owner : FaceOwner) : Type 0 where
   pub may : MayOwn planes solids n side x owner
   pub least : (other : FaceOwner) → MayOwn planes solids n side x other → owner.brush ≤ other.brush
 

@@ -29,11 +29,11 @@ abbrev pub piece_of : ℕ → Bool → FaceOwner → Winding → FacePiece
 piece_of leaf side owner winding = record { leaf = leaf; brush = owner.brush; face = owner.face; winding = winding; into = turned (not side) winding.plane }
 
 -- the pieces of polygons on a plane: the first owner has what is behind all its other faces, and the next ones cut what it leaves
-pub data ArePiecesOf (planes : List Plane) (solids : List BookSolid) (n : ℕ) (side : Bool) (leaf : ℕ) : List FaceOwner → List Winding → List FacePiece → Type 0 where
-  all_cut : {rest : List Winding} → ArePiecesOf planes solids n side leaf [] rest []
+pub data AreOwnedPieces (planes : List Plane) (solids : List BookSolid) (n : ℕ) (side : Bool) (leaf : ℕ) : List FaceOwner → List Winding → List FacePiece → Type 0 where
+  all_cut : {rest : List Winding} → AreOwnedPieces planes solids n side leaf [] rest []
   cut_by : {owner : FaceOwner} {owners : List FaceOwner} {rest left inners : List Winding} {pieces : List FacePiece} →
-      AreCarved (cutters planes n (solid_at solids owner.brush).faces) rest left inners → ArePiecesOf planes solids n side leaf owners left pieces →
-      ArePiecesOf planes solids n side leaf (owner ∷ owners) rest (map (piece_of leaf side owner) inners ++ pieces)
+      AreCarved (cutters planes n (solid_at solids owner.brush).faces) rest left inners → AreOwnedPieces planes solids n side leaf owners left pieces →
+      AreOwnedPieces planes solids n side leaf (owner ∷ owners) rest (map (piece_of leaf side owner) inners ++ pieces)
 
 -- the number of the plane of a node; a node that is not there names plane 0
 abbrev pub plane_of_node : Tree → ℕ → ℕ
@@ -43,7 +43,7 @@ plane_of_node tree n = slice_index_or (node_planes tree.shape) n 0
 -- beside one that is not solid has none
 pub data IsCutUp (tree : Tree) (solids : List BookSolid) (found : Touching) : List FacePiece → Type 0 where
   boundary : {side : Bool} {pieces : List FacePiece} → rock_side tree found.front found.back ≡ Some side →
-      ArePiecesOf tree.planes solids (plane_of_node tree found.node) side (leaf_on (not side) found.front found.back)
+      AreOwnedPieces tree.planes solids (plane_of_node tree found.node) side (leaf_on (not side) found.front found.back)
       (owners_from (plane_of_node tree found.node) side solids 0) (found.winding ∷ []) pieces →
       IsCutUp tree solids found pieces
   no_boundary : rock_side tree found.front found.back ≡ None → IsCutUp tree solids found []
