@@ -1,0 +1,4 @@
+pub mod PlaneNumbers
+pub mod FaceRecord
+pub mod FacesLayout
+pub mod FaceCorners

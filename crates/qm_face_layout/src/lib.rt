@@ -1,0 +1,3 @@
+//! The bytes of the section of faces: one description for both directions, that it is read exactly, and its faults; and which
+//! corners a face has, by a polygon. This crate has only definitions and laws, and no function.
+#![tactic(auto)]
