@@ -1,1 +1,2 @@
 pub mod ExactFaces
+pub mod ValidFaces
