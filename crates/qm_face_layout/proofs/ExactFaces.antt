@@ -1,8 +1,8 @@
 -- The section of faces is read exactly.
-use Rattle.std.proofs.Common.{◌≡◌, ◌≤◌, ℕ, ◌+◌, List, [], ◌∷◌, ◌++◌, length, flat_map, refl, sym, ap, ◌∙◌}
-use Rattle.std.specs.Prelude.{ℤ, IsTrue}
-use Rattle.std.specs.Int.{w32, w64}
-use Rattle.qm_formats.specs.Layout.{got, bytes_of_each}
+use Rattle.std.proofs.Common.{◌≡◌, ◌≤◌, ℕ, List, ◌++◌, length, refl, sym, ap, ◌∙◌}
+use Rattle.std.specs.Prelude.{IsTrue}
+use Rattle.std.specs.Int.{w64}
+use Rattle.qm_formats.specs.Layout.{got}
 use Rattle.qm_formats.specs.Fields.{AreBytes, unsigned, signed}
 use Rattle.qm_formats.specs.Exact.{IsExact}
 use Rattle.qm_formats.specs.FileParts.{short, trailing, section_form}
@@ -12,7 +12,7 @@ use Rattle.qm_formats.proofs.ExactFields.{unsigned_32_exact, unsigned_64_exact, 
 use Rattle.qm_formats.proofs.ExactFile.{right_each_length}
 use Rattle.qm_formats.proofs.ManyBytes.{many_bytes}
 use Rattle.qm_formats.proofs.ReadToEnd.{all_found, all_again, read_ends}
-use Rattle.qm_face_layout.specs.FaceRecord.{FaceRecord}
+use Rattle.qm_face_layout.specs.declared.face_record.FaceRecord.{FaceRecord}
 use Rattle.qm_face_layout.specs.FacesLayout.{face_corner_layout, face_corners_layout, face_parts_layout, is_face, face_layout, faces_layout, faces_bytes, read_faces}
 
 pub face_corner_exact : IsExact face_corner_layout

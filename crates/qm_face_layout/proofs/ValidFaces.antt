@@ -1,22 +1,22 @@
 -- What can stand in a section of faces, in words: what the tests of the layout pass.
-use Rattle.std.proofs.Common.{◌≡◌, ◌<◌, ◌≤◌, ℕ, zero, suc, ◌+◌, ◌^◌, Bool, true, false, eqb, ltb, leb, ◌&&◌, not, ℤ, pos, negsuc, List, [], ◌∷◌, length, get_or, All, Option, Some, None, refl, sym, ap, subst, ◌∙◌, arith}
+use Rattle.std.proofs.Common.{◌≡◌, ◌<◌, ℕ, zero, suc, ◌^◌, true, false, eqb, ltb, leb, ◌&&◌, not, ℤ, pos, negsuc, List, [], ◌∷◌, length, get_or, Option, Some, None, refl, sym, ap, ◌∙◌, arith}
 use Rattle.std.specs.Prelude.{unsigned_abs}
-use Rattle.std.specs.Int.{w32, w64}
+use Rattle.std.specs.Int.{w64}
 use Rattle.std.specs.List.{list_all}
 use Rattle.std.proofs.lemmas.Bool.{and_parts, and_from, ne_eqb, ltb-true, lt-ltb, leb-true, le-leb}
 use Rattle.std.proofs.lemmas.List.Sums.{AllPass-from_list_all, list_all-from_AllPass}
-use Rattle.std.proofs.lemmas.List.Elements.{All-nil, All-cons, All-head, All-tail}
 use Rattle.qm_space.specs.Plane.{Plane}
 use Rattle.qm_space.specs.Meet.{meet}
 use Rattle.qm_partition.specs.Counting.{leaf_count}
 use Rattle.qm_formats.specs.Layout.{right_each}
-use Rattle.qm_formats.specs.Fields.{unsigned, signed, fits_signed}
+use Rattle.qm_formats.specs.Fields.{unsigned, signed}
 use Rattle.qm_formats.specs.FileParts.{short}
 use Rattle.qm_formats.specs.TreeFile.{TreeFile}
 use Rattle.qm_formats.proofs.RightParts.{right_each_at, right_each_from}
 use Rattle.qm_formats.proofs.ExactFile.{right_each_length}
 use Rattle.qm_face_layout.specs.PlaneNumbers.{named_plane}
-use Rattle.qm_face_layout.specs.FaceRecord.{FaceRecord, IsFaceCorner, IsFaceOfFile, AreFacesOfFile}
+use Rattle.qm_face_layout.specs.declared.face_record.FaceRecord.{FaceRecord}
+use Rattle.qm_face_layout.specs.ValidFace.{IsFaceCorner, IsFaceOfFile, AreFacesOfFile}
 use Rattle.qm_face_layout.specs.FacesLayout.{face_corner_layout, face_corners_layout, face_parts_layout, meet_in_point, is_face_corner, is_face, face_layout, faces_layout}
 
 -- ---- numbers

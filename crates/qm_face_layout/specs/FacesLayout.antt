@@ -9,7 +9,8 @@ use Rattle.qm_formats.specs.Fields.{unsigned, signed}
 use Rattle.qm_formats.specs.FileParts.{FileFaultKind, short, trailing, section_form}
 use Rattle.qm_formats.specs.TreeFile.{TreeFile}
 use Rattle.qm_face_layout.specs.PlaneNumbers.{named_plane}
-use Rattle.qm_face_layout.specs.FaceRecord.{FaceRecord, AreFacesOfFile}
+use Rattle.qm_face_layout.specs.declared.face_record.FaceRecord.{FaceRecord}
+use Rattle.qm_face_layout.specs.ValidFace.{AreFacesOfFile}
 
 -- The bytes of the section of faces: how many there are, and each face. A number that is due and a list of which too little is
 -- there are faults at the end; what is wrong of a face whose bytes are all there is one at its first byte; and what stands behind

@@ -1,4 +1,4 @@
 pub mod PlaneNumbers
-pub mod FaceRecord
+pub mod ValidFace
 pub mod FacesLayout
 pub mod FaceCorners

@@ -5,18 +5,10 @@ use Rattle.qm_space.specs.Meet.{meet}
 use Rattle.qm_partition.specs.Counting.{leaf_count}
 use Rattle.qm_formats.specs.Fields.{fits_signed}
 use Rattle.qm_formats.specs.TreeFile.{TreeFile}
+use Rattle.qm_face_layout.specs.declared.face_record.FaceRecord.{FaceRecord}
 use Rattle.qm_face_layout.specs.PlaneNumbers.{named_plane}
 
--- The faces that a section keeps.
-
--- a piece of a brush's face: the leaf that it faces, the brush, the place of the face among the brush's faces, and the corners
--- around the piece, each by the numbers of three planes: the piece's own, that of the edge towards the corner before, and that of
--- the edge towards the next corner
-pub record FaceRecord : Type 0 where
-  pub leaf : ℕ
-  pub brush : ℕ
-  pub face : ℕ
-  pub corners : List (List ℤ)
+-- The faces that can stand in a section.
 
 -- three numbers of planes that meet in just one point; each is written in 64 bits
 pub record IsFaceCorner (planes : List Plane) (bound : ℕ) (corner : List ℤ) : Type 0 where
