@@ -11,14 +11,18 @@ ghost use Rattle.qm_model_files.specs.ExactModels.{AreExactModels};
 ghost use Rattle.qm_model_files.specs.SeenModels.{HasLeavesOfPoints, IsShownByLines};
 ghost use Rattle.qm_shelf.specs.SeenForms.{surroundings};
 ghost use Rattle.qm_surroundings.specs.Surroundings.{Surroundings};
+ghost use Rattle.qm_commands.specs.declared.map_command.MapCommand.TheVariants.{Compile};
 ghost use Rattle.qm_commands.specs.declared.options.Options.{Options as SeenOptions};
-ghost use Rattle.qm_commands.specs.Order.{Order};
+ghost use Rattle.qm_commands.specs.FileNames.{FileNames};
+ghost use Rattle.qm_commands.specs.Order.{Order, of_map};
 ghost use Rattle.qm_commands.specs.Words.{AreWordsOf};
 ghost use Rattle.qm_words.specs.SeenWords.{bytes_of_words};
 ghost use Rattle.qm_statement.specs.declared.status.Status.{Status as SeenStatus};
+ghost use Rattle.qm_statement.specs.declared.status.Status.TheVariants.{Done};
 ghost use Rattle.qm_statement.specs.declared.summary.Summary.{Summary as SeenSummary};
 ghost use Rattle.qm_statement.specs.CompiledMap.{IsCompiledWithoutLeak, IsCompiledToLeak};
 ghost use Rattle.qm_statement.specs.Complete.{MayEndWhereNoneMet};
+ghost use Rattle.qm_statement.specs.Headline.{IsHeadline};
 ghost use Rattle.qm_statement.specs.KeptFile.{KeepsWhatItReads};
 ghost use Rattle.qm_statement.specs.Run.{Answers};
 ghost use Rattle.qm_traced_files.specs.MapSpans.{SpansTellContents, HullSpansTellObstacles};
@@ -47,6 +51,13 @@ pub fn run_surely<R: Threads + Sync, G: Gate + Sync>(
 {
     run(rt, alloc, words, shelf, out, gate)
 }
+
+/// What a successful `compile` means for the tree file that is read in OUT, if the shelf tells what it holds.
+pub fn headline()
+    ensures { (words : List (List ℕ)) (before after : Surroundings) (options : SeenOptions) (listed : Bool) (files : FileNames) →
+        AreWordsOf (of_map (Compile options listed) files) words → IsTrue before.shelf.tells → Answers words before after Done →
+        IsHeadline before.shelf after.shelf options files }
+{}
 
 /// The file that a command reads, MAP or TREE, is as it was, however the run ends.
 pub fn kept_file()

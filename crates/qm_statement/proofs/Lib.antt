@@ -1,4 +1,5 @@
 pub mod Completeness
+pub mod Headlines
 pub mod KeptFiles
 pub mod LedLines
 pub mod OwnFiles

@@ -1,0 +1,4 @@
+pub mod ExactFaces
+pub mod ValidFaces
+pub mod NumberedCorners
+pub mod TurnedFaces

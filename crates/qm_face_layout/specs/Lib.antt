@@ -1,0 +1,4 @@
+pub mod PlaneNumbers
+pub mod ValidFace
+pub mod FacesLayout
+pub mod FaceCorners
