@@ -1,0 +1,32 @@
+ghost use Rattle.std.specs.Prelude.{◌<◌, ◌↔◌, ℕ, All, Contains, IfOk};
+ghost use Rattle.qm_partition.specs.Counting.{leaf_count};
+ghost use Rattle.qm_outlines.specs.Outlines.{IsNumberAmong, AreNumbersOf};
+
+use qm_portal::World;
+use std::alloc::{AllocError, Global};
+
+/// The numbers of some leaves of a world's tree, as far as these are numbered, ascending. The leaves may come in any order, and
+/// as often as they like.
+pub fn numbers_of(alloc: Global, world: &World, leaves: &[u64]) -> Result<Vec<u64>, AllocError>
+    requires within { All (λ k. k < leaf_count world.now.tree.shape) leaves.now }
+    ensures { IfOk result (λ numbers. AreNumbersOf world.now.tree leaves.now numbers.items) }
+{
+    let mut numbers = found_numbers(alloc, world, leaves)?;
+    numbers.sort_unstable();
+    numbers.dedup();
+    Ok(numbers)
+}
+
+/// The same numbers in the order of the leaves.
+fn found_numbers(alloc: Global, world: &World, leaves: &[u64]) -> Result<Vec<u64>, AllocError>
+    requires within { All (λ k. k < leaf_count world.now.tree.shape) leaves.now }
+    ensures { IfOk result (λ numbers. (n : ℕ) → Contains numbers.items n ↔ IsNumberAmong world.now.tree leaves.now n) }
+{
+    let mut numbers = Vec::new(alloc);
+    for leaf in leaves {
+        if let Some(number) = world.number(*leaf) {
+            numbers.push(number)?;
+        }
+    }
+    Ok(numbers)
+}
