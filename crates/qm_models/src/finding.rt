@@ -1,9 +1,9 @@
-ghost use Rattle.std.specs.Prelude.{◌<◌, length, IfOk, MatchOption};
+ghost use Rattle.std.specs.Prelude.{◌<◌, ◌+◌, length, IfOk, OnOk, MatchOption};
 ghost use Rattle.qm_grammar.specs.Valid.{IsValidMap};
 ghost use Rattle.qm_drawn.specs.Solids.{entity_solids};
 ghost use Rattle.qm_outlines.specs.HeldPoints.{HasNoFull};
 ghost use Rattle.qm_model_sections.specs.MapModels.{AreBrushModelsOf};
-ghost use Rattle.qm_models.specs.inner.OneModel.{IsBrushModelOf};
+ghost use Rattle.qm_models.specs.inner.OneModel.{IsBrushModelOf, AreBrushModelsUpTo};
 
 use crate::numbers::numbers_of;
 use crate::outline::outline_of;
@@ -24,11 +24,30 @@ pub fn models(alloc: Global, map: &MapFile, world: &World) -> Result<Vec<BrushMo
 {
     let mut models = Vec::new(alloc);
     for entity in 1..map.entities.len() as u64 {
-        if let Some(model) = model_of(alloc, map, world, entity)? {
-            models.push(model)?;
-        }
+        add_model(alloc, map, world, entity, &mut models)?;
     }
     Ok(models)
+}
+
+/// Adds the model of an entity, if it has one.
+fn add_model(
+    alloc: Global,
+    map: &MapFile,
+    world: &World,
+    entity: u64,
+    models: &mut Vec<BrushModel>,
+) -> Result<(), AllocError>
+    requires valid { IsValidMap map.now }
+    requires there { entity < length map.now.entities }
+    ensures { OnOk result (AreBrushModelsUpTo map.now world.now.tree entity models.old.items → AreBrushModelsUpTo map.now world.now.tree (entity + 1) models.new.items) }
+{
+    match model_of(alloc, map, world, entity)? {
+        Some(model) => {
+            models.push(model)?;
+            Ok(())
+        }
+        None => Ok(()),
+    }
 }
 
 /// The model of an entity, whose tree has a book of its own. `None` exactly where no brush of it is full.
@@ -49,13 +68,7 @@ fn model_of(
         Some(outline) => {
             let leaves = numbers_of(alloc, world, &outline.touched)?;
             let tree = build(alloc, &list, &book)?;
-            Ok(Some(plain_model(
-                alloc,
-                entity,
-                &outline.extents,
-                leaves,
-                tree,
-            )))
+            Ok(Some(plain_model(alloc, entity, &outline.extents, leaves, tree)))
         }
     }
 }

@@ -1,16 +1,16 @@
 //! The outline of brushes beside a tree: the box of all that they hold, and the leaves that they touch.
 
-ghost use Rattle.std.specs.Prelude.{◌≡◌, ◌<◌, List, false, map, length, IfOk, OnOk, MatchOption};
-ghost use Rattle.std.specs.Bool.{MatchBool};
+ghost use Rattle.std.specs.Prelude.{◌≡◌, ◌<◌, List, false, length, IfOk, OnOk, MatchOption};
 ghost use Rattle.qm_space.specs.Plane.{Plane as SpacePlane};
 ghost use Rattle.qm_space.specs.Turned.{turned};
-ghost use Rattle.qm_solids.specs.Outward.{outward_of, outward_planes, AreNumberedIn};
+ghost use Rattle.qm_solids.specs.Outward.{outward_of, AreNumberedIn};
 ghost use Rattle.qm_solids.specs.InBook.{solids_in, IsBookOf};
 ghost use Rattle.qm_facets.specs.Body.{IsBody};
 ghost use Rattle.qm_half_spaces.specs.HalfCells.{inward_of_half, cell_of_halves};
 ghost use Rattle.qm_outlines.specs.HeldPoints.{HasNoFull};
 ghost use Rattle.qm_outlines.specs.Outlines.{IsOutline};
-ghost use Rattle.qm_outlines.specs.inner.Outlined.{IsCellAdded, IsCellLeftOut};
+ghost use Rattle.qm_outlines.specs.inner.Outlined.{IsCellAdded, IsCellTaken};
+ghost use Rattle.qm_models.specs.inner.BehindFaces.{cell_behind};
 
 use qm_brush::BrushList;
 use qm_descent::reached_leaves;
@@ -61,9 +61,7 @@ fn add_solid(
     outline: &mut Outline,
 ) -> Result<bool, AllocError>
     requires numbered { AreNumberedIn planes.now faces.now }
-    ensures { IfOk result (λ full. MatchBool full
-        (IsCellAdded tree.now (map (turned false) (outward_planes planes.now faces.now)) outline.old.extents outline.new.extents outline.old.touched.items outline.new.touched.items)
-        (IsCellLeftOut (map (turned false) (outward_planes planes.now faces.now)) outline.old.extents outline.new.extents outline.old.touched.items outline.new.touched.items)) }
+    ensures { IfOk result (λ full. IsCellTaken tree.now (cell_behind planes.now faces.now) full outline.old.extents outline.new.extents outline.old.touched.items outline.new.touched.items) }
 {
     let halves = inner_halves(alloc, faces, planes)?;
     match Body::within(alloc, &halves)? {
@@ -76,28 +74,20 @@ fn add_solid(
 }
 
 /// Adds what a body has: the box grows round it, and the leaves that it reaches are touched.
-fn add_body(
-    alloc: Global,
-    tree: &Tree,
-    body: Body,
-    outline: &mut Outline,
-) -> Result<(), AllocError>
+fn add_body(alloc: Global, tree: &Tree, body: Body, outline: &mut Outline) -> Result<(), AllocError>
     ensures { OnOk result ((cell : List SpacePlane) → IsBody cell body →
         IsCellAdded tree.now cell outline.old.extents outline.new.extents outline.old.touched.items outline.new.touched.items) }
 {
     outline.extents = body.widened(outline.extents);
     let mut reached = reached_leaves(alloc, tree, body)?;
-    outline.touched.append(&mut reached)
+    outline.touched.append(&mut reached)?;
+    Ok(())
 }
 
 /// The half spaces behind faces.
-fn inner_halves(
-    alloc: Global,
-    faces: &[FaceRef],
-    planes: &[Plane],
-) -> Result<Vec<Half>, AllocError>
+fn inner_halves(alloc: Global, faces: &[FaceRef], planes: &[Plane]) -> Result<Vec<Half>, AllocError>
     requires numbered { AreNumberedIn planes.now faces.now }
-    ensures { IfOk result (λ halves. cell_of_halves halves.items ≡ map (turned false) (outward_planes planes.now faces.now)) }
+    ensures { IfOk result (λ halves. cell_of_halves halves.items ≡ cell_behind planes.now faces.now) }
 {
     let mut halves = Vec::with_capacity(alloc, faces.len())?;
     for face in faces {

@@ -1,6 +1,6 @@
 -- The leaves that solids touch, by one solid after another, and their numbers.
-use Rattle.std.proofs.Common.{◌≡◌, ◌<◌, ℕ, List, [], ◌∷◌, ◌++◌, length, Contains, subst, sym, arith, ◌↔◌, ◌⊎◌, inl, inr, ⊎_elim}
-use Rattle.std.proofs.lemmas.List.Elements.{Contains-append_left, Contains-append_right, Contains-append_cases}
+use Rattle.std.proofs.Common.{◌≡◌, ◌<◌, ℕ, List, [], ◌∷◌, ◌++◌, All, get_or, Contains, subst, sym, arith, ◌↔◌, ◌⊎◌, inl, inr, ⊎_elim}
+use Rattle.std.proofs.lemmas.List.Elements.{Contains-append_left, Contains-append_right, Contains-append_cases, Contains-get_or}
 use Rattle.std.proofs.lemmas.Option.{slice_get_within}
 use Rattle.qm_lists.proofs.Elements.{Contains-nil, Contains-first, Contains-cons_cases}
 use Rattle.qm_space.specs.Point.{Point, IsInCube}
@@ -68,10 +68,13 @@ module _ (tree : Tree) where
   }
 
   -- a touched leaf is one of the tree
-  pub touched_within : (solids : List Solid) (k : ℕ) → IsTouchedLeaf tree solids k → k < leaf_count tree.shape
+  touched_within : (solids : List Solid) (k : ℕ) → IsTouchedLeaf tree solids k → k < leaf_count tree.shape
   touched_within solids k touched =
       let within = slice_get_within (ways tree.shape) k touched.reached.way touched.reached.way_is in
       omega (arith, within, length-ways tree.shape)
+
+  pub all_within : (solids : List Solid) (touched : List ℕ) → AreTouchedLeaves tree solids touched → All (λ k. k < leaf_count tree.shape) touched
+  all_within solids touched are k d within = touched_within solids (get_or touched k d) ((are (get_or touched k d)).0 (Contains-get_or touched k d within))
 
   -- a point strictly inside one of the solids, off the node planes, has its leaf among them, if that is numbered
   pub point_in_leaves : (solids : List Solid) (leaves : List ℕ) (solid : Solid) (x : Point) (n : ℕ) → AreModelLeaves tree solids leaves → Contains solids solid → IsInCube x → IsInside solid x →

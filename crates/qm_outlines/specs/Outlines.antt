@@ -23,7 +23,11 @@ pub record IsOutline (tree : Tree) (solids : List Solid) (box : Cuboid) (touched
 abbrev pub IsNumberAmong : Tree → List ℕ → ℕ → Type 0
 IsNumberAmong tree leaves n = (leaf : ℕ) × IsNumberOf tree n leaf × Contains leaves leaf
 
--- these are the numbers of those of the leaves that are numbered, in ascending order
+-- these are the numbers of those of the leaves that are numbered, in any order
+abbrev pub AreFoundNumbers : Tree → List ℕ → List ℕ → Type 0
+AreFoundNumbers tree leaves numbers = (n : ℕ) → Contains numbers n ↔ IsNumberAmong tree leaves n
+
+-- the same in ascending order
 pub record AreNumbersOf (tree : Tree) (leaves numbers : List ℕ) : Type 0 where
   pub ascending : IsStrictlyIncreasing numbers
-  pub are : (n : ℕ) → Contains numbers n ↔ IsNumberAmong tree leaves n
+  pub are : AreFoundNumbers tree leaves numbers

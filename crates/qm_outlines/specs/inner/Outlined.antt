@@ -32,3 +32,7 @@ pub record IsCellLeftOut (cell : List Plane) (old new : Cuboid) (before after : 
   pub never : HasPoint cell → ⊥
   pub same_box : new ≡ old
   pub same_leaves : after ≡ before
+
+-- which of both it was, and whether the cell has a point
+abbrev pub IsCellTaken : Tree → List Plane → Bool → Cuboid → Cuboid → List ℕ → List ℕ → Type 0
+IsCellTaken tree cell some old new before after = MatchBool some (IsCellAdded tree cell old new before after) (IsCellLeftOut cell old new before after)
