@@ -18,12 +18,12 @@ impl Encoding for CornerBytes {
 
     ghost bytes_of = { face_corner_layout.bytes_of };
 
-    #[tactic(auto, unfolding(qm_face_layout::specs::FacesLayout::face_corner_layout))]
     fn append(bytes: &mut Vec<u8>, corner: &[i64; 3]) -> Result<(), AllocError> {
         let [own, before, next] = *corner;
         put_i64(bytes, own)?;
         put_i64(bytes, before)?;
-        put_i64(bytes, next)
+        put_i64(bytes, next)?;
+        Ok(())
     }
 }
 
@@ -37,12 +37,12 @@ impl Encoding for FaceBytes {
 
     ghost bytes_of = { face_parts_layout.bytes_of };
 
-    #[tactic(auto, unfolding(qm_face_layout::specs::FacesLayout::face_parts_layout, qm_face_layout::specs::FacesLayout::face_corners_layout))]
     fn append(bytes: &mut Vec<u8>, face: &FaceRecord) -> Result<(), AllocError> {
         put_u64(bytes, face.leaf)?;
         put_u64(bytes, face.brush)?;
         put_u32(bytes, face.face)?;
         put_small_count(bytes, face.corners.len())?;
-        append_all::<CornerBytes>(bytes, face.corners.as_slice())
+        append_all::<CornerBytes>(bytes, face.corners.as_slice())?;
+        Ok(())
     }
 }

@@ -1,5 +1,4 @@
 ghost use Rattle.std.specs.Prelude.{◌≡◌, IfOk};
-ghost use Rattle.qm_formats.specs.Fields.{AreBytes};
 ghost use Rattle.qm_face_layout.specs.FacesLayout.{faces_bytes};
 
 use crate::face_bytes::FaceBytes;
@@ -11,8 +10,7 @@ use std::alloc::{AllocError, Global};
 /// The bytes of a section of these faces.
 #[tactic(auto, unfolding(qm_face_layout::specs::FacesLayout::faces_bytes))]
 pub fn encode_records(alloc: Global, faces: &[FaceRecord]) -> Result<Vec<u8>, AllocError>
-    ensures exact { IfOk result (λ bytes. bytes.items ≡ faces_bytes faces.now) }
-    ensures are_bytes { IfOk result (λ bytes. AreBytes bytes.items) }
+    ensures { IfOk result (λ bytes. bytes.items ≡ faces_bytes faces.now) }
 {
     let mut bytes = Vec::new(alloc);
     put_u64(&mut bytes, faces.len() as u64)?;
