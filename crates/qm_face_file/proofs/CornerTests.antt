@@ -1,5 +1,5 @@
 -- Three named planes meet in just one point where a corner is found for them.
-use Rattle.std.proofs.Common.{◌≡◌, ℕ, ℤ, pos, negsuc, Bool, false, not, eqb, List, get_or, Option, Some, None, is_some, refl, sym, ap, subst, ◌∙◌, arith, w64, to_z, of_z}
+use Rattle.std.proofs.Common.{◌≡◌, ℕ, ℤ, pos, negsuc, Bool, not, eqb, List, get_or, Option, Some, None, is_some, refl, sym, ap, subst, ◌∙◌, arith, w64, to_z, of_z}
 use Rattle.std.specs.Prelude.{FitsSigned, unsigned_abs, IfSome, IfNone}
 use Rattle.std.proofs.lemmas.Int.{ints, to_z-of_z}
 use Rattle.qm_numbers.proofs.IntegerProducts.{linear}
@@ -18,10 +18,10 @@ unfolding with_positive_weight
 positive_none p none = subst (λ (w : ℤ). (with_positive_weight (record { x = p.x; y = p.y; z = p.z; w = w })).w ≡ pos 0) (sym none) refl
 
 positive_back : (p : Point) → (with_positive_weight p).w ≡ pos 0 → p.w ≡ pos 0
+unfolding with_positive_weight
 positive_back p = at p.x p.y p.z p.w
   where
     at : (x y z w : ℤ) → (with_positive_weight (record { x = x; y = y; z = z; w = w })).w ≡ pos 0 → w ≡ pos 0
-    unfolding with_positive_weight
     at x y z (pos n) is = is
     at x y z (negsuc n) is = absurd (omega (arith, ints, is))
 

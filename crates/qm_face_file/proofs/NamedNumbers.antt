@@ -17,10 +17,10 @@ wall_place (negsuc n) fits below =
     let kept = to_z-of_z w64 (neg_ℤ (pos n)) (fits_signed_from_abs w64 (neg_ℤ (pos n)) (omega (arith, few, abs_negative n))) in
     let back : pos 0 -ℤ neg_ℤ (pos n) ≡ pos n = omega (arith, linear) in
     let all : to_z w64 (of_z w64 (pos 0 -ℤ to_z w64 (of_z w64 (to_z w64 (of_z w64 (negsuc n)) +ℤ pos 1)))) ≡ pos n =
-        ap (λ (z : ℤ). to_z w64 (of_z w64 (pos 0 -ℤ to_z w64 (of_z w64 z)))) more
-        ∙ ap (λ (z : ℤ). to_z w64 (of_z w64 (pos 0 -ℤ z))) kept
-        ∙ ap (λ (z : ℤ). to_z w64 (of_z w64 z)) back
-        ∙ to_z-of_z w64 (pos n) (fits_signed_from_abs w64 (pos n) few) in
+    ap (λ (z : ℤ). to_z w64 (of_z w64 (pos 0 -ℤ to_z w64 (of_z w64 z)))) more
+    ∙ ap (λ (z : ℤ). to_z w64 (of_z w64 (pos 0 -ℤ z))) kept
+    ∙ ap (λ (z : ℤ). to_z w64 (of_z w64 z)) back
+    ∙ to_z-of_z w64 (pos n) (fits_signed_from_abs w64 (pos n) few) in
     ap (λ (z : ℤ). negsuc (unsigned_abs z)) (sym all)
 
 pub wall_named : (planes : List Plane) (bound : ℕ) (number : ℤ) → FitsSigned w64 number → int_lt (to_z w64 (of_z w64 number)) (pos 0) ≡ true →

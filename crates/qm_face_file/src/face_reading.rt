@@ -52,11 +52,7 @@ fn face_at(
 
 /// A face, and where it ends.
 #[tactic(auto, unfolding(qm_face_layout::specs::FacesLayout::face_parts_layout))]
-fn face_parts_at(
-    alloc: Global,
-    bytes: &[u8],
-    at: usize,
-) -> Result<(FaceRecord, usize), FacesFault>
+fn face_parts_at(alloc: Global, bytes: &[u8], at: usize) -> Result<(FaceRecord, usize), FacesFault>
     ensures { AnswersFaces (λ read. read.0) (λ read. read.1) result (face_parts_layout.read bytes.now at) }
 {
     let (leaf, next) = u64_at(bytes, at)?;
@@ -74,11 +70,7 @@ fn face_parts_at(
 
 /// The corners of a face behind their number, and where they end.
 #[tactic(auto, unfolding(qm_face_layout::specs::FacesLayout::face_corners_layout))]
-fn corners_at(
-    alloc: Global,
-    bytes: &[u8],
-    at: usize,
-) -> Result<(Vec<[i64; 3]>, usize), FacesFault>
+fn corners_at(alloc: Global, bytes: &[u8], at: usize) -> Result<(Vec<[i64; 3]>, usize), FacesFault>
     ensures { AnswersFaces (λ read. read.0.items) (λ read. read.1) result (face_corners_layout.read bytes.now at) }
 {
     let (count, next) = u32_at(bytes, at)?;

@@ -12,11 +12,7 @@ use qm_lists::Items;
 use std::alloc::Global;
 
 /// The faces of the bytes of a section of a file, or the first fault in the order of the bytes.
-pub fn decode(
-    alloc: Global,
-    bytes: &[u8],
-    file: &TreeFile,
-) -> Result<Items<FaceRecord>, FacesFault>
+pub fn decode(alloc: Global, bytes: &[u8], file: &TreeFile) -> Result<Items<FaceRecord>, FacesFault>
     // What is read can stand there and is written so.
     ensures found { IfOk result (AreFacesBytes file.now bytes.now) }
     // What can stand there and is written so is read, unless memory runs out.

@@ -1,10 +1,10 @@
 -- The walls of a cube are planes in lowest terms.
-use Rattle.std.proofs.Common.{◌≡◌, ◌<◌, ◌≤◌, ℕ, zero, suc, ◌^◌, ℤ, pos, negsuc, neg_ℤ, ◌<ℤ◌, List, Option, Some, refl, sym, subst, arith}
-use Rattle.std.specs.Prelude.{slice_get, unsigned_abs}
+use Rattle.std.proofs.Common.{◌≡◌, ◌<◌, ℕ, zero, suc, ◌^◌, ℤ, pos, neg_ℤ, refl, subst, arith}
+use Rattle.std.specs.Prelude.{unsigned_abs}
 use Rattle.std.specs.Int.{◌∣◌}
 use Rattle.std.proofs.Math.Nat.{eq-one_of_dvd-one}
 use Rattle.std.proofs.lemmas.Int.{ints}
-use Rattle.qm_space.specs.Plane.{Plane, plane_of}
+use Rattle.qm_space.specs.Plane.{plane_of}
 use Rattle.qm_space.specs.Reduced.{IsReduced}
 
 pub abs_negative : (n : ℕ) → unsigned_abs (neg_ℤ (pos n)) ≡ n

@@ -1,8 +1,6 @@
-use Rattle.std.proofs.Common.{◌≡◌, ◌<◌, ◌^◌, pos, neg_ℤ, arith, sym, subst, w32, w64, lit≤}
-use Rattle.std.specs.Prelude.{unsigned_abs}
+use Rattle.std.proofs.Common.{◌^◌, pos, arith, w32, lit≤}
 use Rattle.std.proofs.lemmas.Int.{to_z-of_z}
 use Rattle.qm_numbers.proofs.Bits.{negated_64}
-use Rattle.qm_space.specs.Reduced.{IsReduced}
 use Rattle.qm_face_file.proofs.named_planes.wall.Goals as goal
 
 pub invariant_of-result : goal.invariant_of-result

@@ -1,4 +1,3 @@
-use Rattle.std.proofs.Common.{arith}
 use Rattle.qm_face_layout.proofs.Walls.{low_x, high_x, low_y, high_y, low_z, high_z}
 use Rattle.qm_face_file.proofs.named_planes.wall_at.Goals as goal
 
