@@ -1,8 +1,7 @@
 -- The brush models among the parts of a file are those of the file.
-use Rattle.std.proofs.Common.{◌≡◌, ◌∙◌, ℕ, List, Option, Some, Result, Ok, sym, ap, subst}
+use Rattle.std.proofs.Common.{◌≡◌, ℕ, List, Result, sym, subst}
 use Rattle.qm_formats.specs.TreeFile.{TreeFile}
 use Rattle.qm_model_layout.specs.BrushModel.{BrushModel}
-use Rattle.qm_model_layout.specs.ModelLayout.{read_models}
 use Rattle.qm_commands.specs.declared.query.Query.{Query}
 use Rattle.qm_commands.specs.declared.query.Query.TheVariants as queries
 use Rattle.qm_answers.specs.declared.answer.Answer.{Answer}
@@ -10,7 +9,6 @@ use Rattle.qm_answers.specs.declared.answer.Answer.TheVariants.{Model}
 use Rattle.qm_answers.specs.declared.decoded_section.DecodedSection.{DecodedSection}
 use Rattle.qm_answers.specs.declared.query_fault.QueryFault.{QueryFault}
 use Rattle.qm_answers.specs.Answers.{AnswersBySection, model_of_entity, answer_of_model, AnswersModel, AnswersQuery}
-use Rattle.qm_answers.specs.DecodedSections.{section_bytes, if_decoded, known_if_read, decoded_by, numbered_count, kind_of_models, decoded_models}
 use Rattle.qm_inspect.specs.declared.parts.Parts.{Parts}
 use Rattle.qm_inspect.specs.Parts.{ArePartsOf}
 

@@ -83,11 +83,7 @@ fn answer_at(
 }
 
 /// What the model of an entity among these is at a point.
-fn known_model_at(
-    models: &[BrushModel],
-    entity: u64,
-    point: &Point,
-) -> Result<Answer, QueryFault>
+fn known_model_at(models: &[BrushModel], entity: u64, point: &Point) -> Result<Answer, QueryFault>
     requires { AscendByEntity 0 models.now }
     ensures { result ≡ answer_of_model (model_of_entity models.now entity) (λ model. ModelAt entity (leaf_contents_at model.file.tree point.now)) }
 {

@@ -1,4 +1,4 @@
-use Rattle.std.proofs.Common.{◌∙◌, Option, Some, Ok, Err, sym, ap, rules}
+use Rattle.std.proofs.Common.{◌∙◌, Some, Ok, Err, sym, ap, rules}
 use Rattle.std.proofs.lemmas.List.Sorted.{answers_always}
 use Rattle.qm_model_layout.specs.BrushModel.{BrushModel}
 use Rattle.qm_answers.proofs.ModelsByEntity.{found_by_halves}
