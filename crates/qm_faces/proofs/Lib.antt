@@ -1,0 +1,3 @@
+pub mod CutParts
+pub mod OwnersFound
+pub mod PairsThere
