@@ -10,7 +10,7 @@ use Rattle.qm_contacts.specs.NumberedLeaves.{is_solid}
 use Rattle.qm_solids.specs.declared.face.FaceRef.{FaceRef}
 use Rattle.qm_solids.specs.InBook.{BookSolid, solid_at}
 use Rattle.qm_surface.specs.Owner.{FaceOwner, owning_face, owners_from}
-use Rattle.qm_faces.specs.inner.Found.{owner_at}
+use Rattle.qm_faces.specs.inner.Rows.{owner_at}
 
 -- each is one of so many brushes that are numbered from k on
 owners_within : (n : ℕ) (side : Bool) (solids : List BookSolid) (k : ℕ) → All (λ (owner : FaceOwner). owner.brush < k + length solids) (owners_from n side solids k)

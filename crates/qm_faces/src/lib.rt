@@ -7,6 +7,7 @@ mod cutting;
 mod face_piece;
 mod owners;
 mod part;
+mod rows;
 mod surface;
 
 pub use face_piece::FacePiece;

@@ -1,19 +1,19 @@
 //! The pieces of all touching pairs.
 
-ghost use Rattle.std.specs.Prelude.{◌≡◌, ◌<◌, ◌++◌, length, Option, Some, slice_get, IfOk, OnOk};
+ghost use Rattle.std.specs.Prelude.{◌≡◌, length, IfOk, OnOk};
 ghost use Rattle.qm_solids.specs.InBook.{solids_in, IsBookOf};
 ghost use Rattle.qm_solid_tree.specs.GivesContents.{GivesContentsOrIsFilled};
 ghost use Rattle.qm_contacts.specs.Contacts.{AreContacts};
-ghost use Rattle.qm_surface.specs.Boundary.{rock_side, leaf_on};
 ghost use Rattle.qm_surface.specs.Surface.{AreFacePieces};
 ghost use Rattle.qm_surface.specs.Covered.{CoverBoundary};
-ghost use Rattle.qm_faces.specs.inner.Cuts.{AreCutFor, IsPairThere, AreAddedFor, IsBoundaryOf};
+ghost use Rattle.qm_faces.specs.inner.Cuts.{IsPairThere, AreAddedFor, IsBoundaryOf};
+ghost use Rattle.qm_faces.specs.inner.Rows.{AreOwnerRows};
 
 use crate::boundary::{Boundary, is_boundary};
 use crate::cutting::cut_all;
 use crate::face_piece::FacePiece;
-use crate::owners::owners_on;
 use crate::part::Part;
+use crate::rows::{Row, owner_rows, owners_on};
 use qm_brush::BrushList;
 use qm_geom::{Plane, PlaneBook};
 use qm_portal::{TouchList, Touching};
@@ -47,25 +47,27 @@ fn boundary_of(tree: &Tree, pair: &Touching) -> Option<Boundary>
 
 /// Adds the pieces of a touching pair.
 fn add_pieces(
-    alloc: Global,
     list: &BrushList,
     planes: &[Plane],
+    rows: &[Row],
     tree: &Tree,
     pair: &Touching,
     pieces: &mut Vec<FacePiece>,
 ) -> Result<(), AllocError>
     requires planes { tree.now.planes ≡ planes.now }
     requires book { IsBookOf planes.now list.now }
+    requires rows { AreOwnerRows (length planes.now) list.now rows.now }
     requires pair { IsPairThere tree.now pair.now }
     ensures { OnOk result (AreAddedFor tree.now list.now pair.now pieces.old.items pieces.new.items) }
 {
     let Some(boundary) = boundary_of(tree, pair) else {
         return Ok(());
     };
-    let owners = owners_on(alloc, boundary.plane, boundary.side, list)?;
+    let alloc = *pieces.allocator();
+    let owners = owners_on(rows, boundary.plane, boundary.side);
     let mut rest = Vec::new(alloc);
     rest.push(Part::whole(alloc, &pair.winding)?)?;
-    cut_all(list, planes, boundary, &owners, rest, pieces)
+    cut_all(list, planes, boundary, owners, rest, pieces)
 }
 
 /// The surface of a map, cut into pieces of the faces of its brushes: in the order of touching pairs, then of brushes, then of the
@@ -86,9 +88,10 @@ pub fn faces(
 {
     let _planes = tree.planes();
     let planes = book.planes();
+    let rows = owner_rows(alloc, list, planes)?;
     let mut pieces = Vec::new(alloc);
     for i in 0..touches.pairs() {
-        add_pieces(alloc, list, planes, tree, touches.pair(i), &mut pieces)?;
+        add_pieces(list, planes, &rows, tree, touches.pair(i), &mut pieces)?;
     }
     Ok(pieces)
 }

@@ -72,6 +72,7 @@ pub record IsPairThere (tree : Tree) (found : Touching) : Type 0 where
 -- a boundary: its plane, where the rock is, and the leaf across
 pub record IsBoundaryAt (tree : Tree) (found : Touching) (boundary : Boundary) : Type 0 where
   pub plane : boundary.plane ≡ plane_of_node tree found.node
+  pub there : boundary.plane < length tree.planes
   pub side : rock_side tree found.front found.back ≡ Some boundary.side
   pub leaf : boundary.leaf ≡ leaf_on (not boundary.side) found.front found.back
 

@@ -16,6 +16,7 @@ returns-then-is_boundary c =
     let node = subst (λ (p : Touching). slice_get (nodes_of tree.shape 0 0) p.node ≡ Some c.node-plane.result) pair c.node-plane.ensures.value in
     record {
       plane = plane_of_its_node tree c.args.pair.now.node c.node-plane.result node;
+      there = c.node-plane.ensures.plane;
       side = rock_in_front tree c.args.pair.now.front c.args.pair.now.back c.leaf-front.result c.leaf-back.result front back (sym c.is_boundary.ensures ∙ c.if-is_boundary.true);
       leaf = ap (λ (p : Touching). p.back) pair;
     }
@@ -29,6 +30,7 @@ returns-then-is_boundary-2 c =
     let node = subst (λ (p : Touching). slice_get (nodes_of tree.shape 0 0) p.node ≡ Some c.node-plane.result) pair c.node-plane.ensures.value in
     record {
       plane = plane_of_its_node tree c.args.pair.now.node c.node-plane.result node;
+      there = c.node-plane.ensures.plane;
       side = rock_behind tree c.args.pair.now.front c.args.pair.now.back c.leaf-front.result c.leaf-back.result front back (sym c.is_boundary.ensures ∙ c.if-is_boundary.false) (sym c.is_boundary-2.ensures ∙ c.if-is_boundary-2.true);
       leaf = ap (λ (p : Touching). p.front) pair;
     }
