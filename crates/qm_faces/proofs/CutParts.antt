@@ -1,8 +1,7 @@
 -- What code does as it cuts polygons, step by step.
-use Rattle.std.proofs.Common.{◌≡◌, ◌<◌, ◌≤◌, ◌+◌, ℕ, zero, suc, pos, ◌<ℤ◌, Bool, true, false, not, List, [], ◌∷◌, ◌++◌, All, drop, take, length, get_or, map, Option, Some, None, refl, sym, ap, ◌∙◌, subst, arith, ⊎_elim}
+use Rattle.std.proofs.Common.{◌≡◌, ◌<◌, ◌≤◌, ◌+◌, ℕ, List, [], ◌∷◌, ◌++◌, drop, length, get_or, map, Option, Some, None, refl, sym, ap, ◌∙◌, subst, arith, ⊎_elim}
 use Rattle.std.specs.Prelude.{option_to_list}
 use Rattle.std.specs.Option.{MatchOption}
-use Rattle.std.proofs.lemmas.Int.{ints}
 use Rattle.std.proofs.lemmas.Bool.Decides.{eqb_tells}
 use Rattle.std.proofs.lemmas.List.{append_assoc, append-nil, drop_more, drop_all}
 use Rattle.qm_numbers.proofs.IntegerProducts.{linear}
@@ -15,9 +14,9 @@ use Rattle.qm_convex.specs.Cut.{IsPartInFront}
 use Rattle.qm_convex.proofs.Cutting.{whole_is_part}
 use Rattle.qm_solids.specs.declared.face.FaceRef.{FaceRef}
 use Rattle.qm_solids.specs.Outward.{outward_of}
-use Rattle.qm_solids.specs.InBook.{BookSolid, solid_at}
+use Rattle.qm_solids.specs.InBook.{BookSolid}
 use Rattle.qm_surface.specs.Owner.{FaceOwner}
-use Rattle.qm_surface.specs.Cutting.{cutters, IsFrontPart, IsCarved, behind_all, goes_on, ends, AreCarved, none, more}
+use Rattle.qm_surface.specs.Cutting.{cutters, IsCarved, behind_all, goes_on, ends, AreCarved, none, more}
 use Rattle.qm_surface.specs.Surface.{FacePiece, piece_of, AreOwnedPieces, all_cut, cut_by}
 use Rattle.qm_faces.specs.declared.boundary.Boundary.{Boundary}
 use Rattle.qm_faces.specs.inner.Cuts.{IsCutOnce, IsCutByFace, IsCarvedBy, IsOnItsWay, IsCutFor, AreCutFor, AreCutSoFar}

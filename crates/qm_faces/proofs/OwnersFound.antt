@@ -1,14 +1,8 @@
 -- The owners on a plane are brushes of the list.
-use Rattle.std.proofs.Common.{◌≡◌, ◌<◌, ◌≤◌, ◌+◌, ℕ, Bool, true, false, not, ◌&&◌, if◌then◌else◌, List, [], ◌∷◌, ◌++◌, All, drop, length, get_or, map, Option, Some, None, refl, sym, ap, ◌∙◌, subst, arith}
+use Rattle.std.proofs.Common.{◌<◌, ◌+◌, ℕ, Bool, List, [], ◌∷◌, All, length, map, Option, Some, None, arith}
 use Rattle.std.specs.Prelude.{option_to_list}
-use Rattle.std.specs.List.{position_from}
-use Rattle.std.proofs.lemmas.List.{append_assoc, append-nil, drop_more, drop_all}
 use Rattle.std.proofs.lemmas.List.Elements.{All-nil, All-cons, All-append, All-weaker}
-use Rattle.qm_contents.specs.declared.contents.Contents.{Contents}
-use Rattle.qm_contents.specs.declared.contents.Contents.TheVariants.{Empty}
-use Rattle.qm_contacts.specs.NumberedLeaves.{is_solid}
-use Rattle.qm_solids.specs.declared.face.FaceRef.{FaceRef}
-use Rattle.qm_solids.specs.InBook.{BookSolid, solid_at}
+use Rattle.qm_solids.specs.InBook.{BookSolid}
 use Rattle.qm_surface.specs.Owner.{FaceOwner, owning_face, owners_from}
 use Rattle.qm_faces.specs.inner.Rows.{owner_at}
 

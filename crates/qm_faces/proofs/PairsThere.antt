@@ -1,5 +1,5 @@
 -- The node and the leaves of a touching pair are there; the boundary at it; and pieces, pair after pair.
-use Rattle.std.proofs.Common.{◌≡◌, ◌<◌, ◌+◌, ℕ, suc, Bool, true, false, not, if◌then◌else◌, List, [], ◌∷◌, ◌++◌, All, take, length, get_or, map, slice_get, Option, Some, None, Contains, refl, sym, ap, ◌∙◌, subst, arith}
+use Rattle.std.proofs.Common.{◌≡◌, ◌+◌, ℕ, suc, Bool, true, false, not, if◌then◌else◌, List, [], ◌∷◌, ◌++◌, take, map, slice_get, Some, None, refl, sym, ap, ◌∙◌, subst, arith}
 use Rattle.std.proofs.lemmas.List.{append_assoc, append-nil, map-append}
 use Rattle.std.proofs.lemmas.List.Elements.{All-contains}
 use Rattle.std.proofs.lemmas.Option.{get_or_from_slice_get, slice_get-map}
@@ -13,11 +13,11 @@ use Rattle.qm_partition.specs.declared.node.Node.{Node}
 use Rattle.qm_partition.specs.declared.node.Leaf.{Leaf}
 use Rattle.qm_partition.specs.Partition.{Partition, leaf, node}
 use Rattle.qm_partition.specs.Tree.{Tree}
-use Rattle.qm_partition.specs.Counting.{node_count, leaf_count, leaves_of, node_planes}
+use Rattle.qm_partition.specs.Counting.{leaves_of, node_planes}
 use Rattle.qm_partition.specs.Numbering.{nodes_after, leaves_after, nodes_of}
 use Rattle.qm_partition.proofs.Counts.{nodes_after-count, leaves_after-count}
-use Rattle.qm_contacts.specs.Meeting.{Meeting, meetings}
-use Rattle.qm_contacts.specs.Touching.{Touching, IsTouching, AreTouchings}
+use Rattle.qm_contacts.specs.Meeting.{meetings}
+use Rattle.qm_contacts.specs.Touching.{Touching, AreTouchings}
 use Rattle.qm_contacts.specs.Portals.{leaf_record}
 use Rattle.qm_contacts.proofs.Meetings.{IsBetween, meetings_between}
 use Rattle.qm_contacts.proofs.Touchings.{meeting_of_touching}

@@ -1,9 +1,8 @@
-use Rattle.std.proofs.Common.{◌≡◌, ℕ, false, not, List, length, get_or, sym, ◌∙◌, subst}
+use Rattle.std.proofs.Common.{ℕ, false, List, length, get_or, sym, ◌∙◌, subst}
 use Rattle.std.proofs.lemmas.List.{get_or_default}
 use Rattle.std.proofs.lemmas.Result.{IfOk-weaker}
 use Rattle.qm_solids.specs.declared.face.FaceRef.{FaceRef}
-use Rattle.qm_surface.specs.Owner.{FaceOwner}
-use Rattle.qm_faces.specs.inner.Rows.{owner_at, key_of, IsFaceAdded, IsOwnerPushed}
+use Rattle.qm_faces.specs.inner.Rows.{owner_at, IsFaceAdded, IsOwnerPushed}
 use Rattle.qm_faces.proofs.RowsOfOwners.{face_skipped_by, face_pushed_by}
 use Rattle.qm_faces.proofs.rows.add_face.Goals as goal
 

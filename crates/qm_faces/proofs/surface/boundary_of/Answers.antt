@@ -1,6 +1,4 @@
-use Rattle.std.proofs.Common.{◌≡◌, Bool, true, false, not, List, Some, slice_get, refl, sym, ap, ◌∙◌, subst}
-use Rattle.qm_partition.specs.declared.node.Node.{Node}
-use Rattle.qm_partition.specs.declared.node.Leaf.{Leaf}
+use Rattle.std.proofs.Common.{◌≡◌, Some, slice_get, sym, ap, ◌∙◌, subst}
 use Rattle.qm_partition.specs.Counting.{leaves_of}
 use Rattle.qm_partition.specs.Numbering.{nodes_of}
 use Rattle.qm_contacts.specs.Touching.{Touching}

@@ -1,4 +1,4 @@
-use Rattle.std.proofs.Common.{◌≡◌, ◌≤◌, List, [], take, length, sym, subst, arith}
+use Rattle.std.proofs.Common.{◌≤◌, List, [], length, sym, subst, arith}
 use Rattle.std.proofs.lemmas.List.{take_all}
 use Rattle.qm_space.specs.Plane.{Plane}
 use Rattle.qm_contacts.specs.Touching.{Touching}

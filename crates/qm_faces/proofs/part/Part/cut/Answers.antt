@@ -1,4 +1,4 @@
-use Rattle.std.proofs.Common.{◌≡◌, ◌∙◌, subst}
+use Rattle.std.proofs.Common.{◌∙◌, subst}
 use Rattle.qm_space.specs.Plane.{flipped}
 use Rattle.qm_convex.specs.Winding.{Winding, IsConvex}
 use Rattle.qm_convex.specs.Cut.{IsPartInFront}
