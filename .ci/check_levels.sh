@@ -236,7 +236,7 @@ for name, kind, data in ("bad1", 1, b"QMTREE02"), ("bad3", 3, bytes(5)), ("bad4"
     open(f"{sys.argv[1]}/{name}.tree", "wb").write(made_trees.written(tree._replace(sections=sections)))
 END
     no_level "bad1.tree is no tree file for a level: section 1 has no tree file: short at byte 8" cube.map bad1.tree kept.bsp || return 1
-    no_level "bad3.tree is no tree file for a level: section 3 goes on too long" cube.map bad3.tree kept.bsp || return 1
+    no_level "bad3.tree is no tree file for a level: section 3 has no brush models: trailing at byte 4" cube.map bad3.tree kept.bsp || return 1
     no_level "bad4.tree is no tree file for a level: section 4 has a piece that is none" cube.map bad4.tree kept.bsp
 }
 

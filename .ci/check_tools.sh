@@ -565,7 +565,15 @@ traces_as_the_slow_trace_finds() {
 }
 
 agrees_with_the_page_on_tree_files() {
-    python3 .ci/check_treefile_page.py "$folder" cube.tree hole.tree rooms.tree courtyard.tree
+    run_program compile room.map door.tree --models --hulls
+    [[ $status == 0 ]] || return 1
+    python3 .ci/check_treefile_page.py "$folder" cube.tree hole.tree rooms.tree courtyard.tree door.tree
+}
+
+loads_tree_files_in_c() {
+    run_program compile gatehouse.map gatehouse.tree --fast --models --hulls
+    [[ $status == 0 ]] || return 1
+    python3 .ci/check_qmtree.py "$folder" room.tree courtyard.tree gatehouse.tree
 }
 
 cp samples/*.map "$folder/"
@@ -593,4 +601,5 @@ check "tools: a text that is no map is refused" says_what_is_no_map
 check "tools: faces are listed as the program refuses them, and what is named instead is taken" lists_faces_as_the_program_refuses_them
 check "tools: all faces that are refused are listed" lists_all_faces
 check "tools: points that are near enough give no plane that is too fine" finds_no_plane_too_fine_near_by
-check_fully "tools: the C of docs/TREEFILE.md finds leaves and rows" agrees_with_the_page_on_tree_files
+check_fully "tools: the C of docs/TREEFILE.md finds leaves, rows, hulls and models" agrees_with_the_page_on_tree_files
+check_fully "tools: docs/qmtree.h finds in tree files, damaged ones too, what the slow reader finds" loads_tree_files_in_c
