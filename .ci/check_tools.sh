@@ -555,9 +555,15 @@ END
 }
 
 answers_as_the_slow_reader_finds() {
-    run_program compile courtyard.map hulled.tree --fast --hulls
+    run_program compile courtyard.map hulled.tree --fast --hulls --models
     [[ $status == 0 ]] || return 1
-    (cd "$folder" && python3 "$top/.ci/compare_answers.py" "$program" {cube,hole,rooms,rooms8,courtyard,courtyard_leak,hulled}.tree)
+    run_program compile gatehouse.map gatehouse.tree --fast --models
+    [[ $status == 0 ]] || return 1
+    (cd "$folder" && python3 "$top/.ci/compare_answers.py" "$program" {cube,hole,rooms,rooms8,courtyard,courtyard_leak,hulled,gatehouse}.tree)
+}
+
+finds_models_as_slow_ones_are() {
+    python3 .ci/compare_models.py "$program"
 }
 
 traces_as_the_slow_trace_finds() {
@@ -580,6 +586,7 @@ cp samples/*.map "$folder/"
 check "the samples compile, and leak where they should" compiles_the_samples
 check "inspect answers as the slow reader finds" answers_as_the_slow_reader_finds
 check "inspect traces segments as the slow trace finds" traces_as_the_slow_trace_finds
+check "brush models are those that plain slow fractions give" finds_models_as_slow_ones_are
 check "tools: the pictures of the pages are those of the samples" draws_what_the_pages_show
 check "tools: the entities of a map are marked, at a player's height" marks_the_entities
 check "tools: each kind of contents has a fill of its own" draws_each_kind_of_contents
