@@ -11,6 +11,7 @@ the compiler can do that."""
 from fractions import Fraction
 from pathlib import Path
 import random
+import shutil
 import struct
 import subprocess
 import sys
@@ -36,7 +37,10 @@ def compiled(folder):
     """The program."""
     program = folder / "try_qmtree"
     subprocess.run(["cc", "-std=c99", *STRICT, "-Wconversion", "-c", "-o", folder / "try.o", SOURCE], check=True)
-    subprocess.run(["c++", "-std=c++11", *STRICT, "-x", "c++", "-c", "-o", folder / "try.o", SOURCE], check=True)
+    if shutil.which("c++"):
+        subprocess.run(["c++", "-std=c++11", *STRICT, "-x", "c++", "-c", "-o", folder / "try.o", SOURCE], check=True)
+    else:
+        print("no compiler for C++ is here: docs/qmtree.h was tried as C alone")
     checked = subprocess.run(["cc", "-std=c99", "-O1", *STRICT, *CHECKED, "-o", program, SOURCE], capture_output=True, check=False)
     if checked.returncode:
         print("accesses to memory are not checked: the compiler cannot do that")

@@ -221,13 +221,13 @@ def due(tree, hulls, words):
     return 0, "".join(lines)
 
 
-def lists(tree, hulls):
-    """The lists of queries to ask."""
+def lists(tree, hulls, short):
+    """The lists of queries to ask, with so many short ones."""
     draw = random.Random(1)
     below = 0 if tree.rows is None else numbered(tree)
     many = (query(draw, tree, hulls, below) for _ in range(2000))
     yield [word for word in many if due(tree, hulls, [word])[0] == 0][:1000]
-    for _ in range(100):
+    for _ in range(short):
         yield [query(draw, tree, hulls, numbered(tree) + 1) for _ in range(draw.randint(1, 6))]
     # that a place is outside goes before that there is no part, or a bad one, and that before that there is no such model
     for entity in 1, 2, 77:
@@ -283,7 +283,8 @@ def faults(program, name):
     """For each list of queries to a tree what is wrong with its answers, or None."""
     tree = treefile.load(name)
     hulls = parts(tree)
-    for words in lists(tree, hulls):
+    # there are many that differ in their models alone
+    for words in lists(tree, hulls, 10 if "models" in Path(name).name else 100):
         ran = subprocess.run([program, "inspect", name, *words], capture_output=True, text=True, check=False)
         found, wanted = (ran.returncode, ran.stdout + ran.stderr), due(tree, hulls, words)
         yield None if found == wanted else f"{name}, asked {words[:6]}: {str(found)[:300]}, and due are {str(wanted)[:300]}"
