@@ -137,6 +137,15 @@ def small():
     return tree_file(planes, nodes, leaves, [{0, 1}, {1}], 2, 4096, [(1, tree), (3, section)])
 
 
+def odd_runs():
+    """Files whose rows have runs of zeros in two parts, where these have to be one, and where they may not be."""
+    for count, run, others in (40, b"\0\4", (b"\0\1\0\3", b"\0\3\0\1")), (2100, b"\0\xff\0\6", (b"\0\xfe\0\7", b"\0\6\0\xff")):
+        data = long_tree(count)
+        before, _, behind = data.partition(b"\1" + run + bytes((1 << count % 8,)))
+        yield data
+        yield from (before + b"\1" + other + bytes((1 << count % 8,)) + behind for other in others)
+
+
 def files(named):
     """All files that are tried."""
     rng = random.Random(13)
@@ -144,6 +153,7 @@ def files(named):
     made = [*kept, *with_sections(rng), cube(1), cube(2), random_tree(rng, 60, True), random_tree(rng, 60, False, 1), long_tree(900)]
     yield from made
     yield from (data for data, _ in (*altered_cubes(), *odd_sections()))
+    yield from odd_runs()
     yield from others()
     yield from promises()
     for data in cube(2), small():

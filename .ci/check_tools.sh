@@ -190,6 +190,12 @@ told = {int(entity): pale for pale, entity in re.findall(r"<g( opacity=\S+)?><ti
 wanted = {model.entity: not tree.is_drawn(model, 19) for model in tree.models() if model.high[2] >= 32}
 sys.exit(told.keys() != wanted.keys() or any(bool(told[entity]) != pale for entity, pale in wanted.items()) or len(set(wanted.values())) < 2)
 END
+    # the picture of the page
+    mkdir -p "$folder/doors"
+    look world gatehouse.map --out doors/merged.map
+    run_program compile doors/merged.map doors/gatehouse.tree --fast --models
+    look plan doors/gatehouse.tree --models --map gatehouse.map
+    looked && cmp "$folder/printed" docs/gatehouse_doors.svg || return 1
     look plan rooms.tree --models
     refused 'rooms.tree has no brush models: `qmapc compile --models` writes them, but not of a level that leaks'
 }

@@ -221,13 +221,13 @@ def due(tree, hulls, words):
     return 0, "".join(lines)
 
 
-def lists(tree, hulls, short):
-    """The lists of queries to ask, with so many short ones."""
+def lists(tree, hulls, count):
+    """The lists of queries to ask: one of ten times so many, and so many short ones; and some of their own."""
     draw = random.Random(1)
     below = 0 if tree.rows is None else numbered(tree)
-    many = (query(draw, tree, hulls, below) for _ in range(2000))
-    yield [word for word in many if due(tree, hulls, [word])[0] == 0][:1000]
-    for _ in range(short):
+    many = (query(draw, tree, hulls, below) for _ in range(20 * count))
+    yield [word for word in many if due(tree, hulls, [word])[0] == 0][:10 * count]
+    for _ in range(count):
         yield [query(draw, tree, hulls, numbered(tree) + 1) for _ in range(draw.randint(1, 6))]
     # that a place is outside goes before that there is no part, or a bad one, and that before that there is no such model
     for entity in 1, 2, 77:
