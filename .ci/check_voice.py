@@ -13,6 +13,7 @@ PAGES = {
     "bench/README.md": 2500,
     "docs/DECISIONS.md": 3200,
     "docs/GLOSSARY.md": 3000,
+    "docs/SIGHT.md": 1600,
 }
 
 # what is refused, with what to write in its place
