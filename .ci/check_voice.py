@@ -14,6 +14,7 @@ PAGES = {
     "docs/DECISIONS.md": 3200,
     "docs/GLOSSARY.md": 3000,
     "docs/SIGHT.md": 1600,
+    "docs/SPACE.md": 2400,
 }
 
 # what is refused, with what to write in its place
