@@ -15,6 +15,7 @@ PAGES = {
     "docs/GLOSSARY.md": 3000,
     "docs/SIGHT.md": 1600,
     "docs/SPACE.md": 2400,
+    "docs/WINDINGS.md": 2200,
 }
 
 # what is refused, with what to write in its place
