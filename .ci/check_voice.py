@@ -13,6 +13,8 @@ PAGES = {
     "bench/README.md": 2500,
     "docs/DECISIONS.md": 3200,
     "docs/GLOSSARY.md": 3000,
+    "docs/MAPTEXT.md": 2000,
+    "docs/PLAY.md": 1400,
     "docs/SIGHT.md": 1600,
     "docs/SPACE.md": 2400,
     "docs/WINDINGS.md": 2200,
