@@ -1,6 +1,6 @@
 -- The model of an entity among models of entities that ascend.
 use Rattle.std.proofs.Common.{◌≡◌, ◌≢◌, ◌<◌, ◌≤◌, ◌==◌, ℕ, zero, suc, Bool, cond, true, false, List, [], ◌∷◌, length, get_or, Some, None, Result, Ok, Err, refl, sym, ap, ◌∙◌, arith}
-use Rattle.std.specs.Prelude.{MatchResult}
+use Rattle.std.specs.Prelude.{Contains, MatchResult}
 use Rattle.std.specs.List.Sorted.{IsSearchInRange, IsBinarySearchResult, IsNonDecreasingBy}
 use Rattle.std.specs.Ordering.{nat_cmp, ordering_index}
 use Rattle.std.proofs.lemmas.Cmp.{ranked}
@@ -69,3 +69,39 @@ module _ (models : List BrushModel) (entity : ℕ) (ascend : AscendByEntity 0 mo
 
       greater : (j : ℕ) (d : BrushModel) → j < length models → i ≤ j → entity < (get_or models j d).entity
       greater j d within at_least = ranked _ entity _ (sym ((parted rises).1 j d at_least within))
+
+-- ---- which models are found
+
+pub found_is_listed : (models : List BrushModel) (entity : ℕ) (found : BrushModel) → model_of_entity models entity ≡ Some found → Contains models found × (found.entity ≡ entity)
+found_is_listed [] entity found is = absurd cc
+found_is_listed (model ∷ models) entity found is = by (model.entity == entity) refl is (found_is_listed models entity found)
+  where
+    by : (test : Bool) → (model.entity == entity) ≡ test → cond test (Some model) (model_of_entity models entity) ≡ Some found
+        → (model_of_entity models entity ≡ Some found → Contains models found × (found.entity ≡ entity)) → Contains (model ∷ models) found × (found.entity ≡ entity)
+    by true same first rest =
+        let first_is : model ≡ found = cc in
+        ((0, omega arith, first_is), ap (λ (m : BrushModel). m.entity) (sym first_is) ∙ (Decides-eqb model.entity entity).0 same)
+    by false differ later rest =
+        let listed = rest later in
+        ((suc listed.0.0, omega (arith, listed.0.1), listed.0.2), listed.1)
+
+none_first : (model : BrushModel) (models : List BrushModel) (entity : ℕ) → model_of_entity (model ∷ models) entity ≡ None → (model.entity ≢ entity) × (model_of_entity models entity ≡ None)
+none_first model models entity none = by (model.entity == entity) refl none
+  where
+    by : (test : Bool) → (model.entity == entity) ≡ test → cond test (Some model) (model_of_entity models entity) ≡ None → (model.entity ≢ entity) × (model_of_entity models entity ≡ None)
+    by true same some = absurd cc
+    by false differ later = (λ same. let both : false ≡ true = sym differ ∙ (Decides-eqb model.entity entity).1 same in absurd cc, later)
+
+none_at : (models : List BrushModel) (entity : ℕ) → model_of_entity models entity ≡ None → (k : ℕ) (d : BrushModel) → k < length models → (get_or models k d).entity ≢ entity
+none_at [] entity none k d inside = absurd (omega (arith, inside))
+none_at (model ∷ models) entity none zero d inside = (none_first model models entity none).0
+none_at (model ∷ models) entity none (suc k) d inside = none_at models entity (none_first model models entity none).1 k d (omega (arith, inside))
+
+pub none_is_listed : (models : List BrushModel) (entity : ℕ) → model_of_entity models entity ≡ None → (model : BrushModel) → Contains models model → model.entity ≢ entity
+none_is_listed models entity none model listed same = none_at models entity none listed.0 model listed.1 (ap (λ (m : BrushModel). m.entity) listed.2 ∙ same)
+
+pub listed_is_found : (models : List BrushModel) (model : BrushModel) → AscendByEntity 0 models → Contains models model → model_of_entity models model.entity ≡ Some model
+listed_is_found models model ascend listed =
+    let here = ap (λ (m : BrushModel). m.entity) listed.2 in
+    found_first models model.entity listed.0 model listed.1 here (λ j lower same. omega (arith, in_order 0 models ascend j listed.0 model lower listed.1, here, same))
+    ∙ ap (λ (m : BrushModel). Some m) listed.2

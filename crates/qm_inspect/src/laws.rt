@@ -1,6 +1,6 @@
 //! What holds of the answers to queries, whatever is asked.
 
-ghost use Rattle.std.specs.Prelude.{◌≡◌, ◌↔◌, ℕ, List};
+ghost use Rattle.std.specs.Prelude.{◌≡◌, ◌≢◌, ◌↔◌, ℕ, List, Some, None, Contains};
 ghost use Rattle.qm_space.specs.Bounds.{world_extent};
 ghost use Rattle.qm_space.specs.Point.{Point, IsInCube};
 ghost use Rattle.qm_partition.specs.Tree.{Tree};
@@ -12,7 +12,9 @@ ghost use Rattle.qm_commands.specs.declared.millionths.Millionths.{Millionths};
 ghost use Rattle.qm_formats.specs.Upgraded.{upgraded};
 ghost use Rattle.qm_commands.specs.declared.query.Query.{Query};
 ghost use Rattle.qm_answers.specs.declared.query_fault.QueryFault.{QueryFault};
-ghost use Rattle.qm_answers.specs.Answers.{point_of};
+ghost use Rattle.qm_model_layout.specs.BrushModel.{BrushModel};
+ghost use Rattle.qm_answers.specs.Answers.{point_of, model_of_entity};
+ghost use Rattle.qm_answers.specs.DecodedSections.{AscendByEntity};
 ghost use Rattle.qm_answers.specs.AllAnswers.{AreAnswered, IsFirstRefused};
 ghost use Rattle.qm_space.specs.InsideBound.{IsInsideBound};
 ghost use Rattle.qm_answers.specs.SameAnswers.{HaveSameAnswers};
@@ -38,4 +40,12 @@ pub fn same_cube()
 pub fn exact_traces()
     ensures are_trace { (tree : Tree) (from to : Millionths) → IsSegmentTrace tree (point_of from) (point_of to) (trace_of tree (point_of from) (point_of to)) }
     ensures only { (tree : Tree) (from to : Millionths) (other : List Span) → IsSegmentTrace tree (point_of from) (point_of to) other → other ≡ trace_of tree (point_of from) (point_of to) }
+{}
+
+/// The model that answers for an entity is one of the models and has this entity, and where there is none, no model has it. Where
+/// entities ascend, as in each section that is read, each model answers for its own.
+pub fn exact_models()
+    ensures found { (models : List BrushModel) (entity : ℕ) (model : BrushModel) → model_of_entity models entity ≡ Some model → Contains models model × (model.entity ≡ entity) }
+    ensures none { (models : List BrushModel) (entity : ℕ) → model_of_entity models entity ≡ None → (model : BrushModel) → Contains models model → model.entity ≢ entity }
+    ensures each { (models : List BrushModel) (model : BrushModel) → AscendByEntity 0 models → Contains models model → model_of_entity models model.entity ≡ Some model }
 {}

@@ -19,7 +19,7 @@ mod trace_lines;
 mod traces;
 
 pub use asking::query;
-pub use laws::{exact_traces, same_answers, same_cube, told_once};
+pub use laws::{exact_models, exact_traces, same_answers, same_cube, told_once};
 pub use parts::Parts;
 pub use printing::print;
 pub use qm_answers::{Answer, QueryFault};
