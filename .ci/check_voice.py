@@ -18,6 +18,7 @@ PAGES = {
     "docs/SIGHT.md": 1600,
     "docs/SPACE.md": 2400,
     "docs/WINDINGS.md": 2200,
+    "tools/README.md": 4700,
 }
 
 # what is refused, with what to write in its place
