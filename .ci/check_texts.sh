@@ -76,4 +76,5 @@ check "docs/PROOF.md has the definitions in reading order" python3 .ci/reading_o
 check "docs/THEOREM.md has the lines of each claim" python3 .ci/theorem_lines.py
 check "each name has one meaning" python3 .ci/check_names.py
 check "docs/GATE.md has what each crate costs" python3 .ci/gate_table.py
+check "pages that are listed are in plain English, and no longer than allowed" python3 .ci/check_voice.py
 check "each file that a page names is there" python3 .ci/check_links.py
