@@ -9,3 +9,4 @@ pub mod OwnersThere
 pub mod Parts
 pub mod BookEdges
 pub mod Covering
+pub mod SurfaceSamples

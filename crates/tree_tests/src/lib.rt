@@ -14,6 +14,8 @@ mod long;
 #[cfg(test)]
 mod moved;
 #[cfg(test)]
+mod surface;
+#[cfg(test)]
 mod trails;
 #[cfg(test)]
 mod worlds;
