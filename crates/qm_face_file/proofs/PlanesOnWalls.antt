@@ -1,5 +1,5 @@
 -- A plane is compared with a wall and with the wall turned.
-use Rattle.std.proofs.Common.{◌≡◌, ℕ, ℤ, Bool, true, false, ◌&&◌, Option, Some, int_eq, refl, sym, ap, subst, ◌∙◌}
+use Rattle.std.proofs.Common.{◌≡◌, ℕ, ℤ, Bool, true, false, ◌&&◌, Some, int_eq, refl, sym, ap, subst, ◌∙◌}
 use Rattle.std.specs.Prelude.{IsTrue, slice_get}
 use Rattle.std.proofs.lemmas.Bool.{and_parts, and_from}
 use Rattle.std.proofs.lemmas.Bool.Decides.{Decides-int_eq}
@@ -16,10 +16,10 @@ equal_from_test x y is = (Decides-int_eq x y).0 is
 test_of_itself : (x : ℤ) → int_eq x x ≡ true
 test_of_itself x = (Decides-int_eq x x).1 refl
 
-abbrev is_same_plane : Plane → Plane → Bool
+abbrev pub is_same_plane : Plane → Plane → Bool
 is_same_plane a b = int_eq a.nx b.nx && (int_eq a.ny b.ny && (int_eq a.nz b.nz && int_eq a.d b.d))
 
-same_from_test : (a b : Plane) → is_same_plane a b ≡ true → a ≡ b
+pub same_from_test : (a b : Plane) → is_same_plane a b ≡ true → a ≡ b
 same_from_test a b is =
     let nz = int_eq a.nz b.nz in
     let d = int_eq a.d b.d in
@@ -28,7 +28,7 @@ same_from_test a b is =
     let third = and_parts nz d second.1 in
     same_plane a b (equal_from_test a.nx b.nx first.0) (equal_from_test a.ny b.ny second.0) (equal_from_test a.nz b.nz third.0) (equal_from_test a.d b.d third.1)
 
-test_from_same : (a b : Plane) → a ≡ b → is_same_plane a b ≡ true
+pub test_from_same : (a b : Plane) → a ≡ b → is_same_plane a b ≡ true
 test_from_same a b same =
     subst (λ (h : Plane). is_same_plane a h ≡ true) same
     (and_from (int_eq a.nx a.nx) (int_eq a.ny a.ny && (int_eq a.nz a.nz && int_eq a.d a.d)) (test_of_itself a.nx)

@@ -1,9 +1,7 @@
-use Rattle.std.proofs.Common.{◌≡◌, ℕ, ℤ, pos, negsuc, [], Some, ap, sym, ◌∙◌, rules, w64, to_z, of_z}
-use Rattle.std.specs.Prelude.{FitsSigned, slice_get}
+use Rattle.std.proofs.Common.{pos, [], Some, ap, sym, ◌∙◌, rules, w64}
+use Rattle.std.specs.Prelude.{FitsSigned}
 use Rattle.std.proofs.lemmas.Int.{to_z-of_z}
-use Rattle.qm_space.specs.Bounds.{world_extent}
 use Rattle.qm_space.specs.Plane.{Plane}
-use Rattle.qm_face_layout.specs.PlaneNumbers.{IsPlaneNumber}
 use Rattle.qm_face_layout.proofs.NumbersOfPlanes.{same_wall, no_more_walls, wall_number, book_number, flipped_number, some_number}
 use Rattle.qm_face_file.proofs.WallNumbers.{number_of_place}
 use Rattle.qm_face_file.proofs.numbering.plane_number.Goals as goal
