@@ -4,7 +4,7 @@ use Rattle.clap.specs.Walk.{Held, Row, Text, Walk, idle, option, nothing_held, s
 use Rattle.clap.specs.Kinds.{check_kinds}
 use Rattle.clap.specs.declared.error.kind.ErrorKind.TheVariants.{InvalidValue, MissingRequiredArgument, UnknownArgument}
 use Rattle.clap.specs.Faults.{fault_of, settle_fault, turn_fault}
-use Rattle.qm_commands.specs.CompileRequest.{Request, Asks, FlagOption, fast_option, hulls_option, models_option, ValuedOption, listing_option, threads_option, no_more, a_name, without_value, value_behind, value_within, no_request, flag_in, flag_spelling, option_spelling, value_in, with_flag, with_name, with_option}
+use Rattle.qm_commands.specs.CompileRequest.{Request, Asks, FlagOption, fast_option, hulls_option, models_option, faces_option, ValuedOption, listing_option, threads_option, no_more, a_name, without_value, value_behind, value_within, no_request, flag_in, flag_spelling, option_spelling, value_in, with_flag, with_name, with_option}
 use Rattle.qm_commands.specs.FileNames.{IsFileName}
 use Rattle.qm_words.specs.inner.CommandLines.{compile_app}
 use Rattle.qm_words.specs.inner.CompileWord.{EachIsCompileWord, IsCompileWord, plain, bare, alone, within}
@@ -30,6 +30,7 @@ no_name_flag : (flag : FlagOption) (word : Text) → word ≡ flag_spelling flag
 no_name_flag fast_option word is name = subst IsFileName is name refl
 no_name_flag hulls_option word is name = subst IsFileName is name refl
 no_name_flag models_option word is name = subst IsFileName is name refl
+no_name_flag faces_option word is name = subst IsFileName is name refl
 
 no_name_alone : (kind : ValuedOption) (word : Text) → word ≡ option_spelling kind → IsFileName word → ⊥
 no_name_alone listing_option word is name = subst IsFileName is name refl
@@ -79,11 +80,13 @@ flag_seen : (seen : Seen) (flag : FlagOption) → flag_in (request_of seen) flag
 flag_seen seen fast_option = refl
 flag_seen seen hulls_option = refl
 flag_seen seen models_option = refl
+flag_seen seen faces_option = refl
 
 request_with_flag : (seen : Seen) (flag : FlagOption) → request_of (seen_with_flag seen flag) ≡ with_flag (request_of seen) flag
 request_with_flag seen fast_option = refl
 request_with_flag seen hulls_option = refl
 request_with_flag seen models_option = refl
+request_with_flag seen faces_option = refl
 
 -- with the same words and rows under other names
 read_as : (seen : Seen) (words : List Text) (r q : List Row) → r ≡ q → IsRead seen words q → IsRead seen words r
