@@ -39,12 +39,14 @@ pub fn carry_out_order<R: Threads + Sync, H: Shelf, G: Gate + Sync>(
             threads,
             fast,
             hulls,
+            models,
         } => {
             let command = MapCommand::Compile {
                 options: Options {
                     threads,
                     fast,
                     hulls,
+                    models,
                 },
                 listed: prt.is_some(),
             };

@@ -2,3 +2,5 @@ pub mod ExactFaces
 pub mod ValidFaces
 pub mod NumberedCorners
 pub mod TurnedFaces
+pub mod Walls
+pub mod WrittenFaces

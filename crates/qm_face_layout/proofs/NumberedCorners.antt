@@ -83,9 +83,9 @@ module _ (planes : List Plane) (bound : ℕ) (few : length planes < 2 ^ 32) wher
 
   pub numbered_is_corner : (w : Winding) (backward : Bool) (k : ℕ) (corner : List ℤ) → pos 0 <ℤ (corner_at w k).w → IsNumberedCorner planes bound w backward k corner → IsFaceCorner planes bound corner
   numbered_is_corner w backward k corner weight is =
-      let own = is.own_is in
-      let before = is.before_is in
-      let next = is.next_is in
+      let own = is.own_is.names in
+      let before = is.before_is.names in
+      let next = is.next_is.names in
       let Fits : ℤ → Type 0 = λ number. IsTrue (fits_signed w64 number) in
       record {
         own = is.own;

@@ -8,8 +8,8 @@ use Rattle.std.proofs.lemmas.List.Sums.{AllPass-from_list_all, list_all-from_All
 use Rattle.qm_space.specs.Plane.{Plane}
 use Rattle.qm_space.specs.Meet.{meet}
 use Rattle.qm_partition.specs.Counting.{leaf_count}
-use Rattle.qm_formats.specs.Layout.{right_each}
-use Rattle.qm_formats.specs.Fields.{unsigned, signed}
+use Rattle.qm_formats.specs.Layout.{got, right_each}
+use Rattle.qm_formats.specs.Fields.{AreBytes, unsigned, signed}
 use Rattle.qm_formats.specs.FileParts.{short}
 use Rattle.qm_formats.specs.TreeFile.{TreeFile}
 use Rattle.qm_formats.proofs.RightParts.{right_each_at, right_each_from}
@@ -17,7 +17,8 @@ use Rattle.qm_formats.proofs.ExactFile.{right_each_length}
 use Rattle.qm_face_layout.specs.PlaneNumbers.{named_plane}
 use Rattle.qm_face_layout.specs.declared.face_record.FaceRecord.{FaceRecord}
 use Rattle.qm_face_layout.specs.ValidFace.{IsFaceCorner, IsFaceOfFile, AreFacesOfFile}
-use Rattle.qm_face_layout.specs.FacesLayout.{face_corner_layout, face_corners_layout, face_parts_layout, meet_in_point, is_face_corner, is_face, face_layout, faces_layout}
+use Rattle.qm_face_layout.specs.FacesLayout.{face_corner_layout, face_corners_layout, face_parts_layout, meet_in_point, is_face_corner, is_face, face_layout, faces_layout, AreFacesBytes, read_faces}
+use Rattle.qm_face_layout.proofs.ExactFaces.{read_faces_found, read_faces_again}
 
 -- ---- numbers
 
@@ -164,3 +165,13 @@ module _ (file : TreeFile) where
   faces_right faces is =
       and_from (ltb (length faces) (2 ^ 64)) (right_each (λ _. face_layout file) 0 (length faces) faces) (lt-ltb (length faces) (2 ^ 64) is.few)
       (right_each_from (λ _. face_layout file) 0 (length faces) faces refl (λ k d within. face_right (get_or faces k d) (is.each k d within)))
+
+  -- ---- a whole section
+
+  pub valid_faces_found : (bytes : List ℕ) (faces : List FaceRecord) (next : ℕ) → AreBytes bytes → read_faces file bytes ≡ got faces next → AreFacesBytes file bytes faces
+  valid_faces_found bytes faces next are is =
+      let found = read_faces_found file bytes faces next are is in
+      record { are_valid = faces_in_words faces found.right; bytes_are = found.bytes_are }
+
+  pub valid_faces_again : (bytes : List ℕ) (faces : List FaceRecord) → AreFacesBytes file bytes faces → read_faces file bytes ≡ got faces (length bytes)
+  valid_faces_again bytes faces is = read_faces_again file bytes faces (record { right = faces_right faces is.are_valid; bytes_are = is.bytes_are })

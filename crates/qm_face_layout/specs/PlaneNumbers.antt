@@ -17,10 +17,18 @@ abbrev pub named_plane : List Plane → ℕ → ℤ → Option Plane
 named_plane planes bound (pos n) = slice_get planes n
 named_plane planes bound (negsuc k) = slice_get (walls_at bound) k
 
--- the number names the plane, turned or not; a wall is named as a wall, also where the book has it
-pub record IsPlaneNumber (planes : List Plane) (bound : ℕ) (plane : Plane) (number : ℤ) : Type 0 where
+-- the number names the plane, turned or not
+pub record NamesPlane (planes : List Plane) (bound : ℕ) (number : ℤ) (plane : Plane) : Type 0 where
   pub named : Plane
   pub named_is : named_plane planes bound number ≡ Some named
   pub side : Bool
   pub turned_is : plane ≡ turned side named
-  pub wall_first : (k : ℕ) (wall : Plane) (its_side : Bool) → slice_get (walls_at bound) k ≡ Some wall → plane ≡ turned its_side wall → number ≡ negsuc k
+
+-- some number names the plane
+abbrev pub IsNamedPlane : List Plane → ℕ → Plane → Type 0
+IsNamedPlane planes bound plane = (number : ℤ) × NamesPlane planes bound number plane
+
+-- the number of a plane: a wall has its number as a wall, also where the book has it
+pub record IsPlaneNumber (planes : List Plane) (bound : ℕ) (plane : Plane) (number : ℤ) : Type 0 where
+  pub names : NamesPlane planes bound number plane
+  pub wall_first : (k : ℕ) → NamesPlane planes bound (negsuc k) plane → number ≡ negsuc k

@@ -98,8 +98,9 @@ module _ (bound numbered before : ℕ) where
       let decodes = decodes_for bound (read_file kept.bytes) in
       file_of_bytes bound kept.bytes (read_file kept.bytes) refl (kept_bytes kept both.0) (and_parts (is_model_head numbered before kept) decodes both.1).1
 
-  there : (kept : KeptModel) → (tested_model_layout bound numbered before).right kept ≡ true → (kept_of_model (model_of_kept kept) ≡ kept) × IsTrue (can_be_kept bound numbered before (model_of_kept kept))
-  there kept right =
+  -- a model that is kept and passes the test is one that can be kept
+  pub kept_there : (kept : KeptModel) → (tested_model_layout bound numbered before).right kept ≡ true → (kept_of_model (model_of_kept kept) ≡ kept) × IsTrue (can_be_kept bound numbered before (model_of_kept kept))
+  kept_there kept right =
       let its = file_of_kept kept right in
       let file = file_read (read_file kept.bytes) in
       let long : length (file_bytes file) ≡ length kept.bytes = sym (ap length its.bytes) in
@@ -123,7 +124,7 @@ module _ (bound numbered before : ℕ) where
   unfolding model_layout
   model_exact =
       seen_as_exact model_of_kept kept_of_model (can_be_kept bound numbered before) (tested_model_layout bound numbered before)
-      (tested_exact (is_model bound numbered before) section_form (λ _ at. at) kept_layout kept_exact) there back
+      (tested_exact (is_model bound numbered before) section_form (λ _ at. at) kept_layout kept_exact) kept_there back
 
 -- ---- all models
 

@@ -4,3 +4,5 @@ pub mod WholeSections
 pub mod ValidModels
 pub mod WrittenModels
 pub mod AscendingLeaves
+pub mod FaultKinds
+pub mod ModelFaults

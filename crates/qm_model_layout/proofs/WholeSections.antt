@@ -31,7 +31,7 @@ own_bytes bound numbered models = ap (λ (rest : List ℕ). (unsigned short w32)
 
 -- ---- parts of bytes are bytes
 
-parts_of_bytes : (xs ys : List ℕ) → are_bytes (xs ++ ys) ≡ true → (are_bytes xs ≡ true) × (are_bytes ys ≡ true)
+pub parts_of_bytes : (xs ys : List ℕ) → are_bytes (xs ++ ys) ≡ true → (are_bytes xs ≡ true) × (are_bytes ys ≡ true)
 parts_of_bytes [] ys are = (refl, are)
 parts_of_bytes (x ∷ xs) ys are =
     let both = and_parts (ltb x 256) (are_bytes (xs ++ ys)) are in
@@ -51,13 +51,13 @@ file_part model are =
     let file = (parts_of_bytes (model_leaves_layout.bytes_of model.leaves) counted leaves).1 in
     bytes-are of_file (parts_of_bytes ((unsigned short w64).bytes_of (length of_file)) of_file file).1
 
-each_part : (models : List BrushModel) → are_bytes (flat_map (model_layout small_bound 0 0).bytes_of models) ≡ true → HaveFileBytes models
+pub each_part : (models : List BrushModel) → are_bytes (flat_map (model_layout small_bound 0 0).bytes_of models) ≡ true → HaveFileBytes models
 each_part [] are = tt
 each_part (model ∷ models) are =
     let both = parts_of_bytes ((model_layout small_bound 0 0).bytes_of model) (flat_map (model_layout small_bound 0 0).bytes_of models) are in
     (file_part model both.0, each_part models both.1)
 
-file_parts : (models : List BrushModel) → AreBytes (models_bytes models) → HaveFileBytes models
+pub file_parts : (models : List BrushModel) → AreBytes (models_bytes models) → HaveFileBytes models
 file_parts models are =
     let whole = sym (ap are_bytes (models_bytes-parts models)) ∙ are_bytes-from (models_bytes models) are in
     each_part models (parts_of_bytes ((unsigned short w32).bytes_of (length models)) (flat_map (model_layout small_bound 0 0).bytes_of models) whole).1

@@ -2,5 +2,4 @@ pub mod WrittenBoxes
 pub mod EachModel
 pub mod WrittenLeaves
 pub mod ModelSizes
-pub mod RightModels
 pub mod ReadModels

@@ -8,13 +8,11 @@ use Rattle.qm_mapfile.specs.declared.entity.MapFile.{MapFile}
 use Rattle.qm_grammar.specs.Meaning.{IsMapText}
 use Rattle.qm_contacts.specs.World.{World}
 use Rattle.qm_formats.specs.TreeFile.{TreeFile}
-use Rattle.qm_commands.specs.declared.map_command.MapCommand.{MapCommand}
 use Rattle.qm_commands.specs.declared.map_command.MapCommand.TheVariants.{Compile}
 use Rattle.qm_commands.specs.declared.options.Options.{Options}
 use Rattle.qm_commands.specs.FileNames.{FileNames}
 use Rattle.qm_commands.specs.Order.{Order, of_map}
 use Rattle.qm_commands.specs.Words.{AreWordsOf}
-use Rattle.qm_statement.specs.declared.status.Status.{Status}
 use Rattle.qm_statement.specs.declared.status.Status.TheVariants.{Done, Leak}
 use Rattle.qm_statement.specs.declared.summary.Summary.{Summary}
 use Rattle.qm_statement.specs.ComesOf.{ComesOf, written}

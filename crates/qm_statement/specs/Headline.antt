@@ -56,7 +56,7 @@ pub record TellsOfMap (map : MapFile) (options : Options) (file : TreeFile) : Ty
   pub world : World
   pub is_world : IsWorldOf file.tree world
   pub bounded : AreBounded options.fast world rows
-  pub sections : AreSectionsAsked map options file.sections
+  pub sections : AreSectionsAsked map file.tree options file.sections
 
 -- The text under MAP means a map, and OUT has bytes in which, if they are at most 1 GiB, a tree file is read of which all of this
 -- holds.

@@ -1,0 +1,4 @@
+pub mod Faults
+pub mod Answered
+pub mod NamedNumbers
+pub mod CornerTests

@@ -1,0 +1,17 @@
+//! The section of faces, written and read: its bytes of a list of faces, and the faces of bytes or the first fault with its place.
+#![tactic(auto)]
+
+mod face_bytes;
+mod face_form;
+mod face_reading;
+mod faces_fault;
+mod field_bytes;
+mod field_reading;
+mod named_planes;
+mod reading;
+mod writing;
+
+pub use faces_fault::FacesFault;
+pub use qm_face_layout::FaceRecord;
+pub use reading::decode;
+pub use writing::encode_records;
