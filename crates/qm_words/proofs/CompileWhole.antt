@@ -237,6 +237,7 @@ names_stay {asked} {all} (a_name {word = word} is more) = omega (arith, names_st
 names_stay (without_value fast_option is free more) = names_stay more
 names_stay (without_value hulls_option is free more) = names_stay more
 names_stay (without_value models_option is free more) = names_stay more
+names_stay (without_value faces_option is free more) = names_stay more
 names_stay (value_behind listing_option is some free more) = names_stay more
 names_stay (value_behind threads_option is some free more) = names_stay more
 names_stay (value_within listing_option is some free more) = names_stay more
@@ -365,7 +366,8 @@ found_once r a b found_a found_b =
     let fast = flag_same a.fast b.fast (sym (found_a.flags_are fast_option) ∙ found_b.flags_are fast_option) in
     let hulls = flag_same a.hulls b.hulls (sym (found_a.flags_are hulls_option) ∙ found_b.flags_are hulls_option) in
     let models = flag_same a.models b.models (sym (found_a.flags_are models_option) ∙ found_b.flags_are models_option) in
-    λ i. record { names = names i; fast = fast i; hulls = hulls i; models = models i; listing = listing i; threads = threads i }
+    let faces = flag_same a.faces b.faces (sym (found_a.flags_are faces_option) ∙ found_b.flags_are faces_option) in
+    λ i. record { names = names i; fast = fast i; hulls = hulls i; models = models i; faces = faces i; listing = listing i; threads = threads i }
   where
     flag_same : (x y : Bool) → Some (cond x (codes "true") (codes "false")) ≡ Some (cond y (codes "true") (codes "false")) → x ≡ y
     flag_same true true same = refl

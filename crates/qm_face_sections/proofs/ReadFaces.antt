@@ -1,0 +1,1 @@
+-- The bytes of a map's faces are read again.
