@@ -1,4 +1,4 @@
-use Rattle.std.specs.Prelude.{◌≡◌, ℕ, List}
+use Rattle.std.specs.Prelude.{◌≡◌, ◌<◌, ◌^◌, ℕ, List}
 use Rattle.std.specs.List.{AllZip}
 use Rattle.qm_space.specs.Plane.{Plane}
 use Rattle.qm_surface.specs.Surface.{FacePiece}
@@ -17,3 +17,9 @@ pub record IsRecordOf (planes : List Plane) (bound : ℕ) (piece : FacePiece) (f
 -- the records of pieces, one for each, in their order
 abbrev pub AreRecordsOf : List Plane → ℕ → List FacePiece → List FaceRecord → Type 0
 AreRecordsOf planes bound pieces faces = AllZip (IsRecordOf planes bound) pieces faces
+
+-- the numbers of a record are written in as many bits as there are
+pub record HasSmallNumbers (face : FaceRecord) : Type 0 where
+  pub leaf_fits : face.leaf < 2 ^ 64
+  pub brush_fits : face.brush < 2 ^ 64
+  pub face_fits : face.face < 2 ^ 32
