@@ -18,7 +18,7 @@ use Rattle.qm_answers.specs.declared.query_fault.QueryFault.{QueryFault}
 use Rattle.qm_answers.specs.declared.decoded_section.DecodedSection.{DecodedSection}
 use Rattle.qm_answers.specs.declared.decoded_section.DecodedSection.TheVariants.{Missing, Bad, Known}
 use Rattle.qm_answers.specs.DecodedSections.{decoded_hull, decoded_models, decoded_faces}
-use Rattle.qm_answers.specs.Answers.{IsNumberOfLeaf, IsPlaceAnswer, AnswersPlace, AnswersWhere, AnswersBySection, is_solid_at, AnswersHull, AnswersByTree, AnswersTrace, AnswersHullTrace, model_of_entity, answer_of_model, contents_at, AnswersModel, AnswersModelAt, AnswersFaceCount, answer_to_face, AnswersFace, AnswersQuery}
+use Rattle.qm_answers.specs.Answers.{IsNumberOfLeaf, IsPlaceAnswer, AnswersPlace, AnswersWhere, AnswersBySection, is_solid_at, AnswersHull, AnswersByTree, AnswersTrace, AnswersHullTrace, model_of_entity, answer_of_model, leaf_contents_at, AnswersModel, AnswersModelAt, AnswersFaceCount, answer_to_face, AnswersFace, AnswersQuery}
 
 -- ---- numbers of leaves
 
@@ -90,7 +90,7 @@ one_model_answer_at : (file : TreeFile) (entity : ℕ) (point : Point) → HasOn
 unfolding AnswersModelAt
 one_model_answer_at file entity point =
     one_where _ _ _
-    (one_by_section (decoded_models file) (λ models answer. answer ≡ answer_of_model (model_of_entity models entity) (λ model. ModelAt entity (contents_at model.file.tree point)))
+    (one_by_section (decoded_models file) (λ models answer. answer ≡ answer_of_model (model_of_entity models entity) (λ model. ModelAt entity (leaf_contents_at model.file.tree point)))
     (λ models a b is_a is_b. is_b ∙ sym is_a))
 
 -- ---- faces

@@ -18,7 +18,7 @@ use Rattle.qm_answers.specs.declared.query_fault.QueryFault.TheVariants.{Outside
 use Rattle.qm_model_layout.specs.BrushModel.{BrushModel}
 use Rattle.qm_face_layout.specs.declared.face_record.FaceRecord.{FaceRecord}
 use Rattle.qm_answers.specs.DecodedSections.{numbered_count, decoded_hull, decoded_models, decoded_faces}
-use Rattle.qm_answers.specs.Answers.{answer_to_count, is_solid_at, answer_of_rows, AnswersWhere, AnswersBySection, AnswersByTree, AnswersHull, AnswersTrace, AnswersHullTrace, model_of_entity, answer_of_model, contents_at, AnswersModel, AnswersModelAt, AnswersFaceCount, answer_to_face, AnswersFace, AnswersQuery, HasEndsInside}
+use Rattle.qm_answers.specs.Answers.{answer_to_count, is_solid_at, answer_of_rows, AnswersWhere, AnswersBySection, AnswersByTree, AnswersHull, AnswersTrace, AnswersHullTrace, model_of_entity, answer_of_model, leaf_contents_at, AnswersModel, AnswersModelAt, AnswersFaceCount, answer_to_face, AnswersFace, AnswersQuery, HasEndsInside}
 use Rattle.qm_answers.specs.Printable.{IsKnownTo, IsTraceable, IsPrintable}
 
 -- ---- parts of answers
@@ -104,7 +104,7 @@ module _ (file : TreeFile) where
   model_at_printable : (entity : ℕ) (point : Point) (answer : Answer) → AnswersModelAt file entity point (Ok answer) → IsPrintable file answer
   unfolding AnswersModelAt
   model_at_printable entity point answer is =
-      let of_model : BrushModel → Answer = λ model. ModelAt entity (contents_at model.file.tree point) in
+      let of_model : BrushModel → Answer = λ model. ModelAt entity (leaf_contents_at model.file.tree point) in
       by_models (decoded_models file) entity of_model answer (λ model. tt)
       (where_answered (IsInsideBound file.bound point) OutsideCube
       (AnswersBySection (decoded_models file) (λ models given. given ≡ answer_of_model (model_of_entity models entity) of_model)) answer is).1

@@ -1,4 +1,4 @@
-use Rattle.std.specs.Prelude.{ℕ, ◌+◌, Bool, List, [], ◌∷◌, ◌++◌, slice_get, slice_index_or, Option, Some, None, codes, if◌then◌else◌}
+use Rattle.std.specs.Prelude.{ℕ, ℤ, ◌+◌, Bool, List, [], ◌∷◌, ◌++◌, slice_get, slice_index_or, Option, Some, None, codes, if◌then◌else◌}
 use Rattle.std.specs.Fmt.{decimal, signed_decimal}
 use Rattle.qm_contents.specs.declared.contents.Contents.{Contents}
 use Rattle.qm_contents.specs.declared.contents.Contents.TheVariants.{Empty, Solid, Water, Slime, Lava, Sky}
@@ -117,11 +117,13 @@ words_of_hull_trace Missing from to = []
 words_of_hull_trace Bad from to = []
 words_of_hull_trace (Known hull) from to = words_of_trace hull.tree from to
 
--- the low ends of a box, and then its high ends
+-- the words of a corner with whole coordinates
+unfoldable pub words_of_corner : (x y z : ℤ) → List ℕ
+words_of_corner x y z = signed_decimal x ++ (32 ∷ (signed_decimal y ++ (32 ∷ signed_decimal z)))
+
+-- the low corner of a box, and then its high one
 unfoldable pub words_of_box : Cuboid → List ℕ
-words_of_box box =
-    signed_decimal box.x.low ++ (32 ∷ (signed_decimal box.y.low ++ (32 ∷ (signed_decimal box.z.low
-    ++ (32 ∷ (signed_decimal box.x.high ++ (32 ∷ (signed_decimal box.y.high ++ (32 ∷ signed_decimal box.z.high)))))))))
+words_of_box box = words_of_corner box.x.low box.y.low box.z.low ++ (32 ∷ words_of_corner box.x.high box.y.high box.z.high)
 
 -- numbers of leaves
 abbrev pub leaf_numbers : List ℕ → List ℕ

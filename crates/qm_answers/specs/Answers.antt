@@ -121,8 +121,8 @@ answer_of_model None answer = Err NoSuchModel
 answer_of_model (Some model) answer = Ok (answer model)
 
 -- the contents of the leaf of a point
-abbrev pub contents_at : Tree → Point → Contents
-contents_at tree point = (leaf_record_at tree.planes tree.shape point).contents
+abbrev pub leaf_contents_at : Tree → Point → Contents
+leaf_contents_at tree point = (leaf_record_at tree.planes tree.shape point).contents
 
 -- that the model of an entity is there
 unfoldable pub AnswersModel : TreeFile → ℕ → Result Answer QueryFault → Type 0
@@ -133,7 +133,7 @@ AnswersModel file entity answer =
 unfoldable pub AnswersModelAt : TreeFile → ℕ → Point → Result Answer QueryFault → Type 0
 AnswersModelAt file entity point answer =
     AnswersWhere (IsInsideBound file.bound point) OutsideCube
-    (AnswersBySection (decoded_models file) (λ models answer. answer ≡ answer_of_model (model_of_entity models entity) (λ model. ModelAt entity (contents_at model.file.tree point)))) answer
+    (AnswersBySection (decoded_models file) (λ models answer. answer ≡ answer_of_model (model_of_entity models entity) (λ model. ModelAt entity (leaf_contents_at model.file.tree point)))) answer
 
 -- how many faces there are
 unfoldable pub AnswersFaceCount : TreeFile → Result Answer QueryFault → Type 0

@@ -4,6 +4,8 @@
 mod asking;
 mod hulls;
 mod laws;
+mod model_lines;
+mod models;
 mod names;
 mod numbered;
 mod parts;

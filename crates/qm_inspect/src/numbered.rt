@@ -18,7 +18,7 @@ use std::alloc::{AllocError, Global};
 const BLOCK: usize = 64;
 
 /// How many leaves are numbered, which are those that are not solid.
-fn count_numbered(leaves: &[Leaf]) -> u64
+pub(crate) fn count_numbered(leaves: &[Leaf]) -> u64
     ensures { result ≡ count_by is_numbered leaves.now }
 {
     leaves

@@ -3,21 +3,28 @@
 ghost use Rattle.qm_partition.specs.Counting.{leaves_of};
 ghost use Rattle.qm_formats.specs.TreeFile.{IsValidFile};
 ghost use Rattle.qm_inspect.specs.inner.BlockCounts.{AreBlockCounts};
-ghost use Rattle.qm_inspect.specs.Parts.{ArePartsOf};
+ghost use Rattle.qm_answers.specs.DecodedSections.{AscendByEntity};
+ghost use Rattle.qm_inspect.specs.Parts.{ArePartsOf, IfKnown};
 
 use crate::asking::answer;
+use crate::models::model_of_entity;
 use crate::parts::Parts;
 use itoa::Buffer;
-use qm_answers::Answer;
+use qm_answers::{Answer, DecodedSection};
 use qm_bits::BitRow;
 use qm_commands::Query;
 use qm_file::TreeFile;
+use qm_lists::Items;
+use qm_model_file::BrushModel;
 
 /// The most bytes of a line in which there is no list: the one of counts has four numbers of up to 20 digits.
 const SHORT_LINE: usize = 122;
 
 /// The most bytes of the kind of a section and the space before it.
 const KIND: usize = 11;
+
+/// The most bytes of the number of a leaf and the space before it.
+const LEAF: usize = 21;
 
 /// Room for the lines of the answers to all queries.
 pub(crate) fn room_for_lines(
@@ -33,20 +40,36 @@ pub(crate) fn room_for_lines(
     let mut room: usize = 0;
     for ask in queries {
         if let Ok(answer) = answer(file, parts, counts, ask) {
-            room = room.saturating_add(room_for_line(file, &answer));
+            room = room.saturating_add(room_for_line(file, parts, &answer));
         }
     }
     room
 }
 
 /// Room for the line of an answer.
-fn room_for_line(file: &TreeFile, answer: &Answer) -> usize {
+fn room_for_line(file: &TreeFile, parts: &Parts, answer: &Answer) -> usize
+    requires { ArePartsOf file.now parts.now }
+{
     let list = match *answer {
+        Answer::Model(entity) => room_for_leaves(&parts.models, entity),
         Answer::Row(n) => room_for_row(file, n),
         Answer::Parts => file.sections.as_slice().len().saturating_mul(KIND),
         _ => 0,
     };
     list.saturating_add(SHORT_LINE)
+}
+
+/// Room for the leaves that the model of an entity touches.
+fn room_for_leaves(section: &DecodedSection<Items<BrushModel>>, entity: u64) -> usize
+    requires { IfKnown section.now (AscendByEntity 0) }
+{
+    match section {
+        DecodedSection::Known(models) => match model_of_entity(models.as_slice(), entity) {
+            Some(model) => model.leaves.len().saturating_mul(LEAF),
+            None => 0,
+        },
+        _ => 0,
+    }
 }
 
 /// Room for the numbers that a row holds.
