@@ -1,4 +1,4 @@
-use Rattle.std.specs.Prelude.{ℕ, ℤ, pos, negsuc, unsigned_abs, ◌==◌, List, [], ◌∷◌, ◌++◌, flat_map, slice_index_or, Option, Some, if◌then◌else◌}
+use Rattle.std.specs.Prelude.{ℕ, ℤ, pos, negsuc, unsigned_abs, ◌==◌, List, [], ◌∷◌, ◌++◌, slice_index_or, Option, Some, if◌then◌else◌}
 use Rattle.qm_numbers.specs.Sign.{is_negative}
 use Rattle.qm_space.specs.Point.{Point, point_times}
 use Rattle.qm_space.specs.Plane.{Plane}
@@ -26,10 +26,16 @@ unfoldable pub coordinates_of_corner : List Plane → ℕ → List ℤ → List 
 coordinates_of_corner planes bound corner =
     coordinates_of_planes (named_plane planes bound (slice_index_or corner 0 (pos 0))) (named_plane planes bound (slice_index_or corner 1 (pos 0))) (named_plane planes bound (slice_index_or corner 2 (pos 0)))
 
--- coordinates between brackets, each with a space behind it
+-- coordinates, each with a space behind it
+abbrev pub spaced : List Coordinate → List ℕ
+spaced [] = []
+spaced (coordinate ∷ coordinates) = (coordinate_numeral coordinate ++ (32 ∷ [])) ++ spaced coordinates
+
+-- the same between brackets
 unfoldable pub bracketed : List Coordinate → List ℕ
-bracketed coordinates = 40 ∷ (flat_map (λ coordinate. coordinate_numeral coordinate ++ (32 ∷ [])) coordinates ++ (41 ∷ []))
+bracketed coordinates = 40 ∷ (spaced coordinates ++ (41 ∷ []))
 
 -- the corners of a face, each after a space
-unfoldable pub spaced_corners : List Plane → ℕ → List (List ℤ) → List ℕ
-spaced_corners planes bound corners = flat_map (λ corner. 32 ∷ bracketed (coordinates_of_corner planes bound corner)) corners
+abbrev pub spaced_corners : List Plane → ℕ → List (List ℤ) → List ℕ
+spaced_corners planes bound [] = []
+spaced_corners planes bound (corner ∷ corners) = (32 ∷ bracketed (coordinates_of_corner planes bound corner)) ++ spaced_corners planes bound corners

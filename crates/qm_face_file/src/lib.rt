@@ -12,6 +12,7 @@ mod reading;
 mod writing;
 
 pub use faces_fault::FacesFault;
+pub use named_planes::named_plane;
 pub use qm_face_layout::FaceRecord;
 pub use reading::decode;
 pub use writing::encode_records;

@@ -1,4 +1,5 @@
 pub mod CountedBlocks
+pub mod FacesOfFiles
 pub mod HullsOfFiles
 pub mod KeptPoints
 pub mod ModelsOfFiles
