@@ -24,7 +24,7 @@ import tempfile
 from compare_texts import read_number
 
 PAGE = Path(__file__).resolve().parent.parent.joinpath("docs/EDITORS.md").read_text(encoding="utf-8")
-USAGE = (b"usage: qmapc compile MAP OUT [--prt FILE] [--threads N] [--fast] [--hulls] [--models] | inspect TREE QUERY.. | format MAP OUT"
+USAGE = (b"usage: qmapc compile MAP OUT [--prt FILE] [--threads N] [--fast] [--hulls] [--models] [--faces] | inspect TREE QUERY.. | format MAP OUT"
          b" | demo N NUMBER | upgrade TREE OUT\n")
 TELLING = ["compile", "inspect", "format", "demo", "upgrade", "a", "8", "04", "count", "--fast", "--hulls", "--models", "--prt", "--prt=a",
            "--threads", "--threads=8", "-x", ""]

@@ -3,7 +3,7 @@
 from rows.cube_files import LISTING, SUMMARY, TEXT, TREE
 from rows.table import Row
 
-USAGE = ("usage: qmapc compile MAP OUT [--prt FILE] [--threads N] [--fast] [--hulls] [--models] | inspect TREE QUERY.. | format MAP OUT | "
+USAGE = ("usage: qmapc compile MAP OUT [--prt FILE] [--threads N] [--fast] [--hulls] [--models] [--faces] | inspect TREE QUERY.. | format MAP OUT | "
          "demo N NUMBER | upgrade TREE OUT\n")
 
 # an empty word stands between two spaces
