@@ -27,7 +27,7 @@ use Rattle.qm_formats.specs.TreeFile.{TreeFile, Section, AreRows, AreSections, I
 use Rattle.qm_plain.specs.PlainFile.{IsPlainFile}
 use Rattle.qm_build.proofs.BuiltTrees.{tree_well_made, tree_reduced}
 use Rattle.qm_outlines.specs.HeldPoints.{HasNoFull}
-use Rattle.qm_outlines.specs.Outlines.{IsOutline, AreNumbersOf}
+use Rattle.qm_outlines.specs.Outlines.{IsOutline, AreSortedNumbers}
 use Rattle.qm_outlines.specs.Models.{FoundModel, IsModelOf, AreModelsUpTo, none_yet, no_model, model, of_entities}
 use Rattle.qm_outlines.proofs.AlikeModels.{model_of_alike}
 use Rattle.qm_model_layout.specs.BrushModel.{BrushModel}
@@ -93,7 +93,7 @@ module _ (map : MapFile) (world : Tree) (e : ℕ) (book : List Plane) (list : Li
   abbrev its_solids : List Solid
   its_solids = solids_in book list
 
-  pub model_of_brushes : (box : Cuboid) (touched numbers : List ℕ) (tree : Tree) (found : BrushModel) → IsOutline world its_solids box touched → AreNumbersOf world touched numbers → IsTreeOf its_solids book tree → GivesContents tree its_solids →
+  pub model_of_brushes : (box : Cuboid) (touched numbers : List ℕ) (tree : Tree) (found : BrushModel) → IsOutline world its_solids box touched → AreSortedNumbers world touched numbers → IsTreeOf its_solids book tree → GivesContents tree its_solids →
       model_found found ≡ record { entity = e; box = box; leaves = numbers; tree = tree } → IsPlainFile world_extent found.file → IsBrushModelOf map world e found
   model_of_brushes box touched numbers tree found outline numbered is_tree gives same plain = record {
     is_found = subst (IsModelOf map world e) (sym same) (model_of_alike map world e its_solids box touched numbers book tree are.solids outline numbered are.entered is_tree gives);

@@ -1,6 +1,6 @@
 ghost use Rattle.std.specs.Prelude.{◌<◌, ℕ, List, [], ◌∷◌, ◌++◌, All, IfOk, OnOk};
 ghost use Rattle.qm_partition.specs.Counting.{leaf_count};
-ghost use Rattle.qm_outlines.specs.Outlines.{AreFoundNumbers, AreNumbersOf};
+ghost use Rattle.qm_outlines.specs.Outlines.{AreFoundNumbers, AreSortedNumbers};
 
 use qm_portal::World;
 use std::alloc::{AllocError, Global};
@@ -9,7 +9,7 @@ use std::alloc::{AllocError, Global};
 /// as often as they like.
 pub fn numbers_of(alloc: Global, world: &World, leaves: &[u64]) -> Result<Vec<u64>, AllocError>
     requires within { All (λ k. k < leaf_count world.now.tree.shape) leaves.now }
-    ensures { IfOk result (λ numbers. AreNumbersOf world.now.tree leaves.now numbers.items) }
+    ensures { IfOk result (λ numbers. AreSortedNumbers world.now.tree leaves.now numbers.items) }
 {
     let mut numbers = found_numbers(alloc, world, leaves)?;
     numbers.sort_unstable();

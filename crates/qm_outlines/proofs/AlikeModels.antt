@@ -27,7 +27,7 @@ use Rattle.qm_solid_tree.proofs.SameTree.{tree_back}
 use Rattle.qm_reach.specs.ReachedLeaves.{ReachesLeaf}
 use Rattle.qm_outlines.specs.HeldPoints.{IsHeldPoint, IsModelBox, HasNoFull}
 use Rattle.qm_outlines.specs.ModelLeaves.{IsTouchedLeaf, AreModelLeaves}
-use Rattle.qm_outlines.specs.Outlines.{IsOutline, AreNumbersOf}
+use Rattle.qm_outlines.specs.Outlines.{IsOutline, AreSortedNumbers}
 use Rattle.qm_outlines.specs.Models.{IsModelOf}
 use Rattle.qm_outlines.proofs.TouchedLeaves.{leaves_of_touched}
 
@@ -114,7 +114,7 @@ module _ (solids others : List Solid) (alike : AllZip IsAlike solids others) whe
 -- ---- the model of an entity, by solids that are alike
 
 pub model_of_alike : (map : MapFile) (world : Tree) (e : ℕ) (others : List Solid) (box : Cuboid) (touched numbers : List ℕ) (book : List Plane) (tree : Tree) → AllZip IsAlike (entity_solids map e) others →
-    IsOutline world others box touched → AreNumbersOf world touched numbers → AreEnteredInBook [] (entity_planes map e) book → IsTreeOf others book tree → GivesContents tree others →
+    IsOutline world others box touched → AreSortedNumbers world touched numbers → AreEnteredInBook [] (entity_planes map e) book → IsTreeOf others book tree → GivesContents tree others →
     IsModelOf map world e (record { entity = e; box = box; leaves = numbers; tree = tree })
 model_of_alike map world e others box touched numbers book tree alike outline are entered is_tree gives = record {
   entity_is = refl;

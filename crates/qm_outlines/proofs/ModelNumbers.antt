@@ -13,7 +13,7 @@ use Rattle.qm_partition.specs.Tree.{Tree}
 use Rattle.qm_contacts.specs.NumberedLeaves.{numbered_leaves}
 use Rattle.qm_contacts.proofs.Numbers.{number_at_leaf}
 use Rattle.qm_segments.specs.LeafNumber.{IsNumberOf}
-use Rattle.qm_outlines.specs.Outlines.{AreFoundNumbers, AreNumbersOf}
+use Rattle.qm_outlines.specs.Outlines.{AreFoundNumbers, AreSortedNumbers}
 
 only : (x y : ℕ) → Contains (x ∷ []) y → x ≡ y
 only x y listed = ⊎_elim (λ same. same) (λ later. absurd (Contains-nil y later)) (Contains-cons_cases x y [] listed)
@@ -55,7 +55,7 @@ module _ (tree : Tree) where
     )
 
   -- sorted, and each once
-  pub numbers_in_order : (leaves found sorted numbers : List ℕ) → AreFoundNumbers tree leaves found → IsPermutation found sorted → IsSorted nat_cmp sorted → numbers ≡ dedup eqb sorted → AreNumbersOf tree leaves numbers
+  pub numbers_in_order : (leaves found sorted numbers : List ℕ) → AreFoundNumbers tree leaves found → IsPermutation found sorted → IsSorted nat_cmp sorted → numbers ≡ dedup eqb sorted → AreSortedNumbers tree leaves numbers
   numbers_in_order leaves found sorted numbers are moved order once = record {
     ascending = subst IsStrictlyIncreasing (sym once) (IsStrictlyIncreasing-dedup sorted order);
     are = λ n. (

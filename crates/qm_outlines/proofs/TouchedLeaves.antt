@@ -15,7 +15,7 @@ use Rattle.qm_segments.specs.LeafNumber.{IsNumberOf}
 use Rattle.qm_reach.specs.ReachedLeaves.{ReachesLeaf}
 use Rattle.qm_reach.proofs.FoundLeaves.{leaf_of_point_reached}
 use Rattle.qm_outlines.specs.ModelLeaves.{IsTouchedLeaf, AreModelLeaves}
-use Rattle.qm_outlines.specs.Outlines.{AreTouchedLeaves, AreNumbersOf}
+use Rattle.qm_outlines.specs.Outlines.{AreTouchedLeaves, AreSortedNumbers}
 
 module _ (tree : Tree) where
   pub none_touched : (k : ℕ) → IsTouchedLeaf tree [] k → ⊥
@@ -58,7 +58,7 @@ module _ (tree : Tree) where
   )
 
   -- the numbers of the touched leaves are the model's leaves
-  pub leaves_of_touched : (solids : List Solid) (touched numbers : List ℕ) → AreTouchedLeaves tree solids touched → AreNumbersOf tree touched numbers → AreModelLeaves tree solids numbers
+  pub leaves_of_touched : (solids : List Solid) (touched numbers : List ℕ) → AreTouchedLeaves tree solids touched → AreSortedNumbers tree touched numbers → AreModelLeaves tree solids numbers
   leaves_of_touched solids touched numbers touched_are are = record {
     ascending = are.ascending;
     are = λ n. (

@@ -28,6 +28,6 @@ abbrev pub AreFoundNumbers : Tree → List ℕ → List ℕ → Type 0
 AreFoundNumbers tree leaves numbers = (n : ℕ) → Contains numbers n ↔ IsNumberAmong tree leaves n
 
 -- the same in ascending order
-pub record AreNumbersOf (tree : Tree) (leaves numbers : List ℕ) : Type 0 where
+pub record AreSortedNumbers (tree : Tree) (leaves numbers : List ℕ) : Type 0 where
   pub ascending : IsStrictlyIncreasing numbers
   pub are : AreFoundNumbers tree leaves numbers

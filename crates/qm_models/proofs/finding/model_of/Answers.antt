@@ -6,7 +6,7 @@ use Rattle.qm_drawn.specs.Planes.{entity_planes}
 use Rattle.qm_drawn.specs.Solids.{entity_solids}
 use Rattle.qm_solids.specs.InBook.{solids_in}
 use Rattle.qm_partition.specs.Tree.{Tree}
-use Rattle.qm_outlines.specs.Outlines.{IsOutline, AreNumbersOf}
+use Rattle.qm_outlines.specs.Outlines.{IsOutline, AreSortedNumbers}
 use Rattle.qm_outlines.proofs.AlikeModels.{no_full_back}
 use Rattle.qm_outlines.proofs.TouchedLeaves.{all_within}
 use Rattle.qm_models.proofs.EntityModels.{AreBrushesOf, model_of_brushes}
@@ -38,5 +38,5 @@ pub returns : goal.returns
 returns c =
     model_of_brushes c.args.map.now c.args.world.now.tree c.args.entity c.brushes_of.new.book c.in_ok-list.list (brushes_are (goal.at.returns c).In_ok-list)
     c.in-Some.outline.extents c.in-Some.outline.touched.items c.in_ok-leaves-in-Some.leaves.items c.in_ok-tree-in-Some.tree c.plain_model.result (outline_is (goal.at.returns c).In-Some)
-    (subst (λ (touched : List ℕ). AreNumbersOf c.args.world.now.tree touched c.in_ok-leaves-in-Some.leaves.items) c.deref.ensures.value c.in_ok-leaves-in-Some.ensures)
+    (subst (λ (touched : List ℕ). AreSortedNumbers c.args.world.now.tree touched c.in_ok-leaves-in-Some.leaves.items) c.deref.ensures.value c.in_ok-leaves-in-Some.ensures)
     c.in_ok-tree-in-Some.ensures.tree c.in_ok-tree-in-Some.ensures.contents c.plain_model.ensures.found c.plain_model.ensures.plain
