@@ -7,7 +7,7 @@ ghost use Rattle.qm_listing.specs.WorldListing.{coordinate_at, coordinates_at};
 ghost use Rattle.qm_answers.specs.AnswerText.{words_of_faces, words_of_face, words_of_known_face};
 ghost use Rattle.qm_answers.specs.CornerText.{coordinates_of_corner, spaced_coordinates, bracketed, spaced_corners};
 
-use crate::six_decimals::put_fraction;
+use crate::six_decimals::put_spaced_fraction;
 use qm_answers::DecodedSection;
 use qm_face_file::{FaceRecord, named_plane};
 use qm_geom::{Corner, Plane};
@@ -125,6 +125,5 @@ fn put_coordinate(text: &mut String, over: i128, under: i128) -> Result<(), Allo
     requires bounded { unsigned_abs over ≤ 2 ^ 100 }
     ensures { OnOk result (string_bytes text.new ≡ string_bytes text.old ++ (coordinate_numeral (coordinate_at over under) ++ 32 ∷ [])) }
 {
-    put_fraction(text, over, under)?;
-    text.push(' ')
+    put_spaced_fraction(text, over, under)
 }
