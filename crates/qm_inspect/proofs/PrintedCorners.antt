@@ -1,8 +1,14 @@
 -- Three coordinates as text, one after another.
-use Rattle.std.proofs.Common.{◌≡◌, ◌∙◌, ℕ, ℤ, List, [], ◌∷◌, ◌++◌, Result, Ok, Err, sym, ap, append_assoc, append-nil}
-use Rattle.std.specs.Prelude.{OnOk}
+use Rattle.std.proofs.Common.{◌≡◌, ◌∙◌, ℕ, ℤ, List, [], ◌∷◌, ◌++◌, Result, Ok, Err, sym, ap, append_assoc, append-nil, to_z, of_z}
+use Rattle.std.specs.Int.{w128}
+use Rattle.std.specs.Prelude.{FitsSigned, OnOk}
+use Rattle.std.proofs.lemmas.Int.{to_z-of_z}
 use Rattle.qm_listing.specs.Numbers.{coordinate_numeral}
 use Rattle.qm_listing.specs.WorldListing.{coordinate_at}
+
+-- a number that a call has taken is the one that was given
+pub taken_is : (given x : ℤ) → FitsSigned w128 given → given ≡ x → to_z w128 (of_z w128 given) ≡ x
+taken_is given x fits is = to_z-of_z w128 given fits ∙ is
 
 -- a coordinate with a space behind it
 abbrev pub word_of : ℤ → ℤ → List ℕ
