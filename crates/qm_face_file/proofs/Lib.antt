@@ -2,3 +2,5 @@ pub mod Faults
 pub mod Answered
 pub mod NamedNumbers
 pub mod CornerTests
+pub mod WallNumbers
+pub mod PlanesOnWalls

@@ -8,11 +8,13 @@ mod faces_fault;
 mod field_bytes;
 mod field_reading;
 mod named_planes;
+mod numbering;
 mod reading;
 mod writing;
 
 pub use faces_fault::FacesFault;
 pub use named_planes::named_plane;
+pub use numbering::plane_number;
 pub use qm_face_layout::FaceRecord;
 pub use reading::decode;
 pub use writing::encode_records;

@@ -4,3 +4,4 @@ pub mod NumberedCorners
 pub mod TurnedFaces
 pub mod Walls
 pub mod WrittenFaces
+pub mod NumbersOfPlanes

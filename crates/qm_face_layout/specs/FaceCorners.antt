@@ -29,6 +29,11 @@ pub record IsNumberedCorner (planes : List Plane) (bound : ℕ) (w : Winding) (b
   pub before_is : IsPlaneNumber planes bound (edge_towards backward w k) before
   pub next_is : IsPlaneNumber planes bound (edge_towards (not backward) w k) next
 
+-- these are corners of a winding from a place on, backward or not
+abbrev pub AreCornersFrom : List Plane → ℕ → Winding → Bool → ℕ → List (List ℤ) → Type 0
+AreCornersFrom planes bound w backward first corners =
+    (i : ℕ) (corner : List ℤ) → slice_get corners i ≡ Some corner → IsNumberedCorner planes bound w backward (place_on backward (length w.edges) first i) corner
+
 -- the corners of a face by a winding and its plane, turned to the side that it faces
 pub record AreNumberedCorners (planes : List Plane) (bound : ℕ) (w : Winding) (into : Plane) (corners : List (List ℤ)) : Type 0 where
   pub in_front : Bool
@@ -36,4 +41,4 @@ pub record AreNumberedCorners (planes : List Plane) (bound : ℕ) (w : Winding) 
   pub first : ℕ
   pub first_is : IsFirstCorner w first
   pub count : length corners ≡ length w.edges
-  pub each : (i : ℕ) (corner : List ℤ) → slice_get corners i ≡ Some corner → IsNumberedCorner planes bound w in_front (place_on in_front (length w.edges) first i) corner
+  pub each : AreCornersFrom planes bound w in_front first corners

@@ -55,7 +55,7 @@ one_corner_more w items more i corner next so_far here is pushed =
 pub some_corners : (w : Winding) (items : List (List Coordinate)) (count i : ℕ) → items ≡ first_corners w i → 3 ≤ count → count ≤ i → 0 < length items
 some_corners w items count i is enough all = omega (arith, enough, all, ap length is, length-map-range_with_len (λ n. coordinates_at (corner_at w n)) 0 i)
 
-first_of_winding : (w : Winding) (corners : List (List Coordinate)) (first : ℕ) → corners ≡ corners_forward w → first < length corners → ((k : ℕ) → k < length corners → come_before (get_or corners k []) (get_or corners first []) ≡ false) → IsFirstCorner w first
+pub first_of_winding : (w : Winding) (corners : List (List Coordinate)) (first : ℕ) → corners ≡ corners_forward w → first < length corners → ((k : ℕ) → k < length corners → come_before (get_or corners k []) (get_or corners first []) ≡ false) → IsFirstCorner w first
 first_of_winding w corners first is within none =
     let long : length corners ≡ length w.edges = ap length is ∙ length-map-range_with_len (λ i. coordinates_at (corner_at w i)) 0 (length w.edges) in
     let at : (k : ℕ) → k < length w.edges → get_or corners k [] ≡ coordinates_at (corner_at w k) = λ k there. ap (λ (xs : List (List Coordinate)). get_or xs k []) is ∙ corner_forward w k there in

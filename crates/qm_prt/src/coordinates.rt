@@ -4,7 +4,7 @@ ghost use Rattle.std.specs.Prelude.{◌≡◌, ◌≤◌, ◌<◌, ◌*◌, ◌+
 ghost use Rattle.qm_space.specs.Bounds.{meet_bound, meet_weight_bound, rounded_bound};
 ghost use Rattle.qm_space.specs.Coordinates.{HasSmallCoordinates};
 ghost use Rattle.qm_numerals.specs.Printed.{millionths};
-ghost use Rattle.qm_listing.specs.WorldListing.{coordinate_at, coordinates_at, come_before, place_back};
+ghost use Rattle.qm_listing.specs.WorldListing.{coordinate_at, coordinates_at, come_before, place_back, IsFirstCorner};
 ghost use Rattle.qm_listing.specs.inner.GoneRound.{corners_forward, steps_back};
 
 use crate::numbers::with_sign;
@@ -104,6 +104,14 @@ pub(crate) fn first_corner(corners: &[[Coordinate; 3]]) -> usize
         }
     }
     first
+}
+
+/// The place of a corner of a winding that no other comes before.
+pub fn first_corner_of(alloc: Global, winding: &Winding) -> Result<usize, AllocError>
+    ensures { IfOk result (IsFirstCorner winding.now) }
+{
+    let corners = corners_of(alloc, winding)?;
+    Ok(first_corner(&corners))
 }
 
 /// The same corners, from the one at a place on backward.

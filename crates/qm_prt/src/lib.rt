@@ -12,6 +12,7 @@ mod printing;
 mod prt_fault;
 mod reading;
 
+pub use coordinates::first_corner_of;
 pub use laws::{
     exact_layout, no_listing_cut_off, one_listing, printed_coordinates, turned_corners,
 };

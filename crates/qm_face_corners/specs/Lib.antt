@@ -1,0 +1,2 @@
+pub mod NamedPlanes
+pub mod inner
