@@ -7,17 +7,18 @@ use Rattle.qm_contents.specs.declared.contents.Contents.{Contents}
 use Rattle.qm_contacts.specs.NumberedLeaves.{is_solid, numbered_leaves}
 use Rattle.qm_formats.specs.TreeFile.{TreeFile}
 use Rattle.qm_model_layout.specs.BrushModel.{BrushModel}
+use Rattle.qm_face_layout.specs.declared.face_record.FaceRecord.{FaceRecord}
 use Rattle.qm_spans.specs.SegmentTrace.{FitsTraces}
 use Rattle.qm_commands.specs.declared.millionths.Millionths.{Millionths}
 use Rattle.qm_commands.specs.declared.query.Query.{Query}
 use Rattle.qm_commands.specs.declared.query.Query.TheVariants as queries
 use Rattle.qm_answers.specs.declared.answer.Answer.{Answer}
-use Rattle.qm_answers.specs.declared.answer.Answer.TheVariants.{Count, Place, Hull, Trace, HullTrace, Model, ModelAt, Row, Sees, Parts}
+use Rattle.qm_answers.specs.declared.answer.Answer.TheVariants.{Count, Place, Hull, Trace, HullTrace, Model, ModelAt, Faces, Face, Row, Sees, Parts}
 use Rattle.qm_answers.specs.declared.query_fault.QueryFault.{QueryFault}
-use Rattle.qm_answers.specs.declared.query_fault.QueryFault.TheVariants.{OutsideCube, NoSuchLeaf, NoRows, NoPart, BadPart, NoSuchModel, TooWide}
+use Rattle.qm_answers.specs.declared.query_fault.QueryFault.TheVariants.{OutsideCube, NoSuchLeaf, NoRows, NoPart, BadPart, NoSuchModel, NoSuchFace, TooWide}
 use Rattle.qm_answers.specs.declared.decoded_section.DecodedSection.{DecodedSection}
 use Rattle.qm_answers.specs.declared.decoded_section.DecodedSection.TheVariants.{Missing, Bad, Known}
-use Rattle.qm_answers.specs.DecodedSections.{numbered_count, decoded_hull, decoded_models}
+use Rattle.qm_answers.specs.DecodedSections.{numbered_count, decoded_hull, decoded_models, decoded_faces}
 use Rattle.qm_space.specs.InsideBound.{IsInsideBound}
 
 -- What a tree file answers to a query.
@@ -134,6 +135,18 @@ AnswersModelAt file entity point answer =
     AnswersWhere (IsInsideBound file.bound point) OutsideCube
     (AnswersBySection (decoded_models file) (λ models answer. answer ≡ answer_of_model (model_of_entity models entity) (λ model. ModelAt entity (leaf_contents_at model.file.tree point)))) answer
 
+-- how many faces there are
+unfoldable pub AnswersFaceCount : TreeFile → Result Answer QueryFault → Type 0
+AnswersFaceCount file answer = AnswersBySection (decoded_faces file) (λ faces answer. answer ≡ Ok (Faces (length faces))) answer
+
+-- the face of a number, where there are that many
+abbrev pub answer_to_face : List FaceRecord → ℕ → Result Answer QueryFault
+answer_to_face faces n = if nat_lt n (length faces) then Ok (Face n) else Err NoSuchFace
+
+-- that the face of a number is there
+unfoldable pub AnswersFace : TreeFile → ℕ → Result Answer QueryFault → Type 0
+AnswersFace file n answer = AnswersBySection (decoded_faces file) (λ faces answer. answer ≡ answer_to_face faces n) answer
+
 -- what a file answers to a query
 unfoldable pub AnswersQuery : TreeFile → Query → Result Answer QueryFault → Type 0
 AnswersQuery file queries.Count answer = answer ≡ Ok (answer_to_count file)
@@ -143,6 +156,8 @@ AnswersQuery file (queries.Trace from to) answer = AnswersTrace file from to ans
 AnswersQuery file (queries.HullTrace hull from to) answer = AnswersHullTrace file hull from to answer
 AnswersQuery file (queries.Model entity) answer = AnswersModel file entity answer
 AnswersQuery file (queries.ModelAt entity x y z) answer = AnswersModelAt file entity (point_in_millionths x y z) answer
+AnswersQuery file queries.Faces answer = AnswersFaceCount file answer
+AnswersQuery file (queries.Face n) answer = AnswersFace file n answer
 AnswersQuery file (queries.Row n) answer = answer ≡ answer_to_row file n
 AnswersQuery file (queries.Sees n m) answer = answer ≡ answer_to_sees file n m
 AnswersQuery file queries.Parts answer = answer ≡ Ok Parts

@@ -7,6 +7,8 @@ use Rattle.qm_formats.specs.TreeFile.{Section, TreeFile}
 use Rattle.qm_plain.specs.PlainFile.{read_plain}
 use Rattle.qm_model_layout.specs.BrushModel.{BrushModel}
 use Rattle.qm_model_layout.specs.ModelLayout.{read_models}
+use Rattle.qm_face_layout.specs.declared.face_record.FaceRecord.{FaceRecord}
+use Rattle.qm_face_layout.specs.FacesLayout.{read_faces}
 use Rattle.qm_answers.specs.declared.decoded_section.DecodedSection.{DecodedSection}
 use Rattle.qm_answers.specs.declared.decoded_section.DecodedSection.TheVariants.{Missing, Bad, Known}
 
@@ -57,3 +59,11 @@ decoded_models file = decoded_by (λ bytes. if_decoded (read_models file.bound (
 abbrev pub AscendByEntity : ℕ → List BrushModel → Type 0
 AscendByEntity before [] = Unit {0}
 AscendByEntity before (model ∷ models) = (before < model.entity) × AscendByEntity model.entity models
+
+-- the kind of the section of faces
+abbrev pub kind_of_faces : ℕ
+kind_of_faces = 4
+
+-- the faces of a file: their section is read for its own tree and its own bound
+abbrev pub decoded_faces : TreeFile → DecodedSection (List FaceRecord)
+decoded_faces file = decoded_by (λ bytes. if_decoded (read_faces file bytes)) (section_bytes file.sections kind_of_faces)

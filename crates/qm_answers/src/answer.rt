@@ -39,6 +39,10 @@ pub enum Answer {
         entity: u64,
         contents: Contents,
     },
+    /// How many faces there are.
+    Faces(u64),
+    /// The face of this number is there.
+    Face(u64),
     /// The row of this numbered leaf is there.
     Row(u64),
     /// Whether the one leaf's row has the other.

@@ -13,6 +13,8 @@ pub enum QueryFault {
     BadPart,
     /// The section of brush models has none of the entity that is asked.
     NoSuchModel,
+    /// There are not that many faces in their section.
+    NoSuchFace,
     /// The plane of a node is too far from the cube for traces.
     TooWide,
 }

@@ -9,4 +9,6 @@ pub struct Options {
     pub hulls: bool,
     /// Whether the brush models of entities are a section of the tree file.
     pub models: bool,
+    /// Whether the faces of brushes, cut to what can be seen of them, are a section of the tree file.
+    pub faces: bool,
 }

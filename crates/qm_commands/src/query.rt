@@ -39,6 +39,10 @@ pub enum Query {
         y: i64,
         z: i64,
     },
+    /// How many faces there are.
+    Faces,
+    /// The leaf that the face of a number faces, its brush, its place among the faces of the brush, and its corners.
+    Face(u64),
     /// Which leaves the row of a numbered leaf has.
     Row(u64),
     /// Whether the row of the first numbered leaf has the second.

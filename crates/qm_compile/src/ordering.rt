@@ -40,6 +40,7 @@ pub fn carry_out_order<R: Threads + Sync, H: Shelf, G: Gate + Sync>(
             fast,
             hulls,
             models,
+            faces,
         } => {
             let command = MapCommand::Compile {
                 options: Options {
@@ -47,6 +48,7 @@ pub fn carry_out_order<R: Threads + Sync, H: Shelf, G: Gate + Sync>(
                     fast,
                     hulls,
                     models,
+                    faces,
                 },
                 listed: prt.is_some(),
             };

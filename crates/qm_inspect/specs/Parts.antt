@@ -3,7 +3,7 @@ use Rattle.qm_spans.specs.SegmentTrace.{FitsTraces}
 use Rattle.qm_formats.specs.TreeFile.{TreeFile}
 use Rattle.qm_answers.specs.declared.decoded_section.DecodedSection.{DecodedSection}
 use Rattle.qm_answers.specs.declared.decoded_section.DecodedSection.TheVariants.{Missing, Bad, Known}
-use Rattle.qm_answers.specs.DecodedSections.{decoded_hull, decoded_models, AscendByEntity}
+use Rattle.qm_answers.specs.DecodedSections.{decoded_hull, decoded_models, decoded_faces, AscendByEntity}
 use Rattle.qm_inspect.specs.declared.parts.Parts.{Parts}
 
 -- what holds of the content of a section, where it is known
@@ -25,6 +25,7 @@ pub record ArePartsOf (file : TreeFile) (parts : Parts) : Type 0 where
   pub second_fits : FitsIfKnown parts.second_hull parts.second_fits
   pub models : parts.models ≡ decoded_models file
   pub models_ascend : IfKnown parts.models (AscendByEntity 0)
+  pub faces : parts.faces ≡ decoded_faces file
 
 -- the hull of a number
 abbrev pub hull_in : Parts → ℕ → DecodedSection TreeFile

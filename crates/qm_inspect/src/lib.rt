@@ -2,6 +2,8 @@
 #![tactic(auto)]
 
 mod asking;
+mod face_lines;
+mod faces;
 mod hulls;
 mod laws;
 mod model_lines;
@@ -14,6 +16,7 @@ mod printing;
 mod room;
 mod row_places;
 mod rows;
+mod six_decimals;
 mod telling;
 mod trace_lines;
 mod traces;

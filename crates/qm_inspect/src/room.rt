@@ -13,6 +13,7 @@ use itoa::Buffer;
 use qm_answers::{Answer, DecodedSection};
 use qm_bits::BitRow;
 use qm_commands::Query;
+use qm_face_file::FaceRecord;
 use qm_file::TreeFile;
 use qm_lists::Items;
 use qm_model_file::BrushModel;
@@ -25,6 +26,9 @@ const KIND: usize = 11;
 
 /// The most bytes of the number of a leaf and the space before it.
 const LEAF: usize = 21;
+
+/// The most bytes of a corner inside the world's cube and the space before it.
+const CORNER: usize = 45;
 
 /// Room for the lines of the answers to all queries.
 pub(crate) fn room_for_lines(
@@ -52,6 +56,7 @@ fn room_for_line(file: &TreeFile, parts: &Parts, answer: &Answer) -> usize
 {
     let list = match *answer {
         Answer::Model(entity) => room_for_leaves(&parts.models, entity),
+        Answer::Face(n) => room_for_corners(&parts.faces, n),
         Answer::Row(n) => room_for_row(file, n),
         Answer::Parts => file.sections.as_slice().len().saturating_mul(KIND),
         _ => 0,
@@ -66,6 +71,17 @@ fn room_for_leaves(section: &DecodedSection<Items<BrushModel>>, entity: u64) -> 
     match section {
         DecodedSection::Known(models) => match model_of_entity(models.as_slice(), entity) {
             Some(model) => model.leaves.len().saturating_mul(LEAF),
+            None => 0,
+        },
+        _ => 0,
+    }
+}
+
+/// Room for the corners of the face of a number.
+fn room_for_corners(section: &DecodedSection<Items<FaceRecord>>, n: u64) -> usize {
+    match section {
+        DecodedSection::Known(faces) => match faces.as_slice().get(n as usize) {
+            Some(face) => face.corners.len().saturating_mul(CORNER),
             None => 0,
         },
         _ => 0,

@@ -1,5 +1,5 @@
 -- The models that are read in a compiled file are those of the map.
-use Rattle.std.proofs.Common.{◌≡◌, ◌≤◌, ℕ, Bool, true, false, List, [], ◌∷◌, ◌++◌, length, Option, Some, None, refl, sym, ap, ◌∙◌, subst}
+use Rattle.std.proofs.Common.{◌≡◌, ◌≤◌, ℕ, Bool, true, false, List, [], ◌∷◌, ◌++◌, length, Option, Some, None, refl, sym, ap, ◌∙◌, subst, arith}
 use Rattle.std.specs.Prelude.{IsTrue}
 use Rattle.qm_space.specs.Bounds.{world_extent}
 use Rattle.qm_mapfile.specs.declared.entity.MapFile.{MapFile}
@@ -12,27 +12,25 @@ use Rattle.qm_answers.specs.declared.decoded_section.DecodedSection.{DecodedSect
 use Rattle.qm_answers.specs.declared.decoded_section.DecodedSection.TheVariants.{Known}
 use Rattle.qm_answers.specs.DecodedSections.{section_bytes, numbered_count, if_decoded, decoded_by, known_if_read, kind_of_models, decoded_models}
 use Rattle.qm_commands.specs.declared.options.Options.{Options}
-use Rattle.qm_statement.specs.AskedSections.{AreHullsAsAsked, IsModelSection, AreModelsAsAsked, AreSectionsAsked}
+use Rattle.qm_statement.specs.AskedSections.{IsModelSection, AreModelsAsAsked, AreSectionsAsked}
+use Rattle.qm_statement.proofs.SectionsOfKinds.{past_hulls, past_faces}
 use Rattle.qm_model_files.specs.ReadModels.{AreReadModels, HasModels}
 
 module _ (map : MapFile) where
-  -- no hull has the kind of the models
-  behind_hulls : (asked : Bool) (hulls rest : List Section) → AreHullsAsAsked asked map hulls → section_bytes (hulls ++ rest) kind_of_models ≡ section_bytes rest kind_of_models
-  behind_hulls true hulls rest both =
-      ap (λ (s : List Section). section_bytes (s ++ rest) kind_of_models) both.are_both ∙ passed both.first both.second both.is_first.kind_is both.is_second.kind_is
-    where
-      passed : (first second : Section) → first.kind ≡ 1 → second.kind ≡ 2 → section_bytes (first ∷ second ∷ rest) kind_of_models ≡ section_bytes rest kind_of_models
-      passed first second is_first is_second = rw (is_first, is_second) refl
-  behind_hulls false hulls rest none = ap (λ (s : List Section). section_bytes (s ++ rest) kind_of_models) none
-
   module _ (options : Options) (file : TreeFile) (asked : AreSectionsAsked map file.tree options file.sections) (bound : file.bound ≡ world_extent) where
-    found_behind : section_bytes file.sections kind_of_models ≡ section_bytes asked.models kind_of_models
-    found_behind = ap (λ (s : List Section). section_bytes s kind_of_models) asked.are_all ∙ behind_hulls options.hulls asked.hulls asked.models asked.are_hulls
+    found_behind : section_bytes file.sections kind_of_models ≡ section_bytes (asked.models ++ asked.faces) kind_of_models
+    found_behind =
+        ap (λ (s : List Section). section_bytes s kind_of_models) asked.are_all
+        ∙ past_hulls map (asked.models ++ asked.faces) kind_of_models options.hulls asked.hulls (omega arith) asked.are_hulls
+
+    -- no face has their kind
+    none_behind : section_bytes asked.faces kind_of_models ≡ None
+    none_behind = past_faces map file.tree kind_of_models options.faces asked.faces (λ same. omega (arith, same)) asked.are_faces
 
     -- the section of the models
     module _ (section : Section) (is : IsModelSection map file.tree section) (alone : asked.models ≡ section ∷ []) where
       has_bytes : section_bytes file.sections kind_of_models ≡ Some section.bytes
-      has_bytes = found_behind ∙ ap (λ (s : List Section). section_bytes s kind_of_models) alone ∙ (rw is.kind_is refl)
+      has_bytes = found_behind ∙ ap (λ (s : List Section). section_bytes (s ++ asked.faces) kind_of_models) alone ∙ (rw is.kind_is refl)
 
       is_decoded : length section.bytes ≤ file_limit → decoded_models file ≡ Known is.models
       is_decoded fits =
@@ -64,7 +62,7 @@ module _ (map : MapFile) where
     kept_as_asked : (models_asked : Bool) (models : List BrushModel) → AreModelsAsAsked models_asked map file.tree asked.models → AreReadModels file models → AreBrushModelsOf map file.tree models
     kept_as_asked true models alone read = own_models alone.section alone.is_section alone.are_alone models read
     kept_as_asked false models none read = absurd (
-        let missing : ◌≡◌ {A = Option (List ℕ)} None (Some read.bytes) = sym (found_behind ∙ ap (λ (s : List Section). section_bytes s kind_of_models) none) ∙ read.has_bytes.there in cc
+        let missing : ◌≡◌ {A = Option (List ℕ)} None (Some read.bytes) = sym (found_behind ∙ ap (λ (s : List Section). section_bytes (s ++ asked.faces) kind_of_models) none ∙ none_behind) ∙ read.has_bytes.there in cc
         )
 
     pub models_there : IsTrue options.models → HasModels file

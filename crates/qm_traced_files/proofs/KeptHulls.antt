@@ -1,8 +1,7 @@
 -- A hull that is read in a section of a compiled file is the map's hull for its box.
-use Rattle.std.proofs.Common.{◌≡◌, ℕ, zero, suc, Bool, true, false, List, [], ◌∷◌, ◌++◌, Option, Some, None, refl, sym, ap, ◌∙◌, subst}
+use Rattle.std.proofs.Common.{◌≡◌, ◌≤◌, ℕ, zero, suc, Bool, true, false, List, [], ◌∷◌, ◌++◌, Option, Some, None, refl, sym, ◌∙◌, subst, arith}
 use Rattle.qm_space.specs.Bounds.{world_extent}
 use Rattle.qm_mapfile.specs.declared.entity.MapFile.{MapFile}
-use Rattle.qm_partition.specs.Tree.{Tree}
 use Rattle.qm_formats.specs.Fields.{AreBytes}
 use Rattle.qm_formats.specs.TreeFile.{Section, TreeFile, AreSections, IsValidFile}
 use Rattle.qm_plain.specs.PlainFile.{read_plain}
@@ -13,11 +12,17 @@ use Rattle.qm_answers.specs.declared.decoded_section.DecodedSection.{DecodedSect
 use Rattle.qm_answers.specs.declared.decoded_section.DecodedSection.TheVariants.{Missing, Known}
 use Rattle.qm_answers.specs.DecodedSections.{section_bytes, known_if_read, decoded_by, kind_of_hull, decoded_hull}
 use Rattle.qm_commands.specs.declared.options.Options.{Options}
-use Rattle.qm_statement.specs.AskedSections.{IsHullSection, AreHullsAsAsked, AreModelsAsAsked, AreSectionsAsked}
+use Rattle.qm_statement.specs.AskedSections.{IsHullSection, AreHullsAsAsked, AreSectionsAsked}
+use Rattle.qm_statement.proofs.SectionsOfKinds.{past_models, past_faces}
 
 known_from : (read : Option TreeFile) (found : TreeFile) → ◌≡◌ {A = DecodedSection TreeFile} (known_if_read read) (Known found) → read ≡ Some found
 known_from None found known = absurd cc
 known_from (Some other) found known = cc
+
+few_kinds : (hull : ℕ) → kind_of_hull hull ≤ 2
+few_kinds zero = omega arith
+few_kinds (suc zero) = omega arith
+few_kinds (suc (suc n)) = omega arith
 
 module _ (map : MapFile) where
   -- what is read in the bytes of a hull is that hull
@@ -47,33 +52,27 @@ module _ (map : MapFile) where
     of_both (suc zero) decoded = hull_of_section 1 first (section_bytes (first ∷ second ∷ rest) 1) found is_first are.0.are_bytes first_there decoded
     of_both (suc (suc n)) decoded = hull_of_section 2 second (section_bytes (first ∷ second ∷ rest) 2) found is_second are.1.0.are_bytes second_there decoded
 
-  module _ (world : Tree) (models_asked : Bool) (models : List Section) (are_models : AreModelsAsAsked models_asked map world models) where
-    -- no section of models has the kind of a hull
-    no_hull : (hull : ℕ) → section_bytes models (kind_of_hull hull) ≡ None
-    no_hull hull = by_option models_asked are_models
-      where
-        not_three : (section : Section) (n : ℕ) → section.kind ≡ 3 → section_bytes (section ∷ []) (kind_of_hull n) ≡ None
-        not_three section zero is = rw is refl
-        not_three section (suc zero) is = rw is refl
-        not_three section (suc (suc n)) is = rw is refl
-
-        by_option : (asked : Bool) → AreModelsAsAsked asked map world models → section_bytes models (kind_of_hull hull) ≡ None
-        by_option true alone = ap (λ (s : List Section). section_bytes s (kind_of_hull hull)) alone.are_alone ∙ not_three alone.section hull alone.is_section.kind_is
-        by_option false none = ap (λ (s : List Section). section_bytes s (kind_of_hull hull)) none
-
-    as_asked : (asked : Bool) (hulls : List Section) (hull : ℕ) (found : TreeFile) → AreHullsAsAsked asked map hulls → AreSections (hulls ++ models) →
-        decoded_by (read_plain world_extent) (section_bytes (hulls ++ models) (kind_of_hull hull)) ≡ Known found → IsHull map (hull_box hull) found
+  -- behind both hulls stand others, of which none has the kind of a hull
+  module _ (later : List Section) (no_hull : (hull : ℕ) → section_bytes later (kind_of_hull hull) ≡ None) where
+    as_asked : (asked : Bool) (hulls : List Section) (hull : ℕ) (found : TreeFile) → AreHullsAsAsked asked map hulls → AreSections (hulls ++ later) →
+        decoded_by (read_plain world_extent) (section_bytes (hulls ++ later) (kind_of_hull hull)) ≡ Known found → IsHull map (hull_box hull) found
     as_asked true hulls hull found both are decoded =
-        of_both both.first both.second models both.is_first both.is_second (subst (λ (s : List Section). AreSections (s ++ models)) both.are_both are) found hull
-        (subst (λ (s : List Section). decoded_by (read_plain world_extent) (section_bytes (s ++ models) (kind_of_hull hull)) ≡ Known found) both.are_both decoded)
+        of_both both.first both.second later both.is_first both.is_second (subst (λ (s : List Section). AreSections (s ++ later)) both.are_both are) found hull
+        (subst (λ (s : List Section). decoded_by (read_plain world_extent) (section_bytes (s ++ later) (kind_of_hull hull)) ≡ Known found) both.are_both decoded)
     as_asked false hulls hull found no_hulls are decoded = absurd (
-        let beside = subst (λ (s : List Section). decoded_by (read_plain world_extent) (section_bytes (s ++ models) (kind_of_hull hull)) ≡ Known found) no_hulls decoded in
+        let beside = subst (λ (s : List Section). decoded_by (read_plain world_extent) (section_bytes (s ++ later) (kind_of_hull hull)) ≡ Known found) no_hulls decoded in
         let missing : ◌≡◌ {A = DecodedSection TreeFile} Missing (Known found) = subst (λ (b : Option (List ℕ)). decoded_by (read_plain world_extent) b ≡ Known found) (no_hull hull) beside in cc
         )
+
+  -- no section of models or of faces has the kind of a hull
+  no_later : (options : Options) (file : TreeFile) (asked : AreSectionsAsked map file.tree options file.sections) (hull : ℕ) → section_bytes (asked.models ++ asked.faces) (kind_of_hull hull) ≡ None
+  no_later options file asked hull =
+      past_models map asked.faces (kind_of_hull hull) file.tree options.models asked.models (λ same. omega (arith, few_kinds hull, same)) asked.are_models
+      ∙ past_faces map file.tree (kind_of_hull hull) options.faces asked.faces (λ same. omega (arith, few_kinds hull, same)) asked.are_faces
 
   pub kept_hull : (options : Options) (file : TreeFile) (hull : ℕ) (found : TreeFile) → AreSectionsAsked map file.tree options file.sections → file.bound ≡ world_extent → IsValidFile file →
       decoded_hull file hull ≡ Known found → IsHull map (hull_box hull) found
   kept_hull options file hull found asked bound valid decoded =
       let here = subst (λ (n : ℕ). decoded_by (read_plain n) (section_bytes file.sections (kind_of_hull hull)) ≡ Known found) bound decoded in
-      as_asked file.tree options.models asked.models asked.are_models options.hulls asked.hulls hull found asked.are_hulls (subst AreSections asked.are_all valid.sections)
+      as_asked (asked.models ++ asked.faces) (no_later options file asked) options.hulls asked.hulls hull found asked.are_hulls (subst AreSections asked.are_all valid.sections)
       (subst (λ (s : List Section). decoded_by (read_plain world_extent) (section_bytes s (kind_of_hull hull)) ≡ Known found) asked.are_all here)

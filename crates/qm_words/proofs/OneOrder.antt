@@ -6,7 +6,7 @@ use Rattle.qm_commands.specs.declared.options.Options.{Options}
 use Rattle.qm_commands.specs.declared.map_command.MapCommand.TheVariants.{Compile, Format}
 use Rattle.qm_commands.specs.declared.millionths.Millionths.{Millionths}
 use Rattle.qm_commands.specs.declared.query.Query.{Query}
-use Rattle.qm_commands.specs.declared.query.Query.TheVariants.{Count, At, Hull, Trace, HullTrace, Model, ModelAt, Row, Sees, Parts}
+use Rattle.qm_commands.specs.declared.query.Query.TheVariants.{Count, At, Hull, Trace, HullTrace, Model, ModelAt, Faces, Face, Row, Sees, Parts}
 use Rattle.qm_commands.specs.CompileRequest.{Request, Asks, no_request}
 use Rattle.qm_commands.specs.CompileWords.{AreCompileWords}
 use Rattle.qm_commands.specs.DemoWords.{AreDemoWords}
@@ -22,7 +22,7 @@ use Rattle.qm_words.specs.inner.PlacesRead.{HasNoComma, IsCommaSplit}
 use Rattle.qm_words.proofs.Commas.{clear_decimal, clear_text, splits_once}
 use Rattle.qm_words.proofs.CompileWhole.{asked_once}
 use Rattle.qm_words.proofs.PlaceLaws.{ends_once, place_once}
-use Rattle.qm_words.proofs.QueryLaws.{fits, only_count, only_hull, only_hull_trace, only_model, only_parts, only_place, only_row, only_sees, only_trace}
+use Rattle.qm_words.proofs.QueryLaws.{fits, only_count, only_face, only_faces, only_hull, only_hull_trace, only_model, only_parts, only_place, only_row, only_sees, only_trace}
 use Rattle.qm_words.proofs.SingleWords.{verbs_apart}
 
 two_same : (a b c d : List ℕ) → a ∷ b ∷ [] ≡ c ∷ d ∷ [] → (a ≡ c) × (b ≡ d)
@@ -50,8 +50,9 @@ compile_once words options other listed other_listed files other_files one two =
     let fast = two.is_fast ∙ ap (λ (r : Request). r.fast) same ∙ sym one.is_fast in
     let hulls = two.are_hulls ∙ ap (λ (r : Request). r.hulls) same ∙ sym one.are_hulls in
     let models = two.are_models ∙ ap (λ (r : Request). r.models) same ∙ sym one.are_models in
+    let faces = two.are_faces ∙ ap (λ (r : Request). r.faces) same ∙ sym one.are_faces in
     let threads = threads_same one.asked.threads other.threads options.threads (subst (λ (t : Option (List ℕ)). AreThreads t other.threads) (ap (λ (r : Request). r.threads) same) two.are_threads) one.are_threads in
-    λ i. of_map (Compile (record { threads = threads i; fast = fast i; hulls = hulls i; models = models i }) (lists i)) (record { map_name = names.0 i; out_name = names.1 i; listing_name = listing i })
+    λ i. of_map (Compile (record { threads = threads i; fast = fast i; hulls = hulls i; models = models i; faces = faces i }) (lists i)) (record { map_name = names.0 i; out_name = names.1 i; listing_name = listing i })
 
 -- ---- `format`
 
@@ -124,6 +125,9 @@ model_at_only entity numbers x y z short place query is = only_model text query 
     split : IsCommaSplit text (decimal entity) numbers
     split = record { text_is = append_assoc (decimal entity) (44 ∷ []) numbers; clear = clear_decimal entity (fits entity short) }
 
+face_only : (n : ℕ) → IsShort n → (query : Query) → IsQueryWord (codes "face=" ++ decimal n) query → query ≡ Face n
+face_only n short query is = only_face (decimal n) query (λ q. q ≡ Face n) (λ m same also. ap (λ (k : ℕ). Face k) (short_same m n also short (sym same))) is
+
 row_only : (n : ℕ) → IsShort n → (query : Query) → IsQueryWord (codes "row=" ++ decimal n) query → query ≡ Row n
 row_only n short query is = only_row (decimal n) query (λ q. q ≡ Row n) (λ m same also. ap (λ (k : ℕ). Row k) (short_same m n also short (sym same))) is
 
@@ -140,6 +144,8 @@ query_once word (Trace from to) other is also = trace_only is.numbers from to is
 query_once word (HullTrace hull from to) other is also = hull_trace_only hull is.1.numbers from to is.0 is.1.are_ends other (subst (λ (w : List ℕ). IsQueryWord w other) is.1.word_is also)
 query_once word (Model entity) other is also = model_only entity is.1 other (subst (λ (w : List ℕ). IsQueryWord w other) is.0 also)
 query_once word (ModelAt entity x y z) other is also = model_at_only entity is.1.numbers x y z is.0 is.1.are_numbers other (subst (λ (w : List ℕ). IsQueryWord w other) is.1.word_is also)
+query_once word Faces other is also = only_faces other (subst (λ (w : List ℕ). IsQueryWord w other) is also)
+query_once word (Face n) other is also = face_only n is.1 other (subst (λ (w : List ℕ). IsQueryWord w other) is.0 also)
 query_once word (Row n) other is also = row_only n is.1 other (subst (λ (w : List ℕ). IsQueryWord w other) is.0 also)
 query_once word (Sees n m) other is also = sees_only n m is.1 is.2 other (subst (λ (w : List ℕ). IsQueryWord w other) is.0 also)
 query_once word Parts other is also = only_parts other (subst (λ (w : List ℕ). IsQueryWord w other) is also)

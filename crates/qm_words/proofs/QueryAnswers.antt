@@ -7,11 +7,11 @@ use Rattle.std.proofs.lemmas.List.{take_more}
 use Rattle.qm_commands.specs.QueryWord.{AreEndNumbers, ArePlaceNumbers, AreQueryWords, IsHullNumber, IsQueryWord, IsShort, hull_name, hull_trace_name}
 use Rattle.qm_commands.specs.declared.millionths.Millionths.{Millionths}
 use Rattle.qm_commands.specs.declared.query.Query.{Query}
-use Rattle.qm_commands.specs.declared.query.Query.TheVariants.{At, Hull, Trace, HullTrace, Model, ModelAt, Row, Sees}
+use Rattle.qm_commands.specs.declared.query.Query.TheVariants.{At, Hull, Trace, HullTrace, Model, ModelAt, Face, Row, Sees}
 use Rattle.qm_words.specs.SeenWords.{bytes_of_words}
 use Rattle.qm_words.specs.inner.PlacesRead.{HasNoComma, IsCommaSplit}
 use Rattle.qm_words.proofs.Commas.{clear_decimal, clear_text, no_split, split_found, splits_once}
-use Rattle.qm_words.proofs.QueryLaws.{fits, has_query, one_behind, only_hull, only_hull_trace, only_model, only_place, only_row, only_sees, only_trace}
+use Rattle.qm_words.proofs.QueryLaws.{fits, has_query, one_behind, only_face, only_hull, only_hull_trace, only_model, only_place, only_row, only_sees, only_trace}
 
 -- ---- the first comma
 
@@ -90,6 +90,14 @@ module _ (text first numbers : List ℕ) (split : IsCommaSplit text first number
       are_numbers = are;
     },
   )
+
+-- ---- faces
+
+pub no_face : (text : List ℕ) → ((n : ℕ) → IsShort n → text ≡ decimal n → ⊥) → (query : Query) → IsQueryWord (codes "face=" ++ text) query → ⊥
+no_face text never query is = only_face text query (λ _. ⊥) (λ n same short. never n short same) is
+
+pub face_is : (text : List ℕ) (n : ℕ) → text ≡ decimal n → IsShort n → IsQueryWord (codes "face=" ++ text) (Face n)
+face_is text n same short = (ap (λ (t : List ℕ). codes "face=" ++ t) same, short)
 
 -- ---- leaves
 

@@ -63,6 +63,7 @@ fn named_order<'a>(
             fast: has_flag(matches, "fast"),
             hulls: has_flag(matches, "hulls"),
             models: has_flag(matches, "models"),
+            faces: has_flag(matches, "faces"),
         }),
     }
 }

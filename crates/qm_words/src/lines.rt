@@ -99,7 +99,8 @@ fn compile_command<'a>(alloc: Global) -> Result<Command<'a>, AllocError>
     let shared = with_arg(alloc, listed, ArgKind::Value, "threads");
     let coarse = with_arg(alloc, shared, ArgKind::Flag, "fast");
     let hulled = with_arg(alloc, coarse, ArgKind::Flag, "hulls");
-    with_arg(alloc, hulled, ArgKind::Flag, "models")
+    let modelled = with_arg(alloc, hulled, ArgKind::Flag, "models");
+    with_arg(alloc, modelled, ArgKind::Flag, "faces")
 }
 
 /// `inspect TREE QUERY..`.

@@ -16,6 +16,7 @@ pub enum Order<'a> {
         fast: bool,
         hulls: bool,
         models: bool,
+        faces: bool,
     },
     /// Answers from a tree file.
     Inspect {

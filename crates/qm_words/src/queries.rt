@@ -12,7 +12,7 @@ use crate::places::{at_comma, ends, place};
 use qm_commands::{Millionths, Query};
 use std::alloc::Global;
 
-/// The number of a leaf or of an entity is below it, so it has at most 18 digits.
+/// The number of a leaf, of an entity or of a face is below it, so it has at most 18 digits.
 const SHORT_NUMBERS: u64 = 1_000_000_000_000_000_000;
 
 /// The queries of words, one by one.
@@ -38,6 +38,7 @@ fn query(word: &str) -> Option<Query>
     match word {
         "count" => Some(Query::Count),
         "parts" => Some(Query::Parts),
+        "faces" => Some(Query::Faces),
         _ => query_behind(word),
     }
 }
@@ -46,6 +47,7 @@ fn query(word: &str) -> Option<Query>
 fn query_behind(word: &str) -> Option<Query>
     requires no_count { word.now ≢ codes "count" }
     requires no_parts { word.now ≢ codes "parts" }
+    requires no_faces { word.now ≢ codes "faces" }
     ensures some { IfSome result (λ query. IsQueryWord word.now query) }
     ensures none { IfNone result ((query : SeenQuery) → IsQueryWord word.now query → ⊥) }
 {
@@ -69,6 +71,9 @@ fn query_behind(word: &str) -> Option<Query>
     }
     if let Some(text) = word.strip_prefix("model=") {
         return model(text);
+    }
+    if let Some(text) = word.strip_prefix("face=") {
+        return face(text);
     }
     if let Some(text) = word.strip_prefix("row=") {
         return row(text);
@@ -131,6 +136,15 @@ fn model(text: &str) -> Option<Query>
     Some(Query::ModelAt { entity, x, y, z })
 }
 
+/// The query `face=` with what stands behind it.
+fn face(text: &str) -> Option<Query>
+    ensures some { IfSome result (λ query. IsQueryWord (codes "face=" ++ text.now) query) }
+    ensures none { IfNone result ((query : SeenQuery) → IsQueryWord (codes "face=" ++ text.now) query → ⊥) }
+{
+    let number = short_number(text)?;
+    Some(Query::Face(number))
+}
+
 /// The query `row=` with what stands behind it.
 fn row(text: &str) -> Option<Query>
     ensures some { IfSome result (λ query. IsQueryWord (codes "row=" ++ text.now) query) }
@@ -151,7 +165,7 @@ fn sees(text: &str) -> Option<Query>
     Some(Query::Sees(from, to))
 }
 
-/// The number of a leaf or of an entity, with at most 18 digits.
+/// The number of a leaf, of an entity or of a face, with at most 18 digits.
 fn short_number(text: &str) -> Option<u64>
     ensures some { IfSome result (λ n. (text.now ≡ decimal n) × IsShort n) }
     ensures none { IfNone result ((n : ℕ) → IsShort n → text.now ≡ decimal n → ⊥) }

@@ -54,6 +54,7 @@ fn is_flag(word: &str) -> bool
         "--fast" => true,
         "--hulls" => true,
         "--models" => true,
+        "--faces" => true,
         _ => false,
     }
 }

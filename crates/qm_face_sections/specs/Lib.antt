@@ -1,0 +1,4 @@
+pub mod CutTrees
+pub mod FaceRecords
+pub mod MapFaces
+pub mod FaceBytes
