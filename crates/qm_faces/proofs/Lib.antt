@@ -1,0 +1,4 @@
+pub mod CutParts
+pub mod OwnersFound
+pub mod RowsOfOwners
+pub mod PairsThere

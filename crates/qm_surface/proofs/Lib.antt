@@ -1,0 +1,12 @@
+pub mod OnlyOne
+pub mod Carving
+pub mod Cutters
+pub mod Owners
+pub mod PiecesOfOwners
+pub mod MeetingNodes
+pub mod NearPoints
+pub mod OwnersThere
+pub mod Parts
+pub mod BookEdges
+pub mod Covering
+pub mod SurfaceSamples

@@ -1,0 +1,5 @@
+pub mod Boundary
+pub mod Owner
+pub mod Cutting
+pub mod Surface
+pub mod Covered
