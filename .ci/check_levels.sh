@@ -225,6 +225,19 @@ takes_hulls_of_the_compiler() {
     grep -qx 'hulled.bsp: BSP29, 188 faces, 262 clip nodes, 0 models' "$folder/printed"
 }
 
+# the models that the compiler writes too
+takes_models_of_the_compiler() {
+    local name
+    look world gatehouse.map --out grouped.map
+    [[ $status == 0 ]] || return 1
+    for name in room grouped; do
+        run_program compile $name.map modelled.tree --fast --models
+        [[ $status == 0 ]] || return 1
+        engine_level $name.map modelled.tree modelled.bsp
+        [[ $status == 0 ]] && python3 .ci/check_bsp.py "$folder/$name.map" "$folder/modelled.tree" "$folder/modelled.bsp" || return 1
+    done
+}
+
 refuses_bad_sections() {
     python3 - "$folder" <<'END' || return 1
 import sys
@@ -236,7 +249,7 @@ for name, kind, data in ("bad1", 1, b"QMTREE02"), ("bad3", 3, bytes(5)), ("bad4"
     open(f"{sys.argv[1]}/{name}.tree", "wb").write(made_trees.written(tree._replace(sections=sections)))
 END
     no_level "bad1.tree is no tree file for a level: section 1 has no tree file: short at byte 8" cube.map bad1.tree kept.bsp || return 1
-    no_level "bad3.tree is no tree file for a level: section 3 goes on too long" cube.map bad3.tree kept.bsp || return 1
+    no_level "bad3.tree is no tree file for a level: section 3 has no brush models: trailing at byte 4" cube.map bad3.tree kept.bsp || return 1
     no_level "bad4.tree is no tree file for a level: section 4 has a piece that is none" cube.map bad4.tree kept.bsp
 }
 
@@ -245,3 +258,4 @@ check "levels: none is made of the wrong tree, of files that are none, and over 
 check "levels: textures come from WADs, or are made, and a dark level has no light" takes_textures
 check "levels: sections of a tree file are used, and bad ones refused" takes_sections
 check "levels: clip hulls that the compiler writes are used" takes_hulls_of_the_compiler
+check "levels: brush models that the compiler writes are used" takes_models_of_the_compiler

@@ -74,13 +74,26 @@ def drawn_of(tree, seen, leaf):
     return [surface for surface in seen[leaf].surfaces if colours.kind(own, surface.beyond)] if leaf in seen else []
 
 
+def shape_of(model):
+    """The surfaces of a brush model that are drawn."""
+    found = surfaces.seen(model.tree)
+    return [surface for leaf in sorted(found) for surface in drawn_of(model.tree, found, leaf)]
+
+
+def models_of(tree):
+    """The brush models of a tree, or None."""
+    return tree.models() if any(section.kind == treefile.MODELS for section in tree.sections) else None
+
+
 def faults_of_text(text, tree, seen):
     """What is wrong with what a page holds."""
     if re.search(r"https?:|\bsrc=|\bhref=|@import|fetch\(|XMLHttp|\bimport\b", text):
         yield "it asks for something from elsewhere"
     level = level_of(text)
     drawn = [drawn_of(tree, seen, leaf) for leaf in range(len(tree.leaves))]
-    polygons = [surface.polygon for those in drawn for surface in those]
+    models = models_of(tree)
+    shapes = list(map(shape_of, models or ()))
+    polygons = [surface.polygon for those in (*drawn, *shapes) for surface in those]
     floats = list(array("f", (number for polygon in polygons for corner in polygon for number in corners.rounded(corner))))
     kept = list_of("f", level["corners"])
     wanted = {
@@ -91,6 +104,10 @@ def faults_of_text(text, tree, seen):
         "lengths": ("H", list(map(len, polygons))),
         "touched": ("I", [other for leaf in sorted(seen) for other in sorted(seen[leaf].touched)]),
     }
+    told = level["models"] and [{part: its for part, its in model.items() if part != "told"} for model in level["models"]]
+    if told != (models and [{"box": [*model.low, *model.high], "leaves": model.leaves, "surfaces": len(shape)}
+                            for model, shape in zip(models, shapes)]):
+        yield "its brush models are not those of the tree"
     if level["bound"] != tree.bound:
         yield "its bound is not that of the tree"
     for part, (layout, numbers) in wanted.items():

@@ -479,7 +479,7 @@ END
 
 # words that are not UTF-8 or empty, 100,000 words, and words nearly as long as the system hands on
 answers_words_of_any_length() {
-    local bad call zeros ones usage='usage: qmapc compile MAP OUT [--prt FILE] [--threads N] [--fast] [--hulls] | inspect TREE QUERY.. | format MAP OUT | demo N NUMBER | upgrade TREE OUT\n'
+    local bad call zeros ones usage='usage: qmapc compile MAP OUT [--prt FILE] [--threads N] [--fast] [--hulls] [--models] [--faces] | inspect TREE QUERY.. | format MAP OUT | demo N NUMBER | upgrade TREE OUT\n'
     local -a words
     for bad in $'\xff' ''; do
         for call in 'inspect BAD count' 'inspect room.tree BAD' 'inspect room.tree count BAD' 'demo BAD 7' 'demo 8 BAD' 'BAD' \

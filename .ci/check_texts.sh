@@ -73,6 +73,7 @@ check "README.md has at most 800 words" has_a_short_readme
 check "pages for users hold no words of the workshop" speaks_to_users
 check "docs/ARCHITECTURE.md has each crate with what it stands on" python3 .ci/check_crates.py
 check "docs/PROOF.md has the definitions in reading order" python3 .ci/reading_order.py
+check "docs/THEOREM.md has the lines of each claim" python3 .ci/theorem_lines.py
 check "each name has one meaning" python3 .ci/check_names.py
 check "docs/GATE.md has what each crate costs" python3 .ci/gate_table.py
 check "each file that a page names is there" python3 .ci/check_links.py

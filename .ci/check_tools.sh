@@ -168,6 +168,42 @@ END
     looked && cmp "$folder/printed" docs/courtyard_hull.svg
 }
 
+# a door whose box reaches over the height, one that does not, and which a row sees
+# shellcheck disable=SC2016  # what is said has backquotes
+shows_brush_models_in_a_slice() {
+    bench/made_doors.py 8 >"$folder/doors.map" || return 1
+    run_program compile doors.map doors.tree --models
+    [[ $status == 0 ]] || return 1
+    look plan doors.tree --models --z 32
+    looked && [[ $(grep -c '^<g><title>entity [0-9]*, .*<path class="model"' "$folder/printed") == 6 ]] || return 1
+    look plan doors.tree --models --z 4 --map doors.map
+    looked && [[ $(grep -c '^<g><title>func_door room[0-9], entity' "$folder/printed") == 6 ]] || return 1
+    [[ $(grep -o '<title>func_plat [^<]*' "$folder/printed") == '<title>func_plat room5, entity 7, 88,-24,0 to 120,8,8, 1 leaf
+<title>func_plat room7, entity 9, -24,88,0 to 8,120,8, 1 leaf' ]] || return 1
+    look plan doors.tree --models --z 32 --row 19
+    (cd "$folder" && python3 - "$top" <<'END') || return 1
+import re, sys
+sys.path.insert(0, sys.argv[1] + "/tools")
+import treefile
+tree, text = treefile.load("doors.tree"), open("printed").read()
+told = {int(entity): pale for pale, entity in re.findall(r"<g( opacity=\S+)?><title>entity (\d+), ", text)}
+wanted = {model.entity: not tree.is_drawn(model, 19) for model in tree.models() if model.high[2] >= 32}
+sys.exit(told.keys() != wanted.keys() or any(bool(told[entity]) != pale for entity, pale in wanted.items()) or len(set(wanted.values())) < 2)
+END
+    look plan rooms.tree --models
+    refused 'rooms.tree has no brush models: `qmapc compile --models` writes them, but not of a level that leaks'
+}
+
+tells_of_doors_as_the_page_shows() {
+    local words='inspect room.tree model=2 model=2,32,32,32 model=2,-1,0,0'
+    grep -qxF '    ./qmapc compile samples/room.map room.tree --models' docs/EDITORS.md || return 1
+    mkdir -p "$folder/doors"
+    run_program compile room.map doors/room.tree --models
+    # shellcheck disable=SC2086  # the words of a command
+    run_program ${words/room.tree/doors/room.tree}
+    [[ $status == 0 ]] && page_shows EDITORS.md "$words" | cmp - "$folder/printed"
+}
+
 makes_point_files() {
     local name
     for name in hole courtyard_leak; do
@@ -555,9 +591,16 @@ END
 }
 
 answers_as_the_slow_reader_finds() {
-    run_program compile courtyard.map hulled.tree --fast --hulls
+    run_program compile courtyard.map hulled.tree --fast --hulls --models
     [[ $status == 0 ]] || return 1
-    (cd "$folder" && python3 "$top/.ci/compare_answers.py" "$program" {cube,hole,rooms,rooms8,courtyard,courtyard_leak,hulled}.tree)
+    look world gatehouse.map --out grouped.map
+    run_program compile grouped.map grouped.tree --fast --models
+    [[ $status == 0 ]] || return 1
+    (cd "$folder" && python3 "$top/.ci/compare_answers.py" "$program" {cube,hole,rooms,rooms8,courtyard,courtyard_leak,hulled,grouped}.tree)
+}
+
+finds_models_as_slow_ones_are() {
+    python3 .ci/compare_models.py "$program"
 }
 
 traces_as_the_slow_trace_finds() {
@@ -565,19 +608,31 @@ traces_as_the_slow_trace_finds() {
 }
 
 agrees_with_the_page_on_tree_files() {
-    python3 .ci/check_treefile_page.py "$folder" cube.tree hole.tree rooms.tree courtyard.tree
+    run_program compile room.map door.tree --models --hulls
+    [[ $status == 0 ]] || return 1
+    python3 .ci/check_treefile_page.py "$folder" cube.tree hole.tree rooms.tree courtyard.tree door.tree
+}
+
+loads_tree_files_in_c() {
+    look world gatehouse.map --out grouped.map
+    run_program compile grouped.map gatehouse.tree --fast --models --hulls
+    [[ $status == 0 ]] || return 1
+    python3 .ci/check_qmtree.py "$folder" room.tree courtyard.tree gatehouse.tree
 }
 
 cp samples/*.map "$folder/"
 check "the samples compile, and leak where they should" compiles_the_samples
 check "inspect answers as the slow reader finds" answers_as_the_slow_reader_finds
 check "inspect traces segments as the slow trace finds" traces_as_the_slow_trace_finds
+check "brush models are those that plain slow fractions give" finds_models_as_slow_ones_are
 check "tools: the pictures of the pages are those of the samples" draws_what_the_pages_show
 check "tools: the entities of a map are marked, at a player's height" marks_the_entities
 check "tools: each kind of contents has a fill of its own" draws_each_kind_of_contents
 check "tools: slices agree with their trees, and no texts overlap" draws_slices_that_agree_with_the_tree
 check "tools: a row and the portals of a listing are drawn" draws_rows_and_portals
 check "tools: a clip hull is drawn, and refused where there is none" shows_a_clip_hull
+check "inspect tells of doors as the page shows" tells_of_doors_as_the_page_shows
+check "tools: brush models are drawn, and refused where there are none" shows_brush_models_in_a_slice
 check "tools: point files go through the leaves of their trails alone" makes_point_files
 check "tools: a tree as JSON has all of its file" prints_a_tree_as_json
 check "tools: both versions of a tree file are shown, and a larger world" shows_both_versions_and_both_worlds
@@ -593,4 +648,5 @@ check "tools: a text that is no map is refused" says_what_is_no_map
 check "tools: faces are listed as the program refuses them, and what is named instead is taken" lists_faces_as_the_program_refuses_them
 check "tools: all faces that are refused are listed" lists_all_faces
 check "tools: points that are near enough give no plane that is too fine" finds_no_plane_too_fine_near_by
-check_fully "tools: the C of docs/TREEFILE.md finds leaves and rows" agrees_with_the_page_on_tree_files
+check_fully "tools: the C of docs/TREEFILE.md finds leaves, rows, hulls and models" agrees_with_the_page_on_tree_files
+check_fully "tools: docs/qmtree.h finds in tree files, damaged ones too, what the slow reader finds" loads_tree_files_in_c

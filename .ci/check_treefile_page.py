@@ -1,12 +1,12 @@
 #!/usr/bin/env python3
 """Takes the pieces of C from docs/TREEFILE.md, compiles them as one program, and compares what it prints with what
-`tools/treefile.py` reads: the leaves of points, rows, sections, clip hulls and what is met on segments. And the bytes that the page shows are those of a world without
-brushes.
+`tools/treefile.py` reads: the leaves of points, rows, clip hulls, what is met on segments, and which models are drawn. And the bytes
+that the page shows are those of a world without brushes, and those with which the models of samples/room.map begin.
 
     .ci/check_treefile_page.py FOLDER TREE..
 
-The trees are files of FOLDER, as the compiler wrote them; they get rows by chance and are written in version 1 too, and so are
-trees that are made here."""
+The trees are files of FOLDER, as the compiler wrote them; the models of room.map are in the last one. They get rows by chance and
+are written in version 1 too, and so are trees that are made here."""
 
 from pathlib import Path
 from fractions import Fraction
@@ -17,12 +17,14 @@ import sys
 
 sys.path.insert(0, str(Path(__file__).resolve().parent.parent / "tools"))
 
+from check_qmtree import STRICT, struck
+import made_sections
 from made_trees import CODES, cube, long_tree, random_tree, tree_file, written
 import treefile
 
 PAGE = Path("docs/TREEFILE.md")
-PIECES = 6
-POINTS = 25
+PIECES = 5
+POINTS = 6
 # sections behind those of clip hulls
 SECTIONS = [(7, b""), (2 ** 32 - 1, bytes(300))]
 
@@ -34,14 +36,14 @@ def compiled(folder):
         sys.exit(f"{PAGE} has {len(pieces)} pieces of C, and should have {PIECES}")
     source, program = folder / "look.c", folder / "look"
     source.write_text("\n".join(pieces))
-    subprocess.run(["cc", "-std=c99", "-Wall", "-Wextra", "-Werror", "-O1", "-o", program, source], check=True)
+    subprocess.run(["cc", "-std=c99", "-O1", *STRICT, "-o", program, source], check=True)
     return program
 
 
 def shown():
-    """The bytes that the page shows."""
-    lines = re.findall(r"^    ((?:[0-9A-F]{2} ?)+)", PAGE.read_text(), re.M)
-    return bytes.fromhex(" ".join(lines))
+    """The bytes that the page shows, block by block."""
+    blocks = re.findall(r"(?:^    (?:[0-9A-F]{2}(?: |$))+.*\n)+", PAGE.read_text(), re.M)
+    return [bytes.fromhex(" ".join(re.findall(r"^    ((?:[0-9A-F]{2}(?: |$))+)", block, re.M))) for block in blocks]
 
 
 def with_rows(tree, rng):
@@ -52,32 +54,71 @@ def with_rows(tree, rng):
     return tree._replace(rows=spelled)
 
 
-def with_sections(tree, hulls):
-    """The tree with sections: clip hulls, by their kinds, and others."""
+def with_sections(tree, hulls, rng):
+    """The tree with sections: clip hulls, by their kinds, models where there is a hull, and others."""
     stored = [(kind, written(hull._replace(version=2, bound=tree.bound, rows=None, sections=[]))) for kind, hull in hulls]
+    if hulls and tree.numbered() > 2:
+        models = next(made_sections.model_sections(rng, tree.numbered(), tree.bound))
+        stored.append((treefile.MODELS, models))
     return tree._replace(sections=[treefile.Section(*section) for section in (*stored, *SECTIONS)])
 
 
-def wanted(tree, point):
-    """What the program should print of a point."""
+def wanted(tree, models, hulls, point, end):
+    """What the program should print of a point and another one: texts, and texts with the number behind them."""
     leaf = tree.leaf_at(point)
     what = tree.leaves[leaf]
-    text = f"leaf {leaf} contents {CODES[what.contents]}\n"
-    if tree.rows is not None and what.number is not None:
-        text += " ".join([f"row {what.number}:", *map(str, tree.row(what.number))]) + "\n"
-    text += "".join(f"section {section.kind}: {len(section.data)} bytes\n" for section in tree.sections)
-    hulls = [kind for kind in treefile.HULLS if any(section.kind == kind for section in tree.sections)]
-    return text + "".join(f"hull {kind} {'solid' if tree.hull(kind).is_solid_at(point) else 'empty'}\n" for kind in hulls)
+    yield f"leaf {leaf} contents {CODES[what.contents]}"
+    if models is None:
+        yield "models: no part"
+    own = None if tree.rows is None else what.number
+    held = list(range(tree.numbered())) if own is None else tree.row(own)
+    yield " ".join([f"row {-1 if what.number is None else what.number}:", *map(str, held)])
+    for model in models or ():
+        is_drawn = any(leaf in held for leaf in model.leaves)
+        yield (f"model {model.entity}: {'drawn' if is_drawn else 'not drawn'}, "
+               f"{CODES[model.tree.leaves[model.tree.leaf_at(point)].contents]} there")
+    for kind in treefile.HULLS:
+        if kind in hulls:
+            yield f"hull {kind}: {'solid' if hulls[kind].is_solid_at(point) else 'empty'}, solid at", struck(hulls[kind], point, end)
+        else:
+            yield f"hull {kind}: no part"
 
 
-def struck(tree, first, second):
-    """At which part of a segment something solid is met, or 1."""
-    low = 0
-    for leaf, to in tree.spans(first, second):
-        if tree.leaves[leaf].contents == "solid":
-            return low
-        low = to
-    return low
+def models_of(tree):
+    """The models, or None where the tree has none."""
+    try:
+        return tree.models()
+    except treefile.NoPart:
+        return None
+
+
+def along(tree, point, end):
+    """What the program should print of a segment."""
+    for leaf, to in tree.spans(point, end):
+        yield f"leaf {leaf} contents {CODES[tree.leaves[leaf].contents]} to", to
+
+
+def moved(tree, models, point, way):
+    """The entities of models of which something is seen when they have moved some way, as far as some places in their boxes tell."""
+    own = tree.leaves[tree.leaf_at(point)].number
+    held = None if own is None or tree.rows is None else set(tree.row(own))
+    return {model.entity for model in models or () if any(is_seen(tree, held, place) for place in places_of(model, way))}
+
+
+def is_seen(tree, held, place):
+    """Whether a row that holds these, or None for all, holds the leaf of a place."""
+    number = tree.leaves[tree.leaf_at(place)].number
+    return number is not None and (held is None or number in held)
+
+
+def places_of(model, way):
+    """The corners of a model's box and some places in it, after it has moved."""
+    low, high = ([a + b for a, b in zip(end, way)] for end in (model.low, model.high))
+    parts = (0, Fraction(1, 3), 1)
+    for x in parts:
+        for y in parts:
+            for z in parts:
+                yield tuple(a + part * (b - a) for a, b, part in zip(low, high, (x, y, z)))
 
 
 def place(rng, reach):
@@ -86,33 +127,50 @@ def place(rng, reach):
     return tuple(Fraction(rng.randrange(1 - reach * part, reach * part), part) for part in parts)
 
 
+def fits(lines, due):
+    """Whether lines are texts that are due, or such before a number that is nearly the one that is due."""
+    return len(lines) == len(due) and all(
+        line == text if isinstance(text, str) else line.startswith(text[0] + " ") and abs(float(line.rpartition(" ")[2]) - text[1]) < 1e-8
+        for line, text in zip(lines, due))
+
+
 def fault(program, folder, tree, points):
     """The first point of which the program says something else, or None."""
     (folder / "look.tree").write_bytes(written(tree))
-    for point, end in zip(points, points[1:] + points[:1]):
-        words = [str(float(number)) for number in (*point, *end)]
-        alone, both = (subprocess.run([program, "look.tree", *words[:many]], cwd=folder, capture_output=True, text=True, check=True)
-                       for many in (3, 6))
-        if alone.stdout != wanted(tree, point):
-            return f"of {words[:3]} it prints {alone.stdout!r}, and should print {wanted(tree, point)!r}"
-        met, due = re.fullmatch(re.escape(alone.stdout) + r"solid at ([\d.]+)\n", both.stdout), struck(tree, point, end)
-        if not met or abs(float(met.group(1)) - due) > 1e-8:
-            return f"of {words} it prints {both.stdout!r}, and something solid is met at {float(due)}"
+    models, hulls = models_of(tree), {section.kind: tree.hull(section.kind) for section in tree.sections if section.kind in treefile.HULLS}
+    for point, end, way in zip(points, points[1:] + points[:1], points[2:] + points[:2]):
+        words = [str(float(number)) for number in (*point, *end, *way)]
+        alone, both, more = (subprocess.run([program, "look.tree", *words[:many]], cwd=folder, capture_output=True, text=True,
+                                            check=True).stdout.splitlines() for many in (3, 6, 9))
+        due = list(wanted(tree, models, hulls, point, point))
+        if not fits(alone, due):
+            return f"of {words[:3]} it prints {alone!r}, and should print {due!r}"
+        due = [*wanted(tree, models, hulls, point, end), *along(tree, point, end)]
+        if not fits(both, due):
+            return f"of {words[:6]} it prints {both!r}, and should print {due!r}"
+        told = {int(line.removeprefix("drawn if moved: ")) for line in more[len(both):]}
+        seen = moved(tree, models, point, way)
+        if more[:len(both)] != both or not seen <= told:
+            return f"of {words} it prints {more!r}, and {seen} are drawn if they have moved"
     return None
 
 
 def main():
     folder, rng = Path(sys.argv[1]).resolve(), random.Random(7)
-    if shown() != tree_file([], [], [(-1, 0)], [{0}]):
+    bare, models = shown()
+    if bare != tree_file([], [], [(-1, 0)], [{0}]):
         sys.exit(f"{PAGE}: the bytes are not those of a world without brushes")
     program = compiled(folder)
     read = [treefile.load(folder / name) for name in sys.argv[2:]]
+    room = read[-1].part(treefile.MODELS)
+    if room[:len(models)] != models or len(room) != len(models) + 324:
+        sys.exit(f"{PAGE}: the bytes are not those of the models of samples/room.map")
     trees = read + [with_rows(tree, rng) for tree in read]
     made = [treefile.decode(data) for data in (cube(), random_tree(rng, 60, True, 2, treefile.BOUNDS[-1]), long_tree(3000))]
     trees += made
     trees += [tree._replace(version=1, bound=treefile.BOUNDS[0], sections=[]) for tree in trees]
-    trees += [with_sections(tree, hulls) for tree in made + read
-              for hulls in ([], [(2, made[2])], [(1, rng.choice(made)), (2, rng.choice(read))])]
+    trees += [with_sections(tree, hulls, rng) for tree in made + read
+              for hulls in ([], [(2, made[1])], [(1, rng.choice(made[:2])), (2, rng.choice(read))])]
     for number, tree in enumerate(trees):
         points = [place(rng, rng.choice((600, 2000, tree.bound))) for _ in range(POINTS)]
         found = fault(program, folder, tree, points)

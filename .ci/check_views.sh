@@ -101,6 +101,25 @@ writes_a_page() {
     refused "section 1 of bad.tree is no clip hull: a tree file with rows or sections"
 }
 
+# eight rooms with a door each, of which a row sees some
+shows_brush_models() {
+    bench/made_doors.py 8 >"$folder/doors.map" || return 1
+    run_program compile doors.map doors.tree --models
+    [[ $status == 0 ]] || return 1
+    look view doors.tree --map doors.map
+    looked && cp "$folder/printed" "$folder/doors.html" || return 1
+    python3 .ci/check_pages.py "$folder/doors.html" "$folder/doors.tree" || return 1
+    python3 .ci/check_page_models.py "$folder/doors.html" "$folder/doors.tree" "$folder/doors.map" || return 1
+    # in a level without any, and where the section is none
+    run_program compile courtyard.map none.tree --fast --models
+    look view none.tree
+    looked && grep -q '"models": \[\]' "$folder/printed" || return 1
+    python3 .ci/made_sections.py add "$folder/rooms.tree" "$folder/odd.tree" "3:0:$folder/cube.tree" && look view odd.tree || return 1
+    refused "section 3 of odd.tree has no brush models: form at byte 4" || return 1
+    look plan odd.tree --models
+    refused "section 3 of odd.tree has no brush models: form at byte 4"
+}
+
 # the plan in the corner reaches farther in the hall than in the store, and eight times as far in a level that is eight times as large
 fits_the_plan_to_the_room() {
     look view courtyard.tree --map courtyard.map
@@ -199,6 +218,7 @@ check "views: surfaces fill the borders of solid leaves once" fills_the_borders_
 check "views: slices of a tree whose planes are fractions agree with it" draws_slices_between_whole_heights
 check "views: pictures and rows have what is seen along rays" shows_what_is_seen_along_rays
 check "views: a page holds its tree, and draws it" writes_a_page
+check "views: a page has the brush models of its tree, and lists them" shows_brush_models
 check "views: a page begins at the first player start of the best kind" begins_at_a_start
 check "views: the plan of a page shows the leaves, and fits the room" fits_the_plan_to_the_room
 check "views: words that are no command get the usage line, and status 2" says_how_views_are_used

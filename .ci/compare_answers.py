@@ -4,8 +4,8 @@
     .ci/compare_answers.py PROGRAM TREE..
 
 Of each tree, and of some that are made here, 1,000 queries are asked in one call: places of whole numbers and of decimals, many
-of them on planes of nodes, in the tree and in its clip hulls, segments through these, rows, and whether one leaf sees another. Then short lists of queries, of
-which some are refused.
+of them on planes of nodes, in the tree, in its clip hulls and in its brush models, segments through these, rows, whether one leaf
+sees another, and models. Then short lists of queries, of which some are refused.
 """
 
 from fractions import Fraction
@@ -66,16 +66,31 @@ def part(tree, kind):
         return "bad part"
 
 
+def brush_models(tree):
+    """The brush models by their entities, or why they cannot be asked."""
+    try:
+        return {model.entity: model for model in tree.models()}
+    except treefile.NoPart:
+        return "no part"
+    except treefile.BadPart:
+        return "bad part"
+
+
+def parts(tree):
+    """What the sections of a tree have, by their kinds: clip hulls and brush models, or why these cannot be asked."""
+    return {**{kind: part(tree, kind) for kind in treefile.HULLS}, treefile.MODELS: brush_models(tree)}
+
+
 def hull_query(draw, tree, hulls):
     """A query for a place in a clip hull, often one that is there."""
-    kind = draw.choice([kind for kind, hull in hulls.items() if isinstance(hull, treefile.Tree)] + list(hulls))
+    kind = draw.choice([kind for kind, hull in hulls.items() if isinstance(hull, treefile.Tree)] + list(treefile.HULLS))
     hull = hulls[kind] if isinstance(hulls[kind], treefile.Tree) else tree
     return f"hull={kind}," + place(draw, hull.planes, tree.bound)
 
 
 def trace_query(draw, tree, hulls):
     """A query for a segment through the tree or a clip hull: often along an axis or a plane, and at times one point."""
-    kind = draw.choice([None, None, *hulls])
+    kind = draw.choice([None, None, *treefile.HULLS])
     walked = hulls[kind] if isinstance(hulls.get(kind), treefile.Tree) else tree
     first, second = (place(draw, walked.planes, tree.bound).split(",") for _ in range(2))
     same = draw.choice([(), (), (2,), (0, 1), (1, 2), (0, 1, 2)])
@@ -86,9 +101,20 @@ def trace_query(draw, tree, hulls):
     return ("trace=" if kind is None else f"hulltrace={kind},") + ",".join(first + second)
 
 
+def model_query(draw, tree, models):
+    """A query for a brush model, often one that is there, or for a place in it."""
+    # no word has more than 18 digits
+    near = [entity for entity in models if entity < 10 ** 18] if isinstance(models, dict) else []
+    entity = draw.choice([*near, *near, *near, 0, 1, 2, 10 ** 18 - 1])
+    planes = models[entity].tree.planes if isinstance(models, dict) and entity in models else tree.planes
+    return f"model={entity}" + ("," + place(draw, planes, tree.bound) if draw.random() < 0.7 else "")
+
+
 def query(draw, tree, hulls, below):
     """A query of some sort, with numbers of leaves below another."""
-    kind = draw.randrange(20)
+    kind = draw.randrange(24)
+    if kind >= 20:
+        return model_query(draw, tree, hulls[treefile.MODELS])
     if kind == 0:
         return draw.choice(["count", "parts"])
     if kind < 4:
@@ -114,6 +140,8 @@ def answer(tree, hulls, word):
         return answer_at(tree, point(tree, values))
     if verb == "hull":
         return answer_hull(hulls[int(values[0])], point(tree, values[1:]))
+    if verb == "model":
+        return answer_model(tree, hulls[treefile.MODELS], values)
     if verb == "trace":
         return answer_trace(tree, *ends(tree, values))
     if verb == "hulltrace":
@@ -142,6 +170,19 @@ def answer_hull(hull, place):
     if not isinstance(hull, treefile.Tree):
         raise Refused(hull)
     return "hull solid" if hull.is_solid_at(place) else "hull empty"
+
+
+def answer_model(tree, models, values):
+    """The line of a brush model, or of a point in it."""
+    entity, place = int(values[0]), point(tree, values[1:]) if values[1:] else None
+    if not isinstance(models, dict):
+        raise Refused(models)
+    if entity not in models:
+        raise Refused("no such model")
+    model = models[entity]
+    if place:
+        return f"model {entity} {model.tree.leaves[model.tree.leaf_at(place)].contents}"
+    return " ".join(map(str, ["model", entity, "box", *model.low, *model.high, "leaves", *model.leaves]))
 
 
 def ends(tree, values):
@@ -180,16 +221,21 @@ def due(tree, hulls, words):
     return 0, "".join(lines)
 
 
-def lists(tree, hulls):
-    """The lists of queries to ask."""
+def lists(tree, hulls, short):
+    """The lists of queries to ask, with so many short ones."""
     draw = random.Random(1)
     below = 0 if tree.rows is None else numbered(tree)
     many = (query(draw, tree, hulls, below) for _ in range(2000))
     yield [word for word in many if due(tree, hulls, [word])[0] == 0][:1000]
-    for _ in range(100):
+    for _ in range(short):
         yield [query(draw, tree, hulls, numbered(tree) + 1) for _ in range(draw.randint(1, 6))]
-    for kind in hulls:
-        # that a place is outside goes before that there is no hull, or a bad one
+    # that a place is outside goes before that there is no part, or a bad one, and that before that there is no such model
+    for entity in 1, 2, 77:
+        yield [f"model={entity},0,0,-{tree.bound}"]
+        yield ["count", f"model={entity},{tree.bound},0,0"]
+        yield [f"model={entity},0,0,0", f"model={entity}"]
+        yield [f"model={entity}", "model=0"]
+    for kind in treefile.HULLS:
         yield [f"hull={kind},{tree.bound},0,0"]
         yield [f"hull={kind},0,0,0", f"hull={kind},0,-{tree.bound},0"]
         yield [f"hulltrace={kind},0,0,0,0,{tree.bound},0"]
@@ -212,8 +258,8 @@ def near_tree(draw, count):
 
 def made(folder):
     """The names of trees that are made in a folder: of slanted planes, with rows of which one can lack a leaf whose row has its
-    own, without rows, and with long rows; of both versions, in a large world, and with sections, of which some are clip hulls, and others
-have what a clip hull has not: rows, sections, another version or bound, or something behind."""
+    own, without rows, and with long rows; of both versions, in a large world, and with sections, of which some are clip hulls or brush
+models, and others have what these have not: rows, sections, another version or bound, or something behind."""
     draw = random.Random(2)
     trees = {"slanted": made_trees.random_tree(draw, 90, True), "without": made_trees.random_tree(draw, 90, False),
              "long": made_trees.long_tree(700), "first": made_trees.random_tree(draw, 40, True, 1),
@@ -225,6 +271,9 @@ have what a clip hull has not: rows, sections, another version or bound, or some
         treefile.Section(kind, made_trees.written(hull)) for kind, hull in enumerate(near[1:], 1)]))
     for number, hulls in enumerate(made_sections.hulls(draw)):
         trees[f"hulls{number}"] = made_trees.random_tree(draw, 40, True, 2, treefile.BOUNDS[-1], hulls)
+    base = treefile.decode(made_trees.random_tree(draw, 40, True, 2, treefile.BOUNDS[-1]))
+    for number, data in enumerate(made_sections.model_sections(draw, base.numbered())):
+        trees[f"models{number}"] = made_trees.written(base._replace(sections=[treefile.Section(treefile.MODELS, data)]))
     for name, data in trees.items():
         Path(folder, f"{name}.tree").write_bytes(data)
         yield f"{folder}/{name}.tree"
@@ -233,8 +282,9 @@ have what a clip hull has not: rows, sections, another version or bound, or some
 def faults(program, name):
     """For each list of queries to a tree what is wrong with its answers, or None."""
     tree = treefile.load(name)
-    hulls = {kind: part(tree, kind) for kind in treefile.HULLS}
-    for words in lists(tree, hulls):
+    hulls = parts(tree)
+    # there are many that differ in their models alone
+    for words in lists(tree, hulls, 10 if "models" in Path(name).name else 100):
         ran = subprocess.run([program, "inspect", name, *words], capture_output=True, text=True, check=False)
         found, wanted = (ran.returncode, ran.stdout + ran.stderr), due(tree, hulls, words)
         yield None if found == wanted else f"{name}, asked {words[:6]}: {str(found)[:300]}, and due are {str(wanted)[:300]}"

@@ -5,12 +5,13 @@
 
 Each bit of a small file of both versions is turned; files of other programs, and headers that promise what no file has, are read;
 and larger files are edited by chance, 200 times in all where no number is named: bits turned, bytes put in, left out, doubled, moved
-and cut off, records exchanged, numbers replaced by such as stand at an end of their type. So is a clip hull in a section of a whole
-file: it is cut off at each byte, and each byte is changed, left out and doubled; and larger ones are edited. Each has to end with 0
-and what the slow reader counts, or with 8 and the slow reader's fault and place, or with 9 where the slow reader refuses the hull; and with a peak of memory that is at most `MOST` times as long as the
-file, beside what a run takes that reads an empty one. Where READER is named, the program `file_faults`, listings of portals are
-damaged too, and as many edited, and what `READER read` says of them is compared with what `.ci/slow_listing.py` says. Tree files,
-and listings whose names end with `.prt`, that are named as FILE are edited in place of those that are made here.
+and cut off, records exchanged, numbers replaced by such as stand at an end of their type. So are a clip hull and brush models in a
+section of a whole file: they are cut off at each byte, and each byte is changed, left out and doubled; and larger ones are edited.
+Each has to end with 0 and what the slow reader counts, or with 8 and the slow reader's fault and place, or with 9 where the slow
+reader refuses the section; and with a peak of memory that is at most `MOST` times as long as the file, beside what a run takes that
+reads an empty one. Where READER is named, the program `file_faults`, listings of portals are damaged too, and as many edited, and
+what `READER read` says of them is compared with what `.ci/slow_listing.py` says. Tree files, and listings whose names end with
+`.prt`, that are named as FILE are edited in place of those that are made here.
 `.ci/compare_files.py` does the rest in one run of a program of its own."""
 
 import gzip
@@ -26,7 +27,8 @@ import zlib
 sys.path.insert(0, str(Path(__file__).resolve().parent.parent / "tools"))
 
 import compare_answers  # noqa: E402
-from made_trees import cube, long_tree, random_tree, tree_file  # noqa: E402
+import made_sections  # noqa: E402
+from made_trees import cube, long_tree, random_tree, tree_file, written  # noqa: E402
 import slow_listing  # noqa: E402
 import treefile  # noqa: E402
 
@@ -48,17 +50,20 @@ def due_of_tree(data):
                f"rows {'no' if tree.rows is None else 'yes'}\n")
 
 
-# what is asked of files with clip hulls; of one of these the answer depends on each plane
-ASKED = ["parts", "hull=2,1,1,1", "hull=1,0.5,-20,33"]
+# what is asked of files with clip hulls, and of such with brush models; of one of these the answer depends on each plane
+HULLS_ASKED = ["parts", "hull=2,1,1,1", "hull=1,0.5,-20,33"]
+MODELS_ASKED = ["parts", "model=3", "model=3,0.5,-20,33", "model=9"]
 
 
-def due_of_hulls(data):
-    """How the program has to end on a tree file that is asked for places in its clip hulls, and what it has to print."""
-    try:
-        tree = treefile.decode(data)
-    except treefile.Fault:
-        return due_of_tree(data)
-    return compare_answers.due(tree, {kind: compare_answers.part(tree, kind) for kind in treefile.HULLS}, ASKED)
+def due_of(asked):
+    """How the program has to end on a tree file that is asked something of its sections, and what it has to print, as a function."""
+    def due(data):
+        try:
+            tree = treefile.decode(data)
+        except treefile.Fault:
+            return due_of_tree(data)
+        return compare_answers.due(tree, compare_answers.parts(tree), asked)
+    return due
 
 
 def due_of_listing(text):
@@ -92,21 +97,42 @@ def around(hull, bound=4096):
     return tree_file([], [], [(-1, 0)], [{0}], 2, bound, [(1, hull), (2, tree_file([], [], [(-2, 0)], None, 2, bound))])
 
 
+# the parts of a small tree
+SMALL = [(1, 0, 0, 0), (0, 0, 1, 32)], [(0, -1, 1), (1, -2, -3)], [(-1, 0), (-2, 0), (-1, 0)]
+
+
 def damaged_hulls():
-    """Files in which the bytes of a small clip hull are cut off, changed, left out and doubled, one at a time; and in which it is
-    written in another form."""
-    planes, nodes = [(1, 0, 0, 0), (0, 0, 1, 32)], [(0, -1, 1), (1, -2, -3)]
-    parts = planes, nodes, [(-1, 0), (-2, 0), (-1, 0)]
-    hull = tree_file(*parts, None, 2, 4096)
+    """Files in which the bytes of a small clip hull are damaged, one at a time; and in which it is written in another form."""
+    hull = tree_file(*SMALL, None, 2, 4096)
     yield around(hull)
     for form in (None, 1), (None, 2, 32768), ([{0}, {1}], 2, 4096), (None, 2, 4096, [(7, b"")]):
-        yield around(tree_file(*parts, *form))
-    for at in range(len(hull)):
-        yield around(hull[:at])
-        yield around(hull[:at] + hull[at + 1:])
-        yield around(hull[:at + 1] + hull[at:])
-        for byte in {hull[at] ^ 1 << bit for bit in range(8)} | {0, 0xff, hull[at] ^ 0xff} - {hull[at]}:
-            yield around(hull[:at] + bytes([byte]) + hull[at + 1:])
+        yield around(tree_file(*SMALL, *form))
+    yield from map(around, damaged(hull))
+
+
+def damaged(data):
+    """Bytes that are cut off, changed, left out and doubled, one at a time."""
+    for at in range(len(data)):
+        yield data[:at]
+        yield data[:at] + data[at + 1:]
+        yield data[:at + 1] + data[at:]
+        for byte in {data[at] ^ 1 << bit for bit in range(8)} | {0, 0xff, data[at] ^ 0xff} - {data[at]}:
+            yield data[:at] + bytes([byte]) + data[at + 1:]
+
+
+def with_models(data, bound=4096):
+    """A whole file of four leaves in a row with some bytes as its section of brush models."""
+    planes, nodes = [(1, 0, 0, 8 * place) for place in range(3)], [(2, -1, 1), (1, -2, 2), (0, -3, -4)]
+    return tree_file(planes, nodes, [(-1, 0)] * 4, [{0, 1}, {1}, {2}, {3}], 2, bound, [(3, data), (7, b"abc")])
+
+
+def damaged_models():
+    """Files in which the bytes of two small brush models are damaged, one at a time, and such as are odd in one place."""
+    tree = tree_file(*SMALL, None, 2, 4096)
+    two = made_sections.stored([(3, (-1, 2, 3), (4, 5, 6), (0, 2, 3), tree), (9, (7, 7, 7), (7, 7, 7), (), tree_file([], [], [(-2, 0)], None, 2, 4096))])
+    yield with_models(two)
+    yield from map(with_models, damaged(two))
+    yield from map(with_models, made_sections.model_sections(random.Random(4), 4, 4096))
 
 
 def others():
@@ -203,6 +229,17 @@ def larger_hulls():
         yield around(tree_file(planes, nodes, leaves, None, 2, 4096))
 
 
+def larger_models():
+    """Larger files with brush models."""
+    rng = random.Random(10)
+    base = treefile.decode(random_tree(rng, 80, True, 2, 4096))
+    for count in (2, 30):
+        models = [(3 * entity, tuple(rng.randrange(-99, 0) for _ in range(3)), tuple(rng.randrange(0, 99) for _ in range(3)),
+                   sorted(rng.sample(range(base.numbered()), rng.randrange(9))), random_tree(rng, rng.choice((1, 9, 60)), False, 2, 4096))
+                  for entity in range(1, count + 1)]
+        yield written(base._replace(sections=[treefile.Section(3, made_sections.stored(models))]))
+
+
 def larger_listings():
     """Larger listings."""
     rng = random.Random(5)
@@ -261,9 +298,17 @@ def try_trees(program, files, edits):
 
 def try_hulls(program, edits):
     """Damages clip hulls in sections of tree files."""
-    damage = Damage([program, "inspect", "damaged.tree", *ASKED], "damaged.tree", due_of_hulls)
+    damage = Damage([program, "inspect", "damaged.tree", *HULLS_ASKED], "damaged.tree", due_of(HULLS_ASKED))
     damage.try_all("bytes of a clip hull", damaged_hulls())
     damage.try_all("edits of clip hulls", edits_of([*larger_hulls()], edits))
+    return damage
+
+
+def try_models(program, edits):
+    """Damages brush models in sections of tree files."""
+    damage = Damage([program, "inspect", "damaged.tree", *MODELS_ASKED], "damaged.tree", due_of(MODELS_ASKED))
+    damage.try_all("bytes of brush models", damaged_models())
+    damage.try_all("edits of brush models", edits_of([*larger_models()], edits))
     return damage
 
 
@@ -284,6 +329,7 @@ def main(program, edits=200, reader=None, *named):
         os.chdir(folder)
         damages.append(try_trees(program, trees, edits))
         damages.append(try_hulls(program, edits))
+        damages.append(try_models(program, edits))
         if reader:
             damages.append(try_listings(reader, listings, edits))
         os.chdir("/")

@@ -44,10 +44,18 @@ def bytes_of(name):
     return written(treefile.load(name)._replace(rows=None, sections=[]))
 
 
+def stored(models, count=None):
+    """The bytes of a section with brush models: each the number of its entity, the low and the high end of its box, the numbers of its
+    leaves, and the bytes of its tree. Where a count is given the section says that there are so many."""
+    parts = [pack("<I", len(models) if count is None else count)]
+    for entity, low, high, leaves, data in models:
+        parts += [pack(f"<Q6iQ{len(leaves)}QQ", entity, *low, *high, len(leaves), *leaves, len(data)), data]
+    return b"".join(parts)
+
+
 def model(entity, name):
     """The bytes of a section with one model."""
-    data = bytes_of(name)
-    return pack("<IQ6iQQ", 1, entity, *(0,) * 6, 0, len(data)) + data
+    return stored([(entity, (0, 0, 0), (0, 0, 0), (), bytes_of(name))])
 
 
 def cube_faces(tree):
@@ -89,6 +97,41 @@ def hulls(draw):
            plain(9) + b"x", plain(9)[:-1], b""]
     for number, data in enumerate(odd):
         yield [(1, data), (2, good)] if number % 2 else [(1, good), (2, data)]
+
+
+def model_sections(draw, numbered, bound=treefile.BOUNDS[-1]):
+    """The bytes of sections with brush models, for a file with so many numbered leaves, 3 or more: first some that are good, and then
+    such as are odd in one place."""
+
+    def plain(count, version=2, bound=bound, rows=False, sections=()):
+        return random_tree(draw, count, rows, version, bound, sections)
+
+    small, far = plain(3), 2 ** 31
+    good = [(1, (0, 0, 0), (64, 64, 64), (0,), plain(25)), (2, (-far,) * 3, (far - 1,) * 3, (0, 1, numbered - 1), plain(0)),
+            (9, (5, 6, 7), (5, 6, 7), (), plain(1)), (2 ** 64 - 1, (-3, -2, -1), (1, 2, 3), range(numbered), plain(60))]
+    yield stored(good)
+    yield stored([])
+    yield stored(good[1:2])
+    for at, entity in (0, 0), (1, 1), (2, 1), (3, 0), (3, 9):
+        yield stored([*good[:at], (entity, *good[at][1:]), *good[at + 1:]])
+    for axis in range(3):
+        low = tuple(8 * (axis == other) for other in range(3))
+        yield stored([(3, low, (7, 7, 7), (1,), small)])
+        yield stored([(3, low, (8, 8, 8), (1,), small)])
+    for leaves in (numbered,), (0, 0), (1, 0), (0, 1, 1), (2 ** 64 - 1,), (2 ** 63,), (0, numbered):
+        yield stored([good[0], (3, (0, 0, 0), (0, 0, 0), leaves, small)])
+    for data in (plain(4, rows=True), plain(4, sections=[(7, b"")]), plain(4, version=1), plain(4, bound=treefile.BOUNDS[0]),
+                 small + b"x", small[:-1], b""):
+        yield stored([good[0], (3, (0, 0, 0), (0, 0, 0), (0, 2), data)])
+    yield stored(good) + b"x"
+    yield stored(good)[:-1]
+    for count in 0, 3, 5, 2 ** 32 - 1:
+        yield stored(good, count)
+    yield b""
+    # what is odd in a model that is cut off is not looked at
+    yield stored([(0, *good[0][1:])])[:-1]
+    yield pack("<IQ6iQ", 1, 0, *(9,) * 6, 2 ** 61) + bytes(80)
+    yield pack("<IQ6iQQ", 1, 5, *(9,) * 6, 0, 2 ** 64 - 1) + bytes(80)
 
 
 def main():

@@ -97,6 +97,8 @@ class Build:
         """The answer of the compiler, for the tree level.tree: first with coarse visibility, which says how much is ahead."""
         words = ["compile", "level.map", "level.tree"]
         words += ["--threads", str(self.asked.threads)] if self.asked.threads else []
+        words += ["--hulls"] if self.asked.hulls or self.asked.bsp else []
+        words += ["--models"] if self.asked.models else []
         with self.progress.doing("compiling"):
             answer = self.runs.compiler(*words, "--fast")
         self.expect(answer, DONE, LEAKS)

@@ -9,6 +9,7 @@ KINDS = {
     "slime": ((104, 150, 44), 0.7),
     "lava": ((224, 96, 26), 0.8),
     "sky": ((150, 198, 238), 1.0),
+    "model": ((190, 122, 74), 1.0),
 }
 # what a row leaves out, where what it holds leaves room
 UNSEEN = (226, 225, 222)
@@ -26,6 +27,11 @@ def kind(own, beyond):
     if own == "sky":
         return None
     return own if beyond == "empty" else beyond
+
+
+def kind_of_model(own, beyond):
+    """The same of a brush model: what is solid of it has a colour of its own."""
+    return "model" if beyond == "solid" else kind(own, beyond)
 
 
 def shade(plane):

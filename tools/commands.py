@@ -39,7 +39,9 @@ def plan_of(words):
     own = None if words.row is None else leaf_of_row(words, tree)
     portals = None if words.prt is None else portals_of(words.prt, tree)
     line = leak_line(Cells(tree), words.leak) if words.leak else None
-    marks = None if words.map is None else marks_of(words.map)
+    entities = [] if words.map is None else entities_of(words.map)
+    marks = None if words.map is None else origins.marks(entities)
+    models = models_of(words.name, tree) if words.models else None
     hull = None if words.hull is None else hull_of(words.name, tree, words.hull)
     ends = [inside(words, tree, end) for end in words.trace or ()]
     z = height_of(words, tree, line, own, marks) if words.z is None else inside(words, tree, (words.z,))[0]
@@ -47,6 +49,8 @@ def plan_of(words):
     drawn = plan.Picture(tree, z, found, plan.View(slices.extent(tree, found)))
     if hull is not None:
         drawn.block(words.hull, hull)
+    if models is not None:
+        drawn.place_models(models, entities, words.row)
     if own is not None:
         drawn.hold(words.row)
     if portals is not None:
@@ -95,15 +99,19 @@ def view_of(words):
     tree = tree_of(words.name)
     portals = None if words.prt is None else page.portals_of(portals_of(words.prt, tree))
     line = leak_line(Cells(tree), words.leak) if words.leak else None
-    marks = None if words.map is None else marks_of(words.map)
+    entities = [] if words.map is None else entities_of(words.map)
+    marks = None if words.map is None else origins.marks(entities)
     at, to = begin_of(words, tree, line, marks)
     seen = surfaces.seen(tree)
     if not seen:
         raise Refused(f"{words.name} has nothing but solid leaves")
     at = at or Cells(tree).middle(largest({leaf: what.faces for leaf, what in seen.items()}))
     hull = page.hull_of(hull_of(words.name, tree, PLAYERS)) if any(section.kind == PLAYERS for section in tree.sections) else None
-    level = {**page.level_of(tree, seen), "hull": hull, "portals": portals, "leak": line and page.places(line),
-             "entities": page.entities_of(marks or []), "at": page.places([at])[0], "to": to and page.places([to])[0]}
+    models = models_of(words.name, tree) if any(section.kind == treefile.MODELS for section in tree.sections) else None
+    shapes = list(map(page.shape_of, models or []))
+    level = {**page.level_of(tree, seen, shapes), "hull": hull, "portals": portals, "leak": line and page.places(line),
+             "models": models and page.models_of(models, shapes, entities), "entities": page.entities_of(marks or []),
+             "at": page.places([at])[0], "to": to and page.places([to])[0]}
     return page.page(plain_name(words.name), level)
 
 
@@ -118,8 +126,8 @@ def begin_of(words, tree, line, marks):
     return line[:2] if line else (None, None)
 
 
-def marks_of(name):
-    """The entities of a map that stand at a place."""
+def entities_of(name):
+    """The entities of a map."""
     try:
         return origins.load(name)
     except maptext.NoMap as fault:
@@ -259,6 +267,16 @@ def hull_of(name, tree, which):
         raise Refused(f"{name} has no clip hull {which}: `qmapc compile --hulls` writes it, but not of a level that leaks") from None
     except treefile.BadPart as fault:
         raise Refused(f"section {which} of {name} is no clip hull: {fault}") from None
+
+
+def models_of(name, tree):
+    """The brush models that a tree file has."""
+    try:
+        return tree.models()
+    except treefile.NoPart:
+        raise Refused(f"{name} has no brush models: `qmapc compile --models` writes them, but not of a level that leaks") from None
+    except treefile.BadPart as fault:
+        raise Refused(f"section {treefile.MODELS} of {name} has {fault}") from None
 
 
 def portals_of(name, tree):

@@ -48,14 +48,29 @@ class Mark(NamedTuple):
 
 
 def load(name):
-    """The entities of a map that stand at a place, but for the world, which is the first, in their order."""
-    return [mark_of(entity) for entity in maptext.entities(maptext.load(name))[1:] if place_of(entity)]
+    """The entities of a map, the world first."""
+    return maptext.entities(maptext.load(name))
+
+
+def marks(entities):
+    """Those that stand at a place, but for the world, in their order."""
+    return [mark_of(entity) for entity in entities[1:] if place_of(entity)]
 
 
 def mark_of(entity):
     """What is marked of an entity that stands at a place."""
-    name, target = (plain(entity.value(key) or b"") for key in (b"classname", b"targetname"))
-    return Mark(name, target, place_of(entity), angle_of(entity))
+    return Mark(*named(entity), place_of(entity), angle_of(entity))
+
+
+def named(entity):
+    """The class of an entity and its `targetname`, in ASCII."""
+    return tuple(plain(entity.value(key) or b"") for key in (b"classname", b"targetname"))
+
+
+def told_of(model, entities):
+    """What is said of a brush model: its class and its `targetname`, where the map has these, and the number of its entity."""
+    names = named(entities[model.entity]) if model.entity < len(entities) else ()
+    return ", ".join(filter(None, (" ".join(filter(None, names)), f"entity {model.entity}")))
 
 
 def plain(text):

@@ -5,7 +5,8 @@ planes (four doubles each), nodes (plane, front, back: 4 bytes, signed), leaves 
 middles (three floats each); corners (three floats each); of each surface, leaf by leaf, how many corners it has (2 bytes), its
 corners by their numbers (4 bytes each), its kind and its red, green and blue (a byte each); of each leaf how many surfaces
 it has, how many leaves it touches that hold other contents, and these (4 bytes each); and the rows, bit by bit. Beside these
-stand the bound of the world; the entities of a map that stand at a place, each with its kind, what is said of it, its class and its
+stand the bound of the world; the brush models, each with what is said of it, its box, the numbers of the leaves that it touches, and
+how many surfaces it has, which follow those of the leaves; the entities of a map that stand at a place, each with its kind, what is said of it, its class and its
 place; and, each null where it is not there or not said, the planes, nodes and leaves of clip hull 1 (a byte that is 1 where a leaf is
 solid), the portals of a listing, the points of a leak line, where one begins, and where one looks."""
 
@@ -19,10 +20,12 @@ from struct import pack
 from bodies import middle
 import colours
 from corners import rounded
+from origins import told_of
 from patterns import FILLED, kind as fill_of
+import surfaces as borders
 
 FOLDER = Path(__file__).resolve().parent / "web"
-SCRIPTS = ["level.js", "walking.js", "colliding.js", "drawing.js", "marks.js", "aiming.js", "entities.js", "plan.js", "main.js"]
+SCRIPTS = ["level.js", "walking.js", "colliding.js", "models.js", "drawing.js", "marks.js", "aiming.js", "entities.js", "plan.js", "main.js"]
 FILLS = ["empty", "solid", "water", "slime", "lava", "sky", FILLED]
 KINDS = list(colours.KINDS)
 # how far ahead of a place the point is to which one looks
@@ -45,11 +48,11 @@ def flat(points):
     return [float(number) for point in points for number in point]
 
 
-def level_of(tree, seen):
-    """The tree, its surfaces and its rows, as the page reads them."""
+def level_of(tree, seen, shapes):
+    """The tree, its surfaces, behind them those of its models, and its rows, as the page reads them."""
     everyone = [seen.get(leaf) for leaf in range(len(tree.leaves))]
-    drawn = [surfaces_drawn(tree, leaf, what) for leaf, what in enumerate(everyone)]
-    surfaces = [surface for those in drawn for surface in those]
+    drawn = [surfaces_drawn(tree, leaf, what, colours.kind) for leaf, what in enumerate(everyone)]
+    surfaces = [surface for those in (*drawn, *shapes) for surface in those]
     numbers = {}
     rounds = [numbers.setdefault(corner, len(numbers)) for surface, _ in surfaces for corner in surface.polygon]
     return {
@@ -82,11 +85,23 @@ def hull_of(hull):
     return {**nodes_of(hull), "solid": spelled("B", (leaf.contents == "solid" for leaf in hull.leaves))}
 
 
-def surfaces_drawn(tree, leaf, what):
+def surfaces_drawn(tree, leaf, what, kind):
     """The surfaces of a leaf that are drawn, each with its kind."""
     own = tree.leaves[leaf].contents
-    named = [(surface, colours.kind(own, surface.beyond)) for surface in what.surfaces] if what else []
+    named = [(surface, kind(own, surface.beyond)) for surface in what.surfaces] if what else []
     return [(surface, name) for surface, name in named if name]
+
+
+def shape_of(model):
+    """The surfaces of a brush model that are drawn, each with its kind: where what it holds ends, seen from the leaves around it."""
+    found = borders.seen(model.tree)
+    return [surface for leaf in sorted(found) for surface in surfaces_drawn(model.tree, leaf, found[leaf], colours.kind_of_model)]
+
+
+def models_of(models, shapes, entities):
+    """The brush models, as the page reads them; `entities` are those of a map, of which there may be none."""
+    return [{"told": told_of(model, entities), "box": [*model.low, *model.high], "leaves": model.leaves, "surfaces": len(shape)}
+            for model, shape in zip(models, shapes)]
 
 
 def portals_of(portals):

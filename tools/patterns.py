@@ -1,6 +1,6 @@
 """How a picture tells contents apart: each by a fill and by a pattern, so that it can be read in grey too."""
 
-FILLED, HELD, BLOCKED = "filled", "held", "blocked"
+FILLED, HELD, BLOCKED, MODEL = "filled", "held", "blocked", "model"
 
 # of each kind the fill below, and the pattern upon it: its size, its colour, and its strokes
 KINDS = {
@@ -13,6 +13,7 @@ KINDS = {
     "sky": ("#dfeefa", 10, "#4f80a8", "M2.5,5A2.5,2.5 0 1 0 7.5,5A2.5,2.5 0 1 0 2.5,5"),
     HELD: ("none", 10, "#a3006b", "M5,2V8M2,5H8"),
     BLOCKED: ("none", 6, "#c25400", "M-1,-1L7,7M5,-1L7,1M-1,5L1,7"),
+    MODEL: ("#e0a878", 8, "#7a3d0c", "M0,2H8M0,6H8"),
 }
 
 

@@ -6,7 +6,7 @@ from math import cos, hypot, radians, sin
 from xml.sax.saxutils import escape
 
 import labels
-from origins import LIGHT, OTHER, START
+from origins import LIGHT, OTHER, START, told_of
 import patterns
 from points import decimal
 from polygons import between, crossing, in_front
@@ -26,6 +26,11 @@ text { font-family: sans-serif; fill: #111111 }
 .trail { stroke: #c00018; stroke-width: 3; fill: none; stroke-linejoin: round }
 .stop { stroke: #c00018; stroke-width: 2; fill: #ffffff }
 .start { stroke: #ffffff; stroke-width: 2; fill: #c00018 }
+</style>
+"""
+MODEL_STYLE = """<style>
+.model { stroke: #7a3d0c; stroke-width: 1.2 }
+.box { stroke: #7a3d0c; stroke-width: 1.2; stroke-dasharray: 5 3; fill: none }
 </style>
 """
 TRACE_STYLE = """<style>
@@ -106,6 +111,27 @@ class Picture:
         self.kinds.append(patterns.BLOCKED)
         self.named[patterns.BLOCKED] = f"solid in hull {which}"
 
+    def place_models(self, models, entities, number):
+        """Draws what the slice has of brush models, with their boxes; `entities` are those of a map, of which there may be none. Those
+        that the row of a number does not see are pale. A browser shows what each is under the pointer."""
+        self.overlay.append(MODEL_STYLE)
+        for model in models:
+            (west, south, below), (east, north, above) = model.low, model.high
+            if not below <= self.height <= above:
+                continue
+            is_pale = number is not None and not self.tree.is_drawn(model, number)
+            told = f"{told_of(model, entities)}, {box_of(model)}" + (f", not seen by row {number}" if is_pale else "")
+            solid = [piece for leaf, piece in pieces(model.tree, self.height) if model.tree.leaves[leaf].contents != "empty"]
+            parts = [f'<path class="model" fill="url(#{patterns.MODEL})" d="{outline(corners)}"/>' for corners in map(self.view.shown, solid) if corners]
+            frame = self.view.shown([(x, y, self.height) for x, y in ((west, south), (east, south), (east, north), (west, north))])
+            if frame:
+                parts.append(f'<path class="box" d="{outline(frame)}"/>')
+            pale = ' opacity="0.35"' if is_pale else ""
+            self.overlay.append(f"<g{pale}><title>{escape(told)}</title>{''.join(parts)}</g>\n")
+        self.kinds.append(patterns.MODEL)
+        self.named[patterns.MODEL] = "brush model"
+        self.legend.append(('<path class="box" d="M2,-14H26V2H2Z"/>', "box of a model"))
+
     def join(self, portals):
         """Draws the portals that the slice crosses."""
         crossed = ((front, back, crossing(corners, self.height)) for front, back, corners in portals)
@@ -170,6 +196,12 @@ class Picture:
                 self.overlay.append(drawn_mark(kind, mark.angle or 0, x, y, f"<title>{escape(mark.told())}</title>"))
             if these:
                 self.legend.append((drawn_mark(kind, 0, 14, -5, ""), kind))
+
+
+def box_of(model):
+    """The box of a model, and how many leaves it touches."""
+    low, high = (",".join(map(str, end)) for end in (model.low, model.high))
+    return f"{low} to {high}, {len(model.leaves)} {'leaf' if len(model.leaves) == 1 else 'leaves'}"
 
 
 def written(place):

@@ -8,8 +8,8 @@ from corners import reduced
 from polygons import walls
 import treefile
 
-# the kinds of the sections but for clip hulls
-MODELS, FACES = 3, 4
+# the kind of the section that has faces
+FACES = 4
 
 
 class BadSection(Exception):
@@ -41,13 +41,6 @@ class Reader:
         self.at = end
         return numbers
 
-    def bytes(self, count):
-        """The next bytes."""
-        if self.at + count > len(self.data):
-            raise BadSection(f"section {self.kind} ends too early")
-        self.at += count
-        return self.data[self.at - count:self.at]
-
     def end(self):
         """Raises `BadSection` where bytes follow."""
         if self.at < len(self.data):
@@ -75,19 +68,12 @@ def hull(tree, kind):
 
 def models(tree):
     """The trees of other entities, by the numbers of these; none where the file has none."""
-    section, found = of_kind(tree, MODELS), {}
-    if section is None:
-        return found
-    reader, last = Reader(section), 0
-    for _ in range(*reader.take("<I")):
-        entity, *_, leaves = reader.take("<Q6iQ")
-        reader.bytes(8 * leaves)
-        if entity <= last:
-            raise BadSection(f"section {MODELS} has the models in no order")
-        last = entity
-        found[entity] = plain_tree(reader.bytes(*reader.take("<Q")), MODELS, tree.bound)
-    reader.end()
-    return found
+    try:
+        return {model.entity: model.tree for model in tree.models()}
+    except treefile.NoPart:
+        return {}
+    except treefile.BadPart as fault:
+        raise BadSection(f"section {treefile.MODELS} has {fault}") from None
 
 
 def faces(tree):

@@ -6,6 +6,7 @@
     print(leaf, tree.leaves[leaf].contents)
     print(tree.hull(1).is_solid_at((0, 0, 24)))
     print(tree.spans((0, 0, 24), (0, 0, 200)))
+    print([model.entity for model in tree.models() if tree.is_drawn(model, 0)])
 
 docs/TREEFILE.md describes the file, of which both versions are read. This module needs nothing but the standard library, and
 may be copied. It refuses what is no tree file by the first fault in the order of the file, with the place of its byte.
@@ -13,6 +14,7 @@ may be copied. It refuses what is no tree file by the first fault in the order o
 
 from fractions import Fraction
 from math import gcd
+from operator import gt
 from os.path import getsize
 from struct import calcsize, iter_unpack, unpack
 from typing import NamedTuple, Optional
@@ -25,6 +27,8 @@ CONTENTS = {-1: "empty", -2: "solid", -3: "water", -4: "slime", -5: "lava", -6: 
 SOLID = -2
 # the kinds of the sections that have clip hulls, each with the box that is a point there, by its low and its high end
 HULLS = {1: ((-16, -16, -24), (16, 16, 32)), 2: ((-32, -32, -24), (32, 32, 64))}
+# the kind of the section that has brush models
+MODELS = 3
 
 
 class Fault(Exception):
@@ -75,6 +79,17 @@ class Span(NamedTuple):
     """A part of a segment: the leaf in which it lies, and the part of the whole segment, above 0 and at most 1, at which it ends."""
     leaf: int
     to: Fraction
+
+
+class Model(NamedTuple):
+    """The brushes of an entity other than the world, such as a door: the number of the entity in the map, the world being 0; the
+    least box of whole numbers around the brushes, by its low and its high end; the numbers of the leaves that they touch; and
+    their tree."""
+    entity: int
+    low: tuple
+    high: tuple
+    leaves: list
+    tree: "Tree"
 
 
 class Tree(NamedTuple):
@@ -135,6 +150,22 @@ class Tree(NamedTuple):
         """The tree of a clip hull, 1 or 2, in which a moving box is a point. Raises `NoPart`, or `BadPart` where the section has no
         such tree."""
         return plain(self.part(kind), self.bound)
+
+    def models(self):
+        """The brush models, in the order of their entities. Raises `NoPart`, or `BadPart` where the section has none such."""
+        try:
+            return read_models(self.part(MODELS), self.bound, self.numbered())
+        except Fault as fault:
+            raise BadPart(f"no brush models: {fault}") from None
+
+    def is_drawn(self, model, number):
+        """Whether a model may be seen from the leaf of a number: its row holds a leaf that the model touches."""
+        row = self.rows[number]
+        return any(row[leaf >> 3] >> (leaf & 7) & 1 for leaf in model.leaves)
+
+    def numbered(self):
+        """How many leaves have a number."""
+        return sum(leaf.number is not None for leaf in self.leaves)
 
     def row(self, number):
         """The numbers of the leaves that a row holds, from the least on."""
@@ -341,3 +372,34 @@ def read_sections(data, at, count):
         sections.append(Section(kind, take(data, at + 12, length)))
         at += 12 + length
     return sections, at
+
+
+def read_models(data, bound, numbered):
+    """The brush models that the bytes of a section say, in a world of a bound that has so many numbered leaves. Raises `Fault`: a
+    model is looked at when all its bytes are there."""
+    count, = unpack("<I", take(data, 0, 4))
+    models, at = [], 4
+    while len(models) < count:
+        model, end = read_model(data, at, bound)
+        before = models[-1].entity if models else 0
+        ascends = all(one < other for one, other in zip([-1, *model.leaves], [*model.leaves, numbered]))
+        if model.entity <= before or model.tree is None or not ascends or any(map(gt, model.low, model.high)):
+            raise Fault("form", at)
+        models.append(model)
+        at = end
+    if at < len(data):
+        raise Fault("trailing", at)
+    return models
+
+
+def read_model(data, at, bound):
+    """The brush model whose bytes begin at a place, whose tree is None where its bytes are none, and the place behind it."""
+    entity, *ends, count = unpack("<Q6iQ", take(data, at, 40))
+    leaves = unpack(f"<{count}Q", take(data, at + 40, 8 * count))
+    at += 40 + 8 * count
+    length, = unpack("<Q", take(data, at, 8))
+    try:
+        tree = plain(take(data, at + 8, length), bound)
+    except BadPart:
+        tree = None
+    return Model(entity, tuple(ends[:3]), tuple(ends[3:]), list(leaves), tree), at + 8 + length

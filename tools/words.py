@@ -20,6 +20,8 @@ def words_of(parser, words):
     plan_words.add_argument("--row", metavar="N", type=number, help="shows the leaves that row N holds")
     plan_words.add_argument("--prt", metavar="FILE", help="shows the portals of a listing")
     plan_words.add_argument("--hull", metavar="H", type=number, choices=sorted(HULLS), help="shows what is solid in clip hull 1 or 2")
+    plan_words.add_argument("--models", action="store_true", help="shows the brush models, such as doors, of a tree that has them; "
+                            "with --row which of them it sees")
     plan_words.add_argument("--trace", metavar="X,Y,Z,U,V,W", type=segment, help="shows the leaves along the segment from one point to "
                             "another, or with --hull those of that hull")
     points_words = command(commands, "points", "the line of a leak, as a point file for editors")

@@ -3,7 +3,7 @@
 from rows.cube_files import LISTING, SUMMARY, TEXT, TREE
 from rows.table import Row
 
-USAGE = ("usage: qmapc compile MAP OUT [--prt FILE] [--threads N] [--fast] [--hulls] | inspect TREE QUERY.. | format MAP OUT | "
+USAGE = ("usage: qmapc compile MAP OUT [--prt FILE] [--threads N] [--fast] [--hulls] [--models] [--faces] | inspect TREE QUERY.. | format MAP OUT | "
          "demo N NUMBER | upgrade TREE OUT\n")
 
 # an empty word stands between two spaces
@@ -42,6 +42,13 @@ compile map out --hulls=1
 compile map out --hulls=
 compile map out --hull
 format map out --hulls
+compile map out --models --models
+compile --models map --hulls --models out
+compile map --models
+compile map out --Models
+compile map out --models=1
+compile map out --model
+format map out --models
 compile map out --prt
 compile map out --prt --hulls
 compile --prt map out
@@ -97,6 +104,15 @@ inspect map hulltrace=1,2,3,4,5,6
 inspect map hulltrace=3,0,0,0,1,1,1
 inspect map hulltrace=01,0,0,0,1,1,1
 inspect map hulltrace=1,0,0,0,1,1,1,1
+inspect map model=
+inspect map model=01
+inspect map model=1000000000000000000
+inspect map model=-1
+inspect map model=1,2,3
+inspect map model=1,2,3,4,5
+inspect map model=01,2,3,4
+inspect map model=1,2,3,0.0000001
+inspect map count --models
 inspect map row=1000000000000000000
 inspect map count row=01
 inspect map sees=0

@@ -66,18 +66,21 @@ function prepare(view) {
 // what is shown, and what the row leaves out; it changes only with the leaf from which one sees, and with keys
 function choose() {
     const leaf = leafAt(state.frozen || state.eye), limited = state.row && rows !== null && !isSolid(leaf);
-    const mark = `${limited && leaf} ${state.portals}`;
+    const mark = `${limited && leaf} ${state.portals} ${modelsOn()}`;
     if (drawn && drawn.mark === mark) return;
     const shown = limited ? held(leaf) : everyLeaf, opaque = [], through = [], edges = [], unseen = [];
-    leaves.forEach((_, at) => {
-        addTriangles(shown[at] ? opaque : unseen, at, false);
-        addTriangles(shown[at] ? through : unseen, at, true);
-        if (shown[at]) addEdges(edges, at);
-    });
+    const add = (surfaces, isShown) => {
+        addTriangles(isShown ? opaque : unseen, surfaces, false);
+        addTriangles(isShown ? through : unseen, surfaces, true);
+        if (isShown) addEdges(edges, surfaces);
+    };
+    leaves.forEach((_, at) => add(surfacesOf(at), shown[at]));
+    const triangles = (opaque.length + through.length) / 3, seen = modelsOn().filter(at => !limited || isModelIn(at, shown));
+    for (const at of modelsOn()) add(surfacesOfModel(at), seen.includes(at));
     const isShown = one => shown[numbered[portals.sides[2 * one]]] && shown[numbered[portals.sides[2 * one + 1]]];
     const wanted = state.portals && portals ? Array.from(portals.sides.subarray(0, portals.sides.length / 2).keys()).filter(isShown) : [];
     drawn = {
-        mark, shown, limited, opaque: opaque.length, unseen: unseen.length, edges: edges.length, triangles: (opaque.length + through.length) / 3,
+        mark, shown, limited, opaque: opaque.length, unseen: unseen.length, edges: edges.length, triangles, models: seen,
         leaves: numbered.filter(at => shown[at]).length, portals: wanted.length, outlines: outlines(wanted),
     };
     drawn.marks = markParts();
@@ -92,17 +95,20 @@ function fill(buffer, places) {
     gl.bufferData(gl.ELEMENT_ARRAY_BUFFER, new Uint32Array(places), gl.DYNAMIC_DRAW);
 }
 
-// adds the triangles of a leaf's surfaces: of those that are seen through, or of the others
-function addTriangles(found, leaf, through) {
-    for (let surface = surfaceFrom[leaf]; surface < surfaceFrom[leaf + 1]; surface++) {
+// the surfaces of a leaf: the first, and the one behind the last
+function surfacesOf(leaf) { return [surfaceFrom[leaf], surfaceFrom[leaf + 1]]; }
+
+// adds the triangles of some surfaces: of those that are seen through, or of the others
+function addTriangles(found, [first, end], through) {
+    for (let surface = first; surface < end; surface++) {
         if (isSeenThrough(surface) !== through) continue;
         for (let at = roundFrom[surface] + 2; at < roundFrom[surface + 1]; at++) found.push(roundFrom[surface], at - 1, at);
     }
 }
 
-// adds the sides of a leaf's surfaces that are not seen through
-function addEdges(found, leaf) {
-    for (let surface = surfaceFrom[leaf]; surface < surfaceFrom[leaf + 1]; surface++) {
+// adds the sides of some surfaces that are not seen through
+function addEdges(found, [first, end]) {
+    for (let surface = first; surface < end; surface++) {
         if (isSeenThrough(surface)) continue;
         for (let at = roundFrom[surface], last = roundFrom[surface + 1] - 1; at < roundFrom[surface + 1]; last = at++) found.push(last, at);
     }
@@ -177,7 +183,8 @@ function drawSurfaces(matrix) {
     gl.bindBuffer(gl.ELEMENT_ARRAY_BUFFER, made.opaque);
     gl.drawElements(gl.TRIANGLES, drawn.opaque, gl.UNSIGNED_INT, 0);
     const through = [];
-    for (const leaf of farthestFirst()) addTriangles(through, leaf, true);
+    for (const leaf of farthestFirst()) addTriangles(through, surfacesOf(leaf), true);
+    for (const at of drawn.models) addTriangles(through, surfacesOfModel(at), true);
     gl.enable(gl.BLEND);
     gl.depthMask(false);
     fill(made.through, through);

@@ -1,7 +1,7 @@
 // Begins, and draws again where something changed.
 
 const view = document.getElementById("view"), over = document.getElementById("over"), told = document.getElementById("told");
-const aimed = document.getElementById("aimed");
+const aimed = document.getElementById("aimed"), listed = document.getElementById("models");
 let before = null;
 
 function fit(canvas, scale) {
@@ -16,7 +16,9 @@ function show() {
     pen.clearRect(0, 0, over.width, over.height);
     if (state.numbers) drawNumbers(pen, matrix, over);
     if (state.marks) drawNames(pen, matrix, over);
+    if (state.list) drawModelNames(pen, matrix, over);
     drawPlan(pen, over);
+    listModels(listed);
     drawAim(pen, over, aimed);
     document.getElementById("help").hidden = !state.help;
     told.textContent = tell();

@@ -38,6 +38,7 @@ function tell() {
     const stops = () => isInTheWay(state.eye) ? "walls stop you, but you stand in one" : "walls stop you, by clip hull 1";
     if (state.solid) lines.push(hull ? stops() : "nothing stops you, since the tree has no clip hull 1");
     if (state.portals) lines.push(portals ? `portals: ${drawn.portals}` : "portals: none, since no listing was given");
+    if (state.models && models.length) lines.push(`models: ${drawn.models.length} of ${models.length} drawn`);
     if (state.marks && LEVEL.entities.length) lines.push(`marked: ${drawn.entities} of ${LEVEL.entities.length} entities`);
     return lines.join("\n");
 }

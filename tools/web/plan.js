@@ -7,7 +7,7 @@ const FILLS = {
     empty: ["#d8d0c2", "#857f75"], water: ["#6aa6e4", "#44638a"], slime: ["#9ac65a", "#5c7338"], lava: ["#f08a4a", "#8a5a3c"],
     sky: ["#b4d8f6", "#6f8798"],
 };
-const WALLS = "rgba(38, 36, 34, 0.92)", LEAK = "#e00020", FROZEN = "#d000d0", OWN = "#b8006c";
+const WALLS = "rgba(38, 36, 34, 0.92)", LEAK = "#e00020", FROZEN = "#d000d0", OWN = "#b8006c", BOX = "#a04a08";
 // how far the plan reaches, before keys make it reach farther or less far; and the leaf whose row it shows, with what that holds
 const planned = { reach: null, leaf: null, held: null };
 
@@ -57,6 +57,7 @@ function drawPlan(pen, over) {
     pen.clip();
     pen.translate(over.width - size / 2, size / 2);
     drawLeaves(pen, slice(z, [[-far, -far], [far, -far], [far, far], [-far, far]].map(([u, v]) => [x + u, y + v])), leafAt(middle), place);
+    strokeLines(pen, drawn.models.map(at => models[at].box).filter(box => box[2] <= z && z <= box[5]).map(box => frameOf(box).map(place)), BOX);
     for (const entity of state.marks ? LEVEL.entities : []) if (isInPlan(entity.at, middle, far)) drawDot(pen, place(entity.at), entity.kind);
     if (state.leak && LEVEL.leak) strokeLines(pen, [LEVEL.leak.map(place)], LEAK);
     if (state.frozen) strokeLines(pen, crossAt(place(state.frozen)), FROZEN);
@@ -76,6 +77,9 @@ function drawLeaves(pen, pieces, own, place) {
     polygons.forEach((those, colour) => fillPolygons(pen, those, colour));
     strokeLines(pen, open.filter(([leaf]) => leaf === own).map(([, corners]) => [...corners, corners[0]].map(place)), OWN);
 }
+
+// the frame of a box, from above
+function frameOf([west, south, , east, north]) { return [[west, south], [east, south], [east, north], [west, north], [west, south]]; }
 
 // two lines across one another
 function crossAt([x, y]) { return [-4, 4].map(up => [[x - 4, y - up], [x + 4, y + up]]); }

@@ -6,7 +6,7 @@ const SPEED = 320, FAST = 4, TURN = 1.8, STEP = 32, DRAG = 0.004, STEEPEST = 1.5
 // `frozen` is the place whose row is shown while one walks on, or null
 const state = {
     eye: LEVEL.at, yaw: 0, pitch: 0, frozen: null,
-    row: false, portals: false, leak: LEVEL.leak !== null, numbers: false, marks: true, solid: false, aim: false, zoom: 0, help: true, changed: true,
+    row: false, portals: false, leak: LEVEL.leak !== null, numbers: false, marks: true, models: true, list: false, solid: false, aim: false, zoom: 0, help: true, changed: true,
 };
 const held_down = new Set();
 
@@ -17,6 +17,8 @@ const KEYS = {
     l() { state.leak = !state.leak; },
     n() { state.numbers = !state.numbers; },
     m() { state.marks = !state.marks; },
+    b() { state.models = !state.models; },
+    t() { state.list = !state.list; },
     c() { state.solid = !state.solid; },
     x() { state.aim = !state.aim; },
     h() { state.help = !state.help; },

@@ -8,7 +8,7 @@ pub const ONE_ROOM: &str =
     "sealed\nbrushes 6\nflat 0\nplanes 12\nnodes 12\nleaves 13\nnumbered 1\nfilled 6\nportals 0\nseen 1\n";
 
 pub const USAGE: &str =
-    "usage: qmapc compile MAP OUT [--prt FILE] [--threads N] [--fast] [--hulls] | inspect TREE QUERY.. | format MAP OUT | demo N NUMBER | upgrade TREE OUT\n";
+    "usage: qmapc compile MAP OUT [--prt FILE] [--threads N] [--fast] [--hulls] [--models] [--faces] | inspect TREE QUERY.. | format MAP OUT | demo N NUMBER | upgrade TREE OUT\n";
 
 pub const READ_FAULT: &str = "read fault\n";
 

@@ -1,6 +1,8 @@
+pub mod ModelsByEntity
 pub mod OneAnswer
 pub mod Places
 pub mod PrintableAnswers
-pub mod SectionKinds
+pub mod SpacedCorners
+pub mod SpacedNumbers
 pub mod Told
 pub mod UpgradedAnswers

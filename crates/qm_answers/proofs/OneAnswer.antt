@@ -1,5 +1,5 @@
 -- A query has one answer, and a leaf one number.
-use Rattle.std.proofs.Common.{◌≡◌, inl, inr, ℕ, true, false, Option, Some, None, slice_get, Result, Ok, Err, refl, sym, ap, ◌∙◌}
+use Rattle.std.proofs.Common.{◌≡◌, inl, inr, ℕ, true, false, length, Option, Some, None, slice_get, Result, Ok, Err, refl, sym, ap, ◌∙◌}
 use Rattle.qm_space.specs.Point.{Point}
 use Rattle.qm_partition.specs.declared.node.Leaf.{Leaf}
 use Rattle.qm_partition.specs.Tree.{Tree}
@@ -13,12 +13,12 @@ use Rattle.qm_commands.specs.declared.millionths.Millionths.{Millionths}
 use Rattle.qm_commands.specs.declared.query.Query.{Query}
 use Rattle.qm_commands.specs.declared.query.Query.TheVariants as queries
 use Rattle.qm_answers.specs.declared.answer.Answer.{Answer}
-use Rattle.qm_answers.specs.declared.answer.Answer.TheVariants.{Place, Hull, Trace, HullTrace}
+use Rattle.qm_answers.specs.declared.answer.Answer.TheVariants.{Place, Hull, Trace, HullTrace, Model, ModelAt, Faces}
 use Rattle.qm_answers.specs.declared.query_fault.QueryFault.{QueryFault}
 use Rattle.qm_answers.specs.declared.decoded_section.DecodedSection.{DecodedSection}
 use Rattle.qm_answers.specs.declared.decoded_section.DecodedSection.TheVariants.{Missing, Bad, Known}
-use Rattle.qm_answers.specs.DecodedSections.{decoded_hull}
-use Rattle.qm_answers.specs.Answers.{IsNumberOfLeaf, IsPlaceAnswer, AnswersPlace, AnswersWhere, AnswersBySection, is_solid_at, AnswersHull, AnswersByTree, AnswersTrace, AnswersHullTrace, AnswersQuery}
+use Rattle.qm_answers.specs.DecodedSections.{decoded_hull, decoded_models, decoded_faces}
+use Rattle.qm_answers.specs.Answers.{IsNumberOfLeaf, IsPlaceAnswer, AnswersPlace, AnswersWhere, AnswersBySection, is_solid_at, AnswersHull, AnswersByTree, AnswersTrace, AnswersHullTrace, model_of_entity, answer_of_model, leaf_contents_at, AnswersModel, AnswersModelAt, AnswersFaceCount, answer_to_face, AnswersFace, AnswersQuery}
 
 -- ---- numbers of leaves
 
@@ -79,6 +79,30 @@ unfolding AnswersHull
 one_hull_answer file hull point =
     one_where _ _ _ (one_by_section (decoded_hull file hull) (λ found answer. answer ≡ Ok (Hull (is_solid_at found.tree point))) (λ found a b is_a is_b. is_b ∙ sym is_a))
 
+-- ---- models
+
+one_model_answer : (file : TreeFile) (entity : ℕ) → HasOne (AnswersModel file entity)
+unfolding AnswersModel
+one_model_answer file entity =
+    one_by_section (decoded_models file) (λ models answer. answer ≡ answer_of_model (model_of_entity models entity) (λ _. Model entity)) (λ models a b is_a is_b. is_b ∙ sym is_a)
+
+one_model_answer_at : (file : TreeFile) (entity : ℕ) (point : Point) → HasOne (AnswersModelAt file entity point)
+unfolding AnswersModelAt
+one_model_answer_at file entity point =
+    one_where _ _ _
+    (one_by_section (decoded_models file) (λ models answer. answer ≡ answer_of_model (model_of_entity models entity) (λ model. ModelAt entity (leaf_contents_at model.file.tree point)))
+    (λ models a b is_a is_b. is_b ∙ sym is_a))
+
+-- ---- faces
+
+one_face_count : (file : TreeFile) → HasOne (AnswersFaceCount file)
+unfolding AnswersFaceCount
+one_face_count file = one_by_section (decoded_faces file) (λ faces answer. answer ≡ Ok (Faces (length faces))) (λ faces a b is_a is_b. is_b ∙ sym is_a)
+
+one_face_answer : (file : TreeFile) (n : ℕ) → HasOne (AnswersFace file n)
+unfolding AnswersFace
+one_face_answer file n = one_by_section (decoded_faces file) (λ faces answer. answer ≡ answer_to_face faces n) (λ faces a b is_a is_b. is_b ∙ sym is_a)
+
 -- ---- traces
 
 one_by_tree : (tree : Tree) (trace : Answer) → HasOne (AnswersByTree tree trace)
@@ -102,6 +126,10 @@ one_answer file (queries.At x y z) a b is_a is_b = one_place_answer file _ a b i
 one_answer file (queries.Hull hull x y z) a b is_a is_b = one_hull_answer file hull _ a b is_a is_b
 one_answer file (queries.Trace from to) a b is_a is_b = one_trace_answer file from to a b is_a is_b
 one_answer file (queries.HullTrace hull from to) a b is_a is_b = one_hull_trace_answer file hull from to a b is_a is_b
+one_answer file (queries.Model entity) a b is_a is_b = one_model_answer file entity a b is_a is_b
+one_answer file (queries.ModelAt entity x y z) a b is_a is_b = one_model_answer_at file entity _ a b is_a is_b
+one_answer file queries.Faces a b is_a is_b = one_face_count file a b is_a is_b
+one_answer file (queries.Face n) a b is_a is_b = one_face_answer file n a b is_a is_b
 one_answer file (queries.Row n) a b is_a is_b = is_b ∙ sym is_a
 one_answer file (queries.Sees n m) a b is_a is_b = is_b ∙ sym is_a
 one_answer file queries.Parts a b is_a is_b = is_b ∙ sym is_a

@@ -1,5 +1,5 @@
 -- What a file answers can be printed.
-use Rattle.std.proofs.Common.{◌≡◌, inl, inr, ℕ, Bool, true, false, List, [], Option, Some, None, Result, Ok, Err, refl, sym, subst}
+use Rattle.std.proofs.Common.{◌≡◌, inl, inr, ℕ, Bool, true, false, List, [], length, Option, Some, None, Result, Ok, Err, refl, sym, subst}
 use Rattle.std.specs.Prelude.{IfOk, ◌&&◌, nat_lt, slice_index_or, if◌then◌else◌}
 use Rattle.qm_space.specs.Point.{Point}
 use Rattle.qm_space.specs.InsideBound.{IsInsideBound}
@@ -10,13 +10,15 @@ use Rattle.qm_commands.specs.declared.millionths.Millionths.{Millionths}
 use Rattle.qm_commands.specs.declared.query.Query.{Query}
 use Rattle.qm_commands.specs.declared.query.Query.TheVariants as queries
 use Rattle.qm_answers.specs.declared.answer.Answer.{Answer}
-use Rattle.qm_answers.specs.declared.answer.Answer.TheVariants.{Hull, Trace, HullTrace, Row, Sees, Parts}
+use Rattle.qm_answers.specs.declared.answer.Answer.TheVariants.{Hull, Trace, HullTrace, Model, ModelAt, Faces, Face, Row, Sees, Parts}
 use Rattle.qm_answers.specs.declared.decoded_section.DecodedSection.{DecodedSection}
 use Rattle.qm_answers.specs.declared.decoded_section.DecodedSection.TheVariants.{Missing, Bad, Known}
 use Rattle.qm_answers.specs.declared.query_fault.QueryFault.{QueryFault}
-use Rattle.qm_answers.specs.declared.query_fault.QueryFault.TheVariants.{OutsideCube, NoSuchLeaf, TooWide}
-use Rattle.qm_answers.specs.DecodedSections.{decoded_hull}
-use Rattle.qm_answers.specs.Answers.{numbered_count, answer_to_count, is_solid_at, answer_of_rows, AnswersWhere, AnswersBySection, AnswersByTree, AnswersHull, AnswersTrace, AnswersHullTrace, AnswersQuery, HasEndsInside}
+use Rattle.qm_answers.specs.declared.query_fault.QueryFault.TheVariants.{OutsideCube, NoSuchLeaf, NoSuchFace, TooWide}
+use Rattle.qm_model_layout.specs.BrushModel.{BrushModel}
+use Rattle.qm_face_layout.specs.declared.face_record.FaceRecord.{FaceRecord}
+use Rattle.qm_answers.specs.DecodedSections.{numbered_count, decoded_hull, decoded_models, decoded_faces}
+use Rattle.qm_answers.specs.Answers.{answer_to_count, is_solid_at, answer_of_rows, AnswersWhere, AnswersBySection, AnswersByTree, AnswersHull, AnswersTrace, AnswersHullTrace, model_of_entity, answer_of_model, leaf_contents_at, AnswersModel, AnswersModelAt, AnswersFaceCount, answer_to_face, AnswersFace, AnswersQuery, HasEndsInside}
 use Rattle.qm_answers.specs.Printable.{IsKnownTo, IsTraceable, IsPrintable}
 
 -- ---- parts of answers
@@ -83,6 +85,54 @@ module _ (file : TreeFile) where
       (where_answered (IsInsideBound file.bound point) OutsideCube
       (AnswersBySection (decoded_hull file hull) (λ found given. given ≡ Ok (Hull (is_solid_at found.tree point)))) answer is).1
 
+  -- ---- models
+
+  by_model : (found : Option BrushModel) (of_model : BrushModel → Answer) (answer : Answer) → ((model : BrushModel) → IsPrintable file (of_model model)) → Ok answer ≡ answer_of_model found of_model → IsPrintable file answer
+  by_model None of_model answer each is = absurd cc
+  by_model (Some model) of_model answer each is = printed_as answer (of_model model) is (each model)
+
+  by_models : (section : DecodedSection (List BrushModel)) (entity : ℕ) (of_model : BrushModel → Answer) (answer : Answer) → ((model : BrushModel) → IsPrintable file (of_model model)) →
+      AnswersBySection section (λ models given. given ≡ answer_of_model (model_of_entity models entity) of_model) (Ok answer) → IsPrintable file answer
+  by_models Missing entity of_model answer each is = absurd cc
+  by_models Bad entity of_model answer each is = absurd cc
+  by_models (Known models) entity of_model answer each is = by_model (model_of_entity models entity) of_model answer each is
+
+  model_printable : (entity : ℕ) (answer : Answer) → AnswersModel file entity (Ok answer) → IsPrintable file answer
+  unfolding AnswersModel
+  model_printable entity answer is = by_models (decoded_models file) entity (λ _. Model entity) answer (λ model. tt) is
+
+  model_at_printable : (entity : ℕ) (point : Point) (answer : Answer) → AnswersModelAt file entity point (Ok answer) → IsPrintable file answer
+  unfolding AnswersModelAt
+  model_at_printable entity point answer is =
+      let of_model : BrushModel → Answer = λ model. ModelAt entity (leaf_contents_at model.file.tree point) in
+      by_models (decoded_models file) entity of_model answer (λ model. tt)
+      (where_answered (IsInsideBound file.bound point) OutsideCube
+      (AnswersBySection (decoded_models file) (λ models given. given ≡ answer_of_model (model_of_entity models entity) of_model)) answer is).1
+
+  -- ---- faces
+
+  by_faces : (section : DecodedSection (List FaceRecord)) (answer : Answer) → AnswersBySection section (λ faces given. given ≡ Ok (Faces (length faces))) (Ok answer) → IsPrintable file answer
+  by_faces Missing answer is = absurd cc
+  by_faces Bad answer is = absurd cc
+  by_faces (Known faces) answer is = printed_as answer (Faces (length faces)) is tt
+
+  face_count_printable : (answer : Answer) → AnswersFaceCount file (Ok answer) → IsPrintable file answer
+  unfolding AnswersFaceCount
+  face_count_printable answer is = by_faces (decoded_faces file) answer is
+
+  by_face_test : (test : Bool) (n : ℕ) (answer : Answer) → ◌≡◌ {A = Result Answer QueryFault} (Ok answer) (if test then Ok (Face n) else Err NoSuchFace) → IsPrintable file answer
+  by_face_test true n answer is = printed_as answer (Face n) is tt
+  by_face_test false n answer is = absurd cc
+
+  by_face : (section : DecodedSection (List FaceRecord)) (n : ℕ) (answer : Answer) → AnswersBySection section (λ faces given. given ≡ answer_to_face faces n) (Ok answer) → IsPrintable file answer
+  by_face Missing n answer is = absurd cc
+  by_face Bad n answer is = absurd cc
+  by_face (Known faces) n answer is = by_face_test (nat_lt n (length faces)) n answer is
+
+  face_printable : (n : ℕ) (answer : Answer) → AnswersFace file n (Ok answer) → IsPrintable file answer
+  unfolding AnswersFace
+  face_printable n answer is = by_face (decoded_faces file) n answer is
+
   -- ---- queries
 
   pub answers_are_printable : (query : Query) (answer : Answer) → AnswersQuery file query (Ok answer) → IsPrintable file answer
@@ -92,6 +142,10 @@ module _ (file : TreeFile) where
   answers_are_printable (queries.Hull hull x y z) answer is = hull_printable hull _ answer is
   answers_are_printable (queries.Trace from to) answer is = trace_printable from to answer is
   answers_are_printable (queries.HullTrace hull from to) answer is = hull_trace_printable hull from to answer is
+  answers_are_printable (queries.Model entity) answer is = model_printable entity answer is
+  answers_are_printable (queries.ModelAt entity x y z) answer is = model_at_printable entity _ answer is
+  answers_are_printable queries.Faces answer is = face_count_printable answer is
+  answers_are_printable (queries.Face n) answer is = face_printable n answer is
   answers_are_printable (queries.Row n) answer is =
       by_test (nat_lt n (numbered_count file)) (answer_of_rows file.rows (λ _. Row n)) answer (by_rows file.rows (λ _. Row n) answer (λ rows. tt)) is
   answers_are_printable (queries.Sees n m) answer is =

@@ -1,22 +1,27 @@
-use Rattle.std.specs.Prelude.{ℕ, ◌+◌, Bool, List, [], ◌∷◌, ◌++◌, slice_get, slice_index_or, Option, Some, None, codes, if◌then◌else◌}
-use Rattle.std.specs.Fmt.{decimal}
+use Rattle.std.specs.Prelude.{ℕ, ℤ, ◌+◌, Bool, List, [], ◌∷◌, ◌++◌, slice_get, slice_index_or, Option, Some, None, codes, if◌then◌else◌}
+use Rattle.std.specs.Fmt.{decimal, signed_decimal}
 use Rattle.qm_contents.specs.declared.contents.Contents.{Contents}
 use Rattle.qm_contents.specs.declared.contents.Contents.TheVariants.{Empty, Solid, Water, Slime, Lava, Sky}
+use Rattle.qm_space.specs.Cuboid.{Cuboid}
+use Rattle.qm_space.specs.Plane.{Plane}
 use Rattle.qm_partition.specs.declared.node.Leaf.{Leaf}
 use Rattle.qm_partition.specs.Tree.{Tree}
 use Rattle.qm_partition.specs.Counting.{leaves_of}
 use Rattle.qm_spans.specs.declared.span.Span.{Span}
 use Rattle.qm_spans.specs.ComputedSpans.{trace_of}
 use Rattle.qm_formats.specs.TreeFile.{Section, TreeFile}
+use Rattle.qm_model_layout.specs.BrushModel.{BrushModel}
+use Rattle.qm_face_layout.specs.declared.face_record.FaceRecord.{FaceRecord}
 use Rattle.qm_commands.specs.declared.millionths.Millionths.{Millionths}
 use Rattle.qm_answers.specs.declared.answer.Answer.{Answer}
-use Rattle.qm_answers.specs.declared.answer.Answer.TheVariants.{Count, Place, Hull, Trace, HullTrace, Row, Sees, Parts}
+use Rattle.qm_answers.specs.declared.answer.Answer.TheVariants.{Count, Place, Hull, Trace, HullTrace, Model, ModelAt, Faces, Face, Row, Sees, Parts}
 use Rattle.qm_answers.specs.declared.query_fault.QueryFault.{QueryFault}
-use Rattle.qm_answers.specs.declared.query_fault.QueryFault.TheVariants.{OutsideCube, NoSuchLeaf, NoRows, NoPart, BadPart, TooWide}
+use Rattle.qm_answers.specs.declared.query_fault.QueryFault.TheVariants.{OutsideCube, NoSuchLeaf, NoRows, NoPart, BadPart, NoSuchModel, NoSuchFace, TooWide}
 use Rattle.qm_answers.specs.declared.decoded_section.DecodedSection.{DecodedSection}
 use Rattle.qm_answers.specs.declared.decoded_section.DecodedSection.TheVariants.{Missing, Bad, Known}
-use Rattle.qm_answers.specs.Answers.{point_of}
-use Rattle.qm_answers.specs.DecodedSections.{decoded_hull}
+use Rattle.qm_answers.specs.Answers.{point_of, model_of_entity}
+use Rattle.qm_answers.specs.CornerText.{spaced_corners}
+use Rattle.qm_answers.specs.DecodedSections.{decoded_hull, decoded_models, decoded_faces}
 
 -- How answers and refusals are printed.
 
@@ -54,10 +59,14 @@ printed_row file n = row_in file.rows
     row_in None = []
     row_in (Some rows) = slice_index_or rows n []
 
--- the kinds of sections, each after a space
+-- numbers of what a list has, each after a space
+abbrev pub spaced_numbers : {X : Type 0} → (X → ℕ) → List X → List ℕ
+spaced_numbers number [] = []
+spaced_numbers number (x ∷ rest) = 32 ∷ (decimal (number x) ++ spaced_numbers number rest)
+
+-- the kinds of sections
 abbrev pub section_kinds : List Section → List ℕ
-section_kinds [] = []
-section_kinds (section ∷ sections) = 32 ∷ (decimal section.kind ++ section_kinds sections)
+section_kinds sections = spaced_numbers (λ (section : Section). section.kind) sections
 
 -- the words of how much there is
 unfoldable pub words_of_count : (planes nodes leaves numbered : ℕ) → Bool → List ℕ
@@ -108,6 +117,57 @@ words_of_hull_trace Missing from to = []
 words_of_hull_trace Bad from to = []
 words_of_hull_trace (Known hull) from to = words_of_trace hull.tree from to
 
+-- the words of a corner with whole coordinates
+unfoldable pub words_of_corner : (x y z : ℤ) → List ℕ
+words_of_corner x y z = signed_decimal x ++ (32 ∷ (signed_decimal y ++ (32 ∷ signed_decimal z)))
+
+-- the low corner of a box, and then its high one
+unfoldable pub words_of_box : Cuboid → List ℕ
+words_of_box box = words_of_corner box.x.low box.y.low box.z.low ++ (32 ∷ words_of_corner box.x.high box.y.high box.z.high)
+
+-- numbers of leaves
+abbrev pub leaf_numbers : List ℕ → List ℕ
+leaf_numbers leaves = spaced_numbers (λ (leaf : ℕ). leaf) leaves
+
+-- the words of a model: its entity, its box and the leaves that it touches
+unfoldable pub words_of_model : BrushModel → List ℕ
+words_of_model model =
+    codes "model " ++ (decimal model.entity ++ (codes " box " ++ (words_of_box model.box ++ (codes " leaves" ++ leaf_numbers model.leaves))))
+
+-- those of the model of an entity; one that is not there has no words
+abbrev pub words_of_found_model : Option BrushModel → List ℕ
+words_of_found_model None = []
+words_of_found_model (Some model) = words_of_model model
+
+abbrev pub words_of_known_model : DecodedSection (List BrushModel) → ℕ → List ℕ
+words_of_known_model Missing entity = []
+words_of_known_model Bad entity = []
+words_of_known_model (Known models) entity = words_of_found_model (model_of_entity models entity)
+
+-- the words of what a model is at a point
+unfoldable pub words_of_model_at : ℕ → Contents → List ℕ
+words_of_model_at entity contents = codes "model " ++ (decimal entity ++ (32 ∷ name_of_contents contents))
+
+-- the words of how many faces there are
+unfoldable pub words_of_faces : ℕ → List ℕ
+words_of_faces count = codes "faces " ++ decimal count
+
+-- the words of the face of a number: its leaf, its brush, its place among the faces of the brush, and its corners
+unfoldable pub words_of_face : List Plane → ℕ → ℕ → FaceRecord → List ℕ
+words_of_face planes bound n face =
+    codes "face " ++ (decimal n ++ (codes " leaf " ++ (decimal face.leaf ++ (codes " brush " ++ (decimal face.brush
+    ++ (codes " face " ++ (decimal face.face ++ spaced_corners planes bound face.corners)))))))
+
+-- those of the face of a number; one that is not there has no words
+abbrev pub words_of_found_face : List Plane → ℕ → ℕ → Option FaceRecord → List ℕ
+words_of_found_face planes bound n None = []
+words_of_found_face planes bound n (Some face) = words_of_face planes bound n face
+
+abbrev pub words_of_known_face : List Plane → ℕ → DecodedSection (List FaceRecord) → ℕ → List ℕ
+words_of_known_face planes bound Missing n = []
+words_of_known_face planes bound Bad n = []
+words_of_known_face planes bound (Known faces) n = words_of_found_face planes bound n (slice_get faces n)
+
 -- the words of the row of a numbered leaf
 unfoldable pub words_of_row : TreeFile → ℕ → List ℕ
 words_of_row file n = codes "row " ++ (decimal n ++ (58 ∷ set_places 0 (printed_row file n)))
@@ -124,6 +184,10 @@ answer_words file (Place leaf contents filled number) = words_of_place leaf cont
 answer_words file (Hull solid) = words_of_hull solid
 answer_words file (Trace from to) = words_of_trace file.tree from to
 answer_words file (HullTrace hull from to) = words_of_hull_trace (decoded_hull file hull) from to
+answer_words file (Model entity) = words_of_known_model (decoded_models file) entity
+answer_words file (ModelAt entity contents) = words_of_model_at entity contents
+answer_words file (Faces count) = words_of_faces count
+answer_words file (Face n) = words_of_known_face file.tree.planes file.bound (decoded_faces file) n
 answer_words file (Row n) = words_of_row file n
 answer_words file (Sees sees) = yes_or_no sees
 answer_words file Parts = words_of_parts file
@@ -139,4 +203,6 @@ words_of_refusal NoSuchLeaf = codes "no such leaf"
 words_of_refusal NoRows = codes "no rows"
 words_of_refusal NoPart = codes "no part"
 words_of_refusal BadPart = codes "bad part"
+words_of_refusal NoSuchModel = codes "no such model"
+words_of_refusal NoSuchFace = codes "no such face"
 words_of_refusal TooWide = codes "plane too wide"

@@ -1,28 +1,27 @@
-use Rattle.std.specs.Prelude.{◌≡◌, ◌⊎◌, ℕ, ℤ, pos, Bool, false, ◌&&◌, nat_lt, List, [], length, slice_get, slice_index_or, Option, Some, None, is_some, Result, Ok, Err, count_by, if◌then◌else◌}
+use Rattle.std.specs.Prelude.{◌≡◌, ◌⊎◌, ℕ, ℤ, pos, Bool, false, ◌&&◌, nat_lt, List, [], ◌∷◌, length, slice_get, slice_index_or, Option, Some, None, is_some, Result, Ok, Err, ◌==◌, if◌then◌else◌}
 use Rattle.qm_space.specs.Point.{Point}
-use Rattle.qm_partition.specs.Counting.{node_count, leaf_count, leaves_of}
+use Rattle.qm_partition.specs.Counting.{node_count, leaf_count}
 use Rattle.qm_partition.specs.LeafOfPoint.{leaf_at, leaf_record_at}
 use Rattle.qm_partition.specs.Tree.{Tree}
-use Rattle.qm_contacts.specs.NumberedLeaves.{is_solid, is_numbered, numbered_leaves}
+use Rattle.qm_contents.specs.declared.contents.Contents.{Contents}
+use Rattle.qm_contacts.specs.NumberedLeaves.{is_solid, numbered_leaves}
 use Rattle.qm_formats.specs.TreeFile.{TreeFile}
+use Rattle.qm_model_layout.specs.BrushModel.{BrushModel}
+use Rattle.qm_face_layout.specs.declared.face_record.FaceRecord.{FaceRecord}
 use Rattle.qm_spans.specs.SegmentTrace.{FitsTraces}
 use Rattle.qm_commands.specs.declared.millionths.Millionths.{Millionths}
 use Rattle.qm_commands.specs.declared.query.Query.{Query}
 use Rattle.qm_commands.specs.declared.query.Query.TheVariants as queries
 use Rattle.qm_answers.specs.declared.answer.Answer.{Answer}
-use Rattle.qm_answers.specs.declared.answer.Answer.TheVariants.{Count, Place, Hull, Trace, HullTrace, Row, Sees, Parts}
+use Rattle.qm_answers.specs.declared.answer.Answer.TheVariants.{Count, Place, Hull, Trace, HullTrace, Model, ModelAt, Faces, Face, Row, Sees, Parts}
 use Rattle.qm_answers.specs.declared.query_fault.QueryFault.{QueryFault}
-use Rattle.qm_answers.specs.declared.query_fault.QueryFault.TheVariants.{OutsideCube, NoSuchLeaf, NoRows, NoPart, BadPart, TooWide}
+use Rattle.qm_answers.specs.declared.query_fault.QueryFault.TheVariants.{OutsideCube, NoSuchLeaf, NoRows, NoPart, BadPart, NoSuchModel, NoSuchFace, TooWide}
 use Rattle.qm_answers.specs.declared.decoded_section.DecodedSection.{DecodedSection}
 use Rattle.qm_answers.specs.declared.decoded_section.DecodedSection.TheVariants.{Missing, Bad, Known}
-use Rattle.qm_answers.specs.DecodedSections.{decoded_hull}
+use Rattle.qm_answers.specs.DecodedSections.{numbered_count, decoded_hull, decoded_models, decoded_faces}
 use Rattle.qm_space.specs.InsideBound.{IsInsideBound}
 
 -- What a tree file answers to a query.
-
--- how many leaves of a file are numbered
-abbrev pub numbered_count : TreeFile → ℕ
-numbered_count file = count_by is_numbered (leaves_of file.tree.shape)
 
 -- how much there is in a file
 abbrev pub answer_to_count : TreeFile → Answer
@@ -111,6 +110,43 @@ AnswersHullTrace file hull from to answer =
     AnswersWhere (HasEndsInside file.bound from to) OutsideCube
     (AnswersBySection (decoded_hull file hull) (λ found. AnswersByTree found.tree (HullTrace hull from to))) answer
 
+-- the model of an entity, where there is one
+abbrev pub model_of_entity : List BrushModel → ℕ → Option BrushModel
+model_of_entity [] entity = None
+model_of_entity (model ∷ models) entity = if model.entity == entity then Some model else model_of_entity models entity
+
+-- where a model is there, what it answers
+abbrev pub answer_of_model : Option BrushModel → (BrushModel → Answer) → Result Answer QueryFault
+answer_of_model None answer = Err NoSuchModel
+answer_of_model (Some model) answer = Ok (answer model)
+
+-- the contents of the leaf of a point
+abbrev pub leaf_contents_at : Tree → Point → Contents
+leaf_contents_at tree point = (leaf_record_at tree.planes tree.shape point).contents
+
+-- that the model of an entity is there
+unfoldable pub AnswersModel : TreeFile → ℕ → Result Answer QueryFault → Type 0
+AnswersModel file entity answer =
+    AnswersBySection (decoded_models file) (λ models answer. answer ≡ answer_of_model (model_of_entity models entity) (λ _. Model entity)) answer
+
+-- a point in the cube of the file's bound is answered by the model's own tree, and any other refused
+unfoldable pub AnswersModelAt : TreeFile → ℕ → Point → Result Answer QueryFault → Type 0
+AnswersModelAt file entity point answer =
+    AnswersWhere (IsInsideBound file.bound point) OutsideCube
+    (AnswersBySection (decoded_models file) (λ models answer. answer ≡ answer_of_model (model_of_entity models entity) (λ model. ModelAt entity (leaf_contents_at model.file.tree point)))) answer
+
+-- how many faces there are
+unfoldable pub AnswersFaceCount : TreeFile → Result Answer QueryFault → Type 0
+AnswersFaceCount file answer = AnswersBySection (decoded_faces file) (λ faces answer. answer ≡ Ok (Faces (length faces))) answer
+
+-- the face of a number, where there are that many
+abbrev pub answer_to_face : List FaceRecord → ℕ → Result Answer QueryFault
+answer_to_face faces n = if nat_lt n (length faces) then Ok (Face n) else Err NoSuchFace
+
+-- that the face of a number is there
+unfoldable pub AnswersFace : TreeFile → ℕ → Result Answer QueryFault → Type 0
+AnswersFace file n answer = AnswersBySection (decoded_faces file) (λ faces answer. answer ≡ answer_to_face faces n) answer
+
 -- what a file answers to a query
 unfoldable pub AnswersQuery : TreeFile → Query → Result Answer QueryFault → Type 0
 AnswersQuery file queries.Count answer = answer ≡ Ok (answer_to_count file)
@@ -118,6 +154,10 @@ AnswersQuery file (queries.At x y z) answer = AnswersPlace file (point_in_millio
 AnswersQuery file (queries.Hull hull x y z) answer = AnswersHull file hull (point_in_millionths x y z) answer
 AnswersQuery file (queries.Trace from to) answer = AnswersTrace file from to answer
 AnswersQuery file (queries.HullTrace hull from to) answer = AnswersHullTrace file hull from to answer
+AnswersQuery file (queries.Model entity) answer = AnswersModel file entity answer
+AnswersQuery file (queries.ModelAt entity x y z) answer = AnswersModelAt file entity (point_in_millionths x y z) answer
+AnswersQuery file queries.Faces answer = AnswersFaceCount file answer
+AnswersQuery file (queries.Face n) answer = AnswersFace file n answer
 AnswersQuery file (queries.Row n) answer = answer ≡ answer_to_row file n
 AnswersQuery file (queries.Sees n m) answer = answer ≡ answer_to_sees file n m
 AnswersQuery file queries.Parts answer = answer ≡ Ok Parts

@@ -32,6 +32,17 @@ pub enum Answer {
         from: Millionths,
         to: Millionths,
     },
+    /// The brush model of this entity is there.
+    Model(u64),
+    /// What the brush model of this entity is at a point.
+    ModelAt {
+        entity: u64,
+        contents: Contents,
+    },
+    /// How many faces there are.
+    Faces(u64),
+    /// The face of this number is there.
+    Face(u64),
     /// The row of this numbered leaf is there.
     Row(u64),
     /// Whether the one leaf's row has the other.

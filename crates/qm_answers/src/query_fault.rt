@@ -11,6 +11,10 @@ pub enum QueryFault {
     NoPart,
     /// The reader of its kind refuses the section that is asked.
     BadPart,
+    /// The section of brush models has none of the entity that is asked.
+    NoSuchModel,
+    /// There are not that many faces in their section.
+    NoSuchFace,
     /// The plane of a node is too far from the cube for traces.
     TooWide,
 }

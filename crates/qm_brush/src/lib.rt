@@ -16,5 +16,6 @@ pub use blocking::moved;
 pub use brush_list::BrushList;
 pub use listing::{brushes, brushes_of};
 pub use qm_contents::Contents;
+pub use qm_half_spaces::{Half, open_point};
 pub use qm_solids::FaceRef;
 pub use sides::inner_side;

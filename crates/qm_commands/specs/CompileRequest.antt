@@ -3,35 +3,46 @@ use Rattle.qm_commands.specs.FileNames.{IsFileName}
 
 -- What the words behind `compile` ask for.
 
--- names of files, in the order of the words; coarse rows; hulls; a listing under a name; and workers, as a number is written
+-- names of files, in the order of the words; coarse rows; hulls; models; faces; a listing under a name; and workers, as a number
+-- is written
 pub record Request : Type 0 where
   pub names : List (List ℕ)
   pub fast : Bool
   pub hulls : Bool
+  pub models : Bool
+  pub faces : Bool
   pub listing : Option (List ℕ)
   pub threads : Option (List ℕ)
 
 abbrev pub no_request : Request
-no_request = record { names = []; fast = false; hulls = false; listing = None; threads = None }
+no_request = record { names = []; fast = false; hulls = false; models = false; faces = false; listing = None; threads = None }
 
 -- an option without a value
 pub data FlagOption : Type 0 where
   fast_option : FlagOption
   hulls_option : FlagOption
+  models_option : FlagOption
+  faces_option : FlagOption
 
 -- how it is written
 abbrev pub flag_spelling : FlagOption → List ℕ
 flag_spelling fast_option = codes "--fast"
 flag_spelling hulls_option = codes "--hulls"
+flag_spelling models_option = codes "--models"
+flag_spelling faces_option = codes "--faces"
 
 -- whether it is asked for so far
 abbrev pub flag_in : Request → FlagOption → Bool
 flag_in asked fast_option = asked.fast
 flag_in asked hulls_option = asked.hulls
+flag_in asked models_option = asked.models
+flag_in asked faces_option = asked.faces
 
 abbrev pub with_flag : Request → FlagOption → Request
 with_flag asked fast_option = record asked { fast = true }
 with_flag asked hulls_option = record asked { hulls = true }
+with_flag asked models_option = record asked { models = true }
+with_flag asked faces_option = record asked { faces = true }
 
 -- an option that has a value
 pub data ValuedOption : Type 0 where

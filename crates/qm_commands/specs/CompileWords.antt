@@ -5,8 +5,8 @@ use Rattle.qm_commands.specs.CompileRequest.{Request, no_request, Asks}
 use Rattle.qm_commands.specs.FileNames.{FileNames, AreDifferent}
 use Rattle.qm_commands.specs.Options.{AreThreads}
 
--- `compile MAP OUT`, with the options `--prt FILE`, `--threads N`, `--fast` and `--hulls` anywhere behind `compile`: the
--- files are different from one another
+-- `compile MAP OUT`, with the options `--prt FILE`, `--threads N`, `--fast`, `--hulls`, `--models` and `--faces` anywhere behind
+-- `compile`: the files are different from one another
 pub record AreCompileWords (words : List (List ℕ)) (options : Options) (listed : Bool) (files : FileNames) : Type 0 where
   pub rest : List (List ℕ)
   pub words_are : words ≡ codes "compile" ∷ rest
@@ -17,5 +17,7 @@ pub record AreCompileWords (words : List (List ℕ)) (options : Options) (listed
   pub is_listed : listed ≡ is_some asked.listing
   pub is_fast : options.fast ≡ asked.fast
   pub are_hulls : options.hulls ≡ asked.hulls
+  pub are_models : options.models ≡ asked.models
+  pub are_faces : options.faces ≡ asked.faces
   pub are_threads : AreThreads asked.threads options.threads
   pub different : AreDifferent files

@@ -3,7 +3,7 @@ use Rattle.std.specs.Fmt.{decimal}
 use Rattle.qm_numerals.specs.Answer.{IsValue}
 use Rattle.qm_commands.specs.declared.millionths.Millionths.{Millionths}
 use Rattle.qm_commands.specs.declared.query.Query.{Query}
-use Rattle.qm_commands.specs.declared.query.Query.TheVariants.{Count, At, Hull, Trace, HullTrace, Row, Sees, Parts}
+use Rattle.qm_commands.specs.declared.query.Query.TheVariants.{Count, At, Hull, Trace, HullTrace, Model, ModelAt, Faces, Face, Row, Sees, Parts}
 
 -- How a query is written.
 
@@ -55,9 +55,13 @@ abbrev pub hull_trace_name : ℕ → List ℕ
 hull_trace_name (suc zero) = codes "hulltrace=1,"
 hull_trace_name _ = codes "hulltrace=2,"
 
--- a number of a leaf as it may be asked for has at most 18 digits
+-- a number of a leaf, of an entity or of a face as it may be asked for has at most 18 digits
 abbrev pub IsShort : ℕ → Type 0
 IsShort n = n < 10 ^ 18
+
+-- `model=E,`
+abbrev pub model_name : ℕ → List ℕ
+model_name entity = codes "model=" ++ (decimal entity ++ (44 ∷ []))
 
 -- the word of a query
 abbrev pub IsQueryWord : List ℕ → Query → Type 0
@@ -66,6 +70,10 @@ IsQueryWord word (At x y z) = IsPlaceWord (codes "at=") word x y z
 IsQueryWord word (Hull hull x y z) = IsHullNumber hull × IsPlaceWord (hull_name hull) word x y z
 IsQueryWord word (Trace from to) = IsTraceWord (codes "trace=") word from to
 IsQueryWord word (HullTrace hull from to) = IsHullNumber hull × IsTraceWord (hull_trace_name hull) word from to
+IsQueryWord word (Model entity) = (word ≡ codes "model=" ++ decimal entity) × IsShort entity
+IsQueryWord word (ModelAt entity x y z) = IsShort entity × IsPlaceWord (model_name entity) word x y z
+IsQueryWord word Faces = word ≡ codes "faces"
+IsQueryWord word (Face n) = (word ≡ codes "face=" ++ decimal n) × IsShort n
 IsQueryWord word (Row n) = (word ≡ codes "row=" ++ decimal n) × IsShort n
 IsQueryWord word (Sees n m) = (word ≡ codes "sees=" ++ (decimal n ++ (44 ∷ decimal m))) × IsShort n × IsShort m
 IsQueryWord word Parts = word ≡ codes "parts"

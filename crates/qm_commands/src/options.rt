@@ -7,4 +7,8 @@ pub struct Options {
     pub fast: bool,
     /// Whether the trees of both hulls are sections of the tree file.
     pub hulls: bool,
+    /// Whether the brush models of entities are a section of the tree file.
+    pub models: bool,
+    /// Whether the faces of brushes, cut to what can be seen of them, are a section of the tree file.
+    pub faces: bool,
 }

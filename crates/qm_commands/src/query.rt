@@ -30,6 +30,19 @@ pub enum Query {
         from: Millionths,
         to: Millionths,
     },
+    /// The box of the brush model of an entity, and which numbered leaves it touches.
+    Model(u64),
+    /// What the brush model of an entity is at a point, whose coordinates are given in millionths of a map unit.
+    ModelAt {
+        entity: u64,
+        x: i64,
+        y: i64,
+        z: i64,
+    },
+    /// How many faces there are.
+    Faces,
+    /// The leaf that the face of a number faces, its brush, its place among the faces of the brush, and its corners.
+    Face(u64),
     /// Which leaves the row of a numbered leaf has.
     Row(u64),
     /// Whether the row of the first numbered leaf has the second.

@@ -48,6 +48,8 @@ fn sum_up_map<R: Threads + Sync, G: Gate + Sync>(
         threads: 1,
         fast: false,
         hulls: false,
+        models: false,
+        faces: false,
     };
     match compile(rt, alloc, map, &options, gate)? {
         Compiled::Done { summary, .. } => summary_text(alloc, &summary),

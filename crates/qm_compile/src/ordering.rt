@@ -39,12 +39,16 @@ pub fn carry_out_order<R: Threads + Sync, H: Shelf, G: Gate + Sync>(
             threads,
             fast,
             hulls,
+            models,
+            faces,
         } => {
             let command = MapCommand::Compile {
                 options: Options {
                     threads,
                     fast,
                     hulls,
+                    models,
+                    faces,
                 },
                 listed: prt.is_some(),
             };

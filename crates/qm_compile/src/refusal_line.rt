@@ -28,6 +28,8 @@ fn words_of_refusal(fault: QueryFault) -> &'static str
         QueryFault::NoRows => "no rows",
         QueryFault::NoPart => "no part",
         QueryFault::BadPart => "bad part",
+        QueryFault::NoSuchModel => "no such model",
+        QueryFault::NoSuchFace => "no such face",
         QueryFault::TooWide => "plane too wide",
     }
 }

@@ -46,7 +46,7 @@ impl Report {
     {
         match self {
             Report::Usage =>
-                b"usage: qmapc compile MAP OUT [--prt FILE] [--threads N] [--fast] [--hulls] | inspect TREE QUERY.. | format MAP OUT | demo N NUMBER | upgrade TREE OUT\n",
+                b"usage: qmapc compile MAP OUT [--prt FILE] [--threads N] [--fast] [--hulls] [--models] [--faces] | inspect TREE QUERY.. | format MAP OUT | demo N NUMBER | upgrade TREE OUT\n",
             Report::OfFiles(outcome) => outcome.text(),
             Report::ReadFault => b"read fault\n",
             Report::TreeFault(line) | Report::QueryRefused(line) => line.as_bytes(),

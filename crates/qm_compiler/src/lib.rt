@@ -7,7 +7,6 @@ mod compiled;
 mod compiling;
 mod counting;
 mod entity_origins;
-pub mod laws;
 mod new_file;
 mod preparing;
 mod rows;

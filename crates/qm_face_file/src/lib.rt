@@ -13,6 +13,7 @@ mod reading;
 mod writing;
 
 pub use faces_fault::FacesFault;
+pub use named_planes::named_plane;
 pub use numbering::plane_number;
 pub use qm_face_layout::FaceRecord;
 pub use reading::decode;

@@ -9,7 +9,7 @@ use qm_geom::Plane;
 
 /// The plane of a number, where there is one: from 0 on one of these planes, and from -1 down a wall of the cube of this half
 /// size.
-pub(crate) fn named_plane(planes: &[Plane], bound: u32, number: i64) -> Option<Plane>
+pub fn named_plane(planes: &[Plane], bound: u32, number: i64) -> Option<Plane>
     ensures { result ≡ named_plane planes.now bound number }
 {
     if number < 0 {

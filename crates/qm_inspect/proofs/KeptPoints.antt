@@ -1,21 +1,26 @@
 -- Points as the code keeps their numbers, what is answered at them, and whether they are inside a cube.
-use Rattle.std.proofs.Common.{◌≡◌, ◌∙◌, ◌<◌, ◌*◌, inl, inr, ℕ, ℤ, pos, unsigned_abs, FitsSigned, w64, refl, sym, subst, arith, Result, Ok, Err}
+use Rattle.std.proofs.Common.{◌≡◌, ◌∙◌, ◌<◌, ◌*◌, inl, inr, ℕ, ℤ, List, pos, unsigned_abs, FitsSigned, w64, refl, sym, subst, arith, Result, Ok, Err}
 use Rattle.std.specs.Prelude.{◌↔◌, max}
 use Rattle.std.proofs.lemmas.Int.{ints, to_z-of_z}
 use Rattle.qm_numbers.proofs.Kept.{kept}
 use Rattle.qm_space.specs.Point.{Point}
 use Rattle.qm_partition.specs.Tree.{Tree}
 use Rattle.qm_formats.specs.TreeFile.{TreeFile}
+use Rattle.qm_model_layout.specs.BrushModel.{BrushModel}
 use Rattle.qm_answers.specs.declared.answer.Answer.{Answer}
-use Rattle.qm_answers.specs.declared.answer.Answer.TheVariants.{Hull}
+use Rattle.qm_answers.specs.declared.answer.Answer.TheVariants.{Hull, ModelAt}
 use Rattle.qm_answers.specs.declared.decoded_section.DecodedSection.{DecodedSection}
 use Rattle.qm_answers.specs.declared.query_fault.QueryFault.{QueryFault}
 use Rattle.qm_answers.specs.declared.query_fault.QueryFault.TheVariants.{OutsideCube}
-use Rattle.qm_answers.specs.Answers.{point_in_millionths, IsPlaceAnswer, AnswersPlace, AnswersBySection, is_solid_at, AnswersHull}
+use Rattle.qm_answers.specs.Answers.{point_in_millionths, IsPlaceAnswer, AnswersPlace, AnswersBySection, is_solid_at, AnswersHull, leaf_contents_at, model_of_entity, answer_of_model, AnswersModelAt}
 use Rattle.qm_inspect.specs.declared.parts.Parts.{Parts}
 use Rattle.qm_inspect.specs.Parts.{ArePartsOf, hull_in}
 use Rattle.qm_inspect.proofs.HullsOfFiles.{hull_of_file}
 use Rattle.qm_space.specs.InsideBound.{IsInsideBound, IsWithinBound}
+
+-- what the model of an entity is at a point
+abbrev pub IsAtModel : ℕ → Point → List BrushModel → Result Answer QueryFault → Type 0
+IsAtModel entity at models given = given ≡ answer_of_model (model_of_entity models entity) (λ model. ModelAt entity (leaf_contents_at model.file.tree at))
 
 module _ (x y z : ℤ) (fx : FitsSigned w64 x) (fy : FitsSigned w64 y) (fz : FitsSigned w64 z) where
   abbrev kept_point : Point
@@ -48,6 +53,16 @@ module _ (x y z : ℤ) (fx : FitsSigned w64 x) (fy : FitsSigned w64 y) (fz : Fit
           (subst (λ (at : Point). AnswersBySection section (λ found given. given ≡ Ok (Hull (is_solid_at found.tree at))) answer) (point_is ∙ same_point) is),
     )
 
+    pub kept_model :
+        (parts : Parts) (entity : ℕ) (answer : Result Answer QueryFault) → ArePartsOf file parts → AnswersBySection parts.models (IsAtModel entity point) answer →
+        AnswersModelAt file entity (point_in_millionths x y z) answer
+    unfolding AnswersModelAt
+    kept_model parts entity answer are is = inl (
+      inside file bound bound_is is_inside,
+      subst (λ (section : DecodedSection (List BrushModel)). AnswersBySection section (IsAtModel entity (point_in_millionths x y z)) answer) are.models
+          (subst (λ (at : Point). AnswersBySection parts.models (IsAtModel entity at) answer) (point_is ∙ same_point) is),
+    )
+
   -- a point that is not inside when it is kept is not inside
   outside : (file : TreeFile) (bound : ℕ) → bound ≡ file.bound → (IsInsideBound bound (point_in_millionths (kept w64 x) (kept w64 y) (kept w64 z)) → ⊥) → IsInsideBound file.bound (point_in_millionths x y z) → ⊥
   outside file bound bound_is not_kept is =
@@ -57,6 +72,11 @@ module _ (x y z : ℤ) (fx : FitsSigned w64 x) (fy : FitsSigned w64 y) (fz : Fit
       (file : TreeFile) (bound hull : ℕ) → bound ≡ file.bound → (IsInsideBound bound (point_in_millionths (kept w64 x) (kept w64 y) (kept w64 z)) → ⊥) → AnswersHull file hull (point_in_millionths x y z) (Err OutsideCube)
   unfolding AnswersHull
   hull_outside file bound hull bound_is not_kept = inr (outside file bound bound_is not_kept, refl)
+
+  pub model_outside :
+      (file : TreeFile) (bound entity : ℕ) → bound ≡ file.bound → (IsInsideBound bound (point_in_millionths (kept w64 x) (kept w64 y) (kept w64 z)) → ⊥) → AnswersModelAt file entity (point_in_millionths x y z) (Err OutsideCube)
+  unfolding AnswersModelAt
+  model_outside file bound entity bound_is not_kept = inr (outside file bound bound_is not_kept, refl)
 
 -- ---- a coordinate in millionths
 

@@ -8,7 +8,9 @@ ghost use Rattle.qm_answers.specs.Printable.{IsPrintable};
 ghost use Rattle.qm_inspect.specs.inner.BlockCounts.{AreBlockCounts};
 ghost use Rattle.qm_inspect.specs.Parts.{ArePartsOf};
 
+use crate::faces::{face, faces};
 use crate::hulls::hull;
+use crate::models::{model, model_at};
 use crate::numbered::numbered;
 use crate::parts::Parts;
 use crate::places::place;
@@ -22,7 +24,8 @@ use qm_file::TreeFile;
 /// bound, `NoSuchLeaf` exactly for a number that no numbered leaf has, `NoRows` exactly where that leaf is there and rows are not.
 /// For a hull at a point inside, `NoPart` exactly where the file has no section of it, and `BadPart` exactly where its reader
 /// refuses that section. For a trace the same, of both ends, and then `TooWide` exactly where the plane of a node is too far.
-/// It takes no memory.
+/// For a model the same as for a hull, and then `NoSuchModel` exactly where the section has none of that entity. For faces the
+/// same, and for one of them then `NoSuchFace` exactly where there are not that many. It takes no memory.
 pub fn query(file: &TreeFile, parts: &Parts, ask: &Query) -> Result<Answer, QueryFault>
     requires valid { IsValidFile file.now }
     requires parts { ArePartsOf file.now parts.now }
@@ -66,6 +69,10 @@ pub(crate) fn answer(
             from,
             to,
         } => hull_trace(file, parts, number, from, to),
+        Query::Model(entity) => model(&parts.models, entity),
+        Query::ModelAt { entity, x, y, z } => model_at(file, parts, entity, x, y, z),
+        Query::Faces => faces(&parts.faces),
+        Query::Face(n) => face(&parts.faces, n),
         Query::Row(n) => row(file, counts, n),
         Query::Sees(n, m) => sees(file, counts, n, m),
         Query::Parts => Ok(Answer::Parts),

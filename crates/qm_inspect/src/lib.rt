@@ -2,8 +2,12 @@
 #![tactic(auto)]
 
 mod asking;
+mod face_lines;
+mod faces;
 mod hulls;
 mod laws;
+mod model_lines;
+mod models;
 mod names;
 mod numbered;
 mod parts;
@@ -12,6 +16,7 @@ mod printing;
 mod room;
 mod row_places;
 mod rows;
+mod six_decimals;
 mod telling;
 mod trace_lines;
 mod traces;

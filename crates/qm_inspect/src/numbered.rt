@@ -4,7 +4,8 @@ ghost use Rattle.std.specs.Prelude.{◌≡◌, ◌≤◌, Some, IfOk, length, sl
 ghost use Rattle.qm_partition.specs.Counting.{leaves_of};
 ghost use Rattle.qm_contacts.specs.NumberedLeaves.{is_numbered};
 ghost use Rattle.qm_formats.specs.TreeFile.{IsValidFile};
-ghost use Rattle.qm_answers.specs.Answers.{numbered_count, IsNumberOfLeaf};
+ghost use Rattle.qm_answers.specs.Answers.{IsNumberOfLeaf};
+ghost use Rattle.qm_answers.specs.DecodedSections.{numbered_count};
 ghost use Rattle.qm_inspect.specs.inner.BlockCounts.{AreBlockCounts};
 
 use qm_contents::Contents;
@@ -17,7 +18,7 @@ use std::alloc::{AllocError, Global};
 const BLOCK: usize = 64;
 
 /// How many leaves are numbered, which are those that are not solid.
-fn count_numbered(leaves: &[Leaf]) -> u64
+pub(crate) fn count_numbered(leaves: &[Leaf]) -> u64
     ensures { result ≡ count_by is_numbered leaves.now }
 {
     leaves

@@ -1,12 +1,23 @@
 //! The sections of a tree file, decoded, and whether its trees can be traced through.
 
-ghost use Rattle.std.specs.Prelude.{◌≡◌, None, Some, IfOk, MatchOption};
+ghost use Rattle.std.specs.Prelude.{◌≡◌, List, None, Some, IfOk, MatchOption};
+ghost use Rattle.qm_face_file.specs.Answers.{IsFaultOfFaces};
+ghost use Rattle.qm_face_layout.specs.declared.face_record.FaceRecord.{FaceRecord as SeenFace};
+ghost use Rattle.qm_formats.specs.FileParts.{FileFaultKind};
+ghost use Rattle.qm_formats.specs.Layout.{Decoded};
+ghost use Rattle.qm_model_file.specs.Answers.{IsFaultOfModels};
+ghost use Rattle.qm_model_layout.specs.BrushModel.{BrushModel as ModelRecord};
 ghost use Rattle.qm_plain.specs.PlainFile.{read_plain};
-ghost use Rattle.qm_answers.specs.DecodedSections.{section_bytes, decoded_by, decoded_hull};
-ghost use Rattle.qm_inspect.specs.Parts.{ArePartsOf, FitsIfKnown, hull_in, fits_in};
+ghost use Rattle.qm_answers.specs.declared.decoded_section.DecodedSection.TheVariants.{Bad};
+ghost use Rattle.qm_answers.specs.DecodedSections.{section_bytes, if_decoded, known_if_read, decoded_by, decoded_hull, decoded_models, decoded_faces, AscendByEntity};
+ghost use Rattle.qm_inspect.specs.Parts.{ArePartsOf, FitsIfKnown, IfKnown, hull_in, fits_in};
 
+use crate::numbered::count_numbered;
 use qm_answers::DecodedSection;
+use qm_face_file::{FaceRecord, FacesFault, decode as decode_faces};
 use qm_file::{Section, TreeFile, plain_file};
+use qm_lists::Items;
+use qm_model_file::{BrushModel, ModelsFault, decode_models};
 use qm_trace::Tracer;
 use std::alloc::{AllocError, Global};
 
@@ -15,6 +26,12 @@ const FIRST_HULL: u8 = 1;
 
 /// The number of the second hull, which is the kind of its section.
 const SECOND_HULL: u8 = 2;
+
+/// The kind of the section of brush models.
+const MODELS: u32 = 3;
+
+/// The kind of the section of faces.
+const FACES: u32 = 4;
 
 /// What the known sections of a tree file are decoded to, and whether segments can be traced through the file's own tree and
 /// through each hull that is known.
@@ -25,6 +42,8 @@ pub struct Parts {
     pub(crate) first_fits: bool,
     pub(crate) second_hull: DecodedSection<TreeFile>,
     pub(crate) second_fits: bool,
+    pub(crate) models: DecodedSection<Items<BrushModel>>,
+    pub(crate) faces: DecodedSection<Items<FaceRecord>>,
 }
 
 impl Parts {
@@ -35,12 +54,16 @@ impl Parts {
     {
         let first_hull = decoded_tree(alloc, file, u32::from(FIRST_HULL))?;
         let second_hull = decoded_tree(alloc, file, u32::from(SECOND_HULL))?;
+        let models = decoded_models(alloc, file)?;
+        let faces = decoded_faces(alloc, file)?;
         Ok(Parts {
             fits: Tracer::fits(&file.tree),
             first_fits: is_traceable(&first_hull),
             second_fits: is_traceable(&second_hull),
             first_hull,
             second_hull,
+            models,
+            faces,
         })
     }
 
@@ -91,6 +114,62 @@ fn decoded_tree(
     match plain_file(alloc, bytes, file.bound)? {
         Some(tree) => Ok(DecodedSection::Known(tree)),
         None => Ok(DecodedSection::Bad),
+    }
+}
+
+/// The brush models of a file.
+fn decoded_models(
+    alloc: Global,
+    file: &TreeFile,
+) -> Result<DecodedSection<Items<BrushModel>>, AllocError>
+    ensures decoded { IfOk result (λ section. section ≡ decoded_models file.now) }
+    ensures ascend { IfOk result (λ section. IfKnown section (AscendByEntity 0)) }
+{
+    let Some(bytes) = section_bytes(file.sections.as_slice(), MODELS) else {
+        return Ok(DecodedSection::Missing);
+    };
+    let numbered = count_numbered(file.tree.all_leaves());
+    match decode_models(alloc, bytes, file.bound, numbered) {
+        Ok(models) => Ok(DecodedSection::Known(models)),
+        Err(fault) => not_read(fault),
+    }
+}
+
+/// What a section is decoded to in which no models are read.
+fn not_read(fault: ModelsFault) -> Result<DecodedSection<Items<BrushModel>>, AllocError>
+    ensures bad { IfOk result (λ section. section ≡ Bad) }
+    ensures refused { (answer : Decoded FileFaultKind (List ModelRecord)) → IsFaultOfModels fault answer → IfOk result (λ section. section ≡ known_if_read (if_decoded answer)) }
+{
+    match fault {
+        ModelsFault::Memory => Err(AllocError),
+        _ => Ok(DecodedSection::Bad),
+    }
+}
+
+/// The faces of a file.
+fn decoded_faces(
+    alloc: Global,
+    file: &TreeFile,
+) -> Result<DecodedSection<Items<FaceRecord>>, AllocError>
+    ensures { IfOk result (λ section. section ≡ decoded_faces file.now) }
+{
+    let Some(bytes) = section_bytes(file.sections.as_slice(), FACES) else {
+        return Ok(DecodedSection::Missing);
+    };
+    match decode_faces(alloc, bytes, file) {
+        Ok(faces) => Ok(DecodedSection::Known(faces)),
+        Err(fault) => no_faces(fault),
+    }
+}
+
+/// What a section is decoded to in which no faces are read.
+fn no_faces(fault: FacesFault) -> Result<DecodedSection<Items<FaceRecord>>, AllocError>
+    ensures bad { IfOk result (λ section. section ≡ Bad) }
+    ensures refused { (answer : Decoded FileFaultKind (List SeenFace)) → IsFaultOfFaces fault answer → IfOk result (λ section. section ≡ known_if_read (if_decoded answer)) }
+{
+    match fault {
+        FacesFault::Memory => Err(AllocError),
+        _ => Ok(DecodedSection::Bad),
     }
 }
 

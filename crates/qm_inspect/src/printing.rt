@@ -7,6 +7,8 @@ ghost use Rattle.qm_answers.specs.AnswerText.{number_words, yes_or_no, printed_r
 ghost use Rattle.qm_answers.specs.Printable.{IsPrintable};
 ghost use Rattle.qm_inspect.specs.Parts.{ArePartsOf};
 
+use crate::face_lines::{put_face, put_faces};
+use crate::model_lines::{put_model, put_model_at};
 use crate::names::{name_of, put_filled};
 use crate::parts::Parts;
 use crate::row_places::put_set_places;
@@ -83,6 +85,10 @@ fn put_words(
         Answer::HullTrace { hull, from, to } => {
             put_hull_trace(text, parts.hull(hull), file.bound, from, to)
         }
+        Answer::Model(entity) => put_model(text, &parts.models, entity),
+        Answer::ModelAt { entity, contents } => put_model_at(text, entity, contents),
+        Answer::Faces(count) => put_faces(text, count),
+        Answer::Face(n) => put_face(text, file.tree.all_planes(), file.bound, &parts.faces, n),
         Answer::Row(n) => put_row(text, file, n),
         Answer::Sees(sees) => text.push_str(yes_or_no(sees)),
         Answer::Parts => put_parts(text, file),

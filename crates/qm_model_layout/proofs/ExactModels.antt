@@ -1,5 +1,5 @@
 -- The section of brush models is read exactly.
-use Rattle.std.proofs.Common.{◌≡◌, ℕ, true, eqb, ltb, leb, ◌&&◌, List, length, refl, sym, ap, subst, arith}
+use Rattle.std.proofs.Common.{◌≡◌, ℕ, true, eqb, leb, ◌&&◌, List, length, refl, sym, ap, subst, arith}
 use Rattle.std.proofs.lemmas.Bool.{and_parts, and_from, leb-true, le-leb, eqb-true}
 use Rattle.std.specs.Prelude.{IsTrue}
 use Rattle.std.specs.Int.{w64}
@@ -15,7 +15,7 @@ use Rattle.qm_formats.proofs.ExactFile.{right_each_length, right_each_after_leng
 use Rattle.qm_formats.proofs.ValidFiles.{right_valid, valid_right}
 use Rattle.qm_formats.proofs.WholeFile.{IsFileOf, read_file_found, read_file_again}
 use Rattle.qm_model_layout.specs.BrushModel.{BrushModel}
-use Rattle.qm_model_layout.specs.ModelLayout.{KeptModel, box_layout, model_leaves_layout, counted_bytes_layout, kept_layout, is_box, ascend_from, decodes_for, is_model, file_read, model_of_kept, kept_of_model, tested_model_layout, can_be_kept, model_layout, models_layout}
+use Rattle.qm_model_layout.specs.ModelLayout.{KeptModel, box_layout, model_leaves_layout, counted_bytes_layout, kept_layout, decodes_for, is_model_head, is_model, file_read, model_of_kept, kept_of_model, tested_model_layout, can_be_kept, model_layout, models_layout}
 
 -- ---- a model as it is kept
 
@@ -73,7 +73,7 @@ kept_exact =
     λ i. record { entity = sym known.before.before.is i; box = sym known.before.is i; leaves = sym known.is i; bytes = kept.bytes })))))
 
 -- the tree's bytes of a model that can be kept are bytes
-kept_bytes : (kept : KeptModel) → kept_layout.right kept ≡ true → AreBytes kept.bytes
+pub kept_bytes : (kept : KeptModel) → kept_layout.right kept ≡ true → AreBytes kept.bytes
 unfolding kept_layout
 kept_bytes kept right =
     let of_bytes = counted_bytes_layout.right kept.bytes in
@@ -96,14 +96,11 @@ module _ (bound numbered before : ℕ) where
   file_of_kept kept right =
       let both = and_parts (kept_layout.right kept) (is_model bound numbered before kept) right in
       let decodes = decodes_for bound (read_file kept.bytes) in
-      let ascend = ascend_from 0 numbered kept.leaves in
-      let box = is_box kept.box in
-      let behind_entity = and_parts (ltb before kept.entity) (box && (ascend && decodes)) both.1 in
-      let behind_box = and_parts box (ascend && decodes) behind_entity.1 in
-      file_of_bytes bound kept.bytes (read_file kept.bytes) refl (kept_bytes kept both.0) (and_parts ascend decodes behind_box.1).1
+      file_of_bytes bound kept.bytes (read_file kept.bytes) refl (kept_bytes kept both.0) (and_parts (is_model_head numbered before kept) decodes both.1).1
 
-  there : (kept : KeptModel) → (tested_model_layout bound numbered before).right kept ≡ true → (kept_of_model (model_of_kept kept) ≡ kept) × IsTrue (can_be_kept bound numbered before (model_of_kept kept))
-  there kept right =
+  -- a model that is kept and passes the test is one that can be kept
+  pub kept_there : (kept : KeptModel) → (tested_model_layout bound numbered before).right kept ≡ true → (kept_of_model (model_of_kept kept) ≡ kept) × IsTrue (can_be_kept bound numbered before (model_of_kept kept))
+  kept_there kept right =
       let its = file_of_kept kept right in
       let file = file_read (read_file kept.bytes) in
       let long : length (file_bytes file) ≡ length kept.bytes = sym (ap length its.bytes) in
@@ -127,7 +124,7 @@ module _ (bound numbered before : ℕ) where
   unfolding model_layout
   model_exact =
       seen_as_exact model_of_kept kept_of_model (can_be_kept bound numbered before) (tested_model_layout bound numbered before)
-      (tested_exact (is_model bound numbered before) section_form (λ _ at. at) kept_layout kept_exact) there back
+      (tested_exact (is_model bound numbered before) section_form (λ _ at. at) kept_layout kept_exact) kept_there back
 
 -- ---- all models
 

@@ -1,3 +1,8 @@
 pub mod ExactModels
+pub mod KeptModels
 pub mod WholeSections
 pub mod ValidModels
+pub mod WrittenModels
+pub mod AscendingLeaves
+pub mod FaultKinds
+pub mod ModelFaults

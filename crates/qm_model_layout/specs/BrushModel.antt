@@ -1,9 +1,10 @@
-use Rattle.std.specs.Prelude.{◌≡◌, ◌<◌, ◌≤◌, ◌^◌, ◌+◌, ℕ, ◌≤ℤ◌, IsTrue, None, List, [], ◌∷◌, length}
+use Rattle.std.specs.Prelude.{◌<◌, ◌≤◌, ◌^◌, ◌+◌, ℕ, ◌≤ℤ◌, IsTrue, List, [], ◌∷◌, length}
 use Rattle.std.specs.Int.{w32}
 use Rattle.qm_space.specs.Cuboid.{Stretch, Cuboid}
 use Rattle.qm_formats.specs.Fields.{fits_signed}
 use Rattle.qm_formats.specs.TreeFile.{TreeFile, IsValidFile}
 use Rattle.qm_formats.specs.FileLayout.{file_bytes, file_limit}
+use Rattle.qm_plain.specs.PlainFile.{IsPlainFile}
 
 -- The brush models that a section keeps.
 
@@ -31,13 +32,10 @@ abbrev pub AscendFrom : ℕ → ℕ → List ℕ → Type 0
 AscendFrom least limit [] = Unit {0}
 AscendFrom least limit (n ∷ rest) = (least ≤ n) × (n < limit) × (n < 2 ^ 64) × AscendFrom (n + 1) limit rest
 
--- a tree file of version 2 for a cube, without rows and sections, that is short enough to be read
+-- a plain tree file for a cube that is short enough to be read
 pub record IsModelFile (bound : ℕ) (file : TreeFile) : Type 0 where
-  pub valid : IsValidFile file
-  pub version : file.version ≡ 2
-  pub bound_is : file.bound ≡ bound
-  pub no_rows : file.rows ≡ None
-  pub no_sections : file.sections ≡ []
+  pub is_plain : IsPlainFile bound file
+  pub is_valid : IsValidFile file
   pub fits : length (file_bytes file) ≤ file_limit
 
 -- a model that can stand in a section of a file for that cube with so many numbered leaves, behind one of another entity

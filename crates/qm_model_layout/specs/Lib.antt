@@ -1,2 +1,3 @@
 pub mod BrushModel
+pub mod ModelFaults
 pub mod ModelLayout

@@ -1,4 +1,4 @@
-use Rattle.std.specs.Prelude.{ℕ, ◌+◌, Bool, true, false, ◌&&◌, ◌==◌, nat_lt, nat_le, int_le, None, is_none, List, [], ◌∷◌, length}
+use Rattle.std.specs.Prelude.{◌≡◌, ℕ, ◌+◌, Bool, true, false, ◌&&◌, nat_lt, nat_le, int_le, Option, Some, None, List, [], ◌∷◌, length, if◌then◌else◌}
 use Rattle.std.specs.Int.{w32, w64}
 use Rattle.qm_space.specs.Cuboid.{Stretch, Cuboid}
 use Rattle.qm_partition.specs.Partition.{leaf}
@@ -6,9 +6,10 @@ use Rattle.qm_contents.specs.declared.contents.Contents.TheVariants.{Empty}
 use Rattle.qm_formats.specs.Layout.{Decoded, got, bad, Layout, seen_as, tested, part, last_part, many, each_after, read_to_end}
 use Rattle.qm_formats.specs.Fields.{raw, unsigned, signed}
 use Rattle.qm_formats.specs.FileParts.{FileFaultKind, short, trailing, section_form}
-use Rattle.qm_formats.specs.TreeFile.{Section, TreeFile, small_bound}
+use Rattle.qm_formats.specs.TreeFile.{TreeFile, small_bound}
 use Rattle.qm_formats.specs.FileLayout.{file_layout, file_bytes, file_limit, read_file}
-use Rattle.qm_model_layout.specs.BrushModel.{BrushModel}
+use Rattle.qm_plain.specs.PlainFile.{is_plain}
+use Rattle.qm_model_layout.specs.BrushModel.{BrushModel, AreValidModels}
 
 -- The bytes of the section of brush models: how many there are, and each model. A number that is due and a list of which too
 -- little is there are faults at the end; what is wrong of a model whose bytes are all there is one at its first byte; and what
@@ -63,22 +64,18 @@ unfoldable pub ascend_from : ℕ → ℕ → List ℕ → Bool
 ascend_from least limit [] = true
 ascend_from least limit (n ∷ rest) = nat_le least n && (nat_lt n limit && ascend_from (n + 1) limit rest)
 
-abbrev pub has_no_sections : List Section → Bool
-has_no_sections [] = true
-has_no_sections (section ∷ sections) = false
-
--- version 2, for that cube, without rows and sections
-abbrev pub is_of_model : ℕ → TreeFile → Bool
-is_of_model bound file = (file.version == 2) && ((file.bound == bound) && (is_none file.rows && has_no_sections file.sections))
-
--- such a file is read in the bytes
+-- a plain file for that cube is read in the bytes
 abbrev pub decodes_for : ℕ → Decoded FileFaultKind TreeFile → Bool
-decodes_for bound (got file next) = is_of_model bound file
+decodes_for bound (got file next) = is_plain bound file
 decodes_for bound (bad fault place) = false
+
+-- what stands before the tree of a model, behind one of another entity: the entity is above that one, the box is one, and the leaves ascend
+unfoldable pub is_model_head : ℕ → ℕ → KeptModel → Bool
+is_model_head numbered before kept = nat_lt before kept.entity && (is_box kept.box && ascend_from 0 numbered kept.leaves)
 
 -- what a model has to be, behind one of another entity
 unfoldable pub is_model : ℕ → ℕ → ℕ → KeptModel → Bool
-is_model bound numbered before kept = nat_lt before kept.entity && (is_box kept.box && (ascend_from 0 numbered kept.leaves && decodes_for bound (read_file kept.bytes)))
+is_model bound numbered before kept = is_model_head numbered before kept && decodes_for bound (read_file kept.bytes)
 
 -- the file that is read in bytes; bytes in which none is read never pass the test
 abbrev pub file_read : Decoded FileFaultKind TreeFile → TreeFile
@@ -87,6 +84,10 @@ file_read (bad fault place) = record { version = 2; bound = small_bound; tree = 
 
 abbrev pub model_of_kept : KeptModel → BrushModel
 model_of_kept kept = record { entity = kept.entity; box = kept.box; leaves = kept.leaves; file = file_read (read_file kept.bytes) }
+
+-- the model that is kept, where it can stand behind one of another entity
+abbrev pub kept_model : ℕ → ℕ → ℕ → KeptModel → Option BrushModel
+kept_model bound numbered before kept = if is_model bound numbered before kept then Some (model_of_kept kept) else None
 
 abbrev pub kept_of_model : BrushModel → KeptModel
 kept_of_model model = record { entity = model.entity; box = model.box; leaves = model.leaves; bytes = file_bytes model.file }
@@ -113,6 +114,11 @@ models_layout bound numbered =
 -- the bytes of models, whatever the cube and the number of leaves
 unfoldable pub models_bytes : List BrushModel → List ℕ
 models_bytes models = (models_layout small_bound 0).bytes_of models
+
+-- these are the bytes of models that can stand in a section
+pub record AreModelsBytes (bound numbered : ℕ) (bytes : List ℕ) (models : List BrushModel) : Type 0 where
+  pub are_valid : AreValidModels bound numbered models
+  pub bytes_are : bytes ≡ models_bytes models
 
 -- what is read in the bytes of a section, or the first fault
 unfoldable pub read_models : ℕ → ℕ → List ℕ → Decoded FileFaultKind (List BrushModel)

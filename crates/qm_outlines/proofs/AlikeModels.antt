@@ -1,5 +1,5 @@
--- Solids that are alike, place by place, have the same box and touch the same leaves.
-use Rattle.std.proofs.Common.{◌<◌, ℕ, List, Contains, get_or, subst, sym}
+-- Solids that are alike, place by place, have the same box and touch the same leaves, and so make the same model.
+use Rattle.std.proofs.Common.{◌<◌, ℕ, List, [], Contains, get_or, refl, subst, sym}
 use Rattle.std.specs.List.{AllZip}
 use Rattle.std.proofs.lemmas.List.Elements.{All-append, AllZip-get_or, length_all_zip, Contains-get_or}
 use Rattle.qm_lists.proofs.Elements.{All-first_part, All-last_part}
@@ -7,18 +7,29 @@ use Rattle.qm_space.specs.Point.{Point}
 use Rattle.qm_space.specs.Plane.{Plane, IsBehind, IsInFront}
 use Rattle.qm_space.specs.Cell.{IsInCell}
 use Rattle.qm_space.specs.Cuboid.{Cuboid}
+use Rattle.qm_space.specs.Entered.{AreEnteredInBook}
 use Rattle.qm_space.proofs.Multiples.{multiple_behind}
+use Rattle.qm_mapfile.specs.declared.entity.MapFile.{MapFile}
+use Rattle.qm_drawn.specs.Planes.{entity_planes}
+use Rattle.qm_drawn.specs.Solids.{entity_solids}
 use Rattle.qm_solids.specs.Solid.{Solid, inward}
 use Rattle.qm_solids.specs.Holding.{IsInside}
 use Rattle.qm_solids.specs.Flat.{IsFlat}
 use Rattle.qm_solids.specs.Alike.{IsAlike}
 use Rattle.qm_solids.proofs.Insides.{behind_all, inside_of_behind}
-use Rattle.qm_solids.proofs.AlikeSolids.{there, back, full_there, holds_there, holds_back}
+use Rattle.qm_solids.proofs.AlikeSolids.{there, back, full_there, holds_there, holds_back, same_contents_back}
 use Rattle.qm_partition.specs.Tree.{Tree}
 use Rattle.qm_partition.specs.Ways.{cell_of_way}
+use Rattle.qm_partition.specs.LeafOfPoint.{leaf_record_at}
+use Rattle.qm_solid_tree.specs.TreeOf.{IsTreeOf}
+use Rattle.qm_solid_tree.specs.GivesContents.{GivesContents}
+use Rattle.qm_solid_tree.proofs.SameTree.{tree_back}
 use Rattle.qm_reach.specs.ReachedLeaves.{ReachesLeaf}
 use Rattle.qm_outlines.specs.HeldPoints.{IsHeldPoint, IsModelBox, HasNoFull}
 use Rattle.qm_outlines.specs.ModelLeaves.{IsTouchedLeaf, AreModelLeaves}
+use Rattle.qm_outlines.specs.Outlines.{IsOutline, AreSortedNumbers}
+use Rattle.qm_outlines.specs.Models.{IsModelOf}
+use Rattle.qm_outlines.proofs.TouchedLeaves.{leaves_of_touched}
 
 -- ---- two solids
 
@@ -99,3 +110,22 @@ module _ (solids others : List Solid) (alike : AllZip IsAlike solids others) whe
       let o = other_of (get_or solids place d) (Contains-get_or solids place d within) in
       let at = o.1 in
       subst IsFlat at.2 (flat at.0 o.0 at.1) (full_there (get_or solids place d) o.0 o.2 full)
+
+-- ---- the model of an entity, by solids that are alike
+
+pub model_of_alike : (map : MapFile) (world : Tree) (e : ℕ) (others : List Solid) (box : Cuboid) (touched numbers : List ℕ) (book : List Plane) (tree : Tree) → AllZip IsAlike (entity_solids map e) others →
+    IsOutline world others box touched → AreSortedNumbers world touched numbers → AreEnteredInBook [] (entity_planes map e) book → IsTreeOf others book tree → GivesContents tree others →
+    IsModelOf map world e (record { entity = e; box = box; leaves = numbers; tree = tree })
+model_of_alike map world e others box touched numbers book tree alike outline are entered is_tree gives = record {
+  entity_is = refl;
+  box_is = box_back (entity_solids map e) others alike box outline.box_is;
+  leaves_are = leaves_back (entity_solids map e) others alike world numbers (leaves_of_touched world others touched numbers outline.touched_are are);
+  book = book;
+  entered = entered;
+  is_tree = tree_back (entity_solids map e) others alike book tree is_tree;
+  gives_contents = record {
+    named = gives.named;
+    normals = gives.normals;
+    gives = λ x in_cube off. same_contents_back (entity_solids map e) others alike x (leaf_record_at tree.planes tree.shape x).contents (gives.gives x in_cube off);
+  };
+}

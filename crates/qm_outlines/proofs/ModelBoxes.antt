@@ -24,7 +24,7 @@ use Rattle.qm_outlines.specs.HeldPoints.{IsHeldPoint, IsModelBox, HasFull}
 
 -- ---- one solid
 
-full_of_point : (solid : Solid) → HasPoint (inward solid) → IsFull solid
+pub full_of_point : (solid : Solid) → HasPoint (inward solid) → IsFull solid
 full_of_point solid some = record { within = some.point; in_cube = some.in_cube; inside = some.in_cell }
 
 pub point_of_full : (solid : Solid) → IsFull solid → HasPoint (inward solid)

@@ -1,1 +1,2 @@
-pub mod HullsAdded
+pub mod PartsAdded
+pub mod SectionsThatFit

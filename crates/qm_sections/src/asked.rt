@@ -2,9 +2,10 @@ ghost use Rattle.std.specs.Prelude.{IfOk, OnOk};
 ghost use Rattle.qm_grammar.specs.Valid.{IsValidMap};
 ghost use Rattle.qm_formats.specs.TreeFile.{AreSections};
 ghost use Rattle.qm_statement.specs.AskedSections.{AreSectionsAsked};
-ghost use Rattle.qm_sections.specs.inner.HullsAdded.{AreHullsAdded};
+ghost use Rattle.qm_sections.specs.inner.PartsAdded.{AreHullsAdded, AreModelsAdded};
 
 use crate::hull_sections::hull_sections;
+use crate::model_section::model_section;
 use qm_commands::Options;
 use qm_file::Section;
 use qm_lists::Items;
@@ -13,40 +14,60 @@ use qm_portal::World;
 use std::alloc::{AllocError, Global};
 use std::thread::Threads;
 
-/// The sections that the options ask for, in the order of their kinds, for a file of the tree of a valid map. Where the options
-/// ask for several workers, both hulls are built beside one another, and so are their halves. No section that there is so far
-/// tells anything of the world.
+/// The sections that the options ask for, in the order of their kinds, for a file of the tree of a world of a valid map. Where the
+/// options ask for several workers, both hulls are built beside one another, and so are their halves.
 pub fn sections<R: Threads + Sync>(
     rt: &R,
     alloc: Global,
     map: &MapFile,
-    _world: &World,
+    world: &World,
     options: &Options,
 ) -> Result<Items<Section>, AllocError>
     requires { IsValidMap map.now }
-    ensures asked { IfOk result (AreSectionsAsked map.now options.now) }
+    ensures asked { IfOk result (AreSectionsAsked map.now world.now.tree options.now) }
     ensures can_stand { IfOk result AreSections }
 {
     let mut all = Vec::new(alloc);
-    if options.hulls {
-        add_hulls(rt, alloc, map, options.threads, &mut all)?;
-    }
+    add_hulls(rt, alloc, map, options, &mut all)?;
+    add_models(alloc, map, world, options, &mut all)?;
     Ok(Items::from_vec(all))
 }
 
-/// Adds the sections of both hulls at the end.
+/// Adds the sections of both hulls at the end, where they are asked for.
 fn add_hulls<R: Threads + Sync>(
     rt: &R,
     alloc: Global,
     map: &MapFile,
-    threads: u8,
+    options: &Options,
     all: &mut Vec<Section>,
 ) -> Result<(), AllocError>
     requires { IsValidMap map.now }
-    ensures { OnOk result (AreHullsAdded map.now all.old.items all.new.items) }
+    ensures { OnOk result (AreHullsAdded options.now.hulls map.now all.old.items all.new.items) }
 {
-    let (first, second) = hull_sections(rt, alloc, map, threads)?;
+    if !options.hulls {
+        return Ok(());
+    }
+    let (first, second) = hull_sections(rt, alloc, map, options.threads)?;
     all.push(first)?;
     all.push(second)?;
+    Ok(())
+}
+
+/// Adds the section of the brush models at the end, where they are asked for.
+fn add_models(
+    alloc: Global,
+    map: &MapFile,
+    world: &World,
+    options: &Options,
+    all: &mut Vec<Section>,
+) -> Result<(), AllocError>
+    requires { IsValidMap map.now }
+    ensures { OnOk result (AreModelsAdded options.now.models map.now world.now.tree all.old.items all.new.items) }
+{
+    if !options.models {
+        return Ok(());
+    }
+    let section = model_section(alloc, map, world)?;
+    all.push(section)?;
     Ok(())
 }

@@ -1,16 +1,15 @@
 //! The sections of both hulls.
 
-ghost use Rattle.std.specs.Prelude.{◌≡◌, ◌⊎◌, ◌<◌, ◌^◌, IfOk, length};
+ghost use Rattle.std.specs.Prelude.{◌≡◌, ◌⊎◌, IfOk};
 ghost use Rattle.qm_mapfile.specs.declared.entity.MapFile.{MapFile};
 ghost use Rattle.qm_grammar.specs.Valid.{IsValidMap};
-ghost use Rattle.qm_formats.specs.Fields.{AreBytes};
 ghost use Rattle.qm_hull_trees.specs.HullBoxes.{hull_box};
 ghost use Rattle.qm_hull_trees.specs.Hull.{IsHull};
-ghost use Rattle.qm_sections.specs.inner.HullsAdded.{IsHullThatFits};
+ghost use Rattle.qm_sections.specs.inner.SectionsThatFit.{IsHullThatFits};
 
+use crate::section_of_bytes::section_of_bytes;
 use qm_file::{Section, TreeFile, encode};
 use qm_hull::{hull, hulls_halves};
-use qm_lists::Items;
 use qm_mapfile::MapFile;
 use std::alloc::{AllocError, Global};
 use std::thread::Threads;
@@ -53,17 +52,4 @@ fn section_of_file(alloc: Global, which: u8, file: &TreeFile) -> Result<Section,
 {
     let bytes = encode(alloc, file)?;
     Ok(section_of_bytes(which, bytes))
-}
-
-/// The section of the hull that has these bytes. They stay where they are.
-fn section_of_bytes(which: u8, bytes: Vec<u8>) -> Section
-    ensures kind { result.kind ≡ which }
-    ensures bytes { result.bytes ≡ bytes.items }
-    ensures length_fits { length bytes.items < 2 ^ 64 }
-    ensures are_bytes { AreBytes bytes.items }
-{
-    Section {
-        kind: u32::from(which),
-        bytes: Items::from_vec(bytes),
-    }
 }

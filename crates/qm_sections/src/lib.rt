@@ -3,5 +3,7 @@
 
 mod asked;
 mod hull_sections;
+mod model_section;
+mod section_of_bytes;
 
 pub use asked::sections;

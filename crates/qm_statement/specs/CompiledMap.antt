@@ -49,7 +49,7 @@ pub record IsCompiledWithoutLeak (map : MapFile) (options : Options) (file : Tre
   pub has_rows : file.rows ≡ Some rows
   pub are_rows : AreRowsAsAsked options.fast options.threads world rows
   pub hold_sight : HoldLinesOfSight (HasContents (drawn_solids map)) file.tree rows
-  pub has_sections : AreSectionsAsked map options file.sections
+  pub has_sections : AreSectionsAsked map file.tree options file.sections
   pub has_form : HasCompiledForm file
   pub is_valid : IsValidFile file
   pub is_summary : IsSummary map tree origins file.tree rows summary

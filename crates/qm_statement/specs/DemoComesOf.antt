@@ -15,7 +15,7 @@ use Rattle.qm_statement.specs.Untouched.{IsUntouched}
 
 -- one worker finds finer rows, and there is no section
 abbrev pub one_worker : Options
-one_worker = record { threads = 1; fast = false; hulls = false }
+one_worker = record { threads = 1; fast = false; hulls = false; models = false; faces = false }
 
 -- the summary of the map of so many rooms that is generated from a number: of its tree and rows, which it compiles to without
 -- a leak

@@ -6,6 +6,7 @@ pub mod CompiledMap
 pub mod Complete
 pub mod DemoComesOf
 pub mod FaultText
+pub mod Headline
 pub mod InspectComesOf
 pub mod KeptFile
 pub mod Marked

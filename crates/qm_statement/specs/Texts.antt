@@ -7,7 +7,7 @@ abbrev pub line : List ℕ → List ℕ
 line text = text ++ (10 ∷ [])
 
 unfoldable pub usage_text : List ℕ
-usage_text = line (codes "usage: qmapc compile MAP OUT [--prt FILE] [--threads N] [--fast] [--hulls] | inspect TREE QUERY.. | format MAP OUT | demo N NUMBER | upgrade TREE OUT")
+usage_text = line (codes "usage: qmapc compile MAP OUT [--prt FILE] [--threads N] [--fast] [--hulls] [--models] [--faces] | inspect TREE QUERY.. | format MAP OUT | demo N NUMBER | upgrade TREE OUT")
 
 unfoldable pub read_fault_text : List ℕ
 read_fault_text = line (codes "read fault")

@@ -1,5 +1,5 @@
 -- A hull that is read in a section of a compiled file is the map's hull for its box.
-use Rattle.std.proofs.Common.{◌≡◌, ℕ, zero, suc, Bool, true, false, List, [], ◌∷◌, Option, Some, None, refl, sym, ◌∙◌, subst}
+use Rattle.std.proofs.Common.{◌≡◌, ◌≤◌, ℕ, zero, suc, Bool, true, false, List, [], ◌∷◌, ◌++◌, Option, Some, None, refl, sym, ◌∙◌, subst, arith}
 use Rattle.qm_space.specs.Bounds.{world_extent}
 use Rattle.qm_mapfile.specs.declared.entity.MapFile.{MapFile}
 use Rattle.qm_formats.specs.Fields.{AreBytes}
@@ -13,10 +13,16 @@ use Rattle.qm_answers.specs.declared.decoded_section.DecodedSection.TheVariants.
 use Rattle.qm_answers.specs.DecodedSections.{section_bytes, known_if_read, decoded_by, kind_of_hull, decoded_hull}
 use Rattle.qm_commands.specs.declared.options.Options.{Options}
 use Rattle.qm_statement.specs.AskedSections.{IsHullSection, AreHullsAsAsked, AreSectionsAsked}
+use Rattle.qm_statement.proofs.SectionsOfKinds.{past_models, past_faces}
 
 known_from : (read : Option TreeFile) (found : TreeFile) → ◌≡◌ {A = DecodedSection TreeFile} (known_if_read read) (Known found) → read ≡ Some found
 known_from None found known = absurd cc
 known_from (Some other) found known = cc
+
+few_kinds : (hull : ℕ) → kind_of_hull hull ≤ 2
+few_kinds zero = omega arith
+few_kinds (suc zero) = omega arith
+few_kinds (suc (suc n)) = omega arith
 
 module _ (map : MapFile) where
   -- what is read in the bytes of a hull is that hull
@@ -46,17 +52,27 @@ module _ (map : MapFile) where
     of_both (suc zero) decoded = hull_of_section 1 first (section_bytes (first ∷ second ∷ rest) 1) found is_first are.0.are_bytes first_there decoded
     of_both (suc (suc n)) decoded = hull_of_section 2 second (section_bytes (first ∷ second ∷ rest) 2) found is_second are.1.0.are_bytes second_there decoded
 
-  as_asked : (asked : Bool) (sections : List Section) (hull : ℕ) (found : TreeFile) → AreHullsAsAsked asked map sections → AreSections sections →
-      decoded_by (read_plain world_extent) (section_bytes sections (kind_of_hull hull)) ≡ Known found → IsHull map (hull_box hull) found
-  as_asked true sections hull found both are decoded =
-      of_both both.first both.second [] both.is_first both.is_second (subst AreSections both.are_both are) found hull
-      (subst (λ (s : List Section). decoded_by (read_plain world_extent) (section_bytes s (kind_of_hull hull)) ≡ Known found) both.are_both decoded)
-  as_asked false sections hull found no_sections are decoded = absurd (
-      let missing : ◌≡◌ {A = DecodedSection TreeFile} Missing (Known found) = subst (λ (s : List Section). decoded_by (read_plain world_extent) (section_bytes s (kind_of_hull hull)) ≡ Known found) no_sections decoded in cc
-      )
+  -- behind both hulls stand others, of which none has the kind of a hull
+  module _ (later : List Section) (no_hull : (hull : ℕ) → section_bytes later (kind_of_hull hull) ≡ None) where
+    as_asked : (asked : Bool) (hulls : List Section) (hull : ℕ) (found : TreeFile) → AreHullsAsAsked asked map hulls → AreSections (hulls ++ later) →
+        decoded_by (read_plain world_extent) (section_bytes (hulls ++ later) (kind_of_hull hull)) ≡ Known found → IsHull map (hull_box hull) found
+    as_asked true hulls hull found both are decoded =
+        of_both both.first both.second later both.is_first both.is_second (subst (λ (s : List Section). AreSections (s ++ later)) both.are_both are) found hull
+        (subst (λ (s : List Section). decoded_by (read_plain world_extent) (section_bytes (s ++ later) (kind_of_hull hull)) ≡ Known found) both.are_both decoded)
+    as_asked false hulls hull found no_hulls are decoded = absurd (
+        let beside = subst (λ (s : List Section). decoded_by (read_plain world_extent) (section_bytes (s ++ later) (kind_of_hull hull)) ≡ Known found) no_hulls decoded in
+        let missing : ◌≡◌ {A = DecodedSection TreeFile} Missing (Known found) = subst (λ (b : Option (List ℕ)). decoded_by (read_plain world_extent) b ≡ Known found) (no_hull hull) beside in cc
+        )
 
-  pub kept_hull : (options : Options) (file : TreeFile) (hull : ℕ) (found : TreeFile) → AreSectionsAsked map options file.sections → file.bound ≡ world_extent → IsValidFile file →
+  -- no section of models or of faces has the kind of a hull
+  no_later : (options : Options) (file : TreeFile) (asked : AreSectionsAsked map file.tree options file.sections) (hull : ℕ) → section_bytes (asked.models ++ asked.faces) (kind_of_hull hull) ≡ None
+  no_later options file asked hull =
+      past_models map asked.faces (kind_of_hull hull) file.tree options.models asked.models (λ same. omega (arith, few_kinds hull, same)) asked.are_models
+      ∙ past_faces map file.tree (kind_of_hull hull) options.faces asked.faces (λ same. omega (arith, few_kinds hull, same)) asked.are_faces
+
+  pub kept_hull : (options : Options) (file : TreeFile) (hull : ℕ) (found : TreeFile) → AreSectionsAsked map file.tree options file.sections → file.bound ≡ world_extent → IsValidFile file →
       decoded_hull file hull ≡ Known found → IsHull map (hull_box hull) found
   kept_hull options file hull found asked bound valid decoded =
-      as_asked options.hulls file.sections hull found (subst (AreHullsAsAsked options.hulls map) (sym asked.are_all) asked.are_hulls) valid.sections
-      (subst (λ (n : ℕ). decoded_by (read_plain n) (section_bytes file.sections (kind_of_hull hull)) ≡ Known found) bound decoded)
+      let here = subst (λ (n : ℕ). decoded_by (read_plain n) (section_bytes file.sections (kind_of_hull hull)) ≡ Known found) bound decoded in
+      as_asked (asked.models ++ asked.faces) (no_later options file asked) options.hulls asked.hulls hull found asked.are_hulls (subst AreSections asked.are_all valid.sections)
+      (subst (λ (s : List Section). decoded_by (read_plain world_extent) (section_bytes s (kind_of_hull hull)) ≡ Known found) asked.are_all here)

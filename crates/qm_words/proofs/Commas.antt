@@ -76,6 +76,14 @@ same_parts (x ∷ a) b (y ∷ c) d same clear_a clear_c =
 pub splits_once : (text a b c d : List ℕ) → IsCommaSplit text a b → IsCommaSplit text c d → (a ≡ c) × (b ≡ d)
 splits_once text a b c d one other = same_parts a b c d (sym one.text_is ∙ other.text_is) one.clear other.clear
 
+-- a text without a comma has no first one
+clear_of_comma : (first rest : List ℕ) → HasNoComma (first ++ (44 ∷ rest)) → ⊥
+clear_of_comma [] rest clear = clear.0 refl
+clear_of_comma (byte ∷ first) rest clear = clear_of_comma first rest clear.1
+
+pub clear_text : (text first rest : List ℕ) → HasNoComma text → IsCommaSplit text first rest → ⊥
+clear_text text first rest clear split = clear_of_comma first rest (subst HasNoComma split.text_is clear)
+
 -- ---- numbers have none
 
 pub clear_append : (a b : List ℕ) → HasNoComma a → HasNoComma b → HasNoComma (a ++ b)

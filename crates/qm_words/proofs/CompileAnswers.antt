@@ -7,7 +7,7 @@ use Rattle.clap.specs.Walk.{Row, first_of, one_of, rows_of}
 use Rattle.clap.specs.Faults.{fault_of}
 use Rattle.qm_commands.specs.declared.options.Options.{Options}
 use Rattle.qm_commands.specs.declared.map_command.MapCommand.TheVariants.{Compile, Format}
-use Rattle.qm_commands.specs.CompileRequest.{Request, Asks, fast_option, hulls_option, no_request}
+use Rattle.qm_commands.specs.CompileRequest.{Request, Asks, fast_option, hulls_option, models_option, faces_option, no_request}
 use Rattle.qm_commands.specs.CompileWords.{AreCompileWords}
 use Rattle.qm_commands.specs.FileNames.{FileNames, AreDifferent}
 use Rattle.qm_commands.specs.Options.{AreThreads}
@@ -66,13 +66,15 @@ answer_compile words rows (Err Memory) taken answer = tt
 some_same : (a b : List ℕ) → Some a ≡ Some b → a ≡ b
 some_same a b same = cc
 
-pub order_is : (rows : List Row) (map_name out_name : List ℕ) (listing_name threads_text : Option (List ℕ)) (listed : Bool) (threads : ℕ) (fast hulls : Bool)
+pub order_is : (rows : List Row) (map_name out_name : List ℕ) (listing_name threads_text : Option (List ℕ)) (listed : Bool) (threads : ℕ) (fast hulls models faces : Bool)
     → first_of (codes "map") rows ≡ Some map_name → first_of (codes "out") rows ≡ Some out_name → first_of (codes "prt") rows ≡ listing_name → first_of (codes "threads") rows ≡ threads_text
     → listed ≡ is_some listing_name → AreThreads threads_text threads → ((b : Bool) → one_of (codes "fast") rows ≡ Some (cond b (codes "true") (codes "false")) → fast ≡ b)
     → ((b : Bool) → one_of (codes "hulls") rows ≡ Some (cond b (codes "true") (codes "false")) → hulls ≡ b)
+    → ((b : Bool) → one_of (codes "models") rows ≡ Some (cond b (codes "true") (codes "false")) → models ≡ b)
+    → ((b : Bool) → one_of (codes "faces") rows ≡ Some (cond b (codes "true") (codes "false")) → faces ≡ b)
     → AreDifferent (names_of map_name out_name listing_name)
-    → IsCompileOrder rows (of_map (Compile (record { threads = threads; fast = fast; hulls = hulls }) listed) (names_of map_name out_name listing_name))
-order_is rows map_name out_name listing_name threads_text listed threads fast hulls is_map is_out is_listing is_threads is_listed are_threads is_fast are_hulls different words asked asks found = record {
+    → IsCompileOrder rows (of_map (Compile (record { threads = threads; fast = fast; hulls = hulls; models = models; faces = faces }) listed) (names_of map_name out_name listing_name))
+order_is rows map_name out_name listing_name threads_text listed threads fast hulls models faces is_map is_out is_listing is_threads is_listed are_threads is_fast are_hulls are_models are_faces different words asked asks found = record {
   rest = words;
   words_are = refl;
   asked = asked;
@@ -82,6 +84,8 @@ order_is rows map_name out_name listing_name threads_text listed threads fast hu
   is_listed = is_listed ∙ ap (λ (o : Option (List ℕ)). is_some o) (sym is_listing ∙ found.listing_is);
   is_fast = is_fast asked.fast (found.flags_are fast_option);
   are_hulls = are_hulls asked.hulls (found.flags_are hulls_option);
+  are_models = are_models asked.models (found.flags_are models_option);
+  are_faces = are_faces asked.faces (found.flags_are faces_option);
   are_threads = subst (λ (o : Option (List ℕ)). AreThreads o threads) (sym is_threads ∙ found.threads_is) are_threads;
   different = different;
 }

@@ -16,11 +16,11 @@ use Rattle.qm_words.proofs.Given.{Given, at_end, find_last, find_past, first_is,
 use Rattle.qm_words.proofs.Walks.{end_fault_is, end_rows_are, fault_from, no_default, or_else-none, past_default, rows_from}
 use Rattle.qm_words.proofs.CompileCommand.{compile_shape}
 use Rattle.qm_words.proofs.CompileSteps.{Holds, Knows, Names, Seen, bare_rule, flag_text, idle_at, map_of, out_of, map_rule, out_rule, option_rule, request_of, rules, both}
-use Rattle.qm_commands.specs.CompileRequest.{FlagOption, fast_option, hulls_option, flag_in, listing_option, threads_option}
+use Rattle.qm_commands.specs.CompileRequest.{FlagOption, fast_option, hulls_option, models_option, faces_option, flag_in, listing_option, threads_option}
 
 -- the options without a value, in the order of their rules
 abbrev flag_ids : List Text
-flag_ids = codes "fast" ∷ codes "hulls" ∷ []
+flag_ids = codes "fast" ∷ codes "hulls" ∷ codes "models" ∷ codes "faces" ∷ []
 
 abbrev bare_rules : List Text → List Rule
 bare_rules ids = map bare_rule ids
@@ -106,8 +106,10 @@ own_at_end (x ∷ before) after id r given b same none none_after is =
     own_at_end before after id (with_default r (bare_rule x)) given b (find_other x id r none.0 ∙ same) none.1 none_after is
 
 flag_at_end : (given : List Given) (flag : FlagOption) (b : Bool) → value_of (flag_id flag) given ≡ flag_text b → one_of (flag_id flag) (all_rows given) ≡ Some (cond b (codes "true") (codes "false"))
-flag_at_end given fast_option b is = own_at_end [] (codes "hulls" ∷ []) (codes "fast") (rows given) given b refl tt (refl, tt) is
-flag_at_end given hulls_option b is = own_at_end (codes "fast" ∷ []) [] (codes "hulls") (rows given) given b refl (refl, tt) tt is
+flag_at_end given fast_option b is = own_at_end [] (codes "hulls" ∷ codes "models" ∷ codes "faces" ∷ []) (codes "fast") (rows given) given b refl tt (refl, (refl, (refl, tt))) is
+flag_at_end given hulls_option b is = own_at_end (codes "fast" ∷ []) (codes "models" ∷ codes "faces" ∷ []) (codes "hulls") (rows given) given b refl (refl, tt) (refl, (refl, tt)) is
+flag_at_end given models_option b is = own_at_end (codes "fast" ∷ codes "hulls" ∷ []) (codes "faces" ∷ []) (codes "models") (rows given) given b refl (refl, (refl, tt)) (refl, tt) is
+flag_at_end given faces_option b is = own_at_end (codes "fast" ∷ codes "hulls" ∷ codes "models" ∷ []) [] (codes "faces") (rows given) given b refl (refl, (refl, (refl, tt))) tt is
 
 module _ (id : Text) (given : List Given) (other : IsNone id flag_ids) where
   first_at_end : first_of id (all_rows given) ≡ value_of id given
@@ -123,8 +125,8 @@ missing names = not (is_some (map_of names)) || (not (is_some (out_of names)) ||
 check_is : (given : List Given) (seen : Seen) → Knows given seen → check_fault compile_shape (all_rows given) false ≡ check_kinds false false (missing seen.names)
 check_is given seen knows =
     ap₂ (λ (m o : Bool). check_kinds false false (not m || (not o || false)))
-    (given_at_end (codes "map") given (refl, (refl, tt)) ∙ ap (λ (o : Option Text). is_some o) knows.map_is)
-    (given_at_end (codes "out") given (refl, (refl, tt)) ∙ ap (λ (o : Option Text). is_some o) knows.out_is)
+    (given_at_end (codes "map") given (refl, (refl, (refl, (refl, tt)))) ∙ ap (λ (o : Option Text). is_some o) knows.map_is)
+    (given_at_end (codes "out") given (refl, (refl, (refl, (refl, tt)))) ∙ ap (λ (o : Option Text). is_some o) knows.out_is)
 
 pub ends_fault : (h : Held) (position : ℕ) (seen : Seen) → Holds h seen → fault_from compile_shape (idle_at h position) [] ≡ check_kinds false false (missing seen.names)
 ends_fault h position seen holds =
@@ -140,6 +142,8 @@ ends_rows h position seen holds =
 asked_flag : (seen : Seen) (names : Names) (flag : FlagOption) → Some (cond (seen.flags flag) (codes "true") (codes "false")) ≡ Some (cond (flag_in (request_of (record seen { names = names })) flag) (codes "true") (codes "false"))
 asked_flag seen names fast_option = refl
 asked_flag seen names hulls_option = refl
+asked_flag seen names models_option = refl
+asked_flag seen names faces_option = refl
 
 pub ends_found : (h : Held) (position : ℕ) (seen : Seen) (map_name out_name : Text) → Holds h (record seen { names = both map_name out_name })
     → AreFound (rows_from compile_shape (idle_at h position) []) (request_of (record seen { names = both map_name out_name }))
@@ -150,9 +154,9 @@ ends_found h position seen map_name out_name holds =
       map_name = map_name;
       out_name = out_name;
       names = refl;
-      map_is = ap (first_of (codes "map")) end ∙ first_at_end (codes "map") given (refl, (refl, tt)) ∙ holds.knows.map_is;
-      out_is = ap (first_of (codes "out")) end ∙ first_at_end (codes "out") given (refl, (refl, tt)) ∙ holds.knows.out_is;
-      listing_is = ap (first_of (codes "prt")) end ∙ first_at_end (codes "prt") given (refl, (refl, tt)) ∙ holds.knows.listing_is;
-      threads_is = ap (first_of (codes "threads")) end ∙ first_at_end (codes "threads") given (refl, (refl, tt)) ∙ holds.knows.threads_is;
+      map_is = ap (first_of (codes "map")) end ∙ first_at_end (codes "map") given (refl, (refl, (refl, (refl, tt)))) ∙ holds.knows.map_is;
+      out_is = ap (first_of (codes "out")) end ∙ first_at_end (codes "out") given (refl, (refl, (refl, (refl, tt)))) ∙ holds.knows.out_is;
+      listing_is = ap (first_of (codes "prt")) end ∙ first_at_end (codes "prt") given (refl, (refl, (refl, (refl, tt)))) ∙ holds.knows.listing_is;
+      threads_is = ap (first_of (codes "threads")) end ∙ first_at_end (codes "threads") given (refl, (refl, (refl, (refl, tt)))) ∙ holds.knows.threads_is;
       flags_are = λ flag. ap (one_of (flag_id flag)) end ∙ flag_at_end given flag (seen.flags flag) (holds.knows.flags_are flag) ∙ asked_flag seen (both map_name out_name) flag;
     }

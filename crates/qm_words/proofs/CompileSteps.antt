@@ -5,7 +5,7 @@ use Rattle.std.proofs.lemmas.Slice.Eq.{bytes_eq-Decides}
 use Rattle.clap.specs.Walk.{Held, Row, Rule, Text, Walk, idle, option, walked, settled, has_row, used}
 use Rattle.clap.specs.Simple.{filled, with_index}
 use Rattle.clap.specs.Faults.{settle_fault, other_fault, set_fault, values_fault}
-use Rattle.qm_commands.specs.CompileRequest.{Request, FlagOption, fast_option, hulls_option, flag_spelling, ValuedOption, listing_option, threads_option, option_spelling}
+use Rattle.qm_commands.specs.CompileRequest.{Request, FlagOption, fast_option, hulls_option, models_option, faces_option, flag_spelling, ValuedOption, listing_option, threads_option, option_spelling}
 use Rattle.qm_commands.specs.FileNames.{IsFileName}
 use Rattle.qm_words.specs.inner.CompileWord.{IsCompileWord, plain, bare, alone, within}
 use Rattle.qm_words.specs.inner.FoundWords.{flag_id}
@@ -56,6 +56,8 @@ request_of seen = record {
   names = list_of seen.names;
   fast = seen.flags fast_option;
   hulls = seen.flags hulls_option;
+  models = seen.flags models_option;
+  faces = seen.flags faces_option;
   listing = seen.listing;
   threads = seen.threads;
 }
@@ -146,6 +148,16 @@ flag_leads h position given hulls_option settles rows_are free = record {
       (set_is (bare_rule (codes "hulls")) (codes "true" ∷ []) (settled rules h).rows given rows_are free refl)) refl;
   walks = ap (λ (r : List Row). idle_at (resting h r) position) (ap (used (bare_rule (codes "hulls")) []) rows_are ∙ used_once (codes "hulls") (codes "true") given free);
 }
+flag_leads h position given models_option settles rows_are free = record {
+  turn = or_else-none _ [] (or_else-none (settle_fault rules false h) (set_fault false (bare_rule (codes "models")) (codes "true" ∷ []) (settled rules h).rows) settles
+      (set_is (bare_rule (codes "models")) (codes "true" ∷ []) (settled rules h).rows given rows_are free refl)) refl;
+  walks = ap (λ (r : List Row). idle_at (resting h r) position) (ap (used (bare_rule (codes "models")) []) rows_are ∙ used_once (codes "models") (codes "true") given free);
+}
+flag_leads h position given faces_option settles rows_are free = record {
+  turn = or_else-none _ [] (or_else-none (settle_fault rules false h) (set_fault false (bare_rule (codes "faces")) (codes "true" ∷ []) (settled rules h).rows) settles
+      (set_is (bare_rule (codes "faces")) (codes "true" ∷ []) (settled rules h).rows given rows_are free refl)) refl;
+  walks = ap (λ (r : List Row). idle_at (resting h r) position) (ap (used (bare_rule (codes "faces")) []) rows_are ∙ used_once (codes "faces") (codes "true") given free);
+}
 
 pub within_leads : (h : Held) (position : ℕ) (given : List Given) (kind : ValuedOption) (text : Text) → settle_fault rules false h ≡ [] → (settled rules h).rows ≡ rows given → value_of (option_id kind) given ≡ None
     → Leads compile_shape (idle_at h position) (option_spelling kind ++ (61 ∷ text)) (idle_at (resting h (rows (given ++ (option_id kind, text) ∷ []))) position)
@@ -197,26 +209,31 @@ record IsOther (id : Text) : Type 0 where
   before : (flag : FlagOption) → bytes_eq (flag_id flag) id ≡ false
 
 -- an id that differs from each
-is_other : (id : Text) → bytes_eq id (codes "fast") ≡ false → bytes_eq id (codes "hulls") ≡ false → bytes_eq (codes "fast") id ≡ false → bytes_eq (codes "hulls") id ≡ false → IsOther id
-is_other id no_fast no_hulls fast_no hulls_no = record { behind = behind_of; before = before_of }
+is_other : (id : Text) → bytes_eq id (codes "fast") ≡ false → bytes_eq id (codes "hulls") ≡ false → bytes_eq id (codes "models") ≡ false → bytes_eq id (codes "faces") ≡ false
+    → bytes_eq (codes "fast") id ≡ false → bytes_eq (codes "hulls") id ≡ false → bytes_eq (codes "models") id ≡ false → bytes_eq (codes "faces") id ≡ false → IsOther id
+is_other id no_fast no_hulls no_models no_faces fast_no hulls_no models_no faces_no = record { behind = behind_of; before = before_of }
   where
     behind_of : (flag : FlagOption) → bytes_eq id (flag_id flag) ≡ false
     behind_of fast_option = no_fast
     behind_of hulls_option = no_hulls
+    behind_of models_option = no_models
+    behind_of faces_option = no_faces
 
     before_of : (flag : FlagOption) → bytes_eq (flag_id flag) id ≡ false
     before_of fast_option = fast_no
     before_of hulls_option = hulls_no
+    before_of models_option = models_no
+    before_of faces_option = faces_no
 
 map_other : IsOther (codes "map")
-map_other = is_other (codes "map") refl refl refl refl
+map_other = is_other (codes "map") refl refl refl refl refl refl refl refl
 
 out_other : IsOther (codes "out")
-out_other = is_other (codes "out") refl refl refl refl
+out_other = is_other (codes "out") refl refl refl refl refl refl refl refl
 
 option_other : (kind : ValuedOption) → IsOther (option_id kind)
-option_other listing_option = is_other (codes "prt") refl refl refl refl
-option_other threads_option = is_other (codes "threads") refl refl refl refl
+option_other listing_option = is_other (codes "prt") refl refl refl refl refl refl refl refl
+option_other threads_option = is_other (codes "threads") refl refl refl refl refl refl refl refl
 
 -- a value of another argument is none of an option without a value
 flags_past : (given : List Given) (seen : Seen) (id text : Text) → IsOther id → Knows given seen → (flag : FlagOption) → value_of (flag_id flag) (given ++ (id, text) ∷ []) ≡ flag_text (seen.flags flag)
@@ -354,6 +371,8 @@ not_seen id r given rows_are free = none_of (value_of id given) (sym (has_row_is
 flag_right : (h : Held) (flag : FlagOption) → other_fault compile_shape None (flag_spelling flag) h ≡ [] → set_fault false (bare_rule (flag_id flag)) (codes "true" ∷ []) (settled rules h).rows ≡ []
 flag_right h fast_option right = second_none (settle_fault rules false h) (set_fault false (bare_rule (codes "fast")) (codes "true" ∷ []) (settled rules h).rows) right
 flag_right h hulls_option right = second_none (settle_fault rules false h) (set_fault false (bare_rule (codes "hulls")) (codes "true" ∷ []) (settled rules h).rows) right
+flag_right h models_option right = second_none (settle_fault rules false h) (set_fault false (bare_rule (codes "models")) (codes "true" ∷ []) (settled rules h).rows) right
+flag_right h faces_option right = second_none (settle_fault rules false h) (set_fault false (bare_rule (codes "faces")) (codes "true" ∷ []) (settled rules h).rows) right
 
 pub flag_free : (h : Held) (seen : Seen) (flag : FlagOption) → Holds h seen → other_fault compile_shape None (flag_spelling flag) h ≡ [] → seen.flags flag ≡ false
 flag_free h seen flag holds right = free (seen.flags flag) (sym (holds.knows.flags_are flag) ∙ not_seen (flag_id flag) (settled rules h).rows holds.given holds.rows_are
@@ -386,6 +405,10 @@ option_settles h word (plain is) other right = absurd (other is)
 option_settles h word (bare fast_option is) other right =
     first_none (settle_fault rules false h) _ (ap (λ (w : Text). other_fault compile_shape None w h) (sym is) ∙ right)
 option_settles h word (bare hulls_option is) other right =
+    first_none (settle_fault rules false h) _ (ap (λ (w : Text). other_fault compile_shape None w h) (sym is) ∙ right)
+option_settles h word (bare models_option is) other right =
+    first_none (settle_fault rules false h) _ (ap (λ (w : Text). other_fault compile_shape None w h) (sym is) ∙ right)
+option_settles h word (bare faces_option is) other right =
     first_none (settle_fault rules false h) _ (ap (λ (w : Text). other_fault compile_shape None w h) (sym is) ∙ right)
 option_settles h word (alone listing_option is) other right = ap (λ (w : Text). other_fault compile_shape None w h) (sym is) ∙ right
 option_settles h word (alone threads_option is) other right = ap (λ (w : Text). other_fault compile_shape None w h) (sym is) ∙ right

@@ -4,7 +4,7 @@ use Rattle.clap.specs.Walk.{Held, Row, Text, Walk, idle, option, nothing_held, s
 use Rattle.clap.specs.Kinds.{check_kinds}
 use Rattle.clap.specs.declared.error.kind.ErrorKind.TheVariants.{InvalidValue, MissingRequiredArgument, UnknownArgument}
 use Rattle.clap.specs.Faults.{fault_of, settle_fault, turn_fault}
-use Rattle.qm_commands.specs.CompileRequest.{Request, Asks, FlagOption, fast_option, hulls_option, ValuedOption, listing_option, threads_option, no_more, a_name, without_value, value_behind, value_within, no_request, flag_in, flag_spelling, option_spelling, value_in, with_flag, with_name, with_option}
+use Rattle.qm_commands.specs.CompileRequest.{Request, Asks, FlagOption, fast_option, hulls_option, models_option, faces_option, ValuedOption, listing_option, threads_option, no_more, a_name, without_value, value_behind, value_within, no_request, flag_in, flag_spelling, option_spelling, value_in, with_flag, with_name, with_option}
 use Rattle.qm_commands.specs.FileNames.{IsFileName}
 use Rattle.qm_words.specs.inner.CommandLines.{compile_app}
 use Rattle.qm_words.specs.inner.CompileWord.{EachIsCompileWord, IsCompileWord, plain, bare, alone, within}
@@ -29,6 +29,8 @@ name_settles h (both map_name out_name) (byte ∷ bytes) is right = absurd (some
 no_name_flag : (flag : FlagOption) (word : Text) → word ≡ flag_spelling flag → IsFileName word → ⊥
 no_name_flag fast_option word is name = subst IsFileName is name refl
 no_name_flag hulls_option word is name = subst IsFileName is name refl
+no_name_flag models_option word is name = subst IsFileName is name refl
+no_name_flag faces_option word is name = subst IsFileName is name refl
 
 no_name_alone : (kind : ValuedOption) (word : Text) → word ≡ option_spelling kind → IsFileName word → ⊥
 no_name_alone listing_option word is name = subst IsFileName is name refl
@@ -77,10 +79,14 @@ request_with seen threads_option text = refl
 flag_seen : (seen : Seen) (flag : FlagOption) → flag_in (request_of seen) flag ≡ seen.flags flag
 flag_seen seen fast_option = refl
 flag_seen seen hulls_option = refl
+flag_seen seen models_option = refl
+flag_seen seen faces_option = refl
 
 request_with_flag : (seen : Seen) (flag : FlagOption) → request_of (seen_with_flag seen flag) ≡ with_flag (request_of seen) flag
 request_with_flag seen fast_option = refl
 request_with_flag seen hulls_option = refl
+request_with_flag seen models_option = refl
+request_with_flag seen faces_option = refl
 
 -- with the same words and rows under other names
 read_as : (seen : Seen) (words : List Text) (r q : List Row) → r ≡ q → IsRead seen words q → IsRead seen words r
@@ -230,6 +236,8 @@ names_stay no_more = omega arith
 names_stay {asked} {all} (a_name {word = word} is more) = omega (arith, names_stay more, length-append asked.names (word ∷ []))
 names_stay (without_value fast_option is free more) = names_stay more
 names_stay (without_value hulls_option is free more) = names_stay more
+names_stay (without_value models_option is free more) = names_stay more
+names_stay (without_value faces_option is free more) = names_stay more
 names_stay (value_behind listing_option is some free more) = names_stay more
 names_stay (value_behind threads_option is some free more) = names_stay more
 names_stay (value_within listing_option is some free more) = names_stay more
@@ -357,7 +365,9 @@ found_once r a b found_a found_b =
     let threads = sym found_a.threads_is ∙ found_b.threads_is in
     let fast = flag_same a.fast b.fast (sym (found_a.flags_are fast_option) ∙ found_b.flags_are fast_option) in
     let hulls = flag_same a.hulls b.hulls (sym (found_a.flags_are hulls_option) ∙ found_b.flags_are hulls_option) in
-    λ i. record { names = names i; fast = fast i; hulls = hulls i; listing = listing i; threads = threads i }
+    let models = flag_same a.models b.models (sym (found_a.flags_are models_option) ∙ found_b.flags_are models_option) in
+    let faces = flag_same a.faces b.faces (sym (found_a.flags_are faces_option) ∙ found_b.flags_are faces_option) in
+    λ i. record { names = names i; fast = fast i; hulls = hulls i; models = models i; faces = faces i; listing = listing i; threads = threads i }
   where
     flag_same : (x y : Bool) → Some (cond x (codes "true") (codes "false")) ≡ Some (cond y (codes "true") (codes "false")) → x ≡ y
     flag_same true true same = refl

@@ -1,12 +1,12 @@
 -- Words are those of one order at most.
-use Rattle.std.proofs.Common.{◌≡◌, ◌∙◌, ℕ, ℤ, Bool, codes, refl, sym, ap, ap₂, subst, arith, List, [], ◌∷◌, ◌++◌, drop, length, Option, Some, None, is_some}
+use Rattle.std.proofs.Common.{◌≡◌, ◌∙◌, ℕ, ℤ, Bool, codes, refl, sym, ap, ap₂, subst, arith, List, [], ◌∷◌, ◌++◌, append_assoc, length, Option, Some, None, is_some}
 use Rattle.std.specs.Fmt.{decimal}
 use Rattle.std.proofs.lemmas.Fmt.{decimal_injective}
 use Rattle.qm_commands.specs.declared.options.Options.{Options}
 use Rattle.qm_commands.specs.declared.map_command.MapCommand.TheVariants.{Compile, Format}
 use Rattle.qm_commands.specs.declared.millionths.Millionths.{Millionths}
 use Rattle.qm_commands.specs.declared.query.Query.{Query}
-use Rattle.qm_commands.specs.declared.query.Query.TheVariants.{Count, At, Hull, Trace, HullTrace, Row, Sees, Parts}
+use Rattle.qm_commands.specs.declared.query.Query.TheVariants.{Count, At, Hull, Trace, HullTrace, Model, ModelAt, Faces, Face, Row, Sees, Parts}
 use Rattle.qm_commands.specs.CompileRequest.{Request, Asks, no_request}
 use Rattle.qm_commands.specs.CompileWords.{AreCompileWords}
 use Rattle.qm_commands.specs.DemoWords.{AreDemoWords}
@@ -14,14 +14,15 @@ use Rattle.qm_commands.specs.FileNames.{FileNames}
 use Rattle.qm_commands.specs.FormatWords.{AreFormatWords}
 use Rattle.qm_commands.specs.InspectWords.{AreInspectWords}
 use Rattle.qm_commands.specs.Options.{AreThreads}
-use Rattle.qm_commands.specs.QueryWord.{AreEndNumbers, ArePlaceNumbers, AreQueryWords, IsHullNumber, IsQueryWord, IsShort, hull_name, hull_trace_name, no_more, one_more}
+use Rattle.qm_commands.specs.QueryWord.{AreEndNumbers, ArePlaceNumbers, AreQueryWords, IsHullNumber, IsQueryWord, IsShort, hull_name, hull_trace_name, model_name, no_more, one_more}
 use Rattle.qm_commands.specs.Order.{Order, of_map, of_tree, of_rooms, of_upgrade}
 use Rattle.qm_commands.specs.UpgradeWords.{AreUpgradeWords}
 use Rattle.qm_commands.specs.Words.{AreWordsOf}
-use Rattle.qm_words.proofs.Commas.{clear_decimal, splits_once}
+use Rattle.qm_words.specs.inner.PlacesRead.{HasNoComma, IsCommaSplit}
+use Rattle.qm_words.proofs.Commas.{clear_decimal, clear_text, splits_once}
 use Rattle.qm_words.proofs.CompileWhole.{asked_once}
 use Rattle.qm_words.proofs.PlaceLaws.{ends_once, place_once}
-use Rattle.qm_words.proofs.QueryLaws.{apart, hull_head, hull_trace_head, no_hull_trace_word, no_hull_word, no_trace_of_hull, same_hull, same_hull_trace}
+use Rattle.qm_words.proofs.QueryLaws.{fits, only_count, only_face, only_faces, only_hull, only_hull_trace, only_model, only_parts, only_place, only_row, only_sees, only_trace}
 use Rattle.qm_words.proofs.SingleWords.{verbs_apart}
 
 two_same : (a b c d : List ℕ) → a ∷ b ∷ [] ≡ c ∷ d ∷ [] → (a ≡ c) × (b ≡ d)
@@ -48,8 +49,10 @@ compile_once words options other listed other_listed files other_files one two =
     let lists = two.is_listed ∙ ap (λ (r : Request). is_some r.listing) same ∙ sym one.is_listed in
     let fast = two.is_fast ∙ ap (λ (r : Request). r.fast) same ∙ sym one.is_fast in
     let hulls = two.are_hulls ∙ ap (λ (r : Request). r.hulls) same ∙ sym one.are_hulls in
+    let models = two.are_models ∙ ap (λ (r : Request). r.models) same ∙ sym one.are_models in
+    let faces = two.are_faces ∙ ap (λ (r : Request). r.faces) same ∙ sym one.are_faces in
     let threads = threads_same one.asked.threads other.threads options.threads (subst (λ (t : Option (List ℕ)). AreThreads t other.threads) (ap (λ (r : Request). r.threads) same) two.are_threads) one.are_threads in
-    λ i. of_map (Compile (record { threads = threads i; fast = fast i; hulls = hulls i }) (lists i)) (record { map_name = names.0 i; out_name = names.1 i; listing_name = listing i })
+    λ i. of_map (Compile (record { threads = threads i; fast = fast i; hulls = hulls i; models = models i; faces = faces i }) (lists i)) (record { map_name = names.0 i; out_name = names.1 i; listing_name = listing i })
 
 -- ---- `format`
 
@@ -80,112 +83,72 @@ demo_once words rooms number other_rooms other_number one two =
 short_same : (n m : ℕ) → IsShort n → IsShort m → decimal n ≡ decimal m → n ≡ m
 short_same n m short_n short_m same = decimal_injective n m (omega (arith, short_n)) (omega (arith, short_m)) same
 
-count_only : (query : Query) → IsQueryWord (codes "count") query → query ≡ Count
-count_only Count is = refl
-count_only (At x y z) is = absurd (apart 99 97 _ _ refl is.word_is)
-count_only (Hull hull x y z) is = absurd (no_hull_word 99 _ hull x y z refl is.1)
-count_only (Trace from to) is = absurd (apart 99 116 _ _ refl is.word_is)
-count_only (HullTrace hull from to) is = absurd (no_hull_trace_word 99 _ hull from to refl is.1)
-count_only (Row n) is = absurd (apart 99 114 _ _ refl is.0)
-count_only (Sees n m) is = absurd (apart 99 115 _ _ refl is.0)
-count_only Parts is = absurd (apart 99 112 _ _ refl is)
-
-parts_only : (query : Query) → IsQueryWord (codes "parts") query → query ≡ Parts
-parts_only Count is = absurd (apart 112 99 _ _ refl is)
-parts_only (At x y z) is = absurd (apart 112 97 _ _ refl is.word_is)
-parts_only (Hull hull x y z) is = absurd (no_hull_word 112 _ hull x y z refl is.1)
-parts_only (Trace from to) is = absurd (apart 112 116 _ _ refl is.word_is)
-parts_only (HullTrace hull from to) is = absurd (no_hull_trace_word 112 _ hull from to refl is.1)
-parts_only (Row n) is = absurd (apart 112 114 _ _ refl is.0)
-parts_only (Sees n m) is = absurd (apart 112 115 _ _ refl is.0)
-parts_only Parts is = refl
-
 place_only : (text : List ℕ) (x y z : ℤ) → ArePlaceNumbers text x y z → (query : Query) → IsQueryWord (codes "at=" ++ text) query → query ≡ At x y z
-place_only text x y z place Count is = absurd (apart 97 99 _ _ refl is)
-place_only text x y z place (At a b c) is =
-    let same = place_once text a b c x y z (subst (λ (t : List ℕ). ArePlaceNumbers t a b c) (sym (ap (drop 3) is.word_is)) is.are_numbers) place in
-    λ i. At (same.0 i) (same.1 i) (same.2 i)
-place_only text x y z place (Hull hull a b c) is = absurd (no_hull_word 97 _ hull a b c refl is.1)
-place_only text x y z place (Trace from to) is = absurd (apart 97 116 _ _ refl is.word_is)
-place_only text x y z place (HullTrace hull from to) is = absurd (no_hull_trace_word 97 _ hull from to refl is.1)
-place_only text x y z place (Row n) is = absurd (apart 97 114 _ _ refl is.0)
-place_only text x y z place (Sees n m) is = absurd (apart 97 115 _ _ refl is.0)
-place_only text x y z place Parts is = absurd (apart 97 112 _ _ refl is)
+place_only text x y z place query is = only_place text query (λ q. q ≡ At x y z) (λ a b c are.
+    let same = place_once text a b c x y z are place in
+    λ i. At (same.0 i) (same.1 i) (same.2 i)) is
 
 hull_only : (hull : ℕ) (text : List ℕ) (x y z : ℤ) → IsHullNumber hull → ArePlaceNumbers text x y z → (query : Query) → IsQueryWord (hull_name hull ++ text) query → query ≡ Hull hull x y z
-hull_only hull text x y z number place Count is = absurd (apart 104 99 _ _ refl (sym (hull_head hull text) ∙ is))
-hull_only hull text x y z number place (At a b c) is = absurd (apart 104 97 _ _ refl (sym (hull_head hull text) ∙ is.word_is))
-hull_only hull text x y z number place (Hull other a b c) is =
-    let hulls = same_hull hull other number is.0 text is.1.numbers is.1.word_is in
-    let same = place_once text a b c x y z (subst (λ (t : List ℕ). ArePlaceNumbers t a b c) (sym hulls.1) is.1.are_numbers) place in
-    λ i. Hull (sym hulls.0 i) (same.0 i) (same.1 i) (same.2 i)
-hull_only hull text x y z number place (Trace from to) is = absurd (apart 104 116 _ _ refl (sym (hull_head hull text) ∙ is.word_is))
-hull_only hull text x y z number place (HullTrace other from to) is = absurd (no_trace_of_hull hull other text is.1.numbers is.1.word_is)
-hull_only hull text x y z number place (Row n) is = absurd (apart 104 114 _ _ refl (sym (hull_head hull text) ∙ is.0))
-hull_only hull text x y z number place (Sees n m) is = absurd (apart 104 115 _ _ refl (sym (hull_head hull text) ∙ is.0))
-hull_only hull text x y z number place Parts is = absurd (apart 104 112 _ _ refl (sym (hull_head hull text) ∙ is))
+hull_only hull text x y z number place query is = only_hull hull text query (λ q. q ≡ Hull hull x y z) number (λ a b c are.
+    let same = place_once text a b c x y z are place in
+    λ i. Hull hull (same.0 i) (same.1 i) (same.2 i)) is
 
 trace_only : (text : List ℕ) (from to : Millionths) → AreEndNumbers text from to → (query : Query) → IsQueryWord (codes "trace=" ++ text) query → query ≡ Trace from to
-trace_only text from to ends Count is = absurd (apart 116 99 _ _ refl is)
-trace_only text from to ends (At x y z) is = absurd (apart 116 97 _ _ refl is.word_is)
-trace_only text from to ends (Hull hull x y z) is = absurd (no_hull_word 116 _ hull x y z refl is.1)
-trace_only text from to ends (Trace other last) is =
-    let same = ends_once text other last from to (subst (λ (t : List ℕ). AreEndNumbers t other last) (sym (ap (drop 6) is.word_is)) is.are_ends) ends in
-    ap₂ (λ (f t : Millionths). Trace f t) same.0 same.1
-trace_only text from to ends (HullTrace hull other last) is = absurd (no_hull_trace_word 116 _ hull other last refl is.1)
-trace_only text from to ends (Row n) is = absurd (apart 116 114 _ _ refl is.0)
-trace_only text from to ends (Sees n m) is = absurd (apart 116 115 _ _ refl is.0)
-trace_only text from to ends Parts is = absurd (apart 116 112 _ _ refl is)
+trace_only text from to ends query is = only_trace text query (λ q. q ≡ Trace from to) (λ other last are.
+    let same = ends_once text other last from to are ends in
+    ap₂ (λ (f t : Millionths). Trace f t) same.0 same.1) is
 
 hull_trace_only : (hull : ℕ) (text : List ℕ) (from to : Millionths) → IsHullNumber hull → AreEndNumbers text from to → (query : Query) → IsQueryWord (hull_trace_name hull ++ text) query
     → query ≡ HullTrace hull from to
-hull_trace_only hull text from to number ends Count is = absurd (apart 104 99 _ _ refl (sym (hull_trace_head hull text) ∙ is))
-hull_trace_only hull text from to number ends (At x y z) is = absurd (apart 104 97 _ _ refl (sym (hull_trace_head hull text) ∙ is.word_is))
-hull_trace_only hull text from to number ends (Hull other x y z) is = absurd (no_trace_of_hull other hull is.1.numbers text (sym is.1.word_is))
-hull_trace_only hull text from to number ends (Trace other last) is = absurd (apart 104 116 _ _ refl (sym (hull_trace_head hull text) ∙ is.word_is))
-hull_trace_only hull text from to number ends (HullTrace number_asked other last) is =
-    let hulls = same_hull_trace hull number_asked number is.0 text is.1.numbers is.1.word_is in
-    let same = ends_once text other last from to (subst (λ (t : List ℕ). AreEndNumbers t other last) (sym hulls.1) is.1.are_ends) ends in
-    λ i. HullTrace (sym hulls.0 i) (same.0 i) (same.1 i)
-hull_trace_only hull text from to number ends (Row n) is = absurd (apart 104 114 _ _ refl (sym (hull_trace_head hull text) ∙ is.0))
-hull_trace_only hull text from to number ends (Sees n m) is = absurd (apart 104 115 _ _ refl (sym (hull_trace_head hull text) ∙ is.0))
-hull_trace_only hull text from to number ends Parts is = absurd (apart 104 112 _ _ refl (sym (hull_trace_head hull text) ∙ is))
+hull_trace_only hull text from to number ends query is = only_hull_trace hull text query (λ q. q ≡ HullTrace hull from to) number (λ other last are.
+    let same = ends_once text other last from to are ends in
+    ap₂ (λ (f t : Millionths). HullTrace hull f t) same.0 same.1) is
+
+model_only : (entity : ℕ) → IsShort entity → (query : Query) → IsQueryWord (codes "model=" ++ decimal entity) query → query ≡ Model entity
+model_only entity short query is = only_model (decimal entity) query (λ q. q ≡ Model entity)
+    (λ other same also. ap (λ (k : ℕ). Model k) (short_same other entity also short (sym same)))
+    (λ other numbers x y z split also are. absurd (clear_text (decimal entity) (decimal other) numbers (clear_decimal entity (fits entity short)) split)) is
+
+model_at_only : (entity : ℕ) (numbers : List ℕ) (x y z : ℤ) → IsShort entity → ArePlaceNumbers numbers x y z → (query : Query) → IsQueryWord (model_name entity ++ numbers) query
+    → query ≡ ModelAt entity x y z
+model_at_only entity numbers x y z short place query is = only_model text query (λ q. q ≡ ModelAt entity x y z)
+    (λ other same also. absurd (clear_text text (decimal entity) numbers (subst HasNoComma (sym same) (clear_decimal other (fits other also))) split))
+    (λ other rest a b c again also are.
+    let parts = splits_once text (decimal other) rest (decimal entity) numbers again split in
+    let entities = short_same other entity also short parts.0 in
+    let same = place_once numbers a b c x y z (subst (λ (t : List ℕ). ArePlaceNumbers t a b c) parts.1 are) place in
+    λ i. ModelAt (entities i) (same.0 i) (same.1 i) (same.2 i)) is
+  where
+    text : List ℕ
+    text = (decimal entity ++ (44 ∷ [])) ++ numbers
+
+    split : IsCommaSplit text (decimal entity) numbers
+    split = record { text_is = append_assoc (decimal entity) (44 ∷ []) numbers; clear = clear_decimal entity (fits entity short) }
+
+face_only : (n : ℕ) → IsShort n → (query : Query) → IsQueryWord (codes "face=" ++ decimal n) query → query ≡ Face n
+face_only n short query is = only_face (decimal n) query (λ q. q ≡ Face n) (λ m same also. ap (λ (k : ℕ). Face k) (short_same m n also short (sym same))) is
 
 row_only : (n : ℕ) → IsShort n → (query : Query) → IsQueryWord (codes "row=" ++ decimal n) query → query ≡ Row n
-row_only n short Count is = absurd (apart 114 99 _ _ refl is)
-row_only n short (At x y z) is = absurd (apart 114 97 _ _ refl is.word_is)
-row_only n short (Hull hull x y z) is = absurd (no_hull_word 114 _ hull x y z refl is.1)
-row_only n short (Trace from to) is = absurd (apart 114 116 _ _ refl is.word_is)
-row_only n short (HullTrace hull from to) is = absurd (no_hull_trace_word 114 _ hull from to refl is.1)
-row_only n short (Row m) is =
-    let same : decimal m ≡ decimal n = let whole = is.0 in cc in
-    ap (λ (k : ℕ). Row k) (short_same m n is.1 short same)
-row_only n short (Sees k m) is = absurd (apart 114 115 _ _ refl is.0)
-row_only n short Parts is = absurd (apart 114 112 _ _ refl is)
+row_only n short query is = only_row (decimal n) query (λ q. q ≡ Row n) (λ m same also. ap (λ (k : ℕ). Row k) (short_same m n also short (sym same))) is
 
 sees_only : (n m : ℕ) → IsShort n → IsShort m → (query : Query) → IsQueryWord (codes "sees=" ++ (decimal n ++ (44 ∷ decimal m))) query → query ≡ Sees n m
-sees_only n m short_n short_m Count is = absurd (apart 115 99 _ _ refl is)
-sees_only n m short_n short_m (At x y z) is = absurd (apart 115 97 _ _ refl is.word_is)
-sees_only n m short_n short_m (Hull hull x y z) is = absurd (no_hull_word 115 _ hull x y z refl is.1)
-sees_only n m short_n short_m (Trace from to) is = absurd (apart 115 116 _ _ refl is.word_is)
-sees_only n m short_n short_m (HullTrace hull from to) is = absurd (no_hull_trace_word 115 _ hull from to refl is.1)
-sees_only n m short_n short_m (Row k) is = absurd (apart 115 114 _ _ refl is.0)
-sees_only n m short_n short_m (Sees a b) is =
-    let same : decimal a ++ (44 ∷ decimal b) ≡ decimal n ++ (44 ∷ decimal m) = let whole = is.0 in cc in
-    let parts = splits_once (decimal a ++ (44 ∷ decimal b)) (decimal a) (decimal b) (decimal n) (decimal m) (record { text_is = refl; clear = clear_decimal a (omega (arith, is.1)) })
-    (record { text_is = same; clear = clear_decimal n (omega (arith, short_n)) }) in
-    ap₂ (λ (k l : ℕ). Sees k l) (short_same a n is.1 short_n parts.0) (short_same b m is.2 short_m parts.1)
-sees_only n m short_n short_m Parts is = absurd (apart 115 112 _ _ refl is)
+sees_only n m short_n short_m query is = only_sees (decimal n ++ (44 ∷ decimal m)) query (λ q. q ≡ Sees n m) (λ a b split short_a short_b.
+    let parts = splits_once (decimal n ++ (44 ∷ decimal m)) (decimal a) (decimal b) (decimal n) (decimal m) split (record { text_is = refl; clear = clear_decimal n (fits n short_n) }) in
+    ap₂ (λ (k l : ℕ). Sees k l) (short_same a n short_a short_n parts.0) (short_same b m short_b short_m parts.1)) is
 
 query_once : (word : List ℕ) (query other : Query) → IsQueryWord word query → IsQueryWord word other → other ≡ query
-query_once word Count other is also = count_only other (subst (λ (w : List ℕ). IsQueryWord w other) is also)
+query_once word Count other is also = only_count other (subst (λ (w : List ℕ). IsQueryWord w other) is also)
 query_once word (At x y z) other is also = place_only is.numbers x y z is.are_numbers other (subst (λ (w : List ℕ). IsQueryWord w other) is.word_is also)
 query_once word (Hull hull x y z) other is also = hull_only hull is.1.numbers x y z is.0 is.1.are_numbers other (subst (λ (w : List ℕ). IsQueryWord w other) is.1.word_is also)
 query_once word (Trace from to) other is also = trace_only is.numbers from to is.are_ends other (subst (λ (w : List ℕ). IsQueryWord w other) is.word_is also)
 query_once word (HullTrace hull from to) other is also = hull_trace_only hull is.1.numbers from to is.0 is.1.are_ends other (subst (λ (w : List ℕ). IsQueryWord w other) is.1.word_is also)
+query_once word (Model entity) other is also = model_only entity is.1 other (subst (λ (w : List ℕ). IsQueryWord w other) is.0 also)
+query_once word (ModelAt entity x y z) other is also = model_at_only entity is.1.numbers x y z is.0 is.1.are_numbers other (subst (λ (w : List ℕ). IsQueryWord w other) is.1.word_is also)
+query_once word Faces other is also = only_faces other (subst (λ (w : List ℕ). IsQueryWord w other) is also)
+query_once word (Face n) other is also = face_only n is.1 other (subst (λ (w : List ℕ). IsQueryWord w other) is.0 also)
 query_once word (Row n) other is also = row_only n is.1 other (subst (λ (w : List ℕ). IsQueryWord w other) is.0 also)
 query_once word (Sees n m) other is also = sees_only n m is.1 is.2 other (subst (λ (w : List ℕ). IsQueryWord w other) is.0 also)
-query_once word Parts other is also = parts_only other (subst (λ (w : List ℕ). IsQueryWord w other) is also)
+query_once word Parts other is also = only_parts other (subst (λ (w : List ℕ). IsQueryWord w other) is also)
 
 queries_once : {words : List (List ℕ)} {queries others : List Query} → AreQueryWords words queries → AreQueryWords words others → others ≡ queries
 queries_once no_more no_more = refl

@@ -5,7 +5,7 @@ use Rattle.std.specs.Borrow.{Bor}
 use Rattle.std.specs.Str.{bytes_eq}
 use Rattle.std.proofs.lemmas.Slice.Eq.{bytes_eq-Decides}
 use Rattle.std.proofs.lemmas.List.{drop_more, drop_all}
-use Rattle.qm_commands.specs.CompileRequest.{FlagOption, fast_option, hulls_option, flag_spelling, ValuedOption, listing_option, threads_option, option_spelling}
+use Rattle.qm_commands.specs.CompileRequest.{FlagOption, fast_option, hulls_option, models_option, faces_option, flag_spelling, ValuedOption, listing_option, threads_option, option_spelling}
 use Rattle.qm_commands.specs.FileNames.{IsFileName}
 use Rattle.qm_words.specs.SeenWords.{bytes_of_words}
 use Rattle.qm_words.specs.inner.EachWord.{Each}
@@ -32,12 +32,14 @@ pub flag_word : (word : List ℕ) → IsFlag word → IsCompileWord word
 flag_word word is = bare is.flag is.word_is
 
 -- a word that is spelled like none of them is no option without a value
-pub no_flag_word : (word : List ℕ) → (word ≡ codes "--fast" → ⊥) → (word ≡ codes "--hulls" → ⊥) → IsFlag word → ⊥
-no_flag_word word no_fast no_hulls is = by is.flag is.word_is
+pub no_flag_word : (word : List ℕ) → (word ≡ codes "--fast" → ⊥) → (word ≡ codes "--hulls" → ⊥) → (word ≡ codes "--models" → ⊥) → (word ≡ codes "--faces" → ⊥) → IsFlag word → ⊥
+no_flag_word word no_fast no_hulls no_models no_faces is = by is.flag is.word_is
   where
     by : (flag : FlagOption) → word ≡ flag_spelling flag → ⊥
     by fast_option spelled = no_fast spelled
     by hulls_option spelled = no_hulls spelled
+    by models_option spelled = no_models spelled
+    by faces_option spelled = no_faces spelled
 
 -- a word that is none of these is not one behind `compile`
 pub no_compile_word : (word : List ℕ) → (IsFileName word → ⊥) → (IsFlag word → ⊥) → (IsValued (codes "--prt") word → ⊥) → (IsValued (codes "--threads") word → ⊥) → IsCompileWord word → ⊥

@@ -18,8 +18,8 @@ names_of map_name out_name listing_name = record { map_name = map_name; out_name
 
 -- what an order asks for
 abbrev pub order_of : SeenOrder → Order
-order_of (seen.Compile map_name out_name prt threads fast hulls) =
-    of_map (command.Compile (record { threads = threads; fast = fast; hulls = hulls }) (is_some prt)) (names_of map_name.now out_name.now (option_map (λ name. name.now) prt))
+order_of (seen.Compile map_name out_name prt threads fast hulls models faces) =
+    of_map (command.Compile (record { threads = threads; fast = fast; hulls = hulls; models = models; faces = faces }) (is_some prt)) (names_of map_name.now out_name.now (option_map (λ name. name.now) prt))
 order_of (seen.Inspect tree queries) = of_tree tree.now queries.items
 order_of (seen.Format map_name out_name) = of_map command.Format (names_of map_name.now out_name.now None)
 order_of (seen.Demo rooms number) = of_rooms rooms number

@@ -62,6 +62,8 @@ fn named_order<'a>(
             threads,
             fast: has_flag(matches, "fast"),
             hulls: has_flag(matches, "hulls"),
+            models: has_flag(matches, "models"),
+            faces: has_flag(matches, "faces"),
         }),
     }
 }

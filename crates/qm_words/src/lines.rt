@@ -98,7 +98,9 @@ fn compile_command<'a>(alloc: Global) -> Result<Command<'a>, AllocError>
     let listed = with_arg(alloc, names, ArgKind::Value, "prt");
     let shared = with_arg(alloc, listed, ArgKind::Value, "threads");
     let coarse = with_arg(alloc, shared, ArgKind::Flag, "fast");
-    with_arg(alloc, coarse, ArgKind::Flag, "hulls")
+    let hulled = with_arg(alloc, coarse, ArgKind::Flag, "hulls");
+    let modelled = with_arg(alloc, hulled, ArgKind::Flag, "models");
+    with_arg(alloc, modelled, ArgKind::Flag, "faces")
 }
 
 /// `inspect TREE QUERY..`.

@@ -15,6 +15,8 @@ pub enum Order<'a> {
         threads: u8,
         fast: bool,
         hulls: bool,
+        models: bool,
+        faces: bool,
     },
     /// Answers from a tree file.
     Inspect {

@@ -12,8 +12,8 @@ use crate::places::{at_comma, ends, place};
 use qm_commands::{Millionths, Query};
 use std::alloc::Global;
 
-/// The number of a leaf is below it, so it has at most 18 digits.
-const LEAF_NUMBERS: u64 = 1_000_000_000_000_000_000;
+/// The number of a leaf, of an entity or of a face is below it, so it has at most 18 digits.
+const SHORT_NUMBERS: u64 = 1_000_000_000_000_000_000;
 
 /// The queries of words, one by one.
 pub fn queries_of(alloc: Global, words: &[&str]) -> Result<Vec<Query>, WordsFault>
@@ -38,6 +38,7 @@ fn query(word: &str) -> Option<Query>
     match word {
         "count" => Some(Query::Count),
         "parts" => Some(Query::Parts),
+        "faces" => Some(Query::Faces),
         _ => query_behind(word),
     }
 }
@@ -46,6 +47,7 @@ fn query(word: &str) -> Option<Query>
 fn query_behind(word: &str) -> Option<Query>
     requires no_count { word.now ≢ codes "count" }
     requires no_parts { word.now ≢ codes "parts" }
+    requires no_faces { word.now ≢ codes "faces" }
     ensures some { IfSome result (λ query. IsQueryWord word.now query) }
     ensures none { IfNone result ((query : SeenQuery) → IsQueryWord word.now query → ⊥) }
 {
@@ -66,6 +68,12 @@ fn query_behind(word: &str) -> Option<Query>
     }
     if let Some(text) = word.strip_prefix("hulltrace=2,") {
         return hull_trace(2, text);
+    }
+    if let Some(text) = word.strip_prefix("model=") {
+        return model(text);
+    }
+    if let Some(text) = word.strip_prefix("face=") {
+        return face(text);
     }
     if let Some(text) = word.strip_prefix("row=") {
         return row(text);
@@ -114,12 +122,35 @@ fn hull_trace(hull: u8, text: &str) -> Option<Query>
     Some(Query::HullTrace { hull, from, to })
 }
 
+/// The query `model=` with what stands behind it.
+fn model(text: &str) -> Option<Query>
+    ensures some { IfSome result (λ query. IsQueryWord (codes "model=" ++ text.now) query) }
+    ensures none { IfNone result ((query : SeenQuery) → IsQueryWord (codes "model=" ++ text.now) query → ⊥) }
+{
+    let Some((first, numbers)) = at_comma(text) else {
+        let whole = short_number(text)?;
+        return Some(Query::Model(whole));
+    };
+    let entity = short_number(first)?;
+    let Millionths { x, y, z } = place(numbers)?;
+    Some(Query::ModelAt { entity, x, y, z })
+}
+
+/// The query `face=` with what stands behind it.
+fn face(text: &str) -> Option<Query>
+    ensures some { IfSome result (λ query. IsQueryWord (codes "face=" ++ text.now) query) }
+    ensures none { IfNone result ((query : SeenQuery) → IsQueryWord (codes "face=" ++ text.now) query → ⊥) }
+{
+    let number = short_number(text)?;
+    Some(Query::Face(number))
+}
+
 /// The query `row=` with what stands behind it.
 fn row(text: &str) -> Option<Query>
     ensures some { IfSome result (λ query. IsQueryWord (codes "row=" ++ text.now) query) }
     ensures none { IfNone result ((query : SeenQuery) → IsQueryWord (codes "row=" ++ text.now) query → ⊥) }
 {
-    let leaf = leaf_number(text)?;
+    let leaf = short_number(text)?;
     Some(Query::Row(leaf))
 }
 
@@ -129,16 +160,16 @@ fn sees(text: &str) -> Option<Query>
     ensures none { IfNone result ((query : SeenQuery) → IsQueryWord (codes "sees=" ++ text.now) query → ⊥) }
 {
     let (first, second) = at_comma(text)?;
-    let from = leaf_number(first)?;
-    let to = leaf_number(second)?;
+    let from = short_number(first)?;
+    let to = short_number(second)?;
     Some(Query::Sees(from, to))
 }
 
-/// The number of a leaf, with at most 18 digits.
-fn leaf_number(text: &str) -> Option<u64>
+/// The number of a leaf, of an entity or of a face, with at most 18 digits.
+fn short_number(text: &str) -> Option<u64>
     ensures some { IfSome result (λ n. (text.now ≡ decimal n) × IsShort n) }
     ensures none { IfNone result ((n : ℕ) → IsShort n → text.now ≡ decimal n → ⊥) }
 {
     let n = number(text)?;
-    if n < LEAF_NUMBERS { Some(n) } else { None }
+    if n < SHORT_NUMBERS { Some(n) } else { None }
 }

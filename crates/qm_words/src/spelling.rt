@@ -53,6 +53,8 @@ fn is_flag(word: &str) -> bool
     match word {
         "--fast" => true,
         "--hulls" => true,
+        "--models" => true,
+        "--faces" => true,
         _ => false,
     }
 }

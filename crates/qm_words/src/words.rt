@@ -14,8 +14,8 @@ use crate::pairs::{demo_order, format_order, upgrade_order};
 use std::alloc::Global;
 
 /// What words ask for. They are `compile MAP OUT`, among whose names `--prt FILE` or `--prt=FILE`, `--threads N` or
-/// `--threads=N`, `--fast` and `--hulls` may stand, each once at most; `inspect TREE QUERY..`; `format MAP OUT`;
-/// `demo N NUMBER`; or `upgrade TREE OUT`.
+/// `--threads=N`, `--fast`, `--hulls`, `--models` and `--faces` may stand, each once at most; `inspect TREE QUERY..`;
+/// `format MAP OUT`; `demo N NUMBER`; or `upgrade TREE OUT`.
 ///
 /// # Errors
 ///

@@ -33,7 +33,7 @@ pub record IsCount (sealed : Bool) (brushes flat : ℕ) (world : World) (rows : 
 -- rows of a world and sections of a map as the options ask for them, where the sections can stand in a file
 pub record AreAsAsked (map : MapFile) (options : Options) (world : World) (asked : Asked) : Type 0 where
   pub are_rows : AreRowsAsAsked options.fast options.threads world asked.rows
-  pub are_sections : AreSectionsAsked map options asked.sections
+  pub are_sections : AreSectionsAsked map world.tree options asked.sections
   pub can_stand : AreSections asked.sections
 
 -- a new file of a tree with what was made as asked, with a world and what is counted of the world and the rows

@@ -48,8 +48,8 @@ pair_app verb = names_app verb (codes "first") (codes "second")
 
 abbrev pub compile_app : App
 compile_app =
-    with_rule (with_rule (with_rule (with_rule (names_app (codes "compile") (codes "map") (codes "out"))
-    (value_rule (codes "prt"))) (value_rule (codes "threads"))) (flag_rule (codes "fast"))) (flag_rule (codes "hulls"))
+    with_rule (with_rule (with_rule (with_rule (with_rule (with_rule (names_app (codes "compile") (codes "map") (codes "out"))
+    (value_rule (codes "prt"))) (value_rule (codes "threads"))) (flag_rule (codes "fast"))) (flag_rule (codes "hulls"))) (flag_rule (codes "models"))) (flag_rule (codes "faces"))
 
 abbrev pub inspect_app : App
 inspect_app = with_rule (named_app (codes "inspect") (codes "tree")) (many_rule (codes "query"))

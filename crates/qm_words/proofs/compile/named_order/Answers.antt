@@ -17,5 +17,5 @@ returns-in-None c =
 pub returns-in-Some : goal.returns-in-Some
 returns-in-Some c =
     order_is (rows_of (found_of c.args.matches.now)) c.args.map.now c.args.out.now (option_map (λ name. name.now) c.found_text-prt.result) (option_map (λ text. text.now) c.found_text.result)
-    (is_some c.found_text-prt.result) c.in-Some.threads c.has_flag.result c.has_flag-in-Some.result c.requires.0 c.requires.1 (sym c.found_text-prt.ensures) (sym c.found_text.ensures)
-    (some_kept _ c.found_text-prt.result) c.in-Some.ensures.some c.has_flag.ensures c.has_flag-in-Some.ensures (c.are_different.ensures.0 c.if-not-are_different.false)
+    (is_some c.found_text-prt.result) c.in-Some.threads c.has_flag.result c.has_flag-in-Some.result c.has_flag-in-Some-2.result c.has_flag-in-Some-3.result c.requires.0 c.requires.1 (sym c.found_text-prt.ensures) (sym c.found_text.ensures)
+    (some_kept _ c.found_text-prt.result) c.in-Some.ensures.some c.has_flag.ensures c.has_flag-in-Some.ensures c.has_flag-in-Some-2.ensures c.has_flag-in-Some-3.ensures (c.are_different.ensures.0 c.if-not-are_different.false)

@@ -1,0 +1,2 @@
+pub mod KeptFaces
+pub mod FaceLaws

@@ -1,0 +1,2 @@
+pub mod ReadFaces
+pub mod BoundaryFaces

@@ -1,0 +1,2 @@
+pub mod FaceSizes
+pub mod ReadFaces

@@ -1,0 +1,3 @@
+pub mod FaceRecords
+pub mod MapFaces
+pub mod FaceBytes

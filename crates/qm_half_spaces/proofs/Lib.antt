@@ -1,0 +1,2 @@
+pub mod HalvesLeft
+pub mod WidenedExtents

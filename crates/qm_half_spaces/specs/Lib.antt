@@ -1,0 +1,2 @@
+pub mod HalfCells
+pub mod inner

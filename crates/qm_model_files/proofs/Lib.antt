@@ -1,0 +1,3 @@
+pub mod KeptModels
+pub mod EachEntity
+pub mod ModelLaws

@@ -1,0 +1,3 @@
+pub mod ReadModels
+pub mod ExactModels
+pub mod SeenModels

@@ -1,0 +1,5 @@
+pub mod WrittenBoxes
+pub mod EachModel
+pub mod WrittenLeaves
+pub mod ModelSizes
+pub mod ReadModels

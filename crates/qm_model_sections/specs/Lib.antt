@@ -1,0 +1,2 @@
+pub mod MapModels
+pub mod ModelBytes

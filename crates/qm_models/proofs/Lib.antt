@@ -1,0 +1,2 @@
+pub mod AddedBrushes
+pub mod EntityModels

@@ -1,0 +1,2 @@
+pub mod BehindFaces
+pub mod OneModel
