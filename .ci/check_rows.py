@@ -11,10 +11,10 @@ import sys
 
 sys.path.insert(0, str(Path(__file__).resolve().parent))
 
-from rows import asked, brushes, compiled, demo, hulls, leaks, models, portals, texts, traces, trees, words, workers  # noqa: E402
+from rows import asked, brushes, compiled, demo, faces, hulls, leaks, models, portals, texts, traces, trees, words, workers  # noqa: E402
 from rows.table import fault_of, words_of  # noqa: E402
 
-TABLES = (brushes, compiled, portals, leaks, workers, asked, hulls, models, traces, trees, texts, words, demo)
+TABLES = (brushes, compiled, portals, leaks, workers, asked, hulls, models, faces, traces, trees, texts, words, demo)
 
 
 def wrong_in(program, table):

@@ -26,8 +26,8 @@ from compare_texts import read_number
 PAGE = Path(__file__).resolve().parent.parent.joinpath("docs/EDITORS.md").read_text(encoding="utf-8")
 USAGE = (b"usage: qmapc compile MAP OUT [--prt FILE] [--threads N] [--fast] [--hulls] [--models] [--faces] | inspect TREE QUERY.. | format MAP OUT"
          b" | demo N NUMBER | upgrade TREE OUT\n")
-TELLING = ["compile", "inspect", "format", "demo", "upgrade", "a", "8", "04", "count", "--fast", "--hulls", "--models", "--prt", "--prt=a",
-           "--threads", "--threads=8", "-x", ""]
+TELLING = ["compile", "inspect", "format", "demo", "upgrade", "a", "8", "04", "count", "--fast", "--hulls", "--models", "--faces", "--prt",
+           "--prt=a", "--threads", "--threads=8", "-x", ""]
 NUMBERS = ["", "0", "00", "1", "01", "2", "7", "+1", "-1", "1.", "1.0", "1e0", "0x1", " 1", "1 ", "1,", "1_0", "\u0661", "\uff11",
            "\udcff", "64", "65", "256", "257", "4294967297", "999999999999999999", "1000000000000000000", "18446744073709551615",
            "18446744073709551616", "18446744073709551617", "0" * 40 + "1", "9" * 200]
@@ -46,7 +46,10 @@ QUERIES = ["count", "COUNT", "count=", "count ", "Count", "cou", "parts", "PARTS
            "hull=1,1,2,3,4,5,6", "model", "model=", "model=0", "model=1", "model=01", "model=+1", "model=-1", "model=1.", "model=1,",
            "model=1,2", "model=1,2,3", "model=1,2,3,4", "model=0,-1.5,+3,.5", "model=01,2,3,4", "model=,2,3,4", "model=1 ,2,3,4", "model= 1,2,3,4",
            "model=1,2,3,4,5", "model=1,2,3,", "model=999999999999999999,2,3,4", "model=1000000000000000000,2,3,4", "model=1000000000000000000",
-           "model=\u0661,2,3,4", "model==1", "MODEL=1", "models=1", "model1", "help", "--help", "-count", "-", "--", "\u00e9", "at=1,2,\u00b3", "\udcff"]
+           "model=\u0661,2,3,4", "model==1", "MODEL=1", "models=1", "model1",
+           "faces", "FACES", "faces=", "faces=1", "face", "face=", "face=0", "face=1", "face=01", "face=+1", "face=-1", "face=1.", "face=1,",
+           "face=1,2", "face= 1", "face=999999999999999999", "face=1000000000000000000", "face=\u0661", "face==1", "FACE=1", "face1",
+           "help", "--help", "-count", "-", "--", "\u00e9", "at=1,2,\u00b3", "\udcff"]
 
 
 def bytes_of(word):
@@ -88,9 +91,9 @@ def is_query(word):
         return values[0] in ("1", "2") and len(values) == 7 and all(map(is_place, values[1:]))
     if verb == "model":
         return len(values) in (1, 4) and is_number(values[0], 0, 10 ** 18 - 1) and all(map(is_place, values[1:]))
-    if verb not in ("row", "sees"):
-        return word in ("count", "parts")
-    return len(values) == (1 if verb == "row" else 2) and all(is_number(value, 0, 10 ** 18 - 1) for value in values)
+    if verb not in ("face", "row", "sees"):
+        return word in ("count", "faces", "parts")
+    return len(values) == (2 if verb == "sees" else 1) and all(is_number(value, 0, 10 ** 18 - 1) for value in values)
 
 
 def is_compile(words):
@@ -100,7 +103,7 @@ def is_compile(words):
     while words:
         word = words.pop(0)
         option, equals, value = word.partition("=")
-        if option in ("--fast", "--hulls", "--models") and not equals:
+        if option in ("--fast", "--hulls", "--models", "--faces") and not equals:
             value = "given"
         elif option in ("--prt", "--threads"):
             if not equals:
@@ -141,6 +144,7 @@ def single_words():
         yield ["compile", "a", "b", "--threads", word]
         yield ["compile", "a", "b", f"--threads={word}"]
         yield ["inspect", "a", f"row={word}"]
+        yield ["inspect", "a", f"face={word}"]
         yield ["inspect", "a", f"model={word}"]
         yield ["inspect", "a", f"model={word},1,2,3"]
         yield ["inspect", "a", f"sees={word},1"]
@@ -161,8 +165,8 @@ def long_lists(count):
     """Lists of five to ten words, each a command of one sort or another with one change or none."""
     draw = random.Random(7)
     while count:
-        options = draw.sample([["--fast"], ["--hulls"], ["--models"], draw.choice([["--prt", "c"], ["--prt=c"], ["--prt=-c"]]),
-                               draw.choice([["--threads", "8"], ["--threads=64"]])], draw.randint(1, 5))
+        options = draw.sample([["--fast"], ["--hulls"], ["--models"], ["--faces"], draw.choice([["--prt", "c"], ["--prt=c"], ["--prt=-c"]]),
+                               draw.choice([["--threads", "8"], ["--threads=64"]])], draw.randint(1, 6))
         parts = [["a"], ["b"], *options]
         draw.shuffle(parts)
         words = ["compile", *itertools.chain(*parts)]

@@ -49,6 +49,13 @@ compile map out --Models
 compile map out --models=1
 compile map out --model
 format map out --models
+compile map out --faces --faces
+compile --faces map --models --faces out
+compile map --faces
+compile map out --Faces
+compile map out --faces=1
+compile map out --face
+format map out --faces
 compile map out --prt
 compile map out --prt --hulls
 compile --prt map out
@@ -113,6 +120,15 @@ inspect map model=1,2,3,4,5
 inspect map model=01,2,3,4
 inspect map model=1,2,3,0.0000001
 inspect map count --models
+inspect map faces=
+inspect map faces=1
+inspect map face
+inspect map face=
+inspect map face=01
+inspect map face=-1
+inspect map face=1,
+inspect map face=1000000000000000000
+inspect map count --faces
 inspect map row=1000000000000000000
 inspect map count row=01
 inspect map sees=0

@@ -27,13 +27,13 @@ coordinates_of_corner planes bound corner =
     coordinates_of_planes (named_plane planes bound (slice_index_or corner 0 (pos 0))) (named_plane planes bound (slice_index_or corner 1 (pos 0))) (named_plane planes bound (slice_index_or corner 2 (pos 0)))
 
 -- coordinates, each with a space behind it
-abbrev pub spaced : List Coordinate → List ℕ
-spaced [] = []
-spaced (coordinate ∷ coordinates) = (coordinate_numeral coordinate ++ (32 ∷ [])) ++ spaced coordinates
+abbrev pub spaced_coordinates : List Coordinate → List ℕ
+spaced_coordinates [] = []
+spaced_coordinates (coordinate ∷ coordinates) = (coordinate_numeral coordinate ++ (32 ∷ [])) ++ spaced_coordinates coordinates
 
 -- the same between brackets
 unfoldable pub bracketed : List Coordinate → List ℕ
-bracketed coordinates = 40 ∷ (spaced coordinates ++ (41 ∷ []))
+bracketed coordinates = 40 ∷ (spaced_coordinates coordinates ++ (41 ∷ []))
 
 -- the corners of a face, each after a space
 abbrev pub spaced_corners : List Plane → ℕ → List (List ℤ) → List ℕ

@@ -1,5 +1,5 @@
 //! What holds of a run: how it ends over forms that never fail, and that it leaves what it reads; and what the spans of a
-//! segment and the brush models say of a map, in the files that it compiles to.
+//! segment, the brush models and the faces say of a map, in the files that it compiles to.
 
 ghost use Rattle.std.specs.Prelude.{◌≡◌, ℕ, Bool, List, Some, IsTrue, All};
 ghost use Rattle.qm_mapfile.specs.declared.entity.MapFile.{MapFile};
@@ -9,6 +9,10 @@ ghost use Rattle.qm_model_layout.specs.BrushModel.{BrushModel};
 ghost use Rattle.qm_model_files.specs.ReadModels.{AreReadModels, HasModels};
 ghost use Rattle.qm_model_files.specs.ExactModels.{AreExactModels};
 ghost use Rattle.qm_model_files.specs.SeenModels.{HasLeavesOfPoints, IsShownByLines};
+ghost use Rattle.qm_face_layout.specs.declared.face_record.FaceRecord.{FaceRecord};
+ghost use Rattle.qm_face_sections.specs.MapFaces.{AreFacesOfMap};
+ghost use Rattle.qm_face_files.specs.ReadFaces.{AreReadFaces, HasFaces};
+ghost use Rattle.qm_face_files.specs.BoundaryFaces.{AreBoundaryFaces};
 ghost use Rattle.qm_shelf.specs.SeenForms.{surroundings};
 ghost use Rattle.qm_surroundings.specs.Surroundings.{Surroundings};
 ghost use Rattle.qm_commands.specs.declared.map_command.MapCommand.TheVariants.{Compile};
@@ -93,4 +97,17 @@ pub fn models_have_leaves_of_points()
 /// Where a line of sight ends strictly inside a brush of a model, the row of its first leaf has a leaf of the model.
 pub fn lines_of_sight_show_models()
     ensures { (map : MapFile) (options : SeenOptions) (file : TreeFile) (world : World) (summary : SeenSummary) → IsCompiledWithoutLeak map options file world summary → (models : List BrushModel) (rows : List (List Bool)) → AreReadModels file models → file.rows ≡ Some rows → All (IsShownByLines map file.tree rows) models }
+{}
+
+/// With `--faces` the file has a section of faces, and what is read in it are exactly the faces of the map by the file's tree: the
+/// records of the pieces into which the map's brushes cut the surface between rock and leaves that are not solid.
+pub fn faces_are_exact()
+    ensures there { (map : MapFile) (options : SeenOptions) (file : TreeFile) (world : World) (summary : SeenSummary) → IsCompiledWithoutLeak map options file world summary → IsTrue options.faces → HasFaces file }
+    ensures exact { (map : MapFile) (options : SeenOptions) (file : TreeFile) (world : World) (summary : SeenSummary) → IsCompiledWithoutLeak map options file world summary → (faces : List FaceRecord) → AreReadFaces file faces → AreFacesOfMap map file.tree faces }
+{}
+
+/// Each boundary point of the file's tree lies in just one of these pieces, whose record names the leaf that is not solid there, and
+/// the brush and the face to which the point belongs.
+pub fn boundary_points_have_faces()
+    ensures { (map : MapFile) (options : SeenOptions) (file : TreeFile) (world : World) (summary : SeenSummary) → IsCompiledWithoutLeak map options file world summary → (faces : List FaceRecord) → AreReadFaces file faces → AreBoundaryFaces map file.tree faces }
 {}

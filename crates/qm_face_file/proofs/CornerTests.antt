@@ -13,11 +13,11 @@ use Rattle.qm_face_layout.specs.PlaneNumbers.{named_plane}
 use Rattle.qm_face_layout.specs.FacesLayout.{meet_in_point, is_face_corner}
 use Rattle.qm_face_layout.proofs.ValidFaces.{weight_test}
 
-positive_none : (p : Point) → p.w ≡ pos 0 → (with_positive_weight p).w ≡ pos 0
+pub positive_none : (p : Point) → p.w ≡ pos 0 → (with_positive_weight p).w ≡ pos 0
 unfolding with_positive_weight
 positive_none p none = subst (λ (w : ℤ). (with_positive_weight (record { x = p.x; y = p.y; z = p.z; w = w })).w ≡ pos 0) (sym none) refl
 
-positive_back : (p : Point) → (with_positive_weight p).w ≡ pos 0 → p.w ≡ pos 0
+pub positive_back : (p : Point) → (with_positive_weight p).w ≡ pos 0 → p.w ≡ pos 0
 unfolding with_positive_weight
 positive_back p = at p.x p.y p.z p.w
   where

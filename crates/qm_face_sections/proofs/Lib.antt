@@ -1,2 +1,3 @@
 pub mod FaceSizes
+pub mod MapSurfaces
 pub mod ReadFaces

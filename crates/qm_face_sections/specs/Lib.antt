@@ -1,3 +1,4 @@
+pub mod CutTrees
 pub mod FaceRecords
 pub mod MapFaces
 pub mod FaceBytes

@@ -1,8 +1,10 @@
+pub mod CornersOfPlanes
 pub mod CountedBlocks
 pub mod FacesOfFiles
 pub mod HullsOfFiles
 pub mod KeptPoints
 pub mod ModelsOfFiles
+pub mod PrintedCorners
 pub mod PrintedSpans
 pub mod SetPlaces
 pub mod TraceAnswers

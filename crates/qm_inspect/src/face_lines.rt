@@ -5,9 +5,9 @@ ghost use Rattle.qm_numerals.specs.Printed.{printed_fraction, shown_sign, with_s
 ghost use Rattle.qm_listing.specs.Numbers.{coordinate_numeral};
 ghost use Rattle.qm_listing.specs.WorldListing.{coordinate_at, coordinates_at};
 ghost use Rattle.qm_answers.specs.AnswerText.{words_of_faces, words_of_face, words_of_known_face};
-ghost use Rattle.qm_answers.specs.CornerText.{coordinates_of_corner, spaced, bracketed, spaced_corners};
+ghost use Rattle.qm_answers.specs.CornerText.{coordinates_of_corner, spaced_coordinates, bracketed, spaced_corners};
 
-use crate::six_decimals::put_fraction;
+use crate::six_decimals::put_spaced_fraction;
 use qm_answers::DecodedSection;
 use qm_face_file::{FaceRecord, named_plane};
 use qm_geom::{Corner, Plane};
@@ -109,7 +109,7 @@ fn corner_of(planes: &[Plane], bound: u32, corner: &[i64; 3]) -> Option<Corner>
 
 /// Adds the coordinates of a point, each with a space behind it.
 fn put_coordinates(text: &mut String, point: &Corner) -> Result<(), AllocError>
-    ensures { OnOk result (string_bytes text.new ≡ string_bytes text.old ++ spaced (coordinates_at point.now)) }
+    ensures { OnOk result (string_bytes text.new ≡ string_bytes text.old ++ spaced_coordinates (coordinates_at point.now)) }
 {
     let (x, w) = point.fraction(0);
     let (y, _) = point.fraction(1);
@@ -125,6 +125,5 @@ fn put_coordinate(text: &mut String, over: i128, under: i128) -> Result<(), Allo
     requires bounded { unsigned_abs over ≤ 2 ^ 100 }
     ensures { OnOk result (string_bytes text.new ≡ string_bytes text.old ++ (coordinate_numeral (coordinate_at over under) ++ 32 ∷ [])) }
 {
-    put_fraction(text, over, under)?;
-    text.push(' ')
+    put_spaced_fraction(text, over, under)
 }

@@ -8,8 +8,22 @@ use std::alloc::AllocError;
 
 const MILLION: u128 = 1_000_000;
 
+/// Adds `over / under` with a space behind it.
+pub(crate) fn put_spaced_fraction(
+    text: &mut String,
+    over: i128,
+    under: i128,
+) -> Result<(), AllocError>
+    requires above_zero { pos 0 <ℤ under }
+    requires bounded { unsigned_abs over ≤ 2 ^ 100 }
+    ensures { OnOk result (string_bytes text.new ≡ string_bytes text.old ++ (printed_fraction (int_lt over (pos 0)) (unsigned_abs over) (unsigned_abs under) ++ 32 ∷ [])) }
+{
+    put_fraction(text, over, under)?;
+    text.push(' ')
+}
+
 /// Adds `over / under`.
-pub(crate) fn put_fraction(text: &mut String, over: i128, under: i128) -> Result<(), AllocError>
+fn put_fraction(text: &mut String, over: i128, under: i128) -> Result<(), AllocError>
     requires above_zero { pos 0 <ℤ under }
     requires bounded { unsigned_abs over ≤ 2 ^ 100 }
     ensures { OnOk result (string_bytes text.new ≡ string_bytes text.old ++ printed_fraction (int_lt over (pos 0)) (unsigned_abs over) (unsigned_abs under)) }

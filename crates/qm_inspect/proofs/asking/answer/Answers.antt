@@ -9,4 +9,4 @@ pub returns-in-Faces : goal.returns-in-Faces
 returns-in-Faces c = faces_answer c.args.file.now c.args.parts.now c.args.ask.now c.faces.result c.requires.parts c.in-Faces.is c.faces.ensures
 
 pub returns-in-Face : goal.returns-in-Face
-returns-in-Face c = face_answer c.args.file.now c.args.parts.now c.args.ask.now c.face.result c.requires.parts c.in-Face.field-0 c.in-Face.is c.face.ensures
+returns-in-Face c = face_answer c.args.file.now c.args.parts.now c.args.ask.now c.face.result c.requires.parts c.in-Face.n c.in-Face.is c.face.ensures
