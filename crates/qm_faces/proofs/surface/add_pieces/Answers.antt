@@ -1,9 +1,9 @@
-use Rattle.std.proofs.Common.{◌<◌, List, [], ◌∷◌, ◌++◌, All, length, sym, ap, ◌∙◌, subst, arith}
+use Rattle.std.proofs.Common.{◌≡◌, ◌<◌, List, [], ◌∷◌, ◌++◌, All, length, sym, ap, ◌∙◌, subst, arith}
 use Rattle.std.proofs.lemmas.Result.{IfOk-weaker}
 use Rattle.qm_space.specs.Plane.{Plane}
 use Rattle.qm_convex.specs.Winding.{Winding}
 use Rattle.qm_contacts.specs.Touching.{Touching}
-use Rattle.qm_surface.specs.Owner.{FaceOwner}
+use Rattle.qm_surface.specs.Owner.{FaceOwner, owners_from}
 use Rattle.qm_faces.specs.inner.Cuts.{AreCutFor, AreAddedFor}
 use Rattle.qm_faces.proofs.OwnersFound.{owners_listed}
 use Rattle.qm_faces.proofs.RowsOfOwners.{key_within}
@@ -22,9 +22,9 @@ cut_all-requires-clause-brushes c =
 pub returns : goal.returns
 returns c =
     let there : c.in-Some.boundary.plane < length c.args.planes.now = subst (λ (hs : List Plane). c.in-Some.boundary.plane < length hs) c.requires.planes c.in-Some.ensures.there in
-    let owners_are = c.owners_on-owners.ensures ∙ c.requires.rows.rows_are c.in-Some.boundary.plane c.in-Some.boundary.side there in
-    let winding = c.in_ok-whole.ensures ∙ c.deref.ensures ∙ ap (λ (p : Touching). p.winding) c.pair.view_is in
-    let rest = c.in_ok-push.ensures.items ∙ ap (λ (ws : List Winding). ws ++ c.in_ok-whole.field-0 ∷ []) c.new-rest.ensures.items ∙ ap (λ (w : Winding). w ∷ []) winding in
+    let owners_are : c.owners_on-owners.result.now ≡ owners_from c.in-Some.boundary.plane c.in-Some.boundary.side c.args.list.now 0 = c.owners_on-owners.ensures ∙ c.requires.rows.rows_are c.in-Some.boundary.plane c.in-Some.boundary.side there in
+    let winding : c.in_ok-whole.field-0 ≡ c.args.pair.now.winding = c.in_ok-whole.ensures ∙ c.deref.ensures ∙ ap (λ (p : Touching). p.winding) c.pair.view_is in
+    let rest : c.push.new.self.items ≡ c.args.pair.now.winding ∷ [] = c.in_ok-push.ensures.items ∙ ap (λ (ws : List Winding). ws ++ c.in_ok-whole.field-0 ∷ []) c.new-rest.ensures.items ∙ ap (λ (w : Winding). w ∷ []) winding in
     IfOk-weaker c.cut_all.result
     (λ _. AreCutFor c.args.planes.now c.args.list.now c.in-Some.boundary c.owners_on-owners.result.now c.push.new.self.items c.args.pieces.now.items c.cut_all.new.pieces.items)
     (λ _. AreAddedFor c.args.tree.now c.args.list.now c.args.pair.now c.args.pieces.now.items c.cut_all.new.pieces.items)
