@@ -1,0 +1,2 @@
+pub mod PiecesInBook
+pub mod inner
