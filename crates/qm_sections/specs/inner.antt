@@ -1,2 +1,3 @@
 pub mod PartsAdded
 pub mod SectionsThatFit
+pub mod SmallPieces

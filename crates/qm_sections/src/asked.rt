@@ -1,9 +1,11 @@
 ghost use Rattle.std.specs.Prelude.{IfOk, OnOk};
 ghost use Rattle.qm_grammar.specs.Valid.{IsValidMap};
 ghost use Rattle.qm_formats.specs.TreeFile.{AreSections};
+ghost use Rattle.qm_face_sections.specs.CutTrees.{HasSurfaceOf};
 ghost use Rattle.qm_statement.specs.AskedSections.{AreSectionsAsked};
-ghost use Rattle.qm_sections.specs.inner.PartsAdded.{AreHullsAdded, AreModelsAdded};
+ghost use Rattle.qm_sections.specs.inner.PartsAdded.{AreHullsAdded, AreModelsAdded, AreFacesAdded};
 
+use crate::face_section::face_section;
 use crate::hull_sections::hull_sections;
 use crate::model_section::model_section;
 use qm_commands::Options;
@@ -11,6 +13,7 @@ use qm_file::Section;
 use qm_lists::Items;
 use qm_mapfile::MapFile;
 use qm_portal::World;
+use qm_tree::Tree;
 use std::alloc::{AllocError, Global};
 use std::thread::Threads;
 
@@ -23,13 +26,15 @@ pub fn sections<R: Threads + Sync>(
     world: &World,
     options: &Options,
 ) -> Result<Items<Section>, AllocError>
-    requires { IsValidMap map.now }
+    requires valid { IsValidMap map.now }
+    requires surface { HasSurfaceOf map.now world.now.tree }
     ensures asked { IfOk result (AreSectionsAsked map.now world.now.tree options.now) }
     ensures can_stand { IfOk result AreSections }
 {
     let mut all = Vec::new(alloc);
     add_hulls(rt, alloc, map, options, &mut all)?;
     add_models(alloc, map, world, options, &mut all)?;
+    add_faces(alloc, map, world.tree(), options, &mut all)?;
     Ok(Items::from_vec(all))
 }
 
@@ -68,6 +73,26 @@ fn add_models(
         return Ok(());
     }
     let section = model_section(alloc, map, world)?;
+    all.push(section)?;
+    Ok(())
+}
+
+/// Adds the section of the faces at the end, where they are asked for.
+fn add_faces(
+    alloc: Global,
+    map: &MapFile,
+    tree: &Tree,
+    options: &Options,
+    all: &mut Vec<Section>,
+) -> Result<(), AllocError>
+    requires valid { IsValidMap map.now }
+    requires surface { HasSurfaceOf map.now tree.now }
+    ensures { OnOk result (AreFacesAdded options.now.faces map.now tree.now all.old.items all.new.items) }
+{
+    if !options.faces {
+        return Ok(());
+    }
+    let section = face_section(alloc, map, tree)?;
     all.push(section)?;
     Ok(())
 }

@@ -2,6 +2,7 @@
 #![tactic(auto)]
 
 mod asked;
+mod face_section;
 mod hull_sections;
 mod model_section;
 mod section_of_bytes;

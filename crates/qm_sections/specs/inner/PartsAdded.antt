@@ -2,7 +2,7 @@ use Rattle.std.specs.Prelude.{◌≡◌, ℕ, Bool, List, ◌++◌}
 use Rattle.qm_mapfile.specs.declared.entity.MapFile.{MapFile}
 use Rattle.qm_partition.specs.Tree.{Tree}
 use Rattle.qm_formats.specs.TreeFile.{Section, AreSections, AreSectionsAbove}
-use Rattle.qm_statement.specs.AskedSections.{AreHullsAsAsked, AreModelsAsAsked}
+use Rattle.qm_statement.specs.AskedSections.{AreHullsAsAsked, AreModelsAsAsked, AreFacesAsAsked}
 
 -- Sections that were added at the end of a list, where they were asked for, and that can stand in a file behind those of lower
 -- kinds.
@@ -24,3 +24,14 @@ pub record AreModelsAdded (asked : Bool) (map : MapFile) (world : Tree) (before 
   pub are_models : AreModelsAsAsked asked map world models
   pub can_stand : AreSectionsAbove last_hull models
   pub added : after ≡ before ++ models
+
+-- the kind of the brush models
+abbrev pub kind_of_models : ℕ
+kind_of_models = 3
+
+-- that of the faces
+pub record AreFacesAdded (asked : Bool) (map : MapFile) (world : Tree) (before after : List Section) : Type 0 where
+  pub faces : List Section
+  pub are_faces : AreFacesAsAsked asked map world faces
+  pub can_stand : AreSectionsAbove kind_of_models faces
+  pub added : after ≡ before ++ faces

@@ -3,7 +3,7 @@ use Rattle.qm_mapfile.specs.declared.entity.MapFile.{MapFile}
 use Rattle.qm_partition.specs.Tree.{Tree}
 use Rattle.qm_formats.specs.Fields.{AreBytes}
 use Rattle.qm_formats.specs.TreeFile.{Section}
-use Rattle.qm_statement.specs.AskedSections.{IsHullSection, IsModelSection}
+use Rattle.qm_statement.specs.AskedSections.{IsHullSection, IsModelSection, IsFaceSection}
 
 -- Sections in as many bytes as a section can have.
 
@@ -16,5 +16,11 @@ pub record IsHullThatFits (map : MapFile) (hull : ℕ) (section : Section) : Typ
 -- the brush models of a map beside the tree of its world
 pub record AreModelsThatFit (map : MapFile) (world : Tree) (section : Section) : Type 0 where
   pub are_models : IsModelSection map world section
+  pub length_fits : length section.bytes < 2 ^ 64
+  pub are_bytes : AreBytes section.bytes
+
+-- the faces of a map by the tree of its world
+pub record IsFaceSectionThatFits (map : MapFile) (world : Tree) (section : Section) : Type 0 where
+  pub are_faces : IsFaceSection map world section
   pub length_fits : length section.bytes < 2 ^ 64
   pub are_bytes : AreBytes section.bytes

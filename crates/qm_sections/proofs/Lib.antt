@@ -1,0 +1,2 @@
+pub mod MapFaces
+pub mod PartsInOrder

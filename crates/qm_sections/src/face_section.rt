@@ -1,0 +1,66 @@
+//! The section of faces.
+
+ghost use Rattle.std.specs.Prelude.{◌<◌, ◌^◌, All, IfOk, length};
+ghost use Rattle.qm_grammar.specs.Valid.{IsValidMap};
+ghost use Rattle.qm_face_sections.specs.CutTrees.{HasSurfaceOf};
+ghost use Rattle.qm_sections.specs.inner.SectionsThatFit.{IsFaceSectionThatFits};
+ghost use Rattle.qm_sections.specs.inner.SmallPieces.{IsSmallPiece};
+
+use crate::section_of_bytes::section_of_bytes;
+use qm_brush::brushes;
+use qm_face_records::encode;
+use qm_faces::{FacePiece, faces};
+use qm_file::Section;
+use qm_geom::PlaneBook;
+use qm_mapfile::MapFile;
+use qm_portal::touches;
+use qm_tree::Tree;
+use std::alloc::{AllocError, Global};
+
+/// The kind of the section of faces.
+const FACES: u8 = 4;
+
+/// The section of the faces of a map by a tree. The brushes enter an empty book, which comes to have the planes of the tree.
+pub(crate) fn face_section(
+    alloc: Global,
+    map: &MapFile,
+    tree: &Tree,
+) -> Result<Section, AllocError>
+    requires valid { IsValidMap map.now }
+    requires surface { HasSurfaceOf map.now tree.now }
+    ensures { IfOk result (IsFaceSectionThatFits map.now tree.now) }
+{
+    planes_fit(tree);
+    let mut book = PlaneBook::new(alloc);
+    let list = brushes(alloc, map, &mut book)?;
+    let contacts = touches(alloc, tree)?;
+    let pieces = faces(alloc, &list, &book, tree, &contacts)?;
+    pieces_fit(&pieces);
+    let bytes = encode(alloc, &pieces, &book)?;
+    Ok(section_of_bytes(FACES, bytes))
+}
+
+/// A tree has fewer planes than 2^32. This does nothing: its clause is what their count is.
+fn planes_fit(tree: &Tree)
+    ensures { length tree.now.planes < 2 ^ 32 }
+{
+    let _ = tree.planes();
+}
+
+/// The numbers of pieces have as many bits as there are for them. This changes nothing: its clause is what such numbers are.
+fn pieces_fit(pieces: &[FacePiece])
+    ensures { All IsSmallPiece pieces.now }
+{
+    for piece in pieces {
+        piece_fits(piece);
+    }
+}
+
+/// The same of one piece.
+fn piece_fits(piece: &FacePiece)
+    ensures { IsSmallPiece piece.now }
+{
+    let _ = piece.leaf;
+    let _ = piece.brush;
+    let _ = piece.face;
+}
