@@ -68,6 +68,7 @@ use Rattle.qm_compiler.specs.inner.FlatCount.{flat_count}
 use Rattle.qm_compiler.specs.inner.NewFile.{new_file}
 use Rattle.qm_compiler.specs.inner.Prepared.{IsPrepared, marked_of}
 use Rattle.qm_build.proofs.BuiltTrees.{tree_well_made, tree_reduced}
+use Rattle.qm_compiler.proofs.MarkedSurfaces.{marked_surface}
 use Rattle.qm_compiler.proofs.NewFiles.{new_form}
 use Rattle.qm_compiler.proofs.Origins.{one_origins}
 use Rattle.qm_compiler.proofs.WrittenRows.{valid_without_rows, valid_with_rows, leaf_rows_over}
@@ -235,7 +236,7 @@ module _ (map : MapFile) (tree : Tree) (brushes flat : ℕ) (counted : IsTreeOfB
 
       marked_map : IsPrepared map (marked_of sealed tree brushes flat contacts row)
       unfolding IsPrepared marked_of
-      marked_map = record { becomes = becomes }
+      marked_map = record { has_surface = marked_surface map tree origins (marked_tree row tree) is_built is_marked; becomes = becomes }
 
   -- it is sealed
   pub sealed_map : (row : List Bool) (contacts : Contacts) → IsSealed tree origins → IsFilledRow tree origins row → AreContacts tree contacts → IsPrepared map (marked_of true tree brushes flat contacts row)

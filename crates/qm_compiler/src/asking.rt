@@ -2,6 +2,7 @@
 
 ghost use Rattle.std.specs.Prelude.{◌≤◌, IfOk};
 ghost use Rattle.qm_grammar.specs.Valid.{IsValidMap};
+ghost use Rattle.qm_face_sections.specs.CutTrees.{HasSurfaceOf};
 ghost use Rattle.qm_compiler.specs.inner.Finished.{AreAsAsked};
 
 use crate::rows::rows_of;
@@ -36,6 +37,7 @@ pub fn make_asked<R: Threads + Sync, G: Gate + Sync>(
     requires valid { IsValidMap map.now }
     requires some { 1 ≤ options.now.threads }
     requires not_too_many { options.now.threads ≤ 64 }
+    requires surface { HasSurfaceOf map.now world.now.tree }
     ensures { IfOk result (AreAsAsked map.now options.now world.now) }
 {
     let sections = sections(rt, alloc, map, world, options)?;

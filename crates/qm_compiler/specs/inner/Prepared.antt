@@ -6,6 +6,7 @@ use Rattle.qm_contacts.specs.Contacts.{Contacts}
 use Rattle.qm_contacts.specs.Portals.{portals_of}
 use Rattle.qm_contacts.specs.World.{World}
 use Rattle.qm_flood.specs.declared.answer.Flood.{Flood}
+use Rattle.qm_face_sections.specs.CutTrees.{HasSurfaceOf}
 use Rattle.qm_commands.specs.declared.options.Options.{Options}
 use Rattle.qm_statement.specs.CompiledMap.{IsCompiledToLeak}
 use Rattle.qm_compiler.specs.Answers.{IsCompiled}
@@ -31,8 +32,10 @@ pub record IsMarkedWith {E : Type 0} (sealed : Bool) (tree : Tree) (brushes flat
   pub found_is : found ≡ Ok row
   pub is_marked : prepared ≡ marked_of sealed tree brushes flat contacts row
 
--- whatever the options: with the rows and counts of its world, and with the map's sections, this is what the map compiles to
+-- the surface of the map can be cut by the tree of the world; and whatever the options: with the rows and counts of the world, and
+-- with the map's sections, this is what the map compiles to
 pub record BecomesCompiled (map : MapFile) (sealed : Bool) (built : Built) (world : World) : Type 0 where
+  pub has_surface : HasSurfaceOf map world.tree
   pub becomes : (options : Options) (compiled : Compiled) → IsFinished map options sealed built.brushes built.flat built.tree world compiled → IsCompiled map options compiled
 
 -- the leak of the map, or what becomes what it compiles to

@@ -22,6 +22,10 @@ make_asked-asked-requires-clause-some g c κs within = c.requires.some
 pub make_asked-asked-requires-clause-not_too_many : goal.make_asked-asked-requires-clause-not_too_many
 make_asked-asked-requires-clause-not_too_many g c κs within = c.requires.not_too_many
 
+pub make_asked-asked-requires-clause-surface : goal.make_asked-asked-requires-clause-surface
+unfolding IsPrepared
+make_asked-asked-requires-clause-surface g c κs within = let prepared = rw c.in-Marked.is at c.in_ok-prepared.ensures in prepared.has_surface
+
 pub returns-in-Leak : goal.returns-in-Leak
 unfolding IsPrepared IsCompiled
 returns-in-Leak g c = rw c.in-Leak.is at c.in_ok-prepared.ensures
