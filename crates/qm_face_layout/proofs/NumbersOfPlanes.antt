@@ -1,12 +1,12 @@
 -- Numbers of planes: a plane lies on one wall at most, and one that is named has a number.
-use Rattle.std.proofs.Common.{◌≡◌, ◌<◌, ℕ, zero, suc, ℤ, pos, negsuc, ◌*ℤ◌, Bool, true, false, cond, eqb, List, [], ◌∷◌, Option, Some, refl, sym, ap, subst, ◌∙◌, arith}
+use Rattle.std.proofs.Common.{◌≡◌, ◌<◌, ℕ, zero, suc, pos, negsuc, ◌*ℤ◌, Bool, true, false, cond, eqb, List, Some, refl, sym, ap, subst, ◌∙◌, arith}
 use Rattle.std.specs.Prelude.{slice_get, unsigned_abs, int_lt}
 use Rattle.std.proofs.lemmas.Option.{slice_get_within}
 use Rattle.qm_space.specs.Bounds.{world_extent}
 use Rattle.qm_space.specs.Plane.{Plane, flipped}
 use Rattle.qm_space.specs.Turned.{turned}
 use Rattle.qm_space.proofs.ReducedPlanes.{flipped_twice}
-use Rattle.qm_face_layout.specs.PlaneNumbers.{walls_at, named_plane, NamesPlane, IsNamedPlane, IsPlaneNumber}
+use Rattle.qm_face_layout.specs.PlaneNumbers.{walls_at, NamesPlane, IsNamedPlane, IsPlaneNumber}
 
 -- ---- the place of a wall, from its numbers
 
