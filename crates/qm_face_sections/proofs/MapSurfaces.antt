@@ -1,9 +1,8 @@
 -- The brushes of a map in the book of a tree cut the surface of the map.
-use Rattle.std.proofs.Common.{◌≡◌, ◌∙◌, ◌<◌, ℕ, List, length, get_or, Contains, inl, inr, sym, subst}
+use Rattle.std.proofs.Common.{◌≡◌, ◌∙◌, ◌<◌, ℕ, List, get_or, inl, inr, sym, subst}
 use Rattle.std.specs.Prelude.{IsTrue, ◌⊎◌}
 use Rattle.std.specs.List.{AllZip}
 use Rattle.std.proofs.lemmas.List.Elements.{AllZip-get_or, Contains-get_or, length_all_zip}
-use Rattle.qm_space.specs.Plane.{Plane}
 use Rattle.qm_space.specs.Point.{Point}
 use Rattle.qm_mapfile.specs.declared.entity.MapFile.{MapFile}
 use Rattle.qm_drawn.specs.Solids.{drawn_solids}

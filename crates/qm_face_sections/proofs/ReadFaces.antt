@@ -1,6 +1,5 @@
 -- The bytes of a map's faces are read again.
-use Rattle.std.proofs.Common.{◌≡◌, ◌<◌, ◌≤◌, ℕ, ◌^◌, ℤ, Bool, true, false, not, List, [], ◌∷◌, ◌++◌, length, get_or, All, Some, sym, ap, ◌∙◌, subst, length-append, arith}
-use Rattle.std.specs.List.{AllZip}
+use Rattle.std.proofs.Common.{◌≡◌, ◌<◌, ◌≤◌, ℕ, ◌^◌, ℤ, Bool, true, false, not, List, [], ◌∷◌, ◌++◌, length, get_or, All, sym, ap, subst, length-append, arith}
 use Rattle.std.specs.Int.{w64}
 use Rattle.std.proofs.lemmas.Option.{slice_get-get_or}
 use Rattle.std.proofs.lemmas.List.Elements.{All-contains, All-head, All-tail, All-nil, All-cons, All-weaker}

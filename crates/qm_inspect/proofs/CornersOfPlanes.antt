@@ -1,7 +1,7 @@
 -- The coordinates of a corner are those of the point that is found for its planes, and none where no point is found.
-use Rattle.std.proofs.Common.{◌≡◌, ℕ, ℤ, pos, negsuc, Bool, true, false, not, cond, eqb, List, [], get_or, Option, Some, None, refl, sym, ap, subst, ◌∙◌, arith, w64, to_z, of_z}
+use Rattle.std.proofs.Common.{◌≡◌, ℕ, ℤ, pos, Bool, true, false, not, cond, eqb, List, [], get_or, Option, Some, None, refl, sym, ap, subst, ◌∙◌, arith, w64, to_z, of_z}
 use Rattle.std.specs.Prelude.{FitsSigned, MatchOption, unsigned_abs, IfSome, IfNone}
-use Rattle.std.proofs.lemmas.Int.{ints, to_z-of_z}
+use Rattle.std.proofs.lemmas.Int.{to_z-of_z}
 use Rattle.qm_numbers.proofs.IntegerProducts.{linear}
 use Rattle.qm_numbers.proofs.Signs.{by_zero}
 use Rattle.qm_space.specs.Point.{Point}

@@ -1,7 +1,6 @@
 //! Faces as text.
 
-ghost use Rattle.std.specs.Prelude.{◌≡◌, ◌++◌, ◌∷◌, [], ◌≤◌, ◌<◌, ◌^◌, ◌+◌, ◌<ℤ◌, pos, int_lt, unsigned_abs, flat_map, MatchOption, OnOk, string_bytes};
-ghost use Rattle.qm_numerals.specs.Printed.{printed_fraction, shown_sign, with_six_decimals, last_digits};
+ghost use Rattle.std.specs.Prelude.{◌≡◌, ◌++◌, ◌∷◌, [], ◌≤◌, ◌^◌, ◌<ℤ◌, pos, unsigned_abs, MatchOption, OnOk, string_bytes};
 ghost use Rattle.qm_listing.specs.Numbers.{coordinate_numeral};
 ghost use Rattle.qm_listing.specs.WorldListing.{coordinate_at, coordinates_at};
 ghost use Rattle.qm_answers.specs.AnswerText.{words_of_faces, words_of_face, words_of_known_face};

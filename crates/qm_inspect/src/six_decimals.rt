@@ -1,6 +1,6 @@
 //! Fractions as text: a whole one as a whole number, any other with six decimals.
 
-ghost use Rattle.std.specs.Prelude.{◌≡◌, ◌++◌, ◌∷◌, [], ◌≤◌, ◌<◌, ◌^◌, ◌+◌, ◌%◌, ◌<ℤ◌, pos, int_lt, unsigned_abs, decimal, OnOk, string_bytes};
+ghost use Rattle.std.specs.Prelude.{◌≡◌, ◌++◌, ◌∷◌, [], ◌≤◌, ◌^◌, ◌+◌, ◌%◌, ◌<ℤ◌, pos, int_lt, unsigned_abs, decimal, OnOk, string_bytes};
 ghost use Rattle.qm_numerals.specs.Printed.{printed_fraction, shown_sign, with_six_decimals, last_digits};
 
 use qm_decimal::nearest_millionths;
