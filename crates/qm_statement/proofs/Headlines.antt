@@ -42,6 +42,7 @@ tells_of_map map options file world summary is = record {
   is_world = is.is_world;
   bounded = bounded options.fast options.threads world is.rows is.are_rows;
   sections = is.has_sections;
+  form = is.has_form;
 }
 
 module _ (before after : ShelfState) (tells : IsTrue before.tells) (options : Options) (listed : Bool) (files : FileNames) where
