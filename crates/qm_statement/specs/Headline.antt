@@ -42,7 +42,8 @@ AreBounded false world rows = (m n : ℕ) → IsIn (slice_index_or rows m []) n 
 -- What holds of the file. Each point inside the cube that is on no node plane is led to the contents that the map's brushes
 -- define there, or to a filled leaf. No entity of the map leaks. Exactly those leaves are filled that the outside reaches, if some
 -- entity stands in the open, and else none. Each line of sight has its last leaf in the row of its first, and its first in the row
--- of its last. No row has a leaf that portals do not lead to. The sections are those that the options ask for, and the form is the one in which maps are compiled.
+-- of its last. No row has a leaf that portals do not lead to. The sections are those that the options ask for, and the form is the
+-- one in which maps are compiled.
 pub record TellsOfMap (map : MapFile) (options : Options) (file : TreeFile) : Type 0 where
   pub contents : (x : Point) → IsInCube x → IsOffNodePlanes file.tree.planes file.tree.shape x → HasRightContents map x (leaf_record_at file.tree.planes file.tree.shape x)
   pub unfilled : Tree
