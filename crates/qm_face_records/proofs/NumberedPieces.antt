@@ -1,5 +1,5 @@
 -- The planes of the pieces of a surface have numbers.
-use Rattle.std.proofs.Common.{◌≡◌, ◌<◌, ◌≤◌, ℕ, ℤ, pos, negsuc, Bool, true, not, ◌<ℤ◌, List, [], ◌∷◌, length, All, Contains, Some, get_or, refl, sym, ap, subst, ◌∙◌, inl, inr, arith}
+use Rattle.std.proofs.Common.{◌≡◌, ◌<◌, ℕ, pos, negsuc, Bool, true, not, ◌<ℤ◌, List, [], ◌∷◌, length, All, Some, refl, sym, ap, subst, ◌∙◌, inl, inr, arith}
 use Rattle.std.specs.Prelude.{slice_get}
 use Rattle.std.proofs.lemmas.Bool.{cases_lt}
 use Rattle.std.proofs.lemmas.List.{get_or_past}
@@ -19,7 +19,7 @@ use Rattle.qm_convex.specs.Winding.{Winding, edge_at, edge_after, corner_at, IsC
 use Rattle.qm_partition.specs.Tree.{Tree}
 use Rattle.qm_surface.specs.Surface.{FacePiece}
 use Rattle.qm_surface.specs.Covered.{IsBookEdge, of_cube, of_book, IsWithinContact}
-use Rattle.qm_face_layout.specs.PlaneNumbers.{walls_at, NamesPlane, IsNamedPlane}
+use Rattle.qm_face_layout.specs.PlaneNumbers.{walls_at, IsNamedPlane}
 use Rattle.qm_face_records.specs.PiecesInBook.{AreWithinContacts}
 use Rattle.qm_face_records.specs.inner.NumberedPlanes.{HasPlaneNumbers}
 

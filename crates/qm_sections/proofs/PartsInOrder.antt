@@ -34,7 +34,7 @@ behind_hulls : (asked : Bool) (map : MapFile) (hulls more : List Section) → Ar
 behind_hulls true map hulls more both can above =
     let both_can = subst AreSections both.are_both can in
     subst (λ (first : List Section). AreSections (first ++ more)) (sym both.are_both)
-    (both_can.0, both_can.1.0, subst (λ (kind : ℕ). AreSectionsAbove kind more) (sym both.is_second.kind_is) above)
+    (both_can.0, (both_can.1.0, subst (λ (kind : ℕ). AreSectionsAbove kind more) (sym both.is_second.kind_is) above))
 behind_hulls false map hulls more none can above =
     subst (λ (first : List Section). AreSections (first ++ more)) (sym none) (above_lower 0 last_hull more (omega arith) above)
 
