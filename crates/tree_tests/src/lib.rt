@@ -6,6 +6,8 @@ mod built;
 #[cfg(test)]
 mod contacts;
 #[cfg(test)]
+mod half_spaces;
+#[cfg(test)]
 mod halves;
 #[cfg(test)]
 mod hulls;
