@@ -1,2 +1,1 @@
 pub mod MapFaces
-pub mod PartsInOrder

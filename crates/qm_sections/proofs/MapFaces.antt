@@ -45,7 +45,7 @@ small_records planes bound (piece ∷ pieces) (face ∷ faces) are small =
 module _ (map : MapFile) (tree : Tree) (book : List Plane) (surface : HasSurfaceOf map tree) (entered : AreEnteredInBook [] (drawn_planes map) book) where
   -- the book is the tree's
   pub planes_of_tree : tree.planes ≡ book
-  planes_of_tree = one_book entered surface.entered
+  planes_of_tree = one_book surface.entered entered
 
   module _ (list : List BookSolid) (alike : AllZip IsAlike (drawn_solids map) (solids_in book list)) where
     alike_in_tree : AllZip IsAlike (drawn_solids map) (solids_in tree.planes list)

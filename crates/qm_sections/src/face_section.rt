@@ -21,11 +21,7 @@ use std::alloc::{AllocError, Global};
 const FACES: u8 = 4;
 
 /// The section of the faces of a map by a tree. The brushes enter an empty book, which comes to have the planes of the tree.
-pub(crate) fn face_section(
-    alloc: Global,
-    map: &MapFile,
-    tree: &Tree,
-) -> Result<Section, AllocError>
+pub(crate) fn face_section(alloc: Global, map: &MapFile, tree: &Tree) -> Result<Section, AllocError>
     requires valid { IsValidMap map.now }
     requires surface { HasSurfaceOf map.now tree.now }
     ensures { IfOk result (IsFaceSectionThatFits map.now tree.now) }
@@ -60,7 +56,12 @@ fn pieces_fit(pieces: &[FacePiece])
 fn piece_fits(piece: &FacePiece)
     ensures { IsSmallPiece piece.now }
 {
-    let _ = piece.leaf;
-    let _ = piece.brush;
-    let _ = piece.face;
+    numbers_fit(piece.leaf, piece.brush, piece.face);
 }
+
+/// Numbers are below what their bits can hold.
+fn numbers_fit(leaf: u64, brush: u64, face: u32)
+    ensures leaf { leaf < 2 ^ 64 }
+    ensures brush { brush < 2 ^ 64 }
+    ensures face { face < 2 ^ 32 }
+{}

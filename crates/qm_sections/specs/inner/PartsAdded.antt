@@ -25,13 +25,13 @@ pub record AreModelsAdded (asked : Bool) (map : MapFile) (world : Tree) (before 
   pub can_stand : AreSectionsAbove last_hull models
   pub added : after ≡ before ++ models
 
--- the kind of the brush models
-abbrev pub kind_of_models : ℕ
-kind_of_models = 3
+-- the kind before that of the faces, which is that of the brush models
+abbrev pub kind_before_faces : ℕ
+kind_before_faces = 3
 
 -- that of the faces
 pub record AreFacesAdded (asked : Bool) (map : MapFile) (world : Tree) (before after : List Section) : Type 0 where
   pub faces : List Section
   pub are_faces : AreFacesAsAsked asked map world faces
-  pub can_stand : AreSectionsAbove kind_of_models faces
+  pub can_stand : AreSectionsAbove kind_before_faces faces
   pub added : after ≡ before ++ faces
