@@ -45,13 +45,13 @@ module _ (portals : List Portal) (turns : List (List ℕ)) where
 pub over_turns : (workers : ℕ) (world : World) (turns : List (List ℕ)) (portal_rows rows : List (List Bool)) → AreTurns workers (length world.portals) turns → (workers ≡ 1 → turns ≡ range_with_len 0 (length world.portals) ∷ []) → AreSoundRows world.tree world.portals portal_rows → LieInReuseOver world.portals turns portal_rows → AreLeafRows world.portals portal_rows (length (numbered_leaves world.tree)) rows → AreRowsOverTurns workers world rows
 over_turns workers world turns portal_rows rows are_turns alone sound reuse are =
     let shown = only_shown world.portals turns portal_rows rows (length (numbered_leaves world.tree)) reuse are in record {
-  turns = turns;
-  are_turns = are_turns;
-  alone = alone;
-  portal_rows = portal_rows;
-  are_sound = sound;
-  in_reuse = reuse;
-  are_leaf_rows = are;
-  only_shown = shown;
-  only_led = λ m n is. led_or_same world.portals turns workers m n are_turns (shown m n is);
-}
+      turns = turns;
+      are_turns = are_turns;
+      alone = alone;
+      portal_rows = portal_rows;
+      are_sound = sound;
+      in_reuse = reuse;
+      are_leaf_rows = are;
+      only_shown = shown;
+      only_led = λ m n is. led_or_same world.portals turns workers m n are_turns (shown m n is);
+    }
