@@ -2,7 +2,7 @@
 
 import struct
 
-from rows.cube_files import TEXT, TREE
+from rows.cube_files import SUMMARY, TEXT, TREE
 from rows.hulls import is_same, with_sections
 from rows.leaks import LEAKS
 from rows.table import Beside, Lines, Row
@@ -19,8 +19,18 @@ def faces(*each, count=None):
     return struct.pack("<Q", len(each) if count is None else count) + b"".join(each)
 
 
-# the east face of the cube, whose planes are x = 0, x = 64, y = 0, y = 64, z = 0 and z = 64, and one on a wall of the world's cube
-EAST = face(0, 0, 1, (1, 2, 4), (1, 2, 5), (1, 3, 5), (1, 3, 4))
+# the faces of the cube, whose planes are x = 0, x = 64, y = 0, y = 64, z = 0 and z = 64. A corner has the plane of the face, that of
+# the edge towards the corner before, and that of the edge towards the next one
+EAST = face(0, 0, 1, (1, 4, 2), (1, 2, 5), (1, 5, 3), (1, 3, 4))
+SIX = faces(
+    face(6, 0, 0, (0, 2, 4), (0, 4, 3), (0, 3, 5), (0, 5, 2)),
+    EAST,
+    face(5, 0, 2, (2, 4, 0), (2, 0, 5), (2, 5, 1), (2, 1, 4)),
+    face(1, 0, 3, (3, 0, 4), (3, 4, 1), (3, 1, 5), (3, 5, 0)),
+    face(4, 0, 4, (4, 0, 2), (4, 2, 1), (4, 1, 3), (4, 3, 0)),
+    face(2, 0, 5, (5, 2, 0), (5, 0, 3), (5, 3, 1), (5, 1, 2)),
+)
+# and one on a wall of the world's cube
 EAST_CORNERS = "(64 0 0 ) (64 0 64 ) (64 64 64 ) (64 64 0 )"
 ON_WALL = face(6, 18446744073709551615, 4294967295, (-1, 2, 4), (-1, 5, 2), (-6, 3, -1))
 WALL_CORNERS = "(-32768 0 0 ) (-32768 0 64 ) (-32768 64 32768 )"
@@ -45,6 +55,7 @@ REFUSALS = [
 
 
 def rows():
+    yield Row("compile map out --faces --fast", 0, SUMMARY, {"map": TEXT}, {"out": with_sections(TREE, (4, SIX))})
     yield Row("inspect out faces face=1", 0, f"faces 6\nface 1 leaf 0 brush 0 face 1 {EAST_CORNERS}\n", {"map": TEXT},
               first=("compile map out --faces",))
     yield Row("inspect out face=6", 9, "query 1 refused: no such face\n", {"map": TEXT}, first=("compile map out --faces",))
