@@ -18,28 +18,29 @@ fn across(at: i32, front: bool) -> Half {
 }
 
 /// Up to two half-spaces by their places and sides, how many of the two count, and whether these have a point in common.
-type Case = (usize, [(i32, bool); 2], bool);
+type Case = (usize, i32, bool, i32, bool, bool);
 
 /// Beside one plane and between two, on one plane from both sides, apart, and on either side of the cube's faces.
 static CASES: [Case; 9] = [
-    (0, [(0, true), (0, true)], true),
-    (1, [(0, true), (0, true)], true),
-    (2, [(0, true), (1, false)], true),
-    (2, [(0, true), (0, false)], false),
-    (2, [(1, true), (0, false)], false),
-    (1, [(32768, true), (0, true)], false),
-    (1, [(32768, false), (0, true)], true),
-    (1, [(-32768, true), (0, true)], true),
-    (1, [(-32768, false), (0, true)], false),
+    (0, 0, true, 0, true, true),
+    (1, 0, true, 0, true, true),
+    (2, 0, true, 1, false, true),
+    (2, 0, true, 0, false, false),
+    (2, 1, true, 0, false, false),
+    (1, 32768, true, 0, true, false),
+    (1, 32768, false, 0, true, true),
+    (1, -32768, true, 0, true, true),
+    (1, -32768, false, 0, true, false),
 ];
 
 fn is_right(alloc: Global, case: &Case) -> Result<bool, AllocError> {
-    let (count, sides, open) = *case;
+    let (count, first, first_front, second, second_front, open) = *case;
     let mut halves = Vec::new(alloc);
-    for (at, front) in sides {
-        if halves.len() < count {
-            halves.push(across(at, front))?;
-        }
+    if count > 0 {
+        halves.push(across(first, first_front))?;
+    }
+    if count > 1 {
+        halves.push(across(second, second_front))?;
     }
     Ok(open_point(alloc, &halves)? == open)
 }
