@@ -11,7 +11,7 @@ import sys
 PAGES = {
     "CONTRIBUTING.md": 1800,
     "bench/README.md": 2500,
-    "docs/DECISIONS.md": 3200,
+    "docs/DECISIONS.md": 3400,
     "docs/GLOSSARY.md": 3000,
     "docs/MAPTEXT.md": 2000,
     "docs/PLAY.md": 1400,
