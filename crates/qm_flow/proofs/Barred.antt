@@ -39,11 +39,3 @@ pairs_barred world now old new number leaves count new_is within unseen found ar
       are = pairs_more world found old number clear new new_is within are (length-replicate leaves false ∙ count) (λ n wanted. absurd (unseen wanted.wanted.first wanted.portal wanted.wanted.first_is wanted.portal_is n wanted.wanted.via));
       within = λ ceilings lie lies. within_more world found old number clear new new_is within (IsInCeiling ceilings) lies (λ n is. absurd (none_clear leaves n is));
     }
-
--- pairs go on in turn, over a source that has gone on
-pub pairs_in_turn : (world : World) (now later : List (List Bool)) (found : List Bool) (a b c : Pairs) → LieWithin later now → PairsGoOn world now found a b → PairsGoOn world later found b c → PairsGoOn world now found a c
-pairs_in_turn world now later found a b c narrower first second = record {
-  same_first = second.same_first ∙ first.same_first;
-  are = second.are;
-  within = λ ceilings lie within. second.within ceilings (λ place n is. lie place n (narrower place n is)) (first.within ceilings lie within);
-}

@@ -27,10 +27,10 @@ use Rattle.qm_flow.proofs.LastElements.{pushed_to}
 use Rattle.qm_flow.proofs.OwnAnswers.{fresh_within}
 
 -- the first frame is pushed with its mask
-pub first_pushed : (was stack : FrameStack) (mask : List Bool) (frames : List Frame) → was ≡ stack → frames ≡ was.frames.items ++ with_mask mask was.next ∷ [] → stack.frames.items ≡ [] →
-    frames ≡ with_mask mask stack.next ∷ []
+pub first_pushed : (was stack : FrameStack) (mask : List Bool) (frames : List Frame) → was ≡ stack → frames ≡ was.frames.items ++ with_mask mask was.room.next ∷ [] → stack.frames.items ≡ [] →
+    frames ≡ with_mask mask stack.room.next ∷ []
 first_pushed was stack mask frames same is none =
-    pushed_to [] stack.frames.items frames (with_mask mask stack.next) (is ∙ ap (λ (s : FrameStack). s.frames.items ++ with_mask mask s.next ∷ []) same) none
+    pushed_to [] stack.frames.items frames (with_mask mask stack.room.next) (is ∙ ap (λ (s : FrameStack). s.frames.items ++ with_mask mask s.room.next ∷ []) same) none
 
 -- the first frame has its mask, and the leaf that its portal enters is found, where the mask has it
 pub first_begun : (world : World) → HasOwnPortals world → (ceilings : List (List Bool)) (p : ℕ) (fresh : Frame) → IsFirstFrame world p fresh →

@@ -1,3 +1,4 @@
+mod Attempts
 mod Barred
 mod BegunWalks
 mod FirstFrames
@@ -5,13 +6,14 @@ mod FirstMasks
 mod FoundRows
 mod FourLeaves
 mod LastElements
+mod LastFrames
 mod NewWords
 mod OfWorlds
 mod OwnAnswers
 mod PairFrames
 mod PairsKept
 mod Panes
-mod Rounds
+mod WalkRounds
 mod SearchRounds
 mod Spares
 mod WaySamples

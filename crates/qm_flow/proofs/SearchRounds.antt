@@ -1,64 +1,39 @@
--- A round of a search: the last frame has ended, or a portal is looked through there.
-use Rattle.std.proofs.Common.{◌≡◌, ℕ, ◌<◌, Bool, List, [], ◌∷◌, ◌++◌, length, Option, option_to_list, get_or, set, sym, ap, ◌∙◌, subst}
-use Rattle.qm_lists.proofs.Elements.{Contains-first}
+-- A round of a search: its frames are ready, and what comes of it is a search so far.
+use Rattle.std.proofs.Common.{◌≡◌, ⊎_elim, ℕ, Bool, List, [], ◌∷◌, ◌++◌, option_to_list, sym, subst}
 use Rattle.qm_contacts.specs.Portals.{Portal}
 use Rattle.qm_contacts.specs.World.{World}
 use Rattle.qm_chains.specs.inner.Frame.{Frame, put_back}
-use Rattle.qm_chains.specs.inner.Pairs.{Pairs}
-use Rattle.qm_chains.specs.inner.Search.{IsFrameOf, IsLookedThrough, IsSearch}
-use Rattle.qm_chains.specs.inner.Walk.{AreWide}
+use Rattle.qm_chains.specs.inner.Pairs.{Pairs, ArePairs}
+use Rattle.qm_chains.specs.inner.Search.{IsLookedThrough, IsSearch}
 use Rattle.qm_chains.specs.inner.Wanted.{IsWantedVia}
 use Rattle.qm_chains.proofs.PairRows.{pairs_stay}
-use Rattle.qm_chains.proofs.Searches.{last_is_frame, search_done, search_looked}
+use Rattle.qm_chains.proofs.Searches.{search_done, search_looked}
+use Rattle.qm_flow.specs.inner.Round.{AreReady, HasEndedLast, HasTriedAtLast, IsRound}
 use Rattle.qm_flow.specs.inner.SearchSoFar.{IsSearchVia}
-use Rattle.qm_flow.proofs.LastElements.{IsLastAt, set_at, read_set_at}
 
-module _ {world : World} {pairs : Pairs} {sought : ℕ} {found : List Bool} {frames : List Frame} {row : List Bool} (so_far : IsSearchVia world pairs sought found frames row) {place : ℕ} {last : Frame} (at : IsLastAt frames place last) where
+module _ (world : World) (pairs : Pairs) (sought : ℕ) (found : List Bool) (frames : List Frame) (row : List Bool) (so_far : IsSearchVia world pairs sought found frames row) where
   abbrev IsSought : Portal → ℕ → Type 0
   IsSought first n = IsWantedVia world pairs.first found sought n
 
-  parted : IsSearch world pairs.first IsSought (at.below ++ last ∷ []) row
-  parted = subst (λ (all : List Frame). IsSearch world pairs.first IsSought all row) at.ends so_far.search
+  pub search_ready : (later : Pairs) → ArePairs world row later → AreReady world later frames row
+  search_ready later are = record { frames_are = so_far.search.frames_are; wide = so_far.search.wide; pairs_are = are }
 
-  last_is : IsFrameOf world last
-  last_is = last_is_frame world pairs.first IsSought at.below last row parted.frames_are
+  module _ (now : List (List Bool)) (later : Pairs) (same_first : later.first ≡ pairs.first) (after : List Frame) (new : List Bool) where
+    search_ended : HasEndedLast frames after row new → IsSearchVia world pairs sought found after new
+    search_ended its = subst (IsSearchVia world pairs sought found after) (sym its.same_row) (record {
+      search = search_done world pairs.first IsSought after its.last row (subst (λ (all : List Frame). IsSearch world pairs.first IsSought all row) its.frames_are so_far.search) its.none_left;
+      pairs_are = so_far.pairs_are;
+    })
 
-  pub last_search_wide : AreWide world last row
-  last_search_wide = record { met = last_is.met_wide; mask = last_is.mask_wide; found = so_far.search.wide }
+    search_went_on : HasTriedAtLast world now later frames after row new → IsSearchVia world pairs sought found after new
+    search_went_on its =
+        let whole = subst (λ (all : List Frame). IsSearch world pairs.first IsSought all row) its.frames_are so_far.search in
+        let looked = subst (λ (first : ℕ). IsLookedThrough world first its.frame its.number row new its.child) same_first its.tried.looked in
+        record {
+          search = subst (λ (all : List Frame). IsSearch world pairs.first IsSought all new) (sym its.after_is)
+              (search_looked world pairs.first IsSought its.below its.frame its.number row new its.child looked whole);
+          pairs_are = pairs_stay world row new pairs looked.stays so_far.pairs_are;
+        }
 
-  -- no portal is left there
-  pub search_done_so_far : last.untried ≡ [] → (after : List Frame) → after ≡ at.below → IsSearchVia world pairs sought found after row
-  search_done_so_far none after after_is = record {
-    search = subst (λ (all : List Frame). IsSearch world pairs.first IsSought all row) {x = at.below} (sym after_is)
-        (search_done world pairs.first IsSought at.below last row parted none);
-    pairs_are = so_far.pairs_are;
-  }
-
-  -- a portal is taken off there, and looked through
-
-  module _ (number : ℕ) (frame : Frame) (next_is : last ≡ put_back number frame) where
-    whole_is : IsFrameOf world (put_back number frame)
-    whole_is = subst (IsFrameOf world) next_is last_is
-
-    pub search_within : number < length world.portals
-    search_within = whole_is.untried_within number (Contains-first number frame.untried)
-
-    module _ (read d : Frame) (read_is : read ≡ get_or (set frames place frame) place d) where
-      same : read ≡ frame
-      same = read_is ∙ read_set_at frames place last at frame d
-
-      pub search_wide : AreWide world read row
-      search_wide = subst (λ (f : Frame). AreWide world f row) (sym same) (record { met = whole_is.met_wide; mask = whole_is.mask_wide; found = so_far.search.wide })
-
-      pub looked_so_far : (new : List Bool) (child : Option Frame) → IsLookedThrough world pairs.first read number row new child →
-          (after : List Frame) → after ≡ set frames place frame ++ option_to_list child → IsSearchVia world pairs sought found after new
-      looked_so_far new child looked after after_is =
-          let whole = at.ends ∙ ap (λ (f : Frame). at.below ++ f ∷ []) next_is in
-          let search = subst (λ (all : List Frame). IsSearch world pairs.first IsSought all row) whole so_far.search in
-          let here = subst (λ (f : Frame). IsLookedThrough world pairs.first f number row new child) same looked in
-          let parted_after : after ≡ (at.below ++ frame ∷ []) ++ option_to_list child = after_is ∙ ap (λ (all : List Frame). all ++ option_to_list child) (set_at frames place last at frame) in
-          record {
-            search = subst (λ (all : List Frame). IsSearch world pairs.first IsSought all new) (sym parted_after)
-                (search_looked world pairs.first IsSought at.below frame number row new child here search);
-            pairs_are = pairs_stay world row new pairs looked.stays so_far.pairs_are;
-          }
+    pub search_round : IsRound world now later frames after row new → IsSearchVia world pairs sought found after new
+    search_round round = ⊎_elim (λ its. search_ended its) (λ its. search_went_on its) round

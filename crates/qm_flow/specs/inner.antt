@@ -2,12 +2,15 @@ pub mod BegunPairs
 pub mod CutFrame
 pub mod FirstFrame
 pub mod FirstMask
+pub mod FlowGoesOn
+pub mod FlowPairs
 pub mod FreshStack
 pub mod NewWords
 pub mod OfWorld
 pub mod OwnRow
 pub mod PairFrame
 pub mod PairsGoOn
+pub mod Round
 pub mod SearchSoFar
 pub mod Spares
 pub mod UnseenVia

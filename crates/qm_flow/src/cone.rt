@@ -6,38 +6,37 @@ ghost use Rattle.qm_lists.specs.WorkList.{IsIn};
 ghost use Rattle.qm_contacts.specs.NumberedLeaves.{numbered_leaves};
 ghost use Rattle.qm_chains.specs.inner.Cone.{LeadsInto, IsInCone, IsLeftOf, AreEntered};
 ghost use Rattle.qm_chains.specs.inner.Walk.{AreWide};
+ghost use Rattle.qm_flow.specs.inner.FlowPairs.{pairs_of};
 ghost use Rattle.qm_flow.specs.inner.CutFrame.{IsCutFrame};
 ghost use Rattle.qm_flow.specs.inner.NewWords.{HaveAllNew};
 ghost use Rattle.qm_flow.specs.inner.OfWorld.{AreOfWorld};
 
+use crate::cheap_tests::may_lead_on;
+use crate::flow_state::Flow;
 use crate::frame::Frame;
-use crate::leading::may_lead_on;
-use crate::narrowing::list_new;
-use crate::pairs::Pairs;
-use crate::scratch::Scratch;
+use crate::masks::list_new;
+use crate::room::Scratch;
 use qm_bits::BitRow;
-use qm_portal::World;
 use qm_sight::RowSource;
 use std::alloc::AllocError;
 
 /// Narrows the mask of a frame that has entered a leaf by its cone: whether the mask then still has a leaf that was not found.
 pub(crate) fn left_of<'a, S: RowSource>(
-    world: &World,
+    flow: &Flow<'a>,
     source: &mut S,
-    pairs: &Pairs,
     frame: &mut Frame<'a>,
     found: &BitRow,
     entered: u64,
     scratch: &mut Scratch,
 ) -> Result<bool, AllocError>
-    requires entered { entered < length (numbered_leaves world.now.tree) }
-    requires of_world { AreOfWorld world.now (S.world source.old) pairs.now frame.old found.now }
-    requires cone { length scratch.old.cone ≡ length (numbered_leaves world.now.tree) }
-    ensures left { IfOk result (λ left. IsLeftOf world.now pairs.now.first frame.old found.now entered (then_some left frame.new)) }
-    ensures wide { OnOk result (AreWide world.now frame.new scratch.new.cone) }
+    requires entered { entered < length (numbered_leaves flow.now.world.now.tree) }
+    requires of_world { AreOfWorld flow.now.world.now (S.world source.old) (pairs_of flow.now) frame.old found.now }
+    requires cone { length scratch.old.cone ≡ length (numbered_leaves flow.now.world.now.tree) }
+    ensures left { IfOk result (λ left. IsLeftOf flow.now.world.now flow.now.first frame.old found.now entered (then_some left frame.new)) }
+    ensures wide { OnOk result (AreWide flow.now.world.now frame.new scratch.new.cone) }
     ensures on { S.goes_on source.old source.new }
 {
-    cone_of(world, source, pairs, frame, found, entered, scratch)?;
+    cone_of(flow, source, frame, found, entered, scratch)?;
     Ok(cut_frame(frame, &scratch.cone, found))
 }
 
@@ -55,19 +54,18 @@ fn cut_frame<'a>(frame: &mut Frame<'a>, cone: &BitRow, found: &BitRow) -> bool
 
 /// Makes the row for cones have that of a frame that has entered a leaf.
 pub(crate) fn cone_of<'a, S: RowSource>(
-    world: &World,
+    flow: &Flow<'a>,
     source: &mut S,
-    pairs: &Pairs,
     frame: &Frame<'a>,
     found: &BitRow,
     entered: u64,
     scratch: &mut Scratch,
 ) -> Result<(), AllocError>
-    requires entered { entered < length (numbered_leaves world.now.tree) }
-    requires of_world { AreOfWorld world.now (S.world source.old) pairs.now frame.now found.now }
-    requires cone { length scratch.old.cone ≡ length (numbered_leaves world.now.tree) }
-    ensures wide { OnOk result (length scratch.new.cone ≡ length (numbered_leaves world.now.tree)) }
-    ensures cone { OnOk result ((n : ℕ) → IsInCone world.now pairs.now.first frame.now found.now entered n → IsIn scratch.new.cone n) }
+    requires entered { entered < length (numbered_leaves flow.now.world.now.tree) }
+    requires of_world { AreOfWorld flow.now.world.now (S.world source.old) (pairs_of flow.now) frame.now found.now }
+    requires cone { length scratch.old.cone ≡ length (numbered_leaves flow.now.world.now.tree) }
+    ensures wide { OnOk result (length scratch.new.cone ≡ length (numbered_leaves flow.now.world.now.tree)) }
+    ensures cone { OnOk result ((n : ℕ) → IsInCone flow.now.world.now flow.now.first frame.now found.now entered n → IsIn scratch.new.cone n) }
     ensures on { S.goes_on source.old source.new }
 {
     scratch.cone.clear();
@@ -76,60 +74,58 @@ pub(crate) fn cone_of<'a, S: RowSource>(
     scratch.due.push(entered)?;
     list_new(&frame.mask, found, &mut scratch.words)?;
     while let Some(leaf) = scratch.due.pop() {
-        let portals = world.leaving(leaf);
-        go_on(world, source, pairs, frame, found, portals, scratch)?;
+        let portals = flow.world.leaving(leaf);
+        go_on(flow, source, frame, found, portals, scratch)?;
     }
     Ok(())
 }
 
 /// Enters the leaves into which portals may lead on.
 fn go_on<'a, S: RowSource>(
-    world: &World,
+    flow: &Flow<'a>,
     source: &mut S,
-    pairs: &Pairs,
     frame: &Frame<'a>,
     found: &BitRow,
     portals: &[u64],
     scratch: &mut Scratch,
 ) -> Result<(), AllocError>
-    requires portals { All (λ p. p < length world.now.portals) portals.now }
-    requires of_world { AreOfWorld world.now (S.world source.old) pairs.now frame.now found.now }
-    requires cone { length scratch.old.cone ≡ length (numbered_leaves world.now.tree) }
+    requires portals { All (λ p. p < length flow.now.world.now.portals) portals.now }
+    requires of_world { AreOfWorld flow.now.world.now (S.world source.old) (pairs_of flow.now) frame.now found.now }
+    requires cone { length scratch.old.cone ≡ length (numbered_leaves flow.now.world.now.tree) }
     requires words { HaveAllNew frame.now.mask found.now scratch.old.words.items }
-    ensures entered { OnOk result (AreEntered (LeadsInto world.now pairs.now.first frame.now found.now portals.now) scratch.old.cone scratch.new.cone scratch.old.due.items scratch.new.due.items) }
+    ensures entered { OnOk result (AreEntered (LeadsInto flow.now.world.now flow.now.first frame.now found.now portals.now) scratch.old.cone scratch.new.cone scratch.old.due.items scratch.new.due.items) }
     ensures words { OnOk result (scratch.new.words.items ≡ scratch.old.words.items) }
     ensures on { S.goes_on source.old source.new }
 {
     for portal in portals {
-        enter(world, source, pairs, frame, found, *portal, scratch)?;
+        enter(flow, source, frame, found, *portal, scratch)?;
     }
     Ok(())
 }
 
 /// Enters the leaf of a portal, where it may lead on and was not entered.
 fn enter<'a, S: RowSource>(
-    world: &World,
+    flow: &Flow<'a>,
     source: &mut S,
-    pairs: &Pairs,
     frame: &Frame<'a>,
     found: &BitRow,
     portal: u64,
     scratch: &mut Scratch,
 ) -> Result<(), AllocError>
-    requires portal { portal < length world.now.portals }
-    requires of_world { AreOfWorld world.now (S.world source.old) pairs.now frame.now found.now }
-    requires cone { length scratch.old.cone ≡ length (numbered_leaves world.now.tree) }
+    requires portal { portal < length flow.now.world.now.portals }
+    requires of_world { AreOfWorld flow.now.world.now (S.world source.old) (pairs_of flow.now) frame.now found.now }
+    requires cone { length scratch.old.cone ≡ length (numbered_leaves flow.now.world.now.tree) }
     requires words { HaveAllNew frame.now.mask found.now scratch.old.words.items }
-    ensures entered { OnOk result (AreEntered (LeadsInto world.now pairs.now.first frame.now found.now (portal ∷ [])) scratch.old.cone scratch.new.cone scratch.old.due.items scratch.new.due.items) }
+    ensures entered { OnOk result (AreEntered (LeadsInto flow.now.world.now flow.now.first frame.now found.now (portal ∷ [])) scratch.old.cone scratch.new.cone scratch.old.due.items scratch.new.due.items) }
     ensures words { OnOk result (scratch.new.words.items ≡ scratch.old.words.items) }
     ensures on { S.goes_on source.old source.new }
 {
-    let to = world.to(portal);
+    let to = flow.world.to(portal);
     if scratch.cone.get(to) {
         return Ok(());
     }
     let words = &scratch.words;
-    if !may_lead_on(world, source, pairs, frame, portal, found, words) {
+    if !may_lead_on(flow, source, frame, portal, found, words) {
         return Ok(());
     }
     scratch.cone.set(to);

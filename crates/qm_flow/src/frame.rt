@@ -65,6 +65,13 @@ impl<'a> Frame<'a> {
         })
     }
 
+    /// The state to which the chain has led.
+    pub(crate) fn state(&self) -> &ChainState
+        ensures { result.now ≡ self.now.state }
+    {
+        &self.state
+    }
+
     /// Takes off the portal that is to be tried next.
     pub(crate) fn take_next(&mut self) -> Option<u64>
         ensures { MatchOption result ((self.old.untried ≡ []) × (self.new ≡ self.old)) (λ number. self.old ≡ put_back number self.new) }

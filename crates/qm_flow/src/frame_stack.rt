@@ -9,20 +9,18 @@ ghost use Rattle.qm_flow.specs.inner.FreshStack.{IsFreshStack};
 ghost use Rattle.qm_flow.specs.inner.Spares.{AreSparesWide};
 
 use crate::frame::Frame;
-use crate::scratch::Scratch;
+use crate::room::{Room, Scratch};
 use qm_bits::BitRow;
 use qm_narrow::StepBuffers;
 use qm_portal::World;
 use std::alloc::{AllocError, Global};
 use std::mem;
 
-/// The frames of a walk, and what is used again: the next frame, which is filled where a chain may go on, frames that have
-/// ended, and memory for tries.
+/// The frames of a walk, and what is used again: frames that have ended, and room for tries.
 pub(crate) struct FrameStack<'a> {
     pub(crate) frames: Vec<Frame<'a>>,
-    pub(crate) next: Frame<'a>,
     pub(crate) ended: Vec<Frame<'a>>,
-    pub(crate) scratch: Scratch,
+    pub(crate) room: Room<'a>,
 }
 
 // Written out, so that a function that owns one calls this where it ends: a derived drop would be proved anew at each exit.
@@ -30,9 +28,8 @@ impl<'a> Drop for FrameStack<'a> {
     fn drop(self) {
         let FrameStack {
             frames: _,
-            next: _,
             ended: _,
-            scratch: _,
+            room: _,
         } = self;
     }
 }
@@ -50,16 +47,16 @@ impl<'a> FrameStack<'a> {
     {
         let cone = BitRow::with_len(alloc, world.leaves())?;
         let next = Frame::first(alloc, world, portal)?;
+        let scratch = Scratch {
+            steps: StepBuffers::new(alloc),
+            cone,
+            due: Vec::new(alloc),
+            words: Vec::new(alloc),
+        };
         Ok(FrameStack {
             frames: Vec::new(alloc),
-            next,
             ended: Vec::new(alloc),
-            scratch: Scratch {
-                steps: StepBuffers::new(alloc),
-                cone,
-                due: Vec::new(alloc),
-                words: Vec::new(alloc),
-            },
+            room: Room { next, scratch },
         })
     }
 
@@ -73,11 +70,11 @@ impl<'a> FrameStack<'a> {
         requires portal { portal < length world.now.portals }
         requires own_portals { HasOwnPortals world.now }
         requires spares { AreSparesWide world.now self.old }
-        ensures frames { OnOk result (self.new.frames.items ≡ self.old.frames.items ++ self.old.next ∷ []) }
+        ensures frames { OnOk result (self.new.frames.items ≡ self.old.frames.items ++ self.old.room.next ∷ []) }
         ensures spares { OnOk result (AreSparesWide world.now self.new) }
     {
         let spare = spare_frame(alloc, world, portal, &mut self.ended)?;
-        let next = mem::replace(&mut self.next, spare);
+        let next = mem::replace(&mut self.room.next, spare);
         self.frames.push(next)?;
         Ok(())
     }
@@ -86,8 +83,7 @@ impl<'a> FrameStack<'a> {
     pub(crate) fn end_last(&mut self) -> Result<(), AllocError>
         ensures frames { OnOk result ((below : List Frame) (last : Frame) → self.old.frames.items ≡ below ++ last ∷ [] →
             (self.new.frames.items ≡ below) × (self.new.ended.items ≡ self.old.ended.items ++ last ∷ [])) }
-        ensures next { self.new.next ≡ self.old.next }
-        ensures cone { self.new.scratch.cone ≡ self.old.scratch.cone }
+        ensures room { self.new.room ≡ self.old.room }
     {
         match self.frames.pop() {
             None => Ok(()),

@@ -1,20 +1,20 @@
 //! The flow of one portal: which leaves open chains show from it, over any source of rows.
 #![tactic(auto)]
 
-mod barring;
+mod bars;
+mod cheap_tests;
 mod cone;
-mod flowing;
+mod flow_state;
 mod frame;
 mod frame_stack;
-mod going;
-mod leading;
-mod narrowing;
+mod masks;
 mod own_rows;
-mod pairing;
-mod pairs;
-mod scratch;
-mod searching;
-mod trying;
-mod walking;
+mod pair_rows;
+mod portal_row;
+mod room;
+mod rounds;
+mod searches;
+mod step;
+mod tries;
 
-pub use flowing::flow;
+pub use portal_row::flow;

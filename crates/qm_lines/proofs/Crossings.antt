@@ -1,8 +1,9 @@
 -- Where a line goes through portals: what tests of whole numbers say.
-use Rattle.std.proofs.Common.{◌≡◌, ◌≤◌, ◌^◌, w64, lit≤, unsigned_abs, ℕ, ℤ, pos, neg_ℤ, ◌+ℤ◌, ◌-ℤ◌, ◌*ℤ◌, ◌<ℤ◌, Bool, true, false, [], ◌∷◌, get_or, All, refl, sym, ap, ◌∙◌, subst, arith}
+use Rattle.std.proofs.Common.{◌≡◌, ◌≤◌, ◌^◌, w64, lit≤, unsigned_abs, ℕ, ℤ, pos, neg_ℤ, ◌+ℤ◌, ◌-ℤ◌, ◌*ℤ◌, ◌<ℤ◌, ◌≤ℤ◌, Bool, true, false, [], ◌∷◌, get_or, All, refl, sym, ap, ◌∙◌, subst, arith}
+use Rattle.std.specs.Int.Signed.{lt_z, lt_z_yes, le_z, le_z_yes}
 use Rattle.std.proofs.lemmas.Int.{ints, to_z-of_z}
-use Rattle.qm_numbers.proofs.IntegerProducts.{linear, one_*ℤ, *ℤ_zero}
-use Rattle.qm_numbers.proofs.Signs.{product_positive, positive_beside}
+use Rattle.qm_numbers.proofs.IntegerProducts.{linear, one_*ℤ, *ℤ_zero, neg-*ℤ}
+use Rattle.qm_numbers.proofs.Signs.{product_positive, negative_times_positive, product_not_positive, positive_beside}
 use Rattle.qm_numbers.proofs.Kept.{kept, fits_64}
 use Rattle.qm_numbers.proofs.Ring.{variable, negated, ◌⊕◌, ◌⊗◌, solved}
 use Rattle.qm_space.specs.Point.{Point, point_sum, point_times}
@@ -186,6 +187,48 @@ pub mixed_computed : (a b forward backward v w : ℤ) → CrossesToFront (record
     forward ≡ kept w64 b *ℤ kept w64 v → backward ≡ kept w64 a *ℤ kept w64 w → forward -ℤ backward ≡ mixed (record { at_begin = a; at_end = b }) v w
 unfolding mixed
 mixed_computed a b forward backward v w is v_small w_small e f = rw (e, f, passed_on b is.end_small, passed_on a is.begin_small, passed_on v v_small, passed_on w w_small) refl
+
+-- a plane in front of which a line begins and ends is crossed there in front
+pub front_by_signs : (crossing : Crossing) → CrossesToFront crossing → (v w : ℤ) → pos 0 <ℤ v → pos 0 <ℤ w → pos 0 <ℤ mixed crossing v w
+unfolding mixed
+front_by_signs crossing is v w v_front w_front =
+    let some = product_positive crossing.at_end v is.ends_in_front v_front in
+    let less = negative_times_positive crossing.at_begin w is.begins_behind w_front in
+    let more : pos 0 <ℤ ((crossing.at_end *ℤ v) -ℤ (crossing.at_begin *ℤ w)) = omega (arith, linear) in
+    more
+
+-- and one in front of which it neither begins nor ends is not
+pub behind_by_signs : (crossing : Crossing) → CrossesToFront crossing → (v w : ℤ) → v ≤ℤ pos 0 → w ≤ℤ pos 0 → mixed crossing v w ≤ℤ pos 0
+unfolding mixed
+behind_by_signs crossing is v w v_behind w_behind =
+    let in_front = is.ends_in_front in
+    let behind = is.begins_behind in
+    let some = product_not_positive crossing.at_end v (omega (arith, linear)) v_behind in
+    let other = product_not_positive (neg_ℤ crossing.at_begin) w (omega (arith, linear)) w_behind in
+    let e = neg-*ℤ crossing.at_begin w in
+    let less : ((crossing.at_end *ℤ v) -ℤ (crossing.at_begin *ℤ w)) ≤ℤ pos 0 = omega (arith, linear) in
+    less
+
+-- a plane's value as the code compares it with 0
+pub tested_front : (r z : ℤ) → unsigned_abs r ≤ 2 ^ 45 → r ≡ z → lt_z (pos 0) (kept w64 r) ≡ true → pos 0 <ℤ z
+tested_front r z small is test =
+    let yes : pos 0 <ℤ kept w64 r = lt_z_yes {a = pos 0} {b = kept w64 r} (rw test tt) in
+    subst (λ (y : ℤ). pos 0 <ℤ y) (passed_on r small ∙ is) yes
+
+pub tested_behind : (r z : ℤ) → unsigned_abs r ≤ 2 ^ 45 → r ≡ z → le_z (kept w64 r) (pos 0) ≡ true → z ≤ℤ pos 0
+tested_behind r z small is test =
+    let yes : kept w64 r ≤ℤ pos 0 = le_z_yes {a = kept w64 r} {b = pos 0} (rw test tt) in
+    subst (λ (y : ℤ). y ≤ℤ pos 0) (passed_on r small ∙ is) yes
+
+pub front_where_by_signs : (crossing : Crossing) (s : Segment) (g : Plane) → CrossesToFront crossing → pos 0 <ℤ value g s.from → pos 0 <ℤ value g s.to → pos 0 <ℤ value_where crossing s g
+unfolding value_where
+front_where_by_signs crossing s g is v_front w_front = front_by_signs crossing is (value g s.from) (value g s.to) v_front w_front
+
+pub not_front_by_signs : (crossing : Crossing) (s : Segment) (g : Plane) → CrossesToFront crossing → value g s.from ≤ℤ pos 0 → value g s.to ≤ℤ pos 0 → pos 0 <ℤ value_where crossing s g → ⊥
+unfolding value_where
+not_front_by_signs crossing s g is v_behind w_behind front =
+    let behind = behind_by_signs crossing is (value g s.from) (value g s.to) v_behind w_behind in
+    omega (arith, ints)
 
 pub value_computed : (s : Segment) (g : Plane) (crossing : Crossing) (v w : ℤ) → unsigned_abs v ≤ 2 ^ 45 → unsigned_abs w ≤ 2 ^ 45 → v ≡ value g s.from → w ≡ value g s.to → mixed crossing (kept w64 v) (kept w64 w) ≡ value_where crossing s g
 unfolding value_where

@@ -4,6 +4,7 @@ ghost use Rattle.std.specs.Prelude.{◌≡◌, ◌<◌, ◌≤◌, ◌*◌, ◌^
 ghost use Rattle.qm_contacts.specs.OwnPortals.{HasOwnPortals};
 ghost use Rattle.qm_lines.specs.inner.Crossing.{mixed, value_where, CrossesPlane, MissesPlane, CrossesAt, MissesAt};
 
+use crate::aiming::coordinate;
 use crate::line::Line;
 use qm_geom::Plane;
 use qm_portal::World;
@@ -64,6 +65,35 @@ impl Crossing {
         self.mixed(line.value_at_begin(plane), line.value_at_end(plane))
     }
 
+    /// Whether the line crosses this plane in front of another one. Where it begins and ends on one side of that, the signs
+    /// decide.
+    fn is_in_front(self, line: &Line, plane: &Plane) -> bool
+        ensures { IsTrue result ↔ pos 0 <ℤ value_where self line.now plane.now }
+    {
+        let _ = &self.at_begin;
+        let at_begin = line.value_at_begin(plane);
+        let at_end = line.value_at_end(plane);
+        if at_begin > 0 && at_end > 0 {
+            return true;
+        }
+        if at_begin <= 0 && at_end <= 0 {
+            return false;
+        }
+        self.value(line, plane) > 0
+    }
+
+    /// The point where the line crosses this plane, as three numerators over one denominator.
+    pub(crate) fn spot(self, line: &Line) -> [i64; 4] {
+        let [x, y, z] = line.mixed(self.at_end, self.at_begin);
+        [x, y, z, self.at_end.wrapping_sub(self.at_begin)]
+    }
+
+    /// The whole point that is near to it.
+    pub(crate) fn point(self, line: &Line) -> [i32; 3] {
+        let [x, y, z, w] = self.spot(line);
+        [quotient(x, w), quotient(y, w), quotient(z, w)]
+    }
+
     /// Whether the line crosses this plane further on than the last one.
     pub(crate) fn is_beyond(self, last: Crossing) -> bool
         ensures { IsTrue result ↔ mixed last self.at_begin self.at_end <ℤ pos 0 }
@@ -75,7 +105,15 @@ impl Crossing {
     pub(crate) fn is_within(self, line: &Line, planes: &[Plane]) -> bool
         ensures { IsTrue result ↔ All (λ g. pos 0 <ℤ value_where self line.now g) planes.now }
     {
-        planes.iter().all(|plane| self.value(line, plane) > 0)
+        planes.iter().all(|plane| self.is_in_front(line, plane))
+    }
+}
+
+/// A coordinate of the closed cube, of a fraction.
+fn quotient(numerator: i64, denominator: i64) -> i32 {
+    match numerator.checked_div(denominator) {
+        None => 0,
+        Some(quotient) => coordinate(quotient),
     }
 }
 

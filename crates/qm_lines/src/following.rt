@@ -9,6 +9,7 @@ ghost use Rattle.qm_sight.specs.InCeiling.{IsInCeiling};
 ghost use Rattle.qm_lines.specs.Gained.{HasGainedShown};
 ghost use Rattle.qm_lines.specs.inner.Trace.{IsTrace, IsOnward, AreInRange};
 
+use crate::bounds::PortalBounds;
 use crate::crossing::Crossing;
 use crate::line::Line;
 use crate::reading::all_have_leaf;
@@ -25,31 +26,38 @@ pub(crate) struct Onward {
     crossing: Crossing,
 }
 
+/// A line through a world, and the leaf at which it is aimed.
+#[derive(Clone, Copy)]
+pub(crate) struct Course<'a> {
+    pub(crate) world: &'a World,
+    pub(crate) line: &'a Line,
+    pub(crate) target: u64,
+}
+
 /// Follows a line from leaf to leaf, as far as it goes through portals whose rows have its target, and sets each leaf in a row
 /// that all portals on the way may show.
 pub(crate) fn follow<S: RowSource>(
-    world: &World,
+    course: &Course,
     source: &mut S,
-    line: &Line,
-    target: u64,
+    bounds: &PortalBounds,
     trace: &mut Trace,
     row: &mut BitRow,
 ) -> Result<(), AllocError>
-    requires target { target < length (numbered_leaves world.now.tree) }
-    requires own_portals { HasOwnPortals world.now }
-    requires same_world { S.world source.old ≡ world.now }
-    requires range { AreInRange world.now trace.old }
-    requires row { length row.old ≡ length (numbered_leaves world.now.tree) }
-    ensures shown { (p : ℕ) → IsTrace world.now p line.now trace.old →
-        HasGainedShown world.now.portals (IsInCeiling (S.ceilings source.old)) p row.old row.new }
+    requires target { course.now.target < length (numbered_leaves course.now.world.now.tree) }
+    requires own_portals { HasOwnPortals course.now.world.now }
+    requires same_world { S.world source.old ≡ course.now.world.now }
+    requires range { AreInRange course.now.world.now trace.old }
+    requires row { length row.old ≡ length (numbered_leaves course.now.world.now.tree) }
+    ensures shown { (p : ℕ) → IsTrace course.now.world.now p course.now.line.now trace.old →
+        HasGainedShown course.now.world.now.portals (IsInCeiling (S.ceilings source.old)) p row.old row.new }
     ensures on { S.goes_on source.old source.new }
 {
     show(source, trace, row);
-    for _ in 0..world.leaves() {
-        match next_portal(world, source, line, target, trace) {
+    for _ in 0..course.world.leaves() {
+        match next_portal(course, source, bounds, trace) {
             None => return Ok(()),
             Some(next) => {
-                trace.enter(world, next.portal, next.crossing)?;
+                trace.enter(course.world, next.portal, next.crossing)?;
                 show(source, trace, row);
             }
         }
@@ -74,24 +82,23 @@ fn show<S: RowSource>(source: &mut S, trace: &Trace, row: &mut BitRow)
 
 /// The portal that is next on a line, of those whose rows have a target.
 fn next_portal<S: RowSource>(
-    world: &World,
+    course: &Course,
     source: &mut S,
-    line: &Line,
-    target: u64,
+    bounds: &PortalBounds,
     trace: &Trace,
 ) -> Option<Onward>
-    requires target { target < length (numbered_leaves world.now.tree) }
-    requires own_portals { HasOwnPortals world.now }
-    requires same_world { S.world source.old ≡ world.now }
-    requires range { AreInRange world.now trace.now }
-    ensures next { IfSome result (λ next. IsOnward world.now line.now trace.now next.portal next.crossing) }
+    requires target { course.now.target < length (numbered_leaves course.now.world.now.tree) }
+    requires own_portals { HasOwnPortals course.now.world.now }
+    requires same_world { S.world source.old ≡ course.now.world.now }
+    requires range { AreInRange course.now.world.now trace.now }
+    ensures next { IfSome result (λ next. IsOnward course.now.world.now course.now.line.now trace.now next.portal next.crossing) }
     ensures on { S.goes_on source.old source.new }
 {
-    for portal in world.leaving(trace.leaf) {
-        if !has_leaf(source, *portal, target) {
+    for portal in course.world.leaving(trace.leaf) {
+        if !has_leaf(source, *portal, course.target) {
             continue;
         }
-        if let Some(crossing) = further(world, line, trace, *portal) {
+        if let Some(crossing) = further(course, bounds, trace, *portal) {
             return Some(Onward {
                 portal: *portal,
                 crossing,
@@ -102,21 +109,24 @@ fn next_portal<S: RowSource>(
 }
 
 /// Where a line goes through a portal, if that is further on and into a leaf in which the line was not.
-fn further(world: &World, line: &Line, trace: &Trace, portal: u64) -> Option<Crossing>
-    requires portal { portal < length world.now.portals }
-    requires own_portals { HasOwnPortals world.now }
-    requires leaves { (q : Portal) × IsAt world.now.portals portal q × (q.from ≡ trace.now.leaf) }
-    ensures { IfSome result (IsOnward world.now line.now trace.now portal) }
+fn further(course: &Course, bounds: &PortalBounds, trace: &Trace, portal: u64) -> Option<Crossing>
+    requires portal { portal < length course.now.world.now.portals }
+    requires own_portals { HasOwnPortals course.now.world.now }
+    requires leaves { (q : Portal) × IsAt course.now.world.now.portals portal q × (q.from ≡ trace.now.leaf) }
+    ensures { IfSome result (IsOnward course.now.world.now course.now.line.now trace.now portal) }
 {
-    let pane = world.pane(portal);
-    let crossing = Crossing::of_plane(line, &pane.into)?;
-    if trace.has_met(world.to(portal)) {
+    let pane = course.world.pane(portal);
+    let crossing = Crossing::of_plane(course.line, &pane.into)?;
+    if !bounds.may_pass(portal, course.line, crossing) {
+        return None;
+    }
+    if !crossing.is_within(course.line, pane.winding.edges()) {
+        return None;
+    }
+    if trace.has_met(course.world.to(portal)) {
         return None;
     }
     if !crossing.is_beyond(trace.last) {
-        return None;
-    }
-    if !crossing.is_within(line, pane.winding.edges()) {
         return None;
     }
     Some(crossing)

@@ -3,12 +3,16 @@
 #![tactic(auto)]
 
 mod aiming;
+mod bounds;
 mod crossing;
 mod first_portal;
 mod following;
+mod kept_lines;
 mod line;
+mod line_store;
 mod reading;
 mod showing;
 mod trace;
 
+pub use line_store::LineStore;
 pub use showing::show_by_lines;

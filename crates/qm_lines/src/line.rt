@@ -51,6 +51,25 @@ impl Line {
     {
         value_at(plane, &self.to)
     }
+
+    /// Its two ends.
+    pub(crate) fn ends(&self) -> ([i32; 3], [i32; 3]) {
+        (self.from, self.to)
+    }
+
+    /// So many times its beginning, less so many times its end.
+    pub(crate) fn mixed(&self, from: i64, to: i64) -> [i64; 3] {
+        [
+            mixed(from, self.from[0], to, self.to[0]),
+            mixed(from, self.from[1], to, self.to[1]),
+            mixed(from, self.from[2], to, self.to[2]),
+        ]
+    }
+}
+
+fn mixed(from: i64, begin: i32, to: i64, end: i32) -> i64 {
+    from.wrapping_mul(i64::from(begin))
+        .wrapping_sub(to.wrapping_mul(i64::from(end)))
 }
 
 /// The value of a plane at a whole point.

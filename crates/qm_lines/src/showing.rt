@@ -1,32 +1,34 @@
 //! The leaves that lines show from a portal. Which of them are found is no promise, for speed alone is at stake: the contracts
 //! say that a leaf is set only where an open chain shows it.
 
-ghost use Rattle.std.specs.Prelude.{◌≡◌, ◌<◌, length};
+ghost use Rattle.std.specs.Prelude.{◌≡◌, ◌<◌, length, IsTrue};
 ghost use Rattle.qm_contacts.specs.NumberedLeaves.{numbered_leaves};
 ghost use Rattle.qm_sight.specs.InCeiling.{IsInCeiling};
 ghost use Rattle.qm_lines.specs.Gained.{HasGainedShown};
 ghost use Rattle.qm_lines.specs.inner.Drawing.{MayDraw, HasDrawn};
 
-use crate::aiming::{anchor_at, anchors_of, line_through};
+use crate::aiming::{Aim, anchors_of};
 use crate::crossing::crossing_of;
 use crate::first_portal::FirstPortal;
-use crate::following::follow;
+use crate::following::{Course, follow};
+use crate::kept_lines::KeptLine;
 use crate::line::Line;
-use crate::trace::Trace;
+use crate::line_store::LineStore;
 use qm_bits::BitRow;
 use qm_portal::World;
 use qm_sight::{RowSource, has_leaf};
-use qm_wind::Winding;
 use std::alloc::{AllocError, Global};
 
 /// Sets leaves in a portal's row to which straight lines lead through it, each by an open chain whose portals, the first
 /// included, had it in their ceilings when this began. None is lost, and leaves in sight may be left out. After want of memory
-/// too all of this holds, and the source goes on from what it was.
+/// too all of this holds, and the source goes on from what it was. Lines that earlier turns left in the store come first, and
+/// some of its own are kept there for later turns.
 pub fn show_by_lines<S: RowSource>(
     alloc: Global,
     world: &World,
     source: &mut S,
     portal: u64,
+    store: &mut LineStore,
     row: &mut BitRow,
 ) -> Result<(), AllocError>
     requires portal { portal < length world.now.portals }
@@ -38,13 +40,64 @@ pub fn show_by_lines<S: RowSource>(
     world.own_portals();
     let anchors = anchors_of(alloc, &world.pane(portal).winding)?;
     let mut gone = BitRow::with_len(alloc, world.leaves())?;
-    let mut trace = Trace::new(alloc);
+    let kept = store.begin(alloc, world, portal)?;
     let first = FirstPortal {
         world,
         portal,
         anchors: &anchors,
     };
-    flood(&first, source, &mut gone, &mut trace, row)
+    show_kept(&first, source, &kept, store, row)?;
+    flood(&first, source, &mut gone, store, row)
+}
+
+/// Draws the lines that were kept for the portal.
+fn show_kept<S: RowSource>(
+    first: &FirstPortal,
+    source: &mut S,
+    kept: &[KeptLine],
+    store: &mut LineStore,
+    row: &mut BitRow,
+) -> Result<(), AllocError>
+    requires may_draw { MayDraw first.now (S.world source.old) row.old }
+    ensures { HasDrawn first.now (S.ceilings source.old) (S.goes_on source.old source.new) row.old row.new }
+{
+    for one in kept {
+        if !is_wanted(first.world, row, one.target) {
+            continue;
+        }
+        show_again(first, source, one, store, row)?;
+    }
+    Ok(())
+}
+
+/// Whether a row lacks a leaf of a world.
+fn is_wanted(world: &World, row: &BitRow, leaf: u64) -> bool
+    requires { length row.now ≡ length (numbered_leaves world.now.tree) }
+    ensures { IsTrue result → leaf < length (numbered_leaves world.now.tree) }
+{
+    leaf < world.leaves() && !row.get(leaf)
+}
+
+/// Draws a line that was kept.
+fn show_again<S: RowSource>(
+    first: &FirstPortal,
+    source: &mut S,
+    kept: &KeptLine,
+    store: &mut LineStore,
+    row: &mut BitRow,
+) -> Result<(), AllocError>
+    requires may_draw { MayDraw first.now (S.world source.old) row.old }
+    requires target { kept.now.target < length (numbered_leaves first.now.world.now.tree) }
+    ensures { HasDrawn first.now (S.ceilings source.old) (S.goes_on source.old source.new) row.old row.new }
+{
+    let line = kept.line();
+    show_along(first, source, &line, kept.target, store, row)?;
+    let first_at = first.point_on(&line);
+    store.note_shown(&Aim {
+        first: first_at,
+        second: kept.to,
+    });
+    Ok(())
 }
 
 /// Goes on from the leaf that the portal enters, then from the leaves of the row that were not gone on from, and from those
@@ -53,7 +106,7 @@ fn flood<S: RowSource>(
     first: &FirstPortal,
     source: &mut S,
     gone: &mut BitRow,
-    trace: &mut Trace,
+    store: &mut LineStore,
     row: &mut BitRow,
 ) -> Result<(), AllocError>
     requires may_draw { MayDraw first.now (S.world source.old) row.old }
@@ -62,12 +115,12 @@ fn flood<S: RowSource>(
 {
     let entered = first.world.to(first.portal);
     gone.set(entered);
-    aim_out(first, source, entered, trace, row)?;
+    aim_out(first, source, entered, store, row)?;
     for _ in 0..first.world.leaves() {
         if !row.has_new(gone) {
             return Ok(());
         }
-        sweep(first, source, gone, trace, row)?;
+        sweep(first, source, gone, store, row)?;
     }
     Ok(())
 }
@@ -77,7 +130,7 @@ fn sweep<S: RowSource>(
     first: &FirstPortal,
     source: &mut S,
     gone: &mut BitRow,
-    trace: &mut Trace,
+    store: &mut LineStore,
     row: &mut BitRow,
 ) -> Result<(), AllocError>
     requires may_draw { MayDraw first.now (S.world source.old) row.old }
@@ -93,7 +146,7 @@ fn sweep<S: RowSource>(
             continue;
         }
         gone.set(leaf);
-        aim_out(first, source, leaf, trace, row)?;
+        aim_out(first, source, leaf, store, row)?;
     }
     Ok(())
 }
@@ -103,7 +156,7 @@ fn aim_out<S: RowSource>(
     first: &FirstPortal,
     source: &mut S,
     leaf: u64,
-    trace: &mut Trace,
+    store: &mut LineStore,
     row: &mut BitRow,
 ) -> Result<(), AllocError>
     requires may_draw { MayDraw first.now (S.world source.old) row.old }
@@ -111,7 +164,7 @@ fn aim_out<S: RowSource>(
     ensures { HasDrawn first.now (S.ceilings source.old) (S.goes_on source.old source.new) row.old row.new }
 {
     for other in first.world.leaving(leaf) {
-        aim_through(first, source, *other, trace, row)?;
+        aim_through(first, source, *other, store, row)?;
     }
     Ok(())
 }
@@ -121,7 +174,7 @@ fn aim_through<S: RowSource>(
     first: &FirstPortal,
     source: &mut S,
     other: u64,
-    trace: &mut Trace,
+    store: &mut LineStore,
     row: &mut BitRow,
 ) -> Result<(), AllocError>
     requires may_draw { MayDraw first.now (S.world source.old) row.old }
@@ -135,8 +188,8 @@ fn aim_through<S: RowSource>(
     if !may_lead(first.world, source, first.portal, other, target) {
         return Ok(());
     }
-    let winding = &first.world.pane(other).winding;
-    aim_within(first, source, winding, target, trace, row)
+    store.list_aims(first, other)?;
+    aim_at(first, source, target, store, row)
 }
 
 /// Whether a line may lead through one portal and then another to a leaf: both rows have it, and that of the portal back
@@ -157,50 +210,51 @@ fn may_lead<S: RowSource>(world: &World, source: &mut S, portal: u64, other: u64
     has_leaf(source, world.back(other), world.from(portal))
 }
 
-/// Aims at a target through the anchors of another winding, until the row has it.
-fn aim_within<S: RowSource>(
+/// Draws the lines that are listed, until the row has their target.
+fn aim_at<S: RowSource>(
     first: &FirstPortal,
     source: &mut S,
-    winding: &Winding,
     target: u64,
-    trace: &mut Trace,
+    store: &mut LineStore,
     row: &mut BitRow,
 ) -> Result<(), AllocError>
     requires may_draw { MayDraw first.now (S.world source.old) row.old }
     requires target { target < length (numbered_leaves first.now.world.now.tree) }
     ensures { HasDrawn first.now (S.ceilings source.old) (S.goes_on source.old source.new) row.old row.new }
 {
-    for place in 0..=winding.len() {
+    for place in 0..store.aims.len() {
         if row.get(target) {
             return Ok(());
         }
-        let end = anchor_at(winding, place);
-        aim_at(first, source, &end, target, trace, row)?;
+        let aim = match store.aim(place) {
+            None => return Ok(()),
+            Some(aim) => aim,
+        };
+        show_aim(first, source, &aim, target, store, row)?;
     }
     Ok(())
 }
 
-/// Aims at a target from each anchor through another one, until the row has it.
-fn aim_at<S: RowSource>(
+/// Draws a line towards a target. Where that is shown, the line is kept for later portals.
+fn show_aim<S: RowSource>(
     first: &FirstPortal,
     source: &mut S,
-    end: &[i32; 3],
+    aim: &Aim,
     target: u64,
-    trace: &mut Trace,
+    store: &mut LineStore,
     row: &mut BitRow,
 ) -> Result<(), AllocError>
     requires may_draw { MayDraw first.now (S.world source.old) row.old }
     requires target { target < length (numbered_leaves first.now.world.now.tree) }
     ensures { HasDrawn first.now (S.ceilings source.old) (S.goes_on source.old source.new) row.old row.new }
 {
-    for anchor in first.anchors {
-        if row.get(target) {
-            return Ok(());
-        }
-        let line = line_through(anchor, end);
-        show_along(first, source, &line, target, trace, row)?;
+    let line = aim.line();
+    show_along(first, source, &line, target, store, row)?;
+    store.note_shown(aim);
+    if !row.get(target) {
+        return Ok(());
     }
-    Ok(())
+    store.keep(first.world, &line)
 }
 
 /// Sets the leaves that a line towards a target shows, if it goes through the portal.
@@ -209,18 +263,24 @@ fn show_along<S: RowSource>(
     source: &mut S,
     line: &Line,
     target: u64,
-    trace: &mut Trace,
+    store: &mut LineStore,
     row: &mut BitRow,
 ) -> Result<(), AllocError>
     requires may_draw { MayDraw first.now (S.world source.old) row.old }
     requires target { target < length (numbered_leaves first.now.world.now.tree) }
     ensures { HasDrawn first.now (S.ceilings source.old) (S.goes_on source.old source.new) row.old row.new }
 {
+    store.trace.clear();
     match crossing_of(first.world, first.portal, line) {
         None => Ok(()),
         Some(crossing) => {
-            trace.begin(first.world, first.portal, crossing)?;
-            follow(first.world, source, line, target, trace, row)
+            store.trace.begin(first.world, first.portal, crossing)?;
+            let course = Course {
+                world: first.world,
+                line,
+                target,
+            };
+            follow(&course, source, &store.bounds, &mut store.trace, row)
         }
     }
 }

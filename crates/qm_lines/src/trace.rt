@@ -1,6 +1,6 @@
 //! How far a line was followed.
 
-ghost use Rattle.std.specs.Prelude.{ℕ, ◌≡◌, ◌<◌, length, Contains, OnOk, IsTrue, ◌↔◌};
+ghost use Rattle.std.specs.Prelude.{ℕ, ◌≡◌, ◌<◌, [], length, Contains, OnOk, IsTrue, ◌↔◌};
 ghost use Rattle.qm_contacts.specs.NumberedLeaves.{numbered_leaves};
 ghost use Rattle.qm_contacts.specs.OwnPortals.{HasOwnPortals};
 ghost use Rattle.qm_segments.specs.Segment.{Segment};
@@ -33,6 +33,15 @@ impl Trace {
                 at_end: 1,
             },
         }
+    }
+
+    /// Forgets its line.
+    pub(crate) fn clear(&mut self)
+        ensures passed { self.new.passed.items ≡ [] }
+        ensures met { self.new.met.items ≡ [] }
+    {
+        self.passed.clear();
+        self.met.clear();
     }
 
     /// Begins anew, with a line that goes through a portal.

@@ -4,7 +4,10 @@ pub mod Steps
 pub mod KeptCorners
 pub mod Coordinates
 pub mod Outlooks
-pub mod LookedAt
+pub mod Looks
+pub mod Turns
+pub mod TurnedNormals
+pub mod Pairs
 pub mod KeptNormals
 pub mod NoPlanes
 pub mod Beams
@@ -16,3 +19,5 @@ pub mod ParallelNormals
 pub mod RaisedDistances
 pub mod SoughtCorners
 pub mod MixedCandidates
+pub mod NothingFound
+pub mod KeptSizes

@@ -16,12 +16,13 @@ use Rattle.qm_narrow.specs.declared.reach.Reach.{Reach}
 use Rattle.qm_narrow.specs.declared.spot.Spot.{Spot}
 use Rattle.qm_narrow.specs.inner.Trace.{IsSpotOf}
 use Rattle.qm_narrow.specs.inner.Look.{least_between, least_along, greatest_along, IsReach, IsOutlook, PartsNowhere}
-use Rattle.qm_narrow.proofs.Outlooks.{reach_begins, outlook_begins, outlook_more, none_back}
+use Rattle.qm_narrow.proofs.Outlooks.{reach_begins, none_back}
+use Rattle.qm_narrow.proofs.Looks.{outlook_begins, outlook_past}
 
 -- ---- whole corners
 
 abbrev whole : ℤ → ℤ → ℤ → Spot
-whole x y z = record { nearest = x ∷ y ∷ z ∷ []; below = x ∷ y ∷ z ∷ []; above = x ∷ y ∷ z ∷ [] }
+whole x y z = record { nearest = x ∷ y ∷ z ∷ []; below = x ∷ y ∷ z ∷ []; above = x ∷ y ∷ z ∷ []; loose = false }
 
 down : (n : ℤ) → IsRoundedDown n (pos 1) n
 down n = record { at_most = omega (arith, ints); next = omega (arith, ints) }
@@ -40,6 +41,7 @@ whole_is x y z a b c =
       nearest_in = inside;
       below_in = inside;
       above_in = inside;
+      fixed = λ _. record { x = refl; y = refl; z = refl };
     }
 
 coordinate_0 : IsCoordinate (pos 0)
@@ -93,14 +95,24 @@ far_high = refl
 reach_row : IsReach (doorway (pos 0)) across reach
 reach_row = reach_begins (doorway (pos 0)) (doorway_convex (pos 0)) across 0 (omega arith) near near_is reach (sym near_low) (sym near_high)
 
-outlook_row : IsOutlook (doorway (pos 64)) across reach (record { ahead = false; back = true })
-outlook_row = outlook_more (doorway (pos 64)) (doorway_convex (pos 64)) across 1 (omega arith) far far_is reach (record { ahead = true; back = true }) (record { ahead = false; back = true })
-    (outlook_begins (doorway (pos 64)) across reach (record { ahead = true; back = true }) refl refl)
-    (λ _. inr (let e = far_high in omega (arith, ints, e)))
+abbrev far_reach : Reach
+far_reach = record { low = neg_ℤ (pos 98304); high = neg_ℤ (pos 98304) }
+
+far_low : least_along across far ≡ neg_ℤ (pos 98304)
+unfolding least_between least_product
+far_low = refl
+
+far_row : IsReach (doorway (pos 64)) across far_reach
+far_row = reach_begins (doorway (pos 64)) (doorway_convex (pos 64)) across 1 (omega arith) far far_is far_reach (sym far_low) (sym far_high)
+
+outlook_row : IsOutlook (doorway (pos 0)) (doorway (pos 64)) across (record { ahead = false; back = true })
+outlook_row = outlook_past (doorway (pos 0)) (doorway (pos 64)) across (pos 0) reach far_reach (record { ahead = true; back = true }) (record { ahead = false; back = true }) reach_row far_row
+    (outlook_begins (doorway (pos 0)) (doorway (pos 64)) across (record { ahead = true; back = true }) refl refl)
+    (λ _. inr (omega (arith, ints)))
     inl
 
 refused_row : PartsNowhere (doorway (pos 0)) (doorway (pos 64)) across
-refused_row = outlook_row.ahead (doorway (pos 0)) reach_row refl
+refused_row = outlook_row.ahead refl
 
 not_refused_row : PartsNowhere (doorway (pos 64)) (doorway (pos 0)) across → ⊥
 not_refused_row = none_back across left_right (neg_ℤ (pos 1024)) refl (doorway (pos 0)) (doorway (pos 64)) (none_in_front (doorway (pos 0)) (doorway (pos 64)) left_right left_right_row) left_right_row.in_front (omega (arith, ints))

@@ -1,5 +1,5 @@
 -- The whole numbers near a fraction, by the one below it and what that leaves.
-use Rattle.std.proofs.Common.{◌≡◌, ◌≤◌, ◌<◌, ◌*◌, ◌^◌, ◌∙◌, ℤ, pos, ◌+ℤ◌, ◌-ℤ◌, ◌*ℤ◌, ◌<ℤ◌, ◌≤ℤ◌, ◌⊎◌, ⊎_elim, [], ◌∷◌, FitsSigned, w32, w64, arith, lit≤, refl, ap, sym, subst, unsigned_abs}
+use Rattle.std.proofs.Common.{◌≡◌, true, false, ◌≤◌, ◌<◌, ◌*◌, ◌^◌, ◌∙◌, ℤ, pos, ◌+ℤ◌, ◌-ℤ◌, ◌*ℤ◌, ◌<ℤ◌, ◌≤ℤ◌, ◌⊎◌, ⊎_elim, [], ◌∷◌, FitsSigned, w32, w64, arith, lit≤, refl, ap, sym, subst, unsigned_abs}
 use mir.Syntax.{w128}
 use Rattle.std.proofs.lemmas.Int.{ints}
 use Rattle.qm_numbers.specs.Rounding.{IsRoundedDown, IsRoundedUp, IsNearest}
@@ -187,9 +187,10 @@ module _ (corner : Point) (inside : IsInClosedCube corner) (small : HasSmallCoor
     nearest = kept w32 near_x.nearest ∷ kept w32 near_y.nearest ∷ kept w32 near_z.nearest ∷ [];
     below = kept w32 near_x.below ∷ kept w32 near_y.below ∷ kept w32 near_z.below ∷ [];
     above = kept w32 near_x.above ∷ kept w32 near_y.above ∷ kept w32 near_z.above ∷ [];
+    loose = true;
   })
   spot_by = spot_is corner _ inside
       (record { of_x = nearest_is corner.x corner.w x w x_small near_x x_is w_is x_near; of_y = nearest_is corner.y corner.w y w y_small near_y y_is w_is y_near; of_z = nearest_is corner.z corner.w z w z_small near_z z_is w_is z_near })
       (record { of_x = below_is corner.x corner.w x w x_small near_x x_is w_is x_near; of_y = below_is corner.y corner.w y w y_small near_y y_is w_is y_near; of_z = below_is corner.z corner.w z w z_small near_z z_is w_is z_near })
       (record { of_x = above_is corner.x corner.w x w x_small near_x x_is w_is x_near; of_y = above_is corner.y corner.w y w y_small near_y y_is w_is y_near; of_z = above_is corner.z corner.w z w z_small near_z z_is w_is z_near })
-      refl refl refl
+      refl refl refl (λ e. let never : true ≡ false = e in cc)

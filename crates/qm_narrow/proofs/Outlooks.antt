@@ -7,7 +7,7 @@ use Rattle.qm_numbers.proofs.IntegerProducts.{linear, +ℤ-*ℤ, -ℤ-*ℤ, neg-
 use Rattle.qm_numbers.proofs.Signs.{by_sign, cancel_at_most, times_at_most, product_positive, product_not_negative, product_not_positive}
 use Rattle.qm_numbers.proofs.Ring.{variable, ◌⊕◌, ◌⊖◌, ◌⊗◌, solved}
 use Rattle.qm_space.specs.Point.{Point, point_times}
-use Rattle.qm_space.specs.Plane.{Plane, value, IsBehind, IsNotInFront, IsNotBehind, flipped, scaled}
+use Rattle.qm_space.specs.Plane.{Plane, value, IsBehind, IsInFront, IsNotInFront, IsNotBehind, flipped, scaled}
 use Rattle.qm_space.specs.Vector.{normal_of}
 use Rattle.qm_space.specs.Turned.{turned}
 use Rattle.qm_space.specs.Cuboid.{IsInStretch, least_product, greatest_product}
@@ -33,8 +33,8 @@ use Rattle.qm_geom.specs.declared.vector.Vector.{Vector}
 use Rattle.qm_narrow.specs.declared.reach.Reach.{Reach}
 use Rattle.qm_narrow.specs.declared.outlook.Outlook.{Outlook}
 use Rattle.qm_narrow.specs.declared.spot.Spot.{Spot}
-use Rattle.qm_narrow.specs.inner.Trace.{IsSpotOf}
-use Rattle.qm_narrow.specs.inner.Look.{at_distance, stretch_of, least_between, least_along, greatest_along, IsReach, PartsNowhere, IsOutlook}
+use Rattle.qm_narrow.specs.inner.Trace.{IsSpotOf, IsFixed}
+use Rattle.qm_narrow.specs.inner.Look.{at_distance, stretch_of, least_between, least_along, greatest_along, IsReach, PartsNowhere}
 
 -- ---- one corner
 
@@ -110,6 +110,23 @@ module _ (n : Vector) (p : Point) (spot : Spot) (weight : pos 0 <ℤ p.w) (is : 
       let m = times_at_most p.w (greatest_along n spot) d (omega (arith, linear)) l in
       omega (arith, linear)
 
+  -- below the least along it, the point is in front
+  pub least_in_front : (d : ℤ) → d <ℤ least_along n spot → IsInFront (at_distance n d) p
+  least_in_front d l =
+      let e = value_is d in let b = least_bound in
+      let f = -ℤ-*ℤ (least_along n spot) d p.w in
+      let m = product_positive (least_along n spot -ℤ d) p.w (omega (arith, linear)) weight in
+      omega (arith, linear)
+
+-- where the corner is a whole point, it has the same least and greatest along it
+alike : (n low high : ℤ) → low ≡ high → greatest_product n (record { low = low; high = high }) ≡ least_product n (record { low = low; high = high })
+unfolding greatest_product least_product
+alike n low high e = subst (λ (h : ℤ). greatest_product n (record { low = low; high = h }) ≡ least_product n (record { low = low; high = h })) e refl
+
+pub fixed_greatest : (n : Vector) (spot : Spot) → IsFixed spot → least_along n spot ≡ greatest_along n spot
+unfolding least_between greatest_along
+fixed_greatest n spot is = λ i. (sym (alike n.x _ _ is.x) i +ℤ sym (alike n.y _ _ is.y) i) +ℤ sym (alike n.z _ _ is.z) i
+
 -- where a corner lies beside a plane, by the whole points near it
 module _ (h : Plane) (n : Vector) (same : n ≡ own_normal h) (p : Point) (weight : pos 0 <ℤ p.w) (spot : Spot) (is : IsSpotOf p spot) where
   pub behind_by : greatest_along n spot <ℤ h.d → IsTrue true ↔ IsBehind h p
@@ -119,6 +136,14 @@ module _ (h : Plane) (n : Vector) (same : n ≡ own_normal h) (p : Point) (weigh
   not_behind_by at_most =
       let not : IsNotBehind h p = subst (λ (m : Vector). IsNotBehind (at_distance m h.d) p) same (least_not_behind n p spot weight is h.d at_most) in
       ((λ told. let never : false ≡ true = told in cc), (λ behind. absurd (omega (arith, linear))))
+
+  pub ahead_by : h.d <ℤ least_along n spot → IsTrue true ↔ IsInFront h p
+  ahead_by more = ((λ _. subst (λ (m : Vector). IsInFront (at_distance m h.d) p) same (least_in_front n p spot weight is h.d more)), (λ _. refl))
+
+  pub not_ahead_by : greatest_along n spot ≤ℤ h.d → IsTrue false ↔ IsInFront h p
+  not_ahead_by at_most =
+      let not : IsNotInFront h p = subst (λ (m : Vector). IsNotInFront (at_distance m h.d) p) same (greatest_not_in_front n p spot weight is h.d at_most) in
+      ((λ told. let never : false ≡ true = told in cc), (λ front. absurd (omega (arith, linear))))
 
 -- ---- all corners, one after another
 
@@ -146,27 +171,6 @@ module _ (v : Winding) (convex : IsConvex v) (n : Vector) (i : ℕ) (within : i 
     low = λ d none. subst (λ (z : ℤ). z ≤ℤ d) (sym low) (max_at_most old.low (least_along n spot) d (of_old.low d none) (corner_low d none));
     high = λ d none. subst (λ (z : ℤ). d ≤ℤ z) (sym high) (min_at_least old.high (greatest_along n spot) d (of_old.high d none) (corner_high d none));
   }
-
-  -- an outlook on this winding as the pass
-  pub outlook_more : (reach : Reach) (old new : Outlook) → IsOutlook v n reach old →
-      (new.ahead ≡ false → (old.ahead ≡ false) ⊎ (greatest_along n spot <ℤ reach.low)) →
-      (new.back ≡ false → (old.back ≡ false) ⊎ (reach.high <ℤ least_along n spot)) → IsOutlook v n reach new
-  outlook_more reach old new of_old ahead back = record {
-    ahead = λ source is not. ⊎_elim
-        (λ before. of_old.ahead source is before)
-        (λ less. λ d front behind. let l = is.low d front in let h = corner_high d behind in absurd (omega (arith, linear)))
-        (ahead not);
-    back = λ source is not. ⊎_elim
-        (λ before. of_old.back source is before)
-        (λ less. λ d front behind. let h = is.high d behind in let l = corner_low d front in absurd (omega (arith, linear)))
-        (back not);
-  }
-
-pub outlook_begins : (v : Winding) (n : Vector) (reach : Reach) (outlook : Outlook) → outlook.ahead ≡ true → outlook.back ≡ true → IsOutlook v n reach outlook
-outlook_begins v n reach outlook ahead back = record {
-  ahead = λ source is not. let never : true ≡ false = sym ahead ∙ not in cc;
-  back = λ source is not. let never : true ≡ false = sym back ∙ not in cc;
-}
 
 -- ---- a multiple of a plane's normal
 

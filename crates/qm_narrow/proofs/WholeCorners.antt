@@ -1,5 +1,5 @@
 -- Corners that are whole points: rounded any way, they stay what they are.
-use Rattle.std.proofs.Common.{◌≡◌, ℤ, pos, ◌-ℤ◌, ◌*ℤ◌, List, length, slice_index_or, subst, sym, arith, unsigned_abs}
+use Rattle.std.proofs.Common.{◌≡◌, false, refl, ℤ, pos, ◌-ℤ◌, ◌*ℤ◌, List, length, slice_index_or, subst, sym, arith, unsigned_abs}
 use Rattle.std.proofs.lemmas.Int.{ints}
 use Rattle.qm_numbers.specs.Rounding.{IsRoundedDown, IsRoundedUp, IsNearest}
 use Rattle.qm_space.specs.Point.{Point}
@@ -32,7 +32,7 @@ coordinates_by Rule itself corner at is = record {
   of_z = by_itself Rule itself corner.z corner.w (slice_index_or at 2 (pos 0)) is.weight is.z;
 }
 
-pub whole_spot : (corner : Point) (at : List ℤ) → IsInClosedCube corner → length at ≡ 3 → IsWholeAt corner at → IsSpotOf corner (record { nearest = at; below = at; above = at })
+pub whole_spot : (corner : Point) (at : List ℤ) → IsInClosedCube corner → length at ≡ 3 → IsWholeAt corner at → IsSpotOf corner (record { nearest = at; below = at; above = at; loose = false })
 whole_spot corner at inside n is =
-    spot_is corner (record { nearest = at; below = at; above = at }) inside
-    (coordinates_by IsNearest nearest_itself corner at is) (coordinates_by IsRoundedDown down_itself corner at is) (coordinates_by IsRoundedUp up_itself corner at is) n n n
+    spot_is corner (record { nearest = at; below = at; above = at; loose = false }) inside
+    (coordinates_by IsNearest nearest_itself corner at is) (coordinates_by IsRoundedDown down_itself corner at is) (coordinates_by IsRoundedUp up_itself corner at is) n n n (λ _. record { x = refl; y = refl; z = refl })

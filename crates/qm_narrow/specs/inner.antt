@@ -1,7 +1,8 @@
 pub mod Trace
 pub mod Look
 pub mod Edge
-pub mod LookCorners
+pub mod Turn
+pub mod Pair
 pub mod Near
 pub mod FoundPlanes
 pub mod LastCut

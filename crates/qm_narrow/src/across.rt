@@ -9,12 +9,12 @@ ghost use Rattle.qm_convex.specs.Winding.{corners};
 ghost use Rattle.qm_separators.specs.Across.{HasLowestNormal};
 ghost use Rattle.qm_separators.specs.Gains.{Gains};
 ghost use Rattle.qm_separators.specs.inner.Found.{PartsAlong, AreCandidate, SeparatesBy};
-ghost use Rattle.qm_narrow.specs.inner.LookCorners.{AreLookCorners};
 ghost use Rattle.qm_narrow.specs.inner.FoundPlanes.{AreAtLeastDistance, HasNormalAmong};
+ghost use Rattle.qm_narrow.specs.inner.WholeCandidates.{IsToldBy};
 
-use crate::look_corners::LookCorners;
 use crate::normal::normal_through;
 use crate::outlook::Outlook;
+use crate::pair::Pair;
 use crate::sides::parts;
 use crate::traced::Traced;
 use qm_geom::Plane;
@@ -23,26 +23,21 @@ use std::alloc::AllocError;
 /// Gains the separators with the normal of three whole points.
 pub(crate) fn gain_through(
     planes: &mut Vec<Plane>,
-    source: &Traced,
-    pass: &Traced,
-    corners: &LookCorners,
+    pair: &Pair,
+    look: &Outlook,
     at: [i32; 3],
     from: [i32; 3],
     to: [i32; 3],
 ) -> Result<(), AllocError>
-    requires corners { AreLookCorners source.now pass.now corners.now }
+    requires told { IsToldBy pair.now.source.now pair.now.pass.now look.now (whole_point at) (whole_point from) (whole_point to) }
     requires at_in_cube { AreCoordinates at }
     requires from_in_cube { AreCoordinates from }
     requires to_in_cube { AreCoordinates to }
-    requires found { AreAtLeastDistance source.now planes.now.items }
-    requires candidate { AreCandidate source.now pass.now (whole_point at) (whole_point from) (whole_point to) }
-    ensures { OnOk result (Gains (SeparatesBy source.now pass.now (whole_point at) (whole_point from) (whole_point to)) planes.old.items planes.new.items) }
+    requires found { AreAtLeastDistance pair.now.source.now planes.now.items }
+    requires candidate { AreCandidate pair.now.source.now pair.now.pass.now (whole_point at) (whole_point from) (whole_point to) }
+    ensures { OnOk result (Gains (SeparatesBy pair.now.source.now pair.now.pass.now (whole_point at) (whole_point from) (whole_point to)) planes.old.items planes.new.items) }
 {
     let normal = normal_through(at, from, to);
-    let look = Outlook::of(corners, &normal);
-    if look.is_none() {
-        return Ok(());
-    }
     let outlook = look.without(planes.as_slice(), &normal);
     if outlook.is_none() {
         return Ok(());
@@ -51,8 +46,8 @@ pub(crate) fn gain_through(
         Err(_) => Ok(()),
         Ok((plane, front)) => {
             let turned = plane.flipped();
-            gain_where(planes, source, pass, &plane, outlook.towards(front))?;
-            gain_where(planes, source, pass, &turned, outlook.towards(!front))?;
+            gain_where(planes, pair, &plane, outlook.towards(front))?;
+            gain_where(planes, pair, &turned, outlook.towards(!front))?;
             Ok(())
         }
     }
@@ -62,18 +57,17 @@ pub(crate) fn gain_through(
 /// does not, or is listed.
 fn gain_where(
     planes: &mut Vec<Plane>,
-    source: &Traced,
-    pass: &Traced,
+    pair: &Pair,
     along: &Plane,
     may: bool,
 ) -> Result<(), AllocError>
     requires lowest { HasLowestNormal along.now }
-    requires found { AreAtLeastDistance source.now planes.now.items }
-    requires not { may ≡ false → (h : Plane) → PartsAlong source.now pass.now along.now h → Contains planes.now.items h }
-    ensures { OnOk result (Gains (PartsAlong source.now pass.now along.now) planes.old.items planes.new.items) }
+    requires found { AreAtLeastDistance pair.now.source.now planes.now.items }
+    requires not { may ≡ false → (h : Plane) → PartsAlong pair.now.source.now pair.now.pass.now along.now h → Contains planes.now.items h }
+    ensures { OnOk result (Gains (PartsAlong pair.now.source.now pair.now.pass.now along.now) planes.old.items planes.new.items) }
 {
     if may {
-        gain_along(planes, source, pass, along)?;
+        gain_along(planes, pair.source, pair.pass, along)?;
     }
     Ok(())
 }

@@ -79,7 +79,7 @@ fn are_equal(first: i64, second: i64, third: i64, fourth: i64) -> bool
 
 /// The product of a component of a normal that is not in lowest terms, and one of a plane's. 64 bits hold it: it is at most
 /// 2^58 where the world reaches 32,768.
-fn product(first: i64, second: i64) -> i64
+pub(crate) fn product(first: i64, second: i64) -> i64
     requires first_small { unsigned_abs first ≤ whole_normal_bound }
     requires second_small { unsigned_abs second ≤ normal_bound }
     ensures exact { result ≡ first *ℤ second }

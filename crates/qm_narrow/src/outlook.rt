@@ -2,17 +2,11 @@
 
 ghost use Rattle.std.specs.Prelude.{◌≡◌, ◌⊎◌, ◌<ℤ◌, Bool, true, false, if◌then◌else◌};
 ghost use Rattle.qm_space.specs.Bounds.{whole_normal_bound};
-ghost use Rattle.qm_space.specs.Point.{AreCoordinates};
 ghost use Rattle.qm_geom.specs.Vectors.{HasSmallComponents};
-ghost use Rattle.qm_narrow.specs.inner.Look.{PartsNowhere, least_along, greatest_along};
-ghost use Rattle.qm_convex.specs.Winding.{Winding};
-ghost use Rattle.qm_narrow.specs.inner.LookCorners.{AreLookCorners};
 ghost use Rattle.qm_narrow.specs.inner.FoundPlanes.{HasAlongAmong, HasAgainstAmong};
 
-use crate::look_corners::LookCorners;
 use crate::multiples::{has_against, has_along};
 use crate::reach::Reach;
-use crate::spot::Spot;
 use qm_geom::{Plane, Vector};
 
 /// Whether planes with a normal, or with its opposite, may part two windings.
@@ -23,35 +17,29 @@ pub(crate) struct Outlook {
 }
 
 impl Outlook {
-    /// By an edge of the one of two windings, and the corners beside one of the other.
-    pub(crate) fn of(corners: &LookCorners, normal: &Vector) -> Outlook
-        requires corners { (source : Winding) × (pass : Winding) × AreLookCorners source pass corners.now }
-        requires small { HasSmallComponents normal.now whole_normal_bound }
-        ensures ahead { (source pass : Winding) → AreLookCorners source pass corners.now → result.ahead ≡ false → PartsNowhere source pass normal.now }
-        ensures back { (source pass : Winding) → AreLookCorners source pass corners.now → result.back ≡ false → PartsNowhere pass source normal.now }
-    {
-        let reach = corners.edge.reach(normal);
-        let outlook = corners.outlook(&reach, normal);
-        if corners.edge.of_pass {
-            return Outlook {
-                ahead: outlook.back,
-                back: outlook.ahead,
-            };
-        }
-        outlook
-    }
-
-    /// By one corner of the pass more, where this is the reach of the source.
-    pub(crate) fn with(&self, reach: &Reach, spot: &Spot, normal: &Vector) -> Outlook
-        requires below_in { AreCoordinates spot.now.below }
-        requires above_in { AreCoordinates spot.now.above }
-        requires small { HasSmallComponents normal.now whole_normal_bound }
-        ensures ahead { result.ahead ≡ false → (self.now.ahead ≡ false) ⊎ (greatest_along normal.now spot.now <ℤ reach.now.low) }
-        ensures back { result.back ≡ false → (self.now.back ≡ false) ⊎ (reach.now.high <ℤ least_along normal.now spot.now) }
+    /// Past some corners of the one winding and of the other, where these are their reaches.
+    pub(crate) fn past(&self, one: &Reach, other: &Reach) -> Outlook
+        ensures ahead { result.ahead ≡ false → (self.now.ahead ≡ false) ⊎ (other.now.high <ℤ one.now.low) }
+        ensures back { result.back ≡ false → (self.now.back ≡ false) ⊎ (one.now.high <ℤ other.now.low) }
     {
         Outlook {
-            ahead: self.ahead && spot.greatest(normal) >= reach.low,
-            back: self.back && spot.least(normal) <= reach.high,
+            ahead: self.ahead && one.low <= other.high,
+            back: self.back && other.low <= one.high,
+        }
+    }
+
+    /// With both sides exchanged where the flag is set.
+    pub(crate) fn exchanged(&self, flag: bool) -> Outlook
+        ensures ahead { result.ahead ≡ (if flag then self.now.back else self.now.ahead) }
+        ensures back { result.back ≡ (if flag then self.now.ahead else self.now.back) }
+    {
+        if flag {
+            Outlook {
+                ahead: self.back,
+                back: self.ahead,
+            }
+        } else {
+            *self
         }
     }
 

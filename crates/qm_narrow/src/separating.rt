@@ -6,6 +6,7 @@ ghost use Rattle.qm_separators.specs.Gains.{HasExactly};
 ghost use Rattle.qm_separators.specs.Separator.{IsSeparator, IsSeparatorFrom};
 
 use crate::candidates::gain_across;
+use crate::pair::Pair;
 use crate::traced::Traced;
 use qm_geom::Plane;
 use qm_lists::Items;
@@ -39,8 +40,22 @@ fn list_separators(
     ensures once { OnOk result (AreDistinct planes.new.items) }
 {
     planes.clear();
-    gain_across(planes, source, pass, source, pass, false)?;
-    gain_across(planes, source, pass, pass, source, true)?;
+    let by_source = Pair {
+        source,
+        pass,
+        edges: source,
+        others: pass,
+        of_pass: false,
+    };
+    let by_pass = Pair {
+        source,
+        pass,
+        edges: pass,
+        others: source,
+        of_pass: true,
+    };
+    gain_across(planes, &by_source)?;
+    gain_across(planes, &by_pass)?;
     Ok(())
 }
 

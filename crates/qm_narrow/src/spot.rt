@@ -15,12 +15,14 @@ use crate::normal::sum;
 use crate::whole::whole_corner;
 use qm_geom::{Corner, Cuboid, Stretch, Vector};
 
-/// The whole points near a corner: the nearest one, and the coordinates rounded down and up.
+/// The whole points near a corner: the nearest one, and the coordinates rounded down and up. Where it is not loose, the corner
+/// is a whole point, and these are that one.
 #[derive(Clone, Copy)]
 pub(crate) struct Spot {
     pub(crate) nearest: [i32; 3],
     pub(crate) below: [i32; 3],
     pub(crate) above: [i32; 3],
+    pub(crate) loose: bool,
 }
 
 impl Spot {
@@ -39,6 +41,7 @@ impl Spot {
                 nearest: at,
                 below: at,
                 above: at,
+                loose: false,
             };
         }
         divided(corner)
@@ -78,6 +81,21 @@ impl Spot {
     {
         least_between(normal, &self.above, &self.below)
     }
+
+    /// The greatest that it has, where the least is known: the same one where the corner is a whole point.
+    pub(crate) fn greatest_from(&self, least: i64, normal: &Vector) -> i64
+        requires spot { (p : Point) × IsSpotOf p self.now }
+        requires small { HasSmallComponents normal.now whole_normal_bound }
+        requires least { least ≡ least_along normal.now self.now }
+        requires least_small { unsigned_abs least ≤ look_bound }
+        ensures exact { result ≡ greatest_along normal.now self.now }
+        ensures size { unsigned_abs result ≤ look_bound }
+    {
+        if self.loose {
+            return self.greatest(normal);
+        }
+        least
+    }
 }
 
 /// Those of a corner, by a division for each coordinate.
@@ -96,6 +114,7 @@ fn divided(corner: &Corner) -> Spot
         nearest: [near_x.nearest, near_y.nearest, near_z.nearest],
         below: [near_x.below, near_y.below, near_z.below],
         above: [near_x.above, near_y.above, near_z.above],
+        loose: true,
     }
 }
 

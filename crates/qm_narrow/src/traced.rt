@@ -120,7 +120,7 @@ impl Traced {
     {
         let count = self.len();
         for i in 0..count {
-            if is_in_front(self.corner(i), plane) {
+            if is_ahead(self.spot(i), self.corner(i), plane) {
                 return true;
             }
         }
@@ -174,13 +174,32 @@ fn is_behind(spot: &Spot, corner: &Corner, plane: &Plane) -> bool
 {
     let _ = &plane.nx;
     let normal = plane.normal();
-    if spot.greatest(&normal) < plane.d {
-        return true;
-    }
-    if spot.least(&normal) >= plane.d {
+    let least = spot.least(&normal);
+    if least >= plane.d {
         return false;
     }
+    if spot.greatest_from(least, &normal) < plane.d {
+        return true;
+    }
     lies_behind(corner, plane)
+}
+
+/// Whether it is strictly in front, told in the same way.
+fn is_ahead(spot: &Spot, corner: &Corner, plane: &Plane) -> bool
+    requires spot { IsSpotOf corner.now spot.now }
+    requires weight { pos 0 <ℤ corner.now.w }
+    ensures { IsTrue result ↔ IsInFront plane.now corner.now }
+{
+    let _ = &plane.nx;
+    let normal = plane.normal();
+    let least = spot.least(&normal);
+    if least > plane.d {
+        return true;
+    }
+    if spot.greatest_from(least, &normal) <= plane.d {
+        return false;
+    }
+    is_in_front(corner, plane)
 }
 
 /// Whether a corner is strictly behind a plane, by itself.

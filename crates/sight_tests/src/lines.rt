@@ -4,7 +4,7 @@ ghost use Rattle.std.specs.Prelude.{◌<◌, length};
 
 use qm_base::base;
 use qm_bits::BitRow;
-use qm_lines::show_by_lines;
+use qm_lines::{LineStore, show_by_lines};
 use qm_portal::World;
 use qm_sight::Rows;
 use std::alloc::{AllocError, Global};
@@ -25,7 +25,8 @@ fn row_of(alloc: Global, world: &World, portal: u64) -> Result<BitRow, AllocErro
     let coarse = base(alloc, world)?;
     let mut rows = Rows::over(world, coarse);
     let mut row = BitRow::with_len(alloc, world.leaves())?;
-    show_by_lines(alloc, world, &mut rows, portal, &mut row)?;
+    let mut lines = LineStore::new(alloc);
+    show_by_lines(alloc, world, &mut rows, portal, &mut lines, &mut row)?;
     Ok(row)
 }
 

@@ -5,6 +5,7 @@ use qm_base::base;
 use qm_bits::BitRow;
 use qm_crew::{Crewed, OpenGate, crew};
 use qm_flow::flow;
+use qm_lines::LineStore;
 use qm_portal::World;
 use qm_sight::Rows;
 use std::alloc::{AllocError, Global};
@@ -25,9 +26,10 @@ fn wavering_rows<R: Threads + Sync>(
     let coarse = base(alloc, world)?;
     let Crewed { rows: fine, .. } = crew(rt, alloc, world, base(alloc, world)?, 1, &OpenGate)?;
     let mut source = TwoRows::of(Rows::over(world, coarse), Rows::over(world, fine));
+    let mut lines = LineStore::new(alloc);
     let mut rows = Vec::new(alloc);
     for portal in 0..world.portals() {
-        let row = flow(alloc, world, &mut source, portal)?;
+        let row = flow(alloc, world, &mut source, portal, &mut lines)?;
         rows.push(row)?;
     }
     Ok(rows)

@@ -8,5 +8,5 @@ use Rattle.qm_flow.specs.inner.Spares.{AreSparesWide}
 -- this portal alone
 pub record IsFreshStack (world : World) (p : ℕ) (stack : FrameStack) : Type 0 where
   pub none : stack.frames.items ≡ []
-  pub first : IsFirstFrame world p stack.next
+  pub first : IsFirstFrame world p stack.room.next
   pub spares : AreSparesWide world stack

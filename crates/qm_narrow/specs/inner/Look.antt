@@ -53,8 +53,12 @@ pub record IsReach (v : Winding) (n : Vector) (reach : Reach) : Type 0 where
 abbrev pub PartsNowhere : Winding → Winding → Vector → Type 0
 PartsNowhere source pass n = (d : ℤ) → HasNoCornerInFront source (at_distance n d) → HasNoCornerBehind pass (at_distance n d) → ⊥
 
--- where the reach is that of a winding, such planes do not part it and the pass: with the normal, where the outlook says so
--- ahead, and with the opposite one, where it does so back
-pub record IsOutlook (pass : Winding) (n : Vector) (reach : Reach) (outlook : Outlook) : Type 0 where
-  pub ahead : (source : Winding) → IsReach source n reach → outlook.ahead ≡ false → PartsNowhere source pass n
-  pub back : (source : Winding) → IsReach source n reach → outlook.back ≡ false → PartsNowhere pass source n
+-- the outlook tells of planes with the normal: they have no corner of the one winding in front and none of the other behind
+-- only where it says so ahead, and the other way round only where it does so back
+pub record IsOutlook (one other : Winding) (n : Vector) (outlook : Outlook) : Type 0 where
+  pub ahead : outlook.ahead ≡ false → PartsNowhere one other n
+  pub back : outlook.back ≡ false → PartsNowhere other one n
+
+-- the reach, with distances counted from a base, is that of a winding
+abbrev pub IsReachFrom : Winding → Vector → ℤ → Reach → Type 0
+IsReachFrom v n base reach = IsReach v n (record { low = reach.low +ℤ base; high = reach.high +ℤ base })

@@ -1,4 +1,4 @@
-use Rattle.std.specs.Prelude.{◌≡◌, ℕ, ℤ, pos, ◌<◌, List, length, get_or, slice_index_or}
+use Rattle.std.specs.Prelude.{◌≡◌, false, ℕ, ℤ, pos, ◌<◌, List, length, get_or, slice_index_or}
 use Rattle.qm_numbers.specs.Rounding.{IsRoundedDown, IsRoundedUp, IsNearest}
 use Rattle.qm_space.specs.Point.{Point, AreCoordinates}
 use Rattle.qm_space.specs.Coordinates.{AreCoordinatesBy}
@@ -6,6 +6,12 @@ use Rattle.qm_convex.specs.Winding.{Winding, corner_at, corners}
 use Rattle.qm_narrow.specs.declared.spot.Spot.{Spot}
 
 -- What is kept beside a winding: its corners, and the whole points near them.
+
+-- the whole points below and above a corner are one
+pub record IsFixed (spot : Spot) : Type 0 where
+  pub x : slice_index_or spot.below 0 (pos 0) ≡ slice_index_or spot.above 0 (pos 0)
+  pub y : slice_index_or spot.below 1 (pos 0) ≡ slice_index_or spot.above 1 (pos 0)
+  pub z : slice_index_or spot.below 2 (pos 0) ≡ slice_index_or spot.above 2 (pos 0)
 
 -- the whole points near a corner
 pub record IsSpotOf (corner : Point) (spot : Spot) : Type 0 where
@@ -15,6 +21,7 @@ pub record IsSpotOf (corner : Point) (spot : Spot) : Type 0 where
   pub nearest_in : AreCoordinates spot.nearest
   pub below_in : AreCoordinates spot.below
   pub above_in : AreCoordinates spot.above
+  pub fixed : spot.loose ≡ false → IsFixed spot
 
 -- the corners of a winding in their order, and the whole points near each
 pub record IsTrace (v : Winding) (traced : List Point) (spots : List Spot) : Type 0 where

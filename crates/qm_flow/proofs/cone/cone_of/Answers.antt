@@ -3,6 +3,7 @@ use Rattle.std.proofs.lemmas.List.{nil_from_length, length-replicate}
 use Rattle.qm_lists.proofs.WorkLists.{place_within}
 use Rattle.qm_chains.specs.inner.Cone.{IsConeSoFar}
 use Rattle.qm_chains.proofs.Entering.{cone_begins, leaf_in, leaving_within, cone_more, cone_less, cone_ends}
+use Rattle.qm_flow.specs.inner.FlowPairs.{pairs_of}
 use Rattle.qm_flow.proofs.LastElements.{pushed_to}
 use Rattle.qm_chains.specs.inner.Frame.{Frame}
 use Rattle.qm_flow.specs.inner.NewWords.{HaveAllNew}
@@ -13,7 +14,7 @@ pub loop-leaf-init : goal.loop-leaf-init
 loop-leaf-init g c =
     let wide = c.requires.cone in
     record {
-      so_far = cone_begins c.args.world.now c.args.pairs.now.first c.args.frame.now c.args.found.now c.args.entered (length c.args.scratch.now.cone) c.set.new.self c.push.new.self.items wide (omega (arith, wide, c.requires.entered))
+      so_far = cone_begins c.args.flow.now.world.now c.args.flow.now.first c.args.frame.now c.args.found.now c.args.entered (length c.args.scratch.now.cone) c.set.new.self c.push.new.self.items wide (omega (arith, wide, c.requires.entered))
           (c.set.ensures ∙ ap (λ (row : List Bool). set row c.args.entered true) c.clear.ensures)
           (pushed_to [] c.clear-2.new.self.items c.push.new.self.items c.args.entered c.in_ok-push.ensures.items c.clear-2.ensures.items);
       words = subst (λ (mask : List Bool). HaveAllNew mask c.args.found.now c.list_new.new.words.items) (ap (λ (f : Frame). f.mask) c.frame.view_is) c.in_ok-list_new.ensures;
@@ -25,20 +26,20 @@ list_new-requires g c = c.requires.of_world.wide.found ∙ sym (ap (λ (f : Fram
 
 pub leaving-portals-requires : goal.leaving-portals-requires
 leaving-portals-requires g c =
-    let inside = place_within c.loop-leaf.scratch.cone c.in-Some.leaf (leaf_in c.args.world.now c.args.pairs.now.first c.args.frame.now c.args.found.now c.args.entered c.loop-leaf.scratch.cone c.loop-leaf.scratch.cone c.loop-leaf.scratch.due.items c.pop.new.self.items c.pop.new.self.items c.in-Some.leaf c.in-Some.ensures.items c.loop-leaf.invariant.so_far) in
+    let inside = place_within c.loop-leaf.scratch.cone c.in-Some.leaf (leaf_in c.args.flow.now.world.now c.args.flow.now.first c.args.frame.now c.args.found.now c.args.entered c.loop-leaf.scratch.cone c.loop-leaf.scratch.cone c.loop-leaf.scratch.due.items c.pop.new.self.items c.pop.new.self.items c.in-Some.leaf c.in-Some.ensures.items c.loop-leaf.invariant.so_far) in
     let wide = c.loop-leaf.invariant.so_far.wide in
     omega (arith, inside, wide)
 
 pub go_on-requires-clause-portals : goal.go_on-requires-clause-portals
-go_on-requires-clause-portals g c = leaving_within c.args.world.now c.args.pairs.now.first c.args.frame.now c.args.found.now c.in-Some.leaf c.leaving-portals.result.now c.leaving-portals.ensures
+go_on-requires-clause-portals g c = leaving_within c.args.flow.now.world.now c.args.flow.now.first c.args.frame.now c.args.found.now c.in-Some.leaf c.leaving-portals.result.now c.leaving-portals.ensures
 
 pub go_on-requires-clause-of_world : goal.go_on-requires-clause-of_world
-go_on-requires-clause-of_world g c = of_world_later c.args.world.now (g.S.RowSource.world c.args.source.now) (g.S.RowSource.world c.loop-leaf.source) c.args.pairs.now c.args.frame.now c.args.found.now
+go_on-requires-clause-of_world g c = of_world_later c.args.flow.now.world.now (g.S.RowSource.world c.args.source.now) (g.S.RowSource.world c.loop-leaf.source) (pairs_of c.args.flow.now) c.args.frame.now c.args.found.now
     (g.met.S.RowSource.same_world c.args.source.now c.loop-leaf.source c.loop-leaf.invariant.on) c.requires.of_world
 
 pub loop-leaf-preserved : goal.loop-leaf-preserved
 loop-leaf-preserved g c = record {
-  so_far = cone_more c.args.world.now c.args.pairs.now.first c.args.frame.now c.args.found.now c.args.entered c.loop-leaf.scratch.cone c.go_on.new.scratch.cone c.loop-leaf.scratch.due.items c.pop.new.self.items c.go_on.new.scratch.due.items c.in-Some.leaf c.in-Some.ensures.items c.loop-leaf.invariant.so_far
+  so_far = cone_more c.args.flow.now.world.now c.args.flow.now.first c.args.frame.now c.args.found.now c.args.entered c.loop-leaf.scratch.cone c.go_on.new.scratch.cone c.loop-leaf.scratch.due.items c.pop.new.self.items c.go_on.new.scratch.due.items c.in-Some.leaf c.in-Some.ensures.items c.loop-leaf.invariant.so_far
       c.leaving-portals.result.now c.leaving-portals.ensures c.in_ok-go_on.ensures.entered;
   words = subst (HaveAllNew c.args.frame.now.mask c.args.found.now) (sym c.in_ok-go_on.ensures.words) c.loop-leaf.invariant.words;
   on = g.met.S.RowSource.goes_on_in_turn c.args.source.now c.loop-leaf.source c.go_on.new.source c.loop-leaf.invariant.on c.go_on.ensures.on;
@@ -46,14 +47,14 @@ loop-leaf-preserved g c = record {
 
 pub loop-leaf-smaller : goal.loop-leaf-smaller
 loop-leaf-smaller g c =
-    cone_less c.args.world.now c.args.pairs.now.first c.args.frame.now c.args.found.now c.args.entered c.loop-leaf.scratch.cone c.go_on.new.scratch.cone c.loop-leaf.scratch.due.items c.pop.new.self.items c.go_on.new.scratch.due.items c.in-Some.leaf c.in-Some.ensures.items c.loop-leaf.invariant.so_far
+    cone_less c.args.flow.now.world.now c.args.flow.now.first c.args.frame.now c.args.found.now c.args.entered c.loop-leaf.scratch.cone c.go_on.new.scratch.cone c.loop-leaf.scratch.due.items c.pop.new.self.items c.go_on.new.scratch.due.items c.in-Some.leaf c.in-Some.ensures.items c.loop-leaf.invariant.so_far
     c.leaving-portals.result.now c.leaving-portals.ensures c.in_ok-go_on.ensures.entered
 
 pub returns-clause-cone : goal.returns-clause-cone
 returns-clause-cone g c =
     let none : c.loop-leaf.scratch.due.items ≡ [] = nil_from_length c.loop-leaf.scratch.due.items (omega (arith, c.loop-leaf.scratch.due.ok.0, c.in_default.ensures.cases.0)) in
-    cone_ends c.args.world.now c.args.pairs.now.first c.args.frame.now c.args.found.now c.args.entered c.loop-leaf.scratch.cone
-    (subst (λ (due : List ℕ). IsConeSoFar c.args.world.now c.args.pairs.now.first c.args.frame.now c.args.found.now c.args.entered c.loop-leaf.scratch.cone due) none c.loop-leaf.invariant.so_far)
+    cone_ends c.args.flow.now.world.now c.args.flow.now.first c.args.frame.now c.args.found.now c.args.entered c.loop-leaf.scratch.cone
+    (subst (λ (due : List ℕ). IsConeSoFar c.args.flow.now.world.now c.args.flow.now.first c.args.frame.now c.args.found.now c.args.entered c.loop-leaf.scratch.cone due) none c.loop-leaf.invariant.so_far)
 
 -- what is asked and kept besides
 

@@ -7,7 +7,7 @@ use Rattle.qm_flow.proofs.cone.cone_of.Given as goal
 -- the cone so far; the words of the mask that have something new are listed; and the source goes on from what it was
 abbrev pub invariant-loop-leaf : goal.invariant-loop-leaf
 invariant-loop-leaf g l = record {
-  so_far : IsConeSoFar l.world l.pairs.first l.frame l.found l.entered l.scratch.cone l.scratch.due.items;
+  so_far : IsConeSoFar l.flow.world.now l.flow.first l.frame l.found l.entered l.scratch.cone l.scratch.due.items;
   words : HaveAllNew l.frame.mask l.found l.scratch.words.items;
   on : g.S.RowSource.goes_on l.fn.source l.source;
 }

@@ -9,8 +9,8 @@ get-requires g c = let within = c.to-to.ensures.within in let wide = c.requires.
 
 pub returns-then-get-clause-entered : goal.returns-then-get-clause-entered
 returns-then-get-clause-entered g c =
-    let world = c.args.world.now in
-    let first = c.args.pairs.now.first in
+    let world = c.args.flow.now.world.now in
+    let first = c.args.flow.now.first in
     let frame = c.args.frame.now in
     let found = c.args.found.now in
     let q = c.to-to.ensures.value in
@@ -22,8 +22,8 @@ returns-then-get-clause-on g c = g.met.S.RowSource.goes_on_itself c.args.source.
 
 pub returns-then-not-may_lead_on-clause-entered : goal.returns-then-not-may_lead_on-clause-entered
 returns-then-not-may_lead_on-clause-entered g c =
-    let world = c.args.world.now in
-    let first = c.args.pairs.now.first in
+    let world = c.args.flow.now.world.now in
+    let first = c.args.flow.now.first in
     let frame = c.args.frame.now in
     let found = c.args.found.now in
     let q = c.to-to.ensures.value in
@@ -32,8 +32,8 @@ returns-then-not-may_lead_on-clause-entered g c =
 
 pub returns-clause-entered : goal.returns-clause-entered
 returns-clause-entered g c =
-    let world = c.args.world.now in
-    let first = c.args.pairs.now.first in
+    let world = c.args.flow.now.world.now in
+    let first = c.args.flow.now.first in
     let frame = c.args.frame.now in
     let found = c.args.found.now in
     let q = c.to-to.ensures.value in

@@ -3,19 +3,20 @@ use Rattle.std.proofs.lemmas.List.{take_all, get_or_default}
 use Rattle.qm_lists.proofs.Places.{take-read}
 use Rattle.qm_chains.specs.inner.Cone.{LeadsInto, AreEntered}
 use Rattle.qm_chains.proofs.Entering.{none_entered, then_entered, into_none, into_cases}
+use Rattle.qm_flow.specs.inner.FlowPairs.{pairs_of}
 use Rattle.qm_flow.specs.inner.NewWords.{HaveAllNew}
 use Rattle.qm_flow.proofs.OfWorlds.{of_world_later}
 use Rattle.qm_flow.proofs.cone.go_on.Goals as goal
 
 pub loop-portal-init : goal.loop-portal-init
 loop-portal-init g c = record {
-  entered = none_entered (LeadsInto c.args.world.now c.args.pairs.now.first c.args.frame.now c.args.found.now []) c.args.scratch.now.cone c.args.scratch.now.due.items (λ to leads. absurd (into_none c.args.world.now c.args.pairs.now.first c.args.frame.now c.args.found.now to leads));
+  entered = none_entered (LeadsInto c.args.flow.now.world.now c.args.flow.now.first c.args.frame.now c.args.found.now []) c.args.scratch.now.cone c.args.scratch.now.due.items (λ to leads. absurd (into_none c.args.flow.now.world.now c.args.flow.now.first c.args.frame.now c.args.found.now to leads));
   words = refl;
   on = g.met.S.RowSource.goes_on_itself c.args.source.now;
 }
 
 pub enter-requires-clause-of_world : goal.enter-requires-clause-of_world
-enter-requires-clause-of_world g c = of_world_later c.args.world.now (g.S.RowSource.world c.args.source.now) (g.S.RowSource.world c.loop-portal.source) c.args.pairs.now c.args.frame.now c.args.found.now
+enter-requires-clause-of_world g c = of_world_later c.args.flow.now.world.now (g.S.RowSource.world c.args.source.now) (g.S.RowSource.world c.loop-portal.source) (pairs_of c.args.flow.now) c.args.frame.now c.args.found.now
     (g.met.S.RowSource.same_world c.args.source.now c.loop-portal.source c.loop-portal.invariant.on) c.requires.of_world
 
 pub enter-requires-clause-cone : goal.enter-requires-clause-cone
@@ -23,8 +24,8 @@ enter-requires-clause-cone g c = c.loop-portal.invariant.entered.same_length ∙
 
 pub loop-portal-preserved : goal.loop-portal-preserved
 loop-portal-preserved g c =
-    let world = c.args.world.now in
-    let first = c.args.pairs.now.first in
+    let world = c.args.flow.now.world.now in
+    let first = c.args.flow.now.first in
     let frame = c.args.frame.now in
     let found = c.args.found.now in
     let before = take c.loop-portal.portal-index c.args.portals.now in
@@ -42,7 +43,7 @@ loop-portal-preserved g c =
 
 pub returns-clause-entered : goal.returns-clause-entered
 returns-clause-entered g c =
-    subst (λ (numbers : List ℕ). AreEntered (LeadsInto c.args.world.now c.args.pairs.now.first c.args.frame.now c.args.found.now numbers) c.args.scratch.now.cone c.loop-portal.scratch.cone c.args.scratch.now.due.items c.loop-portal.scratch.due.items)
+    subst (λ (numbers : List ℕ). AreEntered (LeadsInto c.args.flow.now.world.now c.args.flow.now.first c.args.frame.now c.args.found.now numbers) c.args.scratch.now.cone c.loop-portal.scratch.cone c.args.scratch.now.due.items c.loop-portal.scratch.due.items)
     (take_all c.loop-portal.portal-index c.args.portals.now c.loop-portal-test.false) c.loop-portal.invariant.entered
 
 pub enter-requires-clause-words : goal.enter-requires-clause-words

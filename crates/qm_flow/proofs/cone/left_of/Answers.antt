@@ -6,7 +6,7 @@ use Rattle.qm_flow.proofs.cone.left_of.Goals as goal
 pub returns-clause-left : goal.returns-clause-left
 returns-clause-left g c =
     let its = c.cut_frame.ensures.left in
-    left_of_cut c.args.world.now c.args.pairs.now.first c.args.frame.now c.args.found.now c.args.entered c.cone_of.new.scratch.cone its.mask (then_some c.cut_frame.result c.cut_frame.new.frame) c.in_ok-cone_of.ensures.cone its.cut its.left_is
+    left_of_cut c.args.flow.now.world.now c.args.flow.now.first c.args.frame.now c.args.found.now c.args.entered c.cone_of.new.scratch.cone its.mask (then_some c.cut_frame.result c.cut_frame.new.frame) c.in_ok-cone_of.ensures.cone its.cut its.left_is
 
 pub returns-clause-wide : goal.returns-clause-wide
 returns-clause-wide g c = record {

@@ -22,7 +22,7 @@ loop-init g c =
       range = c.requires.range;
       long = row_long _ c.args.trace.now.leaf c.args.row.now c.show.new.row c.show.ensures.shown ∙ c.requires.row;
       trace = λ p is. is;
-      shown = λ p is. row_shows c.args.world.now c.requires.own_portals p c.args.line.now (IsInCeiling ceilings) (IsInCeiling ceilings c.args.trace.now.leaf) c.args.trace.now
+      shown = λ p is. row_shows c.args.course.now.world.now c.requires.own_portals p c.args.course.now.line.now (IsInCeiling ceilings) (IsInCeiling ceilings c.args.trace.now.leaf) c.args.trace.now
           (λ number has. has) is c.args.row.now c.show.new.row (omega (arith, leaf, wide)) c.show.ensures.shown;
       on = c.show.ensures.on;
     }
@@ -42,7 +42,7 @@ returns-in-None g c = record {
 }
 
 pub enter-requires : goal.enter-requires
-enter-requires g c = slice_get_within c.args.world.now.portals c.in-Some.next.portal _ c.in-Some.ensures.next.crosses.portal_is
+enter-requires g c = slice_get_within c.args.course.now.world.now.portals c.in-Some.next.portal _ c.in-Some.ensures.next.crosses.portal_is
 
 pub returns-in_err-enter-in-Some : goal.returns-in_err-enter-in-Some
 returns-in_err-enter-in-Some g c = record {
@@ -57,16 +57,16 @@ show-requires-in-Some g c =
     let same = sym (g.met.S.RowSource.same_world c.args.source.now c.next_portal.new.source on ∙ c.requires.same_world) in
     record {
       range = subst (λ (w : World). AreInRange w c.enter.new.self) same
-          (entered_range c.args.world.now c.loop.trace c.enter.new.self c.in-Some.next.portal c.in-Some.next.crossing c.loop.invariant.range c.in_ok-enter-in-Some.ensures
-          (slice_get_within c.args.world.now.portals c.in-Some.next.portal _ onward.crosses.portal_is));
+          (entered_range c.args.course.now.world.now c.loop.trace c.enter.new.self c.in-Some.next.portal c.in-Some.next.crossing c.loop.invariant.range c.in_ok-enter-in-Some.ensures
+          (slice_get_within c.args.course.now.world.now.portals c.in-Some.next.portal _ onward.crosses.portal_is));
       row = subst (λ (w : World). length c.loop.row ≡ length (numbered_leaves w.tree)) same c.loop.invariant.long;
     }
 
 pub loop-preserved : goal.loop-preserved
 loop-preserved g c =
-    let world = c.args.world.now in
+    let world = c.args.course.now.world.now in
     let own = c.requires.own_portals in
-    let s = c.args.line.now in
+    let s = c.args.course.now.line.now in
     let onward = c.in-Some.ensures.next in
     let entered = c.in_ok-enter-in-Some.ensures in
     let leaf = entered.within in

@@ -17,8 +17,8 @@ has_leaf-requires g c =
     let q = (c.leaving-portal-items.ensures.leave number).0 (Contains-get_or items c.loop-portal.portal-index 0 c.loop-portal-test.true) in
     let same = g.met.S.RowSource.same_world c.args.source.now c.loop-portal.source c.loop-portal.invariant.on ∙ c.requires.same_world in
     record {
-      portal = asked_portal c.args.world.now (g.S.RowSource.world c.loop-portal.source) same number (slice_get_within c.args.world.now.portals number q.0 q.1);
-      leaf = asked_leaf c.args.world.now (g.S.RowSource.world c.loop-portal.source) same c.args.target c.requires.target;
+      portal = asked_portal c.args.course.now.world.now (g.S.RowSource.world c.loop-portal.source) same number (slice_get_within c.args.course.now.world.now.portals number q.0 q.1);
+      leaf = asked_leaf c.args.course.now.world.now (g.S.RowSource.world c.loop-portal.source) same c.args.course.now.target c.requires.target;
     }
 
 pub loop-portal-preserved-then-not-has_leaf : goal.loop-portal-preserved-then-not-has_leaf
@@ -30,7 +30,7 @@ further-requires g c =
     let items = c.leaving-portal-items.result.now in
     let number = get_or items c.loop-portal.portal-index 0 in
     let q = (c.leaving-portal-items.ensures.leave number).0 (Contains-get_or items c.loop-portal.portal-index 0 c.loop-portal-test.true) in
-    record { portal = slice_get_within c.args.world.now.portals number q.0 q.1; own_portals = c.requires.own_portals; leaves = q }
+    record { portal = slice_get_within c.args.course.now.world.now.portals number q.0 q.1; own_portals = c.requires.own_portals; leaves = q }
 
 pub returns-in-Some : goal.returns-in-Some
 returns-in-Some g c = record {

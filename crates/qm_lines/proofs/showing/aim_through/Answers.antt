@@ -22,14 +22,17 @@ may_lead-requires g c = record {
 pub returns-then-not-may_lead : goal.returns-then-not-may_lead
 returns-then-not-may_lead g c = drawn_none c.may_lead.ensures
 
-pub pane-requires : goal.pane-requires
-pane-requires g c = c.requires.other
+pub list_aims-requires : goal.list_aims-requires
+list_aims-requires g c = c.requires.other
 
-pub aim_within-requires : goal.aim_within-requires
-aim_within-requires g c = record {
+pub returns-in_err-list_aims : goal.returns-in_err-list_aims
+returns-in_err-list_aims g c = drawn_none c.may_lead.ensures
+
+pub aim_at-requires : goal.aim_at-requires
+aim_at-requires g c = record {
   may_draw = may_draw_on c.requires.may_draw (g.met.S.RowSource.same_world _ _ c.may_lead.ensures) refl;
   target = c.to-target.ensures.within;
 }
 
 pub returns : goal.returns
-returns g c = drawn_on (g.met.S.RowSource.narrower _ _) (g.met.S.RowSource.goes_on_in_turn _ _ _) (drawn_none c.may_lead.ensures) c.aim_within.ensures
+returns g c = drawn_on (g.met.S.RowSource.narrower _ _) (g.met.S.RowSource.goes_on_in_turn _ _ _) (drawn_none c.may_lead.ensures) c.aim_at.ensures

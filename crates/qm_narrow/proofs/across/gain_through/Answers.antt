@@ -15,9 +15,9 @@ gain_where-requires-clause-lowest c = through_lowest (whole_point c.args.at) (wh
 
 pub gain_where-requires-clause-not : goal.gain_where-requires-clause-not
 gain_where-requires-clause-not c =
-    there_as_it_is c.args.source.now c.args.pass.now (whole_point c.args.at) (whole_point c.args.from) (whole_point c.args.to)
-    c.normal_through-normal.result c.normal_through-normal.ensures.exact c.args.planes.now.items _ c.as_slice.ensures.value c.requires.found c.of-look.result c.without-outlook.result
-    (c.of-look.ensures.ahead c.args.source.now c.args.pass.now c.requires.corners) (c.of-look.ensures.back c.args.source.now c.args.pass.now c.requires.corners) c.without-outlook.ensures.ahead c.without-outlook.ensures.back
+    there_as_it_is c.args.pair.now.source.now c.args.pair.now.pass.now (whole_point c.args.at) (whole_point c.args.from) (whole_point c.args.to)
+    c.normal_through-normal.result c.normal_through-normal.ensures.exact c.args.planes.now.items _ c.as_slice.ensures.value c.requires.found c.args.look.now c.without-outlook.result
+    (c.requires.told.ahead c.normal_through-normal.result c.normal_through-normal.ensures.exact) (c.requires.told.back c.normal_through-normal.result c.normal_through-normal.ensures.exact) c.without-outlook.ensures.ahead c.without-outlook.ensures.back
     refl _ _ _ c.in-Ok.ensures.through (through_lowest (whole_point c.args.at) (whole_point c.args.from) (whole_point c.args.to) refl _ _ c.in-Ok.ensures.through) c.towards.ensures
 
 pub gain_where-requires-in-Ok-clause-lowest : goal.gain_where-requires-in-Ok-clause-lowest
@@ -25,37 +25,30 @@ gain_where-requires-in-Ok-clause-lowest c = subst HasLowestNormal (sym c.flipped
 
 pub gain_where-requires-in-Ok-clause-not : goal.gain_where-requires-in-Ok-clause-not
 gain_where-requires-in-Ok-clause-not c = λ unset h parts.
-    (c.in_ok-gain_where-in-Ok.ensures.members h).1 (inl (there_flipped c.args.source.now c.args.pass.now (whole_point c.args.at) (whole_point c.args.from) (whole_point c.args.to)
-    c.normal_through-normal.result c.normal_through-normal.ensures.exact c.args.planes.now.items _ c.as_slice.ensures.value c.requires.found c.of-look.result c.without-outlook.result
-    (c.of-look.ensures.ahead c.args.source.now c.args.pass.now c.requires.corners) (c.of-look.ensures.back c.args.source.now c.args.pass.now c.requires.corners) c.without-outlook.ensures.ahead c.without-outlook.ensures.back
+    (c.in_ok-gain_where-in-Ok.ensures.members h).1 (inl (there_flipped c.args.pair.now.source.now c.args.pair.now.pass.now (whole_point c.args.at) (whole_point c.args.from) (whole_point c.args.to)
+    c.normal_through-normal.result c.normal_through-normal.ensures.exact c.args.planes.now.items _ c.as_slice.ensures.value c.requires.found c.args.look.now c.without-outlook.result
+    (c.requires.told.ahead c.normal_through-normal.result c.normal_through-normal.ensures.exact) (c.requires.told.back c.normal_through-normal.result c.normal_through-normal.ensures.exact) c.without-outlook.ensures.ahead c.without-outlook.ensures.back
     refl _ _ _ c.in-Ok.ensures.through (through_lowest_flipped (whole_point c.args.at) (whole_point c.args.from) (whole_point c.args.to) refl _ _ c.in-Ok.ensures.through) c.towards-in-Ok.ensures unset h
-    (subst (λ (g : Plane). PartsAlong c.args.source.now c.args.pass.now g h) c.flipped-turned.ensures parts)))
+    (subst (λ (g : Plane). PartsAlong c.args.pair.now.source.now c.args.pair.now.pass.now g h) c.flipped-turned.ensures parts)))
 
 pub returns-then-is_none : goal.returns-then-is_none
 returns-then-is_none c =
-    gains_nowhere c.args.source.now c.args.pass.now (whole_point c.args.at) (whole_point c.args.from) (whole_point c.args.to)
-    c.normal_through-normal.result c.normal_through-normal.ensures.exact c.args.planes.now.items c.args.planes.now.items refl c.requires.found c.of-look.result c.of-look.result
-    (c.of-look.ensures.ahead c.args.source.now c.args.pass.now c.requires.corners) (c.of-look.ensures.back c.args.source.now c.args.pass.now c.requires.corners) inl inl
+    gains_nowhere c.args.pair.now.source.now c.args.pair.now.pass.now (whole_point c.args.at) (whole_point c.args.from) (whole_point c.args.to)
+    c.normal_through-normal.result c.normal_through-normal.ensures.exact c.args.planes.now.items _ c.as_slice.ensures.value c.requires.found c.args.look.now c.without-outlook.result
+    (c.requires.told.ahead c.normal_through-normal.result c.normal_through-normal.ensures.exact) (c.requires.told.back c.normal_through-normal.result c.normal_through-normal.ensures.exact) c.without-outlook.ensures.ahead c.without-outlook.ensures.back
     (c.is_none.ensures.ahead c.if-is_none.true) (c.is_none.ensures.back c.if-is_none.true)
-
-pub returns-then-is_none-2 : goal.returns-then-is_none-2
-returns-then-is_none-2 c =
-    gains_nowhere c.args.source.now c.args.pass.now (whole_point c.args.at) (whole_point c.args.from) (whole_point c.args.to)
-    c.normal_through-normal.result c.normal_through-normal.ensures.exact c.args.planes.now.items _ c.as_slice.ensures.value c.requires.found c.of-look.result c.without-outlook.result
-    (c.of-look.ensures.ahead c.args.source.now c.args.pass.now c.requires.corners) (c.of-look.ensures.back c.args.source.now c.args.pass.now c.requires.corners) c.without-outlook.ensures.ahead c.without-outlook.ensures.back
-    (c.is_none-2.ensures.ahead c.if-is_none-2.true) (c.is_none-2.ensures.back c.if-is_none-2.true)
 
 pub returns-in-Err : goal.returns-in-Err
 returns-in-Err c =
-    gains_of_fault c.args.source.now c.args.pass.now (whole_point c.args.at) (whole_point c.args.from) (whole_point c.args.to) c.requires.candidate refl refl c.in-Err.field-0
+    gains_of_fault c.args.pair.now.source.now c.args.pair.now.pass.now (whole_point c.args.at) (whole_point c.args.from) (whole_point c.args.to) c.requires.candidate refl refl c.in-Err.field-0
     (λ e. c.in-Err.ensures.no_normal.0 (ap Err e)) (λ e. c.in-Err.ensures.too_fine.0 (ap Err e)) c.args.planes.now.items
 
 pub returns-in_ok-gain_where-in-Ok-2 : goal.returns-in_ok-gain_where-in-Ok-2
 returns-in_ok-gain_where-in-Ok-2 c =
-    gains_through c.args.source.now c.args.pass.now (whole_point c.args.at) (whole_point c.args.from) (whole_point c.args.to) c.requires.candidate _ _ c.in-Ok.ensures.through
+    gains_through c.args.pair.now.source.now c.args.pair.now.pass.now (whole_point c.args.at) (whole_point c.args.from) (whole_point c.args.to) c.requires.candidate _ _ c.in-Ok.ensures.through
     c.args.planes.now.items c.gain_where.new.planes.items c.gain_where-in-Ok.new.planes.items
     c.in_ok-gain_where-in-Ok.ensures
-    (subst (λ (h : Plane). Gains (PartsAlong c.args.source.now c.args.pass.now h) c.gain_where.new.planes.items c.gain_where-in-Ok.new.planes.items) c.flipped-turned.ensures c.in_ok-gain_where-in-Ok-2.ensures)
+    (subst (λ (h : Plane). Gains (PartsAlong c.args.pair.now.source.now c.args.pair.now.pass.now h) c.gain_where.new.planes.items c.gain_where-in-Ok.new.planes.items) c.flipped-turned.ensures c.in_ok-gain_where-in-Ok-2.ensures)
 
 pub gain_where-requires-in-Ok-clause-found : goal.gain_where-requires-in-Ok-clause-found
-gain_where-requires-in-Ok-clause-found c = found_along c.args.source.now c.args.pass.now c.args.planes.now.items c.gain_where.new.planes.items _ (through_lowest (whole_point c.args.at) (whole_point c.args.from) (whole_point c.args.to) refl _ _ c.in-Ok.ensures.through) c.in_ok-gain_where-in-Ok.ensures c.requires.found
+gain_where-requires-in-Ok-clause-found c = found_along c.args.pair.now.source.now c.args.pair.now.pass.now c.args.planes.now.items c.gain_where.new.planes.items _ (through_lowest (whole_point c.args.at) (whole_point c.args.from) (whole_point c.args.to) refl _ _ c.in-Ok.ensures.through) c.in_ok-gain_where-in-Ok.ensures c.requires.found

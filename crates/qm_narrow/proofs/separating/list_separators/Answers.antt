@@ -1,4 +1,4 @@
-use Rattle.std.proofs.Common.{List, sym, subst}
+use Rattle.std.proofs.Common.{List, refl, inl, inr, sym, subst}
 use Rattle.qm_space.specs.Plane.{Plane}
 use Rattle.qm_space.specs.Book.{AreDistinct}
 use Rattle.qm_convex.specs.Winding.{corners}
@@ -26,3 +26,9 @@ pub gain_across-requires-2-clause-found : goal.gain_across-requires-2-clause-fou
 gain_across-requires-2-clause-found c =
     found_still (λ h. IsSeparator c.args.source.now c.args.pass.now h × HasNormalAcross (corners c.args.source.now) (corners c.args.pass.now) h) c.args.source.now _ c.gain_across.new.planes.items
     (λ h is. is.0.touches) (λ h is. is.1.normal.lowest) c.in_ok-gain_across.ensures (none_found c.args.source.now _ c.clear.ensures.items)
+
+pub gain_across-requires-clause-pair : goal.gain_across-requires-clause-pair
+gain_across-requires-clause-pair c = record { both = inl (refl, refl); owner = inl (refl, refl) }
+
+pub gain_across-requires-2-clause-pair : goal.gain_across-requires-2-clause-pair
+gain_across-requires-2-clause-pair c = record { both = inr (refl, refl); owner = inr (refl, refl) }

@@ -15,11 +15,11 @@ returns c =
     let Wide = λ (f : Frame). AreWide world f cone in
     record {
       fresh = record {
-        none = c.new.ensures.items;
+        none = c.new-4.ensures.items;
         first = c.in_ok-next.ensures;
         spares = record {
           next_is = first_frame_wide world c.args.portal c.in_ok-next.next c.in_ok-next.ensures cone (wide ∙ c.leaves.ensures);
-          ended_are = subst (All Wide) (sym c.new-2.ensures.items) (All-nil Wide);
+          ended_are = subst (All Wide) (sym c.new-5.ensures.items) (All-nil Wide);
         };
       };
     }

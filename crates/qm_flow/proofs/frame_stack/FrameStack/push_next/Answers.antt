@@ -8,7 +8,7 @@ returns-clause-frames c = c.in_ok-push.ensures.items ∙ ap (λ (f : Frame). c.a
 
 pub returns-clause-spares : goal.returns-clause-spares
 returns-clause-spares c =
-    let cone = c.args.self.now.scratch.cone in
+    let cone = c.args.self.now.room.scratch.cone in
     let wide = c.in_ok-spare.ensures.wide cone c.requires.spares.next_is.found c.requires.spares.ended_are in
     record {
       next_is = subst (λ (f : Frame). AreWide c.args.world.now f cone) (sym c.replace-next.ensures.after) wide.0;

@@ -1,0 +1,80 @@
+use Rattle.std.proofs.Common.{◌≡◌, ◌<◌, ℕ, List, Option, Bool, length, get_or, ap, sym, ◌∙◌, subst, arith, true, false, refl}
+use Rattle.qm_contacts.specs.NumberedLeaves.{numbered_leaves}
+use Rattle.qm_contacts.specs.Portals.{Portal}
+use Rattle.qm_contacts.specs.World.{World}
+use Rattle.qm_chains.specs.inner.Frame.{Frame}
+use Rattle.qm_chains.specs.inner.Narrowing.{ShowsNothingNew}
+use Rattle.qm_chains.specs.inner.OwnRows.{AreOwnRows, MustHave}
+use Rattle.qm_chains.proofs.PairRows.{none_wanted}
+use Rattle.qm_chains.proofs.TriedPortals.{same_portal, not_in_if_clear}
+use Rattle.qm_flow.specs.inner.FlowPairs.{pairs_of}
+use Rattle.qm_flow.specs.declared.flow_state.Flow.{Flow}
+use Rattle.qm_flow.specs.inner.NewWords.{HaveAllNew}
+use Rattle.qm_flow.proofs.Panes.{passes_there}
+use Rattle.qm_chains.specs.inner.Pairs.{Pairs}
+use Rattle.qm_flow.proofs.cheap_tests.may_lead_on.Goals as goal
+
+pub get-requires : goal.get-requires
+get-requires g c =
+    let within = c.to.ensures.within in
+    let wide = ap (λ (f : Frame). length f.met) c.frame.view_is ∙ c.requires.of_world.wide.met in
+    omega (arith, within, wide)
+
+-- its leaf was met
+
+pub returns-then-get-clause-none : goal.returns-then-get-clause-none
+returns-then-get-clause-none g c is q at leads =
+    let p = c.to.ensures.value in
+    let same = ap (λ (r : Portal). r.to) (same_portal c.args.flow.now.world.now.portals c.args.portal p.0 q p.1 at) in
+    leads.new (sym (c.get.ensures ∙ ap (λ (f : Frame). get_or f.met c.to.result false) c.frame.view_is ∙ ap (λ (n : ℕ). get_or c.args.frame.now.met n false) (p.2 ∙ same)) ∙ c.if-get.true)
+
+pub returns-then-get-clause-on : goal.returns-then-get-clause-on
+returns-then-get-clause-on g c = g.met.S.RowSource.goes_on_itself c.args.source.now
+
+-- it shows nothing new
+
+pub may_show-requires-clause-portal : goal.may_show-requires-clause-portal
+may_show-requires-clause-portal g c =
+    let one = c.requires.of_world.pairs_are.own_are.one_each in
+    let within = c.requires.portal in
+    (omega (arith, one, within))
+
+pub may_show-requires-clause-own : goal.may_show-requires-clause-own
+may_show-requires-clause-own g c =
+    (subst (λ (w : World). AreOwnRows w c.args.flow.now.own) (sym c.requires.of_world.same_world) c.requires.of_world.pairs_are.own_are)
+
+pub may_show-requires-clause-wide : goal.may_show-requires-clause-wide
+may_show-requires-clause-wide g c =
+    ap (λ (f : Frame). length f.mask) c.frame.view_is ∙ c.requires.of_world.wide.mask ∙ ap (λ (w : World). length (numbered_leaves w.tree)) (sym c.requires.of_world.same_world)
+
+pub may_show-requires-clause-words : goal.may_show-requires-clause-words
+may_show-requires-clause-words g c = subst (λ (mask : List Bool). HaveAllNew mask c.args.found.now c.args.words.now) (sym (ap (λ (f : Frame). f.mask) c.frame.view_is)) c.requires.words
+
+pub may_show-requires-clause-found : goal.may_show-requires-clause-found
+may_show-requires-clause-found g c = c.requires.of_world.wide.found ∙ sym (ap (λ (f : Frame). length f.mask) c.frame.view_is ∙ c.requires.of_world.wide.mask)
+
+pub returns-then-not-may_show-clause-none : goal.returns-then-not-may_show-clause-none
+returns-then-not-may_show-clause-none g c is q at leads =
+    let world = c.args.flow.now.world.now in
+    let pairs = (pairs_of c.args.flow.now) in
+    let found = c.args.found.now in
+    let portal = c.args.portal in
+    let nothing = subst (λ (mask : List Bool). ShowsNothingNew (MustHave world pairs.own portal) mask found) (ap (λ (f : Frame). f.mask) c.frame.view_is)
+    ((subst (λ (w : World). ShowsNothingNew (MustHave w c.args.flow.now.own portal) c.frame.inside.mask found) c.requires.of_world.same_world (c.may_show.ensures.none c.if-not-may_show.true))) in
+    none_wanted world found pairs c.requires.of_world.pairs_are portal c.args.frame.now.mask nothing leads.leaf leads.in_mask (record { portal = q; portal_is = at; wanted = leads.wanted })
+
+-- the state does not let it pass, or does
+
+pub returns-clause-none : goal.returns-clause-none
+returns-clause-none g c is q at leads =
+    let world = c.args.flow.now.world.now in
+    let here = passes_there world.portals c.args.portal c.pane.result.now.winding c.pane.result.now.into c.pane.ensures c.frame.inside.state c.args.frame.now.state (ap (λ (f : Frame). f.state) c.frame.view_is) q at leads.passed in
+    let never : false ≡ true = sym is ∙ c.may_pass.ensures.1 here in
+    absurd (let e : false ≡ true = never in cc)
+
+pub returns-clause-new : goal.returns-clause-new
+returns-clause-new g c is q at met =
+    let p = c.to.ensures.value in
+    let same = ap (λ (r : Portal). r.to) (same_portal c.args.flow.now.world.now.portals c.args.portal p.0 q p.1 at) in
+    not_in_if_clear c.args.frame.now.met q.to
+    (sym (c.get.ensures ∙ ap (λ (f : Frame). get_or f.met c.to.result false) c.frame.view_is ∙ ap (λ (n : ℕ). get_or c.args.frame.now.met n false) (p.2 ∙ same)) ∙ c.if-get.false) met

@@ -1,0 +1,65 @@
+//! Whether a portal may lead on at the end of a chain.
+
+ghost use Rattle.std.specs.Prelude.{◌≡◌, ◌<◌, true, false, length, IfOk};
+ghost use Rattle.qm_lists.specs.WorkList.{IsIn};
+ghost use Rattle.qm_contacts.specs.Portals.{Portal};
+ghost use Rattle.qm_chains.specs.Shown.{IsAt};
+ghost use Rattle.qm_chains.specs.inner.Cone.{LeadsOn};
+ghost use Rattle.qm_flow.specs.inner.FlowPairs.{pairs_of};
+ghost use Rattle.qm_flow.specs.inner.NewWords.{HaveAllNew};
+ghost use Rattle.qm_flow.specs.inner.OfWorld.{AreOfWorld};
+
+use crate::flow_state::Flow;
+use crate::frame::Frame;
+use crate::masks::{list_new, may_show};
+use qm_bits::BitRow;
+use qm_narrow::may_pass;
+use qm_sight::RowSource;
+use std::alloc::AllocError;
+
+/// Whether a portal passes the cheap tests of a try at a frame: it may lead on. The words are listed in which the mask has a leaf
+/// that was not found.
+pub(crate) fn passes_cheap_tests<'a, S: RowSource>(
+    flow: &Flow<'a>,
+    source: &mut S,
+    frame: &Frame<'a>,
+    portal: u64,
+    found: &BitRow,
+    words: &mut Vec<u64>,
+) -> Result<bool, AllocError>
+    requires portal { portal < length flow.now.world.now.portals }
+    requires of_world { AreOfWorld flow.now.world.now (S.world source.old) (pairs_of flow.now) frame.now found.now }
+    ensures new { IfOk result (λ may. may ≡ true → (q : Portal) → IsAt flow.now.world.now.portals portal q → IsIn frame.now.met q.to → ⊥) }
+    ensures none { IfOk result (λ may. may ≡ false → (q : Portal) → IsAt flow.now.world.now.portals portal q → LeadsOn flow.now.world.now flow.now.first frame.now found.now q → ⊥) }
+    ensures on { S.goes_on source.old source.new }
+{
+    list_new(&frame.mask, found, words)?;
+    let may = may_lead_on(flow, source, frame, portal, found, words);
+    Ok(may)
+}
+
+/// Whether a portal may lead on: it enters a leaf in which the chain was not, it may show a leaf of the mask that was not
+/// found, and the state lets it pass.
+pub(crate) fn may_lead_on<'a, S: RowSource>(
+    flow: &Flow<'a>,
+    source: &mut S,
+    frame: &Frame<'a>,
+    portal: u64,
+    found: &BitRow,
+    words: &[u64],
+) -> bool
+    requires portal { portal < length flow.now.world.now.portals }
+    requires of_world { AreOfWorld flow.now.world.now (S.world source.old) (pairs_of flow.now) frame.now found.now }
+    requires words { HaveAllNew frame.now.mask found.now words.now }
+    ensures new { result ≡ true → (q : Portal) → IsAt flow.now.world.now.portals portal q → IsIn frame.now.met q.to → ⊥ }
+    ensures none { result ≡ false → (q : Portal) → IsAt flow.now.world.now.portals portal q → LeadsOn flow.now.world.now flow.now.first frame.now found.now q → ⊥ }
+    ensures on { S.goes_on source.old source.new }
+{
+    if frame.met.get(flow.world.to(portal)) {
+        return false;
+    }
+    if !may_show(&flow.own, source, portal, &frame.mask, found, words) {
+        return false;
+    }
+    may_pass(&frame.state, flow.world.pane(portal))
+}

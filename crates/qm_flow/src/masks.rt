@@ -1,0 +1,90 @@
+//! Rows of a flow, word by word.
+
+ghost use Rattle.std.specs.Prelude.{◌≡◌, ◌⊎◌, ◌<◌, true, false, length, slice_set, OnOk};
+ghost use Rattle.qm_lists.specs.WorkList.{IsIn};
+ghost use Rattle.qm_contacts.specs.NumberedLeaves.{numbered_leaves};
+ghost use Rattle.qm_chains.specs.inner.Narrowing.{IsNarrowed, ShowsNothingNew};
+ghost use Rattle.qm_chains.specs.inner.OwnRows.{AreOwnRows, MustHave, CanHave};
+ghost use Rattle.qm_sight.specs.WordInSight.{ceiling_of};
+ghost use Rattle.qm_flow.specs.inner.NewWords.{HaveAllNew};
+
+use crate::own_rows::OwnRows;
+use qm_bits::BitRow;
+use qm_sight::RowSource;
+use std::alloc::AllocError;
+
+/// Narrows a mask by the row of a portal. Where the mask has no leaf, nothing is read.
+pub(crate) fn narrow<S: RowSource>(own: &OwnRows, source: &mut S, portal: u64, mask: &mut BitRow)
+    requires portal { portal < length own.now }
+    requires own { AreOwnRows (S.world source.old) own.now }
+    requires wide { length mask.old ≡ length (numbered_leaves (S.world source.old).tree) }
+    ensures narrowed { IsNarrowed (MustHave (S.world source.old) own.now portal) (CanHave (ceiling_of (S.ceilings source.old) portal) own.now portal) mask.old mask.new }
+    ensures on { S.goes_on source.old source.new }
+{
+    for k in 0..mask.len().div_ceil(64) {
+        if mask.word(k) != 0 {
+            let word = own.word(source, portal, k);
+            mask.and_word(k, word);
+        }
+    }
+}
+
+/// Lists the words in which a mask has a leaf that was not found.
+pub(crate) fn list_new(
+    mask: &BitRow,
+    found: &BitRow,
+    words: &mut Vec<u64>,
+) -> Result<(), AllocError>
+    requires { length found.now ≡ length mask.now }
+    ensures { OnOk result (HaveAllNew mask.now found.now words.new.items) }
+{
+    words.clear();
+    for k in 0..mask.len().div_ceil(64) {
+        if mask.word(k) & !found.word(k) != 0 {
+            words.push(k)?;
+        }
+    }
+    Ok(())
+}
+
+/// Whether a portal may show a leaf that the mask has, and that was not found. All words that have such a leaf are listed. Of a
+/// barred portal no word is read.
+pub(crate) fn may_show<S: RowSource>(
+    own: &OwnRows,
+    source: &mut S,
+    portal: u64,
+    mask: &BitRow,
+    found: &BitRow,
+    words: &[u64],
+) -> bool
+    requires portal { portal < length own.now }
+    requires own { AreOwnRows (S.world source.old) own.now }
+    requires wide { length mask.now ≡ length (numbered_leaves (S.world source.old).tree) }
+    requires found { length found.now ≡ length mask.now }
+    requires words { HaveAllNew mask.now found.now words.now }
+    ensures none { result ≡ false → ShowsNothingNew (MustHave (S.world source.old) own.now portal) mask.now found.now }
+    ensures on { S.goes_on source.old source.new }
+{
+    if own.is_barred(portal) {
+        return false;
+    }
+    for k in words {
+        let left = mask.word(*k) & !found.word(*k);
+        let word = own.word(source, portal, *k);
+        if word & left != 0 {
+            return true;
+        }
+    }
+    false
+}
+
+/// Sets a place of a row where the mask has it.
+pub(crate) fn find(row: &mut BitRow, mask: &BitRow, place: u64)
+    requires row { place < length row.old }
+    requires mask { place < length mask.now }
+    ensures { (IsIn mask.now place × (row.new ≡ slice_set row.old place true)) ⊎ ((IsIn mask.now place → ⊥) × (row.new ≡ row.old)) }
+{
+    if mask.get(place) {
+        row.set(place);
+    }
+}
