@@ -42,7 +42,7 @@ impl<'a> Recorded<'a> {
 }
 
 impl<'a> RowSource for Recorded<'a> {
-    ghost use Rattle.qm_board.specs.inner.BoardSource.{world_on, ceilings_on, GoesOnWithMore, itself, in_turn, one_world, none_wider};
+    ghost use Rattle.qm_board.specs.BoardSource.{world_on, ceilings_on, GoesOnWithMore, board_goes_on_itself, board_goes_on_in_turn, one_board_world, none_wider};
 
     ghost world = { λ s. world_on s.rows };
 
@@ -56,11 +56,11 @@ impl<'a> RowSource for Recorded<'a> {
         word
     }
 
-    ghost goes_on_itself = { λ s. itself s.rows };
+    ghost goes_on_itself = { λ s. board_goes_on_itself s.rows };
 
-    ghost goes_on_in_turn = { λ a b c. in_turn a.rows b.rows c.rows };
+    ghost goes_on_in_turn = { λ a b c. board_goes_on_in_turn a.rows b.rows c.rows };
 
-    ghost same_world = { λ a b. one_world a.rows b.rows };
+    ghost same_world = { λ a b. one_board_world a.rows b.rows };
 
     ghost narrower = { λ a b. none_wider a.rows b.rows };
 }

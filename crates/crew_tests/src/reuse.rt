@@ -9,6 +9,7 @@ use qm_base::base;
 use qm_bits::BitRow;
 use qm_board::{BoardRows, Pass, RowBoard};
 use qm_flow::flow;
+use qm_lines::LineStore;
 use qm_portal::World;
 use qm_sight::Rows;
 use std::alloc::{AllocError, Global};
@@ -29,7 +30,7 @@ fn publish(
     ensures pass { IsPassOf board.now pass.new }
 {
     let mut rows = Rows::over(world, base(alloc, world)?);
-    let row = flow(alloc, world, &mut rows, portal)?;
+    let row = flow(alloc, world, &mut rows, portal, &mut LineStore::new(alloc))?;
     board.publish(pass, portal, &row);
     Ok(row)
 }
@@ -75,7 +76,7 @@ fn is_answered_published(alloc: Global, world: &World, portal: u64) -> Result<bo
     let (mut first, second) = board.split(pass);
     let published = publish_all(alloc, world, &board, &mut first)?;
     let mut rows = Recorded::over(alloc, BoardRows::over(&board, second));
-    flow(alloc, world, &mut rows, portal)?;
+    flow(alloc, world, &mut rows, portal, &mut LineStore::new(alloc))?;
     let Some(answers) = rows.into_answers() else {
         return Err(AllocError);
     };

@@ -19,10 +19,12 @@ use Rattle.qm_shared_rows.specs.Sound.{IsSoundBoard}
 use Rattle.atomic_table.specs.Table.{State}
 use Rattle.qm_board.specs.WorldSets.{IsInBoundAt, width_of, sets_of}
 use Rattle.qm_board.specs.Closed.{AreClosedRows}
-use Rattle.qm_board.specs.inner.BoardRule.{shared_in, holds_over}
+use Rattle.qm_board.specs.Reached.{AreReachedRows}
+use Rattle.qm_board.specs.BoardRule.{shared_in, holds_over}
 use Rattle.qm_board.specs.inner.RowsOfWords.{AreRowsOfWords}
 use Rattle.qm_board.specs.declared.view.View.{View}
 use Rattle.qm_board.proofs.Views.{found_at}
+use Rattle.qm_board.proofs.Played.{sound_of}
 use Rattle.qm_board.specs.inner.WithinCeilings.{is_in_ceiling}
 
 zip_all : {X Y : Type 0} (R : X → Y → Type 0) (xs : List X) (ys : List Y) (d : Y) → length ys ≡ length xs → ((i : ℕ) (x : X) → slice_get xs i ≡ Some x → R x (get_or ys i d)) → AllZip R xs ys
@@ -102,11 +104,25 @@ module _ (world : World) (s : State (Unit {0}) View) (words : List ℕ) (words_a
     }
 
 -- the same, of the sizes that a board keeps
-pub closed_of_sizes : (world : World) (words : List ℕ) (portals width leaves : ℕ) (rows : List (List Bool)) → portals ≡ length world.portals → width ≡ width_of world → leaves ≡ length (numbered_leaves world.tree) →
-    AreRowsOfWords words portals width leaves portals rows → (s : State (Unit {0}) View) → holds_over world s → s.words ≡ words → (id : ℕ) (view : View) → get_elem? s.views id ≡ some view → AreClosedRows world view.findings rows
-unfolding holds_over
-closed_of_sizes world words portals width leaves rows portals_are width_is leaves_are read s holds words_are id view view_is =
-    let read_so = subst (λ (p : ℕ). AreRowsOfWords words p (width_of world) (length (numbered_leaves world.tree)) p rows) portals_are
-    (subst (λ (w : ℕ). AreRowsOfWords words portals w (length (numbered_leaves world.tree)) portals rows) width_is
-    (subst (λ (l : ℕ). AreRowsOfWords words portals width l portals rows) leaves_are read)) in
-    closed_rows world s words words_are rows read_so holds id view view_is
+module _ (world : World) (words : List ℕ) (portals width leaves : ℕ) (rows : List (List Bool)) (portals_are : portals ≡ length world.portals) (width_is : width ≡ width_of world)
+    (leaves_are : leaves ≡ length (numbered_leaves world.tree)) (read : AreRowsOfWords words portals width leaves portals rows)
+    (given : List ℕ) (s : State (Unit {0}) View) (holds : holds_over world given s) (words_are : s.words ≡ words) (id : ℕ) (view : View) (view_is : get_elem? s.views id ≡ some view) where
+  read_so : AreRowsOfWords words (length world.portals) (width_of world) (length (numbered_leaves world.tree)) (length world.portals) rows
+  read_so =
+      subst (λ (p : ℕ). AreRowsOfWords words p (width_of world) (length (numbered_leaves world.tree)) p rows) portals_are
+      (subst (λ (w : ℕ). AreRowsOfWords words portals w (length (numbered_leaves world.tree)) portals rows) width_is
+      (subst (λ (l : ℕ). AreRowsOfWords words portals width l portals rows) leaves_are read))
+
+  pub closed_of_sizes : AreClosedRows world view.findings rows
+  unfolding holds_over
+  closed_of_sizes = closed_rows world s words words_are rows read_so (sound_of world given (shared_in s) holds) id view view_is
+
+  pub reached_of_sizes : AreReachedRows world given view.findings rows
+  unfolding holds_over
+  reached_of_sizes = record {
+    state = shared_in s;
+    comes = holds.comes;
+    id = id;
+    pass_is = found_at s.views id view view_is;
+    rows_are = bit_at world s words words_are rows read_so (sound_of world given (shared_in s) holds);
+  }

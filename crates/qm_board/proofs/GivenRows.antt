@@ -15,12 +15,13 @@ use Rattle.qm_sight.specs.RowsOfWorld.{AreRowsOfWorld}
 use Rattle.qm_sight.specs.WordInSight.{LieWithin}
 use Rattle.qm_sight.proofs.RowsRead.{row_there, row_wide, row_sound}
 use Rattle.qm_shared_rows.specs.Opening.{given_word, opening_words, first_pass, AreGivenRows}
-use Rattle.qm_shared_rows.specs.Sound.{IsSoundBoard}
+use Rattle.qm_shared_rows.specs.Runs.{no_step}
 use Rattle.qm_shared_rows.proofs.WordPlaces.{row_within}
-use Rattle.qm_shared_rows.proofs.OpeningLaws.{opening_sound, given_is_ceiling}
+use Rattle.qm_shared_rows.proofs.OpeningLaws.{given_is_ceiling}
 use Rattle.qm_board.specs.WorldSets.{width_of, sets_of}
 use Rattle.qm_board.specs.inner.WordsOfRows.{HasPushedRow, AreFirstRows}
-use Rattle.qm_board.specs.inner.BoardRule.{first_view, holds_over}
+use Rattle.qm_board.specs.Reached.{IsReachedState}
+use Rattle.qm_board.specs.BoardRule.{given_in, first_view, holds_over}
 use Rattle.qm_board.specs.Ceilings.{ceiling_rows}
 use Rattle.qm_board.proofs.PublishedRows.{word_has_all}
 use Rattle.qm_board.specs.inner.WithinCeilings.{ceiling_portal, ceiling_leaf, ceiling_bit}
@@ -135,20 +136,26 @@ module _ (world : World) (rows : List (List Bool)) (are : AreRowsOfWorld world r
         ap (drop (1 + length world.portals)) first.words_are ∙ ap (λ (n : ℕ). drop n (opening_words (length world.portals) first.given)) (sym zeros) ∙
         drop-append_seam (replicate (1 + length world.portals) 0) first.given
 
-    pub new_board_holds : holds_over world (opening words [] (first_view world words))
+    pub new_board_holds : holds_over world (given_in world words) (opening words [] (first_view world words))
     unfolding holds_over
     new_board_holds =
-        let sound = opening_sound (sets_of world) first.given given_rows in
-        let same_given : IsSoundBoard (sets_of world) (record { words = opening_words (length world.portals) first.given; passes = first_pass (length world.portals) (width_of world) (drop (1 + length world.portals) words) ∷ [] }) =
-        subst (λ (given : List ℕ). IsSoundBoard (sets_of world) (record { words = opening_words (length world.portals) first.given; passes = first_pass (length world.portals) (width_of world) given ∷ [] })) (sym given_is) sound in
-        subst (λ (all : List ℕ). IsSoundBoard (sets_of world) (record { words = all; passes = first_pass (length world.portals) (width_of world) (drop (1 + length world.portals) words) ∷ [] })) (sym first.words_are) same_given
+        let given = given_in world words in
+        let all : opening_words (length world.portals) given ≡ words = ap (opening_words (length world.portals)) given_is ∙ sym first.words_are in
+        record {
+          may_be_shared = subst (AreGivenRows (sets_of world)) (sym given_is) given_rows;
+          comes = subst (λ (now : List ℕ). IsReachedState world given (record { words = now; passes = first_pass (length world.portals) (width_of world) given ∷ [] })) all no_step;
+        }
 
     -- whatever they are kept as
-    pub new_board_holds_so : (other : World) (all told : List ℕ) → other ≡ world → all ≡ words → told ≡ words → holds_over other (opening all [] (first_view other told))
+    pub new_board_holds_so : (other : World) (all told : List ℕ) → other ≡ world → all ≡ words → told ≡ words → holds_over other (given_in other told) (opening all [] (first_view other told))
     new_board_holds_so other all told same_world same_all same_told =
-        subst (λ (w : World). holds_over w (opening all [] (first_view w told))) (sym same_world)
-        (subst (λ (a : List ℕ). holds_over world (opening a [] (first_view world told))) (sym same_all)
-        (subst (λ (t : List ℕ). holds_over world (opening words [] (first_view world t))) (sym same_told) new_board_holds))
+        subst (λ (w : World). holds_over w (given_in w told) (opening all [] (first_view w told))) (sym same_world)
+        (subst (λ (a : List ℕ). holds_over world (given_in world told) (opening a [] (first_view world told))) (sym same_all)
+        (subst (λ (t : List ℕ). holds_over world (given_in world t) (opening words [] (first_view world t))) (sym same_told) new_board_holds))
+
+    -- the words of the rows given, whatever world and words are kept as
+    pub given_told : (other : World) (told : List ℕ) → other ≡ world → told ≡ words → given_in other told ≡ first.given
+    given_told other told same_world same_told = ap (λ (w : World). given_in w told) same_world ∙ ap (λ (t : List ℕ). given_in world t) same_told ∙ given_is
 
     -- the ceilings of the first pass lie within the rows
     pub first_within : LieWithin (ceiling_rows world (first_pass (length world.portals) (width_of world) first.given)) rows

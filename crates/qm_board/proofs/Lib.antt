@@ -2,6 +2,7 @@ pub mod Places
 pub mod PublishedRows
 pub mod Views
 pub mod CeilingLaws
+pub mod Played
 pub mod StepRules
 pub mod GivenRows
 pub mod ReadRows

@@ -5,7 +5,7 @@ use Rattle.qm_contacts.specs.World.{World}
 use Rattle.qm_shared_rows.specs.SharedRows.{row_place}
 use Rattle.qm_board.specs.WorldSets.{width_of, sets_of}
 use Rattle.qm_board.specs.inner.Sizes.{IsSized}
-use Rattle.qm_board.specs.inner.Tellings.{IsAtRow}
+use Rattle.qm_board.specs.Tellings.{IsAtRow}
 
 pub word_within : (world : World) (k : ℕ) → 64 * k < length (numbered_leaves world.tree) → k < width_of world
 word_within world k within = omega (arith, within)

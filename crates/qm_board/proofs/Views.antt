@@ -1,9 +1,9 @@
 -- Views of passes, and what they have found.
-use Rattle.std.proofs.Common.{◌≡◌, ℕ, zero, suc, List, [], ◌∷◌, ◌++◌, set, Some, slice_get, refl, sym, ap}
+use Rattle.std.proofs.Common.{◌≡◌, ℕ, zero, suc, List, [], ◌∷◌, ◌++◌, set, Some, None, slice_get, refl, sym, ap}
 use mathlib.Core.Option.{some, some-injective, some-ne-none}
 use lib.ListN.{get_elem?}
 use Rattle.qm_shared_rows.specs.Findings.{Findings}
-use Rattle.qm_board.specs.inner.BoardRule.{all_found}
+use Rattle.qm_board.specs.BoardRule.{all_found}
 use Rattle.qm_board.specs.declared.view.View.{View}
 
 -- the view of a pass has what the pass has found
@@ -20,3 +20,9 @@ found_set (first ∷ views) (suc id) view = ap (λ (l : List Findings). first.fi
 pub found_push : (views : List View) (view : View) → all_found (views ++ view ∷ []) ≡ all_found views ++ view.findings ∷ []
 found_push [] view = refl
 found_push (first ∷ views) view = ap (λ (l : List Findings). first.findings ∷ l) (found_push views view)
+
+-- what a pass has found stands where it was put
+pub found_there : (passes : List Findings) (id : ℕ) (old new : Findings) → slice_get passes id ≡ Some old → slice_get (set passes id new) id ≡ Some new
+found_there [] id old new is = absurd (let none : None ≡ Some old = is in cc)
+found_there (first ∷ passes) zero old new is = refl
+found_there (first ∷ passes) (suc id) old new is = found_there passes id old new is

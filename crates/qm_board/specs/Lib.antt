@@ -1,4 +1,5 @@
 pub mod WorldSets
+pub mod Reached
 pub mod PassOf
 pub mod ReadWords
 pub mod Published
@@ -6,4 +7,7 @@ pub mod Ceilings
 pub mod GoesOn
 pub mod Opened
 pub mod Closed
+pub mod BoardRule
+pub mod Tellings
+pub mod BoardSource
 pub mod inner

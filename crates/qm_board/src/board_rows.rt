@@ -36,7 +36,7 @@ impl<'a> BoardRows<'a> {
 }
 
 impl<'a> RowSource for BoardRows<'a> {
-    ghost use Rattle.qm_board.specs.inner.BoardSource.{world_on, ceilings_on, GoesOnWithMore, itself, in_turn, one_world, none_wider};
+    ghost use Rattle.qm_board.specs.BoardSource.{world_on, ceilings_on, GoesOnWithMore, board_goes_on_itself, board_goes_on_in_turn, one_board_world, none_wider};
 
     ghost world = { world_on };
 
@@ -48,11 +48,11 @@ impl<'a> RowSource for BoardRows<'a> {
         self.board.word(&mut self.pass, portal, k)
     }
 
-    ghost goes_on_itself = { itself };
+    ghost goes_on_itself = { board_goes_on_itself };
 
-    ghost goes_on_in_turn = { in_turn };
+    ghost goes_on_in_turn = { board_goes_on_in_turn };
 
-    ghost same_world = { one_world };
+    ghost same_world = { one_board_world };
 
     ghost narrower = { none_wider };
 }

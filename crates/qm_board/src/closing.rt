@@ -13,14 +13,17 @@ use qm_lists::Items;
 use std::alloc::{AllocError, Global};
 
 impl RowBoard {
-    ghost use Rattle.qm_board.specs.PassOf.{world_of, findings_of, IsPassOf};
+    ghost use Rattle.qm_board.specs.PassOf.{world_of, given_of, findings_of, IsPassOf};
     ghost use Rattle.qm_board.specs.Closed.{AreClosedRows};
+    ghost use Rattle.qm_board.specs.Reached.{AreReachedRows};
 
     /// The rows, of which each has all leaves in sight of its portal, lies within each ceiling of it that the pass has found,
-    /// and within its bound where the pass knows that it is finished. After want of memory board and pass are gone.
+    /// and within its bound where the pass knows that it is finished. They are those of a state that comes from the rows given
+    /// to `new` by a list of steps. After want of memory board and pass are gone.
     pub fn close(self, alloc: Global, pass: Pass) -> Result<Items<BitRow>, AllocError>
         requires { IsPassOf self pass }
-        ensures { IfOk result (λ rows. AreClosedRows (world_of self) (findings_of pass) rows) }
+        ensures rows { IfOk result (λ rows. AreClosedRows (world_of self) (findings_of pass) rows) }
+        ensures reached { IfOk result (λ rows. AreReachedRows (world_of self) (given_of self) (findings_of pass) rows) }
     {
         let RowBoard {
             table,

@@ -1,6 +1,6 @@
 //! What each step on a word tells its pass.
 
-ghost use Rattle.qm_board.specs.inner.Tellings.{row_word_loaded, done_word_loaded, row_word_cut, marked_done, number_drawn, left_view, right_view, both_views, spent_view};
+ghost use Rattle.qm_board.specs.Tellings.{row_word_loaded, done_word_loaded, row_word_cut, marked_done, number_drawn, left_view, right_view, both_views, spent_view};
 
 use crate::view::View;
 use atomic_table::{Join, Play, Split};

@@ -15,11 +15,13 @@ use crate::row_board::RowBoard;
 use qm_bits::BitRow;
 
 impl RowBoard {
-    ghost use Rattle.qm_board.specs.PassOf.{world_of, findings_of, IsPassOf};
+    ghost use Rattle.qm_board.specs.PassOf.{world_of, given_of, findings_of, IsPassOf};
+    ghost use Rattle.qm_board.specs.Reached.{IsReachedMark};
     ghost use Rattle.qm_shared_rows.specs.Findings.{ceiling, with_ceiling, with_known};
 
     /// Publishes the row of a portal: each word of the board's row loses what the row has not, in order, and then the portal is
-    /// marked as finished. It takes no memory.
+    /// marked as finished. The mark is one of a state that comes from the rows given to `new` by a list of steps. It takes no
+    /// memory.
     pub fn publish(&self, pass: &mut Pass, portal: u64, row: &BitRow)
         requires pass { IsPassOf self.now pass.old }
         requires portal_in_range { portal < length (world_of self.now).portals }
@@ -28,6 +30,7 @@ impl RowBoard {
         requires bound { (n : ℕ) → IsIn row.now n → IsInBoundAt (world_of self.now) portal n }
         ensures pass { IsPassOf self.now pass.new }
         ensures published { IsPublished (world_of self.now) portal row.now (findings_of pass.old) (findings_of pass.new) }
+        ensures reached { IsReachedMark (world_of self.now) (given_of self.now) portal (findings_of pass.new) }
     {
         self.narrow_row(pass, portal, row);
         self.finish(pass, portal);
@@ -70,6 +73,7 @@ impl RowBoard {
         requires bound { (k : ℕ) → k < width_of (world_of self.now) → KnowsBound (sets_of (world_of self.now)) (findings_of pass.old) portal k }
         ensures pass { IsPassOf self.now pass.new }
         ensures finished { findings_of pass.new ≡ with_known portal (findings_of pass.old) }
+        ensures reached { IsReachedMark (world_of self.now) (given_of self.now) portal (findings_of pass.new) }
     {
         let place = (1 + portal) as usize;
         self.table

@@ -15,7 +15,7 @@ use Rattle.qm_board.specs.WorldSets.{IsInBoundAt}
 use Rattle.qm_board.specs.declared.board_rows.BoardRows.{BoardRows}
 use Rattle.qm_board.specs.declared.pass.Pass.{Pass}
 use Rattle.qm_board.specs.declared.row_board.RowBoard.{RowBoard}
-use Rattle.qm_board.specs.inner.BoardSource.{GoesOnWithMore, ceilings_on}
+use Rattle.qm_board.specs.BoardSource.{GoesOnWithMore, ceilings_on}
 use Rattle.qm_board.specs.inner.WithinCeilings.{more_narrows}
 use Rattle.qm_board.proofs.CeilingLaws.{published_more, published_row}
 use Rattle.qm_crew.specs.inner.TurnsTaken.{IsNarrower, HadTurn, LieAlong}

@@ -8,6 +8,7 @@ ghost use Rattle.qm_crew.specs.inner.TurnsTaken.{LieAlong};
 
 use crate::settling::{Settling, append_turn};
 use qm_board::{Pass, RowBoard};
+use qm_lines::LineStore;
 use qm_portal::World;
 use std::alloc::{AllocError, Global};
 
@@ -27,6 +28,7 @@ pub(crate) fn work_alone(
     let mut settling = Settling {
         pass,
         first: Vec::new(alloc),
+        lines: LineStore::new(alloc),
     };
     for portal in 0..world.portals() {
         settling = append_turn(alloc, world, board, settling, portal)?;

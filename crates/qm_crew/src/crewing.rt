@@ -17,6 +17,7 @@ use crate::settling::{Settling, settle};
 use crate::team::{Team, work_all};
 use qm_bits::BitRow;
 use qm_board::{Pass, RowBoard};
+use qm_lines::LineStore;
 use qm_lists::Items;
 use qm_portal::World;
 use std::alloc::{AllocError, Global};
@@ -99,7 +100,7 @@ fn work_by_one(
     ensures pass { IfOk result (λ all. IsPassOver world.now board.now all.pass) }
     ensures finished { IfOk result (λ all. AreFinished world.now (findings_of all.pass) 1 all.turns) }
 {
-    let Settling { pass, first } = work_alone(alloc, world, board, pass)?;
+    let Settling { pass, first, .. } = work_alone(alloc, world, board, pass)?;
     let turns = turns_of(alloc, first, Vec::new(alloc))?;
     Ok(Finished { pass, turns })
 }
@@ -125,8 +126,12 @@ fn work_by_several<R: Threads + Sync, G: Gate + Sync>(
         first,
         others,
     } = work_all(rt, alloc, world, board, gate, pass, workers)?;
-    let begun = Settling { pass, first };
-    let Settling { pass, first } = settle(alloc, world, board, begun, others.as_slice())?;
+    let begun = Settling {
+        pass,
+        first,
+        lines: LineStore::new(alloc),
+    };
+    let Settling { pass, first, .. } = settle(alloc, world, board, begun, others.as_slice())?;
     let turns = turns_of(alloc, first, others)?;
     Ok(Finished { pass, turns })
 }

@@ -10,6 +10,7 @@ use crate::gate::OpenGate;
 use crate::turn::take_turn;
 use qm_bits::BitRow;
 use qm_board::{Pass, RowBoard};
+use qm_lines::LineStore;
 use qm_lists::Items;
 use qm_portal::World;
 use std::alloc::{AllocError, Global};
@@ -19,6 +20,7 @@ use std::alloc::{AllocError, Global};
 pub(crate) struct Settling {
     pub(crate) pass: Pass,
     pub(crate) first: Vec<u64>,
+    pub(crate) lines: LineStore,
 }
 
 /// Takes the turn of a portal, and appends it to the first list.
@@ -35,11 +37,15 @@ pub(crate) fn append_turn(
     ensures turn { IfOk result (λ ended. HadTurn world.now portal (findings_of settling.pass) (findings_of ended.pass)) }
     ensures appended { IfOk result (λ ended. ended.first.items ≡ settling.first.items ++ portal ∷ []) }
 {
-    let Settling { pass, mut first } = settling;
-    let (pass, taken) = take_turn(alloc, world, board, &OpenGate, pass, portal);
+    let Settling {
+        pass,
+        mut first,
+        mut lines,
+    } = settling;
+    let (pass, taken) = take_turn(alloc, world, board, &OpenGate, pass, &mut lines, portal);
     taken?;
     first.push(portal)?;
-    Ok(Settling { pass, first })
+    Ok(Settling { pass, first, lines })
 }
 
 /// Looks for each portal that is not done, or stands in no list. It takes the turns of these in order, and appends each to the
@@ -102,10 +108,14 @@ fn settle_one(
     ensures settled { IfOk result (λ ended. AreSettled world.now (findings_of ended.pass) ended.first.items others.now (portal + 1)) }
     ensures gained { IfOk result (λ ended. (number : ℕ) → IsInSomeList (settling.first.items ∷ others.now) number → IsInSomeList (ended.first.items ∷ others.now) number) }
 {
-    let Settling { mut pass, first } = settling;
+    let Settling {
+        mut pass,
+        first,
+        lines,
+    } = settling;
     let stands = listed.get(portal);
     let done = board.is_done(&mut pass, portal);
-    let settling = Settling { pass, first };
+    let settling = Settling { pass, first, lines };
     if done && stands {
         return Ok(settling);
     }

@@ -17,6 +17,7 @@ use crate::gated::GatedRows;
 use qm_bits::BitRow;
 use qm_board::{BoardRows, Pass, RowBoard};
 use qm_flow::flow;
+use qm_lines::LineStore;
 use qm_portal::World;
 use std::alloc::{AllocError, Global};
 
@@ -27,6 +28,7 @@ pub(crate) fn take_turn<G: Gate>(
     board: &RowBoard,
     gate: &G,
     pass: Pass,
+    lines: &mut LineStore,
     portal: u64,
 ) -> (Pass, Result<(), AllocError>)
     requires pass { IsPassOver world.now board.now pass }
@@ -35,7 +37,7 @@ pub(crate) fn take_turn<G: Gate>(
     ensures narrower { IsNarrower world.now (findings_of pass) (findings_of result.0) }
     ensures turn { OnOk result.1 (HadTurn world.now portal (findings_of pass) (findings_of result.0)) }
 {
-    let (mut pass, row) = flow_on(alloc, world, board, gate, pass, portal);
+    let (mut pass, row) = flow_on(alloc, world, board, gate, pass, lines, portal);
     match row {
         Ok(row) => {
             board.publish(&mut pass, portal, &row);
@@ -52,6 +54,7 @@ fn flow_on<G: Gate>(
     board: &RowBoard,
     gate: &G,
     pass: Pass,
+    lines: &mut LineStore,
     portal: u64,
 ) -> (Pass, Result<BitRow, AllocError>)
     requires pass { IsPassOver world.now board.now pass }
@@ -63,6 +66,6 @@ fn flow_on<G: Gate>(
     ensures open_chains { IfOk result.1 (λ row. (n : ℕ) → IsIn row n → IsShown world.now.portals (IsInCeiling (ceiling_rows world.now (findings_of pass)) n) portal n) }
 {
     let mut rows = GatedRows::over(BoardRows::over(board, pass), gate, portal);
-    let row = flow(alloc, world, &mut rows, portal);
+    let row = flow(alloc, world, &mut rows, portal, lines);
     (rows.into_rows().into_pass(), row)
 }

@@ -8,6 +8,7 @@ ghost use Rattle.qm_crew.specs.inner.TurnsTaken.{LieAlong, IsWorkBelow, IsWorkLi
 use crate::gate::Gate;
 use crate::turn::take_turn;
 use qm_board::{Pass, RowBoard};
+use qm_lines::LineStore;
 use qm_portal::World;
 use std::alloc::Global;
 
@@ -17,6 +18,7 @@ pub(crate) struct Worker {
     pub(crate) pass: Pass,
     pub(crate) list: Vec<u64>,
     pub(crate) next: u64,
+    pub(crate) lines: LineStore,
 }
 
 /// Draws numbers and takes the turns of these portals, until there is a number of no portal, or one that is not above the
@@ -37,6 +39,7 @@ pub(crate) fn work<G: Gate>(
         pass,
         list: Vec::new(alloc),
         next: 0,
+        lines: LineStore::new(alloc),
     };
     for _k in 0..world.portals() {
         let (stepped, on) = step(alloc, world, board, gate, worker);
@@ -65,22 +68,55 @@ fn step<G: Gate>(
         mut pass,
         mut list,
         next,
+        mut lines,
     } = worker;
     if list.reserve(1).is_err() {
-        return (Worker { pass, list, next }, false);
+        return (
+            Worker {
+                pass,
+                list,
+                next,
+                lines,
+            },
+            false,
+        );
     }
     let portal = board.draw(&mut pass);
     if portal >= world.portals() || portal < next {
-        return (Worker { pass, list, next }, false);
+        return (
+            Worker {
+                pass,
+                list,
+                next,
+                lines,
+            },
+            false,
+        );
     }
     gate.at(portal);
-    let (pass, taken) = take_turn(alloc, world, board, gate, pass, portal);
+    let (pass, taken) = take_turn(alloc, world, board, gate, pass, &mut lines, portal);
     match taken {
-        Err(_) => (Worker { pass, list, next }, false),
+        Err(_) => (
+            Worker {
+                pass,
+                list,
+                next,
+                lines,
+            },
+            false,
+        ),
         Ok(()) => {
             list.push_reserved(portal);
             let next = portal + 1;
-            (Worker { pass, list, next }, true)
+            (
+                Worker {
+                    pass,
+                    list,
+                    next,
+                    lines,
+                },
+                true,
+            )
         }
     }
 }

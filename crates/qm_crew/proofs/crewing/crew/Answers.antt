@@ -24,7 +24,7 @@ returns g c =
     let rows = c.in_ok-rows.rows in
     let turns = c.in_ok-pass.field-0.turns in
     let finished = c.in_ok-pass.ensures.finished in
-    let closed = subst (λ (w : World). AreClosedRows w found rows) opened.same_world c.in_ok-rows.ensures in
+    let closed = subst (λ (w : World). AreClosedRows w found rows) opened.same_world c.in_ok-rows.ensures.rows in
     record {
       one_each = closed_long world found rows closed;
       wide = closed.are_rows.wide;

@@ -1,7 +1,7 @@
 use Rattle.std.proofs.Common.{refl}
 use Rattle.qm_board.specs.PassOf.{findings_of}
 use Rattle.qm_shared_rows.specs.Findings.{ceiling}
-use Rattle.qm_board.specs.inner.BoardSource.{world_on}
+use Rattle.qm_board.specs.BoardSource.{world_on}
 use Rattle.qm_board.proofs.CeilingLaws.{read_within, more_with_ceiling}
 use Rattle.qm_board.proofs.board_rows.BoardRowsRowSource.word.Goals as goal
 

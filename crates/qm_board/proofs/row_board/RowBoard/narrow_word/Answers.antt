@@ -1,5 +1,5 @@
 use Rattle.std.proofs.Common.{◌∙◌, arith}
-use Rattle.qm_board.specs.PassOf.{world_of}
+use Rattle.qm_board.specs.PassOf.{world_of, given_of}
 use Rattle.qm_board.proofs.StepRules.{cut_allowed}
 use Rattle.qm_board.proofs.Places.{at_row, is_at_row}
 use Rattle.qm_board.proofs.row_board.RowBoard.narrow_word.Goals as goal
@@ -15,7 +15,7 @@ fetch_and-requires c =
     let world = world_of c.args.self.now in (
       c.requires.pass.same_table,
       c.row_place-place.ensures.within,
-      cut_allowed world _ _ _ c.requires.pass.same_world c.args.portal c.args.k c.requires.portal_in_range c.requires.word_in_range c.args.mask c.row_place-place.result
+      cut_allowed world (given_of c.args.self.now) _ _ _ c.requires.pass.same_world c.requires.pass.same_given c.args.portal c.args.k c.requires.portal_in_range c.requires.word_in_range c.args.mask c.row_place-place.result
           (at_row world _ _ _ _ c.args.self.now.sized c.args.portal c.args.k _ c.row_place-place.ensures.value) c.requires.sound,
     )
 
@@ -27,6 +27,7 @@ returns-clause-pass c =
     record {
       same_table = c.fetch_and.ensures.0 ∙ c.requires.pass.same_table;
       same_world = told.same_world ∙ c.requires.pass.same_world;
+      same_given = told.same_given ∙ c.requires.pass.same_given;
       no_slots = told.same_slots ∙ c.requires.pass.no_slots;
     }
 

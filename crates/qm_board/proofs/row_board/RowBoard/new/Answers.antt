@@ -2,9 +2,10 @@ use Rattle.std.proofs.Common.{◌∙◌, ℕ, List, Bool, subst, sym, ap, length
 use Rattle.std.specs.Int.{div_ceil}
 use Rattle.qm_sight.specs.WordInSight.{LieWithin}
 use Rattle.qm_shared_rows.specs.Findings.{Findings}
+use Rattle.qm_board.specs.BoardRule.{given_in}
 use Rattle.qm_board.specs.Ceilings.{ceiling_rows}
 use Rattle.qm_board.specs.inner.WordsOfRows.{AreFirstRows}
-use Rattle.qm_board.proofs.GivenRows.{rows_counted, same_sizes, new_board_holds_so, first_within, first_found}
+use Rattle.qm_board.proofs.GivenRows.{rows_counted, same_sizes, new_board_holds_so, given_told, first_within, first_found}
 use Rattle.qm_board.proofs.row_board.RowBoard.new.Goals as goal
 
 pub flatten-requires-clause-one_each : goal.flatten-requires-clause-one_each
@@ -35,9 +36,11 @@ returns c =
       pass_is = record {
         same_table = made.2;
         same_world = ap (λ m. m.0.world) me ∙ sym (ap (λ k. Some k.0.value) key);
+        same_given = ap (λ m. m.0.given) me ∙ sym (ap (λ k. given_in k.0.value k.1.value.items) key);
         no_slots = ap (λ m. m.1) me;
       };
       given = first.given;
+      given_is = ap (λ k. given_in k.0.value k.1.value.items) key ∙ given_told world c.args.rows c.requires words first c.of.result.value c.of-2.result.value.items c.of.ensures (ap (λ v. v.items) c.of-2.ensures);
       found = found;
       within = subst (λ (f : Findings). LieWithin (ceiling_rows world f) c.args.rows) (sym found) (first_within world c.args.rows c.requires words first);
       are_words = first.are_words;

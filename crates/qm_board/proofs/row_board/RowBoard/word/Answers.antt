@@ -1,5 +1,6 @@
-use Rattle.std.proofs.Common.{◌∙◌, arith}
-use Rattle.qm_board.specs.PassOf.{world_of}
+use Rattle.std.proofs.Common.{◌∙◌, ℕ, List, subst, arith}
+use Rattle.qm_board.specs.PassOf.{world_of, given_of}
+use Rattle.qm_board.specs.Reached.{IsReachedWord}
 use Rattle.qm_board.proofs.StepRules.{load_allowed}
 use Rattle.qm_board.proofs.Places.{word_within, at_row, is_at_row}
 use Rattle.qm_board.proofs.row_board.RowBoard.word.Goals as goal
@@ -15,7 +16,7 @@ load-requires c =
     let world = world_of c.args.self.now in (
       c.requires.pass.same_table,
       c.row_place-place.ensures.within,
-      load_allowed world _ _ _ c.requires.pass.same_world c.args.portal c.args.k c.requires.portal_in_range (word_within world c.args.k c.requires.word_in_range) c.row_place-place.result
+      load_allowed world (given_of c.args.self.now) _ _ _ c.requires.pass.same_world c.requires.pass.same_given c.args.portal c.args.k c.requires.portal_in_range (word_within world c.args.k c.requires.word_in_range) c.row_place-place.result
           (at_row world _ _ _ _ c.args.self.now.sized c.args.portal c.args.k _ c.row_place-place.ensures.value),
     )
 
@@ -27,6 +28,7 @@ returns-clause-pass c =
     record {
       same_table = c.load.ensures.0 ∙ c.requires.pass.same_table;
       same_world = told.0.same_world ∙ c.requires.pass.same_world;
+      same_given = told.0.same_given ∙ c.requires.pass.same_given;
       no_slots = told.0.same_slots ∙ c.requires.pass.no_slots;
     }
 
@@ -41,3 +43,10 @@ returns-clause-read c =
     let world = world_of c.args.self.now in
     (c.load.ensures.2 world c.args.portal c.args.k c.requires.pass.same_world
     (is_at_row world _ _ _ _ c.args.self.now.sized c.args.portal c.args.k _ c.requires.portal_in_range (word_within world c.args.k c.requires.word_in_range) c.row_place-place.ensures.value)).1
+
+pub returns-clause-reached : goal.returns-clause-reached
+returns-clause-reached c =
+    let world = world_of c.args.self.now in
+    subst (λ (given : List ℕ). IsReachedWord world given c.args.portal c.args.k c.load.result) c.requires.pass.same_given
+    (c.load.ensures.2 world c.args.portal c.args.k c.requires.pass.same_world
+    (is_at_row world _ _ _ _ c.args.self.now.sized c.args.portal c.args.k _ c.requires.portal_in_range (word_within world c.args.k c.requires.word_in_range) c.row_place-place.ensures.value)).2
