@@ -4,7 +4,8 @@ use Rattle.std.specs.List.{flat_map}
 use Rattle.qm_partition.specs.Counting.{leaves_of}
 use Rattle.qm_partition.specs.Numbering.{nodes_of}
 use Rattle.qm_formats.specs.Layout.{bytes_of_each}
-use Rattle.qm_formats.specs.Runs.{runs_of, in_runs}
+use Rattle.qm_lists.specs.Spelling.{runs_of}
+use Rattle.qm_formats.specs.Runs.{in_runs}
 use Rattle.qm_formats.specs.RowBits.{packed, row_bits}
 use Rattle.qm_formats.specs.FileParts.{plane_layout, node_layout, leaf_layout}
 use Rattle.qm_formats.specs.TreeFile.{Section, TreeFile}

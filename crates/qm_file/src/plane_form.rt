@@ -46,7 +46,7 @@ fn leads_positive(nx: i32, ny: i32, nz: i32) -> bool
 }
 
 /// The greatest number that divides all four.
-#[tactic(auto, unfolding(qm_space::specs::ThreePoints::common_factor))]
+#[tactic(auto, unfolding(qm_space::specs::ThreePoints::common_factor, qm_space::specs::ThreePoints::factor_of, qm_numbers::proofs::Divisors::divisor_of_four))]
 fn common_factor(nx: i32, ny: i32, nz: i32, d: i64) -> u64
     ensures { result ≡ common_factor (plane_of nx ny nz d) }
 {

@@ -3,7 +3,7 @@
 ghost use Rattle.std.specs.Prelude.{◌≡◌, ◌++◌, ℕ, List, Bool, OnOk};
 ghost use Rattle.std.specs.List.{flat_map};
 ghost use Rattle.qm_formats.specs.RowBits.{packed};
-ghost use Rattle.qm_formats.specs.Runs.{runs_of};
+ghost use Rattle.qm_lists.specs.Spelling.{runs_of};
 ghost use Rattle.qm_file.specs.inner.RowsBytes.{rows_bytes};
 
 use qm_bits::BitRow;

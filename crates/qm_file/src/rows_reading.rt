@@ -3,7 +3,8 @@
 ghost use Rattle.std.specs.Prelude.{◌≡◌, ◌<◌, ◌≤◌, ◌+◌, ◌*◌, ℕ, true, List, Result, length, take, drop, replicate, IfOk};
 ghost use Rattle.std.specs.Int.{w64, to_le_bytes};
 ghost use Rattle.qm_formats.specs.Layout.{each, present};
-ghost use Rattle.qm_formats.specs.Runs.{RunFaultKind, in_runs, row_answer};
+ghost use Rattle.qm_lists.specs.Spelling.{RunFaultKind};
+ghost use Rattle.qm_formats.specs.Runs.{in_runs, row_answer};
 ghost use Rattle.qm_formats.specs.RowBits.{row_width, unpacked, is_clear_past, row_bits};
 ghost use Rattle.qm_formats.specs.FileParts.{short, row_form};
 ghost use Rattle.qm_formats.specs.FileLayout.{own_row_layout, rows_layout};

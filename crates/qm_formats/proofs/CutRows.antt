@@ -3,12 +3,15 @@ use Rattle.std.proofs.Common.{◌≡◌, ◌≤◌, ◌⊎◌, ℕ, zero, suc, �
 use Rattle.std.proofs.lemmas.Bool.{le-ltb}
 use Rattle.std.proofs.lemmas.List.{length-drop, drop-append-le}
 use Rattle.qm_formats.specs.Layout.{got}
-use Rattle.qm_formats.specs.Runs.{RunFaultKind, short, overrun, read_behind, read_due, read_runs, row_answer, in_runs}
+use Rattle.qm_lists.specs.Spelling.{RunFaultKind, short, overrun}
+use Rattle.qm_lists.specs.inner.ReadRuns.{read_behind, read_due}
+use Rattle.qm_lists.proofs.FirstFaults.{row_or_fault}
+use Rattle.qm_formats.specs.Runs.{row_read, read_runs, row_answer, in_runs}
 use Rattle.qm_formats.specs.RowBits.{row_width, row_bits}
 use Rattle.qm_formats.specs.FileParts.{row_form}
 use Rattle.qm_formats.specs.FileParts as parts
 use Rattle.qm_formats.specs.FileLayout.{own_row_layout}
-use Rattle.qm_formats.proofs.ReadRows.{read_behind_ok, not_overrun}
+use Rattle.qm_lists.proofs.ReadRuns.{read_behind_ok, not_overrun}
 use Rattle.qm_formats.proofs.ExactRows.{row_answer_got}
 use Rattle.qm_formats.proofs.Cuttable.{IsCuttable, seen_as_cuttable, tested_cuttable}
 
@@ -50,7 +53,7 @@ cut_due (suc due) false (zero ∷ suc count ∷ bytes) rest v is =
     cut_behind run 2 bytes v read.0 (others bytes) (zero ∷ suc count ∷ bytes) (cut_due (due - count) (ltb (suc count) 255) bytes rest read.0 read.1) same (omega arith))
 
 cut_runs : (width : ℕ) (bytes rest : List ℕ) (v : List ℕ × ℕ) → read_runs width (bytes ++ rest) ≡ Ok v → IsRowOrShort bytes v (read_runs width bytes)
-unfolding read_runs
+unfolding read_runs row_read row_or_fault
 cut_runs width bytes rest v is = cut_due width false bytes rest v is
 
 module _ {F : Type 0} (end form : F) where

@@ -18,12 +18,12 @@ use Rattle.qm_formats.specs.Fields.{are_bytes, raw, unsigned, fixed_before, unwr
 use Rattle.qm_formats.specs.Exact.{IsExact}
 use Rattle.qm_formats.specs.FileParts.{short, magic, counts, node_order, header_form, section_form, plane_layout, node_layout, leaf_layout}
 use Rattle.qm_formats.specs.TreeFile.{Section, small_bound}
-use Rattle.qm_formats.specs.FileLayout.{Header, is_version, magic_layout, count_layout, flag_layout, is_bound, bound_layout, section_count_layout, file_header_layout, are_numbered, are_ordered, own_row_layout, planes_layout, nodes_layout, leaves_layout, rows_layout, tree_layout, section_head_layout, section_layout, sections_layout, header_of, file_layout}
+use Rattle.qm_formats.specs.FileLayout.{Header, is_version, magic_layout, count_layout, flag_layout, is_bound, bound_layout, section_count_layout, file_header_layout, numbered_answer, are_numbered, are_ordered, own_row_layout, planes_layout, nodes_layout, leaves_layout, rows_layout, tree_layout, section_head_layout, section_layout, sections_layout, header_of, file_layout}
 use Rattle.qm_formats.proofs.ExactParts.{seen_as_exact, recast_exact, tested_exact, followed_by_exact, choice_exact, part_exact, last_part_exact, IsAny, exact_of_parts, each_exact, each_after_exact, present_exact}
 use Rattle.qm_formats.proofs.ExactFields.{raw_exact, byte_exact, unsigned_32_exact, unsigned_64_exact, fixed_before_exact, unwritten_exact}
 use Rattle.qm_formats.proofs.ExactRecords.{plane_exact, node_exact, leaf_exact, flag_number, number_flag}
 use Rattle.qm_formats.proofs.ExactRows.{own_row_exact}
-use Rattle.qm_formats.proofs.NumberedNodes.{numbered-partition}
+use Rattle.qm_partition.proofs.NumberedNodes.{numbered-partition, numbered_or_not}
 
 -- ---- the header
 
@@ -216,6 +216,7 @@ pub record AreCounted (header : Header) (planes : List Plane) (nodes : List Node
   pub numbered_count : count_by is_numbered leaves ≡ header.numbered
 
 pub counted_parts : (header : Header) (planes : List Plane) (nodes : List NodeRecord) (leaves : List LeafRecord) → CanStand header planes nodes leaves → AreCounted header planes nodes leaves
+unfolding are_numbered numbered_answer numbered_or_not
 counted_parts header planes nodes leaves can =
     let are = right_parts header planes nodes leaves can in
     let node_count = right_each_length (λ _. node_layout) 0 header.nodes nodes are.of_nodes in

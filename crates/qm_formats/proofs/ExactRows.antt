@@ -5,12 +5,13 @@ use Rattle.std.proofs.lemmas.List.{length-drop, get_or-drop}
 use Rattle.qm_formats.specs.Fields.{AreBytes, are_bytes}
 use Rattle.qm_formats.specs.Layout.{got}
 use Rattle.qm_formats.specs.Exact.{StandsAt, IsRightAt, IsExact}
-use Rattle.qm_formats.specs.Runs.{SpellsRow, RunFaultKind, short, zero_count, split_run, overrun, read_runs, runs_of, row_answer, in_runs}
+use Rattle.qm_lists.specs.Spelling.{SpellsRow, RunFaultKind, short, zero_count, split_run, overrun, runs_of}
+use Rattle.qm_formats.specs.Runs.{read_runs, row_answer, in_runs}
 use Rattle.qm_formats.specs.RowBits.{row_width, packed, unpacked, is_clear_past, row_bits}
 use Rattle.qm_formats.specs.FileParts.{row_form}
 use Rattle.qm_formats.specs.FileParts as parts
 use Rattle.qm_formats.specs.FileLayout.{own_row_layout}
-use Rattle.qm_formats.proofs.Spellings.{spells_runs_of, runs_of-spelt}
+use Rattle.qm_lists.proofs.Spellings.{spells_runs_of, runs_of-spelt}
 use Rattle.qm_formats.proofs.ReadRows.{read_runs_found, read_runs_again}
 use Rattle.qm_formats.proofs.ExactParts.{seen_as_exact, tested_exact}
 use Rattle.qm_formats.proofs.ExactFields.{are_bytes-from, bytes-are, bytes_of_part, part_stands}

@@ -5,13 +5,16 @@ use Rattle.qm_partition.specs.Partition.{leaf}
 use Rattle.qm_partition.specs.Tree.{Tree}
 use Rattle.qm_formats.specs.Layout.{got, bad}
 use Rattle.qm_formats.specs.Fields.{raw, unsigned, signed, fixed_before, unwritten}
-use Rattle.qm_formats.specs.Runs.{runs_of, read_runs, in_runs}
+use Rattle.qm_lists.specs.Spelling.{runs_of}
+use Rattle.qm_lists.proofs.FirstFaults.{row_or_fault}
+use Rattle.qm_formats.specs.Runs.{row_read, read_runs, in_runs}
 use Rattle.qm_formats.specs.RowBits.{packed, unpacked, is_clear_past, row_bits}
 use Rattle.qm_formats.specs.FileParts.{section_form, is_leaf, leaf_layout}
 use Rattle.qm_formats.specs.TreeFile.{Section, TreeFile, IsValidFile, large_bound}
 use Rattle.qm_formats.specs.Upgraded.{upgraded}
 use Rattle.qm_formats.specs.FirstVersion.{first_version, first_version_header, first_version_bytes}
-use Rattle.qm_formats.specs.FileLayout.{magic_layout, bound_layout, section_count_layout, file_header_layout, are_numbered, are_ordered, own_row_layout, planes_layout, nodes_layout, leaves_layout, rows_layout, tree_layout, section_head_layout, section_layout, sections_layout, file_layout, file_bytes, read_file}
+use Rattle.qm_partition.proofs.NumberedNodes.{numbered_or_not, pass_as_numbered}
+use Rattle.qm_formats.specs.FileLayout.{magic_layout, bound_layout, section_count_layout, file_header_layout, are_numbered, numbered_answer, are_ordered, own_row_layout, planes_layout, nodes_layout, leaves_layout, rows_layout, tree_layout, section_head_layout, section_layout, sections_layout, file_layout, file_bytes, read_file}
 use Rattle.qm_formats.proofs.ValidFiles.{right_valid}
 
 abbrev tree : Tree
@@ -36,7 +39,7 @@ unfolding first_version_bytes first_version_header rows_layout own_row_layout ro
 first_bytes = refl
 
 first_valid : IsValidFile (first_version tree rows)
-unfolding file_layout file_header_layout magic_layout bound_layout section_count_layout unwritten unsigned signed raw tree_layout planes_layout nodes_layout leaves_layout leaf_layout is_leaf are_ordered are_numbered rows_layout own_row_layout row_bits sections_layout
+unfolding file_layout file_header_layout magic_layout bound_layout section_count_layout unwritten unsigned signed raw tree_layout planes_layout nodes_layout leaves_layout leaf_layout is_leaf are_ordered are_numbered numbered_answer numbered_or_not pass_as_numbered rows_layout own_row_layout row_bits sections_layout
 first_valid = right_valid (first_version tree rows) refl
 
 -- ---- version 2
@@ -55,7 +58,7 @@ seventh = 7 ∷ replicate 11 0
 
 -- of two sections of one kind, the second is wrong
 two_of_a_kind : read_file (codes "QMTREE02" ++ counts ++ bound_and_sections 2 ++ leaf_and_row ++ seventh ++ seventh) ≡ bad section_form 67
-unfolding read_file file_layout file_header_layout magic_layout fixed_before bound_layout section_count_layout unwritten unsigned signed raw tree_layout planes_layout nodes_layout leaves_layout leaf_layout is_leaf are_ordered are_numbered rows_layout own_row_layout row_bits in_runs read_runs packed unpacked is_clear_past sections_layout section_layout section_head_layout
+unfolding read_file file_layout file_header_layout magic_layout fixed_before bound_layout section_count_layout unwritten unsigned signed raw tree_layout planes_layout nodes_layout leaves_layout leaf_layout is_leaf are_ordered are_numbered numbered_answer numbered_or_not pass_as_numbered rows_layout own_row_layout row_bits in_runs read_runs row_read row_or_fault packed unpacked is_clear_past sections_layout section_layout section_head_layout
 two_of_a_kind = refl
 
 -- ---- the larger cube, and three sections
@@ -67,7 +70,7 @@ abbrev with_sections : TreeFile
 with_sections = record { version = 2; bound = large_bound; tree = tree; rows = rows; sections = three_sections }
 
 sections_valid : IsValidFile with_sections
-unfolding file_layout file_header_layout magic_layout bound_layout section_count_layout unwritten unsigned signed raw tree_layout planes_layout nodes_layout leaves_layout leaf_layout is_leaf are_ordered are_numbered rows_layout own_row_layout row_bits sections_layout section_layout section_head_layout
+unfolding file_layout file_header_layout magic_layout bound_layout section_count_layout unwritten unsigned signed raw tree_layout planes_layout nodes_layout leaves_layout leaf_layout is_leaf are_ordered are_numbered numbered_answer numbered_or_not pass_as_numbered rows_layout own_row_layout row_bits sections_layout section_layout section_head_layout
 sections_valid = right_valid with_sections refl
 
 -- what stands behind the row: of each section its kind, how many bytes it has, and these
@@ -78,5 +81,5 @@ section_parts =
     ++ (255 ∷ 255 ∷ 255 ∷ 255 ∷ 2 ∷ replicate 7 0 ++ 0 ∷ 255 ∷ [])
 
 sections_read : read_file (codes "QMTREE02" ++ counts ++ (0 ∷ 128 ∷ 0 ∷ 0 ∷ 3 ∷ 0 ∷ 0 ∷ 0 ∷ []) ++ leaf_and_row ++ section_parts) ≡ got with_sections 94
-unfolding read_file file_layout file_header_layout magic_layout fixed_before bound_layout section_count_layout unwritten unsigned signed raw tree_layout planes_layout nodes_layout leaves_layout leaf_layout is_leaf are_ordered are_numbered rows_layout own_row_layout row_bits in_runs read_runs packed unpacked is_clear_past sections_layout section_layout section_head_layout
+unfolding read_file file_layout file_header_layout magic_layout fixed_before bound_layout section_count_layout unwritten unsigned signed raw tree_layout planes_layout nodes_layout leaves_layout leaf_layout is_leaf are_ordered are_numbered numbered_answer numbered_or_not pass_as_numbered rows_layout own_row_layout row_bits in_runs read_runs row_read row_or_fault packed unpacked is_clear_past sections_layout section_layout section_head_layout
 sections_read = refl

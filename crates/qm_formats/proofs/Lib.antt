@@ -1,7 +1,5 @@
-pub mod Spellings
 pub mod ReadRows
 pub mod ReadParts
-pub mod FirstFaults
 pub mod Standing
 pub mod ExactParts
 pub mod ReadToEnd
@@ -9,7 +7,6 @@ pub mod ReadLists
 pub mod ExactFields
 pub mod PackedRows
 pub mod ExactRows
-pub mod NumberedNodes
 pub mod ExactRecords
 pub mod ExactFile
 pub mod RightParts

@@ -22,8 +22,7 @@ use Rattle.qm_formats.specs.Layout.{Layout, bytes_of_each, right_option, many, e
 use Rattle.qm_formats.specs.Fields.{unsigned, signed, raw}
 use Rattle.qm_formats.specs.FileParts.{plane_layout, node_layout, leaf_layout}
 use Rattle.qm_formats.specs.TreeFile.{TreeFile, AreRows, IsValidFile}
-use Rattle.qm_formats.specs.FileLayout.{Header, is_version, magic_layout, bound_layout, section_count_layout, file_header_layout, are_numbered, are_ordered, own_row_layout, planes_layout, nodes_layout, leaves_layout, rows_layout, tree_layout, sections_layout, header_of, file_layout, file_bytes}
-use Rattle.qm_formats.proofs.NumberedNodes.{numbered-test}
+use Rattle.qm_formats.specs.FileLayout.{Header, is_version, magic_layout, bound_layout, section_count_layout, file_header_layout, numbered_answer, are_numbered, are_ordered, own_row_layout, planes_layout, nodes_layout, leaves_layout, rows_layout, tree_layout, sections_layout, header_of, file_layout, file_bytes}
 use Rattle.qm_formats.proofs.RightParts.{right_each_at, right_each_from, reduced_plane, right_plane, plane_right, node_right, leaf_right, right_leaf, row_right, right_row}
 use Rattle.qm_formats.proofs.RightSections.{IsRightVersion, version_of_right, right_of_version, few_sections, right_sections, sections_right}
 use Rattle.qm_formats.proofs.ChildNumbers.{children_below}
@@ -179,7 +178,7 @@ header_right header version planes nodes leaves numbered =
     (and_from of_bound of_sections version.of_bound version.of_sections))))))
 
 pub valid_right : (file : TreeFile) → IsValidFile file → length (file_bytes file) < 2 ^ 62 → file_layout.right file ≡ true
-unfolding file_layout tree_layout planes_layout nodes_layout leaves_layout rows_layout sections_layout are_ordered
+unfolding file_layout tree_layout planes_layout nodes_layout leaves_layout rows_layout sections_layout are_ordered are_numbered
 valid_right file valid small =
     let header = header_of file in
     let shape = file.tree.shape in
@@ -208,7 +207,7 @@ valid_right file valid small =
     (right_each_from (λ _. node_layout) 0 header.nodes nodes refl (λ i d within. node_right (get_or nodes i d) (omega (arith, parts.named i d within, parts.few)) (below i d within)))
     (and_from (list_all (λ here. ltb here.plane header.planes) nodes) (are_numbered nodes)
     (list_all-from (λ here. ltb here.plane header.planes) nodes (λ i d within. lt-ltb (get_or nodes i d).plane header.planes (parts.named i d within)))
-    (numbered-test nodes leaves shape numbered)))
+    (((numbered_answer nodes).1 leaves (omega (arith, count, more))).1 (shape, numbered))))
     (and_from ((many leaf_layout header.leaves).right leaves) (eqb (count_by is_numbered leaves) header.numbered)
     (right_each_from (λ _. leaf_layout) 0 header.leaves leaves refl (λ i d within. leaf_right (get_or leaves i d) (parts.solid i d within)))
     (eq-eqb (count_by is_numbered leaves) header.numbered refl))))

@@ -1,16 +1,16 @@
-use Rattle.std.specs.Prelude.{◌^◌, ℕ, ◌+◌, ◌-◌, Bool, true, false, ◌&&◌, ◌||◌, ◌==◌, nat_lt, nat_le, List, [], ◌∷◌, length, replicate, slice_index_or, Option, is_some, codes, count_by, if◌then◌else◌}
+use Rattle.std.specs.Prelude.{◌≡◌, ◌↔◌, IsTrue, ◌^◌, ℕ, ◌+◌, ◌-◌, Bool, true, false, ◌&&◌, ◌||◌, ◌==◌, nat_lt, nat_le, List, [], ◌∷◌, length, replicate, slice_index_or, Option, is_some, codes, count_by, if◌then◌else◌}
 use Rattle.std.specs.Int.{w8, w32, w64}
 use Rattle.std.specs.List.{list_all}
 use Rattle.qm_space.specs.Plane.{Plane}
-use Rattle.qm_contents.specs.declared.contents.Contents.TheVariants.{Empty}
 use Rattle.qm_partition.specs.declared.node.Child.{Child}
 use Rattle.qm_partition.specs.declared.node.Child.TheVariants.{Node, Leaf}
 use Rattle.qm_partition.specs.declared.node.Node.{Node as NodeRecord}
 use Rattle.qm_partition.specs.declared.node.Leaf.{Leaf as LeafRecord}
 use Rattle.qm_partition.specs.Tree.{Tree}
 use Rattle.qm_partition.specs.Counting.{leaves_of}
-use Rattle.qm_partition.specs.Numbering.{nodes_of}
-use Rattle.qm_partition.specs.Arrays.{partition_of, tree_of}
+use Rattle.qm_partition.specs.Partition.{Partition}
+use Rattle.qm_partition.specs.Numbering.{nodes_of, AreNumbered}
+use Rattle.qm_partition.proofs.NumberedNodes.{numbered_partition, numbered_or_not}
 use Rattle.qm_contacts.specs.NumberedLeaves.{is_numbered}
 use Rattle.qm_formats.specs.Layout.{Decoded, Layout, seen_as, recast, tested, followed_by, part, last_part, each, many, each_after, choice, present, read_whole_file}
 use Rattle.qm_formats.specs.Fields.{raw, unsigned, fixed_before, unwritten}
@@ -77,26 +77,21 @@ file_header_layout =
     last_part (λ header. header.sections) (section_count_layout version) (λ sections.
     record { version = version; planes = planes; nodes = nodes; leaves = leaves; numbered = numbered; has_rows = has_rows; bound = bound; sections = sections }))))))))
 
-abbrev pub same_child : Child → Child → Bool
-same_child (Node n) (Node m) = n == m
-same_child (Leaf j) (Leaf k) = j == k
-same_child _ _ = false
+-- nodes and leaves are those of one partition at most: where they are of one, this is it; it does not matter how it is found
+abbrev pub shape_of : (nodes : List NodeRecord) (leaves : List LeafRecord) → (shape : Partition) × ((other : Partition) → AreNumbered other nodes leaves → shape ≡ other)
+shape_of nodes leaves = numbered_partition nodes leaves
 
-abbrev pub same_node : NodeRecord → NodeRecord → Bool
-same_node a b = (a.plane == b.plane) && (same_child a.front b.front && same_child a.back b.back)
+-- whether nodes are those of a partition, whatever its leaves are
+abbrev pub TellsIfNumbered : List NodeRecord → Bool → Type 0
+TellsIfNumbered nodes answer = (leaves : List LeafRecord) → length leaves ≡ length nodes + 1 → (IsTrue answer ↔ ((shape : Partition) × AreNumbered shape nodes leaves))
 
-abbrev pub same_nodes : List NodeRecord → List NodeRecord → Bool
-same_nodes [] [] = true
-same_nodes (x ∷ xs) (y ∷ ys) = same_node x y && same_nodes xs ys
-same_nodes _ _ = false
+-- this can always be told, and it does not matter how
+unfoldable pub numbered_answer : (nodes : List NodeRecord) → (answer : Bool) × TellsIfNumbered nodes answer
+numbered_answer nodes = numbered_or_not nodes
 
--- some leaves, one more than nodes
-abbrev pub some_leaves : List NodeRecord → List LeafRecord
-some_leaves nodes = replicate (length nodes + 1) (record { contents = Empty; filled = false })
-
--- nodes are numbered where they are the nodes of the partition that they make, numbered front first
+-- nodes are numbered where they are those of a partition, numbered front first
 unfoldable pub are_numbered : List NodeRecord → Bool
-are_numbered nodes = same_nodes nodes (nodes_of (partition_of nodes (some_leaves nodes)) 0 0)
+are_numbered nodes = (numbered_answer nodes).0
 
 -- nodes that name planes of so many, and are numbered
 unfoldable pub are_ordered : ℕ → List NodeRecord → Bool
@@ -126,7 +121,7 @@ unfoldable pub tree_layout : Header → Layout FileFaultKind Tree
 tree_layout header =
     part (λ tree. tree.planes) (planes_layout header) (λ planes.
     part (λ tree. nodes_of tree.shape 0 0) (nodes_layout header) (λ nodes.
-    last_part (λ tree. leaves_of tree.shape) (leaves_layout header) (λ leaves. tree_of planes nodes leaves)))
+    last_part (λ tree. leaves_of tree.shape) (leaves_layout header) (λ leaves. record { planes = planes; shape = (shape_of nodes leaves).0 })))
 
 -- the kind of a section, in 32 bits, which is above another, and how many bytes it has, in 64, as one record
 unfoldable pub section_head_layout : ℕ → Layout FileFaultKind (ℕ × ℕ)

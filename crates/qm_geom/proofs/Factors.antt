@@ -9,7 +9,7 @@ use Rattle.qm_numbers.proofs.Divisors.{gcd_is, gcd_divides_left, gcd_divides_rig
 use Rattle.qm_space.specs.Plane.{Plane}
 use Rattle.qm_space.specs.Reduced.{HasNormal, HasNormalUpTo}
 use Rattle.qm_space.specs.ThreePoints.{common_factor}
-use Rattle.qm_space.proofs.ReducedPlanes.{common_factor_divides}
+use Rattle.qm_space.proofs.ReducedPlanes.{common_factor_divides, common_factor_gcd}
 
 -- a divisor with a remainder
 pub gcd_by_rest : (a b : ℕ) → gcd (b % a) a ≡ gcd a b
@@ -20,9 +20,8 @@ gcd_by_rest a b =
 
 -- the common factor of four numbers, taken one after another
 pub common_factor_in_turn : (h : Plane) (x y z d two three rest four : ℕ) → two ≡ gcd x y → three ≡ gcd two z → rest ≡ d % three → four ≡ gcd rest three → x ≡ unsigned_abs h.nx → y ≡ unsigned_abs h.ny → z ≡ unsigned_abs h.nz → d ≡ unsigned_abs h.d → four ≡ common_factor h
-unfolding common_factor
 common_factor_in_turn h x y z d two three rest four e f r g x_is y_is z_is d_is =
-    g ∙ ap (λ (n : ℕ). gcd n three) r ∙ gcd_by_rest three d ∙ rw (f, e, x_is, y_is, z_is, d_is) refl
+    g ∙ ap (λ (n : ℕ). gcd n three) r ∙ gcd_by_rest three d ∙ rw (f, e, x_is, y_is, z_is, d_is) refl ∙ sym (common_factor_gcd h)
 
 -- that of the normal is not 0
 pub normal_factor_positive : (h : Plane) (x y z two three : ℕ) → HasNormal h → two ≡ gcd x y → three ≡ gcd two z → x ≡ unsigned_abs h.nx → y ≡ unsigned_abs h.ny → z ≡ unsigned_abs h.nz → 0 < three

@@ -13,6 +13,9 @@ pub mod EachPair
 pub mod Spreads
 pub mod Stacks
 pub mod Taken
+pub mod Spellings
+pub mod ReadRuns
+pub mod FirstFaults
 pub mod SpreadSteps
 pub mod KeptStacks
 pub mod Bits

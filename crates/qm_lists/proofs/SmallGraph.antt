@@ -2,8 +2,8 @@
 use Rattle.std.proofs.Common.{◌≡◌, ℕ, zero, suc, true, false, Bool, List, [], ◌∷◌, ◌⊎◌, inl, inr, ⊎_elim, refl, sym, ◌↔◌, arith}
 use Rattle.std.specs.List.{Contains, IsDistinct}
 use Rattle.qm_lists.specs.Reach.{Reach}
-use Rattle.qm_lists.specs.WorkList.{IsIn, IsFlood, PassesOn}
-use Rattle.qm_lists.proofs.WorkLists.{flood_begins, flood_passes, flood_ends}
+use Rattle.qm_lists.specs.WorkList.{IsIn}
+use Rattle.qm_lists.proofs.WorkLists.{IsFlood, PassesOn, flood_begins, flood_passes, flood_ends}
 
 abbrev begins : ℕ → Type 0
 begins place = place ≡ 0

@@ -1,5 +1,5 @@
 -- A flood by a work list: how it begins, what passing a place keeps, that it ends, and what it has found then.
-use Rattle.std.proofs.Common.{◌≡◌, ℕ, zero, suc, ◌-◌, ◌<◌, ◌≤◌, eqb, Bool, true, false, List, [], ◌∷◌, length, get_or, slice_get, Some, ◌⊎◌, inl, inr, ⊎_elim, sym, ap, ◌∙◌, subst, arith, ◌↔◌}
+use Rattle.std.proofs.Common.{◌≡◌, ℕ, zero, suc, ◌-◌, ◌++◌, ◌<◌, ◌≤◌, eqb, Bool, true, false, List, [], ◌∷◌, length, get_or, slice_get, Some, ◌⊎◌, inl, inr, ⊎_elim, sym, ap, ◌∙◌, subst, arith, ◌↔◌}
 use Rattle.std.specs.List.{Contains, IsDistinct}
 use Rattle.std.proofs.lemmas.Bool.{cases_eq, cases_Bool, eqb-true}
 use Rattle.std.proofs.lemmas.Map.Steps.{length-le_from_distinct_below}
@@ -7,10 +7,34 @@ use Rattle.std.proofs.lemmas.Map.Views.{Contains-from_any}
 use Rattle.std.proofs.lemmas.Option.{slice_get_within, slice_get-get_or}
 use Rattle.std.proofs.lemmas.List.Elements.{Contains-append_left, Contains-append_right, Contains-append_cases}
 use Rattle.qm_lists.specs.Reach.{Reach, start, onward}
-use Rattle.qm_lists.specs.WorkList.{IsIn, IsFlood, PassesOn}
+use Rattle.qm_lists.specs.WorkList.{IsIn}
 use Rattle.qm_lists.proofs.Elements.{Contains-at}
 use Rattle.qm_lists.proofs.Places.{slice_get-append_within}
 use Rattle.qm_lists.proofs.Reached.{least}
+
+-- The places found so far are listed as they come, and none is taken off: the first of them, up to a number, are passed,
+-- which means that what they go to is found.
+
+-- what is found is reached, and what begins, or what a passed place goes to, is found
+pub record IsFlood (begins : ℕ → Type 0) (goes : ℕ → ℕ → Type 0) (row : List Bool) (found : List ℕ) (passed : ℕ) : Type 0 where
+  pub begun : (place : ℕ) → begins place → IsIn row place
+  pub reached : (place : ℕ) → IsIn row place → Reach begins goes place
+  pub closed : (i from to : ℕ) → i < passed → slice_get found i ≡ Some from → goes from to → IsIn row to
+  pub listed : (place : ℕ) → IsIn row place → Contains found place
+  pub only : (place : ℕ) → Contains found place → IsIn row place
+  pub once : IsDistinct eqb found
+
+-- what passing a place does: what it goes to is found, and nothing else is gained
+pub record PassesOn (goes : ℕ → ℕ → Type 0) (from : ℕ) (old_row new_row : List Bool) (old_found new_found : List ℕ) : Type 0 where
+  pub gained : List ℕ
+  pub same_length : length new_row ≡ length old_row
+  pub after_old : new_found ≡ old_found ++ gained
+  pub stays : (place : ℕ) → IsIn old_row place → IsIn new_row place
+  pub found_all : (to : ℕ) → goes from to → IsIn new_row to
+  pub gained_behind : (place : ℕ) → Contains gained place → goes from place
+  pub gained_in : (place : ℕ) → Contains gained place → IsIn new_row place
+  pub gained_only : (place : ℕ) → IsIn new_row place → (IsIn old_row place → ⊥) → Contains gained place
+  pub once : IsDistinct eqb new_found
 
 -- a row with what begins, whose places are listed once, is a flood that has passed nothing
 pub flood_begins : (begins : ℕ → Type 0) (goes : ℕ → ℕ → Type 0) (row : List Bool) (found : List ℕ) → ((place : ℕ) → begins place ↔ IsIn row place) → ((place : ℕ) → IsIn row place ↔ Contains found place) → IsDistinct eqb found → IsFlood begins goes row found 0

@@ -5,4 +5,7 @@ pub mod Union
 pub mod Unseen
 pub mod CutTo
 pub mod Limit
+pub mod Spelling
+pub mod FirstWrong
+pub mod RowRead
 pub mod inner

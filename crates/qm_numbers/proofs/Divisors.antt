@@ -6,6 +6,7 @@ use Rattle.std.proofs.lemmas.Nat.Gcd.{IsGcd-from_mod, IsGcd-swap, same_from_IsGc
 use Rattle.std.proofs.Math.Nat.{mul-div_cancel'}
 use Rattle.std.proofs.Math.IntN.{*ℤ_comm}
 use Rattle.qm_numbers.specs.Gcd.{gcd, gcd_within}
+use Rattle.qm_numbers.specs.GreatestDivisor.{IsGreatestDivisor}
 use Rattle.qm_numbers.specs.FloorDivision.{floor_div}
 use Rattle.qm_numbers.specs.Rounding.{IsRoundedDown}
 use Rattle.qm_numbers.proofs.IntegerProducts.{linear, *ℤ_assoc, +ℤ-*ℤ, one_*ℤ, zero_*ℤ}
@@ -38,6 +39,27 @@ gcd_divides_right a b = (gcd_is a b).1
 
 pub divides_gcd : (a b k : ℕ) → k ∣ a → k ∣ b → k ∣ gcd a b
 divides_gcd a b k p q = (gcd_is a b).2 k p q
+
+-- two numbers have a greatest divisor
+unfoldable pub divisor_of_two : (a b : ℕ) → (g : ℕ) × IsGcd a b g
+divisor_of_two a b = (gcd a b, gcd_is a b)
+
+pub gcd_of_four : (a b c d : ℕ) → IsGreatestDivisor a b c d (gcd (gcd (gcd a b) c) d)
+gcd_of_four a b c d =
+    let f = gcd a b in let g = gcd f c in let k = gcd g d in
+    let kg = gcd_divides_left g d in
+    let kf = dvd_trans k kg (gcd_divides_left f c) in
+    record {
+      first = dvd_trans k kf (gcd_divides_left a b);
+      second = dvd_trans k kf (gcd_divides_right a b);
+      third = dvd_trans k kg (gcd_divides_right f c);
+      fourth = gcd_divides_right g d;
+      greatest = λ n p q r s. divides_gcd g d n (divides_gcd f c n (divides_gcd a b n p q) r) s;
+    }
+
+-- and so have four
+unfoldable pub divisor_of_four : (a b c d : ℕ) → (g : ℕ) × IsGreatestDivisor a b c d g
+divisor_of_four a b c d = (gcd (gcd (gcd a b) c) d, gcd_of_four a b c d)
 
 -- ---- combinations: g is x · a + y · b for some x and y
 

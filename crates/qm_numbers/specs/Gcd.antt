@@ -1,5 +1,7 @@
 use Rattle.std.specs.Prelude.{ℕ, zero, suc, ◌%◌}
 
+-- The greatest common divisor as code finds it.
+
 -- Euclid's remainders, for at most so many turns
 unfoldable pub gcd_within : ℕ → ℕ → ℕ → ℕ
 gcd_within zero a b = a

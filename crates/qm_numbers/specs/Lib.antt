@@ -1,4 +1,5 @@
 pub mod Gcd
+pub mod GreatestDivisor
 pub mod FloorDivision
 pub mod Ratio
 pub mod Rounding

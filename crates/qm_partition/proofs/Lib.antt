@@ -14,6 +14,7 @@ pub mod Sides
 pub mod Forests
 pub mod JoinedWalks
 pub mod OwnArrays
+pub mod NumberedNodes
 pub mod NumberedWalks
 pub mod MadeTrees
 pub mod FoundWays

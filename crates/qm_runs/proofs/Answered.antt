@@ -2,7 +2,8 @@
 use Rattle.std.proofs.Common.{◌≡◌, ◌≤◌, ℕ, List, ◌++◌, length, take, Result, Ok, Err, refl, sym, ap, ◌∙◌}
 use Rattle.std.specs.Prelude.{IfOk, MatchResult}
 use Rattle.qm_formats.specs.Fields.{AreBytes}
-use Rattle.qm_formats.specs.Runs.{SpellsRow, read_runs}
+use Rattle.qm_lists.specs.Spelling.{SpellsRow}
+use Rattle.qm_formats.specs.Runs.{read_runs}
 use Rattle.qm_formats.proofs.ReadRows.{read_runs_again, read_runs_found}
 use Rattle.qm_runs.specs.Answers.{IsRunFault}
 use Rattle.qm_runs.specs.declared.run_fault.RunFault.{RunFault}

@@ -1,6 +1,7 @@
 -- What is read of a row whose bytes begin with some that are not zero.
 use Rattle.std.proofs.Common.{◌≡◌, ◌≢◌, ◌<◌, ◌≤◌, ℕ, zero, suc, ◌-◌, Bool, false, List, [], ◌∷◌, ◌++◌, length, take, drop, get_or, Result, Ok, Err, refl, sym, ap, ◌∙◌, arith}
-use Rattle.qm_formats.specs.Runs.{RunFaultKind, read_behind, read_due}
+use Rattle.qm_lists.specs.Spelling.{RunFaultKind}
+use Rattle.qm_lists.specs.inner.ReadRuns.{read_behind, read_due}
 use Rattle.qm_formats.proofs.ReadParts.{read_behind-nothing}
 
 -- a byte in front of what is read behind others

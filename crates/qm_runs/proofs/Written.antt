@@ -1,7 +1,7 @@
 -- Writing a row part by part.
 use Rattle.std.proofs.Common.{◌≡◌, ℕ, List, [], ◌++◌, refl, sym, ap, ◌∙◌, append_assoc}
 use Rattle.std.proofs.lemmas.List.{append-nil}
-use Rattle.qm_formats.specs.Runs.{runs_of}
+use Rattle.qm_lists.specs.Spelling.{runs_of}
 
 -- what is written stands behind what was there, and the spelling of the rest completes it
 pub record IsWritten (old out row rest : List ℕ) : Type 0 where

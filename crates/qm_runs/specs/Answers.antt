@@ -1,5 +1,5 @@
 use Rattle.std.specs.Prelude.{◌≡◌, ℕ, List, Result, Err}
-use Rattle.qm_formats.specs.Runs.{RunFaultKind, short, zero_count, split_run, overrun}
+use Rattle.qm_lists.specs.Spelling.{RunFaultKind, short, zero_count, split_run, overrun}
 use Rattle.qm_runs.specs.declared.run_fault.RunFault.{RunFault}
 use Rattle.qm_runs.specs.declared.run_fault.RunFault.TheVariants as faults
 

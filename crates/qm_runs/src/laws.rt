@@ -2,8 +2,9 @@
 
 ghost use Rattle.std.specs.Prelude.{◌≡◌, ◌↔◌, List, ℕ, ◌++◌, length, Err};
 ghost use Rattle.qm_formats.specs.Fields.{AreBytes};
-ghost use Rattle.qm_formats.specs.FirstWrong.{IsFaultOf};
-ghost use Rattle.qm_formats.specs.Runs.{RunFaultKind, SpellsRow, runs_of, read_runs};
+ghost use Rattle.qm_lists.specs.FirstWrong.{IsFaultOf};
+ghost use Rattle.qm_lists.specs.Spelling.{RunFaultKind, SpellsRow, runs_of};
+ghost use Rattle.qm_formats.specs.Runs.{read_runs};
 
 /// The bytes that are written for a row are its one spelling.
 pub fn one_spelling()

@@ -1,5 +1,7 @@
 ghost use Rattle.std.specs.Prelude.{◌≡◌, ◌≢◌, ◌<◌, ◌≤◌, ℕ, List, ◌++◌, length, take, slice_index, IfOk, MatchResult, Ok};
-ghost use Rattle.qm_formats.specs.Runs.{SpellsRow, read_due, read_runs};
+ghost use Rattle.qm_lists.specs.Spelling.{SpellsRow};
+ghost use Rattle.qm_lists.specs.inner.ReadRuns.{read_due};
+ghost use Rattle.qm_formats.specs.Runs.{read_runs};
 ghost use Rattle.qm_runs.specs.Answers.{IsRunFault};
 ghost use Rattle.qm_runs.specs.inner.NextPart.{IsNext};
 

@@ -1,5 +1,5 @@
 ghost use Rattle.std.specs.Prelude.{◌≡◌, ◌<◌, ◌≤◌, ◌++◌, ℕ, List, zero, length, drop, replicate, OnOk, OnErr};
-ghost use Rattle.qm_formats.specs.Runs.{BeginsNonzero, SpellsRow, runs_of, longest_run};
+ghost use Rattle.qm_lists.specs.Spelling.{BeginsNonzero, SpellsRow, runs_of, longest_run};
 
 use std::alloc::AllocError;
 

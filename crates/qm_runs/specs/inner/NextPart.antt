@@ -1,5 +1,6 @@
 use Rattle.std.specs.Prelude.{◌≡◌, ◌<◌, ◌≤◌, ℕ, zero, ◌-◌, Bool, false, nat_lt, List, length, take, drop, replicate}
-use Rattle.qm_formats.specs.Runs.{longest_run, read_behind, read_due}
+use Rattle.qm_lists.specs.Spelling.{longest_run}
+use Rattle.qm_lists.specs.inner.ReadRuns.{read_behind, read_due}
 use Rattle.qm_runs.specs.declared.reading.Part.{Part}
 use Rattle.qm_runs.specs.declared.reading.Part.TheVariants.{Bytes, Zeros}
 

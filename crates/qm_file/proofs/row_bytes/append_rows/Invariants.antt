@@ -1,7 +1,7 @@
 use Rattle.std.proofs.Common.{◌≡◌, ◌++◌, List, Bool, take}
 use Rattle.std.specs.List.{flat_map}
 use Rattle.qm_formats.specs.RowBits.{packed}
-use Rattle.qm_formats.specs.Runs.{runs_of}
+use Rattle.qm_lists.specs.Spelling.{runs_of}
 use Rattle.qm_file.proofs.row_bytes.append_rows.Given as goal
 
 -- the first rows are written

@@ -1,5 +1,8 @@
-use Rattle.qm_formats.proofs.FirstFaults as faults
+use Rattle.std.proofs.Common.{subst}
+use Rattle.qm_lists.specs.RowRead.{IsRowRead}
+use Rattle.qm_formats.specs.Runs.{row_read, read_runs}
 use Rattle.qm_runs.proofs.laws.first_fault.Goals as goal
 
 pub returns : goal.returns
-returns c = faults.first_fault
+unfolding read_runs
+returns c = λ width bytes fault are is. subst (IsRowRead width bytes) is ((row_read width bytes).1 are)

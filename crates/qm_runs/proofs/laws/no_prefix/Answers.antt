@@ -1,4 +1,4 @@
-use Rattle.qm_formats.proofs.ReadRows as rows
+use Rattle.qm_lists.proofs.ReadRuns as rows
 use Rattle.qm_runs.proofs.laws.no_prefix.Goals as goal
 
 pub returns : goal.returns

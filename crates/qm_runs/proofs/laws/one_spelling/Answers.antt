@@ -1,6 +1,6 @@
 use Rattle.std.proofs.Common.{List, ℕ, sym, subst}
-use Rattle.qm_formats.specs.Runs.{SpellsRow}
-use Rattle.qm_formats.proofs.Spellings.{runs_of-spelt, spells_runs_of}
+use Rattle.qm_lists.specs.Spelling.{SpellsRow}
+use Rattle.qm_lists.proofs.Spellings.{runs_of-spelt, spells_runs_of}
 use Rattle.qm_runs.proofs.laws.one_spelling.Goals as goal
 
 pub returns : goal.returns

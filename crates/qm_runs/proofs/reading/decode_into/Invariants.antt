@@ -1,5 +1,6 @@
 use Rattle.std.proofs.Common.{◌≡◌, ◌≤◌, ℕ, ◌+◌, ◌-◌, Bool, List, length}
-use Rattle.qm_formats.specs.Runs.{read_behind, read_due, read_runs}
+use Rattle.qm_lists.specs.inner.ReadRuns.{read_behind, read_due}
+use Rattle.qm_formats.specs.Runs.{read_runs}
 use Rattle.qm_runs.proofs.reading.decode_into.Given as goal
 
 -- some of the row is read, and what is read of the rest completes it

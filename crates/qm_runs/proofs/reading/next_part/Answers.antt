@@ -1,6 +1,6 @@
 use Rattle.std.proofs.Common.{◌≡◌, ℕ, zero, ◌-◌, Bool, false, length, get_or, replicate, take, drop, ltb, sym, ap, ◌∙◌, arith}
 use Rattle.std.proofs.lemmas.List.{length-replicate, length-take}
-use Rattle.qm_formats.specs.Runs.{read_behind, read_due}
+use Rattle.qm_lists.specs.inner.ReadRuns.{read_behind, read_due}
 use Rattle.qm_formats.proofs.ReadParts.{run_first}
 use Rattle.qm_runs.proofs.NonzeroParts.{nonzero_first, behind_any, some_nonzero}
 use Rattle.qm_runs.proofs.reading.next_part.Goals as goal

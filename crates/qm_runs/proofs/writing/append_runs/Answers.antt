@@ -1,5 +1,5 @@
 use Rattle.std.proofs.Common.{Some, ap, sym, ◌∙◌, append_assoc}
-use Rattle.qm_formats.proofs.Spellings.{runs_of-byte, runs_of-zeros, runs_of-none}
+use Rattle.qm_lists.proofs.Spellings.{runs_of-byte, runs_of-zeros, runs_of-none}
 use Rattle.qm_runs.proofs.Written.{written_part, written_all}
 use Rattle.qm_runs.proofs.writing.append_runs.Goals as goal
 
