@@ -1,5 +1,5 @@
 -- What facets leave on one side of a plane, one after another.
-use Rattle.std.proofs.Common.{◌≡◌, Option, Some, None, List, [], ◌∷◌, ◌++◌, sym, ◌∙◌}
+use Rattle.std.proofs.Common.{◌≡◌, Option, Some, None, List, [], ◌∷◌, ◌++◌, sym, ap, ◌∙◌}
 use Rattle.std.specs.Option.{MatchOption}
 use Rattle.std.proofs.lemmas.List.{append-nil}
 use Rattle.qm_space.specs.Plane.{Plane}
@@ -23,6 +23,10 @@ pub cut_append : (h : Plane) (facets rest : List Facet) (found : Facet) (new : L
 cut_append h facets rest found new none is = is
 cut_append h facets rest found new (left part have) is = left part (cut_append h _ _ found new have is)
 cut_append h facets rest found new (gone never have) is = gone never (cut_append h _ _ found new have is)
+
+-- a facet whose polygon stayed as it was
+pub same_facet : (found : Facet) (inward : Plane) (v w : Winding) → w ≡ v → record { inward = inward; winding = v } ≡ found → record { inward = inward; winding = w } ≡ found
+same_facet found inward v w same is = ap (λ (u : Winding). record { inward = inward; winding = u }) same ∙ is
 
 module _ (h : Plane) (found : Facet) (old new : List Facet) where
   -- all of it

@@ -1,12 +1,12 @@
 //! The facets of a cell: what its border has on its planes.
 
-ghost use Rattle.std.specs.Prelude.{◌≡◌, ◌++◌, IfOk, OnOk};
+ghost use Rattle.std.specs.Prelude.{◌≡◌, IfOk, OnOk};
 ghost use Rattle.qm_space.specs.Plane.{flipped};
 ghost use Rattle.qm_convex.specs.inner.Facets.{AreCut};
-ghost use Rattle.qm_body.specs.inner.LeftFacets.{left_facet, IsLeftAdded};
+ghost use Rattle.qm_body.specs.inner.LeftFacets.{IsLeftAdded};
 
 use qm_geom::Plane;
-use qm_wind::{Lies, Winding};
+use qm_wind::{Severed, Winding};
 use std::alloc::{AllocError, Global};
 use std::marker::Model;
 
@@ -51,14 +51,14 @@ pub fn split_facets(facets: Vec<Facet>, plane: &Plane) -> Result<FacetLists, All
     let mut front = Vec::new(alloc);
     let mut back = Vec::new(alloc);
     for facet in facets {
-        split_facet(alloc, facet, plane, &mut front, &mut back)?;
+        split_facet(facet, plane, &mut front, &mut back)?;
     }
     Ok(FacetLists { front, back })
 }
 
-/// Adds what a facet has in front of a plane, and behind it. Where it lies wholly on one side, it is moved.
+/// Adds what a facet has in front of a plane, and behind it. Where it lies wholly on one side, it is moved; else it is cut down to
+/// what is in front.
 fn split_facet(
-    alloc: Global,
     facet: Facet,
     plane: &Plane,
     front: &mut Vec<Facet>,
@@ -67,53 +67,28 @@ fn split_facet(
     ensures front { OnOk result (IsLeftAdded plane.now facet front.old.items front.new.items) }
     ensures back { OnOk result (IsLeftAdded (flipped plane.now) facet back.old.items back.new.items) }
 {
-    let _corners = facet.winding.len();
-    match facet.winding.lies(plane) {
-        Lies::Front => {
-            front.push(facet)?;
+    let Facet {
+        inward,
+        mut winding,
+    } = facet;
+    let _corners = winding.len();
+    match winding.sever(plane)? {
+        Severed::Front => {
+            front.push(Facet { inward, winding })?;
             Ok(())
         }
-        Lies::Back => {
-            back.push(facet)?;
+        Severed::Back => {
+            back.push(Facet { inward, winding })?;
             Ok(())
         }
-        Lies::On => Ok(()),
-        Lies::Across => {
-            part_facet(alloc, facet, plane, front, back)?;
+        Severed::On => Ok(()),
+        Severed::Across(behind) => {
+            back.push(Facet {
+                inward,
+                winding: behind,
+            })?;
+            front.push(Facet { inward, winding })?;
             Ok(())
         }
     }
-}
-
-/// Adds what a facet has in front of a plane, and behind it.
-fn part_facet(
-    alloc: Global,
-    facet: Facet,
-    plane: &Plane,
-    front: &mut Vec<Facet>,
-    back: &mut Vec<Facet>,
-) -> Result<(), AllocError>
-    ensures front { OnOk result (IsLeftAdded plane.now facet front.old.items front.new.items) }
-    ensures back { OnOk result (IsLeftAdded (flipped plane.now) facet back.old.items back.new.items) }
-{
-    let Facet { inward, winding } = facet;
-    let halves = Box::into_inner(winding).split(plane)?;
-    push_left(alloc, front, inward, halves.front)?;
-    push_left(alloc, back, inward, halves.back)?;
-    Ok(())
-}
-
-/// Adds what is left of a facet, if there is anything.
-fn push_left(
-    alloc: Global,
-    facets: &mut Vec<Facet>,
-    inward: Plane,
-    left: Option<Winding>,
-) -> Result<(), AllocError>
-    ensures { OnOk result (facets.new.items ≡ facets.old.items ++ left_facet inward left) }
-{
-    if let Some(winding) = left {
-        facets.push(Facet::of(alloc, inward, winding)?)?;
-    }
-    Ok(())
 }

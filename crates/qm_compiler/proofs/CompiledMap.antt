@@ -115,9 +115,9 @@ module _ (map : MapFile) (tree : Tree) (brushes flat : ℕ) (counted : IsTreeOfB
   }
 
   -- an entity leaks
-  pub leaking_map : (entity : ℕ) (trail : List ℕ) → IsLeak tree origins entity trail → IsPrepared map (Leak (new_file tree None []) entity trail)
+  pub leaking_map : (contacts : Contacts) (entity : ℕ) (trail : List ℕ) → IsLeak tree origins entity trail → IsPrepared map contacts (Leak (new_file tree None []) entity trail)
   unfolding IsPrepared
-  leaking_map entity trail leak =
+  leaking_map contacts entity trail leak =
       let file = new_file tree None [] in
       let form = new_form file tree None [] refl in
       record {
@@ -234,15 +234,15 @@ module _ (map : MapFile) (tree : Tree) (brushes flat : ℕ) (counted : IsTreeOfB
       becomes options compiled made =
           subst (λ (c : Compiled). IsCompiled map options c) (sym made.is_done) (done_map options made.asked made.summary made.are_as_asked made.is_count)
 
-      marked_map : IsPrepared map (marked_of sealed tree brushes flat contacts row)
+      marked_map : IsPrepared map contacts (marked_of sealed tree brushes flat contacts row)
       unfolding IsPrepared marked_of
-      marked_map = record { has_surface = marked_surface map tree origins (marked_tree row tree) is_built is_marked; becomes = becomes }
+      marked_map = record { has_surface = marked_surface map tree origins (marked_tree row tree) is_built is_marked; has_contacts = are_contacts; becomes = becomes }
 
   -- it is sealed
-  pub sealed_map : (row : List Bool) (contacts : Contacts) → IsSealed tree origins → IsFilledRow tree origins row → AreContacts tree contacts → IsPrepared map (marked_of true tree brushes flat contacts row)
+  pub sealed_map : (row : List Bool) (contacts : Contacts) → IsSealed tree origins → IsFilledRow tree origins row → AreContacts tree contacts → IsPrepared map contacts (marked_of true tree brushes flat contacts row)
   sealed_map row contacts is_sealed are_filled are = marked_map row are_filled is_sealed.tight true is_sealed contacts are
 
   -- or no entity takes part
-  pub empty_map : (contacts : Contacts) → NoneTakesPart tree origins → AreContacts tree contacts → IsPrepared map (marked_of false tree brushes flat contacts (replicate (leaf_count tree.shape) false))
+  pub empty_map : (contacts : Contacts) → NoneTakesPart tree origins → AreContacts tree contacts → IsPrepared map contacts (marked_of false tree brushes flat contacts (replicate (leaf_count tree.shape) false))
   empty_map contacts none are =
       marked_map (replicate (leaf_count tree.shape) false) (none_filled tree origins (leaf_count tree.shape) refl none) (λ origin listed leaks. none origin listed leaks.takes_part) false none contacts are

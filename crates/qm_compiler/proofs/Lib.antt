@@ -1,6 +1,7 @@
 pub mod CompiledMap
 pub mod FlatSoFar
 pub mod Flooded
+pub mod KeptParts
 pub mod MarkedSurfaces
 pub mod NewFiles
 pub mod NumberedCounts

@@ -1,12 +1,13 @@
 //! From a map to its tree with rows.
 
-ghost use Rattle.std.specs.Prelude.{◌≤◌, IfOk};
+ghost use Rattle.std.specs.Prelude.{◌≡◌, ◌≤◌, IfOk};
 ghost use Rattle.qm_grammar.specs.Valid.{IsValidMap};
 ghost use Rattle.qm_compiler.specs.Answers.{IsCompiled};
 ghost use Rattle.qm_compiler.specs.inner.Finished.{IsCounted};
+ghost use Rattle.qm_compiler.specs.inner.KeptBrushes.{parts_with};
 
 use crate::asking::{Asked, make_asked};
-use crate::building::{Built, build_map};
+use crate::building::{Brushes, Built, build_map};
 use crate::compiled::Compiled;
 use crate::counting::count;
 use crate::new_file::new_file;
@@ -14,7 +15,8 @@ use crate::preparing::{Prepared, prepare};
 use qm_commands::Options;
 use qm_crew::Gate;
 use qm_mapfile::MapFile;
-use qm_portal::World;
+use qm_portal::{TouchList, World, touches};
+use qm_sections::{SurfaceParts, sections};
 use std::alloc::{AllocError, Global};
 use std::thread::Threads;
 
@@ -34,8 +36,9 @@ pub fn compile<R: Threads + Sync, G: Gate + Sync>(
     requires not_too_many { options.now.threads ≤ 64 }
     ensures { IfOk result (λ compiled. IsCompiled map.now options.now compiled) }
 {
-    let built = build_map(rt, alloc, map, options.threads)?;
-    let prepared = prepare(alloc, map, built)?;
+    let (built, kept) = build_map(rt, alloc, map, options.threads, options.faces)?;
+    let contacts = touches(alloc, &built.tree)?;
+    let prepared = prepare(alloc, map, built, &contacts)?;
     match prepared {
         Prepared::Leak {
             file,
@@ -51,7 +54,9 @@ pub fn compile<R: Threads + Sync, G: Gate + Sync>(
             built,
             world,
         } => {
-            let asked = make_asked(rt, alloc, map, &world, options, gate);
+            let parts = surface_parts(kept, contacts);
+            let made = sections(rt, alloc, map, &world, parts, options);
+            let asked = make_asked(rt, alloc, &world, made, options, gate);
             with_asked(sealed, built, world, asked)
         }
     }
@@ -73,5 +78,17 @@ fn with_asked(
         file: new_file(built.tree, Some(asked.rows), asked.sections),
         world,
         summary,
+    })
+}
+
+/// What the surface is cut from, where brushes were kept for it. Else the contacts are let go of.
+fn surface_parts(kept: Option<Brushes>, contacts: TouchList) -> Option<SurfaceParts>
+    ensures { result ≡ parts_with contacts kept }
+{
+    let brushes = kept?;
+    Some(SurfaceParts {
+        list: brushes.list,
+        book: brushes.book,
+        contacts,
     })
 }

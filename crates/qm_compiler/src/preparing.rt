@@ -16,7 +16,7 @@ use qm_file::{Section, TreeFile};
 use qm_flood::{Flood, flood};
 use qm_lists::Items;
 use qm_mapfile::MapFile;
-use qm_portal::{TouchList, World, touches, world};
+use qm_portal::{TouchList, World, world};
 use qm_tree::Tree;
 use std::alloc::{AllocError, Global};
 
@@ -37,15 +37,20 @@ pub enum Prepared {
     },
 }
 
-/// Looks for leaks in the tree of a map, and fills what no entity reaches.
-pub fn prepare(alloc: Global, map: &MapFile, built: Built) -> Result<Prepared, AllocError>
+/// Looks for leaks in the tree of a map by the contacts of the tree, and fills what no entity reaches.
+pub fn prepare(
+    alloc: Global,
+    map: &MapFile,
+    built: Built,
+    contacts: &TouchList,
+) -> Result<Prepared, AllocError>
     requires valid { IsValidMap map.now }
     requires built { IsTreeOfBrushes map.now built.tree built.brushes built.flat }
-    ensures { IfOk result (λ prepared. IsPrepared map.now prepared) }
+    requires contacts { AreContacts built.tree contacts.now }
+    ensures { IfOk result (λ prepared. IsPrepared map.now contacts.now prepared) }
 {
-    let contacts = touches(alloc, &built.tree)?;
-    let found = flood_map(alloc, map, &built.tree, &contacts);
-    prepare_found(alloc, built, &contacts, found)
+    let found = flood_map(alloc, map, &built.tree, contacts);
+    prepare_found(alloc, built, contacts, found)
 }
 
 /// What is found of the entities of a map in its tree.
@@ -72,7 +77,7 @@ fn prepare_found(
 ) -> Result<Prepared, AllocError>
     requires contacts { AreContacts built.tree contacts.now }
     requires fits { IfOk found (λ flood. FitsTree built.tree flood) }
-    ensures { IfOk result (λ prepared. IsPreparedForEachMap built.tree built.brushes built.flat found prepared) }
+    ensures { IfOk result (λ prepared. IsPreparedForEachMap built.tree built.brushes built.flat contacts.now found prepared) }
 {
     match found? {
         Flood::Sealed(filled) => mark(alloc, true, built, contacts, Ok(filled)),

@@ -1,1 +1,2 @@
+pub mod InBook
 pub mod OnWalls

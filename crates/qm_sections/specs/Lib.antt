@@ -1,1 +1,2 @@
+pub mod PartsOfMap
 pub mod inner

@@ -2,7 +2,7 @@ use Rattle.std.specs.Prelude.{◌≡◌, ℕ, Bool, List, Ok, Result, IfOk}
 use Rattle.qm_mapfile.specs.declared.entity.MapFile.{MapFile}
 use Rattle.qm_partition.specs.Marked.{marked_tree}
 use Rattle.qm_partition.specs.Tree.{Tree}
-use Rattle.qm_contacts.specs.Contacts.{Contacts}
+use Rattle.qm_contacts.specs.Contacts.{Contacts, AreContacts}
 use Rattle.qm_contacts.specs.Portals.{portals_of}
 use Rattle.qm_contacts.specs.World.{World}
 use Rattle.qm_flood.specs.declared.answer.Flood.{Flood}
@@ -32,18 +32,19 @@ pub record IsMarkedWith {E : Type 0} (sealed : Bool) (tree : Tree) (brushes flat
   pub found_is : found ≡ Ok row
   pub is_marked : prepared ≡ marked_of sealed tree brushes flat contacts row
 
--- the surface of the map can be cut by the tree of the world; and whatever the options: with the rows and counts of the world, and
--- with the map's sections, this is what the map compiles to
-pub record BecomesCompiled (map : MapFile) (sealed : Bool) (built : Built) (world : World) : Type 0 where
+-- the surface of the map can be cut by the tree of the world, which has these contacts; and whatever the options: with the rows and
+-- counts of the world, and with the map's sections, this is what the map compiles to
+pub record BecomesCompiled (map : MapFile) (contacts : Contacts) (sealed : Bool) (built : Built) (world : World) : Type 0 where
   pub has_surface : HasSurfaceOf map world.tree
+  pub has_contacts : AreContacts world.tree contacts
   pub becomes : (options : Options) (compiled : Compiled) → IsFinished map options sealed built.brushes built.flat built.tree world compiled → IsCompiled map options compiled
 
 -- the leak of the map, or what becomes what it compiles to
-unfoldable pub IsPrepared : MapFile → Prepared → Type 0
-IsPrepared map (Marked sealed built world) = BecomesCompiled map sealed built world
-IsPrepared map (Leak file entity trail) = IsCompiledToLeak map file entity trail
+unfoldable pub IsPrepared : MapFile → Contacts → Prepared → Type 0
+IsPrepared map contacts (Marked sealed built world) = BecomesCompiled map contacts sealed built world
+IsPrepared map contacts (Leak file entity trail) = IsCompiledToLeak map file entity trail
 
 -- whatever the map of which the tree is, and in which this is found: it is prepared so
-abbrev pub IsPreparedForEachMap : {E : Type 0} → Tree → ℕ → ℕ → Result Flood E → Prepared → Type 0
-IsPreparedForEachMap tree brushes flat found prepared =
-    (map : MapFile) → IsTreeOfBrushes map tree brushes flat → IfOk found (IsFloodOfMap map tree) → IsPrepared map prepared
+abbrev pub IsPreparedForEachMap : {E : Type 0} → Tree → ℕ → ℕ → Contacts → Result Flood E → Prepared → Type 0
+IsPreparedForEachMap tree brushes flat contacts found prepared =
+    (map : MapFile) → IsTreeOfBrushes map tree brushes flat → IfOk found (IsFloodOfMap map tree) → IsPrepared map contacts prepared

@@ -2,15 +2,12 @@ use Rattle.std.proofs.lemmas.Result.{IfOk-weaker}
 use Rattle.qm_compiler.proofs.Flooded.{fits_tree}
 use Rattle.qm_compiler.proofs.preparing.prepare.Goals as goal
 
-pub touches-requires : goal.touches-requires
-touches-requires c = record { points = c.requires.built.have_points }
-
 pub flood_map-found-requires : goal.flood_map-found-requires
-flood_map-found-requires c = record { valid = c.requires.valid; contacts = c.in_ok-contacts.ensures }
+flood_map-found-requires c = record { valid = c.requires.valid; contacts = c.requires.contacts }
 
 pub prepare_found-requires : goal.prepare_found-requires
 prepare_found-requires c = record {
-  contacts = c.in_ok-contacts.ensures;
+  contacts = c.requires.contacts;
   fits = IfOk-weaker c.flood_map-found.result _ _ (λ found is. fits_tree c.args.map.now c.args.built.tree found is) c.flood_map-found.ensures;
 }
 

@@ -32,7 +32,7 @@ returns-in-Sealed c =
     let of_map = rw c.in-Sealed.is at of_flood in
     let same : is.row ≡ c.in-Sealed.filled = cc (is.found_is) in
     let marked = rw same at is.is_marked in
-    subst (λ (p : Prepared). IsPrepared map p) (sym marked)
+    subst (λ (p : Prepared). IsPrepared map c.args.contacts.now p) (sym marked)
     (sealed_map map built.tree built.brushes built.flat counted of_map.origins of_map.are_origins c.in-Sealed.filled c.args.contacts.now of_map.is_flood.0 of_map.is_flood.1 c.requires.contacts)) c.mark.ensures
 
 pub returns-in-NoEntity : goal.returns-in-NoEntity
@@ -45,7 +45,7 @@ returns-in-NoEntity c =
     let row_is = rw is.found_is at c.with_len-unfilled.ensures in
     let unfilled = rw c.leaves.ensures at row_is in
     let marked = rw unfilled at is.is_marked in
-    subst (λ (p : Prepared). IsPrepared map p) (sym marked)
+    subst (λ (p : Prepared). IsPrepared map c.args.contacts.now p) (sym marked)
     (empty_map map built.tree built.brushes built.flat counted of_map.origins of_map.are_origins c.args.contacts.now of_map.is_flood c.requires.contacts)) c.mark-in-NoEntity.ensures
 
 pub returns-in-Leak : goal.returns-in-Leak
@@ -54,5 +54,5 @@ returns-in-Leak c = λ map counted of_found.
     let of_flood = rw c.in_ok-filled.was at of_found in
     let of_map = rw c.in-Leak.is at of_flood in
     let file_is = c.new_file.ensures ∙ ap (λ (sections : List Section). new_file built.tree None sections) c.no_sections.ensures in
-    subst (λ (file : TreeFile). IsPrepared map (Leak file c.in-Leak.entity c.in-Leak.trail)) (sym file_is)
-    (leaking_map map built.tree built.brushes built.flat counted of_map.origins of_map.are_origins c.in-Leak.entity c.in-Leak.trail of_map.is_flood)
+    subst (λ (file : TreeFile). IsPrepared map c.args.contacts.now (Leak file c.in-Leak.entity c.in-Leak.trail)) (sym file_is)
+    (leaking_map map built.tree built.brushes built.flat counted of_map.origins of_map.are_origins c.args.contacts.now c.in-Leak.entity c.in-Leak.trail of_map.is_flood)
