@@ -4,3 +4,4 @@ pub mod BodyCuboids
 pub mod Joining
 pub mod JoinedCorners
 pub mod MorePlanes
+mod BoxSamples

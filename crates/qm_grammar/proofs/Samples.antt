@@ -2,7 +2,8 @@
 use Rattle.std.proofs.Common.{◌≡◌, ℕ, pos, neg_ℤ, List, [], ◌∷◌, codes, Ok, Err, refl, subst}
 use Rattle.qm_tokens.specs.inner.Modes.{read}
 use Rattle.qm_numbers.specs.Gcd.{gcd, gcd_within}
-use Rattle.qm_space.specs.ThreePoints.{outward_plane, in_space, common_factor, reduced, plane_through}
+use Rattle.qm_numbers.proofs.Divisors.{divisor_of_four}
+use Rattle.qm_space.specs.ThreePoints.{outward_plane, in_space, factor_of, common_factor, reduced, plane_through}
 use Rattle.qm_numerals.specs.Computed.{answer_of_parts, unsigned_at, read_at}
 use Rattle.qm_mapfile.specs.declared.face.Face.{Face}
 use Rattle.qm_mapfile.specs.declared.face.Mapping.TheVariants.{Standard, Valve}
@@ -34,7 +35,7 @@ sample_map = record {
 }
 
 sample_read : meaning_of sample_text ≡ Ok sample_map
-unfolding sample_text sample_face sample_map meaning_of step step_outside step_entity step_value step_brush step_slot step_mark is_bad_origin give_plane plane_refusal span_plane plane_through reduced common_factor gcd gcd_within in_space outward_plane coordinate_of read_at unsigned_at answer_of_parts sort_of mark_of_byte origin_key read
+unfolding sample_text sample_face sample_map meaning_of step step_outside step_entity step_value step_brush step_slot step_mark is_bad_origin give_plane plane_refusal span_plane plane_through reduced common_factor factor_of divisor_of_four gcd gcd_within in_space outward_plane coordinate_of read_at unsigned_at answer_of_parts sort_of mark_of_byte origin_key read
 sample_read = refl
 
 -- so texts of maps there are
@@ -58,81 +59,81 @@ axes_map = record {
 }
 
 axes_read : meaning_of axes_text ≡ Ok axes_map
-unfolding axes_map meaning_of step step_outside step_entity step_value step_brush step_slot step_mark is_bad_origin origin_of millionths_of give_plane plane_refusal span_plane plane_through reduced common_factor gcd gcd_within in_space outward_plane coordinate_of read_at unsigned_at answer_of_parts sort_of mark_of_byte origin_key read axes_text axes_face
+unfolding axes_map meaning_of step step_outside step_entity step_value step_brush step_slot step_mark is_bad_origin origin_of millionths_of give_plane plane_refusal span_plane plane_through reduced common_factor factor_of divisor_of_four gcd gcd_within in_space outward_plane coordinate_of read_at unsigned_at answer_of_parts sort_of mark_of_byte origin_key read axes_text axes_face
 axes_read = refl
 
 -- ---- faults, each with its line
 
 -- no token
 no_token_row : meaning_of (codes "") ≡ Err (fault.NoEntity 1)
-unfolding meaning_of step step_outside step_entity step_value step_brush step_slot step_mark is_bad_origin origin_of millionths_of give_plane plane_refusal span_plane plane_through reduced common_factor gcd gcd_within in_space outward_plane coordinate_of read_at unsigned_at answer_of_parts sort_of mark_of_byte origin_key read
+unfolding meaning_of step step_outside step_entity step_value step_brush step_slot step_mark is_bad_origin origin_of millionths_of give_plane plane_refusal span_plane plane_through reduced common_factor factor_of divisor_of_four gcd gcd_within in_space outward_plane coordinate_of read_at unsigned_at answer_of_parts sort_of mark_of_byte origin_key read
 no_token_row = refl
 
 -- no token of this sort
 sort_row : meaning_of (codes "{ { x") ≡ Err (fault.Unexpected 1)
-unfolding meaning_of step step_outside step_entity step_value step_brush step_slot step_mark is_bad_origin origin_of millionths_of give_plane plane_refusal span_plane plane_through reduced common_factor gcd gcd_within in_space outward_plane coordinate_of read_at unsigned_at answer_of_parts sort_of mark_of_byte origin_key read
+unfolding meaning_of step step_outside step_entity step_value step_brush step_slot step_mark is_bad_origin origin_of millionths_of give_plane plane_refusal span_plane plane_through reduced common_factor factor_of divisor_of_four gcd gcd_within in_space outward_plane coordinate_of read_at unsigned_at answer_of_parts sort_of mark_of_byte origin_key read
 sort_row = refl
 
 -- a text that ends inside a brush
 inside_row : meaning_of (codes "{ {\n") ≡ Err (fault.EndInside 2)
-unfolding meaning_of step step_outside step_entity step_value step_brush step_slot step_mark is_bad_origin origin_of millionths_of give_plane plane_refusal span_plane plane_through reduced common_factor gcd gcd_within in_space outward_plane coordinate_of read_at unsigned_at answer_of_parts sort_of mark_of_byte origin_key read
+unfolding meaning_of step step_outside step_entity step_value step_brush step_slot step_mark is_bad_origin origin_of millionths_of give_plane plane_refusal span_plane plane_through reduced common_factor factor_of divisor_of_four gcd gcd_within in_space outward_plane coordinate_of read_at unsigned_at answer_of_parts sort_of mark_of_byte origin_key read
 inside_row = refl
 
 -- a quote that is not closed, on the line of the quote
 quote_row : meaning_of (codes "{\n\"a\n") ≡ Err (fault.UnclosedQuote 2)
-unfolding meaning_of step step_outside step_entity step_value step_brush step_slot step_mark is_bad_origin origin_of millionths_of give_plane plane_refusal span_plane plane_through reduced common_factor gcd gcd_within in_space outward_plane coordinate_of read_at unsigned_at answer_of_parts sort_of mark_of_byte origin_key read
+unfolding meaning_of step step_outside step_entity step_value step_brush step_slot step_mark is_bad_origin origin_of millionths_of give_plane plane_refusal span_plane plane_through reduced common_factor factor_of divisor_of_four gcd gcd_within in_space outward_plane coordinate_of read_at unsigned_at answer_of_parts sort_of mark_of_byte origin_key read
 quote_row = refl
 
 -- a brush without a face, though no other sort of token but `(` may stand there
 no_faces_row : meaning_of (codes "{ { }") ≡ Err (fault.NoFaces 1)
-unfolding meaning_of step step_outside step_entity step_value step_brush step_slot step_mark is_bad_origin origin_of millionths_of give_plane plane_refusal span_plane plane_through reduced common_factor gcd gcd_within in_space outward_plane coordinate_of read_at unsigned_at answer_of_parts sort_of mark_of_byte origin_key read
+unfolding meaning_of step step_outside step_entity step_value step_brush step_slot step_mark is_bad_origin origin_of millionths_of give_plane plane_refusal span_plane plane_through reduced common_factor factor_of divisor_of_four gcd gcd_within in_space outward_plane coordinate_of read_at unsigned_at answer_of_parts sort_of mark_of_byte origin_key read
 no_faces_row = refl
 
 -- three points on one line, at the third `)`
 normal_row : meaning_of (codes "{\n{\n( 0 0 0 ) ( 1 1 1 )\n( 2 2 2 ) x") ≡ Err (fault.NoNormal 4)
-unfolding meaning_of step step_outside step_entity step_value step_brush step_slot step_mark is_bad_origin origin_of millionths_of give_plane plane_refusal span_plane plane_through reduced common_factor gcd gcd_within in_space outward_plane coordinate_of read_at unsigned_at answer_of_parts sort_of mark_of_byte origin_key read
+unfolding meaning_of step step_outside step_entity step_value step_brush step_slot step_mark is_bad_origin origin_of millionths_of give_plane plane_refusal span_plane plane_through reduced common_factor factor_of divisor_of_four gcd gcd_within in_space outward_plane coordinate_of read_at unsigned_at answer_of_parts sort_of mark_of_byte origin_key read
 normal_row = refl
 
 -- three points that give a plane, which is too fine, at the third `)`
 fine_row : meaning_of (codes "{\n{\n( 4000 0.001 0 ) ( 0 0 0 )\n( 0 4000 0.001 ) x") ≡ Err (fault.PlaneTooFine 4)
-unfolding meaning_of step step_outside step_entity step_value step_brush step_slot step_mark is_bad_origin origin_of millionths_of give_plane plane_refusal span_plane plane_through reduced common_factor gcd gcd_within in_space outward_plane coordinate_of read_at unsigned_at answer_of_parts sort_of mark_of_byte origin_key read
+unfolding meaning_of step step_outside step_entity step_value step_brush step_slot step_mark is_bad_origin origin_of millionths_of give_plane plane_refusal span_plane plane_through reduced common_factor factor_of divisor_of_four gcd gcd_within in_space outward_plane coordinate_of read_at unsigned_at answer_of_parts sort_of mark_of_byte origin_key read
 fine_row = refl
 
 -- points as far apart whose plane is not
 coarse_row : meaning_of (codes "{\n{\n( 4000 0.5 0 ) ( 0 0 0 )\n( 0 4000 0.5 ) {") ≡ Err (fault.Unexpected 4)
-unfolding meaning_of step step_outside step_entity step_value step_brush step_slot step_mark is_bad_origin origin_of millionths_of give_plane plane_refusal span_plane plane_through reduced common_factor gcd gcd_within in_space outward_plane coordinate_of read_at unsigned_at answer_of_parts sort_of mark_of_byte origin_key read
+unfolding meaning_of step step_outside step_entity step_value step_brush step_slot step_mark is_bad_origin origin_of millionths_of give_plane plane_refusal span_plane plane_through reduced common_factor factor_of divisor_of_four gcd gcd_within in_space outward_plane coordinate_of read_at unsigned_at answer_of_parts sort_of mark_of_byte origin_key read
 coarse_row = refl
 
 -- a coordinate outside the cube, with three decimals and with one too many
 range_row : meaning_of (codes "{ { ( 32768.000 -32768 32768.001") ≡ Err (fault.CoordinateRange 1)
-unfolding meaning_of step step_outside step_entity step_value step_brush step_slot step_mark is_bad_origin origin_of millionths_of give_plane plane_refusal span_plane plane_through reduced common_factor gcd gcd_within in_space outward_plane coordinate_of read_at unsigned_at answer_of_parts sort_of mark_of_byte origin_key read
+unfolding meaning_of step step_outside step_entity step_value step_brush step_slot step_mark is_bad_origin origin_of millionths_of give_plane plane_refusal span_plane plane_through reduced common_factor factor_of divisor_of_four gcd gcd_within in_space outward_plane coordinate_of read_at unsigned_at answer_of_parts sort_of mark_of_byte origin_key read
 range_row = refl
 
 beyond_row : meaning_of (codes "{ { ( 32768.0001") ≡ Err (fault.Fraction 1)
-unfolding meaning_of step step_outside step_entity step_value step_brush step_slot step_mark is_bad_origin origin_of millionths_of give_plane plane_refusal span_plane plane_through reduced common_factor gcd gcd_within in_space outward_plane coordinate_of read_at unsigned_at answer_of_parts sort_of mark_of_byte origin_key read
+unfolding meaning_of step step_outside step_entity step_value step_brush step_slot step_mark is_bad_origin origin_of millionths_of give_plane plane_refusal span_plane plane_through reduced common_factor factor_of divisor_of_four gcd gcd_within in_space outward_plane coordinate_of read_at unsigned_at answer_of_parts sort_of mark_of_byte origin_key read
 beyond_row = refl
 
 -- a coordinate with a fourth decimal
 fraction_row : meaning_of (codes "{ { ( 64.0000 +0.125 0.0005") ≡ Err (fault.Fraction 1)
-unfolding meaning_of step step_outside step_entity step_value step_brush step_slot step_mark is_bad_origin origin_of millionths_of give_plane plane_refusal span_plane plane_through reduced common_factor gcd gcd_within in_space outward_plane coordinate_of read_at unsigned_at answer_of_parts sort_of mark_of_byte origin_key read
+unfolding meaning_of step step_outside step_entity step_value step_brush step_slot step_mark is_bad_origin origin_of millionths_of give_plane plane_refusal span_plane plane_through reduced common_factor factor_of divisor_of_four gcd gcd_within in_space outward_plane coordinate_of read_at unsigned_at answer_of_parts sort_of mark_of_byte origin_key read
 fraction_row = refl
 
 -- a word that is no number
 number_row : meaning_of (codes "{ { ( 1e3") ≡ Err (fault.BadNumber 1)
-unfolding meaning_of step step_outside step_entity step_value step_brush step_slot step_mark is_bad_origin origin_of millionths_of give_plane plane_refusal span_plane plane_through reduced common_factor gcd gcd_within in_space outward_plane coordinate_of read_at unsigned_at answer_of_parts sort_of mark_of_byte origin_key read
+unfolding meaning_of step step_outside step_entity step_value step_brush step_slot step_mark is_bad_origin origin_of millionths_of give_plane plane_refusal span_plane plane_through reduced common_factor factor_of divisor_of_four gcd gcd_within in_space outward_plane coordinate_of read_at unsigned_at answer_of_parts sort_of mark_of_byte origin_key read
 number_row = refl
 
 -- a quoted token in the place of a number
 quoted_number_row : meaning_of (codes "{ { ( \"1\"") ≡ Err (fault.Unexpected 1)
-unfolding meaning_of step step_outside step_entity step_value step_brush step_slot step_mark is_bad_origin origin_of millionths_of give_plane plane_refusal span_plane plane_through reduced common_factor gcd gcd_within in_space outward_plane coordinate_of read_at unsigned_at answer_of_parts sort_of mark_of_byte origin_key read
+unfolding meaning_of step step_outside step_entity step_value step_brush step_slot step_mark is_bad_origin origin_of millionths_of give_plane plane_refusal span_plane plane_through reduced common_factor factor_of divisor_of_four gcd gcd_within in_space outward_plane coordinate_of read_at unsigned_at answer_of_parts sort_of mark_of_byte origin_key read
 quoted_number_row = refl
 
 -- the first entity may have any origin, and another one has to be a point
 origin_row : meaning_of (codes "{ \"origin\" \"1 2\" }\n{ \"origin\" \"1 2\" }") ≡ Err (fault.BadOrigin 2)
-unfolding meaning_of step step_outside step_entity step_value step_brush step_slot step_mark is_bad_origin origin_of millionths_of give_plane plane_refusal span_plane plane_through reduced common_factor gcd gcd_within in_space outward_plane coordinate_of read_at unsigned_at answer_of_parts sort_of mark_of_byte origin_key read
+unfolding meaning_of step step_outside step_entity step_value step_brush step_slot step_mark is_bad_origin origin_of millionths_of give_plane plane_refusal span_plane plane_through reduced common_factor factor_of divisor_of_four gcd gcd_within in_space outward_plane coordinate_of read_at unsigned_at answer_of_parts sort_of mark_of_byte origin_key read
 origin_row = refl
 
 -- only the first origin of an entity counts
 second_origin_row : meaning_of (codes "{ } { \"origin\" \" 1 -2.5 .25 \" \"origin\" \"1 2\"") ≡ Err (fault.EndInside 1)
-unfolding meaning_of step step_outside step_entity step_value step_brush step_slot step_mark is_bad_origin origin_of millionths_of give_plane plane_refusal span_plane plane_through reduced common_factor gcd gcd_within in_space outward_plane coordinate_of read_at unsigned_at answer_of_parts sort_of mark_of_byte origin_key read
+unfolding meaning_of step step_outside step_entity step_value step_brush step_slot step_mark is_bad_origin origin_of millionths_of give_plane plane_refusal span_plane plane_through reduced common_factor factor_of divisor_of_four gcd gcd_within in_space outward_plane coordinate_of read_at unsigned_at answer_of_parts sort_of mark_of_byte origin_key read
 second_origin_row = refl

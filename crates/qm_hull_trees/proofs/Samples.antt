@@ -4,10 +4,11 @@ use Rattle.std.proofs.lemmas.Int.{ints}
 use Rattle.std.proofs.lemmas.List.Elements.{All-from_recursion}
 use Rattle.qm_lists.proofs.Elements.{Contains-nil, Contains-first, Contains-cons_cases}
 use Rattle.qm_numbers.specs.Gcd.{gcd, gcd_within}
+use Rattle.qm_numbers.proofs.Divisors.{divisor_of_four}
 use Rattle.qm_space.specs.Point.{IsInCube}
 use Rattle.qm_space.specs.Plane.{plane_of, value, IsBehind, IsNotInFront}
 use Rattle.qm_space.specs.Cuboid.{least_product}
-use Rattle.qm_space.specs.ThreePoints.{outward_plane, in_space, plane_through, reduced, common_factor}
+use Rattle.qm_space.specs.ThreePoints.{outward_plane, in_space, plane_through, reduced, factor_of, common_factor}
 use Rattle.qm_mapfile.specs.declared.face.Mapping.TheVariants.{Standard}
 use Rattle.qm_mapfile.specs.declared.entity.Brush.{Brush}
 use Rattle.qm_mapfile.specs.declared.entity.MapFile.{MapFile}
@@ -110,7 +111,7 @@ unfolding outward_plane in_space least_product
 parts_row = refl
 
 planes_row : moved_planes (hull_box 1) (clip_brush ∷ []) ≡ plane_of (pos 0) (pos 0) (pos 1) (pos 0) ∷ []
-unfolding plane_through reduced common_factor gcd gcd_within outward_plane in_space least_product
+unfolding plane_through reduced common_factor factor_of divisor_of_four gcd gcd_within outward_plane in_space least_product
 planes_row = refl
 
 -- ---- what points are for a player: solid where z is 0 or less

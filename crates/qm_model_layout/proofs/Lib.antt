@@ -6,3 +6,4 @@ pub mod WrittenModels
 pub mod AscendingLeaves
 pub mod FaultKinds
 pub mod ModelFaults
+mod ModelSamples

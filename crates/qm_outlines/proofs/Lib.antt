@@ -4,3 +4,4 @@ pub mod OutlinedSolids
 pub mod ModelNumbers
 pub mod AlikeModels
 pub mod ShownModels
+mod BoxSamples

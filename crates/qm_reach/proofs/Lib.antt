@@ -1,3 +1,4 @@
 pub mod ReachedBelow
 pub mod Walks
 pub mod FoundLeaves
+mod HalvesSamples

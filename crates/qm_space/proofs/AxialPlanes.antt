@@ -4,7 +4,7 @@ use Rattle.std.proofs.Common.{◌≡◌, ◌∙◌, ℕ, ℤ, pos, neg_ℤ, ◌*
 use Rattle.std.proofs.lemmas.Int.{ints}
 use Rattle.std.proofs.Math.IntN.{*ℤ_comm}
 use Rattle.qm_numbers.specs.Gcd.{gcd, gcd_within}
-use Rattle.qm_numbers.proofs.Divisors.{gcd_swapped}
+use Rattle.qm_numbers.proofs.Divisors.{divisor_of_four, gcd_swapped}
 use Rattle.qm_numbers.proofs.IntegerProducts.{linear, *ℤ_zero, zero_*ℤ}
 use Rattle.qm_numbers.proofs.Kept.{quotient_small}
 use Rattle.qm_numbers.proofs.Signs.{abs_zero}
@@ -12,7 +12,7 @@ use Rattle.qm_space.specs.Point.{Point, thousandths_point}
 use Rattle.qm_space.specs.Plane.{Plane, plane_of, scaled, value, IsOn}
 use Rattle.qm_space.specs.Reduced.{leads_positive, HasNormal}
 use Rattle.qm_space.specs.Turned.{turned}
-use Rattle.qm_space.specs.ThreePoints.{common_factor, reduced}
+use Rattle.qm_space.specs.ThreePoints.{factor_of, common_factor, reduced}
 use Rattle.qm_space.proofs.ReducedPlanes.{same_plane, leading_has_normal}
 use Rattle.qm_space.proofs.TurnedPlanes.{turned_on}
 use Rattle.qm_space.proofs.LowestMultiples.{lowest_of_multiples, turned_leads}
@@ -20,15 +20,15 @@ use Rattle.qm_space.proofs.LowestMultiples.{lowest_of_multiples, turned_leads}
 -- ---- the planes of a coordinate in thousandths
 
 factor_x : (c : ℤ) → common_factor (plane_of (pos 1000) (pos 0) (pos 0) c) ≡ gcd (unsigned_abs c) 1000
-unfolding common_factor gcd gcd_within
+unfolding common_factor factor_of divisor_of_four gcd gcd_within
 factor_x c = gcd_swapped 1000 (unsigned_abs c)
 
 factor_y : (c : ℤ) → common_factor (plane_of (pos 0) (pos 1000) (pos 0) c) ≡ gcd (unsigned_abs c) 1000
-unfolding common_factor gcd gcd_within
+unfolding common_factor factor_of divisor_of_four gcd gcd_within
 factor_y c = gcd_swapped 1000 (unsigned_abs c)
 
 factor_z : (c : ℤ) → common_factor (plane_of (pos 0) (pos 0) (pos 1000) c) ≡ gcd (unsigned_abs c) 1000
-unfolding common_factor gcd gcd_within
+unfolding common_factor factor_of divisor_of_four gcd gcd_within
 factor_z c = gcd_swapped 1000 (unsigned_abs c)
 
 nothing_divided : (k : ℕ) → pos 0 ≡ int_div (pos 0) (pos k)

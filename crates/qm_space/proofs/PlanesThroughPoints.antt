@@ -4,6 +4,7 @@ use Rattle.std.proofs.Common.{◌≡◌, Bool, true, false, not, ℤ, pos, ◌-�
 use Rattle.std.proofs.lemmas.Int.{ints}
 use Rattle.std.proofs.Math.IntN.{*ℤ_comm}
 use Rattle.qm_numbers.specs.Gcd.{gcd, gcd_within}
+use Rattle.qm_numbers.proofs.Divisors.{divisor_of_four}
 use Rattle.qm_space.specs.Point.{Point, thousandths_point}
 use Rattle.qm_space.specs.Plane.{Plane, flipped, scaled}
 use Rattle.qm_space.specs.Cube.{IsInClosedCube}
@@ -11,7 +12,7 @@ use Rattle.qm_space.specs.Reduced.{leads_positive, HasNormal, HasNoNormal, HasSm
 use Rattle.qm_space.specs.Turned.{turned}
 use Rattle.qm_space.specs.Line.{AreOnOneLine}
 use Rattle.qm_space.specs.inner.SpannedSizes.{IsWithinReach}
-use Rattle.qm_space.specs.ThreePoints.{outward_plane, in_space, spanned_plane, common_factor, reduced, plane_through, IsPlaneThrough, IsPlaneTooFine}
+use Rattle.qm_space.specs.ThreePoints.{outward_plane, in_space, spanned_plane, factor_of, common_factor, reduced, plane_through, IsPlaneThrough, IsPlaneTooFine}
 use Rattle.qm_numbers.proofs.IntegerProducts.{linear, zero_*ℤ, one_*ℤ}
 use Rattle.qm_numbers.proofs.Signs.{by_zero, zero_beside}
 use Rattle.qm_numbers.proofs.Ring.{variable, number, ◌⊖◌, ◌⊗◌, solved}
@@ -160,11 +161,11 @@ through_unique p0 p1 p2 g h a b s t =
 
 -- worked rows
 row_two : plane_through (record { x = pos 128; y = pos 0; z = pos 0; w = pos 1 }) (record { x = pos 128; y = pos 1; z = pos 0; w = pos 1 }) (record { x = pos 128; y = pos 0; z = pos 1; w = pos 1 }) ≡ (record { nx = pos 1; ny = pos 0; nz = pos 0; d = pos 128 }, false)
-unfolding plane_through in_space outward_plane reduced common_factor gcd gcd_within
+unfolding plane_through in_space outward_plane reduced common_factor factor_of divisor_of_four gcd gcd_within
 row_two = refl
 
 row_big : plane_through (record { x = pos 4096; y = neg_ℤ (pos 4095); z = pos 0; w = pos 1 }) (record { x = neg_ℤ (pos 4096); y = neg_ℤ (pos 4096); z = pos 0; w = pos 1 }) (record { x = neg_ℤ (pos 4095); y = pos 4096; z = pos 1; w = pos 1 }) ≡ (record { nx = pos 1; ny = neg_ℤ (pos 8192); nz = pos 67108863; d = pos 33550336 }, true)
-unfolding plane_through in_space outward_plane reduced common_factor gcd gcd_within
+unfolding plane_through in_space outward_plane reduced common_factor factor_of divisor_of_four gcd gcd_within
 row_big = refl
 
 -- in thousandths: a face at one half
@@ -172,16 +173,16 @@ abbrev at : ℤ → ℤ → ℤ → Point
 at x y z = thousandths_point (x ∷ y ∷ z ∷ [])
 
 row_half : plane_through (at (pos 500) (pos 0) (pos 0)) (at (pos 500) (pos 1000) (pos 0)) (at (pos 500) (pos 0) (pos 1000)) ≡ (record { nx = pos 2; ny = pos 0; nz = pos 0; d = pos 1 }, false)
-unfolding plane_through in_space outward_plane reduced common_factor gcd gcd_within
+unfolding plane_through in_space outward_plane reduced common_factor factor_of divisor_of_four gcd gcd_within
 row_half = refl
 
 -- the finest plane but one, and one that is too fine
 row_finest : plane_through (at (pos 8192000) (pos 1000) (pos 0)) (at (pos 0) (pos 0) (pos 0)) (at (pos 0) (pos 8192000) (pos 1000)) ≡ (record { nx = pos 1; ny = neg_ℤ (pos 8192); nz = pos 67108864; d = pos 0 }, true)
-unfolding plane_through in_space outward_plane reduced common_factor gcd gcd_within
+unfolding plane_through in_space outward_plane reduced common_factor factor_of divisor_of_four gcd gcd_within
 row_finest = refl
 
 row_finer : plane_through (at (pos 10000000) (pos 1000) (pos 0)) (at (pos 0) (pos 0) (pos 0)) (at (pos 1000) (pos 10000000) (pos 1000)) ≡ (record { nx = pos 1; ny = neg_ℤ (pos 10000); nz = pos 99999999; d = pos 0 }, true)
-unfolding plane_through in_space outward_plane reduced common_factor gcd gcd_within
+unfolding plane_through in_space outward_plane reduced common_factor factor_of divisor_of_four gcd gcd_within
 row_finer = refl
 
 row_too_fine : IsPlaneTooFine (at (pos 10000000) (pos 1000) (pos 0)) (at (pos 0) (pos 0) (pos 0)) (at (pos 1000) (pos 10000000) (pos 1000))

@@ -9,10 +9,10 @@ use Rattle.qm_numbers.specs.Gcd.{gcd}
 use Rattle.qm_space.specs.Bounds.{distance_bound}
 use Rattle.qm_space.specs.Plane.{Plane, flipped, scaled}
 use Rattle.qm_space.specs.Reduced.{sign_decides, leads_positive, HasNormal, HasSmallNormal, IsReduced}
-use Rattle.qm_space.specs.ThreePoints.{common_factor, reduced}
+use Rattle.qm_space.specs.ThreePoints.{factor_of, common_factor, reduced}
 use Rattle.qm_numbers.proofs.IntegerProducts.{linear, *ℤ_assoc, *ℤ_zero, *ℤ_one, neg-*ℤ, *ℤ-neg}
 use Rattle.qm_numbers.proofs.Signs.{abs_neg, by_sign, product_positive, positive_times_negative, negative_times_positive, negative_times_negative, abs_zero, cancel_equal, times_at_most, positive_beside}
-use Rattle.qm_numbers.proofs.Divisors.{gcd_divides_left, gcd_divides_right, divides_gcd, exact_division, abs_exact_division, lowest_combination}
+use Rattle.qm_numbers.proofs.Divisors.{divisor_of_four, exact_division, abs_exact_division, lowest_combination}
 use Rattle.qm_numbers.proofs.Ring.{variable, ◌⊕◌, ◌⊗◌, solved}
 
 -- ---- planes are equal where their four numbers are
@@ -99,19 +99,16 @@ pub record Divides (k : ℕ) (h : Plane) : Type 0 where
 
 pub common_factor_divides : (h : Plane) → Divides (common_factor h) h
 unfolding common_factor
-common_factor_divides h =
-    let x = unsigned_abs h.nx in let y = unsigned_abs h.ny in let z = unsigned_abs h.nz in let d = unsigned_abs h.d in
-    let f = gcd x y in let g = gcd f z in let k = gcd g d in
-    let kg = gcd_divides_left g d in
-    let kf = dvd_trans k kg (gcd_divides_left f z) in
-    record { nx = dvd_trans k kf (gcd_divides_left x y); ny = dvd_trans k kf (gcd_divides_right x y); nz = dvd_trans k kg (gcd_divides_right f z); d = gcd_divides_right g d }
+common_factor_divides h = let f = (factor_of h).1 in record { nx = f.first; ny = f.second; nz = f.third; d = f.fourth }
 
 pub divides_common_factor : (k : ℕ) (h : Plane) → Divides k h → k ∣ common_factor h
 unfolding common_factor
-divides_common_factor k h c =
-    let x = unsigned_abs h.nx in let y = unsigned_abs h.ny in let z = unsigned_abs h.nz in let d = unsigned_abs h.d in
-    let f = gcd x y in let g = gcd f z in
-    divides_gcd g d k (divides_gcd f z k (divides_gcd x y k c.nx c.ny) c.nz) c.d
+divides_common_factor k h c = (factor_of h).1.greatest k c.nx c.ny c.nz c.d
+
+-- it is the one that code finds
+pub common_factor_gcd : (h : Plane) → common_factor h ≡ gcd (gcd (gcd (unsigned_abs h.nx) (unsigned_abs h.ny)) (unsigned_abs h.nz)) (unsigned_abs h.d)
+unfolding common_factor factor_of divisor_of_four
+common_factor_gcd h = refl
 
 pub common_factor_positive : (h : Plane) → HasNormal h → 0 < common_factor h
 common_factor_positive h n = ⊎_elim (λ e. absurd (none e)) (λ p. p) (eq-zero-or-pos (common_factor h))

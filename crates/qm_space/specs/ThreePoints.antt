@@ -1,5 +1,6 @@
 use Rattle.std.specs.Prelude.{ℕ, ℤ, pos, ◌+ℤ◌, ◌*ℤ◌, Bool, IsTrue, unsigned_abs, int_div}
-use Rattle.qm_numbers.specs.Gcd.{gcd}
+use Rattle.qm_numbers.specs.GreatestDivisor.{IsGreatestDivisor}
+use Rattle.qm_numbers.proofs.Divisors.{divisor_of_four}
 use Rattle.qm_space.specs.Point.{Point}
 use Rattle.qm_space.specs.Plane.{Plane}
 use Rattle.qm_space.specs.Multiple.{IsPositiveMultiple}
@@ -24,9 +25,16 @@ in_space w h = record { nx = w *ℤ h.nx; ny = w *ℤ h.ny; nz = w *ℤ h.nz; d 
 abbrev pub spanned_plane : Point → Point → Point → Plane
 spanned_plane p0 p1 p2 = in_space p1.w (outward_plane p0 p1 p2)
 
--- the greatest number that divides all four numbers of a plane
+-- a number divides all four numbers of a plane, and whatever divides them all divides it
+abbrev pub IsCommonFactor : Plane → ℕ → Type 0
+IsCommonFactor h k = IsGreatestDivisor (unsigned_abs h.nx) (unsigned_abs h.ny) (unsigned_abs h.nz) (unsigned_abs h.d) k
+
+-- every plane has such a number, and no other: so it does not matter how it is found
+unfoldable pub factor_of : (h : Plane) → (k : ℕ) × IsCommonFactor h k
+factor_of h = divisor_of_four (unsigned_abs h.nx) (unsigned_abs h.ny) (unsigned_abs h.nz) (unsigned_abs h.d)
+
 unfoldable pub common_factor : Plane → ℕ
-common_factor h = gcd (gcd (gcd (unsigned_abs h.nx) (unsigned_abs h.ny)) (unsigned_abs h.nz)) (unsigned_abs h.d)
+common_factor h = (factor_of h).0
 
 -- the plane in lowest terms
 unfoldable pub reduced : Plane → Plane

@@ -3,18 +3,18 @@ use Rattle.std.proofs.Common.{◌≡◌, ℕ, zero, suc, ◌+◌, ◌*◌, ◌/�
 use Rattle.std.specs.Int.{◌∣◌}
 use Rattle.std.proofs.Math.Nat.{mul-div_cancel', mul-lt-mul_of_pos_right, lt_of_mul-lt-mul_left, dvd-add_iff_left, mul-dvd-mul_left, dvd_of_mul-dvd-mul_left, eq-one_of_dvd-one}
 use Rattle.qm_numbers.specs.Gcd.{gcd, gcd_within}
-use Rattle.qm_numbers.proofs.Divisors.{gcd_divides_left, gcd_divides_right, divides_gcd}
+use Rattle.qm_numbers.proofs.Divisors.{divisor_of_two, gcd_divides_left, gcd_divides_right, divides_gcd}
 use Rattle.qm_spans.specs.declared.parting.Parting.{Parting}
 use Rattle.qm_spans.specs.Place.{PlaceOnSegment, start_place, end_place, place_by_parts, IsEarlierPlace, IsLowestPlace}
-use Rattle.qm_spans.specs.Partings.{start_parting, end_parting, lowest_place}
+use Rattle.qm_spans.specs.Partings.{start_parting, end_parting, common_part, lowest_place}
 use Rattle.qm_spans.proofs.PartingOrder.{parts, IsEarlier, parts_behind, parts_before}
 
 pub lowest_start : lowest_place start_parting ≡ start_place
-unfolding lowest_place gcd gcd_within
+unfolding lowest_place common_part divisor_of_two gcd gcd_within
 lowest_start = refl
 
 pub lowest_end : lowest_place end_parting ≡ end_place
-unfolding lowest_place gcd gcd_within
+unfolding lowest_place common_part divisor_of_two gcd gcd_within
 lowest_end = refl
 
 -- ---- fractions of the same parts
@@ -55,7 +55,7 @@ module _ (p : Parting) (some : 0 < p.before + p.behind) where
       positive (suc g) j i e f = omega arith
 
   place_is : lowest_place p ≡ place_by_parts rest over
-  unfolding lowest_place divisor over rest
+  unfolding lowest_place common_part divisor_of_two divisor over rest
   place_is = refl
 
   lowest_factor : (d : ℕ) → d ∣ over → d ∣ (rest + over) → d ≡ 1
@@ -72,7 +72,7 @@ module _ (p : Parting) (some : 0 < p.before + p.behind) where
   lowest_is_lowest = subst IsLowestPlace (sym place_is) (record {
     some = positive divisor over rest before_is behind_is;
     most = omega arith;
-    lowest = lowest_factor (gcd over (rest + over)) (gcd_divides_left over (rest + over)) (gcd_divides_right over (rest + over));
+    lowest = lowest_factor;
   })
     where
       positive : (g j i : ℕ) → g * j ≡ p.before → g * i ≡ p.behind → 0 < i + j

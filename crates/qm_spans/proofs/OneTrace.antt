@@ -3,12 +3,12 @@
 use Rattle.std.proofs.Common.{◌≡◌, ℕ, ◌+◌, ◌-◌, ◌*◌, ◌<◌, ◌≤◌, ℤ, pos, ◌+ℤ◌, ◌*ℤ◌, ◌⊎◌, ⊎_elim, List, [], ◌∷◌, refl, ap, ap₂, sym, subst, ◌∙◌, arith, mul-le-mul, unsigned_abs}
 use Rattle.std.specs.Int.{◌∣◌}
 use Rattle.std.proofs.lemmas.Bool.{cases_lt}
-use Rattle.std.proofs.Math.Nat.{mul-lt-mul_of_pos_right, lt_of_mul-lt-mul_left, dvd-mul_right, dvd_antisymm}
-use Rattle.qm_numbers.specs.Gcd.{gcd, gcd_within}
+use Rattle.std.proofs.Math.Nat.{mul-lt-mul_of_pos_right, lt_of_mul-lt-mul_left, dvd-mul_right, dvd_antisymm, eq-one_of_dvd-one}
+use Rattle.qm_numbers.specs.Gcd.{gcd}
 use Rattle.qm_numbers.proofs.IntegerProducts.{linear, *ℤ_one}
 use Rattle.qm_numbers.proofs.Signs.{abs_product}
 use Rattle.qm_numbers.proofs.Ring.{variable, ◌⊕◌, ◌⊗◌, solved}
-use Rattle.qm_numbers.proofs.Divisors.{gcd_combination}
+use Rattle.qm_numbers.proofs.Divisors.{gcd_combination, gcd_divides_left, gcd_divides_right}
 use Rattle.qm_space.specs.Point.{Point}
 use Rattle.qm_partition.specs.Tree.{Tree}
 use Rattle.qm_partition.specs.LeafOfPoint.{leaf_at}
@@ -49,10 +49,10 @@ swapped_product x y p q r s total same =
     let k = solved (x ∷ y ∷ q ∷ r ∷ s ∷ []) (v 2 ⊗ (v 0 ⊗ v 3 ⊕ v 1 ⊗ v 4)) (v 0 ⊗ (v 3 ⊗ v 2) ⊕ v 1 ⊗ (v 2 ⊗ v 4)) tt in
     omega (arith, linear, e, f, g, h, k)
 
-divides_other : (p q r s : ℕ) → gcd p q ≡ 1 → p * s ≡ r * q → q ∣ s
+divides_other : (p q r s : ℕ) → ((d : ℕ) → d ∣ p → d ∣ q → d ≡ 1) → p * s ≡ r * q → q ∣ s
 divides_other p q r s lowest same =
     let c = gcd_combination p q in
-    let total : (c.x *ℤ pos p) +ℤ (c.y *ℤ pos q) ≡ pos 1 = c.total ∙ ap pos lowest in
+    let total : (c.x *ℤ pos p) +ℤ (c.y *ℤ pos q) ≡ pos 1 = c.total ∙ ap pos (lowest (gcd p q) (gcd_divides_left p q) (gcd_divides_right p q)) in
     let e = swapped_product c.x c.y (pos p) (pos q) (pos r) (pos s) total (ap pos same) in
     let f : s ≡ q * unsigned_abs ((c.x *ℤ pos r) +ℤ (c.y *ℤ pos s)) = ap unsigned_abs e ∙ abs_product (pos q) ((c.x *ℤ pos r) +ℤ (c.y *ℤ pos s)) in
     subst (λ (n : ℕ). q ∣ n) (sym f) (dvd-mul_right q (unsigned_abs ((c.x *ℤ pos r) +ℤ (c.y *ℤ pos s))))
@@ -178,8 +178,7 @@ module _ (leaf_of : Point → ℕ) (a b : Point) where
 -- ---- one trace
 
 start_is_lowest : IsLowestPlace start_place
-unfolding gcd gcd_within
-start_is_lowest = record { some = omega arith; most = omega arith; lowest = refl }
+start_is_lowest = record { some = omega arith; most = omega arith; lowest = λ d zero one. eq-one_of_dvd-one one }
 
 pub one_trace : (tree : Tree) (a b : Point) (one other : List Span) → IsSegmentTrace tree a b one → IsSegmentTrace tree a b other → one ≡ other
 one_trace tree a b one other is_one is_other = one_list (leaf_at tree.planes tree.shape) a b start_place end_place one other start_is_lowest is_one is_other

@@ -1,5 +1,6 @@
-use Rattle.std.specs.Prelude.{◌+◌, ◌*◌, ◌/◌, ℤ, pos, Bool, ◌&&◌, ◌||◌, nat_lt, int_lt, unsigned_abs, if◌then◌else◌}
-use Rattle.qm_numbers.specs.Gcd.{gcd}
+use Rattle.std.specs.Prelude.{ℕ, ◌+◌, ◌*◌, ◌/◌, ℤ, pos, Bool, ◌&&◌, ◌||◌, nat_lt, int_lt, unsigned_abs, if◌then◌else◌}
+use Rattle.std.specs.Int.{IsGcd}
+use Rattle.qm_numbers.proofs.Divisors.{divisor_of_two}
 use Rattle.qm_spans.specs.declared.parting.Parting.{Parting}
 use Rattle.qm_spans.specs.Place.{PlaceOnSegment}
 
@@ -33,8 +34,13 @@ is_behind_after u v from =
     if are_opposed u v then (if is_earlier from (crossing_at u v) then int_lt u (pos 0) else int_lt v (pos 0))
     else (int_lt u (pos 0) || int_lt v (pos 0))
 
+-- a number divides both parts, and whatever divides both divides it; there is one, and no other, so it does not matter how
+-- it is found
+unfoldable pub common_part : (p : Parting) → (g : ℕ) × IsGcd p.before p.behind g
+common_part p = divisor_of_two p.before p.behind
+
 -- the place in lowest terms
 unfoldable pub lowest_place : Parting → PlaceOnSegment
 lowest_place p =
-    let divisor = gcd p.before p.behind in
+    let divisor = (common_part p).0 in
     (p.before / divisor, p.behind / divisor + p.before / divisor)

@@ -1,5 +1,5 @@
 use Rattle.std.specs.Prelude.{◌≡◌, ℕ, ◌+◌, ◌*◌, ◌<◌, ◌≤◌, pos}
-use Rattle.qm_numbers.specs.Gcd.{gcd}
+use Rattle.std.specs.Int.{◌∣◌}
 use Rattle.qm_space.specs.Point.{Point, point_sum, point_times}
 
 -- A segment goes from a point a to a point b. Its points are i * a + j * b, and where a and b have the same w, such a point
@@ -31,4 +31,4 @@ IsEarlierPlace p q = p.0 * q.1 < q.0 * p.1
 pub record IsLowestPlace (p : PlaceOnSegment) : Type 0 where
   pub some : 0 < p.1
   pub most : p.0 ≤ p.1
-  pub lowest : gcd p.0 p.1 ≡ 1
+  pub lowest : (d : ℕ) → d ∣ p.0 → d ∣ p.1 → d ≡ 1
