@@ -238,6 +238,22 @@ takes_models_of_the_compiler() {
     done
 }
 
+# and the faces, which are those that are found without them: cut elsewhere, and with the same owners
+takes_faces_of_the_compiler() {
+    local name count
+    look world gatehouse.map --out grouped.map
+    for name in room rooms8 courtyard grouped; do
+        run_program compile $name.map faced.tree --fast --faces
+        [[ $status == 0 ]] || return 1
+        engine_level $name.map faced.tree faced.bsp
+        [[ $status == 0 ]] && python3 .ci/check_bsp.py "$folder/$name.map" "$folder/faced.tree" "$folder/faced.bsp" || return 1
+        count=$(<"$folder/printed")
+        run_program compile $name.map faced.tree --fast
+        engine_level $name.map faced.tree faced.bsp
+        [[ $count == "$(<"$folder/printed")" ]] || return 1
+    done
+}
+
 refuses_bad_sections() {
     python3 - "$folder" <<'END' || return 1
 import sys
@@ -250,7 +266,7 @@ for name, kind, data in ("bad1", 1, b"QMTREE02"), ("bad3", 3, bytes(5)), ("bad4"
 END
     no_level "bad1.tree is no tree file for a level: section 1 has no tree file: short at byte 8" cube.map bad1.tree kept.bsp || return 1
     no_level "bad3.tree is no tree file for a level: section 3 has no brush models: trailing at byte 4" cube.map bad3.tree kept.bsp || return 1
-    no_level "bad4.tree is no tree file for a level: section 4 has a piece that is none" cube.map bad4.tree kept.bsp
+    no_level "bad4.tree is no tree file for a level: section 4 has no faces: form at byte 8" cube.map bad4.tree kept.bsp
 }
 
 check "levels: words that ask for none get the usage line, and status 2" says_how_levels_are_made
@@ -259,3 +275,4 @@ check "levels: textures come from WADs, or are made, and a dark level has no lig
 check "levels: sections of a tree file are used, and bad ones refused" takes_sections
 check "levels: clip hulls that the compiler writes are used" takes_hulls_of_the_compiler
 check "levels: brush models that the compiler writes are used" takes_models_of_the_compiler
+check "levels: faces that the compiler writes are used" takes_faces_of_the_compiler

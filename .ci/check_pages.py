@@ -25,7 +25,7 @@ import zlib
 
 sys.path.insert(0, str(Path(__file__).resolve().parent.parent / "tools"))
 
-from check_views import Painter
+from check_views import Painter, seen_of
 import colours
 import corners
 from eyes import Eye
@@ -395,7 +395,7 @@ def opened(page, faults):
 
 def main():
     page, tree = Path(sys.argv[1]), treefile.load(sys.argv[2])
-    seen, text = surfaces.seen(tree), page.read_text(encoding="ascii")
+    seen, text = seen_of(tree), page.read_text(encoding="ascii")
     found = list(faults_of_text(text, tree, seen))
     if len(sys.argv) > 3:
         portals, entities = listing.load(sys.argv[3])[1], level_of(text)["entities"]

@@ -3,8 +3,8 @@
 
     .ci/check_qmtree.py FOLDER TREE..
 
-The trees are files of FOLDER, as the compiler wrote them. Beside these stand files that are made here, with rows, clip hulls and brush
-models, good ones and such as are odd in one place; some of them with each byte changed, left out and doubled, and cut off at each;
+The trees are files of FOLDER, as the compiler wrote them. Beside these stand files that are made here, with rows, clip hulls, brush
+models and faces, good ones and such as are odd in one place; some of them with each byte changed, left out and doubled, and cut off at each;
 and edits by chance. The program is compiled as C and as C++ without a warning. It runs with every access to memory checked, if
 the compiler can do that."""
 
@@ -101,6 +101,23 @@ def models(tree):
         yield from places(model.tree)
 
 
+def faces(tree):
+    """What is printed of the faces."""
+    try:
+        found = treefile.read_faces(tree.part(treefile.FACES), tree)
+    except treefile.NoPart:
+        yield "faces: no part - 0"
+        return
+    except treefile.Fault as fault:
+        yield f"faces: bad part {fault.words} {fault.place}"
+        return
+    for piece in found:
+        yield f"leaf {piece.leaf} brush {piece.brush} face {piece.face} corners {len(piece.corners)}"
+        for corner in piece.corners:
+            for number, part in zip(corner, tree.corner(corner)):
+                yield f"plane {number} part", float(part)
+
+
 def due(data):
     """What is printed of a file: texts, and of segments each a text and a number."""
     try:
@@ -109,7 +126,7 @@ def due(data):
         return [str(fault)]
     first = (f"version {tree.version} bound {tree.bound} planes {len(tree.planes)} nodes {len(tree.nodes)} leaves {len(tree.leaves)} "
              f"numbered {tree.numbered()} sections {len(tree.sections)}")
-    return [first, rows(tree), *places(tree), *hulls(tree), *models(tree)]
+    return [first, rows(tree), *places(tree), *hulls(tree), *models(tree), *faces(tree)]
 
 
 def fits(line, wanted):
@@ -117,7 +134,7 @@ def fits(line, wanted):
     if isinstance(wanted, str):
         return line == wanted
     text, _, number = line.rpartition(" ")
-    return text == wanted[0] and abs(float(number) - wanted[1]) < 1e-8
+    return text == wanted[0] and abs(float(number) - wanted[1]) <= max(1e-8, 4e-16 * abs(wanted[1]))
 
 
 def with_sections(rng, bound=treefile.BOUNDS[-1]):
@@ -125,16 +142,22 @@ def with_sections(rng, bound=treefile.BOUNDS[-1]):
     base = treefile.decode(random_tree(rng, 30, True, 2, bound))
     for data in made_sections.model_sections(rng, base.numbered(), bound):
         yield written(base._replace(sections=[treefile.Section(treefile.MODELS, data), treefile.Section(5, b"abc")]))
+    # planes anyhow, some of them far outside, and such as nearly have one direction
+    for planes in base.planes, made_sections.slanted_planes(rng):
+        tree = base._replace(planes=planes, nodes=[node._replace(plane=0) for node in base.nodes])
+        for data in made_sections.face_sections(rng, tree):
+            yield written(tree._replace(sections=[treefile.Section(treefile.FACES, data)]))
     for sections in made_sections.hulls(rng):
         yield written(base._replace(sections=[treefile.Section(*section) for section in sections]))
 
 
 def small():
-    """A small file with a clip hull and two brush models."""
+    """A small file with a clip hull, two brush models and two faces."""
     planes, nodes, leaves = [(1, 0, 0, 0), (0, 0, 1, 32)], [(0, -1, 1), (1, -2, -3)], [(-1, 0), (-2, 0), (-1, 0)]
     tree = tree_file(planes, nodes, leaves, None, 2, 4096)
     section = made_sections.stored([(1, (-1, 2, 3), (4, 5, 6), (0, 1), tree), (3, (0, 0, 0), (0, 0, 0), (1,), tree)])
-    return tree_file(planes, nodes, leaves, [{0, 1}, {1}], 2, 4096, [(1, tree), (3, section)])
+    faces = made_sections.stored_faces([(0, 7, 1, [(0, 1, -3), (0, -4, 1), (-6, -3, 0)]), (2, 0, 0, [(1, 0, -4), (1, -4, -2), (1, 0, -3)])])
+    return tree_file(planes, nodes, leaves, [{0, 1}, {1}], 2, 4096, [(1, tree), (3, section), (4, faces)])
 
 
 def odd_runs():

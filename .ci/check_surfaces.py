@@ -5,7 +5,7 @@
 
 Each face of each leaf is found anew, plane by plane, and cut where the leaves beyond it end. What a face of a solid leaf has
 before a leaf that is not solid is filled once by the surfaces of that leaf there, and all surfaces before solid leaves have
-no more area than this. What a leaf that is not solid has of other contents beyond each of its faces is filled by its surfaces
+no more area than this. Of a tree file with faces these are its surfaces before rock. What a leaf that is not solid has of other contents beyond each of its faces is filled by its surfaces
 of these contents, and no surface lies elsewhere. And the leaves of other contents that it is said to touch are those it touches."""
 
 from collections import defaultdict
@@ -15,9 +15,9 @@ import sys
 sys.path.insert(0, str(Path(__file__).resolve().parent.parent / "tools"))
 
 from cells import Cells
+from check_views import seen_of
 import corners
 from polygons import in_front, split, turned
-import surfaces
 import treefile
 
 MOST_SAID = 20
@@ -93,7 +93,7 @@ def by_place(seen):
 
 
 def faults(tree):
-    seen, due, due_of_solid, given_to_solid = surfaces.seen(tree), defaultdict(int), 0, 0
+    seen, due, due_of_solid, given_to_solid = seen_of(tree), defaultdict(int), 0, 0
     found, touched = by_place(seen), defaultdict(set)
     for leaf, other, plane, piece in contacts(tree, Cells(tree)):
         one, two = tree.leaves[leaf], tree.leaves[other]

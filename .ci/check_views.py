@@ -26,8 +26,10 @@ import colours
 import corners
 from eyes import Eye
 import picture
+import pieces
 from points import leak_line
 from polygons import between
+import sections
 import surfaces
 import treefile
 
@@ -36,6 +38,12 @@ import treefile
 PLACES, RAYS, THROUGH = 5, 200, 10000
 # places are multiples of one by the first of these, and rays have numbers up to the second
 PARTS, FINE = 9973, 1 << 20
+
+
+def seen_of(tree):
+    """What is seen of each leaf, by the faces of the tree file if it has any."""
+    faces = sections.faces(tree)
+    return surfaces.seen(tree) if faces is None else pieces.seen(tree, faces)
 
 
 def dot(a, b):
@@ -237,7 +245,7 @@ def faults_of_end(tree, seen, beyond, node, place, way):
 
 
 def faults(tree, rng):
-    seen = surfaces.seen(tree)
+    seen = seen_of(tree)
     numbered, shown = sorted(seen), {leaf: what.surfaces for leaf, what in seen.items()}
     for at in range(PLACES):
         leaf = rng.choice(numbered)

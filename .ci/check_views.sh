@@ -101,6 +101,37 @@ writes_a_page() {
     refused "section 1 of bad.tree is no clip hull: a tree file with rows or sections"
 }
 
+# walls by the faces of the tree file, in the page and in a picture: in the colours of textures, with lines where faces of brushes end
+draws_walls_by_faces() {
+    local name
+    run_program compile courtyard.map faced.tree --fast --faces
+    [[ $status == 0 ]] || return 1
+    look view faced.tree
+    looked && grep -q '"ends": null' "$folder/printed" && python3 .ci/check_pages.py "$folder/printed" "$folder/faced.tree" || return 1
+    look view faced.tree --map courtyard.map
+    looked && cp "$folder/printed" "$folder/faced.html" || return 1
+    python3 .ci/check_page_faces.py "$folder/faced.html" "$folder/faced.tree" "$folder/courtyard.map" || return 1
+    look picture faced.tree --from 392,-176,110 --to 60,60,50 --map courtyard.map
+    looked && grep -q '<title>leaf [0-9]*, empty, before solid, brush 35, face [0-9], marble</title>' "$folder/printed" || return 1
+    [[ $(grep -c '>brick</text>' "$folder/printed") == 1 && $(grep -c '>wall</text>' "$folder/printed") == 0 ]] || return 1
+    grep -q '<path class="end"' "$folder/printed" || return 1
+    look picture faced.tree --from 392,-176,110 --to 60,60,50
+    looked && [[ $(grep -c '>wall</text>' "$folder/printed") == 1 ]] && ! grep -q '<path class="end"' "$folder/printed" || return 1
+    # a map with layers counts as merged, and of another map there are no textures
+    look world gatehouse.map --out grouped.map
+    run_program compile grouped.map grouped.tree --fast --faces
+    for name in grouped gatehouse; do
+        look picture grouped.tree --from 0,0,64 --to 100,40,64 --map $name.map
+        looked && mv "$folder/printed" "$folder/$name.svg" || return 1
+    done
+    cmp "$folder/grouped.svg" "$folder/gatehouse.svg" || return 1
+    look picture grouped.tree --from 0,0,64 --to 100,40,64 --map courtyard.map
+    [[ $status == 0 && $(<"$folder/said") == "qmlook: grouped.tree was not made from courtyard.map: walls have no textures" ]] || return 1
+    run_program compile made.map faced_made.tree --fast --faces
+    [[ $status == 0 ]] || return 1
+    (cd "$folder" && python3 "$top/.ci/check_surfaces.py" faced.tree faced_made.tree && python3 "$top/.ci/check_views.py" faced.tree)
+}
+
 # eight rooms with a door each, of which a row sees some
 shows_brush_models() {
     bench/made_doors.py 8 >"$folder/doors.map" || return 1
@@ -218,6 +249,7 @@ check "views: surfaces fill the borders of solid leaves once" fills_the_borders_
 check "views: slices of a tree whose planes are fractions agree with it" draws_slices_between_whole_heights
 check "views: pictures and rows have what is seen along rays" shows_what_is_seen_along_rays
 check "views: a page holds its tree, and draws it" writes_a_page
+check "views: walls are drawn by the faces of a tree file, in the colours of their textures" draws_walls_by_faces
 check "views: a page has the brush models of its tree, and lists them" shows_brush_models
 check "views: a page begins at the first player start of the best kind" begins_at_a_start
 check "views: the plan of a page shows the leaves, and fits the room" fits_the_plan_to_the_room

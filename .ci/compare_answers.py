@@ -5,10 +5,11 @@
 
 Of each tree, and of some that are made here, 1,000 queries are asked in one call: places of whole numbers and of decimals, many
 of them on planes of nodes, in the tree, in its clip hulls and in its brush models, segments through these, rows, whether one leaf
-sees another, and models. Then short lists of queries, of which some are refused.
+sees another, models, and faces. Then short lists of queries, of which some are refused.
 """
 
 from fractions import Fraction
+from itertools import islice
 from pathlib import Path
 import random
 import subprocess
@@ -51,7 +52,7 @@ def place(draw, planes, bound):
     """A place, often on a plane across an axis, or next to it."""
     words = [number(draw, draw.randint(-300, 300), bound) for _ in range(3)]
     for plane in draw.choices(planes, k=3) if planes else []:
-        if sorted(plane[:3]) == [0, 0, 1]:
+        if sorted(plane[:3]) == [0, 0, 1] and abs(plane[3]) < 2 * bound:
             words[plane[:3].index(1)] = number(draw, plane[3], bound)
     return ",".join(words)
 
@@ -76,14 +77,24 @@ def brush_models(tree):
         return "bad part"
 
 
+def faces(tree):
+    """The faces, or why they cannot be asked."""
+    try:
+        return tree.faces()
+    except treefile.NoPart:
+        return "no part"
+    except treefile.BadPart:
+        return "bad part"
+
+
 def parts(tree):
-    """What the sections of a tree have, by their kinds: clip hulls and brush models, or why these cannot be asked."""
-    return {**{kind: part(tree, kind) for kind in treefile.HULLS}, treefile.MODELS: brush_models(tree)}
+    """What the sections of a tree have, by their kinds: clip hulls, brush models and faces, or why these cannot be asked."""
+    return {**{kind: part(tree, kind) for kind in treefile.HULLS}, treefile.MODELS: brush_models(tree), treefile.FACES: faces(tree)}
 
 
 def hull_query(draw, tree, hulls):
     """A query for a place in a clip hull, often one that is there."""
-    kind = draw.choice([kind for kind, hull in hulls.items() if isinstance(hull, treefile.Tree)] + list(treefile.HULLS))
+    kind = draw.choice([kind for kind in treefile.HULLS if isinstance(hulls[kind], treefile.Tree)] + list(treefile.HULLS))
     hull = hulls[kind] if isinstance(hulls[kind], treefile.Tree) else tree
     return f"hull={kind}," + place(draw, hull.planes, tree.bound)
 
@@ -110,9 +121,17 @@ def model_query(draw, tree, models):
     return f"model={entity}" + ("," + place(draw, planes, tree.bound) if draw.random() < 0.7 else "")
 
 
+def face_query(draw, found):
+    """A query for a face, often one that is there, or for how many there are."""
+    count = len(found) if isinstance(found, list) else 0
+    return draw.choice(["faces", *[f"face={number}" for number in (*draw.choices(range(count or 1), k=6), count, 10 ** 18 - 1)]])
+
+
 def query(draw, tree, hulls, below):
     """A query of some sort, with numbers of leaves below another."""
-    kind = draw.randrange(24)
+    kind = draw.randrange(27)
+    if kind >= 24:
+        return face_query(draw, hulls[treefile.FACES])
     if kind >= 20:
         return model_query(draw, tree, hulls[treefile.MODELS])
     if kind == 0:
@@ -142,6 +161,8 @@ def answer(tree, hulls, word):
         return answer_hull(hulls[int(values[0])], point(tree, values[1:]))
     if verb == "model":
         return answer_model(tree, hulls[treefile.MODELS], values)
+    if verb in ("face", "faces"):
+        return answer_faces(tree, hulls[treefile.FACES], rest)
     if verb == "trace":
         return answer_trace(tree, *ends(tree, values))
     if verb == "hulltrace":
@@ -183,6 +204,27 @@ def answer_model(tree, models, values):
     if place:
         return f"model {entity} {model.tree.leaves[model.tree.leaf_at(place)].contents}"
     return " ".join(map(str, ["model", entity, "box", *model.low, *model.high, "leaves", *model.leaves]))
+
+
+def answer_faces(tree, found, number):
+    """The line of a face, or of how many there are where no number is given."""
+    if not isinstance(found, list):
+        raise Refused(found)
+    if not number:
+        return f"faces {len(found)}"
+    if int(number) >= len(found):
+        raise Refused("no such face")
+    piece = found[int(number)]
+    corners = "".join(f" ({''.join(f'{coordinate(part)} ' for part in tree.corner(corner))})" for corner in piece.corners)
+    return f"face {number} leaf {piece.leaf} brush {piece.brush} face {piece.face}{corners}"
+
+
+def coordinate(number):
+    """A coordinate as a listing of portals spells it: six decimals, to the nearest and a half away from 0, unless it is whole."""
+    if number.denominator == 1:
+        return str(number)
+    millionths = (2 * 1000000 * abs(number.numerator) // number.denominator + 1) // 2
+    return f"{'-' if number < 0 and millionths else ''}{millionths // 1000000}.{millionths % 1000000:06}"
 
 
 def ends(tree, values):
@@ -235,6 +277,9 @@ def lists(tree, hulls, count):
         yield ["count", f"model={entity},{tree.bound},0,0"]
         yield [f"model={entity},0,0,0", f"model={entity}"]
         yield [f"model={entity}", "model=0"]
+    yield ["faces", "face=0", "face=1"]
+    yield ["face=77777777777", "faces"]
+    yield ["face=0", f"at={tree.bound},0,0"]
     for kind in treefile.HULLS:
         yield [f"hull={kind},{tree.bound},0,0"]
         yield [f"hull={kind},0,0,0", f"hull={kind},0,-{tree.bound},0"]
@@ -258,8 +303,8 @@ def near_tree(draw, count):
 
 def made(folder):
     """The names of trees that are made in a folder: of slanted planes, with rows of which one can lack a leaf whose row has its
-    own, without rows, and with long rows; of both versions, in a large world, and with sections, of which some are clip hulls or brush
-models, and others have what these have not: rows, sections, another version or bound, or something behind."""
+    own, without rows, and with long rows; of both versions, in a large world, and with sections, of which some are clip hulls, brush
+    models or faces, and others have what these have not: rows, sections, another version or bound, or something behind."""
     draw = random.Random(2)
     trees = {"slanted": made_trees.random_tree(draw, 90, True), "without": made_trees.random_tree(draw, 90, False),
              "long": made_trees.long_tree(700), "first": made_trees.random_tree(draw, 40, True, 1),
@@ -274,6 +319,11 @@ models, and others have what these have not: rows, sections, another version or 
     base = treefile.decode(made_trees.random_tree(draw, 40, True, 2, treefile.BOUNDS[-1]))
     for number, data in enumerate(made_sections.model_sections(draw, base.numbered())):
         trees[f"models{number}"] = made_trees.written(base._replace(sections=[treefile.Section(treefile.MODELS, data)]))
+    for planes in base.planes, made_sections.slanted_planes(draw):
+        tree = base._replace(planes=planes, nodes=[node._replace(plane=0) for node in base.nodes])
+        # what is odd is told alike of all planes
+        for data in islice(made_sections.face_sections(draw, tree), None if planes is base.planes else 3):
+            trees[f"faces{len(trees)}"] = made_trees.written(tree._replace(sections=[treefile.Section(treefile.FACES, data)]))
     for name, data in trees.items():
         Path(folder, f"{name}.tree").write_bytes(data)
         yield f"{folder}/{name}.tree"
@@ -283,8 +333,8 @@ def faults(program, name):
     """For each list of queries to a tree what is wrong with its answers, or None."""
     tree = treefile.load(name)
     hulls = parts(tree)
-    # there are many that differ in their models alone
-    for words in lists(tree, hulls, 10 if "models" in Path(name).name else 100):
+    # there are many that differ in their models or faces alone
+    for words in lists(tree, hulls, 10 if Path(name).name.startswith(("models", "faces")) else 100):
         ran = subprocess.run([program, "inspect", name, *words], capture_output=True, text=True, check=False)
         found, wanted = (ran.returncode, ran.stdout + ran.stderr), due(tree, hulls, words)
         yield None if found == wanted else f"{name}, asked {words[:6]}: {str(found)[:300]}, and due are {str(wanted)[:300]}"

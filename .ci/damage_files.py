@@ -5,8 +5,8 @@
 
 Each bit of a small file of both versions is turned; files of other programs, and headers that promise what no file has, are read;
 and larger files are edited by chance, 200 times in all where no number is named: bits turned, bytes put in, left out, doubled, moved
-and cut off, records exchanged, numbers replaced by such as stand at an end of their type. So are a clip hull and brush models in a
-section of a whole file: they are cut off at each byte, and each byte is changed, left out and doubled; and larger ones are edited.
+and cut off, records exchanged, numbers replaced by such as stand at an end of their type. So are a clip hull, brush models and faces
+in a section of a whole file: they are cut off at each byte, and each byte is changed, left out and doubled; and larger ones are edited.
 Each has to end with 0 and what the slow reader counts, or with 8 and the slow reader's fault and place, or with 9 where the slow
 reader refuses the section; and with a peak of memory that is at most `MOST` times as long as the file, beside what a run takes that
 reads an empty one. Where READER is named, the program `file_faults`, listings of portals are damaged too, and as many edited, and
@@ -50,9 +50,11 @@ def due_of_tree(data):
                f"rows {'no' if tree.rows is None else 'yes'}\n")
 
 
-# what is asked of files with clip hulls, and of such with brush models; of one of these the answer depends on each plane
+# what is asked of files with clip hulls, of such with brush models, and of such with faces; of one of the first the answer depends on
+# each plane
 HULLS_ASKED = ["parts", "hull=2,1,1,1", "hull=1,0.5,-20,33"]
 MODELS_ASKED = ["parts", "model=3", "model=3,0.5,-20,33", "model=9"]
+FACES_ASKED = ["parts", "faces", "face=0", "face=1", "face=2"]
 
 
 def due_of(asked):
@@ -133,6 +135,20 @@ def damaged_models():
     yield with_models(two)
     yield from map(with_models, damaged(two))
     yield from map(with_models, made_sections.model_sections(random.Random(4), 4, 4096))
+
+
+def with_faces(data, bound=4096):
+    """A whole file of three leaves with some bytes as its section of faces."""
+    return tree_file(*SMALL, [{0, 1}, {1}], 2, bound, [(4, data), (7, b"abc")])
+
+
+def damaged_faces():
+    """Files in which the bytes of three small faces are damaged, one at a time, and such as are odd in one place."""
+    three = made_sections.stored_faces([(0, 7, 1, [(0, 1, -3), (0, -4, 1), (-6, -3, 0)]), (2, 0, 0, [(1, 0, -4), (1, -4, -2), (-5, 0, -3), (-1, -5, -3)]),
+                                        (1, 2 ** 64 - 1, 2 ** 32 - 1, [(0, 1, -3)] * 3)])
+    yield with_faces(three)
+    yield from map(with_faces, damaged(three))
+    yield from map(with_faces, made_sections.face_sections(random.Random(6), treefile.decode(with_faces(three))))
 
 
 def others():
@@ -240,6 +256,18 @@ def larger_models():
         yield written(base._replace(sections=[treefile.Section(3, made_sections.stored(models))]))
 
 
+def larger_faces():
+    """Larger files with faces, of planes with small numbers and with large ones."""
+    rng = random.Random(12)
+    for bound in treefile.BOUNDS:
+        base = treefile.decode(random_tree(rng, 80, True, 2, bound))
+        tree = base._replace(planes=made_sections.slanted_planes(rng), nodes=[node._replace(plane=0) for node in base.nodes])
+        corners = [corner for corner in ([rng.randrange(-6, len(tree.planes)) for _ in range(3)] for _ in range(900))
+                   if treefile.meeting(*map(tree.named_plane, corner))[3]]
+        pieces = [(rng.randrange(len(tree.leaves)), rng.randrange(99), rng.randrange(9), rng.choices(corners, k=rng.randrange(3, 9))) for _ in range(60)]
+        yield written(tree._replace(sections=[treefile.Section(4, made_sections.stored_faces(pieces))]))
+
+
 def larger_listings():
     """Larger listings."""
     rng = random.Random(5)
@@ -312,6 +340,14 @@ def try_models(program, edits):
     return damage
 
 
+def try_faces(program, edits):
+    """Damages faces in sections of tree files."""
+    damage = Damage([program, "inspect", "damaged.tree", *FACES_ASKED], "damaged.tree", due_of(FACES_ASKED))
+    damage.try_all("bytes of faces", damaged_faces())
+    damage.try_all("edits of faces", edits_of([*larger_faces()], edits))
+    return damage
+
+
 def try_listings(reader, files, edits):
     """Damages listings."""
     damage = Damage([reader, "read", "damaged.prt"], "damaged.prt", due_of_listing)
@@ -330,6 +366,7 @@ def main(program, edits=200, reader=None, *named):
         damages.append(try_trees(program, trees, edits))
         damages.append(try_hulls(program, edits))
         damages.append(try_models(program, edits))
+        damages.append(try_faces(program, edits))
         if reader:
             damages.append(try_listings(reader, listings, edits))
         os.chdir("/")

@@ -5,6 +5,7 @@
     made_sections.py model MAP ENTITY  prints a map whose tree is that of an entity
     made_sections.py add TREE OUT [KIND:TREE | 3:ENTITY:TREE | 4].. adds sections to a tree file; 4 are the faces of one cube"""
 
+from math import gcd
 from pathlib import Path
 from struct import pack
 import sys
@@ -58,9 +59,18 @@ def model(entity, name):
     return stored([(entity, (0, 0, 0), (0, 0, 0), (), bytes_of(name))])
 
 
+def stored_faces(pieces, count=None):
+    """The bytes of a section with faces: each a leaf, a brush, a face, and corners of three numbers of planes. Where a count is given
+    the section says that there are so many."""
+    parts = [pack("<Q", len(pieces) if count is None else count)]
+    for leaf, brush, face, corners in pieces:
+        parts.append(pack(f"<QQII{3 * len(corners)}q", leaf, brush, face, len(corners), *(number for corner in corners for number in corner)))
+    return b"".join(parts)
+
+
 def cube_faces(tree):
     """The bytes of the faces of the cube of samples/cube.map, whose planes are in the order of its faces."""
-    parts = [pack("<Q", 6)]
+    pieces = []
     for face in range(6):
         axis, is_high = face // 2, face % 2
         outside = [32, 32, 32]
@@ -68,9 +78,8 @@ def cube_faces(tree):
         one, other = (axis + 1) % 3, (axis + 2) % 3
         corners = [(2 * one + a, 2 * other + b) for a, b in ((0, 0), (1, 0), (1, 1), (0, 1))]
         corners = corners[::-1] if is_high else corners
-        parts.append(pack("<QQII", tree.leaf_at(outside), 0, face, 4))
-        parts += [pack("<3q", face, *both) for both in corners]
-    return b"".join(parts)
+        pieces.append((tree.leaf_at(outside), 0, face, [(face, *both) for both in corners]))
+    return stored_faces(pieces)
 
 
 def sections(tree, words):
@@ -132,6 +141,48 @@ def model_sections(draw, numbered, bound=treefile.BOUNDS[-1]):
     yield stored([(0, *good[0][1:])])[:-1]
     yield pack("<IQ6iQ", 1, 0, *(9,) * 6, 2 ** 61) + bytes(80)
     yield pack("<IQ6iQQ", 1, 5, *(9,) * 6, 0, 2 ** 64 - 1) + bytes(80)
+
+
+def slanted_planes(draw):
+    """Planes anyhow: of numbers up to their bounds, and with normals that differ by 1 in one number, so that three of them nearly have
+    one direction."""
+    found = [(1, 0, 0, 0), (0, 1, 0, 2 ** 44), (0, 0, 1, -(2 ** 44)), (2 ** 26, 2 ** 26 - 1, 2 ** 26 - 1, 2 ** 44)]
+    for _ in range(4):
+        normal = [draw.randrange(1, 2 ** draw.choice((3, 12, 26))) for _ in range(3)]
+        for other in (normal, [normal[0] + 1, *normal[1:]], [*normal[:2], normal[2] + 1], [2 * number + 1 for number in normal]):
+            if max(other) <= 2 ** 26:
+                found.append((*other, draw.randrange(-(2 ** 44), 2 ** 44) | 1))
+    return [treefile.Plane(*plane) for plane in found if gcd(*plane) == 1]
+
+
+def face_sections(draw, tree):
+    """The bytes of sections with faces, for a tree: first some that are good, and then such as are odd in one place."""
+    corners = [(own, before, after) for own in range(-6, len(tree.planes)) for before in range(-6, len(tree.planes))
+               for after in range(-6, len(tree.planes)) if treefile.meeting(*map(tree.named_plane, (own, before, after)))[3]]
+    some, leaves, far = draw.sample(corners, 12), len(tree.leaves), 2 ** 63
+    good = [(0, 0, 0, some[:3]), (leaves - 1, 2 ** 64 - 1, 2 ** 32 - 1, some[3:8]), (0, 0, 0, some[8:])]
+    yield stored_faces(good)
+    yield stored_faces([])
+    yield stored_faces([(leaf % leaves, leaf, 3, draw.choices(corners, k=3)) for leaf in range(150)])
+    for leaf in leaves, far, 2 * far - 1:
+        yield stored_faces([good[0], (leaf, 0, 0, some)])
+    for count in range(3):
+        yield stored_faces([good[0], (0, 0, 0, some[:count]), good[1]])
+    for at in range(3):
+        for number in -7, len(tree.planes), far - 1, -far, -2 ** 32:
+            odd = (*some[0][:at], number, *some[0][at + 1:])
+            yield stored_faces([good[0], (0, 0, 0, [*some[1:4], odd]), good[1]])
+    one, other, _ = some[0]
+    for odd in (one, one, other), (one, other, one), (other, one, one), (-1, other, -2), (-3, -4, other):
+        yield stored_faces([good[0], (0, 0, 0, [odd, *some[1:4]])])
+    yield stored_faces(good) + b"x"
+    yield stored_faces(good)[:-1]
+    for count in 0, 2, 4, far, 2 * far - 1:
+        yield stored_faces(good, count)
+    yield b""
+    # what is odd in a piece that is cut off is not looked at
+    yield stored_faces([(leaves, 0, 0, some)])[:-1]
+    yield pack("<QQQII", 1, 0, 0, 0, 2 ** 32 - 1) + bytes(80)
 
 
 def main():

@@ -56,6 +56,61 @@ static void print_models(const qm_tree *tree) {
     qm_free_models(&models);
 }
 
+/* the section by itself too, as above */
+static void print_faces(const qm_tree *tree) {
+    qm_faces faces = {0, NULL};
+    uint64_t size, place = 0;
+    const unsigned char *bytes = qm_section(tree, QM_FACES, &size);
+    const char *fault = bytes ? qm_read_faces(bytes, size, tree, &faces, &place) : NULL, *why;
+    qm_free_faces(&faces);
+    why = qm_load_faces(tree, &faces);
+    if (why) printf("faces: %s %s %llu\n", why, fault ? fault : "-", (unsigned long long)place);
+    for (int64_t at = 0; at < faces.count; at++) {
+        const qm_face *face = &faces.list[at];
+        printf("leaf %lld brush %llu face %lu corners %lu\n", (long long)face->leaf, (unsigned long long)face->brush,
+               (unsigned long)face->face, (unsigned long)face->corners);
+        for (uint32_t corner = 0; corner < face->corners; corner++) {
+            double point[3] = {0, 0, 0};
+            qm_corner(tree, face, corner, point);
+            for (int which = 0; which < 3; which++)
+                printf("plane %lld part %.17g\n", (long long)qm_corner_plane(face, corner, which), point[which]);
+        }
+    }
+    qm_free_faces(&faces);
+}
+
+/* prints nothing if contacts go both ways between numbered leaves of different contents, and what they add to rows is there */
+static void try_contacts(const qm_tree *tree) {
+    size_t size = qm_row_size(tree) + 1;
+    unsigned char *row = (unsigned char *)calloc(size, 1), *all = (unsigned char *)calloc(size, 1);
+    int *held = (int *)calloc((size_t)tree->numbered + 1, sizeof(int));
+    qm_contacts contacts;
+    int64_t own = 0, sum = 0;
+    if (qm_find_contacts(tree, &contacts)) {
+        printf("contacts find no memory\n");
+    } else {
+        for (int64_t leaf = 0; leaf < tree->leaves; leaf++)
+            if (qm_number_of(tree, leaf) >= 0) held[qm_number_of(tree, leaf)] = qm_contents(tree, leaf);
+        for (; own < tree->numbered; own++) {
+            row[own >> 3] = (unsigned char)(1 << (own & 7));
+            memset(all, 0, size);
+            qm_add_touching(tree, &contacts, row, all);
+            for (int64_t at = contacts.first[own]; at < contacts.first[own + 1]; at++) {
+                int64_t other = contacts.others[at];
+                if (held[other] == held[own] || !qm_holds(all, other)) printf("contacts of %lld are wrong\n", (long long)own);
+                sum += own * 7 + other * other - other * 7 - own * own;
+            }
+            qm_add_through(tree, &contacts, row, all);
+            row[own >> 3] = 0;
+        }
+        if (sum || all[size - 1]) printf("contacts go one way\n");
+        qm_free_contacts(&contacts);
+    }
+    free(row);
+    free(all);
+    free(held);
+}
+
 int main(void) {
     unsigned char length[8];
     while (fread(length, 1, 8, stdin) == 8) {
@@ -79,6 +134,8 @@ int main(void) {
                 qm_free(&hull);
             }
             print_models(&tree);
+            print_faces(&tree);
+            try_contacts(&tree);
         }
         printf(".\n");
         qm_free(&tree);

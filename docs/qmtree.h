@@ -1,12 +1,12 @@
 /* qmtree.h: loads a tree file that `qmapc compile` wrote, and asks it what an engine asks: the leaf of a point, what may be seen
-   from there, what a segment meets, where a player's box fits, and which doors and lifts to draw.
+   from there, what a segment meets, where a player's box fits, which doors and lifts to draw, and the faces of the level.
 
    One file, for C99 and C++11, that needs the C library alone: put it beside your sources and include it. docs/TREEFILE.md
    describes the tree file, and shows each of these functions in use.
 
    qm_load checks the whole file, so whatever bytes you give it, no function below reads outside of them. Leaves and numbers that you
    pass have to be such as the functions return, but where something else is said. The bytes stay yours: keep them as long as you use
-   the tree, its hulls and its models. Nothing is changed by asking, so several threads may ask.
+   the tree, its hulls, its models and its faces. Nothing is changed by asking, so several threads may ask.
 
 MIT License
 
@@ -41,8 +41,8 @@ SOFTWARE.
 /* what a leaf holds */
 enum { QM_EMPTY = -1, QM_SOLID = -2, QM_WATER = -3, QM_SLIME = -4, QM_LAVA = -5, QM_SKY = -6 };
 
-/* the kinds of the sections that are known here: the clip hulls of players and of large monsters, and brush models */
-enum { QM_HULL_1 = 1, QM_HULL_2 = 2, QM_MODELS = 3 };
+/* the kinds of the sections that are known here: the clip hulls of players and of large monsters, brush models, and faces */
+enum { QM_HULL_1 = 1, QM_HULL_2 = 2, QM_MODELS = 3, QM_FACES = 4 };
 
 /* a tree. The numbers may be read; the rest is for the functions */
 typedef struct {
@@ -76,6 +76,27 @@ typedef struct {
     qm_model *list;                             /* their entities ascend */
 } qm_models;
 
+/* a piece of the surface between what is solid and a leaf that is not: this leaf; the brush to which the piece belongs, by its number
+   among those of the world that are not clip, and the number of its face there; and how many corners the piece has, 3 or more. They
+   go round with the clock as seen from the leaf, and qm_corner gives them */
+typedef struct {
+    int64_t leaf;
+    uint64_t brush;
+    uint32_t face, corners;
+    const unsigned char *corner_bytes;
+} qm_face;
+
+typedef struct {
+    int64_t count;
+    qm_face *list;
+} qm_faces;
+
+/* which numbered leaves touch each other and hold different contents, such as air above water. Rows do not know these */
+typedef struct {
+    int64_t *first;                             /* where the leaves that touch a numbered leaf begin in `others`, and, at last, their end */
+    int64_t *others;                            /* numbers of leaves, in no order */
+} qm_contacts;
+
 /* Loading. A function that returns a text returns NULL if all is well; else the text says why. */
 
 /* loads a whole file. What is no tree file is refused by its first fault: "short", "magic", "counts", "header form", "plane form",
@@ -98,6 +119,16 @@ static inline void qm_free_models(qm_models *models);
    "trailing", at an offset of these bytes */
 static inline const char *qm_read_models(const unsigned char *bytes, uint64_t size, int32_t bound, int64_t numbered,
                                          qm_models *models, uint64_t *place);
+
+/* loads all faces, with the same answers; and of bytes by themselves, as a section of this tree */
+static inline const char *qm_load_faces(const qm_tree *tree, qm_faces *faces);
+static inline void qm_free_faces(qm_faces *faces);
+
+/* finds all contacts of leaves with different contents, once for a level, or says "no memory". Contacts narrower than a
+   hundred-thousandth of a unit are left out */
+static inline const char *qm_find_contacts(const qm_tree *tree, qm_contacts *contacts);
+static inline void qm_free_contacts(qm_contacts *contacts);
+static inline const char *qm_read_faces(const unsigned char *bytes, uint64_t size, const qm_tree *tree, qm_faces *faces, uint64_t *place);
 
 /* Asking. A point on the plane of a node counts to its front. Coordinates are double, which is exact for whole ones, and for quarters
    and the like; next to a slanted plane other points can come out on its wrong side. */
@@ -125,6 +156,13 @@ static inline int qm_holds(const unsigned char *row, int64_t number);
 /* whether the row of one numbered leaf holds another; 0 if there is no such row or leaf */
 static inline int qm_sees(const qm_tree *tree, int64_t number, int64_t other);
 
+/* adds to `all`, as large as a decoded row and another one, the leaves of other contents that touch those of a decoded row: the surface
+   of water as seen from the air */
+static inline void qm_add_touching(const qm_tree *tree, const qm_contacts *contacts, const unsigned char *row, unsigned char *all);
+
+/* the same, and all that the rows of these leaves hold: what may be seen through that surface */
+static inline void qm_add_through(const qm_tree *tree, const qm_contacts *contacts, const unsigned char *row, unsigned char *all);
+
 /* the span of a segment that begins at a part of it, from 0 on: begin at 0, and go on at `to` while that is less than 1 */
 static inline qm_span qm_span_at(const qm_tree *tree, const double from[3], const double to[3], double at);
 
@@ -143,6 +181,13 @@ static inline int qm_is_drawn(const qm_model *model, const unsigned char *row);
 /* whether a decoded row holds a leaf that a box touches, such as that of a model that has moved. Also 1 in a tree so deep, more than
    1,024 nodes one below another, that this is not found out */
 static inline int qm_box_is_drawn(const qm_tree *tree, const unsigned char *row, const double low[3], const double high[3]);
+
+/* the numbers of the three planes that meet in a corner of a face, from 0 on: that of the face, of the edge to the corner before, and
+   of the edge to the next one. From 0 on a number is that of a plane of the file; -1 to -6 are the walls of the cube */
+static inline int64_t qm_corner_plane(const qm_face *face, uint32_t corner, int which);
+
+/* the corner as a point: each coordinate is the nearest double, or the one next to it */
+static inline void qm_corner(const qm_tree *tree, const qm_face *face, uint32_t corner, double point[3]);
 
 
 /* The numbers of a file */
@@ -486,6 +531,146 @@ static inline void qm_free_models(qm_models *models) {
     memset(models, 0, sizeof *models);
 }
 
+/* the plane of a number, or 0 where there is none: its normal and its distance. A wall of the cube is turned inward */
+static inline int qm_named_plane(const qm_tree *tree, int64_t number, int64_t plane[4]) {
+    int axis;
+    if (number >= tree->planes || number < -6) return 0;
+    if (number >= 0) {
+        const unsigned char *at = tree->plane_bytes + 20 * number;
+        for (axis = 0; axis < 3; axis++) plane[axis] = qm_i32(at + 4 * axis);
+        plane[3] = qm_i64(at + 12);
+    } else {
+        for (axis = 0; axis < 3; axis++) plane[axis] = (-1 - number) / 2 != axis ? 0 : (-1 - number) % 2 ? -1 : 1;
+        plane[3] = -(int64_t)tree->bound;
+    }
+    return 1;
+}
+
+/* the direction across the normals of two planes */
+static inline void qm_across(const int64_t one[4], const int64_t other[4], int64_t across[3]) {
+    int axis;
+    for (axis = 0; axis < 3; axis++)
+        across[axis] = one[(axis + 1) % 3] * other[(axis + 2) % 3] - one[(axis + 2) % 3] * other[(axis + 1) % 3];
+}
+
+/* rounded down: a number over a power of two */
+static inline int64_t qm_over(int64_t number, int bits) { return number >= 0 ? number >> bits : -1 - ((-1 - number) >> bits); }
+
+/* the sum of three products, each of a number up to 2^44 and one up to 2^53, both also below 0: the nearest double, and 0 for 0 alone */
+static inline double qm_sum(const int64_t one[3], const int64_t other[3]) {
+    const int64_t low_24 = (int64_t)1 << 24, low_30 = (int64_t)1 << 30, low_54 = (int64_t)1 << 54;
+    int64_t high = 0, middle = 0, low = 0;
+    int at;
+    for (at = 0; at < 3; at++) {
+        int64_t a = qm_over(one[at], 24), b = one[at] - a * low_24, c = qm_over(other[at], 30), d = other[at] - c * low_30;
+        high += a * c;                /* times 2^54 */
+        middle += 64 * b * c + a * d; /* times 2^24 */
+        low += b * d;
+    }
+    middle += qm_over(low, 24);
+    low -= qm_over(low, 24) * low_24;
+    high += qm_over(middle, 30);
+    low += (middle - qm_over(middle, 30) * low_30) * low_24;
+    if (low > low_54 / 2) {
+        low -= low_54;
+        high++;
+    }
+    return (double)high * (double)low_54 + (double)low;
+}
+
+/* the weight of the point in which three planes meet, 0 where they meet in no point alone, and with it the point if that is wanted */
+static inline double qm_meeting(int64_t planes[3][4], double *point) {
+    int64_t across[3][3], ends[3], parts[3];
+    double weight;
+    int at, axis;
+    for (at = 0; at < 3; at++) {
+        qm_across(planes[(at + 1) % 3], planes[(at + 2) % 3], across[at]);
+        ends[at] = planes[at][3];
+    }
+    weight = qm_sum(planes[0], across[0]);
+    for (axis = 0; point && axis < 3; axis++) {
+        for (at = 0; at < 3; at++) parts[at] = across[at][axis];
+        point[axis] = qm_sum(ends, parts) / weight;
+    }
+    return weight;
+}
+
+static inline int64_t qm_corner_plane(const qm_face *face, uint32_t corner, int which) {
+    return qm_i64(face->corner_bytes + 24 * (uint64_t)corner + 8 * which);
+}
+
+/* the three planes of a corner, or 0 where one is not there */
+static inline int qm_corner_planes(const qm_tree *tree, const qm_face *face, uint32_t corner, int64_t planes[3][4]) {
+    int which;
+    for (which = 0; which < 3; which++)
+        if (!qm_named_plane(tree, qm_corner_plane(face, corner, which), planes[which])) return 0;
+    return 1;
+}
+
+/* the next face; once all its bytes are there its form is looked at */
+static inline int qm_read_face(qm_reader *in, const qm_tree *tree, qm_face *face) {
+    uint64_t begin = in->at;
+    int64_t planes[3][4];
+    uint32_t corner;
+    const unsigned char *at = qm_take(in, 24);
+    int good;
+    if (!at) return 0;
+    good = qm_u64(at) < (uint64_t)tree->leaves && qm_u32(at + 20) >= 3;
+    face->leaf = qm_i64(at);
+    face->brush = qm_u64(at + 8);
+    face->face = qm_u32(at + 16);
+    face->corners = qm_u32(at + 20);
+    if (!(face->corner_bytes = qm_take(in, 24 * (uint64_t)face->corners))) return 0;
+    for (corner = 0; good && corner < face->corners; corner++)
+        good = qm_corner_planes(tree, face, corner, planes) && qm_meeting(planes, NULL) != 0;
+    return good || qm_fail(in, "form", begin);
+}
+
+static inline const char *qm_read_faces(const unsigned char *bytes, uint64_t size, const qm_tree *tree, qm_faces *faces, uint64_t *place) {
+    qm_reader in;
+    const unsigned char *at;
+    uint64_t due;
+    int64_t room = 0;
+    memset(&in, 0, sizeof in);
+    memset(faces, 0, sizeof *faces);
+    in.bytes = bytes;
+    in.size = size;
+    at = qm_take(&in, 8);
+    for (due = at ? qm_u64(at) : 0; due > 0 && !in.fault; due--) {
+        if (faces->count == room) {
+            int64_t more = room ? 2 * room : 64;
+            void *list = (uint64_t)more > SIZE_MAX / sizeof(qm_face) ? NULL : realloc(faces->list, (size_t)more * sizeof(qm_face));
+            if (!list) {
+                qm_fail(&in, "no memory", 0);
+                break;
+            }
+            faces->list = (qm_face *)list;
+            room = more;
+        }
+        if (qm_read_face(&in, tree, &faces->list[faces->count])) faces->count++;
+    }
+    if (!in.fault && in.at < size) qm_fail(&in, "trailing", in.at);
+    if (!in.fault) return NULL;
+    if (place) *place = in.place;
+    qm_free_faces(faces);
+    return in.fault;
+}
+
+static inline const char *qm_load_faces(const qm_tree *tree, qm_faces *faces) {
+    uint64_t size;
+    const unsigned char *bytes = qm_section(tree, QM_FACES, &size);
+    const char *fault;
+    memset(faces, 0, sizeof *faces);
+    if (!bytes) return "no part";
+    fault = qm_read_faces(bytes, size, tree, faces, NULL);
+    return fault && strcmp(fault, "no memory") ? "bad part" : fault;
+}
+
+static inline void qm_free_faces(qm_faces *faces) {
+    free(faces->list);
+    memset(faces, 0, sizeof *faces);
+}
+
 /* Asking */
 
 static inline int64_t qm_root(const qm_tree *tree) { return tree->nodes ? 0 : -1; }
@@ -634,6 +819,212 @@ static inline int qm_box_is_drawn(const qm_tree *tree, const unsigned char *row,
         if (most >= -slack) waiting[count++] = qm_child(node, 1);
     }
     return 0;
+}
+
+static inline void qm_corner(const qm_tree *tree, const qm_face *face, uint32_t corner, double point[3]) {
+    int64_t planes[3][4];
+    if (qm_corner_planes(tree, face, corner, planes)) qm_meeting(planes, point);
+}
+
+/* Contacts. At each node the part of its plane inside the node's cell is found, as a convex polygon, and is then cut by the nodes below,
+   first on the front and then on the back, so that each piece lies between two leaves. */
+
+#define QM_CORNERS 64
+
+/* a polygon, its corners one after another, between what is in front of it and what is behind it */
+typedef struct {
+    int64_t front, back;
+    int count;
+    double corners[3 * QM_CORNERS];
+} qm_pane;
+
+/* what has room for more items; they stay where they are if there is no memory */
+typedef struct {
+    void *items;
+    size_t count, room, size;
+} qm_stack;
+
+static inline int qm_push(qm_stack *stack, const void *item) {
+    if (stack->count == stack->room) {
+        size_t room = 2 * stack->room + 16;
+        void *more = room > (size_t)-1 / stack->size ? NULL : realloc(stack->items, room * stack->size);
+        if (!more) return 0;
+        stack->items = more;
+        stack->room = room;
+    }
+    memcpy((unsigned char *)stack->items + stack->size * stack->count++, item, stack->size);
+    return 1;
+}
+
+/* how far in front of a plane of doubles a corner is, as a multiple of the normal's length; 0 if it is next to the plane */
+static inline double qm_corner_side(const double plane[4], const double *corner) {
+    double side = plane[0] * corner[0] + plane[1] * corner[1] + plane[2] * corner[2] - plane[3];
+    double length = plane[0] * plane[0] + plane[1] * plane[1] + plane[2] * plane[2];
+    return side * side <= 1e-10 * length ? 0 : side;
+}
+
+/* what a polygon has on one side of a plane: whether there is anything. A polygon on the plane counts to its front */
+static inline int qm_cut(const qm_pane *from, const double plane[4], int to_front, qm_pane *part) {
+    int at, count = 0, is_there = 0, is_on = 1;
+    double sign = to_front ? 1 : -1;
+    if (from->count == QM_CORNERS) {
+        /* no room for another corner: the whole is too much, and leaves nothing out */
+        *part = *from;
+        return 1;
+    }
+    for (at = 0; at < from->count; at++) {
+        const double *here = from->corners + 3 * at, *next = from->corners + 3 * ((at + 1) % from->count);
+        double side = sign * qm_corner_side(plane, here), beyond = sign * qm_corner_side(plane, next);
+        int axis;
+        is_there |= side > 0;
+        is_on &= !(side < 0 || side > 0);
+        if (side >= 0 && count < QM_CORNERS) memcpy(part->corners + 3 * count++, here, 3 * sizeof *here);
+        if (((side > 0 && beyond < 0) || (side < 0 && beyond > 0)) && count < QM_CORNERS) {
+            for (axis = 0; axis < 3; axis++)
+                part->corners[3 * count + axis] = here[axis] + side / (side - beyond) * (next[axis] - here[axis]);
+            count++;
+        }
+    }
+    part->front = from->front;
+    part->back = from->back;
+    part->count = count;
+    return is_there || (is_on && to_front);
+}
+
+static inline void qm_plane_doubles(const unsigned char *bytes, double plane[4]) {
+    int axis;
+    for (axis = 0; axis < 3; axis++) plane[axis] = qm_i32(bytes + 4 * axis);
+    plane[3] = (double)qm_i64(bytes + 12);
+}
+
+/* the part of a node's plane inside the node's cell: whether there is any. `above` has the node above each node */
+static inline int qm_pane_of(const qm_tree *tree, const int64_t *above, int64_t node, qm_pane *pane) {
+    double plane[4], bound = tree->bound;
+    int axis = 0, at, end;
+    qm_pane part;
+    qm_plane_doubles(qm_plane(tree, qm_node(tree, node)), plane);
+    for (at = 1; at < 3; at++)
+        if (plane[at] * plane[at] > plane[axis] * plane[axis]) axis = at;
+    pane->front = qm_child(qm_node(tree, node), 1);
+    pane->back = qm_child(qm_node(tree, node), 0);
+    pane->count = 4;
+    for (at = 0; at < 4; at++) {
+        double *corner = pane->corners + 3 * at;
+        int one = (axis + 1) % 3, other = (axis + 2) % 3;
+        corner[one] = at == 1 || at == 2 ? bound : -bound;
+        corner[other] = at >= 2 ? bound : -bound;
+        corner[axis] = (plane[3] - plane[one] * corner[one] - plane[other] * corner[other]) / plane[axis];
+    }
+    for (end = 0; end < 2; end++) {
+        double wall[4] = {0, 0, 0, 0};
+        wall[axis] = 1;
+        wall[3] = end ? bound : -bound;
+        if (!qm_cut(pane, wall, !end, &part)) return 0;
+        *pane = part;
+    }
+    while (node) {
+        const unsigned char *up = qm_node(tree, above[node]);
+        qm_plane_doubles(qm_plane(tree, up), plane);
+        if (!qm_cut(pane, plane, qm_child(up, 1) == node, &part)) return 0;
+        *pane = part;
+        node = above[node];
+    }
+    return 1;
+}
+
+/* adds the pairs of numbered leaves of different contents that a pane parts: whether there was memory */
+static inline int qm_part_pane(const qm_tree *tree, const qm_pane *whole, qm_stack *waiting, qm_stack *pairs) {
+    waiting->count = 0;
+    if (!qm_push(waiting, whole)) return 0;
+    while (waiting->count) {
+        qm_pane pane = ((qm_pane *)waiting->items)[--waiting->count], part;
+        double plane[4];
+        int to_front, in_front = pane.front >= 0;
+        int64_t node = in_front ? pane.front : pane.back;
+        if (node < 0) {
+            int64_t pair[2] = {qm_number_of(tree, -1 - pane.front), qm_number_of(tree, -1 - pane.back)};
+            int differ = qm_contents(tree, -1 - pane.front) != qm_contents(tree, -1 - pane.back);
+            if (pair[0] >= 0 && pair[1] >= 0 && differ && !qm_push(pairs, pair)) return 0;
+            continue;
+        }
+        qm_plane_doubles(qm_plane(tree, qm_node(tree, node)), plane);
+        for (to_front = 0; to_front < 2; to_front++) {
+            if (!qm_cut(&pane, plane, to_front, &part)) continue;
+            if (in_front) part.front = qm_child(qm_node(tree, node), to_front);
+            else part.back = qm_child(qm_node(tree, node), to_front);
+            if (!qm_push(waiting, &part)) return 0;
+        }
+    }
+    return 1;
+}
+
+/* lists the pairs by each of their two numbers: whether there was memory */
+static inline int qm_list_pairs(const qm_tree *tree, const qm_stack *pairs, qm_contacts *contacts) {
+    const int64_t *all = (const int64_t *)pairs->items;
+    size_t at, numbered = (size_t)tree->numbered, count = 2 * pairs->count;
+    contacts->first = (int64_t *)calloc(numbered + 2, sizeof(int64_t));
+    contacts->others = (int64_t *)calloc(count + 1, sizeof(int64_t));
+    if (!contacts->first || !contacts->others) return 0;
+    for (at = 0; at < count; at++) contacts->first[all[at] + 2]++;
+    for (at = 2; at < numbered + 2; at++) contacts->first[at] += contacts->first[at - 1];
+    for (at = 0; at < count; at++) contacts->others[contacts->first[all[at] + 1]++] = all[at ^ 1];
+    return 1;
+}
+
+static inline const char *qm_find_contacts(const qm_tree *tree, qm_contacts *contacts) {
+    qm_stack waiting = {NULL, 0, 0, sizeof(qm_pane)}, pairs = {NULL, 0, 0, 2 * sizeof(int64_t)};
+    int64_t *above = (int64_t *)calloc((size_t)tree->nodes + 1, sizeof(int64_t)), node;
+    int good = above != NULL, to_front;
+    contacts->first = contacts->others = NULL;
+    for (node = 0; good && node < tree->nodes; node++)
+        for (to_front = 0; to_front < 2; to_front++)
+            if (qm_child(qm_node(tree, node), to_front) >= 0) above[qm_child(qm_node(tree, node), to_front)] = node;
+    for (node = 0; good && node < tree->nodes; node++) {
+        qm_pane pane;
+        if (qm_pane_of(tree, above, node, &pane)) good = qm_part_pane(tree, &pane, &waiting, &pairs);
+    }
+    good = good && qm_list_pairs(tree, &pairs, contacts);
+    free(above);
+    free(waiting.items);
+    free(pairs.items);
+    if (!good) qm_free_contacts(contacts);
+    return good ? NULL : "no memory";
+}
+
+static inline void qm_free_contacts(qm_contacts *contacts) {
+    free(contacts->first);
+    free(contacts->others);
+    contacts->first = contacts->others = NULL;
+}
+
+static inline void qm_add_row(const qm_tree *tree, int64_t number, unsigned char *all) {
+    const unsigned char *at;
+    unsigned char *end = all + qm_row_size(tree);
+    if (!qm_has_row(tree, number)) return;
+    for (at = tree->rows[number]; all < end; at += *at ? 1 : 2) {
+        *all = (unsigned char)(*all | *at);
+        all += *at ? 1 : at[1];
+    }
+}
+
+static inline void qm_add_beyond(const qm_tree *tree, const qm_contacts *contacts, const unsigned char *row, unsigned char *all, int through) {
+    int64_t number, at;
+    for (number = 0; number < tree->numbered; number++) {
+        if (!qm_holds(row, number)) continue;
+        for (at = contacts->first[number]; at < contacts->first[number + 1]; at++) {
+            int64_t other = contacts->others[at];
+            all[other >> 3] = (unsigned char)(all[other >> 3] | 1 << (other & 7));
+            if (through) qm_add_row(tree, other, all);
+        }
+    }
+}
+
+static inline void qm_add_touching(const qm_tree *tree, const qm_contacts *contacts, const unsigned char *row, unsigned char *all) {
+    qm_add_beyond(tree, contacts, row, all, 0);
+}
+
+static inline void qm_add_through(const qm_tree *tree, const qm_contacts *contacts, const unsigned char *row, unsigned char *all) {
+    qm_add_beyond(tree, contacts, row, all, 1);
 }
 
 #endif

@@ -17,6 +17,7 @@ def words_of(words):
     parser.add_argument("--threads", metavar="N", type=threads, help="uses N threads, 1 to 64")
     parser.add_argument("--hulls", action="store_true", help="also writes the clip hulls into the tree")
     parser.add_argument("--models", action="store_true", help="also writes the brush models into the tree, such as doors and lifts")
+    parser.add_argument("--faces", action="store_true", help="also writes the faces of the level into the tree")
     parser.add_argument("--bsp", action="store_true", help="also writes LEVEL.bsp, for engines; the tree has the clip hulls then")
     parser.add_argument("--wad", metavar="FILE", action="append", default=[], help="takes textures of the .bsp from a WAD2 file; "
                         "may be given again")

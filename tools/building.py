@@ -99,6 +99,7 @@ class Build:
         words += ["--threads", str(self.asked.threads)] if self.asked.threads else []
         words += ["--hulls"] if self.asked.hulls or self.asked.bsp else []
         words += ["--models"] if self.asked.models else []
+        words += ["--faces"] if self.asked.faces else []
         with self.progress.doing("compiling"):
             answer = self.runs.compiler(*words, "--fast")
         self.expect(answer, DONE, LEAKS)

@@ -1,6 +1,8 @@
 """How surfaces look, in the page and in a picture: each by what it bounds, and darker or lighter by where it faces."""
 
+from colorsys import hls_to_rgb
 from math import hypot
+from zlib import crc32
 
 # of each kind its colour, and how much of it is seen: water, slime and lava are seen through
 KINDS = {
@@ -17,6 +19,8 @@ UNSEEN = (226, 225, 222)
 GROUND = (52, 50, 48)
 # how bright a surface is that faces neither way of any axis, and how much more for facing along each
 MEAN, EAST, NORTH, UP = 0.74, 0.12, 0.07, 0.18
+# spreads the hues of textures
+SPREAD = 0.6180339887
 
 
 def kind(own, beyond):
@@ -45,10 +49,17 @@ def unseen(plane):
     return tuple(round(part * (1 + shade(plane)) / 2) for part in UNSEEN)
 
 
-def colour(name, plane):
-    """The red, green and blue of a surface, from 0 to 255. Sky is as bright everywhere."""
+def of_texture(texture):
+    """The colour of a texture, by its name, in which capitals count as small letters."""
+    seed = crc32(texture.lower().encode())
+    hue, light, strength = seed * SPREAD % 1, 0.56 + (seed >> 9) % 16 / 100, 0.2 + (seed >> 13) % 16 / 100
+    return tuple(round(255 * part) for part in hls_to_rgb(hue, light, strength))
+
+
+def colour(name, plane, texture=None):
+    """The red, green and blue of a surface, from 0 to 255; that of a texture, if there is one. Sky is as bright everywhere."""
     bright = 1 if name == "sky" else shade(plane)
-    return tuple(round(part * bright) for part in KINDS[name][0])
+    return tuple(min(255, round(part * bright)) for part in (of_texture(texture) if texture else KINDS[name][0]))
 
 
 def hexadecimal(colour):

@@ -14,11 +14,14 @@ import faces
 import groups
 import listing
 import maptext
+import objfile
 import origins
 import page
 import picture
+import pieces
 import plan
 from points import leak_line, printed
+import sections
 import slices
 import surfaces
 import treefile
@@ -102,7 +105,7 @@ def view_of(words):
     entities = [] if words.map is None else entities_of(words.map)
     marks = None if words.map is None else origins.marks(entities)
     at, to = begin_of(words, tree, line, marks)
-    seen = surfaces.seen(tree)
+    seen = seen_of(words, tree)
     if not seen:
         raise Refused(f"{words.name} has nothing but solid leaves")
     at = at or Cells(tree).middle(largest({leaf: what.faces for leaf, what in seen.items()}))
@@ -150,7 +153,8 @@ def picture_of(words):
         raise Refused("the place from which one looks is the one to which one looks")
     looking, row, mark = Eye(eye, aim), None, None
     line = leak_line(Cells(tree), words.leak) if words.leak else None
-    shown, left_out = {leaf: what.surfaces for leaf, what in surfaces.seen(tree, picture.frame(looking)).items()}, {}
+    seen = seen_of(words, tree, picture.frame(looking))
+    shown, left_out = {leaf: what.surfaces for leaf, what in seen.items()}, {}
     if words.row:
         mark = None if words.row is True else inside(words, tree, words.row)
         own = leaf_with_row(words, tree, mark or eye)
@@ -161,6 +165,46 @@ def picture_of(words):
     drawn = picture.Picture(tree, looking, shown, line, words.leak, left_out)
     drawn.mark = mark
     return [picture.drawn(drawn, picture.titled(plain_name(words.name), eye, aim, row))]
+
+
+def seen_of(words, tree, planes=()):
+    """What is seen of each leaf that has points in front of some planes, by the faces of the tree file if it has any, and with the textures
+    of the map if one is named."""
+    found = pieces_of(words.name, tree)
+    if found is None:
+        return surfaces.seen(tree, planes)
+    brushes = None if words.map is None else brushes_of(words.map, tree, found)
+    if words.map is not None and brushes is None:
+        print(f"qmlook: {words.name} was not made from {words.map}: walls have no textures", file=sys.stderr)
+    return pieces.seen(tree, found, brushes, planes)
+
+
+def pieces_of(name, tree):
+    """The pieces of the surface that a tree file has, or None."""
+    try:
+        return sections.faces(tree)
+    except sections.BadSection as fault:
+        raise Refused(f"{name}: {fault}") from None
+
+
+def brushes_of(name, tree, found):
+    """The brushes of a map to which pieces belong, or None if these are of another map."""
+    try:
+        return pieces.brushes_of(tree, found, maptext.load(name))
+    except maptext.NoMap as fault:
+        raise Refused(f"{name} is no map: {fault}") from None
+
+
+def obj_of(words):
+    """Writes the faces that the words ask for as a Wavefront OBJ."""
+    tree = tree_of(words.name)
+    found = pieces_of(words.name, tree)
+    if found is None:
+        raise Refused(f"{words.name} has no faces: `qmapc compile --faces` writes them, but not of a level that leaks")
+    brushes = brushes_of(words.map, tree, found)
+    if brushes is None:
+        raise Refused(f"{words.name} was not made from {words.map}: its faces are of other brushes")
+    write(objfile.parts(plain_name(words.name), found, brushes), words.out)
 
 
 def is_inside(tree, place):
@@ -307,7 +351,7 @@ def run(words):
     is printed, or has written what it makes."""
     parser = argparse.ArgumentParser(prog="qmlook", description="Looks at a compiled map, or readies one.", allow_abbrev=False)
     given = words_of(parser, joined(words))
-    does = {"plan": plan_of, "points": points_of, "view": view_of, "picture": picture_of, "json": json_of,
+    does = {"plan": plan_of, "points": points_of, "view": view_of, "picture": picture_of, "json": json_of, "obj": obj_of,
             "world": world_of, "faces": faces_of, "bevels": bevels_of}
     try:
         parts = does[given.command](given)

@@ -3,7 +3,8 @@
 What is written of the level for the scripts, numbers as bytes in base64, little-endian:
 planes (four doubles each), nodes (plane, front, back: 4 bytes, signed), leaves (a byte: the place of what fills it in `FILLS`),
 middles (three floats each); corners (three floats each); of each surface, leaf by leaf, how many corners it has (2 bytes), its
-corners by their numbers (4 bytes each), its kind and its red, green and blue (a byte each); of each leaf how many surfaces
+corners by their numbers (4 bytes each), its kind and its red, green and blue (a byte each); of each of these corners a byte that is 1
+if the face of a brush ends on the side to the next one, or null if that is not known; of each leaf how many surfaces
 it has, how many leaves it touches that hold other contents, and these (4 bytes each); and the rows, bit by bit. Beside these
 stand the bound of the world; the brush models, each with what is said of it, its box, the numbers of the leaves that it touches, and
 how many surfaces it has, which follow those of the leaves; the entities of a map that stand at a place, each with its kind, what is said of it, its class and its
@@ -64,7 +65,8 @@ def level_of(tree, seen, shapes):
         "rounds": spelled("I", rounds),
         "lengths": spelled("H", (len(surface.polygon) for surface, _ in surfaces)),
         "kinds": spelled("B", (KINDS.index(name) for _, name in surfaces)),
-        "colours": spelled("B", (part for surface, name in surfaces for part in colours.colour(name, surface.plane))),
+        "colours": spelled("B", (part for surface, name in surfaces for part in colours.colour(name, surface.plane, surface.texture()))),
+        "ends": ends_of([surface for surface, _ in surfaces]),
         "surfaces": spelled("I", map(len, drawn)),
         "touches": spelled("I", (len(what.touched) if what else 0 for what in everyone)),
         "touched": spelled("I", (other for what in everyone if what for other in sorted(what.touched))),
@@ -72,6 +74,13 @@ def level_of(tree, seen, shapes):
         "kind": [{"name": name, "part": part} for name, (_, part) in colours.KINDS.items()],
         "ground": colours.GROUND,
     }
+
+
+def ends_of(surfaces):
+    """Of each corner of each surface whether a face of a brush ends on the side to the next one; None if that is known of no surface."""
+    if not any(surface.texture() for surface in surfaces):
+        return None
+    return spelled("B", (at for surface in surfaces for at in (surface.owner.ends if surface.texture() else (0,) * len(surface.polygon))))
 
 
 def nodes_of(tree):

@@ -1,12 +1,13 @@
 """A view of a level from a place, as SVG. What is hidden is left out by the tree itself: its leaves are met from the nearest on,
 and of each surface there stays what the ones before it leave open. No corner is rounded until it is drawn."""
 
+from collections import Counter
 from fractions import Fraction
 from math import ceil, floor
 from typing import NamedTuple
 from xml.sax.saxutils import escape
 
-from beams import COVERED, OPEN, Beam
+from beams import COVERED, OPEN, Beam, through
 import colours
 import corners
 from eyes import SPAN, nearest_first
@@ -21,6 +22,7 @@ text { font-family: sans-serif; fill: #111111 }
 .surface { stroke-width: 0.8; stroke-linejoin: round }
 .rule { stroke: #000000; stroke-opacity: 0.2; stroke-width: 0.8; fill: none }
 .hidden { stroke: #ff5060; stroke-width: 1.6; stroke-dasharray: 3 4; fill: none }
+.end { stroke: #000000; stroke-opacity: 0.45; stroke-width: 1; fill: none }
 .below { stroke: #ffffff; stroke-width: 7; fill: none; stroke-linecap: round }
 .trail { stroke: #c00018; stroke-width: 4; fill: none; stroke-linecap: round }
 .mark { stroke: #ffffff; stroke-width: 2; fill: #a3006b }
@@ -101,19 +103,40 @@ def drawn_parts(picture):
     for part in reversed(picture.unseen):
         yield drawn_part(picture, part, colours.unseen(part.surface.plane), 1, ", not in the row")
     for part in reversed(picture.parts):
-        yield drawn_part(picture, part, colours.colour(part.kind, part.surface.plane), colours.KINDS[part.kind][1])
+        yield drawn_part(picture, part, colours.colour(part.kind, part.surface.plane, part.surface.texture()), colours.KINDS[part.kind][1])
         rules = "".join(picture.path(ends) for polygon in part.polygons for ends in rules_of(picture, part, polygon))
         if rules:
             yield f'<path class="rule" d="{rules}"/>\n'
+        ends = "".join(picture.path(side) for polygon in part.polygons for side in ends_in(picture.eye, part.surface, polygon))
+        if ends:
+            yield f'<path class="end" d="{ends}"/>\n'
 
 
 def drawn_part(picture, part, colour, share, rest=""):
     """A surface with its colour, and how much of it is seen."""
     colour = colours.hexadecimal(colour)
     fill = f'fill="#{colour}" ' + (f'stroke="#{colour}"' if share == 1 else f'fill-opacity="{share}"')
-    title = f"leaf {part.leaf}, {picture.tree.leaves[part.leaf].contents}, before {part.surface.beyond}{rest}"
+    title = f"leaf {part.leaf}, {picture.tree.leaves[part.leaf].contents}, before {part.surface.beyond}{told_of(part.surface.owner)}{rest}"
     path = "".join(picture.path(polygon) + "Z" for polygon in part.polygons)
-    return f'<path class="surface" {fill} d="{path}"><title>{title}</title></path>\n'
+    return f'<path class="surface" {fill} d="{path}"><title>{escape(title)}</title></path>\n'
+
+
+def told_of(owner):
+    """What is said of the face of a brush to which a surface belongs, if it is known."""
+    if owner is None:
+        return ""
+    return f", brush {owner.brush}, face {owner.face}" + (f", {owner.texture}" if owner.texture else "")
+
+
+def ends_in(eye, surface, polygon):
+    """The sides of a polygon, which is a part of a surface, at which the face of a brush ends."""
+    rim = surface.polygon
+    for at, is_end in enumerate(surface.owner.ends if surface.owner else ()):
+        if is_end:
+            plane = through(eye.corner, rim[at], rim[at + 1 - len(rim)])
+            ends = [corner for corner in polygon if corners.value(plane, corner) == 0]
+            if len(ends) > 1:
+                yield ends
 
 
 def rules_of(picture, part, polygon):
@@ -149,8 +172,9 @@ def drawn_mark(picture):
 
 
 def drawn_legend(picture):
-    """What the colours mean that are there."""
-    kinds = {part.kind for part in picture.parts}
+    """What the colours mean that are there; of textures those with most parts, as far as there is room."""
+    kinds = {part.kind for part in picture.parts if not part.surface.texture()}
+    textures = Counter(part.surface.texture() for part in picture.parts if part.surface.texture())
     items = [(f'<rect y="-14" width="24" height="16" fill="#{colours.hexadecimal(shown)}" stroke="#55504a"/>', name)
              for name, (shown, _) in colours.KINDS.items() if name in kinds]
     if picture.unseen:
@@ -159,10 +183,15 @@ def drawn_legend(picture):
     if picture.pieces:
         items.append(('<path class="trail" d="M0,-5H24"/>', "leak line, dotted where it is hidden"))
     items += [('<circle class="mark" cx="12" cy="-6" r="7"/>', "the place whose row is shown") for _ in drawn_mark(picture)]
+    items += [(f'<rect y="-14" width="24" height="16" fill="#{colours.hexadecimal(colours.of_texture(name))}" stroke="#55504a"/>', name)
+              for name, _ in textures.most_common()]
     x = RIM
     for sign, words in items:
-        yield f'<g transform="translate({x:.1f},{RIM + LINE + HIGH + LINE})">{sign}<text x="32" font-size="13">{words}</text></g>\n'
-        x += 32 + LETTER * len(words) + GAP
+        wide = 32 + LETTER * len(words)
+        if x + wide > WIDE and words in textures:
+            break
+        yield f'<g transform="translate({x:.1f},{RIM + LINE + HIGH + LINE})">{sign}<text x="32" font-size="13">{escape(words)}</text></g>\n'
+        x += wide + GAP
 
 
 def drawn(picture, title):

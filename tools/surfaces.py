@@ -3,7 +3,7 @@
 A surface is seen from inside its leaf. It goes on as far as one face of the leaf and what lies beyond hold on: it is cut where
 the contents beyond change, and not where one leaf beyond ends and another one of the same contents begins."""
 
-from typing import NamedTuple
+from typing import NamedTuple, Optional
 
 from below import SOLID, contents_below
 from bodies import bodies
@@ -14,12 +14,26 @@ from treefile import CONTENTS
 OPEN = frozenset(CONTENTS.values()) - SOLID
 
 
+class Owner(NamedTuple):
+    """A face of a brush, by their numbers; and, if the map is known, the name of its texture, and of each side of a surface, from a corner
+    to the next one, whether the face ends there."""
+    brush: int
+    face: int
+    texture: Optional[str]
+    ends: list
+
+
 class Surface(NamedTuple):
-    """A polygon, which goes round against the clock as seen from its leaf; its plane, turned towards the leaf; and the contents
-    beyond."""
+    """A polygon, which goes round against the clock as seen from its leaf; its plane, turned towards the leaf; the contents beyond; and
+    the face of a brush to which it belongs, if that is known."""
     polygon: list
     plane: tuple
     beyond: str
+    owner: Optional[Owner] = None
+
+    def texture(self):
+        """The name of its texture, or None."""
+        return self.owner and self.owner.texture
 
 
 class Seen(NamedTuple):
@@ -62,8 +76,8 @@ def pieces(tree, below, face, touched, own):
         kinds = below[child]
         if kinds == own_alone:
             found.append((own, polygon))
-        elif kinds == SOLID:
-            found.append(("solid", polygon))
+        elif len(kinds) == 1 and kinds.isdisjoint(OPEN):
+            found.append((*kinds, polygon))
         elif child < 0:
             found.append((tree.leaves[-1 - child].contents, polygon))
             touched.add(-1 - child)

@@ -7,6 +7,8 @@
     print(tree.hull(1).is_solid_at((0, 0, 24)))
     print(tree.spans((0, 0, 24), (0, 0, 200)))
     print([model.entity for model in tree.models() if tree.is_drawn(model, 0)])
+    print([[tree.corner(numbers) for numbers in piece.corners] for piece in tree.faces()])
+    print(tree.contacts()[0])
 
 docs/TREEFILE.md describes the file, of which both versions are read. This module needs nothing but the standard library, and
 may be copied. It refuses what is no tree file by the first fault in the order of the file, with the place of its byte.
@@ -27,8 +29,8 @@ CONTENTS = {-1: "empty", -2: "solid", -3: "water", -4: "slime", -5: "lava", -6: 
 SOLID = -2
 # the kinds of the sections that have clip hulls, each with the box that is a point there, by its low and its high end
 HULLS = {1: ((-16, -16, -24), (16, 16, 32)), 2: ((-32, -32, -24), (32, 32, 64))}
-# the kind of the section that has brush models
-MODELS = 3
+# the kinds of the sections that have brush models, and faces
+MODELS, FACES = 3, 4
 
 
 class Fault(Exception):
@@ -90,6 +92,17 @@ class Model(NamedTuple):
     high: tuple
     leaves: list
     tree: "Tree"
+
+
+class Piece(NamedTuple):
+    """A piece of the surface between rock and what is not solid: the leaf that it faces; the brush to which it belongs, by its number
+    among those of the world that are not clip, and the number of its face there; and the corners, which go round with the clock as
+    seen from the leaf. Each corner is three numbers of planes that meet there: the piece's own, that of the edge to the corner before,
+    and that of the edge to the next one."""
+    leaf: int
+    brush: int
+    face: int
+    corners: list
 
 
 class Tree(NamedTuple):
@@ -158,6 +171,58 @@ class Tree(NamedTuple):
         except Fault as fault:
             raise BadPart(f"no brush models: {fault}") from None
 
+    def faces(self):
+        """The pieces of the surface. Raises `NoPart`, or `BadPart` where the section has none such."""
+        try:
+            return read_faces(self.part(FACES), self)
+        except Fault as fault:
+            raise BadPart(f"no faces: {fault}") from None
+
+    def named_plane(self, number):
+        """The plane of a number: from 0 on one of the file, and from -1 to -6 a wall of the cube, turned inward. Else None."""
+        if 0 <= number < len(self.planes):
+            return self.planes[number]
+        axis, is_high = divmod(-1 - number, 2)
+        if not 0 <= axis < 3:
+            return None
+        return Plane(*((-1 if is_high else 1) * (axis == other) for other in range(3)), -self.bound)
+
+    def corner(self, numbers):
+        """The point in which the planes of three numbers meet, in fractions."""
+        *point, weight = meeting(*map(self.named_plane, numbers))
+        return tuple(Fraction(part, weight) for part in point)
+
+    def contacts(self):
+        """For each numbered leaf the numbers of those that touch it and hold other contents, such as water under air, as sets. A
+        polygon of more than a line is in both. Rows do not know these: an engine adds them."""
+        found = [set() for _ in range(self.numbered())]
+        above = {child: node for node, (_, *children) in enumerate(self.nodes) for child in children}
+        for node in range(len(self.nodes)):
+            for one, other in self.parted(node, above):
+                if None not in (one.number, other.number) and one.contents != other.contents:
+                    found[one.number].add(other.number)
+                    found[other.number].add(one.number)
+        return found
+
+    def parted(self, node, above):
+        """The pairs of leaves that touch on the plane of a node, in front of it and behind it. `above` has the node above each child."""
+        number, front, back = self.nodes[node]
+        polygon = square(self.planes[number], self.bound)
+        while node and polygon:
+            child, node = node, above[node]
+            polygon = on_side(polygon, self.planes[self.nodes[node].plane], self.nodes[node].front == child)
+        waiting = [(front, back, polygon)] if polygon else []
+        while waiting:
+            one, other, polygon = waiting.pop()
+            if one < 0 and other < 0:
+                yield self.leaves[-1 - one], self.leaves[-1 - other]
+                continue
+            plane, *children = self.nodes[one if one >= 0 else other]
+            for to_front, child in zip((True, False), children):
+                part = on_side(polygon, self.planes[plane], to_front)
+                if part:
+                    waiting.append((child, other, part) if one >= 0 else (one, child, part))
+
     def is_drawn(self, model, number):
         """Whether a model may be seen from the leaf of a number: its row holds a leaf that the model touches."""
         row = self.rows[number]
@@ -175,6 +240,51 @@ class Tree(NamedTuple):
 def value(plane, point):
     """How far in front of a plane a point is, as a multiple of the normal's length."""
     return plane[0] * point[0] + plane[1] * point[1] + plane[2] * point[2] - plane[3]
+
+
+def on_side(polygon, plane, to_front):
+    """What a polygon has on one side of a plane, by its corners: none if it only touches the plane. One on the plane counts to its front."""
+    sides = [value(plane, corner) * (1 if to_front else -1) for corner in polygon]
+    if not any(sides):
+        return polygon if to_front else []
+    if max(sides) <= 0:
+        return []
+    part = []
+    for here, there, corner, following in zip(sides, sides[1:] + sides[:1], polygon, polygon[1:] + polygon[:1]):
+        if here >= 0:
+            part.append(corner)
+        if here > 0 > there or here < 0 < there:
+            cut = Fraction(here) / (here - there)
+            part.append(tuple(a + cut * (b - a) for a, b in zip(corner, following)))
+    return part
+
+
+def square(plane, bound):
+    """The part of a plane that lies in the cube of a bound, by its corners."""
+    axis = max(range(3), key=lambda each: abs(plane[each]))
+    one, other = (axis + 1) % 3, (axis + 2) % 3
+    polygon = []
+    for ends in ((-1, -1), (1, -1), (1, 1), (-1, 1)):
+        corner = [Fraction(0)] * 3
+        corner[one], corner[other] = (Fraction(end * bound) for end in ends)
+        corner[axis] = -value(plane, corner) / Fraction(plane[axis])
+        polygon.append(tuple(corner))
+    for end in (1, -1):
+        wall = Plane(*(end * (each == axis) for each in range(3)), -bound)
+        polygon = polygon and on_side(polygon, wall, True)
+    return polygon
+
+
+def crossed(one, other):
+    """The direction across the normals of two planes."""
+    return one[1] * other[2] - one[2] * other[1], one[2] * other[0] - one[0] * other[2], one[0] * other[1] - one[1] * other[0]
+
+
+def meeting(one, two, three):
+    """Where three planes meet: x, y, z and w, which stand for the point (x/w, y/w, z/w); w is 0 where they do not meet in one point."""
+    across = crossed(two, three), crossed(three, one), crossed(one, two)
+    weight = one[0] * across[0][0] + one[1] * across[0][1] + one[2] * across[0][2]
+    return (*(one[3] * a + two[3] * b + three[3] * c for a, b, c in zip(*across)), weight)
 
 
 def load(name):
@@ -403,3 +513,30 @@ def read_model(data, at, bound):
     except BadPart:
         tree = None
     return Model(entity, tuple(ends[:3]), tuple(ends[3:]), list(leaves), tree), at + 8 + length
+
+
+def read_faces(data, tree):
+    """The pieces of the surface that the bytes of a section say, for a tree. Raises `Fault`: a piece is looked at when all its bytes are
+    there."""
+    count, = unpack("<Q", take(data, 0, 8))
+    found, at, are_met = [], 8, {}
+    while len(found) < count:
+        piece, end = read_piece(data, at)
+        for corner in piece.corners:
+            if corner not in are_met:
+                planes = [tree.named_plane(number) for number in corner]
+                are_met[corner] = None not in planes and meeting(*planes)[3] != 0
+        if len(piece.corners) < 3 or piece.leaf >= len(tree.leaves) or not all(are_met[corner] for corner in piece.corners):
+            raise Fault("form", at)
+        found.append(piece)
+        at = end
+    if at < len(data):
+        raise Fault("trailing", at)
+    return found
+
+
+def read_piece(data, at):
+    """The piece whose bytes begin at a place, and the place behind it."""
+    leaf, brush, face, count = unpack("<QQII", take(data, at, 24))
+    corners = iter_unpack("<3q", take(data, at + 24, 24 * count))
+    return Piece(leaf, brush, face, list(corners)), at + 24 + 24 * count

@@ -55,11 +55,12 @@ function prepare(view) {
     gl = view.getContext("webgl2", { alpha: false });
     if (!gl) throw new Error("this browser does not have WebGL 2, or has switched it off");
     made = { surfaces: program(SURFACES), lines: program(LINES) };
-    for (const name of ["vertices", "opaque", "unseen", "edges", "through", "path"]) made[name] = gl.createBuffer();
+    for (const name of ["vertices", "opaque", "unseen", "edges", "ends", "through", "path"]) made[name] = gl.createBuffer();
     gl.bindBuffer(gl.ARRAY_BUFFER, made.vertices);
     gl.bufferData(gl.ARRAY_BUFFER, surfaceVertices(), gl.STATIC_DRAW);
     gl.enable(gl.DEPTH_TEST);
     gl.depthFunc(gl.LEQUAL);
+    gl.polygonOffset(1, 1);
     gl.blendFunc(gl.SRC_ALPHA, gl.ONE_MINUS_SRC_ALPHA);
 }
 
@@ -68,11 +69,12 @@ function choose() {
     const leaf = leafAt(state.frozen || state.eye), limited = state.row && rows !== null && !isSolid(leaf);
     const mark = `${limited && leaf} ${state.portals} ${modelsOn()}`;
     if (drawn && drawn.mark === mark) return;
-    const shown = limited ? held(leaf) : everyLeaf, opaque = [], through = [], edges = [], unseen = [];
+    const shown = limited ? held(leaf) : everyLeaf, opaque = [], through = [], edges = [], unseen = [], bounds = [];
     const add = (surfaces, isShown) => {
         addTriangles(isShown ? opaque : unseen, surfaces, false);
         addTriangles(isShown ? through : unseen, surfaces, true);
-        if (isShown) addEdges(edges, surfaces);
+        if (isShown) addEdges(edges, surfaces, () => true);
+        if (isShown && ends) addEdges(bounds, surfaces, at => ends[at]);
     };
     leaves.forEach((_, at) => add(surfacesOf(at), shown[at]));
     const triangles = (opaque.length + through.length) / 3, seen = modelsOn().filter(at => !limited || isModelIn(at, shown));
@@ -80,7 +82,7 @@ function choose() {
     const isShown = one => shown[numbered[portals.sides[2 * one]]] && shown[numbered[portals.sides[2 * one + 1]]];
     const wanted = state.portals && portals ? Array.from(portals.sides.subarray(0, portals.sides.length / 2).keys()).filter(isShown) : [];
     drawn = {
-        mark, shown, limited, opaque: opaque.length, unseen: unseen.length, edges: edges.length, triangles, models: seen,
+        mark, shown, limited, opaque: opaque.length, unseen: unseen.length, edges: edges.length, bounds: bounds.length, triangles, models: seen,
         leaves: numbered.filter(at => shown[at]).length, portals: wanted.length, outlines: outlines(wanted),
     };
     drawn.marks = markParts();
@@ -88,6 +90,7 @@ function choose() {
     fill(made.opaque, opaque);
     fill(made.unseen, unseen);
     fill(made.edges, edges);
+    fill(made.ends, bounds);
 }
 
 function fill(buffer, places) {
@@ -106,12 +109,25 @@ function addTriangles(found, [first, end], through) {
     }
 }
 
-// adds the sides of some surfaces that are not seen through
-function addEdges(found, [first, end]) {
+// adds the sides of some surfaces that are not seen through: those that are wanted, by the corner before
+function addEdges(found, [first, end], isWanted) {
     for (let surface = first; surface < end; surface++) {
         if (isSeenThrough(surface)) continue;
-        for (let at = roundFrom[surface], last = roundFrom[surface + 1] - 1; at < roundFrom[surface + 1]; last = at++) found.push(last, at);
+        for (let at = roundFrom[surface], last = roundFrom[surface + 1] - 1; at < roundFrom[surface + 1]; last = at++)
+            if (isWanted(last)) found.push(last, at);
     }
+}
+
+// the sides at which faces of brushes end, upon the surfaces
+function drawEnds(matrix) {
+    gl.useProgram(made.lines.linked);
+    gl.uniformMatrix4fv(made.lines.camera, false, matrix);
+    gl.uniform4fv(made.lines.colour, [0, 0, 0, 0.4]);
+    gl.enable(gl.BLEND);
+    gl.bindBuffer(gl.ELEMENT_ARRAY_BUFFER, made.ends);
+    gl.drawElements(gl.LINES, drawn.bounds, gl.UNSIGNED_INT, 0);
+    gl.disable(gl.BLEND);
+    gl.useProgram(made.surfaces.linked);
 }
 
 // leaves that are shown, from the farthest on: on the other side of a plane than the eye's come first
@@ -181,7 +197,11 @@ function drawSurfaces(matrix) {
         gl.enableVertexAttribArray(2);
     }
     gl.bindBuffer(gl.ELEMENT_ARRAY_BUFFER, made.opaque);
+    // a little behind, so that lines on them are seen
+    if (drawn.bounds) gl.enable(gl.POLYGON_OFFSET_FILL);
     gl.drawElements(gl.TRIANGLES, drawn.opaque, gl.UNSIGNED_INT, 0);
+    gl.disable(gl.POLYGON_OFFSET_FILL);
+    if (drawn.bounds) drawEnds(matrix);
     const through = [];
     for (const leaf of farthestFirst()) addTriangles(through, surfacesOf(leaf), true);
     for (const at of drawn.models) addTriangles(through, surfacesOfModel(at), true);

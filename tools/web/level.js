@@ -23,6 +23,8 @@ const leaves = read(Uint8Array, LEVEL.leaves), middles = read(Float32Array, LEVE
 const corners = read(Float32Array, LEVEL.corners), rounds = read(Uint32Array, LEVEL.rounds);
 const roundFrom = begins(read(Uint16Array, LEVEL.lengths)), kinds = read(Uint8Array, LEVEL.kinds);
 const colours = read(Uint8Array, LEVEL.colours), surfaceFrom = begins(read(Uint32Array, LEVEL.surfaces));
+// of each corner of each surface whether a face of a brush ends on the side to the next one, if that is known
+const ends = LEVEL.ends && read(Uint8Array, LEVEL.ends);
 const touched = read(Uint32Array, LEVEL.touched), touchedFrom = begins(read(Uint32Array, LEVEL.touches));
 const rows = LEVEL.rows === null ? null : read(Uint8Array, LEVEL.rows);
 const portals = LEVEL.portals && {
