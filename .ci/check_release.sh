@@ -104,6 +104,8 @@ installs_what_runs_alone() {
         prints_its_usage "$folder/moved/${name##*/}" || return 1
     done
     [[ ! -e $folder/moved/install && ! -e $folder/moved/qmapc-tools/install && ! -e $folder/moved/qmapc-tools/release ]] || return 1
+    [[ ! -e $folder/moved/qmapc-tools/manual ]] && cmp docs/qmapc.1 "$folder/moved/share/man/man1/qmapc.1" || return 1
+    cmp tools/completion/qmapc "$folder/moved/qmapc-tools/completion/qmapc" || return 1
     ldd "$folder/moved/qmapc" >"$folder/needed" && ! grep -vE 'linux-vdso|/libc\.so|/ld-linux' "$folder/needed" || return 1
     for name in . tools; do
         ! tools/install "$name" >"$folder/printed" 2>"$folder/said" && grep -q 'where the sources are' "$folder/said" && bash -n qmapc && [[ ! -e tools/qmapc ]] || return 1

@@ -210,6 +210,94 @@ tells_of_doors_as_the_page_shows() {
     [[ $status == 0 ]] && page_shows EDITORS.md "$words" | cmp - "$folder/printed"
 }
 
+# with a group for each texture, also of slanted brushes and of names with odd letters, and of a level with layers
+writes_faces_as_obj() {
+    local name
+    look world gatehouse.map --out grouped.map
+    sed '0,/ stone / s// "Two\/Words #1%" /; 0,/ stone / s// STONE /' "$folder/cube.map" >"$folder/named.map"
+    python3 .ci/made_levels.py 3 10 >"$folder/slanted.map" || return 1
+    for name in courtyard named slanted grouped; do
+        run_program compile $name.map faced.tree --fast --faces
+        [[ $status == 0 ]] || return 1
+        look obj faced.tree --map $name.map --out faced.obj
+        [[ $status == 0 && ! -s $folder/printed && ! -s $folder/said ]] || return 1
+        python3 .ci/check_obj.py "$folder/faced.obj" "$folder/faced.tree" "$folder/$name.map" || return 1
+    done
+    # the map as its editor saved it, with layers, will do
+    look obj faced.tree --map gatehouse.map
+    looked && cmp "$folder/printed" "$folder/faced.obj" || return 1
+    refuses_obj
+}
+
+# shellcheck disable=SC2016  # what is said has backquotes
+refuses_obj() {
+    look obj faced.tree --map courtyard.map
+    refused "faced.tree was not made from courtyard.map: its faces are of other brushes" || return 1
+    look obj rooms.tree --map rooms.map
+    refused 'rooms.tree has no faces: `qmapc compile --faces` writes them, but not of a level that leaks' || return 1
+    look obj faced.tree --map faced.tree
+    refused "faced.tree is no map: line 1: no entity begins there" || return 1
+    look obj faced.tree --map missing.map
+    refused "missing.map: No such file or directory" || return 1
+    look obj faced.tree --map grouped.map --out no_such_folder/faced.obj
+    refused "no_such_folder/faced.obj: No such file or directory" || return 1
+    python3 - "$folder" <<'END' || return 1
+import sys
+sys.path[:0] = [".ci", "tools"]
+import made_sections, made_trees, treefile
+tree = treefile.load(sys.argv[1] + "/faced.tree")
+data = made_sections.stored_faces([(0, 0, 0, [(0, 1, -1)] * 2)])
+open(sys.argv[1] + "/bad4.tree", "wb").write(made_trees.written(tree._replace(sections=[treefile.Section(4, data)])))
+END
+    look obj bad4.tree --map grouped.map
+    refused "bad4.tree: section 4 has no faces: form at byte 8" || return 1
+    look obj faced.tree
+    [[ $status == 2 && ! -s $folder/printed ]] && grep -q '^usage: qmlook obj' "$folder/said"
+}
+
+# what the lists of tools/manual give: the page, the completion, and the words of the program
+has_a_manual() {
+    tools/manual --check || return 1
+    run_program
+    [[ $status == 2 ]] && tools/manual --usage | cmp - "$folder/printed" || return 1
+    # the queries and the statuses are those of the page of editors
+    diff <(sed -n '/^\.SH QUERIES/,/^\.PP/ s/^\\fB\(.*\)\\fR$/\1/p' docs/qmapc.1 | sort) \
+        <(sed -n '/^| Query | Answer |/,/^$/ s/^| `\([^`]*\)` |.*/\1/p' docs/EDITORS.md | sort) || return 1
+    diff <(sed -n '/^\.SH EXIT STATUS/,/^\.SH EXAMPLES/ s/^\\fB\([0-9]*\)\\fR$/\1/p' docs/qmapc.1) \
+        <(sed -n '/^### Statuses/,/^### The/ s/^| \([0-9]\) |.*/\1/p' docs/EDITORS.md) || return 1
+    if command -v groff >/dev/null; then
+        groff -man -Tascii -ww docs/qmapc.1 >"$folder/printed" 2>"$folder/said" && [[ -s $folder/printed && ! -s $folder/said ]] || return 1
+    else
+        echo "groff is not installed: docs/qmapc.1 was not formatted"
+    fi
+    status=0
+    tools/manual --more >"$folder/printed" 2>"$folder/said" || status=$?
+    [[ $status == 2 && $(<"$folder/said") == "manual: usage: "* ]]
+}
+
+# bash completes the last of these words to those
+completed() { # completed WORDS WORD..
+    local words=$1 found
+    shift
+    # shellcheck disable=SC2016  # the words of the shell below
+    found=$(cd "$folder/completing" && bash -c '. "$1"; read -ra COMP_WORDS <<<"qmapc $2"; [[ $2 && $2 != *" " ]] || COMP_WORDS+=("")
+        COMP_CWORD=$((${#COMP_WORDS[@]} - 1)); _qmapc; printf "%s\n" "${COMPREPLY[@]}"' bash "$top/tools/completion/qmapc" "$words" | sort | xargs)
+    [[ $found == "$*" ]] && return
+    echo "'$words' is completed to '$found', and should be to '$*'"
+    return 1
+}
+
+completes_words() {
+    mkdir -p "$folder/completing/maps"
+    touch "$folder/completing/"{one.map,two.map,one.tree,notes.txt}
+    completed '' compile demo format inspect upgrade && completed 'up' upgrade && completed 'compile ' maps one.map two.map &&
+        completed 'compile one.map o' one.map one.tree && completed 'compile one.map out.tree --f' --faces --fast &&
+        completed 'compile --prt o' one.map one.tree && completed 'compile --threads ' && completed 'compile --threads 4 --fast t' two.map &&
+        completed 'compile --prt = p.prt t' two.map && completed 'compile one.map out.tree x' && completed 'inspect ' maps one.tree &&
+        completed 'inspect one.tree h' hull= hulltrace= && completed 'inspect one.tree count f' face= faces && completed 'upgrade o' one.tree &&
+        completed 'demo ' && completed 'format t' two.map
+}
+
 makes_point_files() {
     local name
     for name in hole courtyard_leak; do
@@ -597,7 +685,7 @@ END
 }
 
 answers_as_the_slow_reader_finds() {
-    run_program compile courtyard.map hulled.tree --fast --hulls --models
+    run_program compile courtyard.map hulled.tree --fast --hulls --models --faces
     [[ $status == 0 ]] || return 1
     look world gatehouse.map --out grouped.map
     run_program compile grouped.map grouped.tree --fast --models
@@ -609,19 +697,28 @@ finds_models_as_slow_ones_are() {
     python3 .ci/compare_models.py "$program"
 }
 
+finds_faces_as_slow_ones_are() {
+    python3 .ci/compare_faces.py "$program"
+}
+
 traces_as_the_slow_trace_finds() {
     (cd "$folder" && python3 "$top/.ci/compare_traces.py" "$program" -n 60 cube.tree courtyard.tree)
 }
 
 agrees_with_the_page_on_tree_files() {
+    local name
+    for name in cube rooms courtyard; do
+        run_program compile $name.map faces_of_$name.tree --fast --faces
+        [[ $status == 0 ]] || return 1
+    done
     run_program compile room.map door.tree --models --hulls
     [[ $status == 0 ]] || return 1
-    python3 .ci/check_treefile_page.py "$folder" cube.tree hole.tree rooms.tree courtyard.tree door.tree
+    python3 .ci/check_treefile_page.py "$folder" faces_of_{cube,rooms,courtyard}.tree hole.tree door.tree
 }
 
 loads_tree_files_in_c() {
     look world gatehouse.map --out grouped.map
-    run_program compile grouped.map gatehouse.tree --fast --models --hulls
+    run_program compile grouped.map gatehouse.tree --fast --models --hulls --faces
     [[ $status == 0 ]] || return 1
     python3 .ci/check_qmtree.py "$folder" room.tree courtyard.tree gatehouse.tree
 }
@@ -631,6 +728,7 @@ check "the samples compile, and leak where they should" compiles_the_samples
 check "inspect answers as the slow reader finds" answers_as_the_slow_reader_finds
 check "inspect traces segments as the slow trace finds" traces_as_the_slow_trace_finds
 check "brush models are those that plain slow fractions give" finds_models_as_slow_ones_are
+check "faces are those that plain slow fractions give" finds_faces_as_slow_ones_are
 check "tools: the pictures of the pages are those of the samples" draws_what_the_pages_show
 check "tools: the entities of a map are marked, at a player's height" marks_the_entities
 check "tools: each kind of contents has a fill of its own" draws_each_kind_of_contents
@@ -639,6 +737,9 @@ check "tools: a row and the portals of a listing are drawn" draws_rows_and_porta
 check "tools: a clip hull is drawn, and refused where there is none" shows_a_clip_hull
 check "inspect tells of doors as the page shows" tells_of_doors_as_the_page_shows
 check "tools: brush models are drawn, and refused where there are none" shows_brush_models_in_a_slice
+check "tools: faces are written as an OBJ, and refused where there are none" writes_faces_as_obj
+check "tools: the manual page and the completion have the words of the program" has_a_manual
+check "tools: bash completes the words of the program" completes_words
 check "tools: point files go through the leaves of their trails alone" makes_point_files
 check "tools: a tree as JSON has all of its file" prints_a_tree_as_json
 check "tools: both versions of a tree file are shown, and a larger world" shows_both_versions_and_both_worlds
