@@ -267,12 +267,12 @@ makes_levels_for_engines() {
     stand 'gatehouse.bsp gatehouse.map gatehouse.pts gatehouse.tree'
 }
 
-# clip hulls and brush models stand in the tree where they are asked for, also behind the full visibility
+# clip hulls, brush models and faces stand in the tree where they are asked for, also behind the full visibility
 passes_options_on() {
     local words
     begin_builds gatehouse
     look world "$top/samples/gatehouse.map" --out merged.map
-    for words in '--fast --hulls' '--fast --models' '--fast --hulls --models' '--models'; do
+    for words in '--fast --hulls' '--fast --models' '--fast --hulls --models' '--fast --faces' '--models --faces'; do
         # shellcheck disable=SC2086  # the words of a command
         run_program compile merged.map parts.tree $words
         # shellcheck disable=SC2046
@@ -280,8 +280,8 @@ passes_options_on() {
         [[ $status == 0 ]] && cmp "$folder/parts.tree" "$builds/levels/gatehouse.tree" || return 1
     done
     look bevels merged.map --out bevelled.map
-    run_program compile bevelled.map parts.tree --fast --hulls --models
-    build gatehouse.map --bsp --models
+    run_program compile bevelled.map parts.tree --fast --hulls --models --faces
+    build gatehouse.map --bsp --models --faces
     [[ $status == 0 && $(tail -n 1 "$builds/printed") == 'gatehouse.bsp: BSP29, '*', 1 models' ]] || return 1
     cmp "$folder/parts.tree" "$builds/levels/gatehouse.tree"
 }
@@ -377,7 +377,7 @@ check "builds: all faces that are refused are listed" lists_all_faces_of_a_level
 check "builds: faces are mended" mends_faces
 check "builds: maps of the Quake 3 family are read" reads_maps_of_quake_3
 check "builds: levels for engines are made, with bevels or without" makes_levels_for_engines
-check "builds: clip hulls and brush models are written where they are asked for" passes_options_on
+check "builds: clip hulls, brush models and faces are written where they are asked for" passes_options_on
 check "builds: words that are no command get the usage line, and status 2" says_how_qmbuild_is_used
 check "builds: what cannot be done is said, with the compiler's status" says_what_cannot_be_done
 check "builds: a run that is stopped leaves nothing, and a long one says how far it is" leaves_nothing_when_it_is_stopped

@@ -1,45 +1,48 @@
 #!/usr/bin/env python3
-"""Holds crates.txt to docs/ARCHITECTURE.md: each crate has one row in the table and each row a crate, the row says
-what the crate stands on, and nothing below the crate is something on which it may not stand; definitions, lemmas and
-types stand on no code; in the picture of the
-layers each crate stands once, above or to the right of what it stands on. Each crate has a page docs/crates/NAME.md
-and a row in docs/GATE.md."""
+"""Holds crates.txt to .ci/crate_rules and to docs/ARCHITECTURE.md. By the rules each crate has one kind, and nothing below a
+crate is something on which it may not stand; definitions, lemmas and types stand on no code. In the tables of the bands each
+crate stands once, in the column of its kind, after everything that it stands on, in the order in which one reads; its
+name there leads to its page. Each crate has a page crates/NAME/README.md and a row in docs/GATE.md."""
 
+from collections import Counter
 from pathlib import Path
 import re
 import sys
 
-HEAD = ["crate", "what it is", "kind", "stands on", "may not stand on"]
 KINDS = {"definitions", "lemma library", "types", "code", "tests", "program"}
 WITHOUT_CODE = {"definitions", "lemma library", "types"}
+ANY_CODE = "any code"
+# where in a row of a band those crates stand that have no code, and those that have
+HEAD = ["subject", "definitions", "code"]
+PAGE = "../crates/{}/README.md"
+
+
+def lines(name):
+    """Each line of a file that says something."""
+    for line in Path(name).read_text().splitlines():
+        line = line.partition("#")[0].strip()
+        if line:
+            yield line
 
 
 def crates():
     """What crates.txt says: each crate with the names that it stands on."""
     found = {}
-    for line in Path("crates.txt").read_text().splitlines():
-        line = line.partition("#")[0].strip()
-        if line:
-            name, _, below = line.partition(":")
-            found[name.split()[0]] = set(below.split())
+    for line in lines("crates.txt"):
+        name, _, below = line.partition(":")
+        found[name.split()[0]] = set(below.split())
     return found
 
 
-def rows():
-    """The rows of the table: the crate with its other cells."""
-    inside = False
-    for line in Path("docs/ARCHITECTURE.md").read_text().splitlines():
-        cells = [cell.strip() for cell in line.strip().strip("|").split("|")] if line.startswith("|") else []
-        if [cell.lower() for cell in cells] == HEAD:
-            inside = True
-        elif not cells:
-            inside = False
-        elif inside and not set(cells[0]) <= set("- :"):
-            yield cells[0].strip("`"), cells
+def rules():
+    """What .ci/crate_rules says: each crate with what it is, its kind, and what it may not stand on."""
+    for line in lines(".ci/crate_rules"):
+        cells = [cell.strip() for cell in line.split("|")]
+        yield (*cells, *[""] * 4)[:4]
 
 
-def names(cell):
-    return set(re.findall(r"`(\w+)`", cell))
+def kinds():
+    return {name: kind for name, _, kind, _ in rules()}
 
 
 def all_below(name, known):
@@ -52,34 +55,35 @@ def all_below(name, known):
     return found
 
 
-def faults():
-    known, table = crates(), list(rows())
-    kinds = {name: cells[2] for name, cells in table if len(cells) == len(HEAD)}
-    code = {name for name, kind in kinds.items() if kind not in WITHOUT_CODE}
-    for name in sorted({name for name, _ in table} - set(known)):
-        yield f"the table has a row for {name}, which crates.txt does not list"
-    for name in known:
-        mine = [cells for row, cells in table if row == name]
-        if len(mine) != 1 or len(mine[0]) != len(HEAD):
-            cells = ", ".join(HEAD)
-            yield f"{name} has {len(mine)} rows in the table of docs/ARCHITECTURE.md, and wants one of {len(HEAD)} cells: {cells}"
-            continue
-        _, _, kind, below, never = mine[0]
+def faults_of_rules(known):
+    kind_of = kinds()
+    code = {name for name, kind in kind_of.items() if kind not in WITHOUT_CODE}
+    count = Counter(name for name, *_ in rules())
+    for name in sorted(set(count) - set(known)):
+        yield f".ci/crate_rules has a line for {name}, which crates.txt does not list"
+    for name in sorted(known):
+        if count[name] != 1:
+            yield f"{name} has {count[name]} lines in .ci/crate_rules, and wants one: NAME | WHAT IT IS | KIND | MAY NOT STAND ON"
+    for name, what, kind, never in rules():
+        if not what:
+            yield f"{name}: .ci/crate_rules does not say what it is"
         if kind not in KINDS:
             yield f"{name}: its kind is '{kind}', and not one of {', '.join(sorted(KINDS))}"
-        if names(below) != known[name]:
-            yield f"{name}: crates.txt has {sorted(known[name])}, and the table {sorted(names(below))}"
-        forbidden = names(never) | (code if re.search(r"\bany code\b", never) else set())
+        named = set(never.removeprefix(ANY_CODE).split())
+        forbidden = named | (code if never.startswith(ANY_CODE) else set())
         for other in sorted(all_below(name, known) & forbidden):
             yield f"{name} may not stand on {other}, and does"
-        for other in sorted(known[name]):
-            if kind in WITHOUT_CODE and kinds.get(other, kind) not in WITHOUT_CODE:
-                yield f"{name}, whose kind is '{kind}', stands on {other}, whose kind is '{kinds[other]}'"
-        for other in sorted(names(never) - set(known)):
-            yield f"{name}: the table names {other}, which is no crate"
-    pages = {page.stem for page in Path("docs/crates").glob("*.md")}
+        for other in sorted(known.get(name, ())):
+            if kind in WITHOUT_CODE and kind_of.get(other, kind) not in WITHOUT_CODE:
+                yield f"{name}, whose kind is '{kind}', stands on {other}, whose kind is '{kind_of[other]}'"
+        for other in sorted(named - set(known)):
+            yield f"{name}: .ci/crate_rules names {other}, which is no crate"
+
+
+def faults_of_pages(known):
+    pages = {page.parent.name for page in Path("crates").glob("*/README.md")}
     costs = set(re.findall(r"(?m)^\| `(\w+)` \|", Path("docs/GATE.md").read_text()))
-    for what, having in (("page docs/crates/{}.md", pages), ("row `{}` in the table of docs/GATE.md", costs)):
+    for what, having in (("page crates/{}/README.md", pages), ("row `{}` in the table of docs/GATE.md", costs)):
         for name in sorted(set(known) - having):
             yield f"{name} has no {what.format(name)}"
         for name in sorted(having - set(known)):
@@ -87,31 +91,44 @@ def faults():
 
 
 def places():
-    """Where each crate stands in the picture: its row, counted from the lowest one, and its place there."""
-    _, _, text = Path("docs/ARCHITECTURE.md").read_text().partition("\n## The crates\n")
-    rows = [line for line in text.partition("\n| ")[0].splitlines() if line.startswith("    ") and "|" in line]
-    for row, line in enumerate(reversed(rows)):
-        for at, name in enumerate(re.findall(r"\w+", line.partition("|")[2])):
-            yield name, (row, at)
+    """Each crate of the bands in reading order, with the head of its column and the link from its name."""
+    head = None
+    for line in Path("docs/ARCHITECTURE.md").read_text().splitlines():
+        cells = [cell.strip() for cell in line.strip().strip("|").split("|")] if line.startswith("|") else []
+        if [cell.lower() for cell in cells[:3]] == HEAD:
+            head = [cell.lower() for cell in cells]
+        elif not cells:
+            head = None
+        elif head:
+            for column, cell in zip(head, cells):
+                for name, link in re.findall(r"\[`(\w+)`\]\(([^)]*)\)", cell):
+                    yield name, column, link
 
 
-def faults_of_picture():
-    known, found = crates(), list(places())
-    placed = dict(found)
-    for name in sorted(set(known) - set(placed)):
-        yield f"{name} has no place in the picture of docs/ARCHITECTURE.md"
-    for name in sorted(set(placed) - set(known)):
-        yield f"the picture of docs/ARCHITECTURE.md has {name}, which crates.txt does not list"
-    if len(found) != len(placed):
-        yield "the picture has a crate twice"
+def faults_of_bands(known):
+    kind_of, found = kinds(), list(places())
+    at = {name: place for place, (name, _, _) in enumerate(found)}
+    for name in sorted(set(known) - set(at)):
+        yield f"{name} has no place in the bands of docs/ARCHITECTURE.md"
+    for name in sorted(set(at) - set(known)):
+        yield f"the bands of docs/ARCHITECTURE.md have {name}, which crates.txt does not list"
+    if len(found) != len(at):
+        yield "the bands of docs/ARCHITECTURE.md have a crate twice"
+    for name, column, link in found:
+        wanted = "definitions" if kind_of.get(name) in WITHOUT_CODE else "code"
+        if column != wanted:
+            yield f"{name}, whose kind is '{kind_of.get(name)}', stands in the column '{column}'"
+        if link != PAGE.format(name):
+            yield f"the name {name} leads to {link}, and its page is {PAGE.format(name)}"
     for name in known:
         for below in known[name]:
-            if name in placed and below in placed and placed[below] >= placed[name]:
-                yield f"{name} stands on {below}, which in the picture is neither below it nor to its left"
+            if name in at and below in at and at[below] >= at[name]:
+                yield f"{name} stands on {below}, which comes after it in the bands"
 
 
 def main():
-    found = [*faults(), *faults_of_picture()]
+    known = crates()
+    found = [*faults_of_rules(known), *faults_of_pages(known), *faults_of_bands(known)]
     print("\n".join(found), end="\n" if found else "")
     sys.exit(1 if found else 0)
 

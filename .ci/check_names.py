@@ -9,6 +9,8 @@ from pathlib import Path
 import re
 import sys
 
+from check_crates import kinds
+
 DEFINITION = re.compile(r"^(?:(?:  )?(?:(?:abbrev|unfoldable) pub|pub (?:record|data))|pub(?! mod\b| use\b)) ([^\s:({]+)", re.M)
 ITEM = re.compile(r"^\s*pub\s+(?:const\s+)?(?:fn|struct|enum|trait|type|const)\s+(\w+)", re.M)
 IMPORT = re.compile(r"use Rattle\.(\w+)\.specs\.[\w.]+\.\{([^}]*)\}")
@@ -30,12 +32,6 @@ def definitions():
             for name in DEFINITION.findall(file.read_text()):
                 found[name].add((file.parts[1], "/".join(file.parts[3:])))
     return found
-
-
-def kinds():
-    """The kind of each crate, by the table of docs/ARCHITECTURE.md."""
-    rows = re.findall(r"^\| `(\w+)` \|[^|]*\| ([\w ]+) \|", Path("docs/ARCHITECTURE.md").read_text(), re.M)
-    return dict(rows)
 
 
 def items():

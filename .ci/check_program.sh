@@ -297,8 +297,8 @@ answers_as_the_pages_show() {
         run_program $words
         [[ $status == 0 ]] && page_shows "$page" "$words" | cmp - "$folder/printed" || return 1
     done <<'END'
-TREEFILE.md|inspect courtyard.tree at=-208,-128,24 at=64,0,24
-TREEFILE.md|inspect courtyard.tree sees=53,27 sees=53,0
+EDITORS.md|inspect courtyard.tree at=-208,-128,24 at=64,0,24
+EDITORS.md|inspect courtyard.tree sees=53,27 sees=53,0
 EDITORS.md|inspect courtyard.tree at=-208,-128,24
 END
     # with clip hulls, of which the page shows both lines before the answers

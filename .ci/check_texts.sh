@@ -71,7 +71,7 @@ check "no word looks like a label" has_no_labels
 check "no path of a machine is named" has_no_paths_of_a_machine
 check "README.md has at most 800 words" has_a_short_readme
 check "pages for users hold no words of the workshop" speaks_to_users
-check "docs/ARCHITECTURE.md has each crate with what it stands on" python3 .ci/check_crates.py
+check "docs/ARCHITECTURE.md has each crate after what it stands on, and each keeps to its rules" python3 .ci/check_crates.py
 check "docs/PROOF.md has the definitions in reading order" python3 .ci/reading_order.py
 check "docs/THEOREM.md has the lines of each claim" python3 .ci/theorem_lines.py
 check "each name has one meaning" python3 .ci/check_names.py

@@ -1,11 +1,13 @@
 #!/usr/bin/env python3
 """Takes the pieces of C from docs/TREEFILE.md, compiles them as one program, and compares what it prints with what
-`tools/treefile.py` reads: the leaves of points, rows, clip hulls, what is met on segments, and which models are drawn. And the bytes
-that the page shows are those of a world without brushes, and those with which the models of samples/room.map begin.
+`tools/treefile.py` reads: the leaves of points, rows, clip hulls, what is met on segments, which models are drawn, and faces. And the
+bytes that the page shows are those of samples/cube.map, and those with which the models of samples/room.map and the faces of
+samples/cube.map begin.
 
     .ci/check_treefile_page.py FOLDER TREE..
 
-The trees are files of FOLDER, as the compiler wrote them; the models of room.map are in the last one. They get rows by chance and
+The trees are files of FOLDER, as the compiler wrote them; the faces of cube.map are in the first one, and the models of room.map in
+the last one. They get rows by chance and
 are written in version 1 too, and so are trees that are made here."""
 
 from pathlib import Path
@@ -19,11 +21,11 @@ sys.path.insert(0, str(Path(__file__).resolve().parent.parent / "tools"))
 
 from check_qmtree import STRICT, struck
 import made_sections
-from made_trees import CODES, cube, long_tree, random_tree, tree_file, written
+from made_trees import CODES, cube, long_tree, random_tree, written
 import treefile
 
 PAGE = Path("docs/TREEFILE.md")
-PIECES = 5
+PIECES = 6
 POINTS = 6
 # sections behind those of clip hulls
 SECTIONS = [(7, b""), (2 ** 32 - 1, bytes(300))]
@@ -60,6 +62,8 @@ def with_sections(tree, hulls, rng):
     if hulls and tree.numbered() > 2:
         models = next(made_sections.model_sections(rng, tree.numbered(), tree.bound))
         stored.append((treefile.MODELS, models))
+    if hulls:
+        stored.append((treefile.FACES, next(made_sections.face_sections(rng, tree))))
     return tree._replace(sections=[treefile.Section(*section) for section in (*stored, *SECTIONS)])
 
 
@@ -72,16 +76,51 @@ def wanted(tree, models, hulls, point, end):
         yield "models: no part"
     own = None if tree.rows is None else what.number
     held = list(range(tree.numbered())) if own is None else tree.row(own)
+    beside, through = beyond(tree, held)
+    yield beside and " ".join(["through:", *map(str, sorted(through - set(held)))])
     yield " ".join([f"row {-1 if what.number is None else what.number}:", *map(str, held)])
+    yield beside and " ".join(["beside:", *map(str, sorted(beside - set(held)))])
+    held = beside or held
     for model in models or ():
         is_drawn = any(leaf in held for leaf in model.leaves)
         yield (f"model {model.entity}: {'drawn' if is_drawn else 'not drawn'}, "
                f"{CODES[model.tree.leaves[model.tree.leaf_at(point)].contents]} there")
+    yield from faces(tree, held)
     for kind in treefile.HULLS:
         if kind in hulls:
             yield f"hull {kind}: {'solid' if hulls[kind].is_solid_at(point) else 'empty'}, solid at", struck(hulls[kind], point, end)
         else:
             yield f"hull {kind}: no part"
+
+
+CONTACTS = {}
+# in a deeper tree exact fractions take too long: there what is beside a leaf is not looked at
+MOST_NODES = 1000
+
+
+def beyond(tree, held):
+    """What a row holds with the leaves of other contents that touch these, and with all that their rows hold; or twice None."""
+    if len(tree.nodes) > MOST_NODES:
+        return None, None
+    key = id(tree.nodes), tree.bound
+    if key not in CONTACTS:
+        CONTACTS[key] = tree.nodes, tree.contacts()
+    contacts = CONTACTS[key][1]
+    touching = {other for one in held for other in contacts[one]}
+    seen = {leaf for other in touching for leaf in tree.row(other)} if tree.rows is not None else set()
+    return set(held) | touching, set(held) | touching | seen
+
+
+def missed(tree, rng):
+    """Two leaves of different contents between which a segment goes, and of which the contacts do not have each other, or None."""
+    contacts = tree.contacts()
+    for _ in range(300):
+        ends = [tuple(Fraction(rng.randrange(-600 * 997, 600 * 997), 997) for _ in range(3)) for _ in range(2)]
+        leaves = [tree.leaves[span.leaf] for span in tree.spans(*ends)]
+        for one, other in zip(leaves, leaves[1:]):
+            if None not in (one.number, other.number) and one.contents != other.contents and other.number not in contacts[one.number]:
+                return one, other
+    return None
 
 
 def models_of(tree):
@@ -90,6 +129,18 @@ def models_of(tree):
         return tree.models()
     except treefile.NoPart:
         return None
+
+
+def faces(tree, held):
+    """What the program should print of the faces of leaves that a row holds: texts, each with the coordinates of all corners behind it."""
+    try:
+        found = tree.faces()
+    except treefile.NoPart:
+        yield "faces: no part"
+        return
+    for at, piece in enumerate(found):
+        if tree.leaves[piece.leaf].number in held:
+            yield f"face {at} of brush {piece.brush}, face {piece.face}:", [part for corner in piece.corners for part in tree.corner(corner)]
 
 
 def along(tree, point, end):
@@ -128,10 +179,16 @@ def place(rng, reach):
 
 
 def fits(lines, due):
-    """Whether lines are texts that are due, or such before a number that is nearly the one that is due."""
+    """Whether lines are texts that are due, or such before a number, or before numbers in brackets, that are nearly those that are due."""
     return len(lines) == len(due) and all(
-        line == text if isinstance(text, str) else line.startswith(text[0] + " ") and abs(float(line.rpartition(" ")[2]) - text[1]) < 1e-8
+        text is None or line == text if text is None or isinstance(text, str) else line.startswith(text[0] + " ") and are_near(line.removeprefix(text[0]), text[1])
         for line, text in zip(lines, due))
+
+
+def are_near(spelled, numbers):
+    """Whether a text has just these numbers, nearly."""
+    found, numbers = list(map(float, spelled.replace("(", " ").replace(")", " ").split())), numbers if isinstance(numbers, list) else [numbers]
+    return len(found) == len(numbers) and all(abs(one - other) <= max(1e-8, 1e-8 * abs(other)) for one, other in zip(found, numbers))
 
 
 def fault(program, folder, tree, points):
@@ -157,14 +214,21 @@ def fault(program, folder, tree, points):
 
 def main():
     folder, rng = Path(sys.argv[1]).resolve(), random.Random(7)
-    bare, models = shown()
-    if bare != tree_file([], [], [(-1, 0)], [{0}]):
-        sys.exit(f"{PAGE}: the bytes are not those of a world without brushes")
+    whole_cube, models, faces_of_cube = shown()
+    if whole_cube != cube():
+        sys.exit(f"{PAGE}: the bytes are not those of samples/cube.map")
     program = compiled(folder)
     read = [treefile.load(folder / name) for name in sys.argv[2:]]
     room = read[-1].part(treefile.MODELS)
     if room[:len(models)] != models or len(room) != len(models) + 324:
         sys.exit(f"{PAGE}: the bytes are not those of the models of samples/room.map")
+    cube_section = read[0].part(treefile.FACES)
+    if cube_section[:len(faces_of_cube)] != faces_of_cube or len(cube_section) != 728:
+        sys.exit(f"{PAGE}: the bytes are not those of the faces of samples/cube.map")
+    for tree in read:
+        found = missed(tree, rng)
+        if found:
+            sys.exit(f"a segment goes between {found}, which do not touch")
     trees = read + [with_rows(tree, rng) for tree in read]
     made = [treefile.decode(data) for data in (cube(), random_tree(rng, 60, True, 2, treefile.BOUNDS[-1]), long_tree(3000))]
     trees += made

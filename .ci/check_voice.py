@@ -1,7 +1,7 @@
 #!/usr/bin/env python3
 """Holds pages to plain English, as far as a script can see it, and to a number of words: each page of the list below has none
-of the turns of phrase that stand after it, and at most so many words as `wc -w` counts. A page is added to the list once it
-passes. Code, in blocks and between backticks, is not looked at."""
+of the turns of phrase that stand after it, and at most so many words as `wc -w` counts, without the parts that a script writes;
+and so have all of them together. Code, in blocks and between backticks, is not looked at. Words in tables count with the bars."""
 
 from pathlib import Path
 import re
@@ -10,16 +10,34 @@ import sys
 # the pages that are held, with the most words of each
 PAGES = {
     "CONTRIBUTING.md": 1800,
+    "README.md": 800,
     "bench/README.md": 2500,
+    "docs/ARCHITECTURE.md": 2800,
     "docs/DECISIONS.md": 3400,
+    "docs/EDITORS.md": 5900,
+    "docs/GATE.md": 2650,
     "docs/GLOSSARY.md": 3000,
+    "docs/LARGE.md": 450,
+    "docs/LISTING.md": 350,
     "docs/MAPTEXT.md": 2000,
     "docs/PLAY.md": 1400,
+    "docs/PROOF.md": 3600,
     "docs/SIGHT.md": 1600,
-    "docs/SPACE.md": 2400,
-    "docs/WINDINGS.md": 2200,
-    "tools/README.md": 4700,
+    "docs/SPACE.md": 1700,
+    "docs/THEOREM.md": 1300,
+    "docs/TREEFILE.md": 5700,
+    "docs/WINDINGS.md": 1800,
+    "tools/README.md": 4500,
 }
+# of all of these together
+MOST = 46000
+
+# what a script writes into a page, which is not counted and not looked at
+WRITTEN = [
+    re.compile(r"<!-- begin .*?<!-- end [^>]*-->", re.S),
+    re.compile(r"^\| Crate \| lines \| edits .*\Z", re.S | re.M),
+    re.compile(r"^\| Claim \| Stated by .*\Z", re.S | re.M),
+]
 
 # what is refused, with what to write in its place
 HABITS = [
@@ -37,6 +55,13 @@ HABITS = [
 ]
 
 
+def by_hand(text):
+    """A page without what a script writes into it, with as many lines."""
+    for part in WRITTEN:
+        text = part.sub(lambda found: "\n" * found.group().count("\n"), text)
+    return text
+
+
 def plain_lines(text):
     """Each line with its number, without code."""
     inside = False
@@ -48,15 +73,21 @@ def plain_lines(text):
 
 
 def faults():
+    everything = 0
     for name, most in PAGES.items():
-        text = Path(name).read_text()
+        text = by_hand(Path(name).read_text())
         words = len(text.split())
+        everything += words
         if words > most:
             yield f"{name} has {words} words, and {most} are allowed"
         for number, line in plain_lines(text):
             for habit, instead in HABITS:
                 for found in re.finditer(habit, line):
                     yield f"{name}:{number}: '{found.group().strip()}': write {instead}"
+    if everything > MOST:
+        yield f"all pages have {everything} words, and {MOST} are allowed"
+    for name in sorted({str(page) for page in Path("docs").glob("*.md")} - set(PAGES)):
+        yield f"{name} has no limit in .ci/check_voice.py"
 
 
 def main():

@@ -14,7 +14,7 @@ from pathlib import Path
 import re
 import sys
 
-from check_crates import rows
+from check_crates import rules
 from definitions import Missing, Repository, source_file, specs_file
 
 PROGRAM, TOP = "qmapc", "run"
@@ -120,7 +120,7 @@ class Order:
 
     def reading(self, with_names=False):
         """The lines of the reading order, crate by crate."""
-        kinds = {name: f": {sentence(cells[1])}" for name, cells in rows()}
+        kinds = {name: f": {sentence(what)}" for name, what, _, _ in rules()}
         for crate in self.crates:
             yield f"\n**`{crate}`**{kinds.get(crate, '')}\n"
             yield from (self.file_line(file, with_names) for file in self.files if file[1] == crate)
