@@ -213,7 +213,7 @@ fn lies_behind(corner: &Corner, plane: &Plane) -> bool
 }
 
 /// Whether a corner is strictly in front of a plane.
-pub(crate) fn is_in_front(corner: &Corner, plane: &Plane) -> bool
+fn is_in_front(corner: &Corner, plane: &Plane) -> bool
     ensures { IsTrue result ↔ IsInFront plane.now corner.now }
 {
     match corner.side(plane) {
