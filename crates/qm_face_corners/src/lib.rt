@@ -2,5 +2,8 @@
 #![tactic(auto)]
 
 mod corners;
+mod kept_number;
+mod plane_numbers;
 
 pub use corners::numbered_corners;
+pub use plane_numbers::PlaneNumbers;
