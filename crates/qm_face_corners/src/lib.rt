@@ -3,7 +3,9 @@
 
 mod corners;
 mod kept_number;
+mod laws;
 mod plane_numbers;
 
 pub use corners::numbered_corners;
+pub use laws::corners_turn;
 pub use plane_numbers::PlaneNumbers;
