@@ -14,6 +14,7 @@ ghost use Rattle.qm_crew.specs.inner.TurnsTaken.{LieAlong, AreFinished};
 use crate::alone::work_alone;
 use crate::gate::Gate;
 use crate::settling::{Settling, settle};
+use crate::shared::SharedWorld;
 use crate::team::{Team, work_all};
 use qm_bits::BitRow;
 use qm_board::{Pass, RowBoard};
@@ -54,7 +55,11 @@ pub fn crew<R: Threads + Sync, G: Gate + Sync>(
 {
     world.own_portals();
     let (board, pass) = RowBoard::new(alloc, world, coarse)?;
-    let Finished { pass, turns } = work(rt, alloc, world, &board, pass, workers, gate)?;
+    let shared = SharedWorld {
+        world,
+        board: &board,
+    };
+    let Finished { pass, turns } = work(rt, alloc, &shared, pass, workers, gate)?;
     let rows = board.close(alloc, pass)?;
     Ok(Crewed { rows, turns })
 }
@@ -70,37 +75,31 @@ struct Finished {
 fn work<R: Threads + Sync, G: Gate + Sync>(
     rt: &R,
     alloc: Global,
-    world: &World,
-    board: &RowBoard,
+    shared: &SharedWorld<'_>,
     pass: Pass,
     workers: u8,
     gate: &G,
 ) -> Result<Finished, AllocError>
     requires some { 1 ≤ workers }
-    requires pass { IsPassOver world.now board.now pass }
-    requires along { LieAlong world.now (findings_of pass) [] }
-    ensures pass { IfOk result (λ all. IsPassOver world.now board.now all.pass) }
-    ensures finished { IfOk result (λ all. AreFinished world.now (findings_of all.pass) workers all.turns) }
+    requires pass { IsPassOver shared.now.world.now shared.now.board.now pass }
+    requires along { LieAlong shared.now.world.now (findings_of pass) [] }
+    ensures pass { IfOk result (λ all. IsPassOver shared.now.world.now shared.now.board.now all.pass) }
+    ensures finished { IfOk result (λ all. AreFinished shared.now.world.now (findings_of all.pass) workers all.turns) }
 {
     if workers == 1 {
-        return work_by_one(alloc, world, board, pass);
+        return work_by_one(alloc, shared, pass);
     }
-    work_by_several(rt, alloc, world, board, pass, workers, gate)
+    work_by_several(rt, alloc, shared, pass, workers, gate)
 }
 
 /// The turns of one worker alone.
-fn work_by_one(
-    alloc: Global,
-    world: &World,
-    board: &RowBoard,
-    pass: Pass,
-) -> Result<Finished, AllocError>
-    requires pass { IsPassOver world.now board.now pass }
-    requires along { LieAlong world.now (findings_of pass) [] }
-    ensures pass { IfOk result (λ all. IsPassOver world.now board.now all.pass) }
-    ensures finished { IfOk result (λ all. AreFinished world.now (findings_of all.pass) 1 all.turns) }
+fn work_by_one(alloc: Global, shared: &SharedWorld<'_>, pass: Pass) -> Result<Finished, AllocError>
+    requires pass { IsPassOver shared.now.world.now shared.now.board.now pass }
+    requires along { LieAlong shared.now.world.now (findings_of pass) [] }
+    ensures pass { IfOk result (λ all. IsPassOver shared.now.world.now shared.now.board.now all.pass) }
+    ensures finished { IfOk result (λ all. AreFinished shared.now.world.now (findings_of all.pass) 1 all.turns) }
 {
-    let Settling { pass, first, .. } = work_alone(alloc, world, board, pass)?;
+    let Settling { pass, first, .. } = work_alone(alloc, shared, pass)?;
     let turns = turns_of(alloc, first, Vec::new(alloc))?;
     Ok(Finished { pass, turns })
 }
@@ -109,29 +108,28 @@ fn work_by_one(
 fn work_by_several<R: Threads + Sync, G: Gate + Sync>(
     rt: &R,
     alloc: Global,
-    world: &World,
-    board: &RowBoard,
+    shared: &SharedWorld<'_>,
     pass: Pass,
     workers: u8,
     gate: &G,
 ) -> Result<Finished, AllocError>
     requires several { 1 < workers }
-    requires pass { IsPassOver world.now board.now pass }
-    requires along { LieAlong world.now (findings_of pass) [] }
-    ensures pass { IfOk result (λ all. IsPassOver world.now board.now all.pass) }
-    ensures finished { IfOk result (λ all. AreFinished world.now (findings_of all.pass) workers all.turns) }
+    requires pass { IsPassOver shared.now.world.now shared.now.board.now pass }
+    requires along { LieAlong shared.now.world.now (findings_of pass) [] }
+    ensures pass { IfOk result (λ all. IsPassOver shared.now.world.now shared.now.board.now all.pass) }
+    ensures finished { IfOk result (λ all. AreFinished shared.now.world.now (findings_of all.pass) workers all.turns) }
 {
     let Team {
         pass,
         first,
         others,
-    } = work_all(rt, alloc, world, board, gate, pass, workers)?;
+    } = work_all(rt, alloc, shared.world, shared.board, gate, pass, workers)?;
     let begun = Settling {
         pass,
         first,
         lines: LineStore::new(alloc),
     };
-    let Settling { pass, first, .. } = settle(alloc, world, board, begun, others.as_slice())?;
+    let Settling { pass, first, .. } = settle(alloc, shared, begun, others.as_slice())?;
     let turns = turns_of(alloc, first, others)?;
     Ok(Finished { pass, turns })
 }

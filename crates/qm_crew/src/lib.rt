@@ -7,6 +7,7 @@ mod gate;
 mod gated;
 pub mod laws;
 mod settling;
+mod shared;
 mod team;
 mod turn;
 mod worker;

@@ -7,15 +7,16 @@ ghost use Rattle.qm_crew.specs.inner.PassOver.{IsPassOver};
 ghost use Rattle.qm_crew.specs.inner.TurnsTaken.{HadTurn, IsInSomeList, AreSettled};
 
 use crate::gate::OpenGate;
+use crate::shared::SharedWorld;
 use crate::turn::take_turn;
 use qm_bits::BitRow;
-use qm_board::{Pass, RowBoard};
+use qm_board::Pass;
 use qm_lines::LineStore;
 use qm_lists::Items;
 use qm_portal::World;
 use std::alloc::{AllocError, Global};
 
-/// What the caller goes on with: a pass, and the first list.
+/// What the caller goes on with: a pass, the first list, and a store of lines, which it hands from flow to flow.
 #[derive(Drop)]
 pub(crate) struct Settling {
     pub(crate) pass: Pass,
@@ -26,15 +27,14 @@ pub(crate) struct Settling {
 /// Takes the turn of a portal, and appends it to the first list.
 pub(crate) fn append_turn(
     alloc: Global,
-    world: &World,
-    board: &RowBoard,
+    shared: &SharedWorld<'_>,
     settling: Settling,
     portal: u64,
 ) -> Result<Settling, AllocError>
-    requires pass { IsPassOver world.now board.now settling.pass }
-    requires portal_in_range { portal < length world.now.portals }
-    ensures pass { IfOk result (λ ended. IsPassOver world.now board.now ended.pass) }
-    ensures turn { IfOk result (λ ended. HadTurn world.now portal (findings_of settling.pass) (findings_of ended.pass)) }
+    requires pass { IsPassOver shared.now.world.now shared.now.board.now settling.pass }
+    requires portal_in_range { portal < length shared.now.world.now.portals }
+    ensures pass { IfOk result (λ ended. IsPassOver shared.now.world.now shared.now.board.now ended.pass) }
+    ensures turn { IfOk result (λ ended. HadTurn shared.now.world.now portal (findings_of settling.pass) (findings_of ended.pass)) }
     ensures appended { IfOk result (λ ended. ended.first.items ≡ settling.first.items ++ portal ∷ []) }
 {
     let Settling {
@@ -42,7 +42,7 @@ pub(crate) fn append_turn(
         mut first,
         mut lines,
     } = settling;
-    let (pass, taken) = take_turn(alloc, world, board, &OpenGate, pass, &mut lines, portal);
+    let (pass, taken) = take_turn(alloc, shared, &OpenGate, pass, &mut lines, portal);
     taken?;
     first.push(portal)?;
     Ok(Settling { pass, first, lines })
@@ -52,39 +52,37 @@ pub(crate) fn append_turn(
 /// first list.
 pub(crate) fn settle(
     alloc: Global,
-    world: &World,
-    board: &RowBoard,
+    shared: &SharedWorld<'_>,
     begun: Settling,
     others: &[Items<u64>],
 ) -> Result<Settling, AllocError>
-    requires pass { IsPassOver world.now board.now begun.pass }
-    requires settled { AreSettled world.now (findings_of begun.pass) begun.first.items others.now 0 }
-    ensures pass { IfOk result (λ ended. IsPassOver world.now board.now ended.pass) }
-    ensures settled { IfOk result (λ ended. AreSettled world.now (findings_of ended.pass) ended.first.items others.now (length world.now.portals)) }
+    requires pass { IsPassOver shared.now.world.now shared.now.board.now begun.pass }
+    requires settled { AreSettled shared.now.world.now (findings_of begun.pass) begun.first.items others.now 0 }
+    ensures pass { IfOk result (λ ended. IsPassOver shared.now.world.now shared.now.board.now ended.pass) }
+    ensures settled { IfOk result (λ ended. AreSettled shared.now.world.now (findings_of ended.pass) ended.first.items others.now (length shared.now.world.now.portals)) }
 {
-    let listed = listed(alloc, world, begun.first.as_slice(), others)?;
-    settle_each(alloc, world, board, begun, others, &listed)
+    let listed = listed(alloc, shared.world, begun.first.as_slice(), others)?;
+    settle_each(alloc, shared, begun, others, &listed)
 }
 
 /// Settles all portals in order, where all that are listed stand in a list.
 fn settle_each(
     alloc: Global,
-    world: &World,
-    board: &RowBoard,
+    shared: &SharedWorld<'_>,
     begun: Settling,
     others: &[Items<u64>],
     listed: &BitRow,
 ) -> Result<Settling, AllocError>
-    requires long { length listed.now ≡ length world.now.portals }
+    requires long { length listed.now ≡ length shared.now.world.now.portals }
     requires stands { (number : ℕ) → IsIn listed.now number → IsInSomeList (begun.first.items ∷ others.now) number }
-    requires pass { IsPassOver world.now board.now begun.pass }
-    requires settled { AreSettled world.now (findings_of begun.pass) begun.first.items others.now 0 }
-    ensures pass { IfOk result (λ ended. IsPassOver world.now board.now ended.pass) }
-    ensures settled { IfOk result (λ ended. AreSettled world.now (findings_of ended.pass) ended.first.items others.now (length world.now.portals)) }
+    requires pass { IsPassOver shared.now.world.now shared.now.board.now begun.pass }
+    requires settled { AreSettled shared.now.world.now (findings_of begun.pass) begun.first.items others.now 0 }
+    ensures pass { IfOk result (λ ended. IsPassOver shared.now.world.now shared.now.board.now ended.pass) }
+    ensures settled { IfOk result (λ ended. AreSettled shared.now.world.now (findings_of ended.pass) ended.first.items others.now (length shared.now.world.now.portals)) }
 {
     let mut settling = begun;
-    for portal in 0..world.portals() {
-        settling = settle_one(alloc, world, board, settling, others, listed, portal)?;
+    for portal in 0..shared.world.portals() {
+        settling = settle_one(alloc, shared, settling, others, listed, portal)?;
     }
     Ok(settling)
 }
@@ -92,20 +90,19 @@ fn settle_each(
 /// Takes the turn of a portal where it is not done or not listed.
 fn settle_one(
     alloc: Global,
-    world: &World,
-    board: &RowBoard,
+    shared: &SharedWorld<'_>,
     settling: Settling,
     others: &[Items<u64>],
     listed: &BitRow,
     portal: u64,
 ) -> Result<Settling, AllocError>
-    requires portal_in_range { portal < length world.now.portals }
-    requires long { length listed.now ≡ length world.now.portals }
+    requires portal_in_range { portal < length shared.now.world.now.portals }
+    requires long { length listed.now ≡ length shared.now.world.now.portals }
     requires stands { IsIn listed.now portal → IsInSomeList (settling.first.items ∷ others.now) portal }
-    requires pass { IsPassOver world.now board.now settling.pass }
-    requires settled { AreSettled world.now (findings_of settling.pass) settling.first.items others.now portal }
-    ensures pass { IfOk result (λ ended. IsPassOver world.now board.now ended.pass) }
-    ensures settled { IfOk result (λ ended. AreSettled world.now (findings_of ended.pass) ended.first.items others.now (portal + 1)) }
+    requires pass { IsPassOver shared.now.world.now shared.now.board.now settling.pass }
+    requires settled { AreSettled shared.now.world.now (findings_of settling.pass) settling.first.items others.now portal }
+    ensures pass { IfOk result (λ ended. IsPassOver shared.now.world.now shared.now.board.now ended.pass) }
+    ensures settled { IfOk result (λ ended. AreSettled shared.now.world.now (findings_of ended.pass) ended.first.items others.now (portal + 1)) }
     ensures gained { IfOk result (λ ended. (number : ℕ) → IsInSomeList (settling.first.items ∷ others.now) number → IsInSomeList (ended.first.items ∷ others.now) number) }
 {
     let Settling {
@@ -114,12 +111,12 @@ fn settle_one(
         lines,
     } = settling;
     let stands = listed.get(portal);
-    let done = board.is_done(&mut pass, portal);
+    let done = shared.board.is_done(&mut pass, portal);
     let settling = Settling { pass, first, lines };
     if done && stands {
         return Ok(settling);
     }
-    append_turn(alloc, world, board, settling, portal)
+    append_turn(alloc, shared, settling, portal)
 }
 
 /// Which portals stand in a list.

@@ -8,6 +8,7 @@ ghost use Rattle.qm_crew.specs.inner.PassOver.{IsPassOver};
 ghost use Rattle.qm_crew.specs.inner.TurnsTaken.{LieAlong, AreWorkLists};
 
 use crate::gate::Gate;
+use crate::shared::SharedWorld;
 use crate::worker::{Worker, work};
 use qm_board::{Pass, RowBoard};
 use qm_lists::Items;
@@ -41,7 +42,8 @@ pub(crate) fn work_all<R: Threads + Sync, G: Gate + Sync>(
     ensures lists { IfOk result (λ team. AreWorkLists world.now (findings_of team.pass) count (team.first.items ∷ team.others.items)) }
 {
     if count == 1 {
-        return Ok(team_of(alloc, work(alloc, world, board, gate, pass)));
+        let shared = SharedWorld { world, board };
+        return Ok(team_of(alloc, work(alloc, &shared, gate, pass)));
     }
     let low = count / 2;
     let high = count - low;

@@ -14,33 +14,32 @@ ghost use Rattle.qm_crew.specs.inner.TurnsTaken.{IsNarrower, HadTurn};
 
 use crate::gate::Gate;
 use crate::gated::GatedRows;
+use crate::shared::SharedWorld;
 use qm_bits::BitRow;
-use qm_board::{BoardRows, Pass, RowBoard};
+use qm_board::{BoardRows, Pass};
 use qm_flow::flow;
 use qm_lines::LineStore;
-use qm_portal::World;
 use std::alloc::{AllocError, Global};
 
 /// Flows a portal over a board and publishes its row. After want of memory the pass is given back too.
 pub(crate) fn take_turn<G: Gate>(
     alloc: Global,
-    world: &World,
-    board: &RowBoard,
+    shared: &SharedWorld<'_>,
     gate: &G,
     pass: Pass,
     lines: &mut LineStore,
     portal: u64,
 ) -> (Pass, Result<(), AllocError>)
-    requires pass { IsPassOver world.now board.now pass }
-    requires portal_in_range { portal < length world.now.portals }
-    ensures pass { IsPassOver world.now board.now result.0 }
-    ensures narrower { IsNarrower world.now (findings_of pass) (findings_of result.0) }
-    ensures turn { OnOk result.1 (HadTurn world.now portal (findings_of pass) (findings_of result.0)) }
+    requires pass { IsPassOver shared.now.world.now shared.now.board.now pass }
+    requires portal_in_range { portal < length shared.now.world.now.portals }
+    ensures pass { IsPassOver shared.now.world.now shared.now.board.now result.0 }
+    ensures narrower { IsNarrower shared.now.world.now (findings_of pass) (findings_of result.0) }
+    ensures turn { OnOk result.1 (HadTurn shared.now.world.now portal (findings_of pass) (findings_of result.0)) }
 {
-    let (mut pass, row) = flow_on(alloc, world, board, gate, pass, lines, portal);
+    let (mut pass, row) = flow_on(alloc, shared, gate, pass, lines, portal);
     match row {
         Ok(row) => {
-            board.publish(&mut pass, portal, &row);
+            shared.board.publish(&mut pass, portal, &row);
             (pass, Ok(()))
         }
         Err(error) => (pass, Err(error)),
@@ -50,22 +49,21 @@ pub(crate) fn take_turn<G: Gate>(
 /// The row of a portal, as it is flowed over a board, and the pass by which it was read.
 fn flow_on<G: Gate>(
     alloc: Global,
-    world: &World,
-    board: &RowBoard,
+    shared: &SharedWorld<'_>,
     gate: &G,
     pass: Pass,
     lines: &mut LineStore,
     portal: u64,
 ) -> (Pass, Result<BitRow, AllocError>)
-    requires pass { IsPassOver world.now board.now pass }
-    requires portal_in_range { portal < length world.now.portals }
-    ensures pass { IsPassOver world.now board.now result.0 }
-    ensures narrower { IsNarrower world.now (findings_of pass) (findings_of result.0) }
-    ensures wide { IfOk result.1 (λ row. length row ≡ length (numbered_leaves world.now.tree)) }
-    ensures sound { IfOk result.1 (λ row. (first : Portal) → IsAt world.now.portals portal first → IsSoundRow world.now.tree first row) }
-    ensures open_chains { IfOk result.1 (λ row. (n : ℕ) → IsIn row n → IsShown world.now.portals (IsInCeiling (ceiling_rows world.now (findings_of pass)) n) portal n) }
+    requires pass { IsPassOver shared.now.world.now shared.now.board.now pass }
+    requires portal_in_range { portal < length shared.now.world.now.portals }
+    ensures pass { IsPassOver shared.now.world.now shared.now.board.now result.0 }
+    ensures narrower { IsNarrower shared.now.world.now (findings_of pass) (findings_of result.0) }
+    ensures wide { IfOk result.1 (λ row. length row ≡ length (numbered_leaves shared.now.world.now.tree)) }
+    ensures sound { IfOk result.1 (λ row. (first : Portal) → IsAt shared.now.world.now.portals portal first → IsSoundRow shared.now.world.now.tree first row) }
+    ensures open_chains { IfOk result.1 (λ row. (n : ℕ) → IsIn row n → IsShown shared.now.world.now.portals (IsInCeiling (ceiling_rows shared.now.world.now (findings_of pass)) n) portal n) }
 {
-    let mut rows = GatedRows::over(BoardRows::over(board, pass), gate, portal);
-    let row = flow(alloc, world, &mut rows, portal, lines);
+    let mut rows = GatedRows::over(BoardRows::over(shared.board, pass), gate, portal);
+    let row = flow(alloc, shared.world, &mut rows, portal, lines);
     (rows.into_rows().into_pass(), row)
 }

@@ -11,7 +11,7 @@ loop-portal-init c = record { pass = c.requires.pass; list = c.new.ensures.items
 
 pub loop-portal-preserved : goal.loop-portal-preserved
 loop-portal-preserved c =
-    let world = c.args.world.now in
+    let world = c.args.shared.now.world.now in
     let k = c.loop-portal.portal in
     let old = findings_of c.loop-portal.settling.pass in
     let new = findings_of c.in_ok-settling.settling.pass in
@@ -30,9 +30,9 @@ returns c =
     let test = c.loop-portal-test.false in
     let end = c.loop-portal.auto.portal-end in
     let count = c.portals-portal-end.ensures in
-    let all : portal ≡ length c.args.world.now.portals = omega (arith, test, end, count) in
+    let all : portal ≡ length c.args.shared.now.world.now.portals = omega (arith, test, end, count) in
     record {
       pass = c.loop-portal.invariant.pass;
       first = c.loop-portal.invariant.list ∙ ap (λ (m : ℕ). range_with_len 0 m) all;
-      along = subst (LieAlong c.args.world.now (findings_of c.loop-portal.settling.pass)) (sym c.loop-portal.invariant.list) c.loop-portal.invariant.along;
+      along = subst (LieAlong c.args.shared.now.world.now (findings_of c.loop-portal.settling.pass)) (sym c.loop-portal.invariant.list) c.loop-portal.invariant.along;
     }

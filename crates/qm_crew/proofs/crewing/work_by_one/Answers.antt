@@ -7,7 +7,7 @@ use Rattle.qm_crew.proofs.crewing.work_by_one.Goals as goal
 
 pub returns : goal.returns
 returns c =
-    let world = c.args.world.now in
+    let world = c.args.shared.now.world.now in
     let found = findings_of c.in_ok-pass.field-0.pass in
     let first = c.in_ok-pass.field-0.first.items in
     let whole : c.in_ok-turns.turns ≡ range_with_len 0 (length world.portals) ∷ [] =

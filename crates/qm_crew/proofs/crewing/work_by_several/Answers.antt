@@ -8,12 +8,12 @@ pub settle-requires-clause-settled : goal.settle-requires-clause-settled
 settle-requires-clause-settled g c =
     let team = c.in_ok-pass.field-0 in
     let found = findings_of team.pass in
-    subst (λ (others : List (List ℕ)). AreSettled c.args.world.now found team.first.items others 0) (sym c.as_slice.ensures.value)
-    (none_settled c.args.world.now found c.args.workers team.first.items team.others.items c.in_ok-pass.ensures.lists)
+    subst (λ (others : List (List ℕ)). AreSettled c.args.shared.now.world.now found team.first.items others 0) (sym c.as_slice.ensures.value)
+    (none_settled c.args.shared.now.world.now found c.args.workers team.first.items team.others.items c.in_ok-pass.ensures.lists)
 
 pub returns : goal.returns
 returns g c =
-    let world = c.args.world.now in
+    let world = c.args.shared.now.world.now in
     let others = c.in_ok-pass.field-0.others.items in
     let ended = c.in_ok-pass-2.field-0 in
     let found = findings_of ended.pass in

@@ -7,4 +7,4 @@ use Rattle.qm_crew.proofs.settling.settle.Goals as goal
 
 pub listed-requires-clause-others : goal.listed-requires-clause-others
 listed-requires-clause-others c =
-    All-weaker (IsWorkList c.args.world.now (findings_of c.args.begun.pass)) (All (λ (number : ℕ). number < length c.args.world.now.portals)) (λ list is. is.in_range) c.args.others.now c.requires.settled.rest
+    All-weaker (IsWorkList c.args.shared.now.world.now (findings_of c.args.begun.pass)) (All (λ (number : ℕ). number < length c.args.shared.now.world.now.portals)) (λ list is. is.in_range) c.args.others.now c.requires.settled.rest

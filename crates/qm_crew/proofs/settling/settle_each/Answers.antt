@@ -19,8 +19,8 @@ returns c =
     let test = c.loop-portal-test.false in
     let end = c.loop-portal.auto.portal-end in
     let count = c.portals-portal-end.ensures in
-    let all : portal ≡ length c.args.world.now.portals = omega (arith, test, end, count) in
+    let all : portal ≡ length c.args.shared.now.world.now.portals = omega (arith, test, end, count) in
     record {
       pass = c.loop-portal.invariant.pass;
-      settled = subst (AreSettled c.args.world.now (findings_of c.loop-portal.settling.pass) c.loop-portal.settling.first.items c.args.others.now) all c.loop-portal.invariant.settled;
+      settled = subst (AreSettled c.args.shared.now.world.now (findings_of c.loop-portal.settling.pass) c.loop-portal.settling.first.items c.args.others.now) all c.loop-portal.invariant.settled;
     }

@@ -11,7 +11,7 @@ use Rattle.qm_crew.proofs.settling.settle_one.Goals as goal
 
 pub returns-then-stands-clause-settled : goal.returns-then-stands-clause-settled
 returns-then-stands-clause-settled c =
-    let world = c.args.world.now in
+    let world = c.args.shared.now.world.now in
     let old = findings_of c.args.settling.pass in
     let new = findings_of c.is_done-done.new.pass in
     let found = c.is_done-done.ensures.found in
@@ -26,7 +26,7 @@ append_turn-requires-clause-pass c = record { same_world = c.requires.pass.same_
 
 pub returns : goal.returns
 returns c =
-    let world = c.args.world.now in
+    let world = c.args.shared.now.world.now in
     let first = c.args.settling.first.items in
     let others = c.args.others.now in
     let portal = c.args.portal in

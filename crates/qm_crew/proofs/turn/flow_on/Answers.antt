@@ -11,9 +11,9 @@ use Rattle.qm_crew.proofs.turn.flow_on.Goals as goal
 
 pub returns : goal.returns
 returns g c =
-    let portals = c.args.world.now.portals in
+    let portals = c.args.shared.now.world.now.portals in
     let rows = c.over-rows.result.rows in
-    let ceilings = ceilings_before c.args.world.now c.args.board.now c.requires.pass.same_world c.args.pass c.over.result rows c.over.ensures.board c.over.ensures.pass c.over-rows.ensures in
+    let ceilings = ceilings_before c.args.shared.now.world.now c.args.shared.now.board.now c.requires.pass.same_world c.args.pass c.over.result rows c.over.ensures.board c.over.ensures.pass c.over-rows.ensures in
     record {
       pass = record {
         same_world = c.requires.pass.same_world;
@@ -23,7 +23,7 @@ returns g c =
             c.into_pass.ensures.ours;
       };
       narrower =
-          narrower_after c.args.world.now c.args.board.now c.requires.pass.same_world c.args.pass c.over.result rows c.over.ensures.board c.over.ensures.pass c.over-rows.ensures
+          narrower_after c.args.shared.now.world.now c.args.shared.now.board.now c.requires.pass.same_world c.args.pass c.over.result rows c.over.ensures.board c.over.ensures.pass c.over-rows.ensures
           c.flow-row.new.source.rows c.into_pass.result c.flow-row.ensures.on (c.into_pass.ensures.pass ∙ ap (λ (r : BoardRows). r.pass) c.into_rows.ensures);
       wide = c.flow-row.ensures.wide;
       sound = c.flow-row.ensures.sound;

@@ -15,24 +15,24 @@ use Rattle.qm_crew.proofs.turn.take_turn.Goals as goal
 pub publish-requires-clause-sound : goal.publish-requires-clause-sound
 publish-requires-clause-sound g c =
     subst (λ (w : World). IsSoundAt w c.args.portal c.in-Ok.row) (sym c.requires.pass.same_world)
-    (IfOk-at_ok (λ row. IsSoundAt c.args.world.now c.args.portal row) c.in-Ok.is c.flow_on-pass.ensures.sound)
+    (IfOk-at_ok (λ row. IsSoundAt c.args.shared.now.world.now c.args.portal row) c.in-Ok.is c.flow_on-pass.ensures.sound)
 
 pub publish-requires-clause-bound : goal.publish-requires-clause-bound
 publish-requires-clause-bound g c =
-    let Has = λ (n : ℕ). IsInCeiling (ceiling_rows c.args.world.now (findings_of c.args.pass)) n in
+    let Has = λ (n : ℕ). IsInCeiling (ceiling_rows c.args.shared.now.world.now (findings_of c.args.pass)) n in
     subst (λ (w : World). (n : ℕ) → IsIn c.in-Ok.row n → IsInBoundAt w c.args.portal n) (sym c.requires.pass.same_world)
-    (λ n is. shown_bound c.args.world.now (Has n) c.args.portal n
-    (IfOk-at_ok (λ row. (m : ℕ) → IsIn row m → IsShown c.args.world.now.portals (Has m) c.args.portal m) c.in-Ok.is c.flow_on-pass.ensures.open_chains n is))
+    (λ n is. shown_bound c.args.shared.now.world.now (Has n) c.args.portal n
+    (IfOk-at_ok (λ row. (m : ℕ) → IsIn row m → IsShown c.args.shared.now.world.now.portals (Has m) c.args.portal m) c.in-Ok.is c.flow_on-pass.ensures.open_chains n is))
 
 pub returns-in-Ok-clause-pass : goal.returns-in-Ok-clause-pass
 returns-in-Ok-clause-pass g c = record { same_world = c.requires.pass.same_world; ours = c.publish.ensures.pass }
 
 pub returns-in-Ok-clause-turn : goal.returns-in-Ok-clause-turn
 returns-in-Ok-clause-turn g c =
-    let Has = λ (n : ℕ). IsInCeiling (ceiling_rows c.args.world.now (findings_of c.args.pass)) n in
-    turn_published c.args.world.now c.args.portal c.in-Ok.row (findings_of c.args.pass) (findings_of c.flow_on-pass.result.0) (findings_of c.publish.new.pass)
+    let Has = λ (n : ℕ). IsInCeiling (ceiling_rows c.args.shared.now.world.now (findings_of c.args.pass)) n in
+    turn_published c.args.shared.now.world.now c.args.portal c.in-Ok.row (findings_of c.args.pass) (findings_of c.flow_on-pass.result.0) (findings_of c.publish.new.pass)
     c.flow_on-pass.ensures.narrower
-    (IfOk-at_ok (λ row. (m : ℕ) → IsIn row m → IsShown c.args.world.now.portals (Has m) c.args.portal m) c.in-Ok.is c.flow_on-pass.ensures.open_chains)
+    (IfOk-at_ok (λ row. (m : ℕ) → IsIn row m → IsShown c.args.shared.now.world.now.portals (Has m) c.args.portal m) c.in-Ok.is c.flow_on-pass.ensures.open_chains)
     (subst (λ (w : World). IsPublished w c.args.portal c.in-Ok.row (findings_of c.flow_on-pass.result.0) (findings_of c.publish.new.pass)) c.requires.pass.same_world c.publish.ensures.published)
 
 pub returns-in-Ok-clause-narrower : goal.returns-in-Ok-clause-narrower

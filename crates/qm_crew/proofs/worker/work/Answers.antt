@@ -7,5 +7,5 @@ use Rattle.qm_crew.proofs.worker.work.Goals as goal
 pub loop-k-init : goal.loop-k-init
 loop-k-init g c = record {
   pass = c.requires.pass;
-  work = subst (IsWorkBelow c.args.world.now (findings_of c.args.pass) 0) (sym c.new.ensures.items) (no_work c.args.world.now (findings_of c.args.pass) c.requires.along);
+  work = subst (IsWorkBelow c.args.shared.now.world.now (findings_of c.args.pass) 0) (sym c.new.ensures.items) (no_work c.args.shared.now.world.now (findings_of c.args.pass) c.requires.along);
 }
