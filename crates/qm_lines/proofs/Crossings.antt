@@ -1,6 +1,8 @@
 -- Where a line goes through portals: what tests of whole numbers say.
-use Rattle.std.proofs.Common.{◌≡◌, ◌≤◌, ◌^◌, w64, lit≤, unsigned_abs, ℕ, ℤ, pos, neg_ℤ, ◌+ℤ◌, ◌-ℤ◌, ◌*ℤ◌, ◌<ℤ◌, Bool, true, false, List, [], ◌∷◌, get_or, All, refl, sym, ap, ◌∙◌, subst, arith}
-use Rattle.std.proofs.lemmas.Int.{ints, to_z-of_z}
+use Rattle.std.proofs.Common.{◌≡◌, ◌≤◌, ◌^◌, w64, lit≤, unsigned_abs, ℕ, ℤ, pos, negsuc, neg_ℤ, ◌+ℤ◌, ◌-ℤ◌, ◌*ℤ◌, ◌<ℤ◌, ◌≤ℤ◌, Bool, true, false, List, [], ◌∷◌, get_or, All, refl, sym, ap, ◌∙◌, subst, arith}
+use Rattle.std.specs.Int.Signed.{lt_z}
+use lib.Dec.{T}
+use Rattle.std.proofs.lemmas.Int.{ints, to_z-of_z, by_lt_z}
 use Rattle.qm_numbers.proofs.IntegerProducts.{linear, one_*ℤ, *ℤ_zero, neg-*ℤ}
 use Rattle.qm_numbers.proofs.Signs.{product_positive, positive_beside}
 use Rattle.qm_numbers.proofs.Kept.{kept, fits_64}
@@ -203,6 +205,22 @@ crossing_with a b = record { at_begin = a; at_end = b }
 
 pub spot_computed : (a b : ℤ) (s : Segment) → CrossesToFront (crossing_with a b) → point_sum (point_times (kept w64 b) s.from) (point_times (neg_ℤ (kept w64 a)) s.to) ≡ spot_where (crossing_with a b) s
 spot_computed a b s is = rw (passed_on a is.begin_small, passed_on b is.end_small) refl
+
+not_less : (a b : ℤ) → lt_z a b ≡ false → b ≤ℤ a
+not_less a b t = by_lt_z a b (λ less. absurd (subst T t less.lt)) (λ at_least. at_least)
+
+-- values that the code finds small
+pub short_values : (a b : ℤ) → CrossesToFront (crossing_with a b) → lt_z (kept w64 a) (negsuc 131071) ≡ false → lt_z (pos 131072) (kept w64 b) ≡ false → (unsigned_abs (kept w64 b) ≤ 2 ^ 17) × (unsigned_abs (kept w64 a) ≤ 2 ^ 17)
+short_values a b is low high =
+    let a_is = passed_on a is.begin_small in
+    let b_is = passed_on b is.end_small in
+    let behind = is.begins_behind in
+    let in_front = is.ends_in_front in
+    let least : negsuc 131071 ≤ℤ a = subst (λ (z : ℤ). negsuc 131071 ≤ℤ z) a_is (not_less _ _ low) in
+    let most : b ≤ℤ pos 131072 = subst (λ (z : ℤ). z ≤ℤ pos 131072) b_is (not_less _ _ high) in
+    let b_short : unsigned_abs b ≤ 2 ^ 17 = omega (arith, ints) in
+    let a_short : unsigned_abs a ≤ 2 ^ 17 = omega (arith, ints) in
+    (rw b_is b_short, rw a_is a_short)
 
 -- being in front of planes at that point, and by the values at both ends
 module _ (crossing : Crossing) (s : Segment) (spot : Point) (spot_is : spot ≡ spot_where crossing s) (planes : List Plane) where

@@ -1,5 +1,5 @@
 -- A plane's value at a whole point, as the code computes it.
-use Rattle.std.proofs.Common.{◌≡◌, ◌≤◌, ◌*◌, ◌^◌, ◌∙◌, FitsSigned, ℤ, pos, neg_ℤ, ◌+ℤ◌, ◌-ℤ◌, ◌*ℤ◌, w32, w64, List, [], ◌∷◌, get_or, refl, arith, lit≤, unsigned_abs}
+use Rattle.std.proofs.Common.{◌≡◌, ℕ, ◌+◌, ◌-◌, ◌≤◌, ◌*◌, ◌^◌, ◌∙◌, FitsSigned, ℤ, pos, neg_ℤ, ◌+ℤ◌, ◌-ℤ◌, ◌*ℤ◌, w32, w64, List, [], ◌∷◌, get_or, refl, arith, lit≤, unsigned_abs}
 use mir.Syntax.{w128}
 use Rattle.std.proofs.lemmas.Int.{ints, to_z-of_z}
 use Rattle.std.proofs.Math.IntN.{*ℤ_comm}
@@ -27,37 +27,55 @@ whole_value h at x y z e f g = let one = *ℤ_one h.d in omega (arith, linear)
 
 -- ---- three parts and a distance, as the code adds them
 
-module _ (x y z : ℤ) (x_small : unsigned_abs x ≤ product_bound) (y_small : unsigned_abs y ≤ product_bound) (z_small : unsigned_abs z ≤ product_bound) where
-  two_small : unsigned_abs (x +ℤ y) ≤ 2 * product_bound
+module _ (n m : ℕ) (room : 3 * n + m ≤ 2 ^ 63 - 1) (x y z : ℤ) (x_small : unsigned_abs x ≤ n) (y_small : unsigned_abs y ≤ n) (z_small : unsigned_abs z ≤ n) where
+  two_small : unsigned_abs (x +ℤ y) ≤ 2 * n
   two_small = let s = abs_sum x y in omega arith
 
-  three_small : unsigned_abs ((x +ℤ y) +ℤ z) ≤ cube_distance_bound
+  three_small : unsigned_abs ((x +ℤ y) +ℤ z) ≤ 3 * n
   three_small = let s = abs_sum (x +ℤ y) z in let t = two_small in omega arith
 
+  x_fits : FitsSigned w64 x
+  x_fits = fits_64 x n x_small (let r = room in omega arith)
+
+  y_fits : FitsSigned w64 y
+  y_fits = fits_64 y n y_small (let r = room in omega arith)
+
+  z_fits : FitsSigned w64 z
+  z_fits = fits_64 z n z_small (let r = room in omega arith)
+
+  two_fits : FitsSigned w64 (x +ℤ y)
+  two_fits = fits_64 (x +ℤ y) (2 * n) two_small (let r = room in omega arith)
+
+  three_fits : FitsSigned w64 ((x +ℤ y) +ℤ z)
+  three_fits = fits_64 ((x +ℤ y) +ℤ z) (3 * n) three_small (let r = room in omega arith)
+
   two_kept : kept w64 (kept w64 x +ℤ kept w64 y) ≡ x +ℤ y
-  two_kept = sum_kept w64 x y (fits_64 x _ x_small (lit≤ tt)) (fits_64 y _ y_small (lit≤ tt)) (fits_64 (x +ℤ y) _ two_small (lit≤ tt))
+  two_kept = sum_kept w64 x y x_fits y_fits two_fits
 
   pub two_fit : FitsSigned w64 (kept w64 x +ℤ kept w64 y)
-  two_fit = sum_fits w64 x y (fits_64 x _ x_small (lit≤ tt)) (fits_64 y _ y_small (lit≤ tt)) (fits_64 (x +ℤ y) _ two_small (lit≤ tt))
+  two_fit = sum_fits w64 x y x_fits y_fits two_fits
 
   pub three_fit : FitsSigned w64 (kept w64 (kept w64 x +ℤ kept w64 y) +ℤ kept w64 z)
-  three_fit = rw (two_kept, to_z-of_z w64 z (fits_64 z _ z_small (lit≤ tt))) (fits_64 ((x +ℤ y) +ℤ z) _ three_small (lit≤ tt))
+  three_fit = rw (two_kept, to_z-of_z w64 z z_fits) three_fits
 
   three_kept : kept w64 (kept w64 (kept w64 x +ℤ kept w64 y) +ℤ kept w64 z) ≡ (x +ℤ y) +ℤ z
-  three_kept = rw (two_kept, to_z-of_z w64 z (fits_64 z _ z_small (lit≤ tt))) (to_z-of_z w64 ((x +ℤ y) +ℤ z) (fits_64 ((x +ℤ y) +ℤ z) _ three_small (lit≤ tt)))
+  three_kept = rw (two_kept, to_z-of_z w64 z z_fits) (to_z-of_z w64 ((x +ℤ y) +ℤ z) three_fits)
 
-  module _ (d : ℤ) (d_small : unsigned_abs d ≤ distance_bound) where
-    less_small : unsigned_abs (((x +ℤ y) +ℤ z) -ℤ d) ≤ 2 ^ 45
+  module _ (d : ℤ) (d_small : unsigned_abs d ≤ m) where
+    less_small : unsigned_abs (((x +ℤ y) +ℤ z) -ℤ d) ≤ 3 * n + m
     less_small = let s = abs_difference ((x +ℤ y) +ℤ z) d in let t = three_small in omega arith
 
+    d_fits : FitsSigned w64 d
+    d_fits = fits_64 d m d_small (let r = room in omega arith)
+
     pub less_fits : FitsSigned w64 (kept w64 (kept w64 (kept w64 x +ℤ kept w64 y) +ℤ kept w64 z) -ℤ kept w64 d)
-    less_fits = rw (three_kept, to_z-of_z w64 d (fits_64 d _ d_small (lit≤ tt))) (fits_64 (((x +ℤ y) +ℤ z) -ℤ d) _ less_small (lit≤ tt))
+    less_fits = rw (three_kept, to_z-of_z w64 d d_fits) (fits_64 (((x +ℤ y) +ℤ z) -ℤ d) (3 * n + m) less_small room)
 
     pub less_kept : kept w64 (kept w64 (kept w64 (kept w64 x +ℤ kept w64 y) +ℤ kept w64 z) -ℤ kept w64 d) ≡ ((x +ℤ y) +ℤ z) -ℤ d
-    less_kept = rw (three_kept, to_z-of_z w64 d (fits_64 d _ d_small (lit≤ tt))) (to_z-of_z w64 (((x +ℤ y) +ℤ z) -ℤ d) (fits_64 (((x +ℤ y) +ℤ z) -ℤ d) _ less_small (lit≤ tt)))
+    less_kept = rw (three_kept, to_z-of_z w64 d d_fits) (to_z-of_z w64 (((x +ℤ y) +ℤ z) -ℤ d) (fits_64 (((x +ℤ y) +ℤ z) -ℤ d) (3 * n + m) less_small room))
 
-    pub less_kept_small : unsigned_abs (kept w64 (kept w64 (kept w64 (kept w64 x +ℤ kept w64 y) +ℤ kept w64 z) -ℤ kept w64 d)) ≤ 2 ^ 45
-    less_kept_small = rw less_kept less_small
+    pub less_kept_small : (k : ℕ) → 3 * n + m ≤ k → unsigned_abs (kept w64 (kept w64 (kept w64 (kept w64 x +ℤ kept w64 y) +ℤ kept w64 z) -ℤ kept w64 d)) ≤ k
+    less_kept_small k enough = rw less_kept (let s = less_small in omega arith)
 
 -- a product of which one number is a plane's value
 pub wide_size : (a b : ℤ) → FitsSigned w64 a → unsigned_abs b ≤ 2 ^ 45 → unsigned_abs (a *ℤ b) ≤ 2 ^ 108
@@ -165,6 +183,66 @@ spot_value h p x y z far e f g k =
     let c = *ℤ_comm p.z h.nz in
     let d = *ℤ_comm p.w h.d in
     omega (arith, linear)
+
+-- ---- the same where the numbers are short
+
+module _ (p n k : ℤ) (p_small : unsigned_abs p ≤ 2 ^ 33) (n_small : unsigned_abs n ≤ normal_bound) (is : k ≡ kept w32 n) where
+  along_size : unsigned_abs (p *ℤ n) ≤ 2 ^ 59
+  along_size = abs_product_bound p n (2 ^ 33) normal_bound p_small n_small
+
+  component_is : k ≡ n
+  component_is = is ∙ kept_32 n normal_bound n_small (lit≤ tt)
+
+  pub along_fits : FitsSigned w64 (kept w64 p *ℤ kept w64 k)
+  along_fits = rw component_is (product_fits w64 p n (fits_64 p _ p_small (lit≤ tt)) (fits_64 n _ n_small (lit≤ tt)) (fits_64 (p *ℤ n) _ along_size (lit≤ tt)))
+
+  pub along_is : kept w64 (kept w64 p *ℤ kept w64 k) ≡ p *ℤ n
+  along_is = rw component_is (product_kept w64 p n (fits_64 p _ p_small (lit≤ tt)) (fits_64 n _ n_small (lit≤ tt)) (fits_64 (p *ℤ n) _ along_size (lit≤ tt)))
+
+  pub along_small : unsigned_abs (kept w64 (kept w64 p *ℤ kept w64 k)) ≤ 2 ^ 59
+  along_small = rw along_is along_size
+
+module _ (p d : ℤ) (p_small : unsigned_abs p ≤ 2 ^ 18) (d_small : unsigned_abs d ≤ distance_bound) where
+  far_size : unsigned_abs (p *ℤ d) ≤ 2 ^ 62
+  far_size = abs_product_bound p d (2 ^ 18) distance_bound p_small d_small
+
+  pub far_fits : FitsSigned w64 (kept w64 p *ℤ kept w64 d)
+  far_fits = product_fits w64 p d (fits_64 p _ p_small (lit≤ tt)) (fits_64 d _ d_small (lit≤ tt)) (fits_64 (p *ℤ d) _ far_size (lit≤ tt))
+
+  pub far_is : kept w64 (kept w64 p *ℤ kept w64 d) ≡ p *ℤ d
+  far_is = product_kept w64 p d (fits_64 p _ p_small (lit≤ tt)) (fits_64 d _ d_small (lit≤ tt)) (fits_64 (p *ℤ d) _ far_size (lit≤ tt))
+
+  pub far_small : unsigned_abs (kept w64 (kept w64 p *ℤ kept w64 d)) ≤ 2 ^ 62
+  far_small = rw far_is far_size
+
+-- such products of numbers that are passed on
+pub short_part : (r p n : ℤ) → unsigned_abs p ≤ 2 ^ 33 → unsigned_abs n ≤ normal_bound → r ≡ kept w64 p *ℤ kept w32 n → r ≡ p *ℤ n
+short_part r p n p_small n_small r_is = r_is ∙ rw (to_z-of_z w64 p (fits_64 p _ p_small (lit≤ tt)), kept_32 n normal_bound n_small (lit≤ tt)) refl
+
+pub short_distance : (r p d : ℤ) → unsigned_abs p ≤ 2 ^ 18 → unsigned_abs d ≤ distance_bound → r ≡ kept w64 p *ℤ kept w64 d → r ≡ p *ℤ d
+short_distance r p d p_small d_small r_is = r_is ∙ rw (to_z-of_z w64 p (fits_64 p _ p_small (lit≤ tt)), to_z-of_z w64 d (fits_64 d _ d_small (lit≤ tt))) refl
+
+pub short_value : (z : ℤ) → unsigned_abs z ≤ 2 ^ 17 → unsigned_abs z ≤ 2 ^ 45
+short_value z h = omega arith
+
+-- so many times one coordinate, less so many times another, is short
+module _ (f t b e : ℤ) (f_small : unsigned_abs f ≤ 2 ^ 17) (t_small : unsigned_abs t ≤ 2 ^ 17) where
+  opposite : unsigned_abs (neg_ℤ t) ≤ 2 ^ 17
+  opposite = omega (arith, ints)
+
+  pub mixed_short : IsCoordinate b → IsCoordinate e → unsigned_abs ((f *ℤ b) +ℤ (neg_ℤ t *ℤ e)) ≤ 2 ^ 33
+  mixed_short b_is e_is =
+      let s = abs_sum (f *ℤ b) (neg_ℤ t *ℤ e) in
+      let first : unsigned_abs (f *ℤ b) ≤ 2 ^ 32 = abs_product_bound f b (2 ^ 17) (2 ^ 15) f_small (coordinate_small b b_is) in
+      let second : unsigned_abs (neg_ℤ t *ℤ e) ≤ 2 ^ 32 = abs_product_bound (neg_ℤ t) e (2 ^ 17) (2 ^ 15) opposite (coordinate_small e e_is) in
+      omega arith
+
+  pub weight_short : unsigned_abs ((f *ℤ pos 1) +ℤ (neg_ℤ t *ℤ pos 1)) ≤ 2 ^ 18
+  weight_short =
+      let s = abs_sum (f *ℤ pos 1) (neg_ℤ t *ℤ pos 1) in
+      let first : unsigned_abs (f *ℤ pos 1) ≤ 2 ^ 17 = rw (*ℤ_one f) f_small in
+      let second : unsigned_abs (neg_ℤ t *ℤ pos 1) ≤ 2 ^ 17 = rw (*ℤ_one (neg_ℤ t)) opposite in
+      omega arith
 
 -- ---- three coordinates, as the code puts them into one point
 

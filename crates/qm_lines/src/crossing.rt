@@ -1,15 +1,19 @@
 //! How a line crosses a plane, and where it goes through a portal.
 
-ghost use Rattle.std.specs.Prelude.{◌≡◌, ◌<◌, ◌≤◌, ◌^◌, pos, ◌<ℤ◌, ◌↔◌, length, All, IsTrue, MatchOption, unsigned_abs};
+ghost use Rattle.std.specs.Prelude.{◌≡◌, ◌<◌, ◌≤◌, ◌^◌, pos, ◌<ℤ◌, ◌↔◌, length, All, IsTrue, IfSome, MatchOption, unsigned_abs};
 ghost use Rattle.qm_contacts.specs.OwnPortals.{HasOwnPortals};
 ghost use Rattle.qm_lines.specs.inner.Crossing.{mixed, spot_where, value_where, CrossesPlane, MissesPlane, CrossesAt, MissesAt};
 
 use crate::aiming::coordinate;
 use crate::line::Line;
+use crate::short_spot::ShortSpot;
 use crate::spot::{Spot, product};
 use qm_geom::Plane;
 use qm_portal::World;
 use std::marker::Model;
+
+/// Up to which size values are small.
+const SHORT: i64 = 131_072;
 
 /// The values of a plane, such as a portal's turned one, at both ends of a line that crosses it: the first is below 0, the
 /// second above.
@@ -66,6 +70,16 @@ impl Crossing {
         line.mixed(self.at_end, self.at_begin)
     }
 
+    /// The same where the values are small. `None` where they are not.
+    fn short_spot(self, line: &Line) -> Option<ShortSpot>
+        ensures { IfSome result (λ spot. spot ≡ spot_where self line.now) }
+    {
+        if self.at_begin < -SHORT || self.at_end > SHORT {
+            return None;
+        }
+        Some(line.short_mixed(self.at_end, self.at_begin))
+    }
+
     /// The whole point that is near to it.
     pub(crate) fn point(self, line: &Line) -> [i32; 3] {
         let spot = self.spot(line);
@@ -87,7 +101,10 @@ impl Crossing {
     pub(crate) fn is_within(self, line: &Line, planes: &[Plane]) -> bool
         ensures { IsTrue result ↔ All (λ g. pos 0 <ℤ value_where self line.now g) planes.now }
     {
-        self.spot(line).is_within(planes)
+        match self.short_spot(line) {
+            None => self.spot(line).is_within(planes),
+            Some(spot) => spot.is_within(planes),
+        }
     }
 }
 

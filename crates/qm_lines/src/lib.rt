@@ -11,6 +11,7 @@ mod kept_lines;
 mod line;
 mod line_store;
 mod reading;
+mod short_spot;
 mod showing;
 mod spot;
 mod trace;

@@ -3,6 +3,7 @@ ghost use Rattle.qm_space.specs.Bounds.{normal_bound, product_bound};
 ghost use Rattle.qm_space.specs.Point.{whole_point, point_sum, point_times, IsCoordinate, AreCoordinates};
 ghost use Rattle.qm_space.specs.Plane.{value};
 
+use crate::short_spot::ShortSpot;
 use crate::spot::Spot;
 use qm_geom::Plane;
 use std::marker::Model;
@@ -65,6 +66,20 @@ impl Line {
         ensures { result ≡ point_sum (point_times from self.now.from) (point_times (neg_ℤ to) self.now.to) }
     {
         Spot {
+            x: mixed(from, self.from[0], to, self.to[0]),
+            y: mixed(from, self.from[1], to, self.to[1]),
+            z: mixed(from, self.from[2], to, self.to[2]),
+            w: from - to,
+        }
+    }
+
+    /// The same for small numbers.
+    pub(crate) fn short_mixed(&self, from: i64, to: i64) -> ShortSpot
+        requires from { unsigned_abs from ≤ 2 ^ 17 }
+        requires to { unsigned_abs to ≤ 2 ^ 17 }
+        ensures { result ≡ point_sum (point_times from self.now.from) (point_times (neg_ℤ to) self.now.to) }
+    {
+        ShortSpot {
             x: mixed(from, self.from[0], to, self.to[0]),
             y: mixed(from, self.from[1], to, self.to[1]),
             z: mixed(from, self.from[2], to, self.to[2]),

@@ -35,6 +35,13 @@ value_where crossing s g = mixed crossing (value g s.from) (value g s.to)
 abbrev pub spot_where : Crossing → Segment → Point
 spot_where crossing s = point_sum (point_times crossing.at_end s.from) (point_times (neg_ℤ crossing.at_begin) s.to)
 
+-- 64 bits hold the value of each plane at the point
+pub record IsShortSpot (p : Point) : Type 0 where
+  pub x_short : unsigned_abs p.x ≤ 2 ^ 33
+  pub y_short : unsigned_abs p.y ≤ 2 ^ 33
+  pub z_short : unsigned_abs p.z ≤ 2 ^ 33
+  pub w_short : unsigned_abs p.w ≤ 2 ^ 18
+
 -- the line goes from behind the plane e to in front of it, and crosses it so
 pub record CrossesPlane (e : Plane) (s : Segment) (crossing : Crossing) : Type 0 where
   pub begin_is : crossing.at_begin ≡ value e s.from
