@@ -9,28 +9,28 @@ import sys
 
 # the pages that are held, with the most words of each
 PAGES = {
-    "CONTRIBUTING.md": 1600,
+    "CONTRIBUTING.md": 1450,
     "README.md": 800,
-    "bench/README.md": 2350,
-    "docs/ARCHITECTURE.md": 2650,
-    "docs/DECISIONS.md": 2350,
-    "docs/EDITORS.md": 5050,
-    "docs/GATE.md": 2400,
-    "docs/GLOSSARY.md": 2400,
-    "docs/LARGE.md": 450,
+    "bench/README.md": 2150,
+    "docs/ARCHITECTURE.md": 2550,
+    "docs/DECISIONS.md": 2050,
+    "docs/EDITORS.md": 4500,
+    "docs/GATE.md": 2200,
+    "docs/GLOSSARY.md": 2100,
+    "docs/LARGE.md": 400,
     "docs/LISTING.md": 400,
-    "docs/MAPTEXT.md": 1850,
-    "docs/PLAY.md": 1050,
-    "docs/PROOF.md": 3300,
-    "docs/SIGHT.md": 1550,
-    "docs/SPACE.md": 1550,
+    "docs/MAPTEXT.md": 1600,
+    "docs/PLAY.md": 1000,
+    "docs/PROOF.md": 3050,
+    "docs/SIGHT.md": 1350,
+    "docs/SPACE.md": 1350,
     "docs/THEOREM.md": 1300,
-    "docs/TREEFILE.md": 4700,
-    "docs/WINDINGS.md": 1350,
-    "tools/README.md": 3400,
+    "docs/TREEFILE.md": 4500,
+    "docs/WINDINGS.md": 1000,
+    "tools/README.md": 2850,
 }
 # of all of these together
-MOST = 39500
+MOST = 36000
 
 # what a script writes into a page, which is not counted and not looked at
 WRITTEN = [
