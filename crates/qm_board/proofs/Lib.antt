@@ -7,3 +7,4 @@ pub mod StepRules
 pub mod GivenRows
 pub mod ReadRows
 pub mod ClosedRows
+pub mod ReachedSamples

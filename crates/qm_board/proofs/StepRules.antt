@@ -89,14 +89,14 @@ module _ (world : World) (given : List ℕ) (slots id : ℕ) (me : Seated) (is_w
         let more = with_ceiling (ceiling portal k word) found in (
           more,
           stays s here more (loads_row_word sets (shared_in s) id portal k found is inside within),
-          (λ other q j other_is at. only_here (λ w p i. HasFound me (view_of world given more, me.1) (with_ceiling (ceiling p i word) found) × IsReadWord w found p i word × IsReachedWord w me.0.given p i word) (
+          (λ other q j other_is at. only_here (λ w p i. HasFound me (view_of world given more, me.1) (with_ceiling (ceiling p i word) found) × IsReadWord w found p i word × IsReachedWord w me.0.given found p i word) (
             has_found more,
             record {
               sight = sound.sight portal k inside within;
               numbered = sound.numbered portal k inside within;
               within = λ word_there listed. sound.ceilings id found portal k word_there is listed inside within;
             },
-            record { state = shared_in s; comes = subst (λ (g : List ℕ). IsReachedState world g (shared_in s)) (sym is_given) comes; word_is = refl },
+            record { state = shared_in s; comes = subst (λ (g : List ℕ). IsReachedState world g (shared_in s)) (sym is_given) comes; id = id; pass_is = is; word_is = refl },
           )
               other q j other_is at),
         ))

@@ -15,10 +15,12 @@ use Rattle.qm_board.specs.WorldSets.{sets_of}
 abbrev pub IsReachedState : World → List ℕ → SharedRows → Type 0
 IsReachedState world given state = ComesFrom (sets_of world) (opening_of (sets_of world) given) state
 
--- in a state that is reached, word k of the row of a portal is this one
-pub record IsReachedWord (world : World) (given : List ℕ) (portal k word : ℕ) : Type 0 where
+-- in a state that is reached, a pass has found just this, and there it reads this as word k of the row of a portal
+pub record IsReachedWord (world : World) (given : List ℕ) (pass : Findings) (portal k word : ℕ) : Type 0 where
   pub state : SharedRows
   pub comes : IsReachedState world given state
+  pub id : ℕ
+  pub pass_is : IsPass state id pass
   pub word_is : word ≡ row_word (sets_of world) state portal k
 
 -- in a state that is reached, a portal is marked as done, and a pass has found just this

@@ -28,7 +28,7 @@ pub record IsAtRow (word : ℕ) (world : World) (portal k : ℕ) : Type 0 where
 
 abbrev pub row_word_loaded : Telling
 row_word_loaded step old n new = (world : World) (portal k : ℕ) → old.0.world ≡ Some world → IsAtRow step.word world portal k →
-    HasFound old new (with_ceiling (ceiling portal k n) old.0.findings) × IsReadWord world old.0.findings portal k n × IsReachedWord world old.0.given portal k n
+    HasFound old new (with_ceiling (ceiling portal k n) old.0.findings) × IsReadWord world old.0.findings portal k n × IsReachedWord world old.0.given old.0.findings portal k n
 
 abbrev pub row_word_cut : Telling
 row_word_cut step old n new = (world : World) (portal k : ℕ) → old.0.world ≡ Some world → IsAtRow step.word world portal k →

@@ -49,8 +49,8 @@ impl RowBoard {
     }
 
     /// Word `k` of the row of a portal, as it is at this step. It lacks no leaf in sight of the portal, and lies within each
-    /// ceiling of its place that the pass has found. It is a word of a state that comes from the rows given to `new` by a list
-    /// of steps. It takes no memory.
+    /// ceiling of its place that the pass has found. This pass reads it in a state that comes from the rows given to `new` by a
+    /// list of steps. It takes no memory.
     pub fn word(&self, pass: &mut Pass, portal: u64, k: u64) -> u64
         requires pass { IsPassOf self.now pass.old }
         requires portal_in_range { portal < length (world_of self.now).portals }
@@ -58,7 +58,7 @@ impl RowBoard {
         ensures pass { IsPassOf self.now pass.new }
         ensures ceiling { findings_of pass.new ≡ with_ceiling (ceiling portal k result) (findings_of pass.old) }
         ensures read { IsReadWord (world_of self.now) (findings_of pass.old) portal k result }
-        ensures reached { IsReachedWord (world_of self.now) (given_of self.now) portal k result }
+        ensures reached { IsReachedWord (world_of self.now) (given_of self.now) (findings_of pass.old) portal k result }
     {
         let place = self.row_place(portal, k);
         self.table.shared.load::<LoadRowWord>(&mut pass.seat, place)

@@ -1,5 +1,5 @@
 -- A portal that is tried at a frame: where it does not lead on, and where the flow has gone on meanwhile.
-use Rattle.std.proofs.Common.{◌≡◌, ℕ, Bool, List, None, Option, sym, subst}
+use Rattle.std.proofs.Common.{ℕ, Bool, List, None, Option, sym, subst}
 use Rattle.qm_contacts.specs.Portals.{Portal}
 use Rattle.qm_contacts.specs.World.{World}
 use Rattle.qm_chains.specs.Shown.{IsAt}

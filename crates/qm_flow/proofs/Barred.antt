@@ -6,7 +6,6 @@ use Rattle.qm_contacts.specs.World.{World}
 use Rattle.qm_contacts.specs.NumberedLeaves.{numbered_leaves}
 use Rattle.qm_segments.specs.SeenVia.{IsSeenVia}
 use Rattle.qm_segments.proofs.ViaLaws.{first_in_sight_back}
-use Rattle.qm_sight.specs.WordInSight.{LieWithin}
 use Rattle.qm_sight.specs.InCeiling.{IsInCeiling}
 use Rattle.qm_chains.specs.Shown.{IsAt}
 use Rattle.qm_chains.specs.inner.OwnRows.{IsInSightAt}

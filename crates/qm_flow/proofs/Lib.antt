@@ -10,6 +10,7 @@ mod LastFrames
 mod NewWords
 mod OfWorlds
 mod OwnAnswers
+mod OwnPlaces
 mod PairFrames
 mod PairsKept
 mod Panes

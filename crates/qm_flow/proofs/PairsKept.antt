@@ -1,6 +1,6 @@
 -- Pairs that go on: with no row more, over a source that has gone on, and where more is found; and pairs whose rows are changed
 -- in their place.
-use Rattle.std.proofs.Common.{◌≡◌, ℕ, Bool, List, Option, set, refl, sym, ap, ◌∙◌, subst}
+use Rattle.std.proofs.Common.{◌≡◌, ℕ, Bool, List, Option, set, refl, ap, ◌∙◌, subst}
 use Rattle.qm_lists.specs.WorkList.{IsIn}
 use Rattle.qm_contacts.specs.World.{World}
 use Rattle.qm_chains.specs.inner.Pairs.{Pairs, ArePairs}

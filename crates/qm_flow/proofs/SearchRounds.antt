@@ -1,8 +1,8 @@
 -- A round of a search: its frames are ready, and what comes of it is a search so far.
-use Rattle.std.proofs.Common.{◌≡◌, ⊎_elim, ℕ, Bool, List, [], ◌∷◌, ◌++◌, option_to_list, sym, subst}
+use Rattle.std.proofs.Common.{◌≡◌, ⊎_elim, ℕ, Bool, List, sym, subst}
 use Rattle.qm_contacts.specs.Portals.{Portal}
 use Rattle.qm_contacts.specs.World.{World}
-use Rattle.qm_chains.specs.inner.Frame.{Frame, put_back}
+use Rattle.qm_chains.specs.inner.Frame.{Frame}
 use Rattle.qm_chains.specs.inner.Pairs.{Pairs, ArePairs}
 use Rattle.qm_chains.specs.inner.Search.{IsLookedThrough, IsSearch}
 use Rattle.qm_chains.specs.inner.Wanted.{IsWantedVia}

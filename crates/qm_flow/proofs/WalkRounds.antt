@@ -1,5 +1,5 @@
 -- A round of the walk: its frames are ready, and what comes of it is a walk so far, with less left to do.
-use Rattle.std.proofs.Common.{◌≡◌, ⊎_elim, ℕ, ◌<◌, Bool, List, [], ◌∷◌, ◌++◌, length, Option, option_to_list, sym, ◌∙◌, subst}
+use Rattle.std.proofs.Common.{⊎_elim, ℕ, ◌<◌, Bool, List, [], ◌∷◌, ◌++◌, option_to_list, sym, ◌∙◌, subst}
 use Rattle.std.specs.List.{sum_by}
 use Rattle.std.proofs.lemmas.Option.{slice_get_within}
 use Rattle.qm_contacts.specs.World.{World}

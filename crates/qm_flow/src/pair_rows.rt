@@ -17,7 +17,6 @@ use crate::cone::cone_of;
 use crate::flow_state::Flow;
 use crate::frame::Frame;
 use crate::masks::narrow;
-use crate::own_rows::Place;
 use crate::room::Room;
 use qm_bits::BitRow;
 use qm_narrow::step_into;
@@ -43,7 +42,7 @@ pub(crate) fn pair<'a, S: RowSource>(
     cone_of_pair(flow, source, portal, found, room)?;
     let mut row = BitRow::with_len(flow.alloc, flow.world.leaves())?;
     row.copy_from(&room.scratch.cone);
-    flow.own.put(portal, Place::Row(row));
+    flow.own.put(portal, row)?;
     Ok(())
 }
 

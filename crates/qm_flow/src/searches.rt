@@ -20,7 +20,6 @@ use crate::flow_state::Flow;
 use crate::frame::Frame;
 use crate::frame_stack::FrameStack;
 use crate::masks::{find, narrow};
-use crate::own_rows::Place;
 use crate::pair_rows::make_pair_frame;
 use crate::room::Room;
 use crate::rounds::{Tries, go_round};
@@ -54,7 +53,7 @@ pub(crate) fn search<'a, S: RowSource>(
     let ended = seek(flow, source, portal, &mut sighted)?;
     if ended {
         narrow(&flow.own, source, portal, &mut sighted);
-        flow.own.put(portal, Place::Row(sighted));
+        flow.own.put(portal, sighted)?;
     }
     Ok(())
 }

@@ -1,16 +1,15 @@
 -- Where a line goes through portals: what tests of whole numbers say.
-use Rattle.std.proofs.Common.{◌≡◌, ◌≤◌, ◌^◌, w64, lit≤, unsigned_abs, ℕ, ℤ, pos, neg_ℤ, ◌+ℤ◌, ◌-ℤ◌, ◌*ℤ◌, ◌<ℤ◌, ◌≤ℤ◌, Bool, true, false, [], ◌∷◌, get_or, All, refl, sym, ap, ◌∙◌, subst, arith}
-use Rattle.std.specs.Int.Signed.{lt_z, lt_z_yes, le_z, le_z_yes}
+use Rattle.std.proofs.Common.{◌≡◌, ◌≤◌, ◌^◌, w64, lit≤, unsigned_abs, ℕ, ℤ, pos, neg_ℤ, ◌+ℤ◌, ◌-ℤ◌, ◌*ℤ◌, ◌<ℤ◌, Bool, true, false, List, [], ◌∷◌, get_or, All, refl, sym, ap, ◌∙◌, subst, arith}
 use Rattle.std.proofs.lemmas.Int.{ints, to_z-of_z}
 use Rattle.qm_numbers.proofs.IntegerProducts.{linear, one_*ℤ, *ℤ_zero, neg-*ℤ}
-use Rattle.qm_numbers.proofs.Signs.{product_positive, negative_times_positive, product_not_positive, positive_beside}
+use Rattle.qm_numbers.proofs.Signs.{product_positive, positive_beside}
 use Rattle.qm_numbers.proofs.Kept.{kept, fits_64}
 use Rattle.qm_numbers.proofs.Ring.{variable, negated, ◌⊕◌, ◌⊗◌, solved}
 use Rattle.qm_space.specs.Point.{Point, point_sum, point_times}
 use Rattle.qm_space.specs.Plane.{Plane, value, IsOn, IsInFront, IsBehind}
 use Rattle.qm_space.specs.Line.{IsBetween}
 use Rattle.qm_space.specs.Turned.{turned}
-use Rattle.qm_space.proofs.Planes.{same_point, flipped_on}
+use Rattle.qm_space.proofs.Planes.{same_point, flipped_on, value_sum, value_times}
 use Rattle.qm_space.proofs.Crossings.{value_through, crossing_on, crossing_weight}
 use Rattle.qm_contacts.specs.Portals.{Portal}
 use Rattle.qm_contacts.specs.World.{World}
@@ -21,7 +20,7 @@ use Rattle.qm_segments.proofs.Betweenness.{between_value}
 use Rattle.qm_chains.specs.Shown.{IsAt}
 use Rattle.qm_chains.proofs.Beginnings.{turned_of_portal}
 use Rattle.qm_chains.proofs.TriedPortals.{same_portal}
-use Rattle.qm_lines.specs.inner.Crossing.{Crossing, CrossesToFront, crossing_point, mixed, value_where, CrossesPlane, CrossesAt, MissesAt}
+use Rattle.qm_lines.specs.inner.Crossing.{Crossing, CrossesToFront, crossing_point, mixed, spot_where, value_where, CrossesPlane, CrossesAt, MissesAt}
 
 -- the value of a plane where the line crosses another one
 pub value_is : (s : Segment) (e g : Plane) (c : Crossing) → c.at_begin ≡ value e s.from → c.at_end ≡ value e s.to → value_where c s g ≡ value g (crossing_point s e)
@@ -188,52 +187,30 @@ pub mixed_computed : (a b forward backward v w : ℤ) → CrossesToFront (record
 unfolding mixed
 mixed_computed a b forward backward v w is v_small w_small e f = rw (e, f, passed_on b is.end_small, passed_on a is.begin_small, passed_on v v_small, passed_on w w_small) refl
 
--- a plane in front of which a line begins and ends is crossed there in front
-pub front_by_signs : (crossing : Crossing) → CrossesToFront crossing → (v w : ℤ) → pos 0 <ℤ v → pos 0 <ℤ w → pos 0 <ℤ mixed crossing v w
-unfolding mixed
-front_by_signs crossing is v w v_front w_front =
-    let some = product_positive crossing.at_end v is.ends_in_front v_front in
-    let less = negative_times_positive crossing.at_begin w is.begins_behind w_front in
-    let more : pos 0 <ℤ ((crossing.at_end *ℤ v) -ℤ (crossing.at_begin *ℤ w)) = omega (arith, linear) in
-    more
-
--- and one in front of which it neither begins nor ends is not
-pub behind_by_signs : (crossing : Crossing) → CrossesToFront crossing → (v w : ℤ) → v ≤ℤ pos 0 → w ≤ℤ pos 0 → mixed crossing v w ≤ℤ pos 0
-unfolding mixed
-behind_by_signs crossing is v w v_behind w_behind =
-    let in_front = is.ends_in_front in
-    let behind = is.begins_behind in
-    let some = product_not_positive crossing.at_end v (omega (arith, linear)) v_behind in
-    let other = product_not_positive (neg_ℤ crossing.at_begin) w (omega (arith, linear)) w_behind in
-    let e = neg-*ℤ crossing.at_begin w in
-    let less : ((crossing.at_end *ℤ v) -ℤ (crossing.at_begin *ℤ w)) ≤ℤ pos 0 = omega (arith, linear) in
-    less
-
--- a plane's value as the code compares it with 0
-pub tested_front : (r z : ℤ) → unsigned_abs r ≤ 2 ^ 45 → r ≡ z → lt_z (pos 0) (kept w64 r) ≡ true → pos 0 <ℤ z
-tested_front r z small is test =
-    let yes : pos 0 <ℤ kept w64 r = lt_z_yes {a = pos 0} {b = kept w64 r} (rw test tt) in
-    subst (λ (y : ℤ). pos 0 <ℤ y) (passed_on r small ∙ is) yes
-
-pub tested_behind : (r z : ℤ) → unsigned_abs r ≤ 2 ^ 45 → r ≡ z → le_z (kept w64 r) (pos 0) ≡ true → z ≤ℤ pos 0
-tested_behind r z small is test =
-    let yes : kept w64 r ≤ℤ pos 0 = le_z_yes {a = kept w64 r} {b = pos 0} (rw test tt) in
-    subst (λ (y : ℤ). y ≤ℤ pos 0) (passed_on r small ∙ is) yes
-
-pub front_where_by_signs : (crossing : Crossing) (s : Segment) (g : Plane) → CrossesToFront crossing → pos 0 <ℤ value g s.from → pos 0 <ℤ value g s.to → pos 0 <ℤ value_where crossing s g
-unfolding value_where
-front_where_by_signs crossing s g is v_front w_front = front_by_signs crossing is (value g s.from) (value g s.to) v_front w_front
-
-pub not_front_by_signs : (crossing : Crossing) (s : Segment) (g : Plane) → CrossesToFront crossing → value g s.from ≤ℤ pos 0 → value g s.to ≤ℤ pos 0 → pos 0 <ℤ value_where crossing s g → ⊥
-unfolding value_where
-not_front_by_signs crossing s g is v_behind w_behind front =
-    let behind = behind_by_signs crossing is (value g s.from) (value g s.to) v_behind w_behind in
-    omega (arith, ints)
-
-pub value_computed : (s : Segment) (g : Plane) (crossing : Crossing) (v w : ℤ) → unsigned_abs v ≤ 2 ^ 45 → unsigned_abs w ≤ 2 ^ 45 → v ≡ value g s.from → w ≡ value g s.to → mixed crossing (kept w64 v) (kept w64 w) ≡ value_where crossing s g
-unfolding value_where
-value_computed s g crossing v w v_small w_small v_is w_is = rw (passed_on v v_small, passed_on w w_small, v_is, w_is) refl
+-- a plane's value at the point where the line crosses another one
+pub value_there : (crossing : Crossing) (s : Segment) (g : Plane) → value g (spot_where crossing s) ≡ value_where crossing s g
+unfolding mixed value_where
+value_there crossing s g =
+    let sum = value_sum g (point_times crossing.at_end s.from) (point_times (neg_ℤ crossing.at_begin) s.to) in
+    let t = value_times g crossing.at_end s.from in
+    let u = value_times g (neg_ℤ crossing.at_begin) s.to in
+    let w = neg-*ℤ crossing.at_begin (value g s.to) in
+    omega (arith, linear)
 
 -- the crossing with these values
 abbrev pub crossing_with : ℤ → ℤ → Crossing
 crossing_with a b = record { at_begin = a; at_end = b }
+
+pub spot_computed : (a b : ℤ) (s : Segment) → CrossesToFront (crossing_with a b) → point_sum (point_times (kept w64 b) s.from) (point_times (neg_ℤ (kept w64 a)) s.to) ≡ spot_where (crossing_with a b) s
+spot_computed a b s is = rw (passed_on a is.begin_small, passed_on b is.end_small) refl
+
+-- being in front of planes at that point, and by the values at both ends
+module _ (crossing : Crossing) (s : Segment) (spot : Point) (spot_is : spot ≡ spot_where crossing s) (planes : List Plane) where
+  same_value : (g : Plane) → value g spot ≡ value_where crossing s g
+  same_value g = ap (λ (p : Point). value g p) spot_is ∙ value_there crossing s g
+
+  pub in_front_there : All (λ g. pos 0 <ℤ value g spot) planes → All (λ g. pos 0 <ℤ value_where crossing s g) planes
+  in_front_there all place d within = subst (λ (z : ℤ). pos 0 <ℤ z) (same_value (get_or planes place d)) (all place d within)
+
+  pub in_front_at_spot : All (λ g. pos 0 <ℤ value_where crossing s g) planes → All (λ g. pos 0 <ℤ value g spot) planes
+  in_front_at_spot all place d within = subst (λ (z : ℤ). pos 0 <ℤ z) (sym (same_value (get_or planes place d))) (all place d within)

@@ -1,13 +1,15 @@
 -- A plane's value at a whole point, as the code computes it.
-use Rattle.std.proofs.Common.{◌≡◌, ◌≤◌, ◌*◌, ◌^◌, ◌∙◌, FitsSigned, ℤ, pos, ◌+ℤ◌, ◌-ℤ◌, ◌*ℤ◌, w32, w64, List, [], ◌∷◌, get_or, refl, arith, lit≤, unsigned_abs}
+use Rattle.std.proofs.Common.{◌≡◌, ◌≤◌, ◌*◌, ◌^◌, ◌∙◌, FitsSigned, ℤ, pos, neg_ℤ, ◌+ℤ◌, ◌-ℤ◌, ◌*ℤ◌, w32, w64, List, [], ◌∷◌, get_or, refl, arith, lit≤, unsigned_abs}
+use mir.Syntax.{w128}
 use Rattle.std.proofs.lemmas.Int.{ints, to_z-of_z}
+use Rattle.std.proofs.Math.IntN.{*ℤ_comm}
 use Rattle.std.proofs.lemmas.List.Elements.{All-from_recursion}
-use Rattle.qm_numbers.proofs.IntegerProducts.{linear, *ℤ_one}
+use Rattle.qm_numbers.proofs.IntegerProducts.{linear, *ℤ_one, neg-*ℤ}
 use Rattle.qm_numbers.proofs.Bits.{kept_32}
-use Rattle.qm_numbers.proofs.Kept.{kept, fits_64, sum_fits, sum_kept}
+use Rattle.qm_numbers.proofs.Kept.{kept, fits_64, fits_128, sum_fits, sum_kept, difference_fits, difference_kept, product_fits, product_kept, three_size, three_is}
 use Rattle.qm_numbers.proofs.Signs.{abs_sum, abs_difference, abs_product_bound}
 use Rattle.qm_space.specs.Bounds.{world_extent, normal_bound, product_bound, cube_distance_bound, distance_bound}
-use Rattle.qm_space.specs.Point.{whole_point, IsCoordinate, AreCoordinates}
+use Rattle.qm_space.specs.Point.{Point, whole_point, IsCoordinate, AreCoordinates}
 use Rattle.qm_space.specs.Plane.{Plane, value}
 use Rattle.qm_space.proofs.CoordinateSizes.{coordinate_small, coordinate_kept}
 
@@ -63,6 +65,106 @@ wide_size a b h k = abs_product_bound a b (2 ^ 63) (2 ^ 45) (size a h) k
   where
     size : (a : ℤ) → FitsSigned w64 a → unsigned_abs a ≤ 2 ^ 63
     size a h = omega (arith, ints)
+
+-- ---- a number times a coordinate
+
+module _ (n p c : ℤ) (small : unsigned_abs n ≤ 2 ^ 45) (is : p ≡ kept w32 c) (k : IsCoordinate c) where
+  scaled_size : unsigned_abs (n *ℤ c) ≤ 2 ^ 60
+  scaled_size = abs_product_bound n c (2 ^ 45) (2 ^ 15) small (coordinate_small c k)
+
+  passed : p ≡ c
+  passed = is ∙ kept_32 c world_extent (coordinate_small c k) (lit≤ tt)
+
+  pub scaled_fits : FitsSigned w64 (kept w64 n *ℤ kept w64 p)
+  scaled_fits = rw passed (product_fits w64 n c (fits_64 n _ small (lit≤ tt)) (fits_64 c _ (coordinate_small c k) (lit≤ tt)) (fits_64 (n *ℤ c) _ scaled_size (lit≤ tt)))
+
+  pub scaled_is : kept w64 (kept w64 n *ℤ kept w64 p) ≡ n *ℤ c
+  scaled_is = rw passed (product_kept w64 n c (fits_64 n _ small (lit≤ tt)) (fits_64 c _ (coordinate_small c k) (lit≤ tt)) (fits_64 (n *ℤ c) _ scaled_size (lit≤ tt)))
+
+  pub scaled_small : unsigned_abs (kept w64 (kept w64 n *ℤ kept w64 p)) ≤ 2 ^ 60
+  scaled_small = rw scaled_is scaled_size
+
+-- ---- the difference of two such numbers
+
+module _ (a b : ℤ) (a_small : unsigned_abs a ≤ 2 ^ 60) (b_small : unsigned_abs b ≤ 2 ^ 60) where
+  apart_size : unsigned_abs (a -ℤ b) ≤ 2 ^ 61
+  apart_size = let s = abs_difference a b in omega arith
+
+  pub apart_64_fits : FitsSigned w64 (kept w64 a -ℤ kept w64 b)
+  apart_64_fits = difference_fits w64 a b (fits_64 a _ a_small (lit≤ tt)) (fits_64 b _ b_small (lit≤ tt)) (fits_64 (a -ℤ b) _ apart_size (lit≤ tt))
+
+  pub apart_64_is : kept w64 (kept w64 a -ℤ kept w64 b) ≡ a -ℤ b
+  apart_64_is = difference_kept w64 a b (fits_64 a _ a_small (lit≤ tt)) (fits_64 b _ b_small (lit≤ tt)) (fits_64 (a -ℤ b) _ apart_size (lit≤ tt))
+
+wider : (z : ℤ) → unsigned_abs z ≤ 2 ^ 45 → unsigned_abs z ≤ 2 ^ 60
+wider z h = omega arith
+
+-- ---- so many times one coordinate, less so many times another
+
+module _ (f t b e : ℤ) (f_small : unsigned_abs f ≤ 2 ^ 45) (t_small : unsigned_abs t ≤ 2 ^ 45) where
+  f_is : kept w64 f ≡ f
+  f_is = to_z-of_z w64 f (fits_64 f _ f_small (lit≤ tt))
+
+  t_is : kept w64 t ≡ t
+  t_is = to_z-of_z w64 t (fits_64 t _ t_small (lit≤ tt))
+
+  coordinate_is : (c : ℤ) → IsCoordinate c → kept w32 c ≡ c
+  coordinate_is c k = kept_32 c world_extent (coordinate_small c k) (lit≤ tt)
+
+  pub mixed_number : (v w : ℤ) → unsigned_abs v ≤ 2 ^ 60 → unsigned_abs w ≤ 2 ^ 60 → IsCoordinate b → IsCoordinate e → v ≡ kept w64 f *ℤ kept w32 b → w ≡ kept w64 t *ℤ kept w32 e →
+      kept w64 (kept w64 v -ℤ kept w64 w) ≡ (f *ℤ b) +ℤ (neg_ℤ t *ℤ e)
+  mixed_number v w v_small w_small b_is e_is v_is w_is =
+      let x : v ≡ f *ℤ b = v_is ∙ rw (f_is, coordinate_is b b_is) refl in
+      let y : w ≡ t *ℤ e = w_is ∙ rw (t_is, coordinate_is e e_is) refl in
+      let n = neg-*ℤ t e in
+      let same : v -ℤ w ≡ (f *ℤ b) +ℤ (neg_ℤ t *ℤ e) = omega (arith, linear) in
+      apart_64_is v w v_small w_small ∙ same
+
+  pub mixed_answered : (r : ℤ) → FitsSigned w64 r → IsCoordinate b → IsCoordinate e → r ≡ (kept w64 f *ℤ kept w32 b) +ℤ (neg_ℤ (kept w64 t) *ℤ kept w32 e) → kept w64 r ≡ (f *ℤ b) +ℤ (neg_ℤ t *ℤ e)
+  mixed_answered r fits b_is e_is r_is = to_z-of_z w64 r fits ∙ r_is ∙ rw (f_is, t_is, coordinate_is b b_is, coordinate_is e e_is) refl
+
+  pub mixed_weight_fits : FitsSigned w64 (kept w64 f -ℤ kept w64 t)
+  mixed_weight_fits = apart_64_fits f t (wider f f_small) (wider t t_small)
+
+  pub mixed_weight : kept w64 (kept w64 f -ℤ kept w64 t) ≡ (f *ℤ pos 1) +ℤ (neg_ℤ t *ℤ pos 1)
+  mixed_weight =
+      let one = *ℤ_one f in
+      let other = *ℤ_one (neg_ℤ t) in
+      let same : f -ℤ t ≡ (f *ℤ pos 1) +ℤ (neg_ℤ t *ℤ pos 1) = omega (arith, linear) in
+      apart_64_is f t (wider f f_small) (wider t t_small) ∙ same
+
+-- ---- a plane's value at a point, of four products
+
+module _ (x y z far : ℤ) (x_small : unsigned_abs x ≤ 2 ^ 108) (y_small : unsigned_abs y ≤ 2 ^ 108) (z_small : unsigned_abs z ≤ 2 ^ 108) (far_small : unsigned_abs far ≤ 2 ^ 108) where
+  four_size : unsigned_abs (((x +ℤ y) +ℤ z) -ℤ far) ≤ 4 * 2 ^ 108
+  four_size = let s = three_size x y z (2 ^ 108) x_small y_small z_small in let t = abs_difference ((x +ℤ y) +ℤ z) far in omega arith
+
+  pub four_fits : FitsSigned w128 (kept w128 (kept w128 (kept w128 x +ℤ kept w128 y) +ℤ kept w128 z) -ℤ kept w128 far)
+  four_fits =
+      rw (three_is x y z (2 ^ 108) x_small y_small z_small (lit≤ tt), to_z-of_z w128 far (fits_128 far _ far_small (lit≤ tt)))
+      (fits_128 (((x +ℤ y) +ℤ z) -ℤ far) _ four_size (lit≤ tt))
+
+  pub four_are : kept w128 (kept w128 (kept w128 (kept w128 x +ℤ kept w128 y) +ℤ kept w128 z) -ℤ kept w128 far) ≡ ((x +ℤ y) +ℤ z) -ℤ far
+  four_are =
+      rw (three_is x y z (2 ^ 108) x_small y_small z_small (lit≤ tt), to_z-of_z w128 far (fits_128 far _ far_small (lit≤ tt)))
+      (to_z-of_z w128 (((x +ℤ y) +ℤ z) -ℤ far) (fits_128 (((x +ℤ y) +ℤ z) -ℤ far) _ four_size (lit≤ tt)))
+
+pub spot_product : (r p n k : ℤ) → FitsSigned w64 p → unsigned_abs n ≤ normal_bound → k ≡ kept w32 n → r ≡ kept w64 p *ℤ kept w64 k → r ≡ p *ℤ n
+spot_product r p n k fits small k_is r_is =
+    let same = k_is ∙ kept_32 n normal_bound small (lit≤ tt) in
+    r_is ∙ rw (same, to_z-of_z w64 p fits, to_z-of_z w64 n (fits_64 n _ small (lit≤ tt))) refl
+
+pub spot_distance : (r p d : ℤ) → FitsSigned w64 p → unsigned_abs d ≤ distance_bound → r ≡ kept w64 p *ℤ kept w64 d → r ≡ p *ℤ d
+spot_distance r p d fits small r_is = r_is ∙ rw (to_z-of_z w64 p fits, to_z-of_z w64 d (fits_64 d _ small (lit≤ tt))) refl
+
+pub spot_value : (h : Plane) (p : Point) (x y z far : ℤ) → x ≡ p.x *ℤ h.nx → y ≡ p.y *ℤ h.ny → z ≡ p.z *ℤ h.nz → far ≡ p.w *ℤ h.d → ((x +ℤ y) +ℤ z) -ℤ far ≡ value h p
+unfolding value
+spot_value h p x y z far e f g k =
+    let a = *ℤ_comm p.x h.nx in
+    let b = *ℤ_comm p.y h.ny in
+    let c = *ℤ_comm p.z h.nz in
+    let d = *ℤ_comm p.w h.d in
+    omega (arith, linear)
 
 -- ---- three coordinates, as the code puts them into one point
 

@@ -1,11 +1,12 @@
 //! How a line crosses a plane, and where it goes through a portal.
 
-ghost use Rattle.std.specs.Prelude.{◌≡◌, ◌<◌, ◌≤◌, ◌*◌, ◌^◌, pos, ◌*ℤ◌, ◌<ℤ◌, ◌↔◌, length, All, IsTrue, MatchOption, unsigned_abs};
+ghost use Rattle.std.specs.Prelude.{◌≡◌, ◌<◌, ◌≤◌, ◌^◌, pos, ◌<ℤ◌, ◌↔◌, length, All, IsTrue, MatchOption, unsigned_abs};
 ghost use Rattle.qm_contacts.specs.OwnPortals.{HasOwnPortals};
-ghost use Rattle.qm_lines.specs.inner.Crossing.{mixed, value_where, CrossesPlane, MissesPlane, CrossesAt, MissesAt};
+ghost use Rattle.qm_lines.specs.inner.Crossing.{mixed, spot_where, value_where, CrossesPlane, MissesPlane, CrossesAt, MissesAt};
 
 use crate::aiming::coordinate;
 use crate::line::Line;
+use crate::spot::{Spot, product};
 use qm_geom::Plane;
 use qm_portal::World;
 use std::marker::Model;
@@ -58,40 +59,21 @@ impl Crossing {
         forward - backward
     }
 
-    /// The same of a plane.
-    fn value(self, line: &Line, plane: &Plane) -> i128
-        ensures { result ≡ value_where self line.now plane.now }
+    /// The point where the line crosses this plane.
+    fn spot(self, line: &Line) -> Spot
+        ensures { result ≡ spot_where self line.now }
     {
-        self.mixed(line.value_at_begin(plane), line.value_at_end(plane))
-    }
-
-    /// Whether the line crosses this plane in front of another one. Where it begins and ends on one side of that, the signs
-    /// decide.
-    fn is_in_front(self, line: &Line, plane: &Plane) -> bool
-        ensures { IsTrue result ↔ pos 0 <ℤ value_where self line.now plane.now }
-    {
-        let _ = &self.at_begin;
-        let at_begin = line.value_at_begin(plane);
-        let at_end = line.value_at_end(plane);
-        if at_begin > 0 && at_end > 0 {
-            return true;
-        }
-        if at_begin <= 0 && at_end <= 0 {
-            return false;
-        }
-        self.value(line, plane) > 0
-    }
-
-    /// The point where the line crosses this plane, as three numerators over one denominator.
-    pub(crate) fn spot(self, line: &Line) -> [i64; 4] {
-        let [x, y, z] = line.mixed(self.at_end, self.at_begin);
-        [x, y, z, self.at_end.wrapping_sub(self.at_begin)]
+        line.mixed(self.at_end, self.at_begin)
     }
 
     /// The whole point that is near to it.
     pub(crate) fn point(self, line: &Line) -> [i32; 3] {
-        let [x, y, z, w] = self.spot(line);
-        [quotient(x, w), quotient(y, w), quotient(z, w)]
+        let spot = self.spot(line);
+        [
+            quotient(spot.x, spot.w),
+            quotient(spot.y, spot.w),
+            quotient(spot.z, spot.w),
+        ]
     }
 
     /// Whether the line crosses this plane further on than the last one.
@@ -105,7 +87,7 @@ impl Crossing {
     pub(crate) fn is_within(self, line: &Line, planes: &[Plane]) -> bool
         ensures { IsTrue result ↔ All (λ g. pos 0 <ℤ value_where self line.now g) planes.now }
     {
-        planes.iter().all(|plane| self.is_in_front(line, plane))
+        self.spot(line).is_within(planes)
     }
 }
 
@@ -129,13 +111,4 @@ pub(crate) fn crossing_of(world: &World, portal: u64, line: &Line) -> Option<Cro
         return None;
     }
     Some(crossing)
-}
-
-/// The product of a number and a plane's value, which 128 bits hold.
-fn product(first: i64, second: i64) -> i128
-    requires { unsigned_abs second ≤ 2 ^ 45 }
-    ensures exact { result ≡ first *ℤ second }
-    ensures size { unsigned_abs result ≤ 2 ^ 108 }
-{
-    i128::from(first) * i128::from(second)
 }

@@ -9,8 +9,8 @@ ghost use Rattle.qm_sight.specs.InCeiling.{IsInCeiling};
 ghost use Rattle.qm_lines.specs.Gained.{HasGainedShown};
 ghost use Rattle.qm_lines.specs.inner.Trace.{IsTrace, IsOnward, AreInRange};
 
-use crate::bounds::PortalBounds;
 use crate::crossing::Crossing;
+use crate::exits::Exits;
 use crate::line::Line;
 use crate::reading::all_have_leaf;
 use crate::trace::Trace;
@@ -39,7 +39,7 @@ pub(crate) struct Course<'a> {
 pub(crate) fn follow<S: RowSource>(
     course: &Course,
     source: &mut S,
-    bounds: &PortalBounds,
+    exits: &mut Exits,
     trace: &mut Trace,
     row: &mut BitRow,
 ) -> Result<(), AllocError>
@@ -54,7 +54,7 @@ pub(crate) fn follow<S: RowSource>(
 {
     show(source, trace, row);
     for _ in 0..course.world.leaves() {
-        match next_portal(course, source, bounds, trace) {
+        match next_portal(course, source, exits, trace) {
             None => return Ok(()),
             Some(next) => {
                 trace.enter(course.world, next.portal, next.crossing)?;
@@ -80,11 +80,12 @@ fn show<S: RowSource>(source: &mut S, trace: &Trace, row: &mut BitRow)
     }
 }
 
-/// The portal that is next on a line, of those whose rows have a target.
+/// The portal that is next on a line, of those whose rows have a target: the one by which a line left the leaf last is tried
+/// first.
 fn next_portal<S: RowSource>(
     course: &Course,
     source: &mut S,
-    bounds: &PortalBounds,
+    exits: &mut Exits,
     trace: &Trace,
 ) -> Option<Onward>
     requires target { course.now.target < length (numbered_leaves course.now.world.now.tree) }
@@ -94,22 +95,75 @@ fn next_portal<S: RowSource>(
     ensures next { IfSome result (λ next. IsOnward course.now.world.now course.now.line.now trace.now next.portal next.crossing) }
     ensures on { S.goes_on source.old source.new }
 {
+    if let Some(next) = by_last_exit(course, source, exits, trace) {
+        return Some(next);
+    }
+    let next = any_onward(course, source, trace)?;
+    exits.note(trace.leaf, next.portal);
+    Some(next)
+}
+
+/// The portal by which a line left the leaf last, if it is next.
+fn by_last_exit<S: RowSource>(
+    course: &Course,
+    source: &mut S,
+    exits: &Exits,
+    trace: &Trace,
+) -> Option<Onward>
+    requires target { course.now.target < length (numbered_leaves course.now.world.now.tree) }
+    requires own_portals { HasOwnPortals course.now.world.now }
+    requires same_world { S.world source.old ≡ course.now.world.now }
+    ensures next { IfSome result (λ next. IsOnward course.now.world.now course.now.line.now trace.now next.portal next.crossing) }
+    ensures on { S.goes_on source.old source.new }
+{
+    match exits.of_leaf(course.world, trace.leaf) {
+        None => None,
+        Some(portal) => onward_by(course, source, trace, portal),
+    }
+}
+
+/// The portal that is next, of those that leave the leaf.
+fn any_onward<S: RowSource>(course: &Course, source: &mut S, trace: &Trace) -> Option<Onward>
+    requires target { course.now.target < length (numbered_leaves course.now.world.now.tree) }
+    requires own_portals { HasOwnPortals course.now.world.now }
+    requires same_world { S.world source.old ≡ course.now.world.now }
+    requires range { AreInRange course.now.world.now trace.now }
+    ensures next { IfSome result (λ next. IsOnward course.now.world.now course.now.line.now trace.now next.portal next.crossing) }
+    ensures on { S.goes_on source.old source.new }
+{
     for portal in course.world.leaving(trace.leaf) {
-        if !has_leaf(source, *portal, course.target) {
-            continue;
-        }
-        if let Some(crossing) = further(course, bounds, trace, *portal) {
-            return Some(Onward {
-                portal: *portal,
-                crossing,
-            });
+        if let Some(next) = onward_by(course, source, trace, *portal) {
+            return Some(next);
         }
     }
     None
 }
 
+/// A portal that leaves the leaf, if its row has the target and the line goes through it further on.
+fn onward_by<S: RowSource>(
+    course: &Course,
+    source: &mut S,
+    trace: &Trace,
+    portal: u64,
+) -> Option<Onward>
+    requires target { course.now.target < length (numbered_leaves course.now.world.now.tree) }
+    requires own_portals { HasOwnPortals course.now.world.now }
+    requires same_world { S.world source.old ≡ course.now.world.now }
+    requires leaves { (q : Portal) × IsAt course.now.world.now.portals portal q × (q.from ≡ trace.now.leaf) }
+    ensures next { IfSome result (λ next. IsOnward course.now.world.now course.now.line.now trace.now next.portal next.crossing) }
+    ensures on { S.goes_on source.old source.new }
+{
+    if !has_leaf(source, portal, course.target) {
+        return None;
+    }
+    match further(course, trace, portal) {
+        None => None,
+        Some(crossing) => Some(Onward { portal, crossing }),
+    }
+}
+
 /// Where a line goes through a portal, if that is further on and into a leaf in which the line was not.
-fn further(course: &Course, bounds: &PortalBounds, trace: &Trace, portal: u64) -> Option<Crossing>
+fn further(course: &Course, trace: &Trace, portal: u64) -> Option<Crossing>
     requires portal { portal < length course.now.world.now.portals }
     requires own_portals { HasOwnPortals course.now.world.now }
     requires leaves { (q : Portal) × IsAt course.now.world.now.portals portal q × (q.from ≡ trace.now.leaf) }
@@ -117,9 +171,6 @@ fn further(course: &Course, bounds: &PortalBounds, trace: &Trace, portal: u64) -
 {
     let pane = course.world.pane(portal);
     let crossing = Crossing::of_plane(course.line, &pane.into)?;
-    if !bounds.may_pass(portal, course.line, crossing) {
-        return None;
-    }
     if !crossing.is_within(course.line, pane.winding.edges()) {
         return None;
     }

@@ -3,8 +3,8 @@
 #![tactic(auto)]
 
 mod aiming;
-mod bounds;
 mod crossing;
+mod exits;
 mod first_portal;
 mod following;
 mod kept_lines;
@@ -12,6 +12,7 @@ mod line;
 mod line_store;
 mod reading;
 mod showing;
+mod spot;
 mod trace;
 
 pub use line_store::LineStore;

@@ -1,8 +1,9 @@
-ghost use Rattle.std.specs.Prelude.{◌≡◌, ◌≤◌, ◌*◌, ◌^◌, pos, ◌*ℤ◌, unsigned_abs};
+ghost use Rattle.std.specs.Prelude.{◌≡◌, ◌≤◌, ◌*◌, ◌^◌, pos, neg_ℤ, ◌+ℤ◌, ◌*ℤ◌, unsigned_abs};
 ghost use Rattle.qm_space.specs.Bounds.{normal_bound, product_bound};
-ghost use Rattle.qm_space.specs.Point.{whole_point, IsCoordinate, AreCoordinates};
+ghost use Rattle.qm_space.specs.Point.{whole_point, point_sum, point_times, IsCoordinate, AreCoordinates};
 ghost use Rattle.qm_space.specs.Plane.{value};
 
+use crate::spot::Spot;
 use qm_geom::Plane;
 use std::marker::Model;
 
@@ -57,19 +58,40 @@ impl Line {
         (self.from, self.to)
     }
 
-    /// So many times its beginning, less so many times its end.
-    pub(crate) fn mixed(&self, from: i64, to: i64) -> [i64; 3] {
-        [
-            mixed(from, self.from[0], to, self.to[0]),
-            mixed(from, self.from[1], to, self.to[1]),
-            mixed(from, self.from[2], to, self.to[2]),
-        ]
+    /// The point that is so many times its beginning, less so many times its end.
+    pub(crate) fn mixed(&self, from: i64, to: i64) -> Spot
+        requires from { unsigned_abs from ≤ 2 ^ 45 }
+        requires to { unsigned_abs to ≤ 2 ^ 45 }
+        ensures { result ≡ point_sum (point_times from self.now.from) (point_times (neg_ℤ to) self.now.to) }
+    {
+        Spot {
+            x: mixed(from, self.from[0], to, self.to[0]),
+            y: mixed(from, self.from[1], to, self.to[1]),
+            z: mixed(from, self.from[2], to, self.to[2]),
+            w: from - to,
+        }
     }
 }
 
-fn mixed(from: i64, begin: i32, to: i64, end: i32) -> i64 {
-    from.wrapping_mul(i64::from(begin))
-        .wrapping_sub(to.wrapping_mul(i64::from(end)))
+/// So many times one coordinate, less so many times another.
+fn mixed(from: i64, begin: i32, to: i64, end: i32) -> i64
+    requires from { unsigned_abs from ≤ 2 ^ 45 }
+    requires begin { IsCoordinate begin }
+    requires to { unsigned_abs to ≤ 2 ^ 45 }
+    requires end { IsCoordinate end }
+    ensures { result ≡ (from *ℤ begin) +ℤ (neg_ℤ to *ℤ end) }
+{
+    scaled(from, begin) - scaled(to, end)
+}
+
+/// So many times a coordinate.
+fn scaled(times: i64, coordinate: i32) -> i64
+    requires times { unsigned_abs times ≤ 2 ^ 45 }
+    requires coordinate { IsCoordinate coordinate }
+    ensures exact { result ≡ times *ℤ coordinate }
+    ensures size { unsigned_abs result ≤ 2 ^ 60 }
+{
+    times * i64::from(coordinate)
 }
 
 /// The value of a plane at a whole point.

@@ -3,7 +3,7 @@
 ghost use Rattle.std.specs.Prelude.{◌<◌, length};
 
 use crate::aiming::{Aim, Ranked, anchors_into, list_aims};
-use crate::bounds::PortalBounds;
+use crate::exits::Exits;
 use crate::first_portal::FirstPortal;
 use crate::kept_lines::{KeptLine, KeptLines};
 use crate::line::Line;
@@ -16,7 +16,7 @@ use std::alloc::{AllocError, Global};
 #[derive(Drop)]
 pub struct LineStore {
     pub(crate) trace: Trace,
-    pub(crate) bounds: PortalBounds,
+    pub(crate) exits: Exits,
     pub(crate) aims: Vec<Aim>,
     ranked: Vec<Ranked>,
     // by the numbers of passages, where they are known
@@ -31,7 +31,7 @@ impl LineStore {
     pub fn new(alloc: Global) -> LineStore {
         LineStore {
             trace: Trace::new(alloc),
-            bounds: PortalBounds::new(alloc),
+            exits: Exits::new(alloc),
             aims: Vec::new(alloc),
             ranked: Vec::new(alloc),
             anchors: Vec::new(alloc),
@@ -48,7 +48,7 @@ impl LineStore {
         world: &World,
         portal: u64,
     ) -> Result<Vec<KeptLine>, AllocError> {
-        self.bounds.take_in(world)?;
+        self.exits.make_room(world.leaves())?;
         self.kept.make_room(alloc, world.portals())?;
         for _ in self.anchors.len() as u64..world.portals() / 2 {
             self.anchors.push(Vec::new(alloc))?;

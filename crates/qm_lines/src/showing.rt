@@ -280,7 +280,7 @@ fn show_along<S: RowSource>(
                 line,
                 target,
             };
-            follow(&course, source, &store.bounds, &mut store.trace, row)
+            follow(&course, source, &mut store.exits, &mut store.trace, row)
         }
     }
 }

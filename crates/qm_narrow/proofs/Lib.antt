@@ -1,7 +1,7 @@
 pub mod PartingPlanes
 pub mod Traces
 pub mod Steps
-pub mod KeptCorners
+pub mod FilledCuboids
 pub mod Coordinates
 pub mod Outlooks
 pub mod Looks

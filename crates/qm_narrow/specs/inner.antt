@@ -8,3 +8,4 @@ pub mod FoundPlanes
 pub mod LastCut
 pub mod Beam
 pub mod WholeCandidates
+pub mod Filled

@@ -46,6 +46,18 @@ impl CornerLists {
         Ok(())
     }
 
+    /// Lists what other lists have, in place of what was listed.
+    pub(crate) fn copy_from(&mut self, other: &CornerLists) -> Result<(), AllocError>
+        ensures corners { OnOk result (self.new.corners.items ≡ other.now.corners.items) }
+        ensures spots { OnOk result (self.new.spots.items ≡ other.now.spots.items) }
+    {
+        self.corners.clear();
+        self.spots.clear();
+        self.corners.extend_from_slice(other.corners.as_slice())?;
+        self.spots.extend_from_slice(other.spots.as_slice())?;
+        Ok(())
+    }
+
     /// Empties the lists, and has them take memory for so many entries each.
     fn make_ready(&mut self, count: usize) -> Result<(), AllocError>
         ensures corners { OnOk result (self.new.corners.items ≡ []) }

@@ -9,6 +9,7 @@ mod chain_state;
 mod corner_lists;
 mod crossing;
 mod edge;
+mod filled;
 pub mod laws;
 mod multiples;
 mod near;

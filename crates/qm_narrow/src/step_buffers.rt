@@ -38,6 +38,18 @@ impl StepBuffers {
         trace_in(alloc, &mut self.source_lists, winding)
     }
 
+    /// A copy of a source, with the lists for it.
+    pub(crate) fn copy_source(
+        &mut self,
+        alloc: Global,
+        source: &Traced,
+    ) -> Result<Traced, AllocError>
+        ensures { IfOk result (λ traced. traced ≡ source.now) }
+    {
+        let lists = mem::replace(&mut self.source_lists, CornerLists::new(alloc));
+        source.copied_in(lists)
+    }
+
     /// A pass, with the lists for it.
     pub(crate) fn trace_pass(
         &mut self,

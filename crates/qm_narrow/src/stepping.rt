@@ -115,8 +115,8 @@ fn last_cut_whole(
 ) -> Result<Option<ChainState>, AllocError>
     ensures { IfOk result (λ after. MatchOption after (HasNoPartBy state.now.source (IsSeparatorFrom state.now.pass pass)) (EndsAt state.now state.now.source pass)) }
 {
-    let near = state.source().copy()?;
-    let near = buffers.trace_source(alloc, near)?;
+    let _source = state.source();
+    let near = buffers.copy_source(alloc, state.trace())?;
     last_cut(alloc, buffers, state, near, pass)
 }
 

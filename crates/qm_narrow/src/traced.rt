@@ -59,6 +59,16 @@ impl Traced {
         Traced::of(CornerLists::new(alloc), copy)
     }
 
+    /// The same once more, with what was computed copied to lists that are used again.
+    pub(crate) fn copied_in(&self, lists: CornerLists) -> Result<Traced, AllocError>
+        ensures { IfOk result (λ traced. traced ≡ self.now) }
+    {
+        let mut lists = lists;
+        lists.copy_from(&self.lists)?;
+        let winding = self.winding.copy()?;
+        Ok(Traced { winding, lists })
+    }
+
     /// The winding itself.
     pub(crate) fn winding(&self) -> &Winding
         ensures value { result.now ≡ self.now }
@@ -213,7 +223,7 @@ fn lies_behind(corner: &Corner, plane: &Plane) -> bool
 }
 
 /// Whether a corner is strictly in front of a plane.
-pub(crate) fn is_in_front(corner: &Corner, plane: &Plane) -> bool
+fn is_in_front(corner: &Corner, plane: &Plane) -> bool
     ensures { IsTrue result ↔ IsInFront plane.now corner.now }
 {
     match corner.side(plane) {

@@ -31,6 +31,10 @@ mixed crossing begin end = (crossing.at_end *ℤ begin) -ℤ (crossing.at_begin 
 unfoldable pub value_where : Crossing → Segment → Plane → ℤ
 value_where crossing s g = mixed crossing (value g s.from) (value g s.to)
 
+-- the point where the line crosses a plane so
+abbrev pub spot_where : Crossing → Segment → Point
+spot_where crossing s = point_sum (point_times crossing.at_end s.from) (point_times (neg_ℤ crossing.at_begin) s.to)
+
 -- the line goes from behind the plane e to in front of it, and crosses it so
 pub record CrossesPlane (e : Plane) (s : Segment) (crossing : Crossing) : Type 0 where
   pub begin_is : crossing.at_begin ≡ value e s.from

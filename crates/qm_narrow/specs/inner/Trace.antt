@@ -29,10 +29,6 @@ pub record IsTrace (v : Winding) (traced : List Point) (spots : List Spot) : Typ
   pub one_each : length spots ≡ length v.edges
   pub spots_are : (i : ℕ) (d : Spot) → i < length v.edges → IsSpotOf (corner_at v i) (get_or spots i d)
 
--- the point is a corner of the winding
-abbrev pub IsCornerOf : Winding → Point → Type 0
-IsCornerOf v p = (i : ℕ) × (i < length v.edges) × (p ≡ corner_at v i)
-
 -- the corner is the whole point of three numbers
 pub record IsWholeAt (corner : Point) (at : List ℤ) : Type 0 where
   pub x : corner.x ≡ slice_index_or at 0 (pos 0)

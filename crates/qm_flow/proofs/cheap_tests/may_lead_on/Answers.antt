@@ -1,4 +1,4 @@
-use Rattle.std.proofs.Common.{◌≡◌, ◌<◌, ℕ, List, Option, Bool, length, get_or, ap, sym, ◌∙◌, subst, arith, true, false, refl}
+use Rattle.std.proofs.Common.{◌≡◌, ℕ, List, Bool, length, get_or, ap, sym, ◌∙◌, subst, arith, true, false}
 use Rattle.qm_contacts.specs.NumberedLeaves.{numbered_leaves}
 use Rattle.qm_contacts.specs.Portals.{Portal}
 use Rattle.qm_contacts.specs.World.{World}
@@ -8,10 +8,8 @@ use Rattle.qm_chains.specs.inner.OwnRows.{AreOwnRows, MustHave}
 use Rattle.qm_chains.proofs.PairRows.{none_wanted}
 use Rattle.qm_chains.proofs.TriedPortals.{same_portal, not_in_if_clear}
 use Rattle.qm_flow.specs.inner.FlowPairs.{pairs_of}
-use Rattle.qm_flow.specs.declared.flow_state.Flow.{Flow}
 use Rattle.qm_flow.specs.inner.NewWords.{HaveAllNew}
 use Rattle.qm_flow.proofs.Panes.{passes_there}
-use Rattle.qm_chains.specs.inner.Pairs.{Pairs}
 use Rattle.qm_flow.proofs.cheap_tests.may_lead_on.Goals as goal
 
 pub get-requires : goal.get-requires

@@ -10,7 +10,6 @@ use Rattle.std.proofs.lemmas.List.{length-replicate}
 use Rattle.qm_flow.specs.inner.FlowPairs.{pairs_of}
 use Rattle.qm_flow.proofs.PairFrames.{row_of_pair}
 use Rattle.qm_flow.proofs.Panes.{steps_on, blocked_there}
-use Rattle.qm_chains.specs.inner.Pairs.{Pairs}
 use Rattle.qm_flow.proofs.pair_rows.cone_of_pair.Goals as goal
 
 pub returns-then-not-leads-clause-has : goal.returns-then-not-leads-clause-has

@@ -1,8 +1,7 @@
-use Rattle.std.proofs.Common.{◌<◌, ℕ, true, false, Bool, List, Option, length, replicate, set, sym, ap, ◌∙◌, subst, arith, refl}
+use Rattle.std.proofs.Common.{ℕ, true, false, Bool, List, length, replicate, set, sym, ap, ◌∙◌, subst, arith}
 use Rattle.qm_contacts.specs.NumberedLeaves.{numbered_leaves}
 use Rattle.qm_contacts.specs.Portals.{Portal}
 use Rattle.qm_contacts.specs.World.{World}
-use Rattle.qm_chains.specs.Shown.{IsAt}
 use Rattle.qm_chains.specs.inner.Frame.{Frame}
 use Rattle.qm_chains.specs.inner.Narrowing.{IsNarrowed}
 use Rattle.qm_chains.specs.inner.OwnRows.{AreOwnRows, MustHave, CanHave}
@@ -10,9 +9,7 @@ use Rattle.qm_chains.proofs.TriedPortals.{same_portal}
 use Rattle.qm_sight.specs.WordInSight.{ceiling_of}
 use Rattle.std.proofs.lemmas.List.{length-set, length-replicate}
 use Rattle.qm_flow.specs.inner.FlowPairs.{pairs_of}
-use Rattle.qm_flow.specs.declared.flow_state.Flow.{Flow}
 use Rattle.qm_flow.proofs.FourLeaves.{four_wide, four_met}
-use Rattle.qm_chains.specs.inner.Pairs.{Pairs}
 use Rattle.qm_flow.proofs.pair_rows.make_pair_frame.Goals as goal
 
 pub narrow-requires-clause-portal : goal.narrow-requires-clause-portal

@@ -6,7 +6,6 @@ use Rattle.qm_chains.proofs.PairRows.{pairs_more, within_more, can_within}
 use Rattle.qm_sight.specs.WordInSight.{ceiling_of}
 use Rattle.qm_sight.specs.InCeiling.{IsInCeiling}
 use Rattle.qm_flow.specs.inner.FlowPairs.{pairs_of}
-use Rattle.qm_flow.specs.declared.flow_state.Flow.{Flow}
 use Rattle.qm_flow.proofs.PairsKept.{own_put}
 use Rattle.qm_flow.proofs.pair_rows.pair.Goals as goal
 
@@ -26,7 +25,7 @@ returns-clause-flow g c =
     let found = c.args.found.now in
     let one = c.requires.of_world.pairs_are.own_are.one_each in
     let inside = c.requires.portal in
-    let put = own_put old old c.put.new.self c.args.portal (Some c.copy_from.new.self) refl c.put.ensures in
+    let put = own_put old old c.put.new.self c.args.portal (Some c.copy_from.new.self) refl c.in_ok-put.ensures in
     let wide = c.in_ok-cone_of_pair.ensures.spares.found in
     let same = c.copy_from.ensures in
     record {

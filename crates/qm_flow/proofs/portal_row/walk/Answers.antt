@@ -1,13 +1,11 @@
-use Rattle.std.proofs.Common.{◌≡◌, ◌<◌, ⊎_elim, ℕ, List, Bool, true, false, [], length, replicate, ap, sym, ◌∙◌, subst, refl}
+use Rattle.std.proofs.Common.{◌≡◌, ◌<◌, ⊎_elim, ℕ, List, Bool, true, false, [], length, replicate, ap, sym, ◌∙◌, subst}
 use Rattle.std.proofs.lemmas.Result.{IfOk-weaker}
 use Rattle.std.proofs.lemmas.List.{length-replicate, length-set}
 use Rattle.qm_contacts.specs.OwnPortals.{HasOwnPortals}
 use Rattle.qm_contacts.specs.World.{World}
 use Rattle.qm_chains.specs.inner.Cone.{with_mask}
-use Rattle.qm_chains.specs.inner.Pairs.{Pairs}
 use Rattle.qm_sight.specs.WordInSight.{LieWithin}
 use Rattle.qm_flow.specs.inner.FlowPairs.{pairs_of}
-use Rattle.qm_flow.specs.declared.flow_state.Flow.{Flow}
 use Rattle.qm_flow.specs.declared.frame_stack.FrameStack.{FrameStack}
 use Rattle.qm_flow.specs.inner.FirstMask.{IsFirstMask}
 use Rattle.qm_flow.specs.inner.Spares.{AreSparesWide}

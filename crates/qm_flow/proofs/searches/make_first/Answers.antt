@@ -1,7 +1,6 @@
 use Rattle.std.proofs.Common.{ℕ, Bool, List, [], ◌∷◌, length, sym, ap, ◌∙◌, subst, arith}
 use Rattle.qm_contacts.specs.World.{AreLeaving}
 use Rattle.qm_chains.specs.inner.Frame.{Frame}
-use Rattle.qm_chains.specs.inner.Pairs.{Pairs}
 use Rattle.qm_chains.proofs.TriedPortals.{FindsLast}
 use Rattle.qm_sight.specs.WordInSight.{ceiling_of}
 use Rattle.qm_flow.specs.inner.FlowPairs.{pairs_of}

@@ -8,19 +8,18 @@ use Rattle.qm_chains.proofs.PairRows.{pairs_more, within_more, can_within, wante
 use Rattle.qm_sight.specs.WordInSight.{ceiling_of}
 use Rattle.qm_sight.specs.InCeiling.{IsInCeiling}
 use Rattle.qm_flow.specs.inner.FlowPairs.{pairs_of}
-use Rattle.qm_flow.specs.declared.flow_state.Flow.{Flow}
 use Rattle.qm_flow.proofs.PairsKept.{own_put}
 use Rattle.qm_flow.proofs.searches.search.Goals as goal
 
-pub returns-then-ended-clause-flow : goal.returns-then-ended-clause-flow
-returns-then-ended-clause-flow g c =
+pub returns-in_ok-put-clause-flow : goal.returns-in_ok-put-clause-flow
+returns-in_ok-put-clause-flow g c =
     let world = c.args.flow.now.world.now in
     let old = (pairs_of c.args.flow.now) in
     let found = c.args.found.now in
     let portal = c.args.portal in
     let one = c.requires.pairs.own_are.one_each in
     let inside = c.requires.portal in
-    let put = own_put old old c.put.new.self portal (Some c.narrow.new.mask) refl c.put.ensures in
+    let put = own_put old old c.put.new.self portal (Some c.narrow.new.mask) refl c.in_ok-put.ensures in
     let same_world = g.met.S.RowSource.same_world c.args.source.now c.seek.new.source c.seek.ensures.on ∙ c.requires.same_world in
     let later = ceiling_of (g.S.RowSource.ceilings c.seek.new.source) portal in
     let narrowed = subst (λ (w : World). IsNarrowed (MustHave w c.args.flow.now.own portal) (CanHave later c.args.flow.now.own portal) c.seek.new.sighted c.narrow.new.mask) same_world c.narrow.ensures.narrowed in

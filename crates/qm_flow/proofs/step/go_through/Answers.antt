@@ -1,25 +1,21 @@
-use Rattle.std.proofs.Common.{◌<◌, ℕ, true, List, Option, Bool, length, set, sym, ap, ◌∙◌, subst, arith, ⊎_elim, refl}
+use Rattle.std.proofs.Common.{◌<◌, ℕ, true, List, Bool, length, set, sym, ap, ◌∙◌, subst, arith, ⊎_elim}
 use Rattle.std.specs.Bool.{then_some}
 use Rattle.std.proofs.lemmas.Result.{IfOk-weaker}
 use Rattle.qm_contacts.specs.World.{World, AreLeaving}
 use Rattle.qm_chains.specs.inner.Cone.{IsLeftOf}
-use Rattle.qm_chains.specs.inner.Frame.{Frame, put_back, EndsChain, blocked}
+use Rattle.qm_chains.specs.inner.Frame.{Frame, blocked}
 use Rattle.qm_chains.specs.inner.Narrowing.{IsNarrowed}
 use Rattle.qm_chains.specs.inner.OwnRows.{AreOwnRows, MustHave, CanHave}
-use Rattle.qm_chains.specs.inner.Pairs.{Pairs, LieWithinPairs}
-use Rattle.qm_chains.specs.inner.Search.{IsLookedThrough}
-use Rattle.qm_chains.specs.inner.Walk.{IsTried}
 use Rattle.qm_chains.specs.inner.Wanted.{IsWantedVia}
 use Rattle.qm_chains.proofs.Narrowing.{narrowed_as}
 use Rattle.qm_chains.proofs.PairRows.{wanted_answered, can_within, pairs_stay}
 use Rattle.qm_chains.proofs.TriedPortals.{looked_stopped, FindsLast}
 use Rattle.qm_chains.proofs.Cones.{looked_on_left, tried_on_left}
-use Rattle.qm_sight.specs.WordInSight.{ceiling_of, LieWithin}
+use Rattle.qm_sight.specs.WordInSight.{ceiling_of}
 use Rattle.qm_sight.specs.InCeiling.{IsInCeiling}
 use Rattle.std.proofs.lemmas.List.{length-set}
 use Rattle.qm_contacts.specs.NumberedLeaves.{numbered_leaves}
 use Rattle.qm_flow.specs.inner.FlowPairs.{pairs_of}
-use Rattle.qm_flow.specs.declared.flow_state.Flow.{Flow}
 use Rattle.qm_flow.specs.inner.Round.{IsTry}
 use Rattle.qm_flow.proofs.Attempts.{try_none}
 use Rattle.qm_flow.proofs.FoundRows.{found_stays}

@@ -1,4 +1,4 @@
-use Rattle.std.proofs.Common.{◌<◌, ℕ, List, Option, Bool, length, sym, ap, ◌∙◌, subst, arith, refl}
+use Rattle.std.proofs.Common.{ℕ, List, Bool, length, sym, ap, ◌∙◌, subst, arith, refl}
 use Rattle.qm_contacts.specs.NumberedLeaves.{numbered_leaves}
 use Rattle.qm_contacts.specs.World.{World}
 use Rattle.qm_chains.specs.inner.Frame.{Frame}
@@ -8,7 +8,6 @@ use Rattle.qm_chains.specs.inner.Wanted.{IsWanted}
 use Rattle.qm_chains.proofs.PairRows.{none_wanted}
 use Rattle.qm_chains.specs.inner.Pairs.{Pairs, ArePairs}
 use Rattle.qm_flow.specs.inner.FlowPairs.{pairs_of}
-use Rattle.qm_flow.specs.declared.flow_state.Flow.{Flow}
 use Rattle.qm_flow.specs.inner.PairsGoOn.{PairsGoOn}
 use Rattle.qm_flow.proofs.PairsKept.{own_same}
 use Rattle.qm_flow.proofs.tries.own_may_show.Goals as goal

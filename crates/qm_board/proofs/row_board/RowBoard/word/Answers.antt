@@ -1,5 +1,5 @@
 use Rattle.std.proofs.Common.{◌∙◌, ℕ, List, subst, arith}
-use Rattle.qm_board.specs.PassOf.{world_of, given_of}
+use Rattle.qm_board.specs.PassOf.{world_of, given_of, findings_of}
 use Rattle.qm_board.specs.Reached.{IsReachedWord}
 use Rattle.qm_board.proofs.StepRules.{load_allowed}
 use Rattle.qm_board.proofs.Places.{word_within, at_row, is_at_row}
@@ -47,6 +47,6 @@ returns-clause-read c =
 pub returns-clause-reached : goal.returns-clause-reached
 returns-clause-reached c =
     let world = world_of c.args.self.now in
-    subst (λ (given : List ℕ). IsReachedWord world given c.args.portal c.args.k c.load.result) c.requires.pass.same_given
+    subst (λ (given : List ℕ). IsReachedWord world given (findings_of c.args.pass.now) c.args.portal c.args.k c.load.result) c.requires.pass.same_given
     (c.load.ensures.2 world c.args.portal c.args.k c.requires.pass.same_world
     (is_at_row world _ _ _ _ c.args.self.now.sized c.args.portal c.args.k _ c.requires.portal_in_range (word_within world c.args.k c.requires.word_in_range) c.row_place-place.ensures.value)).2

@@ -1,4 +1,4 @@
-use Rattle.qm_lines.proofs.following.next_portal.Given as goal
+use Rattle.qm_lines.proofs.following.any_onward.Given as goal
 
 -- the source goes on from what it was
 abbrev pub invariant-loop-portal : goal.invariant-loop-portal
