@@ -24,6 +24,7 @@ record WrongDue (due : ℕ) (behind_run : Bool) (bytes : List ℕ) (fault : RunF
   byte : ℕ
   behind : List ℕ
   spelt : SpellsRow whole row
+  less : length row < due
   begins : behind_run ≡ true → BeginsNonzero row
   wrong : IsWrongAs fault begun byte
   stands : bytes ≡ (whole ++ begun) ++ byte ∷ behind
@@ -83,6 +84,7 @@ wrong_byte due byte behind_run bytes fault w =
       byte = w.byte;
       behind = w.behind;
       spelt = (w.row, refl, w.spelt);
+      less = omega (arith, w.less);
       begins = λ _. tt;
       wrong = w.wrong;
       stands = ap (λ (xs : List ℕ). suc byte ∷ xs) w.stands;
@@ -103,6 +105,7 @@ wrong_run due count bytes fault fits small w =
       byte = w.byte;
       behind = w.behind;
       spelt = (w.row, refl, omega arith, small, λ less. w.begins (lt-ltb (suc count) 255 less), w.spelt);
+      less = omega (arith, length-append (replicate (suc count) zero) w.row, length-replicate (suc count) zero, w.less, fits);
       begins = λ no. absurd (cc no);
       wrong = w.wrong;
       stands = ap (λ (xs : List ℕ). zero ∷ suc count ∷ xs) w.stands;
@@ -140,17 +143,17 @@ fault_due (suc due) behind_run [] fault are is = same_fault (suc due) behind_run
 fault_due (suc due) behind_run (suc byte ∷ bytes) fault are is =
     fault_byte due byte behind_run bytes fault (fault_due due false bytes fault (λ i. are (suc i)) (behind_fault (suc byte ∷ []) 1 (read_due due false bytes) fault is))
 fault_due (suc due) true (zero ∷ bytes) fault are is =
-    same_fault (suc due) true (zero ∷ bytes) split_run fault is (record { whole = []; row = []; begun = []; byte = 0; behind = bytes; spelt = refl; begins = λ _. tt; wrong = (refl, refl); stands = refl; goes_on = goes_on_anyhow (suc due) true; anyway = λ rest. refl })
+    same_fault (suc due) true (zero ∷ bytes) split_run fault is (record { whole = []; row = []; begun = []; byte = 0; behind = bytes; spelt = refl; less = omega arith; begins = λ _. tt; wrong = (refl, refl); stands = refl; goes_on = goes_on_anyhow (suc due) true; anyway = λ rest. refl })
 fault_due (suc due) false (zero ∷ []) fault are is = same_fault (suc due) false (zero ∷ []) short fault is (goes_on_zero due)
 fault_due (suc due) false (zero ∷ zero ∷ bytes) fault are is =
-    same_fault (suc due) false (zero ∷ zero ∷ bytes) zero_count fault is (record { whole = []; row = []; begun = zero ∷ []; byte = 0; behind = bytes; spelt = refl; begins = λ _. tt; wrong = (refl, refl); stands = refl; goes_on = goes_on_zero due; anyway = λ rest. refl })
+    same_fault (suc due) false (zero ∷ zero ∷ bytes) zero_count fault is (record { whole = []; row = []; begun = zero ∷ []; byte = 0; behind = bytes; spelt = refl; less = omega arith; begins = λ _. tt; wrong = (refl, refl); stands = refl; goes_on = goes_on_zero due; anyway = λ rest. refl })
 fault_due (suc due) false (zero ∷ suc count ∷ bytes) fault are is =
     elim (cases_lt due count) [
       | inl less ↦
           let run = λ (rest : List ℕ). read_behind (replicate (suc count) zero) 2 (read_due (due - count) (ltb (suc count) 255) rest) in
           let long = λ (rest : List ℕ). ap (λ (b : Bool). cond b (Err overrun) (run rest)) (lt-ltb due count less) in
           same_fault (suc due) false (zero ∷ suc count ∷ bytes) overrun fault (sym (long bytes) ∙ is) (
-          record { whole = []; row = []; begun = zero ∷ []; byte = suc count; behind = bytes; spelt = refl; begins = λ _. tt; wrong = (refl, omega arith); stands = refl; goes_on = goes_on_zero due; anyway = long }
+          record { whole = []; row = []; begun = zero ∷ []; byte = suc count; behind = bytes; spelt = refl; less = omega arith; begins = λ _. tt; wrong = (refl, omega arith); stands = refl; goes_on = goes_on_zero due; anyway = long }
           )
       | inr fits ↦
           let read = behind_fault (replicate (suc count) zero) 2 (read_due (due - count) (ltb (suc count) 255) bytes) fault (sym (run_read due count bytes fits) ∙ is) in
@@ -173,6 +176,7 @@ first_wrong width bytes fault w =
       byte = w.byte;
       behind = w.behind;
       spelt = w.spelt;
+      due = w.less;
       wrong = w.wrong;
       stands = w.stands;
       begins = begins_with width (w.whole ++ w.begun) w.goes_on;

@@ -14,7 +14,7 @@ IsWrongAs zero_count begun byte = (begun ≡ zero ∷ []) × (byte ≡ 0)
 IsWrongAs split_run begun byte = (begun ≡ []) × (byte ≡ 0)
 IsWrongAs overrun begun byte = (begun ≡ zero ∷ []) × (0 < byte)
 
--- the bytes up to one begin some spelling of a row of the width, and with it they begin none
+-- more bytes of the row are due, the bytes up to one begin some spelling of a row of the width, and with it they begin none
 pub record IsFirstWrong (width : ℕ) (bytes : List ℕ) (fault : RunFaultKind) : Type 0 where
   pub whole : List ℕ
   pub row : List ℕ
@@ -22,6 +22,7 @@ pub record IsFirstWrong (width : ℕ) (bytes : List ℕ) (fault : RunFaultKind) 
   pub byte : ℕ
   pub behind : List ℕ
   pub spelt : SpellsRow whole row
+  pub due : length row < width
   pub wrong : IsWrongAs fault begun byte
   pub stands : bytes ≡ (whole ++ begun) ++ byte ∷ behind
   pub begins : BeginsSpelling width (whole ++ begun)
