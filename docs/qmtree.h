@@ -2,7 +2,7 @@
    from there, what a segment meets, where a player's box fits, which doors and lifts to draw, and the faces of the level.
 
    One file, for C99 and C++11, that needs the C library alone: put it beside your sources and include it. docs/TREEFILE.md
-   describes the tree file, and docs/look.c shows these functions in use.
+   describes the tree file, and docs/look.c shows most of these functions in use.
 
    qm_load checks the whole file, so whatever bytes you give it, no function below reads outside of them. Pass only leaves and numbers that
    these functions returned, unless stated otherwise; qm_row, qm_sees and qm_holds also take -1, the number of a solid leaf. The bytes
